@@ -1,0 +1,53 @@
+-- What clauses see of the objects in memory.
+use Rattle.std.specs.Prelude.{ℕ, List, [], ◌∷◌, min}
+
+-- a source: the bytes left, and the sizes of the pieces to come
+pub record Feed : Type 0 where
+  pub left : List ℕ
+  pub pieces : List ℕ
+
+-- the same with the numbers of the calls that fail, the number of calls so far, and the count of faults
+pub record FaultyFeed : Type 0 where
+  pub left : List ℕ
+  pub pieces : List ℕ
+  pub fails : List ℕ
+  pub calls : ℕ
+  pub faults : ℕ
+
+-- a sink: the bytes written, the room, the sizes of the pieces to come, and the count of faults
+pub record Tray : Type 0 where
+  pub written : List ℕ
+  pub room : ℕ
+  pub pieces : List ℕ
+  pub faults : ℕ
+
+-- the same with the numbers of the calls that fail, and the number of calls so far
+pub record FaultyTray : Type 0 where
+  pub written : List ℕ
+  pub room : ℕ
+  pub pieces : List ℕ
+  pub fails : List ℕ
+  pub calls : ℕ
+  pub faults : ℕ
+
+-- a library: its names with their contents, and the count of faults
+pub record Shelf : Type 0 where
+  pub entries : List (List ℕ × List ℕ)
+  pub faults : ℕ
+
+-- the same with the numbers of the calls that fail, and the number of calls so far
+pub record FaultyShelf : Type 0 where
+  pub entries : List (List ℕ × List ℕ)
+  pub fails : List ℕ
+  pub calls : ℕ
+  pub faults : ℕ
+
+-- how much a call moves that could move so much
+abbrev pub piece_of : List ℕ → ℕ → ℕ
+piece_of [] most = most
+piece_of (size ∷ sizes) most = min size most
+
+-- the pieces behind the next
+abbrev pub behind : List ℕ → List ℕ
+behind [] = []
+behind (size ∷ sizes) = sizes

@@ -1,0 +1,20 @@
+//! What every crate stands on: texts and names, a counter of steps, and the traits of the outside with their forms
+//! in memory.
+#![tactic(auto)]
+
+mod libraries;
+mod moves;
+mod sinks;
+mod sources;
+mod steps;
+mod texts;
+
+pub use libraries::{Entry, Library, LoadError, MemoryLibrary, SureLibrary};
+pub use moves::{ReadError, read_all, write_all};
+pub use sinks::{MemorySink, Sink, SureSink};
+pub use sources::{Failed, MemorySource, Source, SureSource};
+pub use steps::Steps;
+pub use texts::{Memory, Name, Text, TextError};
+
+#[cfg(test)]
+mod tests;
