@@ -1,0 +1,87 @@
+//! Trees whose labels allow the kids of each node.
+ghost use Rattle.std.specs.Prelude.{◌≡◌, IfOk, MatchResult};
+ghost use Rattle.label_tree.specs.Rose.{Allowed, shown_count, shown_depth};
+
+use crate::shapes::Shape;
+use crate::trees::Tree;
+use std::alloc::Global;
+use std::marker::Model;
+use xa_base::Memory;
+
+/// A tree in which the label of each node allows its number of kids, with its count and its depth.
+#[derive(Drop)]
+pub struct Whole<L: Shape> {
+    tree: Tree<L>,
+    count: u64,
+    depth: u32,
+}
+
+impl<L: Shape> Model for Whole<L> {
+    ghost use Rattle.std.specs.Prelude.{◌≡◌};
+    ghost use Rattle.label_tree.specs.Rose.{Rose, coded_rose, Allowed, shown_count, shown_depth};
+
+    ghost Value = { Rose L };
+
+    ghost coded = { coded_rose L.code };
+
+    ghost view = { λ a. a.tree };
+
+    ghost invariant = { λ a. Allowed L.allowed a.tree × (a.count ≡ shown_count a.tree) × (a.depth ≡ shown_depth a.tree) };
+}
+
+impl<L: Shape> Whole<L> {
+    /// Counts a tree. Hands it back exactly where some node's kids aren't allowed.
+    pub fn seal(tree: Tree<L>) -> Result<Whole<L>, Tree<L>>
+        ensures { MatchResult result
+            (λ whole. Allowed L.allowed tree × (whole ≡ tree))
+            (λ back. (Allowed L.allowed tree → ⊥) × (back ≡ tree)) }
+    {
+        match tree.measure() {
+            None => Err(tree),
+            Some((count, depth)) => Ok(Whole { tree, count, depth }),
+        }
+    }
+
+    /// The tree.
+    pub fn root(&self) -> &Tree<L>
+        ensures root { result.now ≡ self.now }
+        ensures allowed { Allowed L.allowed self.now }
+    {
+        &self.tree
+    }
+
+    /// The number of nodes. 2^64 - 1 stands for that number and every greater one.
+    pub fn count(&self) -> u64
+        ensures { result ≡ shown_count self.now }
+    {
+        self.count
+    }
+
+    /// The number of levels, which is 1 for a leaf. 2^32 - 1 stands for that number and every greater one.
+    pub fn depth(&self) -> u32
+        ensures { result ≡ shown_depth self.now }
+    {
+        self.depth
+    }
+
+    /// An equal tree.
+    pub fn copy(&self, alloc: Global) -> Result<Whole<L>, Memory>
+        ensures { IfOk result (λ whole. whole ≡ self.now) }
+    {
+        let tree = self.tree.copy(alloc)?;
+        Ok(Whole {
+            tree,
+            count: self.count,
+            depth: self.depth,
+        })
+    }
+
+    /// The tree alone.
+    pub fn into_tree(self) -> Tree<L>
+        ensures tree { result ≡ self }
+        ensures allowed { Allowed L.allowed self }
+    {
+        let Whole { tree, .. } = self;
+        tree
+    }
+}
