@@ -8,3 +8,6 @@ mod wholes;
 pub use shapes::Shape;
 pub use trees::Tree;
 pub use wholes::Whole;
+
+#[cfg(test)]
+mod tests;
