@@ -1,12 +1,12 @@
 -- Kids by their number: each is smaller and less deep than its tree, and allowed where its tree is. The measure of a
 -- recursion over trees in another crate is 'k * node_count t + rank' at a tree and 'k * count_all (roses_of ts) + rank'
 -- at a list of kids.
-use Rattle.std.proofs.Common.{◌≡◌, ℕ, zero, suc, ◌+◌, ◌≤◌, ◌<◌, max, List, [], ◌∷◌, ◌++◌, length, get_or, take, drop, Some, refl, sym, ◌∙◌, ap, subst, arith}
+use Rattle.std.proofs.Common.{◌≡◌, ℕ, ◌+◌, ◌≤◌, ◌<◌, max, List, [], ◌∷◌, ◌++◌, length, get_or, take, drop, Some, refl, sym, ◌∙◌, ap, subst, arith}
 use Rattle.std.specs.Prelude.{slice_get}
-use Rattle.std.proofs.lemmas.List.{take_all, take_more, drop_more, take-append-drop}
+use Rattle.std.proofs.lemmas.List.{take_more, drop_more, take-append-drop}
 use Rattle.std.proofs.lemmas.List.Elements.{All-get_or}
 use Rattle.std.proofs.lemmas.Option.{slice_get_within, get_or_from_slice_get}
-use Rattle.label_tree.specs.Rose.{Rose, Roses, none, more, roses_of, kids_of, node_count, count_all, height, depth_all, Allowed, AllowedAll}
+use Rattle.label_tree.specs.Rose.{Rose, more, roses_of, kids_of, node_count, count_all, height, depth_all, Allowed, AllowedAll}
 use Rattle.label_tree.proofs.Roses.{node_count-kids, height-kids, allowed-kids, all_allowed-each, all_allowed-front, all_allowed-back, all_allowed-push, count_all-append, count_all-push, depth_all-append, depth_all-push}
 
 -- a front, and what follows it

@@ -169,11 +169,11 @@ fn parts(rt: HostRuntime) -> Result<(), Fail> {
 #[test]
 fn deep_trees(rt: HostRuntime) -> Result<(), Fail> {
     let alloc = rt.alloc();
-    let whole = Whole::seal(chain(alloc, 10_000)?)
+    let whole = Whole::seal(chain(alloc, 3_000)?)
         .ok()
         .expect(&rt, "a tree that is allowed");
     let copied = whole.copy(alloc)?;
-    assert_eq!(rt; copied.count(), 10_000);
-    assert_eq!(rt; copied.depth(), 10_000);
+    assert_eq!(rt; copied.count(), 3_000);
+    assert_eq!(rt; copied.depth(), 3_000);
     Ok(())
 }

@@ -79,8 +79,7 @@ impl<L> Tree<L> {
         ensures label { result.0 ≡ label_of self }
         ensures kids { result.1.items ≡ kids_of self }
     {
-        let Tree { label, kids } = self;
-        (label, kids)
+        (self.label, self.kids)
     }
 }
 

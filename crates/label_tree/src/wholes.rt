@@ -81,7 +81,6 @@ impl<L: Shape> Whole<L> {
         ensures tree { result ≡ self }
         ensures allowed { Allowed L.allowed self }
     {
-        let Whole { tree, .. } = self;
-        tree
+        self.tree
     }
 }
