@@ -11,7 +11,8 @@ use xa_base::Memory;
 /// lists.
 ///
 /// A tree is dropped, copied and sealed by recursion, so the stack that these take grows with its depth, which the
-/// type doesn't bound: 8 MB of stack serve about 100,000 levels. Who builds trees from input bounds their depth.
+/// type doesn't bound. With a label of a few words, 8 MB of stack serve about 30,000 levels. Whoever builds a tree
+/// from input has to bound its depth.
 #[derive(Drop)]
 pub struct Tree<L> {
     label: L,
