@@ -1,4 +1,5 @@
 pub mod Faults
 pub mod Bytes
+pub mod Characters
 pub mod Entries
 pub mod States

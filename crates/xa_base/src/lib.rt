@@ -2,6 +2,7 @@
 //! in memory.
 #![tactic(auto)]
 
+mod characters;
 mod libraries;
 mod moves;
 mod sinks;
@@ -9,6 +10,9 @@ mod sources;
 mod steps;
 mod texts;
 
+pub use characters::{
+    is_name_char, is_name_start, is_name_text, is_ncname, is_ncname_text, is_xml_char,
+};
 pub use libraries::{Entry, Library, LoadError, MemoryLibrary, SureLibrary};
 pub use moves::{ReadError, read_all, write_all};
 pub use sinks::{MemorySink, Sink, SureSink};
