@@ -2,4 +2,5 @@ pub mod Faults
 pub mod Bytes
 pub mod Characters
 pub mod Entries
+pub mod Names
 pub mod States
