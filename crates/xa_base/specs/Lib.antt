@@ -4,3 +4,4 @@ pub mod Characters
 pub mod Entries
 pub mod Names
 pub mod States
+pub mod WhiteSpace

@@ -9,6 +9,7 @@ mod sinks;
 mod sources;
 mod steps;
 mod texts;
+mod white_space;
 
 pub use characters::{
     is_name_char, is_name_start, is_name_text, is_ncname, is_ncname_text, is_xml_char,
@@ -19,6 +20,7 @@ pub use sinks::{MemorySink, Sink, SureSink};
 pub use sources::{Failed, MemorySource, Source, SureSource};
 pub use steps::Steps;
 pub use texts::{Memory, Name, Text, TextError};
+pub use white_space::WhiteSpace;
 
 #[cfg(test)]
 mod tests;
