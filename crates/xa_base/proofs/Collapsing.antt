@@ -14,7 +14,7 @@ abbrev words_among : List (List ℕ) → List (List ℕ)
 words_among parts = filter has_bytes parts
 
 -- the words, each behind a space
-abbrev spaced_words : List (List ℕ) → List ℕ
+abbrev pub spaced_words : List (List ℕ) → List ℕ
 spaced_words [] = []
 spaced_words (word ∷ words) = 32 ∷ join_with_byte 32 (word ∷ words)
 
@@ -23,7 +23,7 @@ abbrev goes_on : List (List ℕ) → List ℕ
 goes_on [] = []
 goes_on (part ∷ parts) = part ++ spaced_words (words_among parts)
 
-join-cons : (word : List ℕ) (words : List (List ℕ)) → join_with_byte 32 (word ∷ words) ≡ word ++ spaced_words words
+pub join-cons : (word : List ℕ) (words : List (List ℕ)) → join_with_byte 32 (word ∷ words) ≡ word ++ spaced_words words
 join-cons word [] = sym (append-nil word)
 join-cons word (next ∷ words) = refl
 

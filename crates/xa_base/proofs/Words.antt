@@ -1,12 +1,16 @@
 -- The first word of a text, and where it may be cut.
-use Rattle.std.proofs.Common.{◌≡◌, ℕ, zero, suc, add-one, ◌+◌, ◌-◌, ◌<◌, ◌≤◌, Bool, true, false, not, cond, List, [], ◌∷◌, ◌++◌, length, take, drop, get_or, refl, sym, ap, ◌∙◌, subst, arith, Option, Some, None, ltb}
+use Rattle.std.proofs.Common.{◌≡◌, ℕ, zero, suc, add-one, ◌+◌, ◌-◌, ◌<◌, ◌≤◌, Bool, true, false, not, cond, List, [], ◌∷◌, ◌++◌, length, take, drop, get_or, refl, sym, ap, ◌∙◌, subst, arith, Option, Some, None, ltb, append_assoc}
 use Rattle.std.specs.Prelude.{filter, unwrap_or, IsUtf8}
 use Rattle.std.specs.Str.{IsCharBoundary}
-use Rattle.std.specs.List.{slice_split, onto_first, position_or_len, prefix_len}
+use Rattle.std.specs.List.{slice_split, onto_first, position_or_len, join_with_byte}
+use Rattle.std.proofs.lemmas.List.{append-nil}
+use Rattle.std.proofs.lemmas.Bool.{true≢false}
 use Rattle.std.proofs.lemmas.Grind.{common_steps}
 use Rattle.std.proofs.lemmas.List.Sums.{fails_before_first, passes_at_first, prefix_len-le-length}
 use Rattle.std.proofs.lemmas.Str.{IsCharBoundary-start, IsCharBoundary-end, IsCharBoundary-before_ascii, IsCharBoundary-after_ascii}
-use Rattle.xa_base.specs.WhiteSpace.{is_white_space, has_bytes, words_of}
+use Rattle.xa_base.specs.WhiteSpace.{is_white_space, has_bytes, words_of, treated}
+use Rattle.xa_base.specs.declared.white_space.WhiteSpace.TheVariants.{Collapse}
+use Rattle.xa_base.proofs.Collapsing.{spaced_words, join-cons}
 
 place_le : (test : ℕ → Bool) (bs : List ℕ) → position_or_len test bs ≤ length bs
 place_le test bs = prefix_len-le-length (λ b. not (test b)) bs
@@ -17,7 +21,7 @@ pub first_place : (test : ℕ → Bool) (bs : List ℕ) (r : Option ℕ)
 first_place test bs r e = grind (arith, common_steps, place_le test bs)
 
 -- white space is ASCII
-white_space-ascii : (b : ℕ) → is_white_space b ≡ true → b < 128
+pub white_space-ascii : (b : ℕ) → is_white_space b ≡ true → b < 128
 unfolding is_white_space
 white_space-ascii b e = grind (arith, common_steps)
 
@@ -26,7 +30,7 @@ not-not true e = refl
 not-not false e = sym e
 
 -- the place behind an element that doesn't pass
-place-cons : (test : ℕ → Bool) (b : ℕ) (bs : List ℕ) → test b ≡ false → position_or_len test (b ∷ bs) ≡ suc (position_or_len test bs)
+pub place-cons : (test : ℕ → Bool) (b : ℕ) (bs : List ℕ) → test b ≡ false → position_or_len test (b ∷ bs) ≡ suc (position_or_len test bs)
 place-cons test b bs e = rw e (omega arith)
 
 -- a text may be cut behind the white space at its front
@@ -141,3 +145,41 @@ pub cut_off : (text words bytes word behind : List ℕ) (n : ℕ) → words ≡ 
 cut_off text words bytes word behind n is some same len front back =
     let at : n ≡ position_or_len is_white_space words = len ∙ ap (λ bs. position_or_len is_white_space bs) same in
     rw (front, back, at) (first text words is some)
+
+-- what is collapsed so far, and the words to come
+abbrev pub joined : List ℕ → List (List ℕ) → List ℕ
+joined [] words = join_with_byte 32 words
+joined (b ∷ bs) words = (b ∷ bs) ++ spaced_words words
+
+pub joined-nil : (out : List ℕ) → joined out [] ≡ out
+joined-nil [] = refl
+joined-nil (b ∷ bs) = append-nil (b ∷ bs)
+
+filter_passes : (parts : List (List ℕ)) (word : List ℕ) (words : List (List ℕ)) → filter has_bytes parts ≡ word ∷ words → has_bytes word ≡ true
+filter_passes [] word words is = cc
+filter_passes ([] ∷ parts) word words is = filter_passes parts word words is
+filter_passes ((b ∷ part) ∷ parts) word words is = let same : b ∷ part ≡ word = cc in ap has_bytes (sym same)
+
+-- a word has bytes
+pub word_has : (bs word : List ℕ) (words : List (List ℕ)) → words_of bs ≡ word ∷ words → has_bytes word ≡ true
+unfolding words_of
+word_has bs word words is = filter_passes (slice_split is_white_space bs) word words is
+
+-- the first word is added as it is
+pub joins_first : (out word : List ℕ) (words : List (List ℕ)) → length out ≡ 0 → has_bytes word ≡ true → joined (out ++ word) words ≡ joined out (word ∷ words)
+joins_first [] [] words empty has = absurd (true≢false (sym has))
+joins_first [] (b ∷ bs) words empty has = sym (join-cons (b ∷ bs) words)
+joins_first (c ∷ out) word words empty has = absurd (omega arith)
+
+-- a further word is added behind a space
+pub joins_further : (out word : List ℕ) (words : List (List ℕ)) → 0 < length out → joined ((out ++ 32 ∷ []) ++ word) words ≡ joined out (word ∷ words)
+joins_further [] word words some = absurd (omega arith)
+joins_further (c ∷ out) word words some =
+    let apart : joined ((c ∷ out) ++ 32 ∷ [] ++ word) words ≡ ((c ∷ out) ++ 32 ∷ [] ++ word) ++ spaced_words words = refl in
+    let moved : ((c ∷ out) ++ 32 ∷ [] ++ word) ++ spaced_words words ≡ (c ∷ out) ++ (32 ∷ (word ++ spaced_words words)) = simp append_assoc in
+    apart ∙ moved ∙ ap (λ l. (c ∷ out) ++ (32 ∷ l)) (sym (join-cons word words))
+
+-- nothing is collapsed so far
+pub joined-start : (out bs : List ℕ) → out ≡ [] → joined out (words_of bs) ≡ treated Collapse bs
+unfolding treated
+joined-start out bs empty = ap (λ l. joined l (words_of bs)) empty
