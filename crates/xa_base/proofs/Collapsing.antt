@@ -1,8 +1,9 @@
 -- Collapsed texts: byte by byte, and when a text is collapsed already.
-use Rattle.std.proofs.Common.{◌≡◌, ℕ, ◌+◌, ◌<◌, ◌≤◌, Bool, true, false, not, ◌&&◌, ◌||◌, ◌==◌, cond, if◌then◌else◌, List, [], ◌∷◌, ◌++◌, length, map, refl, sym, ap, ◌∙◌, subst, arith, Decides}
+use Rattle.std.proofs.Common.{◌≡◌, ℕ, ◌+◌, ◌<◌, ◌≤◌, Bool, true, false, not, ◌&&◌, ◌||◌, ◌==◌, cond, if◌then◌else◌, List, [], ◌∷◌, ◌++◌, length, drop, get_or, map, inl, inr, ◌⊎◌, refl, sym, ap, ◌∙◌, subst, arith, Decides}
 use Rattle.std.specs.Prelude.{filter}
 use Rattle.std.specs.List.{slice_split, onto_first, join_with_byte}
-use Rattle.std.proofs.lemmas.List.{append-nil}
+use Rattle.std.proofs.lemmas.List.{append-nil, at_drop_more}
+use Rattle.std.proofs.lemmas.Bool.Decides.{nat_tests}
 use Rattle.std.proofs.lemmas.Bool.{true≢false}
 use Rattle.std.specs.Cmp.{first_so, second_so}
 use borrow.Author.Tests.{eqb-true}
@@ -176,3 +177,29 @@ treated-treated Replace bs = all_spaced bs
 treated-treated Collapse bs =
     let again : treated Collapse (before_words bs) ≡ before_words bs = (is_collapsed-Decides (before_words bs)).0 (spaces bs).before in
     rw (← before_words-treated bs) again
+
+-- the test of the loop, where there are bytes and where there are none
+pub is_collapsed-nil : (bs : List ℕ) → length bs ≡ 0 → treated Collapse bs ≡ bs
+is_collapsed-nil [] e = sym (before_words-treated [])
+is_collapsed-nil (b ∷ bs) e = absurd (omega arith)
+
+pub is_collapsed-cons : (bs : List ℕ) (r : Bool) → 0 < length bs → r ≡ well_spaced true bs → Decides r (treated Collapse bs ≡ bs)
+is_collapsed-cons [] r some e = absurd (omega arith)
+is_collapsed-cons (b ∷ bs) r some e = rw e (is_collapsed-Decides (b ∷ bs))
+
+-- bytes that break the form break the whole
+pub not_collapsed : (bs : List ℕ) → well_spaced true bs ≡ false → 0 < length bs → treated Collapse bs ≡ bs → ⊥
+not_collapsed bs fails some same = true≢false (sym ((is_collapsed-cons bs _ some refl).1 same) ∙ fails)
+
+and_false : (p : Bool) → (p && false) ≡ false
+and_false true = refl
+and_false false = refl
+
+-- white space that is no space, or comes where no word is open, breaks the form
+pub refused : (bs : List ℕ) (i : ℕ) (apart : Bool) → i < length bs → is_white_space (get_or bs i 0) ≡ true
+    → (¬ (get_or bs i 0 ≡ 32)) ⊎ (apart ≡ true) → well_spaced apart (drop i bs) ≡ false
+refused bs i apart inside white (inl other) =
+    let off : (get_or bs i 0 == 32) ≡ false = grind (arith, nat_tests) in
+    at_drop_more (well_spaced apart) bs i 0 inside ∙ rw (white, off) refl
+refused bs i apart inside white (inr on) =
+    at_drop_more (well_spaced apart) bs i 0 inside ∙ rw (white, on) (and_false (get_or bs i 0 == 32))

@@ -12,7 +12,7 @@ use Rattle.xa_base.specs.WhiteSpace.{is_white_space, has_bytes, words_of, treate
 use Rattle.xa_base.specs.declared.white_space.WhiteSpace.TheVariants.{Collapse}
 use Rattle.xa_base.proofs.Collapsing.{spaced_words, join-cons}
 
-place_le : (test : ℕ → Bool) (bs : List ℕ) → position_or_len test bs ≤ length bs
+pub place_le : (test : ℕ → Bool) (bs : List ℕ) → position_or_len test bs ≤ length bs
 place_le test bs = prefix_len-le-length (λ b. not (test b)) bs
 
 -- what `position` answers, or the length

@@ -1,5 +1,5 @@
 //! White space, as the facet `whiteSpace` of XML Schema treats it.
-ghost use Rattle.std.specs.Prelude.{◌≡◌, ◌∷◌, ◌++◌, ◌↔◌, [], IfOk, IfSome, IsTrue, IsUtf8, MatchOption, not, map, ◌==◌, string_bytes};
+ghost use Rattle.std.specs.Prelude.{◌≡◌, ◌∷◌, ◌++◌, ◌↔◌, [], IfOk, IfSome, IsTrue, IsUtf8, MatchOption, not, map, position, ◌==◌, string_bytes};
 ghost use Rattle.std.specs.List.{join_with_byte, position_or_len};
 ghost use Rattle.xa_base.specs.WhiteSpace.{is_white_space, spaced, words_of, treated, IsTreated};
 
@@ -81,15 +81,24 @@ fn is_replaced(b: u8) -> bool
     matches!(b, b'\t' | b'\n' | b'\r')
 }
 
+// The place of the first byte that is replaced.
+fn first_replaced(bytes: &[u8]) -> Option<usize>
+    ensures { result ≡ position (λ b. not (spaced b == b)) bytes.now }
+{
+    bytes.iter().position(|b| is_replaced(*b))
+}
+
 // What stands before and behind the first byte that is replaced.
 fn split_at_replaced(text: &str) -> Option<(&str, &str)>
-    ensures { MatchOption result (map spaced text.now ≡ text.now) (λ x. map spaced text.now ≡ x.0.now ++ 32 ∷ map spaced x.1.now) }
+    ensures split { MatchOption result (map spaced text.now ≡ text.now) (λ x. map spaced text.now ≡ x.0.now ++ 32 ∷ map spaced x.1.now) }
+    ensures text { IfSome result (λ x. IsUtf8 x.0.now × IsUtf8 x.1.now) }
 {
-    let at = text.as_bytes().iter().position(|b| is_replaced(*b))?;
+    let at = first_replaced(text.as_bytes())?;
     Some((&text[..at], &text[at + 1..]))
 }
 
 // The text with spaces for other white space.
+#[tactic(auto, unfolding(crate::specs::WhiteSpace::treated))]
 fn replace(alloc: Global, text: &str) -> Result<String, AllocError>
     ensures { IfOk result (λ replaced. string_bytes replaced ≡ treated WhiteSpace.Replace text.now) }
 {
@@ -123,17 +132,19 @@ fn is_collapsed(bytes: &[u8]) -> bool
 }
 
 /// Whether its treatment leaves the text as it is. It allocates nothing.
+#[tactic(auto, unfolding(crate::specs::WhiteSpace::treated))]
 pub fn is_treated(how: WhiteSpace, text: &Text) -> bool
     ensures { IsTrue result ↔ IsTreated how text.now }
 {
     match how {
         WhiteSpace::Preserve => true,
-        WhiteSpace::Replace => !text.bytes().iter().any(|b| is_replaced(*b)),
+        WhiteSpace::Replace => first_replaced(text.bytes()).is_none(),
         WhiteSpace::Collapse => is_collapsed(text.bytes()),
     }
 }
 
 /// What the facet makes of the text.
+#[tactic(auto, unfolding(crate::specs::WhiteSpace::treated))]
 pub fn treat(alloc: Global, how: WhiteSpace, text: &Text) -> Result<Text, Memory>
     ensures { IfOk result (λ made. made ≡ treated how text.now) }
 {
