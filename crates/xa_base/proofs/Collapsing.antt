@@ -92,9 +92,10 @@ cons-Decides b xs ys r d = (λ h. ap (λ l. b ∷ l) (d.0 h), λ e. let tails : 
 
 -- neither a test that ends in false nor an equation of lists of two lengths holds
 never : (p q : Bool) (xs ys : List ℕ) → length xs < length ys → Decides (p && (q && false)) (xs ≡ ys)
-never p q xs ys less =
-    ( λ h. absurd (true≢false (sym (second_so q false (second_so p (q && false) h)))),
-      λ e. let same = ap length e in absurd (omega arith) )
+never p q xs ys less = (
+  λ h. absurd (true≢false (sym (second_so q false (second_so p (q && false) h)))),
+  λ e. let same = ap length e in absurd (omega arith),
+)
 
 within-cons : (b : ℕ) (bs : List ℕ) (w : Bool) → is_white_space b ≡ w → Decides (well_spaced false bs) (in_word bs ≡ bs)
     → Decides (b == 32 && well_spaced true bs) (behind_word bs ≡ b ∷ bs) → Decides (well_spaced false (b ∷ bs)) (in_word (b ∷ bs) ≡ b ∷ bs)
@@ -107,9 +108,10 @@ behind-cons b c bs true e within =
     let s = (shortens bs).behind in
     rw e (never (b == 32) (c == 32) (behind_word bs) (b ∷ c ∷ bs) (grind (arith, s)))
 behind-cons b c bs false e within =
-    rw e
-    ( λ h. λ i. sym (eqb-true b 32 (first_so (b == 32) (well_spaced false bs) h)) i ∷ c ∷ within.0 (second_so (b == 32) (well_spaced false bs) h) i,
-      λ e. let heads : b ≡ 32 = cc e in let tails : in_word bs ≡ bs = cc e in rw heads (within.1 tails) )
+    rw e (
+      λ h. λ i. sym (eqb-true b 32 (first_so (b == 32) (well_spaced false bs) h)) i ∷ c ∷ within.0 (second_so (b == 32) (well_spaced false bs) h) i,
+      λ e. let heads : b ≡ 32 = cc e in let tails : in_word bs ≡ bs = cc e in rw heads (within.1 tails),
+    )
 
 -- a text in whose midst a word is open, or a space was read, is collapsed
 mutual

@@ -22,9 +22,10 @@ name_eq-itself a = λ i. (bytes_eq-Decides a.space a.space).1 refl i && (bytes_e
 pub name_eq-Decides : (a b : Name) → Decides (name_eq a b) (a ≡ b)
 name_eq-Decides a b =
     let spaces = bytes_eq a.space b.space in
-    let locals = bytes_eq a.local b.local in
-    ( λ e. same_names a b ((bytes_eq-Decides a.space b.space).0 (first_so spaces locals e)) ((bytes_eq-Decides a.local b.local).0 (second_so spaces locals e)),
-      λ e. ap (name_eq a) (sym e) ∙ name_eq-itself a )
+    let locals = bytes_eq a.local b.local in (
+      λ e. same_names a b ((bytes_eq-Decides a.space b.space).0 (first_so spaces locals e)) ((bytes_eq-Decides a.local b.local).0 (second_so spaces locals e)),
+      λ e. ap (name_eq a) (sym e) ∙ name_eq-itself a,
+    )
 
 -- the order of names is total
 pub name_cmp_total : IsTotalOrder name_cmp

@@ -47,9 +47,10 @@ front-IsCharBoundary bs utf8 =
 
 -- and before the first white space
 pub word-IsCharBoundary : (bs : List ℕ) → IsCharBoundary bs (position_or_len is_white_space bs)
-word-IsCharBoundary bs =
-    ( place_le is_white_space bs,
-      λ inside high. absurd (let low = white_space-ascii _ (passes_at_first is_white_space bs 0 inside) in omega arith) )
+word-IsCharBoundary bs = (
+  place_le is_white_space bs,
+  λ inside high. absurd (let low = white_space-ascii _ (passes_at_first is_white_space bs 0 inside) in omega arith),
+)
 
 -- white space at the front belongs to no word
 front-cons : (b : ℕ) (bs : List ℕ) (w : Bool) → is_white_space b ≡ w

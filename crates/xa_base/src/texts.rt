@@ -65,7 +65,8 @@ impl Text {
     /// A text of these bytes, which are copied.
     pub fn of(alloc: Global, bytes: &[u8]) -> Result<Text, TextError>
         ensures ok { IfOk result (λ text. (text ≡ bytes.now) × IsUtf8 bytes.now) }
-        ensures not_utf8 { IsErrOf result TextError.NotUtf8 → IsUtf8 bytes.now → ⊥ }
+        ensures not_utf8 { IsErrOf result TextError.NotUtf8 → ¬ IsUtf8 bytes.now }
+        ensures memory { IsErrOf result TextError.Memory → IsUtf8 bytes.now }
     {
         let Ok(read) = simdutf8::basic::from_utf8(bytes) else {
             return Err(TextError::NotUtf8);

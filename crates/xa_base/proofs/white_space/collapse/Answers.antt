@@ -19,7 +19,7 @@ words-preserved c =
     let words = words_of c.in-Some.behind.now in
     let ok = c.words.collapsed.bytes.ok in
     let step : joined (string_bytes c.push_str.new.self) words ≡ joined out (word ∷ words) = elim c.if-not-is_empty.branch [
-        then-not-is_empty+in_ok-push w ↦
+      | then-not-is_empty+in_ok-push w ↦
           let some : 0 < length out = grind (arith, nat_tests, ok) in
           let spaced : string_bytes c.if-not-is_empty.collapsed ≡ out ++ 32 ∷ [] = rw w.collapsed-is (w.in_ok-push.ensures.bytes ∙ ap (λ l. out ++ l) (encode_ascii 32 (omega arith))) in
           let pushed : string_bytes c.push_str.new.self ≡ (out ++ 32 ∷ []) ++ word = c.in_ok-push_str.ensures.bytes ∙ ap (λ l. l ++ word) spaced in
@@ -28,7 +28,7 @@ words-preserved c =
           let none : length out ≡ 0 = grind (arith, nat_tests, ok) in
           let pushed : string_bytes c.push_str.new.self ≡ out ++ word = c.in_ok-push_str.ensures.bytes ∙ ap (λ s. string_bytes s ++ word) w.collapsed-is in
           rw pushed (joins_first out word words none (word_has _ _ _ c.in-Some.ensures.words))
-      ] in
+    ] in
     record { text = c.in-Some.ensures.text.1; so_far = step ∙ ap (joined out) (sym c.in-Some.ensures.words) ∙ c.words.invariant.so_far }
 
 pub returns : goal.returns
