@@ -119,14 +119,11 @@ fn is_collapsed(bytes: &[u8]) -> bool
 {
     let mut is_apart = true;
     for b in bytes {
-        if is_white_space(*b) {
-            if *b != b' ' || is_apart {
-                return false;
-            }
-            is_apart = true;
-        } else {
-            is_apart = false;
+        let is_space = is_white_space(*b);
+        if is_space && (*b != b' ' || is_apart) {
+            return false;
         }
+        is_apart = is_space;
     }
     bytes.is_empty() || !is_apart
 }

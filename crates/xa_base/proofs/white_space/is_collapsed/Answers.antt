@@ -6,12 +6,12 @@ use Rattle.xa_base.proofs.Collapsing.{well_spaced, refused, not_collapsed, is_co
 use Rattle.xa_base.proofs.white_space.is_collapsed.Goals as goal
 
 -- the loop meets a byte that breaks the form
-pub returns-then-b-ne32 : goal.returns-then-b-ne32
-returns-then-b-ne32 c =
+pub returns-then-is_apart : goal.returns-then-is_apart
+returns-then-is_apart c =
     let bytes = c.args.bytes.now in
     let some : 0 < length bytes = omega arith in
-    let white = sym c.is_white_space.ensures ∙ c.if-is_white_space.true in
-    let broken = elim c.then-b-ne32.either as (λ _. (¬ (get_or bytes c.loop-b.b-index 0 ≡ 32)) ⊎ (c.loop-b.is_apart ≡ true)) [ inl other ↦ inl other | inr on ↦ inr on.1 ] in
+    let white = sym c.is_white_space-is_space.ensures ∙ c.if-is_space.true in
+    let broken = elim c.if-is_apart.either as (λ _. (¬ (get_or bytes c.loop-b.b-index 0 ≡ 32)) ⊎ (c.loop-b.is_apart ≡ true)) [ inl other ↦ inl other | inr on ↦ inr on.1 ] in
     let fails = sym c.loop-b.invariant ∙ refused bytes c.loop-b.b-index c.loop-b.is_apart c.loop-b-test.true white broken in
     (λ yes. absurd (true≢false (sym yes)), λ same. absurd (not_collapsed bytes fails some same))
 
