@@ -1,7 +1,15 @@
 //! Texts, seen as their bytes, and names.
-ghost use Rattle.std.specs.Prelude.{◌≡◌, IfOk, IsUtf8, IsErrOf, string_bytes};
+ghost use Rattle.std.specs.Prelude.{◌≡◌, IfOk, IsUtf8, IsErrOf, string_bytes, bytes_eq};
+ghost use Rattle.std.specs.Cmp.{partial_order_from_own_ties};
+ghost use Rattle.std.specs.Cmp.Lexicographic.{slice_cmp};
+ghost use Rattle.std.specs.Cmp.Rules.{comparing, hashing};
+ghost use Rattle.std.specs.Hash as fed;
+ghost use Rattle.std.specs.Ordering.{nat_cmp, as_partial_cmp};
+ghost use Rattle.std.proofs.Common.{rules};
 
 use std::alloc::{AllocError, AllocFailed, Global};
+use std::cmp::Ordering;
+use std::hash::{Hash, Hasher};
 use std::marker::Model;
 use thiserror::Error;
 
@@ -57,7 +65,8 @@ impl Text {
     /// A text of these bytes, which are copied.
     pub fn of(alloc: Global, bytes: &[u8]) -> Result<Text, TextError>
         ensures ok { IfOk result (λ text. (text ≡ bytes.now) × IsUtf8 bytes.now) }
-        ensures not_utf8 { IsErrOf result TextError.NotUtf8 → IsUtf8 bytes.now → ⊥ }
+        ensures not_utf8 { IsErrOf result TextError.NotUtf8 → ¬ IsUtf8 bytes.now }
+        ensures memory { IsErrOf result TextError.Memory → IsUtf8 bytes.now }
     {
         let Ok(read) = simdutf8::basic::from_utf8(bytes) else {
             return Err(TextError::NotUtf8);
@@ -92,8 +101,58 @@ impl Text {
     }
 }
 
-/// A name in a namespace. The empty text stands for no namespace.
-#[derive(Drop)]
+impl PartialEq for Text {
+    ghost eq = { bytes_eq };
+
+    ghost laws = { Prim.search (comparing, rules) };
+
+    fn eq(&self, other: &Text) -> bool {
+        self.bytes() == other.bytes()
+    }
+}
+
+impl Eq for Text {
+    ghost laws = { Prim.search (comparing, rules) };
+}
+
+/// Texts are in the order of their bytes, which is that of their code points.
+impl Ord for Text {
+    ghost cmp = { slice_cmp nat_cmp };
+
+    ghost total = { Prim.search (comparing, rules) };
+
+    ghost matches_partial_cmp = { Prim.search (comparing, rules) };
+
+    ghost matches_eq = { Prim.search (comparing, rules) };
+
+    fn cmp(&self, other: &Text) -> Ordering {
+        self.bytes().cmp(other.bytes())
+    }
+}
+
+impl PartialOrd for Text {
+    ghost partial_cmp = { as_partial_cmp (slice_cmp nat_cmp) };
+
+    ghost laws = { partial_order_from_own_ties (Prim.search (comparing, rules)) (Prim.search (comparing, rules)) };
+
+    fn partial_cmp(&self, other: &Text) -> Option<Ordering> {
+        Some(self.cmp(other))
+    }
+}
+
+impl Hash for Text {
+    ghost hash_input = { fed.str };
+
+    ghost respects_eq = { Prim.search (hashing, rules) };
+
+    fn hash<H: Hasher>(&self, state: &mut H) {
+        self.as_str().hash(state);
+    }
+}
+
+/// A name in a namespace. The empty text stands for no namespace. Names are in the order of their namespaces, and in
+/// one namespace in that of their local names.
+#[derive(PartialEq, Eq, PartialOrd, Ord, Hash, Drop)]
 pub struct Name {
     pub space: Text,
     pub local: Text,

@@ -1,0 +1,13 @@
+use Rattle.std.proofs.Common.{refl, rules, tests, not, sym, ap, ◌∙◌}
+use Rattle.std.specs.Prelude.{unwrap_or}
+use Rattle.std.proofs.lemmas.Iterator.{YieldsList-from_slice}
+use Rattle.std.proofs.lemmas.Iterator.Search.{position_from_yields_List}
+use Rattle.xa_base.specs.WhiteSpace.{is_white_space}
+use Rattle.xa_base.proofs.Words.{first_place}
+use Rattle.xa_base.proofs.white_space.white_space_len.Goals as goal
+
+pub returns : goal.returns
+returns c =
+    let bytes = c.args.bytes.now in
+    let place = position_from_yields_List (λ b. not (is_white_space b)) _ _ c.position.result c.position.ensures.ran (YieldsList-from_slice bytes cc) (λ x b q k. search (rules, tests)) in
+    c.unwrap_or.ensures ∙ first_place (λ b. not (is_white_space b)) bytes c.position.result place
