@@ -1,0 +1,90 @@
+-- What each tree of items keeps, by XML 1.0 and Namespaces in XML 1.0 and within the limits of this program.
+use Rattle.std.specs.Prelude.{◌≡◌, ℕ, Bool, true, false, ◌&&◌, ◌||◌, not, nat_le, ◌≤◌, ◌<◌, ◌^◌, List, [], ◌∷◌, length, bytes_eq, codes}
+use Rattle.std.specs.List.{list_all, list_any}
+use Rattle.std.specs.Str.{chars}
+use Rattle.xa_base.specs.Characters.{is_xml_char, is_ncname}
+use Rattle.xa_base.specs.declared.texts.Name.{Name}
+use Rattle.label_tree.specs.Rose.{Rose, node, Roses, none, more, node_count, height, Allowed}
+use Rattle.doc_text.specs.declared.label.ItemLabel.{ItemLabel}
+use Rattle.doc_text.specs.declared.label.ItemLabel.TheVariants.{Element, Text}
+use Rattle.doc_text.specs.Labels.{MayHave}
+
+-- the namespace of `xmlns`, which no name has (Namespaces in XML 1.0, section 3)
+abbrev pub xmlns_space : List ℕ
+xmlns_space = codes "http://www.w3.org/2000/xmlns/"
+
+abbrev pub is_empty : List ℕ → Bool
+is_empty [] = true
+is_empty (b ∷ bs) = false
+
+-- XML 1.0, production [2] Char
+abbrev pub has_xml_chars : List ℕ → Bool
+has_xml_chars text = list_all is_xml_char (chars text)
+
+abbrev pub is_sound_space : List ℕ → Bool
+is_sound_space space = has_xml_chars space && nat_le (length space) 1023 && not (bytes_eq space xmlns_space)
+
+abbrev pub is_sound_part : List ℕ → Bool
+is_sound_part part = is_ncname (chars part) && nat_le (length part) 255
+
+-- an expanded name: a namespace, empty where there is none, and an NCName
+abbrev pub is_sound_name : Name → Bool
+is_sound_name name = is_sound_space name.space && is_sound_part name.local
+
+abbrev pub same_name : Name → Name → Bool
+same_name a b = bytes_eq a.space b.space && bytes_eq a.local b.local
+
+-- `xmlns` binds a namespace and is no attribute
+abbrev pub is_xmlns : Name → Bool
+is_xmlns name = is_empty name.space && bytes_eq name.local (codes "xmlns")
+
+-- one attribute: its name, and the characters of its value
+abbrev pub is_sound_attribute : Name × List ℕ → Bool
+is_sound_attribute attribute = is_sound_name attribute.0 && not (is_xmlns attribute.0) && has_xml_chars attribute.1
+
+abbrev pub has_name : Name → List (Name × List ℕ) → Bool
+has_name name attributes = list_any (λ attribute. same_name attribute.0 name) attributes
+
+-- no two have one name (Namespaces in XML 1.0, section 6.3)
+abbrev pub are_sound_attributes : List (Name × List ℕ) → Bool
+are_sound_attributes [] = true
+are_sound_attributes (attribute ∷ attributes) =
+    is_sound_attribute attribute && not (has_name attribute.0 attributes) && are_sound_attributes attributes
+
+-- a prefix, empty for the default, with a namespace
+abbrev pub is_sound_binding : List ℕ × List ℕ → Bool
+is_sound_binding binding = (is_empty binding.0 || is_sound_part binding.0) && is_sound_space binding.1
+
+abbrev pub is_sound_label : ItemLabel → Bool
+is_sound_label (Element name attributes declares at) =
+    is_sound_name name && are_sound_attributes attributes && list_all is_sound_binding declares
+is_sound_label (Text text at) = not (is_empty text) && has_xml_chars text
+
+abbrev pub is_text : ItemLabel → Bool
+is_text (Element name attributes declares at) = false
+is_text (Text text at) = true
+
+-- a text stands first
+abbrev pub begins_with_text : Roses ItemLabel → Bool
+begins_with_text none = false
+begins_with_text (more (node label kids) items) = is_text label
+
+-- each label is sound, and no two texts are neighbours
+abbrev mutual
+  pub is_sound : Rose ItemLabel → Bool
+  is_sound (node label kids) = is_sound_label label && are_sound kids
+
+  pub are_sound : Roses ItemLabel → Bool
+  are_sound none = true
+  are_sound (more (node label kids) items) =
+      is_sound (node label kids) && not (is_text label && begins_with_text items) && are_sound items
+
+abbrev pub is_element : Rose ItemLabel → Bool
+is_element (node label kids) = not (is_text label)
+
+pub record AreItems (root : Rose ItemLabel) : Type 0 where
+  pub allowed : Allowed MayHave root
+  pub element : is_element root ≡ true
+  pub sound : is_sound root ≡ true
+  pub shallow : height root ≤ 64
+  pub few : node_count root < 2 ^ 31

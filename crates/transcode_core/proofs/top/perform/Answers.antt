@@ -1,0 +1,12 @@
+use Rattle.transcode_core.proofs.Deciding.{refusal_due, read_failed}
+use Rattle.transcode_core.proofs.top.perform.Goals as goal
+
+pub returns-clause-refused : goal.returns-clause-refused
+returns-clause-refused g c =
+    refusal_due c.args.words.now (g.F.Library.entries c.args.files.now) (g.S.Source.left c.args.input.now) (g.F.Library.faults c.args.files.now) (g.F.Library.faults c.decide.new.files) (g.F.Library.is_sure c.args.files.now)
+    (g.S.Source.faults c.args.input.now) (g.S.Source.faults c.decide.new.input) c.in-Err.outcome c.in-Err.ensures.due
+
+pub returns-clause-read : goal.returns-clause-read
+returns-clause-read g c =
+    read_failed c.args.words.now (g.F.Library.entries c.args.files.now) (g.S.Source.left c.args.input.now) (g.F.Library.faults c.args.files.now) (g.F.Library.faults c.decide.new.files) (g.F.Library.is_sure c.args.files.now)
+    (g.S.Source.faults c.args.input.now) (g.S.Source.faults c.decide.new.input) c.in-Err.outcome c.in-Err.ensures.due

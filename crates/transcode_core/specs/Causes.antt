@@ -1,0 +1,67 @@
+-- Answers of the outside, each with its cause.
+use Rattle.std.specs.Prelude.{◌≡◌, ◌⊎◌, ℕ, Bool, IsTrue, List, Option, Some, Result, Ok, Err}
+use Rattle.xa_base.specs.Faults.{Rose}
+use Rattle.xa_base.specs.Entries.{Lacks}
+use Rattle.transcode_core.specs.declared.outcome.Outcome.{Outcome}
+use Rattle.transcode_core.specs.declared.outcome.Outcome.TheVariants.{Done, LoadFault, ReadFault, WriteFault, OutOfMemory}
+use Rattle.transcode_core.specs.Words.{asked}
+use Rattle.transcode_core.specs.Due.{Opened}
+
+-- an outcome that refuses the words, a file or the input
+abbrev pub IsRefusal : Outcome → Type 0
+IsRefusal Done = ⊥
+IsRefusal (LoadFault _) = ⊥
+IsRefusal ReadFault = ⊥
+IsRefusal WriteFault = ⊥
+IsRefusal OutOfMemory = ⊥
+IsRefusal o = Unit {0}
+
+-- A step passes with a value, seen by view, or refuses, as is due; or the answer has its cause outside.
+abbrev pub Answers : {A B : Type 0} → (A → B) → (Result B Outcome → Type 0) → (Outcome → Type 0) → Result A Outcome → Type 0
+Answers view due cause (Ok a) = due (Ok (view a))
+Answers view due cause (Err o) = (due (Err o) × IsRefusal o) ⊎ cause o
+
+-- a step that meets neither the outside nor memory
+abbrev pub Never : Outcome → Type 0
+Never o = ⊥
+
+-- memory is missing
+abbrev pub NoMemory : Outcome → Type 0
+NoMemory o = o ≡ OutOfMemory
+
+-- the count of the library rose, and over a sure library none has the name
+pub record Fails (before now : ℕ) (is_sure : Bool) (entries : Option (List (List ℕ × List ℕ))) (name : List ℕ) : Type 0 where
+  pub rose : Rose before now
+  pub lacks : IsTrue is_sure → Lacks entries name
+
+-- memory is missing, or file k failed to load
+abbrev pub OneLoad : ℕ → ℕ → Bool → Option (List (List ℕ × List ℕ)) → ℕ → List ℕ → Outcome → Type 0
+OneLoad before now is_sure entries k name o = (o ≡ OutOfMemory) ⊎ ((o ≡ LoadFault k) × Fails before now is_sure entries name)
+
+-- the words name this file
+abbrev pub Names : List (List ℕ) → ℕ → List ℕ → Type 0
+Names words k name = (root : List ℕ) × (asked words ≡ Some (root, name)) × (k ≡ 1)
+
+-- memory is missing, or the file that the words name failed to load
+abbrev pub Opening : ℕ → ℕ → Bool → Option (List (List ℕ × List ℕ)) → List (List ℕ) → Outcome → Type 0
+Opening before now is_sure entries words o =
+    (o ≡ OutOfMemory) ⊎ ((k : ℕ) × (name : List ℕ) × (o ≡ LoadFault k) × Names words k name × Fails before now is_sure entries name)
+
+-- memory is missing, or the input failed
+abbrev pub OneRead : ℕ → ℕ → Outcome → Type 0
+OneRead before now o = (o ≡ OutOfMemory) ⊎ ((o ≡ ReadFault) × Rose before now)
+
+-- the order passes to the input
+abbrev pub ReachesInput : List (List ℕ) → Option (List (List ℕ × List ℕ)) → Type 0
+ReachesInput words entries = (root : List ℕ) × Opened words entries (Ok root)
+
+-- memory is missing, or the file or the input failed where the order comes to it
+abbrev pub Deciding : ℕ → ℕ → Bool → Option (List (List ℕ × List ℕ)) → ℕ → ℕ → List (List ℕ) → Outcome → Type 0
+Deciding loads loads_now is_sure entries reads reads_now words o =
+    Opening loads loads_now is_sure entries words o ⊎ ((o ≡ OutOfMemory) ⊎ ((o ≡ ReadFault) × Rose reads reads_now × ReachesInput words entries))
+
+-- an outcome that leaves the output as it was
+abbrev pub WritesNothing : Outcome → Type 0
+WritesNothing Done = ⊥
+WritesNothing WriteFault = ⊥
+WritesNothing o = Unit {0}

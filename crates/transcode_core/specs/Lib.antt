@@ -1,0 +1,9 @@
+pub mod Words
+pub mod FirstForm
+pub mod Order
+pub mod Causes
+pub mod Steps
+pub mod Due
+pub mod Lines
+pub mod Status
+pub mod Parts

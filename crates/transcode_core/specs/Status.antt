@@ -1,0 +1,14 @@
+-- The exit status of an outcome.
+use Rattle.std.specs.Prelude.{ℕ}
+use Rattle.transcode_core.specs.declared.outcome.Outcome.{Outcome}
+use Rattle.transcode_core.specs.declared.outcome.Outcome.TheVariants.{Done, UnknownRoot, TooLong, LoadFault, ReadFault, WriteFault, OutOfMemory, NotYet}
+
+abbrev pub status : Outcome → ℕ
+status Done = 0
+status UnknownRoot = 6
+status (TooLong _) = 11
+status (LoadFault _) = 20
+status ReadFault = 21
+status WriteFault = 22
+status OutOfMemory = 30
+status NotYet = 40

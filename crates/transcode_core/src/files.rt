@@ -1,0 +1,63 @@
+//! The file and the input.
+ghost use Rattle.std.specs.Prelude.{◌≡◌, ◌≤◌, length, IfOk, OnOk};
+ghost use Rattle.std.specs.Io.KnownBytes.{IsAtEnd};
+ghost use Rattle.transcode_core.specs.Steps.{Loaded, Input, Read};
+ghost use Rattle.transcode_core.specs.Causes.{Answers, NoMemory, OneLoad, OneRead};
+
+use crate::outcome::Outcome;
+use doc_text::{DocError, Items, read_document};
+use std::alloc::Global;
+use xa_base::{Library, LoadError, ReadError, Source, Text, read_all};
+
+/// The greatest length of a file, and of the input, in bytes.
+const LIMIT: u64 = 16_777_216;
+
+/// The contents of a file.
+pub fn load_file<F: Library>(
+    alloc: Global,
+    files: &mut F,
+    file: u32,
+    name: &Text,
+) -> Result<Vec<u8>, Outcome>
+    ensures due { Answers (λ bytes. bytes.items) (Loaded (F.entries files.old) file name.now)
+        (OneLoad (F.faults files.old) (F.faults files.new) (F.is_sure files.old) (F.entries files.old) file name.now) result }
+    ensures most { IfOk result (λ bytes. length bytes.items ≤ 16777216) }
+    ensures later { F.faults files.old ≤ F.faults files.new }
+{
+    match files.load(alloc, name, LIMIT) {
+        Ok(bytes) => Ok(bytes),
+        Err(LoadError::Failed) => Err(Outcome::LoadFault { file }),
+        Err(LoadError::TooLong) => Err(Outcome::TooLong { file }),
+        Err(LoadError::Memory) => Err(Outcome::OutOfMemory),
+    }
+}
+
+/// All of the input.
+pub fn read_input<S: Source>(alloc: Global, input: &mut S) -> Result<Vec<u8>, Outcome>
+    ensures due { Answers (λ bytes. bytes.items) (Input (S.left input.old)) (OneRead (S.faults input.old) (S.faults input.new)) result }
+    ensures most { IfOk result (λ bytes. length bytes.items ≤ 16777216) }
+    ensures end { OnOk result (IsAtEnd (S.left input.new)) }
+    ensures later { S.faults input.old ≤ S.faults input.new }
+{
+    match read_all(alloc, input, LIMIT) {
+        Ok(bytes) => Ok(bytes),
+        Err(ReadError::Failed) => Err(Outcome::ReadFault),
+        Err(ReadError::TooLong) => Err(Outcome::TooLong { file: 0 }),
+        Err(ReadError::Memory) => Err(Outcome::OutOfMemory),
+    }
+}
+
+/// The items of a text.
+pub fn read_items(alloc: Global, bytes: &[u8]) -> Result<Items, Outcome>
+    requires { length bytes.now ≤ 16777216 }
+    ensures { Answers (λ items. items) (Read bytes.now) NoMemory result }
+{
+    match read_document(alloc, bytes) {
+        Ok(items) => {
+            let _ = items.tree();
+            Ok(items)
+        }
+        Err(DocError::NotPlain) => Err(Outcome::NotYet),
+        Err(DocError::Memory) => Err(Outcome::OutOfMemory),
+    }
+}

@@ -1,0 +1,100 @@
+//! The line that complaints receive.
+ghost use Rattle.std.specs.Prelude.{◌≡◌, ◌++◌, IsErr, OnOk, OnErr, map, codes, decimal};
+ghost use Rattle.std.specs.List.{concat};
+ghost use Rattle.std.specs.Io.KnownBytes.{Appends};
+ghost use Rattle.xa_base.specs.Faults.{Counts};
+ghost use Rattle.xa_base.specs.Bytes.{AppendsFront};
+ghost use Rattle.transcode_core.specs.Lines.{line};
+ghost use Rattle.transcode_core.specs.Parts.{spelled};
+
+use crate::outcome::Outcome;
+use itoa::Buffer;
+use xa_base::{Failed, Sink, write_all};
+
+// Writes the pieces, one after another.
+fn write_parts<E: Sink>(sink: &mut E, parts: &[&[u8]]) -> Result<(), Failed>
+    ensures ok { OnOk result (Appends (E.written sink.old) (E.written sink.new) (concat (map (λ part. part.now) parts.now))) }
+    ensures prefix { OnErr result (AppendsFront (E.written sink.old) (E.written sink.new) (concat (map (λ part. part.now) parts.now))) }
+    ensures cause { Counts (E.faults sink.old) (E.faults sink.new) (IsErr result) }
+{
+    for part in parts {
+        match write_all(sink, part) {
+            Ok(()) => {}
+            Err(failed) => return Err(failed),
+        }
+    }
+    Ok(())
+}
+
+// A line as its parts: text with up to two numbers in it.
+#[derive(Clone, Copy)]
+struct Parts {
+    head: &'static [u8],
+    file: Option<u32>,
+    middle: &'static [u8],
+    at: Option<u64>,
+    tail: &'static [u8],
+}
+
+fn plain(head: &'static [u8]) -> Parts
+    ensures { spelled result ≡ head.now }
+{
+    Parts {
+        head,
+        file: None,
+        middle: b"",
+        at: None,
+        tail: b"",
+    }
+}
+
+fn of_file(file: u32, tail: &'static [u8]) -> Parts
+    ensures { spelled result ≡ codes "file " ++ decimal file ++ tail.now }
+{
+    Parts {
+        head: b"file ",
+        file: Some(file),
+        middle: b"",
+        at: None,
+        tail,
+    }
+}
+
+fn parts_of(outcome: Outcome) -> Parts
+    ensures { spelled result ≡ line outcome }
+{
+    match outcome {
+        Outcome::Done => plain(b""),
+        Outcome::UnknownRoot => plain(b"unknown root\n"),
+        Outcome::TooLong { file: 0 } => plain(b"input: too long\n"),
+        Outcome::TooLong { file } => of_file(file, b": too long\n"),
+        Outcome::LoadFault { file } => of_file(file, b": load failed\n"),
+        Outcome::ReadFault => plain(b"input: read failed\n"),
+        Outcome::WriteFault => plain(b"output: write failed\n"),
+        Outcome::OutOfMemory => plain(b"out of memory\n"),
+        Outcome::NotYet => plain(b"not yet\n"),
+    }
+}
+
+/// Writes the line of the outcome, and nothing for `Done`. It takes no memory.
+pub fn write_line<E: Sink>(outcome: &Outcome, complaints: &mut E) -> Result<(), Failed>
+    ensures ok { OnOk result (Appends (E.written complaints.old) (E.written complaints.new) (line outcome.now)) }
+    ensures prefix { OnErr result (AppendsFront (E.written complaints.old) (E.written complaints.new) (line outcome.now)) }
+    ensures cause { Counts (E.faults complaints.old) (E.faults complaints.new) (IsErr result) }
+{
+    let parts = parts_of(*outcome);
+    let mut first = Buffer::new();
+    let mut second = Buffer::new();
+    let file = match parts.file {
+        Some(file) => first.format(file).as_bytes(),
+        None => b"".as_slice(),
+    };
+    let at = match parts.at {
+        Some(at) => second.format(at).as_bytes(),
+        None => b"".as_slice(),
+    };
+    write_parts(
+        complaints,
+        &[parts.head, file, parts.middle, at, parts.tail],
+    )
+}

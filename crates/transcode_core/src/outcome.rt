@@ -1,0 +1,42 @@
+//! What a call of the program ends with.
+ghost use Rattle.std.specs.Prelude.{◌≡◌};
+ghost use Rattle.transcode_core.specs.Status.{status};
+
+/// What a call of the program ends with. Files are numbered from 1 in the order of the words; number 0 is the input.
+#[derive(Clone, Copy, Debug, PartialEq, Eq)]
+pub enum Outcome {
+    /// The whole result was written.
+    Done,
+    /// No global element has the name of the root.
+    UnknownRoot,
+    /// The file has more than 16,777,216 bytes.
+    TooLong { file: u32 },
+    /// The file could not be loaded.
+    LoadFault { file: u32 },
+    /// The input could not be read.
+    ReadFault,
+    /// The result could not be written whole.
+    WriteFault,
+    /// Memory is missing.
+    OutOfMemory,
+    /// What is asked for isn't built yet.
+    NotYet,
+}
+
+impl Outcome {
+    /// The exit status.
+    pub fn status(&self) -> u8
+        ensures { result ≡ status self.now }
+    {
+        match self {
+            Outcome::Done => 0,
+            Outcome::UnknownRoot => 6,
+            Outcome::TooLong { .. } => 11,
+            Outcome::LoadFault { .. } => 20,
+            Outcome::ReadFault => 21,
+            Outcome::WriteFault => 22,
+            Outcome::OutOfMemory => 30,
+            Outcome::NotYet => 40,
+        }
+    }
+}
