@@ -1,5 +1,5 @@
 -- Collapsed texts: byte by byte, and when a text is collapsed already.
-use Rattle.std.proofs.Common.{◌≡◌, ℕ, ◌+◌, ◌<◌, ◌≤◌, Bool, true, false, not, ◌&&◌, ◌||◌, ◌==◌, cond, if◌then◌else◌, List, [], ◌∷◌, ◌++◌, length, drop, get_or, map, inl, inr, ◌⊎◌, refl, sym, ap, ◌∙◌, subst, arith, Decides}
+use Rattle.std.proofs.Common.{◌≡◌, ℕ, ◌+◌, ◌<◌, ◌≤◌, Bool, true, false, not, ◌&&◌, ◌==◌, cond, if◌then◌else◌, List, [], ◌∷◌, ◌++◌, length, drop, get_or, map, inl, inr, ◌⊎◌, refl, sym, ap, ◌∙◌, subst, arith, Decides}
 use Rattle.std.specs.Prelude.{filter}
 use Rattle.std.specs.List.{slice_split, onto_first, join_with_byte}
 use Rattle.std.proofs.lemmas.List.{append-nil, at_drop_more}

@@ -1,17 +1,17 @@
 -- Texts with spaces for other white space.
-use Rattle.std.proofs.Common.{◌≡◌, ℕ, zero, suc, add-one, ◌+◌, ◌<◌, ◌≤◌, Bool, true, false, not, ◌==◌, ◌||◌, cond, List, [], ◌∷◌, ◌++◌, length, take, drop, get_or, slice_range, map, refl, sym, ap, ◌∙◌, subst, arith, Option, Some, None, ltb, Decides}
+use Rattle.std.proofs.Common.{◌≡◌, ℕ, suc, add-one, ◌+◌, ◌<◌, Bool, true, false, not, ◌==◌, List, [], ◌∷◌, ◌++◌, length, take, drop, slice_range, map, refl, sym, ap, ◌∙◌, arith, Option, Some, None, ltb, Decides}
 use Rattle.std.specs.Prelude.{IsUtf8, is_none, is_some}
 use Rattle.std.proofs.lemmas.Bool.{true≢false}
 use Rattle.std.specs.Str.{IsCharBoundary}
-use Rattle.std.specs.List.{position_or_len, position, list_any}
+use Rattle.std.specs.List.{position_or_len, position}
 use Rattle.std.proofs.lemmas.Grind.{common_steps}
 use Rattle.std.proofs.lemmas.Bool.Decides.{nat_tests}
-use Rattle.std.proofs.lemmas.List.Sums.{fails_before_first, passes_at_first}
+use Rattle.std.proofs.lemmas.List.Sums.{passes_at_first}
 use Rattle.std.proofs.lemmas.Str.{IsCharBoundary-before_ascii, IsCharBoundary-after_ascii}
 use borrow.Author.Tests.{ltb-true, ltb-false}
 use Rattle.xa_base.specs.WhiteSpace.{is_white_space, spaced, treated}
 use Rattle.xa_base.specs.declared.white_space.WhiteSpace.TheVariants.{Replace}
-use Rattle.xa_base.proofs.Words.{white_space-ascii, place-cons, place_le}
+use Rattle.xa_base.proofs.FirstWord.{white_space-ascii, place-cons, place_le}
 
 -- whether a byte is replaced
 abbrev pub is_replaced : ℕ → Bool

@@ -1,6 +1,6 @@
 -- White space, by XML Schema Part 2, section 4.3.6. A text is the list of its bytes: white space is ASCII.
 use Rattle.std.specs.Prelude.{◌≡◌, ℕ, Bool, true, false, ◌==◌, ◌||◌, List, [], ◌∷◌, map, filter, if◌then◌else◌}
-use Rattle.std.specs.List.{slice_split, join_with_byte}
+use Rattle.std.specs.List.{slice_split, join_with_byte, All}
 use Rattle.xa_base.specs.declared.white_space.WhiteSpace.{WhiteSpace}
 use Rattle.xa_base.specs.declared.white_space.WhiteSpace.TheVariants.{Preserve, Replace, Collapse}
 
@@ -19,6 +19,11 @@ has_bytes (b ∷ bs) = true
 -- the words, from left to right: the parts between white space that have bytes
 unfoldable pub words_of : List ℕ → List (List ℕ)
 words_of bytes = filter has_bytes (slice_split is_white_space bytes)
+
+-- a word: it has bytes, and none of them is white space
+pub record IsWord (word : List ℕ) : Type 0 where
+  pub has : has_bytes word ≡ true
+  pub plain : All (λ b. is_white_space b ≡ false) word
 
 -- what a facet `whiteSpace` makes of a text
 unfoldable pub treated : WhiteSpace → List ℕ → List ℕ

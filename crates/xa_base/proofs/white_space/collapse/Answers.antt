@@ -2,7 +2,8 @@ use Rattle.std.proofs.Common.{◌≡◌, ◌<◌, [], ◌∷◌, ◌++◌, arith
 use Rattle.std.proofs.lemmas.Bool.Decides.{nat_tests}
 use Rattle.std.proofs.lemmas.Str.{encode_ascii}
 use Rattle.xa_base.specs.WhiteSpace.{words_of}
-use Rattle.xa_base.proofs.Words.{joined, joined-nil, joined-start, word_has, joins_first, joins_further}
+use Rattle.xa_base.proofs.Joining.{joined, joined-nil, joined-start, joins_first, joins_further}
+use Rattle.xa_base.proofs.WordLaws.{word_has}
 use Rattle.xa_base.proofs.white_space.collapse.Goals as goal
 use Rattle.xa_base.proofs.white_space.collapse.Goals.{then-not-is_empty+in_ok-push, else-not-is_empty}
 

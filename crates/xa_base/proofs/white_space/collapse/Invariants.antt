@@ -3,7 +3,7 @@ use denote.Shadow.{shadow}
 use denote.Text.{Utf8}
 use Rattle.xa_base.specs.WhiteSpace.{words_of, treated}
 use Rattle.xa_base.specs.declared.white_space.WhiteSpace.TheVariants.{Collapse}
-use Rattle.xa_base.proofs.Words.{joined}
+use Rattle.xa_base.proofs.Joining.{joined}
 use Rattle.xa_base.proofs.white_space.collapse.Given as goal
 
 abbrev pub invariant-words : goal.invariant-words

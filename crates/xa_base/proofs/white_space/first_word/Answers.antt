@@ -1,9 +1,6 @@
-use Rattle.std.proofs.Common.{◌<◌, length, sym, ap, ◌∙◌, subst, arith}
+use Rattle.std.proofs.Common.{◌<◌, length, arith}
 use Rattle.std.proofs.lemmas.Bool.Decides.{nat_tests}
-use Rattle.std.specs.Str.{IsCharBoundary}
-use Rattle.std.specs.List.{position_or_len}
-use Rattle.xa_base.specs.WhiteSpace.{is_white_space}
-use Rattle.xa_base.proofs.Words.{front-IsCharBoundary, word-IsCharBoundary, is_behind_front, cut_off, no_word}
+use Rattle.xa_base.proofs.FirstWord.{front-IsCharBoundary, word-IsCharBoundary, is_behind_front, cut_off, no_word}
 use Rattle.xa_base.proofs.white_space.first_word.Goals as goal
 
 pub range_from-words-requires : goal.range_from-words-requires

@@ -1,9 +1,8 @@
-use Rattle.std.proofs.Common.{refl, rules, tests, not, sym, ap, ◌∙◌}
-use Rattle.std.specs.Prelude.{unwrap_or}
+use Rattle.std.proofs.Common.{rules, tests, not, ◌∙◌}
 use Rattle.std.proofs.lemmas.Iterator.{YieldsList-from_slice}
 use Rattle.std.proofs.lemmas.Iterator.Search.{position_from_yields_List}
 use Rattle.xa_base.specs.WhiteSpace.{is_white_space}
-use Rattle.xa_base.proofs.Words.{first_place}
+use Rattle.xa_base.proofs.FirstWord.{first_place}
 use Rattle.xa_base.proofs.white_space.white_space_len.Goals as goal
 
 pub returns : goal.returns

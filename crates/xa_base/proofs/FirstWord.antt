@@ -1,16 +1,13 @@
--- The first word of a text, and where it may be cut.
-use Rattle.std.proofs.Common.{◌≡◌, ℕ, zero, suc, add-one, ◌+◌, ◌-◌, ◌<◌, ◌≤◌, Bool, true, false, not, cond, List, [], ◌∷◌, ◌++◌, length, take, drop, get_or, refl, sym, ap, ◌∙◌, subst, arith, Option, Some, None, ltb, append_assoc}
+-- The first word of a text, and where the text may be cut round it.
+use Rattle.std.proofs.Common.{◌≡◌, ℕ, zero, suc, add-one, ◌<◌, ◌≤◌, Bool, true, false, not, cond, List, [], ◌∷◌, length, take, drop, get_or, refl, sym, ap, ◌∙◌, subst, arith, Option, Some, None, ltb}
 use Rattle.std.specs.Prelude.{filter, unwrap_or, IsUtf8}
 use Rattle.std.specs.Str.{IsCharBoundary}
-use Rattle.std.specs.List.{slice_split, onto_first, position_or_len, join_with_byte}
-use Rattle.std.proofs.lemmas.List.{append-nil}
-use Rattle.std.proofs.lemmas.Bool.{true≢false}
+use Rattle.std.specs.List.{slice_split, onto_first, position_or_len}
 use Rattle.std.proofs.lemmas.Grind.{common_steps}
 use Rattle.std.proofs.lemmas.List.Sums.{fails_before_first, passes_at_first, prefix_len-le-length}
-use Rattle.std.proofs.lemmas.Str.{IsCharBoundary-start, IsCharBoundary-end, IsCharBoundary-before_ascii, IsCharBoundary-after_ascii}
-use Rattle.xa_base.specs.WhiteSpace.{is_white_space, has_bytes, words_of, treated}
-use Rattle.xa_base.specs.declared.white_space.WhiteSpace.TheVariants.{Collapse}
-use Rattle.xa_base.proofs.Collapsing.{spaced_words, join-cons}
+use Rattle.std.proofs.lemmas.Str.{IsCharBoundary-start, IsCharBoundary-after_ascii}
+use Rattle.xa_base.specs.WhiteSpace.{is_white_space, has_bytes, words_of}
+use Rattle.xa_base.proofs.WordLaws.{words_of-nil}
 
 pub place_le : (test : ℕ → Bool) (bs : List ℕ) → position_or_len test bs ≤ length bs
 place_le test bs = prefix_len-le-length (λ b. not (test b)) bs
@@ -33,6 +30,10 @@ not-not false e = sym e
 pub place-cons : (test : ℕ → Bool) (b : ℕ) (bs : List ℕ) → test b ≡ false → position_or_len test (b ∷ bs) ≡ suc (position_or_len test bs)
 place-cons test b bs e = rw e (omega arith)
 
+-- whether a byte belongs to a word
+abbrev pub is_in_word : ℕ → Bool
+is_in_word b = not (is_white_space b)
+
 -- a text may be cut behind the white space at its front
 cut_behind : (bs : List ℕ) (n : ℕ) → IsUtf8 bs → n ≤ length bs → ((k : ℕ) → k < n → is_white_space (get_or bs k 0) ≡ true) → IsCharBoundary bs n
 cut_behind bs zero utf8 within white = IsCharBoundary-start bs utf8
@@ -40,10 +41,10 @@ cut_behind bs (suc n) utf8 within white =
     let last : get_or bs n 0 < 128 = white_space-ascii (get_or bs n 0) (white n (omega arith)) in
     subst (IsCharBoundary bs) (add-one n) (IsCharBoundary-after_ascii bs n utf8 (omega arith) last)
 
-pub front-IsCharBoundary : (bs : List ℕ) → IsUtf8 bs → IsCharBoundary bs (position_or_len (λ b. not (is_white_space b)) bs)
+pub front-IsCharBoundary : (bs : List ℕ) → IsUtf8 bs → IsCharBoundary bs (position_or_len is_in_word bs)
 front-IsCharBoundary bs utf8 =
-    cut_behind bs _ utf8 (place_le (λ b. not (is_white_space b)) bs)
-    (λ k below. not-not (is_white_space (get_or bs k 0)) (fails_before_first (λ b. not (is_white_space b)) bs k 0 below))
+    cut_behind bs _ utf8 (place_le is_in_word bs)
+    (λ k below. not-not (is_white_space (get_or bs k 0)) (fails_before_first is_in_word bs k 0 below))
 
 -- and before the first white space
 pub word-IsCharBoundary : (bs : List ℕ) → IsCharBoundary bs (position_or_len is_white_space bs)
@@ -54,23 +55,19 @@ word-IsCharBoundary bs = (
 
 -- white space at the front belongs to no word
 front-cons : (b : ℕ) (bs : List ℕ) (w : Bool) → is_white_space b ≡ w
-    → words_of (drop (position_or_len (λ b. not (is_white_space b)) bs) bs) ≡ words_of bs
-    → words_of (drop (position_or_len (λ b. not (is_white_space b)) (b ∷ bs)) (b ∷ bs)) ≡ words_of (b ∷ bs)
+    → words_of (drop (position_or_len is_in_word bs) bs) ≡ words_of bs
+    → words_of (drop (position_or_len is_in_word (b ∷ bs)) (b ∷ bs)) ≡ words_of (b ∷ bs)
 unfolding words_of
 front-cons b bs true e rest =
     let not_here : not (is_white_space b) ≡ false = rw e refl in
-    rw (place-cons (λ b. not (is_white_space b)) b bs not_here, rest) (rw e refl)
+    rw (place-cons is_in_word b bs not_here, rest) (rw e refl)
 front-cons b bs false e rest =
-    let here : position_or_len (λ b. not (is_white_space b)) (b ∷ bs) ≡ 0 = rw e refl in
+    let here : position_or_len is_in_word (b ∷ bs) ≡ 0 = rw e refl in
     ap (λ n. words_of (drop n (b ∷ bs))) here
 
-pub words_of-front : (bs : List ℕ) → words_of (drop (position_or_len (λ b. not (is_white_space b)) bs) bs) ≡ words_of bs
+pub words_of-front : (bs : List ℕ) → words_of (drop (position_or_len is_in_word bs) bs) ≡ words_of bs
 words_of-front [] = refl
 words_of-front (b ∷ bs) = front-cons b bs (is_white_space b) refl (words_of-front bs)
-
-pub words_of-nil : words_of [] ≡ []
-unfolding words_of
-words_of-nil = refl
 
 -- the parts between white space: those behind the first hold the words behind it
 record Parts (bs : List ℕ) : Type 0 where
@@ -108,27 +105,27 @@ first-cons b bs e =
 
 -- behind the white space at the front no white space stands
 stops-cons : (c : ℕ) (bs : List ℕ) (b : ℕ) (rest : List ℕ) (w : Bool) → is_white_space c ≡ w
-    → (drop (position_or_len (λ b. not (is_white_space b)) bs) bs ≡ b ∷ rest → is_white_space b ≡ false)
-    → drop (position_or_len (λ b. not (is_white_space b)) (c ∷ bs)) (c ∷ bs) ≡ b ∷ rest → is_white_space b ≡ false
+    → (drop (position_or_len is_in_word bs) bs ≡ b ∷ rest → is_white_space b ≡ false)
+    → drop (position_or_len is_in_word (c ∷ bs)) (c ∷ bs) ≡ b ∷ rest → is_white_space b ≡ false
 stops-cons c bs b rest true e further is =
     let not_here : not (is_white_space c) ≡ false = rw e refl in
-    further (rw (place-cons (λ b. not (is_white_space b)) c bs not_here) at is)
+    further (rw (place-cons is_in_word c bs not_here) at is)
 stops-cons c bs b rest false e further is =
-    let here : position_or_len (λ b. not (is_white_space b)) (c ∷ bs) ≡ 0 = rw e refl in
+    let here : position_or_len is_in_word (c ∷ bs) ≡ 0 = rw e refl in
     let all : c ∷ bs ≡ b ∷ rest = rw here at is in
     let same : c ≡ b = cc in
     ap is_white_space (sym same) ∙ e
 
-front_stops : (bs : List ℕ) (b : ℕ) (rest : List ℕ) → drop (position_or_len (λ b. not (is_white_space b)) bs) bs ≡ b ∷ rest → is_white_space b ≡ false
+front_stops : (bs : List ℕ) (b : ℕ) (rest : List ℕ) → drop (position_or_len is_in_word bs) bs ≡ b ∷ rest → is_white_space b ≡ false
 front_stops [] b rest is = cc
 front_stops (c ∷ bs) b rest is = stops-cons c bs b rest (is_white_space c) refl (front_stops bs b rest) is
 
 -- what is left behind the white space at the front
 abbrev pub behind_front : List ℕ → List ℕ
-behind_front bs = drop (position_or_len (λ b. not (is_white_space b)) bs) bs
+behind_front bs = drop (position_or_len is_in_word bs) bs
 
-pub is_behind_front : (text bytes words : List ℕ) (n : ℕ) → bytes ≡ text → n ≡ position_or_len (λ b. not (is_white_space b)) bytes → words ≡ drop n text → words ≡ behind_front text
-is_behind_front text bytes words n same place is = is ∙ ap (λ m. drop m text) (place ∙ ap (λ bs. position_or_len (λ b. not (is_white_space b)) bs) same)
+pub is_behind_front : (text bytes words : List ℕ) (n : ℕ) → bytes ≡ text → n ≡ position_or_len is_in_word bytes → words ≡ drop n text → words ≡ behind_front text
+is_behind_front text bytes words n same place is = is ∙ ap (λ m. drop m text) (place ∙ ap (λ bs. position_or_len is_in_word bs) same)
 
 pub no_word : (text words : List ℕ) → words ≡ behind_front text → length words ≡ 0 → words_of text ≡ []
 no_word text [] is empty = sym (words_of-front text) ∙ ap words_of (sym is) ∙ words_of-nil
@@ -146,41 +143,3 @@ pub cut_off : (text words bytes word behind : List ℕ) (n : ℕ) → words ≡ 
 cut_off text words bytes word behind n is some same len front back =
     let at : n ≡ position_or_len is_white_space words = len ∙ ap (λ bs. position_or_len is_white_space bs) same in
     rw (front, back, at) (first text words is some)
-
--- what is collapsed so far, and the words to come
-abbrev pub joined : List ℕ → List (List ℕ) → List ℕ
-joined [] words = join_with_byte 32 words
-joined (b ∷ bs) words = (b ∷ bs) ++ spaced_words words
-
-pub joined-nil : (out : List ℕ) → joined out [] ≡ out
-joined-nil [] = refl
-joined-nil (b ∷ bs) = append-nil (b ∷ bs)
-
-filter_passes : (parts : List (List ℕ)) (word : List ℕ) (words : List (List ℕ)) → filter has_bytes parts ≡ word ∷ words → has_bytes word ≡ true
-filter_passes [] word words is = cc
-filter_passes ([] ∷ parts) word words is = filter_passes parts word words is
-filter_passes ((b ∷ part) ∷ parts) word words is = let same : b ∷ part ≡ word = cc in ap has_bytes (sym same)
-
--- a word has bytes
-pub word_has : (bs word : List ℕ) (words : List (List ℕ)) → words_of bs ≡ word ∷ words → has_bytes word ≡ true
-unfolding words_of
-word_has bs word words is = filter_passes (slice_split is_white_space bs) word words is
-
--- the first word is added as it is
-pub joins_first : (out word : List ℕ) (words : List (List ℕ)) → length out ≡ 0 → has_bytes word ≡ true → joined (out ++ word) words ≡ joined out (word ∷ words)
-joins_first [] [] words empty has = absurd (true≢false (sym has))
-joins_first [] (b ∷ bs) words empty has = sym (join-cons (b ∷ bs) words)
-joins_first (c ∷ out) word words empty has = absurd (omega arith)
-
--- a further word is added behind a space
-pub joins_further : (out word : List ℕ) (words : List (List ℕ)) → 0 < length out → joined ((out ++ 32 ∷ []) ++ word) words ≡ joined out (word ∷ words)
-joins_further [] word words some = absurd (omega arith)
-joins_further (c ∷ out) word words some =
-    let apart : joined ((c ∷ out) ++ 32 ∷ [] ++ word) words ≡ ((c ∷ out) ++ 32 ∷ [] ++ word) ++ spaced_words words = refl in
-    let moved : ((c ∷ out) ++ 32 ∷ [] ++ word) ++ spaced_words words ≡ (c ∷ out) ++ (32 ∷ (word ++ spaced_words words)) = simp append_assoc in
-    apart ∙ moved ∙ ap (λ l. (c ∷ out) ++ (32 ∷ l)) (sym (join-cons word words))
-
--- nothing is collapsed so far
-pub joined-start : (out bs : List ℕ) → out ≡ [] → joined out (words_of bs) ≡ treated Collapse bs
-unfolding treated
-joined-start out bs empty = ap (λ l. joined l (words_of bs)) empty
