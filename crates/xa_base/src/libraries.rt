@@ -125,7 +125,7 @@ impl Library for SureLibrary {
     fn load(&mut self, alloc: Global, name: &Text, limit: u64) -> Result<Vec<u8>, LoadError>
         ensures most { IfOk result (λ bytes. length bytes.items ≤ limit) }
         ensures contents { IfOk result (λ bytes. Has (Some self.old.entries) name.now bytes.items) }
-        ensures too_long { IsErrOf result LoadError.TooLong → HasLonger (Some self.old.entries) name.now limit }
+        ensures too_long { IsErrOf result LoadError.TooLong ↔ HasLonger (Some self.old.entries) name.now limit }
         ensures kept { self.new.entries ≡ self.old.entries }
         ensures cause { Counts self.old.faults self.new.faults (IsErrOf result LoadError.Failed) }
         // It fails just where the name isn't there, and counts each fault.
@@ -189,6 +189,7 @@ impl Library for MemoryLibrary {
         ensures most { IfOk result (λ bytes. length bytes.items ≤ limit) }
         ensures contents { IfOk result (λ bytes. Has (Some self.old.entries) name.now bytes.items) }
         ensures too_long { IsErrOf result LoadError.TooLong → HasLonger (Some self.old.entries) name.now limit }
+        ensures longer { HasLonger (Some self.old.entries) name.now limit → IsErrOf result LoadError.TooLong ⊎ IsErrOf result LoadError.Failed }
         ensures kept { self.new.entries ≡ self.old.entries }
         ensures cause { Counts self.old.faults self.new.faults (IsErrOf result LoadError.Failed) }
         // It fails just at the calls with the numbers and where the name isn't there, and counts each fault.

@@ -5,7 +5,7 @@ ghost use Rattle.xa_base.specs.Names.{name_cmp, name_eq};
 use super::*;
 use std::alloc::Global;
 use std::cmp::Ordering;
-use std::collections::BTreeMap;
+use std::collections::{BTreeMap, HashMap};
 use std::marker::Brand;
 use std::process::Abort;
 use std::sync::ledger::{Blank, Ledger};
@@ -169,31 +169,50 @@ fn texts(rt: HostRuntime) -> Result<(), Fail> {
     let alloc = rt.alloc();
     assert_eq!(rt; text(&rt, alloc, "é").bytes(), [0xc3, 0xa9].as_slice());
     assert!(rt; matches!(Text::of(alloc, &[0x61, 0xc3]), Err(TextError::NotUtf8)));
-    assert_eq!(rt;
-        Text::from(String::from_str(alloc, "a")?)
-            .copy(alloc)?
-            .as_str(),
-        "a"
-    );
-
-    let one = name(&rt, alloc, "u", "b");
-    let two = name(&rt, alloc, "v", "a");
-    assert_eq!(rt; order(&one, &two), Ordering::Less);
-    assert_eq!(rt; order(&two, &name(&rt, alloc, "v", "")), Ordering::Greater);
-    assert!(rt; is_same(&one, &one.copy(alloc)?));
-    assert!(rt; !is_same(&one, &two));
-
-    let mut numbers = BTreeMap::new(alloc);
-    numbers.insert(one.copy(alloc)?, 1)?;
-    numbers.insert(two, 2)?;
-    assert_eq!(rt; numbers.get(&one).copied(), Some(1));
+    let moved = Text::from(String::from_str(alloc, "a")?);
+    assert_eq!(rt; moved.copy(alloc)?.as_str(), "a");
     Ok(())
 }
 
 #[test]
-fn sources(rt: HostRuntime) -> Result<(), Fail> {
+fn comparisons(rt: HostRuntime) {
     let alloc = rt.alloc();
-    // The limit, whether six bytes are read in pieces of one byte, two bytes and the rest, and what is left.
+    let table = [
+        ("u", "b", Ordering::Less),
+        ("v", "", Ordering::Less),
+        ("v", "a", Ordering::Equal),
+        ("v", "é", Ordering::Greater),
+        ("é", "a", Ordering::Greater),
+    ];
+    let fixed = name(&rt, alloc, "v", "a");
+    for (space, local, wanted) in table {
+        let other = name(&rt, alloc, space, local);
+        assert_eq!(rt; order(&other, &fixed), wanted, "{local}");
+        assert_eq!(rt;
+            is_same(&other, &fixed),
+            wanted == Ordering::Equal,
+            "{local}"
+        );
+    }
+}
+
+#[test]
+fn keys(rt: HostRuntime) -> Result<(), Fail> {
+    let alloc = rt.alloc();
+    let key = name(&rt, alloc, "u", "b");
+    let mut sorted = BTreeMap::new(alloc);
+    sorted.insert(key.copy(alloc)?, 1)?;
+    assert_eq!(rt; sorted.get(&key).copied(), Some(1));
+    let mut hashed = HashMap::new(alloc);
+    hashed.insert(key.copy(alloc)?, 2)?;
+    assert_eq!(rt; hashed.get(&key).copied(), Some(2));
+    Ok(())
+}
+
+#[test]
+fn sure_sources(rt: HostRuntime) -> Result<(), Fail> {
+    let alloc = rt.alloc();
+    // The limit, how many of six bytes are read in pieces of one byte, two bytes and the rest, and how many are left.
     let table = [
         (7, Ok(6), 0),
         (6, Ok(6), 0),
@@ -206,33 +225,43 @@ fn sources(rt: HostRuntime) -> Result<(), Fail> {
         assert_eq!(rt; read, wanted, "{limit}");
         assert_eq!(rt; source.left().len(), left, "{limit}");
     }
-
-    let mut source = MemorySource::new(
-        b"abc".to_vec(alloc)?,
-        vec![in alloc; 2]?,
-        vec![in alloc; 1]?,
-    );
-    assert!(rt; matches!(read_all(alloc, &mut source, 9), Err(ReadError::Failed)));
-    assert_eq!(rt; source.left(), b"bc".as_slice());
-    assert_eq!(rt;
-        read_all(alloc, &mut source, 9)?.as_slice(),
-        b"bc".as_slice()
-    );
     Ok(())
 }
 
 #[test]
-fn sinks(rt: HostRuntime) -> Result<(), Fail> {
+fn failing_sources(rt: HostRuntime) -> Result<(), Fail> {
     let alloc = rt.alloc();
-    let mut sink = MemorySink::new(alloc, 12, vec![in alloc; 2]?, vec![in alloc; 5, 5, 5]?)?;
-    assert_eq!(rt; write_all(&mut sink, b"hello world!"), Err(Failed));
-    assert_eq!(rt; sink.written(), b"hello".as_slice());
-    assert_eq!(rt; write_all(&mut sink, b" world!"), Ok(()));
-    assert_eq!(rt; sink.written(), b"hello world!".as_slice());
-    assert_eq!(rt; write_all(&mut sink, b"!"), Err(Failed));
-    assert_eq!(rt; sink.room(), 12);
+    let fails = vec![in alloc; 2]?;
+    let mut source = MemorySource::new(b"abc".to_vec(alloc)?, fails, vec![in alloc; 1]?);
+    assert!(rt; matches!(read_all(alloc, &mut source, 9), Err(ReadError::Failed)));
+    assert_eq!(rt; source.left(), b"bc".as_slice());
+    let rest = read_all(alloc, &mut source, 9)?;
+    assert_eq!(rt; rest.as_slice(), b"bc".as_slice());
+    Ok(())
+}
 
-    let mut sink = SureSink::new(alloc, 2, Vec::new(alloc))?;
+#[test]
+fn failing_sinks(rt: HostRuntime) -> Result<(), Fail> {
+    let alloc = rt.alloc();
+    let fails = vec![in alloc; 2]?;
+    let mut sink = MemorySink::new(alloc, 12, fails, vec![in alloc; 5, 5, 5]?)?;
+    // What is written, whether all of it was, and what the sink then holds.
+    let table = [
+        ("hello world!", Err(Failed), "hello"),
+        (" world!", Ok(()), "hello world!"),
+        ("!", Err(Failed), "hello world!"),
+    ];
+    for (piece, wanted, holds) in table {
+        assert_eq!(rt; write_all(&mut sink, piece.as_bytes()), wanted, "{piece}");
+        assert_eq!(rt; sink.written(), holds.as_bytes(), "{piece}");
+    }
+    assert_eq!(rt; sink.room(), 12);
+    Ok(())
+}
+
+#[test]
+fn sure_sinks(rt: HostRuntime) -> Result<(), Fail> {
+    let mut sink = SureSink::new(rt.alloc(), 2, Vec::new(rt.alloc()))?;
     assert_eq!(rt; write_all(&mut sink, b"abc"), Err(Failed));
     assert_eq!(rt; sink.written(), b"ab".as_slice());
     assert_eq!(rt; sink.room(), 2);
@@ -244,17 +273,28 @@ fn shelf(rt: &impl Abort, alloc: Global) -> Vec<Entry> {
     vec![in alloc; Entry::of(text(rt, alloc, "a"), contents)].expect(rt, "memory")
 }
 
-#[test]
-fn libraries(rt: HostRuntime) -> Result<(), Fail> {
-    let alloc = rt.alloc();
-    let a = text(&rt, alloc, "a");
-    let b = text(&rt, alloc, "b");
-    let mut library = SureLibrary::new(shelf(&rt, alloc));
-    assert_eq!(rt; library.load(alloc, &a, 3)?.as_slice(), b"xyz".as_slice());
-    assert!(rt; matches!(library.load(alloc, &a, 2), Err(LoadError::TooLong)));
-    assert!(rt; matches!(library.load(alloc, &b, 3), Err(LoadError::Failed)));
+// What loads of these names and limits give from a library with three bytes under `a`.
+const LOADS: [(&str, u64, Result<usize, LoadError>); 3] = [
+    ("a", 3, Ok(3)),
+    ("a", 2, Err(LoadError::TooLong)),
+    ("b", 3, Err(LoadError::Failed)),
+];
 
+#[test]
+fn sure_libraries(rt: HostRuntime) {
+    let alloc = rt.alloc();
+    let mut library = SureLibrary::new(shelf(&rt, alloc));
+    for (name, limit, wanted) in LOADS {
+        let loaded = library.load(alloc, &text(&rt, alloc, name), limit);
+        assert_eq!(rt; loaded.map(|bytes| bytes.len()), wanted, "{name} {limit}");
+    }
+}
+
+#[test]
+fn failing_libraries(rt: HostRuntime) -> Result<(), Fail> {
+    let alloc = rt.alloc();
     let mut library = MemoryLibrary::new(shelf(&rt, alloc), vec![in alloc; 1]?);
+    let a = text(&rt, alloc, "a");
     assert!(rt; matches!(library.load(alloc, &a, 3), Err(LoadError::Failed)));
     assert_eq!(rt; library.load(alloc, &a, 3)?.as_slice(), b"xyz".as_slice());
     Ok(())

@@ -17,6 +17,7 @@ pub enum WhiteSpace {
     Collapse,
 }
 
+// White space of XML 1.0.
 #[tactic(auto, unfolding(crate::specs::WhiteSpace::is_white_space))]
 fn is_white_space(b: u8) -> bool
     ensures { result ≡ is_white_space b }
@@ -117,6 +118,7 @@ fn replace(alloc: Global, text: &str) -> Result<String, AllocError>
 fn is_collapsed(bytes: &[u8]) -> bool
     ensures { IsTrue result ↔ IsTreated WhiteSpace.Collapse bytes.now }
 {
+    // No word is open at the start and behind a space.
     let mut is_apart = true;
     for b in bytes {
         let is_space = is_white_space(*b);
@@ -140,7 +142,7 @@ pub fn is_treated(how: WhiteSpace, text: &Text) -> bool
     }
 }
 
-/// What the facet makes of the text.
+/// What the facet makes of the text. Where that is the text itself, it is copied at once.
 #[tactic(auto, unfolding(crate::specs::WhiteSpace::treated))]
 pub fn treat(alloc: Global, how: WhiteSpace, text: &Text) -> Result<Text, Memory>
     ensures { IfOk result (λ made. made ≡ treated how text.now) }
