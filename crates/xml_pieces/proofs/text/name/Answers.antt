@@ -1,0 +1,6 @@
+use Rattle.std.proofs.Common.{rules}
+use Rattle.xml_pieces.proofs.Utf8.{name_utf8}
+use Rattle.xml_pieces.proofs.text.name.Goals as goal
+
+pub text_of-requires : goal.text_of-requires
+text_of-requires c = search (rules, (name_utf8 c.args.bytes.now c.requires).0)

@@ -1,0 +1,19 @@
+//! The pieces of XML text: their forms, and reading one from the front.
+#![tactic(auto)]
+
+mod found;
+mod markup;
+mod piece;
+mod reason;
+mod reference;
+mod tag;
+mod text;
+mod value;
+
+pub use found::{Attribute, Element, Found, Value};
+pub use piece::read_piece;
+pub use reason::{NoneWhy, plain_run, why_none};
+pub use text::text_of;
+
+#[cfg(test)]
+mod tests;
