@@ -1,0 +1,4 @@
+pub mod Conversion
+pub mod Restoring
+pub mod ReservedWords
+pub mod Taking
