@@ -1,0 +1,10 @@
+pub mod Beginning
+pub mod Next
+pub mod Opening
+mod Rows
+pub mod Sets
+pub mod Splitting
+pub mod Starting
+pub mod Steps
+pub mod Telling
+pub mod Terms

@@ -1,0 +1,51 @@
+-- Which particle of a content model is the first that breaks a rule.
+use Rattle.std.specs.Prelude.{◌≡◌, ◌⊎◌, List, [], ◌∷◌, ◌++◌}
+use Rattle.label_tree.specs.Rose.{Rose, node, Roses}
+use Rattle.label_tree.specs.Rose as rose
+use Rattle.xa_base.specs.declared.texts.Name.{Name}
+use Rattle.content_models.specs.Particle.{Term}
+use Rattle.content_models.specs.Clear.{and_then, first_in_order, all_empty, follow_of_body, Rule1, Rule2, Rule3}
+use Rattle.content_models.specs.Seen.{term_seen, all_seen}
+use Rattle.content_models.specs.declared.particles.ParticleKind.TheVariants.{Element, Sequence, Choice}
+use Rattle.content_models.specs.declared.particles.ParticleLabel.{ParticleLabel}
+use Rattle.content_models.specs.declared.breaches.Breach.{Breach}
+
+-- a particle with its follow
+pub record Placed : Type 0 where
+  pub label : ParticleLabel
+  pub term : Term
+  pub follow : List Name
+
+abbrev pub placed : ParticleLabel → Term → List Name → Placed
+placed l t follow = record { label = l; term = t; follow = follow }
+
+abbrev mutual
+  -- the particles of a content model in preorder, each with its follow
+  pub all_placed : Rose ParticleLabel → List Name → List Placed
+  all_placed (node l ts) follow =
+      let t = term_seen l.kind (all_seen ts) in
+      let inner = follow_of_body follow t l.max in
+      placed l t follow ∷ (elim l.kind [ Element d a ↦ [] | Sequence ↦ placed_in_order ts inner | Choice ↦ placed_of_any ts inner ])
+
+  pub placed_in_order : Roses ParticleLabel → List Name → List Placed
+  placed_in_order rose.none follow = []
+  placed_in_order (rose.more t ts) follow =
+      all_placed t (and_then (first_in_order (all_seen ts)) (all_empty (all_seen ts)) follow) ++ placed_in_order ts follow
+
+  pub placed_of_any : Roses ParticleLabel → List Name → List Placed
+  placed_of_any rose.none follow = []
+  placed_of_any (rose.more t ts) follow = all_placed t follow ++ placed_of_any ts follow
+
+abbrev pub KeepsRules : Placed → Type 0
+KeepsRules p =
+    Rule1 p.term p.label.min p.label.max × Rule2 p.term p.label.min p.label.max p.follow
+    × Rule3 p.term (follow_of_body p.follow p.term p.label.max)
+
+abbrev pub StandsAt : ParticleLabel → Breach → Type 0
+StandsAt l breach = (breach.file ≡ l.file) × (breach.at ≡ l.at)
+
+-- the first of them that doesn't keep the rules stands there
+abbrev pub IsFirstBreach : List Placed → Breach → Type 0
+IsFirstBreach [] breach = ⊥
+IsFirstBreach (p ∷ ps) breach =
+    ((KeepsRules p → ⊥) × StandsAt p.label breach) ⊎ (KeepsRules p × IsFirstBreach ps breach)

@@ -1,0 +1,9 @@
+pub mod Breaches
+pub mod Clear
+pub mod Deciding
+pub mod Kids
+pub mod Language
+pub mod Laws
+pub mod Occurring
+pub mod Particle
+pub mod Seen
