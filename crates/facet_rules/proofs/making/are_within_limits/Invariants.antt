@@ -1,0 +1,7 @@
+use Rattle.std.proofs.Common.{◌≡◌, ◌+◌, drop}
+use Rattle.facet_rules.specs.Seen.{spaces_in}
+use Rattle.facet_rules.specs.Making.{count_all_items}
+use Rattle.facet_rules.proofs.making.are_within_limits.Given as goal
+
+abbrev pub invariant-members : goal.invariant-members
+invariant-members l = count_all_items (spaces_in l.members) + l.left ≡ 10000 + count_all_items (spaces_in (drop l.member-index l.members))

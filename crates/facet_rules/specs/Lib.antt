@@ -1,0 +1,12 @@
+pub mod Answers
+pub mod Builtins
+pub mod Joining
+pub mod Labels
+pub mod Lexical
+pub mod Making
+pub mod Reading
+pub mod Restricting
+pub mod Seen
+pub mod Sound
+pub mod Space
+pub mod Written

@@ -1,0 +1,31 @@
+-- Lists and unions that are made of simple types.
+use Rattle.std.specs.Prelude.{◌≡◌, ℕ, ◌+◌, ◌≤◌, false, None, length}
+use Rattle.facet_rules.specs.Space.{Space, Spaces, none, more, Numbers, Words, ListOf, UnionOf, count_members}
+use Rattle.facet_rules.specs.Sound.{Sound, has_list}
+use Rattle.facet_rules.specs.Joining.{flattened}
+
+-- how many enumeration items; those of a list's item type don't count
+abbrev pub count_items : Space → ℕ
+count_items (Numbers numbers) = length numbers
+count_items (Words how words) = length words
+count_items _ = 0
+
+abbrev pub count_all_items : Spaces → ℕ
+count_all_items none = 0
+count_all_items (more s ss) = count_items s + count_all_items ss
+
+-- what a union may have
+abbrev pub AreWithinLimits : Spaces → Type 0
+AreWithinLimits members = (count_members members ≤ 1000) × (count_all_items members ≤ 10000)
+
+abbrev pub AreEachSound : Spaces → Type 0
+AreEachSound none = Unit {0}
+AreEachSound (more s ss) = Sound s × AreEachSound ss
+
+-- XML Schema Part 2, section 2.5.1.2: no list of lists
+abbrev pub IsListOf : Space → Space → Type 0
+IsListOf item made = (has_list item ≡ false) × (made ≡ ListOf item 0 None)
+
+-- section 2.5.1.3, with the members of inner unions in their place
+abbrev pub IsUnionOf : Spaces → Space → Type 0
+IsUnionOf members made = AreWithinLimits (flattened members) × (made ≡ UnionOf (flattened members))

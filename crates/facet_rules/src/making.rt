@@ -1,0 +1,170 @@
+//! Lists and unions.
+ghost use Rattle.std.specs.Prelude.{◌≡◌, ◌<◌, ◌↔◌, IfOk, OnOk, IsTrue, MatchResult, MatchOption, true, false, length};
+ghost use Rattle.facet_rules.specs.Space.{UnionOf, none, more};
+ghost use Rattle.facet_rules.specs.Seen.{space_of, spaces_in};
+ghost use Rattle.facet_rules.specs.Sound.{Sound, is_union, has_list, have_list};
+ghost use Rattle.facet_rules.specs.Joining.{joined, flattened};
+ghost use Rattle.facet_rules.specs.Making.{count_items, AreWithinLimits, AreEachSound, IsListOf, IsUnionOf};
+
+use crate::copying::{append_copies, copy};
+use crate::simples::{Simple, SimpleList};
+use std::alloc::Global;
+use thiserror::Error;
+use xa_base::Memory;
+
+/// Why no list can be made.
+#[derive(Clone, Copy, Debug, PartialEq, Eq, Error)]
+pub enum ItemError {
+    /// The item is a list, or a union with a list among its members.
+    #[error("a list of lists")]
+    BadItem,
+    #[error("out of memory")]
+    Memory,
+}
+
+/// Why no union can be made.
+#[derive(Clone, Copy, Debug, PartialEq, Eq, Error)]
+pub enum UnionError {
+    /// Over 1,000 members, or over 10,000 enumeration items.
+    #[error("a union over its limits")]
+    Limit,
+    #[error("out of memory")]
+    Memory,
+}
+
+#[cycle(listing)]
+fn have_list(members: &[Simple]) -> bool
+    ensures { result ≡ have_list (spaces_in members.now) }
+{
+    'members: for member in members {
+        if has_list(member) {
+            return true;
+        }
+    }
+    false
+}
+
+#[cycle(listing)]
+#[tactic(auto, unfolding(crate::specs::Seen::space_of))]
+fn has_list(simple: &Simple) -> bool
+    ensures { result ≡ has_list (space_of simple.now) }
+{
+    match simple {
+        Simple::List { .. } => true,
+        Simple::Union(members) => have_list(members.items()),
+        Simple::Bool => false,
+        Simple::Whole { .. } => false,
+        Simple::Numbers(_) => false,
+        Simple::Words { .. } => false,
+        Simple::Chars { .. } => false,
+    }
+}
+
+/// The type of lists of any number of items.
+pub fn list_of(alloc: Global, item: &Simple) -> Result<Simple, ItemError>
+    requires { Sound (space_of item.now) }
+    ensures made { MatchResult result
+        (λ simple. IsListOf (space_of item.now) (space_of simple))
+        (λ error. error ≡ ItemError.BadItem → has_list (space_of item.now) ≡ true) }
+    ensures sound { IfOk result (λ simple. Sound (space_of simple)) }
+{
+    if has_list(item) {
+        return Err(ItemError::BadItem);
+    }
+    let Ok(copied) = copy(alloc, item) else {
+        return Err(ItemError::Memory);
+    };
+    match Box::new(alloc, copied) {
+        Ok(item) => Ok(Simple::List {
+            item,
+            min: 0,
+            max: None,
+        }),
+        Err(_) => Err(ItemError::Memory),
+    }
+}
+
+// The members of a union.
+#[tactic(auto, unfolding(crate::specs::Seen::space_of))]
+fn inner_members(simple: &Simple) -> Option<&[Simple]>
+    ensures { MatchOption result
+        (is_union (space_of simple.now) ≡ false)
+        (λ inner. space_of simple.now ≡ UnionOf (spaces_in inner.now)) }
+{
+    match simple {
+        Simple::Union(inner) => Some(inner.items()),
+        _ => None,
+    }
+}
+
+// Appends a copy of the type, or copies of the members that a union has.
+fn append_flat(alloc: Global, flat: &mut Vec<Simple>, member: &Simple) -> Result<(), Memory>
+    ensures { OnOk result (spaces_in flat.new.items ≡ joined (spaces_in flat.old.items) (flattened (more (space_of member.now) none))) }
+{
+    match inner_members(member) {
+        Some(inner) => append_copies(alloc, flat, inner),
+        None => {
+            let copied = copy(alloc, member)?;
+            flat.push(copied)?;
+            Ok(())
+        }
+    }
+}
+
+// Copies of the members, those of inner unions in their place.
+fn flatten(alloc: Global, members: &[Simple]) -> Result<Vec<Simple>, Memory>
+    ensures { IfOk result (λ flat. spaces_in flat.items ≡ flattened (spaces_in members.now)) }
+{
+    let mut flat = Vec::new(alloc);
+    'members: for member in members {
+        append_flat(alloc, &mut flat, member)?;
+    }
+    Ok(flat)
+}
+
+#[tactic(auto, unfolding(crate::specs::Seen::space_of))]
+fn item_count(simple: &Simple) -> usize
+    ensures { result ≡ count_items (space_of simple.now) }
+{
+    match simple {
+        Simple::Numbers(numbers) => numbers.items().len(),
+        Simple::Words { words, .. } => words.items().len(),
+        _ => 0,
+    }
+}
+
+fn are_within_limits(members: &[Simple]) -> bool
+    ensures { IsTrue result ↔ AreWithinLimits (spaces_in members.now) }
+{
+    if members.len() > 1_000 {
+        return false;
+    }
+    let mut left: usize = 10_000;
+    'members: for member in members {
+        let count = item_count(member);
+        if count > left {
+            return false;
+        }
+        left -= count;
+    }
+    true
+}
+
+/// The union of these types. The members of a union among them stand in its place.
+pub fn union_of(alloc: Global, members: &[Simple]) -> Result<Simple, UnionError>
+    requires some { 0 < length members.now }
+    requires sound { AreEachSound (spaces_in members.now) }
+    ensures made { MatchResult result
+        (λ simple. IsUnionOf (spaces_in members.now) (space_of simple))
+        (λ error. error ≡ UnionError.Limit → ¬ AreWithinLimits (flattened (spaces_in members.now))) }
+    ensures sound { IfOk result (λ simple. Sound (space_of simple)) }
+{
+    let Ok(flat) = flatten(alloc, members) else {
+        return Err(UnionError::Memory);
+    };
+    if are_within_limits(flat.as_slice()) {
+        Ok(Simple::Union(SimpleList::of(flat)))
+    } else {
+        Err(UnionError::Limit)
+    }
+}
