@@ -1,2 +1,10 @@
 pub mod Labels
 pub mod Sound
+pub mod Namespaces
+pub mod Tokens
+pub mod Contexts
+pub mod Documents
+pub mod States
+pub mod Entering
+pub mod Building
+pub mod Bindings

@@ -1,10 +1,10 @@
 -- What each tree of items keeps, by XML 1.0 and Namespaces in XML 1.0 and within the limits of this program.
-use Rattle.std.specs.Prelude.{◌≡◌, ℕ, Bool, true, false, ◌&&◌, ◌||◌, not, nat_le, ◌≤◌, ◌<◌, ◌^◌, List, [], ◌∷◌, length, bytes_eq, codes}
+use Rattle.std.specs.Prelude.{◌≡◌, ℕ, suc, max, Bool, true, false, ◌&&◌, ◌||◌, not, nat_le, ◌≤◌, ◌<◌, ◌^◌, List, [], ◌∷◌, length, bytes_eq, codes}
 use Rattle.std.specs.List.{list_all, list_any}
 use Rattle.std.specs.Str.{chars}
 use Rattle.xa_base.specs.Characters.{is_xml_char, is_ncname}
 use Rattle.xa_base.specs.declared.texts.Name.{Name}
-use Rattle.label_tree.specs.Rose.{Rose, node, Roses, none, more, node_count, height, Allowed}
+use Rattle.label_tree.specs.Rose.{Rose, node, Roses, none, more, node_count, Allowed}
 use Rattle.doc_text.specs.declared.label.ItemLabel.{ItemLabel}
 use Rattle.doc_text.specs.declared.label.ItemLabel.TheVariants.{Element, Text}
 use Rattle.doc_text.specs.Labels.{MayHave}
@@ -51,9 +51,9 @@ are_sound_attributes [] = true
 are_sound_attributes (attribute ∷ attributes) =
     is_sound_attribute attribute && not (has_name attribute.0 attributes) && are_sound_attributes attributes
 
--- a prefix, empty for the default, with a namespace
+-- a prefix, empty for the default, with a namespace, which is empty only where the default is taken away
 abbrev pub is_sound_binding : List ℕ × List ℕ → Bool
-is_sound_binding binding = (is_empty binding.0 || is_sound_part binding.0) && is_sound_space binding.1
+is_sound_binding binding = (is_empty binding.0 || (is_sound_part binding.0 && not (is_empty binding.1))) && is_sound_space binding.1
 
 abbrev pub is_sound_label : ItemLabel → Bool
 is_sound_label (Element name attributes declares at) =
@@ -82,9 +82,19 @@ abbrev mutual
 abbrev pub is_element : Rose ItemLabel → Bool
 is_element (node label kids) = not (is_text label)
 
+-- how many levels of elements; the root has depth 1
+abbrev mutual
+  pub levels : Rose ItemLabel → ℕ
+  levels (node (Element name attributes declares at) kids) = suc (levels_all kids)
+  levels (node (Text text at) kids) = levels_all kids
+
+  pub levels_all : Roses ItemLabel → ℕ
+  levels_all none = 0
+  levels_all (more t ts) = max (levels t) (levels_all ts)
+
 pub record AreItems (root : Rose ItemLabel) : Type 0 where
   pub allowed : Allowed MayHave root
   pub element : is_element root ≡ true
   pub sound : is_sound root ≡ true
-  pub shallow : height root ≤ 64
+  pub shallow : levels root ≤ 64
   pub few : node_count root < 2 ^ 31

@@ -1,13 +1,24 @@
 //! The text of XML documents and the items that it stands for.
 #![tactic(auto)]
 
-mod check;
+mod bindings;
+mod builder;
+mod duplicates;
 mod error;
 mod items;
 mod label;
-mod plain;
+mod laws;
+mod names;
+mod reader;
+mod scope;
+mod tags;
 
-pub use error::DocError;
+pub use bindings::prefix_at;
+pub use error::{DocError, DocWhy};
 pub use items::Items;
 pub use label::{Attributes, Bindings, ItemLabel};
-pub use plain::read_document;
+pub use laws::one_answer;
+pub use reader::read_document;
+
+#[cfg(test)]
+mod tests;

@@ -3,6 +3,7 @@ use Rattle.std.proofs.Common.{◌≡◌, ◌⊎◌, ℕ, Bool, List, sym, ◌∙
 use Rattle.std.specs.Prelude.{Vec}
 use Rattle.std.specs.declared.alloc.Global.{Global}
 use Rattle.xa_base.specs.Faults.{Rose}
+use Rattle.xa_base.specs.declared.texts.Name.{Name}
 use Rattle.transcode_core.specs.declared.outcome.Outcome.{Outcome}
 use Rattle.transcode_core.specs.declared.outcome.Outcome.TheVariants.{LoadFault, ReadFault, OutOfMemory}
 use Rattle.transcode_core.specs.Due.{Opened, Encoding, Due}
@@ -10,7 +11,7 @@ use Rattle.transcode_core.specs.Causes.{Answers, IsRefusal, Opening, OneRead, Re
 
 module _ (words : List (List ℕ)) (entries : Option (List (List ℕ × List ℕ))) (left : Option (List ℕ)) (loads loads_now : ℕ) (sure : Bool) (reads reads_now : ℕ) where
   -- the words, the file and the root are sound, and the input decides
-  pub goes_on : (root : List ℕ) (v : Result (Vec ℕ Global) Outcome) → Opened words entries (Ok root) → Answers (λ (b : Vec ℕ Global). b.items) (Encoding root left) (OneRead reads reads_now) v
+  pub goes_on : (root : Name) (v : Result (Vec ℕ Global) Outcome) → Opened words entries (Ok root) → Answers (λ (b : Vec ℕ Global). b.items) (Encoding root left) (OneRead reads reads_now) v
       → Answers (λ (b : Vec ℕ Global). b.items) (Due words entries left) (Deciding loads loads_now sure entries reads reads_now words) v
   goes_on root (Ok v) opened due = (root, opened, due)
   goes_on root (Err o) opened (inl (due, own)) = inl (inr (root, opened, due), own)

@@ -5,3 +5,6 @@ pub mod Boolean
 pub mod Seen
 pub mod Declared
 pub mod Deciding
+pub mod WordLemmas
+pub mod Joined
+pub mod Single

@@ -1,11 +1,11 @@
 -- Answers of the outside, each with its cause.
-use Rattle.std.specs.Prelude.{◌≡◌, ◌⊎◌, ℕ, Bool, IsTrue, List, Option, Some, Result, Ok, Err}
+use Rattle.std.specs.Prelude.{◌≡◌, ◌⊎◌, ℕ, suc, Bool, IsTrue, List, Option, Result, Ok, Err}
 use Rattle.xa_base.specs.Faults.{Rose}
 use Rattle.xa_base.specs.Entries.{Lacks}
 use Rattle.transcode_core.specs.declared.outcome.Outcome.{Outcome}
-use Rattle.transcode_core.specs.declared.outcome.Outcome.TheVariants.{Done, LoadFault, ReadFault, WriteFault, OutOfMemory}
-use Rattle.transcode_core.specs.Words.{asked}
-use Rattle.transcode_core.specs.Due.{Opened}
+use Rattle.transcode_core.specs.declared.outcome.Outcome.TheVariants.{Done, Usage, SchemaSyntax, UnknownRoot, TooLong, LoadFault, ReadFault, WriteFault, OutOfMemory}
+use Rattle.xa_base.specs.declared.texts.Name.{Name}
+use Rattle.transcode_core.specs.Due.{Requested, Opened}
 
 -- an outcome that refuses the words, a file or the input
 abbrev pub IsRefusal : Outcome → Type 0
@@ -38,9 +38,9 @@ pub record Fails (before now : ℕ) (is_sure : Bool) (entries : Option (List (Li
 abbrev pub OneLoad : ℕ → ℕ → Bool → Option (List (List ℕ × List ℕ)) → ℕ → List ℕ → Outcome → Type 0
 OneLoad before now is_sure entries k name o = (o ≡ OutOfMemory) ⊎ ((o ≡ LoadFault k) × Fails before now is_sure entries name)
 
--- the words name this file
+-- the words name this file, by this number
 abbrev pub Names : List (List ℕ) → ℕ → List ℕ → Type 0
-Names words k name = (root : List ℕ) × (asked words ≡ Some (root, name)) × (k ≡ 1)
+Names words k name = (root : Name) × Requested words (Ok (root, name)) × (k ≡ 1)
 
 -- memory is missing, or the file that the words name failed to load
 abbrev pub Opening : ℕ → ℕ → Bool → Option (List (List ℕ × List ℕ)) → List (List ℕ) → Outcome → Type 0
@@ -53,7 +53,16 @@ OneRead before now o = (o ≡ OutOfMemory) ⊎ ((o ≡ ReadFault) × Rose before
 
 -- the order passes to the input
 abbrev pub ReachesInput : List (List ℕ) → Option (List (List ℕ × List ℕ)) → Type 0
-ReachesInput words entries = (root : List ℕ) × Opened words entries (Ok root)
+ReachesInput words entries = (root : Name) × Opened words entries (Ok root)
+
+-- an outcome that can come behind the files
+abbrev pub IsOfInput : Outcome → Type 0
+IsOfInput Usage = ⊥
+IsOfInput (SchemaSyntax _ _ _) = ⊥
+IsOfInput UnknownRoot = ⊥
+IsOfInput (TooLong (suc _)) = ⊥
+IsOfInput (LoadFault _) = ⊥
+IsOfInput o = Unit {0}
 
 -- memory is missing, or the file or the input failed where the order comes to it
 abbrev pub Deciding : ℕ → ℕ → Bool → Option (List (List ℕ × List ℕ)) → ℕ → ℕ → List (List ℕ) → Outcome → Type 0

@@ -1,29 +1,30 @@
 -- The outcome and the bytes due: the first refusal in the order of the steps, or the bytes.
 use Rattle.std.specs.Prelude.{ℕ, Bool, List, Option, Result}
+use Rattle.xa_base.specs.declared.texts.Name.{Name}
 use Rattle.transcode_core.specs.declared.outcome.Outcome.{Outcome}
-use Rattle.transcode_core.specs.declared.outcome.Outcome.TheVariants.{NotYet}
+use Rattle.transcode_core.specs.declared.outcome.Outcome.TheVariants.{Usage, NotYet}
 use Rattle.transcode_core.specs.Words.{asked}
 use Rattle.transcode_core.specs.Order.{Pass, Found, Then}
-use Rattle.transcode_core.specs.FirstForm.{truth_in}
-use Rattle.transcode_core.specs.Steps.{Schema, Input, Read, encoded}
+use Rattle.transcode_core.specs.Steps.{built, Schema, Input, Valued, encoded}
+
+-- the words: the root and the file
+abbrev pub Requested : List (List ℕ) → Result (Name × List ℕ) Outcome → Type 0
+Requested words = Then (Found (asked words) Usage) (λ request. Found (built request) NotYet)
 
 -- words, file and root: the name of the root
-abbrev pub Opened : List (List ℕ) → Option (List (List ℕ × List ℕ)) → Result (List ℕ) Outcome → Type 0
+abbrev pub Opened : List (List ℕ) → Option (List (List ℕ × List ℕ)) → Result Name Outcome → Type 0
 Opened words entries =
-    Then (Found (asked words) NotYet) (λ request.
-    Then (Schema entries 1 request.1 request.0) (λ _.
-    Pass request.0))
+    Then (Requested words) (λ parts.
+    Then (Schema entries 1 parts.1 parts.0) (λ _.
+    Pass parts.0))
 
 -- the input and its truth value
-abbrev pub Shown : List ℕ → Option (List ℕ) → Result Bool Outcome → Type 0
-Shown root left =
-    Then (Input left) (λ bytes.
-    Then (Read bytes) (λ items.
-    Found (truth_in root items) NotYet))
+abbrev pub InputValue : Name → Option (List ℕ) → Result Bool Outcome → Type 0
+InputValue root left = Then (Input left) (λ bytes. Valued root bytes)
 
 -- what `to-per` answers for this root: the encoding of the value in the input
-abbrev pub Encoding : List ℕ → Option (List ℕ) → Result (List ℕ) Outcome → Type 0
-Encoding root left = Then (Shown root left) (λ value. Pass (encoded value))
+abbrev pub Encoding : Name → Option (List ℕ) → Result (List ℕ) Outcome → Type 0
+Encoding root left = Then (InputValue root left) (λ value. Pass (encoded value))
 
 -- what is due: the first refusal, or done with these bytes
 abbrev pub Due : List (List ℕ) → Option (List (List ℕ × List ℕ)) → Option (List ℕ) → Result (List ℕ) Outcome → Type 0

@@ -1,11 +1,10 @@
 -- The schemas and documents that are taken so far: global elements of the type boolean, and a truth value in an element.
-use Rattle.std.specs.Prelude.{◌≡◌, ◌≢◌, ℕ, Bool, true, false, ◌&&◌, ◌||◌, ◌≤◌, List, [], ◌∷◌, ◌++◌, length, bytes_eq, codes, Option, Some, None, if◌then◌else◌}
-use Rattle.std.specs.List.{list_any}
+use Rattle.std.specs.Prelude.{◌≡◌, ◌≢◌, ℕ, Bool, true, false, ◌&&◌, ◌||◌, ◌≤◌, nat_le, List, [], ◌∷◌, ◌++◌, length, bytes_eq, codes, Option, Some, None, if◌then◌else◌}
+use Rattle.std.specs.List.{list_any, list_all}
 use Rattle.xa_base.specs.declared.texts.Name.{Name}
 use Rattle.label_tree.specs.Rose.{Rose, label_of, kids_of}
 use Rattle.doc_text.specs.declared.label.ItemLabel.{ItemLabel}
 use Rattle.doc_text.specs.declared.label.ItemLabel.TheVariants.{Element, Text}
-use Rattle.transcode_core.specs.Words.{is_plain_name}
 
 -- the namespace of schema documents (XML Schema Part 1, section 2.6)
 abbrev pub schema_space : List ℕ
@@ -13,6 +12,14 @@ schema_space = codes "http://www.w3.org/2001/XMLSchema"
 
 abbrev pub is_name : Name → List ℕ → List ℕ → Bool
 is_name name space local = bytes_eq name.space space && bytes_eq name.local local
+
+-- `a` to `z`
+abbrev pub is_letter : ℕ → Bool
+is_letter b = nat_le 97 b && nat_le b 122
+
+-- 1 to 255 letters `a` to `z`
+abbrev pub is_plain_name : List ℕ → Bool
+is_plain_name name = nat_le 1 (length name) && nat_le (length name) 255 && list_all is_letter name
 
 -- the value of the attribute of that name, which has no namespace
 abbrev pub attribute_of : List ℕ → List (Name × List ℕ) → Option (List ℕ)
@@ -89,10 +96,10 @@ abbrev pub truth_of_label : ItemLabel → Option Bool
 truth_of_label (Element tag attributes declares at) = None
 truth_of_label (Text text at) = truth_of text
 
-abbrev pub truth_as : List ℕ → ItemLabel → List (Rose ItemLabel) → Option Bool
-truth_as root (Element tag [] declares at) (kid ∷ []) = if is_name tag [] root then truth_of_label (label_of kid) else None
+abbrev pub truth_as : Name → ItemLabel → List (Rose ItemLabel) → Option Bool
+truth_as root (Element tag [] declares at) (kid ∷ []) = if is_name tag root.space root.local then truth_of_label (label_of kid) else None
 truth_as root label kids = None
 
--- the truth value in an element of that name, which has no namespace and no attributes
-abbrev pub truth_in : List ℕ → Rose ItemLabel → Option Bool
+-- the truth value in an element of that name without attributes
+abbrev pub truth_in : Name → Rose ItemLabel → Option Bool
 truth_in root item = truth_as root (label_of item) (kids_of item)

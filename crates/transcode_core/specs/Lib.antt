@@ -1,4 +1,5 @@
 pub mod Words
+pub mod Requests
 pub mod FirstForm
 pub mod Order
 pub mod Causes

@@ -3,12 +3,20 @@ use Rattle.std.specs.Prelude.{◌≡◌, ◌⊎◌, ℕ, Bool, true, false, ◌<
 use Rattle.std.specs.List.{list_any}
 use Rattle.label_tree.specs.Rose.{Rose}
 use Rattle.xa_base.specs.Entries.{Has, HasLonger, Lacks}
+use Rattle.xa_base.specs.declared.texts.Name.{Name}
 use Rattle.doc_text.specs.declared.label.ItemLabel.{ItemLabel}
-use Rattle.doc_text.specs.Sound.{AreItems}
+use Rattle.doc_text.specs.declared.error.DocWhy.{DocWhy}
+use Rattle.doc_text.specs.Documents.{DocOf, BrokenAt}
 use Rattle.transcode_core.specs.declared.outcome.Outcome.{Outcome}
-use Rattle.transcode_core.specs.declared.outcome.Outcome.TheVariants.{UnknownRoot, TooLong, LoadFault, NotYet}
-use Rattle.transcode_core.specs.FirstForm.{IsSchema}
-use Rattle.transcode_core.specs.Order.{Which, Then}
+use Rattle.transcode_core.specs.declared.outcome.Outcome.TheVariants.{SchemaSyntax, UnknownRoot, DocSyntax, TooLong, LoadFault, NotYet}
+use Rattle.transcode_core.specs.Words.{Asked, ToPer}
+use Rattle.transcode_core.specs.FirstForm.{IsSchema, truth_in}
+use Rattle.transcode_core.specs.Order.{Found, Which, Then}
+
+-- What is built of the commands: `to-per` with one file. The root and the file.
+abbrev pub built : Asked → Option (Name × List ℕ)
+built (ToPer root (file ∷ [])) = Some (root, file)
+built asked = None
 
 -- the contents of file k, if they are no more than the limit
 abbrev pub Loaded : Option (List (List ℕ × List ℕ)) → ℕ → List ℕ → Result (List ℕ) Outcome → Type 0
@@ -16,23 +24,26 @@ Loaded entries k name (Ok bytes) = Has entries name bytes × (length bytes ≤ 1
 Loaded entries k name (Err o) =
     ((o ≡ TooLong k) × HasLonger entries name 16777216) ⊎ ((o ≡ LoadFault k) × Lacks entries name)
 
--- Items are read of the bytes, or the text isn't plain. Which items they are isn't promised yet.
-abbrev pub Read : List ℕ → Result (Rose ItemLabel) Outcome → Type 0
-Read bytes (Ok items) = AreItems items
-Read bytes (Err o) = o ≡ NotYet
+-- the items of the bytes, or their first fault, of which the refusal tells the place and the reason
+abbrev pub Read : (ℕ → DocWhy → Outcome) → List ℕ → Result (Rose ItemLabel) Outcome → Type 0
+Read refusal bytes (Ok items) = DocOf bytes items
+Read refusal bytes (Err o) = (at : ℕ) × (why : DocWhy) × BrokenAt bytes at why × (o ≡ refusal at why)
 
--- the root is one of the names
-abbrev pub Rooted : List ℕ → List (List ℕ) → Result (Unit {0}) Outcome → Type 0
-Rooted root names (Ok _) = list_any (bytes_eq root) names ≡ true
-Rooted root names (Err o) = (list_any (bytes_eq root) names ≡ false) × (o ≡ UnknownRoot)
+-- the root is one of the names, which have no namespace
+abbrev pub Rooted : Name → List (List ℕ) → Result (Unit {0}) Outcome → Type 0
+Rooted root names (Ok _) = (root.space ≡ []) × (list_any (bytes_eq root.local) names ≡ true)
+Rooted root names (Err o) = ((root.space ≡ []) → list_any (bytes_eq root.local) names ≡ false) × (o ≡ UnknownRoot)
 
 -- the schema document declares a global element with the name of the root
-abbrev pub Declared : List ℕ → List ℕ → Result (Unit {0}) Outcome → Type 0
-Declared root bytes = Then (Read bytes) (λ items. Then (Which (IsSchema items) NotYet) (λ names. Rooted root names))
+abbrev pub Declared : Name → ℕ → List ℕ → Result (Unit {0}) Outcome → Type 0
+Declared root k bytes =
+    Then (Read (λ at why. SchemaSyntax k at why) bytes) (λ items.
+    Then (Which (IsSchema items) NotYet) (λ names.
+    Rooted root names))
 
 -- file k is loaded, and declares the root
-abbrev pub Schema : Option (List (List ℕ × List ℕ)) → ℕ → List ℕ → List ℕ → Result (Unit {0}) Outcome → Type 0
-Schema entries k name root = Then (Loaded entries k name) (λ bytes. Declared root bytes)
+abbrev pub Schema : Option (List (List ℕ × List ℕ)) → ℕ → List ℕ → Name → Result (Unit {0}) Outcome → Type 0
+Schema entries k file root = Then (Loaded entries k file) (λ bytes. Declared root k bytes)
 
 -- where they are told, these bytes are all that is left
 abbrev pub IsAll : Option (List ℕ) → List ℕ → Type 0
@@ -48,6 +59,10 @@ IsMore (Some left) = 16777216 < length left
 abbrev pub Input : Option (List ℕ) → Result (List ℕ) Outcome → Type 0
 Input left (Ok bytes) = IsAll left bytes × (length bytes ≤ 16777216)
 Input left (Err o) = IsMore left × (o ≡ TooLong 0)
+
+-- the truth value in a document whose root has this name
+abbrev pub Valued : Name → List ℕ → Result Bool Outcome → Type 0
+Valued root bytes = Then (Read (λ at why. DocSyntax at why) bytes) (λ items. Found (truth_in root items) NotYet)
 
 -- the encoding of a truth value: one bit, padded to an octet (X.691, sections 12 and 11.1)
 abbrev pub encoded : Bool → List ℕ

@@ -1,16 +1,86 @@
--- The words of the command line that are taken so far: `to-per ROOT FILE`.
-use Rattle.std.specs.Prelude.{ℕ, Bool, ◌&&◌, List, [], ◌∷◌, length, nat_le, bytes_eq, codes, Option, Some, None, if◌then◌else◌}
-use Rattle.std.specs.List.{list_all}
+-- The words of the command line.
+use Rattle.std.specs.Prelude.{ℕ, Bool, false, ◌+◌, ◌-◌, ◌*◌, ◌&&◌, not, ◌==◌, List, [], ◌∷◌, length, nat_le, nat_lt, bytes_eq, codes, Option, Some, None, option_map, if◌then◌else◌}
+use Rattle.std.specs.List.{list_all, position_or_len, before_first, after_first}
+use Rattle.std.specs.Str.{chars}
+use Rattle.xa_base.specs.Characters.{is_xml_char, is_ncname}
+use Rattle.xa_base.specs.declared.texts.Name.{Name}
 
--- `a` to `z`
-abbrev pub is_letter : ℕ → Bool
-is_letter b = nat_le 97 b && nat_le b 122
+-- what the words ask for: a command with its root and its files, or its number
+pub data Asked : Type 0 where
+  Show : List (List ℕ) → Asked
+  Check : Name → List (List ℕ) → Asked
+  ToPer : Name → List (List ℕ) → Asked
+  ToXml : Name → List (List ℕ) → Asked
+  Trial : ℕ → Asked
 
--- 1 to 255 letters `a` to `z`
-abbrev pub is_plain_name : List ℕ → Bool
-is_plain_name name = nat_le 1 (length name) && nat_le (length name) 255 && list_all is_letter name
+-- from 1 to 64 files
+abbrev pub are_files : List (List ℕ) → Bool
+are_files files = nat_le 1 (length files) && nat_le (length files) 64
 
--- the root and the file
-abbrev pub asked : List (List ℕ) → Option (List ℕ × List ℕ)
-asked (command ∷ root ∷ file ∷ []) = if bytes_eq command (codes "to-per") && is_plain_name root then Some (root, file) else None
-asked words = None
+-- a character of a namespace between braces
+abbrev pub is_space_char : ℕ → Bool
+is_space_char c = is_xml_char c && not (c == 123) && not (c == 125)
+
+-- a namespace of 1 to 1,023 bytes
+abbrev pub is_space : List ℕ → Bool
+is_space space = nat_le 1 (length space) && nat_le (length space) 1023 && list_all is_space_char (chars space)
+
+abbrev pub is_closing : ℕ → Bool
+is_closing b = b == 125
+
+-- behind `{`: a namespace, `}` and an NCName
+abbrev pub braced : List ℕ → Option Name
+braced text =
+    if nat_lt (position_or_len is_closing text) (length text) && is_space (before_first is_closing text) && is_ncname (chars (after_first is_closing text))
+    then Some (record { space = before_first is_closing text; local = after_first is_closing text })
+    else None
+
+-- the root: an NCName, or one in a namespace
+abbrev pub root_of : List ℕ → Option Name
+root_of [] = None
+root_of (b ∷ bs) =
+    if b == 123 then braced bs
+    else if is_ncname (chars (b ∷ bs)) then Some (record { space = []; local = b ∷ bs })
+    else None
+
+abbrev pub is_digit : ℕ → Bool
+is_digit b = nat_le 48 b && nat_le b 57
+
+-- the number that goes on with these digits
+abbrev pub number_from : ℕ → List ℕ → ℕ
+number_from n [] = n
+number_from n (b ∷ bs) = number_from (10 * n + (b - 48)) bs
+
+-- from 1 to 100,000, in digits and without a leading zero
+abbrev pub is_count : List ℕ → Bool
+is_count [] = false
+is_count (b ∷ bs) = list_all is_digit (b ∷ bs) && not (b == 48) && nat_le (number_from 0 (b ∷ bs)) 100000
+
+abbrev pub count_of : List ℕ → Option ℕ
+count_of word = if is_count word then Some (number_from 0 word) else None
+
+-- a root and its files
+abbrev pub rooted_parts : List (List ℕ) → Option (Name × List (List ℕ))
+rooted_parts [] = None
+rooted_parts (root ∷ files) = if are_files files then option_map (λ name. (name, files)) (root_of root) else None
+
+abbrev pub rooted : (Name → List (List ℕ) → Asked) → List (List ℕ) → Option Asked
+rooted command words = option_map (λ parts. command parts.0 parts.1) (rooted_parts words)
+
+abbrev pub counted : List (List ℕ) → Option Asked
+counted (word ∷ []) = option_map (λ n. Trial n) (count_of word)
+counted words = None
+
+abbrev pub shown : List (List ℕ) → Option Asked
+shown files = if are_files files then Some (Show files) else None
+
+-- `show FILE..`, `check ROOT FILE..`, `to-per ROOT FILE..`, `to-xml ROOT FILE..` or `trial N`
+abbrev pub asked : List (List ℕ) → Option Asked
+asked [] = None
+asked (command ∷ words) =
+    if bytes_eq command (codes "show") then shown words
+    else if bytes_eq command (codes "check") then rooted Check words
+    else if bytes_eq command (codes "to-per") then rooted ToPer words
+    else if bytes_eq command (codes "to-xml") then rooted ToXml words
+    else if bytes_eq command (codes "trial") then counted words
+    else None

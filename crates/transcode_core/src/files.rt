@@ -1,8 +1,8 @@
 //! The file and the input.
-ghost use Rattle.std.specs.Prelude.{◌≡◌, ◌≤◌, length, IfOk, OnOk};
+ghost use Rattle.std.specs.Prelude.{◌≡◌, ◌≤◌, length, IfOk, IfErr, OnOk};
 ghost use Rattle.std.specs.Io.KnownBytes.{IsAtEnd};
 ghost use Rattle.transcode_core.specs.Steps.{Loaded, Input, Read};
-ghost use Rattle.transcode_core.specs.Causes.{Answers, NoMemory, OneLoad, OneRead};
+ghost use Rattle.transcode_core.specs.Causes.{Answers, NoMemory, OneLoad, OneRead, IsOfInput};
 
 use crate::outcome::Outcome;
 use doc_text::{DocError, Items, read_document};
@@ -22,6 +22,7 @@ pub fn load_file<F: Library>(
     ensures due { Answers (λ bytes. bytes.items) (Loaded (F.entries files.old) file name.now)
         (OneLoad (F.faults files.old) (F.faults files.new) (F.is_sure files.old) (F.entries files.old) file name.now) result }
     ensures most { IfOk result (λ bytes. length bytes.items ≤ 16777216) }
+    ensures files { (F.entries files.new ≡ F.entries files.old) × (F.is_sure files.new ≡ F.is_sure files.old) }
     ensures later { F.faults files.old ≤ F.faults files.new }
 {
     match files.load(alloc, name, LIMIT) {
@@ -37,6 +38,7 @@ pub fn read_input<S: Source>(alloc: Global, input: &mut S) -> Result<Vec<u8>, Ou
     ensures due { Answers (λ bytes. bytes.items) (Input (S.left input.old)) (OneRead (S.faults input.old) (S.faults input.new)) result }
     ensures most { IfOk result (λ bytes. length bytes.items ≤ 16777216) }
     ensures end { OnOk result (IsAtEnd (S.left input.new)) }
+    ensures stage { IfErr result IsOfInput }
     ensures later { S.faults input.old ≤ S.faults input.new }
 {
     match read_all(alloc, input, LIMIT) {
@@ -47,17 +49,27 @@ pub fn read_input<S: Source>(alloc: Global, input: &mut S) -> Result<Vec<u8>, Ou
     }
 }
 
-/// The items of a text.
-pub fn read_items(alloc: Global, bytes: &[u8]) -> Result<Items, Outcome>
+/// The items of a schema file.
+pub fn read_schema_items(alloc: Global, file: u32, bytes: &[u8]) -> Result<Items, Outcome>
     requires { length bytes.now ≤ 16777216 }
-    ensures { Answers (λ items. items) (Read bytes.now) NoMemory result }
+    ensures { Answers (λ items. items) (Read (λ at why. Outcome.SchemaSyntax file at why) bytes.now) NoMemory result }
 {
     match read_document(alloc, bytes) {
-        Ok(items) => {
-            let _ = items.tree();
-            Ok(items)
-        }
-        Err(DocError::NotPlain) => Err(Outcome::NotYet),
+        Ok(items) => Ok(items),
+        Err(DocError::Syntax { at, why }) => Err(Outcome::SchemaSyntax { file, at, why }),
+        Err(DocError::Memory) => Err(Outcome::OutOfMemory),
+    }
+}
+
+/// The items of the input.
+pub fn read_input_items(alloc: Global, bytes: &[u8]) -> Result<Items, Outcome>
+    requires { length bytes.now ≤ 16777216 }
+    ensures due { Answers (λ items. items) (Read (λ at why. Outcome.DocSyntax at why) bytes.now) NoMemory result }
+    ensures stage { IfErr result IsOfInput }
+{
+    match read_document(alloc, bytes) {
+        Ok(items) => Ok(items),
+        Err(DocError::Syntax { at, why }) => Err(Outcome::DocSyntax { at, why }),
         Err(DocError::Memory) => Err(Outcome::OutOfMemory),
     }
 }

@@ -1,13 +1,15 @@
 //! The schemas and documents that are taken so far: global elements of the type boolean, and a truth value in an
 //! element.
-ghost use Rattle.std.specs.Prelude.{◌≡◌, ℕ, List, [], ◌++◌, ◌↔◌, length, map, IfOk, IsTrue, IfSome, MatchOption};
+ghost use Rattle.std.specs.Prelude.{◌≡◌, ℕ, List, [], ◌++◌, ◌↔◌, ◌&&◌, nat_le, length, map, IfOk, IfErr, IsTrue, IfSome, MatchOption};
 ghost use Rattle.std.specs.Option.{option_map};
+ghost use Rattle.std.specs.List.{list_all};
 ghost use Rattle.transcode_core.specs.FirstForm as form;
+ghost use Rattle.transcode_core.specs.Requests.{root_seen};
 ghost use Rattle.transcode_core.specs.Order.{Found, Which};
-ghost use Rattle.transcode_core.specs.Causes.{Answers, Never, NoMemory};
+ghost use Rattle.transcode_core.specs.Causes.{Answers, Never, NoMemory, IsOfInput};
 
 use crate::outcome::Outcome;
-use crate::words::is_plain_name;
+use crate::words::Root;
 use doc_text::{ItemLabel, Items};
 use label_tree::Tree;
 use std::alloc::{AllocError, Global};
@@ -22,6 +24,31 @@ fn is_name(name: &Name, space: &[u8], local: &[u8]) -> bool
     ensures { result ≡ form.is_name name.now space.now local.now }
 {
     name.space.bytes() == space && name.local.bytes() == local
+}
+
+fn is_letter(byte: u8) -> bool
+    ensures { result ≡ form.is_letter byte }
+{
+    97 <= byte && byte <= 122
+}
+
+fn has_letters(name: &[u8]) -> bool
+    ensures { result ≡ list_all form.is_letter name.now }
+{
+    name.iter().all(|byte| is_letter(*byte))
+}
+
+fn has_name_length(len: usize) -> bool
+    ensures { result ≡ (nat_le 1 len && nat_le len 255) }
+{
+    1 <= len && len <= 255
+}
+
+// Whether the name is 1 to 255 letters `a` to `z`.
+fn is_plain_name(name: &[u8]) -> bool
+    ensures { result ≡ form.is_plain_name name.now }
+{
+    has_name_length(name.len()) && has_letters(name)
 }
 
 // The value of the attribute of that name, which has no namespace.
@@ -216,8 +243,8 @@ fn truth_of_label(label: &ItemLabel) -> Option<bool>
     }
 }
 
-fn truth_in(root: &[u8], label: &ItemLabel, kids: &[Tree<ItemLabel>]) -> Option<bool>
-    ensures { result ≡ form.truth_as root.now label.now kids.now }
+fn truth_in(root: Root<'_>, label: &ItemLabel, kids: &[Tree<ItemLabel>]) -> Option<bool>
+    ensures { result ≡ form.truth_as (root_seen root.entry) label.now kids.now }
 {
     let ItemLabel::Element {
         name,
@@ -228,15 +255,16 @@ fn truth_in(root: &[u8], label: &ItemLabel, kids: &[Tree<ItemLabel>]) -> Option<
         return None;
     };
     match (attributes.items(), kids) {
-        ([], [kid]) if is_name(name, b"", root) => truth_of_label(kid.label()),
+        ([], [kid]) if is_name(name, root.space, root.local) => truth_of_label(kid.label()),
         _ => None,
     }
 }
 
 /// The truth value in the document, whose root has this name.
-pub fn read_truth(root: &Text, items: &Items) -> Result<bool, Outcome>
-    ensures { Answers (λ value. value) (Found (form.truth_in root.now items.now) Outcome.NotYet) Never result }
+pub fn read_truth(root: Root<'_>, items: &Items) -> Result<bool, Outcome>
+    ensures due { Answers (λ value. value) (Found (form.truth_in (root_seen root.entry) items.now) Outcome.NotYet) Never result }
+    ensures stage { IfErr result IsOfInput }
 {
     let tree = items.tree().root();
-    truth_in(root.bytes(), tree.label(), tree.kids()).ok_or(Outcome::NotYet)
+    truth_in(root, tree.label(), tree.kids()).ok_or(Outcome::NotYet)
 }

@@ -4,10 +4,11 @@ ghost use Rattle.std.specs.List.{concat};
 ghost use Rattle.std.specs.Io.KnownBytes.{Appends};
 ghost use Rattle.xa_base.specs.Faults.{Counts};
 ghost use Rattle.xa_base.specs.Bytes.{AppendsFront};
-ghost use Rattle.transcode_core.specs.Lines.{line};
+ghost use Rattle.transcode_core.specs.Lines as lines;
 ghost use Rattle.transcode_core.specs.Parts.{spelled};
 
 use crate::outcome::Outcome;
+use doc_text::DocWhy;
 use itoa::Buffer;
 use xa_base::{Failed, Sink, write_all};
 
@@ -26,7 +27,7 @@ fn write_parts<E: Sink>(sink: &mut E, parts: &[&[u8]]) -> Result<(), Failed>
     Ok(())
 }
 
-// A line as its parts: text with up to two numbers in it.
+// A line as its parts: text with up to two numbers and the name of a reason in it.
 #[derive(Clone, Copy)]
 struct Parts {
     head: &'static [u8],
@@ -34,6 +35,8 @@ struct Parts {
     middle: &'static [u8],
     at: Option<u64>,
     tail: &'static [u8],
+    reason: &'static [u8],
+    end: &'static [u8],
 }
 
 fn plain(head: &'static [u8]) -> Parts
@@ -45,6 +48,8 @@ fn plain(head: &'static [u8]) -> Parts
         middle: b"",
         at: None,
         tail: b"",
+        reason: b"",
+        end: b"",
     }
 }
 
@@ -57,15 +62,62 @@ fn of_file(file: u32, tail: &'static [u8]) -> Parts
         middle: b"",
         at: None,
         tail,
+        reason: b"",
+        end: b"",
+    }
+}
+
+// The name of a reason against a text.
+fn reason_name(why: DocWhy) -> &'static [u8]
+    ensures { result.now ≡ lines.reason_name why }
+{
+    match why {
+        DocWhy::NotUtf8 => b"NotUtf8",
+        DocWhy::Doctype => b"Doctype",
+        DocWhy::Version => b"Version",
+        DocWhy::Encoding => b"Encoding",
+        DocWhy::BadReference => b"BadReference",
+        DocWhy::NoPiece => b"NoPiece",
+        DocWhy::BadName => b"BadName",
+        DocWhy::LongName => b"LongName",
+        DocWhy::ReservedPrefix => b"ReservedPrefix",
+        DocWhy::UnboundPrefix => b"UnboundPrefix",
+        DocWhy::DuplicateAttribute => b"DuplicateAttribute",
+        DocWhy::ExtraRoot => b"ExtraRoot",
+        DocWhy::TooDeep => b"TooDeep",
+        DocWhy::WrongEnd => b"WrongEnd",
+        DocWhy::TextOutside => b"TextOutside",
+        DocWhy::Unfinished => b"Unfinished",
     }
 }
 
 fn parts_of(outcome: Outcome) -> Parts
-    ensures { spelled result ≡ line outcome }
+    ensures { spelled result ≡ lines.line outcome }
 {
     match outcome {
         Outcome::Done => plain(b""),
+        Outcome::Usage => plain(
+            b"usage: show FILE... | check ROOT FILE... | to-per ROOT FILE... | to-xml ROOT FILE... | trial N\n",
+        ),
+        Outcome::SchemaSyntax { file, at, why } => Parts {
+            head: b"file ",
+            file: Some(file),
+            middle: b", byte ",
+            at: Some(at),
+            tail: b": syntax: ",
+            reason: reason_name(why),
+            end: b"\n",
+        },
         Outcome::UnknownRoot => plain(b"unknown root\n"),
+        Outcome::DocSyntax { at, why } => Parts {
+            head: b"input, byte ",
+            file: None,
+            middle: b"",
+            at: Some(at),
+            tail: b": syntax: ",
+            reason: reason_name(why),
+            end: b"\n",
+        },
         Outcome::TooLong { file: 0 } => plain(b"input: too long\n"),
         Outcome::TooLong { file } => of_file(file, b": too long\n"),
         Outcome::LoadFault { file } => of_file(file, b": load failed\n"),
@@ -78,8 +130,8 @@ fn parts_of(outcome: Outcome) -> Parts
 
 /// Writes the line of the outcome, and nothing for `Done`. It takes no memory.
 pub fn write_line<E: Sink>(outcome: &Outcome, complaints: &mut E) -> Result<(), Failed>
-    ensures ok { OnOk result (Appends (E.written complaints.old) (E.written complaints.new) (line outcome.now)) }
-    ensures prefix { OnErr result (AppendsFront (E.written complaints.old) (E.written complaints.new) (line outcome.now)) }
+    ensures ok { OnOk result (Appends (E.written complaints.old) (E.written complaints.new) (lines.line outcome.now)) }
+    ensures prefix { OnErr result (AppendsFront (E.written complaints.old) (E.written complaints.new) (lines.line outcome.now)) }
     ensures cause { Counts (E.faults complaints.old) (E.faults complaints.new) (IsErr result) }
 {
     let parts = parts_of(*outcome);
@@ -95,6 +147,14 @@ pub fn write_line<E: Sink>(outcome: &Outcome, complaints: &mut E) -> Result<(), 
     };
     write_parts(
         complaints,
-        &[parts.head, file, parts.middle, at, parts.tail],
+        &[
+            parts.head,
+            file,
+            parts.middle,
+            at,
+            parts.tail,
+            parts.reason,
+            parts.end,
+        ],
     )
 }

@@ -2,13 +2,21 @@
 ghost use Rattle.std.specs.Prelude.{◌≡◌};
 ghost use Rattle.transcode_core.specs.Status.{status};
 
+use doc_text::DocWhy;
+
 /// What a call of the program ends with. Files are numbered from 1 in the order of the words; number 0 is the input.
 #[derive(Clone, Copy, Debug, PartialEq, Eq)]
 pub enum Outcome {
     /// The whole result was written.
     Done,
+    /// The words are none that are taken.
+    Usage,
+    /// The first fault of the text of a schema file, at this byte.
+    SchemaSyntax { file: u32, at: u64, why: DocWhy },
     /// No global element has the name of the root.
     UnknownRoot,
+    /// The first fault of the text of the input, at this byte.
+    DocSyntax { at: u64, why: DocWhy },
     /// The file has more than 16,777,216 bytes.
     TooLong { file: u32 },
     /// The file could not be loaded.
@@ -30,7 +38,10 @@ impl Outcome {
     {
         match self {
             Outcome::Done => 0,
+            Outcome::Usage => 2,
+            Outcome::SchemaSyntax { .. } => 3,
             Outcome::UnknownRoot => 6,
+            Outcome::DocSyntax { .. } => 7,
             Outcome::TooLong { .. } => 11,
             Outcome::LoadFault { .. } => 20,
             Outcome::ReadFault => 21,

@@ -2,6 +2,7 @@
 ghost use Rattle.std.specs.Prelude.{◌≡◌, ◌<◌};
 
 use crate::{Outcome, run};
+use doc_text::DocWhy;
 use std::alloc::Global;
 use std::marker::Brand;
 use std::process::Abort;
@@ -52,16 +53,19 @@ fn words_of(rt: &impl Abort, alloc: Global, words: &[&[u8]]) -> Vec<Text> {
     all
 }
 
-fn one_file(rt: &impl Abort, alloc: Global) -> Vec<Entry> {
-    let name = Text::of(alloc, b"f.xsd").expect(rt, "a text");
-    let contents = SCHEMA.to_vec(alloc).expect(rt, "memory");
+fn two_files(rt: &impl Abort, alloc: Global) -> Vec<Entry> {
+    let files: [(&[u8], &[u8]); 2] = [(b"f.xsd", SCHEMA), (b"broken.xsd", b"<s>a</t>")];
     let mut entries = Vec::new(alloc);
-    entries.push(Entry::of(name, contents)).expect(rt, "memory");
+    for (name, contents) in files {
+        let name = Text::of(alloc, name).expect(rt, "a text");
+        let contents = contents.to_vec(alloc).expect(rt, "memory");
+        entries.push(Entry::of(name, contents)).expect(rt, "memory");
+    }
     entries
 }
 
 fn sure_sink(rt: &impl Abort, alloc: Global) -> SureSink {
-    SureSink::new(alloc, 99, Vec::new(alloc)).expect(rt, "memory")
+    SureSink::new(alloc, 120, Vec::new(alloc)).expect(rt, "memory")
 }
 
 // A run in which nothing fails: its outcome, and whether these bytes and this complaint are what was written.
@@ -75,7 +79,7 @@ fn expect_run(
     complaint: &[u8],
 ) {
     let words = words_of(rt, alloc, words);
-    let mut files = SureLibrary::new(one_file(rt, alloc));
+    let mut files = SureLibrary::new(two_files(rt, alloc));
     let contents = document.to_vec(alloc).expect(rt, "memory");
     let mut input = SureSource::new(contents, Vec::new(alloc));
     let mut output = sure_sink(rt, alloc);
@@ -97,20 +101,19 @@ fn expect_run(
 fn one_boolean_element(rt: HostRuntime) {
     let alloc = rt.alloc();
     let words: [&[u8]; 3] = [b"to-per", b"f", b"f.xsd"];
-    let missing: [&[u8]; 3] = [b"to-per", b"f", b"g.xsd"];
-    let unknown: [&[u8]; 3] = [b"to-per", b"g", b"f.xsd"];
-    let show: [&[u8]; 2] = [b"show", b"f.xsd"];
+    let done = Outcome::Done;
     let not_yet = Outcome::NotYet;
+    expect_run(&rt, alloc, &words, b"<f>true</f>", done, b"\x80", b"");
+    expect_run(&rt, alloc, &words, b"<f>0</f>", done, b"\x00", b"");
     expect_run(
         &rt,
         alloc,
         &words,
-        b"<f>true</f>",
-        Outcome::Done,
+        b"<f>&#49;<!-- --></f>",
+        done,
         b"\x80",
         b"",
     );
-    expect_run(&rt, alloc, &words, b"<f>0</f>", Outcome::Done, b"\x00", b"");
     expect_run(&rt, alloc, &words, b"<f>2</f>", not_yet, b"", b"not yet\n");
     expect_run(
         &rt,
@@ -121,27 +124,56 @@ fn one_boolean_element(rt: HostRuntime) {
         b"",
         b"not yet\n",
     );
-    expect_run(&rt, alloc, &show, b"", not_yet, b"", b"not yet\n");
-    let root = Outcome::UnknownRoot;
-    expect_run(
-        &rt,
-        alloc,
-        &unknown,
-        b"<f>true</f>",
-        root,
-        b"",
-        b"unknown root\n",
-    );
-    let load = Outcome::LoadFault { file: 1 };
-    expect_run(
-        &rt,
-        alloc,
-        &missing,
-        b"",
-        load,
-        b"",
-        b"file 1: load failed\n",
-    );
+    let fault = Outcome::DocSyntax {
+        at: 7,
+        why: DocWhy::WrongEnd,
+    };
+    let complaint = b"input, byte 7: syntax: WrongEnd\n";
+    expect_run(&rt, alloc, &words, b"<f>true</g>", fault, b"", complaint);
+}
+
+#[test]
+fn words_that_lead_elsewhere(rt: HostRuntime) {
+    let alloc = rt.alloc();
+    let usage: &[u8] =
+        b"usage: show FILE... | check ROOT FILE... | to-per ROOT FILE... | to-xml ROOT FILE... | trial N\n";
+    let words: [(&[&[u8]], Outcome, &[u8]); 12] = [
+        (&[], Outcome::Usage, usage),
+        (&[b"to-per", b"f"], Outcome::Usage, usage),
+        (&[b"to-per", b"a:f", b"f.xsd"], Outcome::Usage, usage),
+        (&[b"to-per", b"{}f", b"f.xsd"], Outcome::Usage, usage),
+        (&[b"trial", b"0"], Outcome::Usage, usage),
+        (&[b"trial", b"100001"], Outcome::Usage, usage),
+        (&[b"trial", b"100000"], Outcome::NotYet, b"not yet\n"),
+        (&[b"show", b"f.xsd"], Outcome::NotYet, b"not yet\n"),
+        (
+            &[b"to-per", b"g", b"f.xsd"],
+            Outcome::UnknownRoot,
+            b"unknown root\n",
+        ),
+        (
+            &[b"to-per", b"{urn:x}f", b"f.xsd"],
+            Outcome::UnknownRoot,
+            b"unknown root\n",
+        ),
+        (
+            &[b"to-per", b"f", b"g.xsd"],
+            Outcome::LoadFault { file: 1 },
+            b"file 1: load failed\n",
+        ),
+        (
+            &[b"to-per", b"f", b"broken.xsd"],
+            Outcome::SchemaSyntax {
+                file: 1,
+                at: 4,
+                why: DocWhy::WrongEnd,
+            },
+            b"file 1, byte 4: syntax: WrongEnd\n",
+        ),
+    ];
+    for (words, outcome, complaint) in words {
+        expect_run(&rt, alloc, words, b"<f>true</f>", outcome, b"", complaint);
+    }
 }
 
 // The outcome, and how much was written and complained, where these calls of the library, the input, the output and
@@ -156,7 +188,7 @@ fn outcome_with(
 ) -> (u8, usize, usize) {
     let words = words_of(rt, alloc, &[b"to-per", b"f", b"f.xsd"]);
     let fails = vec![in alloc; load].expect(rt, "memory");
-    let mut files = MemoryLibrary::new(one_file(rt, alloc), fails);
+    let mut files = MemoryLibrary::new(two_files(rt, alloc), fails);
     let mut input = MemorySource::new(
         b"<f>true</f>".to_vec(alloc).expect(rt, "memory"),
         vec![in alloc; read].expect(rt, "memory"),

@@ -1,20 +1,24 @@
 //! The top call.
-ghost use Rattle.std.specs.Prelude.{◌≡◌, ◌⊎◌, ℕ, ◌≤◌, List, length, map, bytes_eq, OnOk, Ok, Err};
+ghost use Rattle.std.specs.Prelude.{◌≡◌, ◌⊎◌, ℕ, ◌≤◌, List, length, map, bytes_eq, OnOk, IfErr, Ok, Err, Some};
 ghost use Rattle.std.specs.List.{list_any};
 ghost use Rattle.std.specs.Io.KnownBytes.{Appends, IsAtEnd};
 ghost use Rattle.xa_base.specs.Faults.{Rose};
 ghost use Rattle.xa_base.specs.Bytes.{AppendsFront};
 ghost use Rattle.transcode_core.specs.Lines.{line};
-ghost use Rattle.transcode_core.specs.Steps.{Rooted, Declared, Schema, encoded};
-ghost use Rattle.transcode_core.specs.Order.{Pass};
-ghost use Rattle.transcode_core.specs.Due.{Opened, Shown, Encoding, Due};
-ghost use Rattle.transcode_core.specs.Causes.{Answers, Never, NoMemory, OneLoad, Opening, OneRead, Names, ReachesInput, Deciding, Fails, IsRefusal, WritesNothing};
+ghost use Rattle.transcode_core.specs.Requests.{root_seen, seen};
+ghost use Rattle.transcode_core.specs.Steps as steps;
+ghost use Rattle.transcode_core.specs.Steps.{Rooted, Declared, Schema, Valued, encoded};
+ghost use Rattle.transcode_core.specs.Order.{Pass, Found, Which, Then};
+ghost use Rattle.transcode_core.specs.FirstForm.{IsSchema};
+ghost use Rattle.transcode_core.specs.Due.{Requested, Opened, InputValue, Encoding, Due};
+ghost use Rattle.transcode_core.specs.Causes.{Answers, Never, NoMemory, OneLoad, Opening, OneRead, Names, ReachesInput, IsOfInput, Deciding, Fails, IsRefusal, WritesNothing};
 
-use crate::files::{load_file, read_input, read_items};
+use crate::files::{load_file, read_input, read_input_items, read_schema_items};
 use crate::first_form::{read_schema, read_truth};
 use crate::lines::write_line;
 use crate::outcome::Outcome;
-use crate::words::{Request, read_words};
+use crate::words::{Request, Root, read_words};
+use doc_text::Items;
 use std::alloc::Global;
 use std::sync::ledger::Ledger;
 use xa_base::{Failed, Library, Sink, Source, Steps, Text, write_all};
@@ -30,24 +34,35 @@ fn has_name(root: &[u8], names: &[&[u8]]) -> bool
     false
 }
 
-fn check_root(root: &Text, names: &[&[u8]]) -> Result<(), Outcome>
-    ensures { Answers (λ _. tt) (Rooted root.now (map (λ name. name.now) names.now)) Never result }
+fn check_root(root: Root<'_>, names: &[&[u8]]) -> Result<(), Outcome>
+    ensures { Answers (λ _. tt) (Rooted (root_seen root.entry) (map (λ name. name.now) names.now)) Never result }
 {
-    if has_name(root.bytes(), names) {
+    if root.space.is_empty() && has_name(root.local, names) {
         Ok(())
     } else {
         Err(Outcome::UnknownRoot)
     }
 }
 
-// Whether the schema document declares the root.
-fn check_schema(alloc: Global, root: &Text, bytes: &[u8]) -> Result<(), Outcome>
-    requires { length bytes.now ≤ 16777216 }
-    ensures { Answers (λ _. tt) (Declared root.now bytes.now) NoMemory result }
+// Whether the schema declares the root.
+fn check_names(alloc: Global, root: Root<'_>, items: &Items) -> Result<(), Outcome>
+    ensures { Answers (λ _. tt) (Then (Which (IsSchema items.now) Outcome.NotYet) (λ names. Rooted (root_seen root.entry) names)) NoMemory result }
 {
-    let items = read_items(alloc, bytes)?;
-    let names = read_schema(alloc, &items)?;
-    check_root(root, &names)
+    match read_schema(alloc, items) {
+        Ok(names) => check_root(root, &names),
+        Err(outcome) => Err(outcome),
+    }
+}
+
+// Whether the schema document declares the root.
+fn check_schema(alloc: Global, root: Root<'_>, file: u32, bytes: &[u8]) -> Result<(), Outcome>
+    requires { length bytes.now ≤ 16777216 }
+    ensures { Answers (λ _. tt) (Declared (root_seen root.entry) file bytes.now) NoMemory result }
+{
+    match read_schema_items(alloc, file, bytes) {
+        Ok(items) => check_names(alloc, root, &items),
+        Err(outcome) => Err(outcome),
+    }
 }
 
 // Loads the schema document, and looks for the root in it.
@@ -55,14 +70,57 @@ fn load_schema<F: Library>(
     alloc: Global,
     files: &mut F,
     file: u32,
-    request: Request<'_>,
+    name: &Text,
+    root: Root<'_>,
 ) -> Result<(), Outcome>
-    ensures due { Answers (λ _. tt) (Schema (F.entries files.old) file request.entry.file.now request.entry.root.now)
-        (OneLoad (F.faults files.old) (F.faults files.new) (F.is_sure files.old) (F.entries files.old) file request.entry.file.now) result }
+    ensures due { Answers (λ _. tt) (Schema (F.entries files.old) file name.now (root_seen root.entry))
+        (OneLoad (F.faults files.old) (F.faults files.new) (F.is_sure files.old) (F.entries files.old) file name.now) result }
+    ensures files { (F.entries files.new ≡ F.entries files.old) × (F.is_sure files.new ≡ F.is_sure files.old) }
     ensures later { F.faults files.old ≤ F.faults files.new }
 {
-    let bytes = load_file(alloc, files, file, request.file)?;
-    check_schema(alloc, request.root, &bytes)
+    match load_file(alloc, files, file, name) {
+        Ok(bytes) => check_schema(alloc, root, file, &bytes),
+        Err(outcome) => Err(outcome),
+    }
+}
+
+// What is built of the commands: `to-per` with one file.
+fn built(request: Request<'_>) -> Result<(Root<'_>, &Text), Outcome>
+    ensures { Answers (λ parts. (root_seen parts.0, parts.1.now)) (Found (steps.built (seen request.entry)) Outcome.NotYet) Never result }
+{
+    match request {
+        Request::ToPer {
+            root,
+            files: [file],
+        } => Ok((root, file)),
+        _ => Err(Outcome::NotYet),
+    }
+}
+
+// The root and the file that the words name.
+fn requested(words: &[Text]) -> Result<(Root<'_>, &Text), Outcome>
+    ensures { Answers (λ parts. (root_seen parts.0, parts.1.now)) (Requested words.now) Never result }
+{
+    let request = read_words(words)?;
+    built(request)
+}
+
+// The root, where the file declares it.
+fn open_file<'a, F: Library>(
+    alloc: Global,
+    files: &mut F,
+    root: Root<'a>,
+    file: &Text,
+) -> Result<Root<'a>, Outcome>
+    ensures due { Answers root_seen (Then (Schema (F.entries files.old) 1 file.now (root_seen root.entry)) (λ _. Pass (root_seen root.entry)))
+        (OneLoad (F.faults files.old) (F.faults files.new) (F.is_sure files.old) (F.entries files.old) 1 file.now) result }
+    ensures files { (F.entries files.new ≡ F.entries files.old) × (F.is_sure files.new ≡ F.is_sure files.old) }
+    ensures later { F.faults files.old ≤ F.faults files.new }
+{
+    match load_schema(alloc, files, 1, file, root) {
+        Ok(()) => Ok(root),
+        Err(outcome) => Err(outcome),
+    }
 }
 
 // Words, file and root.
@@ -70,31 +128,44 @@ fn open<'a, F: Library>(
     alloc: Global,
     words: &'a [Text],
     files: &mut F,
-) -> Result<&'a Text, Outcome>
-    ensures due { Answers (λ root. root.now) (Opened words.now (F.entries files.old)) (Opening (F.faults files.old) (F.faults files.new) (F.is_sure files.old) (F.entries files.old) words.now) result }
+) -> Result<Root<'a>, Outcome>
+    ensures due { Answers root_seen (Opened words.now (F.entries files.old)) (Opening (F.faults files.old) (F.faults files.new) (F.is_sure files.old) (F.entries files.old) words.now) result }
+    ensures files { (F.entries files.new ≡ F.entries files.old) × (F.is_sure files.new ≡ F.is_sure files.old) }
     ensures later { F.faults files.old ≤ F.faults files.new }
 {
-    let request = read_words(words)?;
-    match load_schema(alloc, files, 1, request) {
-        Ok(()) => Ok(request.root),
+    match requested(words) {
+        Ok((root, file)) => open_file(alloc, files, root, file),
         Err(outcome) => Err(outcome),
     }
 }
 
+// The truth value in the input's text.
+fn read_text(alloc: Global, root: Root<'_>, bytes: &[u8]) -> Result<bool, Outcome>
+    requires { length bytes.now ≤ 16777216 }
+    ensures due { Answers (λ value. value) (Valued (root_seen root.entry) bytes.now) NoMemory result }
+    ensures stage { IfErr result IsOfInput }
+{
+    let items = read_input_items(alloc, bytes)?;
+    read_truth(root, &items)
+}
+
 // The input and its truth value.
-fn read_value<S: Source>(alloc: Global, root: &Text, input: &mut S) -> Result<bool, Outcome>
-    ensures due { Answers (λ value. value) (Shown root.now (S.left input.old)) (OneRead (S.faults input.old) (S.faults input.new)) result }
+fn read_value<S: Source>(alloc: Global, root: Root<'_>, input: &mut S) -> Result<bool, Outcome>
+    ensures due { Answers (λ value. value) (InputValue (root_seen root.entry) (S.left input.old)) (OneRead (S.faults input.old) (S.faults input.new)) result }
     ensures end { OnOk result (IsAtEnd (S.left input.new)) }
+    ensures stage { IfErr result IsOfInput }
     ensures later { S.faults input.old ≤ S.faults input.new }
 {
-    let bytes = read_input(alloc, input)?;
-    let items = read_items(alloc, &bytes)?;
-    read_truth(root, &items)
+    match read_input(alloc, input) {
+        Ok(bytes) => read_text(alloc, root, &bytes),
+        Err(outcome) => Err(outcome),
+    }
 }
 
 // The encoding of a truth value.
 fn encode(alloc: Global, value: bool) -> Result<Vec<u8>, Outcome>
-    ensures { Answers (λ bytes. bytes.items) (Pass (encoded value)) NoMemory result }
+    ensures due { Answers (λ bytes. bytes.items) (Pass (encoded value)) NoMemory result }
+    ensures stage { IfErr result IsOfInput }
 {
     let octet = if value { 0x80 } else { 0 };
     match vec![in alloc; octet] {
@@ -104,13 +175,16 @@ fn encode(alloc: Global, value: bool) -> Result<Vec<u8>, Outcome>
 }
 
 // What `to-per` answers for this root.
-fn to_per<S: Source>(alloc: Global, root: &Text, input: &mut S) -> Result<Vec<u8>, Outcome>
-    ensures due { Answers (λ bytes. bytes.items) (Encoding root.now (S.left input.old)) (OneRead (S.faults input.old) (S.faults input.new)) result }
+fn to_per<S: Source>(alloc: Global, root: Root<'_>, input: &mut S) -> Result<Vec<u8>, Outcome>
+    ensures due { Answers (λ bytes. bytes.items) (Encoding (root_seen root.entry) (S.left input.old)) (OneRead (S.faults input.old) (S.faults input.new)) result }
     ensures end { OnOk result (IsAtEnd (S.left input.new)) }
+    ensures stage { IfErr result IsOfInput }
     ensures later { S.faults input.old ≤ S.faults input.new }
 {
-    let value = read_value(alloc, root, input)?;
-    encode(alloc, value)
+    match read_value(alloc, root, input) {
+        Ok(value) => encode(alloc, value),
+        Err(outcome) => Err(outcome),
+    }
 }
 
 // All that comes before writing: the whole result, or the refusal.
@@ -123,7 +197,8 @@ fn decide<F: Library, S: Source>(
     ensures due { Answers (λ bytes. bytes.items) (Due words.now (F.entries files.old) (S.left input.old))
         (Deciding (F.faults files.old) (F.faults files.new) (F.is_sure files.old) (F.entries files.old) (S.faults input.old) (S.faults input.new) words.now) result }
     ensures end { OnOk result (IsAtEnd (S.left input.new)) }
-    ensures untouched { (S.left input.new ≡ S.left input.old) ⊎ ReachesInput words.now (F.entries files.old) }
+    ensures untouched { (S.left input.new ≡ S.left input.old) ⊎ (ReachesInput words.now (F.entries files.old) × IfErr result IsOfInput) }
+    ensures files { (F.entries files.new ≡ F.entries files.old) × (F.is_sure files.new ≡ F.is_sure files.old) }
     ensures loads { F.faults files.old ≤ F.faults files.new }
     ensures reads { S.faults input.old ≤ S.faults input.new }
 {
@@ -150,7 +225,12 @@ fn perform<F: Library, S: Source, K: Sink>(
         × ((bytes : List ℕ) × Due words.now (F.entries files.old) (S.left input.old) (Ok bytes) × AppendsFront (K.written output.old) (K.written output.new) bytes) }
     ensures kept { WritesNothing result → K.written output.new ≡ K.written output.old }
     ensures end { result ≡ Outcome.Done → IsAtEnd (S.left input.new) }
-    ensures untouched { (S.left input.new ≡ S.left input.old) ⊎ ReachesInput words.now (F.entries files.old) }
+    ensures untouched { (S.left input.new ≡ S.left input.old) ⊎ (ReachesInput words.now (F.entries files.old) × IsOfInput result) }
+    ensures files { (F.entries files.new ≡ F.entries files.old) × (F.is_sure files.new ≡ F.is_sure files.old) }
+    // Where Done is due and no count rose, it is Done, or memory is missing.
+    ensures complete { (entries : List (List ℕ × List ℕ)) (left bytes : List ℕ) → F.entries files.old ≡ Some entries → S.left input.old ≡ Some left
+        → Due words.now (Some entries) (Some left) (Ok bytes) → (Rose (F.faults files.old) (F.faults files.new) → ⊥) → (Rose (S.faults input.old) (S.faults input.new) → ⊥)
+        → (Rose (K.faults output.old) (K.faults output.new) → ⊥) → (result ≡ Outcome.Done) ⊎ (result ≡ Outcome.OutOfMemory) }
     ensures loads { F.faults files.old ≤ F.faults files.new }
     ensures reads { S.faults input.old ≤ S.faults input.new }
     ensures writes { K.faults output.old ≤ K.faults output.new }
@@ -164,9 +244,10 @@ fn perform<F: Library, S: Source, K: Sink>(
     }
 }
 
-/// Does what the words ask for: `to-per ROOT FILE` writes the encoding of the input, a document with the element ROOT
-/// as its root, over the schema document FILE. What is asked for otherwise is `NotYet`. The whole result is made
-/// before writing begins. Complaints receive the line of the outcome.
+/// Does what the words ask for. `to-per ROOT FILE` writes the encoding of the input, a document with the element ROOT
+/// as its root, over the schema document FILE. The other commands, several files, and schemas and documents beyond
+/// elements of the type boolean are `NotYet`. The whole result is made before writing begins. Complaints receive the
+/// line of the outcome.
 pub fn run<F: Library, S: Source, K: Sink, E: Sink, L: Ledger>(
     alloc: Global,
     words: &[Text],
@@ -188,7 +269,12 @@ pub fn run<F: Library, S: Source, K: Sink, E: Sink, L: Ledger>(
         × ((bytes : List ℕ) × Due words.now (F.entries files.old) (S.left input.old) (Ok bytes) × AppendsFront (K.written output.old) (K.written output.new) bytes) }
     ensures kept { WritesNothing result → K.written output.new ≡ K.written output.old }
     ensures end { result ≡ Outcome.Done → IsAtEnd (S.left input.new) }
-    ensures untouched { (S.left input.new ≡ S.left input.old) ⊎ ReachesInput words.now (F.entries files.old) }
+    ensures untouched { (S.left input.new ≡ S.left input.old) ⊎ (ReachesInput words.now (F.entries files.old) × IsOfInput result) }
+    ensures files { (F.entries files.new ≡ F.entries files.old) × (F.is_sure files.new ≡ F.is_sure files.old) }
+    // Where Done is due and no count rose, it is Done, or memory is missing.
+    ensures complete { (entries : List (List ℕ × List ℕ)) (left bytes : List ℕ) → F.entries files.old ≡ Some entries → S.left input.old ≡ Some left
+        → Due words.now (Some entries) (Some left) (Ok bytes) → (Rose (F.faults files.old) (F.faults files.new) → ⊥) → (Rose (S.faults input.old) (S.faults input.new) → ⊥)
+        → (Rose (K.faults output.old) (K.faults output.new) → ⊥) → (result ≡ Outcome.Done) ⊎ (result ≡ Outcome.OutOfMemory) }
     ensures loads { F.faults files.old ≤ F.faults files.new }
     ensures reads { S.faults input.old ≤ S.faults input.new }
     ensures writes { K.faults output.old ≤ K.faults output.new }

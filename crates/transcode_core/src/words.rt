@@ -1,54 +1,193 @@
 //! The words of the command line.
-ghost use Rattle.std.specs.Prelude.{◌≡◌, ◌&&◌, nat_le};
+ghost use Rattle.std.specs.Prelude.{◌≡◌, true, ℕ, List, ◌∷◌, MatchOption, Some, None, ◌+◌, ◌≤◌, ◌<◌, ◌^◌, ◌*◌, ◌&&◌, length, nat_le, option_map};
 ghost use Rattle.std.specs.List.{list_all};
+ghost use Rattle.std.specs.Str.{chars};
 ghost use Rattle.transcode_core.specs.Words as command_line;
+ghost use Rattle.transcode_core.specs.Requests.{root_seen, seen};
 ghost use Rattle.transcode_core.specs.Order.{Found};
 ghost use Rattle.transcode_core.specs.Causes.{Answers, Never};
 
 use crate::outcome::Outcome;
-use xa_base::Text;
+use xa_base::{Text, is_ncname, is_ncname_text, is_xml_char};
 
-/// What the words ask for: the encoding of the input, a document with this root, over the schema in this file.
+/// The name of a root element: its namespace, empty where there is none, and its local name.
 #[derive(Clone, Copy)]
-pub struct Request<'a> {
-    pub root: &'a Text,
-    pub file: &'a Text,
-}
-
-fn is_letter(byte: u8) -> bool
-    ensures { result ≡ command_line.is_letter byte }
-{
-    97 <= byte && byte <= 122
-}
-
-fn has_name_length(len: usize) -> bool
-    ensures { result ≡ (nat_le 1 len && nat_le len 255) }
-{
-    1 <= len && len <= 255
-}
-
-fn has_letters(name: &[u8]) -> bool
-    ensures { result ≡ list_all command_line.is_letter name.now }
-{
-    name.iter().all(|byte| is_letter(*byte))
-}
-
-/// Whether the name is 1 to 255 letters `a` to `z`.
-pub fn is_plain_name(name: &[u8]) -> bool
-    ensures { result ≡ command_line.is_plain_name name.now }
-{
-    has_name_length(name.len()) && has_letters(name)
+pub struct Root<'a> {
+    pub space: &'a [u8],
+    pub local: &'a [u8],
 }
 
 /// What the words ask for.
-pub fn read_words(words: &[Text]) -> Result<Request<'_>, Outcome>
-    ensures { Answers (λ request. (request.root.now, request.file.now)) (Found (command_line.asked words.now) Outcome.NotYet) Never result }
+#[derive(Clone, Copy)]
+pub enum Request<'a> {
+    /// The module of the schema files.
+    Show { files: &'a [Text] },
+    /// Whether the input is a valid document.
+    Check { root: Root<'a>, files: &'a [Text] },
+    /// The encoding of the input, a document.
+    ToPer { root: Root<'a>, files: &'a [Text] },
+    /// The document that the input, an encoding, stands for.
+    ToXml { root: Root<'a>, files: &'a [Text] },
+    /// The summary of a document of so many lines.
+    Trial { lines: u32 },
+}
+
+fn are_files(files: &[Text]) -> bool
+    ensures { result ≡ command_line.are_files files.now }
 {
-    let [command, root, file] = words else {
-        return Err(Outcome::NotYet);
-    };
-    if command.bytes() == b"to-per".as_slice() && is_plain_name(root.bytes()) {
-        return Ok(Request { root, file });
+    1 <= files.len() && files.len() <= 64
+}
+
+fn is_space_char(c: char) -> bool
+    ensures { result ≡ command_line.is_space_char c }
+{
+    is_xml_char(c) && c != '{' && c != '}'
+}
+
+fn has_space_chars(space: &str) -> bool
+    ensures { result ≡ list_all command_line.is_space_char (chars space.now) }
+{
+    space.chars().all(|c| is_space_char(c))
+}
+
+fn is_space(space: &str) -> bool
+    ensures { result ≡ command_line.is_space space.now }
+{
+    1 <= space.len() && space.len() <= 1023 && has_space_chars(space)
+}
+
+// What stands behind `{`: a namespace, `}` and an NCName.
+fn braced(text: &str) -> Option<Root<'_>>
+    ensures { option_map root_seen result ≡ command_line.braced text.now }
+{
+    let (space, local) = text.split_once('}')?;
+    if is_space(space) && is_ncname_text(local) {
+        Some(Root {
+            space: space.as_bytes(),
+            local: local.as_bytes(),
+        })
+    } else {
+        None
     }
-    Err(Outcome::NotYet)
+}
+
+fn is_digit(byte: u8) -> bool
+    ensures { result ≡ command_line.is_digit byte }
+{
+    48 <= byte && byte <= 57
+}
+
+fn are_digits(word: &[u8]) -> bool
+    ensures { result ≡ list_all command_line.is_digit word.now }
+{
+    word.iter().all(|byte| is_digit(*byte))
+}
+
+// The number in digits, if it is at most 100,000.
+fn number_of(digits: &[u8]) -> Option<u32>
+    requires { list_all command_line.is_digit digits.now ≡ true }
+    ensures { MatchOption result (100000 < command_line.number_from 0 digits.now)
+        (λ number. (number ≡ command_line.number_from 0 digits.now) × (number ≤ 100000)) }
+{
+    let mut number = 0u32;
+    let mut rest = digits;
+    'digits: while let [digit, others @ ..] = rest {
+        let next = 10 * number + (*digit - 48) as u32;
+        if next > 100_000 {
+            return None;
+        }
+        number = next;
+        rest = others;
+    }
+    Some(number)
+}
+
+// The number of lines of the trial document.
+fn count_of(word: &[u8]) -> Option<u32>
+    ensures { result ≡ command_line.count_of word.now }
+{
+    match word {
+        [] | [b'0', ..] => None,
+        digits if are_digits(digits) => number_of(digits),
+        _ => None,
+    }
+}
+
+// What stands behind `{`.
+fn behind_brace(word: &str) -> Option<&str>
+    ensures { MatchOption result ((rest : List ℕ) → word.now ≡ 123 ∷ rest → ⊥) (λ rest. word.now ≡ 123 ∷ rest.now) }
+{
+    word.strip_prefix('{')
+}
+
+// The root that the word names.
+fn root_of(word: &Text) -> Option<Root<'_>>
+    ensures { option_map root_seen result ≡ command_line.root_of word.now }
+{
+    match behind_brace(word.as_str()) {
+        Some(text) => braced(text),
+        None if is_ncname(word) => Some(Root {
+            space: b"",
+            local: word.bytes(),
+        }),
+        None => None,
+    }
+}
+
+// The files, and the root before them.
+fn rooted(words: &[Text]) -> Option<(Root<'_>, &[Text])>
+    ensures { MatchOption result (command_line.rooted_parts words.now ≡ None) (λ found. command_line.rooted_parts words.now ≡ Some (root_seen found.0, found.1.now)) }
+{
+    let (root, files) = words.split_first()?;
+    if !are_files(files) {
+        return None;
+    }
+    Some((root_of(root)?, files))
+}
+
+fn shown(files: &[Text]) -> Option<Request<'_>>
+    ensures { option_map seen result ≡ command_line.shown files.now }
+{
+    if are_files(files) {
+        Some(Request::Show { files })
+    } else {
+        None
+    }
+}
+
+fn counted(words: &[Text]) -> Option<Request<'_>>
+    ensures { option_map seen result ≡ command_line.counted words.now }
+{
+    match words {
+        [word] => count_of(word.bytes()).map(|lines| Request::Trial { lines }),
+        _ => None,
+    }
+}
+
+// What the words ask for.
+fn asked(words: &[Text]) -> Option<Request<'_>>
+    ensures { option_map seen result ≡ command_line.asked words.now }
+{
+    let (command, words) = words.split_first()?;
+    let command = command.bytes();
+    if command == b"show".as_slice() {
+        shown(words)
+    } else if command == b"check".as_slice() {
+        rooted(words).map(|(root, files)| Request::Check { root, files })
+    } else if command == b"to-per".as_slice() {
+        rooted(words).map(|(root, files)| Request::ToPer { root, files })
+    } else if command == b"to-xml".as_slice() {
+        rooted(words).map(|(root, files)| Request::ToXml { root, files })
+    } else if command == b"trial".as_slice() {
+        counted(words)
+    } else {
+        None
+    }
+}
+
+/// What the words ask for, or `Usage`.
+pub fn read_words(words: &[Text]) -> Result<Request<'_>, Outcome>
+    ensures { Answers seen (Found (command_line.asked words.now) Outcome.Usage) Never result }
+{
+    asked(words).ok_or(Outcome::Usage)
 }

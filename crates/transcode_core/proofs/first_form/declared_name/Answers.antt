@@ -1,5 +1,5 @@
 use Rattle.std.proofs.Common.{◌≡◌, true, arith, sym, ◌∙◌, ◌++◌}
-use Rattle.transcode_core.specs.Words.{is_plain_name}
+use Rattle.transcode_core.specs.FirstForm.{is_plain_name}
 use Rattle.transcode_core.specs.FirstForm.{IsBoolean}
 use Rattle.transcode_core.proofs.first_form.declared_name.Goals as goal
 

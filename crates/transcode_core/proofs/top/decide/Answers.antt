@@ -1,14 +1,15 @@
 use Rattle.std.proofs.Common.{inr}
+use Rattle.transcode_core.specs.Requests.{root_seen}
 use Rattle.transcode_core.proofs.Deciding.{goes_on, stops}
 use Rattle.transcode_core.proofs.top.decide.Goals as goal
 
 pub returns-in-Ok-clause-due : goal.returns-in-Ok-clause-due
 returns-in-Ok-clause-due g c =
     goes_on c.args.words.now (g.F.Library.entries c.args.files.now) (g.S.Source.left c.args.input.now) (g.F.Library.faults c.args.files.now) (g.F.Library.faults c.open.new.files) (g.F.Library.is_sure c.args.files.now)
-    (g.S.Source.faults c.args.input.now) (g.S.Source.faults c.to_per.new.input) c.in-Ok.root.now c.to_per.result c.in-Ok.ensures.due c.to_per.ensures.due
+    (g.S.Source.faults c.args.input.now) (g.S.Source.faults c.to_per.new.input) (root_seen c.in-Ok.root) c.to_per.result c.in-Ok.ensures.due c.to_per.ensures.due
 
 pub returns-in-Ok-clause-untouched : goal.returns-in-Ok-clause-untouched
-returns-in-Ok-clause-untouched g c = inr (c.in-Ok.root.now, c.in-Ok.ensures.due)
+returns-in-Ok-clause-untouched g c = inr ((root_seen c.in-Ok.root, c.in-Ok.ensures.due), c.to_per.ensures.stage)
 
 pub returns-in-Err-clause-due : goal.returns-in-Err-clause-due
 returns-in-Err-clause-due g c =

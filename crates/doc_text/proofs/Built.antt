@@ -1,0 +1,243 @@
+-- The code's steps as steps of states.
+use Rattle.std.proofs.Common.{◌≡◌, ℕ, ◌-◌, ◌≤◌, Bool, true, false, List, [], ◌∷◌, ◌++◌, length, map, take, reverse, None, refl, sym, ap, subst, ◌∙◌, arith, inl, inr, append_assoc}
+use Rattle.std.specs.Prelude.{nat_eq, nat_le, not, ◌==◌, ◌&&◌, encode_utf8}
+use Rattle.std.specs.List.{flat_map}
+use Rattle.std.proofs.lemmas.List.{length-append, length-map, length-reverse, reverse-append, reverse-reverse, take-append-le, take_all}
+use Rattle.std.proofs.lemmas.Bool.Decides.{eqb_tells}
+use Rattle.label_tree.specs.Rose.{Rose, node, roses_of}
+use Rattle.xml_pieces.specs.Pieces.{Tag, Declaration, Start, Empty, End, Comment, Instruction, CData, Reference, Character}
+use Rattle.xa_base.specs.declared.texts.Name.{Name}
+use Rattle.doc_text.specs.declared.label.ItemLabel.{ItemLabel}
+use Rattle.doc_text.specs.declared.label.ItemLabel.TheVariants.{Element}
+use Rattle.doc_text.specs.declared.builder.Frame.{Frame}
+use Rattle.doc_text.specs.declared.builder.Builder.{Builder}
+use Rattle.doc_text.specs.declared.tags.Head.{Head}
+use Rattle.doc_text.specs.declared.error.DocWhy.{DocWhy}
+use Rattle.doc_text.specs.declared.error.DocWhy.TheVariants as why
+use Rattle.doc_text.specs.Namespaces.{xml_prefix, xml_space, bindings_of, attributes_of, element_name}
+use Rattle.doc_text.specs.Contexts.{Context, Open, is_nil, is_outside, is_white, brackets_after, scope, tag_scope, start_reason, reason, first_true, end_tests}
+use Rattle.doc_text.specs.States.{Above, State, open_of, context, kids_of_state, entering, element_of, opened, emptied, closed, passed, added}
+use Rattle.doc_text.specs.Entering.{Enters}
+use Rattle.doc_text.specs.Building.{above_of, state, Scoped, Takes, Flushed, Shuts}
+use Rattle.doc_text.proofs.Entered.{inside_is}
+use Rattle.doc_text.proofs.Telling.{some_innermost, innermost_is, is_nil-map, context-added}
+
+abbrev pub aboves : List Frame → List Above
+aboves fs = map above_of (reverse fs)
+
+pub above-push : (fs : List Frame) (f : Frame) → aboves (fs ++ f ∷ []) ≡ above_of f ∷ aboves fs
+above-push fs f = rw (reverse-append fs (f ∷ [])) refl
+
+pub is_nil-len : {A : Type 0} (xs : List A) → is_nil xs ≡ nat_eq (length xs) 0
+is_nil-len [] = refl
+is_nil-len (x ∷ xs) = elim (eqb_tells (length (x ∷ xs)) 0) [ inl e ↦ absurd (omega (arith, e.1)) | inr e ↦ sym e.0 ]
+
+pub is_nil-aboves : (fs : List Frame) → is_nil (aboves fs) ≡ nat_eq (length fs) 0
+is_nil-aboves fs = is_nil-len (aboves fs) ∙ ap (λ (n : ℕ). nat_eq n 0) (length-map (reverse fs) above_of ∙ length-reverse fs)
+
+abbrev mk : List Above → List (Rose ItemLabel) → List ℕ → ℕ → Bool → Bool → ℕ → State
+mk above kids text text_at ended first brackets = record { above = above; kids = kids; text = text; text_at = text_at; ended = ended; first = first; brackets = brackets }
+
+same_state : (a b : List Above) (k l : List (Rose ItemLabel)) (t u : List ℕ) (p q : ℕ) (e f : Bool) (g h : Bool) (m n : ℕ) → a ≡ b → k ≡ l → t ≡ u → p ≡ q → e ≡ f → g ≡ h → m ≡ n → mk a k t p e g m ≡ mk b l u q f h n
+same_state a b k l t u p q e f g h m n x1 x2 x3 x4 x5 x6 x7 = rw (x1, x2, x3, x4, x5, x6, x7) refl
+
+abbrev put : List ℕ → Name → List (Name × List ℕ) → List (List ℕ × List ℕ) → ℕ → List (Rose ItemLabel) → Above
+put written name attributes declares at before = record { written = written; name = name; attributes = attributes; declares = declares; at = at; before = before }
+
+same_above : (w v : List ℕ) (m n : Name) (a b : List (Name × List ℕ)) (d e : List (List ℕ × List ℕ)) (p q : ℕ) (k l : List (Rose ItemLabel)) → w ≡ v → m ≡ n → a ≡ b → d ≡ e → p ≡ q → k ≡ l → put w m a d p k ≡ put v n b e q l
+same_above w v m n a b d e p q k l x1 x2 x3 x4 x5 x6 = rw (x1, x2, x3, x4, x5, x6) refl
+
+depth_is : (b : Builder) → length b.open.items ≡ length (context (state b)).elements
+depth_is b = sym (length-map (aboves b.open.items) open_of ∙ length-map (reverse b.open.items) above_of ∙ length-reverse b.open.items)
+
+start_is : (tag : Tag) (c : Context) → start_reason tag (scope c) c.ended (length c.elements) ≡ reason (Start tag) c
+unfolding start_reason reason
+start_is tag c = refl
+
+empty_is : (tag : Tag) (c : Context) → start_reason tag (scope c) c.ended (length c.elements) ≡ reason (Empty tag) c
+unfolding start_reason reason
+empty_is tag c = refl
+
+here : (b : Builder) (tag : Tag) (depth : ℕ) → Scoped b → depth ≡ length b.open.items → start_reason tag (reverse b.scope) b.ended depth ≡ start_reason tag (scope (context (state b))) b.ended (length (context (state b)).elements)
+here b tag depth scoped e = rw (e, scoped.scope_is, depth_is b) refl
+
+pub start_stops : (b : Builder) (tag : Tag) (depth : ℕ) → Scoped b → depth ≡ length b.open.items → start_reason tag (reverse b.scope) b.ended depth ≡ reason (Start tag) (context (state b))
+start_stops b tag depth scoped e = here b tag depth scoped e ∙ start_is tag (context (state b))
+
+pub empty_stops : (b : Builder) (tag : Tag) (depth : ℕ) → Scoped b → depth ≡ length b.open.items → start_reason tag (reverse b.scope) b.ended depth ≡ reason (Empty tag) (context (state b))
+empty_stops b tag depth scoped e = here b tag depth scoped e ∙ empty_is tag (context (state b))
+
+pub enters_here : (b : Builder) (tag : Tag) (depth : ℕ) (head : Head) → depth ≡ length b.open.items → Enters (reverse b.scope) b.ended depth tag head → Enters (reverse b.scope) b.ended (length b.open.items) tag head
+enters_here b tag depth head e enters = subst (λ (n : ℕ). Enters (reverse b.scope) b.ended n tag head) e enters
+
+pub end_stops : (b : Builder) (written : List ℕ) → Scoped b → first_true (end_tests written (reverse b.scope) (context (state b)).elements) ≡ reason (End written) (context (state b))
+unfolding reason
+end_stops b written scoped = ap (λ (o : List (List ℕ × List ℕ)). first_true (end_tests written o (context (state b)).elements)) scoped.scope_is
+
+-- what is entered, as the element of the state
+entering_is : (b : Builder) (tag : Tag) (head : Head) (written : List ℕ) (at : ℕ) (before later : List (Rose ItemLabel)) → Scoped b → Enters (reverse b.scope) b.ended (length b.open.items) tag head → written ≡ tag.name → before ≡ later
+    → put written head.name head.attributes head.declares at before ≡ entering tag (scope (context (state b))) at later
+entering_is b tag head written at before later scoped enters w e =
+    same_above _ _ _ _ _ _ _ _ _ _ _ _ w
+    (enters.name_is ∙ ap (λ (o : List (List ℕ × List ℕ)). element_name (tag_scope tag o) tag.name) scoped.scope_is)
+    (enters.attributes_are ∙ ap (λ (o : List (List ℕ × List ℕ)). attributes_of (tag_scope tag o) tag.attributes) scoped.scope_is)
+    enters.declares_are refl e
+
+-- before and behind the writing of the text, with other bindings
+pub record Mid (old mid : Builder) : Type 0 where
+  pub kids : mid.kids.items ≡ kids_of_state (state old)
+  pub text : mid.text.items ≡ []
+  pub place : mid.text_at ≡ old.text_at
+  pub opens : mid.open.items ≡ old.open.items
+  pub ends : mid.ended ≡ old.ended
+
+pub mid_of : (old early mid : Builder) → Flushed early mid → early.kids.items ≡ old.kids.items → early.text.items ≡ old.text.items → early.text_at ≡ old.text_at → early.open.items ≡ old.open.items → early.ended ≡ old.ended → Mid old mid
+mid_of old early mid f k t p o e = record {
+  kids = f.kids ∙ rw (k, t, p) refl;
+  text = f.text;
+  place = f.same_place ∙ p;
+  opens = f.same_open ∙ o;
+  ends = f.same_end ∙ e;
+}
+
+pub start_takes : (old mid new : Builder) (f : Frame) (head : Head) (tag : Tag) (at : ℕ) → Scoped old → Enters (reverse old.scope) old.ended (length old.open.items) tag head → Mid old mid
+    → new.scope ≡ old.scope ++ reverse (bindings_of tag.attributes) → new.open.items ≡ mid.open.items ++ f ∷ [] → f.written.now ≡ tag.name → f.name ≡ head.name → f.attributes ≡ head.attributes → f.declares ≡ head.declares → f.at ≡ at → f.before.items ≡ mid.kids.items
+    → new.kids.items ≡ [] → new.text.items ≡ mid.text.items → new.text_at ≡ mid.text_at → new.ended ≡ mid.ended → new.first ≡ false → new.brackets ≡ 0 → Takes (Start tag) at old new
+start_takes old mid new f head tag at scoped enters m scope_is opens f1 f2 f3 f4 f5 f6 kids text place ends first brackets =
+    let above : aboves new.open.items ≡ entering tag (scope (context (state old))) at (kids_of_state (state old)) ∷ aboves old.open.items =
+    ap aboves opens ∙ above-push mid.open.items f ∙ ap (λ (a : Above). a ∷ aboves mid.open.items) (same_above _ _ _ _ _ _ _ _ _ _ _ _ f1 f2 f3 f4 f5 f6 ∙ entering_is old tag head tag.name at mid.kids.items (kids_of_state (state old)) scoped enters refl m.kids) ∙ ap (λ (fs : List Frame). entering tag (scope (context (state old))) at (kids_of_state (state old)) ∷ aboves fs) m.opens in
+    let steps : state new ≡ opened tag at (state old) = same_state _ _ _ _ _ _ _ _ _ _ _ _ _ _ above kids (text ∙ m.text) (place ∙ m.place) (ends ∙ m.ends) first brackets in
+    let own = bindings_of tag.attributes in
+    let flat = flat_map (λ (e : Open). e.declares) (map open_of (aboves old.open.items)) in
+    let inner : scope (context (opened tag at (state old))) ≡ own ++ scope (context (state old)) = append_assoc own flat ((xml_prefix, xml_space) ∷ []) in
+    record {
+      none = sym (start_stops old tag (length old.open.items) scoped refl) ∙ enters.none;
+      steps = steps;
+      scoped = record { scope_is = ap reverse scope_is ∙ inside_is old.scope own ∙ ap (λ (r : List (List ℕ × List ℕ)). own ++ r) scoped.scope_is ∙ sym inner ∙ ap (λ (s : State). scope (context s)) (sym steps) };
+    }
+
+-- taking bindings away again
+popped : (all own rest : List (List ℕ × List ℕ)) → reverse all ≡ own ++ rest → reverse (take (length all - length own) all) ≡ rest
+popped all own rest e =
+    let turned : all ≡ reverse rest ++ reverse own = sym (reverse-reverse all) ∙ ap reverse e ∙ reverse-append own rest in
+    let count : length all - length own ≡ length (reverse rest) = omega (arith, ap length turned, length-append (reverse rest) (reverse own), length-reverse own) in
+    let within : length (reverse rest) ≤ length (reverse rest) = omega arith in
+    let front : take (length (reverse rest)) (reverse rest ++ reverse own) ≡ reverse rest = take-append-le (length (reverse rest)) (reverse rest) (reverse own) within ∙ take_all (length (reverse rest)) (reverse rest) within in
+    ap reverse (ap (λ (n : ℕ). take n all) count ∙ ap (take (length (reverse rest))) turned ∙ front) ∙ reverse-reverse rest
+
+pub empty_takes : (old mid new : Builder) (head : Head) (tag : Tag) (at : ℕ) (all : List (List ℕ × List ℕ)) (count : ℕ) → Scoped old → Enters (reverse old.scope) old.ended (length old.open.items) tag head → Mid old mid
+    → all ≡ old.scope ++ reverse (bindings_of tag.attributes) → new.scope ≡ take (length all - count) all → count ≡ length head.declares → new.open.items ≡ mid.open.items
+    → new.kids.items ≡ mid.kids.items ++ node (Element head.name head.attributes head.declares at) (roses_of []) ∷ [] → new.text.items ≡ mid.text.items → new.text_at ≡ mid.text_at → new.ended ≡ nat_eq (length mid.open.items) 0 → new.first ≡ false → new.brackets ≡ 0 → Takes (Empty tag) at old new
+empty_takes old mid new head tag at all count scoped enters m all_is scope_is count_is opens kids text place ends first brackets =
+    let s = state old in
+    let element : node (Element head.name head.attributes head.declares at) (roses_of []) ≡ element_of (entering tag (scope (context s)) at []) [] = ap (λ (a : Above). element_of a []) (entering_is old tag head tag.name at [] [] scoped enters refl refl) in
+    let steps : state new ≡ emptied tag at s = same_state _ _ _ _ _ _ _ _ _ _ _ _ _ _ (ap aboves (opens ∙ m.opens))
+    (kids ∙ ap (λ (ks : List (Rose ItemLabel)). ks ++ node (Element head.name head.attributes head.declares at) (roses_of []) ∷ []) m.kids ∙ ap (λ (e : Rose ItemLabel). kids_of_state s ++ e ∷ []) element)
+    (text ∙ m.text) (place ∙ m.place) (ends ∙ ap (λ (fs : List Frame). nat_eq (length fs) 0) m.opens ∙ sym (is_nil-aboves old.open.items)) first brackets in
+    let back : reverse new.scope ≡ reverse old.scope = ap reverse (scope_is ∙ ap (λ (n : ℕ). take (length all - n) all) (count_is ∙ ap length enters.declares_are)) ∙ popped all (bindings_of tag.attributes) (reverse old.scope) (ap reverse all_is ∙ inside_is old.scope (bindings_of tag.attributes)) in
+    record {
+      none = sym (empty_stops old tag (length old.open.items) scoped refl) ∙ enters.none;
+      steps = steps;
+      scoped = record { scope_is = back ∙ scoped.scope_is ∙ ap (λ (t : State). scope (context t)) (sym steps) };
+    }
+
+closing_kids : (b : Builder) → b.text.items ≡ [] → kids_of_state (state b) ≡ b.kids.items
+closing_kids b e = rw e refl
+
+pub shuts : (old new : Builder) (f : Frame) (count : ℕ) → old.text.items ≡ [] → old.open.items ≡ new.open.items ++ f ∷ [] → new.scope ≡ take (length old.scope - count) old.scope → count ≡ length f.declares
+    → new.kids.items ≡ f.before.items ++ node (Element f.name f.attributes f.declares f.at) (roses_of old.kids.items) ∷ [] → new.text.items ≡ old.text.items → new.text_at ≡ old.text_at → new.ended ≡ nat_eq (length new.open.items) 0 → new.first ≡ false → new.brackets ≡ 0 → Shuts old new
+shuts old new f count empty opens scope_is count_is kids text place ends first brackets =
+    let above : aboves old.open.items ≡ above_of f ∷ aboves new.open.items = ap aboves opens ∙ above-push new.open.items f in
+    let element : node (Element f.name f.attributes f.declares f.at) (roses_of old.kids.items) ≡ element_of (above_of f) (kids_of_state (state old)) = ap (λ (ks : List (Rose ItemLabel)). element_of (above_of f) ks) (sym (closing_kids old empty)) in
+    let steps : state new ≡ closed (above_of f ∷ aboves new.open.items) (state old) = same_state _ _ _ _ _ _ _ _ _ _ _ _ _ _ refl (kids ∙ ap (λ (e : Rose ItemLabel). f.before.items ++ e ∷ []) element) (text ∙ empty) place (ends ∙ sym (is_nil-aboves new.open.items)) first brackets in
+    let flat = flat_map (λ (e : Open). e.declares) (map open_of (aboves new.open.items)) in
+    record {
+      steps = steps ∙ ap (λ (a : List Above). closed a (state old)) (sym above);
+      scoped = λ scoped some. record {
+        scope_is =
+            ap reverse (scope_is ∙ ap (λ (n : ℕ). take (length old.scope - n) old.scope) count_is) ∙ popped old.scope f.declares (flat ++ (xml_prefix, xml_space) ∷ [])
+            (scoped.scope_is ∙ ap (λ (a : List Above). flat_map (λ (e : Open). e.declares) (map open_of a) ++ (xml_prefix, xml_space) ∷ []) above ∙ append_assoc f.declares flat ((xml_prefix, xml_space) ∷ []));
+      };
+    }
+
+pub shuts_nothing : (old new : Builder) → old.text.items ≡ [] → old.open.items ≡ [] → new.open.items ≡ [] → new.kids.items ≡ old.kids.items → new.text.items ≡ old.text.items → new.text_at ≡ old.text_at → new.ended ≡ true → new.first ≡ false → new.brackets ≡ 0 → Shuts old new
+shuts_nothing old new empty none opens kids text place ends first brackets =
+    let above : aboves old.open.items ≡ [] = ap aboves none in
+    record {
+      steps = same_state _ _ _ _ _ _ _ _ _ _ _ _ _ _ (ap aboves opens) (kids ∙ sym (closing_kids old empty)) (text ∙ empty) place ends first brackets ∙ ap (λ (a : List Above). closed a (state old)) (sym above);
+      scoped = λ scoped some. absurd (let yes : is_nil (aboves old.open.items) ≡ true = ap is_nil above in cc);
+    }
+
+closed-same : (a : List Above) (s t : State) → kids_of_state s ≡ kids_of_state t → s.text_at ≡ t.text_at → closed a s ≡ closed a t
+closed-same [] s t e f = same_state _ _ _ _ _ _ _ _ _ _ _ _ _ _ refl e refl f refl refl refl
+closed-same (x ∷ a) s t e f = same_state _ _ _ _ _ _ _ _ _ _ _ _ _ _ refl (ap (λ (ks : List (Rose ItemLabel)). x.before ++ element_of x ks ∷ []) e) refl f refl refl refl
+
+not_true : (b : Bool) → (b ≡ true → ⊥) → b ≡ false
+not_true true f = absurd (f refl)
+not_true false f = refl
+
+pub end_takes : (old mid new : Builder) (written : List ℕ) (at : ℕ) → Scoped old → reason (End written) (context (state old)) ≡ None → Flushed old mid → Shuts mid new → Takes (End written) at old new
+end_takes old mid new written at scoped none flushed shut =
+    let above : aboves mid.open.items ≡ aboves old.open.items = ap aboves flushed.same_open in
+    let kids : kids_of_state (state mid) ≡ kids_of_state (state old) = closing_kids mid flushed.text ∙ flushed.kids in
+    let mid_scoped : Scoped mid = record { scope_is = ap reverse flushed.same_scope ∙ scoped.scope_is ∙ ap (λ (a : List Above). flat_map (λ (e : Open). e.declares) (map open_of a) ++ (xml_prefix, xml_space) ∷ []) (sym above) } in
+    let some : is_nil (aboves old.open.items) ≡ false = not_true _ (some_innermost written (aboves old.open.items) (innermost_is written (context (state old)) none)) in
+    record {
+      none = none;
+      steps = shut.steps ∙ closed-same (aboves mid.open.items) (state mid) (state old) kids flushed.same_place ∙ ap (λ (a : List Above). closed a (state old)) above;
+      scoped = shut.scoped mid_scoped (ap is_nil above ∙ some);
+    }
+
+pub outside_is : (b : Builder) (result : Bool) → result ≡ nat_eq (length b.open.items) 0 → result ≡ is_outside (context (state b))
+outside_is b result e = e ∙ sym (is_nil-map open_of (aboves b.open.items) ∙ is_nil-aboves b.open.items)
+
+rescoped : (old new : Builder) (s : State) → Scoped old → state new ≡ s → new.scope ≡ old.scope → scope (context s) ≡ scope (context (state old)) → Scoped new
+rescoped old new s scoped steps same kept = record { scope_is = ap reverse same ∙ scoped.scope_is ∙ sym kept ∙ ap (λ (t : State). scope (context t)) (sym steps) }
+
+pub declaration_takes : (old new : Builder) (at : ℕ) → Scoped old → reason Declaration (context (state old)) ≡ None → state new ≡ passed (state old) → new.scope ≡ old.scope → Takes Declaration at old new
+declaration_takes old new at scoped none steps same = record { none = none; steps = steps; scoped = rescoped old new (passed (state old)) scoped steps same refl }
+
+no_comment : (c : Context) → reason Comment c ≡ None
+unfolding reason
+no_comment c = refl
+
+no_instruction : (c : Context) → reason Instruction c ≡ None
+unfolding reason
+no_instruction c = refl
+
+pub comment_takes : (old new : Builder) (at : ℕ) → Scoped old → state new ≡ passed (state old) → new.scope ≡ old.scope → Takes Comment at old new
+comment_takes old new at scoped steps same = record { none = no_comment (context (state old)); steps = steps; scoped = rescoped old new (passed (state old)) scoped steps same refl }
+
+pub instruction_takes : (old new : Builder) (at : ℕ) → Scoped old → state new ≡ passed (state old) → new.scope ≡ old.scope → Takes Instruction at old new
+instruction_takes old new at scoped steps same = record { none = no_instruction (context (state old)); steps = steps; scoped = rescoped old new (passed (state old)) scoped steps same refl }
+
+kept_scope : (text : List ℕ) (at n : ℕ) (s : State) → scope (context (added text at n s)) ≡ scope (context s)
+kept_scope text at n s = ap scope (context-added text at n s s.above refl)
+
+pub cdata_stops : (b : Builder) (text : List ℕ) → reason (CData text) (context (state b)) ≡ first_true ((is_outside (context (state b)), why.TextOutside) ∷ [])
+unfolding reason
+cdata_stops b text = refl
+
+pub cdata_takes : (old new : Builder) (text : List ℕ) (at : ℕ) → Scoped old → first_true ((is_outside (context (state old)), why.TextOutside) ∷ []) ≡ None → state new ≡ added text at 0 (state old) → new.scope ≡ old.scope → Takes (CData text) at old new
+cdata_takes old new text at scoped none steps same = record { none = cdata_stops old text ∙ none; steps = steps; scoped = rescoped old new (added text at 0 (state old)) scoped steps same (kept_scope text at 0 (state old)) }
+
+pub reference_stops : (b : Builder) (code : ℕ) → reason (Reference code) (context (state b)) ≡ first_true ((is_outside (context (state b)), why.TextOutside) ∷ [])
+unfolding reason
+reference_stops b code = refl
+
+pub reference_takes : (old new : Builder) (code at : ℕ) → Scoped old → first_true ((is_outside (context (state old)), why.TextOutside) ∷ []) ≡ None → state new ≡ added (encode_utf8 code) at 0 (state old) → new.scope ≡ old.scope → Takes (Reference code) at old new
+reference_takes old new code at scoped none steps same = record { none = reference_stops old code ∙ none; steps = steps; scoped = rescoped old new (added (encode_utf8 code) at 0 (state old)) scoped steps same (kept_scope (encode_utf8 code) at 0 (state old)) }
+
+abbrev pub character_tests : Builder → ℕ → List (Bool × DocWhy)
+character_tests b code = (code == 0x3E && nat_le 2 b.brackets, why.NoPiece) ∷ (is_outside (context (state b)) && not (is_white code), why.TextOutside) ∷ []
+
+pub character_stops : (b : Builder) (code : ℕ) → reason (Character code) (context (state b)) ≡ first_true (character_tests b code)
+unfolding reason
+character_stops b code = refl
+
+pub character_takes : (old new : Builder) (code at n : ℕ) → Scoped old → first_true (character_tests old code) ≡ None → n ≡ brackets_after code old.brackets → state new ≡ added (encode_utf8 code) at n (state old) → new.scope ≡ old.scope → Takes (Character code) at old new
+character_takes old new code at n scoped none count steps same = record {
+  none = character_stops old code ∙ none;
+  steps = steps ∙ ap (λ (m : ℕ). added (encode_utf8 code) at m (state old)) count;
+  scoped = rescoped old new (added (encode_utf8 code) at n (state old)) scoped steps same (kept_scope (encode_utf8 code) at n (state old));
+}

@@ -1,0 +1,85 @@
+-- The reasons against a tag, part by part.
+use Rattle.std.proofs.Common.{◌≡◌, ℕ, Bool, true, false, List, [], ◌∷◌, ◌++◌, Some, None, refl, sym, ap, ◌∙◌}
+use Rattle.std.specs.Prelude.{◌||◌, reverse, nat_le}
+use Rattle.std.proofs.lemmas.List.{reverse-append, reverse-reverse}
+use Rattle.xml_pieces.specs.Pieces.{Tag}
+use Rattle.doc_text.specs.declared.error.DocWhy.{DocWhy}
+use Rattle.doc_text.specs.declared.error.DocWhy.TheVariants as why
+use Rattle.doc_text.specs.Namespaces.{bindings_of, attributes_of, element_name, written_twice, expanded_twice}
+use Rattle.doc_text.specs.declared.tags.Head.{Head}
+use Rattle.doc_text.specs.Entering.{Enters}
+use Rattle.doc_text.specs.Contexts.{has_bad_name, has_long_name, has_reserved, has_unbound, has_duplicate, tag_scope, first_true, start_reason}
+
+abbrev pub name_tests : Tag → List (Bool × DocWhy)
+name_tests tag = (has_bad_name tag, why.BadName) ∷ (has_long_name tag, why.LongName) ∷ (has_reserved tag, why.ReservedPrefix) ∷ []
+
+abbrev pub place_tests : Bool → ℕ → List (Bool × DocWhy)
+place_tests ended depth = (ended, why.ExtraRoot) ∷ (nat_le 64 depth, why.TooDeep) ∷ []
+
+some_first : (b : Bool) (w v : DocWhy) (xs ys : List (Bool × DocWhy)) → (first_true xs ≡ Some v → first_true ys ≡ Some v) → first_true ((b, w) ∷ xs) ≡ Some v → first_true ((b, w) ∷ ys) ≡ Some v
+some_first true w v xs ys h e = e
+some_first false w v xs ys h e = h e
+
+first_some : (xs ys : List (Bool × DocWhy)) (v : DocWhy) → first_true xs ≡ Some v → first_true (xs ++ ys) ≡ Some v
+first_some [] ys v e = absurd cc
+first_some (x ∷ xs) ys v e = some_first x.0 x.1 v xs (xs ++ ys) (first_some xs ys v) e
+
+none_first : (b : Bool) (w : DocWhy) (xs ys zs : List (Bool × DocWhy)) → (first_true xs ≡ None → first_true ys ≡ first_true zs) → first_true ((b, w) ∷ xs) ≡ None → first_true ((b, w) ∷ ys) ≡ first_true zs
+none_first true w xs ys zs h e = absurd cc
+none_first false w xs ys zs h e = h e
+
+first_none : (xs ys : List (Bool × DocWhy)) → first_true xs ≡ None → first_true (xs ++ ys) ≡ first_true ys
+first_none [] ys e = refl
+first_none (x ∷ xs) ys e = none_first x.0 x.1 xs (xs ++ ys) ys (first_none xs ys) e
+
+pub inside_is : (scope own : List (List ℕ × List ℕ)) → reverse (scope ++ reverse own) ≡ own ++ reverse scope
+inside_is scope own = reverse-append scope (reverse own) ∙ ap (λ (x : List (List ℕ × List ℕ)). x ++ reverse scope) (reverse-reverse own)
+
+abbrev inner_tests : Tag → List (List ℕ × List ℕ) → List (Bool × DocWhy)
+inner_tests tag inside = (has_unbound tag inside, why.UnboundPrefix) ∷ (has_duplicate tag inside, why.DuplicateAttribute) ∷ []
+
+pub names_stop : (tag : Tag) (outer : List (List ℕ × List ℕ)) (ended : Bool) (depth : ℕ) (v : DocWhy) → first_true (name_tests tag) ≡ Some v → start_reason tag outer ended depth ≡ Some v
+unfolding start_reason
+names_stop tag outer ended depth v e = first_some (name_tests tag) (inner_tests tag (tag_scope tag outer) ++ place_tests ended depth) v e
+
+behind_names : (tag : Tag) (outer : List (List ℕ × List ℕ)) (ended : Bool) (depth : ℕ) → first_true (name_tests tag) ≡ None → start_reason tag outer ended depth ≡ first_true (inner_tests tag (tag_scope tag outer) ++ place_tests ended depth)
+unfolding start_reason
+behind_names tag outer ended depth e = first_none (name_tests tag) (inner_tests tag (tag_scope tag outer) ++ place_tests ended depth) e
+
+-- the scope of the code, which has the innermost last, within the tag
+pub unbound_stop : (tag : Tag) (scope inside : List (List ℕ × List ℕ)) (ended : Bool) (depth : ℕ) → first_true (name_tests tag) ≡ None → inside ≡ scope ++ reverse (bindings_of tag.attributes)
+    → has_unbound tag (reverse inside) ≡ true → start_reason tag (reverse scope) ended depth ≡ Some why.UnboundPrefix
+unbound_stop tag scope inside ended depth e is h =
+    let same : reverse inside ≡ tag_scope tag (reverse scope) = ap reverse is ∙ inside_is scope (bindings_of tag.attributes) in
+    let here : has_unbound tag (tag_scope tag (reverse scope)) ≡ true = ap (has_unbound tag) (sym same) ∙ h in
+    behind_names tag (reverse scope) ended depth e ∙ rw here refl
+
+abbrev doubled : Tag → List (List ℕ × List ℕ) → Bool
+doubled tag inside = written_twice tag.attributes || expanded_twice (attributes_of inside tag.attributes)
+
+pub duplicate_stop : (tag : Tag) (scope inside : List (List ℕ × List ℕ)) (ended : Bool) (depth : ℕ) → first_true (name_tests tag) ≡ None → inside ≡ scope ++ reverse (bindings_of tag.attributes)
+    → has_unbound tag (reverse inside) ≡ false → doubled tag (reverse inside) ≡ true → start_reason tag (reverse scope) ended depth ≡ Some why.DuplicateAttribute
+duplicate_stop tag scope inside ended depth e is h k =
+    let same : reverse inside ≡ tag_scope tag (reverse scope) = ap reverse is ∙ inside_is scope (bindings_of tag.attributes) in
+    let here : has_unbound tag (tag_scope tag (reverse scope)) ≡ false = ap (has_unbound tag) (sym same) ∙ h in
+    let there : has_duplicate tag (tag_scope tag (reverse scope)) ≡ true = ap (has_duplicate tag) (sym same) ∙ k in
+    behind_names tag (reverse scope) ended depth e ∙ rw (here, there) refl
+
+pub behind_inner : (tag : Tag) (scope inside : List (List ℕ × List ℕ)) (ended : Bool) (depth : ℕ) → first_true (name_tests tag) ≡ None → inside ≡ scope ++ reverse (bindings_of tag.attributes)
+    → has_unbound tag (reverse inside) ≡ false → doubled tag (reverse inside) ≡ false → start_reason tag (reverse scope) ended depth ≡ first_true (place_tests ended depth)
+behind_inner tag scope inside ended depth e is h k =
+    let same : reverse inside ≡ tag_scope tag (reverse scope) = ap reverse is ∙ inside_is scope (bindings_of tag.attributes) in
+    let here : has_unbound tag (tag_scope tag (reverse scope)) ≡ false = ap (has_unbound tag) (sym same) ∙ h in
+    let there : has_duplicate tag (tag_scope tag (reverse scope)) ≡ false = ap (has_duplicate tag) (sym same) ∙ k in
+    behind_names tag (reverse scope) ended depth e ∙ rw (here, there) refl
+
+pub enters : (tag : Tag) (scope inside : List (List ℕ × List ℕ)) (ended : Bool) (depth : ℕ) (head : Head) → start_reason tag (reverse scope) ended depth ≡ None → inside ≡ scope ++ reverse (bindings_of tag.attributes)
+    → head.name ≡ element_name (reverse inside) tag.name → head.attributes ≡ attributes_of (reverse inside) tag.attributes → head.declares ≡ bindings_of tag.attributes → Enters (reverse scope) ended depth tag head
+enters tag scope inside ended depth head none is name attributes declares =
+    let same : reverse inside ≡ tag_scope tag (reverse scope) = ap reverse is ∙ inside_is scope (bindings_of tag.attributes) in
+    record {
+      none = none;
+      name_is = name ∙ ap (λ (x : List (List ℕ × List ℕ)). element_name x tag.name) same;
+      attributes_are = attributes ∙ ap (λ (x : List (List ℕ × List ℕ)). attributes_of x tag.attributes) same;
+      declares_are = declares;
+    }

@@ -1,0 +1,66 @@
+-- The code's loop over pieces.
+use Rattle.std.proofs.Common.{◌≡◌, ◌≢◌, ℕ, ◌≤◌, ◌<◌, Bool, true, false, List, [], ◌∷◌, ◌++◌, length, Some, None, refl, sym, ap, subst, ◌∙◌, arith}
+use Rattle.std.proofs.lemmas.List.{length-append, nil_from_length}
+use Rattle.std.specs.Prelude.{Result, Ok, Err, MatchResult, IfOk}
+use Rattle.label_tree.specs.Rose.{Rose}
+use Rattle.xml_pieces.specs.Pieces.{Piece}
+use Rattle.xml_pieces.specs.Reading.{piece_at}
+use Rattle.xml_pieces.specs.Reasons.{NoneReason}
+use Rattle.xml_pieces.specs.declared.reason.NoneWhy.{NoneWhy}
+use Rattle.doc_text.specs.declared.builder.Builder.{Builder}
+use Rattle.doc_text.specs.declared.label.ItemLabel.{ItemLabel}
+use Rattle.doc_text.specs.declared.error.DocWhy.{DocWhy}
+use Rattle.doc_text.specs.declared.error.DocWhy.TheVariants as why
+use Rattle.doc_text.specs.declared.error.DocError.{DocError}
+use Rattle.doc_text.specs.declared.error.DocError.TheVariants as errors
+use Rattle.doc_text.specs.Contexts.{reason}
+use Rattle.doc_text.specs.Documents.{why_of, BrokenAt, Refuses}
+use Rattle.doc_text.specs.States.{State, context}
+use Rattle.doc_text.specs.Entering.{Stopped}
+use Rattle.doc_text.specs.Building.{state, Takes}
+use Rattle.doc_text.proofs.Known.{laws}
+use Rattle.doc_text.proofs.Reaching.{place_of, stops, stops_where_none, is_unfinished}
+use Rattle.doc_text.proofs.Going.{Stands, DocOfItems, none_at, shorter, stands_on, ends_whole}
+
+some_rest : (rest : List ℕ) → length rest ≢ 0 → rest ≢ []
+some_rest rest some e = some (ap length e)
+
+pub at_none : (bytes rest : List ℕ) (b : Builder) (at : ℕ) (cause : NoneWhy) (w : DocWhy) → Stands bytes rest (state b) → length rest ≢ 0 → piece_at rest ≡ None → NoneReason b.first rest cause → at ≡ place_of bytes rest → w ≡ why_of cause → BrokenAt bytes at w
+at_none bytes rest b at cause w stands some e because at_is is =
+    subst (BrokenAt bytes at) (sym is) (stops_where_none bytes rest (state b) at cause stands.utf8 stands.reaches at_is (some_rest rest some) (none_at laws rest stands.rest_utf8 e) because)
+
+pub at_fault : (bytes rest behind : List ℕ) (b : Builder) (p : Piece) (at : ℕ) (error : DocError) → Stands bytes rest (state b) → length rest ≢ 0 → at ≡ place_of bytes rest → piece_at rest ≡ Some (p, behind) → Stopped (reason p (context (state b))) at error → Refuses bytes error
+at_fault bytes rest behind b p at errors.Memory stands some at_is e stopped = tt
+at_fault bytes rest behind b p at (errors.Syntax place cause) stands some at_is e stopped =
+    stops bytes rest behind (state b) p place cause stands.utf8 stands.reaches (stopped.0 ∙ at_is) (laws.takes rest behind p stands.rest_utf8 e) (some_rest rest some) stopped.1
+
+pub gets_shorter : (bytes rest behind : List ℕ) (s : State) (p : Piece) → Stands bytes rest s → piece_at rest ≡ Some (p, behind) → length behind < length rest
+gets_shorter bytes rest behind s p stands e = shorter laws p rest behind (laws.takes rest behind p stands.rest_utf8 e)
+
+pub steps_on : (bytes rest behind : List ℕ) (old new : Builder) (p : Piece) (at : ℕ) → Stands bytes rest (state old) → at ≡ place_of bytes rest → piece_at rest ≡ Some (p, behind) → Takes p at old new → Stands bytes behind (state new)
+steps_on bytes rest behind old new p at stands at_is e takes =
+    subst (Stands bytes behind) (sym takes.steps) (stands_on laws bytes rest behind (state old) p at stands at_is (laws.takes rest behind p stands.rest_utf8 e) takes.none)
+
+at_end : (bytes rest : List ℕ) (s : State) → Stands bytes rest s → length rest ≡ 0 → Stands bytes [] s
+at_end bytes rest s stands e = subst (λ (r : List ℕ). Stands bytes r s) (nil_from_length rest e) stands
+
+pub last_kid : (bytes rest : List ℕ) (b : Builder) (root : Rose ItemLabel) (kids : List (Rose ItemLabel)) → length bytes ≤ 16777216 → Stands bytes rest (state b) → length rest ≡ 0 → b.ended ≡ true → b.kids.items ≡ kids ++ root ∷ [] → DocOfItems bytes root
+last_kid bytes rest b root kids short stands over ended kids_are =
+    let here = at_end bytes rest (state b) stands over in
+    let r = here.good.one ended in
+    let none : kids ≡ [] = nil_from_length kids (omega (arith, ap length kids_are, length-append kids (root ∷ []), ap length r.kids)) in
+    ends_whole bytes (state b) root short here ended (kids_are ∙ ap (λ (k : List (Rose ItemLabel)). k ++ root ∷ []) none)
+
+pub unfinished : (bytes rest : List ℕ) (b : Builder) (at : ℕ) → Stands bytes rest (state b) → length rest ≡ 0 → at ≡ length bytes → b.ended ≡ false → BrokenAt bytes at why.Unfinished
+unfinished bytes rest b at stands over at_is open_still = let here = at_end bytes rest (state b) stands over in is_unfinished bytes (state b) at here.utf8 here.reaches at_is open_still
+
+no_last : (b : Bool) → (b ≡ true → ⊥) → b ≡ false
+no_last true f = absurd (f refl)
+no_last false f = refl
+
+pub not_ended : (bytes rest : List ℕ) (b : Builder) → Stands bytes rest (state b) → length b.kids.items ≡ 0 → b.ended ≡ false
+not_ended bytes rest b stands none = no_last b.ended (λ e. (let r = stands.good.one e in omega (arith, none, ap length r.kids)))
+
+pub sealed : (P : Rose ItemLabel → Type 0) (root : Rose ItemLabel) (r : Result (Rose ItemLabel) DocError) → MatchResult r (λ items. items ≡ root) (λ e. ⊥) → P root → IfOk r P
+sealed P root (Ok items) e h = subst P (sym e) h
+sealed P root (Err error) e h = tt

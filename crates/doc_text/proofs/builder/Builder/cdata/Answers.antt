@@ -1,0 +1,9 @@
+use Rattle.std.proofs.Common.{◌∙◌, rules, refl}
+use Rattle.doc_text.proofs.Built.{cdata_takes, cdata_stops}
+use Rattle.doc_text.proofs.builder.Builder.cdata.Goals as goal
+
+pub returns-in-Some-clause-err : goal.returns-in-Some-clause-err
+returns-in-Some-clause-err c = (refl, cdata_stops c.args.self.now c.args.text.now ∙ (search rules))
+
+pub returns-clause-ok : goal.returns-clause-ok
+returns-clause-ok c = cdata_takes c.args.self.now c.add.new.self c.args.text.now c.args.at c.requires (search rules) c.in_ok-add.ensures.state c.in_ok-add.ensures.scope

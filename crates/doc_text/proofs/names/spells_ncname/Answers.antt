@@ -1,0 +1,9 @@
+use Rattle.std.proofs.Common.{rules}
+use Rattle.doc_text.proofs.Spelling.{spelled, unspelled}
+use Rattle.doc_text.proofs.names.spells_ncname.Goals as goal
+
+pub returns-in-Ok : goal.returns-in-Ok
+returns-in-Ok c = spelled c.args.bytes.now _ (search rules) (search rules)
+
+pub returns-in-Err : goal.returns-in-Err
+returns-in-Err c = unspelled c.args.bytes.now (search rules)

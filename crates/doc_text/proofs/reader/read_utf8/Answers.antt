@@ -1,0 +1,58 @@
+use Rattle.std.proofs.Common.{◌≡◌, Some, None, rules, arith, refl, sym, subst}
+use Rattle.xml_pieces.specs.Found.{seen}
+use Rattle.xml_pieces.specs.Reading.{piece_at}
+use Rattle.doc_text.specs.States.{State}
+use Rattle.doc_text.specs.Building.{state}
+use Rattle.doc_text.proofs.Going.{Stands, stands_first}
+use Rattle.doc_text.proofs.Read.{at_none, at_fault, steps_on, gets_shorter, last_kid, unfinished, not_ended, sealed}
+use Rattle.doc_text.proofs.Places.{doc_ascends}
+use Rattle.label_tree.specs.Rose.{Rose}
+use Rattle.doc_text.specs.declared.label.ItemLabel.{ItemLabel}
+use Rattle.doc_text.specs.Tokens.{tokens, Ascend}
+use Rattle.doc_text.specs.Documents.{DocOf}
+use Rattle.doc_text.proofs.reader.read_utf8.Goals as goal
+use Rattle.doc_text.proofs.reader.read_utf8.Goals.{in_default-pop-via-in-Some-pop+else-builder, in_default-pop-via-in_default-pop}
+
+pub pieces-init : goal.pieces-init
+pieces-init c = record {
+  stands = subst (λ (s : State). Stands c.args.bytes.now c.skip_mark-rest.result.now s) (sym c.in_ok-builder.ensures.steps) (stands_first c.args.bytes.now c.skip_mark-rest.result.now c.requires.utf8 c.skip_mark-rest.ensures);
+  scoped = c.in_ok-builder.ensures.scoped;
+}
+
+pub returns-in_default-clause-err : goal.returns-in_default-clause-err
+returns-in_default-clause-err c =
+    let e : piece_at c.pieces.rest.now ≡ None = search rules in
+    at_none c.args.bytes.now c.pieces.rest.now c.pieces.builder _ _ _ c.pieces.invariant.stands (search rules) e c.why_none-cause.ensures refl c.why.ensures
+
+pub returns-in-Err-clause-err : goal.returns-in-Err-clause-err
+returns-in-Err-clause-err c =
+    let e : piece_at c.pieces.rest.now ≡ Some (seen c.in-Some.found, c.in-Some.behind.now) = search rules in
+    at_fault c.args.bytes.now c.pieces.rest.now c.in-Some.behind.now c.pieces.builder (seen c.in-Some.found) _ c.in-Err.error c.pieces.invariant.stands (search rules) refl e c.in-Err.ensures.err
+
+pub pieces-smaller : goal.pieces-smaller
+pieces-smaller c =
+    let e : piece_at c.pieces.rest.now ≡ Some (seen c.in-Some.found, c.in-Some.behind.now) = search rules in
+    gets_shorter c.args.bytes.now c.pieces.rest.now c.in-Some.behind.now (state c.pieces.builder) (seen c.in-Some.found) c.pieces.invariant.stands e
+
+pub pieces-preserved : goal.pieces-preserved
+pieces-preserved c =
+    let e : piece_at c.pieces.rest.now ≡ Some (seen c.in-Some.found, c.in-Some.behind.now) = search rules in
+    record {
+      stands = steps_on c.args.bytes.now c.pieces.rest.now c.in-Some.behind.now c.pieces.builder c.take.new.self (seen c.in-Some.found) _ c.pieces.invariant.stands refl e c.in-Ok.ensures.ok;
+      scoped = c.in-Ok.ensures.ok.scoped;
+    }
+
+pub seal-requires : goal.seal-requires
+seal-requires c = (last_kid c.args.bytes.now c.pieces.rest.now c.pieces.builder c.in-Some-pop.root c.pop.new.self.items c.requires.short c.pieces.invariant.stands (search rules) (search rules) (search rules)).items
+
+pub returns-in-Some-pop-clause-ok : goal.returns-in-Some-pop-clause-ok
+returns-in-Some-pop-clause-ok c = sealed (DocOf c.args.bytes.now) c.in-Some-pop.root c.seal.result c.seal.ensures (last_kid c.args.bytes.now c.pieces.rest.now c.pieces.builder c.in-Some-pop.root c.pop.new.self.items c.requires.short c.pieces.invariant.stands (search rules) (search rules) (search rules)).doc
+
+pub returns-in-Some-pop-clause-places : goal.returns-in-Some-pop-clause-places
+returns-in-Some-pop-clause-places c = sealed (λ (t : Rose ItemLabel). Ascend 0 16777216 (tokens t)) c.in-Some-pop.root c.seal.result c.seal.ensures (doc_ascends c.args.bytes.now c.in-Some-pop.root c.requires.short (last_kid c.args.bytes.now c.pieces.rest.now c.pieces.builder c.in-Some-pop.root c.pop.new.self.items c.requires.short c.pieces.invariant.stands (search rules) (search rules) (search rules)).doc)
+
+pub returns-clause-err : goal.returns-clause-err
+returns-clause-err c = unfinished c.args.bytes.now c.pieces.rest.now c.pieces.builder _ c.pieces.invariant.stands (search rules) refl (elim c.in_default-pop.branch [
+  | in_default-pop-via-in-Some-pop+else-builder w ↦ w.if-builder.false
+  | in_default-pop-via-in_default-pop w ↦ not_ended c.args.bytes.now c.pieces.rest.now c.pieces.builder c.pieces.invariant.stands (omega (arith, w.in_default-pop.ensures.cases.0))
+])

@@ -1,0 +1,24 @@
+use Rattle.std.proofs.Common.{◌∙◌, ◌++◌, List, map, ap, rules, refl}
+use Rattle.std.specs.Prelude.{reverse}
+use Rattle.xml_pieces.specs.Found.{tag_seen, attribute_of}
+use Rattle.xml_pieces.specs.declared.found.Attribute.{Attribute}
+use Rattle.doc_text.specs.Namespaces.{bindings_of}
+use Rattle.doc_text.proofs.Entered.{names_stop, unbound_stop, duplicate_stop, behind_inner, enters}
+use Rattle.doc_text.proofs.tags.enter.Goals as goal
+
+pub returns-in-Some-clause-err : goal.returns-in-Some-clause-err
+returns-in-Some-clause-err c = (refl, names_stop (tag_seen c.args.tag.now) (reverse c.args.scope.now) c.args.ended c.args.depth c.in-Some.why (search rules))
+
+pub returns-then-has_unbound-clause-err : goal.returns-then-has_unbound-clause-err
+returns-then-has_unbound-clause-err c = (refl, unbound_stop (tag_seen c.args.tag.now) c.args.scope.now c.enter_scope.new.scope c.args.ended c.args.depth (search rules) (c.in_ok-declares.ensures.scope ∙ ap (λ (xs : List Attribute). c.args.scope.now ++ reverse (bindings_of (map attribute_of xs))) c.deref.ensures.value) (search rules))
+
+pub returns-then-branch-clause-err : goal.returns-then-branch-clause-err
+returns-then-branch-clause-err c = (refl, duplicate_stop (tag_seen c.args.tag.now) c.args.scope.now c.enter_scope.new.scope c.args.ended c.args.depth (search rules) (c.in_ok-declares.ensures.scope ∙ ap (λ (xs : List Attribute). c.args.scope.now ++ reverse (bindings_of (map attribute_of xs))) c.deref.ensures.value) (search rules) (search rules))
+
+pub returns-in-Some-first_of_place-clause-err : goal.returns-in-Some-first_of_place-clause-err
+returns-in-Some-first_of_place-clause-err c = (refl, behind_inner (tag_seen c.args.tag.now) c.args.scope.now c.enter_scope.new.scope c.args.ended c.args.depth (search rules) (c.in_ok-declares.ensures.scope ∙ ap (λ (xs : List Attribute). c.args.scope.now ++ reverse (bindings_of (map attribute_of xs))) c.deref.ensures.value) (search rules) (search rules) ∙ (search rules))
+
+pub returns-clause-ok : goal.returns-clause-ok
+returns-clause-ok c = enters (tag_seen c.args.tag.now) c.args.scope.now c.enter_scope.new.scope c.args.ended c.args.depth _
+    (behind_inner (tag_seen c.args.tag.now) c.args.scope.now c.enter_scope.new.scope c.args.ended c.args.depth (search rules) (c.in_ok-declares.ensures.scope ∙ ap (λ (xs : List Attribute). c.args.scope.now ++ reverse (bindings_of (map attribute_of xs))) c.deref.ensures.value) (search rules) (search rules) ∙ (search rules))
+    (c.in_ok-declares.ensures.scope ∙ ap (λ (xs : List Attribute). c.args.scope.now ++ reverse (bindings_of (map attribute_of xs))) c.deref.ensures.value) (search rules) (search rules) (search rules)

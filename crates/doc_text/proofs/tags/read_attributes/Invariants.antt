@@ -1,0 +1,11 @@
+use Rattle.std.proofs.Common.{◌≡◌, ◌++◌, length, map}
+use Rattle.std.specs.Prelude.{reverse}
+use Rattle.xml_pieces.specs.Found.{attribute_of}
+use Rattle.doc_text.specs.Namespaces.{attributes_of}
+use Rattle.doc_text.proofs.tags.read_attributes.Given as goal
+
+abbrev pub invariant-each : goal.invariant-each
+invariant-each l = l.all.items ++ attributes_of (reverse l.scope) (map attribute_of l.rest) ≡ attributes_of (reverse l.scope) (map attribute_of l.attributes)
+
+abbrev pub decreases-each : goal.decreases-each
+decreases-each l = length l.rest

@@ -1,0 +1,21 @@
+-- What is read at a tag.
+use Rattle.std.specs.Prelude.{◌≡◌, ℕ, Bool, List, Option, Some, None}
+use Rattle.xml_pieces.specs.Pieces.{Tag}
+use Rattle.doc_text.specs.declared.tags.Head.{Head}
+use Rattle.doc_text.specs.declared.error.DocWhy.{DocWhy}
+use Rattle.doc_text.specs.declared.error.DocError.{DocError}
+use Rattle.doc_text.specs.declared.error.DocError.TheVariants as errors
+use Rattle.doc_text.specs.Namespaces.{bindings_of, attributes_of, element_name}
+use Rattle.doc_text.specs.Contexts.{tag_scope, start_reason}
+
+-- nothing speaks against the tag, and this is what it opens
+pub record Enters (outer : List (List ℕ × List ℕ)) (ended : Bool) (depth : ℕ) (tag : Tag) (head : Head) : Type 0 where
+  pub none : start_reason tag outer ended depth ≡ None
+  pub name_is : head.name ≡ element_name (tag_scope tag outer) tag.name
+  pub attributes_are : head.attributes ≡ attributes_of (tag_scope tag outer) tag.attributes
+  pub declares_are : head.declares ≡ bindings_of tag.attributes
+
+-- the error is that reason at this place, or want of memory
+abbrev pub Stopped : Option DocWhy → ℕ → DocError → Type 0
+Stopped reason at (errors.Syntax place why) = (place ≡ at) × (reason ≡ Some why)
+Stopped reason at errors.Memory = Unit {0}

@@ -1,0 +1,120 @@
+-- Names as written, and what they stand for, by Namespaces in XML 1.0.
+use Rattle.std.specs.Prelude.{◌==◌, ◌+◌, ℕ, Bool, true, false, ◌&&◌, ◌||◌, not, nat_le, List, [], ◌∷◌, length, take, drop, map, filter, bytes_eq, codes, Option, Some, None, if◌then◌else◌}
+use Rattle.std.specs.List.{prefix_len, list_any}
+use Rattle.std.specs.Option.{is_some}
+use Rattle.std.specs.Str.{chars, is_utf8}
+use Rattle.xa_base.specs.Characters.{is_ncname}
+use Rattle.xa_base.specs.declared.texts.Name.{Name}
+use Rattle.doc_text.specs.Sound.{is_empty, has_name, xmlns_space}
+
+abbrev pub xml_prefix : List ℕ
+xml_prefix = codes "xml"
+
+abbrev pub xmlns_prefix : List ℕ
+xmlns_prefix = codes "xmlns"
+
+-- Namespaces in XML 1.0, section 3
+abbrev pub xml_space : List ℕ
+xml_space = codes "http://www.w3.org/XML/1998/namespace"
+
+-- ---- names as written
+
+-- the number of bytes before the first colon
+abbrev pub colon_at : List ℕ → ℕ
+colon_at written = prefix_len (λ b. not (b == 0x3A)) written
+
+abbrev pub has_colon : List ℕ → Bool
+has_colon written = not (nat_le (length written) (colon_at written))
+
+-- what stands before the first colon, nothing where there is none
+unfoldable pub prefix_of : List ℕ → List ℕ
+prefix_of written = if has_colon written then take (colon_at written) written else []
+
+-- what stands behind the first colon, all where there is none
+unfoldable pub local_of : List ℕ → List ℕ
+local_of written = if has_colon written then drop (colon_at written + 1) written else written
+
+-- the bytes spell an NCName
+abbrev pub spells_ncname : List ℕ → Bool
+spells_ncname bytes = is_utf8 bytes && is_ncname (chars bytes)
+
+-- production [7] QName: an NCName, or two NCNames joined by a colon
+unfoldable pub is_qname : List ℕ → Bool
+is_qname written = (not (has_colon written) || spells_ncname (prefix_of written)) && spells_ncname (local_of written)
+
+-- its prefix or its local name is over 255 bytes
+unfoldable pub is_long : List ℕ → Bool
+is_long written = not (nat_le (length (prefix_of written)) 255 && nat_le (length (local_of written)) 255)
+
+-- ---- bindings
+
+-- an attribute of this name binds a namespace: `xmlns`, or one of the prefix `xmlns`
+unfoldable pub binds : List ℕ → Bool
+binds written = bytes_eq written xmlns_prefix || bytes_eq (prefix_of written) xmlns_prefix
+
+-- the prefix that it binds, empty for the default namespace
+unfoldable pub bound_prefix : List ℕ → List ℕ
+bound_prefix written = if bytes_eq written xmlns_prefix then [] else local_of written
+
+-- the bindings among the attributes, in the order written
+abbrev pub bindings_of : List (List ℕ × List ℕ) → List (List ℕ × List ℕ)
+bindings_of attributes = map (λ a. (bound_prefix a.0, a.1)) (filter (λ a. binds a.0) attributes)
+
+-- the others
+abbrev pub plain_of : List (List ℕ × List ℕ) → List (List ℕ × List ℕ)
+plain_of attributes = filter (λ a. not (binds a.0)) attributes
+
+abbrev pub same_bool : Bool → Bool → Bool
+same_bool true b = b
+same_bool false b = not b
+
+-- section 3, the constraint on reserved prefixes and namespaces, and section 5 on empty ones: `xmlns` isn't bound, nothing is bound to its
+-- namespace, `xml` and its namespace are bound to each other alone, and only the default may be bound to the empty text
+unfoldable pub is_reserved : List ℕ × List ℕ → Bool
+is_reserved binding =
+    bytes_eq binding.0 xmlns_prefix
+    || bytes_eq binding.1 xmlns_space
+    || not (same_bool (bytes_eq binding.0 xml_prefix) (bytes_eq binding.1 xml_space))
+    || (is_empty binding.1 && not (is_empty binding.0))
+
+-- the namespace of a prefix by the bindings that are in scope, the innermost first
+abbrev pub space_of : List ℕ → List (List ℕ × List ℕ) → Option (List ℕ)
+space_of prefix [] = None
+space_of prefix (binding ∷ bindings) = if bytes_eq binding.0 prefix then Some binding.1 else space_of prefix bindings
+
+-- a prefix that nothing binds; `xmlns` is bound, but to what no name has
+unfoldable pub is_unbound : List (List ℕ × List ℕ) → List ℕ → Bool
+is_unbound scope prefix = not (is_empty prefix) && (bytes_eq prefix xmlns_prefix || not (is_some (space_of prefix scope)))
+
+-- ---- expanded names
+
+abbrev pub or_absent : Option (List ℕ) → List ℕ
+or_absent None = []
+or_absent (Some space) = space
+
+-- of an element: without a prefix it has the default namespace
+unfoldable pub element_name : List (List ℕ × List ℕ) → List ℕ → Name
+element_name scope written = record { space = or_absent (space_of (prefix_of written) scope); local = local_of written }
+
+-- of an attribute: without a prefix it has no namespace
+abbrev pub attribute_space : List (List ℕ × List ℕ) → List ℕ → List ℕ
+attribute_space scope prefix = if is_empty prefix then [] else or_absent (space_of prefix scope)
+
+unfoldable pub attribute_name : List (List ℕ × List ℕ) → List ℕ → Name
+attribute_name scope written = record { space = attribute_space scope (prefix_of written); local = local_of written }
+
+-- the attributes that bind nothing, with their expanded names, in the order written
+abbrev pub attributes_of : List (List ℕ × List ℕ) → List (List ℕ × List ℕ) → List (Name × List ℕ)
+attributes_of scope attributes = map (λ a. (attribute_name scope a.0, a.1)) (plain_of attributes)
+
+-- ---- what stands twice
+
+-- XML 1.0, section 3.1, the constraint Unique Att Spec
+abbrev pub written_twice : List (List ℕ × List ℕ) → Bool
+written_twice [] = false
+written_twice (attribute ∷ attributes) = list_any (λ a. bytes_eq a.0 attribute.0) attributes || written_twice attributes
+
+-- Namespaces in XML 1.0, section 6.3
+abbrev pub expanded_twice : List (Name × List ℕ) → Bool
+expanded_twice [] = false
+expanded_twice (attribute ∷ attributes) = has_name attribute.0 attributes || expanded_twice attributes

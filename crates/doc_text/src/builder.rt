@@ -1,0 +1,387 @@
+//! What a reader has so far, and its step at each piece.
+ghost use Rattle.std.specs.Prelude.{cond, not, nat_le, encode_utf8, ◌≡◌, ◌==◌, ◌&&◌, ◌∷◌, [], reverse, IfOk, IfErr, OnOk, length};
+ghost use Rattle.xml_pieces.specs.Pieces as pieces;
+ghost use Rattle.xml_pieces.specs.Found.{seen, tag_seen, bytes_of};
+ghost use Rattle.doc_text.specs.Contexts.{is_white, is_outside, is_innermost, first_true, end_tests, reason, scope, brackets_after};
+ghost use Rattle.doc_text.specs.States.{context, nothing, added, passed};
+ghost use Rattle.doc_text.specs.Entering.{Stopped};
+ghost use Rattle.doc_text.specs.declared.error.DocWhy.TheVariants as why;
+ghost use Rattle.doc_text.specs.Building.{state, Scoped, Takes, Begins, Flushed, Shuts};
+
+use crate::error::{DocError, DocWhy};
+use crate::label::{Attributes, Bindings, ItemLabel};
+use crate::names::{is_long, is_qname, prefix_of};
+use crate::scope::{Scope, text_of};
+use crate::tags::{enter, is_unbound, value_of};
+use label_tree::Tree;
+use std::alloc::Global;
+use std::mem;
+use xa_base::{Memory, Name};
+use xml_pieces::{Element, Found};
+
+/// An element that is open, with what stands before it beside it.
+#[derive(Drop)]
+pub(crate) struct Frame<'a> {
+    written: &'a [u8],
+    name: Name,
+    attributes: Attributes,
+    declares: Bindings,
+    at: u64,
+    before: Vec<Tree<ItemLabel>>,
+}
+
+#[derive(Drop)]
+pub(crate) struct Builder<'a> {
+    alloc: Global,
+    scope: Scope,
+    // The elements that are open, the innermost last.
+    open: Vec<Frame<'a>>,
+    // What stands in the innermost of them, or outside.
+    pub(crate) kids: Vec<Tree<ItemLabel>>,
+    // The characters behind these, which are no node yet.
+    text: Vec<u8>,
+    text_at: u64,
+    pub(crate) ended: bool,
+    pub(crate) first: bool,
+    // How many literal `]` stand directly before, where 2 stands for more.
+    brackets: u8,
+}
+
+fn is_white_char(c: char) -> bool
+    ensures { result ≡ is_white c }
+{
+    matches!(c, ' ' | '\t' | '\n' | '\r')
+}
+
+// Whether the character is a `>` behind `]]`.
+fn is_closing(c: char, brackets: u8) -> bool
+    ensures { result ≡ (c == 0x3E && nat_le 2 brackets) }
+{
+    c == '>' && brackets >= 2
+}
+
+// How many literal `]` stand behind this character.
+fn count_brackets(c: char, before: u8) -> u8
+    ensures { result ≡ brackets_after c before }
+{
+    if c != ']' {
+        0
+    } else if before == 0 {
+        1
+    } else {
+        2
+    }
+}
+
+impl<'a> Builder<'a> {
+    pub(crate) fn new(alloc: Global) -> Result<Builder<'a>, Memory>
+        ensures { IfOk result Begins }
+    {
+        let scope = Scope::new(alloc)?;
+        Ok(Builder {
+            alloc,
+            scope,
+            open: Vec::new(alloc),
+            kids: Vec::new(alloc),
+            text: Vec::new(alloc),
+            text_at: 0,
+            ended: false,
+            first: true,
+            brackets: 0,
+        })
+    }
+
+    // Makes a node of the characters so far.
+    fn flush(&mut self) -> Result<(), Memory>
+        ensures { OnOk result (Flushed self.old self.new) }
+    {
+        if self.text.is_empty() {
+            return Ok(());
+        }
+        let text = text_of(self.alloc, &self.text)?;
+        let label = ItemLabel::Text {
+            text,
+            at: self.text_at,
+        };
+        self.kids.push(Tree::leaf(self.alloc, label))?;
+        self.text.clear();
+        Ok(())
+    }
+
+    fn start(&mut self, tag: Element<'a>, at: u64) -> Result<(), DocError>
+        requires { Scoped self.old }
+        ensures ok { OnOk result (Takes (pieces.Start (tag_seen tag.entry)) at self.old self.new) }
+        ensures err { IfErr result (Stopped (reason (pieces.Start (tag_seen tag.entry)) (context (state self.old))) at) }
+    {
+        let depth = self.open.as_slice().len();
+        let head = match enter(self.alloc, &mut self.scope, self.ended, depth, &tag, at) {
+            Ok(head) => head,
+            Err(error) => return Err(error),
+        };
+        self.flush()?;
+        let before = mem::replace(&mut self.kids, Vec::new(self.alloc));
+        self.open.push(Frame {
+            written: tag.name,
+            name: head.name,
+            attributes: head.attributes,
+            declares: head.declares,
+            at,
+            before,
+        })?;
+        self.first = false;
+        self.brackets = 0;
+        Ok(())
+    }
+
+    fn empty(&mut self, tag: Element<'a>, at: u64) -> Result<(), DocError>
+        requires { Scoped self.old }
+        ensures ok { OnOk result (Takes (pieces.Empty (tag_seen tag.entry)) at self.old self.new) }
+        ensures err { IfErr result (Stopped (reason (pieces.Empty (tag_seen tag.entry)) (context (state self.old))) at) }
+    {
+        let depth = self.open.as_slice().len();
+        let head = match enter(self.alloc, &mut self.scope, self.ended, depth, &tag, at) {
+            Ok(head) => head,
+            Err(error) => return Err(error),
+        };
+        self.scope.pop(head.declares.items().len());
+        self.flush()?;
+        let label = ItemLabel::Element {
+            name: head.name,
+            attributes: head.attributes,
+            declares: head.declares,
+            at,
+        };
+        self.kids.push(Tree::leaf(self.alloc, label))?;
+        self.ended = self.open.is_empty();
+        self.first = false;
+        self.brackets = 0;
+        Ok(())
+    }
+
+    // Whether the innermost element has this name.
+    fn is_open(&self, written: &[u8]) -> bool
+        ensures { result ≡ is_innermost written.now (context (state self.now)).elements }
+    {
+        match self.open.last() {
+            Some(frame) => frame.written == written,
+            None => false,
+        }
+    }
+
+    fn end_reason(&self, written: &[u8]) -> Option<DocWhy>
+        ensures { result ≡ first_true (end_tests written.now (reverse self.now.scope) (context (state self.now)).elements) }
+    {
+        if !is_qname(written) {
+            Some(DocWhy::BadName)
+        } else if is_long(written) {
+            Some(DocWhy::LongName)
+        } else if is_unbound(&self.scope, prefix_of(written)) {
+            Some(DocWhy::UnboundPrefix)
+        } else if !self.is_open(written) {
+            Some(DocWhy::WrongEnd)
+        } else {
+            None
+        }
+    }
+
+    // Ends the innermost element, behind whose kids no characters stand.
+    fn close(&mut self) -> Result<(), Memory>
+        requires { self.old.text.items ≡ [] }
+        ensures { OnOk result (Shuts self.old self.new) }
+    {
+        let Some(
+            Frame {
+                written: _,
+                name,
+                attributes,
+                declares,
+                at,
+                before,
+            },
+        ) = self.open.pop()
+        else {
+            self.ended = true;
+            self.first = false;
+            self.brackets = 0;
+            return Ok(());
+        };
+        self.scope.pop(declares.items().len());
+        let kids = mem::replace(&mut self.kids, before);
+        let label = ItemLabel::Element {
+            name,
+            attributes,
+            declares,
+            at,
+        };
+        self.kids.push(Tree::join(label, kids))?;
+        self.ended = self.open.is_empty();
+        self.first = false;
+        self.brackets = 0;
+        Ok(())
+    }
+
+    fn end(&mut self, written: &'a [u8], at: u64) -> Result<(), DocError>
+        requires { Scoped self.old }
+        ensures ok { OnOk result (Takes (pieces.End written.now) at self.old self.new) }
+        ensures err { IfErr result (Stopped (reason (pieces.End written.now) (context (state self.old))) at) }
+    {
+        if let Some(why) = self.end_reason(written) {
+            return Err(DocError::Syntax { at, why });
+        }
+        self.flush()?;
+        self.close()?;
+        Ok(())
+    }
+
+    // Adds characters to the text, or leaves them out outside the root.
+    fn add(&mut self, text: &[u8], at: u64, brackets: u8) -> Result<(), Memory>
+        ensures state { OnOk result (state self.new ≡ added text.now at brackets (state self.old)) }
+        ensures scope { OnOk result (self.new.scope ≡ self.old.scope) }
+    {
+        self.first = false;
+        self.brackets = brackets;
+        if self.open.is_empty() {
+            return Ok(());
+        }
+        self.text_at = first_place(self.text.is_empty(), at, self.text_at);
+        self.text.extend_from_slice(text)?;
+        Ok(())
+    }
+
+    fn pass(&mut self)
+        ensures state { state self.new ≡ passed (state self.old) }
+        ensures scope { self.new.scope ≡ self.old.scope }
+    {
+        self.first = false;
+        self.brackets = 0;
+    }
+
+    // Whether no element is open.
+    fn is_outside(&self) -> bool
+        ensures { result ≡ is_outside (context (state self.now)) }
+    {
+        self.open.is_empty()
+    }
+
+    #[tactic(auto, unfolding(crate::specs::Contexts::reason))]
+    fn declaration_reason(&self) -> Option<DocWhy>
+        ensures { result ≡ reason pieces.Declaration (context (state self.now)) }
+    {
+        if self.first {
+            None
+        } else {
+            Some(DocWhy::NoPiece)
+        }
+    }
+
+    fn declaration(&mut self, at: u64) -> Result<(), DocError>
+        requires { Scoped self.old }
+        ensures ok { OnOk result (Takes pieces.Declaration at self.old self.new) }
+        ensures err { IfErr result (Stopped (reason pieces.Declaration (context (state self.old))) at) }
+    {
+        if let Some(why) = self.declaration_reason() {
+            return Err(DocError::Syntax { at, why });
+        }
+        self.pass();
+        Ok(())
+    }
+
+    fn text_reason(&self) -> Option<DocWhy>
+        ensures { result ≡ first_true ((is_outside (context (state self.now)), why.TextOutside) ∷ []) }
+    {
+        if self.is_outside() {
+            Some(DocWhy::TextOutside)
+        } else {
+            None
+        }
+    }
+
+    fn cdata(&mut self, text: &[u8], at: u64) -> Result<(), DocError>
+        requires { Scoped self.old }
+        ensures ok { OnOk result (Takes (pieces.CData text.now) at self.old self.new) }
+        ensures err { IfErr result (Stopped (reason (pieces.CData text.now) (context (state self.old))) at) }
+    {
+        if let Some(why) = self.text_reason() {
+            return Err(DocError::Syntax { at, why });
+        }
+        self.add(text, at, 0)?;
+        Ok(())
+    }
+
+    fn reference(&mut self, c: char, at: u64) -> Result<(), DocError>
+        requires { Scoped self.old }
+        ensures ok { OnOk result (Takes (pieces.Reference c) at self.old self.new) }
+        ensures err { IfErr result (Stopped (reason (pieces.Reference c) (context (state self.old))) at) }
+    {
+        if let Some(why) = self.text_reason() {
+            return Err(DocError::Syntax { at, why });
+        }
+        self.add_char(c, at, 0)?;
+        Ok(())
+    }
+
+    fn add_char(&mut self, c: char, at: u64, brackets: u8) -> Result<(), Memory>
+        ensures state { OnOk result (state self.new ≡ added (encode_utf8 c) at brackets (state self.old)) }
+        ensures scope { OnOk result (self.new.scope ≡ self.old.scope) }
+    {
+        let mut buffer = [0; 4];
+        let text = c.encode_utf8(&mut buffer);
+        self.add(text.as_bytes(), at, brackets)
+    }
+
+    fn character_reason(&self, c: char) -> Option<DocWhy>
+        ensures { result ≡ first_true ((c == 0x3E && nat_le 2 self.now.brackets, why.NoPiece) ∷ (is_outside (context (state self.now)) && not (is_white c), why.TextOutside) ∷ []) }
+    {
+        if is_closing(c, self.brackets) {
+            Some(DocWhy::NoPiece)
+        } else if self.is_outside() && !is_white_char(c) {
+            Some(DocWhy::TextOutside)
+        } else {
+            None
+        }
+    }
+
+    fn character(&mut self, c: char, at: u64) -> Result<(), DocError>
+        requires { Scoped self.old }
+        ensures ok { OnOk result (Takes (pieces.Character c) at self.old self.new) }
+        ensures err { IfErr result (Stopped (reason (pieces.Character c) (context (state self.old))) at) }
+    {
+        if let Some(why) = self.character_reason(c) {
+            return Err(DocError::Syntax { at, why });
+        }
+        let brackets = count_brackets(c, self.brackets);
+        self.add_char(c, at, brackets)?;
+        Ok(())
+    }
+
+    // Takes a piece, or says what speaks against it.
+    pub(crate) fn take(&mut self, found: Found<'a>, at: u64) -> Result<(), DocError>
+        requires { Scoped self.old }
+        ensures ok { OnOk result (Takes (seen found.entry) at self.old self.new) }
+        ensures err { IfErr result (Stopped (reason (seen found.entry) (context (state self.old))) at) }
+    {
+        match found {
+            Found::Declaration => self.declaration(at),
+            Found::Start(tag) => self.start(tag, at),
+            Found::Empty(tag) => self.empty(tag, at),
+            Found::End(written) => self.end(written, at),
+            Found::Comment => {
+                self.pass();
+                Ok(())
+            }
+            Found::Instruction => {
+                self.pass();
+                Ok(())
+            }
+            Found::CData(text) => self.cdata(value_of(&text), at),
+            Found::Reference(c) => self.reference(c, at),
+            Found::Character(c) => self.character(c, at),
+        }
+    }
+}
+
+fn first_place(is_first: bool, at: u64, before: u64) -> u64
+    ensures { result ≡ cond is_first at before }
+{
+    if is_first { at } else { before }
+}

@@ -1,0 +1,105 @@
+//! Names as written.
+ghost use Rattle.std.specs.Prelude.{◌≡◌, ◌≤◌, length};
+ghost use Rattle.doc_text.specs.Namespaces as names;
+
+use xa_base::is_ncname_text;
+
+fn colon_at(written: &[u8]) -> usize
+    ensures value { result ≡ names.colon_at written.now }
+    ensures within { result ≤ length written.now }
+{
+    written.iter().take_while(|byte| **byte != b':').count()
+}
+
+// What stands before the first colon, nothing where there is none.
+#[tactic(auto, unfolding(crate::specs::Namespaces::prefix_of))]
+pub(crate) fn prefix_of(written: &[u8]) -> &[u8]
+    ensures { result.now ≡ names.prefix_of written.now }
+{
+    let at = colon_at(written);
+    if at < written.len() {
+        &written[..at]
+    } else {
+        b""
+    }
+}
+
+// What stands behind the first colon, all where there is none.
+#[tactic(auto, unfolding(crate::specs::Namespaces::local_of))]
+pub(crate) fn local_of(written: &[u8]) -> &[u8]
+    ensures { result.now ≡ names.local_of written.now }
+{
+    let at = colon_at(written);
+    if at < written.len() {
+        &written[at + 1..]
+    } else {
+        written
+    }
+}
+
+fn has_colon(written: &[u8]) -> bool
+    ensures { result ≡ names.has_colon written.now }
+{
+    colon_at(written) < written.len()
+}
+
+fn spells_ncname(bytes: &[u8]) -> bool
+    ensures { result ≡ names.spells_ncname bytes.now }
+{
+    match simdutf8::basic::from_utf8(bytes) {
+        Ok(text) => is_ncname_text(text),
+        Err(_) => false,
+    }
+}
+
+#[tactic(auto, unfolding(crate::specs::Namespaces::is_qname))]
+pub(crate) fn is_qname(written: &[u8]) -> bool
+    ensures { result ≡ names.is_qname written.now }
+{
+    (!has_colon(written) || spells_ncname(prefix_of(written))) && spells_ncname(local_of(written))
+}
+
+// Whether its prefix or its local name is over 255 bytes.
+#[tactic(auto, unfolding(crate::specs::Namespaces::is_long))]
+pub(crate) fn is_long(written: &[u8]) -> bool
+    ensures { result ≡ names.is_long written.now }
+{
+    !(prefix_of(written).len() <= 255 && local_of(written).len() <= 255)
+}
+
+// Whether an attribute of this name binds a namespace.
+#[tactic(auto, unfolding(crate::specs::Namespaces::binds))]
+pub(crate) fn binds(written: &[u8]) -> bool
+    ensures { result ≡ names.binds written.now }
+{
+    written == b"xmlns".as_slice() || prefix_of(written) == b"xmlns".as_slice()
+}
+
+// The prefix that it binds, empty for the default namespace.
+#[tactic(auto, unfolding(crate::specs::Namespaces::bound_prefix))]
+pub(crate) fn bound_prefix(written: &[u8]) -> &[u8]
+    ensures { result.now ≡ names.bound_prefix written.now }
+{
+    if written == b"xmlns".as_slice() {
+        b""
+    } else {
+        local_of(written)
+    }
+}
+
+// Whether a prefix or a namespace is reserved, so that these may not be bound to each other.
+#[tactic(auto, unfolding(crate::specs::Namespaces::is_reserved))]
+pub(crate) fn is_reserved(prefix: &[u8], space: &[u8]) -> bool
+    ensures { result ≡ names.is_reserved (prefix.now, space.now) }
+{
+    let is_xml = prefix == b"xml".as_slice();
+    let is_xml_space = space == XML_SPACE;
+    prefix == b"xmlns".as_slice()
+        || space == XMLNS_SPACE
+        || is_xml != is_xml_space
+        || (space.is_empty() && !prefix.is_empty())
+}
+
+pub(crate) const XML_SPACE: &[u8] = b"http://www.w3.org/XML/1998/namespace";
+
+const XMLNS_SPACE: &[u8] = b"http://www.w3.org/2000/xmlns/";

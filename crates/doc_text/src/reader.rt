@@ -1,0 +1,103 @@
+//! Reads documents.
+ghost use Rattle.std.specs.Prelude.{◌≡◌, ◌≤◌, length, drop, IfOk, IfErr, IsUtf8, MatchResult};
+ghost use Rattle.xml_pieces.specs.Found.{seen};
+ghost use Rattle.doc_text.specs.Sound.{AreItems};
+ghost use Rattle.doc_text.specs.Tokens.{tokens, Ascend};
+ghost use Rattle.doc_text.specs.Documents.{why_of, mark_len, DocOf, Refuses};
+ghost use Rattle.doc_text.specs.Building.{state};
+
+use crate::builder::Builder;
+use crate::error::{DocError, DocWhy};
+use crate::items::Items;
+use crate::label::ItemLabel;
+use label_tree::{Tree, Whole};
+use std::alloc::Global;
+use xml_pieces::{NoneWhy, read_piece, why_none};
+
+const MARK: &[u8] = b"\xEF\xBB\xBF";
+
+// What stands behind a byte order mark, or all.
+fn skip_mark(bytes: &[u8]) -> &[u8]
+    ensures { result.now ≡ drop (mark_len bytes.now) bytes.now }
+{
+    if bytes.starts_with(MARK) {
+        &bytes[3..]
+    } else {
+        bytes
+    }
+}
+
+fn why(none: NoneWhy) -> DocWhy
+    ensures { result ≡ why_of none }
+{
+    match none {
+        NoneWhy::Doctype => DocWhy::Doctype,
+        NoneWhy::Version => DocWhy::Version,
+        NoneWhy::Encoding => DocWhy::Encoding,
+        NoneWhy::BadReference => DocWhy::BadReference,
+        NoneWhy::NoPiece => DocWhy::NoPiece,
+    }
+}
+
+// The items that the tree is, which keeps what items keep.
+fn seal(root: Tree<ItemLabel>) -> Result<Items, DocError>
+    requires { AreItems root }
+    ensures { MatchResult result (λ items. items ≡ root) (λ _. ⊥) }
+{
+    match Whole::seal(root) {
+        Ok(whole) => Ok(Items::of(whole)),
+        Err(_) => Err(DocError::Memory),
+    }
+}
+
+// The items of a document that is UTF-8.
+fn read_utf8(alloc: Global, bytes: &[u8]) -> Result<Items, DocError>
+    requires short { length bytes.now ≤ 16777216 }
+    requires utf8 { IsUtf8 bytes.now }
+    ensures ok { IfOk result (DocOf bytes.now) }
+    ensures err { IfErr result (Refuses bytes.now) }
+    ensures places { IfOk result (λ items. Ascend 0 16777216 (tokens items)) }
+{
+    let mut builder = Builder::new(alloc)?;
+    let mut rest = skip_mark(bytes);
+    'pieces: while !rest.is_empty() {
+        let at = (bytes.len() - rest.len()) as u64;
+        let Some((found, behind)) = read_piece(alloc, rest)? else {
+            let cause = why_none(rest, builder.first);
+            return Err(DocError::Syntax {
+                at,
+                why: why(cause),
+            });
+        };
+        match builder.take(found, at) {
+            Ok(_) => {}
+            Err(error) => return Err(error),
+        }
+        rest = behind;
+    }
+    match builder.kids.pop() {
+        Some(root) if builder.ended => seal(root),
+        _ => Err(DocError::Syntax {
+            at: bytes.len() as u64,
+            why: DocWhy::Unfinished,
+        }),
+    }
+}
+
+/// The items of a document, by XML 1.0 (fifth edition) and Namespaces in XML 1.0, or its first fault. Where the bytes
+/// aren't UTF-8 that is the fault; else it is that of the leftmost place, and at one place the first reason in the
+/// order of `DocWhy`. Places are in bytes from 0, and a byte order mark counts.
+pub fn read_document(alloc: Global, bytes: &[u8]) -> Result<Items, DocError>
+    requires { length bytes.now ≤ 16777216 }
+    ensures ok { IfOk result (DocOf bytes.now) }
+    ensures err { IfErr result (Refuses bytes.now) }
+    ensures places { IfOk result (λ items. Ascend 0 16777216 (tokens items)) }
+{
+    if let Err(fault) = simdutf8::compat::from_utf8(bytes) {
+        return Err(DocError::Syntax {
+            at: fault.valid_up_to() as u64,
+            why: DocWhy::NotUtf8,
+        });
+    }
+    read_utf8(alloc, bytes)
+}

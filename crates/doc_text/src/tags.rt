@@ -1,0 +1,295 @@
+//! Start tags and empty tags: what speaks against one, and what it opens.
+ghost use Rattle.std.specs.List.{list_any};
+ghost use Rattle.std.specs.Prelude.{not, nat_le, ◌||◌, length, ◌&&◌, ◌≡◌, ◌∷◌, ◌++◌, [], map, reverse, IfOk, OnOk, IfErr};
+ghost use Rattle.xml_pieces.specs.Found.{tag_seen, attribute_of, bytes_of};
+ghost use Rattle.doc_text.specs.Namespaces as names;
+ghost use Rattle.doc_text.specs.Contexts as contexts;
+ghost use Rattle.doc_text.specs.Entering.{Enters, Stopped};
+ghost use Rattle.doc_text.specs.declared.error.DocWhy.TheVariants as why;
+
+use crate::duplicates::{expanded_twice, written_twice};
+use crate::error::{DocError, DocWhy};
+use crate::label::{Attributes, Bindings};
+use crate::names::{binds, bound_prefix, is_long, is_qname, is_reserved, local_of, prefix_of};
+use crate::scope::{Scope, text_of};
+use std::alloc::Global;
+use xa_base::{Memory, Name, Text};
+use xml_pieces::{Attribute, Element, Value};
+
+pub(crate) fn value_of<'v>(value: &'v Value<'_>) -> &'v [u8]
+    ensures { result.now ≡ bytes_of value.now }
+{
+    match value {
+        Value::Borrowed(bytes) => bytes,
+        Value::Owned(bytes) => bytes,
+    }
+}
+
+// One or the other, both looked at.
+fn either(a: bool, b: bool) -> bool
+    ensures { result ≡ (a || b) }
+{
+    a || b
+}
+
+fn is_any_bad(attributes: &[Attribute<'_>]) -> bool
+    ensures { result ≡ list_any (λ a. not (names.is_qname a.name.now)) attributes.now }
+{
+    attributes.iter().any(|a| !is_qname(a.name))
+}
+
+fn is_any_long(attributes: &[Attribute<'_>]) -> bool
+    ensures { result ≡ list_any (λ a. names.is_long a.name.now) attributes.now }
+{
+    attributes.iter().any(|a| is_long(a.name))
+}
+
+fn is_any_space_long(attributes: &[Attribute<'_>]) -> bool
+    ensures { result ≡ list_any (λ a. names.binds a.name.now && not (nat_le (length (bytes_of a.value)) 1023)) attributes.now }
+{
+    attributes
+        .iter()
+        .any(|a| binds(a.name) && value_of(&a.value).len() > 1023)
+}
+
+fn is_any_reserved(attributes: &[Attribute<'_>]) -> bool
+    ensures { result ≡ list_any (λ a. names.binds a.name.now && names.is_reserved (names.bound_prefix a.name.now, bytes_of a.value)) attributes.now }
+{
+    attributes.iter().any(|a| binds(a.name)
+        && is_reserved(bound_prefix(a.name), value_of(&a.value)))
+}
+
+fn has_bad_name(tag: &Element<'_>) -> bool
+    ensures { result ≡ contexts.has_bad_name (tag_seen tag.now) }
+{
+    let is_own = !is_qname(tag.name);
+    let is_any = is_any_bad(&tag.attributes);
+    either(is_own, is_any)
+}
+
+fn has_long_name(tag: &Element<'_>) -> bool
+    ensures { result ≡ contexts.has_long_name (tag_seen tag.now) }
+{
+    let is_own = is_long(tag.name);
+    let is_any = is_any_long(&tag.attributes);
+    let is_space = is_any_space_long(&tag.attributes);
+    either(either(is_own, is_any), is_space)
+}
+
+fn has_reserved(tag: &Element<'_>) -> bool
+    ensures { result ≡ contexts.has_reserved (tag_seen tag.now) }
+{
+    is_any_reserved(&tag.attributes)
+}
+
+#[tactic(auto, unfolding(crate::specs::Namespaces::is_unbound))]
+pub(crate) fn is_unbound(scope: &Scope, prefix: &[u8]) -> bool
+    ensures { result ≡ names.is_unbound (reverse scope.now) prefix.now }
+{
+    !prefix.is_empty() && (prefix == b"xmlns".as_slice() || scope.space_of(prefix).is_none())
+}
+
+fn is_any_unbound(scope: &Scope, attributes: &[Attribute<'_>]) -> bool
+    ensures { result ≡ list_any (λ a. not (names.binds a.name.now) && names.is_unbound (reverse scope.now) (names.prefix_of a.name.now)) attributes.now }
+{
+    attributes
+        .iter()
+        .any(|a| !binds(a.name) && is_unbound(scope, prefix_of(a.name)))
+}
+
+fn has_unbound(scope: &Scope, tag: &Element<'_>) -> bool
+    ensures { result ≡ contexts.has_unbound (tag_seen tag.now) (reverse scope.now) }
+{
+    let is_own = is_unbound(scope, prefix_of(tag.name));
+    let is_any = is_any_unbound(scope, &tag.attributes);
+    either(is_own, is_any)
+}
+
+// The expanded name of an element.
+#[tactic(auto, unfolding(crate::specs::Namespaces::element_name))]
+fn element_name(alloc: Global, scope: &Scope, written: &[u8]) -> Result<Name, Memory>
+    ensures { IfOk result (λ name. name ≡ names.element_name (reverse scope.now) written.now) }
+{
+    let space = scope.space_of(prefix_of(written)).unwrap_or(b"");
+    let space = text_of(alloc, space)?;
+    let local = text_of(alloc, local_of(written))?;
+    Ok(Name { space, local })
+}
+
+fn attribute_space<'s>(scope: &'s Scope, prefix: &[u8]) -> &'s [u8]
+    ensures { result.now ≡ names.attribute_space (reverse scope.now) prefix.now }
+{
+    if prefix.is_empty() {
+        b""
+    } else {
+        scope.space_of(prefix).unwrap_or(b"")
+    }
+}
+
+// The expanded name of an attribute.
+#[tactic(auto, unfolding(crate::specs::Namespaces::attribute_name))]
+fn attribute_name(alloc: Global, scope: &Scope, written: &[u8]) -> Result<Name, Memory>
+    ensures { IfOk result (λ name. name ≡ names.attribute_name (reverse scope.now) written.now) }
+{
+    let space = text_of(alloc, attribute_space(scope, prefix_of(written)))?;
+    let local = text_of(alloc, local_of(written))?;
+    Ok(Name { space, local })
+}
+
+// The attributes that bind nothing.
+fn read_attributes(
+    alloc: Global,
+    scope: &Scope,
+    attributes: &[Attribute<'_>],
+) -> Result<Vec<(Name, Text)>, Memory>
+    ensures { IfOk result (λ all. all.items ≡ names.attributes_of (reverse scope.now) (map attribute_of attributes.now)) }
+{
+    let mut all = Vec::new(alloc);
+    let mut rest = attributes;
+    'each: while let [attribute, others @ ..] = rest {
+        rest = others;
+        if binds(attribute.name) {
+            continue;
+        }
+        let name = attribute_name(alloc, scope, attribute.name)?;
+        let value = text_of(alloc, value_of(&attribute.value))?;
+        all.push((name, value))?;
+    }
+    Ok(all)
+}
+
+// What the attributes bind.
+fn read_bindings(alloc: Global, attributes: &[Attribute<'_>]) -> Result<Vec<(Text, Text)>, Memory>
+    ensures { IfOk result (λ all. all.items ≡ names.bindings_of (map attribute_of attributes.now)) }
+{
+    let mut all = Vec::new(alloc);
+    let mut rest = attributes;
+    'each: while let [attribute, others @ ..] = rest {
+        rest = others;
+        if !binds(attribute.name) {
+            continue;
+        }
+        let prefix = text_of(alloc, bound_prefix(attribute.name))?;
+        let space = text_of(alloc, value_of(&attribute.value))?;
+        all.push((prefix, space))?;
+    }
+    Ok(all)
+}
+
+// Adds bindings to those in scope, the last of them first.
+fn declare(alloc: Global, scope: &mut Scope, bindings: &[(Text, Text)]) -> Result<(), Memory>
+    ensures { OnOk result (scope.new ≡ scope.old ++ reverse bindings.now) }
+{
+    let mut at = bindings.len();
+    'last_first: while at > 0 {
+        at -= 1;
+        let binding = &bindings[at];
+        let prefix = binding.0.copy(alloc)?;
+        let space = binding.1.copy(alloc)?;
+        scope.push(prefix, space)?;
+    }
+    Ok(())
+}
+
+// What the attributes bind, which is in scope then.
+fn enter_scope(
+    alloc: Global,
+    scope: &mut Scope,
+    attributes: &[Attribute<'_>],
+) -> Result<Vec<(Text, Text)>, Memory>
+    ensures bindings { IfOk result (λ all. all.items ≡ names.bindings_of (map attribute_of attributes.now)) }
+    ensures scope { OnOk result (scope.new ≡ scope.old ++ reverse (names.bindings_of (map attribute_of attributes.now))) }
+{
+    let all = read_bindings(alloc, attributes)?;
+    declare(alloc, scope, &all)?;
+    Ok(all)
+}
+
+fn has_duplicate(
+    alloc: Global,
+    tag: &Element<'_>,
+    attributes: &[(Name, Text)],
+) -> Result<bool, Memory>
+    ensures { IfOk result (λ twice. twice ≡ (names.written_twice (tag_seen tag.now).attributes || names.expanded_twice attributes.now)) }
+{
+    let is_written = written_twice(alloc, &tag.attributes)?;
+    let is_expanded = expanded_twice(alloc, attributes)?;
+    Ok(either(is_written, is_expanded))
+}
+
+// What a tag opens.
+#[derive(Drop)]
+pub(crate) struct Head {
+    pub(crate) name: Name,
+    pub(crate) attributes: Attributes,
+    pub(crate) declares: Bindings,
+}
+
+// What speaks against the names and the bindings of a tag.
+fn first_of_names(tag: &Element<'_>) -> Option<DocWhy>
+    ensures { result ≡ contexts.first_true ((contexts.has_bad_name (tag_seen tag.now), why.BadName) ∷ (contexts.has_long_name (tag_seen tag.now), why.LongName) ∷ (contexts.has_reserved (tag_seen tag.now), why.ReservedPrefix) ∷ []) }
+{
+    if has_bad_name(tag) {
+        Some(DocWhy::BadName)
+    } else if has_long_name(tag) {
+        Some(DocWhy::LongName)
+    } else if has_reserved(tag) {
+        Some(DocWhy::ReservedPrefix)
+    } else {
+        None
+    }
+}
+
+// What speaks against the place of a tag.
+fn first_of_place(ended: bool, depth: usize) -> Option<DocWhy>
+    ensures { result ≡ contexts.first_true ((ended, why.ExtraRoot) ∷ (nat_le 64 depth, why.TooDeep) ∷ []) }
+{
+    if ended {
+        Some(DocWhy::ExtraRoot)
+    } else if depth >= 64 {
+        Some(DocWhy::TooDeep)
+    } else {
+        None
+    }
+}
+
+// What a tag opens, with its bindings in scope then; or what speaks against it.
+pub(crate) fn enter(
+    alloc: Global,
+    scope: &mut Scope,
+    ended: bool,
+    depth: usize,
+    tag: &Element<'_>,
+    at: u64,
+) -> Result<Head, DocError>
+    ensures ok { IfOk result (Enters (reverse scope.old) ended depth (tag_seen tag.now)) }
+    ensures scope { OnOk result (scope.new ≡ scope.old ++ reverse (names.bindings_of (tag_seen tag.now).attributes)) }
+    ensures err { IfErr result (Stopped (contexts.start_reason (tag_seen tag.now) (reverse scope.old) ended depth) at) }
+{
+    if let Some(why) = first_of_names(tag) {
+        return Err(DocError::Syntax { at, why });
+    }
+    let declares = enter_scope(alloc, scope, &tag.attributes)?;
+    if has_unbound(scope, tag) {
+        return Err(DocError::Syntax {
+            at,
+            why: DocWhy::UnboundPrefix,
+        });
+    }
+    let attributes = read_attributes(alloc, scope, &tag.attributes)?;
+    if has_duplicate(alloc, tag, &attributes)? {
+        return Err(DocError::Syntax {
+            at,
+            why: DocWhy::DuplicateAttribute,
+        });
+    }
+    if let Some(why) = first_of_place(ended, depth) {
+        return Err(DocError::Syntax { at, why });
+    }
+    let name = element_name(alloc, scope, tag.name)?;
+    Ok(Head {
+        name,
+        attributes: Attributes::of(attributes),
+        declares: Bindings::of(declares),
+    })
+}

@@ -1,0 +1,145 @@
+-- What the steps of writing give.
+use Rattle.std.proofs.Common.{◌≡◌, ℕ, ◌+◌, ◌<◌, ◌≤◌, List, [], ◌∷◌, ◌++◌, length, drop, get_or, Bool, true, false, ◌||◌, Option, Some, None, is_some, refl, sym, ◌∙◌, ap, arith, append_assoc}
+use Rattle.std.specs.List.{flat_map}
+use Rattle.std.specs.Str.{bytes_eq}
+use Rattle.std.specs.Map.{lookup}
+use Rattle.std.specs.HashMap.{get}
+use Rattle.std.proofs.lemmas.List.{drop_more, drop_all, append-nil}
+use Rattle.indexmap.proofs.CallerLemmas.{insert_entry-new}
+use Rattle.indexmap.specs.IndexMap.{IndexMap, insert_entry}
+use Rattle.xa_base.specs.declared.texts.Name.{Name}
+use Rattle.label_tree.specs.Rose.{Rose, node, roses_of, label_of, kids_of}
+use Rattle.label_tree.proofs.Roses.{roses_of-list_of, node-parts}
+use Rattle.label_tree.proofs.Kids.{roses_of-drop}
+use Rattle.doc_text.specs.declared.label.ItemLabel.{ItemLabel}
+use Rattle.doc_text.specs.declared.label.ItemLabel.TheVariants.{Element, Text}
+use Rattle.doc_text.specs.Sound.{is_empty}
+use Rattle.doc_write.specs.Spaces.{xml_space, prefixes, attribute_spaces, label_spaces, spaces, all_spaces, next_prefix, is_bound, with_space, with_spaces}
+use Rattle.doc_write.specs.Written.{text_escape, written_start, written_end, written_element, written_declaration, xml_declaration, spelled, all_spelled, written}
+
+pub drop-item : {A : Type 0} (xs : List A) (i : ℕ) (x : A) → i < length xs → x ≡ get_or xs i x → drop i xs ≡ x ∷ drop (i + 1) xs
+drop-item xs i x at here = drop_more xs i x at ∙ ap (λ y. y ∷ drop (i + 1) xs) (sym here)
+
+-- ---- binding
+
+last_false : (a b c : Bool) → (a || b || c) ≡ false → c ≡ false
+last_false true true c e = absurd (cc)
+last_false true false c e = absurd (cc)
+last_false false true c e = absurd (cc)
+last_false false false c e = e
+
+is_none : {A : Type 0} (o : Option A) → is_some o ≡ false → o ≡ None
+is_none None e = refl
+is_none (Some x) e = absurd (cc)
+
+-- a namespace that isn't bound has no entry, so it goes last
+pub entries-bind : {S : Type 0} (m : IndexMap (List ℕ) (List ℕ) S) (space : List ℕ) → is_bound m.entries space ≡ false
+    → insert_entry bytes_eq m.entries space (next_prefix m.entries space) ≡ with_space m.entries space
+entries-bind m space new =
+    let absent : get bytes_eq m space ≡ None = is_none (lookup (bytes_eq space) m.entries) (last_false (is_empty space) (bytes_eq space xml_space) (is_some (lookup (bytes_eq space) m.entries)) new) in
+    rw new (insert_entry-new bytes_eq m space (next_prefix m.entries space) absent)
+
+pub with_spaces-append : (table : List (List ℕ × List ℕ)) (xs ys : List (List ℕ)) → with_spaces table (xs ++ ys) ≡ with_spaces (with_spaces table xs) ys
+with_spaces-append table [] ys = refl
+with_spaces-append table (x ∷ xs) ys = with_spaces-append (with_space table x) xs ys
+
+pub bind-attribute : (before after whole : List (List ℕ × List ℕ)) (entries : List (Name × List ℕ)) (i : ℕ) (item : Name × List ℕ)
+    → i < length entries → item ≡ get_or entries i item → after ≡ with_space before item.0.space
+    → with_spaces before (attribute_spaces (drop i entries)) ≡ whole → with_spaces after (attribute_spaces (drop (i + 1) entries)) ≡ whole
+bind-attribute before after whole entries i item at here is so_far =
+    ap (λ t. with_spaces t (attribute_spaces (drop (i + 1) entries))) is ∙ ap (λ es. with_spaces before (attribute_spaces es)) (sym (drop-item entries i item at here)) ∙ so_far
+
+pub spaces-kids : (t : Rose ItemLabel) → spaces t ≡ label_spaces (label_of t) ++ all_spaces (roses_of (kids_of t))
+spaces-kids (node label kids) = ap (λ s. label_spaces label ++ all_spaces s) (sym (roses_of-list_of kids))
+
+pub bind-label : (t : Rose ItemLabel) (before after : List (List ℕ × List ℕ)) (label : ItemLabel) (kids : List (Rose ItemLabel))
+    → label ≡ label_of t → kids ≡ kids_of t → after ≡ with_spaces before (label_spaces label)
+    → with_spaces after (all_spaces (roses_of kids)) ≡ with_spaces before (spaces t)
+bind-label t before after label kids is below bound =
+    ap (λ s. with_spaces s (all_spaces (roses_of kids))) bound
+    ∙ sym (with_spaces-append before (label_spaces label) (all_spaces (roses_of kids)))
+    ∙ ap (λ l. with_spaces before (label_spaces l ++ all_spaces (roses_of kids))) is
+    ∙ ap (λ k. with_spaces before (label_spaces (label_of t) ++ all_spaces (roses_of k))) below
+    ∙ ap (with_spaces before) (sym (spaces-kids t))
+
+pub bind-kid : (before after whole : List (List ℕ × List ℕ)) (kids : List (Rose ItemLabel)) (i : ℕ) (kid : Rose ItemLabel)
+    → i < length kids → kid ≡ get_or kids i kid → after ≡ with_spaces before (spaces kid)
+    → with_spaces before (all_spaces (roses_of (drop i kids))) ≡ whole → with_spaces after (all_spaces (roses_of (drop (i + 1) kids))) ≡ whole
+bind-kid before after whole kids i kid at here is so_far =
+    ap (λ t. with_spaces t (all_spaces (roses_of (drop (i + 1) kids)))) is
+    ∙ sym (with_spaces-append before (spaces kid) (all_spaces (roses_of (drop (i + 1) kids))))
+    ∙ ap (λ ks. with_spaces before (all_spaces ks)) (sym (roses_of-drop kids i kid at here))
+    ∙ so_far
+
+-- ---- writing
+
+pub write-item : {A : Type 0} (f : A → List ℕ) (before after whole : List ℕ) (xs : List A) (i : ℕ) (x : A)
+    → i < length xs → x ≡ get_or xs i x → after ≡ before ++ f x
+    → before ++ flat_map f (drop i xs) ≡ whole → after ++ flat_map f (drop (i + 1) xs) ≡ whole
+write-item f before after whole xs i x at here is so_far =
+    ap (λ o. o ++ flat_map f (drop (i + 1) xs)) is
+    ∙ append_assoc before (f x) (flat_map f (drop (i + 1) xs))
+    ∙ ap (λ ys. before ++ flat_map f ys) (sym (drop-item xs i x at here))
+    ∙ so_far
+
+pub write-kid : (table : List (List ℕ × List ℕ)) (before after whole : List ℕ) (kids : List (Rose ItemLabel)) (i : ℕ) (kid : Rose ItemLabel)
+    → i < length kids → kid ≡ get_or kids i kid → after ≡ before ++ spelled table [] kid
+    → before ++ all_spelled table (roses_of (drop i kids)) ≡ whole → after ++ all_spelled table (roses_of (drop (i + 1) kids)) ≡ whole
+write-kid table before after whole kids i kid at here is so_far =
+    ap (λ o. o ++ all_spelled table (roses_of (drop (i + 1) kids))) is
+    ∙ append_assoc before (spelled table [] kid) (all_spelled table (roses_of (drop (i + 1) kids)))
+    ∙ ap (λ ys. before ++ all_spelled table ys) (sym (roses_of-drop kids i kid at here))
+    ∙ so_far
+
+tree-parts : (t : Rose ItemLabel) (label : ItemLabel) (kids : List (Rose ItemLabel)) → label ≡ label_of t → kids ≡ kids_of t → t ≡ node label (roses_of kids)
+tree-parts t label kids is below =
+    sym (node-parts t) ∙ ap (λ l. node l (roses_of (kids_of t))) (sym is) ∙ ap (λ ks. node label (roses_of ks)) (sym below)
+
+-- the text of a node
+pub spelled-text : (table : List (List ℕ × List ℕ)) (declarations : List ℕ) (t : Rose ItemLabel) (text : List ℕ) (at : ℕ)
+    → Text text at ≡ label_of t → flat_map text_escape text ≡ spelled table declarations t
+spelled-text table declarations t text at is =
+    ap (spelled table declarations) (sym (tree-parts t (Text text at) (kids_of t) is refl))
+
+module _ (table : List (List ℕ × List ℕ)) (declarations : List ℕ) (t : Rose ItemLabel) (name : Name) (attributes : List (Name × List ℕ)) (declares : List (List ℕ × List ℕ)) (at : ℕ)
+    (kids : List (Rose ItemLabel)) (is : Element name attributes declares at ≡ label_of t) (below : kids ≡ kids_of t) where
+  parts : spelled table declarations t ≡ written_element (written_start table declarations name attributes) (all_spelled table (roses_of kids)) (written_end table name) (roses_of kids)
+  parts = ap (spelled table declarations) (tree-parts t (Element name attributes declares at) kids is below)
+
+  pub spelled-empty : length kids ≡ 0 → written_start table declarations name attributes ++ 47 ∷ 62 ∷ [] ≡ spelled table declarations t
+  spelled-empty none_there = sym (parts ∙ by kids none_there)
+    where
+      by : (ks : List (Rose ItemLabel)) → length ks ≡ 0
+          → written_element (written_start table declarations name attributes) (all_spelled table (roses_of kids)) (written_end table name) (roses_of ks)
+          ≡ written_start table declarations name attributes ++ 47 ∷ 62 ∷ []
+      by [] e = refl
+      by (k ∷ ks) e = absurd (omega arith)
+
+  pub spelled-kids : 0 < length kids → written_start table declarations name attributes ++ 62 ∷ all_spelled table (roses_of kids) ++ written_end table name ≡ spelled table declarations t
+  spelled-kids some = sym (parts ∙ by kids some)
+    where
+      by : (ks : List (Rose ItemLabel)) → 0 < length ks
+          → written_element (written_start table declarations name attributes) (all_spelled table (roses_of kids)) (written_end table name) (roses_of ks)
+          ≡ written_start table declarations name attributes ++ 62 ∷ all_spelled table (roses_of kids) ++ written_end table name
+      by [] e = absurd (omega arith)
+      by (k ∷ ks) e = refl
+
+regroup : (old start all end : List ℕ) → (((old ++ start) ++ 62 ∷ []) ++ all) ++ end ≡ old ++ (start ++ 62 ∷ all ++ end)
+regroup old start all end = simp append_assoc
+
+-- an element with kids, all of which are written
+pub written-kids : (table : List (List ℕ × List ℕ)) (old start end before out : List ℕ) (kids : List (Rose ItemLabel)) (i : ℕ)
+    → length kids ≤ i → before ≡ (old ++ start) ++ 62 ∷ [] → out ++ all_spelled table (roses_of (drop i kids)) ≡ before ++ all_spelled table (roses_of kids)
+    → out ++ end ≡ old ++ (start ++ 62 ∷ all_spelled table (roses_of kids) ++ end)
+written-kids table old start end before out kids i past was so_far =
+    let left : drop i kids ≡ [] = drop_all i kids past in
+    let done : out ≡ before ++ all_spelled table (roses_of kids) = sym (append-nil out) ∙ ap (λ ks. out ++ all_spelled table (roses_of ks)) (sym left) ∙ so_far in
+    ap (λ o. o ++ end) (done ∙ ap (λ b. b ++ all_spelled table (roses_of kids)) was) ∙ regroup old start (all_spelled table (roses_of kids)) end
+
+-- a whole document
+pub written-parts : (items root : Rose ItemLabel) (table : List (List ℕ × List ℕ)) (declarations : List ℕ) → root ≡ items → table ≡ prefixes items → declarations ≡ flat_map written_declaration table
+    → (xml_declaration ++ spelled table declarations root) ++ 10 ∷ [] ≡ written items
+written-parts items root table declarations same found declared =
+    ap (λ d. (xml_declaration ++ spelled table d root) ++ 10 ∷ []) declared
+    ∙ ap (λ r. (xml_declaration ++ spelled table (flat_map written_declaration table) r) ++ 10 ∷ []) same
+    ∙ ap (λ t. (xml_declaration ++ spelled t (flat_map written_declaration t) items) ++ 10 ∷ []) found

@@ -1,0 +1,29 @@
+use Rattle.std.proofs.Common.{◌≡◌, ◌++◌, ◌∷◌, [], ◌<◌, length, rules, ap, sym, ◌∙◌, arith}
+use Rattle.indexmap.proofs.MapLemmas.{OnOk-map}
+use Rattle.label_tree.proofs.Kids.{node_count-kid}
+use Rattle.doc_write.proofs.Written.{write-kid, spelled-kids, written-kids}
+use Rattle.doc_write.specs.Written.{written_start, written_end}
+use Rattle.doc_write.proofs.writing.+write_tree.Goals as goal
+
+pub write_tree-requires : goal.write_tree-requires
+write_tree-requires t c =
+    let less = node_count-kid c.args.tree.now c.kids-kids.result.now c.kids-kids.ensures c.kids.kid-index c.kid-item.result c.kids-test.true c.kid-item.is in
+    let now = c.decreases in
+    (omega (arith, less, now), tt)
+
+pub kids-preserved : goal.kids-preserved
+kids-preserved t c = write-kid _ _ _ _ _ _ _ c.kids-test.true c.kid-item.is c.in_ok-write_tree-in-Element.ensures c.kids.invariant
+
+pub returns-after-kids : goal.returns-after-kids
+returns-after-kids t c =
+    let table = c.args.prefixes.now.bound.entries in
+    let old = c.args.out.now.items in
+    let kids = c.kids-kids.result.now in
+    let name = c.in-Element.name in
+    let attributes = c.in-Element.attributes in
+    let start = written_start table c.args.declarations.now name attributes in
+    let pushed : c.push.new.self.items ≡ (old ++ start) ++ 62 ∷ [] = c.in_ok-push-in-Element.ensures.items ∙ ap (λ o. o ++ 62 ∷ []) c.in_ok-write_start-in-Element.ensures in
+    let some : 0 < length kids = search rules in
+    let spelled_is = spelled-kids table c.args.declarations.now c.args.tree.now name attributes _ _ kids (sym c.in-Element.is ∙ c.label.ensures) c.kids-kids.ensures some in
+    let all = written-kids table old start (written_end table name) c.push.new.self.items c.kids.out.items kids c.kids.kid-index c.kids-test.false pushed c.kids.invariant in
+    OnOk-map c.write_end.result _ _ (λ e. e ∙ all ∙ ap (λ s. old ++ s) spelled_is) c.write_end.ensures

@@ -1,0 +1,6 @@
+//! Writing the items of a document as XML text.
+#![tactic(auto)]
+
+mod writing;
+
+pub use writing::write_document;

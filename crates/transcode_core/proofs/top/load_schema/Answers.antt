@@ -1,0 +1,20 @@
+use Rattle.std.proofs.Common.{inl}
+use Rattle.transcode_core.specs.Requests.{root_seen}
+use Rattle.transcode_core.specs.Steps.{Loaded, Declared}
+use Rattle.transcode_core.specs.Causes.{NoMemory, OneLoad}
+use Rattle.transcode_core.proofs.Joined.{passed, refused}
+use Rattle.transcode_core.proofs.top.load_schema.Goals as goal
+
+pub returns-in-Ok-clause-due : goal.returns-in-Ok-clause-due
+returns-in-Ok-clause-due g c =
+    let entries = g.F.Library.entries c.args.files.now in
+    passed (Loaded entries c.args.file c.args.name.now) (λ bytes. Declared (root_seen c.args.root) c.args.file bytes) NoMemory
+    (OneLoad (g.F.Library.faults c.args.files.now) (g.F.Library.faults c.load_file.new.files) (g.F.Library.is_sure c.args.files.now) entries c.args.file c.args.name.now)
+    (λ _. tt) c.in-Ok.bytes.items c.check_schema.result c.in-Ok.ensures.due (rw c.deref.ensures.value at c.check_schema.ensures) (λ o h. inl h)
+
+pub returns-in-Err-clause-due : goal.returns-in-Err-clause-due
+returns-in-Err-clause-due g c =
+    let entries = g.F.Library.entries c.args.files.now in
+    let cause = OneLoad (g.F.Library.faults c.args.files.now) (g.F.Library.faults c.load_file.new.files) (g.F.Library.is_sure c.args.files.now) entries c.args.file c.args.name.now in
+    refused (Loaded entries c.args.file c.args.name.now) (λ bytes. Declared (root_seen c.args.root) c.args.file bytes) cause cause (λ (_ : Unit {0}). tt)
+    c.in-Err.outcome c.in-Err.ensures.due (λ h. h)

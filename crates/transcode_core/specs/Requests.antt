@@ -1,0 +1,16 @@
+-- What the code reads of the words.
+use Rattle.xa_base.specs.declared.texts.Name.{Name}
+use Rattle.transcode_core.specs.declared.words.Root.{Root}
+use Rattle.transcode_core.specs.declared.words.Request.{Request}
+use Rattle.transcode_core.specs.declared.words.Request.TheVariants as request
+use Rattle.transcode_core.specs.Words.{Asked, Show, Check, ToPer, ToXml, Trial}
+
+abbrev pub root_seen : Root → Name
+root_seen root = record { space = root.space.now; local = root.local.now }
+
+abbrev pub seen : Request → Asked
+seen (request.Show files) = Show files.now
+seen (request.Check root files) = Check (root_seen root) files.now
+seen (request.ToPer root files) = ToPer (root_seen root) files.now
+seen (request.ToXml root files) = ToXml (root_seen root) files.now
+seen (request.Trial lines) = Trial lines
