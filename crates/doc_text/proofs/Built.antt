@@ -1,6 +1,6 @@
 -- The code's steps as steps of states.
 use Rattle.std.proofs.Common.{◌≡◌, ℕ, ◌-◌, ◌≤◌, Bool, true, false, List, [], ◌∷◌, ◌++◌, length, map, take, reverse, None, refl, sym, ap, subst, ◌∙◌, arith, inl, inr, append_assoc}
-use Rattle.std.specs.Prelude.{nat_eq, nat_le, not, ◌==◌, ◌&&◌, encode_utf8}
+use Rattle.std.specs.Prelude.{nat_eq, nat_le, not, ◌==◌, ◌&&◌, encode_utf8, string_bytes}
 use Rattle.std.specs.List.{flat_map}
 use Rattle.std.proofs.lemmas.List.{length-append, length-map, length-reverse, reverse-append, reverse-reverse, take-append-le, take_all}
 use Rattle.std.proofs.lemmas.Bool.Decides.{eqb_tells}
@@ -86,12 +86,12 @@ entering_is b tag head written at before later scoped enters w e =
 -- before and behind the writing of the text, with other bindings
 pub record Mid (old mid : Builder) : Type 0 where
   pub kids : mid.kids.items ≡ kids_of_state (state old)
-  pub text : mid.text.items ≡ []
+  pub text : string_bytes mid.text ≡ []
   pub place : mid.text_at ≡ old.text_at
   pub opens : mid.open.items ≡ old.open.items
   pub ends : mid.ended ≡ old.ended
 
-pub mid_of : (old early mid : Builder) → Flushed early mid → early.kids.items ≡ old.kids.items → early.text.items ≡ old.text.items → early.text_at ≡ old.text_at → early.open.items ≡ old.open.items → early.ended ≡ old.ended → Mid old mid
+pub mid_of : (old early mid : Builder) → Flushed early mid → early.kids.items ≡ old.kids.items → string_bytes early.text ≡ string_bytes old.text → early.text_at ≡ old.text_at → early.open.items ≡ old.open.items → early.ended ≡ old.ended → Mid old mid
 mid_of old early mid f k t p o e = record {
   kids = f.kids ∙ rw (k, t, p) refl;
   text = f.text;
@@ -102,7 +102,7 @@ mid_of old early mid f k t p o e = record {
 
 pub start_takes : (old mid new : Builder) (f : Frame) (head : Head) (tag : Tag) (at : ℕ) → Scoped old → Enters (reverse old.scope) old.ended (length old.open.items) tag head → Mid old mid
     → new.scope ≡ old.scope ++ reverse (bindings_of tag.attributes) → new.open.items ≡ mid.open.items ++ f ∷ [] → f.written.now ≡ tag.name → f.name ≡ head.name → f.attributes ≡ head.attributes → f.declares ≡ head.declares → f.at ≡ at → f.before.items ≡ mid.kids.items
-    → new.kids.items ≡ [] → new.text.items ≡ mid.text.items → new.text_at ≡ mid.text_at → new.ended ≡ mid.ended → new.first ≡ false → new.brackets ≡ 0 → Takes (Start tag) at old new
+    → new.kids.items ≡ [] → string_bytes new.text ≡ string_bytes mid.text → new.text_at ≡ mid.text_at → new.ended ≡ mid.ended → new.first ≡ false → new.brackets ≡ 0 → Takes (Start tag) at old new
 start_takes old mid new f head tag at scoped enters m scope_is opens f1 f2 f3 f4 f5 f6 kids text place ends first brackets =
     let above : aboves new.open.items ≡ entering tag (scope (context (state old))) at (kids_of_state (state old)) ∷ aboves old.open.items =
     ap aboves opens ∙ above-push mid.open.items f ∙ ap (λ (a : Above). a ∷ aboves mid.open.items) (same_above _ _ _ _ _ _ _ _ _ _ _ _ f1 f2 f3 f4 f5 f6 ∙ entering_is old tag head tag.name at mid.kids.items (kids_of_state (state old)) scoped enters refl m.kids) ∙ ap (λ (fs : List Frame). entering tag (scope (context (state old))) at (kids_of_state (state old)) ∷ aboves fs) m.opens in
@@ -127,7 +127,7 @@ popped all own rest e =
 
 pub empty_takes : (old mid new : Builder) (head : Head) (tag : Tag) (at : ℕ) (all : List (List ℕ × List ℕ)) (count : ℕ) → Scoped old → Enters (reverse old.scope) old.ended (length old.open.items) tag head → Mid old mid
     → all ≡ old.scope ++ reverse (bindings_of tag.attributes) → new.scope ≡ take (length all - count) all → count ≡ length head.declares → new.open.items ≡ mid.open.items
-    → new.kids.items ≡ mid.kids.items ++ node (Element head.name head.attributes head.declares at) (roses_of []) ∷ [] → new.text.items ≡ mid.text.items → new.text_at ≡ mid.text_at → new.ended ≡ nat_eq (length mid.open.items) 0 → new.first ≡ false → new.brackets ≡ 0 → Takes (Empty tag) at old new
+    → new.kids.items ≡ mid.kids.items ++ node (Element head.name head.attributes head.declares at) (roses_of []) ∷ [] → string_bytes new.text ≡ string_bytes mid.text → new.text_at ≡ mid.text_at → new.ended ≡ nat_eq (length mid.open.items) 0 → new.first ≡ false → new.brackets ≡ 0 → Takes (Empty tag) at old new
 empty_takes old mid new head tag at all count scoped enters m all_is scope_is count_is opens kids text place ends first brackets =
     let s = state old in
     let element : node (Element head.name head.attributes head.declares at) (roses_of []) ≡ element_of (entering tag (scope (context s)) at []) [] = ap (λ (a : Above). element_of a []) (entering_is old tag head tag.name at [] [] scoped enters refl refl) in
@@ -141,11 +141,11 @@ empty_takes old mid new head tag at all count scoped enters m all_is scope_is co
       scoped = record { scope_is = back ∙ scoped.scope_is ∙ ap (λ (t : State). scope (context t)) (sym steps) };
     }
 
-closing_kids : (b : Builder) → b.text.items ≡ [] → kids_of_state (state b) ≡ b.kids.items
+closing_kids : (b : Builder) → string_bytes b.text ≡ [] → kids_of_state (state b) ≡ b.kids.items
 closing_kids b e = rw e refl
 
-pub shuts : (old new : Builder) (f : Frame) (count : ℕ) → old.text.items ≡ [] → old.open.items ≡ new.open.items ++ f ∷ [] → new.scope ≡ take (length old.scope - count) old.scope → count ≡ length f.declares
-    → new.kids.items ≡ f.before.items ++ node (Element f.name f.attributes f.declares f.at) (roses_of old.kids.items) ∷ [] → new.text.items ≡ old.text.items → new.text_at ≡ old.text_at → new.ended ≡ nat_eq (length new.open.items) 0 → new.first ≡ false → new.brackets ≡ 0 → Shuts old new
+pub shuts : (old new : Builder) (f : Frame) (count : ℕ) → string_bytes old.text ≡ [] → old.open.items ≡ new.open.items ++ f ∷ [] → new.scope ≡ take (length old.scope - count) old.scope → count ≡ length f.declares
+    → new.kids.items ≡ f.before.items ++ node (Element f.name f.attributes f.declares f.at) (roses_of old.kids.items) ∷ [] → string_bytes new.text ≡ string_bytes old.text → new.text_at ≡ old.text_at → new.ended ≡ nat_eq (length new.open.items) 0 → new.first ≡ false → new.brackets ≡ 0 → Shuts old new
 shuts old new f count empty opens scope_is count_is kids text place ends first brackets =
     let above : aboves old.open.items ≡ above_of f ∷ aboves new.open.items = ap aboves opens ∙ above-push new.open.items f in
     let element : node (Element f.name f.attributes f.declares f.at) (roses_of old.kids.items) ≡ element_of (above_of f) (kids_of_state (state old)) = ap (λ (ks : List (Rose ItemLabel)). element_of (above_of f) ks) (sym (closing_kids old empty)) in
@@ -160,7 +160,7 @@ shuts old new f count empty opens scope_is count_is kids text place ends first b
       };
     }
 
-pub shuts_nothing : (old new : Builder) → old.text.items ≡ [] → old.open.items ≡ [] → new.open.items ≡ [] → new.kids.items ≡ old.kids.items → new.text.items ≡ old.text.items → new.text_at ≡ old.text_at → new.ended ≡ true → new.first ≡ false → new.brackets ≡ 0 → Shuts old new
+pub shuts_nothing : (old new : Builder) → string_bytes old.text ≡ [] → old.open.items ≡ [] → new.open.items ≡ [] → new.kids.items ≡ old.kids.items → string_bytes new.text ≡ string_bytes old.text → new.text_at ≡ old.text_at → new.ended ≡ true → new.first ≡ false → new.brackets ≡ 0 → Shuts old new
 shuts_nothing old new empty none opens kids text place ends first brackets =
     let above : aboves old.open.items ≡ [] = ap aboves none in
     record {
@@ -213,6 +213,9 @@ instruction_takes old new at scoped steps same = record { none = no_instruction 
 
 kept_scope : (text : List ℕ) (at n : ℕ) (s : State) → scope (context (added text at n s)) ≡ scope (context s)
 kept_scope text at n s = ap scope (context-added text at n s s.above refl)
+
+pub add_scoped : (old new : Builder) (text : List ℕ) (at n : ℕ) → Scoped old → state new ≡ added text at n (state old) → new.scope ≡ old.scope → Scoped new
+add_scoped old new text at n scoped steps same = rescoped old new (added text at n (state old)) scoped steps same (kept_scope text at n (state old))
 
 pub cdata_stops : (b : Builder) (text : List ℕ) → reason (CData text) (context (state b)) ≡ first_true ((is_outside (context (state b)), why.TextOutside) ∷ [])
 unfolding reason

@@ -3,7 +3,7 @@ use Rattle.std.proofs.Common.{◌≡◌, ℕ, ◌+◌, ◌≤◌, ◌<◌, Bool,
 use Rattle.std.specs.Prelude.{◌&&◌, not, IsUtf8, max}
 use Rattle.std.specs.Str.{chars}
 use Rattle.std.specs.List.{list_all}
-use Rattle.std.proofs.lemmas.Str.{chars-append, IsUtf8-append, IsUtf8-nil, chars-nil}
+use Rattle.std.proofs.lemmas.Str.{chars-append, IsUtf8-append, IsUtf8-nil, chars-nil, is_utf8-from_IsUtf8}
 use Rattle.label_tree.specs.Rose.{Rose, node, Roses, none, more, roses_of, Allowed, AllowedAll, node_count, count_all}
 use Rattle.xa_base.specs.Characters.{is_xml_char}
 use Rattle.doc_text.specs.declared.label.ItemLabel.{ItemLabel}
@@ -96,7 +96,10 @@ kids-push depth ks k old allowed sound shallow apart = record {
 
 pub record IsFine (text : List ℕ) : Type 0 where
   pub utf8 : IsUtf8 text
-  pub fine : has_xml_chars text ≡ true
+  pub fine : list_all is_xml_char (chars text) ≡ true
+
+pub fine_chars : (text : List ℕ) → IsFine text → has_xml_chars text ≡ true
+fine_chars text f = and_both _ _ (is_utf8-from_IsUtf8 text f.utf8) f.fine
 
 pub nothing_fine : IsFine []
 nothing_fine = record { utf8 = IsUtf8-nil; fine = ap (list_all is_xml_char) chars-nil }
@@ -125,7 +128,7 @@ and_false_r false b e = refl
 pub kids-text : (depth : ℕ) (ks : List (Rose ItemLabel)) (text : List ℕ) (at : ℕ) → Kids depth ks → depth ≤ 64 → ends_with_text ks ≡ false → IsFine text → Kids depth (with_text ks text at)
 kids-text depth ks [] at old within apart fine = old
 kids-text depth ks (b ∷ bs) at old within apart fine =
-    kids-push depth ks (node (Text (b ∷ bs) at) none) old (refl, tt) (rw fine.fine refl) (omega arith) (and_false_l (ends_with_text ks) true apart)
+    kids-push depth ks (node (Text (b ∷ bs) at) none) old (refl, tt) (rw (fine_chars (b ∷ bs) fine) refl) (omega arith) (and_false_l (ends_with_text ks) true apart)
 
 pub count-text : (ks : List (Rose ItemLabel)) (text : List ℕ) (at : ℕ) → count_all (roses_of (with_text ks text at)) ≡ count_all (roses_of ks) + text_count text
 count-text ks [] at = omega arith

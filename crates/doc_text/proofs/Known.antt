@@ -7,7 +7,7 @@ use Rattle.xml_pieces.proofs.Facts.{begins_utf8, form_some, reference_xml, chara
 use Rattle.xml_pieces.proofs.Fine.{AreFine, attributes_fine, cdata_fine}
 use Rattle.xa_base.specs.Characters.{is_xml_char}
 use Rattle.doc_text.specs.Sound.{has_xml_chars}
-use Rattle.doc_text.proofs.Keeping.{IsFine}
+use Rattle.doc_text.proofs.Keeping.{IsFine, fine_chars}
 use Rattle.doc_text.proofs.Soundness.{Each}
 use Rattle.xml_pieces.proofs.ReasonLaws.{none_reason_one, none_reason_some}
 use Rattle.doc_text.proofs.PieceLaws.{PieceLaws, Fine}
@@ -24,7 +24,7 @@ text_fine text t = record { utf8 = t.utf8; fine = t.each }
 
 values_fine : (attributes : List (List ℕ × List ℕ)) → AreFine attributes → Each (λ a. has_xml_chars a.1 ≡ true) attributes
 values_fine [] f = tt
-values_fine (a ∷ attributes) f = (f.0.each, values_fine attributes f.1)
+values_fine (a ∷ attributes) f = (fine_chars a.1 (text_fine a.1 f.0), values_fine attributes f.1)
 
 char_fine : (code : ℕ) → is_xml_char code ≡ true → IsFine (encode_utf8 code)
 char_fine c e =

@@ -1,11 +1,10 @@
 -- The code's loop over pieces.
-use Rattle.std.proofs.Common.{◌≡◌, ◌≢◌, ℕ, ◌≤◌, ◌<◌, Bool, true, false, List, [], ◌∷◌, ◌++◌, length, Some, None, refl, sym, ap, subst, ◌∙◌, arith}
+use Rattle.std.proofs.Common.{◌≡◌, ◌≢◌, ℕ, ◌≤◌, ◌<◌, Bool, true, false, List, [], ◌∷◌, ◌++◌, length, take, drop, Some, None, refl, sym, ap, subst, ◌∙◌, arith}
 use Rattle.std.proofs.lemmas.List.{length-append, nil_from_length}
 use Rattle.std.specs.Prelude.{Result, Ok, Err, MatchResult, IfOk}
 use Rattle.label_tree.specs.Rose.{Rose}
-use Rattle.xml_pieces.specs.Pieces.{Piece}
-use Rattle.xml_pieces.specs.Reading.{piece_at}
-use Rattle.xml_pieces.specs.Reasons.{NoneReason}
+use Rattle.xml_pieces.specs.Pieces.{Piece, Begins, NoPieceAt}
+use Rattle.xml_pieces.specs.Reasons.{NoneReason, IsPlainRun}
 use Rattle.xml_pieces.specs.declared.reason.NoneWhy.{NoneWhy}
 use Rattle.doc_text.specs.declared.builder.Builder.{Builder}
 use Rattle.doc_text.specs.declared.label.ItemLabel.{ItemLabel}
@@ -13,33 +12,43 @@ use Rattle.doc_text.specs.declared.error.DocWhy.{DocWhy}
 use Rattle.doc_text.specs.declared.error.DocWhy.TheVariants as why
 use Rattle.doc_text.specs.declared.error.DocError.{DocError}
 use Rattle.doc_text.specs.declared.error.DocError.TheVariants as errors
-use Rattle.doc_text.specs.Contexts.{reason}
+use Rattle.doc_text.specs.Contexts.{is_nil, is_outside, reason}
 use Rattle.doc_text.specs.Documents.{why_of, BrokenAt, Refuses}
-use Rattle.doc_text.specs.States.{State, context}
+use Rattle.doc_text.specs.States.{State, context, open_of, added}
 use Rattle.doc_text.specs.Entering.{Stopped}
 use Rattle.doc_text.specs.Building.{state, Takes}
+use Rattle.doc_text.proofs.Telling.{is_nil-map}
 use Rattle.doc_text.proofs.Known.{laws}
 use Rattle.doc_text.proofs.Reaching.{place_of, stops, stops_where_none, is_unfinished}
-use Rattle.doc_text.proofs.Going.{Stands, DocOfItems, none_at, shorter, stands_on, ends_whole}
+use Rattle.doc_text.proofs.PlainRuns.{run_on}
+use Rattle.doc_text.proofs.Going.{Stands, DocOfItems, shorter, stands_on, ends_whole}
 
 some_rest : (rest : List ℕ) → length rest ≢ 0 → rest ≢ []
 some_rest rest some e = some (ap length e)
 
-pub at_none : (bytes rest : List ℕ) (b : Builder) (at : ℕ) (cause : NoneWhy) (w : DocWhy) → Stands bytes rest (state b) → length rest ≢ 0 → piece_at rest ≡ None → NoneReason b.first rest cause → at ≡ place_of bytes rest → w ≡ why_of cause → BrokenAt bytes at w
+pub at_none : (bytes rest : List ℕ) (b : Builder) (at : ℕ) (cause : NoneWhy) (w : DocWhy) → Stands bytes rest (state b) → length rest ≢ 0 → NoPieceAt rest → NoneReason b.first rest cause → at ≡ place_of bytes rest → w ≡ why_of cause → BrokenAt bytes at w
 at_none bytes rest b at cause w stands some e because at_is is =
-    subst (BrokenAt bytes at) (sym is) (stops_where_none bytes rest (state b) at cause stands.utf8 stands.reaches at_is (some_rest rest some) (none_at laws rest stands.rest_utf8 e) because)
+    subst (BrokenAt bytes at) (sym is) (stops_where_none bytes rest (state b) at cause stands.utf8 stands.reaches at_is (some_rest rest some) e because)
 
-pub at_fault : (bytes rest behind : List ℕ) (b : Builder) (p : Piece) (at : ℕ) (error : DocError) → Stands bytes rest (state b) → length rest ≢ 0 → at ≡ place_of bytes rest → piece_at rest ≡ Some (p, behind) → Stopped (reason p (context (state b))) at error → Refuses bytes error
+pub at_fault : (bytes rest behind : List ℕ) (b : Builder) (p : Piece) (at : ℕ) (error : DocError) → Stands bytes rest (state b) → length rest ≢ 0 → at ≡ place_of bytes rest → Begins p rest behind → Stopped (reason p (context (state b))) at error → Refuses bytes error
 at_fault bytes rest behind b p at errors.Memory stands some at_is e stopped = tt
 at_fault bytes rest behind b p at (errors.Syntax place cause) stands some at_is e stopped =
-    stops bytes rest behind (state b) p place cause stands.utf8 stands.reaches (stopped.0 ∙ at_is) (laws.takes rest behind p stands.rest_utf8 e) (some_rest rest some) stopped.1
+    stops bytes rest behind (state b) p place cause stands.utf8 stands.reaches (stopped.0 ∙ at_is) e (some_rest rest some) stopped.1
 
-pub gets_shorter : (bytes rest behind : List ℕ) (s : State) (p : Piece) → Stands bytes rest s → piece_at rest ≡ Some (p, behind) → length behind < length rest
-gets_shorter bytes rest behind s p stands e = shorter laws p rest behind (laws.takes rest behind p stands.rest_utf8 e)
+pub gets_shorter : (bytes rest behind : List ℕ) (s : State) (p : Piece) → Stands bytes rest s → Begins p rest behind → length behind < length rest
+gets_shorter bytes rest behind s p stands e = shorter laws p rest behind e
 
-pub steps_on : (bytes rest behind : List ℕ) (old new : Builder) (p : Piece) (at : ℕ) → Stands bytes rest (state old) → at ≡ place_of bytes rest → piece_at rest ≡ Some (p, behind) → Takes p at old new → Stands bytes behind (state new)
+pub steps_on : (bytes rest behind : List ℕ) (old new : Builder) (p : Piece) (at : ℕ) → Stands bytes rest (state old) → at ≡ place_of bytes rest → Begins p rest behind → Takes p at old new → Stands bytes behind (state new)
 steps_on bytes rest behind old new p at stands at_is e takes =
-    subst (Stands bytes behind) (sym takes.steps) (stands_on laws bytes rest behind (state old) p at stands at_is (laws.takes rest behind p stands.rest_utf8 e) takes.none)
+    subst (Stands bytes behind) (sym takes.steps) (stands_on laws bytes rest behind (state old) p at stands at_is e takes.none)
+
+-- plain characters, taken at once
+pub takes_plain : (bytes rest text behind : List ℕ) (old new : Builder) (n at : ℕ) → Stands bytes rest (state old) → at ≡ place_of bytes rest → 0 < n → n ≤ length rest → is_outside (context (state old)) ≡ false → IsPlainRun (take n rest) → text ≡ take n rest → behind ≡ drop n rest
+    → state new ≡ added text at 0 (state old) → Stands bytes behind (state new)
+takes_plain bytes rest text behind old new n at stands at_is more within inside run text_is behind_is steps =
+    let s = state old in
+    let here : is_nil s.above ≡ false = sym (is_nil-map open_of s.above) ∙ inside in
+    subst (λ (r : List ℕ). Stands bytes r (state new)) (sym behind_is) (subst (Stands bytes (drop n rest)) (ap (λ (t : List ℕ). added t at 0 s) (sym text_is) ∙ sym steps) (run_on n bytes rest s at more within run here stands at_is))
 
 at_end : (bytes rest : List ℕ) (s : State) → Stands bytes rest s → length rest ≡ 0 → Stands bytes [] s
 at_end bytes rest s stands e = subst (λ (r : List ℕ). Stands bytes r s) (nil_from_length rest e) stands

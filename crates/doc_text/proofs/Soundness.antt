@@ -3,14 +3,15 @@ use Rattle.std.proofs.Common.{◌≡◌, ℕ, Bool, true, false, cond, List, [],
 use Rattle.std.specs.Prelude.{◌⊎◌, ◌&&◌, ◌||◌, not, nat_le, bytes_eq}
 use Rattle.std.specs.Str.{chars, is_utf8}
 use Rattle.std.specs.List.{list_all, list_any, flat_map}
-use Rattle.std.proofs.lemmas.Str.{chars-nil}
+use Rattle.std.proofs.lemmas.Str.{chars-nil, IsUtf8-nil, is_utf8-from_IsUtf8}
 use Rattle.std.proofs.lemmas.Slice.Eq.{bytes_eq-Decides}
+use Rattle.std.proofs.Math.Utf8.{encode}
 use Rattle.xa_base.specs.Characters.{is_xml_char, is_name_start, is_name_char, is_ncname}
 use Rattle.xa_base.specs.declared.texts.Name.{Name}
 use Rattle.xml_pieces.specs.Pieces.{Tag}
 use Rattle.doc_text.specs.declared.label.ItemLabel.TheVariants.{Element}
-use Rattle.doc_text.specs.Sound.{xmlns_space, is_empty, has_xml_chars, is_sound_space, is_sound_part, is_sound_name, is_xmlns, is_sound_attribute, has_name, are_sound_attributes, is_sound_binding, is_sound_label}
-use Rattle.doc_text.specs.Namespaces.{xml_prefix, xml_space, xmlns_prefix, has_colon, prefix_of, local_of, spells_ncname, is_qname, is_long, binds, bound_prefix, bindings_of, plain_of, is_reserved, space_of, is_unbound, or_absent, element_name, attribute_name, attributes_of, expanded_twice}
+use Rattle.doc_text.specs.Sound.{xmlns_space, is_empty, has_xml_chars, is_sound_space, spells_ncname, is_sound_part, is_sound_name, is_xmlns, is_sound_attribute, has_name, are_sound_attributes, is_sound_binding, is_sound_label}
+use Rattle.doc_text.specs.Namespaces.{xml_prefix, xml_space, xmlns_prefix, has_colon, prefix_of, local_of, is_qname, is_long, binds, bound_prefix, bindings_of, plain_of, is_reserved, space_of, is_unbound, or_absent, element_name, attribute_name, attributes_of, expanded_twice}
 use Rattle.doc_text.specs.Contexts.{tag_scope, start_tests}
 use Rattle.doc_text.specs.States.{Above, open_of}
 use Rattle.doc_text.proofs.Telling.{Passed}
@@ -22,7 +23,7 @@ abbrev pub Each : {A : Type 0} → (A → Type 0) → List A → Type 0
 Each F [] = Unit {0}
 Each F (x ∷ xs) = F x × Each F xs
 
-or_parts : (a b : Bool) → (a || b) ≡ false → (a ≡ false) × (b ≡ false)
+pub or_parts : (a b : Bool) → (a || b) ≡ false → (a ≡ false) × (b ≡ false)
 or_parts true b e = absurd cc
 or_parts false b e = (refl, e)
 
@@ -30,7 +31,7 @@ not_false : (b : Bool) → not b ≡ false → b ≡ true
 not_false true e = refl
 not_false false e = absurd cc
 
-not_true : (b : Bool) → not b ≡ true → b ≡ false
+pub not_true : (b : Bool) → not b ≡ true → b ≡ false
 not_true true e = absurd cc
 not_true false e = refl
 
@@ -87,9 +88,8 @@ part_sound : (w : List ℕ) → is_qname w ≡ true → is_long w ≡ false → 
 unfolding is_qname is_long
 part_sound w q l =
     let spelled = (and_parts _ (spells_ncname (local_of w)) q).1 in
-    let name = (and_parts (is_utf8 (local_of w)) (is_ncname (chars (local_of w))) spelled).1 in
     let short = (and_parts _ (nat_le (length (local_of w)) 255) (not_false _ l)).1 in
-    and_both (is_ncname (chars (local_of w))) (nat_le (length (local_of w)) 255) name short
+    and_both (spells_ncname (local_of w)) (nat_le (length (local_of w)) 255) spelled short
 
 same_bytes : (a b : List ℕ) → bytes_eq a b ≡ true → a ≡ b
 same_bytes a b e = (bytes_eq-Decides a b).0 e
@@ -118,7 +118,7 @@ found_sound prefix (b ∷ bs) e =
     found_or prefix (bytes_eq b.0 prefix) b.1 (space_of prefix bs) (binding_gives b prefix h.0) (found_sound prefix bs h.1)
 
 absent_sound : is_sound_space [] ≡ true
-absent_sound = rw chars-nil refl
+absent_sound = rw (is_utf8-from_IsUtf8 [] IsUtf8-nil, chars-nil) refl
 
 or_absent_sound : (prefix : List ℕ) (o : Option (List ℕ)) → Found prefix o → is_sound_space (or_absent o) ≡ true
 or_absent_sound prefix None f = absent_sound
@@ -266,7 +266,7 @@ tag_sound tag outer ended depth at p fine sound =
 -- ---- bindings in scope
 
 xml_sound : is_sound_binding (xml_prefix, xml_space) ≡ true
-unfolding chars is_xml_char is_name_start is_name_char
+unfolding chars is_utf8 is_xml_char is_name_start is_name_char encode
 xml_sound = refl
 
 outer_sound : (above : List Above) → Frames above → list_all is_sound_binding (flat_map (λ e. e.declares) (map open_of above)) ≡ true

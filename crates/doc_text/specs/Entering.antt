@@ -1,11 +1,13 @@
 -- What is read at a tag.
-use Rattle.std.specs.Prelude.{◌≡◌, ℕ, Bool, List, Option, Some, None}
+use Rattle.std.specs.Prelude.{◌≡◌, ℕ, Bool, ◌&&◌, List, Option, Some, None}
+use Rattle.std.specs.List.{list_all}
+use Rattle.std.specs.Str.{is_utf8}
 use Rattle.xml_pieces.specs.Pieces.{Tag}
 use Rattle.doc_text.specs.declared.tags.Head.{Head}
 use Rattle.doc_text.specs.declared.error.DocWhy.{DocWhy}
 use Rattle.doc_text.specs.declared.error.DocError.{DocError}
 use Rattle.doc_text.specs.declared.error.DocError.TheVariants as errors
-use Rattle.doc_text.specs.Namespaces.{bindings_of, attributes_of, element_name}
+use Rattle.doc_text.specs.Namespaces.{is_qname, bindings_of, attributes_of, element_name}
 use Rattle.doc_text.specs.Contexts.{tag_scope, start_reason}
 
 -- nothing speaks against the tag, and this is what it opens
@@ -19,3 +21,11 @@ pub record Enters (outer : List (List ℕ × List ℕ)) (ended : Bool) (depth : 
 abbrev pub Stopped : Option DocWhy → ℕ → DocError → Type 0
 Stopped reason at (errors.Syntax place why) = (place ≡ at) × (reason ≡ Some why)
 Stopped reason at errors.Memory = Unit {0}
+
+-- the values of attributes are UTF-8
+abbrev pub have_utf8 : List (List ℕ × List ℕ) → Bool
+have_utf8 attributes = list_all (λ a. is_utf8 a.1) attributes
+
+-- and their names are QNames
+abbrev pub are_named : List (List ℕ × List ℕ) → Bool
+are_named attributes = list_all (λ a. is_qname a.0 && is_utf8 a.1) attributes

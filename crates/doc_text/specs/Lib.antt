@@ -4,6 +4,7 @@ pub mod Namespaces
 pub mod Tokens
 pub mod Contexts
 pub mod Documents
+pub mod Scopes
 pub mod States
 pub mod Entering
 pub mod Building

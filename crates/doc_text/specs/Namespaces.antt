@@ -2,10 +2,8 @@
 use Rattle.std.specs.Prelude.{◌==◌, ◌+◌, ℕ, Bool, true, false, ◌&&◌, ◌||◌, not, nat_le, List, [], ◌∷◌, length, take, drop, map, filter, bytes_eq, codes, Option, Some, None, if◌then◌else◌}
 use Rattle.std.specs.List.{prefix_len, list_any}
 use Rattle.std.specs.Option.{is_some}
-use Rattle.std.specs.Str.{chars, is_utf8}
-use Rattle.xa_base.specs.Characters.{is_ncname}
 use Rattle.xa_base.specs.declared.texts.Name.{Name}
-use Rattle.doc_text.specs.Sound.{is_empty, has_name, xmlns_space}
+use Rattle.doc_text.specs.Sound.{is_empty, spells_ncname, has_name, xmlns_space}
 
 abbrev pub xml_prefix : List ℕ
 xml_prefix = codes "xml"
@@ -33,10 +31,6 @@ prefix_of written = if has_colon written then take (colon_at written) written el
 -- what stands behind the first colon, all where there is none
 unfoldable pub local_of : List ℕ → List ℕ
 local_of written = if has_colon written then drop (colon_at written + 1) written else written
-
--- the bytes spell an NCName
-abbrev pub spells_ncname : List ℕ → Bool
-spells_ncname bytes = is_utf8 bytes && is_ncname (chars bytes)
 
 -- production [7] QName: an NCName, or two NCNames joined by a colon
 unfoldable pub is_qname : List ℕ → Bool

@@ -1,7 +1,7 @@
 -- What each tree of items keeps, by XML 1.0 and Namespaces in XML 1.0 and within the limits of this program.
 use Rattle.std.specs.Prelude.{◌≡◌, ℕ, suc, max, Bool, true, false, ◌&&◌, ◌||◌, not, nat_le, ◌≤◌, ◌<◌, ◌^◌, List, [], ◌∷◌, length, bytes_eq, codes}
 use Rattle.std.specs.List.{list_all, list_any}
-use Rattle.std.specs.Str.{chars}
+use Rattle.std.specs.Str.{chars, is_utf8}
 use Rattle.xa_base.specs.Characters.{is_xml_char, is_ncname}
 use Rattle.xa_base.specs.declared.texts.Name.{Name}
 use Rattle.label_tree.specs.Rose.{Rose, node, Roses, none, more, node_count, Allowed}
@@ -17,15 +17,19 @@ abbrev pub is_empty : List ℕ → Bool
 is_empty [] = true
 is_empty (b ∷ bs) = false
 
--- XML 1.0, production [2] Char
+-- UTF-8 of the characters of XML 1.0, production [2] Char
 abbrev pub has_xml_chars : List ℕ → Bool
-has_xml_chars text = list_all is_xml_char (chars text)
+has_xml_chars text = is_utf8 text && list_all is_xml_char (chars text)
+
+-- UTF-8 of an NCName (Namespaces in XML 1.0, production [4])
+abbrev pub spells_ncname : List ℕ → Bool
+spells_ncname bytes = is_utf8 bytes && is_ncname (chars bytes)
 
 abbrev pub is_sound_space : List ℕ → Bool
 is_sound_space space = has_xml_chars space && nat_le (length space) 1023 && not (bytes_eq space xmlns_space)
 
 abbrev pub is_sound_part : List ℕ → Bool
-is_sound_part part = is_ncname (chars part) && nat_le (length part) 255
+is_sound_part part = spells_ncname part && nat_le (length part) 255
 
 -- an expanded name: a namespace, empty where there is none, and an NCName
 abbrev pub is_sound_name : Name → Bool

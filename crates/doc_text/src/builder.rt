@@ -1,23 +1,25 @@
 //! What a reader has so far, and its step at each piece.
-ghost use Rattle.std.specs.Prelude.{cond, not, nat_le, encode_utf8, ◌≡◌, ◌==◌, ◌&&◌, ◌∷◌, [], reverse, IfOk, IfErr, OnOk, length};
+ghost use Rattle.std.specs.Prelude.{if◌then◌else◌, cond, not, true, false, string_bytes, nat_le, encode_utf8, ◌≡◌, ◌==◌, ◌<◌, ◌≤◌, ◌&&◌, ◌∷◌, [], reverse, take, IfOk, IfErr, IsUtf8, OnOk, length};
 ghost use Rattle.xml_pieces.specs.Pieces as pieces;
 ghost use Rattle.xml_pieces.specs.Found.{seen, tag_seen, bytes_of};
+ghost use Rattle.std.specs.List.{prefix_len};
+ghost use Rattle.xml_pieces.specs.Reasons.{IsPlainRun, is_plain_byte};
 ghost use Rattle.doc_text.specs.Contexts.{is_white, is_outside, is_innermost, first_true, end_tests, reason, scope, brackets_after};
 ghost use Rattle.doc_text.specs.States.{context, nothing, added, passed};
-ghost use Rattle.doc_text.specs.Entering.{Stopped};
+ghost use Rattle.doc_text.specs.Entering.{Stopped, have_utf8};
 ghost use Rattle.doc_text.specs.declared.error.DocWhy.TheVariants as why;
-ghost use Rattle.doc_text.specs.Building.{state, Scoped, Takes, Begins, Flushed, Shuts};
+ghost use Rattle.doc_text.specs.Building.{state, Scoped, Takes, Begins, Flushed, Shuts, GivesUtf8};
 
 use crate::error::{DocError, DocWhy};
 use crate::label::{Attributes, Bindings, ItemLabel};
 use crate::names::{is_long, is_qname, prefix_of};
-use crate::scope::{Scope, text_of};
+use crate::scope::Scope;
 use crate::tags::{enter, is_unbound, value_of};
 use label_tree::Tree;
 use std::alloc::Global;
 use std::mem;
-use xa_base::{Memory, Name};
-use xml_pieces::{Element, Found};
+use xa_base::{Memory, Name, Text};
+use xml_pieces::{Element, Found, plain_run, text_of};
 
 /// An element that is open, with what stands before it beside it.
 #[derive(Drop)]
@@ -33,13 +35,13 @@ pub(crate) struct Frame<'a> {
 #[derive(Drop)]
 pub(crate) struct Builder<'a> {
     alloc: Global,
-    scope: Scope,
+    scope: Scope<'a>,
     // The elements that are open, the innermost last.
     open: Vec<Frame<'a>>,
     // What stands in the innermost of them, or outside.
     pub(crate) kids: Vec<Tree<ItemLabel>>,
     // The characters behind these, which are no node yet.
-    text: Vec<u8>,
+    text: String,
     text_at: u64,
     pub(crate) ended: bool,
     pub(crate) first: bool,
@@ -83,7 +85,7 @@ impl<'a> Builder<'a> {
             scope,
             open: Vec::new(alloc),
             kids: Vec::new(alloc),
-            text: Vec::new(alloc),
+            text: String::new(alloc),
             text_at: 0,
             ended: false,
             first: true,
@@ -98,9 +100,9 @@ impl<'a> Builder<'a> {
         if self.text.is_empty() {
             return Ok(());
         }
-        let text = text_of(self.alloc, &self.text)?;
+        let text = String::from_str(self.alloc, self.text.as_str())?;
         let label = ItemLabel::Text {
-            text,
+            text: Text::from(text),
             at: self.text_at,
         };
         self.kids.push(Tree::leaf(self.alloc, label))?;
@@ -109,7 +111,8 @@ impl<'a> Builder<'a> {
     }
 
     fn start(&mut self, tag: Element<'a>, at: u64) -> Result<(), DocError>
-        requires { Scoped self.old }
+        requires scoped { Scoped self.old }
+        requires utf8 { have_utf8 (tag_seen tag).attributes ≡ true }
         ensures ok { OnOk result (Takes (pieces.Start (tag_seen tag.entry)) at self.old self.new) }
         ensures err { IfErr result (Stopped (reason (pieces.Start (tag_seen tag.entry)) (context (state self.old))) at) }
     {
@@ -134,7 +137,8 @@ impl<'a> Builder<'a> {
     }
 
     fn empty(&mut self, tag: Element<'a>, at: u64) -> Result<(), DocError>
-        requires { Scoped self.old }
+        requires scoped { Scoped self.old }
+        requires utf8 { have_utf8 (tag_seen tag).attributes ≡ true }
         ensures ok { OnOk result (Takes (pieces.Empty (tag_seen tag.entry)) at self.old self.new) }
         ensures err { IfErr result (Stopped (reason (pieces.Empty (tag_seen tag.entry)) (context (state self.old))) at) }
     {
@@ -143,7 +147,7 @@ impl<'a> Builder<'a> {
             Ok(head) => head,
             Err(error) => return Err(error),
         };
-        self.scope.pop(head.declares.items().len());
+        self.scope.leave(head.declares.items().len());
         self.flush()?;
         let label = ItemLabel::Element {
             name: head.name,
@@ -186,7 +190,7 @@ impl<'a> Builder<'a> {
 
     // Ends the innermost element, behind whose kids no characters stand.
     fn close(&mut self) -> Result<(), Memory>
-        requires { self.old.text.items ≡ [] }
+        requires { string_bytes self.old.text ≡ [] }
         ensures { OnOk result (Shuts self.old self.new) }
     {
         let Some(
@@ -205,8 +209,9 @@ impl<'a> Builder<'a> {
             self.brackets = 0;
             return Ok(());
         };
-        self.scope.pop(declares.items().len());
-        let kids = mem::replace(&mut self.kids, before);
+        self.scope.leave(declares.items().len());
+        let mut kids = mem::replace(&mut self.kids, before);
+        kids.shrink_to_fit();
         let label = ItemLabel::Element {
             name,
             attributes,
@@ -233,8 +238,22 @@ impl<'a> Builder<'a> {
         Ok(())
     }
 
+    // How many bytes of plain characters stand first, where an element is open.
+    pub(crate) fn plain_len(&self, rest: &[u8]) -> usize
+        requires { IsUtf8 rest.now }
+        ensures longest { result ≡ (if is_outside (context (state self.now)) then 0 else prefix_len is_plain_byte rest.now) }
+        ensures within { result ≤ length rest.now }
+        ensures inside { 0 < result → is_outside (context (state self.now)) ≡ false }
+        ensures run { 0 < result → IsPlainRun (take result rest.now) }
+    {
+        if self.is_outside() {
+            return 0;
+        }
+        plain_run(rest)
+    }
+
     // Adds characters to the text, or leaves them out outside the root.
-    fn add(&mut self, text: &[u8], at: u64, brackets: u8) -> Result<(), Memory>
+    pub(crate) fn add(&mut self, text: &str, at: u64, brackets: u8) -> Result<(), Memory>
         ensures state { OnOk result (state self.new ≡ added text.now at brackets (state self.old)) }
         ensures scope { OnOk result (self.new.scope ≡ self.old.scope) }
     {
@@ -244,7 +263,7 @@ impl<'a> Builder<'a> {
             return Ok(());
         }
         self.text_at = first_place(self.text.is_empty(), at, self.text_at);
-        self.text.extend_from_slice(text)?;
+        self.text.push_str(text)?;
         Ok(())
     }
 
@@ -297,14 +316,15 @@ impl<'a> Builder<'a> {
     }
 
     fn cdata(&mut self, text: &[u8], at: u64) -> Result<(), DocError>
-        requires { Scoped self.old }
+        requires scoped { Scoped self.old }
+        requires utf8 { IsUtf8 text.now }
         ensures ok { OnOk result (Takes (pieces.CData text.now) at self.old self.new) }
         ensures err { IfErr result (Stopped (reason (pieces.CData text.now) (context (state self.old))) at) }
     {
         if let Some(why) = self.text_reason() {
             return Err(DocError::Syntax { at, why });
         }
-        self.add(text, at, 0)?;
+        self.add(text_of(text), at, 0)?;
         Ok(())
     }
 
@@ -325,8 +345,7 @@ impl<'a> Builder<'a> {
         ensures scope { OnOk result (self.new.scope ≡ self.old.scope) }
     {
         let mut buffer = [0; 4];
-        let text = c.encode_utf8(&mut buffer);
-        self.add(text.as_bytes(), at, brackets)
+        self.add(c.encode_utf8(&mut buffer), at, brackets)
     }
 
     fn character_reason(&self, c: char) -> Option<DocWhy>
@@ -356,7 +375,8 @@ impl<'a> Builder<'a> {
 
     // Takes a piece, or says what speaks against it.
     pub(crate) fn take(&mut self, found: Found<'a>, at: u64) -> Result<(), DocError>
-        requires { Scoped self.old }
+        requires scoped { Scoped self.old }
+        requires utf8 { GivesUtf8 (seen found) }
         ensures ok { OnOk result (Takes (seen found.entry) at self.old self.new) }
         ensures err { IfErr result (Stopped (reason (seen found.entry) (context (state self.old))) at) }
     {

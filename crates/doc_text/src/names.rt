@@ -1,5 +1,6 @@
 //! Names as written.
 ghost use Rattle.std.specs.Prelude.{◌≡◌, ◌≤◌, length};
+ghost use Rattle.doc_text.specs.Sound.{spells_ncname};
 ghost use Rattle.doc_text.specs.Namespaces as names;
 
 use xa_base::is_ncname_text;
@@ -44,7 +45,7 @@ fn has_colon(written: &[u8]) -> bool
 }
 
 fn spells_ncname(bytes: &[u8]) -> bool
-    ensures { result ≡ names.spells_ncname bytes.now }
+    ensures { result ≡ spells_ncname bytes.now }
 {
     match simdutf8::basic::from_utf8(bytes) {
         Ok(text) => is_ncname_text(text),
@@ -93,13 +94,13 @@ pub(crate) fn is_reserved(prefix: &[u8], space: &[u8]) -> bool
     ensures { result ≡ names.is_reserved (prefix.now, space.now) }
 {
     let is_xml = prefix == b"xml".as_slice();
-    let is_xml_space = space == XML_SPACE;
+    let is_xml_space = space == XML_SPACE.as_bytes();
     prefix == b"xmlns".as_slice()
         || space == XMLNS_SPACE
         || is_xml != is_xml_space
         || (space.is_empty() && !prefix.is_empty())
 }
 
-pub(crate) const XML_SPACE: &[u8] = b"http://www.w3.org/XML/1998/namespace";
+pub(crate) const XML_SPACE: &str = "http://www.w3.org/XML/1998/namespace";
 
 const XMLNS_SPACE: &[u8] = b"http://www.w3.org/2000/xmlns/";

@@ -12,7 +12,7 @@ use crate::items::Items;
 use crate::label::ItemLabel;
 use label_tree::{Tree, Whole};
 use std::alloc::Global;
-use xml_pieces::{NoneWhy, read_piece, why_none};
+use xml_pieces::{NoneWhy, read_piece, text_of, why_none};
 
 const MARK: &[u8] = b"\xEF\xBB\xBF";
 
@@ -62,6 +62,13 @@ fn read_utf8(alloc: Global, bytes: &[u8]) -> Result<Items, DocError>
     let mut rest = skip_mark(bytes);
     'pieces: while !rest.is_empty() {
         let at = (bytes.len() - rest.len()) as u64;
+        let plain = builder.plain_len(rest);
+        if plain > 0 {
+            let (text, behind) = rest.split_at(plain);
+            builder.add(text_of(text), at, 0)?;
+            rest = behind;
+            continue;
+        }
         let Some((found, behind)) = read_piece(alloc, rest)? else {
             let cause = why_none(rest, builder.first);
             return Err(DocError::Syntax {

@@ -1,84 +1,129 @@
 //! The namespaces that are bound where a reader stands.
-ghost use Rattle.std.specs.Prelude.{◌≡◌, ◌≤◌, ◌∷◌, ◌++◌, ◌-◌, [], take, length, reverse, find, bytes_eq, IfOk, OnOk};
+ghost use Rattle.std.specs.Prelude.{◌≡◌, ◌≤◌, ◌∷◌, ◌++◌, ◌-◌, [], take, length, reverse, IfOk, IsUtf8, OnOk};
 ghost use Rattle.std.specs.Option.{option_map};
-ghost use Rattle.xml_pieces.specs.Reading.{Gives};
 ghost use Rattle.doc_text.specs.Namespaces as names;
 
 use crate::names::XML_SPACE;
 use std::alloc::Global;
+use std::collections::BTreeMap;
 use std::marker::Model;
-use xa_base::{Memory, Text, TextError};
+use xa_base::{Memory, Text};
 
-/// Bindings, each a prefix with a namespace, seen with the outermost first.
+// A prefix with a namespace.
 #[derive(Drop)]
-pub(crate) struct Scope {
-    bindings: Vec<(Text, Text)>,
+struct Binding<'a> {
+    prefix: &'a [u8],
+    space: Text,
+    // The place of the binding of this prefix that this one hides.
+    hidden: Option<usize>,
 }
 
-impl Model for Scope {
-    ghost use Rattle.std.specs.Prelude.{List, ℕ};
+/// The bindings in scope, each a prefix with a namespace, seen with the outermost first. A prefix is found in time in
+/// proportion to the logarithm of how many prefixes are bound, whatever names a stranger chooses.
+#[derive(Drop)]
+pub(crate) struct Scope<'a> {
+    // The outermost first.
+    bindings: Vec<Binding<'a>>,
+    // The place of the innermost binding of each prefix.
+    innermost: BTreeMap<&'a [u8], usize>,
+}
+
+impl<'a> Model for Scope<'a> {
+    ghost use Rattle.std.specs.Prelude.{List, ℕ, map};
+    ghost use Rattle.doc_text.specs.Scopes.{bound, Indexed};
 
     ghost Value = { List (List ℕ × List ℕ) };
 
-    ghost view = { λ a. a.bindings.items };
+    ghost view = { λ a. map bound a.bindings.items };
+
+    ghost invariant = { λ a. Indexed a.bindings.items a.innermost };
 }
 
-// A text of these bytes, which are UTF-8 wherever a document is read.
+// A text of these bytes, which are copied.
 pub(crate) fn text_of(alloc: Global, bytes: &[u8]) -> Result<Text, Memory>
+    requires { IsUtf8 bytes.now }
     ensures { IfOk result (λ text. text ≡ bytes.now) }
 {
-    match Text::of(alloc, bytes) {
-        Ok(text) => Ok(text),
-        Err(TextError::NotUtf8 | TextError::Memory) => Err(Memory),
-    }
+    let text = String::from_str(alloc, xml_pieces::text_of(bytes))?;
+    Ok(Text::from(text))
 }
 
-impl Scope {
+impl<'a> Scope<'a> {
     // What is bound outside the root.
-    pub(crate) fn new(alloc: Global) -> Result<Scope, Memory>
+    pub(crate) fn new(alloc: Global) -> Result<Scope<'a>, Memory>
         ensures { IfOk result (λ scope. scope ≡ (names.xml_prefix, names.xml_space) ∷ []) }
     {
-        let mut bindings = Vec::new(alloc);
-        let prefix = text_of(alloc, b"xml")?;
-        let space = text_of(alloc, XML_SPACE)?;
-        bindings.push((prefix, space))?;
-        Ok(Scope { bindings })
+        let mut scope = Scope {
+            bindings: Vec::new(alloc),
+            innermost: BTreeMap::new(alloc),
+        };
+        let space = Text::from(String::from_str(alloc, XML_SPACE)?);
+        scope.push(b"xml", space)?;
+        Ok(scope)
     }
 
     // Adds an innermost binding.
-    pub(crate) fn push(&mut self, prefix: Text, space: Text) -> Result<(), Memory>
-        ensures { OnOk result (self.new ≡ self.old ++ (prefix, space) ∷ []) }
+    pub(crate) fn push(&mut self, prefix: &'a [u8], space: Text) -> Result<(), Memory>
+        ensures { OnOk result (self.new ≡ self.old ++ (prefix.now, space) ∷ []) }
     {
-        self.bindings.push((prefix, space))?;
-        Ok(())
+        let place = self.bindings.as_slice().len();
+        let hidden = self.innermost.get(prefix).copied();
+        self.bindings.push(Binding {
+            prefix,
+            space,
+            hidden,
+        })?;
+        match self.innermost.insert(prefix, place) {
+            Ok(_) => Ok(()),
+            Err(_) => {
+                let _ = self.bindings.pop();
+                Err(Memory)
+            }
+        }
+    }
+
+    // Takes the innermost binding away.
+    fn pop(&mut self)
+        ensures { self.new ≡ take (length self.old - 1) self.old }
+    {
+        let Some(
+            Binding {
+                prefix,
+                space: _,
+                hidden,
+            },
+        ) = self.bindings.pop()
+        else {
+            return;
+        };
+        match hidden {
+            Some(place) => {
+                if let Some(innermost) = self.innermost.get_mut(prefix) {
+                    *innermost = place;
+                }
+            }
+            None => {
+                let _ = self.innermost.remove(prefix);
+            }
+        }
     }
 
     // Takes the innermost bindings away.
-    pub(crate) fn pop(&mut self, count: usize)
+    pub(crate) fn leave(&mut self, count: usize)
         ensures { self.new ≡ take (length self.old - count) self.old }
     {
-        let left = self.bindings.len().saturating_sub(count);
-        self.bindings.truncate(left);
-    }
-
-    fn find(&self, prefix: &[u8]) -> Option<&[u8]>
-        ensures { Gives (λ space. space.now) result (option_map (λ b. b.1) (find (λ b. bytes_eq b.0 prefix.now) (reverse self.now))) }
-    {
-        let mut at = self.bindings.len();
-        'innermost: while at > 0 {
-            at -= 1;
-            let binding = &self.bindings[at];
-            if binding.0.bytes() == prefix {
-                return Some(binding.1.bytes());
-            }
+        for _ in 0..count {
+            self.pop();
         }
-        None
     }
 
     // The namespace of a prefix.
-    pub(crate) fn space_of(&self, prefix: &[u8]) -> Option<&[u8]>
-        ensures { Gives (λ space. space.now) result (names.space_of prefix.now (reverse self.now)) }
+    pub(crate) fn space_of(&self, prefix: &[u8]) -> Option<&Text>
+        ensures { option_map (λ space. space.now) result ≡ names.space_of prefix.now (reverse self.now) }
     {
-        self.find(prefix)
+        let bindings = self.bindings.as_slice();
+        let place = *self.innermost.get(prefix)?;
+        prove!(place < bindings.len());
+        Some(&bindings[place].space)
     }
 }

@@ -1,10 +1,11 @@
 //! Start tags and empty tags: what speaks against one, and what it opens.
 ghost use Rattle.std.specs.List.{list_any};
-ghost use Rattle.std.specs.Prelude.{not, nat_le, ◌||◌, length, ◌&&◌, ◌≡◌, ◌∷◌, ◌++◌, [], map, reverse, IfOk, OnOk, IfErr};
+ghost use Rattle.std.specs.Option.{option_map};
+ghost use Rattle.std.specs.Prelude.{not, true, nat_le, ◌||◌, length, ◌&&◌, ◌≡◌, ◌∷◌, ◌++◌, [], map, reverse, IfOk, OnOk, IfErr};
 ghost use Rattle.xml_pieces.specs.Found.{tag_seen, attribute_of, bytes_of};
 ghost use Rattle.doc_text.specs.Namespaces as names;
 ghost use Rattle.doc_text.specs.Contexts as contexts;
-ghost use Rattle.doc_text.specs.Entering.{Enters, Stopped};
+ghost use Rattle.doc_text.specs.Entering.{Enters, Stopped, have_utf8, are_named};
 ghost use Rattle.doc_text.specs.declared.error.DocWhy.TheVariants as why;
 
 use crate::duplicates::{expanded_twice, written_twice};
@@ -83,13 +84,13 @@ fn has_reserved(tag: &Element<'_>) -> bool
 }
 
 #[tactic(auto, unfolding(crate::specs::Namespaces::is_unbound))]
-pub(crate) fn is_unbound(scope: &Scope, prefix: &[u8]) -> bool
+pub(crate) fn is_unbound(scope: &Scope<'_>, prefix: &[u8]) -> bool
     ensures { result ≡ names.is_unbound (reverse scope.now) prefix.now }
 {
     !prefix.is_empty() && (prefix == b"xmlns".as_slice() || scope.space_of(prefix).is_none())
 }
 
-fn is_any_unbound(scope: &Scope, attributes: &[Attribute<'_>]) -> bool
+fn is_any_unbound(scope: &Scope<'_>, attributes: &[Attribute<'_>]) -> bool
     ensures { result ≡ list_any (λ a. not (names.binds a.name.now) && names.is_unbound (reverse scope.now) (names.prefix_of a.name.now)) attributes.now }
 {
     attributes
@@ -97,7 +98,7 @@ fn is_any_unbound(scope: &Scope, attributes: &[Attribute<'_>]) -> bool
         .any(|a| !binds(a.name) && is_unbound(scope, prefix_of(a.name)))
 }
 
-fn has_unbound(scope: &Scope, tag: &Element<'_>) -> bool
+fn has_unbound(scope: &Scope<'_>, tag: &Element<'_>) -> bool
     ensures { result ≡ contexts.has_unbound (tag_seen tag.now) (reverse scope.now) }
 {
     let is_own = is_unbound(scope, prefix_of(tag.name));
@@ -105,33 +106,44 @@ fn has_unbound(scope: &Scope, tag: &Element<'_>) -> bool
     either(is_own, is_any)
 }
 
+// A copy of the namespace, or the empty text where there is none.
+fn copy_space(alloc: Global, space: Option<&Text>) -> Result<Text, Memory>
+    ensures { IfOk result (λ copy. copy ≡ names.or_absent (option_map (λ x. x.now) space.entry)) }
+{
+    match space {
+        Some(space) => space.copy(alloc),
+        None => Ok(Text::from(String::new(alloc))),
+    }
+}
+
 // The expanded name of an element.
 #[tactic(auto, unfolding(crate::specs::Namespaces::element_name))]
-fn element_name(alloc: Global, scope: &Scope, written: &[u8]) -> Result<Name, Memory>
+fn element_name(alloc: Global, scope: &Scope<'_>, written: &[u8]) -> Result<Name, Memory>
+    requires { names.is_qname written.now ≡ true }
     ensures { IfOk result (λ name. name ≡ names.element_name (reverse scope.now) written.now) }
 {
-    let space = scope.space_of(prefix_of(written)).unwrap_or(b"");
-    let space = text_of(alloc, space)?;
+    let space = copy_space(alloc, scope.space_of(prefix_of(written)))?;
     let local = text_of(alloc, local_of(written))?;
     Ok(Name { space, local })
 }
 
-fn attribute_space<'s>(scope: &'s Scope, prefix: &[u8]) -> &'s [u8]
-    ensures { result.now ≡ names.attribute_space (reverse scope.now) prefix.now }
+fn attribute_space<'s>(scope: &'s Scope<'_>, prefix: &[u8]) -> Option<&'s Text>
+    ensures { names.or_absent (option_map (λ x. x.now) result) ≡ names.attribute_space (reverse scope.now) prefix.now }
 {
     if prefix.is_empty() {
-        b""
+        None
     } else {
-        scope.space_of(prefix).unwrap_or(b"")
+        scope.space_of(prefix)
     }
 }
 
 // The expanded name of an attribute.
 #[tactic(auto, unfolding(crate::specs::Namespaces::attribute_name))]
-fn attribute_name(alloc: Global, scope: &Scope, written: &[u8]) -> Result<Name, Memory>
+fn attribute_name(alloc: Global, scope: &Scope<'_>, written: &[u8]) -> Result<Name, Memory>
+    requires { names.is_qname written.now ≡ true }
     ensures { IfOk result (λ name. name ≡ names.attribute_name (reverse scope.now) written.now) }
 {
-    let space = text_of(alloc, attribute_space(scope, prefix_of(written)))?;
+    let space = copy_space(alloc, attribute_space(scope, prefix_of(written)))?;
     let local = text_of(alloc, local_of(written))?;
     Ok(Name { space, local })
 }
@@ -139,9 +151,10 @@ fn attribute_name(alloc: Global, scope: &Scope, written: &[u8]) -> Result<Name, 
 // The attributes that bind nothing.
 fn read_attributes(
     alloc: Global,
-    scope: &Scope,
+    scope: &Scope<'_>,
     attributes: &[Attribute<'_>],
 ) -> Result<Vec<(Name, Text)>, Memory>
+    requires { are_named (map attribute_of attributes.now) ≡ true }
     ensures { IfOk result (λ all. all.items ≡ names.attributes_of (reverse scope.now) (map attribute_of attributes.now)) }
 {
     let mut all = Vec::new(alloc);
@@ -160,6 +173,7 @@ fn read_attributes(
 
 // What the attributes bind.
 fn read_bindings(alloc: Global, attributes: &[Attribute<'_>]) -> Result<Vec<(Text, Text)>, Memory>
+    requires { are_named (map attribute_of attributes.now) ≡ true }
     ensures { IfOk result (λ all. all.items ≡ names.bindings_of (map attribute_of attributes.now)) }
 {
     let mut all = Vec::new(alloc);
@@ -176,33 +190,40 @@ fn read_bindings(alloc: Global, attributes: &[Attribute<'_>]) -> Result<Vec<(Tex
     Ok(all)
 }
 
-// Adds bindings to those in scope, the last of them first.
-fn declare(alloc: Global, scope: &mut Scope, bindings: &[(Text, Text)]) -> Result<(), Memory>
-    ensures { OnOk result (scope.new ≡ scope.old ++ reverse bindings.now) }
+// Adds what the attributes bind to what is in scope, the last of them first.
+fn declare<'a>(
+    alloc: Global,
+    scope: &mut Scope<'a>,
+    attributes: &[Attribute<'a>],
+) -> Result<(), Memory>
+    requires { are_named (map attribute_of attributes.now) ≡ true }
+    ensures { OnOk result (scope.new ≡ scope.old ++ reverse (names.bindings_of (map attribute_of attributes.now))) }
 {
-    let mut at = bindings.len();
+    let mut at = attributes.len();
     'last_first: while at > 0 {
         at -= 1;
-        let binding = &bindings[at];
-        let prefix = binding.0.copy(alloc)?;
-        let space = binding.1.copy(alloc)?;
-        scope.push(prefix, space)?;
+        let attribute = &attributes[at];
+        if !binds(attribute.name) {
+            continue;
+        }
+        let space = text_of(alloc, value_of(&attribute.value))?;
+        scope.push(bound_prefix(attribute.name), space)?;
     }
     Ok(())
 }
 
 // What the attributes bind, which is in scope then.
-fn enter_scope(
+fn enter_scope<'a>(
     alloc: Global,
-    scope: &mut Scope,
-    attributes: &[Attribute<'_>],
+    scope: &mut Scope<'a>,
+    attributes: &[Attribute<'a>],
 ) -> Result<Vec<(Text, Text)>, Memory>
+    requires { are_named (map attribute_of attributes.now) ≡ true }
     ensures bindings { IfOk result (λ all. all.items ≡ names.bindings_of (map attribute_of attributes.now)) }
     ensures scope { OnOk result (scope.new ≡ scope.old ++ reverse (names.bindings_of (map attribute_of attributes.now))) }
 {
-    let all = read_bindings(alloc, attributes)?;
-    declare(alloc, scope, &all)?;
-    Ok(all)
+    declare(alloc, scope, attributes)?;
+    read_bindings(alloc, attributes)
 }
 
 fn has_duplicate(
@@ -254,14 +275,15 @@ fn first_of_place(ended: bool, depth: usize) -> Option<DocWhy>
 }
 
 // What a tag opens, with its bindings in scope then; or what speaks against it.
-pub(crate) fn enter(
+pub(crate) fn enter<'a>(
     alloc: Global,
-    scope: &mut Scope,
+    scope: &mut Scope<'a>,
     ended: bool,
     depth: usize,
-    tag: &Element<'_>,
+    tag: &Element<'a>,
     at: u64,
 ) -> Result<Head, DocError>
+    requires { have_utf8 (tag_seen tag.now).attributes ≡ true }
     ensures ok { IfOk result (Enters (reverse scope.old) ended depth (tag_seen tag.now)) }
     ensures scope { OnOk result (scope.new ≡ scope.old ++ reverse (names.bindings_of (tag_seen tag.now).attributes)) }
     ensures err { IfErr result (Stopped (contexts.start_reason (tag_seen tag.now) (reverse scope.old) ended depth) at) }

@@ -1,43 +1,42 @@
 -- What the steps of writing give.
-use Rattle.std.proofs.Common.{◌≡◌, ℕ, ◌+◌, ◌<◌, ◌≤◌, List, [], ◌∷◌, ◌++◌, length, drop, get_or, Bool, true, false, ◌||◌, Option, Some, None, is_some, refl, sym, ◌∙◌, ap, arith, append_assoc}
+use Rattle.std.proofs.Common.{Result, Ok, Err, Bor, map, subst, ◌≡◌, ℕ, ◌+◌, ◌<◌, ◌≤◌, List, [], ◌∷◌, ◌++◌, length, drop, get_or, refl, sym, ◌∙◌, ap, arith, append_assoc}
+use Rattle.std.specs.Prelude.{OnOk, IfOk}
 use Rattle.std.specs.List.{flat_map}
-use Rattle.std.specs.Str.{bytes_eq}
-use Rattle.std.specs.Map.{lookup}
-use Rattle.std.specs.HashMap.{get}
 use Rattle.std.proofs.lemmas.List.{drop_more, drop_all, append-nil}
-use Rattle.indexmap.proofs.CallerLemmas.{insert_entry-new}
-use Rattle.indexmap.specs.IndexMap.{IndexMap, insert_entry}
 use Rattle.xa_base.specs.declared.texts.Name.{Name}
 use Rattle.label_tree.specs.Rose.{Rose, node, roses_of, label_of, kids_of}
 use Rattle.label_tree.proofs.Roses.{roses_of-list_of, node-parts}
 use Rattle.label_tree.proofs.Kids.{roses_of-drop}
 use Rattle.doc_text.specs.declared.label.ItemLabel.{ItemLabel}
 use Rattle.doc_text.specs.declared.label.ItemLabel.TheVariants.{Element, Text}
-use Rattle.doc_text.specs.Sound.{is_empty}
-use Rattle.doc_write.specs.Spaces.{xml_space, prefixes, attribute_spaces, label_spaces, spaces, all_spaces, next_prefix, is_bound, with_space, with_spaces}
-use Rattle.doc_write.specs.Written.{text_escape, written_start, written_end, written_element, written_declaration, xml_declaration, spelled, all_spelled, written}
+use Rattle.doc_text.specs.Sound.{AreItems}
+use Rattle.read_back.specs.ReadBack.{ReadsAs}
+use Rattle.read_back.proofs.Document.{read_back}
+use Rattle.doc_write.specs.declared.prefixes.Prefix.{Prefix}
+use Rattle.written_text.specs.Spaces.{prefixes, attribute_spaces, label_spaces, spaces, all_spaces}
+use Rattle.doc_write.specs.Binding.{entry_of, with_space, with_spaces}
+use Rattle.written_text.specs.Written.{text_escape, written_start, written_end, written_element, written_declaration, xml_declaration, spelled, all_spelled, written}
 
 pub drop-item : {A : Type 0} (xs : List A) (i : ℕ) (x : A) → i < length xs → x ≡ get_or xs i x → drop i xs ≡ x ∷ drop (i + 1) xs
 drop-item xs i x at here = drop_more xs i x at ∙ ap (λ y. y ∷ drop (i + 1) xs) (sym here)
 
+-- ---- answers
+
+pub OnOk-map : {A E : Type 0} (r : Result A E) (P Q : Type 0) → (P → Q) → OnOk r P → OnOk r Q
+OnOk-map (Ok a) P Q f h = f h
+OnOk-map (Err e) P Q f h = h
+
+pub IfOk-map : {A E : Type 0} (P Q : A → Type 0) → ((a : A) → P a → Q a) → (r : Result A E) → IfOk r P → IfOk r Q
+IfOk-map P Q f (Ok a) h = f a h
+IfOk-map P Q f (Err e) h = h
+
+-- what is written of items is read back
+pub reads_back : (root items : Rose ItemLabel) (text : List ℕ) → root ≡ items → AreItems items → text ≡ written root → length text ≤ 16777216 → ReadsAs text items
+reads_back root items text same are is short =
+    let all : text ≡ written items = is ∙ ap written same in
+    subst (λ (x : List ℕ). ReadsAs x items) (sym all) (read_back items are (subst (λ (x : List ℕ). length x ≤ 16777216) all short))
+
 -- ---- binding
-
-last_false : (a b c : Bool) → (a || b || c) ≡ false → c ≡ false
-last_false true true c e = absurd (cc)
-last_false true false c e = absurd (cc)
-last_false false true c e = absurd (cc)
-last_false false false c e = e
-
-is_none : {A : Type 0} (o : Option A) → is_some o ≡ false → o ≡ None
-is_none None e = refl
-is_none (Some x) e = absurd (cc)
-
--- a namespace that isn't bound has no entry, so it goes last
-pub entries-bind : {S : Type 0} (m : IndexMap (List ℕ) (List ℕ) S) (space : List ℕ) → is_bound m.entries space ≡ false
-    → insert_entry bytes_eq m.entries space (next_prefix m.entries space) ≡ with_space m.entries space
-entries-bind m space new =
-    let absent : get bytes_eq m space ≡ None = is_none (lookup (bytes_eq space) m.entries) (last_false (is_empty space) (bytes_eq space xml_space) (is_some (lookup (bytes_eq space) m.entries)) new) in
-    rw new (insert_entry-new bytes_eq m space (next_prefix m.entries space) absent)
 
 pub with_spaces-append : (table : List (List ℕ × List ℕ)) (xs ys : List (List ℕ)) → with_spaces table (xs ++ ys) ≡ with_spaces (with_spaces table xs) ys
 with_spaces-append table [] ys = refl
@@ -80,6 +79,15 @@ write-item f before after whole xs i x at here is so_far =
     ap (λ o. o ++ flat_map f (drop (i + 1) xs)) is
     ∙ append_assoc before (f x) (flat_map f (drop (i + 1) xs))
     ∙ ap (λ ys. before ++ flat_map f ys) (sym (drop-item xs i x at here))
+    ∙ so_far
+
+pub write-entry : (before after whole : List ℕ) (xs : List (Bor (List ℕ) × Prefix)) (i : ℕ) (d : Bor (List ℕ) × Prefix)
+    → i < length xs → after ≡ before ++ written_declaration (entry_of (get_or xs i d))
+    → before ++ flat_map written_declaration (map entry_of (drop i xs)) ≡ whole → after ++ flat_map written_declaration (map entry_of (drop (i + 1) xs)) ≡ whole
+write-entry before after whole xs i d at is so_far =
+    ap (λ o. o ++ flat_map written_declaration (map entry_of (drop (i + 1) xs))) is
+    ∙ append_assoc before (written_declaration (entry_of (get_or xs i d))) (flat_map written_declaration (map entry_of (drop (i + 1) xs)))
+    ∙ ap (λ ys. before ++ flat_map written_declaration (map entry_of ys)) (sym (drop_more xs i d at))
     ∙ so_far
 
 pub write-kid : (table : List (List ℕ × List ℕ)) (before after whole : List ℕ) (kids : List (Rose ItemLabel)) (i : ℕ) (kid : Rose ItemLabel)

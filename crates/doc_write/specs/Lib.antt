@@ -1,3 +1,2 @@
-pub mod Spaces
-pub mod Written
-pub mod Same
+pub mod Escapes
+pub mod Binding

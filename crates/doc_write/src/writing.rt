@@ -1,22 +1,18 @@
 //! Writes the text of items.
-ghost use Rattle.std.specs.Prelude.{◌≡◌, ◌++◌, ◌∷◌, [], List, ℕ, Option, Some, None, map, IfOk, IfSome, IfNone, OnOk, codes, decimal, bytes_eq, is_some};
-ghost use Rattle.std.specs.List.{flat_map, list_all};
-ghost use Rattle.doc_text.specs.Sound.{is_empty};
-ghost use Rattle.doc_write.specs.Spaces.{xml_space, xsi_space, attribute_spaces, label_spaces, spaces, prefix_for, next_prefix, is_bound, with_space, with_spaces};
-ghost use Rattle.doc_write.specs.Written.{escape_in, written_name, written_value, written_attribute, written_declaration, written_start, written_end, spelled, written};
+ghost use Rattle.std.specs.Prelude.{◌≡◌, ◌≤◌, ◌++◌, ◌∷◌, [], map, length, IfOk, IfSome, IfNone, OnOk};
+ghost use Rattle.std.specs.List.{flat_map};
+ghost use Rattle.written_text.specs.Written.{written_name, written_value, written_attribute, written_declaration, written_start, written_end, spelled, written};
+ghost use Rattle.read_back.specs.ReadBack.{ReadsAs};
+ghost use Rattle.doc_write.specs.Escapes.{escape_in};
+ghost use Rattle.doc_write.specs.Binding.{prefix_text, entry_of};
 
+use crate::prefixes::{Prefix, Prefixes};
 use doc_text::{Attributes, ItemLabel, Items};
-use indexmap::IndexMap;
-use itoa::Buffer;
 use label_tree::Tree;
 use std::alloc::{AllocError, Global};
 use xa_base::{Memory, Name, Text};
 
 const XML_DECLARATION: &[u8] = b"<?xml version=\"1.0\" encoding=\"UTF-8\"?>\n";
-
-const XML_SPACE: &[u8] = b"http://www.w3.org/XML/1998/namespace";
-
-const XSI_SPACE: &str = "http://www.w3.org/2001/XMLSchema-instance";
 
 // Where characters stand: in an element, or in an attribute's value.
 #[derive(Clone, Copy)]
@@ -74,158 +70,45 @@ fn write_escaped(out: &mut Vec<u8>, place: Place, bytes: &[u8]) -> Result<(), Al
     }
 }
 
-fn text_of(alloc: Global, text: &str) -> Result<Text, Memory>
-    ensures { IfOk result (λ copy. copy ≡ text.now) }
+fn write_name(out: &mut Vec<u8>, prefixes: &Prefixes<'_>, name: &Name) -> Result<(), AllocError>
+    ensures { OnOk result (out.new.items ≡ out.old.items ++ written_name prefixes.now name.now) }
 {
-    Ok(Text::from(String::from_str(alloc, text)?))
-}
-
-fn numbered(alloc: Global, number: usize) -> Result<Text, Memory>
-    ensures { IfOk result (λ prefix. prefix ≡ codes "n" ++ decimal number) }
-{
-    let mut buffer = Buffer::new();
-    let mut prefix = String::from_str(alloc, "n")?;
-    prefix.push_str(buffer.format(number))?;
-    Ok(Text::from(prefix))
-}
-
-// The namespaces found so far, each with its prefix, in the order found. That of XML and the absent one have no entry.
-#[derive(Drop)]
-struct Prefixes {
-    bound: IndexMap<Text, Text>,
-    xsi: Text,
-    ghost xsi_is: { xsi ≡ xsi_space },
-}
-
-impl Prefixes {
-    fn new(alloc: Global) -> Result<Prefixes, Memory>
-        ensures { IfOk result (λ prefixes. prefixes.bound.entries ≡ []) }
-    {
-        let xsi = text_of(alloc, XSI_SPACE)?;
-        Ok(Prefixes {
-            bound: IndexMap::new(alloc),
-            xsi,
-        })
-    }
-
-    fn is_bound(&self, space: &Text) -> bool
-        ensures { result ≡ is_bound self.now.bound.entries space.now }
-    {
-        space.bytes().is_empty() || space.bytes() == XML_SPACE || self.bound.contains_key(space)
-    }
-
-    // The prefix of a namespace that is new.
-    fn next(&self, alloc: Global, space: &Text) -> Result<Text, Memory>
-        ensures { IfOk result (λ prefix. prefix ≡ next_prefix self.now.bound.entries space.now) }
-    {
-        if *space == self.xsi {
-            return text_of(alloc, "xsi");
-        }
-        let xsi_count = usize::from(self.bound.contains_key(&self.xsi));
-        numbered(alloc, self.bound.len() + 1 - xsi_count)
-    }
-
-    fn bind(&mut self, alloc: Global, space: &Text) -> Result<(), Memory>
-        ensures { OnOk result (self.new.bound.entries ≡ with_space self.old.bound.entries space.now) }
-    {
-        if self.is_bound(space) {
-            return Ok(());
-        }
-        let prefix = self.next(alloc, space)?;
-        let space = space.copy(alloc)?;
-        self.bound.insert(space, prefix)?;
-        Ok(())
-    }
-
-    fn bind_attributes(&mut self, alloc: Global, attributes: &Attributes) -> Result<(), Memory>
-        ensures { OnOk result (self.new.bound.entries ≡ with_spaces self.old.bound.entries (attribute_spaces attributes.now)) }
-    {
-        let entries = attributes.items();
-        'attributes: for (name, _) in entries {
-            self.bind(alloc, &name.space)?;
-        }
-        Ok(())
-    }
-
-    fn bind_label(&mut self, alloc: Global, label: &ItemLabel) -> Result<(), Memory>
-        ensures { OnOk result (self.new.bound.entries ≡ with_spaces self.old.bound.entries (label_spaces label.now)) }
-    {
-        match label {
-            ItemLabel::Element {
-                name,
-                attributes,
-                ..
-            } => {
-                self.bind(alloc, &name.space)?;
-                self.bind_attributes(alloc, attributes)
-            }
-            ItemLabel::Text { .. } => Ok(()),
-        }
-    }
-
-    // The namespaces of all names of the tree.
-    fn bind_tree(&mut self, alloc: Global, tree: &Tree<ItemLabel>) -> Result<(), Memory>
-        ensures { OnOk result (self.new.bound.entries ≡ with_spaces self.old.bound.entries (spaces tree.now)) }
-    {
-        self.bind_label(alloc, tree.label())?;
-        let kids = tree.kids();
-        'kids: for kid in kids {
-            self.bind_tree(alloc, kid)?;
-        }
-        Ok(())
-    }
-
-    fn prefix_for(&self, space: &Text) -> &[u8]
-        ensures { result.now ≡ prefix_for self.now.bound.entries space.now }
-    {
-        if space.bytes() == XML_SPACE {
-            return b"xml";
-        }
-        match self.bound.get(space) {
-            Some(prefix) => prefix.bytes(),
-            None => b"",
-        }
-    }
-}
-
-fn write_name(out: &mut Vec<u8>, prefixes: &Prefixes, name: &Name) -> Result<(), AllocError>
-    ensures { OnOk result (out.new.items ≡ out.old.items ++ written_name prefixes.now.bound.entries name.now) }
-{
-    if !name.space.bytes().is_empty() {
-        out.extend_from_slice(prefixes.prefix_for(&name.space))?;
+    let space = name.space.bytes();
+    if !space.is_empty() {
+        prefixes.write_for(out, space)?;
         out.push(b':')?;
     }
     out.extend_from_slice(name.local.bytes())
 }
 
 // The value of an attribute, behind its name.
-fn write_value(out: &mut Vec<u8>, value: &Text) -> Result<(), AllocError>
+fn write_value(out: &mut Vec<u8>, value: &[u8]) -> Result<(), AllocError>
     ensures { OnOk result (out.new.items ≡ out.old.items ++ written_value value.now) }
 {
     out.extend_from_slice(b"=\"")?;
-    write_escaped(out, Place::Value, value.bytes())?;
+    write_escaped(out, Place::Value, value)?;
     out.push(b'"')?;
     Ok(())
 }
 
 fn write_attribute(
     out: &mut Vec<u8>,
-    prefixes: &Prefixes,
+    prefixes: &Prefixes<'_>,
     attribute: &(Name, Text),
 ) -> Result<(), AllocError>
-    ensures { OnOk result (out.new.items ≡ out.old.items ++ written_attribute prefixes.now.bound.entries attribute.now) }
+    ensures { OnOk result (out.new.items ≡ out.old.items ++ written_attribute prefixes.now attribute.now) }
 {
     out.push(b' ')?;
     write_name(out, prefixes, &attribute.0)?;
-    write_value(out, &attribute.1)
+    write_value(out, attribute.1.bytes())
 }
 
 fn write_attributes(
     out: &mut Vec<u8>,
-    prefixes: &Prefixes,
+    prefixes: &Prefixes<'_>,
     attributes: &Attributes,
 ) -> Result<(), AllocError>
-    ensures { OnOk result (out.new.items ≡ out.old.items ++ flat_map (written_attribute prefixes.now.bound.entries) attributes.now) }
+    ensures { OnOk result (out.new.items ≡ out.old.items ++ flat_map (written_attribute prefixes.now) attributes.now) }
 {
     let entries = attributes.items();
     'attributes: for entry in entries {
@@ -234,43 +117,42 @@ fn write_attributes(
     Ok(())
 }
 
-fn write_declaration(out: &mut Vec<u8>, space: &Text, prefix: &Text) -> Result<(), AllocError>
-    ensures { OnOk result (out.new.items ≡ out.old.items ++ written_declaration (space.now, prefix.now)) }
+// A namespace with its prefix.
+fn write_declaration(out: &mut Vec<u8>, space: &[u8], prefix: Prefix) -> Result<(), AllocError>
+    ensures { OnOk result (out.new.items ≡ out.old.items ++ written_declaration (space.now, prefix_text prefix)) }
 {
     out.extend_from_slice(b" xmlns:")?;
-    out.extend_from_slice(prefix.bytes())?;
+    prefix.write(out)?;
     write_value(out, space)
 }
 
-// The declarations of all namespaces.
-fn declarations(alloc: Global, prefixes: &Prefixes) -> Result<Vec<u8>, AllocError>
-    ensures { IfOk result (λ text. text.items ≡ flat_map written_declaration prefixes.now.bound.entries) }
+fn write_declarations(out: &mut Vec<u8>, declared: &[(&[u8], Prefix)]) -> Result<(), AllocError>
+    ensures { OnOk result (out.new.items ≡ out.old.items ++ flat_map written_declaration (map entry_of declared.now)) }
 {
-    let mut out = Vec::new(alloc);
-    'bindings: for (space, prefix) in prefixes.bound.iter() {
-        write_declaration(&mut out, space, prefix)?;
+    'entries: for (space, prefix) in declared {
+        write_declaration(out, space, *prefix)?;
     }
-    Ok(out)
+    Ok(())
 }
 
 // A start tag without its end.
 fn write_start(
     out: &mut Vec<u8>,
-    prefixes: &Prefixes,
-    declarations: &[u8],
+    prefixes: &Prefixes<'_>,
+    declared: &[(&[u8], Prefix)],
     name: &Name,
     attributes: &Attributes,
 ) -> Result<(), AllocError>
-    ensures { OnOk result (out.new.items ≡ out.old.items ++ written_start prefixes.now.bound.entries declarations.now name.now attributes.now) }
+    ensures { OnOk result (out.new.items ≡ out.old.items ++ written_start prefixes.now (flat_map written_declaration (map entry_of declared.now)) name.now attributes.now) }
 {
     out.push(b'<')?;
     write_name(out, prefixes, name)?;
-    out.extend_from_slice(declarations)?;
+    write_declarations(out, declared)?;
     write_attributes(out, prefixes, attributes)
 }
 
-fn write_end(out: &mut Vec<u8>, prefixes: &Prefixes, name: &Name) -> Result<(), AllocError>
-    ensures { OnOk result (out.new.items ≡ out.old.items ++ written_end prefixes.now.bound.entries name.now) }
+fn write_end(out: &mut Vec<u8>, prefixes: &Prefixes<'_>, name: &Name) -> Result<(), AllocError>
+    ensures { OnOk result (out.new.items ≡ out.old.items ++ written_end prefixes.now name.now) }
 {
     out.extend_from_slice(b"</")?;
     write_name(out, prefixes, name)?;
@@ -281,11 +163,11 @@ fn write_end(out: &mut Vec<u8>, prefixes: &Prefixes, name: &Name) -> Result<(), 
 // A tree, with these declarations before the attributes of its root.
 fn write_tree(
     out: &mut Vec<u8>,
-    prefixes: &Prefixes,
-    declarations: &[u8],
+    prefixes: &Prefixes<'_>,
+    declared: &[(&[u8], Prefix)],
     tree: &Tree<ItemLabel>,
 ) -> Result<(), AllocError>
-    ensures { OnOk result (out.new.items ≡ out.old.items ++ spelled prefixes.now.bound.entries declarations.now tree.now) }
+    ensures { OnOk result (out.new.items ≡ out.old.items ++ spelled prefixes.now (flat_map written_declaration (map entry_of declared.now)) tree.now) }
 {
     let kids = tree.kids();
     match tree.label() {
@@ -295,13 +177,13 @@ fn write_tree(
             attributes,
             ..
         } => {
-            write_start(out, prefixes, declarations, name, attributes)?;
+            write_start(out, prefixes, declared, name, attributes)?;
             if kids.is_empty() {
                 return out.extend_from_slice(b"/>");
             }
             out.push(b'>')?;
             'kids: for kid in kids {
-                write_tree(out, prefixes, b"", kid)?;
+                write_tree(out, prefixes, &[], kid)?;
             }
             write_end(out, prefixes, name)
         }
@@ -312,20 +194,21 @@ fn write_tree(
 fn write_root(alloc: Global, root: &Tree<ItemLabel>) -> Result<Vec<u8>, Memory>
     ensures { IfOk result (λ text. text.items ≡ written root.now) }
 {
-    let mut prefixes = Prefixes::new(alloc)?;
-    prefixes.bind_tree(alloc, root)?;
-    let declarations = declarations(alloc, &prefixes)?;
+    let mut prefixes = Prefixes::new(alloc);
+    prefixes.bind_tree(root)?;
     let mut out = Vec::from_slice(alloc, XML_DECLARATION)?;
-    write_tree(&mut out, &prefixes, &declarations, root)?;
+    write_tree(&mut out, &prefixes, prefixes.entries(), root)?;
     out.push(b'\n')?;
     Ok(out)
 }
 
 /// The text of a document with these items, in UTF-8. All namespaces are declared on the root, each with one prefix, and
-/// the default namespace isn't used. The time is linear in the length of the text, but for the look-ups of namespaces in
-/// a hash table.
+/// the default namespace isn't used. The time is linear in the length of the text, but for a factor of the logarithm of
+/// the number of namespaces. Where the text has at most 16,777,216 bytes, which is what a document may have, it is read
+/// back as the same items.
 pub fn write_document(alloc: Global, items: &Items) -> Result<Vec<u8>, Memory>
-    ensures { IfOk result (λ text. text.items ≡ written items.now) }
+    ensures written { IfOk result (λ text. text.items ≡ written items.now) }
+    ensures read_back { IfOk result (λ text. length text.items ≤ 16777216 → ReadsAs text.items items.now) }
 {
     write_root(alloc, items.tree().root())
 }

@@ -1,13 +1,13 @@
 -- What is read at the front is a piece there, and a piece there is read.
 use Rattle.std.proofs.Common.{◌≡◌, ◌≢◌, ℕ, ◌<◌, true, false, eqb, List, [], ◌∷◌, ◌++◌, length, drop, Option, Some, None, refl, sym, ap, subst, ◌∙◌, append_assoc, inl, inr, arith}
-use Rattle.std.specs.Prelude.{IsUtf8, chars, encode_utf8, encode_utf8_all}
+use Rattle.std.specs.Prelude.{IsUtf8, MatchOption, Result, Ok, Err, IfOk, chars, encode_utf8, encode_utf8_all}
 use Rattle.std.specs.List.{list_all}
 use Rattle.std.proofs.lemmas.List.{drop_at}
 use Rattle.std.proofs.lemmas.Bool.{ne_eqb}
 use Rattle.std.proofs.lemmas.Str.{chars-nil, encodes-chars, encode_ascii, encode_same, chars_past_char}
 use Rattle.xa_base.specs.Characters.{is_xml_char, is_name}
 use Rattle.xml_pieces.specs.Pieces.{Tag, Piece, Declaration, Start, Empty, End, Comment, Instruction, CData, Reference, Character, behind, Exact, IsName, IsTag, IsCharacter, Form, Begins, NoPieceAt}
-use Rattle.xml_pieces.specs.Reading.{◌>>=◌, ahead, only, is_name_byte, first_at, char_at, line_end_at, character_at, comment_at, cdata_at, question_at, end_at, tag_at, markup_at, reference_at, piece_at}
+use Rattle.xml_pieces.specs.Reading.{◌>>=◌, Gives, ahead, only, is_name_byte, first_at, char_at, line_end_at, character_at, comment_at, cdata_at, question_at, end_at, tag_at, markup_at, reference_at, piece_at}
 use Rattle.xml_pieces.proofs.Strips.{behind_again, behind_takes}
 use Rattle.xml_pieces.proofs.Tools.{bind_some, pairs, only_some, and_true, ahead_cases, never}
 use Rattle.xml_pieces.proofs.Utf8.{behind_utf8}
@@ -252,3 +252,12 @@ piece_again bytes rest p u b = ap piece_at b.parts ∙ form_again p b.front rest
 
 pub no_piece : (bytes : List ℕ) → IsUtf8 bytes → piece_at bytes ≡ None → NoPieceAt bytes
 no_piece bytes u e p rest b = never (p, rest) (sym e ∙ piece_again bytes rest p u b)
+
+-- what was read, in the words of the grammar
+read_one : {X : Type 0} (bytes : List ℕ) (piece : X → Piece) (rest : X → List ℕ) (o : Option X) → IsUtf8 bytes → Gives (λ x. (piece x, rest x)) o (piece_at bytes) → MatchOption o (NoPieceAt bytes) (λ x. Begins (piece x) bytes (rest x))
+read_one bytes piece rest None u e = no_piece bytes u e
+read_one bytes piece rest (Some x) u e = piece_takes bytes (rest x) (piece x) u e
+
+pub read_by_grammar : {X E : Type 0} (bytes : List ℕ) (piece : X → Piece) (rest : X → List ℕ) (r : Result (Option X) E) → IsUtf8 bytes → IfOk r (λ o. Gives (λ x. (piece x, rest x)) o (piece_at bytes)) → IfOk r (λ o. MatchOption o (NoPieceAt bytes) (λ x. Begins (piece x) bytes (rest x)))
+read_by_grammar bytes piece rest (Ok o) u e = read_one bytes piece rest o u e
+read_by_grammar bytes piece rest (Err error) u e = tt

@@ -1,6 +1,6 @@
 //! The piece at the front of a text.
-ghost use Rattle.std.specs.Prelude.{◌≡◌, Some, IfOk, IsUtf8, length};
-ghost use Rattle.xml_pieces.specs.Pieces.{Exact};
+ghost use Rattle.std.specs.Prelude.{◌≡◌, Some, IfOk, IsUtf8, MatchOption, length};
+ghost use Rattle.xml_pieces.specs.Pieces.{Exact, Begins, NoPieceAt};
 ghost use Rattle.xml_pieces.specs.Reading.{Gives, char_at, line_end_at, character_at, markup_at, piece_at, tag_at, cdata_at};
 ghost use Rattle.xml_pieces.specs.Found.{seen};
 
@@ -72,13 +72,9 @@ fn markup<'a>(alloc: Global, bytes: &'a [u8]) -> Result<Option<(Found<'a>, &'a [
     tag(alloc, bytes)
 }
 
-/// The piece at the front of the text, and what is behind it; `None` where no piece begins. Takes time in proportion to
-/// the length of the piece, or of the rest where there is none.
+// The piece at the front of the text, and what is behind it.
 #[tactic(auto, unfolding(crate::specs::Reading::piece_at))]
-pub fn read_piece<'a>(
-    alloc: Global,
-    bytes: &'a [u8],
-) -> Result<Option<(Found<'a>, &'a [u8])>, Memory>
+fn first_piece<'a>(alloc: Global, bytes: &'a [u8]) -> Result<Option<(Found<'a>, &'a [u8])>, Memory>
     requires { IsUtf8 bytes.now }
     ensures { IfOk result (λ o. Gives (λ x. (seen x.0, x.1.now)) o (piece_at bytes.now)) }
 {
@@ -92,4 +88,16 @@ pub fn read_piece<'a>(
         return Ok(Some((Found::Reference(c), behind)));
     }
     Ok(character(bytes))
+}
+
+/// The piece at the front of the text, by the grammar of XML 1.0, and what is behind it; `None` where no piece begins.
+/// Takes time in proportion to the length of the piece, or of the rest where there is none.
+pub fn read_piece<'a>(
+    alloc: Global,
+    bytes: &'a [u8],
+) -> Result<Option<(Found<'a>, &'a [u8])>, Memory>
+    requires { IsUtf8 bytes.now }
+    ensures { IfOk result (λ o. MatchOption o (NoPieceAt bytes.now) (λ x. Begins (seen x.0) bytes.now x.1.now)) }
+{
+    first_piece(alloc, bytes)
 }

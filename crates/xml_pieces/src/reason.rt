@@ -130,9 +130,10 @@ fn is_plain_byte(b: u8) -> bool
 }
 
 /// How many bytes at the front are a run of plain characters: each is a piece by itself, and none is `<`, `&`, `>`, `]`
-/// or a carriage return. The run need not be the longest: it stops before each character from U+F000 to U+FFFF.
+/// or a carriage return. The run also stops before each character from U+F000 to U+FFFF, and is the longest else.
 pub fn plain_run(bytes: &[u8]) -> usize
     requires { IsUtf8 bytes.now }
+    ensures longest { result ≡ prefix_len reasons.is_plain_byte bytes.now }
     ensures within { result ≤ length bytes.now }
     ensures run { IsPlainRun (take result bytes.now) }
     ensures rest { IsUtf8 (drop result bytes.now) }

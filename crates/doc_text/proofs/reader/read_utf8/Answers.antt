@@ -1,10 +1,14 @@
-use Rattle.std.proofs.Common.{◌≡◌, Some, None, rules, arith, refl, sym, subst}
+use Rattle.std.proofs.Common.{◌≡◌, take, rules, arith, refl, sym, subst}
+use Rattle.xml_pieces.specs.Reasons.{IsPlainRun}
+use Rattle.doc_text.proofs.Known.{laws}
+use Rattle.doc_text.proofs.Utf8.{gives_utf8}
 use Rattle.xml_pieces.specs.Found.{seen}
-use Rattle.xml_pieces.specs.Reading.{piece_at}
+use Rattle.xml_pieces.specs.Pieces.{Begins, NoPieceAt}
 use Rattle.doc_text.specs.States.{State}
 use Rattle.doc_text.specs.Building.{state}
 use Rattle.doc_text.proofs.Going.{Stands, stands_first}
-use Rattle.doc_text.proofs.Read.{at_none, at_fault, steps_on, gets_shorter, last_kid, unfinished, not_ended, sealed}
+use Rattle.doc_text.proofs.Built.{add_scoped}
+use Rattle.doc_text.proofs.Read.{at_none, at_fault, steps_on, gets_shorter, takes_plain, last_kid, unfinished, not_ended, sealed}
 use Rattle.doc_text.proofs.Places.{doc_ascends}
 use Rattle.label_tree.specs.Rose.{Rose}
 use Rattle.doc_text.specs.declared.label.ItemLabel.{ItemLabel}
@@ -21,26 +25,43 @@ pieces-init c = record {
 
 pub returns-in_default-clause-err : goal.returns-in_default-clause-err
 returns-in_default-clause-err c =
-    let e : piece_at c.pieces.rest.now ≡ None = search rules in
+    let e : NoPieceAt c.pieces.rest.now = search rules in
     at_none c.args.bytes.now c.pieces.rest.now c.pieces.builder _ _ _ c.pieces.invariant.stands (search rules) e c.why_none-cause.ensures refl c.why.ensures
 
 pub returns-in-Err-clause-err : goal.returns-in-Err-clause-err
 returns-in-Err-clause-err c =
-    let e : piece_at c.pieces.rest.now ≡ Some (seen c.in-Some.found, c.in-Some.behind.now) = search rules in
+    let e : Begins (seen c.in-Some.found) c.pieces.rest.now c.in-Some.behind.now = search rules in
     at_fault c.args.bytes.now c.pieces.rest.now c.in-Some.behind.now c.pieces.builder (seen c.in-Some.found) _ c.in-Err.error c.pieces.invariant.stands (search rules) refl e c.in-Err.ensures.err
 
 pub pieces-smaller : goal.pieces-smaller
 pieces-smaller c =
-    let e : piece_at c.pieces.rest.now ≡ Some (seen c.in-Some.found, c.in-Some.behind.now) = search rules in
+    let e : Begins (seen c.in-Some.found) c.pieces.rest.now c.in-Some.behind.now = search rules in
     gets_shorter c.args.bytes.now c.pieces.rest.now c.in-Some.behind.now (state c.pieces.builder) (seen c.in-Some.found) c.pieces.invariant.stands e
 
 pub pieces-preserved : goal.pieces-preserved
 pieces-preserved c =
-    let e : piece_at c.pieces.rest.now ≡ Some (seen c.in-Some.found, c.in-Some.behind.now) = search rules in
+    let e : Begins (seen c.in-Some.found) c.pieces.rest.now c.in-Some.behind.now = search rules in
     record {
       stands = steps_on c.args.bytes.now c.pieces.rest.now c.in-Some.behind.now c.pieces.builder c.take.new.self (seen c.in-Some.found) _ c.pieces.invariant.stands refl e c.in-Ok.ensures.ok;
       scoped = c.in-Ok.ensures.ok.scoped;
     }
+
+pub text_of-requires : goal.text_of-requires
+text_of-requires c =
+    let run : IsPlainRun (take c.plain_len-plain.result c.pieces.rest.now) = search rules in
+    let same : c.split_at.result.0.now ≡ take c.plain_len-plain.result c.pieces.rest.now = search rules in
+    rw same run.utf8
+
+pub take-requires-clause-utf8 : goal.take-requires-clause-utf8
+take-requires-clause-utf8 c =
+    let e : Begins (seen c.in-Some.found) c.pieces.rest.now c.in-Some.behind.now = search rules in
+    gives_utf8 (seen c.in-Some.found) (laws.fine (seen c.in-Some.found) c.pieces.rest.now c.in-Some.behind.now c.pieces.invariant.stands.rest_utf8 e)
+
+pub pieces-preserved-then-plain-gt0 : goal.pieces-preserved-then-plain-gt0
+pieces-preserved-then-plain-gt0 c = record {
+  stands = takes_plain c.args.bytes.now c.pieces.rest.now c.text_of.result.now c.split_at.result.1.now c.pieces.builder c.add.new.self c.plain_len-plain.result _ c.pieces.invariant.stands refl (search rules) (search rules) (search rules) (search rules) (search rules) (search rules) (search rules);
+  scoped = add_scoped c.pieces.builder c.add.new.self c.text_of.result.now _ 0 c.pieces.invariant.scoped c.in_ok-add.ensures.state c.in_ok-add.ensures.scope;
+}
 
 pub seal-requires : goal.seal-requires
 seal-requires c = (last_kid c.args.bytes.now c.pieces.rest.now c.pieces.builder c.in-Some-pop.root c.pop.new.self.items c.requires.short c.pieces.invariant.stands (search rules) (search rules) (search rules)).items

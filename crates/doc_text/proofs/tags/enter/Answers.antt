@@ -4,7 +4,14 @@ use Rattle.xml_pieces.specs.Found.{tag_seen, attribute_of}
 use Rattle.xml_pieces.specs.declared.found.Attribute.{Attribute}
 use Rattle.doc_text.specs.Namespaces.{bindings_of}
 use Rattle.doc_text.proofs.Entered.{names_stop, unbound_stop, duplicate_stop, behind_inner, enters}
+use Rattle.doc_text.proofs.Utf8.{all_named}
 use Rattle.doc_text.proofs.tags.enter.Goals as goal
+
+pub enter_scope-requires : goal.enter_scope-requires
+enter_scope-requires c = rw c.deref.ensures.value (all_named (tag_seen c.args.tag.now) (search rules) c.requires)
+
+pub read_attributes-requires : goal.read_attributes-requires
+read_attributes-requires c = rw c.deref-2.ensures.value (all_named (tag_seen c.args.tag.now) (search rules) c.requires)
 
 pub returns-in-Some-clause-err : goal.returns-in-Some-clause-err
 returns-in-Some-clause-err c = (refl, names_stop (tag_seen c.args.tag.now) (reverse c.args.scope.now) c.args.ended c.args.depth c.in-Some.why (search rules))

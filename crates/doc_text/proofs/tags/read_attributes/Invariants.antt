@@ -1,11 +1,15 @@
-use Rattle.std.proofs.Common.{◌≡◌, ◌++◌, length, map}
+use Rattle.std.proofs.Common.{◌≡◌, ◌++◌, true, length, map}
 use Rattle.std.specs.Prelude.{reverse}
 use Rattle.xml_pieces.specs.Found.{attribute_of}
 use Rattle.doc_text.specs.Namespaces.{attributes_of}
+use Rattle.doc_text.specs.Entering.{are_named}
 use Rattle.doc_text.proofs.tags.read_attributes.Given as goal
 
 abbrev pub invariant-each : goal.invariant-each
-invariant-each l = l.all.items ++ attributes_of (reverse l.scope) (map attribute_of l.rest) ≡ attributes_of (reverse l.scope) (map attribute_of l.attributes)
+invariant-each l = record {
+  so_far : l.all.items ++ attributes_of (reverse l.scope) (map attribute_of l.rest) ≡ attributes_of (reverse l.scope) (map attribute_of l.attributes);
+  named : are_named (map attribute_of l.rest) ≡ true;
+}
 
 abbrev pub decreases-each : goal.decreases-each
 decreases-each l = length l.rest

@@ -1,10 +1,14 @@
-use Rattle.std.proofs.Common.{◌≡◌, ◌++◌, length, map}
+use Rattle.std.proofs.Common.{◌≡◌, ◌++◌, true, length, map}
 use Rattle.xml_pieces.specs.Found.{attribute_of}
 use Rattle.doc_text.specs.Namespaces.{bindings_of}
+use Rattle.doc_text.specs.Entering.{are_named}
 use Rattle.doc_text.proofs.tags.read_bindings.Given as goal
 
 abbrev pub invariant-each : goal.invariant-each
-invariant-each l = l.all.items ++ bindings_of (map attribute_of l.rest) ≡ bindings_of (map attribute_of l.attributes)
+invariant-each l = record {
+  so_far : l.all.items ++ bindings_of (map attribute_of l.rest) ≡ bindings_of (map attribute_of l.attributes);
+  named : are_named (map attribute_of l.rest) ≡ true;
+}
 
 abbrev pub decreases-each : goal.decreases-each
 decreases-each l = length l.rest

@@ -1,8 +1,9 @@
-use Rattle.std.proofs.Common.{◌≡◌, ◌++◌, ◌∷◌, [], ◌<◌, length, rules, ap, sym, ◌∙◌, arith}
-use Rattle.indexmap.proofs.MapLemmas.{OnOk-map}
+use Rattle.std.specs.List.{flat_map}
+use Rattle.std.proofs.Common.{map, ◌≡◌, ◌++◌, ◌∷◌, [], ◌<◌, length, rules, ap, sym, ◌∙◌, arith}
 use Rattle.label_tree.proofs.Kids.{node_count-kid}
-use Rattle.doc_write.proofs.Written.{write-kid, spelled-kids, written-kids}
-use Rattle.doc_write.specs.Written.{written_start, written_end}
+use Rattle.doc_write.proofs.Written.{OnOk-map, write-kid, spelled-kids, written-kids}
+use Rattle.written_text.specs.Written.{written_declaration, written_start, written_end}
+use Rattle.doc_write.specs.Binding.{entry_of}
 use Rattle.doc_write.proofs.writing.+write_tree.Goals as goal
 
 pub write_tree-requires : goal.write_tree-requires
@@ -16,14 +17,15 @@ kids-preserved t c = write-kid _ _ _ _ _ _ _ c.kids-test.true c.kid-item.is c.in
 
 pub returns-after-kids : goal.returns-after-kids
 returns-after-kids t c =
-    let table = c.args.prefixes.now.bound.entries in
+    let table = c.args.prefixes.now in
     let old = c.args.out.now.items in
     let kids = c.kids-kids.result.now in
     let name = c.in-Element.name in
     let attributes = c.in-Element.attributes in
-    let start = written_start table c.args.declarations.now name attributes in
+    let declarations = flat_map written_declaration (map entry_of c.args.declared.now) in
+    let start = written_start table declarations name attributes in
     let pushed : c.push.new.self.items ≡ (old ++ start) ++ 62 ∷ [] = c.in_ok-push-in-Element.ensures.items ∙ ap (λ o. o ++ 62 ∷ []) c.in_ok-write_start-in-Element.ensures in
     let some : 0 < length kids = search rules in
-    let spelled_is = spelled-kids table c.args.declarations.now c.args.tree.now name attributes _ _ kids (sym c.in-Element.is ∙ c.label.ensures) c.kids-kids.ensures some in
+    let spelled_is = spelled-kids table declarations c.args.tree.now name attributes _ _ kids (sym c.in-Element.is ∙ c.label.ensures) c.kids-kids.ensures some in
     let all = written-kids table old start (written_end table name) c.push.new.self.items c.kids.out.items kids c.kids.kid-index c.kids-test.false pushed c.kids.invariant in
     OnOk-map c.write_end.result _ _ (λ e. e ∙ all ∙ ap (λ s. old ++ s) spelled_is) c.write_end.ensures

@@ -1,10 +1,10 @@
 use Rattle.std.proofs.Common.{◌≡◌, ◌++◌, drop}
 use Rattle.std.specs.List.{flat_map}
-use Rattle.doc_write.specs.Written.{written_attribute}
+use Rattle.written_text.specs.Written.{written_attribute}
 use Rattle.doc_write.proofs.writing.write_attributes.Given as goal
 
 -- what is written, with what is still to be written
 abbrev pub invariant-attributes : goal.invariant-attributes
 invariant-attributes l =
-    l.out.items ++ flat_map (written_attribute l.prefixes.bound.entries) (drop l.entry-index l.entries)
-    ≡ l.fn.out.items ++ flat_map (written_attribute l.prefixes.bound.entries) l.entries
+    l.out.items ++ flat_map (written_attribute l.prefixes) (drop l.entry-index l.entries)
+    ≡ l.fn.out.items ++ flat_map (written_attribute l.prefixes) l.entries

@@ -6,10 +6,10 @@ use Rattle.doc_text.proofs.Built.{empty_stops, enters_here, mid_of, empty_takes}
 use Rattle.doc_text.proofs.builder.Builder.empty.Goals as goal
 
 pub returns-in-Err-clause-err : goal.returns-in-Err-clause-err
-returns-in-Err-clause-err c = subst (λ (o : Option DocWhy). Stopped o c.args.at c.in-Err.error) (empty_stops c.args.self.now (tag_seen c.args.tag) (length c.as_slice-depth.result.now) c.requires (search rules)) c.in-Err.ensures.err
+returns-in-Err-clause-err c = subst (λ (o : Option DocWhy). Stopped o c.args.at c.in-Err.error) (empty_stops c.args.self.now (tag_seen c.args.tag) (length c.as_slice-depth.result.now) c.requires.scoped (search rules)) c.in-Err.ensures.err
 
 pub returns-clause-ok : goal.returns-clause-ok
-returns-clause-ok c = empty_takes c.args.self.now c.flush.new.self _ c.in-Ok.head (tag_seen c.args.tag) c.args.at c.enter.new.scope _ c.requires
+returns-clause-ok c = empty_takes c.args.self.now c.flush.new.self _ c.in-Ok.head (tag_seen c.args.tag) c.args.at c.enter.new.scope _ c.requires.scoped
     (enters_here c.args.self.now (tag_seen c.args.tag) (length c.as_slice-depth.result.now) c.in-Ok.head (search rules) c.in-Ok.ensures.ok)
     (mid_of c.args.self.now _ c.flush.new.self c.in_ok-flush.ensures refl refl refl refl refl)
-    c.in-Ok.ensures.scope (c.in_ok-flush.ensures.same_scope ∙ c.pop.ensures) (search rules) refl (search rules) refl refl (search rules) refl refl
+    c.in-Ok.ensures.scope (c.in_ok-flush.ensures.same_scope ∙ c.leave.ensures) (search rules) refl (search rules) refl refl (search rules) refl refl

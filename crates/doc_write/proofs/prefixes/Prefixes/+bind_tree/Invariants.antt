@@ -1,0 +1,13 @@
+use Rattle.std.proofs.Common.{◌≡◌, drop}
+use Rattle.label_tree.specs.Rose.{node_count, roses_of}
+use Rattle.written_text.specs.Spaces.{spaces, all_spaces}
+use Rattle.doc_write.specs.Binding.{with_spaces}
+use Rattle.doc_write.proofs.prefixes.Prefixes.+bind_tree.Given as goal
+
+abbrev pub decreases-bind_tree : goal.decreases-bind_tree
+decreases-bind_tree l = node_count l.tree.now
+
+-- what is bound, with what is still to be bound
+abbrev pub invariant-kids : goal.invariant-kids
+invariant-kids l =
+    with_spaces l.self (all_spaces (roses_of (drop l.kid-index l.kids))) ≡ with_spaces l.fn.self (spaces l.tree)

@@ -1,8 +1,0 @@
-use Rattle.std.proofs.Common.{◌≡◌, drop}
-use Rattle.doc_write.specs.Spaces.{attribute_spaces, with_spaces}
-use Rattle.doc_write.proofs.writing.Prefixes.bind_attributes.Given as goal
-
--- what is bound, with what is still to be bound
-abbrev pub invariant-attributes : goal.invariant-attributes
-invariant-attributes l =
-    with_spaces l.self.bound.entries (attribute_spaces (drop l.name-index l.entries)) ≡ with_spaces l.fn.self.bound.entries (attribute_spaces l.entries)

@@ -1,0 +1,40 @@
+-- Namespaces bound one after another, as they are found. A table has namespaces, each with its prefix. Only private
+-- contracts use this: `prefixes` of written_text says what is written.
+use Rattle.std.specs.Prelude.{◌≡◌, ℕ, ◌+◌, ◌-◌, List, [], ◌∷◌, ◌++◌, length, map, fold, Bool, ◌||◌, is_some, if◌then◌else◌, codes, decimal, bytes_eq}
+use Rattle.std.specs.Borrow.{Bor}
+use Rattle.std.specs.Ordering.{nat_cmp}
+use Rattle.std.specs.Cmp.Lexicographic.{slice_cmp}
+use Rattle.std.specs.BTreeMap.{BTreeMap, get_by}
+use Rattle.std.specs.Map.{lookup}
+use Rattle.std.specs.Option.{option_map}
+use Rattle.doc_text.specs.Sound.{is_empty}
+use Rattle.doc_write.specs.declared.prefixes.Prefix.{Prefix}
+use Rattle.doc_write.specs.declared.prefixes.Prefix.TheVariants.{Xsi, Numbered}
+use Rattle.written_text.specs.Spaces.{xml_space, xsi_space}
+
+abbrev pub prefix_text : Prefix → List ℕ
+prefix_text Xsi = codes "xsi"
+prefix_text (Numbered number) = codes "n" ++ decimal number
+
+abbrev pub entry_of : Bor (List ℕ) × Prefix → List ℕ × List ℕ
+entry_of e = (e.0.now, prefix_text e.1)
+
+-- the map finds in the entries
+pub record Indexed (entries : List (Bor (List ℕ) × Prefix)) (by_space : BTreeMap (Bor (List ℕ)) Prefix) : Type 0 where
+  pub found : (space : List ℕ) → option_map prefix_text (get_by (λ key. slice_cmp nat_cmp space key.now) by_space) ≡ lookup (bytes_eq space) (map entry_of entries)
+
+-- the prefix of a namespace that is new in the table
+abbrev pub next_prefix : List (List ℕ × List ℕ) → List ℕ → List ℕ
+next_prefix table space =
+    if bytes_eq space xsi_space
+    then codes "xsi"
+    else codes "n" ++ decimal (length table + 1 - (if is_some (lookup (bytes_eq xsi_space) table) then 1 else 0))
+
+abbrev pub is_bound : List (List ℕ × List ℕ) → List ℕ → Bool
+is_bound table space = is_empty space || bytes_eq space xml_space || is_some (lookup (bytes_eq space) table)
+
+abbrev pub with_space : List (List ℕ × List ℕ) → List ℕ → List (List ℕ × List ℕ)
+with_space table space = if is_bound table space then table else table ++ (space, next_prefix table space) ∷ []
+
+abbrev pub with_spaces : List (List ℕ × List ℕ) → List (List ℕ) → List (List ℕ × List ℕ)
+with_spaces table more_spaces = fold with_space table more_spaces

@@ -1,0 +1,171 @@
+//! The prefixes under which the namespaces of a document are declared.
+ghost use Rattle.std.specs.Prelude.{◌≡◌, ◌++◌, [], map, OnOk, bytes_eq};
+ghost use Rattle.std.specs.Option.{option_map};
+ghost use Rattle.std.specs.Map.{lookup};
+ghost use Rattle.written_text.specs.Spaces.{attribute_spaces, label_spaces, spaces, prefix_for};
+ghost use Rattle.doc_write.specs.Binding.{prefix_text, entry_of, next_prefix, is_bound, with_space, with_spaces};
+
+use doc_text::{Attributes, ItemLabel};
+use itoa::Buffer;
+use label_tree::Tree;
+use std::alloc::{AllocError, Global};
+use std::collections::BTreeMap;
+use std::marker::Model;
+
+// Namespaces in XML 1.0, section 3.
+const XML_SPACE: &[u8] = b"http://www.w3.org/XML/1998/namespace";
+
+// XML Schema Part 1, section 2.6.
+const XSI_SPACE: &[u8] = b"http://www.w3.org/2001/XMLSchema-instance";
+
+// `xsi`, or `n` with a number.
+#[derive(Clone, Copy)]
+pub(crate) enum Prefix {
+    Xsi,
+    Numbered(usize),
+}
+
+// The namespaces found so far, each with its prefix, in the order found. That of XML and the absent one have no entry.
+// One is found in time in proportion to the logarithm of their number, whatever names a stranger chooses.
+#[derive(Drop)]
+pub(crate) struct Prefixes<'a> {
+    found: Vec<(&'a [u8], Prefix)>,
+    by_space: BTreeMap<&'a [u8], Prefix>,
+}
+
+impl<'a> Model for Prefixes<'a> {
+    ghost use Rattle.std.specs.Prelude.{List, ℕ, map};
+    ghost use Rattle.doc_write.specs.Binding.{entry_of, Indexed};
+
+    ghost Value = { List (List ℕ × List ℕ) };
+
+    ghost view = { λ a. map entry_of a.found.items };
+
+    ghost invariant = { λ a. Indexed a.found.items a.by_space };
+}
+
+impl<'a> Prefixes<'a> {
+    pub(crate) fn new(alloc: Global) -> Prefixes<'a>
+        ensures { result ≡ [] }
+    {
+        Prefixes {
+            found: Vec::new(alloc),
+            by_space: BTreeMap::new(alloc),
+        }
+    }
+
+    // The namespaces with their prefixes.
+    pub(crate) fn entries(&self) -> &[(&'a [u8], Prefix)]
+        ensures { map entry_of result.now ≡ self.now }
+    {
+        self.found.as_slice()
+    }
+
+    // The prefix under which a namespace is declared.
+    fn get(&self, space: &[u8]) -> Option<Prefix>
+        ensures { option_map prefix_text result ≡ lookup (bytes_eq space.now) self.now }
+    {
+        self.by_space.get(space).copied()
+    }
+
+    // A namespace that needs no entry more.
+    fn is_bound(&self, space: &[u8]) -> bool
+        ensures { result ≡ is_bound self.now space.now }
+    {
+        space.is_empty() || space == XML_SPACE || self.get(space).is_some()
+    }
+
+    // The prefix of a namespace that is new.
+    fn next(&self, space: &[u8]) -> Prefix
+        ensures { prefix_text result ≡ next_prefix self.now space.now }
+    {
+        if space == XSI_SPACE {
+            return Prefix::Xsi;
+        }
+        let xsi_count = usize::from(self.get(XSI_SPACE).is_some());
+        Prefix::Numbered(self.found.len() + 1 - xsi_count)
+    }
+
+    fn bind(&mut self, space: &'a [u8]) -> Result<(), AllocError>
+        ensures { OnOk result (self.new ≡ with_space self.old space.now) }
+    {
+        if self.is_bound(space) {
+            return Ok(());
+        }
+        let prefix = self.next(space);
+        self.found.push((space, prefix))?;
+        match self.by_space.insert(space, prefix) {
+            Ok(_) => Ok(()),
+            Err(_) => {
+                let _ = self.found.pop();
+                Err(AllocError)
+            }
+        }
+    }
+
+    fn bind_attributes(&mut self, attributes: &'a Attributes) -> Result<(), AllocError>
+        ensures { OnOk result (self.new ≡ with_spaces self.old (attribute_spaces attributes.now)) }
+    {
+        let entries = attributes.items();
+        'attributes: for (name, _) in entries {
+            self.bind(name.space.bytes())?;
+        }
+        Ok(())
+    }
+
+    fn bind_label(&mut self, label: &'a ItemLabel) -> Result<(), AllocError>
+        ensures { OnOk result (self.new ≡ with_spaces self.old (label_spaces label.now)) }
+    {
+        match label {
+            ItemLabel::Element {
+                name,
+                attributes,
+                ..
+            } => {
+                self.bind(name.space.bytes())?;
+                self.bind_attributes(attributes)
+            }
+            ItemLabel::Text { .. } => Ok(()),
+        }
+    }
+
+    // The namespaces of all names of the tree.
+    pub(crate) fn bind_tree(&mut self, tree: &'a Tree<ItemLabel>) -> Result<(), AllocError>
+        ensures { OnOk result (self.new ≡ with_spaces self.old (spaces tree.now)) }
+    {
+        self.bind_label(tree.label())?;
+        let kids = tree.kids();
+        'kids: for kid in kids {
+            self.bind_tree(kid)?;
+        }
+        Ok(())
+    }
+
+    // Writes the prefix of a namespace, nothing where it has none.
+    pub(crate) fn write_for(&self, out: &mut Vec<u8>, space: &[u8]) -> Result<(), AllocError>
+        ensures { OnOk result (out.new.items ≡ out.old.items ++ prefix_for self.now space.now) }
+    {
+        if space == XML_SPACE {
+            return out.extend_from_slice(b"xml");
+        }
+        match self.get(space) {
+            Some(prefix) => prefix.write(out),
+            None => Ok(()),
+        }
+    }
+}
+
+impl Prefix {
+    pub(crate) fn write(self, out: &mut Vec<u8>) -> Result<(), AllocError>
+        ensures { OnOk result (out.new.items ≡ out.old.items ++ prefix_text self) }
+    {
+        match self {
+            Prefix::Xsi => out.extend_from_slice(b"xsi"),
+            Prefix::Numbered(number) => {
+                let mut buffer = Buffer::new();
+                out.push(b'n')?;
+                out.extend_from_slice(buffer.format(number).as_bytes())
+            }
+        }
+    }
+}

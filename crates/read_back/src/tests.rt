@@ -1,0 +1,6 @@
+use crate::same_items;
+
+#[test]
+fn laws() {
+    same_items();
+}
