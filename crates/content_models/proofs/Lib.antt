@@ -1,6 +1,7 @@
 pub mod Beginning
 pub mod Next
 pub mod Opening
+pub mod Placing
 mod Rows
 pub mod Sets
 pub mod Splitting

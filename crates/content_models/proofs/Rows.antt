@@ -3,12 +3,14 @@ use Rattle.std.proofs.Common.{◌≡◌, ℕ, ◌⊎◌, inl, inr, List, [], ◌
 use Rattle.label_tree.specs.Rose.{node}
 use Rattle.label_tree.specs.Rose as rose
 use Rattle.xa_base.specs.declared.texts.Name.{Name}
-use Rattle.content_models.specs.Particle.{Particle, occurs, Term, element, sequence, choice, none, more}
+use Rattle.content_models.specs.Particle.{Particle, occurs, Term, element, sequence, choice, Particles, none, more}
 use Rattle.content_models.specs.Language.{Leaf, Lang, leaf_at, turn_of}
-use Rattle.content_models.specs.Breaches.{all_placed, IsFirstBreach}
+use Rattle.content_models.specs.Breaches.{Placed, placed, all_placed, Breaks, StandsFrom, IsFirstBreach}
 use Rattle.content_models.specs.declared.particles.ParticleKind.{ParticleKind}
 use Rattle.content_models.specs.declared.particles.ParticleKind.TheVariants.{Element, Sequence}
 use Rattle.content_models.specs.declared.particles.ParticleLabel.{ParticleLabel}
+use Rattle.content_models.specs.declared.breaches.Breach.{Breach}
+use Rattle.std.proofs.lemmas.List.Elements.{All-nil, All-cons}
 use Rattle.content_models.proofs.Opening.{lang_opens}
 use Rattle.content_models.specs.Clear.{Apart, Rule1, Clear}
 
@@ -92,18 +94,49 @@ lists3 =
     let u : List Leaf = leaf_at 0 0 a (turn_of 0 1 ∷ []) ∷ [] in
     (2, omega arith, (w, u, refl, refl, (u, [], refl, refl, refl)))
 
--- an optional a, then a, as a tree: the first breach is at the optional one
-label : ParticleKind → ℕ → ℕ → ParticleLabel
-label kind least at = record { kind = kind; min = least; max = Some 1; file = 1; at = at }
+-- as trees: the first breach is at the least place of a particle that breaks a rule
+label : ParticleKind → ℕ → Option ℕ → ℕ → ParticleLabel
+label kind least most at = record { kind = kind; min = least; max = most; file = 1; at = at }
 
+at_place : ℕ → Breach
+at_place at = record { file = 1; at = at }
+
+-- an optional a, then a: it is at the optional one
 breach1 : IsFirstBreach
     (all_placed
-    (node (label Sequence 1 92)
-    (rose.more (node (label (Element 0 a) 0 105) rose.none) (rose.more (node (label (Element 1 a) 1 159) rose.none) rose.none)))
+    (node (label Sequence 1 (Some 1) 92)
+    (rose.more (node (label (Element 0 a) 0 (Some 1) 105) rose.none) (rose.more (node (label (Element 1 a) 1 (Some 1) 159) rose.none) rose.none)))
     [])
-    (record { file = 1; at = 105 })
-unfolding label
-breach1 = inr ((inl (refl, refl), inl refl, tt), inl (λ k. go k.1, (refl, refl)))
+    (at_place 105)
+unfolding label at_place
+breach1 =
+    let P : Placed → Type 0 = λ p. Breaks p → StandsFrom p.label (at_place 105) in
+    let ps : Particles = more (occurs (element 0 a) 0 (Some 1)) (more (one (element 1 a)) none) in
+    let whole : Placed = placed (label Sequence 1 (Some 1) 92) (sequence ps) [] in
+    let before : Placed = placed (label (Element 0 a) 0 (Some 1) 105) (element 0 a) (a ∷ []) in
+    let behind : Placed = placed (label (Element 1 a) 1 (Some 1) 159) (element 1 a) [] in
+    record {
+      breaks = (1, before, omega arith, refl, (λ keeps. go keeps.1, (refl, refl)));
+      least =
+          All-cons P whole (before ∷ behind ∷ []) (λ breaks. absurd (breaks (inl (refl, refl), inl refl, tt)))
+          (All-cons P before (behind ∷ []) (λ _. inr (refl, omega arith)) (All-cons P behind [] (λ _. inr (refl, omega arith)) (All-nil P)));
+    }
+  where
+    go : ◌≡◌ {A = Option ℕ} (Some 1) (Some 0) ⊎ Apart (a ∷ []) (a ∷ []) → ⊥
+    go (inl e) = cc
+    go (inr h) = h a (inl refl) (inl refl)
+
+-- a repeated sequence that may be empty, written behind its particle: both break a rule, and the least place counts
+breach2 : IsFirstBreach (all_placed (node (label Sequence 1 None 159) (rose.more (node (label (Element 0 a) 0 (Some 1) 105) rose.none) rose.none)) []) (at_place 105)
+unfolding label at_place
+breach2 =
+    let P : Placed → Type 0 = λ p. Breaks p → StandsFrom p.label (at_place 105) in
+    let whole : Placed = placed (label Sequence 1 None 159) (sequence (more (occurs (element 0 a) 0 (Some 1)) none)) [] in
+    let inner : Placed = placed (label (Element 0 a) 0 (Some 1) 105) (element 0 a) (a ∷ []) in
+    record {
+      breaks = (1, inner, omega arith, refl, (λ keeps. go keeps.1, (refl, refl)));
+      least = All-cons P whole (inner ∷ []) (λ _. inr (refl, omega arith)) (All-cons P inner [] (λ _. inr (refl, omega arith)) (All-nil P));
+    }
   where
     go : ◌≡◌ {A = Option ℕ} (Some 1) (Some 0) ⊎ Apart (a ∷ []) (a ∷ []) → ⊥
     go (inl e) = cc

@@ -1,7 +1,6 @@
 -- What one more particle changes, where particles are read from the last.
 use Rattle.std.proofs.Common.{◌≡◌, ℕ, ◌+◌, ◌-◌, ◌<◌, ◌≤◌, Bool, true, false, ◌||◌, ◌&&◌, List, [], Option, length, drop, get_or, refl, sym, ap, ◌∙◌, Bor, arith}
 use Rattle.std.specs.List.{list_any}
-use Rattle.std.specs.Option.{option_or}
 use Rattle.std.specs.BTreeSet.{BTreeSet}
 use Rattle.std.proofs.Math.Bool.{or_comm}
 use Rattle.label_tree.specs.Rose.{Rose, Roses, roses_of}
@@ -11,7 +10,7 @@ use Rattle.xa_base.specs.declared.texts.Name.{Name}
 use Rattle.content_models.specs.Particle.{Particle, Particles, more}
 use Rattle.content_models.specs.Clear.{and_then, first, first_in_order, first_of_any, empties, all_empty, any_empty}
 use Rattle.content_models.specs.Seen.{seen, all_seen}
-use Rattle.content_models.specs.Deciding.{has, lent, holds, clash, body_follow, after_follow, breach_of, breach_in_order}
+use Rattle.content_models.specs.Deciding.{has, lent, holds, clash, body_follow, after_follow, earliest, breach_of, breach_in_order}
 use Rattle.content_models.specs.declared.particles.ParticleLabel.{ParticleLabel}
 use Rattle.content_models.specs.declared.breaches.Breach.{Breach}
 use Rattle.content_models.proofs.Sets.{has_append}
@@ -61,13 +60,13 @@ and_comm false false = refl
 
 pub search_step : (t : Rose ParticleLabel) (ts : Roses ParticleLabel) (follow : Name → Bool) (found here whole : Option Breach) (through empty : Bool) (after new : BTreeSet (Bor Name))
     → Searched found after through ts follow
-    → here ≡ breach_of t (λ a. holds after a || (through && follow a)) → whole ≡ option_or here found
+    → here ≡ breach_of t (λ a. holds after a || (through && follow a)) → whole ≡ earliest here found
     → empty ≡ empties (seen t) → ((a : Name) → holds new a ≡ (has (first (seen t)) a || (empties (seen t) && holds after a)))
     → Searched whole new (through && empty) (rose.more t ts) follow
 search_step t ts follow found here whole through empty after new so_far h w e put = record {
   found_ =
       let same : (λ (a : Name). holds after a || (through && follow a)) ≡ after_follow (all_seen ts) follow = λ i a. so_far.names a i || (so_far.through_ i && follow a) in
-      w ∙ (λ i. option_or (h i) (so_far.found_ i)) ∙ ap (λ P. option_or (breach_of t P) (breach_in_order ts follow)) same;
+      w ∙ (λ i. earliest (h i) (so_far.found_ i)) ∙ ap (λ P. earliest (breach_of t P) (breach_in_order ts follow)) same;
   names = λ a.
       put a ∙ (λ i. has (first (seen t)) a || (empties (seen t) && so_far.names a i)) ∙ sym (has_then (first (seen t)) (first_in_order (all_seen ts)) (empties (seen t)) a);
   through_ = (λ i. so_far.through_ i && e i) ∙ and_comm (all_empty (all_seen ts)) (empties (seen t));

@@ -1,8 +1,8 @@
 -- The tests of the decider tell whether the rules are kept, and its answer is the first particle that doesn't keep them.
-use Rattle.std.proofs.Common.{◌≡◌, ℕ, ◌⊎◌, inl, inr, Bool, true, false, cond, ◌||◌, ◌&&◌, List, [], ◌∷◌, ◌++◌, Option, Some, None, nat_eq, refl, sym, ap, ◌∙◌, subst}
+use Rattle.std.proofs.Common.{◌≡◌, ℕ, ◌⊎◌, inl, inr, Bool, true, false, cond, ◌||◌, ◌&&◌, List, [], ◌∷◌, ◌++◌, Option, Some, None, nat_eq, refl, sym, ap, ◌∙◌, subst, arith}
 use Rattle.std.specs.Prelude.{not, MatchOption, IfOk, Result, Ok, Err}
-use Rattle.std.specs.List.{list_any}
-use Rattle.std.specs.Option.{option_or}
+use Rattle.std.specs.List.{list_any, All, Any, Contains}
+use Rattle.std.proofs.lemmas.List.Elements.{All-nil, All-cons, All-append, All-weaker, All-contains, Contains-append_left, Contains-append_right}
 use Rattle.std.proofs.Math.Bool.{or_comm}
 use borrow.Author.Tests.{eqb-true, eq-eqb}
 use Rattle.label_tree.specs.Rose.{Rose, node, Roses}
@@ -13,12 +13,13 @@ use Rattle.xa_base.proofs.NameLaws.{name_eq-Decides}
 use Rattle.content_models.specs.Particle.{Term, element, sequence, choice, Particles, none, more}
 use Rattle.content_models.specs.Clear.{Has, Apart, and_then, first, first_of_term, first_in_order, first_of_any, empties, empties_term, all_empty, any_empty, repeats, follow_of_body, Rule1, Rule2, Rule3, AllApart, OneEmpty, Clear, ClearBelow, ClearInOrder, ClearOneOf}
 use Rattle.content_models.specs.Seen.{seen, term_seen, all_seen}
-use Rattle.content_models.specs.Breaches.{Placed, placed, all_placed, placed_in_order, placed_of_any, KeepsRules, IsFirstBreach}
-use Rattle.content_models.specs.Deciding.{has, is_once, is_fixed, breaks_bounds, clash, breaks_choice, breach_at, body_follow, after_follow, breach_of, breach_in_order, breach_of_any}
+use Rattle.content_models.specs.Breaches.{Placed, placed, all_placed, placed_in_order, placed_of_any, KeepsRules, Breaks, StandsAt, StandsFrom, IsFirstBreach}
+use Rattle.content_models.specs.Deciding.{has, is_once, is_fixed, breaks_bounds, clash, breaks_choice, breach_at, breach_if, is_before, earlier, earliest, body_follow, after_follow, breach_of, breach_in_order, breach_of_any}
 use Rattle.content_models.specs.declared.particles.ParticleKind.{ParticleKind}
 use Rattle.content_models.specs.declared.particles.ParticleKind.TheVariants.{Element, Sequence, Choice}
 use Rattle.content_models.specs.declared.particles.ParticleLabel.{ParticleLabel}
 use Rattle.content_models.specs.declared.breaches.Breach.{Breach}
+use Rattle.content_models.proofs.Placing.{from_one, from_other, earliest_twice}
 use Rattle.content_models.proofs.Sets.{has_append}
 use Rattle.content_models.proofs.Steps.{has_then}
 
@@ -198,36 +199,91 @@ keep_back : (ps qs : List Placed) → KeepAll (ps ++ qs) → KeepAll qs
 keep_back [] qs h = h
 keep_back (p ∷ ps) qs h = keep_back ps qs h.1
 
-first_front : (ps qs : List Placed) (breach : Breach) → IsFirstBreach ps breach → IsFirstBreach (ps ++ qs) breach
-first_front [] qs breach h = absurd h
-first_front (p ∷ ps) qs breach (inl h) = inl h
-first_front (p ∷ ps) qs breach (inr h) = inr (h.0, first_front ps qs breach h.1)
+-- one that breaks a rule stands there
+abbrev pub BreaksAt : List Placed → Breach → Type 0
+BreaksAt ps breach = Any (λ p. Breaks p × StandsAt p.label breach) ps
 
-first_back : (ps qs : List Placed) (breach : Breach) → KeepAll ps → IsFirstBreach qs breach → IsFirstBreach (ps ++ qs) breach
-first_back [] qs breach k h = h
-first_back (p ∷ ps) qs breach k h = inr (k.0, first_back ps qs breach k.1 h)
+-- and none that breaks one stands before
+abbrev pub NoneBefore : List Placed → Breach → Type 0
+NoneBefore ps breach = All (λ p. Breaks p → StandsFrom p.label breach) ps
+
+-- where none breaks a rule, none that breaks one stands before
+none_before : (ps : List Placed) (breach : Breach) → KeepAll ps → NoneBefore ps breach
+none_before [] breach k = All-nil (λ p. Breaks p → StandsFrom p.label breach)
+none_before (p ∷ ps) breach k =
+    All-cons (λ p. Breaks p → StandsFrom p.label breach) p ps (λ breaks. absurd (breaks k.0)) (none_before ps breach k.1)
+
+keeps_here : (ps : List Placed) (p : Placed) → KeepAll ps → Contains ps p → KeepsRules p
+keeps_here ps p k here = All-contains KeepsRules ps p (kept_all ps k) here
+  where
+    kept_all : (ps : List Placed) → KeepAll ps → All KeepsRules ps
+    kept_all [] k = All-nil KeepsRules
+    kept_all (p ∷ ps) k = All-cons KeepsRules p ps k.0 (kept_all ps k.1)
 
 first_breaks : (ps : List Placed) (breach : Breach) → IsFirstBreach ps breach → KeepAll ps → ⊥
-first_breaks [] breach h k = h
-first_breaks (p ∷ ps) breach (inl h) k = h.0 k.0
-first_breaks (p ∷ ps) breach (inr h) k = first_breaks ps breach h.1 k.1
+first_breaks ps breach h k =
+    let b = h.breaks in
+    b.4.0 (keeps_here ps b.1 k (b.0, b.2, b.3))
 
-told_append : (o d : Option Breach) (ps qs : List Placed) → Told o ps → Told d qs → Told (option_or o d) (ps ++ qs)
+front_breaks : (ps qs : List Placed) (breach : Breach) → BreaksAt ps breach → BreaksAt (ps ++ qs) breach
+front_breaks ps qs breach b = let h = Contains-append_left ps qs b.1 (b.0, b.2, b.3) in (h.0, b.1, h.1, h.2, b.4)
+
+back_breaks : (ps qs : List Placed) (breach : Breach) → BreaksAt qs breach → BreaksAt (ps ++ qs) breach
+back_breaks ps qs breach b = let h = Contains-append_right ps qs b.1 (b.0, b.2, b.3) in (h.0, b.1, h.1, h.2, b.4)
+
+none_before_earlier : (ps : List Placed) (b e : Breach) → ((l : ParticleLabel) → StandsFrom l b → StandsFrom l e) → NoneBefore ps b → NoneBefore ps e
+none_before_earlier ps b e from h =
+    All-weaker (λ p. Breaks p → StandsFrom p.label b) (λ p. Breaks p → StandsFrom p.label e) (λ p k breaks. from p.label (k breaks)) ps h
+
+both_before : (ps qs : List Placed) (e : Breach) → NoneBefore ps e → NoneBefore qs e → NoneBefore (ps ++ qs) e
+both_before ps qs e h k = All-append (λ p. Breaks p → StandsFrom p.label e) ps qs h k
+
+either_breaks : (ps qs : List Placed) (b c : Breach) (later : Bool) → BreaksAt ps b → BreaksAt qs c → BreaksAt (ps ++ qs) (cond later c b)
+either_breaks ps qs b c true h k = back_breaks ps qs c k
+either_breaks ps qs b c false h k = front_breaks ps qs b h
+
+told_append : (o d : Option Breach) (ps qs : List Placed) → Told o ps → Told d qs → Told (earliest o d) (ps ++ qs)
 told_append None None ps qs h k = keep_append ps qs h k
-told_append None (Some breach) ps qs h k = first_back ps qs breach h k
-told_append (Some breach) d ps qs h k = first_front ps qs breach h
+told_append None (Some c) ps qs h k = record {
+  breaks = back_breaks ps qs c k.breaks;
+  least = both_before ps qs c (none_before ps c h) k.least;
+}
+told_append (Some b) None ps qs h k = record {
+  breaks = front_breaks ps qs b h.breaks;
+  least = both_before ps qs b h.least (none_before qs b k);
+}
+told_append (Some b) (Some c) ps qs h k = record {
+  breaks = either_breaks ps qs b c (is_before c b) h.breaks k.breaks;
+  least =
+      both_before ps qs (earlier b c) (none_before_earlier ps b (earlier b c) (from_one b c) h.least) (none_before_earlier qs c (earlier b c) (from_other b c) k.least);
+}
 
 told_rest : (d : Option Breach) (p : Placed) (ps : List Placed) → KeepsRules p → Told d ps → Told d (p ∷ ps)
-told_rest None p ps h k = (h, k)
-told_rest (Some breach) p ps h k = inr (h, k)
+told_rest d p ps h k = told_append None d (p ∷ []) ps (h, tt) k
+
+-- a particle that breaks a rule
+told_here : (p : Placed) → Breaks p → Told (Some (breach_at p.label)) (p ∷ [])
+told_here p breaks = record {
+  breaks = (0, p, omega arith, refl, (breaks, (refl, refl)));
+  least = All-cons (λ q. Breaks q → StandsFrom q.label (breach_at p.label)) p [] (λ _. inr (refl, omega arith)) (All-nil (λ q. Breaks q → StandsFrom q.label (breach_at p.label)));
+}
+
+told_first : (p : Placed) (ps : List Placed) (rest : Option Breach) → Breaks p → Told rest ps → Told (earliest (Some (breach_at p.label)) rest) (p ∷ ps)
+told_first p ps rest breaks h = told_append (Some (breach_at p.label)) rest (p ∷ []) ps (told_here p breaks) h
+
+-- the same particle twice
+told_again : (p : Placed) (ps : List Placed) (rest : Option Breach) → Breaks p → Told rest ps
+    → Told (earliest (Some (breach_at p.label)) (earliest (Some (breach_at p.label)) rest)) (p ∷ ps)
+told_again p ps rest breaks h = subst (λ o. Told o (p ∷ ps)) (sym (earliest_twice (breach_at p.label) rest)) (told_first p ps rest breaks h)
 
 told_node : (p : Placed) (ps : List Placed) (bounds alternatives : Bool) (rest : Option Breach)
     → Refutes bounds (Rule1 p.term p.label.min p.label.max × Rule2 p.term p.label.min p.label.max p.follow)
     → Refutes alternatives (Rule3 p.term (follow_of_body p.follow p.term p.label.max))
     → Told rest ps
-    → Told (cond bounds (Some (breach_at p.label)) (cond alternatives (Some (breach_at p.label)) rest)) (p ∷ ps)
-told_node p ps true alternatives rest h k r = inl (λ keeps. h.1 refl (keeps.0, keeps.1), (refl, refl))
-told_node p ps false true rest h k r = inl (λ keeps. k.1 refl keeps.2, (refl, refl))
+    → Told (earliest (breach_if bounds p.label) (earliest (breach_if alternatives p.label) rest)) (p ∷ ps)
+told_node p ps true true rest h k r = told_again p ps rest (λ keeps. h.1 refl (keeps.0, keeps.1)) r
+told_node p ps true false rest h k r = told_first p ps rest (λ keeps. h.1 refl (keeps.0, keeps.1)) r
+told_node p ps false true rest h k r = told_first p ps rest (λ keeps. k.1 refl keeps.2) r
 told_node p ps false false rest h k r = let b = h.0 refl in told_rest rest p ps (b.0, b.1, k.0 refl) r
 
 always : (A : Type 0) → A → Refutes false A
@@ -237,11 +293,11 @@ told_kind : (l : ParticleLabel) (kind : ParticleKind) (ts : Roses ParticleLabel)
     → ((a : Name) → P a ≡ has follow a) → ((a : Name) → inner a ≡ has body a) → body ≡ follow_of_body follow (term_seen kind (all_seen ts)) l.max
     → Told (breach_in_order ts inner) (placed_in_order ts body) → Told (breach_of_any ts inner) (placed_of_any ts body)
     → Told
-    (cond (breaks_bounds l.min l.max (empties_term (term_seen kind (all_seen ts))) (first_of_term (term_seen kind (all_seen ts))) P) (Some (breach_at l))
+    (earliest (breach_if (breaks_bounds l.min l.max (empties_term (term_seen kind (all_seen ts))) (first_of_term (term_seen kind (all_seen ts))) P) l)
     (elim kind [
       | Element d a ↦ None
       | Sequence ↦ breach_in_order ts inner
-      | Choice ↦ cond (breaks_choice (all_seen ts) inner) (Some (breach_at l)) (breach_of_any ts inner)
+      | Choice ↦ earliest (breach_if (breaks_choice (all_seen ts) inner) l) (breach_of_any ts inner)
     ]))
     (placed l (term_seen kind (all_seen ts)) follow ∷ (elim kind [ Element d a ↦ [] | Sequence ↦ placed_in_order ts body | Choice ↦ placed_of_any ts body ]))
 told_kind l (Element d a) ts P inner follow body same below is order any =

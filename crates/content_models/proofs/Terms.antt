@@ -1,14 +1,15 @@
 -- What a node is, by its label and its kids.
-use Rattle.std.proofs.Common.{◌≡◌, Bool, false, cond, Some, None, List, refl, sym, ap, subst, ◌∙◌}
+use Rattle.std.proofs.Common.{◌≡◌, Bool, Option, None, List, refl, sym, ap, ◌∙◌}
 use Rattle.label_tree.specs.Rose.{Rose, node, Roses, roses_of, label_of, kids_of}
 use Rattle.label_tree.proofs.Roses.{roses_of-list_of}
 use Rattle.xa_base.specs.declared.texts.Name.{Name}
 use Rattle.content_models.specs.Seen.{term_seen, all_seen}
 use Rattle.content_models.specs.Clear.{empties_term, first_of_term, repeats}
-use Rattle.content_models.specs.Deciding.{term_of, breaks_bounds, body_follow, breach_at, body_breach, breach_in_body, breach_of, breach_in_order, breach_of_any, breaks_choice}
+use Rattle.content_models.specs.Deciding.{term_of, breaks_bounds, body_follow, earliest, breach_if, body_breach, breach_in_body, breach_of, breach_in_order, breach_of_any, breaks_choice}
 use Rattle.content_models.specs.declared.particles.ParticleKind.{ParticleKind}
 use Rattle.content_models.specs.declared.particles.ParticleKind.TheVariants.{Element, Sequence, Choice}
 use Rattle.content_models.specs.declared.particles.ParticleLabel.{ParticleLabel}
+use Rattle.content_models.specs.declared.breaches.Breach.{Breach}
 
 pub term_by_kind : (t : Rose ParticleLabel) (label : ParticleLabel) (kids : List (Rose ParticleLabel)) (kind : ParticleKind)
     → label ≡ label_of t → kids ≡ kids_of t → label.kind ≡ kind → term_of t ≡ term_seen kind (all_seen (roses_of kids))
@@ -29,20 +30,22 @@ body_same : (l : ParticleLabel) (kind : ParticleKind) (ts : Roses ParticleLabel)
     → (elim kind [
       | Element d a ↦ None
       | Sequence ↦ breach_in_order ts inner
-      | Choice ↦ cond (breaks_choice (all_seen ts) inner) (Some (breach_at l)) (breach_of_any ts inner)
+      | Choice ↦ earliest (breach_if (breaks_choice (all_seen ts) inner) l) (breach_of_any ts inner)
     ]) ≡ body_breach l kind ts inner
 body_same l (Element d a) ts inner = refl
 body_same l Sequence ts inner = refl
 body_same l Choice ts inner = refl
 
-pub whole_breach : (t : Rose ParticleLabel) (label : ParticleLabel) (follow inner : Name → Bool) → label ≡ label_of t
-    → breaks_bounds label.min label.max (empties_term (term_of t)) (first_of_term (term_of t)) follow ≡ false
+pub whole_breach : (t : Rose ParticleLabel) (label : ParticleLabel) (follow inner : Name → Bool) (own below : Option Breach) → label ≡ label_of t
+    → own ≡ breach_if (breaks_bounds label.min label.max (empties_term (term_of t)) (first_of_term (term_of t)) follow) label
     → ((a : Name) → inner a ≡ body_follow (repeats label.max) (first_of_term (term_of t)) follow a)
-    → breach_of t follow ≡ breach_in_body t inner
-whole_breach (node l ts) label follow inner e kept same =
+    → below ≡ breach_in_body t inner
+    → earliest own below ≡ breach_of t follow
+whole_breach (node l ts) label follow inner own below e here same is =
     let t = term_seen l.kind (all_seen ts) in
-    let keeps : breaks_bounds l.min l.max (empties_term t) (first_of_term t) follow ≡ false =
-    subst (λ (m : ParticleLabel). breaks_bounds m.min m.max (empties_term t) (first_of_term t) follow ≡ false) e kept in
-    let both : body_follow (repeats l.max) (first_of_term t) follow ≡ inner =
-    λ i a. (ap (λ (m : ParticleLabel). body_follow (repeats m.max) (first_of_term t) follow a) (sym e) ∙ sym (same a)) i in
-    rw keeps (body_same l l.kind ts (body_follow (repeats l.max) (first_of_term t) follow) ∙ ap (λ P. body_breach l l.kind ts P) both)
+    let both : inner ≡ body_follow (repeats l.max) (first_of_term t) follow =
+    λ i a. (same a ∙ ap (λ (m : ParticleLabel). body_follow (repeats m.max) (first_of_term t) follow a) e) i in
+    let front : own ≡ breach_if (breaks_bounds l.min l.max (empties_term t) (first_of_term t) follow) l =
+    here ∙ ap (λ (m : ParticleLabel). breach_if (breaks_bounds m.min m.max (empties_term t) (first_of_term t) follow) m) e in
+    (λ i. earliest (front i) (is i)) ∙ ap (λ P. earliest (breach_if (breaks_bounds l.min l.max (empties_term t) (first_of_term t) follow) l) (body_breach l l.kind ts P)) both
+    ∙ ap (earliest (breach_if (breaks_bounds l.min l.max (empties_term t) (first_of_term t) follow) l)) (sym (body_same l l.kind ts (body_follow (repeats l.max) (first_of_term t) follow)))

@@ -1,5 +1,5 @@
--- Which particle of a content model is the first that breaks a rule.
-use Rattle.std.specs.Prelude.{◌≡◌, ◌⊎◌, List, [], ◌∷◌, ◌++◌}
+-- Which particle of a content model is the first that breaks a rule, in the order of files and places.
+use Rattle.std.specs.Prelude.{◌≡◌, ◌<◌, ◌≤◌, ◌⊎◌, List, [], ◌∷◌, ◌++◌, All, Any}
 use Rattle.label_tree.specs.Rose.{Rose, node, Roses}
 use Rattle.label_tree.specs.Rose as rose
 use Rattle.xa_base.specs.declared.texts.Name.{Name}
@@ -41,11 +41,17 @@ KeepsRules p =
     Rule1 p.term p.label.min p.label.max × Rule2 p.term p.label.min p.label.max p.follow
     × Rule3 p.term (follow_of_body p.follow p.term p.label.max)
 
+abbrev pub Breaks : Placed → Type 0
+Breaks p = ¬ KeepsRules p
+
 abbrev pub StandsAt : ParticleLabel → Breach → Type 0
 StandsAt l breach = (breach.file ≡ l.file) × (breach.at ≡ l.at)
 
--- the first of them that doesn't keep the rules stands there
-abbrev pub IsFirstBreach : List Placed → Breach → Type 0
-IsFirstBreach [] breach = ⊥
-IsFirstBreach (p ∷ ps) breach =
-    ((KeepsRules p → ⊥) × StandsAt p.label breach) ⊎ (KeepsRules p × IsFirstBreach ps breach)
+-- it doesn't stand before: it is in a file behind, or in the same file at no lesser place
+abbrev pub StandsFrom : ParticleLabel → Breach → Type 0
+StandsFrom l breach = (breach.file < l.file) ⊎ ((breach.file ≡ l.file) × (breach.at ≤ l.at))
+
+-- A particle that breaks a rule stands there, and none that breaks one stands before.
+pub record IsFirstBreach (ps : List Placed) (breach : Breach) : Type 0 where
+  pub breaks : Any (λ p. Breaks p × StandsAt p.label breach) ps
+  pub least : All (λ p. Breaks p → StandsFrom p.label breach) ps

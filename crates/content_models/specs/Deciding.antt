@@ -1,7 +1,6 @@
 -- The rules of clear content models as tests, where a follow is a test of names.
-use Rattle.std.specs.Prelude.{ℕ, List, ◌++◌, ◌≡◌, Option, Some, None, Bool, false, ◌||◌, ◌&&◌, not, cond, nat_eq, map}
+use Rattle.std.specs.Prelude.{ℕ, List, ◌++◌, ◌≡◌, Option, Some, None, Bool, false, ◌||◌, ◌&&◌, not, cond, nat_eq, nat_lt, map}
 use Rattle.std.specs.Borrow.{Bor}
-use Rattle.std.specs.Option.{option_or}
 use Rattle.std.specs.List.{list_any}
 use Rattle.std.specs.BTreeSet.{BTreeSet, contains_by}
 use Rattle.label_tree.specs.Rose.{Rose, node, Roses, label_of}
@@ -56,6 +55,22 @@ breaks_choice ps follow = clash ps || (any_empty ps && list_any follow (first_of
 abbrev pub breach_at : ParticleLabel → Breach
 breach_at l = record { file = l.file; at = l.at }
 
+-- where the particle stands, if it breaks a rule
+abbrev pub breach_if : Bool → ParticleLabel → Option Breach
+breach_if breaks l = cond breaks (Some (breach_at l)) None
+
+abbrev pub is_before : Breach → Breach → Bool
+is_before b c = nat_lt b.file c.file || (nat_eq b.file c.file && nat_lt b.at c.at)
+
+-- that of two that comes first
+abbrev pub earlier : Breach → Breach → Breach
+earlier b c = cond (is_before c b) c b
+
+abbrev pub earliest : Option Breach → Option Breach → Option Breach
+earliest None d = d
+earliest (Some b) None = Some b
+earliest (Some b) (Some c) = Some (earlier b c)
+
 -- the follow of the body, and that of a particle with these behind it
 abbrev pub body_follow : Bool → List Name → (Name → Bool) → Name → Bool
 body_follow many firsts follow a = (many && has firsts a) || follow a
@@ -72,26 +87,26 @@ abbrev mutual
   breach_of (node l ts) follow =
       let t = term_seen l.kind (all_seen ts) in
       let inner = body_follow (repeats l.max) (first_of_term t) follow in
-      cond (breaks_bounds l.min l.max (empties_term t) (first_of_term t) follow) (Some (breach_at l))
+      earliest (breach_if (breaks_bounds l.min l.max (empties_term t) (first_of_term t) follow) l)
       (elim l.kind [
         | Element d a ↦ None
         | Sequence ↦ breach_in_order ts inner
-        | Choice ↦ cond (breaks_choice (all_seen ts) inner) (Some (breach_at l)) (breach_of_any ts inner)
+        | Choice ↦ earliest (breach_if (breaks_choice (all_seen ts) inner) l) (breach_of_any ts inner)
       ])
 
   pub breach_in_order : Roses ParticleLabel → (Name → Bool) → Option Breach
   breach_in_order rose.none follow = None
-  breach_in_order (rose.more t ts) follow = option_or (breach_of t (after_follow (all_seen ts) follow)) (breach_in_order ts follow)
+  breach_in_order (rose.more t ts) follow = earliest (breach_of t (after_follow (all_seen ts) follow)) (breach_in_order ts follow)
 
   pub breach_of_any : Roses ParticleLabel → (Name → Bool) → Option Breach
   breach_of_any rose.none follow = None
-  breach_of_any (rose.more t ts) follow = option_or (breach_of t follow) (breach_of_any ts follow)
+  breach_of_any (rose.more t ts) follow = earliest (breach_of t follow) (breach_of_any ts follow)
 
 -- the same without the first two rules for the particle itself, where its body has this follow
 abbrev pub body_breach : ParticleLabel → ParticleKind → Roses ParticleLabel → (Name → Bool) → Option Breach
 body_breach l (Element d a) ts inner = None
 body_breach l Sequence ts inner = breach_in_order ts inner
-body_breach l Choice ts inner = cond (breaks_choice (all_seen ts) inner) (Some (breach_at l)) (breach_of_any ts inner)
+body_breach l Choice ts inner = earliest (breach_if (breaks_choice (all_seen ts) inner) l) (breach_of_any ts inner)
 
 abbrev pub breach_in_body : Rose ParticleLabel → (Name → Bool) → Option Breach
 breach_in_body (node l ts) inner = body_breach l l.kind ts inner

@@ -15,20 +15,25 @@ use std::collections::BTreeSet;
 use xa_base::{Memory, Name};
 
 /// Where a particle was written that breaks a rule of clear content models: the number of the schema file, and the
-/// place in bytes from its start.
-#[derive(Clone, Copy, Debug, PartialEq, Eq)]
+/// place in bytes from its start. Breaches have the order of files, and in one file that of places.
+#[derive(Clone, Copy, Debug, PartialEq, Eq, PartialOrd, Ord)]
 pub struct Breach {
     pub file: u32,
     pub at: u64,
 }
 
 impl ParticleLabel {
-    fn breach(&self) -> Breach
-        ensures { result ≡ decide.breach_at self.now }
+    // Where the particle stands, if it breaks a rule.
+    fn breach_if(&self, breaks: bool) -> Option<Breach>
+        ensures { result ≡ decide.breach_if breaks self.now }
     {
-        Breach {
-            file: self.file,
-            at: self.at,
+        if breaks {
+            Some(Breach {
+                file: self.file,
+                at: self.at,
+            })
+        } else {
+            None
         }
     }
 
@@ -60,6 +65,17 @@ impl ParticleLabel {
             Some(max) => max == self.min,
             None => false,
         }
+    }
+}
+
+// The first of them.
+fn earliest(one: Option<Breach>, other: Option<Breach>) -> Option<Breach>
+    ensures { result ≡ decide.earliest one other }
+{
+    match (one, other) {
+        (Some(one), Some(other)) => Some(one.min(other)),
+        (one, None) => one,
+        (None, other) => other,
     }
 }
 
@@ -122,16 +138,16 @@ fn breach_in<'a>(
     let label = tree.label();
     let mut names = Vec::new(alloc);
     let empty = push_first_of_body(tree, &mut names)?;
-    if breaks_bounds(label, empty, &names, follow) {
-        return Ok(Some(label.breach()));
-    }
+    let own = label.breach_if(breaks_bounds(label, empty, &names, follow));
     if !label.repeats() {
-        return breach_in_body(alloc, tree, follow);
+        let below = breach_in_body(alloc, tree, follow)?;
+        return Ok(earliest(own, below));
     }
     let mut again = BTreeSet::new(alloc);
     insert_all(&mut again, &names)?;
     let inner = behind(alloc, &again, true, &*follow)?;
-    breach_in_body(alloc, tree, &inner)
+    let below = breach_in_body(alloc, tree, &inner)?;
+    Ok(earliest(own, below))
 }
 
 // The same without the first two rules for the particle itself, where its body has this follow.
@@ -148,10 +164,9 @@ fn breach_in_body<'a>(
         ParticleKind::Element { .. } => Ok(None),
         ParticleKind::Sequence => breach_in_order(alloc, tree.kids(), follow),
         ParticleKind::Choice => {
-            if breaks_choice(alloc, tree.kids(), follow)? {
-                return Ok(Some(label.breach()));
-            }
-            breach_of_any(alloc, tree.kids(), follow)
+            let own = label.breach_if(breaks_choice(alloc, tree.kids(), follow)?);
+            let below = breach_of_any(alloc, tree.kids(), follow)?;
+            Ok(earliest(own, below))
         }
     }
 }
@@ -173,7 +188,8 @@ fn breach_in_order<'a>(
     'kids: while i > 0 {
         i -= 1;
         let kid = &kids[i];
-        found = breach_before(alloc, kid, &after, through, follow)?.or(found);
+        let here = breach_before(alloc, kid, &after, through, follow)?;
+        found = earliest(here, found);
         through &= put_before(alloc, kid, &mut after)?;
     }
     Ok(found)
@@ -204,17 +220,17 @@ fn breach_of_any<'a>(
 ) -> Result<Option<Breach>, Memory>
     ensures { IfOk result (λ found. found ≡ decide.breach_of_any (roses_of kids.now) (decide.in_one follow.now)) }
 {
+    let mut found = None;
     'kids: for kid in kids {
-        let found = breach_in(alloc, kid, follow)?;
-        if found.is_some() {
-            return Ok(found);
-        }
+        let here = breach_in(alloc, kid, follow)?;
+        found = earliest(found, here);
     }
-    Ok(None)
+    Ok(found)
 }
 
-/// Where the first particle in preorder, which is the order in which they were written, breaks a rule of clear content
-/// models. `None` where none does, so that the content model is clear before an empty follow.
+/// Where the first particle that breaks a rule of clear content models was written, in the order of files and places and
+/// whatever the order in the tree. `None` where none does, so that the content model is clear before an empty follow.
+/// Particles with the same file and place have the same breach.
 ///
 /// The time grows as n log n with the number n of particles, and with the number of levels. No name is hashed, so no
 /// choice of names makes it worse.

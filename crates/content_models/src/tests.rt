@@ -85,6 +85,11 @@ const ROWS: &[Row] = &[
         want: Some(92),
     },
     Row {
+        title: "a repeated sequence that may be empty, behind its particle",
+        model: &[(b'&', 1, 0, 114, 1), (b'a', 0, 1, 92, 0)],
+        want: Some(92),
+    },
+    Row {
         title: "an optional a, then a",
         model: &[
             (b'&', 1, 1, 92, 2),

@@ -33,4 +33,5 @@ abbrev pub decreases-breach_in_order-kids : goal.decreases-breach_in_order-kids
 decreases-breach_in_order-kids l = l.i
 
 abbrev pub invariant-breach_of_any-kids : goal.invariant-breach_of_any-kids
-invariant-breach_of_any-kids l = decide.breach_of_any (roses_of (drop l.kid-index l.kids)) (decide.in_one l.follow) ≡ decide.breach_of_any (roses_of l.kids) (decide.in_one l.follow)
+invariant-breach_of_any-kids l =
+    decide.earliest l.found (decide.breach_of_any (roses_of (drop l.kid-index l.kids)) (decide.in_one l.follow)) ≡ decide.breach_of_any (roses_of l.kids) (decide.in_one l.follow)
