@@ -1,8 +1,5 @@
-pub mod Collapsed
-pub mod Copies
-pub mod Places
-pub mod Readings
-pub mod Seen
-pub mod Spellings
+pub mod Enumerations
+pub mod FacetWords
+pub mod InTurn
+pub mod Soundness
 pub mod Unions
-pub mod WholeNumbers

@@ -1,15 +1,16 @@
 -- Unions of types, from member to member.
-use Rattle.std.proofs.Common.{◌≡◌, ℕ, suc, ◌+◌, ◌<◌, ◌≤◌, false, List, ◌∷◌, refl, sym, ap, ◌∙◌, arith, length, get_or, drop}
+use Rattle.std.proofs.Common.{◌≡◌, ℕ, suc, ◌+◌, ◌<◌, ◌≤◌, false, List, [], ◌∷◌, ◌++◌, refl, sym, ap, ◌∙◌, arith, length, get_or, drop}
 use Rattle.std.proofs.lemmas.Bool.{true≢false}
 use Rattle.std.proofs.Math.Seq.{drop-cons}
 use Rattle.std.proofs.Math.ListN.{drop_of_length-le}
-use Rattle.facet_rules.specs.declared.simples.Simple.{Simple}
-use Rattle.facet_rules.specs.Space.{Space, Spaces, none, more, Booleans, Wholes, Numbers, Words, Characters, ListOf, UnionOf, count_members}
-use Rattle.facet_rules.specs.Seen.{space_of, spaces_in}
-use Rattle.facet_rules.specs.Sound.{AreSound, is_union}
-use Rattle.facet_rules.specs.Joining.{joined, flattened}
+use Rattle.simple_types.specs.declared.simples.Simple.{Simple}
+use Rattle.simple_types.specs.Space.{Space, Spaces, none, more, Booleans, Wholes, Numbers, Words, Characters, ListOf, UnionOf, count_members}
+use Rattle.simple_types.specs.Seen.{space_of, spaces_in}
+use Rattle.simple_types.specs.declared.simples.Simple.TheVariants as variant
+use Rattle.simple_types.specs.Sound.{Sound, AreSound, is_union}
+use Rattle.simple_types.specs.Joining.{joined, flattened}
 use Rattle.facet_rules.specs.Making.{AreEachSound}
-use Rattle.facet_rules.proofs.Copies.{joined-none, joined-assoc}
+use Rattle.simple_types.proofs.Copies.{joined-none, joined-assoc}
 
 -- what stands from a member on
 pub members_from : {A : Type 0} (f : Spaces → A) (members : List Simple) (i : ℕ) (d : Simple) → i < length members
@@ -83,3 +84,11 @@ flat_more flat flat_now members i d all below so_far now =
 
 pub flat_all : (flat members : List Simple) (i : ℕ) (all : Spaces) → length members ≤ i → joined (spaces_in flat) (flattened (spaces_in (drop i members))) ≡ all → spaces_in flat ≡ all
 flat_all flat members i all past so_far = joined-none (spaces_in flat) ∙ ap (joined (spaces_in flat)) (sym (none_from flattened members i past)) ∙ so_far
+
+pub each_sound-push : (members : List Simple) (s : Simple) → AreEachSound (spaces_in members) → Sound (space_of s) → AreEachSound (spaces_in (members ++ s ∷ []))
+each_sound-push [] s each sound = (sound, tt)
+each_sound-push (m ∷ ms) s each sound = (each.0, each_sound-push ms s each.1 sound)
+
+pub sound-Bool : Sound (space_of variant.Bool)
+unfolding space_of
+sound-Bool = tt

@@ -1,8 +1,8 @@
 -- Lists and unions that are made of simple types.
 use Rattle.std.specs.Prelude.{◌≡◌, ℕ, ◌+◌, ◌≤◌, false, None, length}
-use Rattle.facet_rules.specs.Space.{Space, Spaces, none, more, Numbers, Words, ListOf, UnionOf, count_members}
-use Rattle.facet_rules.specs.Sound.{Sound, has_list}
-use Rattle.facet_rules.specs.Joining.{flattened}
+use Rattle.simple_types.specs.Space.{Space, Spaces, none, more, Numbers, Words, ListOf, UnionOf, count_members}
+use Rattle.simple_types.specs.Sound.{Sound, has_list}
+use Rattle.simple_types.specs.Joining.{flattened}
 
 -- how many enumeration items; those of a list's item type don't count
 abbrev pub count_items : Space → ℕ

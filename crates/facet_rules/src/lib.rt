@@ -1,28 +1,24 @@
-//! Simple types: their spaces, the texts that they accept, and the one spelling of each value.
+//! Simple types: their spaces, the texts that they accept, the one spelling of each value, and how types are made of
+//! others, by facets, as lists and as unions.
 #![tactic(auto)]
 
-mod accepting;
-mod builtins;
-mod classes;
-mod copying;
-mod holding;
-mod labels;
-mod lists;
+mod bases;
+mod constraints;
+mod enumerating;
+mod facet_texts;
 mod making;
-mod numbers;
-mod reading;
-mod simples;
-mod spelling;
+mod narrowing;
+mod refusals;
+mod restricting;
 
-pub use accepting::accept;
-pub use builtins::builtin;
-pub use holding::holds;
-pub use labels::{Value, ValueLabel};
-pub use lists::{Flags, NumberList, TextList};
 pub use making::{ItemError, UnionError, list_of, union_of};
-pub use reading::SimpleError;
-pub use simples::{Builtin, Class, Facet, FacetWhy, Simple, SimpleList};
-pub use spelling::spell;
+pub use refusals::{FacetError, FacetWhy};
+pub use restricting::restrict;
+pub use simple_types::{
+    Builtin, Class, Facet, Facets, Flags, NumberList, Simple, SimpleList, TextList, Value,
+    ValueLabel, builtin,
+};
+pub use simple_values::{SimpleError, accept, holds, spell};
 
 #[cfg(test)]
 mod tests;

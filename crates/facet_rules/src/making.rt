@@ -1,13 +1,12 @@
 //! Lists and unions.
 ghost use Rattle.std.specs.Prelude.{◌≡◌, ◌<◌, ◌↔◌, IfOk, OnOk, IsTrue, MatchResult, MatchOption, true, false, length};
-ghost use Rattle.facet_rules.specs.Space.{UnionOf, none, more};
-ghost use Rattle.facet_rules.specs.Seen.{space_of, spaces_in};
-ghost use Rattle.facet_rules.specs.Sound.{Sound, is_union, has_list, have_list};
-ghost use Rattle.facet_rules.specs.Joining.{joined, flattened};
+ghost use Rattle.simple_types.specs.Space.{UnionOf, none, more};
+ghost use Rattle.simple_types.specs.Seen.{space_of, spaces_in};
+ghost use Rattle.simple_types.specs.Sound.{Sound, is_union, has_list, have_list};
+ghost use Rattle.simple_types.specs.Joining.{joined, flattened};
 ghost use Rattle.facet_rules.specs.Making.{count_items, AreWithinLimits, AreEachSound, IsListOf, IsUnionOf};
 
-use crate::copying::{append_copies, copy};
-use crate::simples::{Simple, SimpleList};
+use simple_types::{Simple, SimpleList, append_copies, copy};
 use std::alloc::Global;
 use thiserror::Error;
 use xa_base::Memory;
@@ -45,7 +44,7 @@ fn have_list(members: &[Simple]) -> bool
 }
 
 #[cycle(listing)]
-#[tactic(auto, unfolding(crate::specs::Seen::space_of))]
+#[tactic(auto, unfolding(simple_types::specs::Seen::space_of))]
 fn has_list(simple: &Simple) -> bool
     ensures { result ≡ has_list (space_of simple.now) }
 {
@@ -85,7 +84,7 @@ pub fn list_of(alloc: Global, item: &Simple) -> Result<Simple, ItemError>
 }
 
 // The members of a union.
-#[tactic(auto, unfolding(crate::specs::Seen::space_of))]
+#[tactic(auto, unfolding(simple_types::specs::Seen::space_of))]
 fn inner_members(simple: &Simple) -> Option<&[Simple]>
     ensures { MatchOption result
         (is_union (space_of simple.now) ≡ false)
@@ -122,7 +121,7 @@ fn flatten(alloc: Global, members: &[Simple]) -> Result<Vec<Simple>, Memory>
     Ok(flat)
 }
 
-#[tactic(auto, unfolding(crate::specs::Seen::space_of))]
+#[tactic(auto, unfolding(simple_types::specs::Seen::space_of))]
 fn item_count(simple: &Simple) -> usize
     ensures { result ≡ count_items (space_of simple.now) }
 {

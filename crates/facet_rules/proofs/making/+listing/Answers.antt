@@ -1,9 +1,9 @@
 use Rattle.std.proofs.Common.{sym, ap, ◌∙◌, arith}
-use Rattle.facet_rules.specs.Space.{count_parts}
-use Rattle.facet_rules.specs.Seen.{space_of}
-use Rattle.facet_rules.specs.Sound.{has_list}
-use Rattle.facet_rules.proofs.Seen.{union_is, list_space}
-use Rattle.facet_rules.proofs.Readings.{part_member}
+use Rattle.simple_types.specs.Space.{count_parts}
+use Rattle.simple_types.specs.Seen.{space_of}
+use Rattle.simple_types.specs.Sound.{has_list}
+use Rattle.simple_types.proofs.Seen.{union_is, list_space}
+use Rattle.simple_types.proofs.Members.{part_member}
 use Rattle.facet_rules.proofs.making.+listing.Goals as goal
 
 pub has_list-have_list-requires : goal.has_list-have_list-requires

@@ -1,7 +1,7 @@
 use Rattle.std.proofs.Common.{◌≡◌, ◌+◌, ◌*◌, drop}
-use Rattle.facet_rules.specs.Space.{count_parts, count_all_parts}
-use Rattle.facet_rules.specs.Seen.{space_of, spaces_in}
-use Rattle.facet_rules.specs.Sound.{have_list}
+use Rattle.simple_types.specs.Space.{count_parts, count_all_parts}
+use Rattle.simple_types.specs.Seen.{space_of, spaces_in}
+use Rattle.simple_types.specs.Sound.{have_list}
 use Rattle.facet_rules.proofs.making.+listing.Given as goal
 
 abbrev pub decreases-has_list : goal.decreases-has_list

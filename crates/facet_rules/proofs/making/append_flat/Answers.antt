@@ -1,8 +1,8 @@
 use Rattle.std.proofs.Common.{[], ◌∷◌, sym, ap, ◌∙◌}
-use Rattle.facet_rules.specs.Space.{none, more}
-use Rattle.facet_rules.specs.Seen.{space_of, spaces_in}
-use Rattle.facet_rules.specs.Joining.{joined}
-use Rattle.facet_rules.proofs.Copies.{joined-none, spaces-append}
+use Rattle.simple_types.specs.Space.{none, more}
+use Rattle.simple_types.specs.Seen.{space_of, spaces_in}
+use Rattle.simple_types.specs.Joining.{joined}
+use Rattle.simple_types.proofs.Copies.{joined-none, spaces-append}
 use Rattle.facet_rules.proofs.Unions.{flattened_other}
 use Rattle.facet_rules.proofs.making.append_flat.Goals as goal
 

@@ -1,7 +1,7 @@
 use Rattle.std.proofs.Common.{◌+◌, refl, sym, ap, ◌∙◌, arith}
 use Rattle.std.proofs.lemmas.Bool.{true≢false}
 use Rattle.facet_rules.specs.Making.{count_all_items}
-use Rattle.facet_rules.proofs.Readings.{count_in}
+use Rattle.simple_types.proofs.Members.{count_in}
 use Rattle.facet_rules.proofs.Unions.{none_from}
 use Rattle.facet_rules.proofs.making.are_within_limits.Goals as goal
 

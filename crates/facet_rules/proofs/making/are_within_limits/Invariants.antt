@@ -1,5 +1,5 @@
 use Rattle.std.proofs.Common.{◌≡◌, ◌+◌, drop}
-use Rattle.facet_rules.specs.Seen.{spaces_in}
+use Rattle.simple_types.specs.Seen.{spaces_in}
 use Rattle.facet_rules.specs.Making.{count_all_items}
 use Rattle.facet_rules.proofs.making.are_within_limits.Given as goal
 

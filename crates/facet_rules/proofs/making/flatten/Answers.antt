@@ -1,7 +1,7 @@
 use Rattle.std.proofs.Common.{ap, ◌∙◌}
-use Rattle.facet_rules.specs.Space.{none, more}
-use Rattle.facet_rules.specs.Seen.{space_of, spaces_in}
-use Rattle.facet_rules.specs.Joining.{joined, flattened}
+use Rattle.simple_types.specs.Space.{none, more}
+use Rattle.simple_types.specs.Seen.{space_of, spaces_in}
+use Rattle.simple_types.specs.Joining.{joined, flattened}
 use Rattle.facet_rules.proofs.Unions.{flat_more, flat_all}
 use Rattle.facet_rules.proofs.making.flatten.Goals as goal
 

@@ -1,6 +1,6 @@
 use Rattle.std.proofs.Common.{◌≡◌, drop}
-use Rattle.facet_rules.specs.Seen.{spaces_in}
-use Rattle.facet_rules.specs.Joining.{joined, flattened}
+use Rattle.simple_types.specs.Seen.{spaces_in}
+use Rattle.simple_types.specs.Joining.{joined, flattened}
 use Rattle.facet_rules.proofs.making.flatten.Given as goal
 
 abbrev pub invariant-members : goal.invariant-members

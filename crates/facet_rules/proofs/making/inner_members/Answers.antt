@@ -1,4 +1,4 @@
-use Rattle.facet_rules.proofs.Seen.{union_is}
+use Rattle.simple_types.proofs.Seen.{union_is}
 use Rattle.facet_rules.proofs.making.inner_members.Goals as goal
 
 pub returns-in-Union : goal.returns-in-Union

@@ -1,8 +1,8 @@
 use Rattle.std.proofs.Common.{None, sym, ap, ◌∙◌, subst}
-use Rattle.facet_rules.specs.Space.{ListOf}
-use Rattle.facet_rules.specs.Seen.{space_of}
-use Rattle.facet_rules.specs.Sound.{Sound}
-use Rattle.facet_rules.proofs.Seen.{list_space}
+use Rattle.simple_types.specs.Space.{ListOf}
+use Rattle.simple_types.specs.Seen.{space_of}
+use Rattle.simple_types.specs.Sound.{Sound}
+use Rattle.simple_types.proofs.Seen.{list_space}
 use Rattle.facet_rules.proofs.making.list_of.Goals as goal
 
 pub returns-in-Ok-new-clause-made : goal.returns-in-Ok-new-clause-made

@@ -1,10 +1,10 @@
 use Rattle.std.proofs.Common.{sym, ap, ◌∙◌, subst, arith}
-use Rattle.facet_rules.specs.Space.{UnionOf}
-use Rattle.facet_rules.specs.Seen.{spaces_in}
+use Rattle.simple_types.specs.Space.{UnionOf}
+use Rattle.simple_types.specs.Seen.{spaces_in}
 use Rattle.facet_rules.specs.Making.{AreWithinLimits}
-use Rattle.facet_rules.specs.Sound.{Sound}
-use Rattle.facet_rules.proofs.Seen.{union_space}
-use Rattle.facet_rules.proofs.Readings.{count_in}
+use Rattle.simple_types.specs.Sound.{Sound}
+use Rattle.simple_types.proofs.Seen.{union_space}
+use Rattle.simple_types.proofs.Members.{count_in}
 use Rattle.facet_rules.proofs.Unions.{flattened_sound, flattened_some}
 use Rattle.facet_rules.proofs.making.union_of.Goals as goal
 

@@ -1,9 +1,0 @@
-use Rattle.std.proofs.Common.{◌≡◌, ◌≤◌, take}
-use Rattle.facet_rules.specs.Labels.{count_set}
-use Rattle.facet_rules.proofs.labels.set_count.Given as goal
-
-abbrev pub invariant-flags : goal.invariant-flags
-invariant-flags l = record {
-  so_far : l.count ≡ count_set (take l.flag-index l.flags);
-  within : l.count ≤ l.flag-index;
-}

@@ -1,0 +1,100 @@
+//! Why a type can't be restricted.
+ghost use Rattle.std.specs.Prelude.{◌≡◌};
+ghost use Rattle.facet_rules.specs.Refusals.{why_of};
+
+use std::alloc::AllocFailed;
+use thiserror::Error;
+use xa_base::Memory;
+
+/// Why a type can't be restricted by its facets (XML Schema Part 2, section 4.3).
+#[derive(Clone, Copy, Debug, PartialEq, Eq)]
+pub enum FacetWhy {
+    /// The base has no such facet, or it stood before.
+    Misplaced,
+    /// A bound, or a treatment of white space, reaches outside the base.
+    Widens,
+    /// An enumeration isn't of the space so far.
+    NotInBase,
+    /// No value is left.
+    EmptySpace,
+    /// The facet's text is no number, or no treatment.
+    BadNumber,
+    /// The facet's number is past 128 bits, or a length is 2^32 or more.
+    TooWide,
+}
+
+/// Why no type is made.
+#[derive(Clone, Copy, Debug, PartialEq, Eq, Error)]
+pub enum FacetError {
+    #[error("a facet that the base has not, or a second time")]
+    Misplaced,
+    #[error("a facet that reaches outside the base")]
+    Widens,
+    #[error("an enumeration that is no value of the base")]
+    NotInBase,
+    #[error("no value is left")]
+    EmptySpace,
+    #[error("a facet that is no number")]
+    BadNumber,
+    #[error("a facet with too large a number")]
+    TooWide,
+    #[error("out of memory")]
+    Memory,
+}
+
+impl FacetError {
+    /// The reason, where it isn't want of memory.
+    pub fn why(self) -> Option<FacetWhy>
+        ensures { result ≡ why_of self }
+    {
+        match self {
+            FacetError::Misplaced => Some(FacetWhy::Misplaced),
+            FacetError::Widens => Some(FacetWhy::Widens),
+            FacetError::NotInBase => Some(FacetWhy::NotInBase),
+            FacetError::EmptySpace => Some(FacetWhy::EmptySpace),
+            FacetError::BadNumber => Some(FacetWhy::BadNumber),
+            FacetError::TooWide => Some(FacetWhy::TooWide),
+            FacetError::Memory => None,
+        }
+    }
+}
+
+impl From<FacetWhy> for FacetError {
+    ghost use Rattle.std.specs.Prelude.{Some};
+    ghost use Rattle.facet_rules.specs.Refusals.{why_of};
+
+    ghost from_gives = { λ why error. why_of error ≡ Some why };
+
+    fn from(why: FacetWhy) -> FacetError {
+        match why {
+            FacetWhy::Misplaced => FacetError::Misplaced,
+            FacetWhy::Widens => FacetError::Widens,
+            FacetWhy::NotInBase => FacetError::NotInBase,
+            FacetWhy::EmptySpace => FacetError::EmptySpace,
+            FacetWhy::BadNumber => FacetError::BadNumber,
+            FacetWhy::TooWide => FacetError::TooWide,
+        }
+    }
+}
+
+impl From<Memory> for FacetError {
+    ghost use Rattle.std.specs.Prelude.{None};
+    ghost use Rattle.facet_rules.specs.Refusals.{why_of};
+
+    ghost from_gives = { λ memory error. why_of error ≡ None };
+
+    fn from(_: Memory) -> FacetError {
+        FacetError::Memory
+    }
+}
+
+impl<T: Drop> From<AllocFailed<T>> for FacetError {
+    ghost use Rattle.std.specs.Prelude.{None};
+    ghost use Rattle.facet_rules.specs.Refusals.{why_of};
+
+    ghost from_gives = { λ failed error. why_of error ≡ None };
+
+    fn from(_: AllocFailed<T>) -> FacetError {
+        FacetError::Memory
+    }
+}

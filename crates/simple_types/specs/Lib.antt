@@ -1,0 +1,6 @@
+pub mod Builtins
+pub mod Joining
+pub mod Labels
+pub mod Seen
+pub mod Sound
+pub mod Space

@@ -1,0 +1,19 @@
+//! Simple types and abstract values: what they are made of, the space of a type, and the built-in types.
+#![tactic(auto)]
+
+mod builtins;
+mod copying;
+mod facets;
+mod labels;
+mod lists;
+mod simples;
+
+pub use builtins::builtin;
+pub use copying::{append_copies, copy};
+pub use facets::{Facet, Facets};
+pub use labels::{Value, ValueLabel};
+pub use lists::{Flags, NumberList, TextList};
+pub use simples::{Builtin, Class, Simple, SimpleList};
+
+#[cfg(test)]
+mod tests;

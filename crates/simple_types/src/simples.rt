@@ -1,0 +1,100 @@
+//! Simple types and what they are made of.
+ghost use Rattle.std.specs.Prelude.{◌≡◌};
+ghost use Rattle.simple_types.specs.Seen.{spaces_of, spaces_in};
+
+use crate::lists::{NumberList, TextList};
+use xa_base::{Text, WhiteSpace};
+
+/// The built-in datatypes of XML Schema Part 2 that this profile has.
+#[derive(Clone, Copy, Debug, PartialEq, Eq)]
+pub enum Builtin {
+    Boolean,
+    Byte,
+    Short,
+    Int,
+    Long,
+    UnsignedByte,
+    UnsignedShort,
+    UnsignedInt,
+    UnsignedLong,
+    Integer,
+    NonNegativeInteger,
+    PositiveInteger,
+    NonPositiveInteger,
+    NegativeInteger,
+    String,
+    NormalizedString,
+    Token,
+    AnyUri,
+    Language,
+    NmToken,
+    Name,
+    NcName,
+    NmTokens,
+}
+
+/// Which texts a type of characters takes, as the patterns of XML Schema Part 2, sections 3.3.3 to 3.3.7, say.
+#[derive(Clone, Copy, Debug, PartialEq, Eq)]
+pub enum Class {
+    Any,
+    Language,
+    NmToken,
+    Name,
+    NcName,
+}
+
+/// A simple type, by its space.
+#[derive(Drop)]
+#[cycle(simple)]
+pub enum Simple {
+    /// The two truth values.
+    Bool,
+    /// Whole numbers of 128 bits, from `lo` to `hi`.
+    Whole {
+        lo: Option<i128>,
+        hi: Option<i128>,
+    },
+    /// Some whole numbers, ascending.
+    Numbers(NumberList),
+    /// Some texts, ascending, and what is done to a text before it is compared.
+    Words {
+        space: WhiteSpace,
+        words: TextList,
+    },
+    /// Texts of `min` to `max` code points, in a class, and what is done to a text before it is read.
+    Chars {
+        space: WhiteSpace,
+        min: u32,
+        max: Option<u32>,
+        class: Class,
+    },
+    /// Lists of `min` to `max` items.
+    List {
+        item: Box<Simple>,
+        min: u32,
+        max: Option<u32>,
+    },
+    /// What some member takes.
+    Union(SimpleList),
+}
+
+/// Simple types, in their order.
+#[derive(Drop)]
+#[cycle(simple)]
+pub struct SimpleList {
+    entries: Vec<Simple>,
+}
+
+impl SimpleList {
+    pub fn of(entries: Vec<Simple>) -> SimpleList
+        ensures { spaces_of result ≡ spaces_in entries.items }
+    {
+        SimpleList { entries }
+    }
+
+    pub fn items(&self) -> &[Simple]
+        ensures { spaces_in result.now ≡ spaces_of self.now }
+    {
+        &self.entries
+    }
+}

@@ -1,0 +1,5 @@
+pub mod Answers
+pub mod Chains
+pub mod Lexical
+pub mod Reading
+pub mod Written

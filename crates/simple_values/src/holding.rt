@@ -1,0 +1,79 @@
+//! Whether a value is one of a simple type.
+ghost use Rattle.std.specs.Prelude.{◌≡◌, ◌↔◌, IfOk, IsTrue};
+ghost use Rattle.simple_types.specs.Seen.{space_of};
+ghost use Rattle.simple_types.specs.Sound.{Sound};
+ghost use Rattle.simple_values.specs.Reading.{Holds};
+
+use crate::accepting::read;
+use crate::reading::SimpleError;
+use crate::spelling::spelling;
+use label_tree::Tree;
+use simple_types::{Simple, ValueLabel};
+use std::alloc::Global;
+use xa_base::Memory;
+
+fn same_flags(a: &[bool], b: &[bool]) -> bool
+    ensures { IsTrue result ↔ (a.now ≡ b.now) }
+{
+    if a.len() != b.len() {
+        return false;
+    }
+    'flags: for i in 0..a.len() {
+        if a[i] != b[i] {
+            return false;
+        }
+    }
+    true
+}
+
+fn same_label(a: &ValueLabel, b: &ValueLabel) -> bool
+    ensures { IsTrue result ↔ (a.now ≡ b.now) }
+{
+    match a {
+        ValueLabel::Bool(x) => matches!(b, ValueLabel::Bool(y) if x == y),
+        ValueLabel::Int(x) => matches!(b, ValueLabel::Int(y) if x == y),
+        ValueLabel::Enum(x) => matches!(b, ValueLabel::Enum(y) if x == y),
+        ValueLabel::Utf8(x) => matches!(b, ValueLabel::Utf8(y) if x == y),
+        ValueLabel::Sequence { present: x } => {
+            matches!(b, ValueLabel::Sequence { present: y } if same_flags(x.items(), y.items()))
+        }
+        ValueLabel::Choice(x) => matches!(b, ValueLabel::Choice(y) if x == y),
+        ValueLabel::SequenceOf => matches!(b, ValueLabel::SequenceOf),
+    }
+}
+
+#[cycle(same)]
+fn are_same(a: &[Tree<ValueLabel>], b: &[Tree<ValueLabel>]) -> bool
+    ensures { IsTrue result ↔ (a.now ≡ b.now) }
+{
+    if a.len() != b.len() {
+        return false;
+    }
+    'kids: for i in 0..a.len() {
+        if !is_same(&a[i], &b[i]) {
+            return false;
+        }
+    }
+    true
+}
+
+// Whether two values are equal.
+#[cycle(same)]
+fn is_same(a: &Tree<ValueLabel>, b: &Tree<ValueLabel>) -> bool
+    ensures { IsTrue result ↔ (a.now ≡ b.now) }
+{
+    same_label(a.label(), b.label()) && are_same(a.kids(), b.kids())
+}
+
+/// Whether the value is the one that its own spelling gives.
+pub fn holds(alloc: Global, simple: &Simple, value: &Tree<ValueLabel>) -> Result<bool, Memory>
+    requires { Sound (space_of simple.now) }
+    ensures { IfOk result (λ b. IsTrue b ↔ Holds (space_of simple.now) value.now) }
+{
+    let text = spelling(alloc, simple, value)?;
+    match read(alloc, simple, text.as_str()) {
+        Ok(again) => Ok(is_same(&again, value)),
+        Err(SimpleError::Memory) => Err(Memory),
+        Err(_) => Ok(false),
+    }
+}

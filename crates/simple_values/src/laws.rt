@@ -1,0 +1,29 @@
+//! The laws of simple types. Each is proved for all types and texts.
+ghost use Rattle.std.specs.Prelude.{◌≡◌, ◌⊎◌, ℕ, List};
+ghost use Rattle.label_tree.specs.Rose.{Rose};
+ghost use Rattle.simple_types.specs.declared.labels.ValueLabel.{ValueLabel};
+ghost use Rattle.simple_types.specs.Space.{Space, Spaces, UnionOf};
+ghost use Rattle.simple_types.specs.Sound.{Sound};
+ghost use Rattle.simple_values.specs.Chains.{ChainEnds};
+ghost use Rattle.simple_values.specs.Reading.{reads, taken_by, spelled_by, Accepts, TooWide, BadText, Holds};
+
+/// A type accepts a text with one value, or finds it too wide, or finds it no text of the type; one of the three, and
+/// never two.
+pub fn one_reading()
+    ensures some { (s : Space) (text : List ℕ) → ((value : Rose ValueLabel) × Accepts s text value) ⊎ (TooWide s text ⊎ BadText s text) }
+    ensures value { (s : Space) (text : List ℕ) (v w : Rose ValueLabel) → Accepts s text v → Accepts s text w → v ≡ w }
+    ensures not_wide { (s : Space) (text : List ℕ) (v : Rose ValueLabel) → Accepts s text v → ¬ TooWide s text }
+    ensures not_bad { (s : Space) (text : List ℕ) (v : Rose ValueLabel) → Accepts s text v → ¬ BadText s text }
+    ensures not_both { (s : Space) (text : List ℕ) → TooWide s text → ¬ BadText s text }
+{}
+
+/// What a type accepts holds: its own spelling gives it again.
+pub fn accepted_holds()
+    ensures { (s : Space) → Sound s → (text : List ℕ) (value : Rose ValueLabel) → Accepts s text value → Holds s value }
+{}
+
+/// The chain of spellings of a union ends for each text, with what the union reads: each turn that goes on takes an
+/// earlier member.
+pub fn chain_ends()
+    ensures { (members : Spaces) → Sound (UnionOf members) → (text : List ℕ) → ChainEnds (taken_by members) (spelled_by members) text (reads (UnionOf members) text) }
+{}

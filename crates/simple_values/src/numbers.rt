@@ -1,0 +1,108 @@
+//! Whole numbers and truth values as texts write them.
+ghost use Rattle.std.specs.Prelude.{◌≡◌, ◌∷◌, [], Some, None, MatchOption, length, ◌≢◌};
+ghost use Rattle.std.specs.List.{list_all};
+ghost use Rattle.std.specs.Str.Parse.{without_leading_sign, starts_with_minus};
+ghost use Rattle.xa_base.specs.WhiteSpace.{words_of, treated};
+ghost use Rattle.simple_values.specs.Lexical as lexical;
+ghost use Rattle.simple_values.specs.Written.{Writes, Shows};
+
+use xa_base::{WhiteSpace, first_word};
+
+/// A whole number, as far as 128 bits show it.
+#[derive(Clone, Copy)]
+pub enum Whole {
+    Within(i128),
+    /// Over 2^127 - 1.
+    Above,
+    /// Under -2^127.
+    Below,
+}
+
+fn is_digit(b: u8) -> bool
+    ensures { result ≡ lexical.is_digit b }
+{
+    matches!(b, b'0'..=b'9')
+}
+
+/// Whether the bytes are one digit or more.
+pub fn is_numeral(bytes: &[u8]) -> bool
+    ensures { result ≡ lexical.is_numeral bytes.now }
+{
+    !bytes.is_empty() && bytes.iter().all(|b| is_digit(*b))
+}
+
+fn has_minus(bytes: &[u8]) -> bool
+    ensures { result ≡ starts_with_minus bytes.now }
+{
+    bytes.first() == Some(&b'-')
+}
+
+fn without_sign(bytes: &[u8]) -> &[u8]
+    ensures { result.now ≡ without_leading_sign bytes.now }
+{
+    if has_minus(bytes) || bytes.first() == Some(&b'+') {
+        &bytes[1..]
+    } else {
+        bytes
+    }
+}
+
+/// The number that the text writes.
+#[tactic(auto, unfolding(crate::specs::Lexical::whole_number))]
+fn whole_number(text: &str) -> Option<Whole>
+    ensures { Writes result (lexical.whole_number text.now) }
+{
+    let bytes = text.as_bytes();
+    if !is_numeral(without_sign(bytes)) {
+        return None;
+    }
+    let whole = match text.parse::<i128>() {
+        Ok(n) => Whole::Within(n),
+        Err(_) if has_minus(bytes) => Whole::Below,
+        Err(_) => Whole::Above,
+    };
+    Some(whole)
+}
+
+/// The word of a text that has just one.
+pub fn only_word(text: &str) -> Option<&str>
+    ensures { MatchOption result (length (words_of text.now) ≢ 1) (λ word. words_of text.now ≡ word.now ∷ []) }
+{
+    let (word, behind) = first_word(text)?;
+    match first_word(behind) {
+        Some(_) => None,
+        None => Some(word),
+    }
+}
+
+/// The number that the collapsed text writes.
+pub fn collapsed_number(text: &str) -> Option<Whole>
+    ensures { Writes result (lexical.whole_number (treated WhiteSpace.Collapse text.now)) }
+{
+    match only_word(text) {
+        Some(word) => whole_number(word),
+        None => None,
+    }
+}
+
+fn boolean_of(word: &str) -> Option<bool>
+    ensures { result ≡ lexical.boolean_of word.now }
+{
+    if word == "true" || word == "1" {
+        Some(true)
+    } else if word == "false" || word == "0" {
+        Some(false)
+    } else {
+        None
+    }
+}
+
+/// The truth value that the collapsed text writes.
+pub fn collapsed_boolean(text: &str) -> Option<bool>
+    ensures { result ≡ lexical.boolean_of (treated WhiteSpace.Collapse text.now) }
+{
+    match only_word(text) {
+        Some(word) => boolean_of(word),
+        None => None,
+    }
+}
