@@ -1,0 +1,31 @@
+use Rattle.std.proofs.Common.{◌≡◌, ◌↔◌, ◌+◌, ◌-◌, ◌*◌, length, drop}
+use Rattle.std.specs.Prelude.{map, replicate}
+use Rattle.label_tree.specs.Rose.{node_count, count_all, roses_of}
+use Rattle.asn_types.specs.Placing.{place_seen, ArePlaces}
+use Rattle.asn_types.specs.Values.{FitEach}
+use Rattle.asn_types.proofs.values.+fitting.Given as goal
+
+abbrev pub decreases-fits_at : goal.decreases-fits_at
+decreases-fits_at l = 3 * node_count l.value.now + 1
+
+abbrev pub decreases-fit_kids : goal.decreases-fit_kids
+decreases-fit_kids l = 3 * node_count l.value.now
+
+abbrev pub decreases-fit_each : goal.decreases-fit_each
+decreases-fit_each l = 3 * count_all (roses_of l.values.now) + 2
+
+abbrev pub decreases-fit_all : goal.decreases-fit_all
+decreases-fit_all l = 3 * count_all (roses_of l.values.now) + 2
+
+abbrev pub invariant-fit_each-values : goal.invariant-fit_each-values
+invariant-fit_each-values l = record {
+  left : FitEach l.«module» l.depth (map place_seen l.places) (roses_of l.values) ↔ FitEach l.«module» l.depth (map place_seen (drop l.i l.places)) (roses_of (drop l.i l.values));
+  places : ArePlaces l.«module» (map place_seen (drop l.i l.places));
+}
+
+abbrev pub invariant-fit_all-values : goal.invariant-fit_all-values
+invariant-fit_all-values l = record {
+  left : FitEach l.«module» l.fn.depth (replicate (length l.values) (place_seen l.place)) (roses_of l.values)
+      ↔ FitEach l.«module» l.fn.depth (replicate (length l.values - l.value-index) (place_seen l.place)) (roses_of (drop l.value-index l.values));
+  places : ArePlaces l.«module» (replicate (length l.values - l.value-index) (place_seen l.place));
+}

@@ -1,0 +1,17 @@
+-- What stands in a type.
+use Rattle.std.specs.Prelude.{◌≡◌, ℕ, List, [], ◌∷◌, length}
+use Rattle.asn_types.specs.declared.types.Component.{Component}
+use Rattle.asn_types.specs.declared.types.Form.{Form}
+use Rattle.asn_types.specs.declared.types.Form.TheVariants as form
+use Rattle.asn_types.specs.declared.types.TypeLabel.{TypeLabel}
+
+-- the components of a SEQUENCE, the alternatives of a CHOICE, the item of a SEQUENCE OF
+abbrev pub parts_of : Form → List Component
+parts_of (form.Sequence parts) = parts
+parts_of (form.Choice parts) = parts
+parts_of (form.SequenceOf part least most) = part ∷ []
+parts_of _ = []
+
+-- each has its type
+abbrev pub MayHave : TypeLabel → ℕ → Type 0
+MayHave l kids = kids ≡ length (parts_of l.form)

@@ -1,0 +1,46 @@
+-- What a part of a type stands for in a document, by the encoding instructions of X.693.
+use Rattle.std.specs.Prelude.{ℕ, ◌+◌, ◌==◌, ◌&&◌, Bool, true, false, ℤ, Option, Some, None, List, [], ◌∷◌, length, if◌then◌else◌}
+use Rattle.asn_types.specs.declared.roles.Role.{Role}
+use Rattle.asn_types.specs.declared.roles.Role.TheVariants.{Attribute, Element, Group, Content, Embed, Item, Alternative}
+use Rattle.asn_types.specs.declared.types.Component.{Component}
+use Rattle.asn_types.specs.declared.types.Form.{Form}
+use Rattle.asn_types.specs.declared.types.Form.TheVariants as form
+use Rattle.asn_types.specs.declared.types.TypeLabel.{TypeLabel}
+use Rattle.asn_types.specs.Marks.{has_attribute, has_untagged, has_use_nil, has_embed_values, has_use_union}
+use Rattle.asn_types.specs.Parts.{parts_of}
+
+-- the last part of a USE-NIL type
+abbrev pub is_content : TypeLabel → ℕ → Bool
+is_content l i = has_use_nil l.marks && (i + 1 == length (parts_of l.form))
+
+-- the first part of an EMBED-VALUES type
+abbrev pub is_embed : TypeLabel → ℕ → Bool
+is_embed l i = (i == 0) && has_embed_values l.marks
+
+abbrev pub is_empty_text : List ℕ → Bool
+is_empty_text [] = true
+is_empty_text (b ∷ bs) = false
+
+-- the part of a SEQUENCE OF, where it has no identifier
+abbrev pub is_item : Form → Component → Bool
+is_item (form.SequenceOf part least most) component = is_empty_text component.identifier
+is_item _ component = false
+
+-- the role of the part with number i
+abbrev pub role_of : TypeLabel → ℕ → Component → Role
+role_of l i component =
+    if has_attribute component.marks then Attribute
+    else (if has_untagged component.marks then Group
+    else (if is_content l i then Content
+    else (if is_embed l i then Embed
+    else (if is_item l.form component then Item
+    else (if has_use_union l.marks then Alternative
+    else Element)))))
+
+abbrev pub int_bounds : Form → Option (Option ℤ × Option ℤ)
+int_bounds (form.Int least greatest) = Some (least, greatest)
+int_bounds _ = None
+
+abbrev pub size_bounds : Form → Option (ℕ × Option ℕ)
+size_bounds (form.SequenceOf part least most) = Some (least, most)
+size_bounds _ = None

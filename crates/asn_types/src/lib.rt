@@ -1,0 +1,26 @@
+//! ASN.1 types with their encoding instructions, modules of them, and what is a value of a type.
+#![tactic(auto)]
+
+mod marks;
+mod modules;
+mod parts;
+mod places;
+mod resolving;
+mod roles;
+mod rules;
+mod simples;
+mod types;
+mod values;
+
+pub use marks::{Instruction, Marks};
+pub use modules::{Assignment, Module};
+pub use parts::{int_bounds, role, size_bounds};
+pub use resolving::resolve;
+pub use roles::Role;
+pub use rules::own;
+pub use simples::simple_of;
+pub use types::{Component, Components, Form, TypeLabel};
+pub use values::is_value;
+
+#[cfg(test)]
+mod tests;

@@ -1,0 +1,94 @@
+//! The parts of a type with their roles, and its bounds.
+ghost use Rattle.std.specs.Prelude.{◌≡◌, ◌<◌, IfSome, MatchOption, Some, None, length, slice_get};
+ghost use Rattle.asn_types.specs.Parts.{parts_of};
+ghost use Rattle.asn_types.specs.Roles as roles;
+
+use crate::roles::Role;
+use crate::types::{Component, Form, TypeLabel};
+
+impl Form {
+    // The component with this number.
+    fn part(&self, i: usize) -> Option<&Component>
+        ensures { MatchOption result (slice_get (parts_of self.now) i ≡ None) (λ part. slice_get (parts_of self.now) i ≡ Some part.now) }
+    {
+        match self {
+            Form::Sequence { parts } => parts.items().get(i),
+            Form::Choice { parts } => parts.items().get(i),
+            Form::SequenceOf { part, .. } if i == 0 => Some(part),
+            _ => None,
+        }
+    }
+}
+
+/// The role of the part with this number, from 0. The root of a value has the role of an element.
+pub fn role(node: &TypeLabel, part: u32) -> Role
+    requires { part < length (parts_of node.now.form) }
+    ensures { IfSome (slice_get (parts_of node.now.form) part) (λ component. result ≡ roles.role_of node.now part component) }
+{
+    match node.form.part(part as usize) {
+        Some(component) => node.role_of(part as usize, component),
+        None => Role::Element,
+    }
+}
+
+impl TypeLabel {
+    /// The role of the part with this number, which is this component.
+    pub(crate) fn role_of(&self, i: usize, component: &Component) -> Role
+        requires { i < length (parts_of self.now.form) }
+        ensures { result ≡ roles.role_of self.now i component.now }
+    {
+        if component.marks.has_attribute() {
+            Role::Attribute
+        } else if component.marks.has_untagged() {
+            Role::Group
+        } else if self.is_content(i) {
+            Role::Content
+        } else if i == 0 && self.marks.has_embed_values() {
+            Role::Embed
+        } else if self.is_item(component) {
+            Role::Item
+        } else if self.marks.has_use_union() {
+            Role::Alternative
+        } else {
+            Role::Element
+        }
+    }
+
+    // Whether the part with this number is the last of a USE-NIL type.
+    fn is_content(&self, i: usize) -> bool
+        requires { i < length (parts_of self.now.form) }
+        ensures { result ≡ roles.is_content self.now i }
+    {
+        self.marks.has_use_nil() && self.form.part_count() - i == 1
+    }
+
+    // Whether this part is an item without a name.
+    fn is_item(&self, component: &Component) -> bool
+        ensures { result ≡ roles.is_item self.now.form component.now }
+    {
+        match self.form {
+            Form::SequenceOf { .. } => component.identifier.as_str().is_empty(),
+            _ => false,
+        }
+    }
+}
+
+/// The bounds of an INTEGER. None where the type is none.
+pub fn int_bounds(node: &TypeLabel) -> Option<(Option<i128>, Option<i128>)>
+    ensures { result ≡ roles.int_bounds node.now.form }
+{
+    match node.form {
+        Form::Int { lo, hi } => Some((lo, hi)),
+        _ => None,
+    }
+}
+
+/// The least and the greatest number of items of a SEQUENCE OF. None where the type is none.
+pub fn size_bounds(node: &TypeLabel) -> Option<(u32, Option<u32>)>
+    ensures { result ≡ roles.size_bounds node.now.form }
+{
+    match node.form {
+        Form::SequenceOf { min, max, .. } => Some((min, max)),
+        _ => None,
+    }
+}

@@ -1,0 +1,20 @@
+//! What a part of a type stands for in a document.
+
+/// What a component, an alternative or an item stands for in a document.
+#[derive(Clone, Copy, Debug, PartialEq, Eq)]
+pub enum Role {
+    /// An attribute, by ATTRIBUTE.
+    Attribute,
+    /// An element.
+    Element,
+    /// What stands in it stands beside the parts around it, by UNTAGGED.
+    Group,
+    /// The content of an element that may be nil: the last part of a USE-NIL type.
+    Content,
+    /// The texts between the child elements: the first part of an EMBED-VALUES type.
+    Embed,
+    /// An item without a name, as one of a LIST.
+    Item,
+    /// An alternative of a USE-UNION type.
+    Alternative,
+}

@@ -1,0 +1,269 @@
+//! The simple types that types stand for.
+ghost use Rattle.std.specs.Prelude.{◌≡◌, ◌↔◌, IfOk, IsTrue, MatchOption};
+ghost use Rattle.label_tree.specs.Rose.{node, label_of, roses_of, Roses};
+ghost use Rattle.simple_types.specs.Space.{Spaces};
+ghost use Rattle.simple_types.specs.Seen.{space_of, spaces_in};
+ghost use Rattle.simple_types.specs.Sound.{IsWord, AreWords, Sound, AreSound, is_union, has_list, have_list};
+ghost use Rattle.asn_types.specs.declared.types.TypeLabel.{TypeLabel};
+ghost use Rattle.asn_types.specs.Modules.{IsForm, AreWellFormed, AllWellFormed};
+ghost use Rattle.asn_types.specs.Refs.{IsOf, resolve};
+ghost use Rattle.asn_types.specs.Simples.{IsPlain, ArePlain, MapToEach};
+ghost use Rattle.asn_types.specs.Telling.{Finds, IsLeaf, IsFormOfWords, is_list};
+
+use crate::modules::Module;
+use crate::resolving::resolve;
+use crate::types::{Component, Form, TypeLabel};
+use label_tree::Tree;
+use simple_types::{Class, Simple, SimpleList, TextList};
+use simple_values::has_characters;
+use std::alloc::Global;
+use xa_base::{Memory, Text, WhiteSpace, is_treated};
+
+// Whether the word has XML characters alone and is left as it is by the treatment.
+#[tactic(auto, unfolding(simple_values::specs::Lexical::in_class))]
+fn is_word(how: WhiteSpace, word: &Text) -> bool
+    ensures { IsTrue result ↔ IsWord how word.now }
+{
+    has_characters(0, None, Class::Any, word.as_str()) && is_treated(how, word)
+}
+
+fn are_words(how: WhiteSpace, words: &[Text]) -> bool
+    ensures { IsTrue result ↔ AreWords how words.now }
+{
+    'words: for word in words {
+        if !is_word(how, word) {
+            return false;
+        }
+    }
+    true
+}
+
+// Whether an item or alternative is never absent and has no instructions but NAME.
+fn is_plain(part: &Component) -> bool
+    ensures { IsTrue result ↔ IsPlain part.now }
+{
+    !part.optional && part.marks.tell_nothing()
+}
+
+fn are_plain(parts: &[Component]) -> bool
+    ensures { IsTrue result ↔ ArePlain parts.now }
+{
+    'parts: for part in parts {
+        if !is_plain(part) {
+            return false;
+        }
+    }
+    true
+}
+
+// The simple type of an ENUMERATED of these words.
+#[tactic(auto, unfolding(simple_types::specs::Seen::space_of))]
+fn words_at(alloc: Global, label: &TypeLabel, words: &TextList) -> Result<Option<Simple>, Memory>
+    requires form { IsFormOfWords label.now.form words.now }
+    ensures { IfOk result (λ found. (ts : Roses TypeLabel) → Finds found (node label.now ts)) }
+{
+    let Some(space) = label.marks.tell_white_space() else {
+        return Ok(None);
+    };
+    if !are_words(space, words.items()) {
+        return Ok(None);
+    }
+    let words = words.copy(alloc)?;
+    Ok(Some(Simple::Words { space, words }))
+}
+
+// The simple type of a type without parts.
+#[tactic(auto, unfolding(simple_types::specs::Seen::space_of))]
+fn leaf_at(alloc: Global, module: &Module, label: &TypeLabel) -> Result<Option<Simple>, Memory>
+    requires form { IsForm module.now label.now.form }
+    requires leaf { IsLeaf label.now.form }
+    ensures { IfOk result (λ found. (ts : Roses TypeLabel) → Finds found (node label.now ts)) }
+{
+    match &label.form {
+        Form::Bool => {
+            if label.marks.tell_nothing() {
+                Ok(Some(Simple::Bool))
+            } else {
+                Ok(None)
+            }
+        }
+        Form::Int { lo, hi } => {
+            if label.marks.tell_nothing() {
+                Ok(Some(Simple::Whole { lo: *lo, hi: *hi }))
+            } else {
+                Ok(None)
+            }
+        }
+        Form::Numbers { numbers } => {
+            if label.marks.tell_use_number() {
+                let numbers = numbers.copy(alloc)?;
+                Ok(Some(Simple::Numbers(numbers)))
+            } else {
+                Ok(None)
+            }
+        }
+        Form::Words { words, .. } => words_at(alloc, label, words),
+        Form::Utf8 { min, max, class } => match label.marks.tell_white_space() {
+            Some(space) => Ok(Some(Simple::Chars {
+                space,
+                min: *min,
+                max: *max,
+                class: *class,
+            })),
+            None => Ok(None),
+        },
+        _ => Ok(None),
+    }
+}
+
+#[tactic(auto, unfolding(simple_types::specs::Seen::space_of))]
+fn is_union(simple: &Simple) -> bool
+    ensures { result ≡ is_union (space_of simple.now) }
+{
+    matches!(simple, Simple::Union(_))
+}
+
+#[tactic(auto, unfolding(simple_types::specs::Seen::space_of))]
+fn is_list(simple: &Simple) -> bool
+    ensures { result ≡ is_list (space_of simple.now) }
+{
+    matches!(simple, Simple::List { .. })
+}
+
+// Whether a list stands among the members of a union.
+fn have_list(members: &[Simple]) -> bool
+    requires { AreSound (spaces_in members.now) }
+    ensures { result ≡ have_list (spaces_in members.now) }
+{
+    'members: for member in members {
+        if is_list(member) {
+            return true;
+        }
+    }
+    false
+}
+
+// Whether it is a list, or a union with a list among its members.
+#[tactic(auto, unfolding(simple_types::specs::Seen::space_of))]
+fn has_list(simple: &Simple) -> bool
+    requires { Sound (space_of simple.now) }
+    ensures { result ≡ has_list (space_of simple.now) }
+{
+    match simple {
+        Simple::List { .. } => true,
+        Simple::Union(members) => have_list(members.items()),
+        _ => false,
+    }
+}
+
+// The simple types of these types, none of which is a union.
+#[cycle(simples)]
+fn members_at(
+    alloc: Global,
+    module: &Module,
+    kids: &[Tree<TypeLabel>],
+) -> Result<Option<Vec<Simple>>, Memory>
+    requires { AllWellFormed module.now (roses_of kids.now) }
+    ensures { IfOk result (λ found. MatchOption found
+        ((ss : Spaces) → AreSound ss → MapToEach ss (roses_of kids.now) → ⊥)
+        (λ members. AreSound (spaces_in members.items) × MapToEach (spaces_in members.items) (roses_of kids.now))) }
+{
+    let mut members = Vec::with_capacity(alloc, kids.len())?;
+    'kids: for kid in kids {
+        let Some(member) = simple_at(alloc, module, kid)? else {
+            return Ok(None);
+        };
+        if is_union(&member) {
+            return Ok(None);
+        }
+        members.push(member)?;
+    }
+    Ok(Some(members))
+}
+
+// The simple type of a CHOICE.
+#[cycle(simples)]
+fn union_at(
+    alloc: Global,
+    module: &Module,
+    node: &Tree<TypeLabel>,
+    parts: &[Component],
+) -> Result<Option<Simple>, Memory>
+    requires sound { AreWellFormed module.now node.now }
+    requires choice { (label_of node.now).form ≡ Form.Choice parts.now }
+    ensures { IfOk result (λ found. Finds found node.now) }
+{
+    if !node.label().marks.tell_use_union() || !are_plain(parts) {
+        return Ok(None);
+    }
+    let kids = node.kids();
+    if kids.is_empty() || kids.len() > u32::MAX as usize {
+        return Ok(None);
+    }
+    match members_at(alloc, module, kids)? {
+        Some(members) => Ok(Some(Simple::Union(SimpleList::of(members)))),
+        None => Ok(None),
+    }
+}
+
+// The simple type of a SEQUENCE OF.
+#[cycle(simples)]
+fn list_at(
+    alloc: Global,
+    module: &Module,
+    node: &Tree<TypeLabel>,
+    part: &Component,
+    min: u32,
+    max: Option<u32>,
+) -> Result<Option<Simple>, Memory>
+    requires sound { AreWellFormed module.now node.now }
+    requires list { (label_of node.now).form ≡ Form.SequenceOf part.now min max }
+    ensures { IfOk result (λ found. Finds found node.now) }
+{
+    if !node.label().marks.tell_list() || !is_plain(part) {
+        return Ok(None);
+    }
+    let Some(kid) = node.kids().first() else {
+        return Ok(None);
+    };
+    let Some(item) = simple_at(alloc, module, kid)? else {
+        return Ok(None);
+    };
+    if has_list(&item) {
+        return Ok(None);
+    }
+    let item = Box::new(alloc, item)?;
+    Ok(Some(Simple::List { item, min, max }))
+}
+
+// The simple type that is mapped to the type, which is no reference.
+#[cycle(simples)]
+pub(crate) fn simple_at(
+    alloc: Global,
+    module: &Module,
+    node: &Tree<TypeLabel>,
+) -> Result<Option<Simple>, Memory>
+    requires { AreWellFormed module.now node.now }
+    ensures { IfOk result (λ found. Finds found node.now) }
+{
+    let label = node.label();
+    match &label.form {
+        Form::SequenceOf { part, min, max } => list_at(alloc, module, node, part, *min, *max),
+        Form::Choice { parts } => union_at(alloc, module, node, parts.items()),
+        _ => leaf_at(alloc, module, label),
+    }
+}
+
+/// The simple type that is mapped to the type, or to that to which it refers. Identifiers, NAME and TEXT count for
+/// nothing in this. None where there is no such simple type.
+pub fn simple_of(
+    alloc: Global,
+    module: &Module,
+    node: &Tree<TypeLabel>,
+) -> Result<Option<Simple>, Memory>
+    requires { IsOf module.now node.now }
+    ensures { IfOk result (λ found. Finds found (resolve module.now node.now)) }
+{
+    let _ = module.count();
+    simple_at(alloc, module, resolve(module, node))
+}
