@@ -1,0 +1,86 @@
+-- Pieces of the notation of ASN.1 (X.680): quoted texts, numbers, constraints, and lists in braces.
+use Rattle.std.specs.Prelude.{◌==◌, ◌+◌, ◌&&◌, ℕ, zero, suc, ℤ, pos, Option, Some, None, List, [], ◌∷◌, ◌++◌, map, codes, decimal, if◌then◌else◌}
+use Rattle.std.specs.List.{flat_map, join_with_byte}
+use Rattle.std.specs.Option.{option_map}
+use Rattle.std.specs.Fmt.{signed_decimal}
+use Rattle.std.specs.Ordering.{int_eq}
+use Rattle.simple_types.specs.declared.simples.Class.{Class}
+use Rattle.simple_types.specs.declared.simples.Class.TheVariants.{Any, Language, NmToken, Name, NcName}
+
+-- ---- texts (cstring, clause 12.14)
+
+-- a quotation mark inside is doubled
+abbrev pub doubled : ℕ → List ℕ
+doubled byte = if byte == 34 then 34 ∷ 34 ∷ [] else byte ∷ []
+
+abbrev pub quoted : List ℕ → List ℕ
+quoted text = 34 ∷ flat_map doubled text ++ 34 ∷ []
+
+-- ---- constraints
+
+-- the end of a range, which is open where there is no bound
+abbrev pub end_of : List ℕ → Option ℤ → List ℕ
+end_of open_end (Some z) = signed_decimal z
+end_of open_end None = open_end
+
+-- the numbers from one to another (clause 51.4): MIN and MAX stand for the ends that are open
+abbrev pub from_to : Option ℤ → Option ℤ → List ℕ
+from_to least greatest = end_of (codes "MIN") least ++ codes ".." ++ end_of (codes "MAX") greatest
+
+-- a range, or the one number that there is
+abbrev pub range : Option ℤ → Option ℤ → List ℕ
+range (Some a) (Some b) = if int_eq a b then signed_decimal a else from_to (Some a) (Some b)
+range least greatest = from_to least greatest
+
+-- behind INTEGER: all numbers need no constraint
+abbrev pub number_range : Option ℤ → Option ℤ → List ℕ
+number_range None None = []
+number_range least greatest = codes " (" ++ range least greatest ++ codes ")"
+
+-- in parentheses, how many characters or items (clause 51.5)
+abbrev pub size : ℕ → Option ℕ → List ℕ
+size least most = codes " (SIZE (" ++ range (Some (pos least)) (option_map pos most) ++ codes "))"
+
+-- any number of them needs no constraint
+abbrev pub size_range : ℕ → Option ℕ → List ℕ
+size_range zero None = []
+size_range least most = size least most
+
+-- the texts of a class, as a comment in a user-defined constraint (X.682, clause 9)
+abbrev pub commented : List ℕ → List ℕ
+commented name = codes " (CONSTRAINED BY {/* " ++ name ++ codes " */})"
+
+abbrev pub class_range : Class → List ℕ
+class_range Any = []
+class_range Language = commented (codes "language")
+class_range NmToken = commented (codes "NMTOKEN")
+class_range Name = commented (codes "Name")
+class_range NcName = commented (codes "NCName")
+
+-- ---- lists in braces
+
+-- a comma before each but the first
+abbrev pub comma : ℕ → List ℕ
+comma zero = []
+comma (suc i) = 44 ∷ []
+
+-- with a comma between each two, and the same text before each
+abbrev pub listed : List ℕ → List (List ℕ) → List ℕ
+listed before items = join_with_byte 44 (map (λ item. before ++ item) items)
+
+-- items on one line
+abbrev pub enumerated : List (List ℕ) → List ℕ
+enumerated items = codes "ENUMERATED {" ++ listed (codes " ") items ++ codes " }"
+
+-- a new line that is indented by so many levels, of four spaces each
+abbrev pub indent : ℕ → List ℕ
+indent zero = []
+indent (suc levels) = codes "    " ++ indent levels
+
+abbrev pub new_line : ℕ → List ℕ
+new_line levels = 10 ∷ indent levels
+
+-- parts on lines of their own, one level more than the line of the opening brace, behind which the closing brace stands
+abbrev pub block : ℕ → List (List ℕ) → List ℕ
+block levels [] = codes "{}"
+block levels (part ∷ parts) = codes "{" ++ listed (new_line (suc levels)) (part ∷ parts) ++ new_line levels ++ codes "}"

@@ -1,0 +1,55 @@
+//! The whole text of a module.
+ghost use Rattle.std.specs.Prelude.{◌≡◌, ◌++◌, OnOk, IfOk};
+ghost use Rattle.module_print.specs.Printed.{printed_assignment, opening, closing, printed};
+
+use crate::types::write_type;
+use asn_types::{Assignment, Module};
+use std::alloc::{AllocError, Global};
+use xa_base::Memory;
+
+const OPENING: &[u8] = b"Schema-Set DEFINITIONS XER INSTRUCTIONS AUTOMATIC TAGS ::= BEGIN\n";
+
+const CLOSING: &[u8] =
+    b"ENCODING-CONTROL XER\n    GLOBAL-DEFAULTS MODIFIED-ENCODINGS\n    GLOBAL-DEFAULTS CONTROL-NAMESPACE \"http://www.w3.org/2001/XMLSchema-instance\" PREFIX \"xsi\"\nEND\n";
+
+// An assignment, on lines of its own.
+fn write_assignment(
+    out: &mut Vec<u8>,
+    assignments: &[Assignment],
+    assignment: &Assignment,
+) -> Result<(), AllocError>
+    ensures { OnOk result (out.new.items ≡ out.old.items ++ printed_assignment assignments.now assignment.now) }
+{
+    let Assignment {
+        reference,
+        marks,
+        body,
+    } = assignment;
+    out.extend_from_slice(reference.bytes())?;
+    out.extend_from_slice(b" ::= ")?;
+    write_type(out, assignments, 0, reference, marks, body.root())?;
+    out.push(b'\n')?;
+    Ok(())
+}
+
+// The text of a module of these assignments.
+pub(crate) fn print_assignments(
+    alloc: Global,
+    assignments: &[Assignment],
+) -> Result<Vec<u8>, Memory>
+    ensures { IfOk result (λ text. text.items ≡ printed assignments.now) }
+{
+    let mut out = Vec::from_slice(alloc, OPENING)?;
+    'assignments: for assignment in assignments {
+        write_assignment(&mut out, assignments, assignment)?;
+    }
+    out.extend_from_slice(CLOSING)?;
+    Ok(out)
+}
+
+/// The text of the module in UTF-8. The time is linear in the length of the text.
+pub fn print_module(alloc: Global, module: &Module) -> Result<Vec<u8>, Memory>
+    ensures { IfOk result (λ text. text.items ≡ printed module.now) }
+{
+    print_assignments(alloc, module.assignments())
+}

@@ -1,0 +1,263 @@
+//! Types with their parts.
+ghost use Rattle.std.specs.Prelude.{◌≡◌, ◌++◌, ◌∷◌, [], IfOk, OnOk, suc, map, length};
+ghost use Rattle.label_tree.specs.Rose.{roses_of, Allowed, AllowedAll};
+ghost use Rattle.asn_types.specs.Parts.{parts_of, MayHave};
+ghost use Rattle.module_print.specs.Notation.{enumerated, block, listed, new_line};
+ghost use Rattle.module_print.specs.Printed.{reference_at, numbered_item, integer, text_type, sequence_of, labelled, if_optional, with_type, prefixes, type_of, level_of_parts, printed_type, printed_parts};
+
+use crate::instructions::write_instructions;
+use crate::notation::{
+    write_class, write_comma, write_new_line, write_number, write_number_range, write_size_range,
+};
+use asn_types::{Assignment, Component, Form, Marks, TypeLabel};
+use label_tree::Tree;
+use simple_types::Class;
+use std::alloc::AllocError;
+use xa_base::Text;
+
+// An item that stands for a number.
+fn write_numbered_item(out: &mut Vec<u8>, n: i128) -> Result<(), AllocError>
+    ensures { OnOk result (out.new.items ≡ out.old.items ++ numbered_item n) }
+{
+    out.extend_from_slice(b"int")?;
+    write_number(out, n)?;
+    out.push(b'(')?;
+    write_number(out, n)?;
+    out.push(b')')?;
+    Ok(())
+}
+
+fn write_numbers(out: &mut Vec<u8>, numbers: &[i128]) -> Result<(), AllocError>
+    ensures { OnOk result (out.new.items ≡ out.old.items ++ enumerated (map numbered_item numbers.now)) }
+{
+    out.extend_from_slice(b"ENUMERATED {")?;
+    'numbers: for (i, n) in numbers.iter().enumerate() {
+        write_comma(out, i)?;
+        out.push(b' ')?;
+        write_numbered_item(out, *n)?;
+    }
+    out.extend_from_slice(b" }")?;
+    Ok(())
+}
+
+fn write_words(out: &mut Vec<u8>, identifiers: &[Text]) -> Result<(), AllocError>
+    ensures { OnOk result (out.new.items ≡ out.old.items ++ enumerated identifiers.now) }
+{
+    out.extend_from_slice(b"ENUMERATED {")?;
+    'identifiers: for (i, identifier) in identifiers.iter().enumerate() {
+        write_comma(out, i)?;
+        out.push(b' ')?;
+        out.extend_from_slice(identifier.bytes())?;
+    }
+    out.extend_from_slice(b" }")?;
+    Ok(())
+}
+
+fn write_integer(
+    out: &mut Vec<u8>,
+    least: Option<i128>,
+    greatest: Option<i128>,
+) -> Result<(), AllocError>
+    ensures { OnOk result (out.new.items ≡ out.old.items ++ integer least greatest) }
+{
+    out.extend_from_slice(b"INTEGER")?;
+    write_number_range(out, least, greatest)
+}
+
+fn write_text_type(
+    out: &mut Vec<u8>,
+    least: u32,
+    most: Option<u32>,
+    class: Class,
+) -> Result<(), AllocError>
+    ensures { OnOk result (out.new.items ≡ out.old.items ++ text_type least most class) }
+{
+    out.extend_from_slice(b"UTF8String")?;
+    write_size_range(out, least, most)?;
+    write_class(out, class)
+}
+
+// SEQUENCE OF without its item.
+fn write_sequence_of(out: &mut Vec<u8>, least: u32, most: Option<u32>) -> Result<(), AllocError>
+    ensures { OnOk result (out.new.items ≡ out.old.items ++ sequence_of least most) }
+{
+    out.extend_from_slice(b"SEQUENCE")?;
+    write_size_range(out, least, most)?;
+    out.extend_from_slice(b" OF ")
+}
+
+// An identifier with a space behind it, where there is one.
+fn write_identifier(out: &mut Vec<u8>, identifier: &Text) -> Result<(), AllocError>
+    ensures { OnOk result (out.new.items ≡ out.old.items ++ labelled identifier.now) }
+{
+    let identifier = identifier.bytes();
+    if identifier.is_empty() {
+        return Ok(());
+    }
+    out.extend_from_slice(identifier)?;
+    out.push(b' ')?;
+    Ok(())
+}
+
+fn write_optional(out: &mut Vec<u8>, optional: bool) -> Result<(), AllocError>
+    ensures { OnOk result (out.new.items ≡ out.old.items ++ if_optional optional) }
+{
+    if optional {
+        out.extend_from_slice(b" OPTIONAL")?;
+    }
+    Ok(())
+}
+
+// The name of the assignment with this number, if there is one.
+fn write_reference(out: &mut Vec<u8>, assignments: &[Assignment], to: u32) -> Result<(), AllocError>
+    ensures { OnOk result (out.new.items ≡ out.old.items ++ reference_at assignments.now to) }
+{
+    match assignments.get(to as usize) {
+        Some(assignment) => out.extend_from_slice(assignment.reference.bytes()),
+        None => Ok(()),
+    }
+}
+
+// The instructions of a part or an assignment, then those of its type.
+fn write_prefixes(
+    out: &mut Vec<u8>,
+    generated: &Text,
+    marks: &Marks,
+    label: &TypeLabel,
+) -> Result<(), AllocError>
+    ensures { OnOk result (out.new.items ≡ out.old.items ++ prefixes generated.now marks.now label.now) }
+{
+    write_instructions(out, generated, &label.form, marks)?;
+    write_instructions(out, generated, &label.form, &label.marks)
+}
+
+// The brace behind the parts, on a line of its own.
+fn write_closing_brace(out: &mut Vec<u8>, levels: usize) -> Result<(), AllocError>
+    ensures { OnOk result (out.new.items ≡ out.old.items ++ (new_line levels ++ 125 ∷ [])) }
+{
+    write_new_line(out, levels)?;
+    out.push(b'}')?;
+    Ok(())
+}
+
+/// The type of a part or an assignment with this generated name and these instructions, on a line that is indented by so
+/// many levels.
+#[cycle(types)]
+pub(crate) fn write_type(
+    out: &mut Vec<u8>,
+    assignments: &[Assignment],
+    levels: usize,
+    generated: &Text,
+    marks: &Marks,
+    tree: &Tree<TypeLabel>,
+) -> Result<(), AllocError>
+    requires { Allowed MayHave tree.now }
+    ensures { OnOk result (out.new.items ≡ out.old.items ++ printed_type assignments.now levels generated.now marks.now tree.now) }
+{
+    let label = tree.label();
+    write_prefixes(out, generated, marks, label)?;
+    write_form(out, assignments, levels, &label.form, tree.kids())
+}
+
+#[cycle(types)]
+fn write_form(
+    out: &mut Vec<u8>,
+    assignments: &[Assignment],
+    levels: usize,
+    form: &Form,
+    kids: &[Tree<TypeLabel>],
+) -> Result<(), AllocError>
+    requires count { length kids.now ≡ length (parts_of form.now) }
+    requires allowed { AllowedAll MayHave (roses_of kids.now) }
+    ensures { OnOk result (out.new.items ≡ out.old.items ++ type_of assignments.now levels form.now (printed_parts assignments.now (level_of_parts levels form.now) (parts_of form.now) (roses_of kids.now))) }
+{
+    match form {
+        Form::Bool => out.extend_from_slice(b"BOOLEAN"),
+        Form::Int { lo, hi } => write_integer(out, *lo, *hi),
+        Form::Numbers { numbers } => write_numbers(out, numbers.items()),
+        Form::Words { identifiers, .. } => write_words(out, identifiers.items()),
+        Form::Utf8 { min, max, class } => write_text_type(out, *min, *max, *class),
+        Form::Sequence { parts } => {
+            out.extend_from_slice(b"SEQUENCE ")?;
+            write_block(out, assignments, levels, parts.items(), kids)
+        }
+        Form::Choice { parts } => {
+            out.extend_from_slice(b"CHOICE ")?;
+            write_block(out, assignments, levels, parts.items(), kids)
+        }
+        Form::SequenceOf { part, min, max } => {
+            write_sequence_of(out, *min, *max)?;
+            write_part(out, assignments, levels, part, &kids[0])
+        }
+        Form::Ref { to } => write_reference(out, assignments, *to),
+    }
+}
+
+// The level of the parts on a line of this level. A line that is too long for a number is too long for memory.
+fn next_level(levels: usize) -> Result<usize, AllocError>
+    ensures { IfOk result (λ next. next ≡ suc levels) }
+{
+    match levels.checked_add(1) {
+        Some(next) => Ok(next),
+        None => Err(AllocError),
+    }
+}
+
+// The parts in braces.
+#[cycle(types)]
+fn write_block(
+    out: &mut Vec<u8>,
+    assignments: &[Assignment],
+    levels: usize,
+    parts: &[Component],
+    kids: &[Tree<TypeLabel>],
+) -> Result<(), AllocError>
+    requires count { length kids.now ≡ length parts.now }
+    requires allowed { AllowedAll MayHave (roses_of kids.now) }
+    ensures { OnOk result (out.new.items ≡ out.old.items ++ block levels (printed_parts assignments.now (suc levels) parts.now (roses_of kids.now))) }
+{
+    if kids.is_empty() {
+        return out.extend_from_slice(b"{}");
+    }
+    let inner = next_level(levels)?;
+    out.push(b'{')?;
+    write_parts(out, assignments, inner, parts, kids)?;
+    write_closing_brace(out, levels)
+}
+
+// The parts, each on a line of its own.
+#[cycle(types)]
+fn write_parts(
+    out: &mut Vec<u8>,
+    assignments: &[Assignment],
+    levels: usize,
+    parts: &[Component],
+    kids: &[Tree<TypeLabel>],
+) -> Result<(), AllocError>
+    requires count { length kids.now ≡ length parts.now }
+    requires allowed { AllowedAll MayHave (roses_of kids.now) }
+    ensures { OnOk result (out.new.items ≡ out.old.items ++ listed (new_line levels) (printed_parts assignments.now levels parts.now (roses_of kids.now))) }
+{
+    'parts: for (i, kid) in kids.iter().enumerate() {
+        write_comma(out, i)?;
+        write_new_line(out, levels)?;
+        write_part(out, assignments, levels, &parts[i], kid)?;
+    }
+    Ok(())
+}
+
+#[cycle(types)]
+fn write_part(
+    out: &mut Vec<u8>,
+    assignments: &[Assignment],
+    levels: usize,
+    part: &Component,
+    kid: &Tree<TypeLabel>,
+) -> Result<(), AllocError>
+    requires { Allowed MayHave kid.now }
+    ensures { OnOk result (out.new.items ≡ out.old.items ++ with_type part.now (printed_type assignments.now levels part.now.identifier part.now.marks kid.now)) }
+{
+    write_identifier(out, &part.identifier)?;
+    write_type(out, assignments, levels, &part.identifier, &part.marks, kid)?;
+    write_optional(out, part.optional)
+}
