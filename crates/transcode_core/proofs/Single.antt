@@ -11,10 +11,12 @@ use Rattle.doc_text.specs.declared.error.DocWhy.{DocWhy}
 use Rattle.doc_text.proofs.OneTree.{one_tree, tree_or_fault, one_fault}
 use Rattle.doc_text.proofs.PieceLaws.{PieceLaws}
 use Rattle.transcode_core.specs.declared.outcome.Outcome.{Outcome}
-use Rattle.transcode_core.specs.declared.outcome.Outcome.TheVariants.{Done, OutOfMemory, NotYet}
+use Rattle.transcode_core.specs.declared.outcome.Outcome.TheVariants.{Done, SchemaFault, OutOfMemory, NotYet}
 use Rattle.transcode_core.specs.FirstForm.{IsSchema, IsSchemaAs}
 use Rattle.transcode_core.specs.Order.{Pass, Found, Which, Then}
-use Rattle.transcode_core.specs.Steps.{Loaded, Read, Rooted, Declared, Schema, Input}
+use Rattle.schema_rules.specs.Faults.{first_fault, reasons}
+use Rattle.schema_rules.specs.declared.faults.Fault.{Fault}
+use Rattle.transcode_core.specs.Steps.{Loaded, Read, Faultless, Checked, Rooted, Declared, Schema, Input}
 use Rattle.transcode_core.specs.Due.{Opened, InputValue, Due}
 use Rattle.transcode_core.specs.Causes.{IsRefusal, Deciding}
 use Rattle.transcode_core.proofs.Declared.{one_list}
@@ -94,10 +96,25 @@ Rooted-single root names (Ok x) (Err o) p q = let e : true ≡ false = sym p.1 �
 Rooted-single root names (Err o) (Ok x) q p = let e : true ≡ false = sym p.1 ∙ q.0 p.0 in cc
 Rooted-single root names (Err o) (Err n) p q = ap (λ z. Err z) (p.1 ∙ sym q.1)
 
+same_fault : (found : Option Fault) (x y : Fault) → found ≡ Some x → found ≡ Some y → x ≡ y
+same_fault found x y p q = let e : Some x ≡ Some y = sym p ∙ q in cc
+
+Faultless-single : (k : ℕ) (items : tree.Rose ItemLabel) → IsSingle (Faultless k items)
+Faultless-single k items (Ok x) (Ok y) p q = refl
+Faultless-single k items (Ok x) (Err o) p (fault, found, is) = let e : None ≡ Some fault = sym p ∙ found in cc
+Faultless-single k items (Err o) (Ok y) (fault, found, is) q = let e : None ≡ Some fault = sym q ∙ found in cc
+Faultless-single k items (Err o) (Err n) (fault, found, is) (other, finds, was) =
+    let same = same_fault (first_fault (reasons items)) fault other found finds in
+    ap (λ z. Err z) (is ∙ (ap (λ (f : Fault). SchemaFault k f.at f.why) same ∙ sym was))
+
+Checked-single : (root : Name) (k : ℕ) (items : tree.Rose ItemLabel) → IsSingle (Checked root k items)
+Checked-single root k items =
+    Then-single _ _ (Faultless-single k items) (λ _.
+    Then-single _ _ (Which-single (IsSchema items) NotYet (one_schema (label_of items) (kids_of items))) (λ names. Rooted-single root names))
+
 pub Declared-single : PieceLaws → (root : Name) (k : ℕ) (bytes : List ℕ) → IsSingle (Declared root k bytes)
 Declared-single laws root k bytes =
-    Then-single _ _ (Read-single laws _ bytes) (λ items.
-    Then-single _ _ (Which-single (IsSchema items) NotYet (one_schema (label_of items) (kids_of items))) (λ names. Rooted-single root names))
+    Then-single _ _ (Read-single laws _ bytes) (λ items. Checked-single root k items)
 
 pub Schema-single : PieceLaws → (entries : List (List ℕ × List ℕ)) (k : ℕ) (file : List ℕ) (root : Name) → IsSingle (Schema (Some entries) k file root)
 Schema-single laws entries k file root = Then-single _ _ (Loaded-single entries k file) (λ bytes. Declared-single laws root k bytes)

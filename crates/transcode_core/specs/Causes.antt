@@ -3,7 +3,7 @@ use Rattle.std.specs.Prelude.{◌≡◌, ◌⊎◌, ℕ, suc, Bool, IsTrue, List
 use Rattle.xa_base.specs.Faults.{Rose}
 use Rattle.xa_base.specs.Entries.{Lacks}
 use Rattle.transcode_core.specs.declared.outcome.Outcome.{Outcome}
-use Rattle.transcode_core.specs.declared.outcome.Outcome.TheVariants.{Done, Usage, SchemaSyntax, UnknownRoot, TooLong, LoadFault, ReadFault, WriteFault, OutOfMemory}
+use Rattle.transcode_core.specs.declared.outcome.Outcome.TheVariants.{Done, Usage, SchemaSyntax, SchemaFault, UnknownRoot, TooLong, LoadFault, ReadFault, WriteFault, OutOfMemory}
 use Rattle.xa_base.specs.declared.texts.Name.{Name}
 use Rattle.transcode_core.specs.Due.{Requested, Opened}
 
@@ -59,6 +59,7 @@ ReachesInput words entries = (root : Name) × Opened words entries (Ok root)
 abbrev pub IsOfInput : Outcome → Type 0
 IsOfInput Usage = ⊥
 IsOfInput (SchemaSyntax _ _ _) = ⊥
+IsOfInput (SchemaFault _ _ _) = ⊥
 IsOfInput UnknownRoot = ⊥
 IsOfInput (TooLong (suc _)) = ⊥
 IsOfInput (LoadFault _) = ⊥

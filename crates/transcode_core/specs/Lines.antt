@@ -2,8 +2,10 @@
 use Rattle.std.specs.Prelude.{ℕ, zero, suc, List, [], ◌++◌, codes, decimal}
 use Rattle.doc_text.specs.declared.error.DocWhy.{DocWhy}
 use Rattle.doc_text.specs.declared.error.DocWhy.TheVariants as why
+use Rattle.schema_rules.specs.declared.why.SchemaWhy.{SchemaWhy}
+use Rattle.schema_rules.specs.declared.why.SchemaWhy.TheVariants as schema
 use Rattle.transcode_core.specs.declared.outcome.Outcome.{Outcome}
-use Rattle.transcode_core.specs.declared.outcome.Outcome.TheVariants.{Done, Usage, SchemaSyntax, UnknownRoot, DocSyntax, TooLong, LoadFault, ReadFault, WriteFault, OutOfMemory, NotYet}
+use Rattle.transcode_core.specs.declared.outcome.Outcome.TheVariants.{Done, Usage, SchemaSyntax, SchemaFault, UnknownRoot, DocSyntax, TooLong, LoadFault, ReadFault, WriteFault, OutOfMemory, NotYet}
 
 -- the name of a reason against a text
 abbrev pub reason_name : DocWhy → List ℕ
@@ -24,6 +26,56 @@ reason_name why.WrongEnd = codes "WrongEnd"
 reason_name why.TextOutside = codes "TextOutside"
 reason_name why.Unfinished = codes "Unfinished"
 
+-- the name of a reason against a schema document
+abbrev pub schema_reason : SchemaWhy → List ℕ
+schema_reason schema.NotASchema = codes "NotASchema"
+schema_reason schema.UnknownElement = codes "UnknownElement"
+schema_reason schema.Wildcard = codes "Wildcard"
+schema_reason schema.Redefine = codes "Redefine"
+schema_reason schema.NotationElement = codes "NotationElement"
+schema_reason schema.All = codes "All"
+schema_reason schema.IdentityConstraint = codes "IdentityConstraint"
+schema_reason schema.Group = codes "Group"
+schema_reason schema.ComplexContent = codes "ComplexContent"
+schema_reason schema.SimpleContentRestriction = codes "SimpleContentRestriction"
+schema_reason schema.Pattern = codes "Pattern"
+schema_reason schema.TotalDigits = codes "TotalDigits"
+schema_reason schema.FractionDigits = codes "FractionDigits"
+schema_reason schema.Misplaced = codes "Misplaced"
+schema_reason schema.UnknownAttribute = codes "UnknownAttribute"
+schema_reason schema.MissingAttribute = codes "MissingAttribute"
+schema_reason schema.BadValue = codes "BadValue"
+schema_reason schema.Limit = codes "Limit"
+schema_reason schema.SubstitutionGroup = codes "SubstitutionGroup"
+schema_reason schema.Abstract = codes "Abstract"
+schema_reason schema.ElementDefault = codes "ElementDefault"
+schema_reason schema.AttributeDefault = codes "AttributeDefault"
+schema_reason schema.Decimal = codes "Decimal"
+schema_reason schema.Float = codes "Float"
+schema_reason schema.Double = codes "Double"
+schema_reason schema.Duration = codes "Duration"
+schema_reason schema.DateTime = codes "DateTime"
+schema_reason schema.Time = codes "Time"
+schema_reason schema.Date = codes "Date"
+schema_reason schema.GYearMonth = codes "GYearMonth"
+schema_reason schema.GYear = codes "GYear"
+schema_reason schema.GMonthDay = codes "GMonthDay"
+schema_reason schema.GDay = codes "GDay"
+schema_reason schema.GMonth = codes "GMonth"
+schema_reason schema.HexBinary = codes "HexBinary"
+schema_reason schema.Base64Binary = codes "Base64Binary"
+schema_reason schema.QName = codes "QName"
+schema_reason schema.NOTATION = codes "NOTATION"
+schema_reason schema.ID = codes "ID"
+schema_reason schema.IDREF = codes "IDREF"
+schema_reason schema.IDREFS = codes "IDREFS"
+schema_reason schema.ENTITY = codes "ENTITY"
+schema_reason schema.ENTITIES = codes "ENTITIES"
+schema_reason schema.AnySimpleType = codes "AnySimpleType"
+schema_reason schema.AnyType = codes "AnyType"
+schema_reason schema.BothForms = codes "BothForms"
+schema_reason schema.EmptyChoice = codes "EmptyChoice"
+
 -- the file of that number, or the input
 abbrev pub place : ℕ → List ℕ
 place zero = codes "input"
@@ -33,6 +85,7 @@ abbrev pub line : Outcome → List ℕ
 line Done = []
 line Usage = codes "usage: show FILE... | check ROOT FILE... | to-per ROOT FILE... | to-xml ROOT FILE... | trial N\n"
 line (SchemaSyntax k at reason) = codes "file " ++ decimal k ++ codes ", byte " ++ decimal at ++ codes ": syntax: " ++ reason_name reason ++ codes "\n"
+line (SchemaFault k at reason) = codes "file " ++ decimal k ++ codes ", byte " ++ decimal at ++ codes ": schema: " ++ schema_reason reason ++ codes "\n"
 line UnknownRoot = codes "unknown root\n"
 line (DocSyntax at reason) = codes "input, byte " ++ decimal at ++ codes ": syntax: " ++ reason_name reason ++ codes "\n"
 line (TooLong k) = place k ++ codes ": too long\n"

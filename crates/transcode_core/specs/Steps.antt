@@ -7,8 +7,10 @@ use Rattle.xa_base.specs.declared.texts.Name.{Name}
 use Rattle.doc_text.specs.declared.label.ItemLabel.{ItemLabel}
 use Rattle.doc_text.specs.declared.error.DocWhy.{DocWhy}
 use Rattle.doc_text.specs.Documents.{DocOf, BrokenAt}
+use Rattle.schema_rules.specs.Faults.{first_fault, reasons}
+use Rattle.schema_rules.specs.declared.faults.Fault.{Fault}
 use Rattle.transcode_core.specs.declared.outcome.Outcome.{Outcome}
-use Rattle.transcode_core.specs.declared.outcome.Outcome.TheVariants.{SchemaSyntax, UnknownRoot, DocSyntax, TooLong, LoadFault, NotYet}
+use Rattle.transcode_core.specs.declared.outcome.Outcome.TheVariants.{SchemaSyntax, SchemaFault, UnknownRoot, DocSyntax, TooLong, LoadFault, NotYet}
 use Rattle.transcode_core.specs.Words.{Asked, ToPer}
 use Rattle.transcode_core.specs.FirstForm.{IsSchema, truth_in}
 use Rattle.transcode_core.specs.Order.{Found, Which, Then}
@@ -29,17 +31,28 @@ abbrev pub Read : (ℕ → DocWhy → Outcome) → List ℕ → Result (Rose Ite
 Read refusal bytes (Ok items) = DocOf bytes items
 Read refusal bytes (Err o) = (at : ℕ) × (why : DocWhy) × BrokenAt bytes at why × (o ≡ refusal at why)
 
+-- the items of file k are a schema, or have a first fault
+abbrev pub Faultless : ℕ → Rose ItemLabel → Result (Unit {0}) Outcome → Type 0
+Faultless k items (Ok _) = first_fault (reasons items) ≡ None
+Faultless k items (Err o) = (fault : Fault) × (first_fault (reasons items) ≡ Some fault) × (o ≡ SchemaFault k fault.at fault.why)
+
 -- the root is one of the names, which have no namespace
 abbrev pub Rooted : Name → List (List ℕ) → Result (Unit {0}) Outcome → Type 0
 Rooted root names (Ok _) = (root.space ≡ []) × (list_any (bytes_eq root.local) names ≡ true)
 Rooted root names (Err o) = ((root.space ≡ []) → list_any (bytes_eq root.local) names ≡ false) × (o ≡ UnknownRoot)
 
+-- the items are a schema, and declare a global element with the name of the root
+abbrev pub Checked : Name → ℕ → Rose ItemLabel → Result (Unit {0}) Outcome → Type 0
+Checked root k items =
+    Then (Faultless k items) (λ _.
+    Then (Which (IsSchema items) NotYet) (λ names.
+    Rooted root names))
+
 -- the schema document declares a global element with the name of the root
 abbrev pub Declared : Name → ℕ → List ℕ → Result (Unit {0}) Outcome → Type 0
 Declared root k bytes =
     Then (Read (λ at why. SchemaSyntax k at why) bytes) (λ items.
-    Then (Which (IsSchema items) NotYet) (λ names.
-    Rooted root names))
+    Checked root k items)
 
 -- file k is loaded, and declares the root
 abbrev pub Schema : Option (List (List ℕ × List ℕ)) → ℕ → List ℕ → Name → Result (Unit {0}) Outcome → Type 0

@@ -1,11 +1,12 @@
 //! The file and the input.
 ghost use Rattle.std.specs.Prelude.{◌≡◌, ◌≤◌, length, IfOk, IfErr, OnOk};
 ghost use Rattle.std.specs.Io.KnownBytes.{IsAtEnd};
-ghost use Rattle.transcode_core.specs.Steps.{Loaded, Input, Read};
+ghost use Rattle.transcode_core.specs.Steps.{Loaded, Input, Read, Faultless};
 ghost use Rattle.transcode_core.specs.Causes.{Answers, NoMemory, OneLoad, OneRead, IsOfInput};
 
 use crate::outcome::Outcome;
 use doc_text::{DocError, Items, read_document};
+use schema_rules::{Fault, first_fault};
 use std::alloc::Global;
 use xa_base::{Library, LoadError, ReadError, Source, Text, read_all};
 
@@ -58,6 +59,17 @@ pub fn read_schema_items(alloc: Global, file: u32, bytes: &[u8]) -> Result<Items
         Ok(items) => Ok(items),
         Err(DocError::Syntax { at, why }) => Err(Outcome::SchemaSyntax { file, at, why }),
         Err(DocError::Memory) => Err(Outcome::OutOfMemory),
+    }
+}
+
+/// The first fault of a schema document.
+pub fn check_faults(alloc: Global, file: u32, items: &Items) -> Result<(), Outcome>
+    ensures { Answers (λ _. tt) (Faultless file items.now) NoMemory result }
+{
+    match first_fault(alloc, items) {
+        Ok(None) => Ok(()),
+        Ok(Some(Fault { at, why })) => Err(Outcome::SchemaFault { file, at, why }),
+        Err(_) => Err(Outcome::OutOfMemory),
     }
 }
 

@@ -10,6 +10,7 @@ ghost use Rattle.transcode_core.specs.Parts.{spelled};
 use crate::outcome::Outcome;
 use doc_text::DocWhy;
 use itoa::Buffer;
+use schema_rules::SchemaWhy;
 use xa_base::{Failed, Sink, write_all};
 
 // Writes the pieces, one after another.
@@ -91,6 +92,61 @@ fn reason_name(why: DocWhy) -> &'static [u8]
     }
 }
 
+// The name of a reason against a schema document.
+fn schema_reason(why: SchemaWhy) -> &'static [u8]
+    ensures { result.now ≡ lines.schema_reason why }
+{
+    match why {
+        SchemaWhy::NotASchema => b"NotASchema",
+        SchemaWhy::UnknownElement => b"UnknownElement",
+        SchemaWhy::Wildcard => b"Wildcard",
+        SchemaWhy::Redefine => b"Redefine",
+        SchemaWhy::NotationElement => b"NotationElement",
+        SchemaWhy::All => b"All",
+        SchemaWhy::IdentityConstraint => b"IdentityConstraint",
+        SchemaWhy::Group => b"Group",
+        SchemaWhy::ComplexContent => b"ComplexContent",
+        SchemaWhy::SimpleContentRestriction => b"SimpleContentRestriction",
+        SchemaWhy::Pattern => b"Pattern",
+        SchemaWhy::TotalDigits => b"TotalDigits",
+        SchemaWhy::FractionDigits => b"FractionDigits",
+        SchemaWhy::Misplaced => b"Misplaced",
+        SchemaWhy::UnknownAttribute => b"UnknownAttribute",
+        SchemaWhy::MissingAttribute => b"MissingAttribute",
+        SchemaWhy::BadValue => b"BadValue",
+        SchemaWhy::Limit => b"Limit",
+        SchemaWhy::SubstitutionGroup => b"SubstitutionGroup",
+        SchemaWhy::Abstract => b"Abstract",
+        SchemaWhy::ElementDefault => b"ElementDefault",
+        SchemaWhy::AttributeDefault => b"AttributeDefault",
+        SchemaWhy::Decimal => b"Decimal",
+        SchemaWhy::Float => b"Float",
+        SchemaWhy::Double => b"Double",
+        SchemaWhy::Duration => b"Duration",
+        SchemaWhy::DateTime => b"DateTime",
+        SchemaWhy::Time => b"Time",
+        SchemaWhy::Date => b"Date",
+        SchemaWhy::GYearMonth => b"GYearMonth",
+        SchemaWhy::GYear => b"GYear",
+        SchemaWhy::GMonthDay => b"GMonthDay",
+        SchemaWhy::GDay => b"GDay",
+        SchemaWhy::GMonth => b"GMonth",
+        SchemaWhy::HexBinary => b"HexBinary",
+        SchemaWhy::Base64Binary => b"Base64Binary",
+        SchemaWhy::QName => b"QName",
+        SchemaWhy::NOTATION => b"NOTATION",
+        SchemaWhy::ID => b"ID",
+        SchemaWhy::IDREF => b"IDREF",
+        SchemaWhy::IDREFS => b"IDREFS",
+        SchemaWhy::ENTITY => b"ENTITY",
+        SchemaWhy::ENTITIES => b"ENTITIES",
+        SchemaWhy::AnySimpleType => b"AnySimpleType",
+        SchemaWhy::AnyType => b"AnyType",
+        SchemaWhy::BothForms => b"BothForms",
+        SchemaWhy::EmptyChoice => b"EmptyChoice",
+    }
+}
+
 fn parts_of(outcome: Outcome) -> Parts
     ensures { spelled result ≡ lines.line outcome }
 {
@@ -106,6 +162,15 @@ fn parts_of(outcome: Outcome) -> Parts
             at: Some(at),
             tail: b": syntax: ",
             reason: reason_name(why),
+            end: b"\n",
+        },
+        Outcome::SchemaFault { file, at, why } => Parts {
+            head: b"file ",
+            file: Some(file),
+            middle: b", byte ",
+            at: Some(at),
+            tail: b": schema: ",
+            reason: schema_reason(why),
             end: b"\n",
         },
         Outcome::UnknownRoot => plain(b"unknown root\n"),

@@ -3,6 +3,7 @@ ghost use Rattle.std.specs.Prelude.{◌≡◌};
 ghost use Rattle.transcode_core.specs.Status.{status};
 
 use doc_text::DocWhy;
+use schema_rules::SchemaWhy;
 
 /// What a call of the program ends with. Files are numbered from 1 in the order of the words; number 0 is the input.
 #[derive(Clone, Copy, Debug, PartialEq, Eq)]
@@ -13,6 +14,8 @@ pub enum Outcome {
     Usage,
     /// The first fault of the text of a schema file, at this byte.
     SchemaSyntax { file: u32, at: u64, why: DocWhy },
+    /// The first fault of a schema document, at this byte.
+    SchemaFault { file: u32, at: u64, why: SchemaWhy },
     /// No global element has the name of the root.
     UnknownRoot,
     /// The first fault of the text of the input, at this byte.
@@ -40,6 +43,7 @@ impl Outcome {
             Outcome::Done => 0,
             Outcome::Usage => 2,
             Outcome::SchemaSyntax { .. } => 3,
+            Outcome::SchemaFault { .. } => 4,
             Outcome::UnknownRoot => 6,
             Outcome::DocSyntax { .. } => 7,
             Outcome::TooLong { .. } => 11,

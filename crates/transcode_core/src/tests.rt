@@ -3,6 +3,7 @@ ghost use Rattle.std.specs.Prelude.{◌≡◌, ◌<◌};
 
 use crate::{Outcome, run};
 use doc_text::DocWhy;
+use schema_rules::SchemaWhy;
 use std::alloc::Global;
 use std::marker::Brand;
 use std::process::Abort;
@@ -53,8 +54,19 @@ fn words_of(rt: &impl Abort, alloc: Global, words: &[&[u8]]) -> Vec<Text> {
     all
 }
 
-fn two_files(rt: &impl Abort, alloc: Global) -> Vec<Entry> {
-    let files: [(&[u8], &[u8]); 2] = [(b"f.xsd", SCHEMA), (b"broken.xsd", b"<s>a</t>")];
+const DECIMAL: &[u8] =
+    b"<xs:schema xmlns:xs=\"http://www.w3.org/2001/XMLSchema\"><xs:element name=\"d\" type=\"xs:decimal\"/></xs:schema>";
+
+const WILDCARD: &[u8] =
+    b"<xs:schema xmlns:xs=\"http://www.w3.org/2001/XMLSchema\"><xs:element name=\"d\"><xs:complexType><xs:sequence><xs:any/></xs:sequence></xs:complexType></xs:element></xs:schema>";
+
+fn all_files(rt: &impl Abort, alloc: Global) -> Vec<Entry> {
+    let files: [(&[u8], &[u8]); 4] = [
+        (b"f.xsd", SCHEMA),
+        (b"broken.xsd", b"<s>a</t>"),
+        (b"decimal.xsd", DECIMAL),
+        (b"wildcard.xsd", WILDCARD),
+    ];
     let mut entries = Vec::new(alloc);
     for (name, contents) in files {
         let name = Text::of(alloc, name).expect(rt, "a text");
@@ -79,7 +91,7 @@ fn expect_run(
     complaint: &[u8],
 ) {
     let words = words_of(rt, alloc, words);
-    let mut files = SureLibrary::new(two_files(rt, alloc));
+    let mut files = SureLibrary::new(all_files(rt, alloc));
     let contents = document.to_vec(alloc).expect(rt, "memory");
     let mut input = SureSource::new(contents, Vec::new(alloc));
     let mut output = sure_sink(rt, alloc);
@@ -137,7 +149,7 @@ fn words_that_lead_elsewhere(rt: HostRuntime) {
     let alloc = rt.alloc();
     let usage: &[u8] =
         b"usage: show FILE... | check ROOT FILE... | to-per ROOT FILE... | to-xml ROOT FILE... | trial N\n";
-    let words: [(&[&[u8]], Outcome, &[u8]); 12] = [
+    let words: [(&[&[u8]], Outcome, &[u8]); 14] = [
         (&[], Outcome::Usage, usage),
         (&[b"to-per", b"f"], Outcome::Usage, usage),
         (&[b"to-per", b"a:f", b"f.xsd"], Outcome::Usage, usage),
@@ -170,6 +182,24 @@ fn words_that_lead_elsewhere(rt: HostRuntime) {
             },
             b"file 1, byte 4: syntax: WrongEnd\n",
         ),
+        (
+            &[b"to-per", b"d", b"decimal.xsd"],
+            Outcome::SchemaFault {
+                file: 1,
+                at: 55,
+                why: SchemaWhy::Decimal,
+            },
+            b"file 1, byte 55: schema: Decimal\n",
+        ),
+        (
+            &[b"to-per", b"d", b"wildcard.xsd"],
+            Outcome::SchemaFault {
+                file: 1,
+                at: 105,
+                why: SchemaWhy::Wildcard,
+            },
+            b"file 1, byte 105: schema: Wildcard\n",
+        ),
     ];
     for (words, outcome, complaint) in words {
         expect_run(&rt, alloc, words, b"<f>true</f>", outcome, b"", complaint);
@@ -188,7 +218,7 @@ fn outcome_with(
 ) -> (u8, usize, usize) {
     let words = words_of(rt, alloc, &[b"to-per", b"f", b"f.xsd"]);
     let fails = vec![in alloc; load].expect(rt, "memory");
-    let mut files = MemoryLibrary::new(two_files(rt, alloc), fails);
+    let mut files = MemoryLibrary::new(all_files(rt, alloc), fails);
     let mut input = MemorySource::new(
         b"<f>true</f>".to_vec(alloc).expect(rt, "memory"),
         vec![in alloc; read].expect(rt, "memory"),

@@ -7,13 +7,13 @@ ghost use Rattle.xa_base.specs.Bytes.{AppendsFront};
 ghost use Rattle.transcode_core.specs.Lines.{line};
 ghost use Rattle.transcode_core.specs.Requests.{root_seen, seen};
 ghost use Rattle.transcode_core.specs.Steps as steps;
-ghost use Rattle.transcode_core.specs.Steps.{Rooted, Declared, Schema, Valued, encoded};
+ghost use Rattle.transcode_core.specs.Steps.{Rooted, Checked, Declared, Schema, Valued, encoded};
 ghost use Rattle.transcode_core.specs.Order.{Pass, Found, Which, Then};
 ghost use Rattle.transcode_core.specs.FirstForm.{IsSchema};
 ghost use Rattle.transcode_core.specs.Due.{Requested, Opened, InputValue, Encoding, Due};
 ghost use Rattle.transcode_core.specs.Causes.{Answers, Never, NoMemory, OneLoad, Opening, OneRead, Names, ReachesInput, IsOfInput, Deciding, Fails, IsRefusal, WritesNothing};
 
-use crate::files::{load_file, read_input, read_input_items, read_schema_items};
+use crate::files::{check_faults, load_file, read_input, read_input_items, read_schema_items};
 use crate::first_form::{read_schema, read_truth};
 use crate::lines::write_line;
 use crate::outcome::Outcome;
@@ -54,13 +54,23 @@ fn check_names(alloc: Global, root: Root<'_>, items: &Items) -> Result<(), Outco
     }
 }
 
+// Whether the items are a schema that declares the root.
+fn check_items(alloc: Global, root: Root<'_>, file: u32, items: &Items) -> Result<(), Outcome>
+    ensures { Answers (λ _. tt) (Checked (root_seen root.entry) file items.now) NoMemory result }
+{
+    match check_faults(alloc, file, items) {
+        Ok(()) => check_names(alloc, root, items),
+        Err(outcome) => Err(outcome),
+    }
+}
+
 // Whether the schema document declares the root.
 fn check_schema(alloc: Global, root: Root<'_>, file: u32, bytes: &[u8]) -> Result<(), Outcome>
     requires { length bytes.now ≤ 16777216 }
     ensures { Answers (λ _. tt) (Declared (root_seen root.entry) file bytes.now) NoMemory result }
 {
     match read_schema_items(alloc, file, bytes) {
-        Ok(items) => check_names(alloc, root, &items),
+        Ok(items) => check_items(alloc, root, file, &items),
         Err(outcome) => Err(outcome),
     }
 }

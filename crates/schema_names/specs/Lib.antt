@@ -1,0 +1,9 @@
+pub mod Globals
+pub mod Limits
+pub mod Mentioned
+pub mod NameTables
+pub mod Order
+pub mod References
+pub mod Resolution
+pub mod Seen
+pub mod Tables

@@ -1,0 +1,75 @@
+//! Faults of linking, and the first of several.
+ghost use Rattle.std.specs.Prelude.{◌≡◌};
+ghost use Rattle.schema_names.specs.Order.{rank_of, precedes, earlier};
+
+use crate::places::Place;
+use facet_rules::FacetWhy;
+
+/// Why documents can't be linked. At one place the reasons come in this order.
+#[derive(Clone, Copy, Debug, PartialEq, Eq)]
+pub enum LinkWhy {
+    /// More than 10,000 components in the set, or a union over its own limits.
+    Limit,
+    /// A global element, an attribute or a type whose name an earlier one of its kind has.
+    Duplicate,
+    /// A reference that names nothing.
+    Unresolved,
+    /// A reference to a complex type where a simple one is needed.
+    ComplexBase,
+    /// A simple type that is made of itself.
+    CircularType,
+    /// A restriction whose facets don't fit its base.
+    Facet(FacetWhy),
+    /// A list of lists.
+    BadItem,
+    /// A second attribute of one name in a type.
+    DuplicateUse,
+    /// A second element of one name in a content model, with another type.
+    TypesDiffer,
+    /// A particle that can't be told apart without looking ahead.
+    NotClear,
+}
+
+/// A fault, and the place of the element of the schema that has it.
+#[derive(Clone, Copy, Debug, PartialEq, Eq)]
+pub struct Fault {
+    pub place: Place,
+    pub why: LinkWhy,
+}
+
+fn rank(why: LinkWhy) -> u8
+    ensures { result ≡ rank_of why }
+{
+    match why {
+        LinkWhy::Limit => 0,
+        LinkWhy::Duplicate => 1,
+        LinkWhy::Unresolved => 2,
+        LinkWhy::ComplexBase => 3,
+        LinkWhy::CircularType => 4,
+        LinkWhy::Facet(_) => 5,
+        LinkWhy::BadItem => 6,
+        LinkWhy::DuplicateUse => 7,
+        LinkWhy::TypesDiffer => 8,
+        LinkWhy::NotClear => 9,
+    }
+}
+
+impl Fault {
+    // Whether it stands at a lesser place than the other one, or at the same place with an earlier reason.
+    fn precedes(self, other: Fault) -> bool
+        ensures { result ≡ precedes self other }
+    {
+        self.place.is_before(other.place)
+            || (!other.place.is_before(self.place) && rank(self.why) < rank(other.why))
+    }
+}
+
+/// The first of the faults found and one more.
+pub fn earlier(found: Option<Fault>, fault: Fault) -> Option<Fault>
+    ensures { result ≡ earlier found fault }
+{
+    match found {
+        Some(first) if !fault.precedes(first) => Some(first),
+        _ => Some(fault),
+    }
+}

@@ -1,0 +1,21 @@
+//! What several schema documents declare, and what their references name: the faults that are seen before any component
+//! is made.
+#![tactic(auto)]
+
+mod duplicates;
+mod faults;
+mod global_names;
+mod limits;
+mod name_tables;
+mod places;
+mod references;
+mod resolution;
+
+pub use duplicates::first_duplicate;
+pub use faults::{Fault, LinkWhy, earlier};
+pub use limits::first_beyond_limit;
+pub use places::Place;
+pub use resolution::first_unresolved;
+
+#[cfg(test)]
+mod tests;

@@ -1,0 +1,19 @@
+//! Places in the files of a set.
+ghost use Rattle.std.specs.Prelude.{◌≡◌};
+ghost use Rattle.schema_names.specs.Order.{is_before};
+
+/// Where something was written: the number of its file in the set, from 1, and the place in bytes from the file's start.
+#[derive(Clone, Copy, Debug, PartialEq, Eq)]
+pub struct Place {
+    pub file: u32,
+    pub at: u64,
+}
+
+impl Place {
+    /// Whether it stands before the other one in the order of files and places.
+    pub fn is_before(self, other: Place) -> bool
+        ensures { result ≡ is_before self other }
+    {
+        self.file < other.file || (self.file == other.file && self.at < other.at)
+    }
+}

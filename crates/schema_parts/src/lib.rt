@@ -1,0 +1,20 @@
+//! The components of schemas: those of one document, with names in place of what they name, and those of a linked set.
+#![tactic(auto)]
+
+mod components;
+mod declarations;
+mod documents;
+mod roots;
+mod schema_sets;
+mod simple_definitions;
+
+pub use components::{
+    AttributeUse, ComplexDef, Content, ElementDecl, GlobalAttribute, SimpleDef, TypeOf, Uses,
+};
+pub use declarations::{
+    RawAttribute, RawComplex, RawContent, RawElement, RawKind, RawLocal, RawType, RawUse, RawUses,
+};
+pub use documents::RawDoc;
+pub use roots::find_root;
+pub use schema_sets::SchemaSet;
+pub use simple_definitions::{RawBase, RawBases, RawHow, RawRef, RawSimple};

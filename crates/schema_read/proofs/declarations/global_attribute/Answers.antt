@@ -1,0 +1,18 @@
+use Rattle.std.proofs.Common.{sym, ◌∙◌, ap, ◌++◌, Some}
+use Rattle.label_tree.specs.Rose.{kids_of}
+use Rattle.schema_rules.specs.Attributes.{own_attributes}
+use Rattle.schema_rules.specs.Scopes.{bindings_in}
+use Rattle.schema_read.specs.Attributes.{attribute_by, global_attribute}
+use Rattle.schema_read.proofs.declarations.global_attribute.Goals as goal
+
+pub returns : goal.returns
+returns c =
+    let target = c.args.target.now in
+    let scope = bindings_in c.args.scope.now in
+    let at = c.in-Element.at in
+    let own = c.deref.ensures.value ∙ (rw c.items.ensures at c.in_ok-own.ensures) in
+    let made = c.in_ok-found.ensures
+    ∙ (ap (λ d. attribute_by target at (d ++ scope) c.deref.result.now c.kids.result.now) c.items-2.ensures
+    ∙ (ap (λ o. attribute_by target at (c.in-Element.declares ++ scope) o c.kids.result.now) own
+    ∙ ap (λ k. attribute_by target at (c.in-Element.declares ++ scope) (own_attributes c.in-Element.attributes) k) c.kids.ensures)) in
+    ap (λ a. Some a) made ∙ sym (ap (λ l. global_attribute target scope l (kids_of c.args.tree.now)) (sym c.label.ensures ∙ c.in-Element.is))

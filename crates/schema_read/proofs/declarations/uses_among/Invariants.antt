@@ -1,0 +1,11 @@
+use Rattle.std.proofs.Common.{◌≡◌, ◌++◌, drop, map}
+use Rattle.schema_parts.specs.Seen.{uses_in}
+use Rattle.schema_rules.specs.Scopes.{bindings_in}
+use Rattle.schema_read.specs.Attributes.{uses_among}
+use Rattle.schema_read.proofs.declarations.uses_among.Given as goal
+
+-- those so far and those of the rest are all
+abbrev pub invariant-loop-kid : goal.invariant-loop-kid
+invariant-loop-kid l =
+    uses_in l.uses.items ++ uses_among l.setting.target.now l.setting.attributes_qualified (bindings_in l.scope) (drop l.kid-index l.kids)
+    ≡ uses_among l.setting.target.now l.setting.attributes_qualified (bindings_in l.scope) l.kids

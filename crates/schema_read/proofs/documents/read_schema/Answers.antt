@@ -1,0 +1,9 @@
+use Rattle.std.proofs.Common.{sym, ◌∙◌}
+use Rattle.schema_rules.proofs.ShownLaws.{shown, no_fault}
+use Rattle.schema_read.proofs.documents.read_schema.Goals as goal
+
+pub returns-in-Some-clause-refused : goal.returns-in-Some-clause-refused
+returns-in-Some-clause-refused c = shown c.args.items.now 16777216 c.in-Some.field-0 c.requires (sym c.in_ok-at.ensures ∙ c.in-Some.is)
+
+pub returns-clause-schema : goal.returns-clause-schema
+returns-clause-schema c = no_fault c.args.items.now (sym c.in_ok-at.ensures ∙ c.in_default.is)

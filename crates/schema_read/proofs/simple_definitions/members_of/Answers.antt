@@ -1,0 +1,12 @@
+use Rattle.std.proofs.Common.{ap, ◌∙◌}
+use Rattle.schema_parts.specs.Seen.{bases_in}
+use Rattle.schema_read.specs.SimpleTypes.{joined}
+use Rattle.schema_read.proofs.Bases.{bases_in-append}
+use Rattle.schema_read.proofs.simple_definitions.members_of.Goals as goal
+
+pub returns : goal.returns
+returns c =
+    c.of.ensures
+    ∙ (ap bases_in c.in_ok-append.ensures.items
+    ∙ (bases_in-append c.in_ok-members.members.items c.args.inner.items
+    ∙ ap (λ b. joined b (bases_in c.args.inner.items)) c.in_ok-members.ensures))

@@ -1,0 +1,36 @@
+-- Names and references of components (XML Schema Part 1, sections 2.2.1.2 and 3.15.3).
+use Rattle.std.specs.Prelude.{ℕ, List, [], codes, Option, Some, None}
+use Rattle.xa_base.specs.declared.texts.Name.{Name}
+use Rattle.schema_parts.specs.declared.simple_definitions.RawRef.{RawRef}
+use Rattle.schema_parts.specs.declared.simple_definitions.RawRef.TheVariants.{Builtin, Other}
+use Rattle.schema_rules.specs.Elements.{beside}
+use Rattle.schema_rules.specs.References.{TypeName, Known, LeftOut, Elsewhere, type_name, resolved}
+
+-- what stands in the place of a name that a schema has; it isn't there in a document with a fault alone
+abbrev pub no_name : Name
+no_name = record { space = []; local = [] }
+
+abbrev pub ref_to : Option TypeName → RawRef
+ref_to (Some (Known datatype)) = Builtin datatype
+ref_to (Some (Elsewhere name)) = Other name
+ref_to (Some (LeftOut reason)) = Other no_name
+ref_to None = Other no_name
+
+-- the type that the text names
+abbrev pub type_ref : List (List ℕ × List ℕ) → List ℕ → RawRef
+type_ref scope text = ref_to (type_name scope text)
+
+abbrev pub or_no_name : Option Name → Name
+or_no_name (Some name) = name
+or_no_name None = no_name
+
+-- the component that the text refers to
+abbrev pub referred : List (List ℕ × List ℕ) → List ℕ → Name
+referred scope text = or_no_name (resolved scope text)
+
+abbrev pub value_or_empty : List ℕ → List (List ℕ × List ℕ) → List ℕ
+value_or_empty name own = elim (beside name own) [ None ↦ [] | Some value ↦ value ]
+
+-- the name that a declaration gives in this namespace
+abbrev pub declared_name : List ℕ → List (List ℕ × List ℕ) → Name
+declared_name space own = record { space = space; local = value_or_empty (codes "name") own }

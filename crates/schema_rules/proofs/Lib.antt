@@ -1,0 +1,6 @@
+pub mod Digits
+mod Scoped
+pub mod Walked
+pub mod Least
+pub mod Rising
+pub mod ShownLaws

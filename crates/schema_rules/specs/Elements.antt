@@ -1,0 +1,168 @@
+-- The elements of schema documents and where they stand (XML Schema Part 1, section 3, and Part 2, section 4.3).
+use Rattle.std.specs.Prelude.{ℕ, Bool, true, false, ◌||◌, ◌&&◌, not, List, [], ◌∷◌, ◌++◌, bytes_eq, codes, Option, Some, None, if◌then◌else◌}
+use Rattle.std.specs.Option.{option_or}
+use Rattle.xa_base.specs.declared.texts.Name.{Name}
+use Rattle.schema_rules.specs.declared.why.SchemaWhy.{SchemaWhy}
+use Rattle.schema_rules.specs.declared.why.SchemaWhy.TheVariants as why
+use Rattle.schema_rules.specs.declared.roles.Role.{Role}
+use Rattle.schema_rules.specs.declared.roles.Role.TheVariants.{Schema, Composition, GlobalElement, LocalElement, GlobalAttribute, LocalAttribute, GlobalSimpleType, InnerSimpleType, Restriction, List as ListRole, Union, Facet, GlobalComplexType, InnerComplexType, SimpleContent, Extension, Sequence, Choice}
+use Rattle.schema_rules.specs.declared.roles.Position.{Position}
+use Rattle.schema_rules.specs.declared.roles.Position.TheVariants.{Anywhere, First, Alone}
+use Rattle.schema_rules.specs.declared.roles.Part.{Part}
+use Rattle.schema_rules.specs.declared.elements.Placement.{Placement}
+use Rattle.schema_rules.specs.declared.elements.Placement.TheVariants.{Skipped, Refused, Placed}
+
+-- section 2.6
+abbrev pub schema_space : List ℕ
+schema_space = codes "http://www.w3.org/2001/XMLSchema"
+
+-- what stands beside a name
+abbrev pub beside : {A : Type 0} → List ℕ → List (List ℕ × A) → Option A
+beside name [] = None
+beside name (row ∷ rows) = if bytes_eq name row.0 then Some row.1 else beside name rows
+
+abbrev pub has_name : List ℕ → List (List ℕ) → Bool
+has_name name [] = false
+has_name name (n ∷ ns) = bytes_eq name n || has_name name ns
+
+-- ---- names
+
+-- the elements that this profile leaves out, each with its reason
+abbrev pub left_out_elements : List (List ℕ × SchemaWhy)
+left_out_elements =
+    (codes "any", why.Wildcard) ∷ (codes "anyAttribute", why.Wildcard) ∷ (codes "redefine", why.Redefine) ∷ (codes "notation", why.NotationElement)
+    ∷ (codes "all", why.All) ∷ (codes "key", why.IdentityConstraint) ∷ (codes "keyref", why.IdentityConstraint) ∷ (codes "unique", why.IdentityConstraint)
+    ∷ (codes "group", why.Group) ∷ (codes "attributeGroup", why.Group) ∷ (codes "complexContent", why.ComplexContent)
+    ∷ (codes "pattern", why.Pattern) ∷ (codes "totalDigits", why.TotalDigits) ∷ (codes "fractionDigits", why.FractionDigits) ∷ []
+
+-- those that it leaves out in one parent alone
+abbrev pub left_out_there : Role → List (List ℕ × SchemaWhy)
+left_out_there SimpleContent = (codes "restriction", why.SimpleContentRestriction) ∷ []
+left_out_there _ = []
+
+abbrev pub left_out : Role → List ℕ → Option SchemaWhy
+left_out parent name = option_or (beside name (left_out_there parent)) (beside name left_out_elements)
+
+-- the others, but for `annotation`
+abbrev pub element_names : List (List ℕ)
+element_names =
+    codes "schema" ∷ codes "include" ∷ codes "import" ∷ codes "element" ∷ codes "attribute" ∷ codes "simpleType" ∷ codes "restriction" ∷ codes "list"
+    ∷ codes "union" ∷ codes "length" ∷ codes "minLength" ∷ codes "maxLength" ∷ codes "minInclusive" ∷ codes "maxInclusive" ∷ codes "minExclusive"
+    ∷ codes "maxExclusive" ∷ codes "enumeration" ∷ codes "whiteSpace" ∷ codes "complexType" ∷ codes "simpleContent" ∷ codes "extension"
+    ∷ codes "sequence" ∷ codes "choice" ∷ []
+
+-- ---- places
+
+abbrev pub part : Role → Position → Option Part
+part role position = Some (record { role = role; position = position })
+
+-- a child of a parent: its name, what it is there, and where among the children it stands
+abbrev pub Row : Type 0
+Row = List ℕ × Role × Position
+
+abbrev pub child_in : List ℕ → List Row → Option Part
+child_in name [] = None
+child_in name (row ∷ rows) = if bytes_eq name row.0 then part row.1 row.2 else child_in name rows
+
+abbrev pub schema_children : List Row
+schema_children =
+    (codes "include", Composition, Anywhere) ∷ (codes "import", Composition, Anywhere) ∷ (codes "element", GlobalElement, Anywhere)
+    ∷ (codes "attribute", GlobalAttribute, Anywhere) ∷ (codes "simpleType", GlobalSimpleType, Anywhere) ∷ (codes "complexType", GlobalComplexType, Anywhere) ∷ []
+
+abbrev pub element_children : List Row
+element_children = (codes "simpleType", InnerSimpleType, Alone) ∷ (codes "complexType", InnerComplexType, Alone) ∷ []
+
+abbrev pub attribute_children : List Row
+attribute_children = (codes "simpleType", InnerSimpleType, Alone) ∷ []
+
+abbrev pub simple_type_children : List Row
+simple_type_children = (codes "restriction", Restriction, Alone) ∷ (codes "list", ListRole, Alone) ∷ (codes "union", Union, Alone) ∷ []
+
+abbrev pub restriction_children : List Row
+restriction_children =
+    (codes "simpleType", InnerSimpleType, First) ∷ (codes "length", Facet, Anywhere) ∷ (codes "minLength", Facet, Anywhere) ∷ (codes "maxLength", Facet, Anywhere)
+    ∷ (codes "minInclusive", Facet, Anywhere) ∷ (codes "maxInclusive", Facet, Anywhere) ∷ (codes "minExclusive", Facet, Anywhere)
+    ∷ (codes "maxExclusive", Facet, Anywhere) ∷ (codes "enumeration", Facet, Anywhere) ∷ (codes "whiteSpace", Facet, Anywhere) ∷ []
+
+abbrev pub union_children : List Row
+union_children = (codes "simpleType", InnerSimpleType, Anywhere) ∷ []
+
+abbrev pub complex_type_children : List Row
+complex_type_children =
+    (codes "simpleContent", SimpleContent, Alone) ∷ (codes "sequence", Sequence, First) ∷ (codes "choice", Choice, First) ∷ (codes "attribute", LocalAttribute, Anywhere) ∷ []
+
+abbrev pub simple_content_children : List Row
+simple_content_children = (codes "extension", Extension, Alone) ∷ []
+
+abbrev pub extension_children : List Row
+extension_children = (codes "attribute", LocalAttribute, Anywhere) ∷ []
+
+abbrev pub group_children : List Row
+group_children = (codes "element", LocalElement, Anywhere) ∷ (codes "sequence", Sequence, Anywhere) ∷ (codes "choice", Choice, Anywhere) ∷ []
+
+abbrev pub children : Role → List Row
+children Schema = schema_children
+children Composition = []
+children GlobalElement = element_children
+children LocalElement = element_children
+children GlobalAttribute = attribute_children
+children LocalAttribute = attribute_children
+children GlobalSimpleType = simple_type_children
+children InnerSimpleType = simple_type_children
+children Restriction = restriction_children
+children ListRole = attribute_children
+children Union = union_children
+children Facet = []
+children GlobalComplexType = complex_type_children
+children InnerComplexType = complex_type_children
+children SimpleContent = simple_content_children
+children Extension = extension_children
+children Sequence = group_children
+children Choice = group_children
+
+-- one of this position may stand behind the one before, if there is one
+abbrev pub may_stand : Option Position → Position → Bool
+may_stand None position = true
+may_stand (Some Alone) position = false
+may_stand (Some before) Anywhere = true
+may_stand (Some before) position = false
+
+-- ---- what an element is
+
+abbrev pub placed : Option Position → Option Part → Placement
+placed before None = Refused why.Misplaced
+placed before (Some found) = if may_stand before found.position then Placed found else Refused why.Misplaced
+
+abbrev pub refused_or : Option SchemaWhy → Placement → Placement
+refused_or None otherwise = otherwise
+refused_or (Some reason) otherwise = Refused reason
+
+-- The reasons against an element of the schema namespace by its name and its place, in their order.
+abbrev pub placement_of : Role → Option Position → List ℕ → Placement
+placement_of parent before name =
+    refused_or (left_out parent name)
+    (if has_name name element_names then placed before (child_in name (children parent)) else Refused why.UnknownElement)
+
+abbrev pub is_schema_name : Name → Bool
+is_schema_name name = bytes_eq name.space schema_space
+
+-- An annotation may stand anywhere.
+abbrev pub placement : Role → Option Position → Name → Placement
+placement parent before name =
+    if not (is_schema_name name) then Refused why.UnknownElement
+    else if bytes_eq name.local (codes "annotation") then Skipped
+    else placement_of parent before name.local
+
+-- ---- what is counted
+
+abbrev pub counted_names : List (List ℕ)
+counted_names = codes "element" ∷ codes "attribute" ∷ codes "simpleType" ∷ codes "complexType" ∷ codes "sequence" ∷ codes "choice" ∷ []
+
+abbrev pub is_counted : Name → Bool
+is_counted name = is_schema_name name && has_name name.local counted_names
+
+abbrev pub skipped_names : List (List ℕ)
+skipped_names = codes "annotation" ∷ codes "include" ∷ codes "import" ∷ []
+
+abbrev pub is_looked_into : Name → Bool
+is_looked_into name = not (has_name name.local skipped_names)

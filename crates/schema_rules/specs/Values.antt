@@ -1,0 +1,103 @@
+-- The values of attributes of schema documents (XML Schema Part 1, section 3, with the types of its schema in appendix A).
+use Rattle.std.specs.Prelude.{◌==◌, ℕ, Bool, true, false, ◌||◌, ◌&&◌, not, nat_le, List, [], ◌∷◌, bytes_eq, codes, length, Option, Some, None, unwrap_or, if◌then◌else◌}
+use Rattle.std.specs.List.{list_any, list_all}
+use Rattle.std.specs.Option.{is_some}
+use Rattle.std.specs.Str.{chars}
+use Rattle.xa_base.specs.Characters.{is_ncname}
+use Rattle.xa_base.specs.WhiteSpace.{words_of}
+use Rattle.doc_text.specs.Sound.{is_empty, xmlns_space}
+use Rattle.schema_rules.specs.Elements.{beside, has_name, schema_space}
+use Rattle.schema_rules.specs.Numbers.{is_number, is_over, number_of, small}
+use Rattle.schema_rules.specs.References.{resolved, type_name}
+use Rattle.schema_rules.specs.declared.roles.Role.{Role}
+use Rattle.schema_rules.specs.declared.roles.Role.TheVariants.{GlobalAttribute, LocalAttribute}
+use Rattle.schema_rules.specs.declared.values.Form.{Form}
+use Rattle.schema_rules.specs.declared.values.Form.TheVariants.{Truth, Qualification, Prescription, Digits, DigitsOrUnbounded, NcName, Reference, TypeName, TypeNames, TargetNamespace}
+
+-- the form of the value of each attribute that has one
+abbrev pub forms : List (List ℕ × Form)
+forms =
+    (codes "targetNamespace", TargetNamespace) ∷ (codes "elementFormDefault", Qualification) ∷ (codes "attributeFormDefault", Qualification)
+    ∷ (codes "form", Qualification) ∷ (codes "name", NcName) ∷ (codes "ref", Reference) ∷ (codes "type", TypeName) ∷ (codes "base", TypeName)
+    ∷ (codes "itemType", TypeName) ∷ (codes "memberTypes", TypeNames) ∷ (codes "nillable", Truth) ∷ (codes "abstract", Truth) ∷ (codes "mixed", Truth)
+    ∷ (codes "use", Prescription) ∷ (codes "minOccurs", Digits) ∷ (codes "maxOccurs", DigitsOrUnbounded) ∷ []
+
+-- Part 2, section 3.2.2.1
+abbrev pub truth_values : List (List ℕ × Bool)
+truth_values = (codes "true", true) ∷ (codes "1", true) ∷ (codes "false", false) ∷ (codes "0", false) ∷ []
+
+abbrev pub qualifications : List (List ℕ × Bool)
+qualifications = (codes "qualified", true) ∷ (codes "unqualified", false) ∷ []
+
+abbrev pub prescriptions : List (List ℕ)
+prescriptions = codes "optional" ∷ codes "required" ∷ codes "prohibited" ∷ []
+
+abbrev pub unbounded : List ℕ
+unbounded = codes "unbounded"
+
+-- the namespace of `nil` and `type` in documents (Part 1, section 2.6)
+abbrev pub instance_space : List ℕ
+instance_space = codes "http://www.w3.org/2001/XMLSchema-instance"
+
+-- a name that is declared: an NCName within the limit
+abbrev pub is_name : List ℕ → Bool
+is_name text = is_ncname (chars text) && nat_le (length text) 255
+
+-- a namespace that names of documents may have, but for those that are taken
+abbrev pub is_target : List ℕ → Bool
+is_target space =
+    not (is_empty space) && nat_le (length space) 1023 && not (bytes_eq space schema_space) && not (bytes_eq space instance_space)
+    && not (bytes_eq space xmlns_space)
+
+abbrev pub has_form : List (List ℕ × List ℕ) → Form → List ℕ → Bool
+has_form scope Truth value = is_some (beside value truth_values)
+has_form scope Qualification value = is_some (beside value qualifications)
+has_form scope Prescription value = has_name value prescriptions
+has_form scope Digits value = is_number value
+has_form scope DigitsOrUnbounded value = is_number value || bytes_eq value unbounded
+has_form scope NcName value = is_name value
+has_form scope Reference value = is_some (resolved scope value)
+has_form scope TypeName value = is_some (type_name scope value)
+has_form scope TypeNames value = list_all (λ word. is_some (type_name scope word)) (words_of value)
+has_form scope TargetNamespace value = is_target value
+
+abbrev pub formed : List (List ℕ × List ℕ) → Option Form → List ℕ → Bool
+formed scope None value = true
+formed scope (Some form) value = has_form scope form value
+
+unfoldable pub is_well_formed : List (List ℕ × List ℕ) → List ℕ → List ℕ → Bool
+is_well_formed scope name value = formed scope (beside name forms) value
+
+abbrev pub has_malformed : List (List ℕ × List ℕ) → List (List ℕ × List ℕ) → Bool
+has_malformed scope own = list_any (λ a. not (is_well_formed scope a.0 a.1)) own
+
+-- no attribute is named `xmlns` (Part 1, section 3.2.6)
+abbrev pub is_named : List ℕ → List (List ℕ × List ℕ) → Bool
+is_named name own = elim (beside (codes "name") own) [ None ↦ false | Some value ↦ bytes_eq value name ]
+
+abbrev pub is_xmlns : Role → List (List ℕ × List ℕ) → Bool
+is_xmlns GlobalAttribute own = is_named (codes "xmlns") own
+is_xmlns LocalAttribute own = is_named (codes "xmlns") own
+is_xmlns role own = false
+
+abbrev pub digits_of : List ℕ → List (List ℕ × List ℕ) → List ℕ
+digits_of name own = elim (beside name own) [ None ↦ codes "1" | Some value ↦ value ]
+
+-- `minOccurs` over `maxOccurs` (Part 1, section 3.9.6); both are 1 where they don't stand
+abbrev pub is_crossed : List (List ℕ × List ℕ) → Bool
+is_crossed own = is_over (digits_of (codes "minOccurs") own) (digits_of (codes "maxOccurs") own)
+
+abbrev pub has_bad_value : Role → List (List ℕ × List ℕ) → List (List ℕ × List ℕ) → Bool
+has_bad_value role scope own = has_malformed scope own || is_xmlns role own || is_crossed own
+
+-- ---- occurrences
+
+abbrev pub occurrences : List ℕ → Option ℕ
+occurrences text = if is_number text then small (number_of text) else None
+
+abbrev pub least_of : List (List ℕ × List ℕ) → ℕ
+least_of own = unwrap_or (occurrences (digits_of (codes "minOccurs") own)) 1
+
+-- none where it is unbounded
+abbrev pub most_of : List (List ℕ × List ℕ) → Option ℕ
+most_of own = occurrences (digits_of (codes "maxOccurs") own)

@@ -1,0 +1,170 @@
+//! The attributes of elements of schema documents.
+ghost use Rattle.std.specs.Prelude.{◌≡◌, ◌||◌, not, IfOk, option_map};
+ghost use Rattle.std.specs.List.{list_any};
+ghost use Rattle.schema_rules.specs.Elements.{beside, has_name};
+ghost use Rattle.schema_rules.specs.Attributes as table;
+
+use crate::roles::Role;
+use std::alloc::Global;
+use xa_base::{Memory, Name, Text, WhiteSpace, treat};
+
+fn is_kept_as_written(name: &str) -> bool
+    ensures { result ≡ has_name name.now table.kept_as_written }
+{
+    matches!(name, "value" | "default" | "fixed")
+}
+
+// The value as it is used.
+fn in_use(alloc: Global, name: &Text, value: &Text) -> Result<Text, Memory>
+    ensures { IfOk result (λ used. used ≡ table.in_use name.now value.now) }
+{
+    if is_kept_as_written(name.as_str()) {
+        value.copy(alloc)
+    } else {
+        treat(alloc, WhiteSpace::Collapse, value)
+    }
+}
+
+/// The attributes without a namespace, each by its name with its value as it is used, in the order written.
+pub fn own_attributes(
+    alloc: Global,
+    attributes: &[(Name, Text)],
+) -> Result<Vec<(Text, Text)>, Memory>
+    ensures { IfOk result (λ own. own.items ≡ table.own_attributes attributes.now) }
+{
+    let mut own = Vec::new(alloc);
+    for (name, value) in attributes {
+        if name.space.bytes().is_empty() {
+            let used = in_use(alloc, &name.local, value)?;
+            let local = name.local.copy(alloc)?;
+            own.push((local, used))?;
+        }
+    }
+    Ok(own)
+}
+
+/// The value of the attribute of this name.
+pub fn value_of<'a>(name: &str, own: &'a [(Text, Text)]) -> Option<&'a Text>
+    ensures { option_map (λ value. value.now) result ≡ beside name.now own.now }
+{
+    for (written, value) in own {
+        if name.as_bytes() == written.bytes() {
+            return Some(value);
+        }
+    }
+    None
+}
+
+pub fn has(name: &str, own: &[(Text, Text)]) -> bool
+    ensures { result ≡ table.has name.now own.now }
+{
+    value_of(name, own).is_some()
+}
+
+fn is_common(name: &str) -> bool
+    ensures { result ≡ has_name name.now table.common_attributes }
+{
+    matches!(
+        name,
+        "id" | "version" | "block" | "final" | "blockDefault" | "finalDefault"
+    )
+}
+
+fn is_of_schema(name: &str) -> bool
+    ensures { result ≡ has_name name.now (table.attributes_of Role.Schema) }
+{
+    matches!(
+        name,
+        "targetNamespace" | "elementFormDefault" | "attributeFormDefault"
+    )
+}
+
+fn is_of_global_element(name: &str) -> bool
+    ensures { result ≡ has_name name.now table.global_element_attributes }
+{
+    matches!(
+        name,
+        "name" | "type" | "nillable" | "abstract" | "substitutionGroup" | "default" | "fixed"
+    )
+}
+
+fn is_of_local_element(name: &str) -> bool
+    ensures { result ≡ has_name name.now table.local_element_attributes }
+{
+    matches!(
+        name,
+        "name"
+            | "ref"
+            | "type"
+            | "nillable"
+            | "form"
+            | "minOccurs"
+            | "maxOccurs"
+            | "default"
+            | "fixed"
+    )
+}
+
+fn is_of_global_attribute(name: &str) -> bool
+    ensures { result ≡ has_name name.now (table.attributes_of Role.GlobalAttribute) }
+{
+    matches!(name, "name" | "type" | "default" | "fixed")
+}
+
+fn is_of_local_attribute(name: &str) -> bool
+    ensures { result ≡ has_name name.now table.local_attribute_attributes }
+{
+    matches!(
+        name,
+        "name" | "ref" | "type" | "use" | "form" | "default" | "fixed"
+    )
+}
+
+fn is_of_global_complex_type(name: &str) -> bool
+    ensures { result ≡ has_name name.now (table.attributes_of Role.GlobalComplexType) }
+{
+    matches!(name, "name" | "mixed" | "abstract")
+}
+
+fn is_of_group(name: &str) -> bool
+    ensures { result ≡ has_name name.now (table.attributes_of Role.Sequence) }
+{
+    matches!(name, "minOccurs" | "maxOccurs")
+}
+
+// Whether an element of this role has such an attribute, beside those that every element has.
+fn is_of(role: Role, name: &str) -> bool
+    ensures { result ≡ has_name name.now (table.attributes_of role) }
+{
+    match role {
+        Role::Schema => is_of_schema(name),
+        Role::Composition => matches!(name, "schemaLocation" | "namespace"),
+        Role::GlobalElement => is_of_global_element(name),
+        Role::LocalElement => is_of_local_element(name),
+        Role::GlobalAttribute => is_of_global_attribute(name),
+        Role::LocalAttribute => is_of_local_attribute(name),
+        Role::GlobalSimpleType => name == "name",
+        Role::Restriction | Role::Extension => name == "base",
+        Role::List => name == "itemType",
+        Role::Union => name == "memberTypes",
+        Role::Facet => matches!(name, "value" | "fixed"),
+        Role::GlobalComplexType => is_of_global_complex_type(name),
+        Role::InnerComplexType => matches!(name, "mixed" | "abstract"),
+        Role::Sequence | Role::Choice => is_of_group(name),
+        Role::InnerSimpleType | Role::SimpleContent => false,
+    }
+}
+
+fn is_listed(role: Role, name: &str) -> bool
+    ensures { result ≡ table.is_listed role name.now }
+{
+    is_common(name) || is_of(role, name)
+}
+
+/// Whether one of the attributes isn't of an element of this role.
+pub fn has_unknown(role: Role, own: &[(Text, Text)]) -> bool
+    ensures { result ≡ table.has_unknown role own.now }
+{
+    own.iter()
+        .any(|attribute| !is_listed(role, attribute.0.as_str()))
+}

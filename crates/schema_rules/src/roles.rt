@@ -1,0 +1,184 @@
+//! What elements of a schema document are.
+ghost use Rattle.std.specs.Prelude.{◌≡◌};
+ghost use Rattle.schema_rules.specs.Elements as table;
+
+/// What an element of the schema namespace is, by its name and where it stands. A declaration or definition that stands
+/// in `schema` is global; other declarations are local, and other types are inner ones.
+#[derive(Clone, Copy, Debug, PartialEq, Eq)]
+pub enum Role {
+    Schema,
+    /// `include` and `import`.
+    Composition,
+    GlobalElement,
+    LocalElement,
+    GlobalAttribute,
+    LocalAttribute,
+    GlobalSimpleType,
+    InnerSimpleType,
+    Restriction,
+    List,
+    Union,
+    Facet,
+    GlobalComplexType,
+    InnerComplexType,
+    SimpleContent,
+    Extension,
+    Sequence,
+    Choice,
+}
+
+/// Where an element may stand among the elements of its parent.
+#[derive(Clone, Copy, Debug, PartialEq, Eq)]
+pub enum Position {
+    Anywhere,
+    /// Before all others.
+    First,
+    /// Before all others, and none stands behind it.
+    Alone,
+}
+
+/// An element that may stand in its parent.
+#[derive(Clone, Copy, Debug, PartialEq, Eq)]
+pub struct Part {
+    pub role: Role,
+    pub position: Position,
+}
+
+impl Part {
+    fn of(role: Role, position: Position) -> Option<Part>
+        ensures { result ≡ table.part role position }
+    {
+        Some(Part { role, position })
+    }
+}
+
+fn child_of_schema(name: &str) -> Option<Part>
+    ensures { result ≡ table.child_in name.now table.schema_children }
+{
+    match name {
+        "include" | "import" => Part::of(Role::Composition, Position::Anywhere),
+        "element" => Part::of(Role::GlobalElement, Position::Anywhere),
+        "attribute" => Part::of(Role::GlobalAttribute, Position::Anywhere),
+        "simpleType" => Part::of(Role::GlobalSimpleType, Position::Anywhere),
+        "complexType" => Part::of(Role::GlobalComplexType, Position::Anywhere),
+        _ => None,
+    }
+}
+
+fn child_of_element(name: &str) -> Option<Part>
+    ensures { result ≡ table.child_in name.now table.element_children }
+{
+    match name {
+        "simpleType" => Part::of(Role::InnerSimpleType, Position::Alone),
+        "complexType" => Part::of(Role::InnerComplexType, Position::Alone),
+        _ => None,
+    }
+}
+
+// Also of a list.
+fn child_of_attribute(name: &str) -> Option<Part>
+    ensures { result ≡ table.child_in name.now table.attribute_children }
+{
+    match name {
+        "simpleType" => Part::of(Role::InnerSimpleType, Position::Alone),
+        _ => None,
+    }
+}
+
+fn child_of_simple_type(name: &str) -> Option<Part>
+    ensures { result ≡ table.child_in name.now table.simple_type_children }
+{
+    match name {
+        "restriction" => Part::of(Role::Restriction, Position::Alone),
+        "list" => Part::of(Role::List, Position::Alone),
+        "union" => Part::of(Role::Union, Position::Alone),
+        _ => None,
+    }
+}
+
+fn child_of_restriction(name: &str) -> Option<Part>
+    ensures { result ≡ table.child_in name.now table.restriction_children }
+{
+    match name {
+        "simpleType" => Part::of(Role::InnerSimpleType, Position::First),
+        "length"
+        | "minLength"
+        | "maxLength"
+        | "minInclusive"
+        | "maxInclusive"
+        | "minExclusive"
+        | "maxExclusive"
+        | "enumeration"
+        | "whiteSpace" => { Part::of(Role::Facet, Position::Anywhere) }
+        _ => None,
+    }
+}
+
+fn child_of_union(name: &str) -> Option<Part>
+    ensures { result ≡ table.child_in name.now table.union_children }
+{
+    match name {
+        "simpleType" => Part::of(Role::InnerSimpleType, Position::Anywhere),
+        _ => None,
+    }
+}
+
+fn child_of_complex_type(name: &str) -> Option<Part>
+    ensures { result ≡ table.child_in name.now table.complex_type_children }
+{
+    match name {
+        "simpleContent" => Part::of(Role::SimpleContent, Position::Alone),
+        "sequence" => Part::of(Role::Sequence, Position::First),
+        "choice" => Part::of(Role::Choice, Position::First),
+        "attribute" => Part::of(Role::LocalAttribute, Position::Anywhere),
+        _ => None,
+    }
+}
+
+fn child_of_simple_content(name: &str) -> Option<Part>
+    ensures { result ≡ table.child_in name.now table.simple_content_children }
+{
+    match name {
+        "extension" => Part::of(Role::Extension, Position::Alone),
+        _ => None,
+    }
+}
+
+fn child_of_extension(name: &str) -> Option<Part>
+    ensures { result ≡ table.child_in name.now table.extension_children }
+{
+    match name {
+        "attribute" => Part::of(Role::LocalAttribute, Position::Anywhere),
+        _ => None,
+    }
+}
+
+fn child_of_group(name: &str) -> Option<Part>
+    ensures { result ≡ table.child_in name.now table.group_children }
+{
+    match name {
+        "element" => Part::of(Role::LocalElement, Position::Anywhere),
+        "sequence" => Part::of(Role::Sequence, Position::Anywhere),
+        "choice" => Part::of(Role::Choice, Position::Anywhere),
+        _ => None,
+    }
+}
+
+/// What an element of this name is in a parent of this role, if it may stand there.
+pub(crate) fn child_of(parent: Role, name: &str) -> Option<Part>
+    ensures { result ≡ table.child_in name.now (table.children parent) }
+{
+    match parent {
+        Role::Schema => child_of_schema(name),
+        Role::GlobalElement | Role::LocalElement => child_of_element(name),
+        Role::GlobalAttribute | Role::LocalAttribute | Role::List => child_of_attribute(name),
+        Role::GlobalSimpleType | Role::InnerSimpleType => child_of_simple_type(name),
+        Role::Restriction => child_of_restriction(name),
+        Role::Union => child_of_union(name),
+        Role::GlobalComplexType | Role::InnerComplexType => child_of_complex_type(name),
+        Role::SimpleContent => child_of_simple_content(name),
+        Role::Extension => child_of_extension(name),
+        Role::Sequence | Role::Choice => child_of_group(name),
+        Role::Composition | Role::Facet => None,
+    }
+}

@@ -1,0 +1,213 @@
+//! The values of attributes of schema documents.
+ghost use Rattle.std.specs.Prelude.{◌≡◌, ◌||◌, ◌&&◌, not, option_map};
+ghost use Rattle.std.specs.List.{list_any, list_all};
+ghost use Rattle.std.specs.Option.{is_some};
+ghost use Rattle.xa_base.specs.WhiteSpace.{words_of};
+ghost use Rattle.schema_rules.specs.Elements.{beside, has_name};
+ghost use Rattle.schema_rules.specs.References.{type_name};
+ghost use Rattle.schema_rules.specs.Scopes.{bindings_in};
+ghost use Rattle.schema_rules.specs.Values as table;
+
+use crate::attributes::value_of;
+use crate::elements::SCHEMA_SPACE;
+use crate::numbers::{is_number, is_over, small_number};
+use crate::references::{resolve, type_of};
+use crate::roles::Role;
+use crate::scopes::Scope;
+use xa_base::{Text, first_word, is_ncname};
+
+/// The form of an attribute's value.
+#[derive(Clone, Copy, Debug, PartialEq, Eq)]
+pub enum Form {
+    Truth,
+    Qualification,
+    /// `use` of an attribute.
+    Prescription,
+    Digits,
+    DigitsOrUnbounded,
+    NcName,
+    Reference,
+    TypeName,
+    TypeNames,
+    TargetNamespace,
+}
+
+// The form of the value of the attribute with this name, if it has one.
+fn form_of(name: &str) -> Option<Form>
+    ensures { result ≡ beside name.now table.forms }
+{
+    match name {
+        "targetNamespace" => Some(Form::TargetNamespace),
+        "elementFormDefault" | "attributeFormDefault" | "form" => Some(Form::Qualification),
+        "name" => Some(Form::NcName),
+        "ref" => Some(Form::Reference),
+        "type" | "base" | "itemType" => Some(Form::TypeName),
+        "memberTypes" => Some(Form::TypeNames),
+        "nillable" | "abstract" | "mixed" => Some(Form::Truth),
+        "use" => Some(Form::Prescription),
+        "minOccurs" => Some(Form::Digits),
+        "maxOccurs" => Some(Form::DigitsOrUnbounded),
+        _ => None,
+    }
+}
+
+/// The truth value that the text spells.
+pub fn truth_of(text: &str) -> Option<bool>
+    ensures { result ≡ beside text.now table.truth_values }
+{
+    match text {
+        "true" | "1" => Some(true),
+        "false" | "0" => Some(false),
+        _ => None,
+    }
+}
+
+/// Whether the text says `qualified`, if it says that or `unqualified`.
+pub fn qualification_of(text: &str) -> Option<bool>
+    ensures { result ≡ beside text.now table.qualifications }
+{
+    match text {
+        "qualified" => Some(true),
+        "unqualified" => Some(false),
+        _ => None,
+    }
+}
+
+fn is_prescription(text: &str) -> bool
+    ensures { result ≡ has_name text.now table.prescriptions }
+{
+    matches!(text, "optional" | "required" | "prohibited")
+}
+
+fn is_name(text: &Text) -> bool
+    ensures { result ≡ table.is_name text.now }
+{
+    is_ncname(text) && text.bytes().len() <= 255
+}
+
+fn is_target(space: &[u8]) -> bool
+    ensures { result ≡ table.is_target space.now }
+{
+    !space.is_empty()
+        && space.len() <= 1023
+        && space != SCHEMA_SPACE
+        && space != INSTANCE_SPACE
+        && space != XMLNS_SPACE
+}
+
+const INSTANCE_SPACE: &[u8] = b"http://www.w3.org/2001/XMLSchema-instance";
+
+const XMLNS_SPACE: &[u8] = b"http://www.w3.org/2000/xmlns/";
+
+// Whether each word is the name of a type.
+fn are_type_names(scope: &Scope<'_>, text: &str) -> bool
+    ensures { result ≡ list_all (λ word. is_some (type_name (bindings_in scope.now) word)) (words_of text.now) }
+{
+    let mut rest = text;
+    'words: while let Some((word, behind)) = first_word(rest) {
+        if type_of(scope, word).is_none() {
+            return false;
+        }
+        rest = behind;
+    }
+    true
+}
+
+// Whether the value has the form.
+fn has_form(scope: &Scope<'_>, form: Form, value: &Text) -> bool
+    ensures { result ≡ table.has_form (bindings_in scope.now) form value.now }
+{
+    match form {
+        Form::Truth => truth_of(value.as_str()).is_some(),
+        Form::Qualification => qualification_of(value.as_str()).is_some(),
+        Form::Prescription => is_prescription(value.as_str()),
+        Form::Digits => is_number(value.bytes()),
+        Form::DigitsOrUnbounded => {
+            is_number(value.bytes()) || value.bytes() == b"unbounded".as_slice()
+        }
+        Form::NcName => is_name(value),
+        Form::Reference => resolve(scope, value.as_str()).is_some(),
+        Form::TypeName => type_of(scope, value.as_str()).is_some(),
+        Form::TypeNames => are_type_names(scope, value.as_str()),
+        Form::TargetNamespace => is_target(value.bytes()),
+    }
+}
+
+// Whether the value of the attribute has the form that it is to have.
+#[tactic(auto, unfolding(crate::specs::Values::is_well_formed))]
+fn is_well_formed(scope: &Scope<'_>, name: &str, value: &Text) -> bool
+    ensures { result ≡ table.is_well_formed (bindings_in scope.now) name.now value.now }
+{
+    match form_of(name) {
+        Some(form) => has_form(scope, form, value),
+        None => true,
+    }
+}
+
+fn has_malformed(scope: &Scope<'_>, own: &[(Text, Text)]) -> bool
+    ensures { result ≡ table.has_malformed (bindings_in scope.now) own.now }
+{
+    own.iter().any(|attribute| !is_well_formed(scope, attribute.0.as_str(), &attribute.1))
+}
+
+// Whether this declares an attribute of the name `xmlns`.
+fn is_xmlns(role: Role, own: &[(Text, Text)]) -> bool
+    ensures { result ≡ table.is_xmlns role own.now }
+{
+    match role {
+        Role::GlobalAttribute | Role::LocalAttribute => match value_of("name", own) {
+            Some(name) => name.bytes() == b"xmlns".as_slice(),
+            None => false,
+        },
+        _ => false,
+    }
+}
+
+// The number of occurrences of this name as written, or else one.
+fn digits_of<'a>(name: &str, own: &'a [(Text, Text)]) -> &'a [u8]
+    ensures { result.now ≡ table.digits_of name.now own.now }
+{
+    match value_of(name, own) {
+        Some(value) => value.bytes(),
+        None => b"1",
+    }
+}
+
+// Whether it has to occur more often than it may.
+fn is_crossed(own: &[(Text, Text)]) -> bool
+    ensures { result ≡ table.is_crossed own.now }
+{
+    is_over(digits_of("minOccurs", own), digits_of("maxOccurs", own))
+}
+
+/// Whether a value isn't of its form, or two don't fit together.
+pub fn has_bad_value(role: Role, scope: &Scope<'_>, own: &[(Text, Text)]) -> bool
+    ensures { result ≡ table.has_bad_value role (bindings_in scope.now) own.now }
+{
+    has_malformed(scope, own) || is_xmlns(role, own) || is_crossed(own)
+}
+
+// The number of occurrences that the text is, below 2^32.
+fn occurrences(text: &[u8]) -> Option<u32>
+    ensures { result ≡ table.occurrences text.now }
+{
+    if is_number(text) {
+        small_number(text)
+    } else {
+        None
+    }
+}
+
+/// How often it has to occur.
+pub fn least_of(own: &[(Text, Text)]) -> u32
+    ensures { result ≡ table.least_of own.now }
+{
+    occurrences(digits_of("minOccurs", own)).unwrap_or(1)
+}
+
+/// How often it may occur, or `None` where there is no bound.
+pub fn most_of(own: &[(Text, Text)]) -> Option<u32>
+    ensures { result ≡ table.most_of own.now }
+{
+    occurrences(digits_of("maxOccurs", own))
+}
