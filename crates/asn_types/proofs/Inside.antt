@@ -1,15 +1,13 @@
 -- What a module keeps holds of the types that stand in it, and of those to which they refer.
-use Rattle.std.proofs.Common.{◌≡◌, ℕ, zero, suc, ◌+◌, ◌<◌, ◌≤◌, Option, Some, None, List, [], ◌∷◌, length, get_or, All, refl, sym, ◌∙◌, ap, subst, inl, inr, ◌⊎◌, arith}
+use Rattle.std.proofs.Common.{◌≡◌, ℕ, zero, suc, ◌<◌, Option, Some, None, List, [], ◌∷◌, length, get_or, All, refl, sym, ap, subst, inl, inr, arith}
 use Rattle.std.specs.Prelude.{slice_get, option_and_then}
-use Rattle.std.proofs.lemmas.List.Elements.{All-head, All-tail, All-get_or}
+use Rattle.std.proofs.lemmas.List.Elements.{All-head, All-tail}
 use Rattle.label_tree.specs.Rose.{Rose, node, Roses, none, more, roses_of, list_of, kids_of, label_of}
 use Rattle.label_tree.proofs.Roses.{roses_of-list_of}
-use Rattle.asn_types.specs.declared.types.Form.{Form}
-use Rattle.asn_types.specs.declared.types.Form.TheVariants as form
 use Rattle.asn_types.specs.declared.types.TypeLabel.{TypeLabel}
 use Rattle.asn_types.specs.declared.modules.Assignment.{Assignment}
 use Rattle.asn_types.specs.Modules.{AreWellFormed, AllWellFormed, IsAssignment, IsModule, IsForm}
-use Rattle.asn_types.specs.Refs.{StandsIn, StandsInSome, IsOf, next, target, body_at, follow, resolve}
+use Rattle.asn_types.specs.Refs.{StandsIn, StandsInSome, IsOf, next, target, body_at, follow}
 
 module _ (M : List Assignment) where
   pub kid-well_formed : (ts : List (Rose TypeLabel)) (i : ℕ) (kid : Rose TypeLabel) → i < length ts → kid ≡ get_or ts i kid → AllWellFormed M (roses_of ts) → AreWellFormed M kid

@@ -1,24 +1,20 @@
 -- Types and values written out: what the definitions say of each computes.
-use Rattle.std.proofs.Common.{◌≡◌, ℕ, suc, ◌≤◌, Bool, true, false, ℤ, pos, negsuc, Option, Some, None, Ok, List, [], ◌∷◌, refl, arith, codes}
-use Rattle.label_tree.specs.Rose.{Rose, node, none as no_kids, more as with_kid, roses_of, node_count}
+use Rattle.std.proofs.Common.{◌≡◌, ℕ, true, false, pos, negsuc, Some, None, List, [], ◌∷◌, refl, arith, codes}
+use Rattle.label_tree.specs.Rose.{Rose, node, none as no_kids, more as with_kid, roses_of}
 use Rattle.xa_base.specs.declared.white_space.WhiteSpace.TheVariants.{Collapse}
-use Rattle.xa_base.specs.WhiteSpace.{treated, words_of, is_white_space}
 use Rattle.simple_types.specs.declared.simples.Class.TheVariants.{Any}
 use Rattle.simple_types.specs.Space.{Space, none, more, Wholes, Words, Characters, UnionOf}
-use Rattle.simple_values.specs.Lexical.{whole_number, in_class}
-use Rattle.simple_values.specs.Reading.{reads, taken_by, spelled, spelled_by, Holds}
 use Rattle.simple_types.specs.declared.labels.ValueLabel.{ValueLabel}
 use Rattle.simple_types.specs.declared.labels.ValueLabel.TheVariants as value
 use Rattle.asn_types.specs.declared.marks.Instruction.{Instruction}
 use Rattle.asn_types.specs.declared.marks.Instruction.TheVariants as mark
-use Rattle.asn_types.specs.declared.modules.Assignment.{Assignment}
 use Rattle.asn_types.specs.declared.types.Component.{Component}
 use Rattle.asn_types.specs.declared.types.Form.{Form}
 use Rattle.asn_types.specs.declared.types.Form.TheVariants as form
 use Rattle.asn_types.specs.declared.types.TypeLabel.{TypeLabel}
 use Rattle.asn_types.specs.Refs.{follow}
 use Rattle.asn_types.specs.Simples.{MapsTo}
-use Rattle.asn_types.specs.Values.{child_count, count_in, FitsAt, FitEach, HasTexts}
+use Rattle.asn_types.specs.Values.{child_count, count_in, HasTexts}
 
 abbrev part : List ℕ → List Instruction → Component
 part identifier marks = record { identifier = identifier; optional = false; marks = marks }

@@ -1,6 +1,6 @@
 -- A type stands for one simple type at most.
-use Rattle.std.proofs.Common.{◌≡◌, ℕ, zero, suc, ◌+◌, ◌<◌, ◌≤◌, Bool, true, false, cond, Option, Some, None, List, [], ◌∷◌, ◌++◌, length, get_or, take, filter, refl, sym, ◌∙◌, ap, subst, arith}
-use Rattle.std.proofs.lemmas.List.{take_more, append-nil}
+use Rattle.std.proofs.Common.{◌≡◌, Bool, true, false, cond, List, [], ◌∷◌, ◌++◌, refl, sym, ◌∙◌, ap, subst}
+use Rattle.std.proofs.lemmas.List.{append-nil}
 use Rattle.std.proofs.lemmas.List.Elements.{filter-append}
 use Rattle.label_tree.specs.Rose.{Rose, node, Roses, roses_of}
 use Rattle.label_tree.specs.Rose as rose
@@ -10,14 +10,12 @@ use Rattle.simple_types.specs.Space.{Space, Spaces, none, more, Booleans, Wholes
 use Rattle.simple_types.specs.Sound.{Sound}
 use Rattle.asn_types.specs.declared.marks.Instruction.{Instruction}
 use Rattle.asn_types.specs.declared.marks.Instruction.TheVariants as mark
-use Rattle.asn_types.specs.declared.marks.Told.{Told}
 use Rattle.asn_types.specs.declared.marks.Told.TheVariants as told_
-use Rattle.asn_types.specs.declared.types.Form.{Form}
 use Rattle.asn_types.specs.declared.types.Form.TheVariants as form
 use Rattle.asn_types.specs.declared.types.TypeLabel.{TypeLabel}
 use Rattle.asn_types.specs.Marks.{white_space_of}
 use Rattle.asn_types.specs.Simples.{counts, counting, white_space_marks, MapsTo, MapToEach, IsSimple}
-use Rattle.asn_types.specs.Telling.{alone, told, beside, with_mark}
+use Rattle.asn_types.specs.Telling.{told, beside, with_mark}
 
 -- one more instruction
 pub told-push : (xs : List Instruction) (m : Instruction) → told (xs ++ m ∷ []) ≡ beside (told xs) m

@@ -1,7 +1,6 @@
 -- The simple types of lists and unions.
-use Rattle.std.proofs.Common.{◌≡◌, ◌≢◌, ℕ, zero, suc, ◌+◌, ◌<◌, ◌≤◌, Bool, true, false, Option, Some, None, List, [], ◌∷◌, ◌++◌, length, get_or, take, refl, sym, ◌∙◌, ap, subst, arith}
+use Rattle.std.proofs.Common.{◌≡◌, ℕ, zero, suc, ◌<◌, true, false, Option, Some, None, List, [], ◌∷◌, ◌++◌, length, get_or, refl, sym, ap, subst, arith}
 use Rattle.std.specs.Prelude.{slice_get}
-use Rattle.std.proofs.lemmas.List.{take_more}
 use Rattle.label_tree.specs.Rose.{Rose, node, Roses, roses_of, list_of, kids_of, label_of}
 use Rattle.label_tree.specs.Rose as rose
 use Rattle.label_tree.proofs.Roses.{roses_of-list_of}
@@ -16,7 +15,7 @@ use Rattle.asn_types.specs.declared.types.Form.TheVariants as form
 use Rattle.asn_types.specs.declared.types.TypeLabel.{TypeLabel}
 use Rattle.asn_types.specs.Simples.{counting, IsPlain, ArePlain, MapsTo, MapToEach, IsSimple}
 use Rattle.asn_types.specs.Telling.{Finds}
-use Rattle.asn_types.proofs.SimpleLaws.{space_seen, first_seen, spaces_seen, is_seen, maps_once}
+use Rattle.asn_types.proofs.SimpleLaws.{space_seen, first_seen, spaces_seen, is_seen}
 
 -- the type with number i of a union has a member
 pub record Member (t : Rose TypeLabel) : Type 0 where

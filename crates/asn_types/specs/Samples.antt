@@ -1,5 +1,5 @@
 -- A module written out, for tests.
-use Rattle.std.specs.Prelude.{ℕ, Bool, true, false, ℤ, pos, negsuc, Option, Some, None, List, [], ◌∷◌}
+use Rattle.std.specs.Prelude.{ℕ, Bool, true, false, pos, negsuc, Some, None, List, [], ◌∷◌}
 use Rattle.label_tree.specs.Rose.{Rose, node, roses_of}
 use Rattle.xa_base.specs.declared.white_space.WhiteSpace.TheVariants.{Collapse}
 use Rattle.simple_types.specs.declared.simples.Class.TheVariants.{Any}
@@ -64,6 +64,19 @@ flags = type (form.SequenceOf (component (102 ∷ []) false []) 0 None) [] (type
 unfoldable pub letter : Rose TypeLabel
 letter = type (form.Utf8 1 (Some 1) Any) [] []
 
+-- [TEXT:x7 AS "7"] [WHITESPACE COLLAPSE] ENUMERATED { x7 }
+unfoldable pub seven : Rose TypeLabel
+seven = type (form.Words ((120 ∷ 55 ∷ []) ∷ []) ((55 ∷ []) ∷ [])) (mark.WhiteSpace Collapse ∷ mark.Text 0 (55 ∷ []) ∷ []) []
+
+-- [USE-UNION] CHOICE { a ENUMERATED { x7 }, b INTEGER (-2147483648..2147483647) }, where a is the one above
+unfoldable pub either : Rose TypeLabel
+either = type (form.Choice (component (97 ∷ []) false [] ∷ component (98 ∷ []) false [] ∷ [])) (mark.UseUnion ∷ []) (seven ∷ int ∷ [])
+
+-- [LIST] SEQUENCE OF [WHITESPACE COLLAPSE] UTF8String
+unfoldable pub tokens : Rose TypeLabel
+tokens = type (form.SequenceOf (component [] false []) 0 None) (mark.List ∷ []) (token ∷ [])
+
 unfoldable pub samples : List Assignment
 samples =
-    assignment (80 ∷ []) mixed ∷ assignment (85 ∷ []) union ∷ assignment (90 ∷ []) nested ∷ assignment (70 ∷ []) flags ∷ assignment (83 ∷ []) letter ∷ []
+    assignment (80 ∷ []) mixed ∷ assignment (85 ∷ []) union ∷ assignment (90 ∷ []) nested ∷ assignment (70 ∷ []) flags ∷ assignment (83 ∷ []) letter
+    ∷ assignment (87 ∷ []) either ∷ assignment (76 ∷ []) tokens ∷ []

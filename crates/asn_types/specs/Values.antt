@@ -1,6 +1,5 @@
 -- What is a value of a type (X.680), and the rules that keep out values that no document has.
 use Rattle.std.specs.Prelude.{◌≡◌, ℕ, suc, ◌+◌, ◌-◌, ◌≤◌, ◌&&◌, ◌||◌, Bool, true, false, not, nat_lt, nat_le, Option, Some, None, List, [], ◌∷◌, length, slice_get, replicate, if◌then◌else◌, MatchBool, IsUtf8}
-use Rattle.std.specs.Option.{option_map}
 use Rattle.label_tree.specs.Rose.{Rose, node, Roses, none, more, label_of, kids_of, length_all, node_count}
 use Rattle.xa_base.specs.WhiteSpace.{IsTreated}
 use Rattle.simple_values.specs.Lexical.{is_128_bits, is_from, is_to, is_at_most}
@@ -12,13 +11,12 @@ use Rattle.simple_types.specs.declared.labels.ValueLabel.TheVariants as value
 use Rattle.asn_types.specs.declared.marks.Instruction.{Instruction}
 use Rattle.asn_types.specs.declared.modules.Assignment.{Assignment}
 use Rattle.asn_types.specs.declared.roles.Role.{Role}
-use Rattle.asn_types.specs.declared.roles.Role.TheVariants.{Attribute, Element, Group, Content, Embed, Item, Alternative}
+use Rattle.asn_types.specs.declared.roles.Role.TheVariants.{Element, Group, Content}
 use Rattle.asn_types.specs.declared.types.Component.{Component}
 use Rattle.asn_types.specs.declared.types.Form.{Form}
 use Rattle.asn_types.specs.declared.types.Form.TheVariants as form
 use Rattle.asn_types.specs.declared.types.TypeLabel.{TypeLabel}
 use Rattle.asn_types.specs.Marks.{has_embed_values, has_list, has_use_nil, has_use_union, white_space_of}
-use Rattle.asn_types.specs.Parts.{parts_of}
 use Rattle.asn_types.specs.Refs.{resolve}
 use Rattle.asn_types.specs.Roles.{role_of}
 use Rattle.asn_types.specs.Simples.{MapsTo}
@@ -60,7 +58,7 @@ abbrev pub none_if : Bool → Option (List Place)
 none_if holds = if holds then Some [] else None
 
 -- The places of the kids of a value with this label and so many kids, where it is of a type with this form: its number,
--- index and size are within bounds (X.680, clauses 18 to 31).
+-- index and size are within bounds (X.680, clauses 18 to 29 and 41).
 abbrev pub places_in : TypeLabel → List (Rose TypeLabel) → Form → ValueLabel → ℕ → Option (List Place)
 places_in l ts form.Bool (value.Bool b) n = Some []
 places_in l ts (form.Int least greatest) (value.Int z) n = none_if (is_128_bits z && is_from least z && is_to greatest z)

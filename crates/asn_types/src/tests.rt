@@ -3,10 +3,10 @@ ghost use Rattle.asn_types.specs.Samples as sample;
 
 use crate::{
     Assignment, Component, Components, Form, Instruction, Marks, Module, Role, TypeLabel,
-    int_bounds, is_value, role, size_bounds,
+    int_bounds, is_value, own, role, simple_of, size_bounds,
 };
-use label_tree::{Tree, Whole};
-use simple_types::{Class, Flags, ValueLabel};
+use label_tree::{Shape, Tree, Whole};
+use simple_types::{Class, Flags, Simple, TextList, ValueLabel};
 use std::alloc::Global;
 use std::process::Abort;
 use std::test::Fail;
@@ -204,6 +204,64 @@ fn letter_type(alloc: Global) -> Tree<TypeLabel>
     leaf(alloc, form, no_marks(alloc))
 }
 
+// Just this word.
+fn words(alloc: Global, bytes: &[u8]) -> Result<TextList, Memory>
+    ensures { IfOk result (λ words. words ≡ bytes.now ∷ []) }
+{
+    let word = text(alloc, bytes)?;
+    let words = vec![in alloc; word]?;
+    Ok(TextList::of(words))
+}
+
+// Of TEXT and WHITESPACE.
+fn word_marks(alloc: Global) -> Result<Marks, Memory>
+    ensures { IfOk result (λ marks. marks ≡ Instruction.WhiteSpace WhiteSpace.Collapse ∷ Instruction.Text 0 (55 ∷ []) ∷ []) }
+{
+    let text = text(alloc, b"7")?;
+    let mut marks = vec![in alloc; Instruction::WhiteSpace(WhiteSpace::Collapse)]?;
+    marks.push(Instruction::Text { item: 0, text })?;
+    Ok(Marks::of(marks))
+}
+
+#[tactic(auto, unfolding(crate::specs::Samples::seven))]
+fn seven_type(alloc: Global) -> Result<Tree<TypeLabel>, Memory>
+    ensures { IfOk result (λ made. made ≡ sample.seven) }
+{
+    let identifiers = words(alloc, b"x7")?;
+    let words = words(alloc, b"7")?;
+    let marks = word_marks(alloc)?;
+    Ok(leaf(alloc, Form::Words { identifiers, words }, marks))
+}
+
+#[tactic(auto, unfolding(crate::specs::Samples::either))]
+fn either_type(alloc: Global) -> Result<Tree<TypeLabel>, Memory>
+    ensures { IfOk result (λ made. made ≡ sample.either) }
+{
+    let a = component(alloc, b"a", false, no_marks(alloc))?;
+    let b = component(alloc, b"b", false, no_marks(alloc))?;
+    let parts = Components::of(vec![in alloc; a, b]?);
+    let seven = seven_type(alloc)?;
+    let kids = vec![in alloc; seven, int_type(alloc)]?;
+    let marks = one_mark(alloc, Instruction::UseUnion)?;
+    Ok(join(Form::Choice { parts }, marks, kids))
+}
+
+#[tactic(auto, unfolding(crate::specs::Samples::tokens))]
+fn tokens_type(alloc: Global) -> Result<Tree<TypeLabel>, Memory>
+    ensures { IfOk result (λ made. made ≡ sample.tokens) }
+{
+    let part = component(alloc, b"", false, no_marks(alloc))?;
+    let token = token_type(alloc)?;
+    let kids = vec![in alloc; token]?;
+    let form = Form::SequenceOf {
+        part,
+        min: 0,
+        max: None,
+    };
+    let marks = one_mark(alloc, Instruction::List)?;
+    Ok(join(form, marks, kids))
+}
+
 fn assignment(alloc: Global, reference: &[u8], body: Tree<TypeLabel>) -> Result<Assignment, Memory>
     ensures { IfOk result (λ made. made ≡ sample.assignment reference.now body) }
 {
@@ -248,9 +306,9 @@ fn four_assignments(alloc: Global) -> Result<Vec<Assignment>, Memory>
     Ok(all)
 }
 
-#[tactic(auto, unfolding(crate::specs::Samples::samples))]
-fn assignments(alloc: Global) -> Result<Vec<Assignment>, Memory>
-    ensures { IfOk result (λ made. made.items ≡ sample.samples) }
+// And S.
+fn five_assignments(alloc: Global) -> Result<Vec<Assignment>, Memory>
+    ensures { IfOk result (λ made. made.items ≡ sample.assignment (80 ∷ []) sample.mixed ∷ sample.assignment (85 ∷ []) sample.union ∷ sample.assignment (90 ∷ []) sample.nested ∷ sample.assignment (70 ∷ []) sample.flags ∷ sample.assignment (83 ∷ []) sample.letter ∷ []) }
 {
     let mut all = four_assignments(alloc)?;
     let letter = assignment(alloc, b"S", letter_type(alloc))?;
@@ -258,7 +316,27 @@ fn assignments(alloc: Global) -> Result<Vec<Assignment>, Memory>
     Ok(all)
 }
 
-// P, U, Z, F and S, by their numbers from 0.
+// And W.
+fn six_assignments(alloc: Global) -> Result<Vec<Assignment>, Memory>
+    ensures { IfOk result (λ made. made.items ≡ sample.assignment (80 ∷ []) sample.mixed ∷ sample.assignment (85 ∷ []) sample.union ∷ sample.assignment (90 ∷ []) sample.nested ∷ sample.assignment (70 ∷ []) sample.flags ∷ sample.assignment (83 ∷ []) sample.letter ∷ sample.assignment (87 ∷ []) sample.either ∷ []) }
+{
+    let mut all = five_assignments(alloc)?;
+    let either = assignment(alloc, b"W", either_type(alloc)?)?;
+    all.push(either)?;
+    Ok(all)
+}
+
+#[tactic(auto, unfolding(crate::specs::Samples::samples))]
+fn assignments(alloc: Global) -> Result<Vec<Assignment>, Memory>
+    ensures { IfOk result (λ made. made.items ≡ sample.samples) }
+{
+    let mut all = six_assignments(alloc)?;
+    let tokens = assignment(alloc, b"L", tokens_type(alloc)?)?;
+    all.push(tokens)?;
+    Ok(all)
+}
+
+// P, U, Z, F, S, W and L, by their numbers from 0.
 fn sample_module(alloc: Global) -> Result<Module, Memory> {
     let all = assignments(alloc)?;
     Ok(Module::of(all))
@@ -354,6 +432,80 @@ fn texts_of_a_union(rt: HostRuntime) -> Result<(), Fail> {
     Ok(())
 }
 
+#[test]
+fn words_of_a_union(rt: HostRuntime) -> Result<(), Fail> {
+    let alloc = rt.alloc();
+    let table = [
+        (0, ValueLabel::Enum(0), true),
+        (0, ValueLabel::Enum(1), false),
+        (1, ValueLabel::Int(8), true),
+        (1, ValueLabel::Int(7), false),
+    ];
+    for (i, label, want) in table {
+        let tree = chosen(alloc, i, Tree::leaf(alloc, label))?;
+        expect(&rt, alloc, 5, tree, want)?;
+    }
+    Ok(())
+}
+
+// Whether a value of the type of the assignment with this number keeps the rules of its first node.
+fn is_own(
+    rt: &impl Abort,
+    alloc: Global,
+    t: u32,
+    value: &Tree<ValueLabel>,
+) -> Result<bool, Memory> {
+    let module = sample_module(alloc)?;
+    assert!(rt; t < module.count());
+    let assignment = module.assignment(t);
+    own(alloc, &module, assignment.body.root(), value)
+}
+
+#[test]
+fn items_of_a_list(rt: HostRuntime) -> Result<(), Fail> {
+    let alloc = rt.alloc();
+    assert!(rt; is_own(&rt, alloc, 6, &strings(alloc, &["a", "b"])?)?);
+    assert!(rt; is_own(&rt, alloc, 6, &strings(alloc, &[])?)?);
+    assert!(rt; !is_own(&rt, alloc, 6, &strings(alloc, &["a b"])?)?);
+    assert!(rt; !is_own(&rt, alloc, 6, &strings(alloc, &[""])?)?);
+    Ok(())
+}
+
+// The simple type that is mapped to the type of the assignment with this number.
+fn simple(rt: &impl Abort, alloc: Global, t: u32) -> Result<Option<Simple>, Memory> {
+    let module = sample_module(alloc)?;
+    assert!(rt; t < module.count());
+    let assignment = module.assignment(t);
+    simple_of(alloc, &module, assignment.body.root())
+}
+
+fn kind(simple: &Option<Simple>) -> &'static str {
+    match simple {
+        Some(Simple::Chars { .. }) => "characters",
+        Some(Simple::Union(_)) => "union",
+        Some(Simple::List { .. }) => "list",
+        Some(_) => "another",
+        None => "none",
+    }
+}
+
+#[test]
+fn mapped_simple_types(rt: HostRuntime) -> Result<(), Fail> {
+    let alloc = rt.alloc();
+    let table = [
+        (0, "none"),
+        (1, "union"),
+        (4, "characters"),
+        (5, "union"),
+        (6, "list"),
+    ];
+    for (t, want) in table {
+        let found = simple(&rt, alloc, t)?;
+        assert_eq!(rt; kind(&found), want);
+    }
+    Ok(())
+}
+
 // So many Z in one another.
 fn nested(alloc: Global, levels: u32) -> Result<Tree<ValueLabel>, Memory> {
     let none = Flags::of(vec![in alloc; false]?);
@@ -411,5 +563,29 @@ fn roles(rt: HostRuntime) -> Result<(), Fail> {
     assert_eq!(rt; role(label, 1), Role::Group);
     assert_eq!(rt; size_bounds(label), None);
     assert_eq!(rt; int_bounds(label), None);
+    Ok(())
+}
+
+#[test]
+fn copies(rt: HostRuntime) -> Result<(), Fail> {
+    let alloc = rt.alloc();
+    let tokens = tokens_type(alloc)?;
+    let copied = tokens.label().copy(alloc)?;
+    assert!(rt; copied.marks.has_list());
+    assert_eq!(rt; copied.form.part_count(), 1);
+    assert_eq!(rt; size_bounds(&copied), Some((0, None)));
+    assert_eq!(rt; role(&copied, 0), Role::Item);
+    Ok(())
+}
+
+#[test]
+fn assignments_in_order(rt: HostRuntime) -> Result<(), Fail> {
+    let alloc = rt.alloc();
+    let module = sample_module(alloc)?;
+    let mut references = String::new(alloc);
+    for assignment in module.assignments() {
+        references.push_str(assignment.reference.as_str())?;
+    }
+    assert_eq!(rt; references.as_str(), "PUZFSWL");
     Ok(())
 }

@@ -1,5 +1,4 @@
-use Rattle.std.proofs.Common.{◌-◌, refl, sym, ◌∙◌, ap}
-use Rattle.asn_types.specs.Refs.{follow}
+use Rattle.std.proofs.Common.{◌-◌, refl, sym, ◌∙◌}
 use Rattle.asn_types.proofs.Following.{follow-stops, follow-goes, follow-done}
 use Rattle.asn_types.proofs.resolving.resolve.Goals as goal
 

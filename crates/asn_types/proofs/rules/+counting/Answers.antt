@@ -1,10 +1,9 @@
-use Rattle.std.proofs.Common.{◌≡◌, ◌+◌, ◌-◌, ◌^◌, ◌<◌, ◌≤◌, min, Some, None, List, [], length, drop, refl, sym, ◌∙◌, ap, subst, arith}
+use Rattle.std.proofs.Common.{◌≡◌, ◌+◌, ◌-◌, ◌^◌, ◌<◌, min, Some, None, length, drop, sym, ◌∙◌, ap, subst, arith}
 use Rattle.std.specs.Prelude.{map, replicate}
-use Rattle.label_tree.specs.Rose.{roses_of, kids_of, label_of, node_count}
+use Rattle.label_tree.specs.Rose.{roses_of}
 use Rattle.label_tree.proofs.Roses.{node_count-kids}
 use Rattle.label_tree.proofs.Kids.{kid-count-le}
 use Rattle.asn_types.specs.Placing.{place_seen, Found}
-use Rattle.asn_types.specs.Refs.{resolve}
 use Rattle.asn_types.specs.Values.{places, child_count, count_in}
 use Rattle.asn_types.proofs.Counting.{if_ok, places-drop, replicate-drop, drop-past, found_count, count_in-none, ends, count_step}
 use Rattle.asn_types.proofs.rules.+counting.Goals as goal

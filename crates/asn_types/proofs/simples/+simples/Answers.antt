@@ -1,16 +1,14 @@
-use Rattle.std.specs.Prelude.{slice_get, IsTrue, MatchOption}
+use Rattle.std.specs.Prelude.{slice_get, MatchOption}
 use Rattle.std.proofs.lemmas.Bool.Decides.{nat_tests}
-use Rattle.std.proofs.Common.{◌≡◌, ◌≤◌, ◌<◌, ◌^◌, length, take, true, false, Some, sym, ap, ◌∙◌, subst, arith, refl, [], ◌∷◌, ◌++◌, ◌+◌}
-use Rattle.std.proofs.lemmas.List.{take_more}
-use Rattle.label_tree.specs.Rose.{roses_of, kids_of, label_of}
+use Rattle.std.proofs.Common.{◌≡◌, ◌<◌, length, take, sym, ap, ◌∙◌, subst, arith, [], ◌∷◌, ◌++◌, ◌+◌}
+use Rattle.label_tree.specs.Rose.{roses_of, kids_of}
 use Rattle.label_tree.proofs.Roses.{node_count-kids}
 use Rattle.label_tree.proofs.Kids.{kid-count-le, take-more_kid}
 use Rattle.simple_types.specs.Space.{Spaces, ListOf, UnionOf}
 use Rattle.simple_types.specs.Seen.{space_of, spaces_in}
 use Rattle.simple_types.specs.Sound.{Sound, AreSound, has_list, is_union}
 use Rattle.simple_types.proofs.Seen.{union_space, list_space}
-use Rattle.simple_types.proofs.Members.{count_in}
-use Rattle.asn_types.specs.Modules.{AllWellFormed, AreWellFormed, IsForm}
+use Rattle.asn_types.specs.Modules.{IsForm}
 use Rattle.asn_types.specs.Simples.{counting, MapsTo, MapToEach}
 use Rattle.asn_types.specs.Telling.{Finds}
 use Rattle.asn_types.proofs.Inside.{kid-well_formed, kids-well_formed, form-well_formed}

@@ -1,4 +1,4 @@
-use Rattle.std.proofs.Common.{◌≡◌, ◌↔◌, ◌+◌, ◌*◌, take}
+use Rattle.std.proofs.Common.{◌+◌, ◌*◌, take}
 use Rattle.label_tree.specs.Rose.{node_count, count_all, roses_of}
 use Rattle.simple_types.specs.Seen.{spaces_in}
 use Rattle.simple_types.specs.Sound.{AreSound}

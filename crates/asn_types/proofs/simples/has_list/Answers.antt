@@ -1,5 +1,4 @@
 use Rattle.std.proofs.Common.{sym, ap, ◌∙◌, subst}
-use Rattle.simple_types.specs.Seen.{space_of}
 use Rattle.simple_types.specs.Sound.{Sound, has_list}
 use Rattle.simple_types.proofs.Seen.{union_is}
 use Rattle.asn_types.proofs.simples.has_list.Goals as goal

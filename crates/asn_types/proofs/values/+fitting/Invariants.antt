@@ -1,4 +1,4 @@
-use Rattle.std.proofs.Common.{◌≡◌, ◌↔◌, ◌+◌, ◌-◌, ◌*◌, length, drop}
+use Rattle.std.proofs.Common.{◌↔◌, ◌+◌, ◌-◌, ◌*◌, length, drop}
 use Rattle.std.specs.Prelude.{map, replicate}
 use Rattle.label_tree.specs.Rose.{node_count, count_all, roses_of}
 use Rattle.asn_types.specs.Placing.{place_seen, ArePlaces}
