@@ -1,17 +1,16 @@
 -- A run of plain characters, taken at once, is what its characters are one by one.
-use Rattle.std.proofs.Common.{◌≡◌, ◌≢◌, ℕ, ◌+◌, ◌<◌, ◌≤◌, Bool, true, false, cond, List, [], ◌∷◌, ◌++◌, length, map, take, drop, Some, None, refl, sym, ap, subst, ◌∙◌, arith, append_assoc}
-use Rattle.std.specs.Prelude.{IsUtf8, chars, encode_utf8, encode_utf8_all, not, ◌==◌, ◌||◌, ◌&&◌}
+use Rattle.std.proofs.Common.{◌≡◌, ℕ, ◌<◌, ◌≤◌, Bool, true, false, cond, List, [], ◌∷◌, ◌++◌, length, map, take, drop, None, refl, sym, ap, subst, ◌∙◌, arith, append_assoc}
+use Rattle.std.specs.Prelude.{chars, encode_utf8, encode_utf8_all, not, ◌==◌, ◌||◌}
 use Rattle.std.specs.List.{list_all}
 use Rattle.std.proofs.lemmas.List.{append-nil, take-append-drop, length-take-le}
 use Rattle.std.proofs.lemmas.Str.{encodes-chars, length-le-encodes}
 use Rattle.xa_base.specs.Characters.{is_xml_char}
 use Rattle.xml_pieces.specs.Pieces.{Character, Begins}
-use Rattle.xml_pieces.specs.Reading.{piece_at}
 use Rattle.xml_pieces.specs.Reasons.{is_plain, IsPlainRun}
 use Rattle.xml_pieces.proofs.PlainLaws.{plain_piece}
 use Rattle.doc_text.specs.Sound.{is_empty}
 use Rattle.doc_text.specs.Contexts.{is_nil, reason, brackets_after}
-use Rattle.doc_text.specs.States.{Above, State, context, open_of, added, step}
+use Rattle.doc_text.specs.States.{State, context, open_of, added}
 use Rattle.doc_text.proofs.Keeping.{and_parts}
 use Rattle.doc_text.proofs.Soundness.{or_parts, not_true}
 use Rattle.doc_text.proofs.Telling.{is_nil-map}

@@ -6,7 +6,7 @@ use Rattle.std.specs.List.{list_all, list_any, flat_map}
 use Rattle.std.proofs.lemmas.Str.{chars-nil, IsUtf8-nil, is_utf8-from_IsUtf8}
 use Rattle.std.proofs.lemmas.Slice.Eq.{bytes_eq-Decides}
 use Rattle.std.proofs.Math.Utf8.{encode}
-use Rattle.xa_base.specs.Characters.{is_xml_char, is_name_start, is_name_char, is_ncname}
+use Rattle.xa_base.specs.Characters.{is_xml_char, is_name_start, is_name_char}
 use Rattle.xa_base.specs.declared.texts.Name.{Name}
 use Rattle.xml_pieces.specs.Pieces.{Tag}
 use Rattle.doc_text.specs.declared.label.ItemLabel.TheVariants.{Element}

@@ -1,6 +1,6 @@
 -- What is read of a document that is UTF-8 is UTF-8.
 use Rattle.std.proofs.Common.{◌≡◌, ℕ, zero, suc, ◌<◌, Bool, true, false, cond, List, [], ◌∷◌, length, map, get_or, refl, sym, ap, subst, ◌∙◌, arith, None}
-use Rattle.std.specs.Prelude.{IsUtf8, chars, bytes_eq, not, ◌&&◌, ◌||◌}
+use Rattle.std.specs.Prelude.{IsUtf8, chars, bytes_eq, not, ◌&&◌}
 use Rattle.std.specs.Str.{is_utf8}
 use Rattle.std.specs.List.{list_all, list_any}
 use Rattle.std.proofs.lemmas.Str.{IsUtf8-from_is_utf8, IsUtf8-nil}

@@ -4,6 +4,7 @@ ghost use Rattle.doc_text.specs.Sound.{spells_ncname};
 ghost use Rattle.doc_text.specs.Namespaces as names;
 
 use xa_base::is_ncname_text;
+use xml_pieces::is_ascii_name;
 
 fn colon_at(written: &[u8]) -> usize
     ensures value { result ≡ names.colon_at written.now }
@@ -38,26 +39,29 @@ pub(crate) fn local_of(written: &[u8]) -> &[u8]
     }
 }
 
-fn has_colon(written: &[u8]) -> bool
-    ensures { result ≡ names.has_colon written.now }
-{
-    colon_at(written) < written.len()
-}
-
+// Most names are ASCII alone, and these aren't decoded.
 fn spells_ncname(bytes: &[u8]) -> bool
     ensures { result ≡ spells_ncname bytes.now }
 {
+    if is_ascii_name(bytes) && colon_at(bytes) == bytes.len() {
+        return true;
+    }
     match simdutf8::basic::from_utf8(bytes) {
         Ok(text) => is_ncname_text(text),
         Err(_) => false,
     }
 }
 
-#[tactic(auto, unfolding(crate::specs::Namespaces::is_qname))]
+#[tactic(auto, unfolding(crate::specs::Namespaces::is_qname, crate::specs::Namespaces::prefix_of, crate::specs::Namespaces::local_of))]
 pub(crate) fn is_qname(written: &[u8]) -> bool
     ensures { result ≡ names.is_qname written.now }
 {
-    (!has_colon(written) || spells_ncname(prefix_of(written))) && spells_ncname(local_of(written))
+    let at = colon_at(written);
+    if at < written.len() {
+        spells_ncname(&written[..at]) && spells_ncname(&written[at + 1..])
+    } else {
+        spells_ncname(written)
+    }
 }
 
 // Whether its prefix or its local name is over 255 bytes.
@@ -65,6 +69,9 @@ pub(crate) fn is_qname(written: &[u8]) -> bool
 pub(crate) fn is_long(written: &[u8]) -> bool
     ensures { result ≡ names.is_long written.now }
 {
+    if written.len() <= 255 {
+        return false;
+    }
     !(prefix_of(written).len() <= 255 && local_of(written).len() <= 255)
 }
 

@@ -1,20 +1,20 @@
 -- Values and CDATA texts are texts of XML characters.
-use Rattle.std.proofs.Common.{◌≡◌, ℕ, zero, suc, ◌+◌, ◌<◌, ◌≤◌, Bool, true, false, cond, eqb, List, [], ◌∷◌, ◌++◌, length, map, refl, sym, ap, subst, ◌∙◌, append_assoc, inl, inr, arith}
-use Rattle.std.specs.Prelude.{◌⊎◌, ◌&&◌, ◌/◌, ◌%◌, IsUtf8, chars, encode_utf8, encode_utf8_all, nat_le, nat_lt}
+use Rattle.std.proofs.Common.{◌≡◌, ℕ, ◌+◌, ◌<◌, ◌≤◌, Bool, true, false, cond, eqb, List, [], ◌∷◌, ◌++◌, map, refl, sym, ap, subst, ◌∙◌, append_assoc, inl, inr, arith}
+use Rattle.std.specs.Prelude.{◌/◌, ◌%◌, chars, encode_utf8, encode_utf8_all, nat_le, nat_lt}
 use Rattle.std.specs.List.{list_all}
 use Rattle.std.specs.Char.{IsScalar}
 use Rattle.std.specs.Str.{all_scalars}
 use Rattle.std.proofs.lemmas.List.{append-nil}
-use Rattle.std.proofs.lemmas.Str.{chars-nil, chars-append, chars-encodes, chars_past_char, encode_ascii, encodes-chars, scalars-chars, IsUtf8-nil, IsUtf8-append, IsUtf8-encode}
-use Rattle.std.proofs.Math.Utf8.{encode, scalar}
+use Rattle.std.proofs.lemmas.Str.{chars-nil, chars-append, chars-encodes, chars_past_char, encode_ascii, encodes-chars, IsUtf8-nil, IsUtf8-append, IsUtf8-encode}
+use Rattle.std.proofs.Math.Utf8.{encode}
 use Rattle.xa_base.specs.Characters.{is_xml_char}
 use Rattle.xa_base.specs.WhiteSpace.{is_white_space, spaced}
-use Rattle.xml_pieces.specs.Pieces.{starts, has_byte, line_ends, spaced_ends, IsText, IsReference, Mention, AreMentions, written_mentions, read_mentions, IsValue, Exact, IsReplaced, AreAttributes, IsCData}
-use Rattle.xml_pieces.proofs.Tools.{and_true, below_or, tells}
+use Rattle.xml_pieces.specs.Pieces.{starts, line_ends, spaced_ends, IsText, Mention, AreMentions, written_mentions, read_mentions, IsValue, Exact, AreAttributes, IsCData}
+use Rattle.xml_pieces.proofs.Tools.{and_true, below_or}
 use Rattle.xml_pieces.proofs.Numbers.{xml_scalar}
 use Rattle.xml_pieces.proofs.Utf8.{cut_utf8}
 use Rattle.xml_pieces.proofs.Names.{list_all-append}
-use Rattle.xml_pieces.proofs.PlainLaws.{all-append_left, scalar_cons}
+use Rattle.xml_pieces.proofs.PlainLaws.{all-append_left}
 use Rattle.xml_pieces.proofs.Facts.{reference_ends, reference_xml}
 
 -- ---- texts put together and cut

@@ -21,3 +21,4 @@ pub mod ReasonLaws
 pub mod Facts
 pub mod Fine
 pub mod PlainLaws
+pub mod AsciiNames

@@ -1,5 +1,5 @@
 -- Reading the piece at the front of the bytes.
-use Rattle.std.specs.Prelude.{◌≡◌, ◌==◌, ◌&&◌, ◌||◌, not, ℕ, zero, suc, nat_le, Bool, List, [], ◌∷◌, ◌++◌, length, take, drop, Option, Some, None, option_and_then, encode_utf8, chars, bytes_eq, if◌then◌else◌}
+use Rattle.std.specs.Prelude.{◌≡◌, ◌==◌, ◌&&◌, ◌||◌, not, ℕ, zero, suc, nat_le, Bool, false, List, [], ◌∷◌, ◌++◌, length, take, drop, Option, Some, None, option_and_then, encode_utf8, chars, bytes_eq, if◌then◌else◌}
 use Rattle.std.specs.List.{prefix_len, list_all}
 use Rattle.std.specs.Str.{str_eq_ignore_ascii_case}
 use Rattle.xa_base.specs.Characters.{is_xml_char, is_name, is_ncname}
@@ -46,6 +46,19 @@ unfoldable pub is_name_byte : ℕ → Bool
 is_name_byte b =
     (nat_le 0x61 b && nat_le b 0x7A) || (nat_le 0x41 b && nat_le b 0x5A) || (nat_le 0x30 b && nat_le b 0x3A)
     || b == 0x2D || b == 0x2E || b == 0x5F || nat_le 0x80 b
+
+-- with which a Name of ASCII characters begins, and with which it goes on (XML 1.0, productions [4] and [4a])
+unfoldable pub is_ascii_start : ℕ → Bool
+is_ascii_start b = (nat_le 0x61 b && nat_le b 0x7A) || (nat_le 0x41 b && nat_le b 0x5A) || b == 0x5F || b == 0x3A
+
+unfoldable pub is_ascii_part : ℕ → Bool
+is_ascii_part b =
+    (nat_le 0x61 b && nat_le b 0x7A) || (nat_le 0x41 b && nat_le b 0x5A) || (nat_le 0x30 b && nat_le b 0x3A)
+    || b == 0x2D || b == 0x2E || b == 0x5F
+
+abbrev pub is_ascii_name : List ℕ → Bool
+is_ascii_name [] = false
+is_ascii_name (b ∷ bs) = is_ascii_start b && list_all is_ascii_part bs
 
 abbrev pub is_text : List ℕ → Bool
 is_text bytes = list_all is_xml_char (chars bytes)

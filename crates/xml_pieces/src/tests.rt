@@ -211,3 +211,20 @@ fn runs(rt: HostRuntime) -> Result<(), Fail> {
     assert_eq!(rt; text_of("é".as_bytes()), "é");
     Ok(())
 }
+
+#[test]
+fn ascii_names(rt: HostRuntime) -> Result<(), Fail> {
+    for (text, want) in [
+        ("x:Name-1._", true),
+        ("_", true),
+        (":", true),
+        ("1a", false),
+        ("-a", false),
+        ("a b", false),
+        ("é", false),
+        ("", false),
+    ] {
+        assert_eq!(rt; is_ascii_name(text.as_bytes()), want);
+    }
+    Ok(())
+}

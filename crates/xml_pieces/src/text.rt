@@ -1,6 +1,6 @@
 //! Parts of texts, read from the front.
 ghost use Rattle.std.specs.Prelude.{◌≡◌, ◌≤◌, ◌==◌, IsUtf8, length, not, take, chars};
-ghost use Rattle.std.specs.List.{prefix_len, list_any};
+ghost use Rattle.std.specs.List.{prefix_len, list_any, list_all};
 ghost use Rattle.xa_base.specs.Characters as xml;
 ghost use Rattle.xa_base.specs.WhiteSpace as white;
 ghost use Rattle.xml_pieces.specs.Pieces as pieces;
@@ -130,6 +130,48 @@ fn name_len(bytes: &[u8]) -> usize
     bytes.iter().take_while(|b| is_name_byte(**b)).count()
 }
 
+#[tactic(auto, unfolding(crate::specs::Reading::is_ascii_start))]
+fn is_ascii_start(b: u8) -> bool
+    ensures { result ≡ reading.is_ascii_start b }
+{
+    matches!(b, b'a'..=b'z' | b'A'..=b'Z' | b'_' | b':')
+}
+
+#[tactic(auto, unfolding(crate::specs::Reading::is_ascii_part))]
+fn is_ascii_part(b: u8) -> bool
+    ensures { result ≡ reading.is_ascii_part b }
+{
+    matches!(b, b'a'..=b'z' | b'A'..=b'Z' | b'0'..=b':' | b'-' | b'.' | b'_')
+}
+
+fn are_ascii_parts(bytes: &[u8]) -> bool
+    ensures { result ≡ list_all reading.is_ascii_part bytes.now }
+{
+    bytes.iter().all(|b| is_ascii_part(*b))
+}
+
+/// Whether the bytes are a Name of ASCII characters alone, as most names are: a test that decodes nothing.
+pub fn is_ascii_name(bytes: &[u8]) -> bool
+    ensures { result ≡ reading.is_ascii_name bytes.now }
+{
+    let Some((first, rest)) = bytes.split_first() else {
+        return false;
+    };
+    is_ascii_start(*first) && are_ascii_parts(rest)
+}
+
+// Whether the bytes are a Name.
+#[tactic(auto, using(crate::proofs::AsciiNames::ascii_name))]
+fn is_name(bytes: &[u8]) -> bool
+    requires { IsUtf8 bytes.now }
+    ensures { result ≡ xml.is_name (chars bytes.now) }
+{
+    if is_ascii_name(bytes) {
+        return true;
+    }
+    is_name_text(text_of(bytes))
+}
+
 // A Name, and what is behind it.
 #[tactic(auto, unfolding(crate::specs::Reading::name_at))]
 pub fn name(bytes: &[u8]) -> Option<(&[u8], &[u8])>
@@ -137,7 +179,7 @@ pub fn name(bytes: &[u8]) -> Option<(&[u8], &[u8])>
     ensures { Gives (λ x. (x.0.now, x.1.now)) result (name_at bytes.now) }
 {
     let (name, rest) = bytes.split_at(name_len(bytes));
-    if is_name_text(text_of(name)) {
+    if is_name(name) {
         Some((name, rest))
     } else {
         None

@@ -1,5 +1,5 @@
 use Rattle.std.proofs.Common.{rules}
-use Rattle.doc_text.proofs.Spelling.{spelled, unspelled}
+use Rattle.doc_text.proofs.Spelling.{spelled, unspelled, ascii_spelled}
 use Rattle.doc_text.proofs.names.spells_ncname.Goals as goal
 
 pub returns-in-Ok : goal.returns-in-Ok
@@ -7,3 +7,6 @@ returns-in-Ok c = spelled c.args.bytes.now _ (search rules) (search rules)
 
 pub returns-in-Err : goal.returns-in-Err
 returns-in-Err c = unspelled c.args.bytes.now (search rules)
+
+pub returns-then-colon_at-bytes : goal.returns-then-colon_at-bytes
+returns-then-colon_at-bytes c = ascii_spelled c.args.bytes.now (search rules) (search rules)

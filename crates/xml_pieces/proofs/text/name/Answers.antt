@@ -2,5 +2,5 @@ use Rattle.std.proofs.Common.{rules}
 use Rattle.xml_pieces.proofs.Utf8.{name_utf8}
 use Rattle.xml_pieces.proofs.text.name.Goals as goal
 
-pub text_of-requires : goal.text_of-requires
-text_of-requires c = search (rules, (name_utf8 c.args.bytes.now c.requires).0)
+pub is_name-requires : goal.is_name-requires
+is_name-requires c = search (rules, (name_utf8 c.args.bytes.now c.requires).0)

@@ -1,4 +1,4 @@
-use Rattle.std.proofs.Common.{◌∙◌, ap, rules, take, length, ◌-◌, List, ℕ}
+use Rattle.std.proofs.Common.{◌∙◌, ap, take, length, ◌-◌, List, ℕ}
 use Rattle.doc_text.proofs.InScope.{one_more}
 use Rattle.doc_text.proofs.scope.Scope.leave.Goals as goal
 

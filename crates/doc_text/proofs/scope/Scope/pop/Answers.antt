@@ -1,4 +1,4 @@
-use Rattle.std.proofs.Common.{rules, refl, Some, sym, ◌∙◌, Option, ℕ, ◌≡◌, ap, length, reverse, None}
+use Rattle.std.proofs.Common.{rules, refl, Some, sym, ◌∙◌, ◌≡◌, length, reverse, None}
 use Rattle.doc_text.proofs.InScope.{left, there, place_in}
 use Rattle.doc_text.proofs.scope.Scope.pop.Goals as goal
 

@@ -1,4 +1,4 @@
-use Rattle.std.proofs.Common.{rules, refl, arith, Some, ℕ, ◌≡◌, ◌<◌, ap, subst, sym, ◌∙◌, reverse, length, List}
+use Rattle.std.proofs.Common.{rules, arith, Some, ◌≡◌, ◌<◌, ap, sym, ◌∙◌, reverse, length}
 use Rattle.doc_text.specs.declared.scope.Binding.{Binding}
 use Rattle.doc_text.specs.Namespaces.{space_of}
 use Rattle.doc_text.proofs.InScope.{place_in, found_within, found_space, not_found}
