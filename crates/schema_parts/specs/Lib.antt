@@ -1,5 +1,8 @@
+pub mod Bounds
+pub mod Coherent
 pub mod Raw
 pub mod Seen
+pub mod Parts
 pub mod Documents
 pub mod Components
 pub mod Declarable

@@ -1,5 +1,10 @@
 //! One schema document.
 ghost use Rattle.std.specs.Prelude.{◌≡◌, ◌<◌, ◌^◌, Some, length, map, slice_get};
+ghost use Rattle.schema_parts.specs.Parts.{parts_of};
+ghost use Rattle.std.specs.Prelude.{true};
+ghost use Rattle.schema_parts.specs.Seen.{element_of, type_of, local_of};
+ghost use Rattle.schema_parts.specs.Bounds.{all_fit, ascend};
+ghost use Rattle.schema_parts.specs.Coherent.{IsCoherent};
 
 use crate::declarations::{RawAttribute, RawElement, RawLocal, RawType};
 use xa_base::Text;
@@ -8,7 +13,9 @@ use xa_base::Text;
 /// occur, which have `maxOccurs` 0 or a prohibited use, are left out.
 ///
 /// The `decl` of an element particle numbers the local declarations of the document from 0, in the order in which they
-/// were written.
+/// were written. Each local declaration stands in one particle, which has its name, and those that stand in a local
+/// declaration have greater numbers. Each particle has the number of the file and may occur, and each content model has
+/// at most 17 levels.
 #[derive(Drop)]
 pub struct RawDoc {
     file: u32,
@@ -19,13 +26,17 @@ pub struct RawDoc {
     locals: Vec<RawLocal>,
     counted: Vec<u64>,
     ghost numbered: { length locals.items < 2 ^ 32 },
+    ghost fitting: { all_fit (map element_of elements.items) (map type_of types.items) (map local_of locals.items) ≡ true },
+    ghost ascending: { ascend counted.items ≡ true },
+    ghost coherent: { ∥ IsCoherent (parts_of file target elements.items attributes.items types.items locals.items counted.items) ∥₁ },
 }
 
 impl RawDoc {
-    ghost use Rattle.schema_parts.specs.Seen.{element_of, attribute_of, type_of, local_of};
-    ghost use Rattle.schema_parts.specs.Documents.{doc_of, parts_of};
+    ghost use Rattle.schema_parts.specs.Seen.{attribute_of};
+    ghost use Rattle.schema_parts.specs.Documents.{doc_of};
 
-    /// A document of these parts. There are fewer than 2^32 local declarations.
+    /// A document of these parts. There are fewer than 2^32 local declarations, they and the content models hang
+    /// together, and each of these has at most 17 levels of particles that may occur. The places ascend. It takes no memory.
     pub fn of(
         file: u32,
         target: Text,
@@ -35,7 +46,10 @@ impl RawDoc {
         locals: Vec<RawLocal>,
         counted: Vec<u64>,
     ) -> RawDoc
-        requires { length locals.items < 2 ^ 32 }
+        requires few { length locals.items < 2 ^ 32 }
+        requires fitting { all_fit (map element_of elements.items) (map type_of types.items) (map local_of locals.items) ≡ true }
+        requires ascending { ascend counted.items ≡ true }
+        requires coherent { IsCoherent (parts_of file target elements.items attributes.items types.items locals.items counted.items) }
         ensures { doc_of result ≡ parts_of file target elements.items attributes.items types.items locals.items counted.items }
     {
         RawDoc {
@@ -94,7 +108,10 @@ impl RawDoc {
 
     /// How many local declarations there are.
     pub fn local_count(&self) -> u32
-        ensures { result ≡ length (doc_of self.now).locals }
+        ensures count { result ≡ length (doc_of self.now).locals }
+        ensures ascending { ascend (doc_of self.now).counted ≡ true }
+        ensures fitting { all_fit (doc_of self.now).elements (doc_of self.now).types (doc_of self.now).locals ≡ true }
+        ensures coherent { ∥ IsCoherent (doc_of self.now) ∥₁ }
     {
         self.locals.len() as u32
     }

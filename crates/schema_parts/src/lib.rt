@@ -4,6 +4,7 @@
 mod components;
 mod declarations;
 mod documents;
+mod fitting;
 mod roots;
 mod schema_sets;
 mod simple_definitions;
@@ -15,6 +16,7 @@ pub use declarations::{
     RawAttribute, RawComplex, RawContent, RawElement, RawKind, RawLocal, RawType, RawUse, RawUses,
 };
 pub use documents::RawDoc;
+pub use fitting::{all_fit, ascend};
 pub use roots::find_root;
 pub use schema_sets::SchemaSet;
 pub use simple_definitions::{RawBase, RawBases, RawHow, RawRef, RawSimple};

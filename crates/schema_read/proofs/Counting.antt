@@ -1,8 +1,8 @@
 -- The places that are counted, by the label and the kids of an element.
-use Rattle.std.proofs.Common.{◌≡◌, ℕ, ◌<◌, ◌+◌, List, [], ◌∷◌, ◌++◌, length, drop, get_or, ap, sym, ◌∙◌, append_assoc, true, false, cond}
+use Rattle.std.proofs.Common.{◌≡◌, ℕ, ◌<◌, ◌+◌, List, [], ◌++◌, length, drop, get_or, ap, sym, ◌∙◌, append_assoc, true, false, cond}
 use Rattle.std.proofs.lemmas.List.{append-nil}
 use Rattle.xa_base.specs.declared.texts.Name.{Name}
-use Rattle.label_tree.specs.Rose.{Rose, node, Roses, roses_of, list_of, label_of, kids_of}
+use Rattle.label_tree.specs.Rose.{Rose, node, roses_of, label_of, kids_of}
 use Rattle.label_tree.proofs.Roses.{roses_of-list_of}
 use Rattle.label_tree.proofs.Kids.{roses_of-drop}
 use Rattle.doc_text.specs.declared.label.ItemLabel.{ItemLabel}

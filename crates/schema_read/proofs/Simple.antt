@@ -1,5 +1,5 @@
 -- What simple types are, by the label and the kids of their elements.
-use Rattle.std.proofs.Common.{◌≡◌, ℕ, ◌<◌, ◌+◌, Bool, true, false, cond, List, [], ◌∷◌, ◌++◌, length, drop, get_or, refl, ap, sym, ◌∙◌, subst, Option, Some, None}
+use Rattle.std.proofs.Common.{◌≡◌, ℕ, ◌<◌, ◌+◌, Bool, true, false, cond, List, ◌++◌, length, drop, get_or, refl, ap, sym, ◌∙◌, Option, Some, None}
 use Rattle.std.specs.Option.{option_or, is_some}
 use Rattle.xa_base.specs.declared.texts.Name.{Name}
 use Rattle.label_tree.specs.Rose.{Rose, node, Roses, roses_of, list_of, label_of, kids_of}
@@ -7,18 +7,17 @@ use Rattle.label_tree.proofs.Roses.{roses_of-list_of}
 use Rattle.label_tree.proofs.Kids.{roses_of-drop}
 use Rattle.doc_text.specs.declared.label.ItemLabel.{ItemLabel}
 use Rattle.doc_text.specs.declared.label.ItemLabel.TheVariants.{Element, Text}
-use Rattle.simple_types.specs.declared.facets.Facet.{Facet}
-use Rattle.schema_parts.specs.Raw.{Bases, none, more, Inner, How, Simple}
+use Rattle.schema_parts.specs.Raw.{Bases, How}
 use Rattle.schema_rules.specs.Attributes.{own_attributes}
 use Rattle.schema_rules.specs.Children.{is_in}
 use Rattle.schema_rules.specs.declared.children.ChildSet.TheVariants.{Varieties, SimpleTypes}
-use Rattle.schema_read.specs.SimpleTypes.{facet_at, and_facet, facets_among, joined, made_by, placed, defined, and_inner, variety_at, variety_among, simple_type, inner_types}
+use Rattle.schema_read.specs.SimpleTypes.{made_by, placed, defined, and_inner, variety_at, variety_among, simple_type, inner_types}
 
-if_false : {A : Type 0} (b : Bool) (x y : A) → b ≡ false → cond b x y ≡ y
+pub if_false : {A : Type 0} (b : Bool) (x y : A) → b ≡ false → cond b x y ≡ y
 if_false true x y is = absurd (cc)
 if_false false x y is = refl
 
-if_true : {A : Type 0} (b : Bool) (x y : A) → b ≡ true → cond b x y ≡ x
+pub if_true : {A : Type 0} (b : Bool) (x y : A) → b ≡ true → cond b x y ≡ x
 if_true true x y is = refl
 if_true false x y is = absurd (cc)
 

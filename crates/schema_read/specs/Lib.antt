@@ -1,6 +1,9 @@
 pub mod Attributes
+pub mod Contents
 pub mod Counted
-pub mod Heads
 pub mod Names
+pub mod Particles
+pub mod Raw
 pub mod Refusing
+pub mod Settings
 pub mod SimpleTypes

@@ -1,4 +1,4 @@
--- Names and references of components (XML Schema Part 1, sections 2.2.1.2 and 3.15.3).
+-- Names and references of components (XML Schema Part 1, sections 2.5 and 3.15.3).
 use Rattle.std.specs.Prelude.{ℕ, List, [], codes, Option, Some, None}
 use Rattle.xa_base.specs.declared.texts.Name.{Name}
 use Rattle.schema_parts.specs.declared.simple_definitions.RawRef.{RawRef}

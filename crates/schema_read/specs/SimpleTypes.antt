@@ -2,7 +2,6 @@
 use Rattle.std.specs.Prelude.{ℕ, List, [], ◌∷◌, ◌++◌, bytes_eq, codes, Option, Some, None, if◌then◌else◌}
 use Rattle.std.specs.Option.{option_or}
 use Rattle.xa_base.specs.WhiteSpace.{words_of}
-use Rattle.xa_base.specs.declared.texts.Name.{Name}
 use Rattle.label_tree.specs.Rose.{Rose, node, Roses, label_of, list_of}
 use Rattle.label_tree.specs.Rose as rose
 use Rattle.doc_text.specs.declared.label.ItemLabel.{ItemLabel}

@@ -1,216 +1,26 @@
 //! Complex type definitions, elements and content models.
-ghost use Rattle.std.specs.Prelude.{◌≤◌, vec_len};
+ghost use Rattle.std.specs.Prelude.{◌≡◌, ◌+◌, [], ◌++◌, IfOk, OnOk, length, map, option_map};
+ghost use Rattle.label_tree.specs.Rose.{roses_of};
+ghost use Rattle.schema_parts.specs.Seen as seen;
+ghost use Rattle.schema_rules.specs.Scopes.{bindings_in};
+ghost use Rattle.schema_read.specs.Attributes as attributes;
+ghost use Rattle.schema_read.specs.Names as names;
+ghost use Rattle.schema_read.specs.Settings.{said};
+ghost use Rattle.schema_read.specs.Particles as parts;
+ghost use Rattle.schema_read.specs.Particles.{Makes, made, made_some};
 
-use crate::declarations::{Setting, local_name, uses_among};
+use crate::contents::{complex_by, complex_with, is_named, is_true, simple_content};
+use crate::declarations::{Setting, local_name};
 use crate::names::{no_name, referred, type_ref};
+use crate::particles::{element_name, element_with, group_of, leaf_of, push_particle, put_own};
 use crate::simple_definitions::simple_type;
-use content_models::{ParticleKind, ParticleLabel};
+use content_models::ParticleLabel;
 use doc_text::ItemLabel;
-use label_tree::{Tree, Whole};
-use schema_parts::{RawComplex, RawContent, RawElement, RawKind, RawLocal, RawRef, RawUses};
-use schema_rules::{
-    ChildSet, Scope, is_in, is_schema_name, least_of, most_of, never_occurs, own_attributes,
-    truth_of, value_of,
-};
+use label_tree::Tree;
+use schema_parts::{RawComplex, RawElement, RawKind, RawLocal, RawRef};
+use schema_rules::{ChildSet, Scope, is_in, never_occurs, own_attributes, value_of};
 use std::alloc::Global;
 use xa_base::{Memory, Name, Text};
-
-fn is_true(name: &str, own: &[(Text, Text)]) -> bool {
-    match value_of(name, own) {
-        Some(value) => truth_of(value.as_str()).unwrap_or(false),
-        None => false,
-    }
-}
-
-fn is_named(local: &str, label: &ItemLabel) -> bool {
-    match label {
-        ItemLabel::Element { name, .. } => is_schema_name(name) && name.local.as_str() == local,
-        ItemLabel::Text { .. } => false,
-    }
-}
-
-// The name of the element that a local declaration declares or refers to.
-fn element_name(
-    alloc: Global,
-    setting: Setting<'_>,
-    scope: &Scope<'_>,
-    own: &[(Text, Text)],
-) -> Result<Name, Memory> {
-    match value_of("ref", own) {
-        Some(reference) => referred(alloc, scope, reference.as_str()),
-        None => local_name(alloc, setting.target, setting.elements_qualified, own),
-    }
-}
-
-// The simple content of a complex type by its extension, with its attributes.
-fn extended<'a>(
-    alloc: Global,
-    setting: Setting<'_>,
-    tree: &'a Tree<ItemLabel>,
-    scope: &'a Scope<'a>,
-) -> Result<Option<(RawContent, RawUses)>, Memory> {
-    let ItemLabel::Element {
-        attributes,
-        declares,
-        at,
-        ..
-    } = tree.label()
-    else {
-        return Ok(None);
-    };
-    if !is_named("extension", tree.label()) {
-        return Ok(None);
-    }
-    let inside = Scope::Element(declares.items(), scope);
-    let own = own_attributes(alloc, attributes.items())?;
-    let base = match value_of("base", &own) {
-        Some(value) => type_ref(alloc, &inside, value.as_str())?,
-        None => RawRef::Other(no_name(alloc)),
-    };
-    let uses = uses_among(alloc, setting, tree.kids(), &inside)?;
-    Ok(Some((RawContent::Simple { base, at: *at }, uses)))
-}
-
-fn extended_among<'a>(
-    alloc: Global,
-    setting: Setting<'_>,
-    kids: &'a [Tree<ItemLabel>],
-    scope: &'a Scope<'a>,
-) -> Result<Option<(RawContent, RawUses)>, Memory> {
-    for kid in kids {
-        let found = extended(alloc, setting, kid, scope)?;
-        if found.is_some() {
-            return Ok(found);
-        }
-    }
-    Ok(None)
-}
-
-// The simple content among the children of a complex type.
-fn simple_content<'a>(
-    alloc: Global,
-    setting: Setting<'_>,
-    kids: &'a [Tree<ItemLabel>],
-    scope: &'a Scope<'a>,
-) -> Result<Option<(RawContent, RawUses)>, Memory> {
-    for kid in kids {
-        if is_named("simpleContent", kid.label()) {
-            if let ItemLabel::Element { declares, .. } = kid.label() {
-                let inside = Scope::Element(declares.items(), scope);
-                return extended_among(alloc, setting, kid.kids(), &inside);
-            }
-        }
-    }
-    Ok(None)
-}
-
-// A particle of nothing, which stands where a mixed type has no group.
-fn nothing(alloc: Global, file: u32, at: u64) -> Tree<ParticleLabel> {
-    Tree::leaf(
-        alloc,
-        ParticleLabel {
-            kind: ParticleKind::Sequence,
-            min: 1,
-            max: Some(1),
-            file,
-            at,
-        },
-    )
-}
-
-// Whether the group is a sequence of nothing.
-fn is_nothing(tree: &Tree<ParticleLabel>) -> bool {
-    match tree.label().kind {
-        ParticleKind::Sequence => tree.kids().is_empty(),
-        _ => false,
-    }
-}
-
-// The group, unless it is a sequence of nothing.
-fn unless_nothing(group: Option<Tree<ParticleLabel>>) -> Option<Tree<ParticleLabel>> {
-    match group {
-        Some(tree) => { if is_nothing(&tree) { None } else { Some(tree) } }
-        None => None,
-    }
-}
-
-fn model_of(mixed: bool, tree: Tree<ParticleLabel>) -> RawContent {
-    match Whole::seal(tree) {
-        Ok(whole) => {
-            if mixed {
-                RawContent::Mixed(whole)
-            } else {
-                RawContent::ElementOnly(whole)
-            }
-        }
-        Err(_tree) => RawContent::Empty,
-    }
-}
-
-// The content of a type without a group, or with one of nothing at this place.
-fn content_of_nothing(alloc: Global, file: u32, mixed: bool, at: u64) -> RawContent {
-    if mixed {
-        model_of(true, nothing(alloc, file, at))
-    } else {
-        RawContent::Empty
-    }
-}
-
-// The content of a type, where it isn't simple, by its group.
-fn content_of(
-    alloc: Global,
-    file: u32,
-    mixed: bool,
-    empty_at: u64,
-    group: Option<Tree<ParticleLabel>>,
-) -> RawContent {
-    match unless_nothing(group) {
-        Some(tree) => model_of(mixed, tree),
-        None => content_of_nothing(alloc, file, mixed, empty_at),
-    }
-}
-
-// The particle of a group with these particles in it.
-fn group_of(
-    file: u32,
-    at: u64,
-    name: &str,
-    own: &[(Text, Text)],
-    kids: Vec<Tree<ParticleLabel>>,
-) -> Tree<ParticleLabel> {
-    let kind = if name == "choice" {
-        ParticleKind::Choice
-    } else {
-        ParticleKind::Sequence
-    };
-    let label = ParticleLabel {
-        kind,
-        min: least_of(own),
-        max: most_of(own),
-        file,
-        at,
-    };
-    Tree::join(label, kids)
-}
-
-// The particle of an element.
-fn leaf_of(
-    alloc: Global,
-    file: u32,
-    at: u64,
-    decl: u32,
-    name: Name,
-    own: &[(Text, Text)],
-) -> Tree<ParticleLabel> {
-    let label = ParticleLabel {
-        kind: ParticleKind::Element { decl, name },
-        min: least_of(own),
-        max: most_of(own),
-        file,
-        at,
-    };
-    Tree::leaf(alloc, label)
-}
 
 // The particle that the element is, unless it may not occur. What it declares is added to the local declarations.
 #[cycle(complex_types)]
@@ -221,7 +31,7 @@ fn particle_at<'a>(
     scope: &'a Scope<'a>,
     locals: &mut Vec<RawLocal>,
 ) -> Result<Option<Tree<ParticleLabel>>, Memory>
-    ensures { vec_len locals.old ≤ vec_len locals.new }
+    ensures { IfOk result (λ found. Makes locals.old.items locals.new.items found (parts.particle_at (said setting.entry) (bindings_in scope.now) (length locals.old.items) tree.now)) }
 {
     let ItemLabel::Element {
         name,
@@ -264,7 +74,9 @@ fn particle_of<'a>(
     scope: &'a Scope<'a>,
     locals: &mut Vec<RawLocal>,
 ) -> Result<Tree<ParticleLabel>, Memory>
-    ensures { vec_len locals.old ≤ vec_len locals.new }
+    ensures { IfOk result (λ particle. Makes locals.old.items locals.new.items particle (parts.particle_by (said setting.entry) (length locals.old.items) name.now at (bindings_in scope.now) own.now
+        (parts.inner_kind (said setting.entry) (bindings_in scope.now) (length locals.old.items + 1) (roses_of kids.now))
+        (parts.particles_among (said setting.entry) (bindings_in scope.now) (length locals.old.items) (roses_of kids.now)))) }
 {
     if name == "element" {
         let named = element_name(alloc, setting, scope, own)?;
@@ -285,15 +97,38 @@ fn particles_among<'a>(
     scope: &'a Scope<'a>,
     locals: &mut Vec<RawLocal>,
 ) -> Result<Vec<Tree<ParticleLabel>>, Memory>
-    ensures { vec_len locals.old ≤ vec_len locals.new }
+    ensures { IfOk result (λ particles. Makes locals.old.items locals.new.items particles.items (parts.particles_among (said setting.entry) (bindings_in scope.now) (length locals.old.items) (roses_of kids.now))) }
 {
     let mut particles = Vec::new(alloc);
     for kid in kids {
-        if let Some(particle) = particle_at(alloc, setting, kid, scope, locals)? {
-            particles.push(particle)?;
-        }
+        let found = particle_at(alloc, setting, kid, scope, locals)?;
+        push_particle(&mut particles, found)?;
     }
     Ok(particles)
+}
+
+fn next_number(locals: &[RawLocal]) -> Result<u32, Memory>
+    ensures { IfOk result (λ number. number ≡ length locals.now) }
+{
+    match u32::try_from(locals.len()) {
+        Ok(number) => Ok(number),
+        Err(_) => Err(Memory),
+    }
+}
+
+// Adds a reference to a global element.
+fn refer(
+    alloc: Global,
+    scope: &Scope<'_>,
+    text: &str,
+    at: u64,
+    locals: &mut Vec<RawLocal>,
+) -> Result<(), Memory>
+    ensures { OnOk result (map seen.local_of locals.new.items ≡ map seen.local_of locals.old.items ++ parts.reference_to (names.referred (bindings_in scope.now) text.now) at) }
+{
+    let name = referred(alloc, scope, text)?;
+    locals.push(RawLocal::Reference { name, at })?;
+    Ok(())
 }
 
 // Adds a local declaration before those that stand in it, and tells its number.
@@ -307,20 +142,53 @@ fn declare<'a>(
     scope: &'a Scope<'a>,
     locals: &mut Vec<RawLocal>,
 ) -> Result<u32, Memory>
-    ensures { vec_len locals.old ≤ vec_len locals.new }
+    ensures { IfOk result (λ decl. Makes locals.old.items locals.new.items decl (made (length locals.old.items) (parts.declared (said setting.entry) at (bindings_in scope.now) own.now
+        (parts.inner_kind (said setting.entry) (bindings_in scope.now) (length locals.old.items + 1) (roses_of kids.now))))) }
+{
+    let decl = next_number(locals)?;
+    match value_of("ref", own) {
+        Some(reference) => {
+            refer(alloc, scope, reference.as_str(), at, locals)?;
+            Ok(decl)
+        }
+        None => {
+            declare_own(alloc, setting, at, own, kids, scope, locals)?;
+            Ok(decl)
+        }
+    }
+}
+
+// A place for a local declaration, which stands before those in it.
+fn hold(alloc: Global, at: u64, locals: &mut Vec<RawLocal>) -> Result<(), Memory>
+    ensures { OnOk result (map seen.local_of locals.new.items ≡ map seen.local_of locals.old.items ++ parts.reference_to names.no_name at) }
+{
+    locals.push(RawLocal::Reference {
+        name: no_name(alloc),
+        at,
+    })?;
+    Ok(())
+}
+
+#[cycle(complex_types)]
+fn declare_own<'a>(
+    alloc: Global,
+    setting: Setting<'_>,
+    at: u64,
+    own: &[(Text, Text)],
+    kids: &'a [Tree<ItemLabel>],
+    scope: &'a Scope<'a>,
+    locals: &mut Vec<RawLocal>,
+) -> Result<(), Memory>
+    ensures { OnOk result (map seen.local_of locals.new.items ≡ map seen.local_of locals.old.items ++ parts.declared_with (parts.element_by
+        (attributes.local_name setting.entry.target.now setting.entry.elements_qualified own.now) own.now at (parts.kind_by (bindings_in scope.now) own.now
+        (parts.inner_kind (said setting.entry) (bindings_in scope.now) (length locals.old.items + 1) (roses_of kids.now))))) }
 {
     let number = locals.len();
-    let Ok(decl) = u32::try_from(number) else {
-        return Err(Memory);
-    };
-    let name = element_name(alloc, setting, scope, own)?;
-    locals.push(RawLocal::Reference { name, at })?;
-    if value_of("ref", own).is_none() {
-        let name = element_name(alloc, setting, scope, own)?;
-        let element = element_of(alloc, setting, name, at, own, kids, scope, locals)?;
-        locals[number] = RawLocal::Own(element);
-    }
-    Ok(decl)
+    hold(alloc, at, locals)?;
+    let name = local_name(alloc, setting.target, setting.elements_qualified, own)?;
+    let element = element_of(alloc, setting, name, at, own, kids, scope, locals)?;
+    put_own(locals, number, element);
+    Ok(())
 }
 
 /// The element that is declared by this name.
@@ -335,18 +203,39 @@ pub(crate) fn element_of<'a>(
     scope: &'a Scope<'a>,
     locals: &mut Vec<RawLocal>,
 ) -> Result<RawElement, Memory>
-    ensures { vec_len locals.old ≤ vec_len locals.new }
+    ensures { IfOk result (λ element. Makes locals.old.items locals.new.items (seen.element_of element) (parts.element_by name own.now at (parts.kind_by (bindings_in scope.now) own.now
+        (parts.inner_kind (said setting.entry) (bindings_in scope.now) (length locals.old.items) (roses_of kids.now))))) }
 {
-    let kind = match value_of("type", own) {
-        Some(value) => RawKind::Named(type_ref(alloc, scope, value.as_str())?),
-        None => inner_kind(alloc, setting, kids, scope, locals)?,
-    };
-    Ok(RawElement {
-        name,
-        nillable: is_true("nillable", own),
-        kind,
-        at,
-    })
+    match value_of("type", own) {
+        Some(value) => {
+            let reference = type_ref(alloc, scope, value.as_str())?;
+            Ok(element_with(name, own, at, RawKind::Named(reference)))
+        }
+        None => {
+            let kind = inner_kind(alloc, setting, kids, scope, locals)?;
+            Ok(element_with(name, own, at, kind))
+        }
+    }
+}
+
+// The first particle among these that may occur.
+#[cycle(complex_types)]
+fn group_among<'a>(
+    alloc: Global,
+    setting: Setting<'_>,
+    kids: &'a [Tree<ItemLabel>],
+    scope: &'a Scope<'a>,
+    locals: &mut Vec<RawLocal>,
+) -> Result<Option<Tree<ParticleLabel>>, Memory>
+    ensures { IfOk result (λ found. Makes locals.old.items locals.new.items found (parts.group_among (said setting.entry) (bindings_in scope.now) (length locals.old.items) (roses_of kids.now))) }
+{
+    for kid in kids {
+        let found = particle_at(alloc, setting, kid, scope, locals)?;
+        if let Some(particle) = found {
+            return Ok(Some(particle));
+        }
+    }
+    Ok(None)
 }
 
 // The first type among these.
@@ -358,13 +247,15 @@ fn inner_kind<'a>(
     scope: &'a Scope<'a>,
     locals: &mut Vec<RawLocal>,
 ) -> Result<RawKind, Memory>
-    ensures { vec_len locals.old ≤ vec_len locals.new }
+    ensures { IfOk result (λ kind. Makes locals.old.items locals.new.items (seen.kind_of kind) (parts.inner_kind (said setting.entry) (bindings_in scope.now) (length locals.old.items) (roses_of kids.now))) }
 {
     for kid in kids {
-        if let Some(body) = simple_type(alloc, kid, scope)? {
+        let simple = simple_type(alloc, kid, scope)?;
+        if let Some(body) = simple {
             return Ok(RawKind::Simple(body));
         }
-        if let Some(body) = complex_type(alloc, setting, kid, scope, locals)? {
+        let complex = complex_type(alloc, setting, kid, scope, locals)?;
+        if let Some(body) = complex {
             return Ok(RawKind::Complex(body));
         }
     }
@@ -380,7 +271,7 @@ pub(crate) fn complex_type<'a>(
     scope: &'a Scope<'a>,
     locals: &mut Vec<RawLocal>,
 ) -> Result<Option<RawComplex>, Memory>
-    ensures { vec_len locals.old ≤ vec_len locals.new }
+    ensures { IfOk result (λ found. Makes locals.old.items locals.new.items (option_map seen.complex_of found) (parts.complex_type (said setting.entry) (bindings_in scope.now) (length locals.old.items) tree.now)) }
 {
     let ItemLabel::Element {
         attributes,
@@ -396,15 +287,8 @@ pub(crate) fn complex_type<'a>(
     }
     let inside = Scope::Element(declares.items(), scope);
     let own = own_attributes(alloc, attributes.items())?;
-    let body = complex_of(
-        alloc,
-        setting,
-        *at,
-        is_true("mixed", &own),
-        tree.kids(),
-        &inside,
-        locals,
-    )?;
+    let mixed = is_true("mixed", &own);
+    let body = complex_of(alloc, setting, *at, mixed, tree.kids(), &inside, locals)?;
     Ok(Some(body))
 }
 
@@ -418,32 +302,13 @@ fn complex_of<'a>(
     scope: &'a Scope<'a>,
     locals: &mut Vec<RawLocal>,
 ) -> Result<RawComplex, Memory>
-    ensures { vec_len locals.old ≤ vec_len locals.new }
+    ensures { IfOk result (λ body. Makes locals.old.items locals.new.items (seen.complex_of body) (parts.complex_of (said setting.entry) at mixed (bindings_in scope.now) kids.now
+        (parts.group_among (said setting.entry) (bindings_in scope.now) (length locals.old.items) (roses_of kids.now)))) }
 {
-    if let Some((content, uses)) = simple_content(alloc, setting, kids, scope)? {
-        return Ok(RawComplex { at, uses, content });
+    let simple = simple_content(alloc, setting, kids, scope)?;
+    if let Some(found) = simple {
+        return Ok(complex_with(at, found));
     }
-    let group = particles_among(alloc, setting, kids, scope, locals)?;
-    let uses = uses_among(alloc, setting, kids, scope)?;
-    let empty_at = group_place(kids).unwrap_or(at.saturating_add(1));
-    let content = content_of(
-        alloc,
-        setting.file,
-        mixed,
-        empty_at,
-        group.into_iter().next(),
-    );
-    Ok(RawComplex { at, uses, content })
-}
-
-// The place of the first group among these.
-fn group_place(kids: &[Tree<ItemLabel>]) -> Option<u64> {
-    for kid in kids {
-        if let ItemLabel::Element { at, .. } = kid.label() {
-            if is_in(ChildSet::Particles, kid.label()) {
-                return Some(*at);
-            }
-        }
-    }
-    None
+    let group = group_among(alloc, setting, kids, scope, locals)?;
+    complex_by(alloc, setting, at, mixed, kids, scope, group)
 }

@@ -1,153 +1,27 @@
 //! A whole schema document.
-ghost use Rattle.std.specs.Prelude.{◌≡◌, ◌++◌, codes, IfErr, IfOk, OnOk};
+ghost use Rattle.std.specs.Prelude.{◌≡◌, ◌++◌, IfErr, IfOk, OnOk};
 ghost use Rattle.label_tree.specs.Rose.{roses_of};
 ghost use Rattle.doc_text.specs.Tokens.{tokens, Ascend};
-ghost use Rattle.schema_parts.specs.Documents.{doc_of};
-ghost use Rattle.schema_rules.specs.Shown.{IsSchema};
+ghost use Rattle.schema_parts.specs.Coherent.{IsCoherent};
+ghost use Rattle.schema_parts.specs.Documents.{doc_of, parts_of};
+ghost use Rattle.schema_rules.specs.Scopes.{bindings_in};
+ghost use Rattle.schema_faults.specs.Shown.{IsSchema};
 ghost use Rattle.schema_read.specs.Counted.{counted_here, counted_at, counted_among};
-ghost use Rattle.schema_read.specs.Heads.{Heads, HeadsOf};
-ghost use Rattle.schema_read.specs.Names.{value_or_empty};
+ghost use Rattle.schema_read.specs.Raw.{document_with, document_by, parts_among, raw_of};
 ghost use Rattle.schema_read.specs.Refusing.{Refuses};
+ghost use Rattle.schema_read.specs.Settings.{said};
 
-use crate::complex_types::{complex_type, element_of};
-use crate::declarations::{Setting, global_attribute, is_qualified};
+use crate::declarations::{Setting, is_qualified};
 use crate::error::SchemaError;
-use crate::names::{declared_name, value_or_empty};
-use crate::simple_definitions::simple_type;
+use crate::globals::{Globals, globals_among};
+use crate::names::value_or_empty;
 use doc_text::{ItemLabel, Items};
 use label_tree::Tree;
-use schema_parts::{RawAttribute, RawDoc, RawElement, RawLocal, RawType};
-use schema_rules::{
-    Fault, Scope, first_fault, is_counted, is_looked_into, is_schema_name, own_attributes,
-};
+use schema_faults::{Fault, first_fault};
+use schema_parts::{RawDoc, RawLocal, all_fit, ascend};
+use schema_rules::{Scope, is_counted, is_looked_into, own_attributes};
 use std::alloc::Global;
 use xa_base::{Memory, Name, Text};
-
-/// What a document declares, as far as it is read.
-#[derive(Drop)]
-struct Declared {
-    elements: Vec<RawElement>,
-    attributes: Vec<RawAttribute>,
-    types: Vec<RawType>,
-    locals: Vec<RawLocal>,
-}
-
-impl Declared {
-    fn new(alloc: Global) -> Declared {
-        Declared {
-            elements: Vec::new(alloc),
-            attributes: Vec::new(alloc),
-            types: Vec::new(alloc),
-            locals: Vec::new(alloc),
-        }
-    }
-
-    // Adds a global element.
-    fn add_element<'a>(
-        &mut self,
-        alloc: Global,
-        setting: Setting<'_>,
-        tree: &'a Tree<ItemLabel>,
-        scope: &'a Scope<'a>,
-    ) -> Result<(), Memory> {
-        let ItemLabel::Element {
-            attributes,
-            declares,
-            at,
-            ..
-        } = tree.label()
-        else {
-            return Ok(());
-        };
-        let own = own_attributes(alloc, attributes.items())?;
-        let inside = Scope::Element(declares.items(), scope);
-        let name = declared_name(alloc, setting.target, &own)?;
-        let element = element_of(
-            alloc,
-            setting,
-            name,
-            *at,
-            &own,
-            tree.kids(),
-            &inside,
-            &mut self.locals,
-        )?;
-        self.elements.push(element)?;
-        Ok(())
-    }
-
-    fn add_attribute<'a>(
-        &mut self,
-        alloc: Global,
-        setting: Setting<'_>,
-        tree: &'a Tree<ItemLabel>,
-        scope: &'a Scope<'a>,
-    ) -> Result<(), Memory> {
-        if let Some(attribute) = global_attribute(alloc, setting.target, tree, scope)? {
-            self.attributes.push(attribute)?;
-        }
-        Ok(())
-    }
-
-    fn add_simple_type<'a>(
-        &mut self,
-        alloc: Global,
-        setting: Setting<'_>,
-        own: &[(Text, Text)],
-        tree: &'a Tree<ItemLabel>,
-        scope: &'a Scope<'a>,
-    ) -> Result<(), Memory> {
-        if let Some(body) = simple_type(alloc, tree, scope)? {
-            let name = declared_name(alloc, setting.target, own)?;
-            self.types.push(RawType::Simple { name, body })?;
-        }
-        Ok(())
-    }
-
-    fn add_complex_type<'a>(
-        &mut self,
-        alloc: Global,
-        setting: Setting<'_>,
-        own: &[(Text, Text)],
-        tree: &'a Tree<ItemLabel>,
-        scope: &'a Scope<'a>,
-    ) -> Result<(), Memory> {
-        if let Some(body) = complex_type(alloc, setting, tree, scope, &mut self.locals)? {
-            let name = declared_name(alloc, setting.target, own)?;
-            self.types.push(RawType::Complex { name, body })?;
-        }
-        Ok(())
-    }
-
-    // Adds what a child of `schema` declares.
-    fn add<'a>(
-        &mut self,
-        alloc: Global,
-        setting: Setting<'_>,
-        tree: &'a Tree<ItemLabel>,
-        scope: &'a Scope<'a>,
-    ) -> Result<(), Memory> {
-        let ItemLabel::Element {
-            name,
-            attributes,
-            ..
-        } = tree.label()
-        else {
-            return Ok(());
-        };
-        if !is_schema_name(name) {
-            return Ok(());
-        }
-        let own = own_attributes(alloc, attributes.items())?;
-        match name.local.as_str() {
-            "element" => self.add_element(alloc, setting, tree, scope),
-            "attribute" => self.add_attribute(alloc, setting, tree, scope),
-            "simpleType" => self.add_simple_type(alloc, setting, &own, tree, scope),
-            "complexType" => self.add_complex_type(alloc, setting, &own, tree, scope),
-            _ => Ok(()),
-        }
-    }
-}
 
 // Adds the places of those among these, and in them, that the limit of components counts.
 #[cycle(counting)]
@@ -184,19 +58,6 @@ fn count_at(tree: &Tree<ItemLabel>, counted: &mut Vec<u64>) -> Result<(), Memory
     }
 }
 
-fn declared_in<'a>(
-    alloc: Global,
-    setting: Setting<'_>,
-    kids: &'a [Tree<ItemLabel>],
-    scope: &'a Scope<'a>,
-) -> Result<Declared, Memory> {
-    let mut declared = Declared::new(alloc);
-    for kid in kids {
-        declared.add(alloc, setting, kid, scope)?;
-    }
-    Ok(declared)
-}
-
 // The places that the limit of components counts.
 fn counted_places(alloc: Global, kids: &[Tree<ItemLabel>]) -> Result<Vec<u64>, Memory>
     ensures { IfOk result (λ counted. counted.items ≡ counted_among (roses_of kids.now)) }
@@ -206,19 +67,48 @@ fn counted_places(alloc: Global, kids: &[Tree<ItemLabel>]) -> Result<Vec<u64>, M
     Ok(counted)
 }
 
-fn sealed(file: u32, target: Text, declared: Declared, counted: Vec<u64>) -> Result<RawDoc, Memory>
-    ensures { IfOk result (λ doc. Heads file target counted.items (doc_of doc)) }
+fn sealed(
+    file: u32,
+    target: Text,
+    globals: Globals,
+    locals: Vec<RawLocal>,
+    counted: Vec<u64>,
+) -> Result<RawDoc, Memory>
+    requires { IsCoherent (parts_of file target globals.elements.items globals.attributes.items globals.types.items locals.items counted.items) }
+    ensures { IfOk result (λ doc. doc_of doc ≡ parts_of file target globals.elements.items globals.attributes.items globals.types.items locals.items counted.items) }
 {
-    let Declared {
+    let Globals {
         elements,
         attributes,
         types,
-        locals,
-    } = declared;
+    } = globals;
     if u32::try_from(locals.len()).is_err() {
         return Err(Memory);
     }
+    // A document with other content models or places has a fault.
+    if !all_fit(&elements, &types, &locals) {
+        return Err(Memory);
+    }
+    if !ascend(&counted) {
+        return Err(Memory);
+    }
     Ok(RawDoc::of(file, target, elements, attributes, types, locals, counted))
+}
+
+// All that the children of `schema` declare.
+fn described_by<'a>(
+    alloc: Global,
+    setting: Setting<'_>,
+    kids: &'a [Tree<ItemLabel>],
+    scope: &'a Scope<'a>,
+) -> Result<RawDoc, Memory>
+    ensures { IfOk result (λ doc. doc_of doc ≡ document_with setting.entry.file setting.entry.target.now (counted_among (roses_of kids.now)) (parts_among (said setting.entry) (bindings_in scope.now) 0 kids.now)) }
+{
+    let mut locals = Vec::new(alloc);
+    let globals = globals_among(alloc, setting, kids, scope, &mut locals)?;
+    let counted = counted_places(alloc, kids)?;
+    let target = setting.target.copy(alloc)?;
+    sealed(setting.file, target, globals, locals, counted)
 }
 
 // The components of a document with these attributes of `schema` and these children of it.
@@ -229,7 +119,7 @@ fn described<'a>(
     kids: &'a [Tree<ItemLabel>],
     scope: &'a Scope<'a>,
 ) -> Result<RawDoc, Memory>
-    ensures { IfOk result (λ doc. Heads file (value_or_empty (codes "targetNamespace") own.now) (counted_among (roses_of kids.now)) (doc_of doc)) }
+    ensures { IfOk result (λ doc. doc_of doc ≡ document_by file own.now (bindings_in scope.now) kids.now) }
 {
     let target = value_or_empty(alloc, "targetNamespace", own)?;
     let setting = Setting {
@@ -238,14 +128,12 @@ fn described<'a>(
         elements_qualified: is_qualified("elementFormDefault", own, false),
         attributes_qualified: is_qualified("attributeFormDefault", own, false),
     };
-    let declared = declared_in(alloc, setting, kids, scope)?;
-    let counted = counted_places(alloc, kids)?;
-    sealed(file, target, declared, counted)
+    described_by(alloc, setting, kids, scope)
 }
 
 // The components of a document without a fault.
 fn components(alloc: Global, root: &Tree<ItemLabel>, file: u32) -> Result<RawDoc, Memory>
-    ensures { IfOk result (λ doc. HeadsOf file root.now (doc_of doc)) }
+    ensures { IfOk result (λ doc. doc_of doc ≡ raw_of file root.now) }
 {
     let ItemLabel::Element {
         attributes,
@@ -269,8 +157,8 @@ pub fn read_schema(alloc: Global, items: &Items, file: u32) -> Result<RawDoc, Sc
     // It is a schema, or it is refused with the place and the reason of its first fault.
     ensures schema { OnOk result (IsSchema items.now) }
     ensures refused { IfErr result (Refuses items.now) }
-    // The components of the document so far as this says: the number of the file, the target namespace, and the places of what is counted.
-    ensures heads { IfOk result (λ doc. HeadsOf file items.now (doc_of doc)) }
+    // All of its components.
+    ensures raw { IfOk result (λ doc. doc_of doc ≡ raw_of file items.now) }
 {
     if let Some(Fault { at, why }) = first_fault(alloc, items)? {
         return Err(SchemaError::Shown { at, why });

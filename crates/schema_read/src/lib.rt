@@ -2,10 +2,13 @@
 #![tactic(auto)]
 
 mod complex_types;
+mod contents;
 mod declarations;
 mod documents;
 mod error;
+mod globals;
 mod names;
+mod particles;
 mod simple_definitions;
 
 pub use documents::read_schema;

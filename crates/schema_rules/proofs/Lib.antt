@@ -1,6 +1,3 @@
 pub mod Digits
+pub mod Greater
 mod Scoped
-pub mod Walked
-pub mod Least
-pub mod Rising
-pub mod ShownLaws

@@ -1,5 +1,5 @@
 -- The children that a rule counts or asks for.
-use Rattle.std.specs.Prelude.{ℕ, Bool, true, false, ◌&&◌, List, [], ◌∷◌, codes, count_by}
+use Rattle.std.specs.Prelude.{ℕ, Bool, false, ◌&&◌, List, [], ◌∷◌, codes, count_by}
 use Rattle.std.specs.List.{list_any}
 use Rattle.label_tree.specs.Rose.{Rose, label_of}
 use Rattle.doc_text.specs.declared.label.ItemLabel.{ItemLabel}

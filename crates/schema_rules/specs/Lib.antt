@@ -1,13 +1,8 @@
 pub mod Attributes
 pub mod Children
 pub mod Elements
-pub mod Faults
-pub mod Limits
 pub mod Numbers
-pub mod Reasons
 pub mod References
-pub mod Requirements
 pub mod Scopes
 pub mod Seen
-pub mod Shown
 pub mod Values

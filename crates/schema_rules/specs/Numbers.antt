@@ -27,7 +27,11 @@ small n = if nat_lt n 4294967296 then Some n else None
 abbrev pub is_large : List ℕ → Bool
 is_large text = is_number text && nat_le 4294967296 (number_of text)
 
--- ---- comparing
+-- both are numbers, and the first is greater
+abbrev pub is_over : List ℕ → List ℕ → Bool
+is_over a b = is_number a && is_number b && nat_lt (number_of b) (number_of a)
+
+-- ---- how numbers of many digits are compared
 
 abbrev pub without_zeros : List ℕ → List ℕ
 without_zeros [] = []
@@ -39,9 +43,6 @@ is_later [] bs = false
 is_later (a ∷ more) [] = true
 is_later (a ∷ more) (b ∷ bs) = nat_lt b a || (a == b && is_later more bs)
 
+-- of two numbers without leading zeros: more digits, or as many, of which the first that differs is greater
 abbrev pub is_greater : List ℕ → List ℕ → Bool
 is_greater a b = if length a == length b then is_later a b else nat_lt (length b) (length a)
-
--- Both are numbers, and the first is greater: it has more digits behind its leading zeros, or as many, of which the first that differs is greater.
-abbrev pub is_over : List ℕ → List ℕ → Bool
-is_over a b = is_number a && is_number b && is_greater (without_zeros a) (without_zeros b)

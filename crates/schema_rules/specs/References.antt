@@ -1,5 +1,5 @@
 -- References to components by their names, and the datatypes among them (XML Schema Part 1, section 3.15.3).
-use Rattle.std.specs.Prelude.{◌==◌, ℕ, Bool, true, false, ◌||◌, ◌&&◌, not, nat_lt, List, [], ◌∷◌, bytes_eq, codes, length, Option, Some, None, if◌then◌else◌}
+use Rattle.std.specs.Prelude.{◌==◌, ℕ, Bool, ◌&&◌, nat_lt, List, [], ◌∷◌, bytes_eq, codes, length, Option, Some, None, if◌then◌else◌}
 use Rattle.std.specs.List.{position_or_len, before_first, after_first}
 use Rattle.std.specs.Str.{chars}
 use Rattle.xa_base.specs.Characters.{is_ncname}

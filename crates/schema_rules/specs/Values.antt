@@ -1,5 +1,5 @@
 -- The values of attributes of schema documents (XML Schema Part 1, section 3, with the types of its schema in appendix A).
-use Rattle.std.specs.Prelude.{◌==◌, ℕ, Bool, true, false, ◌||◌, ◌&&◌, not, nat_le, List, [], ◌∷◌, bytes_eq, codes, length, Option, Some, None, unwrap_or, if◌then◌else◌}
+use Rattle.std.specs.Prelude.{ℕ, Bool, true, false, ◌||◌, ◌&&◌, not, nat_le, List, [], ◌∷◌, bytes_eq, codes, length, Option, Some, None, unwrap_or, if◌then◌else◌}
 use Rattle.std.specs.List.{list_any, list_all}
 use Rattle.std.specs.Option.{is_some}
 use Rattle.std.specs.Str.{chars}
@@ -7,7 +7,7 @@ use Rattle.xa_base.specs.Characters.{is_ncname}
 use Rattle.xa_base.specs.WhiteSpace.{words_of}
 use Rattle.doc_text.specs.Sound.{is_empty, xmlns_space}
 use Rattle.schema_rules.specs.Elements.{beside, has_name, schema_space}
-use Rattle.schema_rules.specs.Numbers.{is_number, is_over, number_of, small}
+use Rattle.schema_rules.specs.Numbers.{is_number, is_over, is_zero, number_of, small}
 use Rattle.schema_rules.specs.References.{resolved, type_name}
 use Rattle.schema_rules.specs.declared.roles.Role.{Role}
 use Rattle.schema_rules.specs.declared.roles.Role.TheVariants.{GlobalAttribute, LocalAttribute}
@@ -101,3 +101,7 @@ least_of own = unwrap_or (occurrences (digits_of (codes "minOccurs") own)) 1
 -- none where it is unbounded
 abbrev pub most_of : List (List ℕ × List ℕ) → Option ℕ
 most_of own = occurrences (digits_of (codes "maxOccurs") own)
+
+-- a particle that is dropped (Part 1, section 3.9.6)
+abbrev pub never_occurs : List (List ℕ × List ℕ) → Bool
+never_occurs own = elim (beside (codes "maxOccurs") own) [ None ↦ false | Some value ↦ is_zero value ]

@@ -55,7 +55,8 @@ pub fn value_of<'a>(name: &str, own: &'a [(Text, Text)]) -> Option<&'a Text>
     None
 }
 
-pub fn has(name: &str, own: &[(Text, Text)]) -> bool
+/// Whether the element has the attribute of this name.
+pub fn has_attribute(name: &str, own: &[(Text, Text)]) -> bool
     ensures { result ≡ table.has name.now own.now }
 {
     value_of(name, own).is_some()

@@ -119,7 +119,7 @@ fn placement_of(parent: Role, before: Option<Position>, name: &str) -> Placement
 }
 
 /// What an element of this name is in a parent of this role, behind one of this position where there is one.
-pub(crate) fn placement_in(parent: Role, before: Option<Position>, name: &Name) -> Placement
+pub fn placement_in(parent: Role, before: Option<Position>, name: &Name) -> Placement
     ensures { result ≡ table.placement parent before name.now }
 {
     if !is_schema_name(name) {

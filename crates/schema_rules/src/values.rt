@@ -10,7 +10,7 @@ ghost use Rattle.schema_rules.specs.Values as table;
 
 use crate::attributes::value_of;
 use crate::elements::SCHEMA_SPACE;
-use crate::numbers::{is_number, is_over, small_number};
+use crate::numbers::{is_number, is_over, is_zero, small_number};
 use crate::references::{resolve, type_of};
 use crate::roles::Role;
 use crate::scopes::Scope;
@@ -210,4 +210,14 @@ pub fn most_of(own: &[(Text, Text)]) -> Option<u32>
     ensures { result ≡ table.most_of own.now }
 {
     occurrences(digits_of("maxOccurs", own))
+}
+
+/// Whether it may not occur: its greatest number of occurrences is zero.
+pub fn never_occurs(own: &[(Text, Text)]) -> bool
+    ensures { result ≡ table.never_occurs own.now }
+{
+    match value_of("maxOccurs", own) {
+        Some(value) => is_zero(value.bytes()),
+        None => false,
+    }
 }

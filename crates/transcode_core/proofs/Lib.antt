@@ -8,3 +8,4 @@ pub mod Deciding
 pub mod WordLemmas
 pub mod Joined
 pub mod Single
+pub mod Loading

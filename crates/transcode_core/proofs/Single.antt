@@ -1,5 +1,5 @@
 -- Where contents are told, one verdict is due.
-use Rattle.std.proofs.Common.{◌≡◌, ◌⊎◌, ℕ, Bool, true, false, List, length, refl, sym, ap, ◌∙◌, subst, inl, inr, arith, Option, Some, None, Result, Ok, Err}
+use Rattle.std.proofs.Common.{◌≡◌, ◌⊎◌, ℕ, ◌+◌, Bool, true, false, List, [], ◌∷◌, length, refl, sym, ap, ◌∙◌, subst, inl, inr, arith, Option, Some, None, Result, Ok, Err}
 use Rattle.xa_base.specs.Faults.{Rose}
 use Rattle.xa_base.specs.Entries.{entry_of}
 use Rattle.xa_base.specs.declared.texts.Name.{Name}
@@ -14,9 +14,9 @@ use Rattle.transcode_core.specs.declared.outcome.Outcome.{Outcome}
 use Rattle.transcode_core.specs.declared.outcome.Outcome.TheVariants.{Done, SchemaFault, OutOfMemory, NotYet}
 use Rattle.transcode_core.specs.FirstForm.{IsSchema, IsSchemaAs}
 use Rattle.transcode_core.specs.Order.{Pass, Found, Which, Then}
-use Rattle.schema_rules.specs.Faults.{first_fault, reasons}
-use Rattle.schema_rules.specs.declared.faults.Fault.{Fault}
-use Rattle.transcode_core.specs.Steps.{Loaded, Read, Faultless, Checked, Rooted, Declared, Schema, Input}
+use Rattle.schema_faults.specs.Faults.{first_fault, reasons}
+use Rattle.schema_faults.specs.declared.faults.Fault.{Fault}
+use Rattle.transcode_core.specs.Steps.{Loaded, Read, Faultless, Rooted, Declared, Schema, Schemas, Input}
 use Rattle.transcode_core.specs.Due.{Opened, InputValue, Due}
 use Rattle.transcode_core.specs.Causes.{IsRefusal, Deciding}
 use Rattle.transcode_core.proofs.Declared.{one_list}
@@ -91,9 +91,9 @@ one_schema (Element tag attributes declares at) items a b p q = one_list declare
 one_schema (Text text at) items a b p q = absurd p
 
 pub Rooted-single : (root : Name) (names : List (List ℕ)) → IsSingle (Rooted root names)
-Rooted-single root names (Ok x) (Ok y) p q = refl
-Rooted-single root names (Ok x) (Err o) p q = let e : true ≡ false = sym p.1 ∙ q.0 p.0 in cc
-Rooted-single root names (Err o) (Ok x) q p = let e : true ≡ false = sym p.1 ∙ q.0 p.0 in cc
+Rooted-single root names (Ok x) (Ok y) p q = ap (λ z. Ok z) (p.0 ∙ sym q.0)
+Rooted-single root names (Ok x) (Err o) p q = let e : true ≡ false = sym p.2 ∙ q.0 p.1 in cc
+Rooted-single root names (Err o) (Ok x) q p = let e : true ≡ false = sym p.2 ∙ q.0 p.1 in cc
 Rooted-single root names (Err o) (Err n) p q = ap (λ z. Err z) (p.1 ∙ sym q.1)
 
 same_fault : (found : Option Fault) (x y : Fault) → found ≡ Some x → found ≡ Some y → x ≡ y
@@ -107,17 +107,20 @@ Faultless-single k items (Err o) (Err n) (fault, found, is) (other, finds, was) 
     let same = same_fault (first_fault (reasons items)) fault other found finds in
     ap (λ z. Err z) (is ∙ (ap (λ (f : Fault). SchemaFault k f.at f.why) same ∙ sym was))
 
-Checked-single : (root : Name) (k : ℕ) (items : tree.Rose ItemLabel) → IsSingle (Checked root k items)
-Checked-single root k items =
-    Then-single _ _ (Faultless-single k items) (λ _.
-    Then-single _ _ (Which-single (IsSchema items) NotYet (one_schema (label_of items) (kids_of items))) (λ names. Rooted-single root names))
+pub Schema-single : PieceLaws → (entries : List (List ℕ × List ℕ)) (k : ℕ) (name : List ℕ) → IsSingle (Schema (Some entries) k name)
+Schema-single laws entries k name =
+    Then-single _ _ (Loaded-single entries k name) (λ bytes.
+    Then-single _ _ (Read-single laws _ bytes) (λ items.
+    Then-single _ _ (Faultless-single k items) (λ _. Pass-single items)))
 
-pub Declared-single : PieceLaws → (root : Name) (k : ℕ) (bytes : List ℕ) → IsSingle (Declared root k bytes)
-Declared-single laws root k bytes =
-    Then-single _ _ (Read-single laws _ bytes) (λ items. Checked-single root k items)
+pub Schemas-single : PieceLaws → (entries : List (List ℕ × List ℕ)) (k : ℕ) (names : List (List ℕ)) → IsSingle (Schemas (Some entries) k names)
+Schemas-single laws entries k [] = Pass-single []
+Schemas-single laws entries k (name ∷ names) =
+    Then-single _ _ (Schema-single laws entries k name) (λ items.
+    Then-single _ _ (Schemas-single laws entries (k + 1) names) (λ others. Pass-single (items ∷ others)))
 
-pub Schema-single : PieceLaws → (entries : List (List ℕ × List ℕ)) (k : ℕ) (file : List ℕ) (root : Name) → IsSingle (Schema (Some entries) k file root)
-Schema-single laws entries k file root = Then-single _ _ (Loaded-single entries k file) (λ bytes. Declared-single laws root k bytes)
+pub Declared-single : (documents : List (tree.Rose ItemLabel)) → IsSingle (Declared documents)
+Declared-single documents = Then-single _ _ (Found-single _ _) (λ items. Which-single (IsSchema items) NotYet (one_schema (label_of items) (kids_of items)))
 
 pub Input-single : (left : List ℕ) → IsSingle (Input (Some left))
 Input-single left (Ok x) (Ok y) p q = ap (λ z. Ok z) (sym p.0 ∙ q.0)
@@ -128,7 +131,8 @@ Input-single left (Err o) (Err n) p q = ap (λ z. Err z) (p.1 ∙ sym q.1)
 Opened-single : PieceLaws → (words : List (List ℕ)) (entries : List (List ℕ × List ℕ)) → IsSingle (Opened words (Some entries))
 Opened-single laws words entries =
     Then-single _ _ (Then-single _ _ (Found-single _ _) (λ request. Found-single _ _)) (λ parts.
-    Then-single _ _ (Schema-single laws entries 1 parts.1 parts.0) (λ _. Pass-single parts.0))
+    Then-single _ _ (Schemas-single laws entries 1 parts.1) (λ documents.
+    Then-single _ _ (Declared-single documents) (λ names. Rooted-single parts.0 names)))
 
 InputValue-single : PieceLaws → (root : Name) (left : List ℕ) → IsSingle (InputValue root (Some left))
 InputValue-single laws root left = Then-single _ _ (Input-single left) (λ bytes. Then-single _ _ (Read-single laws _ bytes) (λ items. Found-single _ _))

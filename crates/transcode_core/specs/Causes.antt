@@ -1,10 +1,13 @@
 -- Answers of the outside, each with its cause.
-use Rattle.std.specs.Prelude.{◌≡◌, ◌⊎◌, ℕ, suc, Bool, IsTrue, List, Option, Result, Ok, Err}
+use Rattle.std.specs.Prelude.{◌≡◌, ◌⊎◌, ℕ, suc, ◌+◌, Bool, IsTrue, List, ◌∷◌, ◌++◌, length, Option, Result, Ok, Err}
 use Rattle.xa_base.specs.Faults.{Rose}
 use Rattle.xa_base.specs.Entries.{Lacks}
 use Rattle.transcode_core.specs.declared.outcome.Outcome.{Outcome}
 use Rattle.transcode_core.specs.declared.outcome.Outcome.TheVariants.{Done, Usage, SchemaSyntax, SchemaFault, UnknownRoot, TooLong, LoadFault, ReadFault, WriteFault, OutOfMemory}
 use Rattle.xa_base.specs.declared.texts.Name.{Name}
+use Rattle.label_tree.specs.Rose as tree
+use Rattle.doc_text.specs.declared.label.ItemLabel.{ItemLabel}
+use Rattle.transcode_core.specs.Steps.{Schemas}
 use Rattle.transcode_core.specs.Due.{Requested, Opened}
 
 -- an outcome that refuses the words, a file or the input
@@ -38,14 +41,28 @@ pub record Fails (before now : ℕ) (is_sure : Bool) (entries : Option (List (Li
 abbrev pub OneLoad : ℕ → ℕ → Bool → Option (List (List ℕ × List ℕ)) → ℕ → List ℕ → Outcome → Type 0
 OneLoad before now is_sure entries k name o = (o ≡ OutOfMemory) ⊎ ((o ≡ LoadFault k) × Fails before now is_sure entries name)
 
--- the words name this file, by this number
-abbrev pub Names : List (List ℕ) → ℕ → List ℕ → Type 0
-Names words k name = (root : Name) × Requested words (Ok (root, name)) × (k ≡ 1)
+-- file k of these has this name, and those before it are schema documents
+pub record Reaches (entries : Option (List (List ℕ × List ℕ))) (names : List (List ℕ)) (k : ℕ) (name : List ℕ) : Type 0 where
+  pub before : List (List ℕ)
+  pub after : List (List ℕ)
+  pub documents : List (tree.Rose ItemLabel)
+  pub split : names ≡ before ++ name ∷ after
+  pub number : k ≡ length before + 1
+  pub sound : Schemas entries 1 before (Ok documents)
 
--- memory is missing, or the file that the words name failed to load
+-- memory is missing, or one of the files failed to load and those before it are schema documents
+abbrev pub SomeLoad : ℕ → ℕ → Bool → Option (List (List ℕ × List ℕ)) → List (List ℕ) → Outcome → Type 0
+SomeLoad before now is_sure entries names o =
+    (o ≡ OutOfMemory) ⊎ ((k : ℕ) × (name : List ℕ) × (o ≡ LoadFault k) × Reaches entries names k name × Fails before now is_sure entries name)
+
+-- the words name this file, by this number, and the order passes to its load
+abbrev pub ReachesFile : List (List ℕ) → Option (List (List ℕ × List ℕ)) → ℕ → List ℕ → Type 0
+ReachesFile words entries k name = (root : Name) × (names : List (List ℕ)) × Requested words (Ok (root, names)) × Reaches entries names k name
+
+-- memory is missing, or a file that the words name failed to load where the order comes to it
 abbrev pub Opening : ℕ → ℕ → Bool → Option (List (List ℕ × List ℕ)) → List (List ℕ) → Outcome → Type 0
 Opening before now is_sure entries words o =
-    (o ≡ OutOfMemory) ⊎ ((k : ℕ) × (name : List ℕ) × (o ≡ LoadFault k) × Names words k name × Fails before now is_sure entries name)
+    (o ≡ OutOfMemory) ⊎ ((k : ℕ) × (name : List ℕ) × (o ≡ LoadFault k) × ReachesFile words entries k name × Fails before now is_sure entries name)
 
 -- memory is missing, or the input failed
 abbrev pub OneRead : ℕ → ℕ → Outcome → Type 0
@@ -65,7 +82,7 @@ IsOfInput (TooLong (suc _)) = ⊥
 IsOfInput (LoadFault _) = ⊥
 IsOfInput o = Unit {0}
 
--- memory is missing, or the file or the input failed where the order comes to it
+-- memory is missing, or a file or the input failed where the order comes to it
 abbrev pub Deciding : ℕ → ℕ → Bool → Option (List (List ℕ × List ℕ)) → ℕ → ℕ → List (List ℕ) → Outcome → Type 0
 Deciding loads loads_now is_sure entries reads reads_now words o =
     Opening loads loads_now is_sure entries words o ⊎ ((o ≡ OutOfMemory) ⊎ ((o ≡ ReadFault) × Rose reads reads_now × ReachesInput words entries))

@@ -5,18 +5,19 @@ use Rattle.transcode_core.specs.declared.outcome.Outcome.{Outcome}
 use Rattle.transcode_core.specs.declared.outcome.Outcome.TheVariants.{Usage, NotYet}
 use Rattle.transcode_core.specs.Words.{asked}
 use Rattle.transcode_core.specs.Order.{Pass, Found, Then}
-use Rattle.transcode_core.specs.Steps.{built, Schema, Input, Valued, encoded}
+use Rattle.transcode_core.specs.Steps.{built, Schemas, Declared, Rooted, Input, Valued, encoded}
 
--- the words: the root and the file
-abbrev pub Requested : List (List ℕ) → Result (Name × List ℕ) Outcome → Type 0
+-- the words: the root and the files
+abbrev pub Requested : List (List ℕ) → Result (Name × List (List ℕ)) Outcome → Type 0
 Requested words = Then (Found (asked words) Usage) (λ request. Found (built request) NotYet)
 
--- words, file and root: the name of the root
+-- words, files and root: the name of the root
 abbrev pub Opened : List (List ℕ) → Option (List (List ℕ × List ℕ)) → Result Name Outcome → Type 0
 Opened words entries =
     Then (Requested words) (λ parts.
-    Then (Schema entries 1 parts.1 parts.0) (λ _.
-    Pass parts.0))
+    Then (Schemas entries 1 parts.1) (λ documents.
+    Then (Declared documents) (λ names.
+    Rooted parts.0 names)))
 
 -- the input and its truth value
 abbrev pub InputValue : Name → Option (List ℕ) → Result Bool Outcome → Type 0

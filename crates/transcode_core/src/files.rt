@@ -6,7 +6,7 @@ ghost use Rattle.transcode_core.specs.Causes.{Answers, NoMemory, OneLoad, OneRea
 
 use crate::outcome::Outcome;
 use doc_text::{DocError, Items, read_document};
-use schema_rules::{Fault, first_fault};
+use schema_faults::{Fault, first_fault};
 use std::alloc::Global;
 use xa_base::{Library, LoadError, ReadError, Source, Text, read_all};
 

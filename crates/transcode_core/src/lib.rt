@@ -5,6 +5,7 @@ mod files;
 mod first_form;
 mod lines;
 mod outcome;
+mod schemas;
 mod top;
 mod words;
 

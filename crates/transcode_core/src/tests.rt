@@ -149,7 +149,7 @@ fn words_that_lead_elsewhere(rt: HostRuntime) {
     let alloc = rt.alloc();
     let usage: &[u8] =
         b"usage: show FILE... | check ROOT FILE... | to-per ROOT FILE... | to-xml ROOT FILE... | trial N\n";
-    let words: [(&[&[u8]], Outcome, &[u8]); 14] = [
+    let words: [(&[&[u8]], Outcome, &[u8]); 19] = [
         (&[], Outcome::Usage, usage),
         (&[b"to-per", b"f"], Outcome::Usage, usage),
         (&[b"to-per", b"a:f", b"f.xsd"], Outcome::Usage, usage),
@@ -199,6 +199,43 @@ fn words_that_lead_elsewhere(rt: HostRuntime) {
                 why: SchemaWhy::Wildcard,
             },
             b"file 1, byte 105: schema: Wildcard\n",
+        ),
+        (
+            &[b"to-per", b"f", b"f.xsd", b"f.xsd"],
+            Outcome::NotYet,
+            b"not yet\n",
+        ),
+        (
+            &[b"to-per", b"f", b"f.xsd", b"decimal.xsd", b"broken.xsd"],
+            Outcome::SchemaFault {
+                file: 2,
+                at: 55,
+                why: SchemaWhy::Decimal,
+            },
+            b"file 2, byte 55: schema: Decimal\n",
+        ),
+        (
+            &[b"to-per", b"f", b"f.xsd", b"broken.xsd", b"decimal.xsd"],
+            Outcome::SchemaSyntax {
+                file: 2,
+                at: 4,
+                why: DocWhy::WrongEnd,
+            },
+            b"file 2, byte 4: syntax: WrongEnd\n",
+        ),
+        (
+            &[b"to-per", b"f", b"wildcard.xsd", b"g.xsd"],
+            Outcome::SchemaFault {
+                file: 1,
+                at: 105,
+                why: SchemaWhy::Wildcard,
+            },
+            b"file 1, byte 105: schema: Wildcard\n",
+        ),
+        (
+            &[b"to-per", b"g", b"f.xsd", b"f.xsd", b"g.xsd"],
+            Outcome::LoadFault { file: 3 },
+            b"file 3: load failed\n",
         ),
     ];
     for (words, outcome, complaint) in words {

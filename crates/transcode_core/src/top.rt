@@ -1,5 +1,5 @@
 //! The top call.
-ghost use Rattle.std.specs.Prelude.{◌≡◌, ◌⊎◌, ℕ, ◌≤◌, List, length, map, bytes_eq, OnOk, IfErr, Ok, Err, Some};
+ghost use Rattle.std.specs.Prelude.{◌≡◌, ◌⊎◌, ℕ, ◌≤◌, List, length, map, bytes_eq, OnOk, IfOk, IfErr, Ok, Err, Some};
 ghost use Rattle.std.specs.List.{list_any};
 ghost use Rattle.std.specs.Io.KnownBytes.{Appends, IsAtEnd};
 ghost use Rattle.xa_base.specs.Faults.{Rose};
@@ -7,16 +7,16 @@ ghost use Rattle.xa_base.specs.Bytes.{AppendsFront};
 ghost use Rattle.transcode_core.specs.Lines.{line};
 ghost use Rattle.transcode_core.specs.Requests.{root_seen, seen};
 ghost use Rattle.transcode_core.specs.Steps as steps;
-ghost use Rattle.transcode_core.specs.Steps.{Rooted, Checked, Declared, Schema, Valued, encoded};
-ghost use Rattle.transcode_core.specs.Order.{Pass, Found, Which, Then};
-ghost use Rattle.transcode_core.specs.FirstForm.{IsSchema};
+ghost use Rattle.transcode_core.specs.Steps.{Rooted, Declared, Schemas, Valued, encoded};
+ghost use Rattle.transcode_core.specs.Order.{Pass, Found, Then};
 ghost use Rattle.transcode_core.specs.Due.{Requested, Opened, InputValue, Encoding, Due};
-ghost use Rattle.transcode_core.specs.Causes.{Answers, Never, NoMemory, OneLoad, Opening, OneRead, Names, ReachesInput, IsOfInput, Deciding, Fails, IsRefusal, WritesNothing};
+ghost use Rattle.transcode_core.specs.Causes.{Answers, Never, NoMemory, SomeLoad, Opening, OneRead, ReachesFile, ReachesInput, IsOfInput, Deciding, Fails, IsRefusal, WritesNothing};
 
-use crate::files::{check_faults, load_file, read_input, read_input_items, read_schema_items};
+use crate::files::{read_input, read_input_items};
 use crate::first_form::{read_schema, read_truth};
 use crate::lines::write_line;
 use crate::outcome::Outcome;
+use crate::schemas::load_schemas;
 use crate::words::{Request, Root, read_words};
 use doc_text::Items;
 use std::alloc::Global;
@@ -34,106 +34,76 @@ fn has_name(root: &[u8], names: &[&[u8]]) -> bool
     false
 }
 
-fn check_root(root: Root<'_>, names: &[&[u8]]) -> Result<(), Outcome>
-    ensures { Answers (λ _. tt) (Rooted (root_seen root.entry) (map (λ name. name.now) names.now)) Never result }
+// The root, where it is one of the names.
+fn check_root<'a>(root: Root<'a>, names: &[&[u8]]) -> Result<Root<'a>, Outcome>
+    ensures { Answers root_seen (Rooted (root_seen root.entry) (map (λ name. name.now) names.now)) Never result }
 {
     if root.space.is_empty() && has_name(root.local, names) {
-        Ok(())
+        Ok(root)
     } else {
         Err(Outcome::UnknownRoot)
     }
 }
 
-// Whether the schema declares the root.
-fn check_names(alloc: Global, root: Root<'_>, items: &Items) -> Result<(), Outcome>
-    ensures { Answers (λ _. tt) (Then (Which (IsSchema items.now) Outcome.NotYet) (λ names. Rooted (root_seen root.entry) names)) NoMemory result }
+// The names of the global elements of what is taken so far of schema sets: one document.
+fn read_names<'a>(alloc: Global, documents: &'a [Items]) -> Result<Vec<&'a [u8]>, Outcome>
+    ensures { Answers (λ names. map (λ name. name.now) names.items) (Declared documents.now) NoMemory result }
 {
-    match read_schema(alloc, items) {
+    match documents {
+        [items] => read_schema(alloc, items),
+        _ => Err(Outcome::NotYet),
+    }
+}
+
+// The root, where the documents declare it.
+fn find_root<'a>(alloc: Global, root: Root<'a>, documents: &[Items]) -> Result<Root<'a>, Outcome>
+    ensures { Answers root_seen (Then (Declared documents.now) (λ names. Rooted (root_seen root.entry) names)) NoMemory result }
+{
+    match read_names(alloc, documents) {
         Ok(names) => check_root(root, &names),
         Err(outcome) => Err(outcome),
     }
 }
 
-// Whether the items are a schema that declares the root.
-fn check_items(alloc: Global, root: Root<'_>, file: u32, items: &Items) -> Result<(), Outcome>
-    ensures { Answers (λ _. tt) (Checked (root_seen root.entry) file items.now) NoMemory result }
-{
-    match check_faults(alloc, file, items) {
-        Ok(()) => check_names(alloc, root, items),
-        Err(outcome) => Err(outcome),
-    }
-}
-
-// Whether the schema document declares the root.
-fn check_schema(alloc: Global, root: Root<'_>, file: u32, bytes: &[u8]) -> Result<(), Outcome>
-    requires { length bytes.now ≤ 16777216 }
-    ensures { Answers (λ _. tt) (Declared (root_seen root.entry) file bytes.now) NoMemory result }
-{
-    match read_schema_items(alloc, file, bytes) {
-        Ok(items) => check_items(alloc, root, file, &items),
-        Err(outcome) => Err(outcome),
-    }
-}
-
-// Loads the schema document, and looks for the root in it.
-fn load_schema<F: Library>(
-    alloc: Global,
-    files: &mut F,
-    file: u32,
-    name: &Text,
-    root: Root<'_>,
-) -> Result<(), Outcome>
-    ensures due { Answers (λ _. tt) (Schema (F.entries files.old) file name.now (root_seen root.entry))
-        (OneLoad (F.faults files.old) (F.faults files.new) (F.is_sure files.old) (F.entries files.old) file name.now) result }
-    ensures files { (F.entries files.new ≡ F.entries files.old) × (F.is_sure files.new ≡ F.is_sure files.old) }
-    ensures later { F.faults files.old ≤ F.faults files.new }
-{
-    match load_file(alloc, files, file, name) {
-        Ok(bytes) => check_schema(alloc, root, file, &bytes),
-        Err(outcome) => Err(outcome),
-    }
-}
-
-// What is built of the commands: `to-per` with one file.
-fn built(request: Request<'_>) -> Result<(Root<'_>, &Text), Outcome>
+// What is built of the commands: `to-per`.
+fn built(request: Request<'_>) -> Result<(Root<'_>, &[Text]), Outcome>
     ensures { Answers (λ parts. (root_seen parts.0, parts.1.now)) (Found (steps.built (seen request.entry)) Outcome.NotYet) Never result }
 {
     match request {
-        Request::ToPer {
-            root,
-            files: [file],
-        } => Ok((root, file)),
+        Request::ToPer { root, files } => Ok((root, files)),
         _ => Err(Outcome::NotYet),
     }
 }
 
-// The root and the file that the words name.
-fn requested(words: &[Text]) -> Result<(Root<'_>, &Text), Outcome>
-    ensures { Answers (λ parts. (root_seen parts.0, parts.1.now)) (Requested words.now) Never result }
+// The root and the files that the words name.
+fn requested(words: &[Text]) -> Result<(Root<'_>, &[Text]), Outcome>
+    ensures due { Answers (λ parts. (root_seen parts.0, parts.1.now)) (Requested words.now) Never result }
+    ensures few { IfOk result (λ parts. length parts.1.now ≤ 64) }
 {
     let request = read_words(words)?;
     built(request)
 }
 
-// The root, where the file declares it.
-fn open_file<'a, F: Library>(
+// The root, where the files declare it.
+fn open_files<'a, F: Library>(
     alloc: Global,
     files: &mut F,
     root: Root<'a>,
-    file: &Text,
+    names: &[Text],
 ) -> Result<Root<'a>, Outcome>
-    ensures due { Answers root_seen (Then (Schema (F.entries files.old) 1 file.now (root_seen root.entry)) (λ _. Pass (root_seen root.entry)))
-        (OneLoad (F.faults files.old) (F.faults files.new) (F.is_sure files.old) (F.entries files.old) 1 file.now) result }
+    requires { length names.now ≤ 64 }
+    ensures due { Answers root_seen (Then (Schemas (F.entries files.old) 1 names.now) (λ documents. Then (Declared documents) (λ declared. Rooted (root_seen root.entry) declared)))
+        (SomeLoad (F.faults files.old) (F.faults files.new) (F.is_sure files.old) (F.entries files.old) names.now) result }
     ensures files { (F.entries files.new ≡ F.entries files.old) × (F.is_sure files.new ≡ F.is_sure files.old) }
     ensures later { F.faults files.old ≤ F.faults files.new }
 {
-    match load_schema(alloc, files, 1, file, root) {
-        Ok(()) => Ok(root),
+    match load_schemas(alloc, files, names) {
+        Ok(documents) => find_root(alloc, root, &documents),
         Err(outcome) => Err(outcome),
     }
 }
 
-// Words, file and root.
+// Words, files and root.
 fn open<'a, F: Library>(
     alloc: Global,
     words: &'a [Text],
@@ -144,7 +114,7 @@ fn open<'a, F: Library>(
     ensures later { F.faults files.old ≤ F.faults files.new }
 {
     match requested(words) {
-        Ok((root, file)) => open_file(alloc, files, root, file),
+        Ok((root, names)) => open_files(alloc, files, root, names),
         Err(outcome) => Err(outcome),
     }
 }
@@ -228,7 +198,7 @@ fn perform<F: Library, S: Source, K: Sink>(
 ) -> Outcome
     ensures refused { IsRefusal result → Due words.now (F.entries files.old) (S.left input.old) (Err result) }
     ensures done { result ≡ Outcome.Done → (bytes : List ℕ) × Due words.now (F.entries files.old) (S.left input.old) (Ok bytes) × Appends (K.written output.old) (K.written output.new) bytes }
-    ensures load { (file : ℕ) → result ≡ Outcome.LoadFault file → (name : List ℕ) × Names words.now file name
+    ensures load { (file : ℕ) → result ≡ Outcome.LoadFault file → (name : List ℕ) × ReachesFile words.now (F.entries files.old) file name
         × Fails (F.faults files.old) (F.faults files.new) (F.is_sure files.old) (F.entries files.old) name }
     ensures read { result ≡ Outcome.ReadFault → Rose (S.faults input.old) (S.faults input.new) × ReachesInput words.now (F.entries files.old) }
     ensures write { result ≡ Outcome.WriteFault → Rose (K.faults output.old) (K.faults output.new)
@@ -254,10 +224,12 @@ fn perform<F: Library, S: Source, K: Sink>(
     }
 }
 
-/// Does what the words ask for. `to-per ROOT FILE` writes the encoding of the input, a document with the element ROOT
-/// as its root, over the schema document FILE. The other commands, several files, and schemas and documents beyond
-/// elements of the type boolean are `NotYet`. The whole result is made before writing begins. Complaints receive the
-/// line of the outcome.
+/// Does what the words ask for. `to-per ROOT FILE...` loads the schema files in turn and ends at the first that can't be
+/// loaded, has over 16,777,216 bytes, or has a fault in its text or as a schema document. One file without a fault that
+/// declares elements of the type boolean alone is taken: the input, of as many bytes at most, is read as a document with
+/// the element ROOT as its root, and its encoding is written. The other commands, several files without a fault, and
+/// schemas and documents beyond that are `NotYet`. The whole result is made before writing begins. Complaints receive
+/// the line of the outcome.
 pub fn run<F: Library, S: Source, K: Sink, E: Sink, L: Ledger>(
     alloc: Global,
     words: &[Text],
@@ -272,7 +244,7 @@ pub fn run<F: Library, S: Source, K: Sink, E: Sink, L: Ledger>(
     // Done is due, with the bytes that were appended.
     ensures done { result ≡ Outcome.Done → (bytes : List ℕ) × Due words.now (F.entries files.old) (S.left input.old) (Ok bytes) × Appends (K.written output.old) (K.written output.new) bytes }
     // A fault of the outside comes only where that object's count rose, at the step that meets it.
-    ensures load { (file : ℕ) → result ≡ Outcome.LoadFault file → (name : List ℕ) × Names words.now file name
+    ensures load { (file : ℕ) → result ≡ Outcome.LoadFault file → (name : List ℕ) × ReachesFile words.now (F.entries files.old) file name
         × Fails (F.faults files.old) (F.faults files.new) (F.is_sure files.old) (F.entries files.old) name }
     ensures read { result ≡ Outcome.ReadFault → Rose (S.faults input.old) (S.faults input.new) × ReachesInput words.now (F.entries files.old) }
     ensures write { result ≡ Outcome.WriteFault → Rose (K.faults output.old) (K.faults output.new)

@@ -1,4 +1,4 @@
-use Rattle.std.proofs.Common.{◌≡◌, ◌++◌, drop, map}
+use Rattle.std.proofs.Common.{◌≡◌, ◌++◌, drop}
 use Rattle.schema_parts.specs.Seen.{uses_in}
 use Rattle.schema_rules.specs.Scopes.{bindings_in}
 use Rattle.schema_read.specs.Attributes.{uses_among}

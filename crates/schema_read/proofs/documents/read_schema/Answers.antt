@@ -1,5 +1,5 @@
 use Rattle.std.proofs.Common.{sym, ◌∙◌}
-use Rattle.schema_rules.proofs.ShownLaws.{shown, no_fault}
+use Rattle.schema_faults.proofs.ShownLaws.{shown, no_fault}
 use Rattle.schema_read.proofs.documents.read_schema.Goals as goal
 
 pub returns-in-Some-clause-refused : goal.returns-in-Some-clause-refused

@@ -1,4 +1,4 @@
-use Rattle.std.proofs.Common.{ap, sym, ◌∙◌, ◌∷◌, [], ◌++◌, arith, length}
+use Rattle.std.proofs.Common.{ap, sym, ◌∙◌}
 use Rattle.schema_parts.specs.Raw.{Named, more}
 use Rattle.schema_parts.specs.Seen.{bases_in}
 use Rattle.schema_parts.proofs.Seen.{named_base}

@@ -1,0 +1,4 @@
+pub mod Walked
+pub mod Least
+pub mod Rising
+pub mod ShownLaws

@@ -1,0 +1,5 @@
+pub mod Faults
+pub mod Limits
+pub mod Reasons
+pub mod Requirements
+pub mod Shown

@@ -1,0 +1,59 @@
+-- What an element has to have, and what it may not have at once (XML Schema Part 1, sections 3.2.3, 3.3.3, 3.4.3 and 3.14.3).
+use Rattle.std.specs.Prelude.{ℕ, Bool, false, ◌||◌, ◌&&◌, not, List, codes, Some, None}
+use Rattle.label_tree.specs.Rose.{Rose}
+use Rattle.doc_text.specs.Sound.{is_empty}
+use Rattle.doc_text.specs.declared.label.ItemLabel.{ItemLabel}
+use Rattle.schema_rules.specs.Elements.{beside}
+use Rattle.schema_rules.specs.Attributes.{has}
+use Rattle.schema_rules.specs.Children.{has_child}
+use Rattle.schema_rules.specs.declared.children.ChildSet.TheVariants.{Types, SimpleTypes, Varieties, Derivations}
+use Rattle.schema_rules.specs.declared.roles.Role.{Role}
+use Rattle.schema_rules.specs.declared.roles.Role.TheVariants.{Schema, Composition, GlobalElement, LocalElement, GlobalAttribute, LocalAttribute, GlobalSimpleType, InnerSimpleType, Restriction, List as ListRole, Union, Facet, GlobalComplexType, InnerComplexType, SimpleContent, Extension, Sequence, Choice}
+
+-- a type in place, where one by its name may stand instead
+abbrev pub has_inner_type : Role → List (Rose ItemLabel) → Bool
+has_inner_type GlobalElement kids = has_child Types kids
+has_inner_type LocalElement kids = has_child Types kids
+has_inner_type GlobalAttribute kids = has_child SimpleTypes kids
+has_inner_type LocalAttribute kids = has_child SimpleTypes kids
+has_inner_type Restriction kids = has_child SimpleTypes kids
+has_inner_type ListRole kids = has_child SimpleTypes kids
+has_inner_type role kids = false
+
+abbrev pub names_members : List (List ℕ × List ℕ) → Bool
+names_members own = elim (beside (codes "memberTypes") own) [ None ↦ false | Some value ↦ not (is_empty value) ]
+
+abbrev pub lacks_required : Role → List (List ℕ × List ℕ) → List (Rose ItemLabel) → Bool
+lacks_required GlobalElement own kids = not (has (codes "name") own)
+lacks_required LocalElement own kids = not (has (codes "name") own) && not (has (codes "ref") own)
+lacks_required GlobalAttribute own kids = not (has (codes "name") own)
+lacks_required LocalAttribute own kids = not (has (codes "name") own) && not (has (codes "ref") own)
+lacks_required GlobalSimpleType own kids = not (has (codes "name") own) || not (has_child Varieties kids)
+lacks_required InnerSimpleType own kids = not (has_child Varieties kids)
+lacks_required Restriction own kids = not (has (codes "base") own) && not (has_child SimpleTypes kids)
+lacks_required ListRole own kids = not (has (codes "itemType") own) && not (has_child SimpleTypes kids)
+lacks_required Union own kids = not (names_members own) && not (has_child SimpleTypes kids)
+lacks_required Facet own kids = not (has (codes "value") own)
+lacks_required GlobalComplexType own kids = not (has (codes "name") own)
+lacks_required SimpleContent own kids = not (has_child Derivations kids)
+lacks_required Extension own kids = not (has (codes "base") own)
+lacks_required Schema own kids = false
+lacks_required Composition own kids = false
+lacks_required InnerComplexType own kids = false
+lacks_required Sequence own kids = false
+lacks_required Choice own kids = false
+
+abbrev pub names_type : List (List ℕ × List ℕ) → Bool
+names_type own = has (codes "type") own || has (codes "base") own || has (codes "itemType") own
+
+-- what a reference takes from the declaration that it names
+abbrev pub declares : List (List ℕ × List ℕ) → Bool
+declares own = has (codes "name") own || has (codes "type") own || has (codes "nillable") own || has (codes "form") own
+
+abbrev pub has_both_forms : Role → List (List ℕ × List ℕ) → List (Rose ItemLabel) → Bool
+has_both_forms role own kids =
+    (has (codes "ref") own && (declares own || has_inner_type role kids)) || (names_type own && has_inner_type role kids)
+
+-- no type, by its name, in place or by a reference
+abbrev pub is_untyped : Role → List (List ℕ × List ℕ) → List (Rose ItemLabel) → Bool
+is_untyped role own kids = not (has (codes "ref") own) && not (has (codes "type") own) && not (has_inner_type role kids)

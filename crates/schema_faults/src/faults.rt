@@ -1,0 +1,174 @@
+//! The first fault of a schema document.
+ghost use Rattle.std.specs.Prelude.{◌≡◌, IfOk};
+ghost use Rattle.label_tree.specs.Rose.{roses_of};
+ghost use Rattle.schema_rules.specs.Scopes.{bindings_in};
+ghost use Rattle.schema_faults.specs.Faults as faults;
+
+use crate::limits::level_inside;
+use crate::reasons::{reason_against, reason_against_text};
+use doc_text::{ItemLabel, Items};
+use label_tree::Tree;
+use schema_rules::{
+    Placement, Position, Role, SchemaWhy, Scope, is_schema_name, own_attributes, placement_in,
+};
+use std::alloc::Global;
+use xa_base::{Memory, Name, Text};
+
+/// A reason and the place where it stands, in bytes from 0.
+#[derive(Clone, Copy, Debug, PartialEq, Eq)]
+pub struct Fault {
+    pub at: u64,
+    pub why: SchemaWhy,
+}
+
+fn fault_if(at: u64, found: Option<SchemaWhy>) -> Option<Fault>
+    ensures { result ≡ faults.fault_if at found }
+{
+    match found {
+        Some(why) => Some(Fault { at, why }),
+        None => None,
+    }
+}
+
+// The position of the nearest element before, behind this node.
+fn position_behind(parent: Role, before: Option<Position>, label: &ItemLabel) -> Option<Position>
+    ensures { result ≡ faults.position_behind parent before label.now }
+{
+    match label {
+        ItemLabel::Text { .. } => before,
+        ItemLabel::Element { name, .. } => match placement_in(parent, before, name) {
+            Placement::Placed(part) => Some(part.position),
+            _ => before,
+        },
+    }
+}
+
+fn is_composition(role: Role) -> bool
+    ensures { result ≡ faults.is_composition role }
+{
+    matches!(role, Role::Composition)
+}
+
+// The reason against an element that has this role, by itself.
+fn own_reason(
+    alloc: Global,
+    role: Role,
+    scope: &Scope<'_>,
+    level: u32,
+    attributes: &[(Name, Text)],
+    kids: &[Tree<ItemLabel>],
+) -> Result<Option<SchemaWhy>, Memory>
+    ensures { IfOk result (λ found. found ≡ faults.own_reason role (bindings_in scope.now) level attributes.now kids.now) }
+{
+    let own = own_attributes(alloc, attributes)?;
+    reason_against(alloc, role, scope, level, &own, kids)
+}
+
+// The first fault of an element of this role and of what stands in it.
+#[cycle(faults)]
+fn fault_of<'a>(
+    alloc: Global,
+    tree: &'a Tree<ItemLabel>,
+    role: Role,
+    scope: &'a Scope<'a>,
+    level: u32,
+) -> Result<Option<Fault>, Memory>
+    ensures { IfOk result (λ found. found ≡ faults.first_fault (faults.reasons_of role (bindings_in scope.now) level tree.now)) }
+{
+    let ItemLabel::Element {
+        attributes,
+        declares,
+        at,
+        ..
+    } = tree.label()
+    else {
+        return Ok(None);
+    };
+    let inside = Scope::Element(declares.items(), scope);
+    let found = own_reason(alloc, role, &inside, level, attributes.items(), tree.kids())?;
+    if found.is_some() {
+        return Ok(fault_if(*at, found));
+    }
+    if is_composition(role) {
+        return Ok(None);
+    }
+    fault_among(alloc, tree.kids(), role, &inside, level_inside(role, level))
+}
+
+// The first fault at a node and of what stands in it.
+#[cycle(faults)]
+fn fault_at<'a>(
+    alloc: Global,
+    tree: &'a Tree<ItemLabel>,
+    parent: Role,
+    before: Option<Position>,
+    scope: &'a Scope<'a>,
+    level: u32,
+) -> Result<Option<Fault>, Memory>
+    ensures { IfOk result (λ found. found ≡ faults.first_fault (faults.reasons_at parent before (bindings_in scope.now) level tree.now)) }
+{
+    match tree.label() {
+        ItemLabel::Text { text, at } => Ok(fault_if(*at, reason_against_text(text))),
+        ItemLabel::Element { name, at, .. } => match placement_in(parent, before, name) {
+            Placement::Skipped => Ok(None),
+            Placement::Refused(why) => Ok(fault_if(*at, Some(why))),
+            Placement::Placed(part) => fault_of(alloc, tree, part.role, scope, level),
+        },
+    }
+}
+
+// The first fault among the children of an element of this role.
+#[cycle(faults)]
+fn fault_among<'a>(
+    alloc: Global,
+    kids: &'a [Tree<ItemLabel>],
+    parent: Role,
+    scope: &'a Scope<'a>,
+    level: u32,
+) -> Result<Option<Fault>, Memory>
+    ensures { IfOk result (λ found. found ≡ faults.first_fault (faults.reasons_among parent None (bindings_in scope.now) level (roses_of kids.now))) }
+{
+    let mut before = None;
+    for kid in kids {
+        let found = fault_at(alloc, kid, parent, before, scope, level)?;
+        if found.is_some() {
+            return Ok(found);
+        }
+        before = position_behind(parent, before, kid.label());
+    }
+    Ok(None)
+}
+
+fn is_schema(label: &ItemLabel) -> bool
+    ensures { result ≡ faults.is_schema label.now }
+{
+    match label {
+        ItemLabel::Element { name, .. } => {
+            is_schema_name(name) && name.local.bytes() == b"schema".as_slice()
+        }
+        ItemLabel::Text { .. } => false,
+    }
+}
+
+fn place_of(label: &ItemLabel) -> u64
+    ensures { result ≡ faults.place_of label.now }
+{
+    match label {
+        ItemLabel::Element { at, .. } => *at,
+        ItemLabel::Text { at, .. } => *at,
+    }
+}
+
+/// The first fault of a schema document, in the order in which it is written. `None` where it is a schema.
+///
+/// The time grows with the number of items, and with the number of bindings in scope for each reference.
+pub fn first_fault(alloc: Global, items: &Items) -> Result<Option<Fault>, Memory>
+    ensures { IfOk result (λ found. found ≡ faults.first_fault (faults.reasons items.now)) }
+{
+    let root = items.tree().root();
+    if !is_schema(root.label()) {
+        return Ok(fault_if(place_of(root.label()), Some(SchemaWhy::NotASchema)));
+    }
+    let outside = Scope::Document;
+    fault_of(alloc, root, Role::Schema, &outside, 0)
+}

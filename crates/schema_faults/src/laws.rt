@@ -1,0 +1,15 @@
+//! What holds of schema documents.
+ghost use Rattle.std.specs.Prelude.{◌≡◌, ◌⊎◌, ℕ, Some, None};
+ghost use Rattle.label_tree.specs.Rose.{Rose};
+ghost use Rattle.doc_text.specs.Tokens.{tokens, Ascend};
+ghost use Rattle.doc_text.specs.declared.label.ItemLabel.{ItemLabel};
+ghost use Rattle.schema_rules.specs.declared.why.SchemaWhy.{SchemaWhy};
+ghost use Rattle.schema_faults.specs.Shown.{Shown, IsSchema};
+
+/// Items whose places ascend, as those of every document that is read, are a schema or have one first fault, and never
+/// both.
+pub fn one_answer()
+    ensures some { (root : Rose ItemLabel) (bound : ℕ) → Ascend 0 bound (tokens root) → IsSchema root ⊎ ((at : ℕ) × (why : SchemaWhy) × Shown root at why) }
+    ensures fault { (root : Rose ItemLabel) (bound a b : ℕ) (why other : SchemaWhy) → Ascend 0 bound (tokens root) → Shown root a why → Shown root b other → (a ≡ b) × (why ≡ other) }
+    ensures not_both { (root : Rose ItemLabel) (at : ℕ) (why : SchemaWhy) → IsSchema root → Shown root at why → ⊥ }
+{}

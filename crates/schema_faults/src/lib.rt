@@ -1,0 +1,18 @@
+//! The first fault of a schema document: the reasons against its elements, in the order in which they are written.
+#![tactic(auto)]
+
+mod faults;
+mod laws;
+mod limits;
+mod reasons;
+mod requirements;
+
+pub use faults::{Fault, first_fault};
+pub use laws::one_answer;
+
+#[cfg(test)]
+mod attribute_tests;
+#[cfg(test)]
+mod limit_tests;
+#[cfg(test)]
+mod tests;

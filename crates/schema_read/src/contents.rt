@@ -1,0 +1,278 @@
+//! What may stand in an element of a complex type.
+ghost use Rattle.std.specs.Prelude.{◌≡◌, IfOk, option_map};
+ghost use Rattle.label_tree.specs.Rose.{label_of, kids_of};
+ghost use Rattle.schema_faults.specs.Reasons.{is_true};
+ghost use Rattle.schema_rules.specs.Scopes.{bindings_in};
+ghost use Rattle.schema_parts.specs.Seen.{complex_of};
+ghost use Rattle.schema_read.specs.Settings.{said};
+ghost use Rattle.schema_read.specs.Contents as contents;
+
+use crate::declarations::{Setting, uses_among};
+use crate::names::{no_name, type_ref};
+use content_models::{ParticleKind, ParticleLabel};
+use doc_text::ItemLabel;
+use label_tree::{Tree, Whole};
+use schema_parts::{RawComplex, RawContent, RawRef, RawUses};
+use schema_rules::{ChildSet, Scope, is_in, is_schema_name, own_attributes, truth_of, value_of};
+use std::alloc::Global;
+use xa_base::{Memory, Text};
+
+/// Whether the attribute of this name stands there and says `true` or `1`.
+pub(crate) fn is_true(name: &str, own: &[(Text, Text)]) -> bool
+    ensures { result ≡ is_true name.now own.now }
+{
+    match value_of(name, own) {
+        Some(value) => truth_of(value.as_str()).unwrap_or(false),
+        None => false,
+    }
+}
+
+/// Whether this is an element of the schema namespace with this name.
+pub(crate) fn is_named(local: &str, label: &ItemLabel) -> bool
+    ensures { result ≡ contents.is_named local.now label.now }
+{
+    match label {
+        ItemLabel::Element { name, .. } => is_schema_name(name) && name.local.as_str() == local,
+        ItemLabel::Text { .. } => false,
+    }
+}
+
+fn extension_base(alloc: Global, scope: &Scope<'_>, own: &[(Text, Text)]) -> Result<RawRef, Memory>
+    ensures { IfOk result (λ base. base ≡ contents.extension_base (bindings_in scope.now) own.now) }
+{
+    match value_of("base", own) {
+        Some(value) => type_ref(alloc, scope, value.as_str()),
+        None => Ok(RawRef::Other(no_name(alloc))),
+    }
+}
+
+// The simple content of a complex type by its extension, with its attributes.
+fn extended<'a>(
+    alloc: Global,
+    setting: Setting<'_>,
+    tree: &'a Tree<ItemLabel>,
+    scope: &'a Scope<'a>,
+) -> Result<Option<(RawContent, RawUses)>, Memory>
+    ensures { IfOk result (λ found. option_map contents.content_seen found ≡ contents.extended (said setting.entry) (bindings_in scope.now) (label_of tree.now) (kids_of tree.now)) }
+{
+    let ItemLabel::Element {
+        attributes,
+        declares,
+        at,
+        ..
+    } = tree.label()
+    else {
+        return Ok(None);
+    };
+    if !is_named("extension", tree.label()) {
+        return Ok(None);
+    }
+    let inside = Scope::Element(declares.items(), scope);
+    let own = own_attributes(alloc, attributes.items())?;
+    let base = extension_base(alloc, &inside, &own)?;
+    let uses = uses_among(alloc, setting, tree.kids(), &inside)?;
+    Ok(Some((RawContent::Simple { base, at: *at }, uses)))
+}
+
+fn extended_among<'a>(
+    alloc: Global,
+    setting: Setting<'_>,
+    kids: &'a [Tree<ItemLabel>],
+    scope: &'a Scope<'a>,
+) -> Result<Option<(RawContent, RawUses)>, Memory>
+    ensures { IfOk result (λ found. option_map contents.content_seen found ≡ contents.extended_among (said setting.entry) (bindings_in scope.now) kids.now) }
+{
+    for kid in kids {
+        let found = extended(alloc, setting, kid, scope)?;
+        if found.is_some() {
+            return Ok(found);
+        }
+    }
+    Ok(None)
+}
+
+fn simple_content_at<'a>(
+    alloc: Global,
+    setting: Setting<'_>,
+    tree: &'a Tree<ItemLabel>,
+    scope: &'a Scope<'a>,
+) -> Result<Option<(RawContent, RawUses)>, Memory>
+    ensures { IfOk result (λ found. option_map contents.content_seen found ≡ contents.simple_content_at (said setting.entry) (bindings_in scope.now) (label_of tree.now) (kids_of tree.now)) }
+{
+    let ItemLabel::Element { declares, .. } = tree.label() else {
+        return Ok(None);
+    };
+    if !is_named("simpleContent", tree.label()) {
+        return Ok(None);
+    }
+    let inside = Scope::Element(declares.items(), scope);
+    extended_among(alloc, setting, tree.kids(), &inside)
+}
+
+/// The simple content among the children of a complex type, with its attributes.
+pub(crate) fn simple_content<'a>(
+    alloc: Global,
+    setting: Setting<'_>,
+    kids: &'a [Tree<ItemLabel>],
+    scope: &'a Scope<'a>,
+) -> Result<Option<(RawContent, RawUses)>, Memory>
+    ensures { IfOk result (λ found. option_map contents.content_seen found ≡ contents.simple_content (said setting.entry) (bindings_in scope.now) kids.now) }
+{
+    for kid in kids {
+        let found = simple_content_at(alloc, setting, kid, scope)?;
+        if found.is_some() {
+            return Ok(found);
+        }
+    }
+    Ok(None)
+}
+
+// A sequence of nothing, which stands where a mixed type has no group.
+fn nothing(alloc: Global, file: u32, at: u64) -> Tree<ParticleLabel>
+    ensures { result ≡ contents.nothing file at }
+{
+    Tree::leaf(
+        alloc,
+        ParticleLabel {
+            kind: ParticleKind::Sequence,
+            min: 1,
+            max: Some(1),
+            file,
+            at,
+        },
+    )
+}
+
+fn is_nothing(group: &Tree<ParticleLabel>) -> bool
+    ensures { result ≡ contents.is_nothing group.now }
+{
+    match group.label().kind {
+        ParticleKind::Sequence => group.kids().is_empty(),
+        _ => false,
+    }
+}
+
+// A choice of nothing is a fault of the document, so that each group can be sealed.
+fn model_of(mixed: bool, group: Tree<ParticleLabel>) -> Result<RawContent, Memory>
+    ensures { IfOk result (λ content. content ≡ contents.model_of mixed group) }
+{
+    let Ok(whole) = Whole::seal(group) else {
+        return Err(Memory);
+    };
+    if mixed {
+        Ok(RawContent::Mixed(whole))
+    } else {
+        Ok(RawContent::ElementOnly(whole))
+    }
+}
+
+fn content_of_nothing(alloc: Global, file: u32, mixed: bool, at: u64) -> Result<RawContent, Memory>
+    ensures { IfOk result (λ content. content ≡ contents.content_of_nothing file mixed at) }
+{
+    if mixed {
+        model_of(true, nothing(alloc, file, at))
+    } else {
+        Ok(RawContent::Empty)
+    }
+}
+
+fn content_by(
+    alloc: Global,
+    file: u32,
+    mixed: bool,
+    empty_at: u64,
+    group: Tree<ParticleLabel>,
+) -> Result<RawContent, Memory>
+    ensures { IfOk result (λ content. content ≡ contents.content_by file mixed empty_at group) }
+{
+    if is_nothing(&group) {
+        content_of_nothing(alloc, file, mixed, empty_at)
+    } else {
+        model_of(mixed, group)
+    }
+}
+
+// The content of a type, where it isn't simple, by its group.
+fn content_of(
+    alloc: Global,
+    file: u32,
+    mixed: bool,
+    empty_at: u64,
+    group: Option<Tree<ParticleLabel>>,
+) -> Result<RawContent, Memory>
+    ensures { IfOk result (λ content. content ≡ contents.content_of file mixed empty_at group) }
+{
+    match group {
+        Some(tree) => content_by(alloc, file, mixed, empty_at, tree),
+        None => content_of_nothing(alloc, file, mixed, empty_at),
+    }
+}
+
+fn particle_place(label: &ItemLabel) -> Option<u64>
+    ensures { result ≡ contents.particle_place label.now }
+{
+    match label {
+        ItemLabel::Element { at, .. } => {
+            if is_in(ChildSet::Particles, label) {
+                Some(*at)
+            } else {
+                None
+            }
+        }
+        ItemLabel::Text { .. } => None,
+    }
+}
+
+// The place of the first group among these.
+fn group_place(kids: &[Tree<ItemLabel>]) -> Option<u64>
+    ensures { result ≡ contents.group_place kids.now }
+{
+    for kid in kids {
+        let found = particle_place(kid.label());
+        if found.is_some() {
+            return found;
+        }
+    }
+    None
+}
+
+// The place of a content of nothing. All places are far below the greatest number of 64 bits.
+fn empty_place(at: u64, kids: &[Tree<ItemLabel>]) -> Result<u64, Memory>
+    ensures { IfOk result (λ place. place ≡ contents.empty_place at kids.now) }
+{
+    match group_place(kids) {
+        Some(place) => Ok(place),
+        None => {
+            if at == u64::MAX {
+                return Err(Memory);
+            }
+            Ok(at + 1)
+        }
+    }
+}
+
+/// A complex type at this place with this content and these attributes.
+pub(crate) fn complex_with(at: u64, found: (RawContent, RawUses)) -> RawComplex
+    ensures { complex_of result ≡ contents.complex_with at (contents.content_seen found) }
+{
+    let (content, uses) = found;
+    RawComplex { at, uses, content }
+}
+
+/// A complex type whose content is by the group, if there is one.
+pub(crate) fn complex_by<'a>(
+    alloc: Global,
+    setting: Setting<'_>,
+    at: u64,
+    mixed: bool,
+    kids: &'a [Tree<ItemLabel>],
+    scope: &'a Scope<'a>,
+    group: Option<Tree<ParticleLabel>>,
+) -> Result<RawComplex, Memory>
+    ensures { IfOk result (λ body. complex_of body ≡ contents.complex_by (said setting.entry) at mixed (bindings_in scope.now) kids.now group) }
+{
+    let uses = uses_among(alloc, setting, kids, scope)?;
+    let empty_at = empty_place(at, kids)?;
+    let content = content_of(alloc, setting.file, mixed, empty_at, group)?;
+    Ok(RawComplex { at, uses, content })
+}

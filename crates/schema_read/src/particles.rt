@@ -1,0 +1,118 @@
+//! Elements and particles by their parts.
+ghost use Rattle.std.specs.Prelude.{◌≡◌, ◌<◌, ◌++◌, List, IfOk, OnOk, map, set, length};
+ghost use Rattle.label_tree.specs.Rose.{Rose};
+ghost use Rattle.content_models.specs.declared.particles.ParticleLabel.{ParticleLabel as Label};
+ghost use Rattle.schema_parts.specs.Raw.{Own};
+ghost use Rattle.schema_parts.specs.Seen.{element_of, kind_of, local_of};
+ghost use Rattle.schema_rules.specs.Scopes.{bindings_in};
+ghost use Rattle.schema_read.specs.Settings.{said};
+ghost use Rattle.schema_read.specs.Particles as parts;
+
+use crate::contents::is_true;
+use crate::declarations::{Setting, local_name};
+use crate::names::referred;
+use content_models::{ParticleKind, ParticleLabel};
+use label_tree::Tree;
+use schema_parts::{RawElement, RawKind, RawLocal};
+use schema_rules::{Scope, least_of, most_of, value_of};
+use std::alloc::Global;
+use xa_base::{Memory, Name, Text};
+
+/// The name of the element that a local declaration declares or refers to.
+pub(crate) fn element_name(
+    alloc: Global,
+    setting: Setting<'_>,
+    scope: &Scope<'_>,
+    own: &[(Text, Text)],
+) -> Result<Name, Memory>
+    ensures { IfOk result (λ name. name ≡ parts.element_name (said setting.entry) (bindings_in scope.now) own.now) }
+{
+    match value_of("ref", own) {
+        Some(reference) => referred(alloc, scope, reference.as_str()),
+        None => local_name(alloc, setting.target, setting.elements_qualified, own),
+    }
+}
+
+/// The element of this name and this type.
+pub(crate) fn element_with(name: Name, own: &[(Text, Text)], at: u64, kind: RawKind) -> RawElement
+    ensures { element_of result ≡ parts.element_with name own.now at (kind_of kind) }
+{
+    RawElement {
+        name,
+        nillable: is_true("nillable", own),
+        kind,
+        at,
+    }
+}
+
+fn compositor(name: &str) -> ParticleKind
+    ensures { result ≡ parts.compositor name.now }
+{
+    if name == "choice" {
+        ParticleKind::Choice
+    } else {
+        ParticleKind::Sequence
+    }
+}
+
+/// The particle of a group with these particles in it.
+pub(crate) fn group_of(
+    file: u32,
+    at: u64,
+    name: &str,
+    own: &[(Text, Text)],
+    kids: Vec<Tree<ParticleLabel>>,
+) -> Tree<ParticleLabel>
+    ensures { result ≡ parts.group_of file at name.now own.now kids.items }
+{
+    let label = ParticleLabel {
+        kind: compositor(name),
+        min: least_of(own),
+        max: most_of(own),
+        file,
+        at,
+    };
+    Tree::join(label, kids)
+}
+
+/// The particle of an element.
+pub(crate) fn leaf_of(
+    alloc: Global,
+    file: u32,
+    at: u64,
+    decl: u32,
+    name: Name,
+    own: &[(Text, Text)],
+) -> Tree<ParticleLabel>
+    ensures { result ≡ parts.leaf_of file at decl name own.now }
+{
+    let label = ParticleLabel {
+        kind: ParticleKind::Element { decl, name },
+        min: least_of(own),
+        max: most_of(own),
+        file,
+        at,
+    };
+    Tree::leaf(alloc, label)
+}
+
+/// Adds the particle, if there is one.
+pub(crate) fn push_particle(
+    particles: &mut Vec<Tree<ParticleLabel>>,
+    found: Option<Tree<ParticleLabel>>,
+) -> Result<(), Memory>
+    ensures { OnOk result ((rest : List (Rose Label)) → particles.new.items ++ rest ≡ particles.old.items ++ parts.and_some found rest) }
+{
+    if let Some(particle) = found {
+        particles.push(particle)?;
+    }
+    Ok(())
+}
+
+/// Puts an element in the place of the local declaration with this number.
+pub(crate) fn put_own(locals: &mut Vec<RawLocal>, number: usize, element: RawElement)
+    requires { number < length locals.old.items }
+    ensures { map local_of locals.new.items ≡ set (map local_of locals.old.items) number (Own (element_of element)) }
+{
+    locals[number] = RawLocal::Own(element);
+}
