@@ -1,10 +1,10 @@
 -- The first of several faults.
-use Rattle.std.proofs.Common.{◌≡◌, ◌<◌, arith, Bool, true, false, ◌⊎◌, inl, inr, List, [], ◌∷◌, ◌++◌, Option, Some, None, refl, sym, ◌∙◌}
+use Rattle.std.proofs.Common.{◌≡◌, ◌<◌, ◌≤◌, append-nil, subst, arith, Bool, true, false, ◌⊎◌, inl, inr, List, [], ◌∷◌, ◌++◌, Option, Some, None, refl, sym, ◌∙◌}
 use Rattle.std.specs.Prelude.{◌&&◌, ◌||◌, not, nat_eq, nat_lt, cond}
-use Rattle.std.proofs.lemmas.Bool.{ltb-true, lt-ltb, eqb-true, eq-eqb, cases_order, or_cases, and_parts, and_from, cases_Bool, true≢false}
+use Rattle.std.proofs.lemmas.Bool.{ltb-true, lt-ltb, eqb-true, eq-eqb, cases_order, cases_lt, or_cases, and_parts, and_from, cases_Bool, true≢false}
 use Rattle.schema_names.specs.declared.places.Place.{Place}
 use Rattle.schema_names.specs.declared.faults.Fault.{Fault}
-use Rattle.schema_names.specs.Order.{is_before, rank_of, precedes, Has, NonePrecedes, IsFirst, IsFirstOf, earlier}
+use Rattle.schema_names.specs.Order.{is_before, rank_of, precedes, Has, NonePrecedes, IsFirst, IsFirstOf, IsFirstSuch, OneHas, earlier, first_of}
 
 -- by files, places and reasons
 abbrev pub Earlier : Fault → Fault → Type 0
@@ -144,3 +144,100 @@ one_more fs (Some f) g first =
 -- the only one
 pub the_one : (g : Fault) → IsFirst (g ∷ []) g
 the_one g = (inl refl, (precedes_itself g, tt))
+
+pub not_earlier : (f g : Fault) → (Earlier f g → ⊥) → precedes f g ≡ false
+not_earlier f g n = elim (cases_Bool (precedes f g)) [ inl e ↦ absurd (n (earlier_true f g e)) | inr e ↦ e ]
+
+-- what doesn't precede g, which doesn't precede f, doesn't precede f
+behind_both : (f g h : Fault) → (Earlier g f → ⊥) → Earlier h f → Earlier h g
+behind_both f g h n e =
+    elim (cases_order f.place.file g.place.file) [
+      | inl same ↦ elim (cases_order f.place.at g.place.at) [
+        | inl there ↦ elim (cases_lt (rank_of g.why) (rank_of f.why)) [
+          | inl lt ↦ absurd (n (inr (inr (sym same, sym there, lt))))
+          | inr le ↦ at_place f g h same there le e
+        ]
+        | inr apart ↦ elim apart [ inl lt ↦ in_file f g h same lt e | inr gt ↦ absurd (n (inr (inl (sym same, gt)))) ]
+      ]
+      | inr apart ↦ elim apart [ inl lt ↦ before_file f g h lt e | inr gt ↦ absurd (n (inl gt)) ]
+    ]
+  where
+    before_file : (f g h : Fault) → f.place.file < g.place.file → Earlier h f → Earlier h g
+    before_file f g h lt (inl a) = inl (omega (arith, a, lt))
+    before_file f g h lt (inr (inl b)) = let s = b.0 in inl (omega (arith, s, lt))
+    before_file f g h lt (inr (inr b)) = let s = b.0 in inl (omega (arith, s, lt))
+
+    in_file : (f g h : Fault) → f.place.file ≡ g.place.file → f.place.at < g.place.at → Earlier h f → Earlier h g
+    in_file f g h same lt (inl a) = inl (omega (arith, a, same))
+    in_file f g h same lt (inr (inl b)) = let t = b.1 in inr (inl (b.0 ∙ same, omega (arith, t, lt)))
+    in_file f g h same lt (inr (inr b)) = let t = b.1 in inr (inl (b.0 ∙ same, omega (arith, t, lt)))
+
+    at_place : (f g h : Fault) → f.place.file ≡ g.place.file → f.place.at ≡ g.place.at → rank_of f.why ≤ rank_of g.why → Earlier h f → Earlier h g
+    at_place f g h same there le (inl a) = inl (omega (arith, a, same))
+    at_place f g h same there le (inr (inl b)) = let t = b.1 in inr (inl (b.0 ∙ same, omega (arith, t, there)))
+    at_place f g h same there le (inr (inr b)) = let t = b.2 in inr (inr (b.0 ∙ same, b.1 ∙ there, omega (arith, t, le)))
+
+pub kept_behind : (f g h : Fault) → precedes g f ≡ false → precedes h g ≡ false → precedes h f ≡ false
+kept_behind f g h n m =
+    not_earlier h f (λ e. true≢false (sym (true_earlier h g (behind_both f g h (λ a. true≢false (sym (true_earlier g f a) ∙ n)) e)) ∙ m))
+
+all_behind : (hs : List Fault) (f g : Fault) → precedes g f ≡ false → NonePrecedes hs g → NonePrecedes hs f
+all_behind [] f g n m = tt
+all_behind (h ∷ hs) f g n m = (kept_behind f g h n m.0, all_behind hs f g n m.1)
+
+-- the first of two lists
+pub first_joined : (fs gs : List Fault) (o p : Option Fault) → IsFirstOf fs o → IsFirstOf gs p → IsFirstOf (fs ++ gs) (first_of o p)
+first_joined fs gs o None a b = subst (λ xs. IsFirstOf (fs ++ xs) o) (sym b) (subst (λ xs. IsFirstOf xs o) (sym (append-nil fs)) a)
+first_joined fs gs None (Some g) a b = subst (λ xs. IsFirstOf (xs ++ gs) (Some g)) (sym a) b
+first_joined fs gs (Some f) (Some g) a b =
+    let P : Option Fault → Type 0 = λ o. IsFirstOf (fs ++ gs) o in
+    elim (cases_Bool (precedes g f)) [
+      | inl e ↦ choose_true f g (precedes g f) P e (has_right fs gs g b.0, none_joined fs gs g (all_passed_on fs f g e a.1) b.1)
+      | inr e ↦ choose_false f g (precedes g f) P e (has_left fs gs f a.0, none_joined fs gs f a.1 (all_behind gs f g e b.1))
+    ]
+
+-- the first of a list is the first of those that it has
+none_of : (fs : List Fault) (f g : Fault) → NonePrecedes fs f → Has fs g → precedes g f ≡ false
+none_of [] f g n h = absurd h
+none_of (x ∷ fs) f g n (inl e) = subst (λ y. precedes y f ≡ false) e n.0
+none_of (x ∷ fs) f g n (inr h) = none_of fs f g n.1 h
+
+pub first_such : (fs : List Fault) (o : Option Fault) → IsFirstOf fs o → IsFirstSuch (Has fs) o
+first_such fs None e = λ f h. subst (λ xs. Has xs f) e h
+first_such fs (Some f) a = (a.0, λ g h. none_of fs f g a.1 h)
+
+-- the first of two kinds
+pub such_joined : (P Q R : Fault → Type 0) → ((f : Fault) → R f → P f ⊎ Q f) → ((f : Fault) → P f → R f) → ((f : Fault) → Q f → R f)
+    → (o p : Option Fault) → IsFirstSuch P o → IsFirstSuch Q p → IsFirstSuch R (first_of o p)
+such_joined P Q R parts left right None None a b = λ f r. elim (parts f r) [ inl x ↦ a f x | inr y ↦ b f y ]
+such_joined P Q R parts left right (Some f) None a b =
+    (left f a.0, λ g r. elim (parts g r) [ inl x ↦ a.1 g x | inr y ↦ absurd (b g y) ])
+such_joined P Q R parts left right None (Some g) a b =
+    (right g b.0, λ h r. elim (parts h r) [ inl x ↦ absurd (a h x) | inr y ↦ b.1 h y ])
+such_joined P Q R parts left right (Some f) (Some g) a b =
+    let S : Option Fault → Type 0 = λ o. IsFirstSuch R o in
+    elim (cases_Bool (precedes g f)) [
+      | inl e ↦ choose_true f g (precedes g f) S e (right g b.0, λ h r. elim (parts h r) [ inl x ↦ passed_on f g h e (a.1 h x) | inr y ↦ b.1 h y ])
+      | inr e ↦ choose_false f g (precedes g f) S e (left f a.0, λ h r. elim (parts h r) [ inl x ↦ a.1 h x | inr y ↦ kept_behind f g h e (b.1 h y) ])
+    ]
+
+-- one of these has it, or the last
+pub has_last : {A : Type 0} (has : A → Fault → Type 0) (xs : List A) (x : A) (f : Fault) → OneHas has (xs ++ x ∷ []) f → OneHas has xs f ⊎ has x f
+has_last has [] x f (inl h) = inr h
+has_last has [] x f (inr h) = absurd h
+has_last has (y ∷ xs) x f (inl h) = inl (inl h)
+has_last has (y ∷ xs) x f (inr h) = elim (has_last has xs x f h) [ inl k ↦ inl (inr k) | inr k ↦ inr k ]
+
+pub of_front : {A : Type 0} (has : A → Fault → Type 0) (xs : List A) (x : A) (f : Fault) → OneHas has xs f → OneHas has (xs ++ x ∷ []) f
+of_front has [] x f h = absurd h
+of_front has (y ∷ xs) x f (inl h) = inl h
+of_front has (y ∷ xs) x f (inr h) = inr (of_front has xs x f h)
+
+pub of_last : {A : Type 0} (has : A → Fault → Type 0) (xs : List A) (x : A) (f : Fault) → has x f → OneHas has (xs ++ x ∷ []) f
+of_last has [] x f h = inl h
+of_last has (y ∷ xs) x f h = inr (of_last has xs x f h)
+
+pub one_more_has : {A : Type 0} (has : A → Fault → Type 0) (xs : List A) (x : A) (o p : Option Fault)
+    → IsFirstSuch (OneHas has xs) o → IsFirstSuch (has x) p → IsFirstSuch (OneHas has (xs ++ x ∷ [])) (first_of o p)
+one_more_has has xs x o p a b =
+    such_joined (OneHas has xs) (has x) (OneHas has (xs ++ x ∷ [])) (has_last has xs x) (of_front has xs x) (of_last has xs x) o p a b

@@ -1,10 +1,10 @@
 -- How many parts a simple type is made of.
-use Rattle.std.proofs.Common.{◌≡◌, ℕ, suc, ◌+◌, ◌<◌, ◌≤◌, arith, List, [], ◌∷◌, ◌++◌, length, take, drop, get_or, refl, sym, ap, ◌∙◌, append_assoc, append-nil, zero}
+use Rattle.std.proofs.Common.{◌≡◌, ℕ, suc, ◌+◌, ◌<◌, ◌≤◌, arith, List, [], ◌∷◌, ◌++◌, length, take, get_or, refl, sym, ap, ◌∙◌, append_assoc, append-nil, zero}
 use Rattle.std.proofs.lemmas.List.{take_more}
 use Rattle.schema_parts.specs.Raw.{Base, Named, Inner, Bases, none, more, How, Restrict, ListOf, UnionOf}
 use Rattle.schema_parts.specs.Seen.{base_of, bases_in}
 use Rattle.schema_parts.specs.declared.simple_definitions.RawBase.{RawBase}
-use Rattle.schema_names.specs.References.{Mention, of_base, of_bases}
+use Rattle.schema_names.specs.References.{of_base, of_bases}
 
 abbrev mutual
   pub base_parts : Base → ℕ

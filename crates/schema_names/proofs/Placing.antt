@@ -17,10 +17,10 @@ use Rattle.xa_base.specs.declared.texts.Name.{Name}
 use Rattle.xa_base.specs.Names.{name_eq, name_cmp}
 use Rattle.xa_base.proofs.NameLaws.{name_eq-Decides, name_cmp_total, exact_names}
 use Rattle.schema_names.specs.declared.places.Place.{Place}
-use Rattle.schema_names.specs.declared.global_names.GlobalName.{GlobalName}
+use Rattle.schema_names.specs.declared.global_names.NamedPart.{NamedPart}
 use Rattle.schema_names.specs.Order.{is_before, fault, IsFirstOf, earlier}
 use Rattle.schema_names.specs.declared.faults.Fault.{Fault}
-use Rattle.schema_names.specs.declared.faults.LinkWhy.TheVariants.{Duplicate}
+use Rattle.schema_names.specs.declared.faults.LinkWhy.{LinkWhy}
 use Rattle.schema_names.specs.Globals.{GlobalComponent, is_repeated}
 use Rattle.schema_names.specs.Seen.{globals_of, global_of}
 use Rattle.schema_names.specs.Tables.{place_in, lesser, stands_before, first_place}
@@ -57,7 +57,7 @@ by_name : (b : Bool) (p : Place) (old : Option Place) (q : Place) (rest : Option
 by_name true p old q rest e s = ap Some (e refl)
 by_name false p old q rest e s = s
 
-pub one_place : (gs : List GlobalName) (i : ℕ) (g : GlobalName) (old new : BTreeMap (Bor Name) Place) (p : Place)
+pub one_place : (gs : List NamedPart) (i : ℕ) (g : NamedPart) (old new : BTreeMap (Bor Name) Place) (p : Place)
     → 0 < i → i ≤ length gs → g ≡ get_or gs (i - 1) g
     → p ≡ lesser g.place (place_in old g.name.now)
     → ((a : Name) → place_in old a ≡ first_place (globals_of (drop i gs)) a)
@@ -113,36 +113,36 @@ repeats_by_first (g ∷ gs) a p =
       | inr e ↦ rw e (repeats_by_first gs a p)
     ]
 
-module _ (all : List GlobalComponent) (gs : List GlobalName) (i : ℕ) (g : GlobalName) (below : i < length gs) (here : g ≡ get_or gs i g) where
+module _ (why : LinkWhy) (all : List GlobalComponent) (gs : List NamedPart) (i : ℕ) (g : NamedPart) (below : i < length gs) (here : g ≡ get_or gs i g) where
   taken : globals_of (take (i + 1) gs) ≡ globals_of (take i gs) ++ global_of g ∷ []
   taken = map_more global_of gs i g below ∙ ap (λ x. globals_of (take i gs) ++ global_of x ∷ []) (sym here)
 
   kept : filter (is_repeated all) (globals_of (take (i + 1) gs)) ≡ filter (is_repeated all) (globals_of (take i gs)) ++ filter (is_repeated all) (global_of g ∷ [])
   kept = ap (filter (is_repeated all)) taken ∙ filter-append (is_repeated all) (globals_of (take i gs)) (global_of g ∷ [])
 
-  told : map (λ h. fault Duplicate h.place) (filter (is_repeated all) (globals_of (take (i + 1) gs)))
-      ≡ map (λ h. fault Duplicate h.place) (filter (is_repeated all) (globals_of (take i gs))) ++ map (λ h. fault Duplicate h.place) (filter (is_repeated all) (global_of g ∷ []))
-  told = ap (map (λ h. fault Duplicate h.place)) kept ∙ map-append (λ h. fault Duplicate h.place) (filter (is_repeated all) (globals_of (take i gs))) (filter (is_repeated all) (global_of g ∷ []))
+  told : map (λ h. fault why h.place) (filter (is_repeated all) (globals_of (take (i + 1) gs)))
+      ≡ map (λ h. fault why h.place) (filter (is_repeated all) (globals_of (take i gs))) ++ map (λ h. fault why h.place) (filter (is_repeated all) (global_of g ∷ []))
+  told = ap (map (λ h. fault why h.place)) kept ∙ map-append (λ h. fault why h.place) (filter (is_repeated all) (globals_of (take i gs))) (filter (is_repeated all) (global_of g ∷ []))
 
   -- a component that an earlier one has the name of
   pub with_fault : (fs : List Fault) (first : Option Fault) → is_repeated all (global_of g) ≡ true
-      → IsFirstOf (fs ++ map (λ h. fault Duplicate h.place) (filter (is_repeated all) (globals_of (take i gs)))) first
-      → IsFirstOf (fs ++ map (λ h. fault Duplicate h.place) (filter (is_repeated all) (globals_of (take (i + 1) gs)))) (earlier first (fault Duplicate g.place))
+      → IsFirstOf (fs ++ map (λ h. fault why h.place) (filter (is_repeated all) (globals_of (take i gs)))) first
+      → IsFirstOf (fs ++ map (λ h. fault why h.place) (filter (is_repeated all) (globals_of (take (i + 1) gs)))) (earlier first (fault why g.place))
   with_fault fs first e so_far =
       let one : filter (is_repeated all) (global_of g ∷ []) ≡ global_of g ∷ [] = rw e refl in
-      let longer : fs ++ map (λ h. fault Duplicate h.place) (filter (is_repeated all) (globals_of (take (i + 1) gs)))
-      ≡ (fs ++ map (λ h. fault Duplicate h.place) (filter (is_repeated all) (globals_of (take i gs)))) ++ fault Duplicate g.place ∷ [] =
-      ap (λ xs. fs ++ xs) (told ∙ ap (λ xs. map (λ h. fault Duplicate h.place) (filter (is_repeated all) (globals_of (take i gs))) ++ map (λ h. fault Duplicate h.place) xs) one)
-      ∙ sym (append_assoc fs (map (λ h. fault Duplicate h.place) (filter (is_repeated all) (globals_of (take i gs)))) (fault Duplicate g.place ∷ [])) in
-      rw longer (one_more (fs ++ map (λ h. fault Duplicate h.place) (filter (is_repeated all) (globals_of (take i gs)))) first (fault Duplicate g.place) so_far)
+      let longer : fs ++ map (λ h. fault why h.place) (filter (is_repeated all) (globals_of (take (i + 1) gs)))
+      ≡ (fs ++ map (λ h. fault why h.place) (filter (is_repeated all) (globals_of (take i gs)))) ++ fault why g.place ∷ [] =
+      ap (λ xs. fs ++ xs) (told ∙ ap (λ xs. map (λ h. fault why h.place) (filter (is_repeated all) (globals_of (take i gs))) ++ map (λ h. fault why h.place) xs) one)
+      ∙ sym (append_assoc fs (map (λ h. fault why h.place) (filter (is_repeated all) (globals_of (take i gs)))) (fault why g.place ∷ [])) in
+      rw longer (one_more (fs ++ map (λ h. fault why h.place) (filter (is_repeated all) (globals_of (take i gs)))) first (fault why g.place) so_far)
 
   pub without_fault : (fs : List Fault) (first : Option Fault) → is_repeated all (global_of g) ≡ false
-      → IsFirstOf (fs ++ map (λ h. fault Duplicate h.place) (filter (is_repeated all) (globals_of (take i gs)))) first
-      → IsFirstOf (fs ++ map (λ h. fault Duplicate h.place) (filter (is_repeated all) (globals_of (take (i + 1) gs)))) first
+      → IsFirstOf (fs ++ map (λ h. fault why h.place) (filter (is_repeated all) (globals_of (take i gs)))) first
+      → IsFirstOf (fs ++ map (λ h. fault why h.place) (filter (is_repeated all) (globals_of (take (i + 1) gs)))) first
   without_fault fs first e so_far =
       let none : filter (is_repeated all) (global_of g ∷ []) ≡ [] = rw e refl in
-      let same : map (λ h. fault Duplicate h.place) (filter (is_repeated all) (globals_of (take (i + 1) gs)))
-      ≡ map (λ h. fault Duplicate h.place) (filter (is_repeated all) (globals_of (take i gs))) =
-      told ∙ ap (λ xs. map (λ h. fault Duplicate h.place) (filter (is_repeated all) (globals_of (take i gs))) ++ map (λ h. fault Duplicate h.place) xs) none
-      ∙ append-nil (map (λ h. fault Duplicate h.place) (filter (is_repeated all) (globals_of (take i gs)))) in
+      let same : map (λ h. fault why h.place) (filter (is_repeated all) (globals_of (take (i + 1) gs)))
+      ≡ map (λ h. fault why h.place) (filter (is_repeated all) (globals_of (take i gs))) =
+      told ∙ ap (λ xs. map (λ h. fault why h.place) (filter (is_repeated all) (globals_of (take i gs))) ++ map (λ h. fault why h.place) xs) none
+      ∙ append-nil (map (λ h. fault why h.place) (filter (is_repeated all) (globals_of (take i gs)))) in
       rw same so_far

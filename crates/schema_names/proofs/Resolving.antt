@@ -1,8 +1,7 @@
 -- References that are resolved by tables of names.
-use Rattle.std.proofs.Common.{◌≡◌, ℕ, ◌+◌, ◌<◌, Bool, true, false, List, [], ◌∷◌, ◌++◌, length, take, get_or, map, Option, Some, None, refl, sym, ap, ◌∙◌, append-nil, Bor}
+use Rattle.std.proofs.Common.{◌≡◌, ℕ, ◌+◌, ◌<◌, Bool, true, false, List, [], ◌∷◌, ◌++◌, length, take, get_or, Option, Some, None, refl, sym, ap, ◌∙◌, append-nil, Bor}
 use Rattle.std.specs.Prelude.{◌||◌, cond}
-use Rattle.std.specs.List.{list_any, filter_map}
-use Rattle.std.specs.Option.{option_map}
+use Rattle.std.specs.List.{filter_map}
 use Rattle.std.specs.Cmp.{both_ways}
 use Rattle.std.specs.Ordering.{is_eq}
 use Rattle.std.specs.BTreeSet as sorted
@@ -14,15 +13,14 @@ use Rattle.xa_base.specs.declared.texts.Name.{Name}
 use Rattle.xa_base.specs.Names.{name_eq, name_cmp}
 use Rattle.xa_base.proofs.NameLaws.{name_eq-Decides}
 use Rattle.schema_names.specs.declared.faults.Fault.{Fault}
-use Rattle.schema_names.specs.declared.faults.LinkWhy.{LinkWhy}
-use Rattle.schema_names.specs.declared.global_names.GlobalName.{GlobalName}
+use Rattle.schema_names.specs.declared.global_names.NamedPart.{NamedPart}
 use Rattle.schema_names.specs.declared.references.Mention.{Mention as Kept}
 use Rattle.schema_names.specs.declared.references.Need.{Need}
 use Rattle.schema_names.specs.declared.references.Need.TheVariants as need
 use Rattle.schema_names.specs.Globals.{is_there}
 use Rattle.schema_names.specs.Mentioned.{mentions_of, mention_of}
 use Rattle.schema_names.specs.NameTables.{Agree}
-use Rattle.schema_names.specs.Order.{fault, IsFirstOf, earlier}
+use Rattle.schema_names.specs.Order.{IsFirstOf, earlier}
 use Rattle.schema_names.specs.References.{Mention}
 use Rattle.schema_names.specs.Resolution.{Names, wrong, fault_of, unless_there}
 use Rattle.schema_names.specs.Seen.{globals_of, global_of}
@@ -43,7 +41,7 @@ either false true = refl
 either false false = refl
 
 -- a set with one name more
-pub one_name : (gs : List GlobalName) (i : ℕ) (g : GlobalName) (old new : BTreeSet (Bor Name)) → i < length gs → g ≡ get_or gs i g
+pub one_name : (gs : List NamedPart) (i : ℕ) (g : NamedPart) (old new : BTreeSet (Bor Name)) → i < length gs → g ≡ get_or gs i g
     → ((a : Name) → holds old a ≡ is_there (globals_of (take i gs)) a)
     → sorted.Updates (λ x y. name_cmp x.now y.now) old new g.name true
     → (a : Name) → holds new a ≡ is_there (globals_of (take (i + 1) gs)) a

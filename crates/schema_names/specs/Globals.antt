@@ -6,6 +6,7 @@ use Rattle.xa_base.specs.Names.{name_eq}
 use Rattle.schema_parts.specs.Raw.{Document, Element, Attribute, TypeDefinition, SimpleType, ComplexType}
 use Rattle.schema_names.specs.declared.places.Place.{Place}
 use Rattle.schema_names.specs.declared.faults.Fault.{Fault}
+use Rattle.schema_names.specs.declared.faults.LinkWhy.{LinkWhy}
 use Rattle.schema_names.specs.declared.faults.LinkWhy.TheVariants.{Duplicate}
 use Rattle.schema_names.specs.Order.{place, fault, is_before}
 
@@ -38,7 +39,7 @@ attribute_global file a = global a.name (place file a.at)
 abbrev pub type_global : ℕ → TypeDefinition → GlobalComponent
 type_global file t = global (type_name t) (place file (type_at t))
 
--- those of each kind; simple and complex types are one kind (section 3.15.2.1)
+-- those of each kind; simple and complex types are one kind (section 2.5)
 abbrev pub elements : List Document → List GlobalComponent
 elements docs = flat_map (λ d. map (element_global d.file) d.elements) docs
 
@@ -52,12 +53,13 @@ types docs = flat_map (λ d. map (type_global d.file) d.types) docs
 abbrev pub is_repeated : List GlobalComponent → GlobalComponent → Bool
 is_repeated gs g = list_any (λ h. name_eq h.name g.name && is_before h.place g.place) gs
 
-abbrev pub repeated : List GlobalComponent → List Fault
-repeated gs = map (λ g. fault Duplicate g.place) (filter (is_repeated gs) gs)
+-- the faults, for this reason, of those whose name one before them has
+abbrev pub repeated : LinkWhy → List GlobalComponent → List Fault
+repeated why gs = map (λ g. fault why g.place) (filter (is_repeated gs) gs)
 
 -- the components whose name an earlier one of their kind has
 abbrev pub duplicates : List Document → List Fault
-duplicates docs = repeated (elements docs) ++ repeated (attributes docs) ++ repeated (types docs)
+duplicates docs = repeated Duplicate (elements docs) ++ repeated Duplicate (attributes docs) ++ repeated Duplicate (types docs)
 
 -- the complex types with a name
 abbrev pub complexes : List Document → List GlobalComponent

@@ -46,7 +46,20 @@ IsFirst fs f = Has fs f × NonePrecedes fs f
 abbrev pub IsFirstOf : List Fault → Option Fault → Type 0
 IsFirstOf fs found = MatchOption found (fs ≡ []) (IsFirst fs)
 
+-- a fault of this kind, which no other of the kind precedes; none where there is none of the kind
+abbrev pub IsFirstSuch : (Fault → Type 0) → Option Fault → Type 0
+IsFirstSuch P found = MatchOption found ((f : Fault) → P f → ⊥) (λ f. P f × ((g : Fault) → P g → precedes g f ≡ false))
+
+-- a fault that one of these has
+abbrev pub OneHas : {A : Type 0} → (A → Fault → Type 0) → List A → Fault → Type 0
+OneHas has [] f = ⊥
+OneHas has (x ∷ xs) f = has x f ⊎ OneHas has xs f
+
 -- the first of those found and one more
 abbrev pub earlier : Option Fault → Fault → Option Fault
 earlier None g = Some g
 earlier (Some f) g = if precedes g f then Some g else Some f
+
+abbrev pub first_of : Option Fault → Option Fault → Option Fault
+first_of found None = found
+first_of found (Some f) = earlier found f

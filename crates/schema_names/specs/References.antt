@@ -1,22 +1,17 @@
 -- The references of schema documents to components by their names (XML Schema Part 1, section 3.15.3), each at the
 -- place of the element that has it.
-use Rattle.std.specs.Prelude.{ℕ, Bool, true, false, List, [], ◌∷◌, ◌++◌, map, Option, Some, None, if◌then◌else◌}
-use Rattle.std.specs.List.{flat_map, filter, filter_map, list_any}
+use Rattle.std.specs.Prelude.{ℕ, List, [], ◌∷◌, ◌++◌, Option, Some, None, if◌then◌else◌}
+use Rattle.std.specs.List.{flat_map}
 use Rattle.xa_base.specs.declared.texts.Name.{Name}
-use Rattle.xa_base.specs.Names.{name_eq}
 use Rattle.schema_parts.specs.declared.simple_definitions.RawRef.{RawRef}
 use Rattle.schema_parts.specs.declared.simple_definitions.RawRef.TheVariants as reference
 use Rattle.schema_parts.specs.declared.declarations.RawContent.{RawContent}
 use Rattle.schema_parts.specs.declared.declarations.RawContent.TheVariants as content
 use Rattle.schema_parts.specs.Raw.{Base, Named, Inner, Bases, none, more, How, Restrict, ListOf, UnionOf, Simple, Use, Complex, Kind, NamedKind, SimpleKind, ComplexKind, Element, Local, Reference, Own, Attribute, TypeDefinition, SimpleType, ComplexType, Document}
 use Rattle.schema_names.specs.declared.places.Place.{Place}
-use Rattle.schema_names.specs.declared.faults.Fault.{Fault}
-use Rattle.schema_names.specs.declared.faults.LinkWhy.{LinkWhy}
-use Rattle.schema_names.specs.declared.faults.LinkWhy.TheVariants.{Unresolved, ComplexBase}
 use Rattle.schema_names.specs.declared.references.Need.{Need}
 use Rattle.schema_names.specs.declared.references.Need.TheVariants as need
-use Rattle.schema_names.specs.Order.{place, fault}
-use Rattle.schema_names.specs.Globals.{GlobalComponent, elements, attributes, types, is_complex, type_global}
+use Rattle.schema_names.specs.Order.{place}
 
 -- a name, and what it has to name
 pub record Mention : Type 0 where

@@ -1,10 +1,10 @@
 -- What the tables of the code stand for.
 use Rattle.std.specs.Prelude.{List, map}
 use Rattle.schema_names.specs.Globals.{GlobalComponent, global}
-use Rattle.schema_names.specs.declared.global_names.GlobalName.{GlobalName}
+use Rattle.schema_names.specs.declared.global_names.NamedPart.{NamedPart}
 
-abbrev pub global_of : GlobalName → GlobalComponent
+abbrev pub global_of : NamedPart → GlobalComponent
 global_of g = global g.name.now g.place
 
-abbrev pub globals_of : List GlobalName → List GlobalComponent
+abbrev pub globals_of : List NamedPart → List GlobalComponent
 globals_of gs = map global_of gs

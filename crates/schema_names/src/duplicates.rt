@@ -3,6 +3,7 @@ ghost use Rattle.std.specs.Prelude.{◌≡◌, ◌++◌, List, map, IfOk};
 ghost use Rattle.xa_base.specs.declared.texts.Name.{Name};
 ghost use Rattle.schema_parts.specs.Documents.{doc_of};
 ghost use Rattle.schema_names.specs.declared.faults.Fault.{Fault};
+ghost use Rattle.schema_names.specs.declared.faults.LinkWhy.TheVariants.{Duplicate};
 ghost use Rattle.schema_names.specs.Globals as globals;
 ghost use Rattle.schema_names.specs.Globals.{duplicates, repeated};
 ghost use Rattle.schema_names.specs.Order.{IsFirstOf};
@@ -10,7 +11,7 @@ ghost use Rattle.schema_names.specs.Seen.{globals_of};
 ghost use Rattle.schema_names.specs.Tables.{place_in, first_place, lesser, stands_before};
 
 use crate::faults::{Fault, LinkWhy, earlier};
-use crate::global_names::{self, GlobalName};
+use crate::global_names::{self, NamedPart};
 use crate::places::Place;
 use schema_parts::RawDoc;
 use std::alloc::Global;
@@ -30,7 +31,7 @@ fn lesser<'a>(table: &BTreeMap<&'a Name, Place>, name: &'a Name, place: Place) -
 // Where the first component of each name stands.
 fn first_places<'a>(
     alloc: Global,
-    globals: &[GlobalName<'a>],
+    globals: &[NamedPart<'a>],
 ) -> Result<BTreeMap<&'a Name, Place>, Memory>
     ensures { IfOk result (λ places. (a : Name) → place_in places a ≡ first_place (globals_of globals.now) a) }
 {
@@ -46,7 +47,7 @@ fn first_places<'a>(
 }
 
 // Whether a component of the name stands before this one.
-fn is_repeated<'a>(places: &BTreeMap<&'a Name, Place>, global: GlobalName<'a>) -> bool
+fn is_repeated<'a>(places: &BTreeMap<&'a Name, Place>, global: NamedPart<'a>) -> bool
     ensures { result ≡ stands_before (place_in places.now global.entry.name.now) global.entry.place }
 {
     match places.get(&global.name) {
@@ -55,13 +56,15 @@ fn is_repeated<'a>(places: &BTreeMap<&'a Name, Place>, global: GlobalName<'a>) -
     }
 }
 
-// The first of what was found before and of the components whose name an earlier one has.
-fn first_repeated<'a>(
+/// The first of what was found before and of those whose name another one has that stands before them, for this reason.
+/// The time grows as n log n with their number.
+pub fn first_repeated<'a>(
     alloc: Global,
-    globals: &[GlobalName<'a>],
+    globals: &[NamedPart<'a>],
+    why: LinkWhy,
     found: Option<Fault>,
 ) -> Result<Option<Fault>, Memory>
-    ensures { (fs : List Fault) → IsFirstOf fs found → IfOk result (λ first. IsFirstOf (fs ++ repeated (globals_of globals.now)) first) }
+    ensures { (fs : List Fault) → IsFirstOf fs found → IfOk result (λ first. IsFirstOf (fs ++ repeated why (globals_of globals.now)) first) }
 {
     let places = first_places(alloc, globals)?;
     let mut first = found;
@@ -69,7 +72,7 @@ fn first_repeated<'a>(
         if is_repeated(&places, *global) {
             let fault = Fault {
                 place: global.place,
-                why: LinkWhy::Duplicate,
+                why,
             };
             first = earlier(first, fault);
         }
@@ -82,10 +85,10 @@ fn first_of_elements(
     docs: &[RawDoc],
     found: Option<Fault>,
 ) -> Result<Option<Fault>, Memory>
-    ensures { (fs : List Fault) → IsFirstOf fs found → IfOk result (λ first. IsFirstOf (fs ++ repeated (globals.elements (map doc_of docs.now))) first) }
+    ensures { (fs : List Fault) → IsFirstOf fs found → IfOk result (λ first. IsFirstOf (fs ++ repeated Duplicate (globals.elements (map doc_of docs.now))) first) }
 {
     let globals = global_names::elements(alloc, docs)?;
-    first_repeated(alloc, &globals, found)
+    first_repeated(alloc, &globals, LinkWhy::Duplicate, found)
 }
 
 fn first_of_attributes(
@@ -93,10 +96,10 @@ fn first_of_attributes(
     docs: &[RawDoc],
     found: Option<Fault>,
 ) -> Result<Option<Fault>, Memory>
-    ensures { (fs : List Fault) → IsFirstOf fs found → IfOk result (λ first. IsFirstOf (fs ++ repeated (globals.attributes (map doc_of docs.now))) first) }
+    ensures { (fs : List Fault) → IsFirstOf fs found → IfOk result (λ first. IsFirstOf (fs ++ repeated Duplicate (globals.attributes (map doc_of docs.now))) first) }
 {
     let globals = global_names::attributes(alloc, docs)?;
-    first_repeated(alloc, &globals, found)
+    first_repeated(alloc, &globals, LinkWhy::Duplicate, found)
 }
 
 fn first_of_types(
@@ -104,10 +107,10 @@ fn first_of_types(
     docs: &[RawDoc],
     found: Option<Fault>,
 ) -> Result<Option<Fault>, Memory>
-    ensures { (fs : List Fault) → IsFirstOf fs found → IfOk result (λ first. IsFirstOf (fs ++ repeated (globals.types (map doc_of docs.now))) first) }
+    ensures { (fs : List Fault) → IsFirstOf fs found → IfOk result (λ first. IsFirstOf (fs ++ repeated Duplicate (globals.types (map doc_of docs.now))) first) }
 {
     let globals = global_names::types(alloc, docs)?;
-    first_repeated(alloc, &globals, found)
+    first_repeated(alloc, &globals, LinkWhy::Duplicate, found)
 }
 
 /// The first global element, attribute or type whose name an earlier one of its kind has. Simple and complex types are

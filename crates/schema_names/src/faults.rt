@@ -1,6 +1,6 @@
 //! Faults of linking, and the first of several.
 ghost use Rattle.std.specs.Prelude.{◌≡◌};
-ghost use Rattle.schema_names.specs.Order.{rank_of, precedes, earlier};
+ghost use Rattle.schema_names.specs.Order.{rank_of, precedes, earlier, first_of};
 
 use crate::places::Place;
 use facet_rules::FacetWhy;
@@ -55,8 +55,8 @@ fn rank(why: LinkWhy) -> u8
 }
 
 impl Fault {
-    // Whether it stands at a lesser place than the other one, or at the same place with an earlier reason.
-    fn precedes(self, other: Fault) -> bool
+    /// Whether it stands at a lesser place than the other one, or at the same place with an earlier reason.
+    pub fn precedes(self, other: Fault) -> bool
         ensures { result ≡ precedes self other }
     {
         self.place.is_before(other.place)
@@ -71,5 +71,15 @@ pub fn earlier(found: Option<Fault>, fault: Fault) -> Option<Fault>
     match found {
         Some(first) if !fault.precedes(first) => Some(first),
         _ => Some(fault),
+    }
+}
+
+/// The first of two faults, or the one that there is.
+pub fn first_of(found: Option<Fault>, other: Option<Fault>) -> Option<Fault>
+    ensures { result ≡ first_of found other }
+{
+    match other {
+        Some(fault) => earlier(found, fault),
+        None => found,
     }
 }

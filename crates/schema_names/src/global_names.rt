@@ -11,19 +11,19 @@ use schema_parts::{RawDoc, RawType};
 use std::alloc::Global;
 use xa_base::{Memory, Name};
 
-/// A global component by its name, and where it was written.
+/// A component by its name, and where it was written.
 #[derive(Clone, Copy)]
-pub(crate) struct GlobalName<'a> {
+pub struct NamedPart<'a> {
     pub name: &'a Name,
     pub place: Place,
 }
 
-fn push_elements<'a>(doc: &'a RawDoc, out: &mut Vec<GlobalName<'a>>) -> Result<(), Memory>
+fn push_elements<'a>(doc: &'a RawDoc, out: &mut Vec<NamedPart<'a>>) -> Result<(), Memory>
     ensures { OnOk result (globals_of out.new.items ≡ globals_of out.old.items ++ map (globals.element_global (doc_of doc.now).file) (doc_of doc.now).elements) }
 {
     let file = doc.file();
     'elements: for element in doc.elements() {
-        out.push(GlobalName {
+        out.push(NamedPart {
             name: &element.name,
             place: Place {
                 file,
@@ -34,12 +34,12 @@ fn push_elements<'a>(doc: &'a RawDoc, out: &mut Vec<GlobalName<'a>>) -> Result<(
     Ok(())
 }
 
-fn push_attributes<'a>(doc: &'a RawDoc, out: &mut Vec<GlobalName<'a>>) -> Result<(), Memory>
+fn push_attributes<'a>(doc: &'a RawDoc, out: &mut Vec<NamedPart<'a>>) -> Result<(), Memory>
     ensures { OnOk result (globals_of out.new.items ≡ globals_of out.old.items ++ map (globals.attribute_global (doc_of doc.now).file) (doc_of doc.now).attributes) }
 {
     let file = doc.file();
     'attributes: for attribute in doc.attributes() {
-        out.push(GlobalName {
+        out.push(NamedPart {
             name: &attribute.name,
             place: Place {
                 file,
@@ -50,15 +50,15 @@ fn push_attributes<'a>(doc: &'a RawDoc, out: &mut Vec<GlobalName<'a>>) -> Result
     Ok(())
 }
 
-pub(crate) fn type_global<'a>(file: u32, definition: &'a RawType) -> GlobalName<'a>
+pub(crate) fn type_global<'a>(file: u32, definition: &'a RawType) -> NamedPart<'a>
     ensures { global_of result ≡ globals.type_global file (type_of definition.now) }
 {
     match definition {
-        RawType::Simple { name, body } => GlobalName {
+        RawType::Simple { name, body } => NamedPart {
             name,
             place: Place { file, at: body.at },
         },
-        RawType::Complex { name, body } => GlobalName {
+        RawType::Complex { name, body } => NamedPart {
             name,
             place: Place { file, at: body.at },
         },
@@ -74,7 +74,7 @@ fn is_complex(definition: &RawType) -> bool
     }
 }
 
-fn push_types<'a>(doc: &'a RawDoc, out: &mut Vec<GlobalName<'a>>) -> Result<(), Memory>
+fn push_types<'a>(doc: &'a RawDoc, out: &mut Vec<NamedPart<'a>>) -> Result<(), Memory>
     ensures { OnOk result (globals_of out.new.items ≡ globals_of out.old.items ++ map (globals.type_global (doc_of doc.now).file) (doc_of doc.now).types) }
 {
     let file = doc.file();
@@ -85,7 +85,7 @@ fn push_types<'a>(doc: &'a RawDoc, out: &mut Vec<GlobalName<'a>>) -> Result<(), 
 }
 
 /// The global elements.
-pub(crate) fn elements<'a>(alloc: Global, docs: &'a [RawDoc]) -> Result<Vec<GlobalName<'a>>, Memory>
+pub(crate) fn elements<'a>(alloc: Global, docs: &'a [RawDoc]) -> Result<Vec<NamedPart<'a>>, Memory>
     ensures { IfOk result (λ found. globals_of found.items ≡ globals.elements (map doc_of docs.now)) }
 {
     let mut found = Vec::new(alloc);
@@ -99,7 +99,7 @@ pub(crate) fn elements<'a>(alloc: Global, docs: &'a [RawDoc]) -> Result<Vec<Glob
 pub(crate) fn attributes<'a>(
     alloc: Global,
     docs: &'a [RawDoc],
-) -> Result<Vec<GlobalName<'a>>, Memory>
+) -> Result<Vec<NamedPart<'a>>, Memory>
     ensures { IfOk result (λ found. globals_of found.items ≡ globals.attributes (map doc_of docs.now)) }
 {
     let mut found = Vec::new(alloc);
@@ -110,7 +110,7 @@ pub(crate) fn attributes<'a>(
 }
 
 /// The types with a name.
-pub(crate) fn types<'a>(alloc: Global, docs: &'a [RawDoc]) -> Result<Vec<GlobalName<'a>>, Memory>
+pub(crate) fn types<'a>(alloc: Global, docs: &'a [RawDoc]) -> Result<Vec<NamedPart<'a>>, Memory>
     ensures { IfOk result (λ found. globals_of found.items ≡ globals.types (map doc_of docs.now)) }
 {
     let mut found = Vec::new(alloc);
@@ -120,7 +120,7 @@ pub(crate) fn types<'a>(alloc: Global, docs: &'a [RawDoc]) -> Result<Vec<GlobalN
     Ok(found)
 }
 
-fn push_complexes<'a>(doc: &'a RawDoc, out: &mut Vec<GlobalName<'a>>) -> Result<(), Memory>
+fn push_complexes<'a>(doc: &'a RawDoc, out: &mut Vec<NamedPart<'a>>) -> Result<(), Memory>
     ensures { OnOk result (globals_of out.new.items ≡ globals_of out.old.items ++ map (globals.type_global (doc_of doc.now).file) (filter globals.is_complex (doc_of doc.now).types)) }
 {
     let file = doc.file();
@@ -133,10 +133,7 @@ fn push_complexes<'a>(doc: &'a RawDoc, out: &mut Vec<GlobalName<'a>>) -> Result<
 }
 
 /// The complex types with a name.
-pub(crate) fn complexes<'a>(
-    alloc: Global,
-    docs: &'a [RawDoc],
-) -> Result<Vec<GlobalName<'a>>, Memory>
+pub(crate) fn complexes<'a>(alloc: Global, docs: &'a [RawDoc]) -> Result<Vec<NamedPart<'a>>, Memory>
     ensures { IfOk result (λ found. globals_of found.items ≡ globals.complexes (map doc_of docs.now)) }
 {
     let mut found = Vec::new(alloc);

@@ -11,11 +11,9 @@ mod places;
 mod references;
 mod resolution;
 
-pub use duplicates::first_duplicate;
-pub use faults::{Fault, LinkWhy, earlier};
+pub use duplicates::{first_duplicate, first_repeated};
+pub use faults::{Fault, LinkWhy, earlier, first_of};
+pub use global_names::NamedPart;
 pub use limits::first_beyond_limit;
 pub use places::Place;
 pub use resolution::first_unresolved;
-
-#[cfg(test)]
-mod tests;

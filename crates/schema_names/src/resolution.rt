@@ -14,7 +14,7 @@ ghost use Rattle.schema_names.specs.Tables.{holds};
 ghost use Rattle.schema_names.specs.NameTables.{told_by, Agree};
 
 use crate::faults::{Fault, LinkWhy, earlier};
-use crate::global_names::{self, GlobalName};
+use crate::global_names::{self, NamedPart};
 use crate::name_tables::{NameTable, TypeNames};
 use crate::references::{Mention, Need, mentions};
 use schema_parts::RawDoc;
@@ -22,7 +22,7 @@ use std::alloc::Global;
 use std::collections::BTreeSet;
 use xa_base::{Memory, Name};
 
-fn names_of<'a>(alloc: Global, globals: &[GlobalName<'a>]) -> Result<BTreeSet<&'a Name>, Memory>
+fn names_of<'a>(alloc: Global, globals: &[NamedPart<'a>]) -> Result<BTreeSet<&'a Name>, Memory>
     ensures { IfOk result (λ names. (a : Name) → holds names a ≡ is_there (globals_of globals.now) a) }
 {
     let mut names = BTreeSet::new(alloc);

@@ -15,8 +15,8 @@ globals-preserved c fs first =
     elim c.if-is_repeated.branch [
       | then-is_repeated w ↦
           rw (w.first-is, w.earlier-first.ensures)
-          (with_fault (globals_of gs) gs c.globals.global-index g c.globals-test.true c.global-item.is fs c.globals.first (sym tells ∙ w.if-is_repeated.true) (c.globals.invariant fs first))
+          (with_fault c.args.why (globals_of gs) gs c.globals.global-index g c.globals-test.true c.global-item.is fs c.globals.first (sym tells ∙ w.if-is_repeated.true) (c.globals.invariant fs first))
       | else-is_repeated w ↦
           rw w.first-is
-          (without_fault (globals_of gs) gs c.globals.global-index g c.globals-test.true c.global-item.is fs c.globals.first (sym tells ∙ w.if-is_repeated.false) (c.globals.invariant fs first))
+          (without_fault c.args.why (globals_of gs) gs c.globals.global-index g c.globals-test.true c.global-item.is fs c.globals.first (sym tells ∙ w.if-is_repeated.false) (c.globals.invariant fs first))
     ]

@@ -1,7 +1,6 @@
 use Rattle.std.proofs.Common.{◌++◌, List, map, take}
 use Rattle.std.specs.List.{filter}
 use Rattle.schema_names.specs.declared.faults.Fault.{Fault}
-use Rattle.schema_names.specs.declared.faults.LinkWhy.TheVariants.{Duplicate}
 use Rattle.schema_names.specs.Globals.{is_repeated}
 use Rattle.schema_names.specs.Order.{fault, IsFirstOf}
 use Rattle.schema_names.specs.Seen.{globals_of}
@@ -11,4 +10,4 @@ use Rattle.schema_names.proofs.duplicates.first_repeated.Given as goal
 abbrev pub invariant-globals : goal.invariant-globals
 invariant-globals l =
     (fs : List Fault) → IsFirstOf fs l.fn.found
-    → IsFirstOf (fs ++ map (λ h. fault Duplicate h.place) (filter (is_repeated (globals_of l.globals)) (globals_of (take l.global-index l.globals)))) l.first
+    → IsFirstOf (fs ++ map (λ h. fault l.why h.place) (filter (is_repeated (globals_of l.globals)) (globals_of (take l.global-index l.globals)))) l.first

@@ -1,5 +1,5 @@
-use Rattle.std.proofs.Common.{◌≡◌, ◌+◌, ◌++◌, take, append_assoc, sym, ap, ◌∙◌, arith}
-use Rattle.schema_parts.specs.Raw.{Named, Inner, Restrict, ListOf, UnionOf}
+use Rattle.std.proofs.Common.{◌≡◌, ◌++◌, take, append_assoc, sym, ap, ◌∙◌, arith}
+use Rattle.schema_parts.specs.Raw.{UnionOf}
 use Rattle.schema_parts.specs.Seen.{base_of, how_of, bases_in}
 use Rattle.schema_parts.proofs.Seen.{named_base, inner_base, restriction, list_of_items, union}
 use Rattle.schema_names.specs.References.{of_base, of_how, of_bases}

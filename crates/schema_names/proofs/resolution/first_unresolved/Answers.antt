@@ -1,4 +1,4 @@
-use Rattle.std.proofs.Common.{◌≡◌, map, List, ap, sym, ◌∙◌, subst}
+use Rattle.std.proofs.Common.{◌≡◌, map, List, ap, ◌∙◌, subst}
 use Rattle.std.specs.List.{filter_map}
 use Rattle.schema_parts.specs.Documents.{doc_of}
 use Rattle.schema_names.specs.declared.faults.Fault.{Fault}

@@ -1,0 +1,4 @@
+pub mod Clearing
+pub mod Leading
+pub mod Stepping
+pub mod Tables

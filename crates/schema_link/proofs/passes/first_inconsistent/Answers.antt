@@ -1,0 +1,17 @@
+use Rattle.std.proofs.Common.{map}
+use Rattle.schema_parts.specs.Documents.{doc_of}
+use Rattle.std.proofs.Common.{inl, inr}
+use Rattle.schema_names.specs.Order.{Has}
+use Rattle.schema_names.proofs.Firsts.{first_such, such_joined}
+use Rattle.complex_rules.specs.Uses.{double_uses}
+use Rattle.complex_rules.specs.ElementTypes.{Differs}
+use Rattle.schema_link.specs.Passes.{IsFault, Comparing}
+use Rattle.schema_link.proofs.passes.first_inconsistent.Goals as goal
+
+pub returns : goal.returns
+returns c =
+    let docs = map doc_of c.args.docs.now in
+    let double = c.in_ok-double.double in
+    rw c.first_of.ensures
+    (such_joined (Has (double_uses docs)) (Differs docs) (IsFault docs Comparing) (λ f r. r) (λ f p. inl p) (λ f q. inr q) double c.in_ok-other.other
+    (first_such (double_uses docs) double c.in_ok-double.ensures) c.in_ok-other.ensures)

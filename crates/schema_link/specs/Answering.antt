@@ -1,0 +1,24 @@
+-- How passes are answered.
+use Rattle.std.specs.Prelude.{◌≡◌, List, Result, Ok, Err, Option, Some, None}
+use Rattle.std.specs.Option.{IfSome}
+use Rattle.schema_parts.specs.Raw.{Document}
+use Rattle.schema_names.specs.declared.faults.Fault.{Fault}
+use Rattle.schema_names.specs.Order.{place, fault}
+use Rattle.schema_link.specs.declared.passes.LinkError.{LinkError}
+use Rattle.schema_link.specs.declared.passes.LinkError.TheVariants as error
+use Rattle.schema_link.specs.Passes.{Pass, IsShownBy, ArePassed}
+
+-- the fault that an error shows; none where memory was missing
+abbrev pub shown : LinkError → Option Fault
+shown (error.Shown file at why) = Some (fault why (place file at))
+shown error.Memory = None
+
+-- Ok where the passes have no fault, and else the one that they show; or for want of memory
+abbrev pub Answers : List Document → List Pass → Result (Unit {0}) LinkError → Type 0
+Answers docs ps (Ok u) = ArePassed docs ps
+Answers docs ps (Err e) = IfSome (shown e) (λ f. IsShownBy docs ps f)
+
+-- an error for what was found, and none for nothing
+abbrev pub AnswersFault : Option Fault → Result (Unit {0}) LinkError → Type 0
+AnswersFault None result = result ≡ Ok tt
+AnswersFault (Some f) result = result ≡ Err (error.Shown f.place.file f.place.at f.why)

@@ -1,0 +1,42 @@
+-- The faults of linking, pass by pass (XML Schema Part 1, section 5): the first pass with a fault is the one that shows
+-- it, and of its faults the one at the least file and place, at one place with the first reason.
+use Rattle.std.specs.Prelude.{◌⊎◌, List, [], ◌∷◌, Some, None}
+use Rattle.schema_parts.specs.Raw.{Document}
+use Rattle.schema_names.specs.declared.faults.Fault.{Fault}
+use Rattle.schema_names.specs.Order.{Has, IsFirstSuch}
+use Rattle.schema_names.specs.Limits.{beyond_limit}
+use Rattle.schema_names.specs.Globals.{duplicates}
+use Rattle.schema_names.specs.Resolution.{unresolved}
+use Rattle.type_cycles.specs.Cycles.{IsCircular}
+use Rattle.complex_rules.specs.Uses.{double_uses}
+use Rattle.complex_rules.specs.ElementTypes.{Differs}
+use Rattle.complex_rules.specs.Content.{IsUnclear}
+
+pub data Pass : Type 0 where
+  Counting Naming Resolving Ordering Comparing Clearing : Pass
+
+abbrev pub IsFault : List Document → Pass → Fault → Type 0
+IsFault docs Counting f = Has (beyond_limit docs) f
+IsFault docs Naming f = Has (duplicates docs) f
+IsFault docs Resolving f = Has (unresolved docs) f
+IsFault docs Ordering f = IsCircular docs f
+IsFault docs Comparing f = Has (double_uses docs) f ⊎ Differs docs f
+IsFault docs Clearing f = IsUnclear docs f
+
+-- the first fault of the first of the passes that has one
+abbrev pub IsShownBy : List Document → List Pass → Fault → Type 0
+IsShownBy docs [] f = ⊥
+IsShownBy docs (p ∷ ps) f =
+    IsFirstSuch (IsFault docs p) (Some f) ⊎ (IsFirstSuch (IsFault docs p) None × IsShownBy docs ps f)
+
+-- none of the passes has a fault
+abbrev pub ArePassed : List Document → List Pass → Type 0
+ArePassed docs [] = Unit {0}
+ArePassed docs (p ∷ ps) = IsFirstSuch (IsFault docs p) None × ArePassed docs ps
+
+-- those before any component is made, and those over complex types
+abbrev pub passes_of_names : List Pass
+passes_of_names = Counting ∷ Naming ∷ Resolving ∷ Ordering ∷ []
+
+abbrev pub passes_of_content : List Pass
+passes_of_content = Comparing ∷ Clearing ∷ []

@@ -1,0 +1,145 @@
+//! The passes of linking, in their order.
+ghost use Rattle.std.specs.Prelude.{◌≡◌, ◌∷◌, [], Ok, Err, map, MatchOption, IfOk};
+ghost use Rattle.schema_parts.specs.Documents.{doc_of};
+ghost use Rattle.schema_names.specs.Order.{IsFirstSuch};
+ghost use Rattle.schema_link.specs.Answering.{Answers, AnswersFault};
+ghost use Rattle.schema_link.specs.Passes.{Counting, Naming, Resolving, Ordering, Comparing, Clearing, IsFault, passes_of_names, passes_of_content};
+
+use complex_rules::{first_differing, first_double_use, first_unclear};
+use schema_names::{
+    Fault, LinkWhy, first_beyond_limit, first_duplicate, first_of, first_unresolved,
+};
+use schema_parts::RawDoc;
+use std::alloc::Global;
+use thiserror::Error;
+use type_cycles::first_circular;
+use xa_base::Memory;
+
+/// Why documents aren't linked.
+#[derive(Clone, Copy, Debug, PartialEq, Eq, Error)]
+pub enum LinkError {
+    /// The first fault: of the first pass with one, at the least file and place, and there the first reason. `file` is
+    /// the number that the document was read with, and `at` is in bytes from 0.
+    #[error("file {file}, byte {at}: {why:?}")]
+    Shown { file: u32, at: u64, why: LinkWhy },
+    #[error("out of memory")]
+    Memory,
+}
+
+impl From<Memory> for LinkError {
+    fn from(_: Memory) -> LinkError {
+        LinkError::Memory
+    }
+}
+
+fn unless(found: Option<Fault>) -> Result<(), LinkError>
+    ensures { AnswersFault found result }
+{
+    match found {
+        Some(fault) => Err(LinkError::Shown {
+            file: fault.place.file,
+            at: fault.place.at,
+            why: fault.why,
+        }),
+        None => Ok(()),
+    }
+}
+
+fn counted(docs: &[RawDoc]) -> Result<(), LinkError>
+    ensures { Answers (map doc_of docs.now) (Counting ∷ []) result }
+{
+    unless(first_beyond_limit(docs))
+}
+
+fn named(alloc: Global, docs: &[RawDoc]) -> Result<(), LinkError>
+    ensures { Answers (map doc_of docs.now) (Naming ∷ []) result }
+{
+    match first_duplicate(alloc, docs) {
+        Ok(found) => unless(found),
+        Err(_) => Err(LinkError::Memory),
+    }
+}
+
+fn resolved(alloc: Global, docs: &[RawDoc]) -> Result<(), LinkError>
+    ensures { Answers (map doc_of docs.now) (Resolving ∷ []) result }
+{
+    match first_unresolved(alloc, docs) {
+        Ok(found) => unless(found),
+        Err(_) => Err(LinkError::Memory),
+    }
+}
+
+fn ordered(alloc: Global, docs: &[RawDoc]) -> Result<(), LinkError>
+    ensures { Answers (map doc_of docs.now) (Ordering ∷ []) result }
+{
+    match first_circular(alloc, docs) {
+        Ok(found) => unless(found),
+        Err(_) => Err(LinkError::Memory),
+    }
+}
+
+fn first_inconsistent(alloc: Global, docs: &[RawDoc]) -> Result<Option<Fault>, Memory>
+    ensures { IfOk result (λ found. IsFirstSuch (IsFault (map doc_of docs.now) Comparing) found) }
+{
+    let double = first_double_use(alloc, docs)?;
+    let other = first_differing(alloc, docs)?;
+    Ok(first_of(double, other))
+}
+
+fn compared(alloc: Global, docs: &[RawDoc]) -> Result<(), LinkError>
+    ensures { Answers (map doc_of docs.now) (Comparing ∷ []) result }
+{
+    match first_inconsistent(alloc, docs) {
+        Ok(found) => unless(found),
+        Err(_) => Err(LinkError::Memory),
+    }
+}
+
+fn cleared(alloc: Global, docs: &[RawDoc]) -> Result<(), LinkError>
+    ensures { Answers (map doc_of docs.now) (Clearing ∷ []) result }
+{
+    match first_unclear(alloc, docs) {
+        Ok(found) => unless(found),
+        Err(_) => Err(LinkError::Memory),
+    }
+}
+
+fn resolved_and_ordered(alloc: Global, docs: &[RawDoc]) -> Result<(), LinkError>
+    ensures { Answers (map doc_of docs.now) (Resolving ∷ Ordering ∷ []) result }
+{
+    match resolved(alloc, docs) {
+        Ok(()) => ordered(alloc, docs),
+        Err(error) => Err(error),
+    }
+}
+
+fn named_and_on(alloc: Global, docs: &[RawDoc]) -> Result<(), LinkError>
+    ensures { Answers (map doc_of docs.now) (Naming ∷ Resolving ∷ Ordering ∷ []) result }
+{
+    match named(alloc, docs) {
+        Ok(()) => resolved_and_ordered(alloc, docs),
+        Err(error) => Err(error),
+    }
+}
+
+/// The passes before any component is made: whether there are too many components, a name that stands twice, a
+/// reference that names nothing or a complex type where a simple one is needed, a simple type that is made of itself.
+pub fn check_names(alloc: Global, docs: &[RawDoc]) -> Result<(), LinkError>
+    ensures { Answers (map doc_of docs.now) passes_of_names result }
+{
+    match counted(docs) {
+        Ok(()) => named_and_on(alloc, docs),
+        Err(error) => Err(error),
+    }
+}
+
+/// The passes over complex types: whether two attributes of a type have one name or two element particles of one name
+/// have different types, and whether a content model can't be read without looking ahead.
+pub fn check_content(alloc: Global, docs: &[RawDoc]) -> Result<(), LinkError>
+    ensures { Answers (map doc_of docs.now) passes_of_content result }
+{
+    match compared(alloc, docs) {
+        Ok(()) => cleared(alloc, docs),
+        Err(error) => Err(error),
+    }
+}

@@ -1,0 +1,4 @@
+pub mod Bases
+pub mod First
+pub mod Numbering
+pub mod Walks

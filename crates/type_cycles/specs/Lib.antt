@@ -1,0 +1,6 @@
+pub mod Cycles
+pub mod Graphs
+pub mod Searching
+pub mod Seen
+pub mod SimpleTypes
+pub mod Tables
