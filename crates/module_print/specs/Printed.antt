@@ -1,5 +1,5 @@
 -- A module as the notation of ASN.1 (X.680) with the encoding instructions of X.693: one assignment after the other.
-use Rattle.std.specs.Prelude.{ℕ, zero, suc, ℤ, Bool, true, false, Option, Some, None, List, [], ◌∷◌, ◌++◌, map, slice_get, unwrap_or, codes, if◌then◌else◌}
+use Rattle.std.specs.Prelude.{ℕ, suc, ℤ, Bool, Option, List, [], ◌∷◌, ◌++◌, map, slice_get, unwrap_or, codes, if◌then◌else◌}
 use Rattle.std.specs.List.{flat_map}
 use Rattle.std.specs.Option.{option_map}
 use Rattle.std.specs.Fmt.{signed_decimal}
@@ -12,7 +12,7 @@ use Rattle.asn_types.specs.declared.types.Form.TheVariants as form
 use Rattle.asn_types.specs.declared.types.TypeLabel.{TypeLabel}
 use Rattle.asn_types.specs.declared.modules.Assignment.{Assignment}
 use Rattle.asn_types.specs.Parts.{parts_of}
-use Rattle.module_print.specs.Notation.{number_range, size, size_range, class_range, enumerated, block}
+use Rattle.module_print.specs.Notation.{number_range, size_range, class_range, enumerated, block}
 use Rattle.module_print.specs.Instructions.{number_identifier, instructions}
 
 -- the name of the assignment with this number

@@ -7,3 +7,6 @@ mod printing;
 mod types;
 
 pub use printing::print_module;
+
+#[cfg(test)]
+mod tests;

@@ -1,4 +1,4 @@
-use Rattle.std.proofs.Common.{◌≡◌, ◌++◌, ◌<◌, length, rules, ap, sym, subst, ◌∙◌, arith}
+use Rattle.std.proofs.Common.{◌<◌, length, rules, ap, sym, subst, ◌∙◌, arith}
 use Rattle.label_tree.specs.Rose.{count_all, roses_of, AllowedAll}
 use Rattle.label_tree.proofs.Kids.{kid-count-le, kid-allowed}
 use Rattle.label_tree.proofs.Roses.{node_count-kids, allowed-label, allowed-kids}
