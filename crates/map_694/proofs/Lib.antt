@@ -8,3 +8,5 @@ mod Mapping
 mod Numbers
 mod Sample
 mod Simples
+mod Marks
+mod InOrder

@@ -6,3 +6,4 @@ pub mod Mapped
 pub mod Building
 pub mod Placing
 pub mod Samples
+pub mod Collecting

@@ -2,6 +2,7 @@
 #![tactic(auto)]
 
 mod attributes;
+mod collecting;
 mod content;
 mod instructions;
 mod map;
@@ -12,7 +13,8 @@ mod simple;
 mod subjects;
 mod words;
 
-pub use map::assignments;
+pub use collecting::entries;
+pub use map::{assignments, mapped};
 pub use simple::type_of_simple;
 pub use subjects::{Entry, Subject};
 

@@ -7,9 +7,10 @@ ghost use Rattle.map_694.specs.Planning as plan;
 ghost use Rattle.map_694.specs.Naming.{IsNamed};
 ghost use Rattle.map_694.specs.Placing.{place_of, IsSubject, references_of};
 ghost use Rattle.map_694.specs.Subjects.{place_in};
-ghost use Rattle.map_694.specs.Mapped.{assignment_marks, wanted_reference, IsMapped, AreMapped};
+ghost use Rattle.map_694.specs.Mapped.{assignment_marks, wanted_reference, IsMapped, AreMapped, IsMapOf};
 
 use crate::attributes::simple_at;
+use crate::collecting::entries;
 use crate::content::{in_place, own_type};
 use crate::instructions::{push_name, push_qualified};
 use crate::places::Places;
@@ -167,4 +168,16 @@ pub fn assignments(
 {
     let places = Places::of_entries(alloc, set, entries)?;
     numbered_assignments(alloc, set, &places, entries)
+}
+
+/// The map of a linked set to the assignments of one module, in their order.
+///
+/// Memory is the only cause of an error. That the assignments meet the rules of a module besides, as that each reference
+/// of a type leads to an assignment, isn't stated.
+pub fn mapped(alloc: Global, set: &SchemaSet) -> Result<Vec<Assignment>, Memory>
+    requires { IsLinked set.now }
+    ensures { IfOk result (λ made. IsMapOf set.now made.items) }
+{
+    let ordered = entries(alloc, set)?;
+    assignments(alloc, set, &ordered)
 }

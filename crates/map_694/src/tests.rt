@@ -1,9 +1,9 @@
 //! What no clause says: worked values, and that calls can succeed.
 ghost use Rattle.std.specs.Prelude.{◌≡◌, IfOk, All};
 ghost use Rattle.map_694.specs.Placing.{IsSubject};
-ghost use Rattle.map_694.specs.Samples.{one_simple};
+ghost use Rattle.map_694.specs.Samples.{flag, one_simple};
 
-use crate::{Entry, Subject, assignments, type_of_simple};
+use crate::{Entry, Subject, assignments, entries, mapped, type_of_simple};
 use asn_types::{Form, Instruction};
 use schema_parts::{SchemaSet, SimpleDef};
 use simple_types::{Builtin, Simple, builtin};
@@ -36,13 +36,23 @@ fn text(alloc: Global, bytes: &str) -> Result<Text, Memory>
     Ok(Text::from(String::from_str(alloc, bytes)?))
 }
 
-// One simple type, of the truth values.
+// The name `flag`, without a namespace.
+fn flag(alloc: Global) -> Result<Name, Memory>
+    ensures { IfOk result (λ name. name ≡ flag) }
+{
+    let space = text(alloc, "")?;
+    let local = text(alloc, "flag")?;
+    Ok(Name { space, local })
+}
+
+// One simple type of this name, of the truth values.
 fn one_simple(alloc: Global) -> Result<SchemaSet, Memory>
     ensures { IfOk result (λ set. set ≡ one_simple) }
 {
     let elements = Vec::new(alloc);
+    let name = flag(alloc)?;
     let definition = SimpleDef {
-        name: None,
+        name: Some(name),
         space: Simple::Bool,
     };
     let simples = vec![in alloc; definition]?;
@@ -51,15 +61,14 @@ fn one_simple(alloc: Global) -> Result<SchemaSet, Memory>
     Ok(SchemaSet::of(elements, 0, simples, complexes, attributes))
 }
 
-// An assignment of it, with the local name `flag`.
+// An assignment of it.
 fn one_entry(alloc: Global) -> Result<Vec<Entry>, Memory>
     ensures { IfOk result (λ made. All (λ e. IsSubject one_simple e.subject) made.items) }
 {
-    let space = text(alloc, "")?;
-    let local = text(alloc, "flag")?;
+    let name = flag(alloc)?;
     let entry = Entry {
         subject: Subject::Simple(0),
-        name: Name { space, local },
+        name,
     };
     let entries = vec![in alloc; entry]?;
     Ok(entries)
@@ -81,6 +90,20 @@ fn an_assignment(rt: HostRuntime) -> Result<(), Fail> {
             [Instruction::Name(name)] => assert_eq!(&rt; name.as_str(), "flag"),
             _ => assert!(&rt; false, "NAME alone"),
         }
+    }
+    Ok(())
+}
+
+#[test]
+fn the_map(rt: HostRuntime) -> Result<(), Fail> {
+    let alloc = rt.alloc();
+    let set = one_simple(alloc)?;
+    let ordered = entries(alloc, &set)?;
+    assert_eq!(&rt; ordered.len(), 1);
+    let made = mapped(alloc, &set)?;
+    assert_eq!(&rt; made.len(), 1);
+    for assignment in &made {
+        assert_eq!(&rt; assignment.reference.as_str(), "Flag");
     }
     Ok(())
 }

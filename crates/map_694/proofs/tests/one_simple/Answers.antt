@@ -5,8 +5,8 @@ use Rattle.map_694.proofs.tests.one_simple.Goals as goal
 
 pub of-requires : goal.of-requires
 of-requires c =
-    subst IsLinked (sym (one-made _ _ _ _ c.new-elements.ensures.items c.in_ok-simples.ensures.items c.new-complexes.ensures.items c.new-attributes.ensures.items)) one-linked
+    subst IsLinked (sym (one-made _ _ _ _ c.in_ok-name.name c.new-elements.ensures.items c.in_ok-simples.ensures.items c.in_ok-name.ensures c.new-complexes.ensures.items c.new-attributes.ensures.items)) one-linked
 
 pub returns : goal.returns
 returns c =
-    c.of.ensures ∙ one-made _ _ _ _ c.new-elements.ensures.items c.in_ok-simples.ensures.items c.new-complexes.ensures.items c.new-attributes.ensures.items
+    c.of.ensures ∙ one-made _ _ _ _ c.in_ok-name.name c.new-elements.ensures.items c.in_ok-simples.ensures.items c.in_ok-name.ensures c.new-complexes.ensures.items c.new-attributes.ensures.items
