@@ -14,10 +14,12 @@ use schema_rules::{
 use std::alloc::Global;
 use xa_base::{Memory, Name, Text};
 
-/// A reason and the place where it stands, in bytes from 0.
+/// The first reason against an element or a text, with its place in bytes from 0.
 #[derive(Clone, Copy, Debug, PartialEq, Eq)]
 pub struct Fault {
+    /// The byte of the `<` of the element's start tag, or the first byte of the text.
     pub at: u64,
+    /// The first reason there, in the order of `SchemaWhy`.
     pub why: SchemaWhy,
 }
 
@@ -53,7 +55,7 @@ fn is_composition(role: Role) -> bool
 fn own_reason(
     alloc: Global,
     role: Role,
-    scope: &Scope<'_>,
+    scope: &Scope<'_, '_>,
     level: u32,
     attributes: &[(Name, Text)],
     kids: &[Tree<ItemLabel>],
@@ -66,11 +68,11 @@ fn own_reason(
 
 // The first fault of an element of this role and of what stands in it.
 #[cycle(faults)]
-fn fault_of<'a>(
+fn fault_of<'a, 'b>(
     alloc: Global,
     tree: &'a Tree<ItemLabel>,
     role: Role,
-    scope: &'a Scope<'a>,
+    scope: &'b Scope<'a, 'b>,
     level: u32,
 ) -> Result<Option<Fault>, Memory>
     ensures { IfOk result (λ found. found ≡ faults.first_fault (faults.reasons_of role (bindings_in scope.now) level tree.now)) }
@@ -84,7 +86,7 @@ fn fault_of<'a>(
     else {
         return Ok(None);
     };
-    let inside = Scope::Element(declares.items(), scope);
+    let inside = Scope::inside(alloc, declares, scope)?;
     let found = own_reason(alloc, role, &inside, level, attributes.items(), tree.kids())?;
     if found.is_some() {
         return Ok(fault_if(*at, found));
@@ -97,12 +99,12 @@ fn fault_of<'a>(
 
 // The first fault at a node and of what stands in it.
 #[cycle(faults)]
-fn fault_at<'a>(
+fn fault_at<'a, 'b>(
     alloc: Global,
     tree: &'a Tree<ItemLabel>,
     parent: Role,
     before: Option<Position>,
-    scope: &'a Scope<'a>,
+    scope: &'b Scope<'a, 'b>,
     level: u32,
 ) -> Result<Option<Fault>, Memory>
     ensures { IfOk result (λ found. found ≡ faults.first_fault (faults.reasons_at parent before (bindings_in scope.now) level tree.now)) }
@@ -119,11 +121,11 @@ fn fault_at<'a>(
 
 // The first fault among the children of an element of this role.
 #[cycle(faults)]
-fn fault_among<'a>(
+fn fault_among<'a, 'b>(
     alloc: Global,
     kids: &'a [Tree<ItemLabel>],
     parent: Role,
-    scope: &'a Scope<'a>,
+    scope: &'b Scope<'a, 'b>,
     level: u32,
 ) -> Result<Option<Fault>, Memory>
     ensures { IfOk result (λ found. found ≡ faults.first_fault (faults.reasons_among parent None (bindings_in scope.now) level (roses_of kids.now))) }
@@ -161,7 +163,8 @@ fn place_of(label: &ItemLabel) -> u64
 
 /// The first fault of a schema document, in the order in which it is written. `None` where it is a schema.
 ///
-/// The time grows with the number of items, and with the number of bindings in scope for each reference.
+/// The time grows with the size of the document, and for each element and each reference with the logarithm of the
+/// number of bindings of the elements that are open.
 pub fn first_fault(alloc: Global, items: &Items) -> Result<Option<Fault>, Memory>
     ensures { IfOk result (λ found. found ≡ faults.first_fault (faults.reasons items.now)) }
 {

@@ -48,7 +48,7 @@ fn is_attribute(role: Role) -> bool
 // The first reason before those that speak of datatypes.
 fn early_reason(
     role: Role,
-    scope: &Scope<'_>,
+    scope: &Scope<'_, '_>,
     level: u32,
     own: &[(Text, Text)],
     kids: &[Tree<ItemLabel>],
@@ -128,7 +128,7 @@ fn earlier(a: Option<SchemaWhy>, b: Option<SchemaWhy>) -> Option<SchemaWhy>
 }
 
 // Why the datatype of this name is left out, if it is one that is.
-fn left_out_type(scope: &Scope<'_>, text: &str) -> Option<SchemaWhy>
+fn left_out_type(scope: &Scope<'_, '_>, text: &str) -> Option<SchemaWhy>
     ensures { result ≡ reason.left_out_type (bindings_in scope.now) text.now }
 {
     match type_of(scope, text) {
@@ -138,7 +138,7 @@ fn left_out_type(scope: &Scope<'_>, text: &str) -> Option<SchemaWhy>
 }
 
 // The first reason among those of several names.
-fn left_out_types(scope: &Scope<'_>, text: &str) -> Option<SchemaWhy>
+fn left_out_types(scope: &Scope<'_, '_>, text: &str) -> Option<SchemaWhy>
     ensures { result ≡ reason.earliest None (bindings_in scope.now) (words_of text.now) }
 {
     let mut found = None;
@@ -150,7 +150,7 @@ fn left_out_types(scope: &Scope<'_>, text: &str) -> Option<SchemaWhy>
     found
 }
 
-fn left_out_value(name: &str, scope: &Scope<'_>, own: &[(Text, Text)]) -> Option<SchemaWhy>
+fn left_out_value(name: &str, scope: &Scope<'_, '_>, own: &[(Text, Text)]) -> Option<SchemaWhy>
     ensures { result ≡ reason.left_out_value name.now (bindings_in scope.now) own.now }
 {
     match value_of(name, own) {
@@ -161,7 +161,7 @@ fn left_out_value(name: &str, scope: &Scope<'_>, own: &[(Text, Text)]) -> Option
 
 // The first of the left-out datatypes that it refers to.
 #[tactic(auto, unfolding(crate::specs::Reasons::left_out_reference))]
-fn left_out_reference(scope: &Scope<'_>, own: &[(Text, Text)]) -> Option<SchemaWhy>
+fn left_out_reference(scope: &Scope<'_, '_>, own: &[(Text, Text)]) -> Option<SchemaWhy>
     ensures { result ≡ reason.left_out_reference (bindings_in scope.now) own.now }
 {
     left_out_value("type", scope, own)
@@ -240,7 +240,7 @@ fn is_empty_choice(
 pub fn reason_against(
     alloc: Global,
     role: Role,
-    scope: &Scope<'_>,
+    scope: &Scope<'_, '_>,
     level: u32,
     own: &[(Text, Text)],
     kids: &[Tree<ItemLabel>],

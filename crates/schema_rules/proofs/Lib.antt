@@ -1,3 +1,4 @@
 pub mod Digits
+mod Found
 pub mod Greater
 mod Scoped

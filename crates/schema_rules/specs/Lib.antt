@@ -1,6 +1,8 @@
 pub mod Attributes
 pub mod Children
+pub mod Comparing
 pub mod Elements
+pub mod Finding
 pub mod Numbers
 pub mod References
 pub mod Scopes

@@ -1,5 +1,5 @@
 -- Numbers of occurrences in digits (XML Schema Part 2, section 3.3.20).
-use Rattle.std.specs.Prelude.{◌==◌, ◌+◌, ◌-◌, ◌*◌, ℕ, Bool, true, false, ◌&&◌, ◌||◌, not, nat_le, nat_lt, List, [], ◌∷◌, length, Option, Some, None, if◌then◌else◌}
+use Rattle.std.specs.Prelude.{◌==◌, ◌+◌, ◌-◌, ◌*◌, ℕ, Bool, ◌&&◌, not, nat_le, nat_lt, List, [], ◌∷◌, Option, Some, None, if◌then◌else◌}
 use Rattle.std.specs.List.{list_all}
 use Rattle.doc_text.specs.Sound.{is_empty}
 
@@ -30,19 +30,3 @@ is_large text = is_number text && nat_le 4294967296 (number_of text)
 -- both are numbers, and the first is greater
 abbrev pub is_over : List ℕ → List ℕ → Bool
 is_over a b = is_number a && is_number b && nat_lt (number_of b) (number_of a)
-
--- ---- how numbers of many digits are compared
-
-abbrev pub without_zeros : List ℕ → List ℕ
-without_zeros [] = []
-without_zeros (b ∷ bs) = if b == 48 then without_zeros bs else b ∷ bs
-
--- the first digit that differs decides
-abbrev pub is_later : List ℕ → List ℕ → Bool
-is_later [] bs = false
-is_later (a ∷ more) [] = true
-is_later (a ∷ more) (b ∷ bs) = nat_lt b a || (a == b && is_later more bs)
-
--- of two numbers without leading zeros: more digits, or as many, of which the first that differs is greater
-abbrev pub is_greater : List ℕ → List ℕ → Bool
-is_greater a b = if length a == length b then is_later a b else nat_lt (length b) (length a)

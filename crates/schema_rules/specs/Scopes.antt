@@ -5,4 +5,4 @@ use Rattle.schema_rules.specs.declared.scopes.Scope.{Scope, Document, Element'}
 
 abbrev pub bindings_in : Scope → List (List ℕ × List ℕ)
 bindings_in Document = (xml_prefix, xml_space) ∷ []
-bindings_in (Element' declares place outer) = declares.now ++ bindings_in outer
+bindings_in (Element' declared place outer) = declared ++ bindings_in outer

@@ -12,14 +12,19 @@ use label_tree::Tree;
 /// take the place of others.
 #[derive(Clone, Copy, Debug, PartialEq, Eq)]
 pub enum ChildSet {
+    /// `simpleType` and `complexType`.
     Types,
+    /// `simpleType`.
     SimpleTypes,
     /// What a simple type is: a restriction, a list or a union.
     Varieties,
     /// What stands in simple content.
     Derivations,
+    /// What a group is made of.
     Particles,
+    /// `attribute`.
     Attributes,
+    /// The facet `enumeration`.
     Enumerations,
 }
 

@@ -14,7 +14,9 @@ pub(crate) const SCHEMA_SPACE: &[u8] = b"http://www.w3.org/2001/XMLSchema";
 pub enum Placement {
     /// An annotation, which isn't looked at.
     Skipped,
+    /// It is left out, or may not stand here.
     Refused(SchemaWhy),
+    /// It may stand here.
     Placed(Part),
 }
 

@@ -17,6 +17,6 @@ pub use elements::{Placement, is_counted, is_looked_into, is_schema_name, placem
 pub use numbers::{is_large, is_zero};
 pub use references::{Resolved, TypeName, resolve, type_of};
 pub use roles::{Part, Position, Role};
-pub use scopes::Scope;
+pub use scopes::{Declared, Scope};
 pub use values::{has_bad_value, least_of, most_of, never_occurs, qualification_of, truth_of};
 pub use why::SchemaWhy;

@@ -1,6 +1,7 @@
 //! Numbers of occurrences, in digits.
 ghost use Rattle.std.specs.Prelude.{◌≡◌, ◌==◌, true};
 ghost use Rattle.std.specs.List.{list_all};
+ghost use Rattle.schema_rules.specs.Comparing as comparing;
 ghost use Rattle.schema_rules.specs.Numbers as numbers;
 
 fn is_digit(byte: u8) -> bool
@@ -35,7 +36,7 @@ pub fn is_zero(text: &[u8]) -> bool
     !text.is_empty() && are_zeros(text)
 }
 
-// The number in digits, if it is below 2^32.
+/// The number in digits, if it is below 2^32.
 pub fn small_number(digits: &[u8]) -> Option<u32>
     requires { list_all numbers.is_digit digits.now ≡ true }
     ensures { result ≡ numbers.small (numbers.number_of digits.now) }
@@ -61,7 +62,7 @@ pub fn is_large(text: &[u8]) -> bool
 
 // The digits from the first one on that isn't zero.
 fn without_zeros(digits: &[u8]) -> &[u8]
-    ensures { result.now ≡ numbers.without_zeros digits.now }
+    ensures { result.now ≡ comparing.without_zeros digits.now }
 {
     let mut rest = digits;
     'zeros: while let [b'0', others @ ..] = rest {
@@ -72,7 +73,7 @@ fn without_zeros(digits: &[u8]) -> &[u8]
 
 // Whether the first digit that differs is greater in the first.
 fn is_later(a: &[u8], b: &[u8]) -> bool
-    ensures { result ≡ numbers.is_later a.now b.now }
+    ensures { result ≡ comparing.is_later a.now b.now }
 {
     let mut rest = a;
     let mut others = b;
@@ -91,7 +92,7 @@ fn is_later(a: &[u8], b: &[u8]) -> bool
 
 // Whether the first of two numbers without leading zeros is greater.
 fn is_greater(a: &[u8], b: &[u8]) -> bool
-    ensures { result ≡ numbers.is_greater a.now b.now }
+    ensures { result ≡ comparing.is_greater a.now b.now }
 {
     if a.len() == b.len() {
         is_later(a, b)

@@ -14,13 +14,16 @@ use xa_base::is_ncname_text;
 /// The expanded name that a reference stands for. The empty namespace stands for none.
 #[derive(Clone, Copy)]
 pub struct Resolved<'s, 't> {
+    /// The namespace, as an element binds it.
     pub space: &'s [u8],
+    /// The local name, as the reference has it.
     pub local: &'t str,
 }
 
 /// What a type's name stands for.
 #[derive(Clone, Copy)]
 pub enum TypeName<'s, 't> {
+    /// A datatype of this profile.
     Known(Builtin),
     /// A datatype that this profile leaves out.
     LeftOut(SchemaWhy),
@@ -28,7 +31,7 @@ pub enum TypeName<'s, 't> {
     Elsewhere(Resolved<'s, 't>),
 }
 
-fn unprefixed<'s, 't>(scope: &Scope<'s>, text: &'t str) -> Option<Resolved<'s, 't>>
+fn unprefixed<'s, 't>(scope: &Scope<'s, '_>, text: &'t str) -> Option<Resolved<'s, 't>>
     ensures { option_map name_seen result ≡ table.unprefixed (bindings_in scope.now) text.now }
 {
     if !is_ncname_text(text) {
@@ -43,7 +46,7 @@ fn unprefixed<'s, 't>(scope: &Scope<'s>, text: &'t str) -> Option<Resolved<'s, '
     }
 }
 
-fn prefixed<'s, 't>(scope: &Scope<'s>, prefix: &str, local: &'t str) -> Option<Resolved<'s, 't>>
+fn prefixed<'s, 't>(scope: &Scope<'s, '_>, prefix: &str, local: &'t str) -> Option<Resolved<'s, 't>>
     ensures { option_map name_seen result ≡ table.prefixed (bindings_in scope.now) prefix.now local.now }
 {
     if !is_ncname_text(prefix) || !is_ncname_text(local) {
@@ -57,7 +60,7 @@ fn prefixed<'s, 't>(scope: &Scope<'s>, prefix: &str, local: &'t str) -> Option<R
 
 /// The expanded name of a QName, if its prefix is bound.
 #[tactic(auto, unfolding(crate::specs::References::resolved))]
-pub fn resolve<'s, 't>(scope: &Scope<'s>, text: &'t str) -> Option<Resolved<'s, 't>>
+pub fn resolve<'s, 't>(scope: &Scope<'s, '_>, text: &'t str) -> Option<Resolved<'s, 't>>
     ensures { option_map name_seen result ≡ table.resolved (bindings_in scope.now) text.now }
 {
     match text.split_once(':') {
@@ -154,7 +157,7 @@ fn type_named<'s, 't>(found: Option<Resolved<'s, 't>>) -> Option<TypeName<'s, 't
 /// What a type's name stands for. `None` where it is no QName, where its prefix isn't bound, and where it has the
 /// schema namespace and no datatype has the name.
 #[tactic(auto, unfolding(crate::specs::References::type_name))]
-pub fn type_of<'s, 't>(scope: &Scope<'s>, text: &'t str) -> Option<TypeName<'s, 't>>
+pub fn type_of<'s, 't>(scope: &Scope<'s, '_>, text: &'t str) -> Option<TypeName<'s, 't>>
     ensures { option_map type_seen result ≡ table.type_name (bindings_in scope.now) text.now }
 {
     type_named(resolve(scope, text))

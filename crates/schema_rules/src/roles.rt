@@ -6,30 +6,48 @@ ghost use Rattle.schema_rules.specs.Elements as table;
 /// in `schema` is global; other declarations are local, and other types are inner ones.
 #[derive(Clone, Copy, Debug, PartialEq, Eq)]
 pub enum Role {
+    /// `schema`, the root.
     Schema,
     /// `include` and `import`.
     Composition,
+    /// `element` in `schema`.
     GlobalElement,
+    /// `element` in a group: a declaration or a reference.
     LocalElement,
+    /// `attribute` in `schema`.
     GlobalAttribute,
+    /// `attribute` in a complex type or an extension: a declaration or a reference.
     LocalAttribute,
+    /// `simpleType` in `schema`.
     GlobalSimpleType,
+    /// `simpleType` elsewhere.
     InnerSimpleType,
+    /// `restriction` of a simple type.
     Restriction,
+    /// `list` of a simple type.
     List,
+    /// `union` of a simple type.
     Union,
+    /// A facet of a restriction that this profile has.
     Facet,
+    /// `complexType` in `schema`.
     GlobalComplexType,
+    /// `complexType` in an element.
     InnerComplexType,
+    /// `simpleContent` of a complex type.
     SimpleContent,
+    /// `extension` in simple content.
     Extension,
+    /// `sequence`, a group.
     Sequence,
+    /// `choice`, a group.
     Choice,
 }
 
 /// Where an element may stand among the elements of its parent.
 #[derive(Clone, Copy, Debug, PartialEq, Eq)]
 pub enum Position {
+    /// Behind all that may have others behind it.
     Anywhere,
     /// Before all others.
     First,
@@ -40,7 +58,9 @@ pub enum Position {
 /// An element that may stand in its parent.
 #[derive(Clone, Copy, Debug, PartialEq, Eq)]
 pub struct Part {
+    /// What it is there.
     pub role: Role,
+    /// Where among the elements of the parent it may stand.
     pub position: Position,
 }
 

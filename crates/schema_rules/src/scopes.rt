@@ -1,31 +1,77 @@
 //! The namespaces in scope at an element.
-ghost use Rattle.std.specs.Prelude.{◌≡◌, option_map};
+ghost use Rattle.std.specs.Prelude.{◌≡◌, ◌++◌, IfOk, option_map};
 ghost use Rattle.doc_text.specs.Namespaces.{space_of, xml_space};
+ghost use Rattle.schema_rules.specs.Finding.{Finds};
 ghost use Rattle.schema_rules.specs.Scopes.{bindings_in};
 
-use xa_base::Text;
+use doc_text::Bindings;
+use std::alloc::Global;
+use std::collections::BTreeMap;
+use std::marker::Model;
+use xa_base::{Memory, Text};
 
-/// The bindings of the elements that are open, the innermost first, each a prefix with a namespace.
-#[derive(Clone, Copy)]
-pub enum Scope<'a> {
+/// The namespaces that one element binds, each a prefix with a namespace, in the order written.
+#[derive(Drop)]
+pub struct Declared<'a> {
+    bindings: &'a [(Text, Text)],
+    // The namespace of each prefix.
+    spaces: BTreeMap<&'a [u8], &'a [u8]>,
+}
+
+impl<'a> Model for Declared<'a> {
+    ghost use Rattle.std.specs.Prelude.{List, ℕ};
+    ghost use Rattle.schema_rules.specs.Finding.{Finds};
+
+    ghost Value = { List (List ℕ × List ℕ) };
+
+    ghost view = { λ a. a.bindings.now };
+
+    ghost invariant = { λ a. Finds a.bindings.now a.spaces };
+}
+
+// The namespace of each prefix: that of the first binding of it.
+fn spaces_of<'a>(
+    alloc: Global,
+    bindings: &'a [(Text, Text)],
+) -> Result<BTreeMap<&'a [u8], &'a [u8]>, Memory>
+    ensures { IfOk result (Finds bindings.now) }
+{
+    let mut spaces = BTreeMap::new(alloc);
+    let mut i = bindings.len();
+    'last_first: while i > 0 {
+        i -= 1;
+        let binding = &bindings[i];
+        spaces.insert(binding.0.bytes(), binding.1.bytes())?;
+    }
+    Ok(spaces)
+}
+
+impl<'a> Declared<'a> {
+    fn of(alloc: Global, bindings: &'a [(Text, Text)]) -> Result<Declared<'a>, Memory>
+        ensures { IfOk result (λ declared. declared ≡ bindings.now) }
+    {
+        let spaces = spaces_of(alloc, bindings)?;
+        Ok(Declared { bindings, spaces })
+    }
+
+    fn space_of(&self, prefix: &[u8]) -> Option<&'a [u8]>
+        ensures { option_map (λ space. space.now) result ≡ space_of prefix.now self.now }
+    {
+        self.spaces.get(prefix).copied()
+    }
+}
+
+/// The bindings of the elements that are open, the innermost first, each a prefix with a namespace: those that a
+/// document lends for `'a`, of elements that are open for `'b`.
+#[derive(Drop)]
+pub enum Scope<'a, 'b> {
     /// Outside the root, where `xml` alone is bound.
     Document,
-    Element(&'a [(Text, Text)], &'a Scope<'a>),
+    /// In an element, with the scope round it.
+    Element(Declared<'a>, &'b Scope<'a, 'b>),
 }
 
 const XML_SPACE: &[u8] = b"http://www.w3.org/XML/1998/namespace";
-
-// The namespace beside the prefix.
-fn beside<'a>(prefix: &[u8], bindings: &'a [(Text, Text)]) -> Option<&'a [u8]>
-    ensures { option_map (λ space. space.now) result ≡ space_of prefix.now bindings.now }
-{
-    for (bound, space) in bindings {
-        if bound.bytes() == prefix {
-            return Some(space.bytes());
-        }
-    }
-    None
-}
 
 // What is bound outside the root.
 fn outside<'a>(prefix: &[u8]) -> Option<&'a [u8]>
@@ -38,14 +84,28 @@ fn outside<'a>(prefix: &[u8]) -> Option<&'a [u8]>
     }
 }
 
-impl<'a> Scope<'a> {
-    /// The namespace that the prefix is bound to. It goes through the bindings of at most as many elements as are open.
+impl<'a, 'b> Scope<'a, 'b> {
+    /// The scope in an element with these bindings, where `outer` is the scope round the element. Its bindings are put
+    /// in order here, once, so that each prefix is then found in logarithmic time.
+    pub fn inside(
+        alloc: Global,
+        bindings: &'a Bindings,
+        outer: &'b Scope<'a, 'b>,
+    ) -> Result<Scope<'a, 'b>, Memory>
+        ensures { IfOk result (λ scope. bindings_in scope ≡ bindings.now ++ bindings_in outer.now) }
+    {
+        let declared = Declared::of(alloc, bindings.items())?;
+        Ok(Scope::Element(declared, outer))
+    }
+
+    /// The namespace that the prefix is bound to. The time grows with the number of open elements, and for each of them
+    /// with the logarithm of the number of its bindings.
     pub fn space_of(&self, prefix: &[u8]) -> Option<&'a [u8]>
         ensures { option_map (λ space. space.now) result ≡ space_of prefix.now (bindings_in self.now) }
     {
         match self {
             Scope::Document => outside(prefix),
-            Scope::Element(declares, outer) => match beside(prefix, declares) {
+            Scope::Element(declared, outer) => match declared.space_of(prefix) {
                 Some(space) => Some(space),
                 None => outer.space_of(prefix),
             },

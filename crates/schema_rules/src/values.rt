@@ -19,16 +19,25 @@ use xa_base::{Text, first_word, is_ncname};
 /// The form of an attribute's value.
 #[derive(Clone, Copy, Debug, PartialEq, Eq)]
 pub enum Form {
+    /// A truth value (Part 2, section 3.2.2.1).
     Truth,
+    /// `qualified` or `unqualified`.
     Qualification,
     /// `use` of an attribute.
     Prescription,
+    /// A number of occurrences.
     Digits,
+    /// A number of occurrences, or `unbounded`.
     DigitsOrUnbounded,
+    /// A name that is declared: an NCName of at most 255 bytes.
     NcName,
+    /// A QName whose prefix is bound.
     Reference,
+    /// The QName of a type.
     TypeName,
+    /// QNames of types, with white space between them.
     TypeNames,
+    /// A namespace for the components of the document.
     TargetNamespace,
 }
 
@@ -100,7 +109,7 @@ const INSTANCE_SPACE: &[u8] = b"http://www.w3.org/2001/XMLSchema-instance";
 const XMLNS_SPACE: &[u8] = b"http://www.w3.org/2000/xmlns/";
 
 // Whether each word is the name of a type.
-fn are_type_names(scope: &Scope<'_>, text: &str) -> bool
+fn are_type_names(scope: &Scope<'_, '_>, text: &str) -> bool
     ensures { result ≡ list_all (λ word. is_some (type_name (bindings_in scope.now) word)) (words_of text.now) }
 {
     let mut rest = text;
@@ -114,7 +123,7 @@ fn are_type_names(scope: &Scope<'_>, text: &str) -> bool
 }
 
 // Whether the value has the form.
-fn has_form(scope: &Scope<'_>, form: Form, value: &Text) -> bool
+fn has_form(scope: &Scope<'_, '_>, form: Form, value: &Text) -> bool
     ensures { result ≡ table.has_form (bindings_in scope.now) form value.now }
 {
     match form {
@@ -135,7 +144,7 @@ fn has_form(scope: &Scope<'_>, form: Form, value: &Text) -> bool
 
 // Whether the value of the attribute has the form that it is to have.
 #[tactic(auto, unfolding(crate::specs::Values::is_well_formed))]
-fn is_well_formed(scope: &Scope<'_>, name: &str, value: &Text) -> bool
+fn is_well_formed(scope: &Scope<'_, '_>, name: &str, value: &Text) -> bool
     ensures { result ≡ table.is_well_formed (bindings_in scope.now) name.now value.now }
 {
     match form_of(name) {
@@ -144,7 +153,7 @@ fn is_well_formed(scope: &Scope<'_>, name: &str, value: &Text) -> bool
     }
 }
 
-fn has_malformed(scope: &Scope<'_>, own: &[(Text, Text)]) -> bool
+fn has_malformed(scope: &Scope<'_, '_>, own: &[(Text, Text)]) -> bool
     ensures { result ≡ table.has_malformed (bindings_in scope.now) own.now }
 {
     own.iter().any(|attribute| !is_well_formed(scope, attribute.0.as_str(), &attribute.1))
@@ -181,7 +190,7 @@ fn is_crossed(own: &[(Text, Text)]) -> bool
 }
 
 /// Whether a value isn't of its form, or two don't fit together.
-pub fn has_bad_value(role: Role, scope: &Scope<'_>, own: &[(Text, Text)]) -> bool
+pub fn has_bad_value(role: Role, scope: &Scope<'_, '_>, own: &[(Text, Text)]) -> bool
     ensures { result ≡ table.has_bad_value role (bindings_in scope.now) own.now }
 {
     has_malformed(scope, own) || is_xmlns(role, own) || is_crossed(own)

@@ -4,7 +4,7 @@ use thiserror::Error;
 /// The reasons against a schema document. At one element the first in this order stands.
 #[derive(Clone, Copy, Debug, PartialEq, Eq, Error)]
 pub enum SchemaWhy {
-    /// The root isn't `schema` of the schema namespace.
+    /// The root isn't `schema` of the schema namespace (XML Schema Part 1, section 3.15.2).
     #[error("the root isn't `schema`")]
     NotASchema,
     /// An element of another namespace, or of a name that XML Schema doesn't have.
@@ -71,52 +71,73 @@ pub enum SchemaWhy {
     /// The attribute `default` or `fixed` of an attribute, left out.
     #[error("`default` and `fixed` of attributes are left out")]
     AttributeDefault,
+    /// A reference to the datatype `decimal`, left out.
     #[error("the datatype `decimal` is left out")]
     Decimal,
+    /// A reference to the datatype `float`, left out.
     #[error("the datatype `float` is left out")]
     Float,
+    /// A reference to the datatype `double`, left out.
     #[error("the datatype `double` is left out")]
     Double,
+    /// A reference to the datatype `duration`, left out.
     #[error("the datatype `duration` is left out")]
     Duration,
+    /// A reference to the datatype `dateTime`, left out.
     #[error("the datatype `dateTime` is left out")]
     DateTime,
+    /// A reference to the datatype `time`, left out.
     #[error("the datatype `time` is left out")]
     Time,
+    /// A reference to the datatype `date`, left out.
     #[error("the datatype `date` is left out")]
     Date,
+    /// A reference to the datatype `gYearMonth`, left out.
     #[error("the datatype `gYearMonth` is left out")]
     GYearMonth,
+    /// A reference to the datatype `gYear`, left out.
     #[error("the datatype `gYear` is left out")]
     GYear,
+    /// A reference to the datatype `gMonthDay`, left out.
     #[error("the datatype `gMonthDay` is left out")]
     GMonthDay,
+    /// A reference to the datatype `gDay`, left out.
     #[error("the datatype `gDay` is left out")]
     GDay,
+    /// A reference to the datatype `gMonth`, left out.
     #[error("the datatype `gMonth` is left out")]
     GMonth,
+    /// A reference to the datatype `hexBinary`, left out.
     #[error("the datatype `hexBinary` is left out")]
     HexBinary,
+    /// A reference to the datatype `base64Binary`, left out.
     #[error("the datatype `base64Binary` is left out")]
     Base64Binary,
+    /// A reference to the datatype `QName`, left out.
     #[error("the datatype `QName` is left out")]
     QName,
+    /// A reference to the datatype `NOTATION`, left out.
     #[error("the datatype `NOTATION` is left out")]
     NOTATION,
+    /// A reference to the datatype `ID`, left out.
     #[error("the datatype `ID` is left out")]
     ID,
+    /// A reference to the datatype `IDREF`, left out.
     #[error("the datatype `IDREF` is left out")]
     IDREF,
+    /// A reference to the datatype `IDREFS`, left out.
     #[error("the datatype `IDREFS` is left out")]
     IDREFS,
+    /// A reference to the datatype `ENTITY`, left out.
     #[error("the datatype `ENTITY` is left out")]
     ENTITY,
+    /// A reference to the datatype `ENTITIES`, left out.
     #[error("the datatype `ENTITIES` is left out")]
     ENTITIES,
-    /// Also an attribute without a type.
+    /// A reference to the datatype `anySimpleType`, left out, or an attribute without a type (Part 1, section 3.2.2).
     #[error("the datatype `anySimpleType` is left out")]
     AnySimpleType,
-    /// Also an element without a type.
+    /// A reference to the datatype `anyType`, left out, or an element without a type (Part 1, section 3.3.2).
     #[error("the datatype `anyType` is left out")]
     AnyType,
     /// Two ways of saying one thing that exclude each other: `ref` beside what a declaration says, or a type by its

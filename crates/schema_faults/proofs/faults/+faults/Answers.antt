@@ -41,7 +41,7 @@ fault_at-returns-in-Placed t c =
 pub fault_of-returns-then-is_some : goal.fault_of-returns-then-is_some
 fault_of-returns-then-is_some t c =
     own_found c.args.role (bindings_in c.args.scope.now) c.args.level c.args.tree.now c.in-Element.name c.in-Element.attributes c.in-Element.declares c.in-Element.at
-    (sym c.label.ensures ∙ c.in-Element.is) c.in_ok-found.found (rw (c.items.ensures, c.items-2.ensures, c.kids.ensures) at c.in_ok-found.ensures)
+    (sym c.label.ensures ∙ c.in-Element.is) c.in_ok-found.found (rw (c.in_ok-inside.ensures, c.items.ensures, c.kids.ensures) at c.in_ok-found.ensures)
     c.fault_if.result (sym c.is_some.ensures ∙ c.if-is_some.true) c.fault_if.ensures
 
 pub fault_of-fault_among-requires : goal.fault_of-fault_among-requires
@@ -52,7 +52,7 @@ fault_of-fault_among-requires t c =
 
 pub fault_of-returns : goal.fault_of-returns
 fault_of-returns t c =
-    let found = rw (c.items.ensures, c.items-2.ensures, c.kids.ensures) at c.in_ok-found.ensures in
+    let found = rw (c.in_ok-inside.ensures, c.items.ensures, c.kids.ensures) at c.in_ok-found.ensures in
     let same = own_passed c.args.role (bindings_in c.args.scope.now) c.args.level c.args.tree.now c.in-Element.name c.in-Element.attributes c.in-Element.declares c.in-Element.at
     (sym c.label.ensures ∙ c.in-Element.is) c.in_ok-found.found found (sym c.is_some.ensures ∙ c.if-is_some.false) (sym c.is_composition.ensures ∙ c.if-is_composition.false) in
-    rw (← same) (rw (c.items.ensures, c.level_inside.ensures, c.kids-2.ensures) at c.fault_among.ensures)
+    rw (← same) (rw (c.in_ok-inside.ensures, c.level_inside.ensures, c.kids-2.ensures) at c.fault_among.ensures)

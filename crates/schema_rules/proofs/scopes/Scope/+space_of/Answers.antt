@@ -5,8 +5,8 @@ use Rattle.schema_rules.proofs.scopes.Scope.+space_of.Goals as goal
 
 pub returns-in-Some : goal.returns-in-Some
 returns-in-Some t c =
-    rw c.in-Element.is (found_inside c.args.prefix.now c.in-Element.declares.now (bindings_in c.in-Element.outer.now) c.in-Some.space.now c.in-Some.ensures)
+    rw c.in-Element.is (found_inside c.args.prefix.now c.in-Element.declared (bindings_in c.in-Element.outer.now) c.in-Some.space.now c.in-Some.ensures)
 
 pub returns-in-None : goal.returns-in-None
 returns-in-None t c =
-    rw c.in-Element.is (c.space_of.ensures ∙ found_outside c.args.prefix.now c.in-Element.declares.now (bindings_in c.in-Element.outer.now) c.in-None.ensures)
+    rw c.in-Element.is (c.space_of-in-None.ensures ∙ found_outside c.args.prefix.now c.in-Element.declared (bindings_in c.in-Element.outer.now) c.in-None.ensures)
