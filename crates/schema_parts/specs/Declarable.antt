@@ -19,6 +19,9 @@ is_local_name part = is_utf8 part && is_ncname (chars part) && nat_le (length pa
 abbrev pub is_declarable : Name → Bool
 is_declarable name = is_namespace name.space && is_local_name name.local && not (list_any (bytes_eq name.space) kept_spaces)
 
+abbrev pub is_xmlns : Name → Bool
+is_xmlns name = bytes_eq name.space [] && bytes_eq name.local (codes "xmlns")
+
 -- no attribute without a namespace is `xmlns` (XML Schema Part 1, section 3.2.6, 'xmlns Not Allowed')
 abbrev pub is_declarable_attribute : Name → Bool
-is_declarable_attribute name = is_declarable name && not (bytes_eq name.space [] && bytes_eq name.local (codes "xmlns"))
+is_declarable_attribute name = is_declarable name && not (is_xmlns name)

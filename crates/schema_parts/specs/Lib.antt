@@ -6,4 +6,9 @@ pub mod Parts
 pub mod Documents
 pub mod Components
 pub mod Declarable
+pub mod DeclaredNames
+pub mod Varieties
+pub mod Places
+pub mod Inward
+pub mod Chains
 pub mod Linked

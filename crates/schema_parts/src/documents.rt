@@ -2,8 +2,13 @@
 ghost use Rattle.std.specs.Prelude.{◌≡◌, ◌<◌, ◌^◌, Some, length, map, slice_get};
 ghost use Rattle.schema_parts.specs.Parts.{parts_of};
 ghost use Rattle.std.specs.Prelude.{true};
-ghost use Rattle.schema_parts.specs.Seen.{element_of, type_of, local_of};
+ghost use Rattle.schema_parts.specs.Seen.{element_of, attribute_of, type_of, local_of};
 ghost use Rattle.schema_parts.specs.Bounds.{all_fit, ascend};
+ghost use Rattle.schema_parts.specs.DeclaredNames.{all_named};
+ghost use Rattle.schema_parts.specs.Varieties.{all_varied};
+ghost use Rattle.schema_parts.specs.Places.{all_ascend, places_in, StandAmong};
+ghost use Rattle.schema_parts.specs.Inward.{all_inward};
+ghost use Rattle.schema_parts.specs.Chains.{AreShort};
 ghost use Rattle.schema_parts.specs.Coherent.{IsCoherent};
 
 use crate::declarations::{RawAttribute, RawElement, RawLocal, RawType};
@@ -15,7 +20,11 @@ use xa_base::Text;
 /// The `decl` of an element particle numbers the local declarations of the document from 0, in the order in which they
 /// were written. Each local declaration stands in one particle, which has its name, and those that stand in a local
 /// declaration have greater numbers. Each particle has the number of the file and may occur, and each content model has
-/// at most 17 levels.
+/// at most 17 levels. Each declared name may be declared; a reference may have any name. Each restriction has at most
+/// 10,000 enumerations, and each union has a member. The components of each kind, local ones too, stand in the order of
+/// their places, and each element, attribute, type and group has a place of its own among those that are counted.
+/// Each part stands behind the part that it stands in, and an element particle has the place of its declaration. A chain
+/// of complex types, each in a declaration of the content model of the one before, has at most 21.
 #[derive(Drop)]
 pub struct RawDoc {
     file: u32,
@@ -28,15 +37,23 @@ pub struct RawDoc {
     ghost numbered: { length locals.items < 2 ^ 32 },
     ghost fitting: { all_fit (map element_of elements.items) (map type_of types.items) (map local_of locals.items) ≡ true },
     ghost ascending: { ascend counted.items ≡ true },
+    ghost named: { all_named (map element_of elements.items) (map attribute_of attributes.items) (map type_of types.items) (map local_of locals.items) ≡ true },
+    ghost varied: { all_varied (map element_of elements.items) (map attribute_of attributes.items) (map type_of types.items) (map local_of locals.items) ≡ true },
+    ghost ordered: { all_ascend (map element_of elements.items) (map attribute_of attributes.items) (map type_of types.items) (map local_of locals.items) ≡ true },
+    ghost all_counted: { StandAmong (places_in (map element_of elements.items) (map attribute_of attributes.items) (map type_of types.items) (map local_of locals.items)) counted.items },
+    ghost inward: { all_inward (map element_of elements.items) (map attribute_of attributes.items) (map type_of types.items) (map local_of locals.items) ≡ true },
+    ghost short: { ∥ AreShort (map element_of elements.items) (map type_of types.items) (map local_of locals.items) ∥₁ },
     ghost coherent: { ∥ IsCoherent (parts_of file target elements.items attributes.items types.items locals.items counted.items) ∥₁ },
 }
 
 impl RawDoc {
-    ghost use Rattle.schema_parts.specs.Seen.{attribute_of};
     ghost use Rattle.schema_parts.specs.Documents.{doc_of};
 
     /// A document of these parts. There are fewer than 2^32 local declarations, they and the content models hang
-    /// together, and each of these has at most 17 levels of particles that may occur. The places ascend. It takes no memory.
+    /// together, and each of these has at most 17 levels of particles that may occur. The places ascend. Each declared
+    /// name may be declared; no restriction has more than 10,000 enumerations, and no union is without a member. The
+    /// components of each kind stand in the order of their places, each part is counted, and it stands behind the part
+    /// that it stands in. At most 21 complex types stand in one another. It takes no memory.
     pub fn of(
         file: u32,
         target: Text,
@@ -49,6 +66,12 @@ impl RawDoc {
         requires few { length locals.items < 2 ^ 32 }
         requires fitting { all_fit (map element_of elements.items) (map type_of types.items) (map local_of locals.items) ≡ true }
         requires ascending { ascend counted.items ≡ true }
+        requires named { all_named (map element_of elements.items) (map attribute_of attributes.items) (map type_of types.items) (map local_of locals.items) ≡ true }
+        requires varied { all_varied (map element_of elements.items) (map attribute_of attributes.items) (map type_of types.items) (map local_of locals.items) ≡ true }
+        requires ordered { all_ascend (map element_of elements.items) (map attribute_of attributes.items) (map type_of types.items) (map local_of locals.items) ≡ true }
+        requires all_counted { StandAmong (places_in (map element_of elements.items) (map attribute_of attributes.items) (map type_of types.items) (map local_of locals.items)) counted.items }
+        requires inward { all_inward (map element_of elements.items) (map attribute_of attributes.items) (map type_of types.items) (map local_of locals.items) ≡ true }
+        requires short { AreShort (map element_of elements.items) (map type_of types.items) (map local_of locals.items) }
         requires coherent { IsCoherent (parts_of file target elements.items attributes.items types.items locals.items counted.items) }
         ensures { doc_of result ≡ parts_of file target elements.items attributes.items types.items locals.items counted.items }
     {
@@ -110,7 +133,13 @@ impl RawDoc {
     pub fn local_count(&self) -> u32
         ensures count { result ≡ length (doc_of self.now).locals }
         ensures ascending { ascend (doc_of self.now).counted ≡ true }
+        ensures named { all_named (doc_of self.now).elements (doc_of self.now).attributes (doc_of self.now).types (doc_of self.now).locals ≡ true }
+        ensures varied { all_varied (doc_of self.now).elements (doc_of self.now).attributes (doc_of self.now).types (doc_of self.now).locals ≡ true }
+        ensures ordered { all_ascend (doc_of self.now).elements (doc_of self.now).attributes (doc_of self.now).types (doc_of self.now).locals ≡ true }
+        ensures all_counted { StandAmong (places_in (doc_of self.now).elements (doc_of self.now).attributes (doc_of self.now).types (doc_of self.now).locals) (doc_of self.now).counted }
+        ensures inward { all_inward (doc_of self.now).elements (doc_of self.now).attributes (doc_of self.now).types (doc_of self.now).locals ≡ true }
         ensures fitting { all_fit (doc_of self.now).elements (doc_of self.now).types (doc_of self.now).locals ≡ true }
+        ensures short { ∥ AreShort (doc_of self.now).elements (doc_of self.now).types (doc_of self.now).locals ∥₁ }
         ensures coherent { ∥ IsCoherent (doc_of self.now) ∥₁ }
     {
         self.locals.len() as u32

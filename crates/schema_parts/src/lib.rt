@@ -3,11 +3,13 @@
 
 mod components;
 mod declarations;
+mod declared_names;
 mod documents;
 mod fitting;
 mod roots;
 mod schema_sets;
 mod simple_definitions;
+mod varieties;
 
 pub use components::{
     AttributeUse, ComplexDef, Content, ElementDecl, GlobalAttribute, SimpleDef, TypeOf, Uses,
@@ -15,8 +17,13 @@ pub use components::{
 pub use declarations::{
     RawAttribute, RawComplex, RawContent, RawElement, RawKind, RawLocal, RawType, RawUse, RawUses,
 };
+pub use declared_names::{all_named, declarable, declarable_attribute};
 pub use documents::RawDoc;
 pub use fitting::{all_fit, ascend};
 pub use roots::find_root;
 pub use schema_sets::SchemaSet;
 pub use simple_definitions::{RawBase, RawBases, RawHow, RawRef, RawSimple};
+pub use varieties::all_varied;
+
+#[cfg(test)]
+mod tests;

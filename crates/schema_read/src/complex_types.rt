@@ -24,11 +24,11 @@ use xa_base::{Memory, Name, Text};
 
 // The particle that the element is, unless it may not occur. What it declares is added to the local declarations.
 #[cycle(complex_types)]
-fn particle_at<'a>(
+fn particle_at<'a, 'b>(
     alloc: Global,
     setting: Setting<'_>,
     tree: &'a Tree<ItemLabel>,
-    scope: &'a Scope<'a>,
+    scope: &'b Scope<'a, 'b>,
     locals: &mut Vec<RawLocal>,
 ) -> Result<Option<Tree<ParticleLabel>>, Memory>
     ensures { IfOk result (λ found. Makes locals.old.items locals.new.items found (parts.particle_at (said setting.entry) (bindings_in scope.now) (length locals.old.items) tree.now)) }
@@ -49,7 +49,7 @@ fn particle_at<'a>(
     if never_occurs(&own) {
         return Ok(None);
     }
-    let inside = Scope::Element(declares.items(), scope);
+    let inside = Scope::inside(alloc, declares, scope)?;
     let particle = particle_of(
         alloc,
         setting,
@@ -64,14 +64,14 @@ fn particle_at<'a>(
 }
 
 #[cycle(complex_types)]
-fn particle_of<'a>(
+fn particle_of<'a, 'b>(
     alloc: Global,
     setting: Setting<'_>,
     name: &str,
     at: u64,
     own: &[(Text, Text)],
     kids: &'a [Tree<ItemLabel>],
-    scope: &'a Scope<'a>,
+    scope: &'b Scope<'a, 'b>,
     locals: &mut Vec<RawLocal>,
 ) -> Result<Tree<ParticleLabel>, Memory>
     ensures { IfOk result (λ particle. Makes locals.old.items locals.new.items particle (parts.particle_by (said setting.entry) (length locals.old.items) name.now at (bindings_in scope.now) own.now
@@ -90,11 +90,11 @@ fn particle_of<'a>(
 
 // The particles among these, in their order, without those that may not occur.
 #[cycle(complex_types)]
-fn particles_among<'a>(
+fn particles_among<'a, 'b>(
     alloc: Global,
     setting: Setting<'_>,
     kids: &'a [Tree<ItemLabel>],
-    scope: &'a Scope<'a>,
+    scope: &'b Scope<'a, 'b>,
     locals: &mut Vec<RawLocal>,
 ) -> Result<Vec<Tree<ParticleLabel>>, Memory>
     ensures { IfOk result (λ particles. Makes locals.old.items locals.new.items particles.items (parts.particles_among (said setting.entry) (bindings_in scope.now) (length locals.old.items) (roses_of kids.now))) }
@@ -119,7 +119,7 @@ fn next_number(locals: &[RawLocal]) -> Result<u32, Memory>
 // Adds a reference to a global element.
 fn refer(
     alloc: Global,
-    scope: &Scope<'_>,
+    scope: &Scope<'_, '_>,
     text: &str,
     at: u64,
     locals: &mut Vec<RawLocal>,
@@ -133,13 +133,13 @@ fn refer(
 
 // Adds a local declaration before those that stand in it, and tells its number.
 #[cycle(complex_types)]
-fn declare<'a>(
+fn declare<'a, 'b>(
     alloc: Global,
     setting: Setting<'_>,
     at: u64,
     own: &[(Text, Text)],
     kids: &'a [Tree<ItemLabel>],
-    scope: &'a Scope<'a>,
+    scope: &'b Scope<'a, 'b>,
     locals: &mut Vec<RawLocal>,
 ) -> Result<u32, Memory>
     ensures { IfOk result (λ decl. Makes locals.old.items locals.new.items decl (made (length locals.old.items) (parts.declared (said setting.entry) at (bindings_in scope.now) own.now
@@ -170,13 +170,13 @@ fn hold(alloc: Global, at: u64, locals: &mut Vec<RawLocal>) -> Result<(), Memory
 }
 
 #[cycle(complex_types)]
-fn declare_own<'a>(
+fn declare_own<'a, 'b>(
     alloc: Global,
     setting: Setting<'_>,
     at: u64,
     own: &[(Text, Text)],
     kids: &'a [Tree<ItemLabel>],
-    scope: &'a Scope<'a>,
+    scope: &'b Scope<'a, 'b>,
     locals: &mut Vec<RawLocal>,
 ) -> Result<(), Memory>
     ensures { OnOk result (map seen.local_of locals.new.items ≡ map seen.local_of locals.old.items ++ parts.declared_with (parts.element_by
@@ -193,14 +193,14 @@ fn declare_own<'a>(
 
 /// The element that is declared by this name.
 #[cycle(complex_types)]
-pub(crate) fn element_of<'a>(
+pub(crate) fn element_of<'a, 'b>(
     alloc: Global,
     setting: Setting<'_>,
     name: Name,
     at: u64,
     own: &[(Text, Text)],
     kids: &'a [Tree<ItemLabel>],
-    scope: &'a Scope<'a>,
+    scope: &'b Scope<'a, 'b>,
     locals: &mut Vec<RawLocal>,
 ) -> Result<RawElement, Memory>
     ensures { IfOk result (λ element. Makes locals.old.items locals.new.items (seen.element_of element) (parts.element_by name own.now at (parts.kind_by (bindings_in scope.now) own.now
@@ -220,11 +220,11 @@ pub(crate) fn element_of<'a>(
 
 // The first particle among these that may occur.
 #[cycle(complex_types)]
-fn group_among<'a>(
+fn group_among<'a, 'b>(
     alloc: Global,
     setting: Setting<'_>,
     kids: &'a [Tree<ItemLabel>],
-    scope: &'a Scope<'a>,
+    scope: &'b Scope<'a, 'b>,
     locals: &mut Vec<RawLocal>,
 ) -> Result<Option<Tree<ParticleLabel>>, Memory>
     ensures { IfOk result (λ found. Makes locals.old.items locals.new.items found (parts.group_among (said setting.entry) (bindings_in scope.now) (length locals.old.items) (roses_of kids.now))) }
@@ -240,11 +240,11 @@ fn group_among<'a>(
 
 // The first type among these.
 #[cycle(complex_types)]
-fn inner_kind<'a>(
+fn inner_kind<'a, 'b>(
     alloc: Global,
     setting: Setting<'_>,
     kids: &'a [Tree<ItemLabel>],
-    scope: &'a Scope<'a>,
+    scope: &'b Scope<'a, 'b>,
     locals: &mut Vec<RawLocal>,
 ) -> Result<RawKind, Memory>
     ensures { IfOk result (λ kind. Makes locals.old.items locals.new.items (seen.kind_of kind) (parts.inner_kind (said setting.entry) (bindings_in scope.now) (length locals.old.items) (roses_of kids.now))) }
@@ -264,11 +264,11 @@ fn inner_kind<'a>(
 
 /// The complex type that the element defines.
 #[cycle(complex_types)]
-pub(crate) fn complex_type<'a>(
+pub(crate) fn complex_type<'a, 'b>(
     alloc: Global,
     setting: Setting<'_>,
     tree: &'a Tree<ItemLabel>,
-    scope: &'a Scope<'a>,
+    scope: &'b Scope<'a, 'b>,
     locals: &mut Vec<RawLocal>,
 ) -> Result<Option<RawComplex>, Memory>
     ensures { IfOk result (λ found. Makes locals.old.items locals.new.items (option_map seen.complex_of found) (parts.complex_type (said setting.entry) (bindings_in scope.now) (length locals.old.items) tree.now)) }
@@ -285,7 +285,7 @@ pub(crate) fn complex_type<'a>(
     if !is_named("complexType", tree.label()) {
         return Ok(None);
     }
-    let inside = Scope::Element(declares.items(), scope);
+    let inside = Scope::inside(alloc, declares, scope)?;
     let own = own_attributes(alloc, attributes.items())?;
     let mixed = is_true("mixed", &own);
     let body = complex_of(alloc, setting, *at, mixed, tree.kids(), &inside, locals)?;
@@ -293,13 +293,13 @@ pub(crate) fn complex_type<'a>(
 }
 
 #[cycle(complex_types)]
-fn complex_of<'a>(
+fn complex_of<'a, 'b>(
     alloc: Global,
     setting: Setting<'_>,
     at: u64,
     mixed: bool,
     kids: &'a [Tree<ItemLabel>],
-    scope: &'a Scope<'a>,
+    scope: &'b Scope<'a, 'b>,
     locals: &mut Vec<RawLocal>,
 ) -> Result<RawComplex, Memory>
     ensures { IfOk result (λ body. Makes locals.old.items locals.new.items (seen.complex_of body) (parts.complex_of (said setting.entry) at mixed (bindings_in scope.now) kids.now

@@ -37,7 +37,11 @@ pub(crate) fn is_named(local: &str, label: &ItemLabel) -> bool
     }
 }
 
-fn extension_base(alloc: Global, scope: &Scope<'_>, own: &[(Text, Text)]) -> Result<RawRef, Memory>
+fn extension_base(
+    alloc: Global,
+    scope: &Scope<'_, '_>,
+    own: &[(Text, Text)],
+) -> Result<RawRef, Memory>
     ensures { IfOk result (λ base. base ≡ contents.extension_base (bindings_in scope.now) own.now) }
 {
     match value_of("base", own) {
@@ -47,11 +51,11 @@ fn extension_base(alloc: Global, scope: &Scope<'_>, own: &[(Text, Text)]) -> Res
 }
 
 // The simple content of a complex type by its extension, with its attributes.
-fn extended<'a>(
+fn extended<'a, 'b>(
     alloc: Global,
     setting: Setting<'_>,
     tree: &'a Tree<ItemLabel>,
-    scope: &'a Scope<'a>,
+    scope: &'b Scope<'a, 'b>,
 ) -> Result<Option<(RawContent, RawUses)>, Memory>
     ensures { IfOk result (λ found. option_map contents.content_seen found ≡ contents.extended (said setting.entry) (bindings_in scope.now) (label_of tree.now) (kids_of tree.now)) }
 {
@@ -67,18 +71,18 @@ fn extended<'a>(
     if !is_named("extension", tree.label()) {
         return Ok(None);
     }
-    let inside = Scope::Element(declares.items(), scope);
+    let inside = Scope::inside(alloc, declares, scope)?;
     let own = own_attributes(alloc, attributes.items())?;
     let base = extension_base(alloc, &inside, &own)?;
     let uses = uses_among(alloc, setting, tree.kids(), &inside)?;
     Ok(Some((RawContent::Simple { base, at: *at }, uses)))
 }
 
-fn extended_among<'a>(
+fn extended_among<'a, 'b>(
     alloc: Global,
     setting: Setting<'_>,
     kids: &'a [Tree<ItemLabel>],
-    scope: &'a Scope<'a>,
+    scope: &'b Scope<'a, 'b>,
 ) -> Result<Option<(RawContent, RawUses)>, Memory>
     ensures { IfOk result (λ found. option_map contents.content_seen found ≡ contents.extended_among (said setting.entry) (bindings_in scope.now) kids.now) }
 {
@@ -91,11 +95,11 @@ fn extended_among<'a>(
     Ok(None)
 }
 
-fn simple_content_at<'a>(
+fn simple_content_at<'a, 'b>(
     alloc: Global,
     setting: Setting<'_>,
     tree: &'a Tree<ItemLabel>,
-    scope: &'a Scope<'a>,
+    scope: &'b Scope<'a, 'b>,
 ) -> Result<Option<(RawContent, RawUses)>, Memory>
     ensures { IfOk result (λ found. option_map contents.content_seen found ≡ contents.simple_content_at (said setting.entry) (bindings_in scope.now) (label_of tree.now) (kids_of tree.now)) }
 {
@@ -105,16 +109,16 @@ fn simple_content_at<'a>(
     if !is_named("simpleContent", tree.label()) {
         return Ok(None);
     }
-    let inside = Scope::Element(declares.items(), scope);
+    let inside = Scope::inside(alloc, declares, scope)?;
     extended_among(alloc, setting, tree.kids(), &inside)
 }
 
 /// The simple content among the children of a complex type, with its attributes.
-pub(crate) fn simple_content<'a>(
+pub(crate) fn simple_content<'a, 'b>(
     alloc: Global,
     setting: Setting<'_>,
     kids: &'a [Tree<ItemLabel>],
-    scope: &'a Scope<'a>,
+    scope: &'b Scope<'a, 'b>,
 ) -> Result<Option<(RawContent, RawUses)>, Memory>
     ensures { IfOk result (λ found. option_map contents.content_seen found ≡ contents.simple_content (said setting.entry) (bindings_in scope.now) kids.now) }
 {
@@ -260,13 +264,13 @@ pub(crate) fn complex_with(at: u64, found: (RawContent, RawUses)) -> RawComplex
 }
 
 /// A complex type whose content is by the group, if there is one.
-pub(crate) fn complex_by<'a>(
+pub(crate) fn complex_by<'a, 'b>(
     alloc: Global,
     setting: Setting<'_>,
     at: u64,
     mixed: bool,
     kids: &'a [Tree<ItemLabel>],
-    scope: &'a Scope<'a>,
+    scope: &'b Scope<'a, 'b>,
     group: Option<Tree<ParticleLabel>>,
 ) -> Result<RawComplex, Memory>
     ensures { IfOk result (λ body. complex_of body ≡ contents.complex_by (said setting.entry) at mixed (bindings_in scope.now) kids.now group) }

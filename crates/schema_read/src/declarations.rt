@@ -65,7 +65,7 @@ fn has_use(how: &str, own: &[(Text, Text)]) -> bool
 
 fn use_to(
     alloc: Global,
-    scope: &Scope<'_>,
+    scope: &Scope<'_, '_>,
     text: &str,
     own: &[(Text, Text)],
     at: u64,
@@ -82,11 +82,11 @@ fn use_to(
     })
 }
 
-fn own_use<'a>(
+fn own_use<'a, 'b>(
     alloc: Global,
     setting: Setting<'_>,
     at: u64,
-    scope: &'a Scope<'a>,
+    scope: &'b Scope<'a, 'b>,
     own: &[(Text, Text)],
     kids: &'a [Tree<ItemLabel>],
 ) -> Result<RawUse, Memory>
@@ -104,11 +104,11 @@ fn own_use<'a>(
     })
 }
 
-fn use_by<'a>(
+fn use_by<'a, 'b>(
     alloc: Global,
     setting: Setting<'_>,
     at: u64,
-    scope: &'a Scope<'a>,
+    scope: &'b Scope<'a, 'b>,
     own: &[(Text, Text)],
     kids: &'a [Tree<ItemLabel>],
 ) -> Result<RawUse, Memory>
@@ -121,11 +121,11 @@ fn use_by<'a>(
 }
 
 // The attribute that the element declares, unless it is prohibited.
-fn use_at<'a>(
+fn use_at<'a, 'b>(
     alloc: Global,
     setting: Setting<'_>,
     tree: &'a Tree<ItemLabel>,
-    scope: &'a Scope<'a>,
+    scope: &'b Scope<'a, 'b>,
 ) -> Result<Option<RawUse>, Memory>
     ensures { IfOk result (λ found. option_map use_of found ≡ attributes.use_at setting.entry.target.now setting.entry.attributes_qualified (bindings_in scope.now) (label_of tree.now) (kids_of tree.now)) }
 {
@@ -145,17 +145,17 @@ fn use_at<'a>(
     if has_use("prohibited", &own) {
         return Ok(None);
     }
-    let inside = Scope::Element(declares.items(), scope);
+    let inside = Scope::inside(alloc, declares, scope)?;
     let found = use_by(alloc, setting, *at, &inside, &own, tree.kids())?;
     Ok(Some(found))
 }
 
 /// The attributes that these declare, in their order, without those that are prohibited.
-pub(crate) fn uses_among<'a>(
+pub(crate) fn uses_among<'a, 'b>(
     alloc: Global,
     setting: Setting<'_>,
     kids: &'a [Tree<ItemLabel>],
-    scope: &'a Scope<'a>,
+    scope: &'b Scope<'a, 'b>,
 ) -> Result<RawUses, Memory>
     ensures { IfOk result (λ uses. uses_of uses ≡ attributes.uses_among setting.entry.target.now setting.entry.attributes_qualified (bindings_in scope.now) kids.now) }
 {
@@ -168,11 +168,11 @@ pub(crate) fn uses_among<'a>(
     Ok(RawUses::of(uses))
 }
 
-fn attribute_by<'a>(
+fn attribute_by<'a, 'b>(
     alloc: Global,
     target: &Text,
     at: u64,
-    scope: &'a Scope<'a>,
+    scope: &'b Scope<'a, 'b>,
     own: &[(Text, Text)],
     kids: &'a [Tree<ItemLabel>],
 ) -> Result<RawAttribute, Memory>
@@ -184,11 +184,11 @@ fn attribute_by<'a>(
 }
 
 /// The global attribute that the element declares.
-pub(crate) fn global_attribute<'a>(
+pub(crate) fn global_attribute<'a, 'b>(
     alloc: Global,
     target: &Text,
     tree: &'a Tree<ItemLabel>,
-    scope: &'a Scope<'a>,
+    scope: &'b Scope<'a, 'b>,
 ) -> Result<Option<RawAttribute>, Memory>
     ensures { IfOk result (λ found. option_map attribute_of found ≡ attributes.global_attribute target.now (bindings_in scope.now) (label_of tree.now) (kids_of tree.now)) }
 {
@@ -202,7 +202,7 @@ pub(crate) fn global_attribute<'a>(
         return Ok(None);
     };
     let own = own_attributes(alloc, attributes.items())?;
-    let inside = Scope::Element(declares.items(), scope);
+    let inside = Scope::inside(alloc, declares, scope)?;
     let found = attribute_by(alloc, target, *at, &inside, &own, tree.kids())?;
     Ok(Some(found))
 }

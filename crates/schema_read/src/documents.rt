@@ -17,8 +17,9 @@ use crate::globals::{Globals, globals_among};
 use crate::names::value_or_empty;
 use doc_text::{ItemLabel, Items};
 use label_tree::Tree;
+use part_places::{all_ascend, all_inward, are_counted, are_short};
 use schema_faults::{Fault, first_fault};
-use schema_parts::{RawDoc, RawLocal, all_fit, ascend};
+use schema_parts::{RawDoc, RawLocal, all_fit, all_named, all_varied, ascend};
 use schema_rules::{Scope, is_counted, is_looked_into, own_attributes};
 use std::alloc::Global;
 use xa_base::{Memory, Name, Text};
@@ -68,6 +69,7 @@ fn counted_places(alloc: Global, kids: &[Tree<ItemLabel>]) -> Result<Vec<u64>, M
 }
 
 fn sealed(
+    alloc: Global,
     file: u32,
     target: Text,
     globals: Globals,
@@ -85,22 +87,40 @@ fn sealed(
     if u32::try_from(locals.len()).is_err() {
         return Err(Memory);
     }
-    // A document with other content models or places has a fault.
+    // A document in which one of these tests fails has a fault.
     if !all_fit(&elements, &types, &locals) {
         return Err(Memory);
     }
     if !ascend(&counted) {
         return Err(Memory);
     }
+    if !all_named(&elements, &attributes, &types, &locals) {
+        return Err(Memory);
+    }
+    if !all_varied(&elements, &attributes, &types, &locals) {
+        return Err(Memory);
+    }
+    if !all_ascend(&elements, &attributes, &types, &locals) {
+        return Err(Memory);
+    }
+    if !all_inward(&elements, &attributes, &types, &locals) {
+        return Err(Memory);
+    }
+    if !are_counted(alloc, &elements, &attributes, &types, &locals, &counted)? {
+        return Err(Memory);
+    }
+    if !are_short(alloc, &elements, &types, &locals)? {
+        return Err(Memory);
+    }
     Ok(RawDoc::of(file, target, elements, attributes, types, locals, counted))
 }
 
 // All that the children of `schema` declare.
-fn described_by<'a>(
+fn described_by<'a, 'b>(
     alloc: Global,
     setting: Setting<'_>,
     kids: &'a [Tree<ItemLabel>],
-    scope: &'a Scope<'a>,
+    scope: &'b Scope<'a, 'b>,
 ) -> Result<RawDoc, Memory>
     ensures { IfOk result (λ doc. doc_of doc ≡ document_with setting.entry.file setting.entry.target.now (counted_among (roses_of kids.now)) (parts_among (said setting.entry) (bindings_in scope.now) 0 kids.now)) }
 {
@@ -108,16 +128,16 @@ fn described_by<'a>(
     let globals = globals_among(alloc, setting, kids, scope, &mut locals)?;
     let counted = counted_places(alloc, kids)?;
     let target = setting.target.copy(alloc)?;
-    sealed(setting.file, target, globals, locals, counted)
+    sealed(alloc, setting.file, target, globals, locals, counted)
 }
 
 // The components of a document with these attributes of `schema` and these children of it.
-fn described<'a>(
+fn described<'a, 'b>(
     alloc: Global,
     file: u32,
     own: &[(Text, Text)],
     kids: &'a [Tree<ItemLabel>],
-    scope: &'a Scope<'a>,
+    scope: &'b Scope<'a, 'b>,
 ) -> Result<RawDoc, Memory>
     ensures { IfOk result (λ doc. doc_of doc ≡ document_by file own.now (bindings_in scope.now) kids.now) }
 {
@@ -145,13 +165,14 @@ fn components(alloc: Global, root: &Tree<ItemLabel>, file: u32) -> Result<RawDoc
     };
     let own = own_attributes(alloc, attributes.items())?;
     let outside = Scope::Document;
-    let scope = Scope::Element(declares.items(), &outside);
+    let scope = Scope::inside(alloc, declares, &outside)?;
     described(alloc, file, &own, root.kids(), &scope)
 }
 
 /// The components of a schema document, which is file number `file` of its set, or its first fault.
 ///
-/// The time grows with the number of items, and with the number of bindings in scope for each reference.
+/// The time grows with the size of the document, and for each element and each reference with the logarithm of the
+/// number of bindings of the elements that are open.
 pub fn read_schema(alloc: Global, items: &Items, file: u32) -> Result<RawDoc, SchemaError>
     requires { Ascend 0 16777216 (tokens items.now) }
     // It is a schema, or it is refused with the place and the reason of its first fault.

@@ -30,13 +30,13 @@ pub(crate) struct Globals {
 }
 
 // Adds a global element.
-fn add_element<'a>(
+fn add_element<'a, 'b>(
     alloc: Global,
     setting: Setting<'_>,
     at: u64,
     own: &[(Text, Text)],
     kids: &'a [Tree<ItemLabel>],
-    scope: &'a Scope<'a>,
+    scope: &'b Scope<'a, 'b>,
     globals: &mut Globals,
     locals: &mut Vec<RawLocal>,
 ) -> Result<(), Memory>
@@ -49,11 +49,11 @@ fn add_element<'a>(
     Ok(())
 }
 
-fn add_attribute<'a>(
+fn add_attribute<'a, 'b>(
     alloc: Global,
     setting: Setting<'_>,
     tree: &'a Tree<ItemLabel>,
-    scope: &'a Scope<'a>,
+    scope: &'b Scope<'a, 'b>,
     globals: &mut Globals,
 ) -> Result<(), Memory>
     ensures { OnOk result (Adds globals.old globals.new [] [] (raw.attribute_parts
@@ -66,12 +66,12 @@ fn add_attribute<'a>(
     Ok(())
 }
 
-fn add_simple_type<'a>(
+fn add_simple_type<'a, 'b>(
     alloc: Global,
     setting: Setting<'_>,
     own: &[(Text, Text)],
     tree: &'a Tree<ItemLabel>,
-    scope: &'a Scope<'a>,
+    scope: &'b Scope<'a, 'b>,
     globals: &mut Globals,
 ) -> Result<(), Memory>
     ensures { OnOk result (Adds globals.old globals.new [] [] (raw.simple_type_parts
@@ -85,12 +85,12 @@ fn add_simple_type<'a>(
     Ok(())
 }
 
-fn add_complex_type<'a>(
+fn add_complex_type<'a, 'b>(
     alloc: Global,
     setting: Setting<'_>,
     own: &[(Text, Text)],
     tree: &'a Tree<ItemLabel>,
-    scope: &'a Scope<'a>,
+    scope: &'b Scope<'a, 'b>,
     globals: &mut Globals,
     locals: &mut Vec<RawLocal>,
 ) -> Result<(), Memory>
@@ -106,15 +106,15 @@ fn add_complex_type<'a>(
 }
 
 // Adds what a child of `schema` with this name and these attributes declares. `scope` is that around it.
-fn add_named<'a>(
+fn add_named<'a, 'b>(
     alloc: Global,
     setting: Setting<'_>,
     name: &str,
     own: &[(Text, Text)],
-    inside: &'a Scope<'a>,
+    inside: &'b Scope<'a, 'b>,
     at: u64,
     tree: &'a Tree<ItemLabel>,
-    scope: &'a Scope<'a>,
+    scope: &'b Scope<'a, 'b>,
     globals: &mut Globals,
     locals: &mut Vec<RawLocal>,
 ) -> Result<(), Memory>
@@ -140,11 +140,11 @@ fn add_named<'a>(
 }
 
 // Adds what a child of `schema` declares.
-fn add<'a>(
+fn add<'a, 'b>(
     alloc: Global,
     setting: Setting<'_>,
     tree: &'a Tree<ItemLabel>,
-    scope: &'a Scope<'a>,
+    scope: &'b Scope<'a, 'b>,
     globals: &mut Globals,
     locals: &mut Vec<RawLocal>,
 ) -> Result<(), Memory>
@@ -163,7 +163,7 @@ fn add<'a>(
         return Ok(());
     }
     let own = own_attributes(alloc, attributes.items())?;
-    let inside = Scope::Element(declares.items(), scope);
+    let inside = Scope::inside(alloc, declares, scope)?;
     add_named(
         alloc,
         setting,
@@ -179,11 +179,11 @@ fn add<'a>(
 }
 
 /// What the children of `schema` declare, in their order.
-pub(crate) fn globals_among<'a>(
+pub(crate) fn globals_among<'a, 'b>(
     alloc: Global,
     setting: Setting<'_>,
     kids: &'a [Tree<ItemLabel>],
-    scope: &'a Scope<'a>,
+    scope: &'b Scope<'a, 'b>,
     locals: &mut Vec<RawLocal>,
 ) -> Result<Globals, Memory>
     ensures { IfOk result (λ globals. Are globals locals.old.items locals.new.items (raw.parts_among (said setting.entry) (bindings_in scope.now) (length locals.old.items) kids.now)) }

@@ -49,7 +49,7 @@ fn name_of(alloc: Global, found: Resolved<'_, '_>) -> Result<Name, Memory>
 }
 
 /// The type that the text names.
-pub(crate) fn type_ref(alloc: Global, scope: &Scope<'_>, text: &str) -> Result<RawRef, Memory>
+pub(crate) fn type_ref(alloc: Global, scope: &Scope<'_, '_>, text: &str) -> Result<RawRef, Memory>
     ensures { IfOk result (λ reference. reference ≡ names.type_ref (bindings_in scope.now) text.now) }
 {
     match type_of(scope, text) {
@@ -63,7 +63,7 @@ pub(crate) fn type_ref(alloc: Global, scope: &Scope<'_>, text: &str) -> Result<R
 }
 
 /// The name that the text refers to.
-pub(crate) fn referred(alloc: Global, scope: &Scope<'_>, text: &str) -> Result<Name, Memory>
+pub(crate) fn referred(alloc: Global, scope: &Scope<'_, '_>, text: &str) -> Result<Name, Memory>
     ensures { IfOk result (λ name. name ≡ names.referred (bindings_in scope.now) text.now) }
 {
     match resolve(scope, text) {

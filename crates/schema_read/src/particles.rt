@@ -22,7 +22,7 @@ use xa_base::{Memory, Name, Text};
 pub(crate) fn element_name(
     alloc: Global,
     setting: Setting<'_>,
-    scope: &Scope<'_>,
+    scope: &Scope<'_, '_>,
     own: &[(Text, Text)],
 ) -> Result<Name, Memory>
     ensures { IfOk result (λ name. name ≡ parts.element_name (said setting.entry) (bindings_in scope.now) own.now) }

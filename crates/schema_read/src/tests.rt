@@ -432,6 +432,33 @@ fn targets_and_counts(rt: HostRuntime) -> Result<(), Fail> {
     Ok(())
 }
 
+// Twenty-one complex types, each in an element of the one before: the last stands at depth 63 of 64.
+fn nested_types(alloc: Global) -> Result<String, Memory> {
+    let mut text = String::new(alloc);
+    text.push_str(
+        "<schema xmlns=\"http://www.w3.org/2001/XMLSchema\"><element name=\"a\"><complexType>",
+    )?;
+    for _ in 0..20 {
+        text.push_str("<sequence><element name=\"b\"><complexType>")?;
+    }
+    for _ in 0..20 {
+        text.push_str("</complexType></element></sequence>")?;
+    }
+    text.push_str("</complexType></element></schema>")?;
+    Ok(text)
+}
+
+#[test]
+fn deepest_types(rt: HostRuntime) -> Result<(), Fail> {
+    let alloc = rt.alloc();
+    let text = nested_types(alloc)?;
+    assert!(rt; text.as_bytes().len() <= 16_777_216);
+    let items = read_document(alloc, text.as_bytes())?;
+    let doc = read_schema(alloc, &items, 1)?;
+    assert_eq!(rt; doc.local_count(), 20);
+    Ok(())
+}
+
 #[test]
 fn first_faults(rt: HostRuntime) -> Result<(), Fail> {
     let alloc = rt.alloc();

@@ -1,4 +1,4 @@
-use Rattle.std.proofs.Common.{rules, arith, ◌≡◌, true, Some, ◌++◌, length, option_map, sym, ◌∙◌, ap}
+use Rattle.std.proofs.Common.{rules, arith, ◌≡◌, true, Some, ◌++◌, length, option_map, refl, sym, ◌∙◌, ap, subst, ◌+◌}
 use Rattle.std.specs.Prelude.{codes}
 use Rattle.label_tree.specs.Rose.{roses_of}
 use Rattle.label_tree.proofs.Kids.{kid-count-le}
@@ -15,7 +15,7 @@ use Rattle.schema_read.specs.Attributes.{local_name}
 use Rattle.schema_read.specs.Contents.{is_named}
 use Rattle.schema_read.specs.Settings.{said}
 use Rattle.schema_read.specs.Particles as parts
-use Rattle.schema_read.specs.Particles.{made_some}
+use Rattle.schema_read.specs.Particles.{Makes, made_some}
 use Rattle.schema_read.proofs.Bases.{not_false}
 use Rattle.schema_read.proofs.Making.{makes_as, makes_some, particle_inside, same_particle, same_complex, its_particle, its_complex_type, kind_passed, group_passed, held_within, declared_in_place}
 use Rattle.schema_read.proofs.complex_types.+complex_types.Goals as goal
@@ -61,14 +61,17 @@ particle_at-returns t c =
     let label = sym c.label.ensures ∙ c.in-Element.is in
     let is : c.is_in.result ≡ true = first_of (assumption c.if-not-is_in.false, search (rules, not_false, c.if-not-is_in.false)) in
     let read = rw c.items.ensures at c.in_ok-own.ensures in
-    let given = particle_inside s outer n c.in-Element.at c.as_str.result.now c.items-2.result.now c.deref-2.result.now c.kids.result.now in
+    let given = particle_inside s outer n c.in-Element.at c.as_str.result.now c.in-Element.declares c.deref-2.result.now c.kids.result.now in
     let same = same_particle s outer n c.in-Element.at c.in-Element.name c.in-Element.attributes c.in-Element.declares tree label
-    c.as_str.result.now c.items-2.result.now c.deref-2.result.now c.kids.result.now c.as_str.ensures c.items-2.ensures (c.deref-2.ensures.value ∙ read) c.kids.ensures in
+    c.as_str.result.now c.in-Element.declares c.deref-2.result.now c.kids.result.now c.as_str.ensures refl (c.deref-2.ensures.value ∙ read) c.kids.ensures in
     let there = its_particle s outer n c.in-Element.at c.in-Element.name c.in-Element.attributes c.in-Element.declares tree label
     (sym (c.is_in.ensures ∙ ap (is_in Particles) c.label-2.ensures) ∙ is)
     (sym (ap never_occurs (c.deref.ensures.value ∙ read)) ∙ (sym c.never_occurs.ensures ∙ c.if-never_occurs.false)) in
     makes_as before after (Some c.in_ok-particle.particle) (made_some given) (parts.particle_at s outer n tree)
-    (makes_some before after c.in_ok-particle.particle given c.in_ok-particle.ensures) (ap made_some same ∙ there)
+    (makes_some before after c.in_ok-particle.particle given
+    (subst (λ inside. Makes before after c.in_ok-particle.particle (parts.particle_by s n c.as_str.result.now c.in-Element.at inside c.deref-2.result.now
+    (parts.inner_kind s inside (n + 1) (roses_of c.kids.result.now)) (parts.particles_among s inside n (roses_of c.kids.result.now))))
+    c.in_ok-inside.ensures c.in_ok-particle.ensures)) (ap made_some same ∙ there)
 
 pub complex_type-returns : goal.complex_type-returns
 complex_type-returns t c =
@@ -80,15 +83,17 @@ complex_type-returns t c =
     let n = length before in
     let label = sym c.label.ensures ∙ c.in-Element.is in
     let is : c.is_named.result ≡ true = first_of (assumption c.if-not-is_named.false, search (rules, not_false, c.if-not-is_named.false)) in
-    let own = c.deref.ensures.value ∙ (rw c.items-2.ensures at c.in_ok-own.ensures) in
-    let scope = c.items.result.now ++ outer in
+    let own = c.deref.ensures.value ∙ (rw c.items.ensures at c.in_ok-own.ensures) in
+    let scope = c.in-Element.declares ++ outer in
     let body = seen.complex_of c.in_ok-body.body in
     let given = parts.complex_of s c.in-Element.at c.is_true-mixed.result scope c.kids.result.now (parts.group_among s scope n (roses_of c.kids.result.now)) in
     let same = same_complex s outer n c.in-Element.at c.in-Element.name c.in-Element.attributes c.in-Element.declares tree label
-    c.items.result.now c.is_true-mixed.result c.kids.result.now c.items.ensures (c.is_true-mixed.ensures ∙ ap (is_true (codes "mixed")) own) c.kids.ensures in
+    c.in-Element.declares c.is_true-mixed.result c.kids.result.now refl (c.is_true-mixed.ensures ∙ ap (is_true (codes "mixed")) own) c.kids.ensures in
     let there = its_complex_type s outer n c.in-Element.at c.in-Element.name c.in-Element.attributes c.in-Element.declares tree label
     (sym (c.is_named.ensures ∙ ap (is_named (codes "complexType")) c.label-2.ensures) ∙ is) in
-    makes_as before after (Some body) (made_some given) (parts.complex_type s outer n tree) (makes_some before after body given c.in_ok-body.ensures) (ap made_some same ∙ there)
+    makes_as before after (Some body) (made_some given) (parts.complex_type s outer n tree) (makes_some before after body given
+    (subst (λ inside. Makes before after body (parts.complex_of s c.in-Element.at c.is_true-mixed.result inside c.kids.result.now (parts.group_among s inside n (roses_of c.kids.result.now))))
+    c.in_ok-inside.ensures c.in_ok-body.ensures)) (ap made_some same ∙ there)
 
 pub declare_own-put_own-requires : goal.declare_own-put_own-requires
 declare_own-put_own-requires t c =

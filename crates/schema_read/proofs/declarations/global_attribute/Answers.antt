@@ -12,7 +12,7 @@ returns c =
     let at = c.in-Element.at in
     let own = c.deref.ensures.value ∙ (rw c.items.ensures at c.in_ok-own.ensures) in
     let made = c.in_ok-found.ensures
-    ∙ (ap (λ d. attribute_by target at (d ++ scope) c.deref.result.now c.kids.result.now) c.items-2.ensures
+    ∙ (ap (λ inside. attribute_by target at inside c.deref.result.now c.kids.result.now) c.in_ok-inside.ensures
     ∙ (ap (λ o. attribute_by target at (c.in-Element.declares ++ scope) o c.kids.result.now) own
     ∙ ap (λ k. attribute_by target at (c.in-Element.declares ++ scope) (own_attributes c.in-Element.attributes) k) c.kids.ensures)) in
     ap (λ a. Some a) made ∙ sym (ap (λ l. global_attribute target scope l (kids_of c.args.tree.now)) (sym c.label.ensures ∙ c.in-Element.is))

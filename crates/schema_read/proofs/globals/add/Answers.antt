@@ -1,7 +1,7 @@
-use Rattle.std.proofs.Common.{rules, ◌≡◌, true, OnOk, length, sym, ◌∙◌, subst}
+use Rattle.std.proofs.Common.{rules, ◌≡◌, true, OnOk, length, refl, sym, ◌∙◌, subst}
 use Rattle.schema_rules.specs.Scopes.{bindings_in}
 use Rattle.schema_read.specs.Settings.{said}
-use Rattle.schema_read.specs.Raw.{Parts, Adds}
+use Rattle.schema_read.specs.Raw.{Parts, Adds, parts_named}
 use Rattle.schema_read.proofs.Bases.{not_false}
 use Rattle.schema_read.proofs.Adding.{its_parts}
 use Rattle.schema_read.proofs.globals.add.Goals as goal
@@ -14,5 +14,7 @@ returns c =
     let own = c.deref.ensures.value ∙ (rw c.items.ensures at c.in_ok-own.ensures) in
     subst (λ (p : Parts). OnOk c.add_named.result (Adds c.args.globals.now c.add_named.new.globals before c.add_named.new.locals.items p))
     (its_parts (said c.args.setting) outer (length before) c.args.tree.now c.in-Element.name c.in-Element.attributes c.in-Element.declares c.in-Element.at
-    c.as_str.result.now c.deref.result.now c.items-2.result.now (sym c.label.ensures ∙ c.in-Element.is) (sym c.is_schema_name.ensures ∙ is) c.as_str.ensures own c.items-2.ensures)
-    c.add_named.ensures
+    c.as_str.result.now c.deref.result.now c.in-Element.declares (sym c.label.ensures ∙ c.in-Element.is) (sym c.is_schema_name.ensures ∙ is) c.as_str.ensures own refl)
+    (subst (λ inside. OnOk c.add_named.result (Adds c.args.globals.now c.add_named.new.globals before c.add_named.new.locals.items
+    (parts_named (said c.args.setting) outer (length before) c.as_str.result.now c.deref.result.now inside c.in-Element.at c.args.tree.now)))
+    c.in_ok-inside.ensures c.add_named.ensures)

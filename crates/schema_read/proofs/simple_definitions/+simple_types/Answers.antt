@@ -55,7 +55,7 @@ inner_types-returns t c =
 
 pub simple_type-returns : goal.simple_type-returns
 simple_type-returns t c =
-    let found = rw (c.items.ensures, c.kids.ensures) at c.in_ok-found.ensures in
+    let found = rw (c.in_ok-inside.ensures, c.kids.ensures) at c.in_ok-found.ensures in
     let is : c.is_in.result ≡ true = first_of (assumption c.if-not-is_in.false, search (rules, not_false, c.if-not-is_in.false)) in
     c.defined.ensures
     ∙ (ap (defined c.in-Element.at) found
@@ -64,13 +64,13 @@ simple_type-returns t c =
 
 pub variety_at-returns : goal.variety_at-returns
 variety_at-returns t c =
-    let inner = rw (c.items.ensures, c.kids.ensures) at c.in_ok-inner.ensures in
-    let own = rw c.items-2.ensures at c.in_ok-own.ensures in
+    let inner = rw (c.in_ok-inside.ensures, c.kids.ensures) at c.in_ok-inner.ensures in
+    let own = rw c.items.ensures at c.in_ok-own.ensures in
     let made = c.in_ok-made.ensures
-    ∙ made_same c.as_str.result.now c.in-Element.name.local (c.items.result.now ++ bindings_in c.args.scope.now) (c.in-Element.declares ++ bindings_in c.args.scope.now)
+    ∙ made_same c.as_str.result.now c.in-Element.name.local (bindings_in c.in_ok-inside.inside) (c.in-Element.declares ++ bindings_in c.args.scope.now)
     c.deref.result.now (own_attributes c.in-Element.attributes) (bases_in c.in_ok-inner.inner.items)
     (inner_types (c.in-Element.declares ++ bindings_in c.args.scope.now) (roses_of (kids_of c.args.tree.now))) c.kids-2.result.now (kids_of c.args.tree.now)
-    c.as_str.ensures (ap (λ d. d ++ bindings_in c.args.scope.now) c.items.ensures) (c.deref.ensures.value ∙ own) inner c.kids-2.ensures in
+    c.as_str.ensures c.in_ok-inside.ensures (c.deref.ensures.value ∙ own) inner c.kids-2.ensures in
     let is : c.is_in.result ≡ true = first_of (assumption c.if-not-is_in.false, search (rules, not_false, c.if-not-is_in.false)) in
     c.placed.ensures
     ∙ (ap (placed c.in-Element.at) made
