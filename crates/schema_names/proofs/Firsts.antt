@@ -70,7 +70,7 @@ earlier_true f g e =
           ]
     ]
 
-true_earlier : (f g : Fault) → Earlier f g → precedes f g ≡ true
+pub true_earlier : (f g : Fault) → Earlier f g → precedes f g ≡ true
 true_earlier f g (inl l) = or_left (is_before f.place g.place) (not (is_before g.place f.place) && nat_lt (rank_of f.why) (rank_of g.why)) (true_before f.place g.place (inl l))
 true_earlier f g (inr (inl m)) = or_left (is_before f.place g.place) (not (is_before g.place f.place) && nat_lt (rank_of f.why) (rank_of g.why)) (true_before f.place g.place (inr m))
 true_earlier f g (inr (inr r)) =

@@ -7,7 +7,7 @@ use Rattle.schema_names.specs.declared.faults.Fault.{Fault}
 use Rattle.schema_names.specs.declared.faults.LinkWhy.TheVariants.{Limit}
 use Rattle.schema_names.specs.Order.{place, fault}
 
--- the places of what counts, in the order of files and places
+-- the places of what counts, in the order of the documents as they are handed in, and in each in the order written
 abbrev pub counted_places : List Document → List Place
 counted_places docs = flat_map (λ d. map (place d.file) d.counted) docs
 

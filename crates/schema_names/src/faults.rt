@@ -1,11 +1,12 @@
 //! Faults of linking, and the first of several.
 ghost use Rattle.std.specs.Prelude.{◌≡◌};
-ghost use Rattle.schema_names.specs.Order.{rank_of, precedes, earlier, first_of};
+ghost use Rattle.schema_names.specs.Order.{rank_of, rank_of_facet, precedes, earlier, first_of};
 
 use crate::places::Place;
 use facet_rules::FacetWhy;
 
-/// Why documents can't be linked. At one place the reasons come in this order.
+/// Why documents can't be linked. At one place the reasons come in this order,
+/// and those of facets in the order of `FacetWhy`.
 #[derive(Clone, Copy, Debug, PartialEq, Eq)]
 pub enum LinkWhy {
     /// More than 10,000 components in the set, or a union over its own limits.
@@ -30,11 +31,26 @@ pub enum LinkWhy {
     NotClear,
 }
 
-/// A fault, and the place of the element of the schema that has it.
+/// A fault of several documents as one set.
 #[derive(Clone, Copy, Debug, PartialEq, Eq)]
 pub struct Fault {
+    /// The place of the element of the schema that has it.
     pub place: Place,
+    /// What is wrong there.
     pub why: LinkWhy,
+}
+
+fn rank_of_facet(why: FacetWhy) -> u8
+    ensures { result ≡ rank_of_facet why }
+{
+    match why {
+        FacetWhy::Misplaced => 5,
+        FacetWhy::Widens => 6,
+        FacetWhy::NotInBase => 7,
+        FacetWhy::EmptySpace => 8,
+        FacetWhy::BadNumber => 9,
+        FacetWhy::TooWide => 10,
+    }
 }
 
 fn rank(why: LinkWhy) -> u8
@@ -46,11 +62,11 @@ fn rank(why: LinkWhy) -> u8
         LinkWhy::Unresolved => 2,
         LinkWhy::ComplexBase => 3,
         LinkWhy::CircularType => 4,
-        LinkWhy::Facet(_) => 5,
-        LinkWhy::BadItem => 6,
-        LinkWhy::DuplicateUse => 7,
-        LinkWhy::TypesDiffer => 8,
-        LinkWhy::NotClear => 9,
+        LinkWhy::Facet(reason) => rank_of_facet(reason),
+        LinkWhy::BadItem => 11,
+        LinkWhy::DuplicateUse => 12,
+        LinkWhy::TypesDiffer => 13,
+        LinkWhy::NotClear => 14,
     }
 }
 

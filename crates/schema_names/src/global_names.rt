@@ -14,7 +14,9 @@ use xa_base::{Memory, Name};
 /// A component by its name, and where it was written.
 #[derive(Clone, Copy)]
 pub struct NamedPart<'a> {
+    /// Its expanded name.
     pub name: &'a Name,
+    /// The place of its element.
     pub place: Place,
 }
 

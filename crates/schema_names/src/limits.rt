@@ -11,7 +11,8 @@ use schema_parts::RawDoc;
 /// The greatest number of the components of a set that count.
 const MOST_COUNTED: usize = 10_000;
 
-/// The first component past the 10,000 that a set may have, in the order of files and places.
+/// The component behind the first 10,000, in the order in which the documents are handed in and, in each, in the order
+/// written. That is the order of files and places only where the documents are handed in by the numbers of their files.
 pub fn first_beyond_limit(docs: &[RawDoc]) -> Option<Fault>
     ensures { IsFirstOf (beyond_limit (map doc_of docs.now)) result }
 {

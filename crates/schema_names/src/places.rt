@@ -2,10 +2,12 @@
 ghost use Rattle.std.specs.Prelude.{◌≡◌};
 ghost use Rattle.schema_names.specs.Order.{is_before};
 
-/// Where something was written: the number of its file in the set, from 1, and the place in bytes from the file's start.
+/// Where something was written.
 #[derive(Clone, Copy, Debug, PartialEq, Eq)]
 pub struct Place {
+    /// The number of the file in the set, from 1.
     pub file: u32,
+    /// The byte from the file's start, from 0.
     pub at: u64,
 }
 

@@ -8,7 +8,8 @@ use Rattle.schema_names.specs.declared.faults.Fault.{Fault}
 use Rattle.schema_names.specs.declared.faults.LinkWhy.TheVariants.{CircularType}
 use Rattle.schema_names.specs.Order.{fault, precedes, IsFirstSuch}
 use Rattle.schema_names.proofs.Firsts.{precedes_itself, such_joined}
-use Rattle.type_cycles.specs.Cycles.{edges, IsCircularAt, IsCircularBelow, IsCircularOf, Keeps, IsNext}
+use Rattle.type_cycles.specs.Cycles.{edges, IsCircularAt, IsCircularBelow, IsCircularOf}
+use Rattle.type_cycles.specs.Keeping.{Keeps, IsNext}
 use Rattle.type_cycles.specs.Graphs.{IsOnCycle}
 use Rattle.type_cycles.specs.SimpleTypes.{SimpleDefinition}
 use Rattle.type_cycles.specs.Seen.{definition_of, definitions_of}

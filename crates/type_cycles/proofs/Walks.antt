@@ -47,31 +47,31 @@ mark_is [] n b lt e = absurd (omega (arith, lt))
 mark_is (x ∷ bs) zero b lt e = sym e
 mark_is (x ∷ bs) (suc n) b lt e = mark_is bs n b (omega (arith, lt)) e
 
-marked_below : (bs : List Bool) (n : ℕ) → mark bs n ≡ true → n < length bs
+pub marked_below : (bs : List Bool) (n : ℕ) → mark bs n ≡ true → n < length bs
 marked_below [] n e = absurd (true≢false (sym e))
 marked_below (b ∷ bs) zero e = omega arith
 marked_below (b ∷ bs) (suc n) e = let lt = marked_below bs n e in omega (arith, lt)
 
-set_here : (bs : List Bool) (n : ℕ) → n < length bs → mark (set bs n true) n ≡ true
+pub set_here : (bs : List Bool) (n : ℕ) → n < length bs → mark (set bs n true) n ≡ true
 set_here [] n lt = absurd (omega (arith, lt))
 set_here (b ∷ bs) zero lt = refl
 set_here (b ∷ bs) (suc n) lt = set_here bs n (omega (arith, lt))
 
-set_kept : (bs : List Bool) (n m : ℕ) → mark bs m ≡ true → mark (set bs n true) m ≡ true
+pub set_kept : (bs : List Bool) (n m : ℕ) → mark bs m ≡ true → mark (set bs n true) m ≡ true
 set_kept [] n m e = e
 set_kept (b ∷ bs) zero zero e = refl
 set_kept (b ∷ bs) zero (suc m) e = e
 set_kept (b ∷ bs) (suc n) zero e = e
 set_kept (b ∷ bs) (suc n) (suc m) e = set_kept bs n m e
 
-set_parts : (bs : List Bool) (n m : ℕ) → mark (set bs n true) m ≡ true → (mark bs m ≡ true) ⊎ (n ≡ m)
+pub set_parts : (bs : List Bool) (n m : ℕ) → mark (set bs n true) m ≡ true → (mark bs m ≡ true) ⊎ (n ≡ m)
 set_parts [] n m e = inl e
 set_parts (b ∷ bs) zero zero e = inr refl
 set_parts (b ∷ bs) zero (suc m) e = inl e
 set_parts (b ∷ bs) (suc n) zero e = inl e
 set_parts (b ∷ bs) (suc n) (suc m) e = elim (set_parts bs n m e) [ inl h ↦ inl h | inr h ↦ inr (ap suc h) ]
 
-set_less : (bs : List Bool) (n : ℕ) → n < length bs → mark bs n ≡ false → suc (unseen (set bs n true)) ≡ unseen bs
+pub set_less : (bs : List Bool) (n : ℕ) → n < length bs → mark bs n ≡ false → suc (unseen (set bs n true)) ≡ unseen bs
 set_less [] n lt e = absurd (omega (arith, lt))
 set_less (true ∷ bs) zero lt e = absurd (true≢false e)
 set_less (false ∷ bs) zero lt e = refl

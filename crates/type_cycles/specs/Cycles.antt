@@ -1,6 +1,6 @@
 -- Simple types that are made of themselves (XML Schema Part 1, sections 3.14.3 and 3.14.6): by a base, an item or a
 -- member, that of a base, an item or a member, and so on.
-use Rattle.std.specs.Prelude.{◌≡◌, ◌<◌, ◌⊎◌, ℕ, suc, Bool, false, ◌&&◌, nat_eq, List, [], ◌∷◌, ◌++◌, map, Option, Some, None, if◌then◌else◌, slice_get}
+use Rattle.std.specs.Prelude.{◌≡◌, ◌<◌, ℕ, suc, Bool, false, ◌&&◌, nat_eq, List, [], ◌∷◌, ◌++◌, map, Option, Some, None, if◌then◌else◌, slice_get}
 use Rattle.xa_base.specs.declared.texts.Name.{Name}
 use Rattle.xa_base.specs.Names.{name_eq}
 use Rattle.schema_parts.specs.declared.simple_definitions.RawRef.{RawRef}
@@ -9,7 +9,7 @@ use Rattle.schema_parts.specs.Raw.{Base, Named, Inner, Bases, none, more, How, R
 use Rattle.schema_names.specs.declared.places.Place.{Place}
 use Rattle.schema_names.specs.declared.faults.Fault.{Fault}
 use Rattle.schema_names.specs.declared.faults.LinkWhy.TheVariants.{CircularType}
-use Rattle.schema_names.specs.Order.{place, fault, precedes, earlier}
+use Rattle.schema_names.specs.Order.{place, fault}
 use Rattle.type_cycles.specs.Graphs.{IsOnCycle}
 use Rattle.type_cycles.specs.SimpleTypes.{SimpleDefinition, simple_types}
 
@@ -73,12 +73,3 @@ IsCircularOf ds f = (n : ℕ) × IsCircularAt ds n f
 
 abbrev pub IsCircular : List Document → Fault → Type 0
 IsCircular docs f = IsCircularOf (simple_types docs) f
-
--- what was found stays the first beside this fault
-abbrev pub Keeps : Option Fault → Fault → Type 0
-Keeps None g = ⊥
-Keeps (Some f) g = precedes g f ≡ false
-
--- the first of what was found and of a fault that comes if this holds
-abbrev pub IsNext : Type 0 → Option Fault → Fault → Option Fault → Type 0
-IsNext C found g first = (C × (first ≡ earlier found g)) ⊎ ((first ≡ found) × (C → Keeps found g))

@@ -1,4 +1,4 @@
--- What a search through a graph has seen.
+-- For private contracts alone: what a search through a graph has seen.
 use Rattle.std.specs.Prelude.{◌≡◌, ◌<◌, ◌≤◌, ℕ, zero, suc, ◌+◌, ◌*◌, Bool, true, false, ◌⊎◌, List, [], ◌∷◌, length}
 use Rattle.type_cycles.specs.Graphs.{IsIn}
 

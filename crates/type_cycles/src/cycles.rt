@@ -2,14 +2,15 @@
 ghost use Rattle.std.specs.Prelude.{◌≡◌, ◌<◌, ◌≤◌, ◌↔◌, ℕ, true, length, map, slice_index, IsTrue, IfOk};
 ghost use Rattle.schema_parts.specs.Documents.{doc_of};
 ghost use Rattle.schema_names.specs.Order.{IsFirstSuch};
-ghost use Rattle.type_cycles.specs.Cycles.{edges, Keeps, IsNext, IsCircularOf, IsCircular};
+ghost use Rattle.type_cycles.specs.Cycles.{edges, IsCircularOf, IsCircular};
+ghost use Rattle.type_cycles.specs.Keeping.{Keeps, IsNext};
 ghost use Rattle.type_cycles.specs.Graphs.{rows_of, IsEdge, IsOnCycle};
 ghost use Rattle.type_cycles.specs.Seen.{definitions_of};
 
 use crate::definitions::{SimpleType, simple_types};
 use crate::graphs::{falls_from, is_falling, is_on_cycle};
 use crate::numbers::graph_of;
-use crate::ranks::ranks;
+use crate::ranks::ranks_of;
 use schema_names::{Fault, LinkWhy, earlier};
 use schema_parts::RawDoc;
 use std::alloc::Global;
@@ -79,7 +80,7 @@ fn first_of_graph(
     requires { rows_of graph.now ≡ edges (definitions_of definitions.now) }
     ensures { IfOk result (λ found. IsFirstSuch (IsCircularOf (definitions_of definitions.now)) found) }
 {
-    let ranks = ranks(alloc, graph)?;
+    let ranks = ranks_of(alloc, graph)?;
     let falling = is_falling(graph, &ranks);
     let mut found = None;
     'numbers: for n in 0..definitions.len() {

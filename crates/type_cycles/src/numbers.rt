@@ -1,10 +1,10 @@
 //! The simple types that each is made from, by their numbers.
-ghost use Rattle.std.specs.Prelude.{◌≡◌, ◌++◌, Some, cond, IfOk, OnOk};
+ghost use Rattle.std.specs.Prelude.{◌≡◌, ◌++◌, Some, cond, map, IfOk, OnOk};
 ghost use Rattle.xa_base.specs.declared.texts.Name.{Name as NameOf};
 ghost use Rattle.schema_names.specs.declared.places.Place.{Place as PlaceOf};
 ghost use Rattle.schema_names.specs.Order.{place};
 ghost use Rattle.schema_parts.specs.Seen.{base_of, how_of, bases_in};
-ghost use Rattle.type_cycles.specs.Cycles.{is_named, stands_at, number_from, named_part, part_of, parts_of, parts_of_bases, parts_in, one_of, edges};
+ghost use Rattle.type_cycles.specs.Cycles.{is_named, stands_at, number_from, named_part, part_of, parts_of, parts_of_bases, parts_in, one_of, edges, numbers_in};
 ghost use Rattle.type_cycles.specs.Graphs.{rows_of};
 ghost use Rattle.type_cycles.specs.Seen.{definition_of, definitions_of};
 ghost use Rattle.type_cycles.specs.Tables.{named_in, placed_in, told_by, names};
@@ -17,7 +17,7 @@ use xa_base::{Memory, Name};
 
 /// The numbers of simple types by their names and by the places where they were written, each a file and a place in it.
 #[derive(Drop)]
-pub(crate) struct Numbers<'a> {
+pub struct Numbers<'a> {
     named: BTreeMap<&'a Name, usize>,
     placed: BTreeMap<(u32, u64), usize>,
 }
@@ -73,13 +73,33 @@ fn placed(
 }
 
 impl<'a> Numbers<'a> {
-    fn of(alloc: Global, definitions: &[SimpleType<'a>]) -> Result<Numbers<'a>, Memory>
-        ensures { IfOk result (λ numbers. ((a : NameOf) → named_in numbers.named a ≡ number_from 0 (is_named a) (definitions_of definitions.now))
-            × ((p : PlaceOf) → placed_in numbers.placed p ≡ number_from 0 (stands_at p) (definitions_of definitions.now))) }
+    /// The numbers of these simple types, from 0, in their order; of several with one name or place, that of the first.
+    pub fn of(alloc: Global, definitions: &[SimpleType<'a>]) -> Result<Numbers<'a>, Memory>
+        ensures { IfOk result (λ numbers. told_by numbers ≡ numbers_in (definitions_of definitions.now)) }
     {
         let named = named(alloc, definitions)?;
         let placed = placed(alloc, definitions)?;
         Ok(Numbers { named, placed })
+    }
+
+    /// The number of the simple type with this name.
+    pub fn number_of(&self, name: &'a Name) -> Option<usize>
+        ensures { result ≡ (told_by self.now).named name.now }
+    {
+        match self.named.get(&name) {
+            Some(n) => Some(*n),
+            None => None,
+        }
+    }
+
+    /// The number of the simple type that was written at this place.
+    pub fn number_at(&self, file: u32, at: u64) -> Option<usize>
+        ensures { result ≡ (told_by self.now).placed (place file at) }
+    {
+        match self.placed.get(&(file, at)) {
+            Some(n) => Some(*n),
+            None => None,
+        }
     }
 
     fn push_named(&self, reference: &'a RawRef, out: &mut Vec<usize>) -> Result<(), Memory>
@@ -149,6 +169,22 @@ impl<'a> Numbers<'a> {
         self.push_parts(definition.place.file, definition.how, &mut parts)?;
         Ok(parts)
     }
+
+    /// Of each simple type the numbers of those that it is made from.
+    pub fn graph(
+        &self,
+        alloc: Global,
+        definitions: &[SimpleType<'a>],
+    ) -> Result<Vec<Vec<usize>>, Memory>
+        ensures { IfOk result (λ graph. rows_of graph.items ≡ map (parts_in (told_by self.now)) (definitions_of definitions.now)) }
+    {
+        let mut graph = Vec::new(alloc);
+        'definitions: for definition in definitions {
+            let parts = self.parts(alloc, *definition)?;
+            graph.push(parts)?;
+        }
+        Ok(graph)
+    }
 }
 
 /// Of each simple type the numbers of those that it is made from.
@@ -159,10 +195,5 @@ pub(crate) fn graph_of<'a>(
     ensures { IfOk result (λ graph. rows_of graph.items ≡ edges (definitions_of definitions.now)) }
 {
     let numbers = Numbers::of(alloc, definitions)?;
-    let mut graph = Vec::new(alloc);
-    'definitions: for definition in definitions {
-        let parts = numbers.parts(alloc, *definition)?;
-        graph.push(parts)?;
-    }
-    Ok(graph)
+    numbers.graph(alloc, definitions)
 }

@@ -157,8 +157,8 @@ fn most_steps(graph: &[Vec<usize>]) -> usize {
 }
 
 /// A rank of each node, from 1: an edge leads to a node of a lesser rank, or of the same if both are on one cycle.
-/// Nothing rests on that but how soon a search is over. The time grows with the number of edges.
-pub(crate) fn ranks(alloc: Global, graph: &[Vec<usize>]) -> Result<Vec<usize>, Memory> {
+/// No contract says so: what needs it has to test it. The time grows with the number of edges.
+pub fn ranks_of(alloc: Global, graph: &[Vec<usize>]) -> Result<Vec<usize>, Memory> {
     let mut walk = Walk::of(alloc, graph.len())?;
     let most = most_steps(graph);
     for node in 0..graph.len() {

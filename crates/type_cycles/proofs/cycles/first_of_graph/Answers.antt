@@ -2,7 +2,7 @@ use Rattle.std.proofs.Common.{◌≡◌, length, arith, subst}
 use Rattle.std.proofs.lemmas.List.{length-map}
 use Rattle.schema_names.specs.declared.faults.LinkWhy.TheVariants.{CircularType}
 use Rattle.schema_names.specs.Order.{fault}
-use Rattle.type_cycles.specs.Cycles.{IsNext}
+use Rattle.type_cycles.specs.Keeping.{IsNext}
 use Rattle.type_cycles.specs.Graphs.{IsOnCycle}
 use Rattle.type_cycles.specs.Seen.{definition_of, definitions_of}
 use Rattle.type_cycles.proofs.First.{next_step, at_end, definition_at}

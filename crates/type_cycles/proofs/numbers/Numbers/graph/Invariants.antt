@@ -3,8 +3,8 @@ use Rattle.type_cycles.specs.Cycles.{parts_in}
 use Rattle.type_cycles.specs.Graphs.{rows_of}
 use Rattle.type_cycles.specs.Seen.{definitions_of}
 use Rattle.type_cycles.specs.Tables.{told_by}
-use Rattle.type_cycles.proofs.numbers.graph_of.Given as goal
+use Rattle.type_cycles.proofs.numbers.Numbers.graph.Given as goal
 
 -- those of the simple types before this one
 abbrev pub invariant-definitions : goal.invariant-definitions
-invariant-definitions l = rows_of l.graph.items ≡ map (parts_in (told_by l.numbers)) (definitions_of (take l.definition-index l.definitions))
+invariant-definitions l = rows_of l.graph.items ≡ map (parts_in (told_by l.self)) (definitions_of (take l.definition-index l.definitions))

@@ -1,0 +1,8 @@
+pub mod Ascending
+pub mod Counting
+pub mod Existence
+pub mod Inserting
+pub mod Lending
+pub mod Once
+pub mod Standing
+pub mod Uniqueness

@@ -1,0 +1,5 @@
+pub mod Answering
+pub mod Leaving
+pub mod Making
+pub mod Parts
+pub mod Working

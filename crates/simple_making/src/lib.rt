@@ -1,0 +1,12 @@
+//! The simple types of several schema documents, each made from those that it names.
+#![tactic(auto)]
+
+mod laws;
+mod leaving;
+mod making;
+mod parts;
+mod unions;
+mod working;
+
+pub use laws::{one_making, one_restriction};
+pub use making::{MakingError, made};
