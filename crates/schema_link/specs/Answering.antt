@@ -1,12 +1,17 @@
 -- How passes are answered.
-use Rattle.std.specs.Prelude.{◌≡◌, List, Result, Ok, Err, Option, Some, None}
+use Rattle.std.specs.Prelude.{◌≡◌, List, [], ◌∷◌, Vec, Result, Ok, Err, Option, Some, None}
 use Rattle.std.specs.Option.{IfSome}
+use Rattle.std.specs.Global.{Global}
+use Rattle.simple_types.specs.declared.simples.Simple.{Simple}
 use Rattle.schema_parts.specs.Raw.{Document}
 use Rattle.schema_names.specs.declared.faults.Fault.{Fault}
 use Rattle.schema_names.specs.Order.{place, fault}
+use Rattle.type_cycles.specs.SimpleTypes.{simple_types}
+use Rattle.simple_making.specs.Answering.{made_of, AreSound}
+use Rattle.simple_making.specs.Making.{IsMaking}
 use Rattle.schema_link.specs.declared.passes.LinkError.{LinkError}
 use Rattle.schema_link.specs.declared.passes.LinkError.TheVariants as error
-use Rattle.schema_link.specs.Passes.{Pass, IsShownBy, ArePassed}
+use Rattle.schema_link.specs.Passes.{Pass, Making, IsShownBy, ArePassed}
 
 -- the fault that an error shows; none where memory was missing
 abbrev pub shown : LinkError → Option Fault
@@ -22,3 +27,8 @@ Answers docs ps (Err e) = IfSome (shown e) (λ f. IsShownBy docs ps f)
 abbrev pub AnswersFault : Option Fault → Result (Unit {0}) LinkError → Type 0
 AnswersFault None result = result ≡ Ok tt
 AnswersFault (Some f) result = result ≡ Err (error.Shown f.place.file f.place.at f.why)
+
+-- with the spaces of all simple types where the pass that makes them has no fault, and else with the fault that it shows
+abbrev pub AnswersSimples : List Document → Result (Vec Simple Global) LinkError → Type 0
+AnswersSimples docs (Ok simples) = IsMaking (simple_types docs) (made_of simples.items) × AreSound simples.items × ArePassed docs (Making ∷ [])
+AnswersSimples docs (Err e) = IfSome (shown e) (IsShownBy docs (Making ∷ []))

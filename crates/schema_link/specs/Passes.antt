@@ -8,18 +8,20 @@ use Rattle.schema_names.specs.Limits.{beyond_limit}
 use Rattle.schema_names.specs.Globals.{duplicates}
 use Rattle.schema_names.specs.Resolution.{unresolved}
 use Rattle.type_cycles.specs.Cycles.{IsCircular}
+use Rattle.simple_making.specs.Making.{IsNotMade}
 use Rattle.complex_rules.specs.Uses.{double_uses}
 use Rattle.complex_rules.specs.ElementTypes.{Differs}
 use Rattle.complex_rules.specs.Content.{IsUnclear}
 
 pub data Pass : Type 0 where
-  Counting Naming Resolving Ordering Comparing Clearing : Pass
+  Counting Naming Resolving Ordering Making Comparing Clearing : Pass
 
 abbrev pub IsFault : List Document → Pass → Fault → Type 0
 IsFault docs Counting f = Has (beyond_limit docs) f
 IsFault docs Naming f = Has (duplicates docs) f
 IsFault docs Resolving f = Has (unresolved docs) f
 IsFault docs Ordering f = IsCircular docs f
+IsFault docs Making f = IsNotMade docs f
 IsFault docs Comparing f = Has (double_uses docs) f ⊎ Differs docs f
 IsFault docs Clearing f = IsUnclear docs f
 
@@ -40,3 +42,7 @@ passes_of_names = Counting ∷ Naming ∷ Resolving ∷ Ordering ∷ []
 
 abbrev pub passes_of_content : List Pass
 passes_of_content = Comparing ∷ Clearing ∷ []
+
+-- all, in their order
+abbrev pub passes : List Pass
+passes = Counting ∷ Naming ∷ Resolving ∷ Ordering ∷ Making ∷ Comparing ∷ Clearing ∷ []

@@ -1,10 +1,18 @@
-//! Linking several schema documents: the passes that look for faults, in their order.
+//! Linking several schema documents: the passes that look for faults, in their order, and the set that is made.
 #![tactic(auto)]
 
+mod laws;
+mod linking;
 mod passes;
 
-pub use passes::{LinkError, check_content, check_names};
+pub use laws::one_answer;
+pub use linking::{are_numbered, link};
+pub use passes::{LinkError, check_content, check_names, make_simple_types};
 pub use schema_names::LinkWhy;
 
+#[cfg(test)]
+mod linking_tests;
+#[cfg(test)]
+mod making_tests;
 #[cfg(test)]
 mod tests;

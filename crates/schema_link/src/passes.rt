@@ -2,7 +2,7 @@
 ghost use Rattle.std.specs.Prelude.{◌≡◌, ◌∷◌, [], Ok, Err, map, MatchOption, IfOk};
 ghost use Rattle.schema_parts.specs.Documents.{doc_of};
 ghost use Rattle.schema_names.specs.Order.{IsFirstSuch};
-ghost use Rattle.schema_link.specs.Answering.{Answers, AnswersFault};
+ghost use Rattle.schema_link.specs.Answering.{Answers, AnswersFault, AnswersSimples};
 ghost use Rattle.schema_link.specs.Passes.{Counting, Naming, Resolving, Ordering, Comparing, Clearing, IsFault, passes_of_names, passes_of_content};
 
 use complex_rules::{first_differing, first_double_use, first_unclear};
@@ -10,6 +10,8 @@ use schema_names::{
     Fault, LinkWhy, first_beyond_limit, first_duplicate, first_of, first_unresolved,
 };
 use schema_parts::RawDoc;
+use simple_making::{MakingError, made};
+use simple_types::Simple;
 use std::alloc::Global;
 use thiserror::Error;
 use type_cycles::first_circular;
@@ -22,6 +24,7 @@ pub enum LinkError {
     /// the number that the document was read with, and `at` is in bytes from 0.
     #[error("file {file}, byte {at}: {why:?}")]
     Shown { file: u32, at: u64, why: LinkWhy },
+    /// Memory is missing, or a test of what was made failed, which for documents without a fault doesn't happen.
     #[error("out of memory")]
     Memory,
 }
@@ -130,6 +133,22 @@ pub fn check_names(alloc: Global, docs: &[RawDoc]) -> Result<(), LinkError>
     match counted(docs) {
         Ok(()) => named_and_on(alloc, docs),
         Err(error) => Err(error),
+    }
+}
+
+/// The pass that makes the simple types: each restriction, list or union whose parts are made has to leave a type. The
+/// types stand in the order of `type_cycles::simple_types`.
+pub fn make_simple_types(alloc: Global, docs: &[RawDoc]) -> Result<Vec<Simple>, LinkError>
+    ensures { AnswersSimples (map doc_of docs.now) result }
+{
+    match made(alloc, docs) {
+        Ok(simples) => Ok(simples),
+        Err(MakingError::Shown(fault)) => Err(LinkError::Shown {
+            file: fault.place.file,
+            at: fault.place.at,
+            why: fault.why,
+        }),
+        Err(MakingError::Memory) => Err(LinkError::Memory),
     }
 }
 

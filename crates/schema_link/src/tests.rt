@@ -11,14 +11,14 @@ use type_cycles::first_circular;
 use xa_base::Memory;
 
 /// What stands in the schema documents, and what is shown of them: the file, the byte and the reason.
-struct Row {
-    title: &'static str,
-    files: &'static [&'static str],
-    want: Option<(u32, u64, LinkWhy)>,
+pub(crate) struct Row {
+    pub(crate) title: &'static str,
+    pub(crate) files: &'static [&'static str],
+    pub(crate) want: Option<(u32, u64, LinkWhy)>,
 }
 
 /// Documents with nothing wrong in their names, and what is wrong in their complex types.
-const CONTENT: &[Row] = &[
+pub(crate) const CONTENT: &[Row] = &[
     Row {
         title: "two of a, then a",
         files: &[
@@ -114,7 +114,7 @@ const CONTENT: &[Row] = &[
 ];
 
 /// Documents with something wrong in their names.
-const NAMES: &[Row] = &[
+pub(crate) const NAMES: &[Row] = &[
     Row {
         title: "a name in two files, before a reference that names nothing",
         files: &[
@@ -199,12 +199,8 @@ const NAMES: &[Row] = &[
     },
 ];
 
-/// The components inside an element of the schema namespace, whose first tag has 55 bytes.
-fn document(alloc: Global, inside: &str, file: u32) -> Result<RawDoc, Fail> {
-    let mut text = String::new(alloc);
-    text.push_str("<xs:schema xmlns:xs=\"http://www.w3.org/2001/XMLSchema\">")?;
-    text.push_str(inside)?;
-    text.push_str("</xs:schema>")?;
+/// The components of a whole text.
+pub(crate) fn read(alloc: Global, text: &str, file: u32) -> Result<RawDoc, Fail> {
     if text.as_bytes().len() > 16_777_216 {
         return Err(Fail::from("too long"));
     }
@@ -212,7 +208,16 @@ fn document(alloc: Global, inside: &str, file: u32) -> Result<RawDoc, Fail> {
     Ok(read_schema(alloc, &items, file)?)
 }
 
-fn documents(alloc: Global, files: &[&str]) -> Result<Vec<RawDoc>, Fail> {
+/// The components inside an element of the schema namespace, whose first tag has 55 bytes.
+fn document(alloc: Global, inside: &str, file: u32) -> Result<RawDoc, Fail> {
+    let mut text = String::new(alloc);
+    text.push_str("<xs:schema xmlns:xs=\"http://www.w3.org/2001/XMLSchema\">")?;
+    text.push_str(inside)?;
+    text.push_str("</xs:schema>")?;
+    read(alloc, text.as_str(), file)
+}
+
+pub(crate) fn documents(alloc: Global, files: &[&str]) -> Result<Vec<RawDoc>, Fail> {
     let mut docs = Vec::new(alloc);
     let mut file: u32 = 0;
     'files: for inside in files {
@@ -222,7 +227,7 @@ fn documents(alloc: Global, files: &[&str]) -> Result<Vec<RawDoc>, Fail> {
     Ok(docs)
 }
 
-fn shown(want: Option<(u32, u64, LinkWhy)>) -> Option<LinkError> {
+pub(crate) fn shown(want: Option<(u32, u64, LinkWhy)>) -> Option<LinkError> {
     want.map(|(file, at, why)| LinkError::Shown { file, at, why })
 }
 
@@ -301,7 +306,7 @@ fn passes_of_content(rt: HostRuntime) -> Result<(), Fail> {
 }
 
 /// So many elements, each with 39 bytes.
-fn many_elements(alloc: Global, many: u32) -> Result<String, Memory> {
+pub(crate) fn many_elements(alloc: Global, many: u32) -> Result<String, Memory> {
     let mut text = String::new(alloc);
     'elements: for _ in 0..many {
         text.push_str("<xs:element name=\"a\" type=\"xs:string\"/>")?;
@@ -324,7 +329,7 @@ fn limits(rt: HostRuntime) -> Result<(), Fail> {
 }
 
 /// Each type restricts the one behind it, and the last of 9,999 this one.
-fn chain(alloc: Global, last: &str) -> Result<String, Memory> {
+pub(crate) fn chain(alloc: Global, last: &str) -> Result<String, Memory> {
     let mut text = String::new(alloc);
     'types: for i in 10_000u32..19_999 {
         let next = i.saturating_add(1);

@@ -1,0 +1,5 @@
+mod Sorted
+mod Numbering
+mod Numbered
+mod Making
+pub mod Soundness

@@ -1,0 +1,97 @@
+//! Linking: several schema documents to one set.
+ghost use Rattle.std.specs.Prelude.{◌≡◌, ◌≤◌, ◌∷◌, [], IsTrue, length, map, IfOk};
+ghost use Rattle.simple_types.specs.Seen.{space_of};
+ghost use Rattle.schema_parts.specs.Documents.{doc_of};
+ghost use Rattle.simple_making.specs.Answering.{AreSound};
+ghost use Rattle.linked_sets.specs.Sets.{parts_of, set_of};
+ghost use Rattle.schema_link.specs.Passes.{Making, Comparing, Clearing, passes};
+ghost use Rattle.schema_link.specs.Sets.{AreNumbered, AnswersSpaces, Links};
+
+use crate::passes::{LinkError, check_content, check_names, make_simple_types};
+use linked_sets::set_parts;
+use schema_parts::{RawDoc, SchemaSet};
+use set_check::is_linked;
+use simple_types::Simple;
+use std::alloc::Global;
+use xa_base::Memory;
+
+// The passes from the making of simple types on.
+fn made(alloc: Global, docs: &[RawDoc]) -> Result<Vec<Simple>, LinkError>
+    ensures { AnswersSpaces (map doc_of docs.now) (Making ∷ Comparing ∷ Clearing ∷ []) result }
+{
+    match make_simple_types(alloc, docs) {
+        Ok(simples) => match check_content(alloc, docs) {
+            Ok(()) => Ok(simples),
+            Err(error) => Err(error),
+        },
+        Err(error) => Err(error),
+    }
+}
+
+// All passes.
+fn passed(alloc: Global, docs: &[RawDoc]) -> Result<Vec<Simple>, LinkError>
+    ensures { AnswersSpaces (map doc_of docs.now) passes result }
+{
+    match check_names(alloc, docs) {
+        Ok(()) => made(alloc, docs),
+        Err(error) => Err(error),
+    }
+}
+
+// The set of the documents. That it hangs together is tested; where the passes have no fault, it does.
+fn assembled(alloc: Global, docs: &[RawDoc], spaces: Vec<Simple>) -> Result<SchemaSet, Memory>
+    requires { AreSound spaces.items }
+    ensures { IfOk result (λ set. parts_of set ≡ set_of (map doc_of docs.now) (map space_of spaces.items)) }
+{
+    let parts = set_parts(alloc, docs, spaces)?;
+    let linked = is_linked(
+        alloc,
+        &parts.elements,
+        parts.globals,
+        &parts.simples,
+        &parts.complexes,
+        &parts.attributes,
+    )?;
+    if !linked {
+        return Err(Memory);
+    }
+    Ok(SchemaSet::of(
+        parts.elements,
+        parts.globals,
+        parts.simples,
+        parts.complexes,
+        parts.attributes,
+    ))
+}
+
+/// Whether the documents have the file numbers 1, 2 and so on, in their order, as `link` wants them.
+pub fn are_numbered(docs: &[RawDoc]) -> bool
+    ensures only { IsTrue result → AreNumbered (map doc_of docs.now) }
+    ensures all { AreNumbered (map doc_of docs.now) → IsTrue result }
+{
+    'docs: for n in 0..docs.len() {
+        if docs[n].file() as usize != n + 1 {
+            return false;
+        }
+    }
+    true
+}
+
+/// The documents as one set, in which each name is resolved, or the first fault that the passes show. There are at most
+/// 64 of them, and the file numbers are 1, 2 and so on. The time grows as n log n with the size of the documents, beside
+/// what `simple_making::made` says of restricting and `type_cycles::first_circular` of cycles. `Memory` is the answer too
+/// where the set that is put together isn't one that `set_check::is_linked` takes; no contract rules that out, and for
+/// documents without a fault it doesn't happen.
+pub fn link(alloc: Global, docs: &[RawDoc]) -> Result<SchemaSet, LinkError>
+    requires few { length docs.now ≤ 64 }
+    requires numbered { AreNumbered (map doc_of docs.now) }
+    ensures { Links (map doc_of docs.now) result }
+{
+    match passed(alloc, docs) {
+        Ok(spaces) => match assembled(alloc, docs, spaces) {
+            Ok(set) => Ok(set),
+            Err(_) => Err(LinkError::Memory),
+        },
+        Err(error) => Err(error),
+    }
+}
