@@ -1,12 +1,12 @@
-mod Building
-mod Taking
-mod Members
-mod Known
-mod Models
-mod Allowed
-mod Mapping
-mod Numbers
+mod Shapes
+mod Marked
+mod Resolving
+mod Places
+mod Chains
+mod Formed
+mod Planned
+mod Bodies
+mod Whole
 mod Sample
-mod Simples
-mod Marks
-mod InOrder
+pub mod Once
+pub mod SameSets

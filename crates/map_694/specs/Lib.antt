@@ -1,9 +1,1 @@
-pub mod Subjects
-pub mod Plans
-pub mod Planning
-pub mod Naming
-pub mod Mapped
-pub mod Building
-pub mod Placing
 pub mod Samples
-pub mod Collecting

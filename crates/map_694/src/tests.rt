@@ -1,109 +1,176 @@
-//! What no clause says: worked values, and that calls can succeed.
-ghost use Rattle.std.specs.Prelude.{◌≡◌, IfOk, All};
-ghost use Rattle.map_694.specs.Placing.{IsSubject};
-ghost use Rattle.map_694.specs.Samples.{flag, one_simple};
+//! What no clause says: the text of a whole map, worked out by hand, and that calls can succeed.
+ghost use Rattle.std.specs.Prelude.{◌≡◌, ◌++◌, ◌∷◌, [], Some, None, IfOk, OnOk};
+ghost use Rattle.map_694.specs.Samples.{qualified, declaration, words, elements, simples, one_use, complexes, attributes, collisions};
 
-use crate::{Entry, Subject, assignments, entries, mapped, type_of_simple};
-use asn_types::{Form, Instruction};
-use schema_parts::{SchemaSet, SimpleDef};
-use simple_types::{Builtin, Simple, builtin};
+use crate::{map_set, root_type};
+use module_print::print_module;
+use schema_parts::{
+    AttributeUse, ComplexDef, Content, ElementDecl, GlobalAttribute, SchemaSet, SimpleDef, TypeOf,
+    Uses,
+};
+use simple_types::{Simple, TextList};
 use std::alloc::Global;
 use std::test::Fail;
-use xa_base::{Memory, Name, Text};
+use xa_base::{Memory, Name, Text, WhiteSpace};
 
-// A list of name tokens, of which there is at least one.
-#[test]
-fn name_tokens(rt: HostRuntime) -> Result<(), Fail> {
-    let alloc = rt.alloc();
-    let made = type_of_simple(alloc, &builtin(alloc, Builtin::NmTokens)?)?;
-    let label = made.label();
-    assert!(&rt; label.marks.has_list(), "LIST");
-    assert_eq!(&rt; made.kids().len(), 1);
-    match &label.form {
-        Form::SequenceOf { part, min, max } => {
-            assert_eq!(&rt; part.identifier.as_str(), "");
-            assert_eq!(&rt; *min, 1);
-            assert_eq!(&rt; *max, None);
-        }
-        _ => assert!(&rt; false, "SEQUENCE OF"),
-    }
-    Ok(())
-}
-
-fn text(alloc: Global, bytes: &str) -> Result<Text, Memory>
-    ensures { IfOk result (λ text. text ≡ bytes.now) }
+fn name(alloc: Global, space: &str, local: &str) -> Result<Name, Memory>
+    ensures { IfOk result (λ name. name ≡ qualified space.now local.now) }
 {
-    Ok(Text::from(String::from_str(alloc, bytes)?))
-}
-
-// The name `flag`, without a namespace.
-fn flag(alloc: Global) -> Result<Name, Memory>
-    ensures { IfOk result (λ name. name ≡ flag) }
-{
-    let space = text(alloc, "")?;
-    let local = text(alloc, "flag")?;
+    let space = Text::from(String::from_str(alloc, space)?);
+    let local = Text::from(String::from_str(alloc, local)?);
     Ok(Name { space, local })
 }
 
-// One simple type of this name, of the truth values.
-fn one_simple(alloc: Global) -> Result<SchemaSet, Memory>
-    ensures { IfOk result (λ set. set ≡ one_simple) }
+fn push_element(
+    alloc: Global,
+    made: &mut Vec<ElementDecl>,
+    space: &str,
+    local: &str,
+    nillable: bool,
+    kind: TypeOf,
+) -> Result<(), Memory>
+    ensures { OnOk result (made.new.items ≡ made.old.items ++ declaration (qualified space.now local.now) nillable kind ∷ []) }
 {
-    let elements = Vec::new(alloc);
-    let name = flag(alloc)?;
-    let definition = SimpleDef {
-        name: Some(name),
+    let name = name(alloc, space, local)?;
+    made.push(ElementDecl {
+        name,
+        nillable,
+        kind,
+    })?;
+    Ok(())
+}
+
+#[tactic(auto, unfolding(crate::specs::Samples::elements))]
+fn elements(alloc: Global) -> Result<Vec<ElementDecl>, Memory>
+    ensures { IfOk result (λ made. made.items ≡ elements) }
+{
+    let mut made = Vec::new(alloc);
+    push_element(alloc, &mut made, "", "INTEGER", false, TypeOf::Simple(0))?;
+    push_element(alloc, &mut made, "", "a.b", false, TypeOf::Simple(1))?;
+    push_element(alloc, &mut made, "urn:a", "a_b", true, TypeOf::Complex(0))?;
+    Ok(made)
+}
+
+fn words(alloc: Global) -> Result<TextList, Memory>
+    ensures { IfOk result (λ made. made ≡ words) }
+{
+    let quoted = Text::from(String::from_str(alloc, "a\"b")?);
+    let plain = Text::from(String::from_str(alloc, "ab")?);
+    let entries = vec![in alloc; quoted, plain]?;
+    Ok(TextList::of(entries))
+}
+
+#[tactic(auto, unfolding(crate::specs::Samples::simples))]
+fn simples(alloc: Global) -> Result<Vec<SimpleDef>, Memory>
+    ensures { IfOk result (λ made. made.items ≡ simples) }
+{
+    let named = SimpleDef {
+        name: Some(name(alloc, "", "A.b")?),
         space: Simple::Bool,
     };
-    let simples = vec![in alloc; definition]?;
-    let complexes = Vec::new(alloc);
-    let attributes = Vec::new(alloc);
-    Ok(SchemaSet::of(elements, 0, simples, complexes, attributes))
+    let words = words(alloc)?;
+    let unnamed = SimpleDef {
+        name: None,
+        space: Simple::Words {
+            space: WhiteSpace::Preserve,
+            words,
+        },
+    };
+    let made = vec![in alloc; named, unnamed]?;
+    Ok(made)
 }
 
-// An assignment of it.
-fn one_entry(alloc: Global) -> Result<Vec<Entry>, Memory>
-    ensures { IfOk result (λ made. All (λ e. IsSubject one_simple e.subject) made.items) }
+fn uses(alloc: Global) -> Result<Uses, Memory>
+    ensures { IfOk result (λ made. made ≡ one_use ∷ []) }
 {
-    let name = flag(alloc)?;
-    let entry = Entry {
-        subject: Subject::Simple(0),
-        name,
-    };
-    let entries = vec![in alloc; entry]?;
-    Ok(entries)
+    let name = name(alloc, "", "b")?;
+    let entries = vec![in alloc;
+        AttributeUse {
+            name,
+            simple: 1,
+            required: false
+        },
+    ]?;
+    Ok(Uses::of(entries))
 }
+
+#[tactic(auto, unfolding(crate::specs::Samples::complexes))]
+fn complexes(alloc: Global) -> Result<Vec<ComplexDef>, Memory>
+    ensures { IfOk result (λ made. made.items ≡ complexes) }
+{
+    let name = name(alloc, "", "t")?;
+    let uses = uses(alloc)?;
+    let definition = ComplexDef {
+        name: Some(name),
+        uses,
+        content: Content::Simple(0),
+    };
+    let made = vec![in alloc; definition]?;
+    Ok(made)
+}
+
+#[tactic(auto, unfolding(crate::specs::Samples::attributes))]
+fn attributes(alloc: Global) -> Result<Vec<GlobalAttribute>, Memory>
+    ensures { IfOk result (λ made. made.items ≡ attributes) }
+{
+    let name = name(alloc, "", "integer")?;
+    let made = vec![in alloc; GlobalAttribute { name, simple: 0 }]?;
+    Ok(made)
+}
+
+// Names that differ in XML alone, in two namespaces.
+fn collisions(alloc: Global) -> Result<SchemaSet, Memory>
+    ensures { IfOk result (λ set. set ≡ collisions) }
+{
+    let elements = elements(alloc)?;
+    let simples = simples(alloc)?;
+    let complexes = complexes(alloc)?;
+    let attributes = attributes(alloc)?;
+    Ok(SchemaSet::of(elements, 3, simples, complexes, attributes))
+}
+
+const PRINTED: &str = "Schema-Set DEFINITIONS XER INSTRUCTIONS AUTOMATIC TAGS ::= BEGIN
+INTEGER-1 ::= [NAME AS \"INTEGER\"] A-b-1
+A-b ::= [NAME AS \"a.b\"] [TEXT:ab AS \"a\"\"b\"] [TEXT:ab-1 AS \"ab\"] ENUMERATED { ab, ab-1 }
+Integer ::= [ATTRIBUTE] [NAME AS UNCAPITALIZED] A-b-1
+A-b-1 ::= [NAME AS \"A.b\"] BOOLEAN
+T ::= [NAME AS UNCAPITALIZED] SEQUENCE {
+    b [ATTRIBUTE] [TEXT:ab AS \"a\"\"b\"] [TEXT:ab-1 AS \"ab\"] ENUMERATED { ab, ab-1 } OPTIONAL,
+    base [UNTAGGED] A-b-1
+}
+T-nillable ::= [USE-NIL] SEQUENCE {
+    b [ATTRIBUTE] [TEXT:ab AS \"a\"\"b\"] [TEXT:ab-1 AS \"ab\"] ENUMERATED { ab, ab-1 } OPTIONAL,
+    content A-b-1 OPTIONAL
+}
+A-b-2 ::= [NAME AS \"a_b\"] [NAMESPACE AS \"urn:a\"] T-nillable
+ENCODING-CONTROL XER
+    GLOBAL-DEFAULTS MODIFIED-ENCODINGS
+    GLOBAL-DEFAULTS CONTROL-NAMESPACE \"http://www.w3.org/2001/XMLSchema-instance\" PREFIX \"xsi\"
+END
+";
 
 #[test]
-fn an_assignment(rt: HostRuntime) -> Result<(), Fail> {
+fn names_that_collide(rt: HostRuntime) -> Result<(), Fail> {
     let alloc = rt.alloc();
-    let set = one_simple(alloc)?;
-    let entries = one_entry(alloc)?;
-    let few = entries.len() == 1;
-    assert!(&rt; few, "one entry");
-    let made = assignments(alloc, &set, &entries)?;
-    assert_eq!(&rt; made.len(), 1);
-    for assignment in &made {
-        assert_eq!(&rt; assignment.reference.as_str(), "Flag");
-        assert!(&rt; matches!(assignment.body.root().label().form, Form::Bool));
-        match assignment.marks.items() {
-            [Instruction::Name(name)] => assert_eq!(&rt; name.as_str(), "flag"),
-            _ => assert!(&rt; false, "NAME alone"),
-        }
-    }
+    let set = collisions(alloc)?;
+    let module = map_set(alloc, &set)?;
+    let printed = print_module(alloc, &module)?;
+    assert!(&rt;
+        printed.as_slice() == PRINTED.as_bytes(),
+        "the text of the map"
+    );
     Ok(())
 }
 
 #[test]
-fn the_map(rt: HostRuntime) -> Result<(), Fail> {
+fn numbers_of_elements(rt: HostRuntime) -> Result<(), Fail> {
     let alloc = rt.alloc();
-    let set = one_simple(alloc)?;
-    let ordered = entries(alloc, &set)?;
-    assert_eq!(&rt; ordered.len(), 1);
-    let made = mapped(alloc, &set)?;
-    assert_eq!(&rt; made.len(), 1);
-    for assignment in &made {
-        assert_eq!(&rt; assignment.reference.as_str(), "Flag");
+    let set = collisions(alloc)?;
+    let count = set.global_count();
+    assert_eq!(&rt; count, 3);
+    for (element, number) in [(0, 0), (1, 1), (2, 6)] {
+        assert!(&rt; element < count);
+        assert_eq!(&rt; root_type(&set, element), number);
     }
     Ok(())
 }

@@ -1,0 +1,126 @@
+-- What is asked of the plan of a type, so that the type is one of a module.
+use Rattle.std.proofs.Common.{◌≡◌, ℕ, suc, ◌<◌, ◌^◌, Bool, true, false, Some}
+use Rattle.std.specs.Prelude.{MatchBool}
+use Rattle.xa_base.specs.declared.texts.Name.{Name}
+use Rattle.simple_types.specs.Sound.{Sound, IsCounted, AreSizes}
+use Rattle.schema_parts.specs.Components.{Set}
+use Rattle.map_subjects.specs.declared.subjects.Subject.{Subject}
+use Rattle.map_subjects.specs.declared.subjects.Subject.TheVariants as subject
+use Rattle.map_subjects.specs.Subjects.{name_of}
+use Rattle.map_assignments.specs.Plans.{Label, attribute, element, Plan, simple, sequence, choice, repeated, reference, Parts, finish, part}
+use Rattle.map_assignments.specs.Planning.{texts_type}
+
+abbrev pub is_attribute_label : Label → Bool
+is_attribute_label (attribute name) = true
+is_attribute_label _ = false
+
+abbrev pub is_element_label : Label → Bool
+is_element_label (element name) = true
+is_element_label _ = false
+
+abbrev pub count_parts : Parts → ℕ
+count_parts finish = 0
+count_parts (part l optional p ps) = suc (count_parts ps)
+
+-- the last part is optional
+abbrev pub EndsOptional : Parts → Type 0
+EndsOptional finish = ⊥
+EndsOptional (part l optional p finish) = optional ≡ true
+EndsOptional (part l optional p (part k other q ps)) = EndsOptional (part k other q ps)
+
+abbrev pub NoElements : Parts → Type 0
+NoElements finish = Unit {0}
+NoElements (part l optional p ps) = (is_element_label l ≡ false) × NoElements ps
+
+-- the first part is the texts between child elements
+abbrev pub BeginsTexts : Parts → Type 0
+BeginsTexts finish = ⊥
+BeginsTexts (part l optional p ps) = (is_element_label l ≡ false) × (p ≡ texts_type)
+
+abbrev pub IsSequence : Bool → Bool → Parts → Type 0
+IsSequence nillable mixed ps = (nillable ≡ true → EndsOptional ps × NoElements ps) × (mixed ≡ true → BeginsTexts ps)
+
+module _ (s : Set) where
+  -- the component has an assignment
+  abbrev pub HasName : Subject → Type 0
+  HasName w = (name : Name) × (name_of s w ≡ Some name)
+
+  -- the plan is that of a simple type
+  abbrev pub IsSimplePlan : Plan → Type 0
+  IsSimplePlan (simple sp) = Sound sp
+  IsSimplePlan (reference (subject.Simple n)) = HasName (subject.Simple n)
+  IsSimplePlan _ = ⊥
+
+  abbrev mutual
+    pub IsPlan : Plan → Type 0
+    IsPlan (simple sp) = Sound sp
+    IsPlan (sequence nillable mixed ps) = IsSequence nillable mixed ps × (count_parts ps < 2 ^ 32) × ArePlans ps
+    IsPlan (choice ps) = IsCounted (count_parts ps) × ArePlans ps
+    IsPlan (repeated l p least most) = AreSizes least most × (is_attribute_label l ≡ false) × IsPlan p
+    IsPlan (reference w) = HasName w
+
+    pub ArePlans : Parts → Type 0
+    ArePlans finish = Unit {0}
+    ArePlans (part l optional p ps) = IsPlan p × (is_attribute_label l ≡ true → IsSimplePlan p) × ArePlans ps
+
+-- what holds of each component that is referred to without passing an element
+module _ (P : Subject → Type 0) where
+  abbrev mutual
+    pub Refers : Plan → Type 0
+    Refers (simple sp) = Unit {0}
+    Refers (sequence nillable mixed ps) = ReferInAll ps
+    Refers (choice ps) = ReferInAll ps
+    Refers (repeated l p least most) = MatchBool (is_element_label l) (Unit {0}) (Refers p)
+    Refers (reference w) = P w
+
+    pub ReferInAll : Parts → Type 0
+    ReferInAll finish = Unit {0}
+    ReferInAll (part l optional p ps) = MatchBool (is_element_label l) (Unit {0}) (Refers p) × ReferInAll ps
+
+-- so many references may follow one that leads to the component
+abbrev pub depth_of : Subject → ℕ
+depth_of (subject.Element n) = 2
+depth_of (subject.Attribute n) = 1
+depth_of (subject.Simple n) = 0
+depth_of (subject.Complex n) = 1
+depth_of (subject.Nillable n) = 1
+
+pub either-way : (b : Bool) (A : Type 0) → A → MatchBool b (Unit {0}) A
+either-way true A h = tt
+either-way false A h = h
+
+pub passed : (b : Bool) (A : Type 0) → b ≡ true → MatchBool b (Unit {0}) A
+passed true A h = tt
+passed false A h = absurd (cc)
+
+pub within : (b : Bool) (A B : Type 0) → (A → B) → MatchBool b (Unit {0}) A → MatchBool b (Unit {0}) B
+within true A B f h = tt
+within false A B f h = f h
+
+-- weaker facts
+module _ (s : Set) (P Q : Subject → Type 0) (f : (w : Subject) → HasName s w → P w → Q w) where
+  mutual
+    pub refers-weaker : (p : Plan) → IsPlan s p → Refers P p → Refers Q p
+    refers-weaker (simple sp) g h = tt
+    refers-weaker (sequence nillable mixed ps) g h = refer-weaker ps g.2 h
+    refers-weaker (choice ps) g h = refer-weaker ps g.1 h
+    refers-weaker (repeated l p least most) g h = within (is_element_label l) (Refers P p) (Refers Q p) (refers-weaker p g.2) h
+    refers-weaker (reference w) g h = f w g h
+
+    pub refer-weaker : (ps : Parts) → ArePlans s ps → ReferInAll P ps → ReferInAll Q ps
+    refer-weaker finish g h = tt
+    refer-weaker (part l optional p ps) g h = (within (is_element_label l) (Refers P p) (Refers Q p) (refers-weaker p g.0) h.0, refer-weaker ps g.2 h.1)
+
+-- what holds of all
+module _ (P : Subject → Type 0) (f : (w : Subject) → P w) where
+  mutual
+    pub refers-all : (p : Plan) → Refers P p
+    refers-all (simple sp) = tt
+    refers-all (sequence nillable mixed ps) = refer-all ps
+    refers-all (choice ps) = refer-all ps
+    refers-all (repeated l p least most) = either-way (is_element_label l) (Refers P p) (refers-all p)
+    refers-all (reference w) = f w
+
+    refer-all : (ps : Parts) → ReferInAll P ps
+    refer-all finish = tt
+    refer-all (part l optional p ps) = (either-way (is_element_label l) (Refers P p) (refers-all p), refer-all ps)

@@ -1,7 +1,0 @@
-use Rattle.std.proofs.Common.{◌≡◌, ◌++◌}
-use Rattle.map_694.specs.declared.subjects.Subject.TheVariants.{Attribute}
-use Rattle.map_694.specs.Collecting.{firsts}
-use Rattle.map_694.proofs.collecting.push_attributes.Given as goal
-
-abbrev pub invariant-attributes : goal.invariant-attributes
-invariant-attributes l = l.made.items ≡ l.fn.made.items ++ firsts l.set Attribute l.n

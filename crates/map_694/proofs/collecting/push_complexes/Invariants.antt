@@ -1,7 +1,0 @@
-use Rattle.std.proofs.Common.{◌≡◌, ◌++◌}
-use Rattle.map_694.specs.declared.subjects.Subject.TheVariants.{Complex}
-use Rattle.map_694.specs.Collecting.{firsts}
-use Rattle.map_694.proofs.collecting.push_complexes.Given as goal
-
-abbrev pub invariant-complexes : goal.invariant-complexes
-invariant-complexes l = l.made.items ≡ l.fn.made.items ++ firsts l.set Complex l.n

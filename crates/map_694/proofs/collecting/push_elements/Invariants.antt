@@ -1,7 +1,0 @@
-use Rattle.std.proofs.Common.{◌≡◌, ◌++◌}
-use Rattle.map_694.specs.declared.subjects.Subject.TheVariants.{Element}
-use Rattle.map_694.specs.Collecting.{firsts}
-use Rattle.map_694.proofs.collecting.push_elements.Given as goal
-
-abbrev pub invariant-elements : goal.invariant-elements
-invariant-elements l = l.made.items ≡ l.fn.made.items ++ firsts l.set Element l.n

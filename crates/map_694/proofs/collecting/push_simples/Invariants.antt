@@ -1,7 +1,0 @@
-use Rattle.std.proofs.Common.{◌≡◌, ◌++◌}
-use Rattle.map_694.specs.declared.subjects.Subject.TheVariants.{Simple}
-use Rattle.map_694.specs.Collecting.{firsts}
-use Rattle.map_694.proofs.collecting.push_simples.Given as goal
-
-abbrev pub invariant-simples : goal.invariant-simples
-invariant-simples l = l.made.items ≡ l.fn.made.items ++ firsts l.set Simple l.n

@@ -1,0 +1,41 @@
+//! The module of a linked set.
+ghost use Rattle.std.specs.Prelude.{◌≡◌, ◌<◌, List, IfOk, length};
+ghost use Rattle.asn_types.specs.declared.modules.Assignment.{Assignment};
+ghost use Rattle.map_subjects.specs.declared.subjects.Entry.{Entry};
+ghost use Rattle.map_subjects.specs.Subjects.{AreEntries, place_in};
+ghost use Rattle.map_subjects.specs.declared.subjects.Subject.TheVariants.{Element};
+ghost use Rattle.map_assignments.specs.Mapped.{IsMapOf};
+
+use asn_types::Module;
+use map_assignments::assignments;
+use map_subjects::{entries, number_of_element};
+use schema_parts::SchemaSet;
+use std::alloc::Global;
+use xa_base::Memory;
+
+/// The map of a linked set (X.694): the module of the types of its components, in the order of their assignments. A set
+/// has just one.
+///
+/// Memory is the only cause of an error.
+pub fn map_set(alloc: Global, set: &SchemaSet) -> Result<Module, Memory>
+    ensures map { IfOk result (λ made. IsMapOf set.now made) }
+    ensures only { IfOk result (λ made. (other : List Assignment) → IsMapOf set.now other → other ≡ made) }
+{
+    let _ = set.element_count();
+    let ordered = entries(alloc, set)?;
+    let made = assignments(alloc, set, &ordered)?;
+    Ok(Module::of(made))
+}
+
+/// The number of the assignment of a global element in the map of the set, from 0.
+///
+/// It takes no memory. The time is that of a pass over the set, and besides one over its elements for each complex type
+/// with a name in a namespace that stands before the element's.
+pub fn root_type(set: &SchemaSet, element: u32) -> u32
+    requires { element < set.now.globals }
+    ensures number { (entries : List Entry) → AreEntries set.now entries → result ≡ place_in entries (Element element) }
+    ensures within { (M : List Assignment) → IsMapOf set.now M → result < length M }
+{
+    let _ = set.element_count();
+    number_of_element(set, element)
+}

@@ -1,0 +1,46 @@
+-- Identifiers that are taken one after another.
+use Rattle.std.proofs.Common.{◌≡◌, ℕ, ◌+◌, ◌<◌, ◌≤◌, List, [], ◌∷◌, ◌++◌, length, map, drop, get_or, sym, ap, subst, ◌∙◌, append_assoc, add-one}
+use Rattle.std.proofs.lemmas.List.{drop_all, append-nil}
+use Rattle.map_subjects.proofs.Finding.{drop-next}
+use Rattle.name_map.specs.declared.conversion.NameKind.TheVariants.{Identifier}
+use Rattle.name_map.specs.Taking.{IsTaken}
+use Rattle.asn_types.specs.declared.marks.Instruction.{Instruction}
+use Rattle.name_map.specs.Restoring.{form_of}
+use Rattle.map_assignments.specs.Naming.{AreTaken, identifier_of, text_marks, text_if}
+
+-- Whatever identifiers follow, with those taken so far they are taken for all names.
+abbrev pub LeadsToTaken : List (List ℕ) → List (List ℕ) → List (List ℕ) → Type 0
+LeadsToTaken made rest names = (gs : List (List ℕ)) → AreTaken made rest gs → AreTaken [] names (made ++ gs)
+
+-- one more is taken
+pub takes-next : (scope made after : List (List ℕ)) (words : List (List ℕ)) (i : ℕ) (word name g : List ℕ) → i < length words → word ≡ get_or words i word
+    → scope ≡ made → name ≡ identifier_of word → IsTaken Identifier scope name g → after ≡ made ++ g ∷ []
+    → LeadsToTaken made (map identifier_of (drop i words)) (map identifier_of words)
+    → LeadsToTaken after (map identifier_of (drop (i + 1) words)) (map identifier_of words)
+takes-next scope made after words i word name g at here same converted taken is so_far gs rest =
+    let one = subst (λ n. IsTaken Identifier made n g) converted (subst (λ s. IsTaken Identifier s name g) same taken) in
+    let next = subst (λ a. AreTaken a (map identifier_of (drop (i + 1) words)) gs) is rest in
+    let all = so_far (g ∷ gs) (subst (λ ws. AreTaken made (map identifier_of ws) (g ∷ gs)) (sym (drop-next words i word at here)) (one, next)) in
+    subst (AreTaken [] (map identifier_of words)) (sym (append_assoc made (g ∷ []) gs) ∙ ap (λ a. a ++ gs) (sym is)) all
+
+-- all are taken
+pub takes-end : (made words : List (List ℕ)) (i : ℕ) → length words ≤ i
+    → LeadsToTaken made (map identifier_of (drop i words)) (map identifier_of words) → AreTaken [] (map identifier_of words) made
+takes-end made words i past so_far =
+    subst (AreTaken [] (map identifier_of words)) (append-nil made)
+    (so_far [] (subst (λ ws. AreTaken made (map identifier_of ws) []) (sym (drop_all i words past)) tt))
+
+-- TEXT of one item more
+pub texts-next : (before after whole : List Instruction) (gs words : List (List ℕ)) (i : ℕ) (g word : List ℕ)
+    → i < length gs → g ≡ get_or gs i g → i < length words → word ≡ get_or words i word
+    → after ≡ before ++ text_if (form_of g word) i word
+    → before ++ text_marks i (drop i gs) (drop i words) ≡ whole
+    → after ++ text_marks (i + 1) (drop (i + 1) gs) (drop (i + 1) words) ≡ whole
+texts-next before after whole gs words i g word at_g here_g at here is so_far =
+    let rest = text_marks (i + 1) (drop (i + 1) gs) (drop (i + 1) words) in
+    ap (λ a. a ++ rest) is
+    ∙ append_assoc before (text_if (form_of g word) i word) rest
+    ∙ ap (λ n. before ++ (text_if (form_of g word) i word ++ text_marks n (drop (i + 1) gs) (drop (i + 1) words))) (add-one i)
+    ∙ ap (λ hs. before ++ text_marks i hs (word ∷ drop (i + 1) words)) (sym (drop-next gs i g at_g here_g))
+    ∙ ap (λ ws. before ++ text_marks i (drop i gs) ws) (sym (drop-next words i word at here))
+    ∙ so_far

@@ -1,0 +1,198 @@
+use Rattle.std.proofs.Common.{true, false, refl, sym, ap, subst, ◌∙◌, arith}
+use Rattle.std.proofs.lemmas.List.{drop_all}
+use Rattle.label_tree.specs.Rose.{roses_of, kids_of, count_all}
+use Rattle.label_tree.proofs.Roses.{node_count-kids, node_count-positive}
+use Rattle.label_tree.proofs.Kids.{roses_of-drop, kid-count-le}
+use Rattle.content_models.specs.Seen.{term_seen, seen, all_seen}
+use Rattle.map_assignments.specs.Plans.{finish}
+use Rattle.map_assignments.specs.Planning.{simple_type, attributes, is_mixed, with_texts, rest_parts, content_parts, content_type, top, term_type, particle_parts}
+use Rattle.map_assignments.specs.Naming.{IsNamed, sequence_marks}
+use Rattle.map_assignments.specs.Placing.{place_of}
+use Rattle.map_assignments.specs.Building.{LeadsToNamed, declared}
+use Rattle.map_assignments.proofs.Building.{on_ok, leads-init, named-sequence, named-choice}
+use Rattle.map_assignments.proofs.Known.{known-element, known-kids, known-alternatives, known-kid, term-parts}
+use Rattle.map_assignments.proofs.Models.{plain-sequence, content-sequence, top-plain, top-other, parts-more}
+use Rattle.map_assignments.proofs.content.+content.Goals as goal
+
+pub complex_type-returns : goal.complex_type-returns
+complex_type-returns t c =
+    let s = c.args.set.now in
+    let place = place_of c.args.places.now in
+    let d = c.args.definition.now in
+    let rest = rest_parts (declared s c.args.levels) s c.args.nillable d.content in
+    let parts = attributes s d.uses rest in
+    let whole = with_texts (is_mixed d.content) parts in
+    let begun = subst (λ b. LeadsToNamed place c.in_ok-parts.parts parts (with_texts b parts)) c.is_mixed-mixed.ensures (c.in_ok-parts.ensures place parts) in
+    let behind = c.in_ok-push_attributes.ensures rest whole (subst (λ us. LeadsToNamed place c.in_ok-parts.parts (attributes s us rest) whole) (sym c.items.ensures) begun) in
+    named-sequence place c.push_rest.new.parts c.into_sequence.result c.in_ok-marks.marks c.args.nillable (is_mixed d.content) whole c.into_sequence.ensures
+    (c.in_ok-marks.ensures ∙ ap (sequence_marks c.args.nillable) c.is_mixed-mixed.ensures) (c.in_ok-push_rest.ensures whole behind)
+
+pub content_type-returns : goal.content_type-returns
+content_type-returns t c =
+    let s = c.args.set.now in
+    let place = place_of c.args.places.now in
+    let T = declared s c.args.levels in
+    let whole = content_parts T s c.args.content.now in
+    let new = c.new-parts in
+    subst (λ p. IsNamed place p c.into_sequence.result) (sym (content-sequence T s c.args.content.now c.in_default.not-Simple))
+    (named-sequence place c.push_content.new.parts c.into_sequence.result c.of-marks.result false false whole c.into_sequence.ensures (c.of-marks.ensures ∙ c.new.ensures.items)
+    (c.in_ok-push_content.ensures whole (leads-init place new.result whole new.ensures.scope new.ensures.components new.ensures.kids)))
+
+pub push_content-returns-in_ok-kid-in-Simple : goal.push_content-returns-in_ok-kid-in-Simple
+push_content-returns-in_ok-kid-in-Simple t c =
+    let s = c.args.set.now in
+    let place = place_of c.args.places.now in
+    let T = declared s c.args.levels in
+    on_ok c.push_base.result _ _
+    (λ h whole lead. h place (simple_type s c.in-Simple.n) whole c.in_ok-kid-in-Simple.ensures
+    (subst (λ k. LeadsToNamed place c.args.parts.now (content_parts T s k) whole) c.in-Simple.is lead))
+    c.push_base.ensures
+
+pub push_content-returns-in-ElementOnly : goal.push_content-returns-in-ElementOnly
+push_content-returns-in-ElementOnly t c =
+    let s = c.args.set.now in
+    let place = place_of c.args.places.now in
+    let T = declared s c.args.levels in
+    on_ok c.push_top.result _ _
+    (λ h whole lead. h whole (subst (λ p. LeadsToNamed place c.args.parts.now (top T (seen p)) whole) (sym c.root.ensures.root)
+    (subst (λ k. LeadsToNamed place c.args.parts.now (content_parts T s k) whole) c.in-ElementOnly.is lead)))
+    c.push_top.ensures
+
+pub push_content-returns-in-Mixed : goal.push_content-returns-in-Mixed
+push_content-returns-in-Mixed t c =
+    let s = c.args.set.now in
+    let place = place_of c.args.places.now in
+    let T = declared s c.args.levels in
+    on_ok c.push_top-in-Mixed.result _ _
+    (λ h whole lead. h whole (subst (λ p. LeadsToNamed place c.args.parts.now (top T (seen p)) whole) (sym c.root-in-Mixed.ensures.root)
+    (subst (λ k. LeadsToNamed place c.args.parts.now (content_parts T s k) whole) c.in-Mixed.is lead)))
+    c.push_top-in-Mixed.ensures
+
+pub push_rest-returns-in_ok-kid : goal.push_rest-returns-in_ok-kid
+push_rest-returns-in_ok-kid t c =
+    let s = c.args.set.now in
+    let place = place_of c.args.places.now in
+    let T = declared s c.args.levels in
+    on_ok c.push_nillable.result _ _
+    (λ h whole lead. h place (content_type T s c.args.content.now) whole c.in_ok-kid.ensures
+    (subst (λ b. LeadsToNamed place c.args.parts.now (rest_parts T s b c.args.content.now) whole) c.if-nillable.true lead))
+    c.push_nillable.ensures
+
+pub push_rest-returns-else-nillable : goal.push_rest-returns-else-nillable
+push_rest-returns-else-nillable t c =
+    let s = c.args.set.now in
+    let place = place_of c.args.places.now in
+    let T = declared s c.args.levels in
+    on_ok c.push_content.result _ _
+    (λ h whole lead. h whole (subst (λ b. LeadsToNamed place c.args.parts.now (rest_parts T s b c.args.content.now) whole) c.if-nillable.false lead))
+    c.push_content.ensures
+
+pub push_top-push_particles-requires : goal.push_top-push_particles-requires
+push_top-push_particles-requires t c =
+    let particle = c.args.particle.now in
+    let l = c.label-label.result.now in
+    let below = c.kids.ensures in
+    let now = c.decreases in
+    let fewer = ap (λ ts. count_all (roses_of ts)) below in
+    let all = node_count-kids particle in
+    let kind = plain-sequence l.kind l.min l.max (sym c.is_plain.ensures ∙ c.if-is_plain.true) in
+    (omega (arith, now, fewer, all), (c.requires.linked, known-kids c.args.set.now particle l c.kids.result.now c.requires.known c.label-label.ensures below kind))
+
+pub push_top-returns-then-is_plain : goal.push_top-returns-then-is_plain
+push_top-returns-then-is_plain t c =
+    let place = place_of c.args.places.now in
+    let T = declared c.args.set.now c.args.levels in
+    on_ok c.push_particles.result _ _
+    (λ h whole lead. h whole (subst (λ ps. LeadsToNamed place c.args.parts.now ps whole)
+    (top-plain T c.args.particle.now c.label-label.result.now c.kids.result.now c.label-label.ensures c.kids.ensures (sym c.is_plain.ensures ∙ c.if-is_plain.true)) lead))
+    c.push_particles.ensures
+
+pub push_top-returns : goal.push_top-returns
+push_top-returns t c =
+    let place = place_of c.args.places.now in
+    let T = declared c.args.set.now c.args.levels in
+    let particle = c.args.particle.now in
+    on_ok c.push_particle.result _ _
+    (λ h whole lead. h place (all_seen (roses_of (kids_of particle))) _ finish whole c.in_ok-kid.ensures (subst (λ ps. LeadsToNamed place c.args.parts.now ps whole)
+    (top-other T particle c.label-label.result.now (kids_of particle) c.label-label.ensures refl (sym c.is_plain.ensures ∙ c.if-is_plain.false)) lead))
+    c.push_particle.ensures
+
+pub term_type-particle_type-requires : goal.term_type-particle_type-requires
+term_type-particle_type-requires t c =
+    let particle = c.args.particle.now in
+    let some = node_count-positive particle in
+    let now = c.decreases in
+    (omega (arith, now, some), (c.requires.linked, known-element c.args.set.now particle c.label-label.result.now c.in-Element.decl _ c.requires.known c.label-label.ensures c.in-Element.is))
+
+pub term_type-push_particles-requires : goal.term_type-push_particles-requires
+term_type-push_particles-requires t c =
+    let particle = c.args.particle.now in
+    let below = c.kids.ensures in
+    let now = c.decreases in
+    let fewer = ap (λ ts. count_all (roses_of ts)) below in
+    let all = node_count-kids particle in
+    (omega (arith, now, fewer, all), (c.requires.linked, known-kids c.args.set.now particle c.label-label.result.now c.kids.result.now c.requires.known c.label-label.ensures below c.in-Sequence.is))
+
+pub term_type-push_particles-requires-in-Choice : goal.term_type-push_particles-requires-in-Choice
+term_type-push_particles-requires-in-Choice t c =
+    let particle = c.args.particle.now in
+    let below = c.kids-in-Choice.ensures in
+    let now = c.decreases in
+    let fewer = ap (λ ts. count_all (roses_of ts)) below in
+    let all = node_count-kids particle in
+    (omega (arith, now, fewer, all), (c.requires.linked, known-alternatives c.args.set.now particle c.label-label.result.now c.kids-in-Choice.result.now c.requires.known c.label-label.ensures below c.in-Choice.is))
+
+pub term_type-returns-in_ok-push_particles-in-Sequence : goal.term_type-returns-in_ok-push_particles-in-Sequence
+term_type-returns-in_ok-push_particles-in-Sequence t c =
+    let place = place_of c.args.places.now in
+    let T = declared c.args.set.now c.args.levels in
+    let ps = all_seen (roses_of c.kids.result.now) in
+    let whole = particle_parts T false ps in
+    let new = c.new-parts in
+    subst (λ m. IsNamed place (term_type T m) c.into_sequence.result)
+    (sym (term-parts c.args.particle.now c.label-label.result.now c.kids.result.now c.label-label.ensures c.kids.ensures ∙ ap (λ k. term_seen k ps) c.in-Sequence.is))
+    (named-sequence place c.push_particles.new.parts c.into_sequence.result c.of-marks.result false false whole c.into_sequence.ensures (c.of-marks.ensures ∙ c.new.ensures.items)
+    (c.in_ok-push_particles-in-Sequence.ensures whole (leads-init place new.result whole new.ensures.scope new.ensures.components new.ensures.kids)))
+
+pub term_type-returns-in_ok-push_particles-in-Choice : goal.term_type-returns-in_ok-push_particles-in-Choice
+term_type-returns-in_ok-push_particles-in-Choice t c =
+    let place = place_of c.args.places.now in
+    let T = declared c.args.set.now c.args.levels in
+    let ps = all_seen (roses_of c.kids-in-Choice.result.now) in
+    let whole = particle_parts T true ps in
+    let new = c.new-parts in
+    subst (λ m. IsNamed place (term_type T m) c.into_choice.result)
+    (sym (term-parts c.args.particle.now c.label-label.result.now c.kids-in-Choice.result.now c.label-label.ensures c.kids-in-Choice.ensures ∙ ap (λ k. term_seen k ps) c.in-Choice.is))
+    (named-choice place c.push_particles-in-Choice.new.parts c.into_choice.result c.of-marks.result whole c.into_choice.ensures (c.of-marks.ensures ∙ c.new.ensures.items)
+    (c.in_ok-push_particles-in-Choice.ensures whole (leads-init place new.result whole new.ensures.scope new.ensures.components new.ensures.kids)))
+
+pub push_particles-term_type-requires : goal.push_particles-term_type-requires
+push_particles-term_type-requires t c =
+    let particles = c.args.particles.now in
+    let particle = c.particle-item.result in
+    let fewer = kid-count-le particles c.particles.particle-index particle c.particles-test.true c.particle-item.is in
+    let now = c.decreases in
+    (omega (arith, now, fewer), (c.requires.linked, known-kid c.args.set.now particles c.particles.particle-index particle c.requires.known c.particles-test.true c.particle-item.is))
+
+pub push_particles-particles-preserved : goal.push_particles-particles-preserved
+push_particles-particles-preserved t c =
+    let place = place_of c.args.places.now in
+    let T = declared c.args.set.now c.args.levels in
+    let b = c.args.in_choice in
+    let particles = c.args.particles.now in
+    let particle = c.particle-item.result in
+    λ whole lead.
+    c.in_ok-push_particle.ensures place (all_seen (roses_of (kids_of particle))) _ _ whole c.in_ok-kid.ensures
+    (subst (λ ps. LeadsToNamed place c.particles.parts ps whole)
+    (ap (λ ts. particle_parts T b (all_seen ts)) (roses_of-drop particles c.particles.particle-index particle c.particles-test.true c.particle-item.is)
+    ∙ parts-more T particle c.label.result.now (kids_of particle) c.label.ensures refl b _)
+    (c.particles.invariant whole lead))
+
+pub push_particles-returns : goal.push_particles-returns
+push_particles-returns t c =
+    let place = place_of c.args.places.now in
+    let T = declared c.args.set.now c.args.levels in
+    let particles = c.args.particles.now in
+    λ whole lead.
+    subst (λ ts. LeadsToNamed place c.particles.parts (particle_parts T c.args.in_choice (all_seen (roses_of ts))) whole) (drop_all c.particles.particle-index particles c.particles-test.false)
+    (c.particles.invariant whole lead)

@@ -1,0 +1,9 @@
+use Rattle.std.proofs.Common.{◌≡◌, drop}
+use Rattle.map_assignments.specs.Placing.{place_of, references_of}
+use Rattle.map_assignments.proofs.Mapping.{LeadsToMapped}
+use Rattle.map_assignments.proofs.map.numbered_assignments.Given as goal
+
+abbrev pub invariant-entries : goal.invariant-entries
+invariant-entries l =
+    (l.scope ≡ references_of l.made.items)
+    × LeadsToMapped (place_of l.places) l.set l.made.items (drop l.entry-index l.entries) l.entries

@@ -1,0 +1,16 @@
+use Rattle.std.proofs.Common.{false, ◌∙◌}
+use Rattle.content_models.specs.Seen.{term_seen}
+use Rattle.map_assignments.specs.Planning.{list_label_of}
+use Rattle.map_assignments.proofs.Building.{on_ok, adds-marked, list-marks}
+use Rattle.map_assignments.proofs.particles.push_several.Goals as goal
+
+pub returns : goal.returns
+returns c =
+    on_ok c.push_marked.result _ _
+    (λ added ps. (
+      c.in_ok-made.made,
+      c.in_ok-made.ensures ps,
+      adds-marked c.args.parts.now c.push_marked.new.self (list_label_of (term_seen c.args.label.now.kind ps)) c.in_ok-name.name c.in_ok-marks.marks false c.in_ok-made.made
+          (c.in_ok-name.ensures ps) (λ g. c.in_ok-marks.ensures ∙ list-marks c.args.label.now.kind ps g) added,
+    ))
+    c.push_marked.ensures

@@ -1,0 +1,53 @@
+use Rattle.std.proofs.Common.{ap, sym, subst, ◌∙◌, ◌∷◌, ◌++◌, [], arith, IfOk}
+use Rattle.label_tree.specs.Rose.{roses_of}
+use Rattle.simple_types.specs.Sound.{Sound}
+use Rattle.simple_types.specs.Space.{count_parts}
+use Rattle.simple_types.specs.Seen.{space_of}
+use Rattle.simple_types.proofs.Seen.{union_is}
+use Rattle.simple_types.proofs.Members.{part_member, member_sound}
+use Rattle.map_assignments.specs.Naming.{IsSimpleType}
+use Rattle.map_assignments.proofs.Building.{if_ok}
+use Rattle.map_assignments.proofs.Members.{members-next, members-end}
+use Rattle.map_assignments.proofs.simple.+simple.Goals as goal
+
+pub simple_type-union_type-requires : goal.simple_type-union_type-requires
+simple_type-union_type-requires t c =
+    let is = union_is c.args.simple.now c.in-Union.members c.items.result.now c.in-Union.is c.items.ensures in
+    let fewer = ap count_parts is in
+    let d = c.decreases in
+    let sound = subst Sound is c.requires in
+    (omega (arith, d, fewer), sound.1)
+
+pub simple_type-returns-in-Union : goal.simple_type-returns-in-Union
+simple_type-returns-in-Union t c =
+    let is = union_is c.args.simple.now c.in-Union.members c.items.result.now c.in-Union.is c.items.ensures in
+    subst (λ s. IfOk c.union_type.result (λ made. IsSimpleType s made)) (sym is) c.union_type.ensures
+
+pub union_type-simple_type-requires : goal.union_type-simple_type-requires
+union_type-simple_type-requires t c =
+    let members = c.args.members.now in
+    let i = c.members.member-index in
+    let member = c.member-item.result in
+    let part = part_member members i member c.members-test.true in
+    let same = ap (λ m. count_parts (space_of m)) c.member-item.is in
+    let d = c.decreases in
+    (omega (arith, d, part, same), subst (λ m. Sound (space_of m)) (sym c.member-item.is) (member_sound members i member c.requires c.members-test.true))
+
+pub union_type-members-preserved : goal.union_type-members-preserved
+union_type-members-preserved t c =
+    members-next c.args.members.now c.members.member-index c.member-item.result c.members.scope c.next_alternative.new.scope
+    c.members.components.items c.push.new.self.items c.members.kids.items c.push-in-members.new.self.items c.in_ok-identifier.identifier c.in_ok-kid.kid
+    c.members-test.true c.member-item.is c.in_ok-identifier.ensures.taken c.in_ok-identifier.ensures.noted
+    (c.in_ok-push.ensures.items ∙ ap (λ p. c.members.components.items ++ p ∷ []) c.unmarked.ensures) c.in_ok-push-2.ensures.items c.in_ok-kid.ensures
+    c.members.invariant
+
+pub union_type-returns : goal.union_type-returns
+union_type-returns t c =
+    if_ok c.union_of.result _ _
+    (λ made is. (
+      c.members.components.items,
+      roses_of c.members.kids.items,
+      is,
+      members-end c.args.members.now c.members.member-index c.members.scope c.members.components.items c.members.kids.items c.members-test.false c.members.invariant,
+    ))
+    c.union_of.ensures

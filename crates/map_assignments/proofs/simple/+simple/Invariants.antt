@@ -1,0 +1,15 @@
+use Rattle.std.proofs.Common.{◌+◌, ◌*◌, drop}
+use Rattle.simple_types.specs.Space.{count_parts, count_all_parts}
+use Rattle.simple_types.specs.Seen.{space_of, spaces_in}
+use Rattle.map_assignments.proofs.Members.{LeadsToMembers}
+use Rattle.map_assignments.proofs.simple.+simple.Given as goal
+
+abbrev pub decreases-simple_type : goal.decreases-simple_type
+decreases-simple_type l = 2 * count_parts (space_of l.simple.now)
+
+abbrev pub decreases-union_type : goal.decreases-union_type
+decreases-union_type l = 2 * count_all_parts (spaces_in l.members.now) + 1
+
+abbrev pub invariant-union_type-members : goal.invariant-union_type-members
+invariant-union_type-members l =
+    LeadsToMembers l.scope (spaces_in (drop l.member-index l.members)) l.components.items l.kids.items (spaces_in l.members)

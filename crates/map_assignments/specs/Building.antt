@@ -1,0 +1,57 @@
+-- How the parts of a type are made one after another; for private contracts.
+use Rattle.std.specs.Prelude.{◌≡◌, ℕ, Bool, false, Option, List, [], ◌∷◌, ◌++◌}
+use Rattle.std.specs.List.{All}
+use Rattle.label_tree.specs.Rose.{Rose, node, roses_of}
+use Rattle.content_models.specs.declared.particles.ParticleLabel.{ParticleLabel}
+use Rattle.content_models.specs.declared.particles.ParticleKind.{ParticleKind}
+use Rattle.content_models.specs.declared.particles.ParticleKind.TheVariants.{Sequence}
+use Rattle.content_models.specs.Particle.{Term}
+use Rattle.content_models.specs.Seen.{term_seen, seen, all_seen}
+use Rattle.schema_parts.specs.Components.{Set}
+use Rattle.schema_parts.specs.Linked as linked
+use Rattle.name_map.specs.declared.conversion.NameKind.TheVariants.{Identifier}
+use Rattle.name_map.specs.Taking.{IsTaken}
+use Rattle.asn_types.specs.declared.marks.Instruction.{Instruction}
+use Rattle.asn_types.specs.declared.types.Component.{Component}
+use Rattle.asn_types.specs.declared.types.TypeLabel.{TypeLabel}
+use Rattle.map_assignments.specs.declared.parts.PartList.{PartList}
+use Rattle.map_subjects.specs.declared.subjects.Subject.{Subject}
+use Rattle.map_assignments.specs.Plans.{Label, Plan, Parts}
+use Rattle.map_assignments.specs.Planning.{is_once, particle_type, in_place}
+use Rattle.map_assignments.specs.Naming.{component_of, wanted, part_marks, AreNamed}
+
+-- one part more, with an identifier made from this name, and with the instructions that its identifier gives
+pub record AddsPart (before after : PartList) (name : List ℕ) (marks : List ℕ → List Instruction) (optional : Bool) (kid : Rose TypeLabel) : Type 0 where
+  pub identifier : List ℕ
+  pub taken : IsTaken Identifier before.scope name identifier
+  pub noted : after.scope ≡ before.scope ++ identifier ∷ []
+  pub component : after.components.items ≡ before.components.items ++ component_of identifier optional (marks identifier) ∷ []
+  pub kid_added : after.kids.items ≡ before.kids.items ++ kid ∷ []
+
+abbrev pub Adds : PartList → PartList → Label → Bool → Rose TypeLabel → Type 0
+Adds before after l optional kid = AddsPart before after (wanted l) (part_marks l) optional kid
+
+-- Whatever parts follow that are those of the rest, with the parts so far they are those of the whole.
+abbrev pub LeadsToNamed : (Subject → ℕ) → PartList → Parts → Parts → Type 0
+LeadsToNamed place made rest whole =
+    (parts : List Component) (ts : List (Rose TypeLabel)) → AreNamed place made.scope rest parts (roses_of ts)
+    → AreNamed place [] whole (made.components.items ++ parts) (roses_of (made.kids.items ++ ts))
+
+-- the type of a declaration at a particle, where so many types without a name may stand in one another
+abbrev pub declared : Set → ℕ → ℕ → Plan
+declared s levels = particle_type s (in_place s levels)
+
+abbrev pub term_of : Rose ParticleLabel → Term
+term_of (node l ts) = term_seen l.kind (all_seen ts)
+
+-- a sequence that stands once
+abbrev pub is_plain : ParticleKind → ℕ → Option ℕ → Bool
+is_plain Sequence least most = is_once least most
+is_plain _ least most = false
+
+-- each element particle names a declaration of the set
+abbrev pub IsKnown : Set → Rose ParticleLabel → Type 0
+IsKnown s t = All (linked.IsNamed s) (linked.leaves (seen t))
+
+abbrev pub AreKnown : Set → List (Rose ParticleLabel) → Type 0
+AreKnown s ts = All (linked.IsNamed s) (linked.all_leaves (all_seen (roses_of ts)))

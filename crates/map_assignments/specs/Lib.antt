@@ -1,0 +1,7 @@
+pub mod Plans
+pub mod Planning
+pub mod Naming
+pub mod Mapped
+pub mod Building
+pub mod Placing
+pub mod Samples

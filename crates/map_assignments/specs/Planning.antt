@@ -1,0 +1,156 @@
+-- The type of each component of a set (X.694): its parts in their order, before they have names.
+use Rattle.std.specs.Prelude.{ℕ, zero, suc, ◌==◌, ◌&&◌, nat_lt, not, Bool, true, false, List, [], ◌∷◌, Option, Some, None, slice_get, if◌then◌else◌}
+use Rattle.xa_base.specs.declared.white_space.WhiteSpace.TheVariants.{Preserve}
+use Rattle.simple_types.specs.declared.simples.Class.TheVariants.{Any}
+use Rattle.simple_types.specs.Space.{Booleans, Characters}
+use Rattle.simple_types.specs.Seen.{space_of}
+use Rattle.content_models.specs.Particle as model
+use Rattle.content_models.specs.Particle.{Particle, occurs, Term, Particles}
+use Rattle.content_models.specs.Seen.{seen}
+use Rattle.schema_parts.specs.declared.components.ElementDecl.{ElementDecl}
+use Rattle.schema_parts.specs.declared.components.TypeOf.TheVariants as kind
+use Rattle.schema_parts.specs.declared.components.AttributeUse.{AttributeUse}
+use Rattle.schema_parts.specs.declared.components.SimpleDef.{SimpleDef}
+use Rattle.schema_parts.specs.declared.components.ComplexDef.{ComplexDef}
+use Rattle.schema_parts.specs.declared.components.Content.{Content}
+use Rattle.schema_parts.specs.declared.components.Content.TheVariants as content_
+use Rattle.schema_parts.specs.Components.{Set}
+use Rattle.map_subjects.specs.declared.subjects.Subject.{Subject}
+use Rattle.map_subjects.specs.declared.subjects.Subject.TheVariants as subject
+use Rattle.map_assignments.specs.Plans.{a_sequence, a_choice, Label, attribute, element, group, elements, groups, texts, item, base, content, Plan, simple, sequence, choice, repeated, reference, Parts, finish, part}
+
+-- ---- simple types (clauses 11 to 13)
+
+-- the type of what has a simple type: that of its assignment where it has a name, else in place
+abbrev pub simple_plan : SimpleDef → ℕ → Plan
+simple_plan t n = elim t.name [ None ↦ simple (space_of t.space) | Some name ↦ reference (subject.Simple n) ]
+
+abbrev pub simple_type : Set → ℕ → Plan
+simple_type s n = elim (slice_get s.simples n) [ None ↦ simple Booleans | Some t ↦ simple_plan t n ]
+
+-- ---- attribute uses (clause 22), in the order of their names, which is that of the linked set
+
+abbrev pub attributes : Set → List AttributeUse → Parts → Parts
+attributes s [] rest = rest
+attributes s (u ∷ us) rest = part (attribute u.name) (not u.required) (simple_type s u.simple) (attributes s us rest)
+
+-- ---- particles (clauses 18 and 19)
+
+-- what a term stands for where it stands once, and where it may stand several times
+abbrev pub label_of : Term → Label
+label_of (model.element d name) = element name
+label_of (model.sequence ps) = group a_sequence
+label_of (model.choice ps) = group a_choice
+
+abbrev pub list_label_of : Term → Label
+list_label_of (model.element d name) = elements name
+list_label_of (model.sequence ps) = groups a_sequence
+list_label_of (model.choice ps) = groups a_choice
+
+-- the bounds 1 and 1
+abbrev pub is_once : ℕ → Option ℕ → Bool
+is_once least None = false
+is_once least (Some most) = (least == 1) && (most == 1)
+
+-- the bounds 0 and 1
+abbrev pub is_optional : ℕ → Option ℕ → Bool
+is_optional least None = false
+is_optional least (Some most) = (least == 0) && (most == 1)
+
+-- The part for a particle. Bounds of 0 and 1 make it OPTIONAL, but in a CHOICE, where no alternative is.
+abbrev pub particle_part : Bool → Term → Plan → ℕ → Option ℕ → Parts → Parts
+particle_part in_choice t type least most rest =
+    if is_once least most then part (label_of t) false type rest
+    else if is_optional least most && not in_choice then part (label_of t) true type rest
+    else part (list_label_of t) false (repeated (label_of t) type least most) rest
+
+abbrev pub is_mixed : Content → Bool
+is_mixed (content_.Mixed particle) = true
+is_mixed _ = false
+
+-- the texts between child elements of mixed content (clause 20): SEQUENCE OF UTF8String
+abbrev pub texts_type : Plan
+texts_type = repeated item (simple (Characters Preserve 0 None Any)) 0 None
+
+abbrev pub with_texts : Bool → Parts → Parts
+with_texts mixed rest = if mixed then part texts false texts_type rest else rest
+
+-- where each declaration has this type at a particle
+module _ (T : ℕ → Plan) where
+  abbrev mutual
+    pub term_type : Term → Plan
+    term_type (model.element d name) = T d
+    term_type (model.sequence ps) = sequence false false (particle_parts false ps)
+    term_type (model.choice ps) = choice (particle_parts true ps)
+
+    pub particle_parts : Bool → Particles → Parts
+    particle_parts in_choice model.none = finish
+    particle_parts in_choice (model.more (occurs t least most) ps) = particle_part in_choice t (term_type t) least most (particle_parts in_choice ps)
+
+  abbrev pub top_part : Term → ℕ → Option ℕ → Parts
+  top_part t least most = particle_part false t (term_type t) least most finish
+
+  -- the particles of a top sequence that stands once are parts of the type itself; another top particle is one part
+  abbrev pub top : Particle → Parts
+  top (occurs (model.sequence ps) least most) = if is_once least most then particle_parts false ps else top_part (model.sequence ps) least most
+  top (occurs t least most) = top_part t least most
+
+  -- ---- complex types (clauses 20 and 26)
+
+  -- the parts of a content
+  abbrev pub content_parts : Set → Content → Parts
+  content_parts s content_.Empty = finish
+  content_parts s (content_.Simple n) = part base false (simple_type s n) finish
+  content_parts s (content_.ElementOnly particle) = top (seen particle)
+  content_parts s (content_.Mixed particle) = top (seen particle)
+
+  -- the type of what a nillable element has where it isn't nil
+  abbrev pub content_type : Set → Content → Plan
+  content_type s content_.Empty = sequence false false finish
+  content_type s (content_.Simple n) = simple_type s n
+  content_type s (content_.ElementOnly particle) = sequence false false (top (seen particle))
+  content_type s (content_.Mixed particle) = sequence false false (top (seen particle))
+
+  -- behind the attributes stand the parts of the content, or for a nillable element one OPTIONAL part with all of it
+  abbrev pub rest_parts : Set → Bool → Content → Parts
+  rest_parts s nillable c = if nillable then part content true (content_type s c) finish else content_parts s c
+
+  abbrev pub complex_plan : Set → Bool → ComplexDef → Plan
+  complex_plan s nillable c =
+      sequence nillable (is_mixed c.content) (with_texts (is_mixed c.content) (attributes s c.uses (rest_parts s nillable c.content)))
+
+abbrev pub nillable_simple_type : Set → ℕ → Plan
+nillable_simple_type s n = sequence true false (part content true (simple_type s n) finish)
+
+-- ---- declarations (clauses 14 and 15)
+
+module _ (s : Set) where
+  -- the type of a declaration, where complex types in place are these, for nillable elements and for others
+  abbrev pub own_type : (Bool → ℕ → Plan) → ElementDecl → Plan
+  own_type inner e = elim e.kind [
+    | kind.Simple n ↦ if e.nillable then nillable_simple_type s n else simple_type s n
+    | kind.Complex n ↦ elim (slice_get s.complexes n) [
+      | None ↦ sequence false false finish
+      | Some c ↦ elim c.name [ None ↦ inner e.nillable n | Some name ↦ reference (if e.nillable then subject.Nillable n else subject.Complex n) ]
+    ]
+  ]
+
+  -- the type where an element particle stands (clause 19): a global element is referred to
+  abbrev pub particle_type : (Bool → ℕ → Plan) → ℕ → Plan
+  particle_type inner d =
+      if nat_lt d s.globals then reference (subject.Element d)
+      else elim (slice_get s.elements d) [ None ↦ simple Booleans | Some e ↦ own_type inner e ]
+
+  -- The type of the complex type n, in which so many types without a name may stand in one another, itself included.
+  abbrev pub in_place : ℕ → Bool → ℕ → Plan
+  in_place zero nillable n = sequence false false finish
+  in_place (suc levels) nillable n =
+      elim (slice_get s.complexes n) [ None ↦ sequence false false finish | Some c ↦ complex_plan (particle_type (in_place levels)) s nillable c ]
+
+  -- in a linked set no more than 21 types without a name stand in one another
+  abbrev pub body : Subject → Plan
+  body (subject.Element d) = elim (slice_get s.elements d) [ None ↦ simple Booleans | Some e ↦ own_type (in_place 21) e ]
+  body (subject.Attribute n) = elim (slice_get s.attributes n) [ None ↦ simple Booleans | Some a ↦ simple_type s a.simple ]
+  body (subject.Simple n) = elim (slice_get s.simples n) [ None ↦ simple Booleans | Some t ↦ simple (space_of t.space) ]
+  body (subject.Complex n) = in_place 21 false n
+  body (subject.Nillable n) = in_place 21 true n

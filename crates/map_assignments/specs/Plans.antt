@@ -1,0 +1,43 @@
+-- Types before their names are chosen: what stands where, and for what each part stands.
+use Rattle.std.specs.Prelude.{ℕ, Bool, Option}
+use Rattle.xa_base.specs.declared.texts.Name.{Name}
+use Rattle.simple_types.specs.Space.{Space}
+use Rattle.map_subjects.specs.declared.subjects.Subject.{Subject}
+
+pub data Group : Type 0 where
+  a_sequence : Group
+  a_choice : Group
+
+-- What a part stands for.
+pub data Label : Type 0 where
+  attribute : Name → Label
+  element : Name → Label
+  group : Group → Label
+  -- several elements or groups
+  elements : Name → Label
+  groups : Group → Label
+  -- the texts between child elements
+  texts : Label
+  -- one of them
+  item : Label
+  -- the text of a complex type with simple content
+  base : Label
+  -- what a nillable element has where it isn't nil
+  content : Label
+
+mutual
+  pub data Plan : Type 0 where
+    -- a simple type in place
+    simple : Space → Plan
+    -- SEQUENCE; whether USE-NIL and EMBED-VALUES stand on it
+    sequence : Bool → Bool → Parts → Plan
+    choice : Parts → Plan
+    -- SEQUENCE OF so many
+    repeated : Label → Plan → ℕ → Option ℕ → Plan
+    -- the type of an assignment
+    reference : Subject → Plan
+
+  pub data Parts : Type 0 where
+    finish : Parts
+    -- a part, whether it is optional, its type, and the parts behind it
+    part : Label → Bool → Plan → Parts → Parts

@@ -1,0 +1,344 @@
+//! The types of declarations, and of complex types with their content models.
+ghost use Rattle.std.specs.Prelude.{◌≡◌, ◌<◌, ℕ, IfOk, OnOk, length, true};
+ghost use Rattle.label_tree.specs.Rose.{roses_of};
+ghost use Rattle.content_models.specs.Seen.{seen, all_seen};
+ghost use Rattle.schema_parts.specs.Linked.{IsLinked, IsTyped, IsComplexType, IsContent};
+ghost use Rattle.map_subjects.specs.declared.subjects.Subject.{Subject};
+ghost use Rattle.map_assignments.specs.Plans.{Parts, finish};
+ghost use Rattle.map_assignments.specs.Planning as plan;
+ghost use Rattle.map_assignments.specs.Naming.{IsNamed, sequence_marks};
+ghost use Rattle.map_assignments.specs.Placing.{place_of};
+ghost use Rattle.map_assignments.specs.Building.{LeadsToNamed, declared, term_of, IsKnown, AreKnown};
+
+use crate::attributes::{push_attributes, simple_at};
+use crate::particles::{is_plain, push_base, push_nillable, push_particle, push_texts};
+use crate::parts::PartList;
+use crate::places::Places;
+use asn_types::{Instruction, Marks, TypeLabel};
+use content_models::{ParticleKind, ParticleLabel};
+use label_tree::Tree;
+use map_subjects::Subject;
+use schema_parts::{ComplexDef, Content, ElementDecl, SchemaSet, TypeOf};
+use std::alloc::Global;
+use xa_base::Memory;
+
+fn is_mixed(content: &Content) -> bool
+    ensures { result ≡ plan.is_mixed content.now }
+{
+    matches!(content, Content::Mixed(_))
+}
+
+// USE-NIL and EMBED-VALUES.
+fn sequence_marks(alloc: Global, nillable: bool, mixed: bool) -> Result<Marks, Memory>
+    ensures { IfOk result (λ marks. marks ≡ sequence_marks nillable mixed) }
+{
+    let mut marks = Vec::new(alloc);
+    if nillable {
+        marks.push(Instruction::UseNil)?;
+    }
+    if mixed {
+        marks.push(Instruction::EmbedValues)?;
+    }
+    Ok(Marks::of(marks))
+}
+
+// The part for the texts between child elements alone.
+fn begin_mixed(alloc: Global) -> Result<PartList, Memory>
+    ensures { IfOk result (λ made. (place : Subject → ℕ) (rest : Parts) → LeadsToNamed place made rest (plan.with_texts true rest)) }
+{
+    let mut parts = PartList::new(alloc);
+    push_texts(alloc, &mut parts)?;
+    Ok(parts)
+}
+
+// No parts but that of mixed content.
+fn begin(alloc: Global, mixed: bool) -> Result<PartList, Memory>
+    ensures { IfOk result (λ made. (place : Subject → ℕ) (rest : Parts) → LeadsToNamed place made rest (plan.with_texts mixed rest)) }
+{
+    if mixed {
+        begin_mixed(alloc)
+    } else {
+        Ok(PartList::new(alloc))
+    }
+}
+
+// The type of nillable elements of the simple type with this number.
+fn nillable_simple_type(
+    alloc: Global,
+    set: &SchemaSet,
+    places: &Places,
+    n: u32,
+) -> Result<Tree<TypeLabel>, Memory>
+    requires linked { IsLinked set.now }
+    requires number { n < length set.now.simples }
+    ensures { IfOk result (λ made. IsNamed (place_of places.now) (plan.nillable_simple_type set.now n) made) }
+{
+    let kid = simple_at(alloc, set, places, n)?;
+    let mut parts = PartList::new(alloc);
+    push_nillable(alloc, &mut parts, kid)?;
+    let marks = sequence_marks(alloc, true, false)?;
+    Ok(parts.into_sequence(marks))
+}
+
+// The type where a particle of the element with this number stands.
+#[cycle(content)]
+fn particle_type(
+    alloc: Global,
+    set: &SchemaSet,
+    places: &Places,
+    levels: u32,
+    decl: u32,
+) -> Result<Tree<TypeLabel>, Memory>
+    requires linked { IsLinked set.now }
+    requires number { decl < length set.now.elements }
+    ensures { IfOk result (λ made. IsNamed (place_of places.now) (declared set.now levels decl) made) }
+{
+    if decl < set.global_count() {
+        return Ok(places.reference(alloc, Subject::Element(decl)));
+    }
+    own_type(alloc, set, places, levels, set.element(decl))
+}
+
+// The type of a declaration, where it isn't referred to.
+#[cycle(content)]
+pub(crate) fn own_type(
+    alloc: Global,
+    set: &SchemaSet,
+    places: &Places,
+    levels: u32,
+    element: &ElementDecl,
+) -> Result<Tree<TypeLabel>, Memory>
+    requires linked { IsLinked set.now }
+    requires typed { IsTyped set.now element.now.kind }
+    ensures { IfOk result (λ made. IsNamed (place_of places.now) (plan.own_type set.now (plan.in_place set.now levels) element.now) made) }
+{
+    let nillable = element.nillable;
+    match element.kind {
+        TypeOf::Simple(n) => {
+            if nillable {
+                nillable_simple_type(alloc, set, places, n)
+            } else {
+                simple_at(alloc, set, places, n)
+            }
+        }
+        TypeOf::Complex(n) => match set.complex(n).name {
+            Some(_) => {
+                let subject = if nillable {
+                    Subject::Nillable(n)
+                } else {
+                    Subject::Complex(n)
+                };
+                Ok(places.reference(alloc, subject))
+            }
+            None => in_place(alloc, set, places, levels, nillable, n),
+        },
+    }
+}
+
+/// The type of the complex type with this number, in which at most so many types without a name stand in one another,
+/// itself included.
+#[cycle(content)]
+pub(crate) fn in_place(
+    alloc: Global,
+    set: &SchemaSet,
+    places: &Places,
+    levels: u32,
+    nillable: bool,
+    n: u32,
+) -> Result<Tree<TypeLabel>, Memory>
+    requires linked { IsLinked set.now }
+    requires number { n < length set.now.complexes }
+    ensures { IfOk result (λ made. IsNamed (place_of places.now) (plan.in_place set.now levels nillable n) made) }
+{
+    if levels == 0 {
+        let marks = Marks::of(Vec::new(alloc));
+        return Ok(PartList::new(alloc).into_sequence(marks));
+    }
+    complex_type(alloc, set, places, levels - 1, nillable, set.complex(n))
+}
+
+#[cycle(content)]
+fn complex_type(
+    alloc: Global,
+    set: &SchemaSet,
+    places: &Places,
+    levels: u32,
+    nillable: bool,
+    definition: &ComplexDef,
+) -> Result<Tree<TypeLabel>, Memory>
+    requires linked { IsLinked set.now }
+    requires definition { IsComplexType set.now definition.now }
+    ensures { IfOk result (λ made. IsNamed (place_of places.now) (plan.complex_plan (declared set.now levels) set.now nillable definition.now) made) }
+{
+    let content = &definition.content;
+    let mixed = is_mixed(content);
+    let mut parts = begin(alloc, mixed)?;
+    push_attributes(alloc, &mut parts, set, places, definition.uses.items())?;
+    push_rest(alloc, &mut parts, set, places, levels, nillable, content)?;
+    let marks = sequence_marks(alloc, nillable, mixed)?;
+    Ok(parts.into_sequence(marks))
+}
+
+// What stands behind the attributes.
+#[cycle(content)]
+fn push_rest(
+    alloc: Global,
+    parts: &mut PartList,
+    set: &SchemaSet,
+    places: &Places,
+    levels: u32,
+    nillable: bool,
+    content: &Content,
+) -> Result<(), Memory>
+    requires linked { IsLinked set.now }
+    requires content { IsContent set.now content.now }
+    ensures { OnOk result ((whole : Parts) → LeadsToNamed (place_of places.now) parts.old (plan.rest_parts (declared set.now levels) set.now nillable content.now) whole
+        → LeadsToNamed (place_of places.now) parts.new finish whole) }
+{
+    if nillable {
+        let kid = content_type(alloc, set, places, levels, content)?;
+        push_nillable(alloc, parts, kid)
+    } else {
+        push_content(alloc, parts, set, places, levels, content)
+    }
+}
+
+// The type of what a nillable element has where it isn't nil.
+#[cycle(content)]
+fn content_type(
+    alloc: Global,
+    set: &SchemaSet,
+    places: &Places,
+    levels: u32,
+    content: &Content,
+) -> Result<Tree<TypeLabel>, Memory>
+    requires linked { IsLinked set.now }
+    requires content { IsContent set.now content.now }
+    ensures { IfOk result (λ made. IsNamed (place_of places.now) (plan.content_type (declared set.now levels) set.now content.now) made) }
+{
+    if let Content::Simple(n) = content {
+        return simple_at(alloc, set, places, *n);
+    }
+    let mut parts = PartList::new(alloc);
+    push_content(alloc, &mut parts, set, places, levels, content)?;
+    let marks = Marks::of(Vec::new(alloc));
+    Ok(parts.into_sequence(marks))
+}
+
+#[cycle(content)]
+fn push_content(
+    alloc: Global,
+    parts: &mut PartList,
+    set: &SchemaSet,
+    places: &Places,
+    levels: u32,
+    content: &Content,
+) -> Result<(), Memory>
+    requires linked { IsLinked set.now }
+    requires content { IsContent set.now content.now }
+    ensures { OnOk result ((whole : Parts) → LeadsToNamed (place_of places.now) parts.old (plan.content_parts (declared set.now levels) set.now content.now) whole
+        → LeadsToNamed (place_of places.now) parts.new finish whole) }
+{
+    match content {
+        Content::Empty => Ok(()),
+        Content::Simple(n) => {
+            let kid = simple_at(alloc, set, places, *n)?;
+            push_base(alloc, parts, kid)
+        }
+        Content::ElementOnly(particle) => {
+            push_top(alloc, parts, set, places, levels, particle.root())
+        }
+        Content::Mixed(particle) => { push_top(alloc, parts, set, places, levels, particle.root()) }
+    }
+}
+
+// The parts of a content model.
+#[cycle(content)]
+fn push_top(
+    alloc: Global,
+    parts: &mut PartList,
+    set: &SchemaSet,
+    places: &Places,
+    levels: u32,
+    particle: &Tree<ParticleLabel>,
+) -> Result<(), Memory>
+    requires linked { IsLinked set.now }
+    requires known { IsKnown set.now particle.now }
+    ensures { OnOk result ((whole : Parts) → LeadsToNamed (place_of places.now) parts.old (plan.top (declared set.now levels) (seen particle.now)) whole
+        → LeadsToNamed (place_of places.now) parts.new finish whole) }
+{
+    let label = particle.label();
+    if is_plain(label) {
+        return push_particles(alloc, parts, set, places, levels, false, particle.kids());
+    }
+    let kid = term_type(alloc, set, places, levels, particle)?;
+    push_particle(alloc, parts, false, label, kid)
+}
+
+// The type of one occurrence of a particle.
+#[cycle(content)]
+fn term_type(
+    alloc: Global,
+    set: &SchemaSet,
+    places: &Places,
+    levels: u32,
+    particle: &Tree<ParticleLabel>,
+) -> Result<Tree<TypeLabel>, Memory>
+    requires linked { IsLinked set.now }
+    requires known { IsKnown set.now particle.now }
+    ensures { IfOk result (λ made. IsNamed (place_of places.now) (plan.term_type (declared set.now levels) (term_of particle.now)) made) }
+{
+    let label = particle.label();
+    let mut parts = PartList::new(alloc);
+    let marks = Marks::of(Vec::new(alloc));
+    match label.kind {
+        ParticleKind::Element { decl, .. } => particle_type(alloc, set, places, levels, decl),
+        ParticleKind::Sequence => {
+            push_particles(
+                alloc,
+                &mut parts,
+                set,
+                places,
+                levels,
+                false,
+                particle.kids(),
+            )?;
+            Ok(parts.into_sequence(marks))
+        }
+        ParticleKind::Choice => {
+            push_particles(
+                alloc,
+                &mut parts,
+                set,
+                places,
+                levels,
+                true,
+                particle.kids(),
+            )?;
+            Ok(parts.into_choice(marks))
+        }
+    }
+}
+
+// The parts for particles of a group.
+#[cycle(content)]
+fn push_particles(
+    alloc: Global,
+    parts: &mut PartList,
+    set: &SchemaSet,
+    places: &Places,
+    levels: u32,
+    in_choice: bool,
+    particles: &[Tree<ParticleLabel>],
+) -> Result<(), Memory>
+    requires linked { IsLinked set.now }
+    requires known { AreKnown set.now particles.now }
+    ensures { OnOk result ((whole : Parts) → LeadsToNamed (place_of places.now) parts.old (plan.particle_parts (declared set.now levels) in_choice (all_seen (roses_of particles.now))) whole
+        → LeadsToNamed (place_of places.now) parts.new finish whole) }
+{
+    'particles: for particle in particles {
+        let kid = term_type(alloc, set, places, levels, particle)?;
+        push_particle(alloc, parts, in_choice, particle.label(), kid)?;
+    }
+    Ok(())
+}

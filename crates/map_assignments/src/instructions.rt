@@ -1,0 +1,79 @@
+//! Encoding instructions that tell the names of XML back.
+ghost use Rattle.std.specs.Prelude.{◌≡◌, ◌++◌, OnOk};
+ghost use Rattle.asn_types.specs.Simples.{white_space_marks};
+ghost use Rattle.name_map.specs.Restoring.{form_of};
+ghost use Rattle.map_assignments.specs.Naming.{name_marks, namespace_marks, qualified_marks, text_if};
+
+use asn_types::Instruction;
+use name_map::restoring;
+use std::alloc::Global;
+use xa_base::{Memory, Name, Text, WhiteSpace};
+
+// NAME, where the generated name isn't the name.
+pub(crate) fn push_name(
+    alloc: Global,
+    marks: &mut Vec<Instruction>,
+    generated: &Text,
+    name: &Text,
+) -> Result<(), Memory>
+    ensures { OnOk result (marks.new.items ≡ marks.old.items ++ name_marks generated.now name.now) }
+{
+    if restoring(generated, name).is_some() {
+        let name = name.copy(alloc)?;
+        marks.push(Instruction::Name(name))?;
+    }
+    Ok(())
+}
+
+// NAMESPACE, where there is a namespace.
+fn push_namespace(alloc: Global, marks: &mut Vec<Instruction>, space: &Text) -> Result<(), Memory>
+    ensures { OnOk result (marks.new.items ≡ marks.old.items ++ namespace_marks space.now) }
+{
+    if !space.bytes().is_empty() {
+        let space = space.copy(alloc)?;
+        marks.push(Instruction::Namespace(space))?;
+    }
+    Ok(())
+}
+
+// NAME and NAMESPACE.
+pub(crate) fn push_qualified(
+    alloc: Global,
+    marks: &mut Vec<Instruction>,
+    generated: &Text,
+    name: &Name,
+) -> Result<(), Memory>
+    ensures { OnOk result (marks.new.items ≡ marks.old.items ++ qualified_marks generated.now name.now) }
+{
+    push_name(alloc, marks, generated, &name.local)?;
+    push_namespace(alloc, marks, &name.space)
+}
+
+// WHITESPACE, where white space isn't preserved.
+pub(crate) fn push_white_space(marks: &mut Vec<Instruction>, how: WhiteSpace) -> Result<(), Memory>
+    ensures { OnOk result (marks.new.items ≡ marks.old.items ++ white_space_marks how) }
+{
+    match how {
+        WhiteSpace::Preserve => {}
+        WhiteSpace::Replace => marks.push(Instruction::WhiteSpace(WhiteSpace::Replace))?,
+        WhiteSpace::Collapse => marks.push(Instruction::WhiteSpace(WhiteSpace::Collapse))?,
+    }
+    Ok(())
+}
+
+// TEXT of the item with this number, where its identifier isn't its word.
+pub(crate) fn push_text(
+    alloc: Global,
+    marks: &mut Vec<Instruction>,
+    item: u32,
+    identifier: &Text,
+    word: &Text,
+) -> Result<(), Memory>
+    ensures { OnOk result (marks.new.items ≡ marks.old.items ++ text_if (form_of identifier.now word.now) item word.now) }
+{
+    if restoring(identifier, word).is_some() {
+        let text = word.copy(alloc)?;
+        marks.push(Instruction::Text { item, text })?;
+    }
+    Ok(())
+}

@@ -1,0 +1,172 @@
+//! Assignments.
+ghost use Rattle.std.specs.Prelude.{◌≡◌, ◌<◌, ◌^◌, ◌++◌, ◌∷◌, [], IfOk, All, length, unwrap_or, slice_get};
+ghost use Rattle.label_tree.specs.Rose.{Allowed};
+ghost use Rattle.asn_types.specs.Parts.{MayHave};
+ghost use Rattle.schema_parts.specs.Linked.{IsLinked};
+ghost use Rattle.map_assignments.specs.Planning as plan;
+ghost use Rattle.map_assignments.specs.Naming.{IsNamed};
+ghost use Rattle.map_assignments.specs.Placing.{place_of, references_of};
+ghost use Rattle.map_subjects.specs.Subjects.{place_in, IsSubject};
+ghost use Rattle.map_assignments.specs.Mapped.{assignment_marks, wanted_reference, IsMapped, AreMapped};
+
+use crate::attributes::simple_at;
+use crate::content::{in_place, own_type};
+use crate::instructions::{push_name, push_qualified};
+use crate::places::Places;
+use crate::simple::simple_type;
+use asn_types::{Assignment, Instruction, Marks, TypeLabel};
+use label_tree::{Tree, Whole};
+use map_subjects::{Entry, Subject};
+use name_map::{NameKind, Scope, convert};
+use schema_parts::SchemaSet;
+use std::alloc::Global;
+use xa_base::{Memory, Name, Text};
+
+// How many types without a name stand in one another, at most.
+const LEVELS: u32 = 21;
+
+// The type that has an assignment.
+fn body(
+    alloc: Global,
+    set: &SchemaSet,
+    places: &Places,
+    subject: Subject,
+) -> Result<Tree<TypeLabel>, Memory>
+    requires linked { IsLinked set.now }
+    requires subject { IsSubject set.now subject }
+    ensures { IfOk result (λ made. IsNamed (place_of places.now) (plan.body set.now subject) made) }
+{
+    match subject {
+        Subject::Element(n) => own_type(alloc, set, places, LEVELS, set.element(n)),
+        Subject::Attribute(n) => simple_at(alloc, set, places, set.attribute(n).simple),
+        Subject::Simple(n) => simple_type(alloc, &set.simple(n).space),
+        Subject::Complex(n) => in_place(alloc, set, places, LEVELS, false, n),
+        Subject::Nillable(n) => in_place(alloc, set, places, LEVELS, true, n),
+    }
+}
+
+// The instructions of an assignment with this reference.
+fn assignment_marks(
+    alloc: Global,
+    subject: Subject,
+    name: &Name,
+    reference: &Text,
+) -> Result<Marks, Memory>
+    ensures { IfOk result (λ marks. marks ≡ assignment_marks subject name.now reference.now) }
+{
+    let mut marks = Vec::new(alloc);
+    match subject {
+        Subject::Element(_) => push_qualified(alloc, &mut marks, reference, name)?,
+        Subject::Attribute(_) => {
+            marks.push(Instruction::Attribute)?;
+            push_qualified(alloc, &mut marks, reference, name)?;
+        }
+        Subject::Simple(_) => push_name(alloc, &mut marks, reference, &name.local)?,
+        Subject::Complex(_) => push_name(alloc, &mut marks, reference, &name.local)?,
+        Subject::Nillable(_) => {}
+    }
+    Ok(Marks::of(marks))
+}
+
+// The reference of the assignment with this number, empty where there is none.
+fn reference_at(alloc: Global, made: &[Assignment], n: u32) -> Result<Text, Memory>
+    ensures { IfOk result (λ text. text ≡ unwrap_or (slice_get (references_of made.now) n) []) }
+{
+    match made.get(n as usize) {
+        Some(assignment) => assignment.reference.copy(alloc),
+        None => Ok(Text::from(String::new(alloc))),
+    }
+}
+
+// What the reference of an assignment is made from, behind these assignments.
+fn wanted_reference(
+    alloc: Global,
+    places: &Places,
+    made: &[Assignment],
+    subject: Subject,
+    name: &Name,
+) -> Result<Text, Memory>
+    ensures { IfOk result (λ text. text ≡ wanted_reference (place_of places.now) (references_of made.now) subject name.now) }
+{
+    let Subject::Nillable(n) = subject else {
+        return convert(alloc, NameKind::Reference, &name.local);
+    };
+    let reference = reference_at(alloc, made, places.of(Subject::Complex(n)))?;
+    let mut text = String::from_str(alloc, reference.as_str())?;
+    text.push_str("-nillable")?;
+    Ok(Text::from(text))
+}
+
+// A type whose parts have their types.
+fn sealed(tree: Tree<TypeLabel>) -> Whole<TypeLabel>
+    requires { Allowed MayHave tree }
+    ensures { result ≡ tree }
+{
+    match Whole::seal(tree) {
+        Ok(whole) => whole,
+        Err(_) => unreachable!(),
+    }
+}
+
+// The assignment behind these.
+fn assignment(
+    alloc: Global,
+    set: &SchemaSet,
+    places: &Places,
+    scope: &mut Scope,
+    made: &[Assignment],
+    entry: &Entry,
+) -> Result<Assignment, Memory>
+    requires linked { IsLinked set.now }
+    requires subject { IsSubject set.now entry.now.subject }
+    requires scope { scope.old ≡ references_of made.now }
+    ensures mapped { IfOk result (λ assignment. IsMapped (place_of places.now) set.now (references_of made.now) entry.now assignment) }
+    ensures noted { IfOk result (λ assignment. scope.new ≡ references_of made.now ++ assignment.reference ∷ []) }
+{
+    let wanted = wanted_reference(alloc, places, made, entry.subject, &entry.name)?;
+    let reference = scope.take(NameKind::Reference, &wanted)?;
+    let marks = assignment_marks(alloc, entry.subject, &entry.name, &reference)?;
+    let tree = body(alloc, set, places, entry.subject)?;
+    Ok(Assignment {
+        reference,
+        marks,
+        body: sealed(tree),
+    })
+}
+
+// The assignments of these components in their order, which have these numbers in the module.
+fn numbered_assignments(
+    alloc: Global,
+    set: &SchemaSet,
+    places: &Places,
+    entries: &[Entry],
+) -> Result<Vec<Assignment>, Memory>
+    requires linked { IsLinked set.now }
+    requires entries { All (λ e. IsSubject set.now e.subject) entries.now }
+    ensures { IfOk result (λ made. AreMapped (place_of places.now) set.now [] entries.now made.items) }
+{
+    let mut scope = Scope::new(alloc);
+    let mut made = Vec::with_capacity(alloc, entries.len())?;
+    'entries: for entry in entries {
+        let next = assignment(alloc, set, places, &mut scope, &made, entry)?;
+        made.push(next)?;
+    }
+    Ok(made)
+}
+
+/// The assignments of these components in this order, which is that of the module. There are fewer than 2^32 of them.
+///
+/// Memory is the only cause of an error.
+pub fn assignments(
+    alloc: Global,
+    set: &SchemaSet,
+    entries: &[Entry],
+) -> Result<Vec<Assignment>, Memory>
+    requires linked { IsLinked set.now }
+    requires few { length entries.now < 2 ^ 32 }
+    requires entries { All (λ e. IsSubject set.now e.subject) entries.now }
+    ensures { IfOk result (λ made. AreMapped (place_in entries.now) set.now [] entries.now made.items) }
+{
+    let places = Places::of_entries(alloc, set, entries)?;
+    numbered_assignments(alloc, set, &places, entries)
+}

@@ -1,0 +1,265 @@
+//! The parts for particles.
+ghost use Rattle.std.specs.Prelude.{◌≡◌, ◌∷◌, ◌&&◌, [], ℕ, IfOk, OnOk, true, false, not};
+ghost use Rattle.label_tree.specs.Rose.{node, Rose};
+ghost use Rattle.label_tree.specs.Rose as rose;
+ghost use Rattle.asn_types.specs.declared.types.TypeLabel.{TypeLabel};
+ghost use Rattle.content_models.specs.Particle.{Particles};
+ghost use Rattle.content_models.specs.Seen.{term_seen};
+ghost use Rattle.map_subjects.specs.declared.subjects.Subject.{Subject};
+ghost use Rattle.map_assignments.specs.Plans.{Plan, Parts};
+ghost use Rattle.map_assignments.specs.Plans as plan;
+ghost use Rattle.map_assignments.specs.Planning.{label_of, list_label_of, is_once, is_optional, particle_part, texts_type};
+ghost use Rattle.map_assignments.specs.Naming.{type_label, repeated_part, wanted, IsNamed};
+ghost use Rattle.map_assignments.specs.Building.{AddsPart, Adds, LeadsToNamed, is_plain};
+
+use crate::instructions::push_qualified;
+use crate::parts::PartList;
+use asn_types::{Component, Form, Instruction, Marks, TypeLabel};
+use content_models::{ParticleKind, ParticleLabel};
+use label_tree::Tree;
+use name_map::{NameKind, convert};
+use simple_types::Class;
+use std::alloc::Global;
+use xa_base::{Memory, Text};
+
+fn text(alloc: Global, text: &str) -> Result<Text, Memory>
+    ensures { IfOk result (λ made. made ≡ text.now) }
+{
+    Ok(Text::from(String::from_str(alloc, text)?))
+}
+
+fn untagged(alloc: Global) -> Result<Marks, Memory>
+    ensures { IfOk result (λ marks. marks ≡ Instruction.Untagged ∷ []) }
+{
+    let marks = vec![in alloc; Instruction::Untagged]?;
+    Ok(Marks::of(marks))
+}
+
+// Whether a particle stands once.
+fn is_once(min: u32, max: Option<u32>) -> bool
+    ensures { result ≡ is_once min max }
+{
+    match max {
+        Some(max) => min == 1 && max == 1,
+        None => false,
+    }
+}
+
+/// Whether the particles of a group stand for themselves where it is the top one: a sequence that stands once.
+pub(crate) fn is_plain(label: &ParticleLabel) -> bool
+    ensures { result ≡ is_plain label.now.kind label.now.min label.now.max }
+{
+    match label.kind {
+        ParticleKind::Sequence => is_once(label.min, label.max),
+        _ => false,
+    }
+}
+
+// Whether it stands at most once.
+fn is_optional(min: u32, max: Option<u32>) -> bool
+    ensures { result ≡ is_optional min max }
+{
+    match max {
+        Some(max) => min == 0 && max == 1,
+        None => false,
+    }
+}
+
+// Whether its part is OPTIONAL.
+fn is_optional_part(in_choice: bool, min: u32, max: Option<u32>) -> bool
+    ensures { result ≡ (is_optional min max && not in_choice) }
+{
+    is_optional(min, max) && !in_choice
+}
+
+// What the identifier of one occurrence is made from.
+fn name_of(alloc: Global, kind: &ParticleKind) -> Result<Text, Memory>
+    ensures { IfOk result (λ made. (ps : Particles) → made ≡ wanted (label_of (term_seen kind.now ps))) }
+{
+    match kind {
+        ParticleKind::Element { name, .. } => convert(alloc, NameKind::Identifier, &name.local),
+        ParticleKind::Sequence => text(alloc, "sequence"),
+        ParticleKind::Choice => text(alloc, "choice"),
+    }
+}
+
+// And that of several.
+fn list_name_of(alloc: Global, kind: &ParticleKind) -> Result<Text, Memory>
+    ensures { IfOk result (λ made. (ps : Particles) → made ≡ wanted (list_label_of (term_seen kind.now ps))) }
+{
+    let name = name_of(alloc, kind)?;
+    let mut made = String::from_str(alloc, name.as_str())?;
+    made.push_str("-list")?;
+    Ok(Text::from(made))
+}
+
+// The part of a SEQUENCE OF such occurrences.
+fn repeated_part(alloc: Global, kind: &ParticleKind) -> Result<Component, Memory>
+    ensures { IfOk result (λ made. (ps : Particles) → made ≡ repeated_part (label_of (term_seen kind.now ps))) }
+{
+    let identifier = name_of(alloc, kind)?;
+    let mut marks = Vec::new(alloc);
+    match kind {
+        ParticleKind::Element { name, .. } => push_qualified(alloc, &mut marks, &identifier, name)?,
+        _ => marks.push(Instruction::Untagged)?,
+    }
+    Ok(Component {
+        identifier,
+        optional: false,
+        marks: Marks::of(marks),
+    })
+}
+
+// SEQUENCE OF so many occurrences of this type.
+fn repeated(
+    alloc: Global,
+    label: &ParticleLabel,
+    kid: Tree<TypeLabel>,
+) -> Result<Tree<TypeLabel>, Memory>
+    ensures { IfOk result (λ made. (ps : Particles) → made ≡ node (type_label (Form.SequenceOf (repeated_part (label_of (term_seen label.now.kind ps))) label.now.min label.now.max) []) (rose.more kid rose.none)) }
+{
+    let part = repeated_part(alloc, &label.kind)?;
+    let form = Form::SequenceOf {
+        part,
+        min: label.min,
+        max: label.max,
+    };
+    let marks = Marks::of(Vec::new(alloc));
+    let kids = vec![in alloc; kid]?;
+    Ok(Tree::join(TypeLabel { form, marks }, kids))
+}
+
+// A part for a group, with this name.
+fn push_group(
+    alloc: Global,
+    parts: &mut PartList,
+    name: &str,
+    optional: bool,
+    kid: Tree<TypeLabel>,
+) -> Result<(), Memory>
+    ensures { OnOk result (AddsPart parts.old parts.new name.now (λ identifier. Instruction.Untagged ∷ []) optional kid) }
+{
+    let name = text(alloc, name)?;
+    let marks = untagged(alloc)?;
+    parts.push_marked(&name, optional, marks, kid)
+}
+
+// A part for one occurrence.
+fn push_one(
+    alloc: Global,
+    parts: &mut PartList,
+    kind: &ParticleKind,
+    optional: bool,
+    kid: Tree<TypeLabel>,
+) -> Result<(), Memory>
+    ensures { OnOk result ((ps : Particles) → Adds parts.old parts.new (label_of (term_seen kind.now ps)) optional kid) }
+{
+    match kind {
+        ParticleKind::Element { name, .. } => parts.push_element(name, optional, kid),
+        ParticleKind::Sequence => push_group(alloc, parts, "sequence", optional, kid),
+        ParticleKind::Choice => push_group(alloc, parts, "choice", optional, kid),
+    }
+}
+
+// A part for several.
+fn push_several(
+    alloc: Global,
+    parts: &mut PartList,
+    label: &ParticleLabel,
+    kid: Tree<TypeLabel>,
+) -> Result<(), Memory>
+    ensures { OnOk result ((ps : Particles) → (made : Rose TypeLabel)
+        × (made ≡ node (type_label (Form.SequenceOf (repeated_part (label_of (term_seen label.now.kind ps))) label.now.min label.now.max) []) (rose.more kid rose.none))
+        × Adds parts.old parts.new (list_label_of (term_seen label.now.kind ps)) false made) }
+{
+    let made = repeated(alloc, label, kid)?;
+    let name = list_name_of(alloc, &label.kind)?;
+    let marks = untagged(alloc)?;
+    parts.push_marked(&name, false, marks, made)
+}
+
+/// The part for a particle whose term has this type, behind the parts so far.
+pub(crate) fn push_particle(
+    alloc: Global,
+    parts: &mut PartList,
+    in_choice: bool,
+    label: &ParticleLabel,
+    kid: Tree<TypeLabel>,
+) -> Result<(), Memory>
+    ensures { OnOk result ((place : Subject → ℕ) (ps : Particles) (type : Plan) (rest whole : Parts) → IsNamed place type kid
+        → LeadsToNamed place parts.old (particle_part in_choice (term_seen label.now.kind ps) type label.now.min label.now.max rest) whole
+        → LeadsToNamed place parts.new rest whole) }
+{
+    if is_once(label.min, label.max) {
+        push_one(alloc, parts, &label.kind, false, kid)
+    } else if is_optional_part(in_choice, label.min, label.max) {
+        push_one(alloc, parts, &label.kind, true, kid)
+    } else {
+        push_several(alloc, parts, label, kid)
+    }
+}
+
+// The texts between child elements.
+fn texts_type(alloc: Global) -> Result<Tree<TypeLabel>, Memory>
+    ensures { IfOk result (λ made. (place : Subject → ℕ) → IsNamed place texts_type made) }
+{
+    let form = Form::Utf8 {
+        min: 0,
+        max: None,
+        class: Class::Any,
+    };
+    let marks = Marks::of(Vec::new(alloc));
+    let text = Tree::leaf(alloc, TypeLabel { form, marks });
+    let part = Component {
+        identifier: Text::from(String::new(alloc)),
+        optional: false,
+        marks: Marks::of(Vec::new(alloc)),
+    };
+    let form = Form::SequenceOf {
+        part,
+        min: 0,
+        max: None,
+    };
+    let marks = Marks::of(Vec::new(alloc));
+    let kids = vec![in alloc; text]?;
+    Ok(Tree::join(TypeLabel { form, marks }, kids))
+}
+
+/// The part for the texts between child elements.
+pub(crate) fn push_texts(alloc: Global, parts: &mut PartList) -> Result<(), Memory>
+    ensures { OnOk result ((place : Subject → ℕ) (rest whole : Parts)
+        → LeadsToNamed place parts.old (plan.part plan.texts false texts_type rest) whole → LeadsToNamed place parts.new rest whole) }
+{
+    let kid = texts_type(alloc)?;
+    let name = text(alloc, "embed-values")?;
+    let marks = Marks::of(Vec::new(alloc));
+    parts.push_marked(&name, false, marks, kid)
+}
+
+/// The part for what a nillable element has where it isn't nil.
+pub(crate) fn push_nillable(
+    alloc: Global,
+    parts: &mut PartList,
+    kid: Tree<TypeLabel>,
+) -> Result<(), Memory>
+    ensures { OnOk result ((place : Subject → ℕ) (type : Plan) (whole : Parts) → IsNamed place type kid
+        → LeadsToNamed place parts.old (plan.part plan.content true type plan.finish) whole → LeadsToNamed place parts.new plan.finish whole) }
+{
+    let name = text(alloc, "content")?;
+    let marks = Marks::of(Vec::new(alloc));
+    parts.push_marked(&name, true, marks, kid)
+}
+
+/// The part for the text of simple content.
+pub(crate) fn push_base(
+    alloc: Global,
+    parts: &mut PartList,
+    kid: Tree<TypeLabel>,
+) -> Result<(), Memory>
+    ensures { OnOk result ((place : Subject → ℕ) (type : Plan) (whole : Parts) → IsNamed place type kid
+        → LeadsToNamed place parts.old (plan.part plan.base false type plan.finish) whole → LeadsToNamed place parts.new plan.finish whole) }
+{
+    let name = text(alloc, "base")?;
+    let marks = untagged(alloc)?;
+    parts.push_marked(&name, false, marks, kid)
+}

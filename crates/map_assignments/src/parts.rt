@@ -1,0 +1,136 @@
+//! The parts of a type as they are made.
+ghost use Rattle.std.specs.Prelude.{◌≡◌, ◌++◌, ◌∷◌, [], IfOk, OnOk, OnErr};
+ghost use Rattle.label_tree.specs.Rose.{node, roses_of};
+ghost use Rattle.name_map.specs.declared.conversion.NameKind.TheVariants.{Identifier};
+ghost use Rattle.name_map.specs.Taking.{IsTaken};
+ghost use Rattle.map_assignments.specs.Plans as plan;
+ghost use Rattle.map_assignments.specs.Naming.{type_label, component_of, sequence_marks};
+ghost use Rattle.map_assignments.specs.Building.{AddsPart, Adds};
+
+use crate::instructions::push_qualified;
+use asn_types::{Component, Components, Form, Instruction, Marks, TypeLabel};
+use label_tree::Tree;
+use name_map::{NameKind, Scope, convert};
+use std::alloc::Global;
+use xa_base::{Memory, Name, Text};
+
+/// The parts of a SEQUENCE or a CHOICE so far, with their types. Their identifiers are kept apart.
+#[derive(Drop)]
+pub(crate) struct PartList {
+    alloc: Global,
+    scope: Scope,
+    components: Vec<Component>,
+    kids: Vec<Tree<TypeLabel>>,
+}
+
+impl PartList {
+    pub(crate) fn new(alloc: Global) -> PartList
+        ensures scope { result.scope ≡ [] }
+        ensures components { result.components.items ≡ [] }
+        ensures kids { result.kids.items ≡ [] }
+    {
+        PartList {
+            alloc,
+            scope: Scope::new(alloc),
+            components: Vec::new(alloc),
+            kids: Vec::new(alloc),
+        }
+    }
+
+    // Takes an identifier.
+    fn take(&mut self, name: &Text) -> Result<Text, Memory>
+        ensures taken { IfOk result (λ identifier. IsTaken Identifier self.old.scope name.now identifier) }
+        ensures noted { IfOk result (λ identifier. self.new.scope ≡ self.old.scope ++ identifier ∷ []) }
+        ensures components { self.new.components ≡ self.old.components }
+        ensures kids { self.new.kids ≡ self.old.kids }
+    {
+        self.scope.take(NameKind::Identifier, name)
+    }
+
+    // A part whose identifier is taken.
+    fn add(
+        &mut self,
+        identifier: Text,
+        optional: bool,
+        marks: Marks,
+        kid: Tree<TypeLabel>,
+    ) -> Result<(), Memory>
+        ensures scope { OnOk result (self.new.scope ≡ self.old.scope) }
+        ensures component { OnOk result (self.new.components.items ≡ self.old.components.items ++ component_of identifier optional marks ∷ []) }
+        ensures kid { OnOk result (self.new.kids.items ≡ self.old.kids.items ++ kid ∷ []) }
+    {
+        self.components.push(Component {
+            identifier,
+            optional,
+            marks,
+        })?;
+        self.kids.push(kid)?;
+        Ok(())
+    }
+
+    /// A part that stands for an attribute.
+    pub(crate) fn push_attribute(
+        &mut self,
+        name: &Name,
+        optional: bool,
+        kid: Tree<TypeLabel>,
+    ) -> Result<(), Memory>
+        ensures { OnOk result (Adds self.old self.new (plan.attribute name.now) optional kid) }
+    {
+        let converted = convert(self.alloc, NameKind::Identifier, &name.local)?;
+        let identifier = self.take(&converted)?;
+        let mut marks = vec![in self.alloc; Instruction::Attribute]?;
+        push_qualified(self.alloc, &mut marks, &identifier, name)?;
+        self.add(identifier, optional, Marks::of(marks), kid)
+    }
+
+    /// A part that stands for an element.
+    pub(crate) fn push_element(
+        &mut self,
+        name: &Name,
+        optional: bool,
+        kid: Tree<TypeLabel>,
+    ) -> Result<(), Memory>
+        ensures { OnOk result (Adds self.old self.new (plan.element name.now) optional kid) }
+    {
+        let converted = convert(self.alloc, NameKind::Identifier, &name.local)?;
+        let identifier = self.take(&converted)?;
+        let mut marks = Vec::new(self.alloc);
+        push_qualified(self.alloc, &mut marks, &identifier, name)?;
+        self.add(identifier, optional, Marks::of(marks), kid)
+    }
+
+    /// A part with an identifier made from this one, and with these instructions.
+    pub(crate) fn push_marked(
+        &mut self,
+        name: &Text,
+        optional: bool,
+        marks: Marks,
+        kid: Tree<TypeLabel>,
+    ) -> Result<(), Memory>
+        ensures { OnOk result (AddsPart self.old self.new name.now (λ identifier. marks) optional kid) }
+    {
+        let identifier = self.take(name)?;
+        self.add(identifier, optional, marks, kid)
+    }
+
+    /// A SEQUENCE of the parts, with these instructions.
+    pub(crate) fn into_sequence(self, marks: Marks) -> Tree<TypeLabel>
+        ensures { result ≡ node (type_label (Form.Sequence self.components.items) marks) (roses_of self.kids.items) }
+    {
+        let form = Form::Sequence {
+            parts: Components::of(self.components),
+        };
+        Tree::join(TypeLabel { form, marks }, self.kids)
+    }
+
+    /// A CHOICE of the parts, with these instructions.
+    pub(crate) fn into_choice(self, marks: Marks) -> Tree<TypeLabel>
+        ensures { result ≡ node (type_label (Form.Choice self.components.items) marks) (roses_of self.kids.items) }
+    {
+        let form = Form::Choice {
+            parts: Components::of(self.components),
+        };
+        Tree::join(TypeLabel { form, marks }, self.kids)
+    }
+}

@@ -1,0 +1,164 @@
+//! Simple types in place.
+ghost use Rattle.std.specs.Prelude.{◌≡◌, ◌++◌, ◌∷◌, [], IfOk, codes, false};
+ghost use Rattle.label_tree.specs.Rose.{node, roses_of};
+ghost use Rattle.label_tree.specs.Rose as rose;
+ghost use Rattle.simple_types.specs.Sound.{Sound, AreSound};
+ghost use Rattle.simple_types.specs.Seen.{space_of, spaces_in};
+ghost use Rattle.simple_types.specs.Space.{UnionOf};
+ghost use Rattle.name_map.specs.declared.conversion.NameKind.TheVariants.{Identifier};
+ghost use Rattle.name_map.specs.Taking.{IsTaken};
+ghost use Rattle.asn_types.specs.Simples.{white_space_marks, MapsTo};
+ghost use Rattle.map_assignments.specs.Naming.{type_label, component_of, list_item, IsLeaf, IsSimpleType};
+
+use crate::instructions::push_white_space;
+use crate::words::words_type;
+use asn_types::{Component, Components, Form, Instruction, Marks, TypeLabel};
+use label_tree::Tree;
+use name_map::{NameKind, Scope};
+use simple_types::{Class, NumberList, Simple};
+use std::alloc::Global;
+use xa_base::{Memory, Text, WhiteSpace};
+
+// A type without parts and instructions.
+fn plain(alloc: Global, form: Form) -> Tree<TypeLabel>
+    ensures { IsLeaf form [] result }
+{
+    let marks = Marks::of(Vec::new(alloc));
+    Tree::leaf(alloc, TypeLabel { form, marks })
+}
+
+fn one_mark(alloc: Global, mark: Instruction) -> Result<Marks, Memory>
+    ensures { IfOk result (λ marks. marks ≡ mark ∷ []) }
+{
+    let marks = vec![in alloc; mark]?;
+    Ok(Marks::of(marks))
+}
+
+fn numbers_type(alloc: Global, numbers: &NumberList) -> Result<Tree<TypeLabel>, Memory>
+    ensures { IfOk result (λ made. IsLeaf (Form.Numbers numbers.now) (Instruction.UseNumber ∷ []) made) }
+{
+    let marks = one_mark(alloc, Instruction::UseNumber)?;
+    let numbers = numbers.copy(alloc)?;
+    let form = Form::Numbers { numbers };
+    Ok(Tree::leaf(alloc, TypeLabel { form, marks }))
+}
+
+fn text_type(
+    alloc: Global,
+    space: WhiteSpace,
+    min: u32,
+    max: Option<u32>,
+    class: Class,
+) -> Result<Tree<TypeLabel>, Memory>
+    ensures { IfOk result (λ made. IsLeaf (Form.Utf8 min max class) (white_space_marks space) made) }
+{
+    let mut marks = Vec::new(alloc);
+    push_white_space(&mut marks, space)?;
+    let form = Form::Utf8 { min, max, class };
+    let marks = Marks::of(marks);
+    Ok(Tree::leaf(alloc, TypeLabel { form, marks }))
+}
+
+// An item of a list or an alternative of a union.
+fn unmarked(alloc: Global, identifier: Text) -> Component
+    ensures { result ≡ component_of identifier false [] }
+{
+    Component {
+        identifier,
+        optional: false,
+        marks: Marks::of(Vec::new(alloc)),
+    }
+}
+
+// A LIST of items of this type.
+fn list_type(
+    alloc: Global,
+    item: Tree<TypeLabel>,
+    min: u32,
+    max: Option<u32>,
+) -> Result<Tree<TypeLabel>, Memory>
+    ensures { IfOk result (λ made. made ≡ node (type_label (Form.SequenceOf list_item min max) (Instruction.List ∷ [])) (rose.more item rose.none)) }
+{
+    let marks = one_mark(alloc, Instruction::List)?;
+    let part = unmarked(alloc, Text::from(String::new(alloc)));
+    let form = Form::SequenceOf { part, min, max };
+    let kids = vec![in alloc; item]?;
+    Ok(Tree::join(TypeLabel { form, marks }, kids))
+}
+
+// The identifier of the next alternative of a union.
+fn next_alternative(alloc: Global, scope: &mut Scope) -> Result<Text, Memory>
+    ensures taken { IfOk result (λ name. IsTaken Identifier scope.old (codes "alt") name) }
+    ensures noted { IfOk result (λ name. scope.new ≡ scope.old ++ name ∷ []) }
+{
+    let name = Text::from(String::from_str(alloc, "alt")?);
+    scope.take(NameKind::Identifier, &name)
+}
+
+// A CHOICE of the members.
+fn union_of(
+    alloc: Global,
+    components: Vec<Component>,
+    kids: Vec<Tree<TypeLabel>>,
+) -> Result<Tree<TypeLabel>, Memory>
+    ensures { IfOk result (λ made. made ≡ node (type_label (Form.Choice components.items) (Instruction.UseUnion ∷ [])) (roses_of kids.items)) }
+{
+    let marks = one_mark(alloc, Instruction::UseUnion)?;
+    let form = Form::Choice {
+        parts: Components::of(components),
+    };
+    Ok(Tree::join(TypeLabel { form, marks }, kids))
+}
+
+#[cycle(simple)]
+fn union_type(alloc: Global, members: &[Simple]) -> Result<Tree<TypeLabel>, Memory>
+    requires { AreSound (spaces_in members.now) }
+    ensures { IfOk result (λ made. IsSimpleType (UnionOf (spaces_in members.now)) made) }
+{
+    let mut scope = Scope::new(alloc);
+    let mut components = Vec::new(alloc);
+    let mut kids = Vec::new(alloc);
+    'members: for member in members {
+        let identifier = next_alternative(alloc, &mut scope)?;
+        let kid = simple_type(alloc, member)?;
+        components.push(unmarked(alloc, identifier))?;
+        kids.push(kid)?;
+    }
+    union_of(alloc, components, kids)
+}
+
+// The type to which a simple type is mapped where it stands in place.
+#[cycle(simple)]
+#[tactic(auto, unfolding(simple_types::specs::Seen::space_of))]
+pub(crate) fn simple_type(alloc: Global, simple: &Simple) -> Result<Tree<TypeLabel>, Memory>
+    requires { Sound (space_of simple.now) }
+    ensures { IfOk result (λ made. IsSimpleType (space_of simple.now) made) }
+{
+    match simple {
+        Simple::Bool => Ok(plain(alloc, Form::Bool)),
+        Simple::Whole { lo, hi } => Ok(plain(alloc, Form::Int { lo: *lo, hi: *hi })),
+        Simple::Numbers(numbers) => numbers_type(alloc, numbers),
+        Simple::Words { space, words } => words_type(alloc, *space, words),
+        Simple::Chars {
+            space,
+            min,
+            max,
+            class,
+        } => text_type(alloc, *space, *min, *max, *class),
+        Simple::List { item, min, max } => {
+            let kid = simple_type(alloc, item)?;
+            list_type(alloc, kid, *min, *max)
+        }
+        Simple::Union(members) => union_type(alloc, members.items()),
+    }
+}
+
+/// The type to which a simple type is mapped where it stands in place, with its identifiers. It stands for that simple
+/// type.
+pub fn type_of_simple(alloc: Global, simple: &Simple) -> Result<Tree<TypeLabel>, Memory>
+    requires { Sound (space_of simple.now) }
+    ensures made { IfOk result (λ made. IsSimpleType (space_of simple.now) made) }
+    ensures maps { IfOk result (λ made. MapsTo (space_of simple.now) made) }
+{
+    simple_type(alloc, simple)
+}

@@ -1,0 +1,79 @@
+//! ENUMERATED types of words.
+ghost use Rattle.std.specs.Prelude.{◌≡◌, ◌++◌, ◌<◌, ◌^◌, [], IfOk, OnOk, length, map};
+ghost use Rattle.asn_types.specs.Simples.{white_space_marks};
+ghost use Rattle.map_assignments.specs.Naming.{AreTaken, identifier_of, text_marks, IsWordsType};
+
+use crate::instructions::{push_text, push_white_space};
+use asn_types::{Form, Instruction, Marks, TypeLabel};
+use label_tree::Tree;
+use name_map::{NameKind, Scope, convert};
+use simple_types::TextList;
+use std::alloc::Global;
+use xa_base::{Memory, Text, WhiteSpace};
+
+// The identifiers of the items that stand for these words, taken in their order.
+fn identifiers_of(alloc: Global, words: &[Text]) -> Result<Vec<Text>, Memory>
+    ensures taken { IfOk result (λ made. AreTaken [] (map identifier_of words.now) made.items) }
+    ensures each { IfOk result (λ made. length made.items ≡ length words.now) }
+{
+    let mut scope = Scope::new(alloc);
+    let mut made = Vec::new(alloc);
+    'words: for word in words {
+        let converted = convert(alloc, NameKind::Identifier, word)?;
+        let identifier = scope.take(NameKind::Identifier, &converted)?;
+        made.push(identifier)?;
+    }
+    Ok(made)
+}
+
+// TEXT of each item whose identifier isn't its word.
+fn push_texts(
+    alloc: Global,
+    marks: &mut Vec<Instruction>,
+    identifiers: &[Text],
+    words: &[Text],
+) -> Result<(), Memory>
+    requires few { length words.now < 2 ^ 32 }
+    requires each { length identifiers.now ≡ length words.now }
+    ensures { OnOk result (marks.new.items ≡ marks.old.items ++ text_marks 0 identifiers.now words.now) }
+{
+    'words: for (i, word) in words.iter().enumerate() {
+        push_text(alloc, marks, i as u32, &identifiers[i], word)?;
+    }
+    Ok(())
+}
+
+// WHITESPACE, and TEXT of the items.
+fn word_marks(
+    alloc: Global,
+    space: WhiteSpace,
+    identifiers: &[Text],
+    words: &[Text],
+) -> Result<Marks, Memory>
+    requires few { length words.now < 2 ^ 32 }
+    requires each { length identifiers.now ≡ length words.now }
+    ensures { IfOk result (λ marks. marks ≡ white_space_marks space ++ text_marks 0 identifiers.now words.now) }
+{
+    let mut marks = Vec::new(alloc);
+    push_white_space(&mut marks, space)?;
+    push_texts(alloc, &mut marks, identifiers, words)?;
+    Ok(Marks::of(marks))
+}
+
+/// The ENUMERATED of these words, of which there are fewer than 2^32.
+pub(crate) fn words_type(
+    alloc: Global,
+    space: WhiteSpace,
+    words: &TextList,
+) -> Result<Tree<TypeLabel>, Memory>
+    requires { length words.now < 2 ^ 32 }
+    ensures { IfOk result (λ made. IsWordsType words.now (white_space_marks space) made) }
+{
+    let identifiers = identifiers_of(alloc, words.items())?;
+    let marks = word_marks(alloc, space, &identifiers, words.items())?;
+    let form = Form::Words {
+        identifiers: TextList::of(identifiers),
+        words: words.copy(alloc)?,
+    };
+    Ok(Tree::leaf(alloc, TypeLabel { form, marks }))
+}

@@ -1,0 +1,4 @@
+pub mod Earlier
+pub mod Finding
+mod Marks
+pub mod InOrder

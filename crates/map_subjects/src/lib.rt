@@ -1,0 +1,10 @@
+//! Which components of a linked set of schemas have assignments in its module of ASN.1 types, and in which order.
+#![tactic(auto)]
+
+mod collecting;
+mod counting;
+mod subjects;
+
+pub use collecting::entries;
+pub use counting::number_of_element;
+pub use subjects::{Entry, Subject};
