@@ -1,43 +1,61 @@
 -- What is decided before writing, and what an answer tells of its cause.
-use Rattle.std.proofs.Common.{◌≡◌, ◌⊎◌, ℕ, Bool, List, sym, ◌∙◌, subst, inl, inr, Option, Result, Ok, Err}
+use Rattle.std.proofs.Common.{◌≡◌, ◌⊎◌, ℕ, Bool, true, List, sym, ◌∙◌, subst, inl, inr, Option, Some, Result, Ok, Err}
 use Rattle.std.specs.Prelude.{Vec}
 use Rattle.std.specs.declared.alloc.Global.{Global}
 use Rattle.xa_base.specs.Faults.{Rose}
 use Rattle.xa_base.specs.declared.texts.Name.{Name}
 use Rattle.transcode_core.specs.declared.outcome.Outcome.{Outcome}
 use Rattle.transcode_core.specs.declared.outcome.Outcome.TheVariants.{LoadFault, ReadFault, OutOfMemory}
-use Rattle.transcode_core.specs.Due.{Opened, Encoding, Due}
-use Rattle.transcode_core.specs.Causes.{Answers, IsRefusal, Opening, OneRead, ReachesInput, Deciding}
+use Rattle.transcode_core.specs.Words.{Asked, ToPer}
+use Rattle.transcode_core.specs.Due.{Requested, Opened, Encoding, Answered, Due}
+use Rattle.transcode_core.specs.Causes.{Answers, IsRefusal, SomeLoad, OneRead, Fails, Reaches, files_of, ReachesFile, reads_input, ReadsInput, ReachesInput, Answering, Deciding}
 
-module _ (words : List (List ℕ)) (entries : Option (List (List ℕ × List ℕ))) (left : Option (List ℕ)) (loads loads_now : ℕ) (sure : Bool) (reads reads_now : ℕ) where
-  -- the words, the file and the root are sound, and the input decides
-  pub goes_on : (root : Name) (v : Result (Vec ℕ Global) Outcome) → Opened words entries (Ok root) → Answers (λ (b : Vec ℕ Global). b.items) (Encoding root left) (OneRead reads reads_now) v
-      → Answers (λ (b : Vec ℕ Global). b.items) (Due words entries left) (Deciding loads loads_now sure entries reads reads_now words) v
-  goes_on root (Ok v) opened due = (root, opened, due)
-  goes_on root (Err o) opened (inl (due, own)) = inl (inr (root, opened, due), own)
-  goes_on root (Err o) opened (inr (inl memory)) = inr (inr (inl memory))
-  goes_on root (Err o) opened (inr (inr read)) = inr (inr (inr (read.0, read.1, (root, opened))))
+-- the words ask for one thing
+pub same_request : (words : List (List ℕ)) (a b : Asked) → Requested words (Ok a) → Requested words (Ok b) → a ≡ b
+same_request words a b p q = let e : Some a ≡ Some b = sym p ∙ q in cc
+
+pub reads_too : (words : List (List ℕ)) (request : Asked) → Requested words (Ok request) → ReadsInput words → reads_input request ≡ true
+reads_too words request asks (other, also, reads) = subst (λ r. reads_input r ≡ true) (same_request words other request also asks) reads
+
+module _ (entries : Option (List (List ℕ × List ℕ))) (left : Option (List ℕ)) (loads loads_now : ℕ) (sure : Bool) (reads reads_now : ℕ) (root : Name) (names : List (List ℕ)) where
+  -- the files and the root are sound, and the input decides
+  pub goes_on : (found : Name) (v : Result (Vec ℕ Global) Outcome) → Opened entries root names (Ok found) → Answers (λ (b : Vec ℕ Global). b.items) (Encoding found left) (OneRead reads reads_now) v
+      → Answers (λ (b : Vec ℕ Global). b.items) (Answered entries left (ToPer root names)) (Answering loads loads_now sure entries reads reads_now (ToPer root names)) v
+  goes_on found (Ok v) opened due = (found, opened, due)
+  goes_on found (Err o) opened (inl (due, own)) = inl (inr (found, opened, due), own)
+  goes_on found (Err o) opened (inr (inl memory)) = inr (inl (inl memory))
+  goes_on found (Err o) opened (inr (inr read)) = inr (inr (read.0, read.1, (found, opened)))
 
   -- they are refused
-  pub stops : (o : Outcome) → (Opened words entries (Err o) × IsRefusal o) ⊎ Opening loads loads_now sure entries words o
-      → (Due words entries left (Err o) × IsRefusal o) ⊎ Deciding loads loads_now sure entries reads reads_now words o
+  pub stops : (o : Outcome) → (Opened entries root names (Err o) × IsRefusal o) ⊎ SomeLoad loads loads_now sure entries names o
+      → (Answered entries left (ToPer root names) (Err o) × IsRefusal o) ⊎ Answering loads loads_now sure entries reads reads_now (ToPer root names) o
   stops o (inl (due, own)) = inl (inl due, own)
   stops o (inr cause) = inr (inl cause)
 
+module _ (words : List (List ℕ)) (entries : Option (List (List ℕ × List ℕ))) (left : Option (List ℕ)) (loads loads_now : ℕ) (sure : Bool) (reads reads_now : ℕ) where
   -- a refusal is due
   pub refusal_due : (o : Outcome) → (Due words entries left (Err o) × IsRefusal o) ⊎ Deciding loads loads_now sure entries reads reads_now words o
       → IsRefusal o → Due words entries left (Err o)
   refusal_due o (inl (due, own)) is = due
-  refusal_due o (inr (inl (inl memory))) is = absurd (subst IsRefusal memory is)
-  refusal_due o (inr (inl (inr (k, name, load, rest, fails)))) is = absurd (subst IsRefusal load is)
-  refusal_due o (inr (inr (inl memory))) is = absurd (subst IsRefusal memory is)
-  refusal_due o (inr (inr (inr read))) is = absurd (subst IsRefusal read.0 is)
+  refusal_due o (inr (request, asks, inl (inl memory))) is = absurd (subst IsRefusal memory is)
+  refusal_due o (inr (request, asks, inl (inr (k, name, load, rest, fails)))) is = absurd (subst IsRefusal load is)
+  refusal_due o (inr (request, asks, inr (read, rose, comes))) is = absurd (subst IsRefusal read is)
+
+  -- a file failed to load where the order comes to it
+  pub load_failed : (o : Outcome) → (Due words entries left (Err o) × IsRefusal o) ⊎ Deciding loads loads_now sure entries reads reads_now words o
+      → (file : ℕ) → o ≡ LoadFault file → (name : List ℕ) × ReachesFile words entries file name × Fails loads loads_now sure entries name
+  load_failed o (inl (due, own)) file is = absurd (subst IsRefusal is own)
+  load_failed o (inr (request, asks, inl (inl memory))) file is = let e : OutOfMemory ≡ LoadFault file = sym memory ∙ is in cc
+  load_failed o (inr (request, asks, inl (inr (k, name, load, reaches, fails)))) file is =
+      let e : LoadFault k ≡ LoadFault file = sym load ∙ is in
+      let same : k ≡ file = cc in
+      (name, (request, asks, subst (λ n. Reaches entries (files_of request) n name) same reaches), fails)
+  load_failed o (inr (request, asks, inr (read, rose, comes))) file is = let e : ReadFault ≡ LoadFault file = sym read ∙ is in cc
 
   -- the input failed where the order comes to it
   pub read_failed : (o : Outcome) → (Due words entries left (Err o) × IsRefusal o) ⊎ Deciding loads loads_now sure entries reads reads_now words o
       → o ≡ ReadFault → Rose reads reads_now × ReachesInput words entries
   read_failed o (inl (due, own)) is = absurd (subst IsRefusal is own)
-  read_failed o (inr (inl (inl memory))) is = let e : OutOfMemory ≡ ReadFault = sym memory ∙ is in cc
-  read_failed o (inr (inl (inr (k, name, load, rest, fails)))) is = let e : LoadFault k ≡ ReadFault = sym load ∙ is in cc
-  read_failed o (inr (inr (inl memory))) is = let e : OutOfMemory ≡ ReadFault = sym memory ∙ is in cc
-  read_failed o (inr (inr (inr read))) is = (read.1, read.2)
+  read_failed o (inr (request, asks, inl (inl memory))) is = let e : OutOfMemory ≡ ReadFault = sym memory ∙ is in cc
+  read_failed o (inr (request, asks, inl (inr (k, name, load, rest, fails)))) is = let e : LoadFault k ≡ ReadFault = sym load ∙ is in cc
+  read_failed o (inr (request, asks, inr (read, rose, comes))) is = (rose, (request, asks, comes))

@@ -16,3 +16,10 @@ module _ {B C D : Type 0} (first : Result B Outcome → Type 0) (next : B → Re
   pub refused : (o : Outcome) → (first (Err o) × IsRefusal o) ⊎ narrow o → (narrow o → wide o) → (Then first next (Err o) × IsRefusal o) ⊎ wide o
   refused o (inl (due, own)) more = inl (inl due, own)
   refused o (inr cause) more = inr (more cause)
+
+-- the same answer, for a wider cause
+pub wider : {C D : Type 0} (due : Result D Outcome → Type 0) (narrow wide : Outcome → Type 0) (view : C → D) (v : Result C Outcome)
+    → Answers view due narrow v → ((o : Outcome) → narrow o → wide o) → Answers view due wide v
+wider due narrow wide view (Ok c) h more = h
+wider due narrow wide view (Err o) (inl h) more = inl h
+wider due narrow wide view (Err o) (inr cause) more = inr (more o cause)

@@ -1,11 +1,9 @@
 pub mod Fronts
-pub mod Bindings
-pub mod Ends
-pub mod Boolean
-pub mod Seen
-pub mod Declared
 pub mod Deciding
 pub mod WordLemmas
 pub mod Joined
+pub mod SetLaws
 pub mod Single
 pub mod Loading
+pub mod Reading
+pub mod FewFiles

@@ -4,14 +4,13 @@ use Rattle.std.proofs.lemmas.List.{take-append-drop, take_more}
 use Rattle.std.proofs.Math.Seq.{drop-cons}
 use Rattle.std.proofs.lemmas.Grind.{common_steps}
 use Rattle.xa_base.specs.Faults.{Rose}
-use Rattle.label_tree.specs.Rose as tree
-use Rattle.doc_text.specs.declared.label.ItemLabel.{ItemLabel}
+use Rattle.schema_parts.specs.Raw.{Document}
 use Rattle.transcode_core.specs.declared.outcome.Outcome.{Outcome}
 use Rattle.transcode_core.specs.Steps.{Schema, Schemas}
 use Rattle.transcode_core.specs.Causes.{IsRefusal, OneLoad, SomeLoad}
 
 abbrev pub Documents : Type 0
-Documents = List (tree.Rose ItemLabel)
+Documents = List Document
 
 -- a verdict on what follows, with what was read before
 abbrev pub in_front : Documents → Result Documents Outcome → Result Documents Outcome
@@ -27,31 +26,31 @@ Schemas-append entries k [] after documents (Ok later) sound rest =
     subst (λ l. Schemas entries k after (Ok l)) f (subst (λ n. Schemas entries n after (Ok later)) e rest)
 Schemas-append entries k [] after documents (Err o) sound rest =
     let e : k + 0 ≡ k = omega arith in subst (λ n. Schemas entries n after (Err o)) e rest
-Schemas-append entries k (name ∷ names) after documents (Ok later) (items, first, (others, sound, is)) rest =
+Schemas-append entries k (name ∷ names) after documents (Ok later) (document, first, (others, sound, is)) rest =
     let e : k + length (name ∷ names) ≡ (k + 1) + length names = grind arith in
     let rest' = subst (λ n. Schemas entries n after (Ok later)) e rest in
-    (items, first, (others ++ later, Schemas-append entries (k + 1) names after others (Ok later) sound rest', ap (λ l. l ++ later) is))
-Schemas-append entries k (name ∷ names) after documents (Err o) (items, first, (others, sound, is)) rest =
+    (document, first, (others ++ later, Schemas-append entries (k + 1) names after others (Ok later) sound rest', ap (λ l. l ++ later) is))
+Schemas-append entries k (name ∷ names) after documents (Err o) (document, first, (others, sound, is)) rest =
     let e : k + length (name ∷ names) ≡ (k + 1) + length names = grind arith in
     let rest' = subst (λ n. Schemas entries n after (Err o)) e rest in
-    inr (items, first, inl (Schemas-append entries (k + 1) names after others (Err o) sound rest'))
+    inr (document, first, inl (Schemas-append entries (k + 1) names after others (Err o) sound rest'))
 
 -- a number that rose in a call rose in a longer one
 Rose-earlier : (first before now : ℕ) → first ≤ before → Rose before now → Rose first now
 Rose-earlier first before now earlier rose = omega arith
 
 -- one more file is a schema document
-pub one_more : (entries entries' : Option (List (List ℕ × List ℕ))) (names : List (List ℕ)) (i : ℕ) (name : List ℕ) (documents : Documents) (items : tree.Rose ItemLabel)
+pub one_more : (entries entries' : Option (List (List ℕ × List ℕ))) (names : List (List ℕ)) (i : ℕ) (name : List ℕ) (documents : Documents) (document : Document)
     → entries' ≡ entries → i < length names → name ≡ get_or names i name → Schemas entries 1 (take i names) (Ok documents)
-    → Schema entries' (i + 1) name (Ok items) → Schemas entries 1 (take (i + 1) names) (Ok (documents ++ items ∷ []))
-one_more entries entries' names i name documents items same lt is sound this =
-    let this' : Schema entries (i + 1) name (Ok items) = subst (λ e. Schema e (i + 1) name (Ok items)) same this in
+    → Schema entries' (i + 1) name (Ok document) → Schemas entries 1 (take (i + 1) names) (Ok (documents ++ document ∷ []))
+one_more entries entries' names i name documents document same lt is sound this =
+    let this' : Schema entries (i + 1) name (Ok document) = subst (λ e. Schema e (i + 1) name (Ok document)) same this in
     let n : i + 1 ≡ 1 + length (take i names) = grind (arith, common_steps) in
     let split : take i names ++ name ∷ [] ≡ take (i + 1) names =
     ap (λ x. take i names ++ x ∷ []) is ∙ sym (take_more names i name lt) in
-    let one = subst (λ k. Schema entries k name (Ok items)) n this' in
-    subst (λ l. Schemas entries 1 l (Ok (documents ++ items ∷ []))) split
-    (Schemas-append entries 1 (take i names) (name ∷ []) documents (Ok (items ∷ [])) sound (items, one, ([], refl, refl)))
+    let one = subst (λ k. Schema entries k name (Ok document)) n this' in
+    subst (λ l. Schemas entries 1 l (Ok (documents ++ document ∷ []))) split
+    (Schemas-append entries 1 (take i names) (name ∷ []) documents (Ok (document ∷ [])) sound (document, one, ([], refl, refl)))
 
 -- the files are refused at this one, or it failed to load
 pub refused_at : (entries entries' : Option (List (List ℕ × List ℕ))) (names : List (List ℕ)) (i : ℕ) (name : List ℕ) (documents : Documents)

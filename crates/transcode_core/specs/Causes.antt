@@ -1,13 +1,13 @@
 -- Answers of the outside, each with its cause.
-use Rattle.std.specs.Prelude.{◌≡◌, ◌⊎◌, ℕ, suc, ◌+◌, Bool, IsTrue, List, ◌∷◌, ◌++◌, length, Option, Result, Ok, Err}
+use Rattle.std.specs.Prelude.{◌≡◌, ◌⊎◌, ℕ, suc, ◌+◌, Bool, true, false, IsTrue, List, [], ◌∷◌, ◌++◌, length, Option, Result, Ok, Err}
 use Rattle.xa_base.specs.Faults.{Rose}
 use Rattle.xa_base.specs.Entries.{Lacks}
 use Rattle.transcode_core.specs.declared.outcome.Outcome.{Outcome}
-use Rattle.transcode_core.specs.declared.outcome.Outcome.TheVariants.{Done, Usage, SchemaSyntax, SchemaFault, UnknownRoot, TooLong, LoadFault, ReadFault, WriteFault, OutOfMemory}
+use Rattle.transcode_core.specs.declared.outcome.Outcome.TheVariants.{Done, Usage, SchemaSyntax, SchemaFault, LinkFault, UnknownRoot, TooLong, LoadFault, ReadFault, WriteFault, OutOfMemory}
 use Rattle.xa_base.specs.declared.texts.Name.{Name}
-use Rattle.label_tree.specs.Rose as tree
-use Rattle.doc_text.specs.declared.label.ItemLabel.{ItemLabel}
+use Rattle.schema_parts.specs.Raw.{Document}
 use Rattle.transcode_core.specs.Steps.{Schemas}
+use Rattle.transcode_core.specs.Words.{Asked, Show, ToPer}
 use Rattle.transcode_core.specs.Due.{Requested, Opened}
 
 -- an outcome that refuses the words, a file or the input
@@ -45,7 +45,7 @@ OneLoad before now is_sure entries k name o = (o ≡ OutOfMemory) ⊎ ((o ≡ Lo
 pub record Reaches (entries : Option (List (List ℕ × List ℕ))) (names : List (List ℕ)) (k : ℕ) (name : List ℕ) : Type 0 where
   pub before : List (List ℕ)
   pub after : List (List ℕ)
-  pub documents : List (tree.Rose ItemLabel)
+  pub documents : List Document
   pub split : names ≡ before ++ name ∷ after
   pub number : k ≡ length before + 1
   pub sound : Schemas entries 1 before (Ok documents)
@@ -55,37 +55,57 @@ abbrev pub SomeLoad : ℕ → ℕ → Bool → Option (List (List ℕ × List �
 SomeLoad before now is_sure entries names o =
     (o ≡ OutOfMemory) ⊎ ((k : ℕ) × (name : List ℕ) × (o ≡ LoadFault k) × Reaches entries names k name × Fails before now is_sure entries name)
 
+-- the files that are loaded
+abbrev pub files_of : Asked → List (List ℕ)
+files_of (Show files) = files
+files_of (ToPer root files) = files
+files_of request = []
+
 -- the words name this file, by this number, and the order passes to its load
 abbrev pub ReachesFile : List (List ℕ) → Option (List (List ℕ × List ℕ)) → ℕ → List ℕ → Type 0
-ReachesFile words entries k name = (root : Name) × (names : List (List ℕ)) × Requested words (Ok (root, names)) × Reaches entries names k name
-
--- memory is missing, or a file that the words name failed to load where the order comes to it
-abbrev pub Opening : ℕ → ℕ → Bool → Option (List (List ℕ × List ℕ)) → List (List ℕ) → Outcome → Type 0
-Opening before now is_sure entries words o =
-    (o ≡ OutOfMemory) ⊎ ((k : ℕ) × (name : List ℕ) × (o ≡ LoadFault k) × ReachesFile words entries k name × Fails before now is_sure entries name)
+ReachesFile words entries k name = (request : Asked) × Requested words (Ok request) × Reaches entries (files_of request) k name
 
 -- memory is missing, or the input failed
 abbrev pub OneRead : ℕ → ℕ → Outcome → Type 0
 OneRead before now o = (o ≡ OutOfMemory) ⊎ ((o ≡ ReadFault) × Rose before now)
 
+-- the command reads the input
+abbrev pub reads_input : Asked → Bool
+reads_input (ToPer root files) = true
+reads_input request = false
+
+abbrev pub ReadsInput : List (List ℕ) → Type 0
+ReadsInput words = (request : Asked) × Requested words (Ok request) × (reads_input request ≡ true)
+
+-- it does, and the files and the root pass
+abbrev pub ComesToInput : Option (List (List ℕ × List ℕ)) → Asked → Type 0
+ComesToInput entries (ToPer root files) = (found : Name) × Opened entries root files (Ok found)
+ComesToInput entries request = ⊥
+
 -- the order passes to the input
 abbrev pub ReachesInput : List (List ℕ) → Option (List (List ℕ × List ℕ)) → Type 0
-ReachesInput words entries = (root : Name) × Opened words entries (Ok root)
+ReachesInput words entries = (request : Asked) × Requested words (Ok request) × ComesToInput entries request
 
 -- an outcome that can come behind the files
 abbrev pub IsOfInput : Outcome → Type 0
 IsOfInput Usage = ⊥
 IsOfInput (SchemaSyntax _ _ _) = ⊥
 IsOfInput (SchemaFault _ _ _) = ⊥
+IsOfInput (LinkFault _ _ _) = ⊥
 IsOfInput UnknownRoot = ⊥
 IsOfInput (TooLong (suc _)) = ⊥
 IsOfInput (LoadFault _) = ⊥
 IsOfInput o = Unit {0}
 
--- memory is missing, or a file or the input failed where the order comes to it
+-- memory is missing, or a file or the input failed where the order of this command comes to it
+abbrev pub Answering : ℕ → ℕ → Bool → Option (List (List ℕ × List ℕ)) → ℕ → ℕ → Asked → Outcome → Type 0
+Answering loads loads_now is_sure entries reads reads_now request o =
+    SomeLoad loads loads_now is_sure entries (files_of request) o ⊎ ((o ≡ ReadFault) × Rose reads reads_now × ComesToInput entries request)
+
+-- the same of the words
 abbrev pub Deciding : ℕ → ℕ → Bool → Option (List (List ℕ × List ℕ)) → ℕ → ℕ → List (List ℕ) → Outcome → Type 0
 Deciding loads loads_now is_sure entries reads reads_now words o =
-    Opening loads loads_now is_sure entries words o ⊎ ((o ≡ OutOfMemory) ⊎ ((o ≡ ReadFault) × Rose reads reads_now × ReachesInput words entries))
+    (request : Asked) × Requested words (Ok request) × Answering loads loads_now is_sure entries reads reads_now request o
 
 -- an outcome that leaves the output as it was
 abbrev pub WritesNothing : Outcome → Type 0

@@ -1,6 +1,7 @@
 pub mod Words
 pub mod Requests
-pub mod FirstForm
+pub mod TruthValues
+pub mod Booleans
 pub mod Order
 pub mod Causes
 pub mod Steps

@@ -4,8 +4,12 @@ use Rattle.doc_text.specs.declared.error.DocWhy.{DocWhy}
 use Rattle.doc_text.specs.declared.error.DocWhy.TheVariants as why
 use Rattle.schema_rules.specs.declared.why.SchemaWhy.{SchemaWhy}
 use Rattle.schema_rules.specs.declared.why.SchemaWhy.TheVariants as schema
+use Rattle.facet_rules.specs.declared.refusals.FacetWhy.{FacetWhy}
+use Rattle.facet_rules.specs.declared.refusals.FacetWhy.TheVariants as facet
+use Rattle.schema_names.specs.declared.faults.LinkWhy.{LinkWhy}
+use Rattle.schema_names.specs.declared.faults.LinkWhy.TheVariants as link
 use Rattle.transcode_core.specs.declared.outcome.Outcome.{Outcome}
-use Rattle.transcode_core.specs.declared.outcome.Outcome.TheVariants.{Done, Usage, SchemaSyntax, SchemaFault, UnknownRoot, DocSyntax, TooLong, LoadFault, ReadFault, WriteFault, OutOfMemory, NotYet}
+use Rattle.transcode_core.specs.declared.outcome.Outcome.TheVariants.{Done, Usage, SchemaSyntax, SchemaFault, LinkFault, UnknownRoot, DocSyntax, TooLong, LoadFault, ReadFault, WriteFault, OutOfMemory, NotYet}
 
 -- the name of a reason against a text
 abbrev pub reason_name : DocWhy → List ℕ
@@ -76,6 +80,28 @@ schema_reason schema.AnyType = codes "AnyType"
 schema_reason schema.BothForms = codes "BothForms"
 schema_reason schema.EmptyChoice = codes "EmptyChoice"
 
+-- the name of a reason against facets
+abbrev pub facet_reason : FacetWhy → List ℕ
+facet_reason facet.Misplaced = codes "Misplaced"
+facet_reason facet.Widens = codes "Widens"
+facet_reason facet.NotInBase = codes "NotInBase"
+facet_reason facet.EmptySpace = codes "EmptySpace"
+facet_reason facet.BadNumber = codes "BadNumber"
+facet_reason facet.TooWide = codes "TooWide"
+
+-- the name of a reason against several files as one set
+abbrev pub link_reason : LinkWhy → List ℕ
+link_reason link.Limit = codes "Limit"
+link_reason link.Duplicate = codes "Duplicate"
+link_reason link.Unresolved = codes "Unresolved"
+link_reason link.ComplexBase = codes "ComplexBase"
+link_reason link.CircularType = codes "CircularType"
+link_reason (link.Facet reason) = codes "Facet " ++ facet_reason reason
+link_reason link.BadItem = codes "BadItem"
+link_reason link.DuplicateUse = codes "DuplicateUse"
+link_reason link.TypesDiffer = codes "TypesDiffer"
+link_reason link.NotClear = codes "NotClear"
+
 -- the file of that number, or the input
 abbrev pub place : ℕ → List ℕ
 place zero = codes "input"
@@ -86,6 +112,7 @@ line Done = []
 line Usage = codes "usage: show FILE... | check ROOT FILE... | to-per ROOT FILE... | to-xml ROOT FILE... | trial N\n"
 line (SchemaSyntax k at reason) = codes "file " ++ decimal k ++ codes ", byte " ++ decimal at ++ codes ": syntax: " ++ reason_name reason ++ codes "\n"
 line (SchemaFault k at reason) = codes "file " ++ decimal k ++ codes ", byte " ++ decimal at ++ codes ": schema: " ++ schema_reason reason ++ codes "\n"
+line (LinkFault k at reason) = codes "file " ++ decimal k ++ codes ", byte " ++ decimal at ++ codes ": link: " ++ link_reason reason ++ codes "\n"
 line UnknownRoot = codes "unknown root\n"
 line (DocSyntax at reason) = codes "input, byte " ++ decimal at ++ codes ": syntax: " ++ reason_name reason ++ codes "\n"
 line (TooLong k) = place k ++ codes ": too long\n"

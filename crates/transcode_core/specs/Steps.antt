@@ -1,6 +1,6 @@
 -- Each step with what it passes on and what it refuses.
-use Rattle.std.specs.Prelude.{◌≡◌, ◌⊎◌, ℕ, Bool, true, false, ◌+◌, ◌<◌, ◌≤◌, ⊤, List, [], ◌∷◌, length, bytes_eq, Option, Some, None, Result, Ok, Err, if◌then◌else◌}
-use Rattle.std.specs.List.{list_any}
+use Rattle.std.specs.Prelude.{◌≡◌, ◌⊎◌, ℕ, Bool, ◌+◌, ◌<◌, ◌≤◌, ⊤, List, [], ◌∷◌, map, take, length, Option, Some, None, Result, Ok, Err, if◌then◌else◌}
+use Rattle.std.specs.List.{Any}
 use Rattle.label_tree.specs.Rose.{Rose}
 use Rattle.xa_base.specs.Entries.{Has, HasLonger, Lacks}
 use Rattle.xa_base.specs.declared.texts.Name.{Name}
@@ -9,16 +9,24 @@ use Rattle.doc_text.specs.declared.error.DocWhy.{DocWhy}
 use Rattle.doc_text.specs.Documents.{DocOf, BrokenAt}
 use Rattle.schema_faults.specs.Faults.{first_fault, reasons}
 use Rattle.schema_faults.specs.declared.faults.Fault.{Fault}
+use Rattle.schema_parts.specs.Raw.{Document}
+use Rattle.simple_types.specs.Space.{Space}
+use Rattle.type_cycles.specs.SimpleTypes.{simple_types}
+use Rattle.schema_parts.specs.Components.{Set}
+use Rattle.linked_sets.specs.Sets.{SetParts, parts_of, set_of}
+use Rattle.asn_types.specs.declared.modules.Assignment.{Assignment}
+use Rattle.map_assignments.specs.Mapped.{IsMapOf}
+use Rattle.module_print.specs.Printed.{printed}
+use Rattle.schema_parts.specs.declared.components.ElementDecl.{ElementDecl}
+use Rattle.schema_names.specs.declared.faults.Fault as link
+use Rattle.schema_link.specs.Passes.{passes, IsShownBy, ArePassed}
+use Rattle.schema_read.specs.Raw.{raw_of}
+use Rattle.simple_making.specs.Making.{IsMaking}
 use Rattle.transcode_core.specs.declared.outcome.Outcome.{Outcome}
-use Rattle.transcode_core.specs.declared.outcome.Outcome.TheVariants.{SchemaSyntax, SchemaFault, UnknownRoot, DocSyntax, TooLong, LoadFault, NotYet}
-use Rattle.transcode_core.specs.Words.{Asked, ToPer}
-use Rattle.transcode_core.specs.FirstForm.{IsSchema, truth_in}
-use Rattle.transcode_core.specs.Order.{Pass, Found, Which, Then}
-
--- What is built of the commands: `to-per`. The root and the files.
-abbrev pub built : Asked → Option (Name × List (List ℕ))
-built (ToPer root files) = Some (root, files)
-built asked = None
+use Rattle.transcode_core.specs.declared.outcome.Outcome.TheVariants.{SchemaSyntax, SchemaFault, LinkFault, UnknownRoot, DocSyntax, TooLong, LoadFault, NotYet}
+use Rattle.transcode_core.specs.Booleans.{are_booleans}
+use Rattle.transcode_core.specs.TruthValues.{truth_in}
+use Rattle.transcode_core.specs.Order.{Pass, Found, Test, Then}
 
 -- the contents of file k, if they are no more than the limit
 abbrev pub Loaded : Option (List (List ℕ × List ℕ)) → ℕ → List ℕ → Result (List ℕ) Outcome → Type 0
@@ -36,35 +44,55 @@ abbrev pub Faultless : ℕ → Rose ItemLabel → Result (Unit {0}) Outcome → 
 Faultless k items (Ok _) = first_fault (reasons items) ≡ None
 Faultless k items (Err o) = (fault : Fault) × (first_fault (reasons items) ≡ Some fault) × (o ≡ SchemaFault k fault.at fault.why)
 
--- the items of a schema document without a fault in the bytes of file k
-abbrev pub SchemaIn : ℕ → List ℕ → Result (Rose ItemLabel) Outcome → Type 0
+-- the components of the schema document in the bytes of file k
+abbrev pub SchemaIn : ℕ → List ℕ → Result Document Outcome → Type 0
 SchemaIn k bytes =
     Then (Read (λ at why. SchemaSyntax k at why) bytes) (λ items.
     Then (Faultless k items) (λ _.
-    Pass items))
+    Pass (raw_of k items)))
 
 -- file k is loaded, and is a schema document
-abbrev pub Schema : Option (List (List ℕ × List ℕ)) → ℕ → List ℕ → Result (Rose ItemLabel) Outcome → Type 0
+abbrev pub Schema : Option (List (List ℕ × List ℕ)) → ℕ → List ℕ → Result Document Outcome → Type 0
 Schema entries k name = Then (Loaded entries k name) (λ bytes. SchemaIn k bytes)
 
--- the files from number k on, each in turn: their items
-abbrev pub Schemas : Option (List (List ℕ × List ℕ)) → ℕ → List (List ℕ) → Result (List (Rose ItemLabel)) Outcome → Type 0
+-- the files from number k on, each in turn: their components
+abbrev pub Schemas : Option (List (List ℕ × List ℕ)) → ℕ → List (List ℕ) → Result (List Document) Outcome → Type 0
 Schemas entries k [] = Pass []
-Schemas entries k (name ∷ names) = Then (Schema entries k name) (λ items. Then (Schemas entries (k + 1) names) (λ others. Pass (items ∷ others)))
+Schemas entries k (name ∷ names) = Then (Schema entries k name) (λ document. Then (Schemas entries (k + 1) names) (λ others. Pass (document ∷ others)))
 
--- the one document, where there are no others
-abbrev pub only : List (Rose ItemLabel) → Option (Rose ItemLabel)
-only (items ∷ []) = Some items
-only documents = None
+-- the parts of the set that the documents stand for
+abbrev pub AreParts : List Document → SetParts → Type 0
+AreParts documents parts = (spaces : List Space) × IsMaking (simple_types documents) (map Some spaces) × (parts ≡ set_of documents spaces)
 
--- What is taken so far of schema sets: one document that declares elements of the type boolean. Their names.
-abbrev pub Declared : List (Rose ItemLabel) → Result (List (List ℕ)) Outcome → Type 0
-Declared documents = Then (Found (only documents) NotYet) (λ items. Which (IsSchema items) NotYet)
+-- the documents as one set, or the first fault of linking
+abbrev pub Linked : List Document → Result SetParts Outcome → Type 0
+Linked documents (Ok parts) = ArePassed documents passes × AreParts documents parts
+Linked documents (Err o) = (fault : link.Fault) × IsShownBy documents passes fault × (o ≡ LinkFault fault.place.file fault.place.at fault.why)
 
--- the root, where it is one of the names, which have no namespace
-abbrev pub Rooted : Name → List (List ℕ) → Result Name Outcome → Type 0
-Rooted root names (Ok found) = (found ≡ root) × (root.space ≡ []) × (list_any (bytes_eq root.local) names ≡ true)
-Rooted root names (Err o) = ((root.space ≡ []) → list_any (bytes_eq root.local) names ≡ false) × (o ≡ UnknownRoot)
+-- What is taken so far of sets: global elements of the type boolean.
+abbrev pub Taken : List Document → Result (Unit {0}) Outcome → Type 0
+Taken documents = Test (are_booleans documents) NotYet
+
+-- a global element has the name
+abbrev pub HasRoot : Name → SetParts → Type 0
+HasRoot root parts = Any (λ (e : ElementDecl). e.name ≡ root) (take parts.globals parts.elements)
+
+-- the root, where a global element has its name
+abbrev pub Rooted : Name → SetParts → Result Name Outcome → Type 0
+Rooted root parts (Ok found) = (found ≡ root) × HasRoot root parts
+Rooted root parts (Err o) = (HasRoot root parts → ⊥) × (o ≡ UnknownRoot)
+
+-- the root in the set that the documents are
+abbrev pub Chosen : Name → List Document → Result Name Outcome → Type 0
+Chosen root documents =
+    Then (Linked documents) (λ parts.
+    Then (Taken documents) (λ _.
+    Rooted root parts))
+
+-- the text of the module that the set maps to
+abbrev pub Printed : SetParts → Result (List ℕ) Outcome → Type 0
+Printed parts (Ok bytes) = (s : Set) × (parts_of s ≡ parts) × (made : List Assignment) × IsMapOf s made × (bytes ≡ printed made)
+Printed parts (Err o) = ⊥
 
 -- where they are told, these bytes are all that is left
 abbrev pub IsAll : Option (List ℕ) → List ℕ → Type 0

@@ -1,12 +1,17 @@
 //! The file and the input.
 ghost use Rattle.std.specs.Prelude.{◌≡◌, ◌≤◌, length, IfOk, IfErr, OnOk};
+ghost use Rattle.doc_text.specs.Tokens.{tokens, Ascend};
+ghost use Rattle.schema_parts.specs.Documents.{doc_of};
+ghost use Rattle.schema_read.specs.Raw.{raw_of};
+ghost use Rattle.transcode_core.specs.Order.{Pass, Then};
 ghost use Rattle.std.specs.Io.KnownBytes.{IsAtEnd};
 ghost use Rattle.transcode_core.specs.Steps.{Loaded, Input, Read, Faultless};
 ghost use Rattle.transcode_core.specs.Causes.{Answers, NoMemory, OneLoad, OneRead, IsOfInput};
 
 use crate::outcome::Outcome;
 use doc_text::{DocError, Items, read_document};
-use schema_faults::{Fault, first_fault};
+use schema_parts::RawDoc;
+use schema_read::{SchemaError, read_schema};
 use std::alloc::Global;
 use xa_base::{Library, LoadError, ReadError, Source, Text, read_all};
 
@@ -53,7 +58,8 @@ pub fn read_input<S: Source>(alloc: Global, input: &mut S) -> Result<Vec<u8>, Ou
 /// The items of a schema file.
 pub fn read_schema_items(alloc: Global, file: u32, bytes: &[u8]) -> Result<Items, Outcome>
     requires { length bytes.now ≤ 16777216 }
-    ensures { Answers (λ items. items) (Read (λ at why. Outcome.SchemaSyntax file at why) bytes.now) NoMemory result }
+    ensures due { Answers (λ items. items) (Read (λ at why. Outcome.SchemaSyntax file at why) bytes.now) NoMemory result }
+    ensures places { IfOk result (λ items. Ascend 0 16777216 (tokens items)) }
 {
     match read_document(alloc, bytes) {
         Ok(items) => Ok(items),
@@ -62,14 +68,15 @@ pub fn read_schema_items(alloc: Global, file: u32, bytes: &[u8]) -> Result<Items
     }
 }
 
-/// The first fault of a schema document.
-pub fn check_faults(alloc: Global, file: u32, items: &Items) -> Result<(), Outcome>
-    ensures { Answers (λ _. tt) (Faultless file items.now) NoMemory result }
+/// The components of a schema document, which is this file.
+pub fn read_components(alloc: Global, file: u32, items: &Items) -> Result<RawDoc, Outcome>
+    requires { Ascend 0 16777216 (tokens items.now) }
+    ensures { Answers doc_of (Then (Faultless file items.now) (λ _. Pass (raw_of file items.now))) NoMemory result }
 {
-    match first_fault(alloc, items) {
-        Ok(None) => Ok(()),
-        Ok(Some(Fault { at, why })) => Err(Outcome::SchemaFault { file, at, why }),
-        Err(_) => Err(Outcome::OutOfMemory),
+    match read_schema(alloc, items, file) {
+        Ok(document) => Ok(document),
+        Err(SchemaError::Shown { at, why }) => Err(Outcome::SchemaFault { file, at, why }),
+        Err(SchemaError::Memory) => Err(Outcome::OutOfMemory),
     }
 }
 

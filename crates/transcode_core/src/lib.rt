@@ -1,12 +1,14 @@
 //! The top call: words, files and an input to an outcome and bytes.
 #![tactic(auto)]
 
+mod booleans;
 mod files;
-mod first_form;
 mod lines;
+mod linking;
 mod outcome;
 mod schemas;
 mod top;
+mod truth_values;
 mod words;
 
 pub use lines::write_line;

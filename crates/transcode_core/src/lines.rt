@@ -9,7 +9,9 @@ ghost use Rattle.transcode_core.specs.Parts.{spelled};
 
 use crate::outcome::Outcome;
 use doc_text::DocWhy;
+use facet_rules::FacetWhy;
 use itoa::Buffer;
+use schema_link::LinkWhy;
 use schema_rules::SchemaWhy;
 use xa_base::{Failed, Sink, write_all};
 
@@ -147,6 +149,29 @@ fn schema_reason(why: SchemaWhy) -> &'static [u8]
     }
 }
 
+// The name of a reason against several files as one set.
+fn link_reason(why: LinkWhy) -> &'static [u8]
+    ensures { result.now ≡ lines.link_reason why }
+{
+    match why {
+        LinkWhy::Limit => b"Limit",
+        LinkWhy::Duplicate => b"Duplicate",
+        LinkWhy::Unresolved => b"Unresolved",
+        LinkWhy::ComplexBase => b"ComplexBase",
+        LinkWhy::CircularType => b"CircularType",
+        LinkWhy::Facet(FacetWhy::Misplaced) => b"Facet Misplaced",
+        LinkWhy::Facet(FacetWhy::Widens) => b"Facet Widens",
+        LinkWhy::Facet(FacetWhy::NotInBase) => b"Facet NotInBase",
+        LinkWhy::Facet(FacetWhy::EmptySpace) => b"Facet EmptySpace",
+        LinkWhy::Facet(FacetWhy::BadNumber) => b"Facet BadNumber",
+        LinkWhy::Facet(FacetWhy::TooWide) => b"Facet TooWide",
+        LinkWhy::BadItem => b"BadItem",
+        LinkWhy::DuplicateUse => b"DuplicateUse",
+        LinkWhy::TypesDiffer => b"TypesDiffer",
+        LinkWhy::NotClear => b"NotClear",
+    }
+}
+
 fn parts_of(outcome: Outcome) -> Parts
     ensures { spelled result ≡ lines.line outcome }
 {
@@ -171,6 +196,15 @@ fn parts_of(outcome: Outcome) -> Parts
             at: Some(at),
             tail: b": schema: ",
             reason: schema_reason(why),
+            end: b"\n",
+        },
+        Outcome::LinkFault { file, at, why } => Parts {
+            head: b"file ",
+            file: Some(file),
+            middle: b", byte ",
+            at: Some(at),
+            tail: b": link: ",
+            reason: link_reason(why),
             end: b"\n",
         },
         Outcome::UnknownRoot => plain(b"unknown root\n"),

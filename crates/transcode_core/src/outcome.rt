@@ -3,6 +3,7 @@ ghost use Rattle.std.specs.Prelude.{◌≡◌};
 ghost use Rattle.transcode_core.specs.Status.{status};
 
 use doc_text::DocWhy;
+use schema_link::LinkWhy;
 use schema_rules::SchemaWhy;
 
 /// What a call of the program ends with. Files are numbered from 1 in the order of the words; number 0 is the input.
@@ -16,6 +17,8 @@ pub enum Outcome {
     SchemaSyntax { file: u32, at: u64, why: DocWhy },
     /// The first fault of a schema document, at this byte.
     SchemaFault { file: u32, at: u64, why: SchemaWhy },
+    /// The first fault of the schema files as one set, at this byte of this file.
+    LinkFault { file: u32, at: u64, why: LinkWhy },
     /// No global element has the name of the root.
     UnknownRoot,
     /// The first fault of the text of the input, at this byte.
@@ -44,6 +47,7 @@ impl Outcome {
             Outcome::Usage => 2,
             Outcome::SchemaSyntax { .. } => 3,
             Outcome::SchemaFault { .. } => 4,
+            Outcome::LinkFault { .. } => 5,
             Outcome::UnknownRoot => 6,
             Outcome::DocSyntax { .. } => 7,
             Outcome::TooLong { .. } => 11,

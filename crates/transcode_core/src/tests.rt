@@ -3,6 +3,8 @@ ghost use Rattle.std.specs.Prelude.{◌≡◌, ◌<◌};
 
 use crate::{Outcome, run};
 use doc_text::DocWhy;
+use facet_rules::FacetWhy;
+use schema_link::LinkWhy;
 use schema_rules::SchemaWhy;
 use std::alloc::Global;
 use std::marker::Brand;
@@ -60,12 +62,63 @@ const DECIMAL: &[u8] =
 const WILDCARD: &[u8] =
     b"<xs:schema xmlns:xs=\"http://www.w3.org/2001/XMLSchema\"><xs:element name=\"d\"><xs:complexType><xs:sequence><xs:any/></xs:sequence></xs:complexType></xs:element></xs:schema>";
 
+// A repeated sequence that may be empty.
+const REPEATED: &[u8] =
+    b"<xs:schema xmlns:xs=\"http://www.w3.org/2001/XMLSchema\"><xs:element name=\"d\"><xs:complexType><xs:sequence maxOccurs=\"unbounded\"><xs:element name=\"a\" type=\"xs:boolean\" minOccurs=\"0\"/></xs:sequence></xs:complexType></xs:element></xs:schema>";
+
+// An optional element before one of the same name.
+const OPTIONAL: &[u8] =
+    b"<xs:schema xmlns:xs=\"http://www.w3.org/2001/XMLSchema\"><xs:element name=\"d\"><xs:complexType><xs:sequence><xs:element name=\"a\" type=\"xs:boolean\" minOccurs=\"0\"/><xs:element name=\"a\" type=\"xs:boolean\"/></xs:sequence></xs:complexType></xs:element></xs:schema>";
+
+// A bound above that of the base.
+const WIDENING: &[u8] =
+    b"<xs:schema xmlns:xs=\"http://www.w3.org/2001/XMLSchema\"><xs:simpleType name=\"B\"><xs:restriction base=\"xs:byte\"><xs:maxInclusive value=\"200\"/></xs:restriction></xs:simpleType></xs:schema>";
+
+// A type that no file has.
+const UNRESOLVED: &[u8] =
+    b"<xs:schema xmlns:xs=\"http://www.w3.org/2001/XMLSchema\"><xs:element name=\"e\" type=\"t\"/></xs:schema>";
+
+// An element in a namespace.
+const SPACE: &[u8] =
+    b"<xs:schema xmlns:xs=\"http://www.w3.org/2001/XMLSchema\" targetNamespace=\"urn:b\"><xs:element name=\"g-1\" type=\"xs:boolean\"/></xs:schema>";
+
+const NILLABLE: &[u8] =
+    b"<xs:schema xmlns:xs=\"http://www.w3.org/2001/XMLSchema\"><xs:element name=\"f\" type=\"xs:boolean\" nillable=\"true\"/></xs:schema>";
+
+// A type of its own with the values of boolean.
+const RESTRICTED: &[u8] =
+    b"<xs:schema xmlns:xs=\"http://www.w3.org/2001/XMLSchema\"><xs:element name=\"f\"><xs:simpleType><xs:restriction base=\"xs:boolean\"/></xs:simpleType></xs:element></xs:schema>";
+
+const ORDER: &[u8] =
+    b"<xs:schema xmlns:xs=\"http://www.w3.org/2001/XMLSchema\" xmlns=\"urn:po\" targetNamespace=\"urn:po\" elementFormDefault=\"qualified\">\n<xs:element name=\"order\" type=\"Order\"/>\n<xs:complexType name=\"Order\"><xs:sequence><xs:element name=\"line\" type=\"Line\" maxOccurs=\"unbounded\"/><xs:element name=\"note\" type=\"xs:string\" minOccurs=\"0\"/></xs:sequence><xs:attribute name=\"id\" type=\"xs:unsignedShort\" use=\"required\"/></xs:complexType>\n<xs:complexType name=\"Line\"><xs:sequence><xs:element name=\"sku\" type=\"xs:token\"/><xs:element name=\"qty\" type=\"Qty\"/></xs:sequence></xs:complexType>\n<xs:simpleType name=\"Qty\"><xs:restriction base=\"xs:int\"><xs:minInclusive value=\"1\"/><xs:maxInclusive value=\"100\"/></xs:restriction></xs:simpleType>\n</xs:schema>\n";
+
+const ORDER_MODULE: &[u8] =
+    b"Schema-Set DEFINITIONS XER INSTRUCTIONS AUTOMATIC TAGS ::= BEGIN\nOrder ::= [NAME AS UNCAPITALIZED] [NAMESPACE AS \"urn:po\"] Order-1\nLine ::= SEQUENCE {\n    sku [NAMESPACE AS \"urn:po\"] [WHITESPACE COLLAPSE] UTF8String,\n    qty [NAMESPACE AS \"urn:po\"] Qty\n}\nOrder-1 ::= [NAME AS \"Order\"] SEQUENCE {\n    id [ATTRIBUTE] INTEGER (0..65535),\n    line-list [UNTAGGED] SEQUENCE (SIZE (1..MAX)) OF line [NAMESPACE AS \"urn:po\"] Line,\n    note [NAMESPACE AS \"urn:po\"] UTF8String OPTIONAL\n}\nQty ::= INTEGER (1..100)\nENCODING-CONTROL XER\n    GLOBAL-DEFAULTS MODIFIED-ENCODINGS\n    GLOBAL-DEFAULTS CONTROL-NAMESPACE \"http://www.w3.org/2001/XMLSchema-instance\" PREFIX \"xsi\"\nEND\n";
+
+const NAMES: &[u8] =
+    b"<xs:schema xmlns:xs=\"http://www.w3.org/2001/XMLSchema\"><xs:element name=\"t\"><xs:complexType><xs:sequence><xs:element name=\"a.b\" type=\"xs:boolean\"/><xs:element name=\"a_b\" type=\"xs:boolean\"/><xs:element name=\"_1x\" type=\"xs:boolean\"/><xs:element name=\"\xc3\xa9\" type=\"xs:boolean\"/></xs:sequence></xs:complexType></xs:element></xs:schema>";
+
+const NAMES_MODULE: &[u8] =
+    b"Schema-Set DEFINITIONS XER INSTRUCTIONS AUTOMATIC TAGS ::= BEGIN\nT ::= [NAME AS UNCAPITALIZED] SEQUENCE {\n    a-b [NAME AS \"a.b\"] BOOLEAN,\n    a-b-1 [NAME AS \"a_b\"] BOOLEAN,\n    x1x [NAME AS \"_1x\"] BOOLEAN,\n    x [NAME AS \"\xc3\xa9\"] BOOLEAN\n}\nENCODING-CONTROL XER\n    GLOBAL-DEFAULTS MODIFIED-ENCODINGS\n    GLOBAL-DEFAULTS CONTROL-NAMESPACE \"http://www.w3.org/2001/XMLSchema-instance\" PREFIX \"xsi\"\nEND\n";
+
+const BOOLEAN_MODULE: &[u8] =
+    b"Schema-Set DEFINITIONS XER INSTRUCTIONS AUTOMATIC TAGS ::= BEGIN\nF ::= [NAME AS UNCAPITALIZED] BOOLEAN\nENCODING-CONTROL XER\n    GLOBAL-DEFAULTS MODIFIED-ENCODINGS\n    GLOBAL-DEFAULTS CONTROL-NAMESPACE \"http://www.w3.org/2001/XMLSchema-instance\" PREFIX \"xsi\"\nEND\n";
+
 fn all_files(rt: &impl Abort, alloc: Global) -> Vec<Entry> {
-    let files: [(&[u8], &[u8]); 4] = [
+    let files: [(&[u8], &[u8]); 13] = [
         (b"f.xsd", SCHEMA),
         (b"broken.xsd", b"<s>a</t>"),
         (b"decimal.xsd", DECIMAL),
         (b"wildcard.xsd", WILDCARD),
+        (b"repeated.xsd", REPEATED),
+        (b"optional.xsd", OPTIONAL),
+        (b"widening.xsd", WIDENING),
+        (b"unresolved.xsd", UNRESOLVED),
+        (b"space.xsd", SPACE),
+        (b"nillable.xsd", NILLABLE),
+        (b"restricted.xsd", RESTRICTED),
+        (b"a.xsd", ORDER),
+        (b"c.xsd", NAMES),
     ];
     let mut entries = Vec::new(alloc);
     for (name, contents) in files {
@@ -77,7 +130,7 @@ fn all_files(rt: &impl Abort, alloc: Global) -> Vec<Entry> {
 }
 
 fn sure_sink(rt: &impl Abort, alloc: Global) -> SureSink {
-    SureSink::new(alloc, 120, Vec::new(alloc)).expect(rt, "memory")
+    SureSink::new(alloc, 2000, Vec::new(alloc)).expect(rt, "memory")
 }
 
 // A run in which nothing fails: its outcome, and whether these bytes and this complaint are what was written.
@@ -157,16 +210,24 @@ fn words_that_lead_elsewhere(rt: HostRuntime) {
         (&[b"trial", b"0"], Outcome::Usage, usage),
         (&[b"trial", b"100001"], Outcome::Usage, usage),
         (&[b"trial", b"100000"], Outcome::NotYet, b"not yet\n"),
-        (&[b"show", b"f.xsd"], Outcome::NotYet, b"not yet\n"),
+        (&[b"check", b"f", b"f.xsd"], Outcome::NotYet, b"not yet\n"),
         (
-            &[b"to-per", b"g", b"f.xsd"],
-            Outcome::UnknownRoot,
-            b"unknown root\n",
+            &[b"show", b"decimal.xsd"],
+            Outcome::SchemaFault {
+                file: 1,
+                at: 55,
+                why: SchemaWhy::Decimal,
+            },
+            b"file 1, byte 55: schema: Decimal\n",
         ),
         (
-            &[b"to-per", b"{urn:x}f", b"f.xsd"],
-            Outcome::UnknownRoot,
-            b"unknown root\n",
+            &[b"show", b"wildcard.xsd"],
+            Outcome::SchemaFault {
+                file: 1,
+                at: 105,
+                why: SchemaWhy::Wildcard,
+            },
+            b"file 1, byte 105: schema: Wildcard\n",
         ),
         (
             &[b"to-per", b"f", b"g.xsd"],
@@ -201,11 +262,6 @@ fn words_that_lead_elsewhere(rt: HostRuntime) {
             b"file 1, byte 105: schema: Wildcard\n",
         ),
         (
-            &[b"to-per", b"f", b"f.xsd", b"f.xsd"],
-            Outcome::NotYet,
-            b"not yet\n",
-        ),
-        (
             &[b"to-per", b"f", b"f.xsd", b"decimal.xsd", b"broken.xsd"],
             Outcome::SchemaFault {
                 file: 2,
@@ -233,6 +289,15 @@ fn words_that_lead_elsewhere(rt: HostRuntime) {
             b"file 1, byte 105: schema: Wildcard\n",
         ),
         (
+            &[b"to-per", b"f", b"repeated.xsd", b"decimal.xsd"],
+            Outcome::SchemaFault {
+                file: 2,
+                at: 55,
+                why: SchemaWhy::Decimal,
+            },
+            b"file 2, byte 55: schema: Decimal\n",
+        ),
+        (
             &[b"to-per", b"g", b"f.xsd", b"f.xsd", b"g.xsd"],
             Outcome::LoadFault { file: 3 },
             b"file 3: load failed\n",
@@ -240,6 +305,115 @@ fn words_that_lead_elsewhere(rt: HostRuntime) {
     ];
     for (words, outcome, complaint) in words {
         expect_run(&rt, alloc, words, b"<f>true</f>", outcome, b"", complaint);
+    }
+}
+
+fn fault(file: u32, at: u64, why: LinkWhy) -> Outcome {
+    Outcome::LinkFault { file, at, why }
+}
+
+#[test]
+fn files_that_are_no_set(rt: HostRuntime) {
+    let alloc = rt.alloc();
+    let words: [(&[&[u8]], Outcome, &[u8]); 6] = [
+        (
+            &[b"show", b"repeated.xsd"],
+            fault(1, 92, LinkWhy::NotClear),
+            b"file 1, byte 92: link: NotClear\n",
+        ),
+        (
+            &[b"show", b"optional.xsd"],
+            fault(1, 105, LinkWhy::NotClear),
+            b"file 1, byte 105: link: NotClear\n",
+        ),
+        (
+            &[b"show", b"widening.xsd"],
+            fault(1, 79, LinkWhy::Facet(FacetWhy::Widens)),
+            b"file 1, byte 79: link: Facet Widens\n",
+        ),
+        (
+            &[b"to-per", b"f", b"f.xsd", b"f.xsd"],
+            fault(2, 55, LinkWhy::Duplicate),
+            b"file 2, byte 55: link: Duplicate\n",
+        ),
+        (
+            &[b"to-per", b"f", b"f.xsd", b"unresolved.xsd"],
+            fault(2, 55, LinkWhy::Unresolved),
+            b"file 2, byte 55: link: Unresolved\n",
+        ),
+        (
+            &[b"to-per", b"f", b"repeated.xsd", b"unresolved.xsd"],
+            fault(2, 55, LinkWhy::Unresolved),
+            b"file 2, byte 55: link: Unresolved\n",
+        ),
+    ];
+    for (words, outcome, complaint) in words {
+        expect_run(&rt, alloc, words, b"<f>true</f>", outcome, b"", complaint);
+    }
+}
+
+#[test]
+fn roots_and_sets(rt: HostRuntime) {
+    let alloc = rt.alloc();
+    let unknown: &[u8] = b"unknown root\n";
+    let not_yet: &[u8] = b"not yet\n";
+    let words: [(&[&[u8]], Outcome, &[u8]); 7] = [
+        (&[b"to-per", b"g", b"f.xsd"], Outcome::UnknownRoot, unknown),
+        (
+            &[b"to-per", b"{urn:x}f", b"f.xsd"],
+            Outcome::UnknownRoot,
+            unknown,
+        ),
+        (
+            &[b"to-per", b"g-1", b"f.xsd", b"space.xsd"],
+            Outcome::UnknownRoot,
+            unknown,
+        ),
+        (
+            &[b"to-per", b"{urn:b}f", b"f.xsd", b"space.xsd"],
+            Outcome::UnknownRoot,
+            unknown,
+        ),
+        (
+            &[b"to-per", b"f", b"nillable.xsd"],
+            Outcome::NotYet,
+            not_yet,
+        ),
+        (
+            &[b"to-per", b"g", b"nillable.xsd"],
+            Outcome::NotYet,
+            not_yet,
+        ),
+        (
+            &[b"to-per", b"f", b"restricted.xsd"],
+            Outcome::NotYet,
+            not_yet,
+        ),
+    ];
+    for (words, outcome, complaint) in words {
+        expect_run(&rt, alloc, words, b"<f>true</f>", outcome, b"", complaint);
+    }
+}
+
+#[test]
+fn an_element_of_the_second_file(rt: HostRuntime) {
+    let alloc = rt.alloc();
+    let words: [&[u8]; 4] = [b"to-per", b"{urn:b}g-1", b"f.xsd", b"space.xsd"];
+    let document = b"<x:g-1 xmlns:x=\"urn:b\">true</x:g-1>";
+    expect_run(&rt, alloc, &words, document, Outcome::Done, b"\x80", b"");
+}
+
+#[test]
+fn modules(rt: HostRuntime) {
+    let alloc = rt.alloc();
+    let rows: [(&[u8], &[u8]); 3] = [
+        (b"f.xsd", BOOLEAN_MODULE),
+        (b"a.xsd", ORDER_MODULE),
+        (b"c.xsd", NAMES_MODULE),
+    ];
+    for (file, text) in rows {
+        let words: [&[u8]; 2] = [b"show", file];
+        expect_run(&rt, alloc, &words, b"", Outcome::Done, text, b"");
     }
 }
 

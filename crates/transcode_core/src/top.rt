@@ -1,90 +1,81 @@
 //! The top call.
-ghost use Rattle.std.specs.Prelude.{◌≡◌, ◌⊎◌, ℕ, ◌≤◌, List, length, map, bytes_eq, OnOk, IfOk, IfErr, Ok, Err, Some};
-ghost use Rattle.std.specs.List.{list_any};
+ghost use Rattle.std.specs.Prelude.{◌≡◌, ◌⊎◌, ℕ, ◌≤◌, true, List, length, map, OnOk, IfOk, IfErr, Ok, Err, Some};
 ghost use Rattle.std.specs.Io.KnownBytes.{Appends, IsAtEnd};
 ghost use Rattle.xa_base.specs.Faults.{Rose};
 ghost use Rattle.xa_base.specs.Bytes.{AppendsFront};
 ghost use Rattle.transcode_core.specs.Lines.{line};
 ghost use Rattle.transcode_core.specs.Requests.{root_seen, seen};
-ghost use Rattle.transcode_core.specs.Steps as steps;
-ghost use Rattle.transcode_core.specs.Steps.{Rooted, Declared, Schemas, Valued, encoded};
-ghost use Rattle.transcode_core.specs.Order.{Pass, Found, Then};
-ghost use Rattle.transcode_core.specs.Due.{Requested, Opened, InputValue, Encoding, Due};
-ghost use Rattle.transcode_core.specs.Causes.{Answers, Never, NoMemory, SomeLoad, Opening, OneRead, ReachesFile, ReachesInput, IsOfInput, Deciding, Fails, IsRefusal, WritesNothing};
+ghost use Rattle.transcode_core.specs.Words as command;
+ghost use Rattle.schema_parts.specs.Documents.{doc_of};
+ghost use Rattle.schema_link.specs.Sets.{AreNumbered};
+ghost use Rattle.linked_sets.specs.Sets.{parts_of};
+ghost use Rattle.transcode_core.specs.Steps.{Linked, Printed, Valued, encoded};
+ghost use Rattle.transcode_core.specs.Order.{Pass, Then};
+ghost use Rattle.transcode_core.specs.Due.{Requested, Shown, Opened, InputValue, Encoding, Answered, Due};
+ghost use Rattle.transcode_core.specs.Causes.{Answers, Never, NoMemory, SomeLoad, OneRead, files_of, ReachesFile, reads_input, ReadsInput, ComesToInput, ReachesInput, IsOfInput, Answering, Deciding, Fails, IsRefusal, WritesNothing};
 
 use crate::files::{read_input, read_input_items};
-use crate::first_form::{read_schema, read_truth};
 use crate::lines::write_line;
+use crate::linking::{choose_root, link_files};
 use crate::outcome::Outcome;
 use crate::schemas::load_schemas;
+use crate::truth_values::read_truth;
 use crate::words::{Request, Root, read_words};
-use doc_text::Items;
+use map_694::map_set;
+use module_print::print_module;
+use schema_parts::{RawDoc, SchemaSet};
 use std::alloc::Global;
 use std::sync::ledger::Ledger;
 use xa_base::{Failed, Library, Sink, Source, Steps, Text, write_all};
 
-fn has_name(root: &[u8], names: &[&[u8]]) -> bool
-    ensures { result ≡ list_any (bytes_eq root.now) (map (λ name. name.now) names.now) }
+// What the words ask for.
+fn requested(words: &[Text]) -> Result<Request<'_>, Outcome>
+    ensures due { Answers seen (Requested words.now) Never result }
+    ensures few { IfOk result (λ request. length (files_of (seen request)) ≤ 64) }
 {
-    for name in names {
-        if root == *name {
-            return true;
-        }
-    }
-    false
+    read_words(words)
 }
 
-// The root, where it is one of the names.
-fn check_root<'a>(root: Root<'a>, names: &[&[u8]]) -> Result<Root<'a>, Outcome>
-    ensures { Answers root_seen (Rooted (root_seen root.entry) (map (λ name. name.now) names.now)) Never result }
+// The text of the module of the set.
+fn print(alloc: Global, set: &SchemaSet) -> Result<Vec<u8>, Outcome>
+    ensures { Answers (λ bytes. bytes.items) (Printed (parts_of set.now)) NoMemory result }
 {
-    if root.space.is_empty() && has_name(root.local, names) {
-        Ok(root)
-    } else {
-        Err(Outcome::UnknownRoot)
-    }
-}
-
-// The names of the global elements of what is taken so far of schema sets: one document.
-fn read_names<'a>(alloc: Global, documents: &'a [Items]) -> Result<Vec<&'a [u8]>, Outcome>
-    ensures { Answers (λ names. map (λ name. name.now) names.items) (Declared documents.now) NoMemory result }
-{
-    match documents {
-        [items] => read_schema(alloc, items),
-        _ => Err(Outcome::NotYet),
+    let Ok(module) = map_set(alloc, set) else {
+        return Err(Outcome::OutOfMemory);
+    };
+    match print_module(alloc, &module) {
+        Ok(text) => Ok(text),
+        Err(_) => Err(Outcome::OutOfMemory),
     }
 }
 
-// The root, where the documents declare it.
-fn find_root<'a>(alloc: Global, root: Root<'a>, documents: &[Items]) -> Result<Root<'a>, Outcome>
-    ensures { Answers root_seen (Then (Declared documents.now) (λ names. Rooted (root_seen root.entry) names)) NoMemory result }
+// The text of the module of the set that the documents are.
+fn show_documents(alloc: Global, documents: &[RawDoc]) -> Result<Vec<u8>, Outcome>
+    requires few { length documents.now ≤ 64 }
+    requires numbered { AreNumbered (map doc_of documents.now) }
+    ensures { Answers (λ bytes. bytes.items) (Then (Linked (map doc_of documents.now)) (λ parts. Printed parts)) NoMemory result }
 {
-    match read_names(alloc, documents) {
-        Ok(names) => check_root(root, &names),
+    match link_files(alloc, documents) {
+        Ok(set) => print(alloc, &set),
         Err(outcome) => Err(outcome),
     }
 }
 
-// What is built of the commands: `to-per`.
-fn built(request: Request<'_>) -> Result<(Root<'_>, &[Text]), Outcome>
-    ensures { Answers (λ parts. (root_seen parts.0, parts.1.now)) (Found (steps.built (seen request.entry)) Outcome.NotYet) Never result }
+// What `show` answers for these files.
+fn show<F: Library>(alloc: Global, files: &mut F, names: &[Text]) -> Result<Vec<u8>, Outcome>
+    requires { length names.now ≤ 64 }
+    ensures due { Answers (λ bytes. bytes.items) (Shown (F.entries files.old) names.now)
+        (SomeLoad (F.faults files.old) (F.faults files.new) (F.is_sure files.old) (F.entries files.old) names.now) result }
+    ensures files { (F.entries files.new ≡ F.entries files.old) × (F.is_sure files.new ≡ F.is_sure files.old) }
+    ensures later { F.faults files.old ≤ F.faults files.new }
 {
-    match request {
-        Request::ToPer { root, files } => Ok((root, files)),
-        _ => Err(Outcome::NotYet),
+    match load_schemas(alloc, files, names) {
+        Ok(documents) => show_documents(alloc, &documents),
+        Err(outcome) => Err(outcome),
     }
 }
 
-// The root and the files that the words name.
-fn requested(words: &[Text]) -> Result<(Root<'_>, &[Text]), Outcome>
-    ensures due { Answers (λ parts. (root_seen parts.0, parts.1.now)) (Requested words.now) Never result }
-    ensures few { IfOk result (λ parts. length parts.1.now ≤ 64) }
-{
-    let request = read_words(words)?;
-    built(request)
-}
-
-// The root, where the files declare it.
+// The root in the set that the files are.
 fn open_files<'a, F: Library>(
     alloc: Global,
     files: &mut F,
@@ -92,29 +83,13 @@ fn open_files<'a, F: Library>(
     names: &[Text],
 ) -> Result<Root<'a>, Outcome>
     requires { length names.now ≤ 64 }
-    ensures due { Answers root_seen (Then (Schemas (F.entries files.old) 1 names.now) (λ documents. Then (Declared documents) (λ declared. Rooted (root_seen root.entry) declared)))
+    ensures due { Answers root_seen (Opened (F.entries files.old) (root_seen root.entry) names.now)
         (SomeLoad (F.faults files.old) (F.faults files.new) (F.is_sure files.old) (F.entries files.old) names.now) result }
     ensures files { (F.entries files.new ≡ F.entries files.old) × (F.is_sure files.new ≡ F.is_sure files.old) }
     ensures later { F.faults files.old ≤ F.faults files.new }
 {
     match load_schemas(alloc, files, names) {
-        Ok(documents) => find_root(alloc, root, &documents),
-        Err(outcome) => Err(outcome),
-    }
-}
-
-// Words, files and root.
-fn open<'a, F: Library>(
-    alloc: Global,
-    words: &'a [Text],
-    files: &mut F,
-) -> Result<Root<'a>, Outcome>
-    ensures due { Answers root_seen (Opened words.now (F.entries files.old)) (Opening (F.faults files.old) (F.faults files.new) (F.is_sure files.old) (F.entries files.old) words.now) result }
-    ensures files { (F.entries files.new ≡ F.entries files.old) × (F.is_sure files.new ≡ F.is_sure files.old) }
-    ensures later { F.faults files.old ≤ F.faults files.new }
-{
-    match requested(words) {
-        Ok((root, names)) => open_files(alloc, files, root, names),
+        Ok(documents) => choose_root(alloc, root, &documents),
         Err(outcome) => Err(outcome),
     }
 }
@@ -154,8 +129,8 @@ fn encode(alloc: Global, value: bool) -> Result<Vec<u8>, Outcome>
     }
 }
 
-// What `to-per` answers for this root.
-fn to_per<S: Source>(alloc: Global, root: Root<'_>, input: &mut S) -> Result<Vec<u8>, Outcome>
+// The encoding of the input, in which this is the root.
+fn encode_input<S: Source>(alloc: Global, root: Root<'_>, input: &mut S) -> Result<Vec<u8>, Outcome>
     ensures due { Answers (λ bytes. bytes.items) (Encoding (root_seen root.entry) (S.left input.old)) (OneRead (S.faults input.old) (S.faults input.new)) result }
     ensures end { OnOk result (IsAtEnd (S.left input.new)) }
     ensures stage { IfErr result IsOfInput }
@@ -164,6 +139,52 @@ fn to_per<S: Source>(alloc: Global, root: Root<'_>, input: &mut S) -> Result<Vec
     match read_value(alloc, root, input) {
         Ok(value) => encode(alloc, value),
         Err(outcome) => Err(outcome),
+    }
+}
+
+// What `to-per` answers for this root and these files.
+fn to_per<F: Library, S: Source>(
+    alloc: Global,
+    root: Root<'_>,
+    names: &[Text],
+    files: &mut F,
+    input: &mut S,
+) -> Result<Vec<u8>, Outcome>
+    requires { length names.now ≤ 64 }
+    ensures due { Answers (λ bytes. bytes.items) (Answered (F.entries files.old) (S.left input.old) (command.ToPer (root_seen root.entry) names.now))
+        (Answering (F.faults files.old) (F.faults files.new) (F.is_sure files.old) (F.entries files.old) (S.faults input.old) (S.faults input.new) (command.ToPer (root_seen root.entry) names.now)) result }
+    ensures end { OnOk result (IsAtEnd (S.left input.new)) }
+    ensures untouched { (S.left input.new ≡ S.left input.old) ⊎ (ComesToInput (F.entries files.old) (command.ToPer (root_seen root.entry) names.now) × IfErr result IsOfInput) }
+    ensures files { (F.entries files.new ≡ F.entries files.old) × (F.is_sure files.new ≡ F.is_sure files.old) }
+    ensures loads { F.faults files.old ≤ F.faults files.new }
+    ensures reads { S.faults input.old ≤ S.faults input.new }
+{
+    match open_files(alloc, files, root, names) {
+        Ok(root) => encode_input(alloc, root, input),
+        Err(outcome) => Err(outcome),
+    }
+}
+
+// What the command answers.
+fn answer<F: Library, S: Source>(
+    alloc: Global,
+    request: Request<'_>,
+    files: &mut F,
+    input: &mut S,
+) -> Result<Vec<u8>, Outcome>
+    requires { length (files_of (seen request)) ≤ 64 }
+    ensures due { Answers (λ bytes. bytes.items) (Answered (F.entries files.old) (S.left input.old) (seen request.entry))
+        (Answering (F.faults files.old) (F.faults files.new) (F.is_sure files.old) (F.entries files.old) (S.faults input.old) (S.faults input.new) (seen request.entry)) result }
+    ensures end { reads_input (seen request.entry) ≡ true → OnOk result (IsAtEnd (S.left input.new)) }
+    ensures untouched { (S.left input.new ≡ S.left input.old) ⊎ (ComesToInput (F.entries files.old) (seen request.entry) × IfErr result IsOfInput) }
+    ensures files { (F.entries files.new ≡ F.entries files.old) × (F.is_sure files.new ≡ F.is_sure files.old) }
+    ensures loads { F.faults files.old ≤ F.faults files.new }
+    ensures reads { S.faults input.old ≤ S.faults input.new }
+{
+    match request {
+        Request::Show { files: names } => show(alloc, files, names),
+        Request::ToPer { root, files: names } => to_per(alloc, root, names, files, input),
+        _ => Err(Outcome::NotYet),
     }
 }
 
@@ -176,14 +197,14 @@ fn decide<F: Library, S: Source>(
 ) -> Result<Vec<u8>, Outcome>
     ensures due { Answers (λ bytes. bytes.items) (Due words.now (F.entries files.old) (S.left input.old))
         (Deciding (F.faults files.old) (F.faults files.new) (F.is_sure files.old) (F.entries files.old) (S.faults input.old) (S.faults input.new) words.now) result }
-    ensures end { OnOk result (IsAtEnd (S.left input.new)) }
+    ensures end { ReadsInput words.now → OnOk result (IsAtEnd (S.left input.new)) }
     ensures untouched { (S.left input.new ≡ S.left input.old) ⊎ (ReachesInput words.now (F.entries files.old) × IfErr result IsOfInput) }
     ensures files { (F.entries files.new ≡ F.entries files.old) × (F.is_sure files.new ≡ F.is_sure files.old) }
     ensures loads { F.faults files.old ≤ F.faults files.new }
     ensures reads { S.faults input.old ≤ S.faults input.new }
 {
-    match open(alloc, words, files) {
-        Ok(root) => to_per(alloc, root, input),
+    match requested(words) {
+        Ok(request) => answer(alloc, request, files, input),
         Err(outcome) => Err(outcome),
     }
 }
@@ -204,7 +225,7 @@ fn perform<F: Library, S: Source, K: Sink>(
     ensures write { result ≡ Outcome.WriteFault → Rose (K.faults output.old) (K.faults output.new)
         × ((bytes : List ℕ) × Due words.now (F.entries files.old) (S.left input.old) (Ok bytes) × AppendsFront (K.written output.old) (K.written output.new) bytes) }
     ensures kept { WritesNothing result → K.written output.new ≡ K.written output.old }
-    ensures end { result ≡ Outcome.Done → IsAtEnd (S.left input.new) }
+    ensures end { result ≡ Outcome.Done → ReadsInput words.now → IsAtEnd (S.left input.new) }
     ensures untouched { (S.left input.new ≡ S.left input.old) ⊎ (ReachesInput words.now (F.entries files.old) × IsOfInput result) }
     ensures files { (F.entries files.new ≡ F.entries files.old) × (F.is_sure files.new ≡ F.is_sure files.old) }
     // Where Done is due and no count rose, it is Done, or memory is missing.
@@ -224,12 +245,14 @@ fn perform<F: Library, S: Source, K: Sink>(
     }
 }
 
-/// Does what the words ask for. `to-per ROOT FILE...` loads the schema files in turn and ends at the first that can't be
-/// loaded, has over 16,777,216 bytes, or has a fault in its text or as a schema document. One file without a fault that
-/// declares elements of the type boolean alone is taken: the input, of as many bytes at most, is read as a document with
-/// the element ROOT as its root, and its encoding is written. The other commands, several files without a fault, and
-/// schemas and documents beyond that are `NotYet`. The whole result is made before writing begins. Complaints receive
-/// the line of the outcome.
+/// Does what the words ask for. `show FILE...` and `to-per ROOT FILE...` load the schema files in turn and end at the
+/// first that can't be loaded, has over 16,777,216 bytes, or has a fault in its text or as a schema document. Then the
+/// files are linked into one set, or the answer is the first fault of linking. `show` writes the module that the set maps
+/// to and leaves the input alone. Of `to-per` a set of global elements of the type boolean alone, none of them nillable,
+/// is taken: the input, of as many bytes at most, is read as a document with the element ROOT as its root, and its encoding
+/// is written. The other commands, and sets and documents of `to-per` beyond that, are `NotYet`. The whole result is made
+/// before writing begins. Complaints receive the line of the outcome. A fault outside is one that raises the count of its
+/// object. Nothing is counted in the steps yet.
 pub fn run<F: Library, S: Source, K: Sink, E: Sink, L: Ledger>(
     alloc: Global,
     words: &[Text],
@@ -250,7 +273,7 @@ pub fn run<F: Library, S: Source, K: Sink, E: Sink, L: Ledger>(
     ensures write { result ≡ Outcome.WriteFault → Rose (K.faults output.old) (K.faults output.new)
         × ((bytes : List ℕ) × Due words.now (F.entries files.old) (S.left input.old) (Ok bytes) × AppendsFront (K.written output.old) (K.written output.new) bytes) }
     ensures kept { WritesNothing result → K.written output.new ≡ K.written output.old }
-    ensures end { result ≡ Outcome.Done → IsAtEnd (S.left input.new) }
+    ensures end { result ≡ Outcome.Done → ReadsInput words.now → IsAtEnd (S.left input.new) }
     ensures untouched { (S.left input.new ≡ S.left input.old) ⊎ (ReachesInput words.now (F.entries files.old) × IsOfInput result) }
     ensures files { (F.entries files.new ≡ F.entries files.old) × (F.is_sure files.new ≡ F.is_sure files.old) }
     // Where Done is due and no count rose, it is Done, or memory is missing.

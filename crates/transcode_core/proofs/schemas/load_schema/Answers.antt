@@ -1,6 +1,5 @@
 use Rattle.std.proofs.Common.{inl}
-use Rattle.label_tree.specs.Rose.{Rose}
-use Rattle.doc_text.specs.declared.label.ItemLabel.{ItemLabel}
+use Rattle.schema_parts.specs.Documents.{doc_of}
 use Rattle.transcode_core.specs.Steps.{Loaded, SchemaIn}
 use Rattle.transcode_core.specs.Causes.{NoMemory, OneLoad}
 use Rattle.transcode_core.proofs.Joined.{passed, refused}
@@ -11,11 +10,11 @@ returns-in-Ok-clause-due g c =
     let entries = g.F.Library.entries c.args.files.now in
     passed (Loaded entries c.args.file c.args.name.now) (λ bytes. SchemaIn c.args.file bytes) NoMemory
     (OneLoad (g.F.Library.faults c.args.files.now) (g.F.Library.faults c.load_file.new.files) (g.F.Library.is_sure c.args.files.now) entries c.args.file c.args.name.now)
-    (λ items. items) c.in-Ok.bytes.items c.read_faultless.result c.in-Ok.ensures.due (rw c.deref.ensures.value at c.read_faultless.ensures) (λ o h. inl h)
+    doc_of c.in-Ok.bytes.items c.read_file.result c.in-Ok.ensures.due (rw c.deref.ensures.value at c.read_file.ensures) (λ o h. inl h)
 
 pub returns-in-Err-clause-due : goal.returns-in-Err-clause-due
 returns-in-Err-clause-due g c =
     let entries = g.F.Library.entries c.args.files.now in
     let cause = OneLoad (g.F.Library.faults c.args.files.now) (g.F.Library.faults c.load_file.new.files) (g.F.Library.is_sure c.args.files.now) entries c.args.file c.args.name.now in
-    refused (Loaded entries c.args.file c.args.name.now) (λ bytes. SchemaIn c.args.file bytes) cause cause (λ (items : Rose ItemLabel). items)
+    refused (Loaded entries c.args.file c.args.name.now) (λ bytes. SchemaIn c.args.file bytes) cause cause doc_of
     c.in-Err.outcome c.in-Err.ensures.due (λ h. h)

@@ -1,4 +1,5 @@
-use Rattle.std.proofs.Common.{◌≡◌, ◌≤◌, take, Ok}
+use Rattle.std.proofs.Common.{◌≡◌, ◌≤◌, take, map, Ok}
+use Rattle.schema_parts.specs.Documents.{doc_of}
 use Rattle.transcode_core.specs.Steps.{Schemas}
 use Rattle.transcode_core.proofs.schemas.load_schemas.Given as goal
 
@@ -7,7 +8,7 @@ abbrev pub invariant-loop-i : goal.invariant-loop-i
 invariant-loop-i g l =
     let library = g.F.Library in
     record {
-      sound : Schemas (library.entries l.initial.files) 1 (take l.i l.names) (Ok l.documents.items);
+      sound : Schemas (library.entries l.initial.files) 1 (take l.i l.names) (Ok (map doc_of l.documents.items));
       files : (library.entries l.files ≡ library.entries l.initial.files) × (library.is_sure l.files ≡ library.is_sure l.initial.files);
       later : library.faults l.initial.files ≤ library.faults l.files;
     }

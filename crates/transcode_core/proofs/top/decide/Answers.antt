@@ -1,17 +1,41 @@
-use Rattle.std.proofs.Common.{inr}
-use Rattle.transcode_core.specs.Requests.{root_seen}
-use Rattle.transcode_core.proofs.Deciding.{goes_on, stops}
+use Rattle.std.proofs.Common.{ℕ, inl, inr}
+use Rattle.std.specs.Prelude.{Vec}
+use Rattle.std.specs.declared.alloc.Global.{Global}
+use Rattle.transcode_core.specs.Requests.{seen}
+use Rattle.transcode_core.specs.Due.{Requested, Answered}
+use Rattle.transcode_core.specs.Causes.{Never, Answering, Deciding}
+use Rattle.transcode_core.proofs.Joined.{passed, refused}
+use Rattle.transcode_core.proofs.Deciding.{reads_too}
 use Rattle.transcode_core.proofs.top.decide.Goals as goal
 
 pub returns-in-Ok-clause-due : goal.returns-in-Ok-clause-due
 returns-in-Ok-clause-due g c =
-    goes_on c.args.words.now (g.F.Library.entries c.args.files.now) (g.S.Source.left c.args.input.now) (g.F.Library.faults c.args.files.now) (g.F.Library.faults c.open.new.files) (g.F.Library.is_sure c.args.files.now)
-    (g.S.Source.faults c.args.input.now) (g.S.Source.faults c.to_per.new.input) (root_seen c.in-Ok.root) c.to_per.result c.in-Ok.ensures.due c.to_per.ensures.due
+    let entries = g.F.Library.entries c.args.files.now in
+    let loads = g.F.Library.faults c.args.files.now in
+    let loads_now = g.F.Library.faults c.answer.new.files in
+    let sure = g.F.Library.is_sure c.args.files.now in
+    let reads = g.S.Source.faults c.args.input.now in
+    let reads_now = g.S.Source.faults c.answer.new.input in
+    passed (Requested c.args.words.now) (λ request. Answered entries (g.S.Source.left c.args.input.now) request)
+    (Answering loads loads_now sure entries reads reads_now (seen c.in-Ok.request)) (Deciding loads loads_now sure entries reads reads_now c.args.words.now)
+    (λ (bytes : Vec ℕ Global). bytes.items) (seen c.in-Ok.request) c.answer.result c.in-Ok.ensures.due c.answer.ensures.due
+    (λ o h. (seen c.in-Ok.request, c.in-Ok.ensures.due, h))
+
+pub returns-in-Ok-clause-end : goal.returns-in-Ok-clause-end
+returns-in-Ok-clause-end g c = λ reads. c.answer.ensures.end (reads_too c.args.words.now (seen c.in-Ok.request) c.in-Ok.ensures.due reads)
 
 pub returns-in-Ok-clause-untouched : goal.returns-in-Ok-clause-untouched
-returns-in-Ok-clause-untouched g c = inr ((root_seen c.in-Ok.root, c.in-Ok.ensures.due), c.to_per.ensures.stage)
+returns-in-Ok-clause-untouched g c =
+    elim c.answer.ensures.untouched [
+      | inl same ↦ inl same
+      | inr (comes, stage) ↦ inr ((seen c.in-Ok.request, c.in-Ok.ensures.due, comes), stage)
+    ]
 
 pub returns-in-Err-clause-due : goal.returns-in-Err-clause-due
 returns-in-Err-clause-due g c =
-    stops c.args.words.now (g.F.Library.entries c.args.files.now) (g.S.Source.left c.args.input.now) (g.F.Library.faults c.args.files.now) (g.F.Library.faults c.open.new.files) (g.F.Library.is_sure c.args.files.now)
-    (g.S.Source.faults c.args.input.now) (g.S.Source.faults c.args.input.now) c.in-Err.outcome c.in-Err.ensures.due
+    let entries = g.F.Library.entries c.args.files.now in
+    let loads = g.F.Library.faults c.args.files.now in
+    let sure = g.F.Library.is_sure c.args.files.now in
+    let reads = g.S.Source.faults c.args.input.now in
+    refused (Requested c.args.words.now) (λ request. Answered entries (g.S.Source.left c.args.input.now) request) Never
+    (Deciding loads loads sure entries reads reads c.args.words.now) (λ (bytes : Vec ℕ Global). bytes.items) c.in-Err.outcome c.in-Err.ensures.due (λ h. absurd h)

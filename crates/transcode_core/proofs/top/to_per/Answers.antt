@@ -1,22 +1,17 @@
-use Rattle.std.proofs.Common.{ℕ, inl}
-use Rattle.std.specs.Prelude.{Vec}
-use Rattle.std.specs.declared.alloc.Global.{Global}
-use Rattle.transcode_core.specs.Order.{Pass}
+use Rattle.std.proofs.Common.{inr}
 use Rattle.transcode_core.specs.Requests.{root_seen}
-use Rattle.transcode_core.specs.Due.{InputValue}
-use Rattle.transcode_core.specs.Steps.{encoded}
-use Rattle.transcode_core.specs.Causes.{NoMemory, OneRead}
-use Rattle.transcode_core.proofs.Joined.{passed, refused}
+use Rattle.transcode_core.proofs.Deciding.{goes_on, stops}
 use Rattle.transcode_core.proofs.top.to_per.Goals as goal
 
 pub returns-in-Ok-clause-due : goal.returns-in-Ok-clause-due
 returns-in-Ok-clause-due g c =
-    passed (InputValue (root_seen c.args.root) (g.S.Source.left c.args.input.now)) (λ value. Pass (encoded value)) NoMemory
-    (OneRead (g.S.Source.faults c.args.input.now) (g.S.Source.faults c.read_value.new.input)) (λ (bytes : Vec ℕ Global). bytes.items) c.in-Ok.value c.encode.result
-    c.in-Ok.ensures.due c.encode.ensures.due (λ o h. inl h)
+    goes_on (g.F.Library.entries c.args.files.now) (g.S.Source.left c.args.input.now) (g.F.Library.faults c.args.files.now) (g.F.Library.faults c.open_files.new.files) (g.F.Library.is_sure c.args.files.now)
+    (g.S.Source.faults c.args.input.now) (g.S.Source.faults c.encode_input.new.input) (root_seen c.args.root) c.args.names.now (root_seen c.in-Ok.root) c.encode_input.result c.in-Ok.ensures.due c.encode_input.ensures.due
+
+pub returns-in-Ok-clause-untouched : goal.returns-in-Ok-clause-untouched
+returns-in-Ok-clause-untouched g c = inr ((root_seen c.in-Ok.root, c.in-Ok.ensures.due), c.encode_input.ensures.stage)
 
 pub returns-in-Err-clause-due : goal.returns-in-Err-clause-due
 returns-in-Err-clause-due g c =
-    let cause = OneRead (g.S.Source.faults c.args.input.now) (g.S.Source.faults c.read_value.new.input) in
-    refused (InputValue (root_seen c.args.root) (g.S.Source.left c.args.input.now)) (λ value. Pass (encoded value)) cause cause (λ (bytes : Vec ℕ Global). bytes.items)
-    c.in-Err.outcome c.in-Err.ensures.due (λ h. h)
+    stops (g.F.Library.entries c.args.files.now) (g.S.Source.left c.args.input.now) (g.F.Library.faults c.args.files.now) (g.F.Library.faults c.open_files.new.files) (g.F.Library.is_sure c.args.files.now)
+    (g.S.Source.faults c.args.input.now) (g.S.Source.faults c.args.input.now) (root_seen c.args.root) c.args.names.now c.in-Err.outcome c.in-Err.ensures.due
