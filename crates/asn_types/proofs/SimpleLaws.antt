@@ -14,6 +14,7 @@ use Rattle.asn_types.specs.declared.marks.Told.TheVariants as told_
 use Rattle.asn_types.specs.declared.types.Form.TheVariants as form
 use Rattle.asn_types.specs.declared.types.TypeLabel.{TypeLabel}
 use Rattle.asn_types.specs.Marks.{white_space_of}
+use Rattle.asn_types.specs.Spaces.{space_at, spaces_at, first_space}
 use Rattle.asn_types.specs.Simples.{counts, counting, white_space_marks, MapsTo, MapToEach, IsSimple}
 use Rattle.asn_types.specs.Telling.{told, beside, with_mark}
 
@@ -116,32 +117,8 @@ white_space_of-marks (x ∷ ms) Preserve h = cc
 white_space_of-marks (x ∷ ms) Replace h = cc
 white_space_of-marks (x ∷ ms) Collapse h = cc
 
--- the simple type that the form tells
-abbrev mutual
-  pub space_seen : Rose TypeLabel → Space
-  space_seen (node l ts) =
-      elim l.form [
-        | form.Bool ↦ Booleans
-        | form.Int least greatest ↦ Wholes least greatest
-        | form.Numbers numbers ↦ Numbers numbers
-        | form.Words identifiers words ↦ Words (white_space_of l.marks) words
-        | form.Utf8 least most class ↦ Characters (white_space_of l.marks) least most class
-        | form.Sequence parts ↦ Booleans
-        | form.Choice parts ↦ UnionOf (spaces_seen ts)
-        | form.SequenceOf part least most ↦ ListOf (first_seen ts) least most
-        | form.Ref to ↦ Booleans
-      ]
-
-  pub first_seen : Roses TypeLabel → Space
-  first_seen rose.none = Booleans
-  first_seen (rose.more t ts) = space_seen t
-
-  pub spaces_seen : Roses TypeLabel → Spaces
-  spaces_seen rose.none = none
-  spaces_seen (rose.more t ts) = more (space_seen t) (spaces_seen ts)
-
 mutual
-  pub maps-seen : (s : Space) (t : Rose TypeLabel) → MapsTo s t → s ≡ space_seen t
+  pub maps-seen : (s : Space) (t : Rose TypeLabel) → MapsTo s t → s ≡ space_at t
   maps-seen Booleans (node l ts) h = rw h.0
   maps-seen (Wholes least greatest) (node l ts) h = rw h.0
   maps-seen (Numbers numbers) (node l ts) h = rw h.0
@@ -151,9 +128,9 @@ mutual
   maps-seen (ListOf item least most) (node l (rose.more t others)) h = rw h.1.0 (ap (λ s. ListOf s least most) (maps-seen item t h.3))
   maps-seen (UnionOf members) (node l ts) h = rw h.1.0 (ap UnionOf (each-maps-seen members ts h.3))
 
-  pub each-maps-seen : (ss : Spaces) (ts : Roses TypeLabel) → MapToEach ss ts → ss ≡ spaces_seen ts
+  pub each-maps-seen : (ss : Spaces) (ts : Roses TypeLabel) → MapToEach ss ts → ss ≡ spaces_at ts
   each-maps-seen none rose.none h = refl
-  each-maps-seen (more s ss) (rose.more t ts) h = ap (λ x. more x ss) (maps-seen s t h.0) ∙ ap (more (space_seen t)) (each-maps-seen ss ts h.1)
+  each-maps-seen (more s ss) (rose.more t ts) h = ap (λ x. more x ss) (maps-seen s t h.0) ∙ ap (more (space_at t)) (each-maps-seen ss ts h.1)
   each-maps-seen none (rose.more t ts) h = absurd h
   each-maps-seen (more s ss) rose.none h = absurd h
 
@@ -177,7 +154,7 @@ told-white_space (x ∷ y ∷ ys) how h = cc
 
 -- a type that stands for a simple type stands for that which its form tells
 module _ (l : TypeLabel) (ts : Roses TypeLabel) (simple : IsSimple (node l ts)) where
-  pub is_seen : (u : Space) → space_seen (node l ts) ≡ u → Sound u × MapsTo u (node l ts)
+  pub is_seen : (u : Space) → space_at (node l ts) ≡ u → Sound u × MapsTo u (node l ts)
   is_seen u e =
       let same = maps-seen simple.0 (node l ts) simple.2 ∙ e in
       (subst Sound same simple.1, subst (λ s. MapsTo s (node l ts)) same simple.2)

@@ -15,7 +15,8 @@ use Rattle.asn_types.specs.declared.types.Form.TheVariants as form
 use Rattle.asn_types.specs.declared.types.TypeLabel.{TypeLabel}
 use Rattle.asn_types.specs.Simples.{counting, IsPlain, ArePlain, MapsTo, MapToEach, IsSimple}
 use Rattle.asn_types.specs.Telling.{Finds}
-use Rattle.asn_types.proofs.SimpleLaws.{space_seen, first_seen, spaces_seen, is_seen}
+use Rattle.asn_types.specs.Spaces.{space_at, first_space, spaces_at}
+use Rattle.asn_types.proofs.SimpleLaws.{is_seen}
 
 -- the type with number i of a union has a member
 pub record Member (t : Rose TypeLabel) : Type 0 where
@@ -61,15 +62,15 @@ same_parts f parts others e o = cc
 
 pub union-of : (t : Rose TypeLabel) (parts : List Component) → (label_of t).form ≡ form.Choice parts → IsSimple t → Union t parts
 union-of (node l ts) parts e simple =
-    let seen : space_seen (node l ts) ≡ UnionOf (spaces_seen ts) = rw e in
-    let known = is_seen l ts simple (UnionOf (spaces_seen ts)) seen in
+    let seen : space_at (node l ts) ≡ UnionOf (spaces_at ts) = rw e in
+    let known = is_seen l ts simple (UnionOf (spaces_at ts)) seen in
     let maps = known.1 in
     record {
-      members = spaces_seen ts;
+      members = spaces_at ts;
       sound = known.0;
       marks = maps.1.1;
       plain = subst ArePlain (same_parts l.form parts maps.0 e maps.1.0) maps.2;
-      maps = subst (MapToEach (spaces_seen ts)) (sym (roses_of-list_of ts)) maps.3;
+      maps = subst (MapToEach (spaces_at ts)) (sym (roses_of-list_of ts)) maps.3;
     }
 
 pub union-maps : (t : Rose TypeLabel) (parts : List Component) (ss : Spaces) → (label_of t).form ≡ form.Choice parts → counting (label_of t).marks ≡ mark.UseUnion ∷ [] → ArePlain parts
@@ -91,15 +92,15 @@ same_part f part other least most e o = cc
 
 pub list-of : (t : Rose TypeLabel) (part : Component) (least : ℕ) (most : Option ℕ) → (label_of t).form ≡ form.SequenceOf part least most → IsSimple t → Listing t part least most
 list-of (node l rose.none) part least most e simple =
-    let seen : space_seen (node l rose.none) ≡ ListOf (first_seen rose.none) least most = rw e in
-    let known = is_seen l rose.none simple (ListOf (first_seen rose.none) least most) seen in
+    let seen : space_at (node l rose.none) ≡ ListOf (first_space rose.none) least most = rw e in
+    let known = is_seen l rose.none simple (ListOf (first_space rose.none) least most) seen in
     absurd known.1.3
 list-of (node l (rose.more t ts)) part least most e simple =
-    let seen : space_seen (node l (rose.more t ts)) ≡ ListOf (space_seen t) least most = rw e in
-    let known = is_seen l (rose.more t ts) simple (ListOf (space_seen t) least most) seen in
+    let seen : space_at (node l (rose.more t ts)) ≡ ListOf (space_at t) least most = rw e in
+    let known = is_seen l (rose.more t ts) simple (ListOf (space_at t) least most) seen in
     let maps = known.1 in
     record {
-      item = space_seen t;
+      item = space_at t;
       sound = known.0;
       marks = maps.1.1;
       plain = subst IsPlain (same_part l.form part maps.0 least most e maps.1.0) maps.2;

@@ -8,3 +8,4 @@ pub mod Samples
 pub mod Simples
 pub mod Telling
 pub mod Values
+pub mod Spaces

@@ -11,7 +11,7 @@ use Rattle.asn_types.specs.Modules.{AreWellFormed}
 use Rattle.asn_types.specs.Values as values
 
 abbrev pub place_seen : Place → values.Place
-place_seen place = record { role = place.role; type = place.node.now }
+place_seen place = record { role = place.role; part = place.part.now; type = place.node.now }
 
 -- of a value with so many kids
 abbrev pub places_seen : ℕ → Places → List values.Place

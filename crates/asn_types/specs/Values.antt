@@ -21,13 +21,14 @@ use Rattle.asn_types.specs.Refs.{resolve}
 use Rattle.asn_types.specs.Roles.{role_of}
 use Rattle.asn_types.specs.Simples.{MapsTo}
 
--- where a kid of a value stands: its type, and the role of that part
+-- where a kid of a value stands: the part, its role, and its type
 pub record Place : Type 0 where
   pub role : Role
+  pub part : Component
   pub type : Rose TypeLabel
 
 abbrev pub place_of : TypeLabel → ℕ → Component → Rose TypeLabel → Place
-place_of l i part t = record { role = role_of l i part; type = t }
+place_of l i part t = record { role = role_of l i part; part = part; type = t }
 
 abbrev pub put_first : {A : Type 0} → A → Option (List A) → Option (List A)
 put_first x None = None

@@ -13,10 +13,11 @@ use simple_values::is_at_most;
 use std::alloc::Global;
 use xa_base::Memory;
 
-/// Where a kid of a value stands: its type, and the role of that part.
+/// Where a kid of a value stands: the part, its role, and its type.
 #[derive(Drop)]
 pub(crate) struct Place<'a> {
     pub(crate) role: Role,
+    pub(crate) part: &'a Component,
     pub(crate) node: &'a Tree<TypeLabel>,
 }
 
@@ -47,7 +48,7 @@ fn is_within(lo: Option<i128>, hi: Option<i128>, n: i128) -> bool
 fn place_of<'a>(
     label: &TypeLabel,
     i: usize,
-    part: &Component,
+    part: &'a Component,
     node: &'a Tree<TypeLabel>,
 ) -> Place<'a>
     requires { i < length (parts_of label.now.form) }
@@ -55,6 +56,7 @@ fn place_of<'a>(
 {
     Place {
         role: label.role_of(i, part),
+        part,
         node,
     }
 }
@@ -63,7 +65,7 @@ fn place_of<'a>(
 fn present_places<'a>(
     alloc: Global,
     label: &TypeLabel,
-    parts: &[Component],
+    parts: &'a [Component],
     kids: &'a [Tree<TypeLabel>],
     present: &[bool],
 ) -> Result<Option<Vec<Place<'a>>>, Memory>
@@ -90,7 +92,7 @@ fn present_places<'a>(
 fn place_at<'a>(
     label: &TypeLabel,
     i: usize,
-    part: &Component,
+    part: &'a Component,
     kids: &'a [Tree<TypeLabel>],
 ) -> Option<Place<'a>>
     requires { i < length (parts_of label.now.form) }
@@ -117,7 +119,7 @@ fn no_places<'a>(alloc: Global, holds: bool) -> Option<Places<'a>>
 
 fn places_by_form<'a>(
     alloc: Global,
-    label: &TypeLabel,
+    label: &'a TypeLabel,
     kids: &'a [Tree<TypeLabel>],
     value: &ValueLabel,
     n: usize,

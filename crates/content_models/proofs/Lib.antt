@@ -2,6 +2,7 @@ pub mod Beginning
 pub mod Next
 pub mod Opening
 pub mod Placing
+pub mod Renumbering
 mod Rows
 pub mod Sets
 pub mod Splitting

@@ -8,19 +8,19 @@ use Rattle.content_models.specs.Occurring.{AllowOne, MayOccur, TermMayOccur, All
 use Rattle.content_models.specs.Laws.{Opens, Starts, LawOfFirstNames}
 use Rattle.content_models.proofs.Opening.{names-append, lang_opens}
 
-some_times : (B : ℕ → List Leaf → Type 0) → ((i : ℕ) → (w : List Leaf) × B i w) → (k i : ℕ) → (w : List Leaf) × Times B k i w
+pub some_times : (B : ℕ → List Leaf → Type 0) → ((i : ℕ) → (w : List Leaf) × B i w) → (k i : ℕ) → (w : List Leaf) × Times B k i w
 some_times B b zero i = ([], refl)
 some_times B b (suc k) i =
     let one = b i in
     let rest = some_times B b k (suc i) in
     (one.0 ++ rest.0, (one.0, rest.0, refl, one.1, rest.1))
 
-within_least : (least : ℕ) (most : Option ℕ) → AllowOne least most → Within least most least
+pub within_least : (least : ℕ) (most : Option ℕ) → AllowOne least most → Within least most least
 within_least least None b = omega arith
 within_least least (Some most) b = (omega arith, b.0)
 
 -- one occurrence, and as many more as are needed
-within_more : (least : ℕ) (most : Option ℕ) → AllowOne least most → (k : ℕ) × Within least most (suc k)
+pub within_more : (least : ℕ) (most : Option ℕ) → AllowOne least most → (k : ℕ) × Within least most (suc k)
 within_more zero None b = (0, omega arith)
 within_more zero (Some most) b = (0, (omega arith, omega (arith, b.1)))
 within_more (suc n) None b = (n, omega arith)

@@ -5,6 +5,7 @@ use Rattle.content_models.specs.Particle.{Particle}
 use Rattle.content_models.specs.Language.{Turn, Leaf, names, Lang, Viable, ComesNext}
 use Rattle.content_models.specs.Clear.{Has, first, empties, Clear}
 use Rattle.content_models.specs.Occurring.{MayOccur}
+use Rattle.content_models.specs.Undeclared.{undeclared}
 
 -- The names begin with one of the first, or there are none, where that is allowed.
 abbrev pub Opens : List Name → Bool → List Name → Type 0
@@ -51,6 +52,20 @@ Begins B follow =
 abbrev pub LawOfBeginnings : Type 0
 LawOfBeginnings = (p : Particle) (n : ℕ) (path : List Turn) → Clear p [] → (v w : List Leaf) (zs r s : List Name)
     → Lang p n path v → Lang p n path w → names v ≡ zs ++ r → names w ≡ zs ++ s → Share v w zs
+
+-- The same where names stand behind the lists: where a particle is clear before a follow, lists of it with names of the
+-- follow behind them that begin with the same names begin with the same leaves, as far as the lists go.
+abbrev pub LawOfBeginningsBeforeFollow : Type 0
+LawOfBeginningsBeforeFollow = (p : Particle) (follow : List Name) (n : ℕ) (path : List Turn) → Clear p follow → Begins (Lang p n path) follow
+
+-- A particle that may occur takes some list.
+abbrev pub LawOfSomeLists : Type 0
+LawOfSomeLists = (p : Particle) (n : ℕ) (path : List Turn) → MayOccur p → (w : List Leaf) × Lang p n path w
+
+-- Whether a content model is clear, and whether it may occur, doesn't depend on the numbers of declarations.
+abbrev pub LawOfDeclarationNumbers : Type 0
+LawOfDeclarationNumbers = (p q : Particle) → undeclared p ≡ undeclared q
+    → ((follow : List Name) → Clear p follow → Clear q follow) × (MayOccur p → MayOccur q)
 
 -- Where names and one more begin a list of a clear content model, exactly one leaf of that name comes next.
 abbrev pub LawOfNextLeaves : Type 0

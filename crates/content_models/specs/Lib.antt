@@ -7,3 +7,4 @@ pub mod Laws
 pub mod Occurring
 pub mod Particle
 pub mod Seen
+pub mod Undeclared

@@ -13,9 +13,9 @@ use std::alloc::Global;
 use std::collections::BTreeSet;
 use xa_base::{Memory, Name};
 
-// Appends the first names of a particle, and tells whether it may be empty.
+/// Appends the first names of a particle, and tells whether it may be empty.
 #[cycle(first_names)]
-pub(crate) fn push_first<'a>(
+pub fn push_first<'a>(
     tree: &'a Tree<ParticleLabel>,
     names: &mut Vec<&'a Name>,
 ) -> Result<bool, Memory>

@@ -191,8 +191,8 @@ fn plain(kind: ParticleKind, max: Option<u32>) -> ParticleLabel {
 fn member(alloc: Global, group: u32, number: u32) -> Result<Tree<ParticleLabel>, Memory> {
     let local = format!(in alloc; "name-{group}-{number}")?;
     let name = Name {
-        space: Text::from(String::new(alloc)),
-        local: Text::from(local),
+        space: Text::empty(),
+        local: Text::from_string(local)?,
     };
     let kind = ParticleKind::Element { decl: 0, name };
     Ok(Tree::leaf(alloc, plain(kind, Some(1))))

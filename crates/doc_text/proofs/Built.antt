@@ -5,7 +5,7 @@ use Rattle.std.specs.List.{flat_map}
 use Rattle.std.proofs.lemmas.List.{length-append, length-map, length-reverse, reverse-append, reverse-reverse, take-append-le, take_all}
 use Rattle.std.proofs.lemmas.Bool.Decides.{eqb_tells}
 use Rattle.label_tree.specs.Rose.{Rose, node, roses_of}
-use Rattle.xml_pieces.specs.Pieces.{Tag, Declaration, Start, Empty, End, Comment, Instruction, CData, Reference, Character}
+use Rattle.doc_pieces.specs.Pieces.{Tag, Declaration, Start, Empty, End, Comment, Instruction, CData, Reference, Character}
 use Rattle.xa_base.specs.declared.texts.Name.{Name}
 use Rattle.doc_text.specs.declared.label.ItemLabel.{ItemLabel}
 use Rattle.doc_text.specs.declared.label.ItemLabel.TheVariants.{Element}
@@ -15,11 +15,12 @@ use Rattle.doc_text.specs.declared.tags.Head.{Head}
 use Rattle.doc_text.specs.declared.error.DocWhy.{DocWhy}
 use Rattle.doc_text.specs.declared.error.DocWhy.TheVariants as why
 use Rattle.doc_text.specs.Namespaces.{xml_prefix, xml_space, bindings_of, attributes_of, element_name}
-use Rattle.doc_text.specs.Contexts.{Context, Open, is_nil, is_outside, is_white, brackets_after, scope, tag_scope, start_reason, reason, first_true, end_tests}
+use Rattle.doc_text.specs.Contexts.{Context, Open, is_nil, is_innermost, is_outside, is_white, brackets_after, scope, tag_scope, start_reason, reason, first_true, end_tests}
 use Rattle.doc_text.specs.States.{Above, State, open_of, context, kids_of_state, entering, element_of, opened, emptied, closed, passed, added}
 use Rattle.doc_text.specs.Entering.{Enters}
-use Rattle.doc_text.specs.Building.{above_of, state, Scoped, Takes, Flushed, Shuts}
+use Rattle.doc_text.specs.Building.{above_of, state, IsNamed, AreNamed, Scoped, Takes, Flushed, Shuts}
 use Rattle.doc_text.proofs.Entered.{inside_is}
+use Rattle.doc_text.proofs.OpenNames.{named_tag, ends_named}
 use Rattle.doc_text.proofs.Telling.{some_innermost, innermost_is, is_nil-map, context-added}
 
 abbrev pub aboves : List Frame → List Above
@@ -74,6 +75,10 @@ pub end_stops : (b : Builder) (written : List ℕ) → Scoped b → first_true (
 unfolding reason
 end_stops b written scoped = ap (λ (o : List (List ℕ × List ℕ)). first_true (end_tests written o (context (state b)).elements)) scoped.scope_is
 
+-- an end tag of the innermost element ends it
+pub ends_open : (b : Builder) (written : List ℕ) → Scoped b → is_innermost written (context (state b)).elements ≡ true → None ≡ first_true (end_tests written (reverse b.scope) (context (state b)).elements)
+ends_open b written scoped h = sym (ap (λ (o : List (List ℕ × List ℕ)). first_true (end_tests written o (context (state b)).elements)) scoped.scope_is ∙ ends_named written (context (state b)).elements scoped.named h)
+
 -- what is entered, as the element of the state
 entering_is : (b : Builder) (tag : Tag) (head : Head) (written : List ℕ) (at : ℕ) (before later : List (Rose ItemLabel)) → Scoped b → Enters (reverse b.scope) b.ended (length b.open.items) tag head → written ≡ tag.name → before ≡ later
     → put written head.name head.attributes head.declares at before ≡ entering tag (scope (context (state b))) at later
@@ -113,7 +118,10 @@ start_takes old mid new f head tag at scoped enters m scope_is opens f1 f2 f3 f4
     record {
       none = sym (start_stops old tag (length old.open.items) scoped refl) ∙ enters.none;
       steps = steps;
-      scoped = record { scope_is = ap reverse scope_is ∙ inside_is old.scope own ∙ ap (λ (r : List (List ℕ × List ℕ)). own ++ r) scoped.scope_is ∙ sym inner ∙ ap (λ (s : State). scope (context s)) (sym steps) };
+      scoped = record {
+        scope_is = ap reverse scope_is ∙ inside_is old.scope own ∙ ap (λ (r : List (List ℕ × List ℕ)). own ++ r) scoped.scope_is ∙ sym inner ∙ ap (λ (s : State). scope (context s)) (sym steps);
+        named = subst (λ (s : State). AreNamed (context s).elements) (sym steps) (subst (IsNamed tag.name) (ap (λ (r : List (List ℕ × List ℕ)). own ++ r) scoped.scope_is ∙ sym inner) (named_tag tag (reverse old.scope) old.ended (length old.open.items) enters.none), scoped.named);
+      };
     }
 
 -- taking bindings away again
@@ -138,7 +146,10 @@ empty_takes old mid new head tag at all count scoped enters m all_is scope_is co
     record {
       none = sym (empty_stops old tag (length old.open.items) scoped refl) ∙ enters.none;
       steps = steps;
-      scoped = record { scope_is = back ∙ scoped.scope_is ∙ ap (λ (t : State). scope (context t)) (sym steps) };
+      scoped = record {
+        scope_is = back ∙ scoped.scope_is ∙ ap (λ (t : State). scope (context t)) (sym steps);
+        named = subst (λ (t : State). AreNamed (context t).elements) (sym steps) scoped.named;
+      };
     }
 
 closing_kids : (b : Builder) → string_bytes b.text ≡ [] → kids_of_state (state b) ≡ b.kids.items
@@ -157,6 +168,7 @@ shuts old new f count empty opens scope_is count_is kids text place ends first b
         scope_is =
             ap reverse (scope_is ∙ ap (λ (n : ℕ). take (length old.scope - n) old.scope) count_is) ∙ popped old.scope f.declares (flat ++ (xml_prefix, xml_space) ∷ [])
             (scoped.scope_is ∙ ap (λ (a : List Above). flat_map (λ (e : Open). e.declares) (map open_of a) ++ (xml_prefix, xml_space) ∷ []) above ∙ append_assoc f.declares flat ((xml_prefix, xml_space) ∷ []));
+        named = (subst (λ (a : List Above). AreNamed (map open_of a)) above scoped.named).1;
       };
     }
 
@@ -180,7 +192,10 @@ pub end_takes : (old mid new : Builder) (written : List ℕ) (at : ℕ) → Scop
 end_takes old mid new written at scoped none flushed shut =
     let above : aboves mid.open.items ≡ aboves old.open.items = ap aboves flushed.same_open in
     let kids : kids_of_state (state mid) ≡ kids_of_state (state old) = closing_kids mid flushed.text ∙ flushed.kids in
-    let mid_scoped : Scoped mid = record { scope_is = ap reverse flushed.same_scope ∙ scoped.scope_is ∙ ap (λ (a : List Above). flat_map (λ (e : Open). e.declares) (map open_of a) ++ (xml_prefix, xml_space) ∷ []) (sym above) } in
+    let mid_scoped : Scoped mid = record {
+      scope_is = ap reverse flushed.same_scope ∙ scoped.scope_is ∙ ap (λ (a : List Above). flat_map (λ (e : Open). e.declares) (map open_of a) ++ (xml_prefix, xml_space) ∷ []) (sym above);
+      named = subst (λ (a : List Above). AreNamed (map open_of a)) (sym above) scoped.named;
+    } in
     let some : is_nil (aboves old.open.items) ≡ false = not_true _ (some_innermost written (aboves old.open.items) (innermost_is written (context (state old)) none)) in
     record {
       none = none;
@@ -191,8 +206,11 @@ end_takes old mid new written at scoped none flushed shut =
 pub outside_is : (b : Builder) (result : Bool) → result ≡ nat_eq (length b.open.items) 0 → result ≡ is_outside (context (state b))
 outside_is b result e = e ∙ sym (is_nil-map open_of (aboves b.open.items) ∙ is_nil-aboves b.open.items)
 
-rescoped : (old new : Builder) (s : State) → Scoped old → state new ≡ s → new.scope ≡ old.scope → scope (context s) ≡ scope (context (state old)) → Scoped new
-rescoped old new s scoped steps same kept = record { scope_is = ap reverse same ∙ scoped.scope_is ∙ sym kept ∙ ap (λ (t : State). scope (context t)) (sym steps) }
+rescoped : (old new : Builder) (s : State) → Scoped old → state new ≡ s → new.scope ≡ old.scope → (context s).elements ≡ (context (state old)).elements → Scoped new
+rescoped old new s scoped steps same kept = record {
+  scope_is = ap reverse same ∙ scoped.scope_is ∙ ap (λ (es : List Open). flat_map (λ (e : Open). e.declares) es ++ (xml_prefix, xml_space) ∷ []) (sym kept) ∙ ap (λ (t : State). scope (context t)) (sym steps);
+  named = subst (λ (t : State). AreNamed (context t).elements) (sym steps) (subst AreNamed (sym kept) scoped.named);
+}
 
 pub declaration_takes : (old new : Builder) (at : ℕ) → Scoped old → reason Declaration (context (state old)) ≡ None → state new ≡ passed (state old) → new.scope ≡ old.scope → Takes Declaration at old new
 declaration_takes old new at scoped none steps same = record { none = none; steps = steps; scoped = rescoped old new (passed (state old)) scoped steps same refl }
@@ -211,25 +229,25 @@ comment_takes old new at scoped steps same = record { none = no_comment (context
 pub instruction_takes : (old new : Builder) (at : ℕ) → Scoped old → state new ≡ passed (state old) → new.scope ≡ old.scope → Takes Instruction at old new
 instruction_takes old new at scoped steps same = record { none = no_instruction (context (state old)); steps = steps; scoped = rescoped old new (passed (state old)) scoped steps same refl }
 
-kept_scope : (text : List ℕ) (at n : ℕ) (s : State) → scope (context (added text at n s)) ≡ scope (context s)
-kept_scope text at n s = ap scope (context-added text at n s s.above refl)
+kept_open : (text : List ℕ) (at n : ℕ) (s : State) → (context (added text at n s)).elements ≡ (context s).elements
+kept_open text at n s = ap (λ (c : Context). c.elements) (context-added text at n s s.above refl)
 
 pub add_scoped : (old new : Builder) (text : List ℕ) (at n : ℕ) → Scoped old → state new ≡ added text at n (state old) → new.scope ≡ old.scope → Scoped new
-add_scoped old new text at n scoped steps same = rescoped old new (added text at n (state old)) scoped steps same (kept_scope text at n (state old))
+add_scoped old new text at n scoped steps same = rescoped old new (added text at n (state old)) scoped steps same (kept_open text at n (state old))
 
 pub cdata_stops : (b : Builder) (text : List ℕ) → reason (CData text) (context (state b)) ≡ first_true ((is_outside (context (state b)), why.TextOutside) ∷ [])
 unfolding reason
 cdata_stops b text = refl
 
 pub cdata_takes : (old new : Builder) (text : List ℕ) (at : ℕ) → Scoped old → first_true ((is_outside (context (state old)), why.TextOutside) ∷ []) ≡ None → state new ≡ added text at 0 (state old) → new.scope ≡ old.scope → Takes (CData text) at old new
-cdata_takes old new text at scoped none steps same = record { none = cdata_stops old text ∙ none; steps = steps; scoped = rescoped old new (added text at 0 (state old)) scoped steps same (kept_scope text at 0 (state old)) }
+cdata_takes old new text at scoped none steps same = record { none = cdata_stops old text ∙ none; steps = steps; scoped = rescoped old new (added text at 0 (state old)) scoped steps same (kept_open text at 0 (state old)) }
 
 pub reference_stops : (b : Builder) (code : ℕ) → reason (Reference code) (context (state b)) ≡ first_true ((is_outside (context (state b)), why.TextOutside) ∷ [])
 unfolding reason
 reference_stops b code = refl
 
 pub reference_takes : (old new : Builder) (code at : ℕ) → Scoped old → first_true ((is_outside (context (state old)), why.TextOutside) ∷ []) ≡ None → state new ≡ added (encode_utf8 code) at 0 (state old) → new.scope ≡ old.scope → Takes (Reference code) at old new
-reference_takes old new code at scoped none steps same = record { none = reference_stops old code ∙ none; steps = steps; scoped = rescoped old new (added (encode_utf8 code) at 0 (state old)) scoped steps same (kept_scope (encode_utf8 code) at 0 (state old)) }
+reference_takes old new code at scoped none steps same = record { none = reference_stops old code ∙ none; steps = steps; scoped = rescoped old new (added (encode_utf8 code) at 0 (state old)) scoped steps same (kept_open (encode_utf8 code) at 0 (state old)) }
 
 abbrev pub character_tests : Builder → ℕ → List (Bool × DocWhy)
 character_tests b code = (code == 0x3E && nat_le 2 b.brackets, why.NoPiece) ∷ (is_outside (context (state b)) && not (is_white code), why.TextOutside) ∷ []
@@ -242,5 +260,5 @@ pub character_takes : (old new : Builder) (code at n : ℕ) → Scoped old → f
 character_takes old new code at n scoped none count steps same = record {
   none = character_stops old code ∙ none;
   steps = steps ∙ ap (λ (m : ℕ). added (encode_utf8 code) at m (state old)) count;
-  scoped = rescoped old new (added (encode_utf8 code) at n (state old)) scoped steps same (kept_scope (encode_utf8 code) at n (state old));
+  scoped = rescoped old new (added (encode_utf8 code) at n (state old)) scoped steps same (kept_open (encode_utf8 code) at n (state old));
 }

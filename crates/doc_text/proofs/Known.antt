@@ -1,15 +1,15 @@
 -- What is known of pieces, from the crate of pieces.
 use Rattle.std.proofs.Common.{◌≡◌, ℕ, true, List, [], ◌∷◌, refl, sym, ap, ◌∙◌}
 use Rattle.std.specs.Prelude.{IsUtf8, encode_utf8}
-use Rattle.xml_pieces.specs.Pieces.{IsText, Piece, Declaration, Start, Empty, End, Comment, Instruction, CData, Reference, Character, Begins}
-use Rattle.xml_pieces.proofs.PieceLaws.{piece_takes, piece_again}
-use Rattle.xml_pieces.proofs.Facts.{begins_utf8, form_some, reference_xml, character_xml}
-use Rattle.xml_pieces.proofs.Fine.{AreFine, attributes_fine, cdata_fine}
+use Rattle.doc_pieces.specs.Pieces.{IsText, Piece, Declaration, Start, Empty, End, Comment, Instruction, CData, Reference, Character, Begins}
+use Rattle.doc_pieces.proofs.PieceLaws.{piece_takes, piece_again}
+use Rattle.doc_pieces.proofs.Facts.{begins_utf8, form_some, reference_xml, character_xml}
+use Rattle.doc_pieces.proofs.Fine.{AreFine, attributes_fine, cdata_fine}
 use Rattle.xa_base.specs.Characters.{is_xml_char}
 use Rattle.doc_text.specs.Sound.{has_xml_chars}
 use Rattle.doc_text.proofs.Keeping.{IsFine, fine_chars}
 use Rattle.doc_text.proofs.Soundness.{Each}
-use Rattle.xml_pieces.proofs.ReasonLaws.{none_reason_one, none_reason_some}
+use Rattle.doc_pieces.proofs.ReasonLaws.{none_reason_one, none_reason_some}
 use Rattle.doc_text.proofs.PieceLaws.{PieceLaws, Fine}
 use Rattle.std.specs.Prelude.{chars}
 use Rattle.std.specs.List.{list_all}
@@ -17,7 +17,7 @@ use Rattle.std.specs.Char.{IsScalar}
 use Rattle.std.specs.Str.{all_scalars}
 use Rattle.std.proofs.lemmas.List.{append-nil}
 use Rattle.std.proofs.lemmas.Str.{chars-encodes, IsUtf8-encode}
-use Rattle.xml_pieces.proofs.Numbers.{xml_scalar}
+use Rattle.doc_pieces.proofs.Numbers.{xml_scalar}
 
 text_fine : (text : List ℕ) → IsText text → IsFine text
 text_fine text t = record { utf8 = t.utf8; fine = t.each }

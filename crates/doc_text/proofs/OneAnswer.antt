@@ -2,7 +2,7 @@
 use Rattle.std.proofs.Common.{◌≡◌, ℕ, ◌+◌, ◌-◌, true, false, List, [], ◌∷◌, length, Some, None, refl, sym, ap, subst, ◌∙◌, arith, inl, inr}
 use Rattle.std.specs.Prelude.{IsUtf8}
 use Rattle.std.proofs.lemmas.List.{length-append}
-use Rattle.xml_pieces.specs.Pieces.{Piece, Begins}
+use Rattle.doc_pieces.specs.Pieces.{Piece, Begins}
 use Rattle.doc_text.specs.declared.error.DocWhy.{DocWhy}
 use Rattle.doc_text.specs.Contexts.{Context, reason, after}
 use Rattle.doc_text.specs.Tokens.{Token}

@@ -3,10 +3,10 @@ use Rattle.std.proofs.Common.{◌≡◌, ℕ, ◌≤◌, Bool, List, length, Som
 use Rattle.std.specs.Prelude.{IsUtf8, encode_utf8}
 use Rattle.doc_text.proofs.Keeping.{IsFine}
 use Rattle.doc_text.proofs.Soundness.{AreFine}
-use Rattle.xml_pieces.specs.Pieces.{Piece, Declaration, Start, Empty, End, Comment, Instruction, CData, Reference, Character, Begins, Form}
-use Rattle.xml_pieces.specs.Reading.{piece_at}
-use Rattle.xml_pieces.specs.Reasons.{NoneReason}
-use Rattle.xml_pieces.specs.declared.reason.NoneWhy.{NoneWhy}
+use Rattle.doc_pieces.specs.Pieces.{Piece, Declaration, Start, Empty, End, Comment, Instruction, CData, Reference, Character, Begins, Form}
+use Rattle.doc_pieces.specs.Reading.{piece_at}
+use Rattle.doc_pieces.specs.Reasons.{NoneReason}
+use Rattle.doc_pieces.specs.declared.reason.NoneWhy.{NoneWhy}
 
 -- the parts of a piece are UTF-8 of XML characters
 abbrev pub Fine : Piece → Type 0

@@ -3,8 +3,8 @@ use Rattle.std.proofs.Common.{◌≡◌, ℕ, ◌+◌, ◌≤◌, ◌<◌, Bool,
 use Rattle.std.specs.Prelude.{encode_utf8}
 use Rattle.std.proofs.lemmas.List.{length-append, length-drop}
 use Rattle.label_tree.specs.Rose.{Rose}
-use Rattle.xml_pieces.specs.Pieces.{Piece, Declaration, Start, Empty, End, Comment, Instruction, CData, Reference, Character, Begins}
-use Rattle.xml_pieces.proofs.Facts.{form_some, start_some, empty_some}
+use Rattle.doc_pieces.specs.Pieces.{Piece, Declaration, Start, Empty, End, Comment, Instruction, CData, Reference, Character, Begins}
+use Rattle.doc_pieces.proofs.Facts.{form_some, start_some, empty_some}
 use Rattle.doc_text.specs.declared.label.ItemLabel.{ItemLabel}
 use Rattle.doc_text.specs.Contexts.{Context, start, is_outside, after}
 use Rattle.doc_text.specs.Tokens.{Token, Opens, Closes, Words, tokens, join, Ascend}

@@ -3,9 +3,9 @@ use Rattle.std.proofs.Common.{◌≡◌, ◌≢◌, ℕ, ◌+◌, ◌-◌, ◌�
 use Rattle.std.specs.Prelude.{IsUtf8}
 use Rattle.std.proofs.lemmas.List.{length-append, append-nil, length-drop}
 use Rattle.label_tree.specs.Rose.{Rose, Allowed}
-use Rattle.xml_pieces.specs.Pieces.{Piece, Begins, NoPieceAt}
-use Rattle.xml_pieces.specs.Reasons.{NoneReason}
-use Rattle.xml_pieces.specs.declared.reason.NoneWhy.{NoneWhy}
+use Rattle.doc_pieces.specs.Pieces.{Piece, Begins, NoPieceAt}
+use Rattle.doc_pieces.specs.Reasons.{NoneReason}
+use Rattle.doc_pieces.specs.declared.reason.NoneWhy.{NoneWhy}
 use Rattle.doc_text.specs.declared.label.ItemLabel.{ItemLabel}
 use Rattle.doc_text.specs.declared.error.DocWhy.{DocWhy}
 use Rattle.doc_text.specs.declared.error.DocWhy.TheVariants as why

@@ -3,9 +3,9 @@ use Rattle.std.proofs.Common.{◌≡◌, ◌≢◌, ℕ, ◌≤◌, ◌<◌, Boo
 use Rattle.std.proofs.lemmas.List.{length-append, nil_from_length}
 use Rattle.std.specs.Prelude.{Result, Ok, Err, MatchResult, IfOk}
 use Rattle.label_tree.specs.Rose.{Rose}
-use Rattle.xml_pieces.specs.Pieces.{Piece, Begins, NoPieceAt}
-use Rattle.xml_pieces.specs.Reasons.{NoneReason, IsPlainRun}
-use Rattle.xml_pieces.specs.declared.reason.NoneWhy.{NoneWhy}
+use Rattle.doc_pieces.specs.Pieces.{Piece, Begins, NoPieceAt}
+use Rattle.doc_pieces.specs.Reasons.{NoneReason, IsPlainRun}
+use Rattle.doc_pieces.specs.declared.reason.NoneWhy.{NoneWhy}
 use Rattle.doc_text.specs.declared.builder.Builder.{Builder}
 use Rattle.doc_text.specs.declared.label.ItemLabel.{ItemLabel}
 use Rattle.doc_text.specs.declared.error.DocWhy.{DocWhy}
@@ -69,7 +69,3 @@ no_last false f = refl
 
 pub not_ended : (bytes rest : List ℕ) (b : Builder) → Stands bytes rest (state b) → length b.kids.items ≡ 0 → b.ended ≡ false
 not_ended bytes rest b stands none = no_last b.ended (λ e. (let r = stands.good.one e in omega (arith, none, ap length r.kids)))
-
-pub sealed : (P : Rose ItemLabel → Type 0) (root : Rose ItemLabel) (r : Result (Rose ItemLabel) DocError) → MatchResult r (λ items. items ≡ root) (λ e. ⊥) → P root → IfOk r P
-sealed P root (Ok items) e h = subst P (sym e) h
-sealed P root (Err error) e h = tt

@@ -1,5 +1,5 @@
 -- Attributes read from the last to the first, with a set of the names of those behind.
-use Rattle.std.proofs.Common.{◌≡◌, ℕ, ◌+◌, ◌-◌, ◌<◌, ◌≤◌, arith, Bool, true, false, cond, ◌||◌, List, ◌∷◌, length, map, drop, get_or, refl, sym, ap, ◌∙◌, Bor, add-one, drop-cons, nat_cmp}
+use Rattle.std.proofs.Common.{◌≡◌, ℕ, ◌+◌, ◌-◌, ◌<◌, ◌≤◌, arith, Bool, true, false, cond, ◌||◌, List, [], ◌∷◌, length, map, drop, get_or, refl, sym, ap, ◌∙◌, Bor, add-one, drop-cons, nat_cmp}
 use Rattle.std.specs.Prelude.{not}
 use Rattle.std.specs.List.{list_any}
 use Rattle.std.specs.Str.{bytes_eq}
@@ -15,8 +15,8 @@ use Rattle.std.proofs.lemmas.Map.Text.{is_eq-slice_cmp}
 use Rattle.xa_base.specs.declared.texts.Name.{Name}
 use Rattle.xa_base.specs.Names.{name_eq, name_cmp}
 use Rattle.xa_base.proofs.NameLaws.{name_eq-Decides, name_cmp_total, exact_names}
-use Rattle.xml_pieces.specs.declared.found.Attribute.{Attribute}
-use Rattle.xml_pieces.specs.Found.{attribute_of}
+use Rattle.doc_pieces.specs.declared.found.Attribute.{Attribute}
+use Rattle.doc_pieces.specs.Found.{attribute_of}
 use Rattle.doc_text.specs.Sound.{has_name}
 use Rattle.doc_text.specs.Namespaces.{written_twice, expanded_twice}
 
@@ -95,3 +95,14 @@ module _ (attributes : List (Name × List ℕ)) (n : ℕ) (x : Name × List ℕ)
       } in
       let all : drop (n - 1) attributes ≡ x ∷ drop n attributes = cut attributes (n - 1) x (within n (length attributes) lt le) ∙ rw (behind n lt) (ap (λ y. y ∷ drop n attributes) (sym here)) in
       rw all (step, found twice added _ (has_name x.0 (drop n attributes)) (expanded_twice (drop n attributes)) so_far is (has.just k))
+
+-- fewer than two
+pub few_written : (xs : List Attribute) → length xs < 2 → false ≡ written_twice (map attribute_of xs)
+few_written [] h = refl
+few_written (x ∷ []) h = refl
+few_written (x ∷ y ∷ xs) h = absurd (omega (arith, h))
+
+pub few_expanded : (xs : List (Name × List ℕ)) → length xs < 2 → false ≡ expanded_twice xs
+few_expanded [] h = refl
+few_expanded (x ∷ []) h = refl
+few_expanded (x ∷ y ∷ xs) h = absurd (omega (arith, h))

@@ -7,8 +7,8 @@ use Rattle.std.proofs.lemmas.Bool.Decides.{nat_tests}
 use Rattle.std.proofs.lemmas.List.{length-take, length-drop}
 use Rattle.std.proofs.lemmas.Str.{IsUtf8-from_is_utf8, is_utf8-from_IsUtf8, IsUtf8-from_ascii, chars-IsAscii}
 use Rattle.xa_base.specs.Characters.{is_ncname}
-use Rattle.xml_pieces.specs.Reading.{is_ascii_name}
-use Rattle.xml_pieces.proofs.AsciiNames.{ascii, named}
+use Rattle.doc_pieces.specs.Reading.{is_ascii_name}
+use Rattle.doc_pieces.proofs.AsciiNames.{ascii, named}
 use Rattle.doc_text.specs.Sound.{spells_ncname}
 use Rattle.doc_text.specs.Namespaces.{colon_at, has_colon, prefix_of, local_of, is_long}
 

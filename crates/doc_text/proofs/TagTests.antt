@@ -2,9 +2,9 @@
 use Rattle.std.proofs.Common.{◌≡◌, ℕ, Bool, true, false, cond, List, [], ◌∷◌, ◌++◌, length, map, filter, refl, sym, ap, ◌∙◌, append_assoc}
 use Rattle.std.specs.Prelude.{◌&&◌, ◌||◌, not, nat_le}
 use Rattle.std.specs.List.{list_any}
-use Rattle.xml_pieces.specs.declared.found.Attribute.{Attribute}
-use Rattle.xml_pieces.specs.declared.found.Element.{Element}
-use Rattle.xml_pieces.specs.Found.{tag_seen, attribute_of, bytes_of}
+use Rattle.doc_pieces.specs.declared.found.Attribute.{Attribute}
+use Rattle.doc_pieces.specs.declared.found.Element.{Element}
+use Rattle.doc_pieces.specs.Found.{tag_seen, attribute_of, bytes_of}
 use Rattle.doc_text.specs.Namespaces.{prefix_of, is_qname, is_long, binds, bound_prefix, bindings_of, plain_of, is_reserved, is_unbound}
 use Rattle.doc_text.specs.Contexts.{has_bad_name, has_long_name, has_reserved, has_unbound}
 use Rattle.doc_text.proofs.Lists.{any_map, any_filter}

@@ -1,9 +1,11 @@
 -- What a reader of the code has so far, as a state.
-use Rattle.std.specs.Prelude.{◌≡◌, ℕ, true, false, [], map, reverse, None, string_bytes, IsUtf8}
-use Rattle.xml_pieces.specs.Pieces.{Piece, Declaration, Start, Empty, End, Comment, Instruction, CData, Reference, Character}
+use Rattle.std.specs.Prelude.{◌≡◌, ℕ, true, false, List, [], ◌∷◌, ◌++◌, map, reverse, None, string_bytes, IsUtf8}
+use Rattle.doc_pieces.specs.Pieces.{Piece, Declaration, Start, Empty, End, Comment, Instruction, CData, Reference, Character}
 use Rattle.doc_text.specs.declared.builder.Frame.{Frame}
 use Rattle.doc_text.specs.declared.builder.Builder.{Builder}
-use Rattle.doc_text.specs.Contexts.{is_nil, scope, reason}
+use Rattle.std.specs.List.{flat_map}
+use Rattle.doc_text.specs.Namespaces.{xml_prefix, xml_space, is_qname, is_long, is_unbound, prefix_of}
+use Rattle.doc_text.specs.Contexts.{Open, is_nil, scope, reason}
 use Rattle.doc_text.specs.Entering.{have_utf8}
 use Rattle.doc_text.specs.States.{Above, State, nothing, context, kids_of_state, closed, step}
 
@@ -21,9 +23,21 @@ state b = record {
   brackets = b.brackets;
 }
 
--- the bindings at hand are those in scope
+-- nothing speaks against a name where these bindings are in scope
+pub record IsNamed (written : List ℕ) (inside : List (List ℕ × List ℕ)) : Type 0 where
+  pub qname : is_qname written ≡ true
+  pub short : is_long written ≡ false
+  pub bound : is_unbound inside (prefix_of written) ≡ false
+
+-- nor against that of each element that is open
+abbrev pub AreNamed : List Open → Type 0
+AreNamed [] = Unit {0}
+AreNamed (e ∷ es) = IsNamed e.written (flat_map (λ o. o.declares) (e ∷ es) ++ (xml_prefix, xml_space) ∷ []) × AreNamed es
+
+-- the bindings at hand are those in scope, and the elements that are open have been tested
 pub record Scoped (b : Builder) : Type 0 where
   pub scope_is : reverse b.scope ≡ scope (context (state b))
+  pub named : AreNamed (context (state b)).elements
 
 -- nothing speaks against the piece, and the reader has taken its step
 pub record Takes (p : Piece) (at : ℕ) (old new : Builder) : Type 0 where

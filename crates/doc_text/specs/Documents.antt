@@ -4,10 +4,10 @@ use Rattle.std.specs.Str.{IsValidUpTo}
 use Rattle.std.specs.Prelude.{nat_eq}
 use Rattle.std.specs.List.{starts_with}
 use Rattle.label_tree.specs.Rose.{Rose, Allowed}
-use Rattle.xml_pieces.specs.Pieces.{Tag, Piece, Declaration, Start, Empty, End, Comment, Instruction, CData, Reference, Character, Begins, NoPieceAt}
-use Rattle.xml_pieces.specs.Reasons.{NoneReason}
-use Rattle.xml_pieces.specs.declared.reason.NoneWhy.{NoneWhy}
-use Rattle.xml_pieces.specs.declared.reason.NoneWhy.TheVariants as none
+use Rattle.doc_pieces.specs.Pieces.{Tag, Piece, Declaration, Start, Empty, End, Comment, Instruction, CData, Reference, Character, Begins, NoPieceAt}
+use Rattle.doc_pieces.specs.Reasons.{NoneReason}
+use Rattle.doc_pieces.specs.declared.reason.NoneWhy.{NoneWhy}
+use Rattle.doc_pieces.specs.declared.reason.NoneWhy.TheVariants as none
 use Rattle.doc_text.specs.declared.label.ItemLabel.{ItemLabel}
 use Rattle.doc_text.specs.declared.error.DocWhy.{DocWhy}
 use Rattle.doc_text.specs.declared.error.DocWhy.TheVariants as why

@@ -9,3 +9,4 @@ pub mod States
 pub mod Entering
 pub mod Building
 pub mod Bindings
+pub mod Same

@@ -1,9 +1,9 @@
 //! What a reader has so far, and its step at each piece.
 ghost use Rattle.std.specs.Prelude.{if◌then◌else◌, cond, not, true, false, string_bytes, nat_le, encode_utf8, ◌≡◌, ◌==◌, ◌<◌, ◌≤◌, ◌&&◌, ◌∷◌, [], reverse, take, IfOk, IfErr, IsUtf8, OnOk, length};
-ghost use Rattle.xml_pieces.specs.Pieces as pieces;
-ghost use Rattle.xml_pieces.specs.Found.{seen, tag_seen, bytes_of};
+ghost use Rattle.doc_pieces.specs.Pieces as pieces;
+ghost use Rattle.doc_pieces.specs.Found.{seen, tag_seen, bytes_of};
 ghost use Rattle.std.specs.List.{prefix_len};
-ghost use Rattle.xml_pieces.specs.Reasons.{IsPlainRun, is_plain_byte};
+ghost use Rattle.doc_pieces.specs.Reasons.{IsPlainRun, is_plain_byte};
 ghost use Rattle.doc_text.specs.Contexts.{is_white, is_outside, is_innermost, first_true, end_tests, reason, scope, brackets_after};
 ghost use Rattle.doc_text.specs.States.{context, nothing, added, passed};
 ghost use Rattle.doc_text.specs.Entering.{Stopped, have_utf8};
@@ -14,12 +14,13 @@ use crate::error::{DocError, DocWhy};
 use crate::label::{Attributes, Bindings, ItemLabel};
 use crate::names::{is_long, is_qname, prefix_of};
 use crate::scope::Scope;
+use crate::short_lists::push;
 use crate::tags::{enter, is_unbound, value_of};
 use label_tree::Tree;
 use std::alloc::Global;
 use std::mem;
 use xa_base::{Memory, Name, Text};
-use xml_pieces::{Element, Found, plain_run, text_of};
+use doc_pieces::{Element, Found, plain_run, text_of};
 
 /// An element that is open, with what stands before it beside it.
 #[derive(Drop)]
@@ -100,12 +101,12 @@ impl<'a> Builder<'a> {
         if self.text.is_empty() {
             return Ok(());
         }
-        let text = String::from_str(self.alloc, self.text.as_str())?;
+        let text = Text::from_str(self.alloc, self.text.as_str())?;
         let label = ItemLabel::Text {
-            text: Text::from(text),
+            text,
             at: self.text_at,
         };
-        self.kids.push(Tree::leaf(self.alloc, label))?;
+        push(&mut self.kids, Tree::leaf(self.alloc, label))?;
         self.text.clear();
         Ok(())
     }
@@ -155,7 +156,7 @@ impl<'a> Builder<'a> {
             declares: head.declares,
             at,
         };
-        self.kids.push(Tree::leaf(self.alloc, label))?;
+        push(&mut self.kids, Tree::leaf(self.alloc, label))?;
         self.ended = self.open.is_empty();
         self.first = false;
         self.brackets = 0;
@@ -172,19 +173,21 @@ impl<'a> Builder<'a> {
         }
     }
 
+    // The name of an element that is open has been tested at its start tag.
     fn end_reason(&self, written: &[u8]) -> Option<DocWhy>
+        requires { Scoped self.now }
         ensures { result ≡ first_true (end_tests written.now (reverse self.now.scope) (context (state self.now)).elements) }
     {
-        if !is_qname(written) {
+        if self.is_open(written) {
+            None
+        } else if !is_qname(written) {
             Some(DocWhy::BadName)
         } else if is_long(written) {
             Some(DocWhy::LongName)
         } else if is_unbound(&self.scope, prefix_of(written)) {
             Some(DocWhy::UnboundPrefix)
-        } else if !self.is_open(written) {
-            Some(DocWhy::WrongEnd)
         } else {
-            None
+            Some(DocWhy::WrongEnd)
         }
     }
 
@@ -218,7 +221,7 @@ impl<'a> Builder<'a> {
             declares,
             at,
         };
-        self.kids.push(Tree::join(label, kids))?;
+        push(&mut self.kids, Tree::join(label, kids))?;
         self.ended = self.open.is_empty();
         self.first = false;
         self.brackets = 0;

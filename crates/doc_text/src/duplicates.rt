@@ -1,17 +1,20 @@
 //! What stands twice among the attributes of a tag.
 ghost use Rattle.std.specs.Prelude.{◌≡◌, map, IfOk};
-ghost use Rattle.xml_pieces.specs.Found.{attribute_of};
+ghost use Rattle.doc_pieces.specs.Found.{attribute_of};
 ghost use Rattle.doc_text.specs.Namespaces as names;
 
 use std::alloc::Global;
 use std::collections::BTreeSet;
 use xa_base::{Memory, Name, Text};
-use xml_pieces::Attribute;
+use doc_pieces::Attribute;
 
 // Whether two are written with one name.
 pub(crate) fn written_twice(alloc: Global, attributes: &[Attribute<'_>]) -> Result<bool, Memory>
     ensures { IfOk result (λ twice. twice ≡ names.written_twice (map attribute_of attributes.now)) }
 {
+    if attributes.len() < 2 {
+        return Ok(false);
+    }
     let mut later = BTreeSet::new(alloc);
     let mut twice = false;
     let mut at = attributes.len();
@@ -27,6 +30,9 @@ pub(crate) fn written_twice(alloc: Global, attributes: &[Attribute<'_>]) -> Resu
 pub(crate) fn expanded_twice(alloc: Global, attributes: &[(Name, Text)]) -> Result<bool, Memory>
     ensures { IfOk result (λ twice. twice ≡ names.expanded_twice attributes.now) }
 {
+    if attributes.len() < 2 {
+        return Ok(false);
+    }
     let mut later = BTreeSet::new(alloc);
     let mut twice = false;
     let mut at = attributes.len();

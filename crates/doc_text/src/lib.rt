@@ -11,6 +11,7 @@ mod laws;
 mod names;
 mod reader;
 mod scope;
+mod short_lists;
 mod tags;
 
 pub use bindings::prefix_at;

@@ -4,7 +4,7 @@ ghost use Rattle.doc_text.specs.Sound.{spells_ncname};
 ghost use Rattle.doc_text.specs.Namespaces as names;
 
 use xa_base::is_ncname_text;
-use xml_pieces::is_ascii_name;
+use doc_pieces::is_ascii_name;
 
 fn colon_at(written: &[u8]) -> usize
     ensures value { result ≡ names.colon_at written.now }

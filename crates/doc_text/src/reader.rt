@@ -1,6 +1,6 @@
 //! Reads documents.
-ghost use Rattle.std.specs.Prelude.{◌≡◌, ◌≤◌, length, drop, IfOk, IfErr, IsUtf8, MatchResult};
-ghost use Rattle.xml_pieces.specs.Found.{seen};
+ghost use Rattle.std.specs.Prelude.{◌≡◌, ◌≤◌, length, drop, IfOk, IfErr, IsUtf8};
+ghost use Rattle.doc_pieces.specs.Found.{seen};
 ghost use Rattle.doc_text.specs.Sound.{AreItems};
 ghost use Rattle.doc_text.specs.Tokens.{tokens, Ascend};
 ghost use Rattle.doc_text.specs.Documents.{why_of, mark_len, DocOf, Refuses};
@@ -12,7 +12,7 @@ use crate::items::Items;
 use crate::label::ItemLabel;
 use label_tree::{Tree, Whole};
 use std::alloc::Global;
-use xml_pieces::{NoneWhy, read_piece, text_of, why_none};
+use doc_pieces::{NoneWhy, read_piece, text_of, why_none};
 
 const MARK: &[u8] = b"\xEF\xBB\xBF";
 
@@ -40,14 +40,11 @@ fn why(none: NoneWhy) -> DocWhy
 }
 
 // The items that the tree is, which keeps what items keep.
-fn seal(root: Tree<ItemLabel>) -> Result<Items, DocError>
+fn seal(root: Tree<ItemLabel>) -> Items
     requires { AreItems root }
-    ensures { MatchResult result (λ items. items ≡ root) (λ _. ⊥) }
+    ensures { result ≡ root }
 {
-    match Whole::seal(root) {
-        Ok(whole) => Ok(Items::of(whole)),
-        Err(_) => Err(DocError::Memory),
-    }
+    Items::of(Whole::of(root))
 }
 
 // The items of a document that is UTF-8.
@@ -83,7 +80,7 @@ fn read_utf8(alloc: Global, bytes: &[u8]) -> Result<Items, DocError>
         rest = behind;
     }
     match builder.kids.pop() {
-        Some(root) if builder.ended => seal(root),
+        Some(root) if builder.ended => Ok(seal(root)),
         _ => Err(DocError::Syntax {
             at: bytes.len() as u64,
             why: DocWhy::Unfinished,

@@ -44,8 +44,7 @@ pub(crate) fn text_of(alloc: Global, bytes: &[u8]) -> Result<Text, Memory>
     requires { IsUtf8 bytes.now }
     ensures { IfOk result (λ text. text ≡ bytes.now) }
 {
-    let text = String::from_str(alloc, xml_pieces::text_of(bytes))?;
-    Ok(Text::from(text))
+    Text::from_str(alloc, doc_pieces::text_of(bytes))
 }
 
 impl<'a> Scope<'a> {
@@ -57,7 +56,7 @@ impl<'a> Scope<'a> {
             bindings: Vec::new(alloc),
             innermost: BTreeMap::new(alloc),
         };
-        let space = Text::from(String::from_str(alloc, XML_SPACE)?);
+        let space = Text::from_str(alloc, XML_SPACE)?;
         scope.push(b"xml", space)?;
         Ok(scope)
     }

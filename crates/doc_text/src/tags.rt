@@ -2,7 +2,7 @@
 ghost use Rattle.std.specs.List.{list_any};
 ghost use Rattle.std.specs.Option.{option_map};
 ghost use Rattle.std.specs.Prelude.{not, true, nat_le, ◌||◌, length, ◌&&◌, ◌≡◌, ◌∷◌, ◌++◌, [], map, reverse, IfOk, OnOk, IfErr};
-ghost use Rattle.xml_pieces.specs.Found.{tag_seen, attribute_of, bytes_of};
+ghost use Rattle.doc_pieces.specs.Found.{tag_seen, attribute_of, bytes_of};
 ghost use Rattle.doc_text.specs.Namespaces as names;
 ghost use Rattle.doc_text.specs.Contexts as contexts;
 ghost use Rattle.doc_text.specs.Entering.{Enters, Stopped, have_utf8, are_named};
@@ -13,9 +13,10 @@ use crate::error::{DocError, DocWhy};
 use crate::label::{Attributes, Bindings};
 use crate::names::{binds, bound_prefix, is_long, is_qname, is_reserved, local_of, prefix_of};
 use crate::scope::{Scope, text_of};
+use crate::short_lists::push;
 use std::alloc::Global;
 use xa_base::{Memory, Name, Text};
-use xml_pieces::{Attribute, Element, Value};
+use doc_pieces::{Attribute, Element, Value};
 
 pub(crate) fn value_of<'v>(value: &'v Value<'_>) -> &'v [u8]
     ensures { result.now ≡ bytes_of value.now }
@@ -112,7 +113,7 @@ fn copy_space(alloc: Global, space: Option<&Text>) -> Result<Text, Memory>
 {
     match space {
         Some(space) => space.copy(alloc),
-        None => Ok(Text::from(String::new(alloc))),
+        None => Ok(Text::empty()),
     }
 }
 
@@ -166,8 +167,9 @@ fn read_attributes(
         }
         let name = attribute_name(alloc, scope, attribute.name)?;
         let value = text_of(alloc, value_of(&attribute.value))?;
-        all.push((name, value))?;
+        push(&mut all, (name, value))?;
     }
+    all.shrink_to_fit();
     Ok(all)
 }
 
@@ -185,8 +187,9 @@ fn read_bindings(alloc: Global, attributes: &[Attribute<'_>]) -> Result<Vec<(Tex
         }
         let prefix = text_of(alloc, bound_prefix(attribute.name))?;
         let space = text_of(alloc, value_of(&attribute.value))?;
-        all.push((prefix, space))?;
+        push(&mut all, (prefix, space))?;
     }
+    all.shrink_to_fit();
     Ok(all)
 }
 

@@ -10,7 +10,7 @@ use Rattle.std.proofs.lemmas.List.{map-append}
 use Rattle.std.proofs.lemmas.Slice.Eq.{bytes_eq-Decides}
 use Rattle.std.proofs.lemmas.Map.Text.{btree_map_updates_str}
 use Rattle.doc_text.specs.Sound.{is_empty}
-use Rattle.written_text.specs.Spaces.{xml_space}
+use Rattle.doc_written.specs.Spaces.{xml_space}
 use Rattle.doc_write.specs.declared.prefixes.Prefix.{Prefix}
 use Rattle.doc_write.specs.Binding.{prefix_text, entry_of, Indexed, is_bound}
 

@@ -10,12 +10,12 @@ use Rattle.label_tree.proofs.Kids.{roses_of-drop}
 use Rattle.doc_text.specs.declared.label.ItemLabel.{ItemLabel}
 use Rattle.doc_text.specs.declared.label.ItemLabel.TheVariants.{Element, Text}
 use Rattle.doc_text.specs.Sound.{AreItems}
-use Rattle.read_back.specs.ReadBack.{ReadsAs}
-use Rattle.read_back.proofs.Document.{read_back}
+use Rattle.doc_written.specs.ReadBack.{ReadsAs}
+use Rattle.doc_written.proofs.Document.{read_back}
 use Rattle.doc_write.specs.declared.prefixes.Prefix.{Prefix}
-use Rattle.written_text.specs.Spaces.{prefixes, attribute_spaces, label_spaces, spaces, all_spaces}
+use Rattle.doc_written.specs.Spaces.{prefixes, attribute_spaces, label_spaces, spaces, all_spaces}
 use Rattle.doc_write.specs.Binding.{entry_of, with_space, with_spaces}
-use Rattle.written_text.specs.Written.{text_escape, written_start, written_end, written_element, written_declaration, xml_declaration, spelled, all_spelled, written}
+use Rattle.doc_written.specs.Written.{text_escape, written_start, written_end, written_element, written_declaration, xml_declaration, spelled, all_spelled, written}
 
 pub drop-item : {A : Type 0} (xs : List A) (i : ℕ) (x : A) → i < length xs → x ≡ get_or xs i x → drop i xs ≡ x ∷ drop (i + 1) xs
 drop-item xs i x at here = drop_more xs i x at ∙ ap (λ y. y ∷ drop (i + 1) xs) (sym here)

@@ -1,5 +1,5 @@
 -- Namespaces bound one after another, as they are found. A table has namespaces, each with its prefix. Only private
--- contracts use this: `prefixes` of written_text says what is written.
+-- contracts use this: `prefixes` of doc_written says what is written.
 use Rattle.std.specs.Prelude.{◌≡◌, ℕ, ◌+◌, ◌-◌, List, [], ◌∷◌, ◌++◌, length, map, fold, Bool, ◌||◌, is_some, if◌then◌else◌, codes, decimal, bytes_eq}
 use Rattle.std.specs.Borrow.{Bor}
 use Rattle.std.specs.Ordering.{nat_cmp}
@@ -10,7 +10,7 @@ use Rattle.std.specs.Option.{option_map}
 use Rattle.doc_text.specs.Sound.{is_empty}
 use Rattle.doc_write.specs.declared.prefixes.Prefix.{Prefix}
 use Rattle.doc_write.specs.declared.prefixes.Prefix.TheVariants.{Xsi, Numbered}
-use Rattle.written_text.specs.Spaces.{xml_space, xsi_space}
+use Rattle.doc_written.specs.Spaces.{xml_space, xsi_space}
 
 abbrev pub prefix_text : Prefix → List ℕ
 prefix_text Xsi = codes "xsi"

@@ -2,7 +2,7 @@
 use Rattle.std.specs.Prelude.{ℕ, List}
 use Rattle.doc_write.specs.declared.writing.Place.{Place}
 use Rattle.doc_write.specs.declared.writing.Place.TheVariants as places
-use Rattle.written_text.specs.Written.{text_escape, value_escape}
+use Rattle.doc_written.specs.Written.{text_escape, value_escape}
 
 abbrev pub escape_in : Place → ℕ → List ℕ
 escape_in places.Content = text_escape

@@ -2,7 +2,7 @@
 ghost use Rattle.std.specs.Prelude.{◌≡◌, ◌++◌, [], map, OnOk, bytes_eq};
 ghost use Rattle.std.specs.Option.{option_map};
 ghost use Rattle.std.specs.Map.{lookup};
-ghost use Rattle.written_text.specs.Spaces.{attribute_spaces, label_spaces, spaces, prefix_for};
+ghost use Rattle.doc_written.specs.Spaces.{attribute_spaces, label_spaces, spaces, prefix_for};
 ghost use Rattle.doc_write.specs.Binding.{prefix_text, entry_of, next_prefix, is_bound, with_space, with_spaces};
 
 use doc_text::{Attributes, ItemLabel};

@@ -1,8 +1,8 @@
 //! Writes the text of items.
 ghost use Rattle.std.specs.Prelude.{◌≡◌, ◌≤◌, ◌++◌, ◌∷◌, [], map, length, IfOk, IfSome, IfNone, OnOk};
 ghost use Rattle.std.specs.List.{flat_map};
-ghost use Rattle.written_text.specs.Written.{written_name, written_value, written_attribute, written_declaration, written_start, written_end, spelled, written};
-ghost use Rattle.read_back.specs.ReadBack.{ReadsAs};
+ghost use Rattle.doc_written.specs.Written.{written_name, written_value, written_attribute, written_declaration, written_start, written_end, spelled, written};
+ghost use Rattle.doc_written.specs.ReadBack.{ReadsAs};
 ghost use Rattle.doc_write.specs.Escapes.{escape_in};
 ghost use Rattle.doc_write.specs.Binding.{prefix_text, entry_of};
 

@@ -13,7 +13,7 @@ use std::test::Fail;
 use xa_base::{Memory, Text};
 
 fn text(alloc: Global, s: &str) -> Result<Text, Memory> {
-    Ok(Text::from(String::from_str(alloc, s)?))
+    Text::from_str(alloc, s)
 }
 
 /// The facet with this name in a schema.

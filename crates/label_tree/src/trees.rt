@@ -1,5 +1,5 @@
 //! Trees of labels.
-ghost use Rattle.std.specs.Prelude.{◌≡◌, ◌<◌, [], Some, IfOk, MatchOption, length, slice_get};
+ghost use Rattle.std.specs.Prelude.{◌≡◌, ◌<◌, ◌↔◌, [], Some, IfOk, IsTrue, length, slice_get};
 ghost use Rattle.label_tree.specs.Rose.{node, roses_of, label_of, kids_of, Allowed, shown_count, shown_depth};
 
 use crate::shapes::Shape;
@@ -75,6 +75,31 @@ impl<L> Tree<L> {
         &self.kids()[i]
     }
 
+    /// The number of nodes, of which it visits each. 2^64 - 1 stands for that number and every greater one.
+    pub fn count(&self) -> u64
+        ensures { result ≡ shown_count self.now }
+    {
+        let kids = self.kids.as_slice();
+        let mut count: u64 = 1;
+        for kid in kids {
+            count = count.saturating_add(kid.count());
+        }
+        count
+    }
+
+    /// The number of levels, which is 1 for a leaf. 2^32 - 1 stands for that number and every greater one. It visits
+    /// each node.
+    pub fn depth(&self) -> u32
+        ensures { result ≡ shown_depth self.now }
+    {
+        let kids = self.kids.as_slice();
+        let mut depth: u32 = 0;
+        for kid in kids {
+            depth = depth.max(kid.depth());
+        }
+        depth.saturating_add(1)
+    }
+
     /// The label and the kids of the root.
     pub fn into_parts(self) -> (L, Vec<Tree<L>>)
         ensures label { result.0 ≡ label_of self }
@@ -102,27 +127,19 @@ impl<L: Shape> Tree<L> {
         })
     }
 
-    /// The number of nodes and the depth, each at most its type's greatest number. None where some node's kids
-    /// aren't allowed.
-    pub(crate) fn measure(&self) -> Option<(u64, u32)>
-        ensures { MatchOption result
-            (Allowed L.allowed self.now → ⊥)
-            (λ found. Allowed L.allowed self.now × (found.0 ≡ shown_count self.now) × (found.1 ≡ shown_depth self.now)) }
+    /// Whether the label of each node allows its number of kids.
+    pub(crate) fn is_allowed(&self) -> bool
+        ensures { IsTrue result ↔ Allowed L.allowed self.now }
     {
         let kids = self.kids.as_slice();
         if !self.label.allows(kids.len() as u64) {
-            return None;
+            return false;
         }
-        let mut count: u64 = 1;
-        let mut depth: u32 = 0;
         for kid in kids {
-            let (below, deep) = match kid.measure() {
-                None => return None,
-                Some(found) => found,
-            };
-            count = count.saturating_add(below);
-            depth = depth.max(deep);
+            if !kid.is_allowed() {
+                return false;
+            }
         }
-        Some((count, depth.saturating_add(1)))
+        true
     }
 }

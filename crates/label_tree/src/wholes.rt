@@ -8,17 +8,15 @@ use std::alloc::Global;
 use std::marker::Model;
 use xa_base::Memory;
 
-/// A tree in which the label of each node allows its number of kids, with its count and its depth.
+/// A tree in which the label of each node allows its number of kids, with its count and its depth, which are
+/// counted when they are asked for.
 #[derive(Drop)]
 pub struct Whole<L: Shape> {
     tree: Tree<L>,
-    count: u64,
-    depth: u32,
 }
 
 impl<L: Shape> Model for Whole<L> {
-    ghost use Rattle.std.specs.Prelude.{◌≡◌};
-    ghost use Rattle.label_tree.specs.Rose.{Rose, coded_rose, Allowed, shown_count, shown_depth};
+    ghost use Rattle.label_tree.specs.Rose.{Rose, coded_rose, Allowed};
 
     ghost Value = { Rose L };
 
@@ -26,19 +24,28 @@ impl<L: Shape> Model for Whole<L> {
 
     ghost view = { λ a. a.tree };
 
-    ghost invariant = { λ a. Allowed L.allowed a.tree × (a.count ≡ shown_count a.tree) × (a.depth ≡ shown_depth a.tree) };
+    ghost invariant = { λ a. Allowed L.allowed a.tree };
 }
 
 impl<L: Shape> Whole<L> {
-    /// Counts a tree. Hands it back exactly where some node's kids aren't allowed.
+    /// The tree, of which the caller knows that it is allowed. It takes no time.
+    pub fn of(tree: Tree<L>) -> Whole<L>
+        requires { Allowed L.allowed tree }
+        ensures { result ≡ tree }
+    {
+        Whole { tree }
+    }
+
+    /// Tests a tree. Hands it back exactly where some node's kids aren't allowed.
     pub fn seal(tree: Tree<L>) -> Result<Whole<L>, Tree<L>>
         ensures { MatchResult result
             (λ whole. Allowed L.allowed tree × (whole ≡ tree))
             (λ back. (Allowed L.allowed tree → ⊥) × (back ≡ tree)) }
     {
-        match tree.measure() {
-            None => Err(tree),
-            Some((count, depth)) => Ok(Whole { tree, count, depth }),
+        if tree.is_allowed() {
+            Ok(Whole { tree })
+        } else {
+            Err(tree)
         }
     }
 
@@ -54,14 +61,14 @@ impl<L: Shape> Whole<L> {
     pub fn count(&self) -> u64
         ensures { result ≡ shown_count self.now }
     {
-        self.count
+        self.tree.count()
     }
 
     /// The number of levels, which is 1 for a leaf. 2^32 - 1 stands for that number and every greater one.
     pub fn depth(&self) -> u32
         ensures { result ≡ shown_depth self.now }
     {
-        self.depth
+        self.tree.depth()
     }
 
     /// An equal tree.
@@ -69,11 +76,7 @@ impl<L: Shape> Whole<L> {
         ensures { IfOk result (λ whole. whole ≡ self.now) }
     {
         let tree = self.tree.copy(alloc)?;
-        Ok(Whole {
-            tree,
-            count: self.count,
-            depth: self.depth,
-        })
+        Ok(Whole { tree })
     }
 
     /// The tree alone.

@@ -151,7 +151,7 @@ body-refers s (subject.Nillable n) = in-place-refers s (λ v. depth_of v < 1) (�
 
 -- ---- plans
 
-found : {X : Type 0} (xs : List X) (i : ℕ) → i < length xs → (x : X) × (slice_get xs i ≡ Some x)
+pub found : {X : Type 0} (xs : List X) (i : ℕ) → i < length xs → (x : X) × (slice_get xs i ≡ Some x)
 found [] i below = absurd (omega (arith, below))
 found (x ∷ xs) zero below = (x, refl)
 found (x ∷ xs) (suc i) below = found xs i (omega (arith, below))
@@ -176,7 +176,7 @@ attributes-no_elements : (s : Set) (us : List AttributeUse) (rest : Parts) → N
 attributes-no_elements s [] rest e = e
 attributes-no_elements s (u ∷ us) rest e = (refl, attributes-no_elements s us rest e)
 
-attributes-count : (s : Set) (us : List AttributeUse) (rest : Parts) → count_parts (attributes s us rest) ≡ length us + count_parts rest
+pub attributes-count : (s : Set) (us : List AttributeUse) (rest : Parts) → count_parts (attributes s us rest) ≡ length us + count_parts rest
 attributes-count s [] rest = omega arith
 attributes-count s (u ∷ us) rest = let h = attributes-count s us rest in omega (arith, h)
 
@@ -264,7 +264,7 @@ module _ (s : Set) (linked : IsLinked s) where
   nillable-simple-plan : (n : ℕ) → IsPlan s (nillable_simple_type s n)
   nillable-simple-plan n = (((λ e. (refl, (refl, tt))), (λ e. never _ e)), omega arith, (simple-plan n, (λ e. never _ e), tt))
 
-  nillable-has : (n i : ℕ) (e : ElementDecl) → slice_get s.elements i ≡ Some e → e.nillable ≡ true → e.kind ≡ kind.Complex n → has_nillable s n ≡ true
+  pub nillable-has : (n i : ℕ) (e : ElementDecl) → slice_get s.elements i ≡ Some e → e.nillable ≡ true → e.kind ≡ kind.Complex n → has_nillable s n ≡ true
   nillable-has n i e got b k =
       let same : nat_eq n n ≡ true = elim (eqb_tells n n) [ inl h ↦ h.0 | inr h ↦ absurd (h.1 refl) ] in
       any_passes_from_place (is_nillable_of n) s.elements i e got

@@ -43,10 +43,10 @@ picked-element a u c d e f ha hu hc hd he hf =
     ∙ ap (λ b. picked false false false b e f) hd ∙ ap (λ b. picked false false false false b f) he ∙ ap (λ b. picked false false false false false b) hf
 
 -- such a component has the role of an element
-abbrev MakesElement : TypeLabel → ℕ → Type 0
+abbrev pub MakesElement : TypeLabel → ℕ → Type 0
 MakesElement l i = (c : Component) → has_attribute c.marks ≡ false → has_untagged c.marks ≡ false → is_item l.form c ≡ false → role_of l i c ≡ Element
 
-makes-element : (l : TypeLabel) (i : ℕ) → has_use_nil l.marks ≡ false → has_use_union l.marks ≡ false → is_embed l i ≡ false → MakesElement l i
+pub makes-element : (l : TypeLabel) (i : ℕ) → has_use_nil l.marks ≡ false → has_use_union l.marks ≡ false → is_embed l i ≡ false → MakesElement l i
 makes-element l i nil union embed c a u it =
     picked-element (has_attribute c.marks) (has_untagged c.marks) (is_content l i) (is_embed l i) (is_item l.form c) (has_use_union l.marks)
     a u (ap (λ b. b && (i + 1 == length (parts_of l.form))) nil) embed it union
@@ -64,11 +64,11 @@ roles-from l i finish nil union embed = tt
 roles-from l i (part k optional p ps) nil union embed =
     ((λ e. makes-element l i nil union (embed i (omega arith))), roles-from l (i + 1) ps nil union (λ j below. embed j (omega (arith, below))))
 
-and-false : (b : Bool) → (b && false) ≡ false
+pub and-false : (b : Bool) → (b && false) ≡ false
 and-false true = refl
 and-false false = refl
 
-not-first : (j : ℕ) → 0 < j → (j == 0) ≡ false
+pub not-first : (j : ℕ) → 0 < j → (j == 0) ≡ false
 not-first j below = elim (eqb_tells j 0) [
   | inl h ↦ absurd (omega (arith, below, h.1))
   | inr h ↦ h.0
@@ -114,7 +114,7 @@ element-filled item e = absurd cc
 element-filled base e = absurd cc
 element-filled content e = absurd cc
 
-repeated-element : (l : Label) (least : ℕ) (most : Option ℕ) → is_element_label l ≡ true → role_of (type_label (form.SequenceOf (repeated_part l) least most) []) 0 (repeated_part l) ≡ Element
+pub repeated-element : (l : Label) (least : ℕ) (most : Option ℕ) → is_element_label l ≡ true → role_of (type_label (form.SequenceOf (repeated_part l) least most) []) 0 (repeated_part l) ≡ Element
 repeated-element l least most e =
     makes-element (type_label (form.SequenceOf (repeated_part l) least most) []) 0 refl refl refl (repeated_part l)
     (element-no_attribute l (wanted l) e) (element-tagged l (wanted l) e) (element-filled l e)

@@ -1,12 +1,12 @@
-mod Shapes
-mod Marked
-mod Resolving
-mod Places
-mod Chains
-mod Formed
-mod Planned
-mod Bodies
-mod Whole
+pub mod Shapes
+pub mod Marked
+pub mod Resolving
+pub mod Places
+pub mod Chains
+pub mod Formed
+pub mod Planned
+pub mod Bodies
+pub mod Whole
 mod Sample
 pub mod Once
 pub mod SameSets

@@ -16,8 +16,8 @@ use xa_base::{Memory, Name, Text, WhiteSpace};
 fn name(alloc: Global, space: &str, local: &str) -> Result<Name, Memory>
     ensures { IfOk result (λ name. name ≡ qualified space.now local.now) }
 {
-    let space = Text::from(String::from_str(alloc, space)?);
-    let local = Text::from(String::from_str(alloc, local)?);
+    let space = Text::from_str(alloc, space)?;
+    let local = Text::from_str(alloc, local)?;
     Ok(Name { space, local })
 }
 
@@ -54,8 +54,8 @@ fn elements(alloc: Global) -> Result<Vec<ElementDecl>, Memory>
 fn words(alloc: Global) -> Result<TextList, Memory>
     ensures { IfOk result (λ made. made ≡ words) }
 {
-    let quoted = Text::from(String::from_str(alloc, "a\"b")?);
-    let plain = Text::from(String::from_str(alloc, "ab")?);
+    let quoted = Text::from_str(alloc, "a\"b")?;
+    let plain = Text::from_str(alloc, "ab")?;
     let entries = vec![in alloc; quoted, plain]?;
     Ok(TextList::of(entries))
 }

@@ -74,7 +74,7 @@ fn reference_at(alloc: Global, made: &[Assignment], n: u32) -> Result<Text, Memo
 {
     match made.get(n as usize) {
         Some(assignment) => assignment.reference.copy(alloc),
-        None => Ok(Text::from(String::new(alloc))),
+        None => Ok(Text::empty()),
     }
 }
 
@@ -94,7 +94,7 @@ fn wanted_reference(
     let reference = reference_at(alloc, made, places.of(Subject::Complex(n)))?;
     let mut text = String::from_str(alloc, reference.as_str())?;
     text.push_str("-nillable")?;
-    Ok(Text::from(text))
+    Text::from_string(text)
 }
 
 // A type whose parts have their types.

@@ -25,7 +25,7 @@ use xa_base::{Memory, Text};
 fn text(alloc: Global, text: &str) -> Result<Text, Memory>
     ensures { IfOk result (λ made. made ≡ text.now) }
 {
-    Ok(Text::from(String::from_str(alloc, text)?))
+    Text::from_str(alloc, text)
 }
 
 fn untagged(alloc: Global) -> Result<Marks, Memory>
@@ -90,7 +90,7 @@ fn list_name_of(alloc: Global, kind: &ParticleKind) -> Result<Text, Memory>
     let name = name_of(alloc, kind)?;
     let mut made = String::from_str(alloc, name.as_str())?;
     made.push_str("-list")?;
-    Ok(Text::from(made))
+    Text::from_string(made)
 }
 
 // The part of a SEQUENCE OF such occurrences.
@@ -211,7 +211,7 @@ fn texts_type(alloc: Global) -> Result<Tree<TypeLabel>, Memory>
     let marks = Marks::of(Vec::new(alloc));
     let text = Tree::leaf(alloc, TypeLabel { form, marks });
     let part = Component {
-        identifier: Text::from(String::new(alloc)),
+        identifier: Text::empty(),
         optional: false,
         marks: Marks::of(Vec::new(alloc)),
     };

@@ -80,7 +80,7 @@ fn list_type(
     ensures { IfOk result (λ made. made ≡ node (type_label (Form.SequenceOf list_item min max) (Instruction.List ∷ [])) (rose.more item rose.none)) }
 {
     let marks = one_mark(alloc, Instruction::List)?;
-    let part = unmarked(alloc, Text::from(String::new(alloc)));
+    let part = unmarked(alloc, Text::empty());
     let form = Form::SequenceOf { part, min, max };
     let kids = vec![in alloc; item]?;
     Ok(Tree::join(TypeLabel { form, marks }, kids))
@@ -91,7 +91,7 @@ fn next_alternative(alloc: Global, scope: &mut Scope) -> Result<Text, Memory>
     ensures taken { IfOk result (λ name. IsTaken Identifier scope.old (codes "alt") name) }
     ensures noted { IfOk result (λ name. scope.new ≡ scope.old ++ name ∷ []) }
 {
-    let name = Text::from(String::from_str(alloc, "alt")?);
+    let name = Text::from_str(alloc, "alt")?;
     scope.take(NameKind::Identifier, &name)
 }
 

@@ -34,7 +34,7 @@ fn name_tokens(rt: HostRuntime) -> Result<(), Fail> {
 fn text(alloc: Global, bytes: &str) -> Result<Text, Memory>
     ensures { IfOk result (λ text. text ≡ bytes.now) }
 {
-    Ok(Text::from(String::from_str(alloc, bytes)?))
+    Text::from_str(alloc, bytes)
 }
 
 // The name `flag`, without a namespace.

@@ -53,7 +53,7 @@ fn number_identifier(alloc: Global, n: i128) -> Result<Text, AllocError>
 {
     let mut identifier = String::from_str(alloc, "int")?;
     identifier.push_str(Buffer::new().format(n))?;
-    Ok(Text::from(identifier))
+    Text::from_string(identifier)
 }
 
 // The text of an item with this identifier.
@@ -83,7 +83,7 @@ fn write_item(out: &mut Vec<u8>, form: &Form, item: u32, text: &Text) -> Result<
         }
         _ => {}
     }
-    write_as_item(out, &Text::from(String::new(alloc)), text)
+    write_as_item(out, &Text::empty(), text)
 }
 
 fn write_text(out: &mut Vec<u8>, form: &Form, item: u32, text: &Text) -> Result<(), AllocError>

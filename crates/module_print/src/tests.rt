@@ -59,7 +59,7 @@ enum Step {
 }
 
 fn text_of(alloc: Global, text: &str) -> Result<Text, Memory> {
-    Ok(Text::from(String::from_str(alloc, text)?))
+    Text::from_str(alloc, text)
 }
 
 fn texts_of(alloc: Global, texts: &[&str]) -> Result<TextList, Memory> {

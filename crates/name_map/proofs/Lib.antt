@@ -1,2 +1,2 @@
 mod Converting
-mod Apart
+pub mod Apart

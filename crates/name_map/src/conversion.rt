@@ -83,5 +83,5 @@ pub fn convert(alloc: Global, kind: NameKind, name: &Text) -> Result<Text, Memor
     if made.is_empty() {
         made.push(letter_x(kind))?;
     }
-    Ok(Text::from(made))
+    Text::from_string(made)
 }

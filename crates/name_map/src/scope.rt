@@ -36,7 +36,7 @@ impl Model for Scope {
 fn with_suffix(alloc: Global, name: &Text, n: u64) -> Result<Text, Memory>
     ensures { IfOk result (λ text. text ≡ suffixed name.now n) }
 {
-    Ok(Text::from(format!(in alloc; "{}-{n}", name.as_str())?))
+    Text::from_string(format!(in alloc; "{}-{n}", name.as_str())?)
 }
 
 // The name with the first suffix, from this one on, that makes it none of the names.

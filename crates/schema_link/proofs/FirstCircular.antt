@@ -3,15 +3,15 @@ use Rattle.std.proofs.Common.{◌≡◌, ℕ, zero, suc, ◌+◌, ◌<◌, ◌�
 use Rattle.std.proofs.Math.ListN.{length-set}
 use Rattle.std.proofs.lemmas.List.{length-replicate}
 use Rattle.std.proofs.lemmas.Bool.{cases_Bool, cases_lt, cases_eq, true≢false}
-use Rattle.schema_names.specs.declared.faults.LinkWhy.TheVariants.{CircularType}
-use Rattle.schema_names.specs.Order.{fault, earlier}
-use Rattle.type_cycles.specs.Cycles.{edges, IsCircularBelow, IsCircularOf}
-use Rattle.type_cycles.specs.Graphs.{row, IsIn, IsEdge, Leads, IsOnCycle}
-use Rattle.type_cycles.specs.Searching.{mark, unseen}
-use Rattle.type_cycles.specs.SimpleTypes.{SimpleDefinition}
-use Rattle.type_cycles.proofs.First.{next_step, at_end, none_below}
-use Rattle.type_cycles.proofs.Walks.{set_parts, set_less, unmarked}
-use Rattle.simple_making.proofs.Uniqueness.{some_at, unseen_most}
+use Rattle.link_names.specs.declared.faults.LinkWhy.TheVariants.{CircularType}
+use Rattle.link_names.specs.Order.{fault, earlier}
+use Rattle.link_cycles.specs.Cycles.{edges, IsCircularBelow, IsCircularOf}
+use Rattle.link_cycles.specs.Graphs.{row, IsIn, IsEdge, Leads, IsOnCycle}
+use Rattle.link_cycles.specs.Searching.{mark, unseen}
+use Rattle.link_cycles.specs.SimpleTypes.{SimpleDefinition}
+use Rattle.link_cycles.proofs.First.{next_step, at_end, none_below}
+use Rattle.link_cycles.proofs.Walks.{set_parts, set_less, unmarked}
+use Rattle.link_simple.proofs.Uniqueness.{some_at, unseen_most}
 use Rattle.schema_link.proofs.Firsts.{SomeFirst}
 
 row_within : (g : List (List ℕ)) (n m : ℕ) → IsIn (row g n) m → n < length g

@@ -17,13 +17,13 @@ use Rattle.content_models.specs.declared.breaches.Breach.{Breach}
 use Rattle.content_models.specs.declared.particles.ParticleLabel.{ParticleLabel}
 use Rattle.content_models.proofs.Telling.{decides_clear}
 use Rattle.schema_parts.specs.Raw.{Document}
-use Rattle.schema_names.specs.declared.places.Place.{Place}
-use Rattle.schema_names.specs.declared.faults.LinkWhy.TheVariants.{NotClear, TypesDiffer}
-use Rattle.schema_names.specs.Order.{place, fault, is_before}
-use Rattle.complex_rules.specs.ComplexTypes.{complex_types, of_document, model_of}
-use Rattle.complex_rules.specs.Content.{BreaksIn, IsUnclearType, IsUnclear}
-use Rattle.complex_rules.specs.ElementTypes.{TypeIdentity, BuiltIn, ByName, InPlace, TypedParticle, typed_particles, typed_elements, type_named, type_at, IsIn, IsOtherAt, HasOtherIn, HasOtherOf, DiffersIn, Differs}
-use Rattle.complex_rules.proofs.Clearing.{some_answered, none_answered}
+use Rattle.link_names.specs.declared.places.Place.{Place}
+use Rattle.link_names.specs.declared.faults.LinkWhy.TheVariants.{NotClear, TypesDiffer}
+use Rattle.link_names.specs.Order.{place, fault, is_before}
+use Rattle.link_complex.specs.ComplexTypes.{complex_types, of_document, model_of}
+use Rattle.link_complex.specs.Content.{BreaksIn, IsUnclearType, IsUnclear}
+use Rattle.link_complex.specs.ElementTypes.{TypeIdentity, BuiltIn, ByName, InPlace, TypedParticle, typed_particles, typed_elements, type_named, type_at, IsIn, IsOtherAt, HasOtherIn, HasOtherOf, DiffersIn, Differs}
+use Rattle.link_complex.proofs.Clearing.{some_answered, none_answered}
 use Rattle.schema_link.proofs.Firsts.{SomeFirst, some_of_none, some_of_one, some_of_all}
 
 abbrev Told : Type 0 → Type 0

@@ -5,15 +5,15 @@ use Rattle.std.specs.Result.{is_ok}
 use Rattle.std.proofs.lemmas.Bool.{true≢false}
 use Rattle.simple_types.specs.Space.{Space}
 use Rattle.schema_parts.specs.Raw.{Document}
-use Rattle.schema_names.specs.declared.faults.Fault.{Fault}
-use Rattle.schema_names.specs.declared.faults.LinkWhy.{LinkWhy}
-use Rattle.schema_names.specs.Order.{fault, OneHas, IsFirstSuch}
-use Rattle.type_cycles.specs.Cycles.{numbers_in, IsCircular}
-use Rattle.type_cycles.specs.SimpleTypes.{SimpleDefinition, simple_types}
-use Rattle.simple_making.specs.Making.{IsLeft, IsMaking, IsNotMadeOf, IsNotMade}
-use Rattle.simple_making.proofs.Existence.{some_left, some_making}
-use Rattle.simple_making.proofs.Once.{once}
-use Rattle.simple_making.proofs.Uniqueness.{one_making}
+use Rattle.link_names.specs.declared.faults.Fault.{Fault}
+use Rattle.link_names.specs.declared.faults.LinkWhy.{LinkWhy}
+use Rattle.link_names.specs.Order.{fault, OneHas, IsFirstSuch}
+use Rattle.link_cycles.specs.Cycles.{numbers_in, IsCircular}
+use Rattle.link_cycles.specs.SimpleTypes.{SimpleDefinition, simple_types}
+use Rattle.link_simple.specs.Making.{IsLeft, IsMaking, IsNotMadeOf, IsNotMade}
+use Rattle.link_simple.proofs.Existence.{some_left, some_making}
+use Rattle.link_simple.proofs.Once.{once}
+use Rattle.link_simple.proofs.Uniqueness.{one_making}
 use Rattle.schema_link.proofs.Firsts.{SomeFirst, some_of_none, some_of_one, some_of_all, some_of_same}
 
 ok≢err : (s : Space) (w : LinkWhy) → (let r : Result Space LinkWhy = Ok s in r) ≡ Err w → ⊥

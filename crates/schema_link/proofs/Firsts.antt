@@ -1,8 +1,8 @@
 -- Where it can be told of each whether it has a fault, there is a first fault or none.
 use Rattle.std.proofs.Common.{◌≡◌, false, ◌⊎◌, inl, inr, List, [], ◌∷◌, Option, Some, None, refl, subst}
-use Rattle.schema_names.specs.declared.faults.Fault.{Fault}
-use Rattle.schema_names.specs.Order.{precedes, Has, IsFirstSuch, OneHas, first_of}
-use Rattle.schema_names.proofs.Firsts.{precedes_itself, such_joined}
+use Rattle.link_names.specs.declared.faults.Fault.{Fault}
+use Rattle.link_names.specs.Order.{precedes, Has, IsFirstSuch, OneHas, first_of}
+use Rattle.link_names.proofs.Firsts.{precedes_itself, such_joined}
 
 abbrev pub SomeFirst : (Fault → Type 0) → Type 0
 SomeFirst P = (o : Option Fault) × IsFirstSuch P o

@@ -1,15 +1,15 @@
 -- Passes show just one fault, or they are passed.
 use Rattle.std.proofs.Common.{◌≡◌, ◌⊎◌, inl, inr, List, [], ◌∷◌, Option, Some, None}
 use Rattle.schema_parts.specs.Raw.{Document}
-use Rattle.schema_names.specs.declared.faults.Fault.{Fault}
-use Rattle.schema_names.specs.Order.{Has, IsFirstSuch}
-use Rattle.schema_names.specs.Limits.{beyond_limit}
-use Rattle.schema_names.specs.Globals.{duplicates}
-use Rattle.schema_names.specs.Resolution.{unresolved}
-use Rattle.schema_names.proofs.OneFirst.{one_first}
-use Rattle.type_cycles.specs.SimpleTypes.{simple_types}
-use Rattle.complex_rules.specs.Uses.{double_uses}
-use Rattle.complex_rules.specs.ElementTypes.{Differs}
+use Rattle.link_names.specs.declared.faults.Fault.{Fault}
+use Rattle.link_names.specs.Order.{Has, IsFirstSuch}
+use Rattle.link_names.specs.Limits.{beyond_limit}
+use Rattle.link_names.specs.Globals.{duplicates}
+use Rattle.link_names.specs.Resolution.{unresolved}
+use Rattle.link_names.proofs.OneFirst.{one_first}
+use Rattle.link_cycles.specs.SimpleTypes.{simple_types}
+use Rattle.link_complex.specs.Uses.{double_uses}
+use Rattle.link_complex.specs.ElementTypes.{Differs}
 use Rattle.schema_link.specs.Passes.{Pass, Counting, Naming, Resolving, Ordering, Making, Comparing, Clearing, IsFault, passes, IsShownBy, ArePassed}
 use Rattle.schema_link.proofs.Firsts.{SomeFirst, some_of_both, some_of_list}
 use Rattle.schema_link.proofs.FirstCircular.{some_circular}

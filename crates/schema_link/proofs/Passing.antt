@@ -3,8 +3,8 @@ use Rattle.std.proofs.Common.{inl, inr, List, [], ◌∷◌, Option, Some, None,
 use Rattle.std.specs.Prelude.{Result, Ok, Err}
 use Rattle.std.specs.Option.{IfSome}
 use Rattle.schema_parts.specs.Raw.{Document}
-use Rattle.schema_names.specs.declared.faults.Fault.{Fault}
-use Rattle.schema_names.specs.Order.{IsFirstSuch}
+use Rattle.link_names.specs.declared.faults.Fault.{Fault}
+use Rattle.link_names.specs.Order.{IsFirstSuch}
 use Rattle.schema_link.specs.declared.passes.LinkError.{LinkError}
 use Rattle.schema_link.specs.Passes.{Pass, IsFault, IsShownBy}
 use Rattle.schema_link.specs.Answering.{shown, Answers, AnswersFault}

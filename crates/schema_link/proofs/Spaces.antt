@@ -7,11 +7,11 @@ use Rattle.simple_types.specs.declared.simples.Simple.{Simple}
 use Rattle.simple_types.specs.Seen.{space_of}
 use Rattle.schema_parts.specs.Raw.{Document}
 use Rattle.schema_parts.specs.Components.{Set}
-use Rattle.schema_names.specs.declared.faults.Fault.{Fault}
-use Rattle.type_cycles.specs.SimpleTypes.{simple_types}
-use Rattle.simple_making.specs.Answering.{made_of}
-use Rattle.simple_making.specs.Making.{IsMaking}
-use Rattle.linked_sets.specs.Sets.{parts_of, set_of}
+use Rattle.link_names.specs.declared.faults.Fault.{Fault}
+use Rattle.link_cycles.specs.SimpleTypes.{simple_types}
+use Rattle.link_simple.specs.Answering.{made_of}
+use Rattle.link_simple.specs.Making.{IsMaking}
+use Rattle.link_set.specs.Sets.{parts_of, set_of}
 use Rattle.schema_link.specs.declared.passes.LinkError.{LinkError}
 use Rattle.schema_link.specs.Answering.{shown, Answers, AnswersSimples}
 use Rattle.schema_link.specs.Passes.{Pass, Making, Comparing, Clearing, passes, passes_of_names, passes_of_content, IsShownBy}

@@ -4,11 +4,11 @@ use Rattle.std.specs.Option.{IfSome}
 use Rattle.std.specs.Global.{Global}
 use Rattle.simple_types.specs.declared.simples.Simple.{Simple}
 use Rattle.schema_parts.specs.Raw.{Document}
-use Rattle.schema_names.specs.declared.faults.Fault.{Fault}
-use Rattle.schema_names.specs.Order.{place, fault}
-use Rattle.type_cycles.specs.SimpleTypes.{simple_types}
-use Rattle.simple_making.specs.Answering.{made_of, AreSound}
-use Rattle.simple_making.specs.Making.{IsMaking}
+use Rattle.link_names.specs.declared.faults.Fault.{Fault}
+use Rattle.link_names.specs.Order.{place, fault}
+use Rattle.link_cycles.specs.SimpleTypes.{simple_types}
+use Rattle.link_simple.specs.Answering.{made_of, AreSound}
+use Rattle.link_simple.specs.Making.{IsMaking}
 use Rattle.schema_link.specs.declared.passes.LinkError.{LinkError}
 use Rattle.schema_link.specs.declared.passes.LinkError.TheVariants as error
 use Rattle.schema_link.specs.Passes.{Pass, Making, IsShownBy, ArePassed}

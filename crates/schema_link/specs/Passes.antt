@@ -2,16 +2,16 @@
 -- it, and of its faults the one at the least file and place, at one place with the first reason.
 use Rattle.std.specs.Prelude.{◌⊎◌, List, [], ◌∷◌, Some, None}
 use Rattle.schema_parts.specs.Raw.{Document}
-use Rattle.schema_names.specs.declared.faults.Fault.{Fault}
-use Rattle.schema_names.specs.Order.{Has, IsFirstSuch}
-use Rattle.schema_names.specs.Limits.{beyond_limit}
-use Rattle.schema_names.specs.Globals.{duplicates}
-use Rattle.schema_names.specs.Resolution.{unresolved}
-use Rattle.type_cycles.specs.Cycles.{IsCircular}
-use Rattle.simple_making.specs.Making.{IsNotMade}
-use Rattle.complex_rules.specs.Uses.{double_uses}
-use Rattle.complex_rules.specs.ElementTypes.{Differs}
-use Rattle.complex_rules.specs.Content.{IsUnclear}
+use Rattle.link_names.specs.declared.faults.Fault.{Fault}
+use Rattle.link_names.specs.Order.{Has, IsFirstSuch}
+use Rattle.link_names.specs.Limits.{beyond_limit}
+use Rattle.link_names.specs.Globals.{duplicates}
+use Rattle.link_names.specs.Resolution.{unresolved}
+use Rattle.link_cycles.specs.Cycles.{IsCircular}
+use Rattle.link_simple.specs.Making.{IsNotMade}
+use Rattle.link_complex.specs.Uses.{double_uses}
+use Rattle.link_complex.specs.ElementTypes.{Differs}
+use Rattle.link_complex.specs.Content.{IsUnclear}
 
 pub data Pass : Type 0 where
   Counting Naming Resolving Ordering Making Comparing Clearing : Pass

@@ -1,7 +1,7 @@
 //! What holds of the faults of several schema documents.
 ghost use Rattle.std.specs.Prelude.{◌≡◌, ◌⊎◌, List};
 ghost use Rattle.schema_parts.specs.Raw.{Document};
-ghost use Rattle.schema_names.specs.declared.faults.Fault.{Fault};
+ghost use Rattle.link_names.specs.declared.faults.Fault.{Fault};
 ghost use Rattle.schema_link.specs.Passes.{passes, IsShownBy, ArePassed};
 
 /// Of all lists of documents, either no pass finds a fault or the passes show one, never both, and never two faults.

@@ -8,7 +8,7 @@ mod passes;
 pub use laws::one_answer;
 pub use linking::{are_numbered, link};
 pub use passes::{LinkError, check_content, check_names, make_simple_types};
-pub use schema_names::LinkWhy;
+pub use link_names::LinkWhy;
 
 #[cfg(test)]
 mod linking_tests;

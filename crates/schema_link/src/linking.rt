@@ -2,15 +2,15 @@
 ghost use Rattle.std.specs.Prelude.{◌≡◌, ◌≤◌, ◌∷◌, [], IsTrue, length, map, IfOk};
 ghost use Rattle.simple_types.specs.Seen.{space_of};
 ghost use Rattle.schema_parts.specs.Documents.{doc_of};
-ghost use Rattle.simple_making.specs.Answering.{AreSound};
-ghost use Rattle.linked_sets.specs.Sets.{parts_of, set_of};
+ghost use Rattle.link_simple.specs.Answering.{AreSound};
+ghost use Rattle.link_set.specs.Sets.{parts_of, set_of};
 ghost use Rattle.schema_link.specs.Passes.{Making, Comparing, Clearing, passes};
 ghost use Rattle.schema_link.specs.Sets.{AreNumbered, AnswersSpaces, Links};
 
 use crate::passes::{LinkError, check_content, check_names, make_simple_types};
-use linked_sets::set_parts;
+use link_set::set_parts;
 use schema_parts::{RawDoc, SchemaSet};
-use set_check::is_linked;
+use link_check::is_linked;
 use simple_types::Simple;
 use std::alloc::Global;
 use xa_base::Memory;
@@ -79,8 +79,8 @@ pub fn are_numbered(docs: &[RawDoc]) -> bool
 
 /// The documents as one set, in which each name is resolved, or the first fault that the passes show. There are at most
 /// 64 of them, and the file numbers are 1, 2 and so on. The time grows as n log n with the size of the documents, beside
-/// what `simple_making::made` says of restricting and `type_cycles::first_circular` of cycles. `Memory` is the answer too
-/// where the set that is put together isn't one that `set_check::is_linked` takes; no contract rules that out, and for
+/// what `link_simple::made` says of restricting and `link_cycles::first_circular` of cycles. `Memory` is the answer too
+/// where the set that is put together isn't one that `link_check::is_linked` takes; no contract rules that out, and for
 /// documents without a fault it doesn't happen.
 pub fn link(alloc: Global, docs: &[RawDoc]) -> Result<SchemaSet, LinkError>
     requires few { length docs.now ≤ 64 }

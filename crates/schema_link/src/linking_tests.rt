@@ -171,8 +171,8 @@ fn sets(rt: HostRuntime) -> Result<(), Fail> {
 }
 
 fn root(alloc: Global, set: &SchemaSet, space: &str, local: &str) -> Result<Option<u32>, Memory> {
-    let space = Text::from(String::from_str(alloc, space)?);
-    let local = Text::from(String::from_str(alloc, local)?);
+    let space = Text::from_str(alloc, space)?;
+    let local = Text::from_str(alloc, local)?;
     Ok(find_root(set, &Name { space, local }))
 }
 

@@ -1,20 +1,20 @@
 //! The passes of linking, in their order.
 ghost use Rattle.std.specs.Prelude.{◌≡◌, ◌∷◌, [], Ok, Err, map, MatchOption, IfOk};
 ghost use Rattle.schema_parts.specs.Documents.{doc_of};
-ghost use Rattle.schema_names.specs.Order.{IsFirstSuch};
+ghost use Rattle.link_names.specs.Order.{IsFirstSuch};
 ghost use Rattle.schema_link.specs.Answering.{Answers, AnswersFault, AnswersSimples};
 ghost use Rattle.schema_link.specs.Passes.{Counting, Naming, Resolving, Ordering, Comparing, Clearing, IsFault, passes_of_names, passes_of_content};
 
-use complex_rules::{first_differing, first_double_use, first_unclear};
-use schema_names::{
+use link_complex::{first_differing, first_double_use, first_unclear};
+use link_names::{
     Fault, LinkWhy, first_beyond_limit, first_duplicate, first_of, first_unresolved,
 };
 use schema_parts::RawDoc;
-use simple_making::{MakingError, made};
+use link_simple::{MakingError, made};
 use simple_types::Simple;
 use std::alloc::Global;
 use thiserror::Error;
-use type_cycles::first_circular;
+use link_cycles::first_circular;
 use xa_base::Memory;
 
 /// Why documents aren't linked.
@@ -137,7 +137,7 @@ pub fn check_names(alloc: Global, docs: &[RawDoc]) -> Result<(), LinkError>
 }
 
 /// The pass that makes the simple types: each restriction, list or union whose parts are made has to leave a type. The
-/// types stand in the order of `type_cycles::simple_types`.
+/// types stand in the order of `link_cycles::simple_types`.
 pub fn make_simple_types(alloc: Global, docs: &[RawDoc]) -> Result<Vec<Simple>, LinkError>
     ensures { AnswersSimples (map doc_of docs.now) result }
 {

@@ -1,13 +1,13 @@
 //! Linking is tested on texts, since a document's parts hang together only as reading gives them.
 use crate::{LinkError, LinkWhy, check_content, check_names};
-use complex_rules::{first_differing, first_double_use, first_unclear};
+use link_complex::{first_differing, first_double_use, first_unclear};
 use doc_text::read_document;
-use schema_names::{Fault, Place, first_beyond_limit, first_duplicate, first_unresolved};
+use link_names::{Fault, Place, first_beyond_limit, first_duplicate, first_unresolved};
 use schema_parts::RawDoc;
 use schema_read::read_schema;
 use std::alloc::Global;
 use std::test::Fail;
-use type_cycles::first_circular;
+use link_cycles::first_circular;
 use xa_base::Memory;
 
 /// What stands in the schema documents, and what is shown of them: the file, the byte and the reason.

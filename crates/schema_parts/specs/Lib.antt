@@ -12,3 +12,4 @@ pub mod Places
 pub mod Inward
 pub mod Chains
 pub mod Linked
+pub mod SetParts

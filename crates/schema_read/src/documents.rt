@@ -17,7 +17,7 @@ use crate::globals::{Globals, globals_among};
 use crate::names::value_or_empty;
 use doc_text::{ItemLabel, Items};
 use label_tree::Tree;
-use part_places::{all_ascend, all_inward, are_counted, are_short};
+use schema_places::{all_ascend, all_inward, are_counted, are_short};
 use schema_faults::{Fault, first_fault};
 use schema_parts::{RawDoc, RawLocal, all_fit, all_named, all_varied, ascend};
 use schema_rules::{Scope, is_counted, is_looked_into, own_attributes};

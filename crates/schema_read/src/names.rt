@@ -13,13 +13,13 @@ fn text_of(alloc: Global, text: &str) -> Result<Text, Memory>
     ensures { IfOk result (λ made. made ≡ text.now) }
 {
     let copied = String::from_str(alloc, text)?;
-    Ok(Text::from(copied))
+    Text::from_string(copied)
 }
 
 pub(crate) fn empty_text(alloc: Global) -> Text
     ensures { result ≡ [] }
 {
-    Text::from(String::new(alloc))
+    Text::empty()
 }
 
 pub(crate) fn no_name(alloc: Global) -> Name

@@ -8,7 +8,7 @@ use std::test::Fail;
 use xa_base::{Memory, Text, WhiteSpace};
 
 fn text(alloc: Global, s: &str) -> Result<Text, Memory> {
-    Ok(Text::from(String::from_str(alloc, s)?))
+    Text::from_str(alloc, s)
 }
 
 #[test]

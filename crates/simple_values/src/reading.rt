@@ -157,7 +157,7 @@ pub(crate) fn read_number(
 fn treated(alloc: Global, space: WhiteSpace, text: &str) -> Result<Text, Memory>
     ensures { IfOk result (λ made. made ≡ treated space text.now) }
 {
-    let text = Text::from(String::from_str(alloc, text)?);
+    let text = Text::from_str(alloc, text)?;
     if is_treated(space, &text) {
         Ok(text)
     } else {

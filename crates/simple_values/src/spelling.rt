@@ -141,7 +141,7 @@ pub(crate) fn spelling(
 {
     let mut out = String::new(alloc);
     write_spelling(&mut out, simple, value)?;
-    Ok(Text::from(out))
+    Text::from_string(out)
 }
 
 /// The canonical spelling of a value of the type, by XML Schema Part 2: of a list the spellings of its items with one

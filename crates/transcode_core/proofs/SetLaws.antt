@@ -10,7 +10,7 @@ use Rattle.doc_text.specs.declared.label.ItemLabel.{ItemLabel}
 use Rattle.doc_text.specs.declared.label.ItemLabel.TheVariants.{Element, Text}
 use Rattle.schema_parts.specs.Raw.{Document}
 use Rattle.schema_parts.specs.declared.components.ElementDecl.{ElementDecl}
-use Rattle.schema_names.specs.declared.faults.Fault.{Fault}
+use Rattle.link_names.specs.declared.faults.Fault.{Fault}
 use Rattle.schema_link.specs.Passes.{Pass, IsShownBy, ArePassed}
 use Rattle.schema_read.specs.Raw.{raw_of, raw_by}
 use Rattle.schema_link.specs.Sets.{AreNumbered}

@@ -18,12 +18,12 @@ use Rattle.transcode_core.specs.Due.{InputValue, Answered, Due}
 use Rattle.transcode_core.specs.Words.{Asked, Show, Check, ToPer, ToXml, Trial}
 use Rattle.transcode_core.specs.Causes.{IsRefusal, Deciding}
 use Rattle.schema_read.specs.Raw.{raw_of}
-use Rattle.linked_sets.specs.Sets.{SetParts, NamedSpace, named_spaces, parts_of, set_of}
+use Rattle.link_set.specs.Sets.{SetParts, NamedSpace, named_spaces, parts_of, set_of}
 use Rattle.simple_types.specs.Space.{Space}
 use Rattle.simple_types.specs.Seen.{space_of}
 use Rattle.schema_parts.specs.Components.{Set}
 use Rattle.schema_parts.specs.declared.components.SimpleDef.{SimpleDef}
-use Rattle.simple_making.proofs.Uniqueness.{one_making}
+use Rattle.link_simple.proofs.Uniqueness.{one_making}
 use Rattle.map_694.proofs.Once.{one-map}
 use Rattle.map_694.proofs.SameSets.{AreSame, map-same}
 use Rattle.module_print.specs.Printed.{printed}

@@ -6,8 +6,8 @@ use Rattle.schema_rules.specs.declared.why.SchemaWhy.{SchemaWhy}
 use Rattle.schema_rules.specs.declared.why.SchemaWhy.TheVariants as schema
 use Rattle.facet_rules.specs.declared.refusals.FacetWhy.{FacetWhy}
 use Rattle.facet_rules.specs.declared.refusals.FacetWhy.TheVariants as facet
-use Rattle.schema_names.specs.declared.faults.LinkWhy.{LinkWhy}
-use Rattle.schema_names.specs.declared.faults.LinkWhy.TheVariants as link
+use Rattle.link_names.specs.declared.faults.LinkWhy.{LinkWhy}
+use Rattle.link_names.specs.declared.faults.LinkWhy.TheVariants as link
 use Rattle.transcode_core.specs.declared.outcome.Outcome.{Outcome}
 use Rattle.transcode_core.specs.declared.outcome.Outcome.TheVariants.{Done, Usage, SchemaSyntax, SchemaFault, LinkFault, UnknownRoot, DocSyntax, TooLong, LoadFault, ReadFault, WriteFault, OutOfMemory, NotYet}
 

@@ -11,17 +11,17 @@ use Rattle.schema_faults.specs.Faults.{first_fault, reasons}
 use Rattle.schema_faults.specs.declared.faults.Fault.{Fault}
 use Rattle.schema_parts.specs.Raw.{Document}
 use Rattle.simple_types.specs.Space.{Space}
-use Rattle.type_cycles.specs.SimpleTypes.{simple_types}
+use Rattle.link_cycles.specs.SimpleTypes.{simple_types}
 use Rattle.schema_parts.specs.Components.{Set}
-use Rattle.linked_sets.specs.Sets.{SetParts, parts_of, set_of}
+use Rattle.link_set.specs.Sets.{SetParts, parts_of, set_of}
 use Rattle.asn_types.specs.declared.modules.Assignment.{Assignment}
 use Rattle.map_assignments.specs.Mapped.{IsMapOf}
 use Rattle.module_print.specs.Printed.{printed}
 use Rattle.schema_parts.specs.declared.components.ElementDecl.{ElementDecl}
-use Rattle.schema_names.specs.declared.faults.Fault as link
+use Rattle.link_names.specs.declared.faults.Fault as link
 use Rattle.schema_link.specs.Passes.{passes, IsShownBy, ArePassed}
 use Rattle.schema_read.specs.Raw.{raw_of}
-use Rattle.simple_making.specs.Making.{IsMaking}
+use Rattle.link_simple.specs.Making.{IsMaking}
 use Rattle.transcode_core.specs.declared.outcome.Outcome.{Outcome}
 use Rattle.transcode_core.specs.declared.outcome.Outcome.TheVariants.{SchemaSyntax, SchemaFault, LinkFault, UnknownRoot, DocSyntax, TooLong, LoadFault, NotYet}
 use Rattle.transcode_core.specs.Booleans.{are_booleans}

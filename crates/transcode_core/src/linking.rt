@@ -4,7 +4,7 @@ ghost use Rattle.schema_parts.specs.Documents.{doc_of};
 ghost use Rattle.transcode_core.specs.Requests.{root_seen};
 ghost use Rattle.transcode_core.specs.Steps.{Linked, Taken, Rooted, Chosen};
 ghost use Rattle.transcode_core.specs.Order.{Then};
-ghost use Rattle.linked_sets.specs.Sets.{parts_of};
+ghost use Rattle.link_set.specs.Sets.{parts_of};
 ghost use Rattle.schema_link.specs.Sets.{AreNumbered};
 ghost use Rattle.transcode_core.specs.Causes.{Answers, NoMemory};
 

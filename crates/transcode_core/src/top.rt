@@ -8,7 +8,7 @@ ghost use Rattle.transcode_core.specs.Requests.{root_seen, seen};
 ghost use Rattle.transcode_core.specs.Words as command;
 ghost use Rattle.schema_parts.specs.Documents.{doc_of};
 ghost use Rattle.schema_link.specs.Sets.{AreNumbered};
-ghost use Rattle.linked_sets.specs.Sets.{parts_of};
+ghost use Rattle.link_set.specs.Sets.{parts_of};
 ghost use Rattle.transcode_core.specs.Steps.{Linked, Printed, Valued, encoded};
 ghost use Rattle.transcode_core.specs.Order.{Pass, Then};
 ghost use Rattle.transcode_core.specs.Due.{Requested, Shown, Opened, InputValue, Encoding, Answered, Due};

@@ -5,3 +5,4 @@ pub mod Entries
 pub mod Names
 pub mod States
 pub mod WhiteSpace
+pub mod Texts

@@ -169,7 +169,7 @@ fn texts(rt: HostRuntime) -> Result<(), Fail> {
     let alloc = rt.alloc();
     assert_eq!(rt; text(&rt, alloc, "é").bytes(), [0xc3, 0xa9].as_slice());
     assert!(rt; matches!(Text::of(alloc, &[0x61, 0xc3]), Err(TextError::NotUtf8)));
-    let moved = Text::from(String::from_str(alloc, "a")?);
+    let moved = Text::from_str(alloc, "a")?;
     assert_eq!(rt; moved.copy(alloc)?.as_str(), "a");
     Ok(())
 }

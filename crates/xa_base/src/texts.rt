@@ -1,5 +1,5 @@
 //! Texts, seen as their bytes, and names.
-ghost use Rattle.std.specs.Prelude.{◌≡◌, IfOk, IsUtf8, IsErrOf, string_bytes, bytes_eq};
+ghost use Rattle.std.specs.Prelude.{◌≡◌, ◌≤◌, [], IfOk, IsUtf8, IsErrOf, length, string_bytes, bytes_eq};
 ghost use Rattle.std.specs.Cmp.{partial_order_from_own_ties};
 ghost use Rattle.std.specs.Cmp.Lexicographic.{slice_cmp};
 ghost use Rattle.std.specs.Cmp.Rules.{comparing, hashing};
@@ -11,6 +11,9 @@ use std::alloc::{AllocError, AllocFailed, Global};
 use std::cmp::Ordering;
 use std::hash::{Hash, Hasher};
 use std::marker::Model;
+use std::mem::size_of;
+use std::rc::RcStr;
+use std::str;
 use thiserror::Error;
 
 /// Memory is missing.
@@ -39,29 +42,126 @@ pub enum TextError {
     Memory,
 }
 
-/// Valid UTF-8, seen as its bytes.
+// How many bytes a text has at most that lies in its value: with the length and the tag of `Kept` that is 24 bytes,
+// as many as a `String` takes.
+const ROOM: usize = 22;
+
+// Valid UTF-8 in place.
 #[derive(Drop)]
-pub struct Text {
-    text: String,
+struct Short {
+    len: u8,
+    bytes: [u8; ROOM],
 }
 
-impl Model for Text {
-    ghost use Rattle.std.specs.Prelude.{List, ℕ, string_bytes};
+impl Model for Short {
+    ghost use Rattle.std.specs.Prelude.{List, ℕ, ◌≤◌, take, IsUtf8};
 
     ghost Value = { List ℕ };
 
-    ghost view = { λ a. string_bytes a.text };
+    ghost view = { λ s. take s.len s.bytes };
+
+    ghost invariant = { λ s. (s.len ≤ 22) × ∥ IsUtf8 (take s.len s.bytes) ∥₁ };
 }
 
-impl From<String> for Text {
-    ghost from_gives = { λ string text. text ≡ string_bytes string };
+impl Short {
+    // The text in place.
+    fn of(text: &str) -> Short
+        requires { length text.now ≤ 22 }
+        ensures { result ≡ text.now }
+    {
+        let mut bytes = [0; ROOM];
+        bytes[..text.len()].copy_from_slice(text.as_bytes());
+        Short {
+            len: text.len() as u8,
+            bytes,
+        }
+    }
 
-    fn from(text: String) -> Text {
-        Text { text }
+    // An equal text.
+    fn copy(&self) -> Short
+        ensures { result ≡ self.now }
+    {
+        Short {
+            len: self.len,
+            bytes: self.bytes,
+        }
+    }
+
+    fn as_str(&self) -> &str
+        ensures { result.now ≡ self.now }
+    {
+        unsafe { str::from_utf8_unchecked(&self.bytes[..self.len as usize]) }
     }
 }
 
+// Where the bytes of a text lie. A long text is shared by its copies.
+#[derive(Drop)]
+enum Kept {
+    Here(Short),
+    There(RcStr),
+}
+
+/// Valid UTF-8, seen as its bytes. Up to 22 bytes take no memory of their own, and a copy of a longer text takes none
+/// beside it.
+#[derive(Drop)]
+pub struct Text {
+    kept: Kept,
+}
+
+impl Model for Text {
+    ghost use Rattle.std.specs.Prelude.{List, ℕ};
+
+    ghost Value = { List ℕ };
+
+    ghost use Rattle.xa_base.specs.Texts.{kept_bytes};
+
+    ghost view = { λ a. kept_bytes a.kept };
+}
+
 impl Text {
+    /// The text without bytes.
+    pub fn empty() -> Text
+        ensures { result ≡ [] }
+    {
+        Text::here("")
+    }
+
+    // A short text.
+    fn here(text: &str) -> Text
+        requires { length text.now ≤ 22 }
+        ensures { result ≡ text.now }
+    {
+        Text {
+            kept: Kept::Here(Short::of(text)),
+        }
+    }
+
+    /// An equal text.
+    pub fn from_str(alloc: Global, text: &str) -> Result<Text, Memory>
+        ensures { IfOk result (λ made. made ≡ text.now) }
+    {
+        if text.len() <= ROOM {
+            return Ok(Text::here(text));
+        }
+        let long = RcStr::from_str(alloc, text)?;
+        Ok(Text {
+            kept: Kept::There(long),
+        })
+    }
+
+    /// The text of the string.
+    pub fn from_string(string: String) -> Result<Text, Memory>
+        ensures { IfOk result (λ made. made ≡ string_bytes string) }
+    {
+        if string.len() <= ROOM {
+            return Ok(Text::here(string.as_str()));
+        }
+        let long = RcStr::from_string(string)?;
+        Ok(Text {
+            kept: Kept::There(long),
+        })
+    }
+
     /// A text of these bytes, which are copied.
     pub fn of(alloc: Global, bytes: &[u8]) -> Result<Text, TextError>
         ensures ok { IfOk result (λ text. (text ≡ bytes.now) × IsUtf8 bytes.now) }
@@ -71,18 +171,27 @@ impl Text {
         let Ok(read) = simdutf8::basic::from_utf8(bytes) else {
             return Err(TextError::NotUtf8);
         };
-        match String::from_str(alloc, read) {
-            Ok(text) => Ok(Text { text }),
+        match Text::from_str(alloc, read) {
+            Ok(text) => Ok(text),
             Err(_) => Err(TextError::Memory),
         }
     }
 
-    /// An equal text.
-    pub fn copy(&self, alloc: Global) -> Result<Text, Memory>
+    /// An equal text. It takes no memory.
+    pub fn copy(&self, _alloc: Global) -> Result<Text, Memory>
         ensures { IfOk result (λ text. text ≡ self.now) }
     {
-        let text = String::from_str(alloc, self.text.as_str())?;
-        Ok(Text { text })
+        match &self.kept {
+            Kept::Here(short) => Ok(Text {
+                kept: Kept::Here(short.copy()),
+            }),
+            Kept::There(long) => {
+                let long = long.clone()?;
+                Ok(Text {
+                    kept: Kept::There(long),
+                })
+            }
+        }
     }
 
     /// The bytes of the text.
@@ -97,9 +206,14 @@ impl Text {
     pub fn as_str(&self) -> &str
         ensures { result.now ≡ self.now }
     {
-        self.text.as_str()
+        match &self.kept {
+            Kept::Here(short) => short.as_str(),
+            Kept::There(long) => long.as_str(),
+        }
     }
 }
+
+const _: () = prove!(size_of::<Text>() == 24);
 
 impl PartialEq for Text {
     ghost eq = { bytes_eq };

@@ -150,7 +150,7 @@ pub fn treat(alloc: Global, how: WhiteSpace, text: &Text) -> Result<Text, Memory
     match how {
         WhiteSpace::Preserve => text.copy(alloc),
         _ if is_treated(how, text) => text.copy(alloc),
-        WhiteSpace::Replace => Ok(Text::from(replace(alloc, text.as_str())?)),
-        WhiteSpace::Collapse => Ok(Text::from(collapse(alloc, text.as_str())?)),
+        WhiteSpace::Replace => Text::from_string(replace(alloc, text.as_str())?),
+        WhiteSpace::Collapse => Text::from_string(collapse(alloc, text.as_str())?),
     }
 }

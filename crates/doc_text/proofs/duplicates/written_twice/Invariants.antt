@@ -1,5 +1,5 @@
 use Rattle.std.proofs.Common.{◌≡◌, ◌≤◌, length, drop, map}
-use Rattle.xml_pieces.specs.Found.{attribute_of}
+use Rattle.doc_pieces.specs.Found.{attribute_of}
 use Rattle.doc_text.specs.Namespaces.{written_twice}
 use Rattle.doc_text.proofs.Repeated.{HasWritten}
 use Rattle.doc_text.proofs.duplicates.written_twice.Given as goal

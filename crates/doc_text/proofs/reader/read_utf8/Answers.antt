@@ -1,14 +1,14 @@
 use Rattle.std.proofs.Common.{◌≡◌, take, rules, arith, refl, sym, subst}
-use Rattle.xml_pieces.specs.Reasons.{IsPlainRun}
+use Rattle.doc_pieces.specs.Reasons.{IsPlainRun}
 use Rattle.doc_text.proofs.Known.{laws}
 use Rattle.doc_text.proofs.Utf8.{gives_utf8}
-use Rattle.xml_pieces.specs.Found.{seen}
-use Rattle.xml_pieces.specs.Pieces.{Begins, NoPieceAt}
+use Rattle.doc_pieces.specs.Found.{seen}
+use Rattle.doc_pieces.specs.Pieces.{Begins, NoPieceAt}
 use Rattle.doc_text.specs.States.{State}
 use Rattle.doc_text.specs.Building.{state}
 use Rattle.doc_text.proofs.Going.{Stands, stands_first}
 use Rattle.doc_text.proofs.Built.{add_scoped}
-use Rattle.doc_text.proofs.Read.{at_none, at_fault, steps_on, gets_shorter, takes_plain, last_kid, unfinished, not_ended, sealed}
+use Rattle.doc_text.proofs.Read.{at_none, at_fault, steps_on, gets_shorter, takes_plain, last_kid, unfinished, not_ended}
 use Rattle.doc_text.proofs.Places.{doc_ascends}
 use Rattle.label_tree.specs.Rose.{Rose}
 use Rattle.doc_text.specs.declared.label.ItemLabel.{ItemLabel}
@@ -67,10 +67,10 @@ pub seal-requires : goal.seal-requires
 seal-requires c = (last_kid c.args.bytes.now c.pieces.rest.now c.pieces.builder c.in-Some-pop.root c.pop.new.self.items c.requires.short c.pieces.invariant.stands (search rules) (search rules) (search rules)).items
 
 pub returns-in-Some-pop-clause-ok : goal.returns-in-Some-pop-clause-ok
-returns-in-Some-pop-clause-ok c = sealed (DocOf c.args.bytes.now) c.in-Some-pop.root c.seal.result c.seal.ensures (last_kid c.args.bytes.now c.pieces.rest.now c.pieces.builder c.in-Some-pop.root c.pop.new.self.items c.requires.short c.pieces.invariant.stands (search rules) (search rules) (search rules)).doc
+returns-in-Some-pop-clause-ok c = subst (DocOf c.args.bytes.now) (sym c.seal.ensures) ((last_kid c.args.bytes.now c.pieces.rest.now c.pieces.builder c.in-Some-pop.root c.pop.new.self.items c.requires.short c.pieces.invariant.stands (search rules) (search rules) (search rules)).doc)
 
 pub returns-in-Some-pop-clause-places : goal.returns-in-Some-pop-clause-places
-returns-in-Some-pop-clause-places c = sealed (λ (t : Rose ItemLabel). Ascend 0 16777216 (tokens t)) c.in-Some-pop.root c.seal.result c.seal.ensures (doc_ascends c.args.bytes.now c.in-Some-pop.root c.requires.short (last_kid c.args.bytes.now c.pieces.rest.now c.pieces.builder c.in-Some-pop.root c.pop.new.self.items c.requires.short c.pieces.invariant.stands (search rules) (search rules) (search rules)).doc)
+returns-in-Some-pop-clause-places c = subst (λ (t : Rose ItemLabel). Ascend 0 16777216 (tokens t)) (sym c.seal.ensures) (doc_ascends c.args.bytes.now c.in-Some-pop.root c.requires.short (last_kid c.args.bytes.now c.pieces.rest.now c.pieces.builder c.in-Some-pop.root c.pop.new.self.items c.requires.short c.pieces.invariant.stands (search rules) (search rules) (search rules)).doc)
 
 pub returns-clause-err : goal.returns-clause-err
 returns-clause-err c = unfinished c.args.bytes.now c.pieces.rest.now c.pieces.builder _ c.pieces.invariant.stands (search rules) refl (elim c.in_default-pop.branch [

@@ -1,6 +1,6 @@
 use Rattle.std.proofs.Common.{◌≡◌, ◌≤◌, ◌++◌, length, take, map}
 use Rattle.std.specs.Prelude.{reverse}
-use Rattle.xml_pieces.specs.Found.{attribute_of}
+use Rattle.doc_pieces.specs.Found.{attribute_of}
 use Rattle.doc_text.specs.Namespaces.{bindings_of}
 use Rattle.doc_text.proofs.tags.declare.Given as goal
 

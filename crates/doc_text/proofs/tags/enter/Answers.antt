@@ -1,7 +1,7 @@
 use Rattle.std.proofs.Common.{◌∙◌, ◌++◌, List, map, ap, rules, refl}
 use Rattle.std.specs.Prelude.{reverse}
-use Rattle.xml_pieces.specs.Found.{tag_seen, attribute_of}
-use Rattle.xml_pieces.specs.declared.found.Attribute.{Attribute}
+use Rattle.doc_pieces.specs.Found.{tag_seen, attribute_of}
+use Rattle.doc_pieces.specs.declared.found.Attribute.{Attribute}
 use Rattle.doc_text.specs.Namespaces.{bindings_of}
 use Rattle.doc_text.proofs.Entered.{names_stop, unbound_stop, duplicate_stop, behind_inner, enters}
 use Rattle.doc_text.proofs.Utf8.{all_named}

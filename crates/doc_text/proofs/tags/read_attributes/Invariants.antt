@@ -1,6 +1,6 @@
 use Rattle.std.proofs.Common.{◌≡◌, ◌++◌, true, length, map}
 use Rattle.std.specs.Prelude.{reverse}
-use Rattle.xml_pieces.specs.Found.{attribute_of}
+use Rattle.doc_pieces.specs.Found.{attribute_of}
 use Rattle.doc_text.specs.Namespaces.{attributes_of}
 use Rattle.doc_text.specs.Entering.{are_named}
 use Rattle.doc_text.proofs.tags.read_attributes.Given as goal

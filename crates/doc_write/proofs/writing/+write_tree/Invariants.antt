@@ -1,6 +1,6 @@
 use Rattle.std.proofs.Common.{◌≡◌, ◌++◌, drop}
 use Rattle.label_tree.specs.Rose.{node_count, roses_of}
-use Rattle.written_text.specs.Written.{all_spelled}
+use Rattle.doc_written.specs.Written.{all_spelled}
 use Rattle.doc_write.proofs.writing.+write_tree.Given as goal
 
 abbrev pub decreases-write_tree : goal.decreases-write_tree

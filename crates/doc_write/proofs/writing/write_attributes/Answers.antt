@@ -1,4 +1,4 @@
-use Rattle.written_text.specs.Written.{written_attribute}
+use Rattle.doc_written.specs.Written.{written_attribute}
 use Rattle.doc_write.proofs.Written.{write-item}
 use Rattle.doc_write.proofs.writing.write_attributes.Goals as goal
 

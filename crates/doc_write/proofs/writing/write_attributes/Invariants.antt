@@ -1,6 +1,6 @@
 use Rattle.std.proofs.Common.{◌≡◌, ◌++◌, drop}
 use Rattle.std.specs.List.{flat_map}
-use Rattle.written_text.specs.Written.{written_attribute}
+use Rattle.doc_written.specs.Written.{written_attribute}
 use Rattle.doc_write.proofs.writing.write_attributes.Given as goal
 
 -- what is written, with what is still to be written

@@ -1,6 +1,6 @@
 use Rattle.std.proofs.Common.{◌≡◌, ◌≤◌, length, rules}
-use Rattle.written_text.specs.Written.{written}
-use Rattle.read_back.specs.ReadBack.{ReadsAs}
+use Rattle.doc_written.specs.Written.{written}
+use Rattle.doc_written.specs.ReadBack.{ReadsAs}
 use Rattle.doc_write.proofs.Written.{IfOk-map, reads_back}
 use Rattle.doc_write.proofs.writing.write_document.Goals as goal
 

@@ -1,8 +1,8 @@
 use Rattle.std.proofs.Common.{◌≡◌, ◌++◌, ◌∷◌, [], refl, ap, map, ◌∙◌, rules}
 use Rattle.std.specs.List.{flat_map}
-use Rattle.written_text.specs.Spaces.{prefixes, spaces}
+use Rattle.doc_written.specs.Spaces.{prefixes, spaces}
 use Rattle.doc_write.specs.Binding.{entry_of, with_spaces}
-use Rattle.written_text.specs.Written.{written_declaration, spelled, xml_declaration}
+use Rattle.doc_written.specs.Written.{written_declaration, spelled, xml_declaration}
 use Rattle.doc_write.proofs.Written.{written-parts}
 use Rattle.doc_write.proofs.WrittenSpaces.{with_spaces-prefixes}
 use Rattle.doc_write.proofs.writing.write_root.Goals as goal

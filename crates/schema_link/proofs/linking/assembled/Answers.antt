@@ -1,8 +1,8 @@
 use Rattle.std.proofs.Common.{map, subst, sym, ap, ◌∙◌}
 use Rattle.schema_parts.specs.Documents.{doc_of}
-use Rattle.set_check.specs.Given.{AreSound}
-use Rattle.linked_sets.specs.Sets.{parts_of}
-use Rattle.linked_sets.proofs.Soundness.{sound_parts}
+use Rattle.link_check.specs.Given.{AreSound}
+use Rattle.link_set.specs.Sets.{parts_of}
+use Rattle.link_set.proofs.Soundness.{sound_parts}
 use Rattle.schema_link.proofs.linking.assembled.Goals as goal
 
 pub is_linked-requires : goal.is_linked-requires

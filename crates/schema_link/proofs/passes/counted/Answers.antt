@@ -1,7 +1,7 @@
 use Rattle.std.proofs.Common.{map}
 use Rattle.schema_parts.specs.Documents.{doc_of}
-use Rattle.schema_names.specs.Limits.{beyond_limit}
-use Rattle.schema_names.proofs.Firsts.{first_such}
+use Rattle.link_names.specs.Limits.{beyond_limit}
+use Rattle.link_names.proofs.Firsts.{first_such}
 use Rattle.schema_link.specs.Passes.{Counting}
 use Rattle.schema_link.proofs.Passing.{alone}
 use Rattle.schema_link.proofs.passes.counted.Goals as goal

@@ -1,10 +1,10 @@
 use Rattle.std.proofs.Common.{map}
 use Rattle.schema_parts.specs.Documents.{doc_of}
 use Rattle.std.proofs.Common.{inl, inr}
-use Rattle.schema_names.specs.Order.{Has}
-use Rattle.schema_names.proofs.Firsts.{first_such, such_joined}
-use Rattle.complex_rules.specs.Uses.{double_uses}
-use Rattle.complex_rules.specs.ElementTypes.{Differs}
+use Rattle.link_names.specs.Order.{Has}
+use Rattle.link_names.proofs.Firsts.{first_such, such_joined}
+use Rattle.link_complex.specs.Uses.{double_uses}
+use Rattle.link_complex.specs.ElementTypes.{Differs}
 use Rattle.schema_link.specs.Passes.{IsFault, Comparing}
 use Rattle.schema_link.proofs.passes.first_inconsistent.Goals as goal
 

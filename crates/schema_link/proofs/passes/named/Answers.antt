@@ -1,7 +1,7 @@
 use Rattle.std.proofs.Common.{map}
 use Rattle.schema_parts.specs.Documents.{doc_of}
-use Rattle.schema_names.specs.Globals.{duplicates}
-use Rattle.schema_names.proofs.Firsts.{first_such}
+use Rattle.link_names.specs.Globals.{duplicates}
+use Rattle.link_names.proofs.Firsts.{first_such}
 use Rattle.schema_link.specs.Passes.{Naming}
 use Rattle.schema_link.proofs.Passing.{alone}
 use Rattle.schema_link.proofs.passes.named.Goals as goal

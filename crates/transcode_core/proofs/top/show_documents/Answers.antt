@@ -2,7 +2,7 @@ use Rattle.std.proofs.Common.{ℕ, map}
 use Rattle.std.specs.Prelude.{Vec}
 use Rattle.std.specs.declared.alloc.Global.{Global}
 use Rattle.schema_parts.specs.Documents.{doc_of}
-use Rattle.linked_sets.specs.Sets.{parts_of}
+use Rattle.link_set.specs.Sets.{parts_of}
 use Rattle.transcode_core.specs.Steps.{Linked, Printed}
 use Rattle.transcode_core.specs.Causes.{NoMemory}
 use Rattle.transcode_core.proofs.Joined.{passed}

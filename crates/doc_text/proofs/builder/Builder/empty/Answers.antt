@@ -1,5 +1,5 @@
 use Rattle.std.proofs.Common.{◌∙◌, length, Option, subst, rules, refl}
-use Rattle.xml_pieces.specs.Found.{tag_seen}
+use Rattle.doc_pieces.specs.Found.{tag_seen}
 use Rattle.doc_text.specs.declared.error.DocWhy.{DocWhy}
 use Rattle.doc_text.specs.Entering.{Stopped}
 use Rattle.doc_text.proofs.Built.{empty_stops, enters_here, mid_of, empty_takes}

@@ -1,6 +1,6 @@
 use Rattle.std.proofs.Common.{◌≡◌, drop}
 use Rattle.label_tree.specs.Rose.{node_count, roses_of}
-use Rattle.written_text.specs.Spaces.{spaces, all_spaces}
+use Rattle.doc_written.specs.Spaces.{spaces, all_spaces}
 use Rattle.doc_write.specs.Binding.{with_spaces}
 use Rattle.doc_write.proofs.prefixes.Prefixes.+bind_tree.Given as goal
 

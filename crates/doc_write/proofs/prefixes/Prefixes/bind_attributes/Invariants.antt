@@ -1,5 +1,5 @@
 use Rattle.std.proofs.Common.{◌≡◌, drop}
-use Rattle.written_text.specs.Spaces.{attribute_spaces}
+use Rattle.doc_written.specs.Spaces.{attribute_spaces}
 use Rattle.doc_write.specs.Binding.{with_spaces}
 use Rattle.doc_write.proofs.prefixes.Prefixes.bind_attributes.Given as goal
 

@@ -1,9 +1,0 @@
-use Rattle.std.proofs.Common.{◌≡◌, map, take}
-use Rattle.schema_parts.specs.Documents.{doc_of}
-use Rattle.complex_rules.specs.ElementTypes.{typed_elements}
-use Rattle.complex_rules.specs.Identities.{elements_of}
-use Rattle.complex_rules.proofs.element_types.typed_elements.Given as goal
-
--- those of the documents before this one
-abbrev pub invariant-docs : goal.invariant-docs
-invariant-docs l = elements_of l.found.items ≡ typed_elements (map doc_of (take l.doc-index l.docs))

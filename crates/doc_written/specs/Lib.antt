@@ -1,0 +1,4 @@
+pub mod Spaces
+pub mod Written
+pub mod Same
+pub mod ReadBack

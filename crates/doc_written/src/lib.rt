@@ -1,0 +1,6 @@
+//! The text that is written of items, as a definition, and the law that it is read back as the same items.
+#![tactic(auto)]
+
+mod laws;
+
+pub use laws::same_items;

@@ -1,0 +1,94 @@
+//! Complex types without a name that stand in one another: their numbers ascend, and there are few levels of them.
+ghost use Rattle.std.specs.Prelude.{◌≡◌, ◌≤◌, ℕ, Some, IfOk, IfSome, IsTrue};
+ghost use Rattle.schema_parts.specs.Components.{IsUnnamed, element_type};
+ghost use Rattle.link_check.specs.Told.{set_of};
+ghost use Rattle.link_check.specs.Leaves.{leaf_seen, leaves_seen};
+ghost use Rattle.link_check.specs.Levels.{IsBelow, IsLevelBelow, IsLevel, AreShallow};
+
+use crate::leaves::{Leaf, leaves_of};
+use crate::parts::Parts;
+use schema_parts::TypeOf;
+use std::alloc::Global;
+use xa_base::Memory;
+
+// At most so many complex types without a name stand in one another: more can't be written in 64 levels of elements.
+const MOST_LEVELS: u32 = 21;
+
+// The number, if the complex type with it has no name.
+fn without_name(set: &Parts<'_>, n: u32) -> Option<u32>
+    ensures { IsUnnamed (set_of set.now) n → result ≡ Some n }
+{
+    match set.complexes.get(n as usize) {
+        Some(complex) if complex.name.is_none() => Some(n),
+        _ => None,
+    }
+}
+
+// The type of the declaration, if it is a local one.
+fn local_type(set: &Parts<'_>, decl: u32) -> Option<TypeOf>
+    ensures { set.now.globals ≤ decl → result ≡ element_type (set_of set.now) decl }
+{
+    if decl < set.globals {
+        return None;
+    }
+    match set.element(decl) {
+        Some(element) => Some(element.kind),
+        None => None,
+    }
+}
+
+// The number of the complex type without a name that the declaration of the leaf has, if that is a local one.
+fn number_below(set: &Parts<'_>, leaf: Leaf<'_>) -> Option<u32>
+    ensures { (m : ℕ) → IsBelow (set_of set.now) (leaf_seen leaf.entry) m → result ≡ Some m }
+{
+    match local_type(set, leaf.decl) {
+        Some(TypeOf::Complex(n)) => without_name(set, n),
+        Some(TypeOf::Simple(_)) => None,
+        None => None,
+    }
+}
+
+// The level of the type below the leaf, 0 where there is none. `None` where its number isn't greater than `n`.
+fn level_below(set: &Parts<'_>, n: usize, leaf: Leaf<'_>, levels: &[u32]) -> Option<u32>
+    ensures { IfSome result (λ level. IsLevelBelow (set_of set.now) n levels.now level (leaf_seen leaf.entry)) }
+{
+    match number_below(set, leaf) {
+        Some(m) if m as usize <= n => None,
+        Some(m) => levels.get(m as usize).copied(),
+        None => Some(0),
+    }
+}
+
+// The level of the type with the number `n` and these leaves: one more than the greatest of those below it. `None` where
+// one of those hasn't a greater number, or there are more than 21 levels.
+fn level(set: &Parts<'_>, n: usize, leaves: &[Leaf<'_>], levels: &[u32]) -> Option<u32>
+    ensures { IfSome result (λ level. IsLevel (set_of set.now) n levels.now level (leaves_seen leaves.now)) }
+{
+    let mut greatest = 0;
+    'leaves: for leaf in leaves {
+        let below = level_below(set, n, *leaf, levels)?;
+        greatest = below.max(greatest);
+    }
+    if greatest < MOST_LEVELS {
+        Some(greatest + 1)
+    } else {
+        None
+    }
+}
+
+/// Whether the numbers of complex types that stand in one another ascend, and there are at most 21 levels of them.
+pub(crate) fn are_shallow(alloc: Global, set: &Parts<'_>) -> Result<bool, Memory>
+    ensures { IfOk result (λ shallow. IsTrue shallow → AreShallow (set_of set.now)) }
+{
+    let mut levels = vec![in alloc; 0u32; set.complexes.len()]?;
+    let mut n = set.complexes.len();
+    'last_first: while n > 0 {
+        n -= 1;
+        let leaves = leaves_of(alloc, &set.complexes[n].content)?;
+        let Some(level) = level(set, n, &leaves, &levels) else {
+            return Ok(false);
+        };
+        levels[n] = level;
+    }
+    Ok(true)
+}

@@ -1,0 +1,113 @@
+-- Element particles of one name in a content model whose types differ (XML Schema Part 1, section 3.8.6, 'Element
+-- Declarations Consistent').
+use Rattle.std.specs.Prelude.{◌≡◌, ℕ, true, List, [], ◌∷◌, ◌++◌, map, Option, Some, None, slice_get, ◌⊎◌, if◌then◌else◌}
+use Rattle.std.specs.List.{flat_map}
+use Rattle.xa_base.specs.declared.texts.Name.{Name}
+use Rattle.xa_base.specs.Names.{name_eq}
+use Rattle.label_tree.specs.Rose.{Rose, node, Roses}
+use Rattle.label_tree.specs.Rose as rose
+use Rattle.simple_types.specs.declared.simples.Builtin.{Builtin}
+use Rattle.content_models.specs.declared.particles.ParticleLabel.{ParticleLabel}
+use Rattle.content_models.specs.declared.particles.ParticleKind.TheVariants as particle
+use Rattle.schema_parts.specs.declared.simple_definitions.RawRef.TheVariants as reference
+use Rattle.schema_parts.specs.Raw.{Kind, NamedKind, SimpleKind, ComplexKind, Element, Local, Reference, Own, Document}
+use Rattle.link_names.specs.declared.places.Place.{Place}
+use Rattle.link_names.specs.declared.faults.Fault.{Fault}
+use Rattle.link_names.specs.declared.faults.LinkWhy.TheVariants.{TypesDiffer}
+use Rattle.link_names.specs.Order.{place, fault, is_before, OneHas}
+use Rattle.link_complex.specs.ComplexTypes.{ComplexDefinition, of_document, model_of}
+
+-- which definition a type is: a built-in one, the one of this name, or one that was written in place
+pub data TypeIdentity : Type 0 where
+  BuiltIn : Builtin → TypeIdentity
+  ByName : Name → TypeIdentity
+  InPlace : Place → TypeIdentity
+
+abbrev pub identity : ℕ → Kind → TypeIdentity
+identity file (NamedKind (reference.Builtin which)) = BuiltIn which
+identity file (NamedKind (reference.Other name)) = ByName name
+identity file (SimpleKind s) = InPlace (place file s.at)
+identity file (ComplexKind c) = InPlace (place file c.at)
+
+-- a global element with its type
+pub record TypedElement : Type 0 where
+  pub name : Name
+  pub kind : TypeIdentity
+
+abbrev pub typed_element : ℕ → Element → TypedElement
+typed_element file e = record { name = e.name; kind = identity file e.kind }
+
+abbrev pub typed_elements : List Document → List TypedElement
+typed_elements docs = flat_map (λ d. map (typed_element d.file) d.elements) docs
+
+-- the type of the first that has the name
+abbrev pub type_named : List TypedElement → Name → Option TypeIdentity
+type_named [] a = None
+type_named (e ∷ es) a = if name_eq e.name a then Some e.kind else type_named es a
+
+-- a reference has the type of the global element
+abbrev pub type_of_local : (Name → Option TypeIdentity) → ℕ → Local → Option TypeIdentity
+type_of_local types file (Own e) = Some (identity file e.kind)
+type_of_local types file (Reference name at) = types name
+
+abbrev pub type_of_found : (Name → Option TypeIdentity) → ℕ → Option Local → Option TypeIdentity
+type_of_found types file None = None
+type_of_found types file (Some l) = type_of_local types file l
+
+-- the type of the local declaration with this number
+abbrev pub type_at : (Name → Option TypeIdentity) → Document → ℕ → Option TypeIdentity
+type_at types d decl = type_of_found types d.file (slice_get d.locals decl)
+
+-- an element particle with its type
+pub record TypedParticle : Type 0 where
+  pub name : Name
+  pub place : Place
+  pub kind : Option TypeIdentity
+
+abbrev pub typed_particle : Name → Place → Option TypeIdentity → TypedParticle
+typed_particle a p k = record { name = a; place = p; kind = k }
+
+-- the particle itself, if it is an element
+abbrev pub own_particle : (ℕ → Option TypeIdentity) → ParticleLabel → List TypedParticle
+own_particle types l = elim l.kind [
+  | particle.Element decl name ↦ typed_particle name (place l.file l.at) (types decl) ∷ []
+  | particle.Sequence ↦ []
+  | particle.Choice ↦ []
+]
+
+-- the element particles of a content model
+abbrev mutual
+  pub typed_particles : (ℕ → Option TypeIdentity) → Rose ParticleLabel → List TypedParticle
+  typed_particles types (node l ts) = own_particle types l ++ all_typed types ts
+
+  pub all_typed : (ℕ → Option TypeIdentity) → Roses ParticleLabel → List TypedParticle
+  all_typed types rose.none = []
+  all_typed types (rose.more t ts) = typed_particles types t ++ all_typed types ts
+
+abbrev pub IsIn : List TypedParticle → TypedParticle → Type 0
+IsIn [] p = ⊥
+IsIn (q ∷ qs) p = (q ≡ p) ⊎ IsIn qs p
+
+-- one of the same name stands before it and has another type
+abbrev pub IsOther : List TypedParticle → TypedParticle → Type 0
+IsOther ps p =
+    (q : TypedParticle) × IsIn ps q × (q.name ≡ p.name) × (is_before q.place p.place ≡ true) × (q.kind ≡ p.kind → ⊥)
+
+abbrev pub IsOtherAt : List TypedParticle → TypedParticle → Fault → Type 0
+IsOtherAt ps p f = (f ≡ fault TypesDiffer p.place) × IsOther ps p
+
+abbrev pub HasOther : List TypedParticle → Fault → Type 0
+HasOther ps f = OneHas (IsOtherAt ps) ps f
+
+abbrev pub HasOtherIn : (ℕ → Option TypeIdentity) → Option (Rose ParticleLabel) → Fault → Type 0
+HasOtherIn types None f = ⊥
+HasOtherIn types (Some model) f = HasOther (typed_particles types model) f
+
+abbrev pub HasOtherOf : (ℕ → Option TypeIdentity) → ComplexDefinition → Fault → Type 0
+HasOtherOf types c f = HasOtherIn types (model_of c.body.content) f
+
+abbrev pub DiffersIn : (Name → Option TypeIdentity) → Document → Fault → Type 0
+DiffersIn types d f = OneHas (HasOtherOf (type_at types d)) (of_document d) f
+
+abbrev pub Differs : List Document → Fault → Type 0
+Differs docs f = OneHas (DiffersIn (type_named (typed_elements docs))) docs f

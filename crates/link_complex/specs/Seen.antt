@@ -1,0 +1,14 @@
+-- What the complex types of the code stand for.
+use Rattle.std.specs.Prelude.{List, map}
+use Rattle.std.specs.Borrow.{Bor}
+use Rattle.std.specs.Option.{option_map}
+use Rattle.xa_base.specs.declared.texts.Name.{Name}
+use Rattle.schema_parts.specs.Seen.{complex_of}
+use Rattle.link_complex.specs.ComplexTypes.{ComplexDefinition}
+use Rattle.link_complex.specs.declared.definitions.ComplexType.{ComplexType}
+
+abbrev pub definition_of : ComplexType → ComplexDefinition
+definition_of c = record { name = option_map (λ (a : Bor Name). a.now) c.name; place = c.place; body = complex_of c.body.now }
+
+abbrev pub definitions_of : List ComplexType → List ComplexDefinition
+definitions_of cs = map definition_of cs

@@ -1,0 +1,132 @@
+//! The element particles of a content model, with their types.
+ghost use Rattle.std.specs.Prelude.{◌≡◌, ◌++◌, IfOk, OnOk, Some};
+ghost use Rattle.label_tree.specs.Rose.{roses_of};
+ghost use Rattle.schema_parts.specs.Seen.{local_of};
+ghost use Rattle.schema_parts.specs.Documents.{doc_of};
+ghost use Rattle.link_complex.specs.ElementTypes as told;
+ghost use Rattle.link_complex.specs.Identities.{type_of, kept_in, type_in, types_in, particles_of};
+
+use crate::identities::TypeIdentity;
+use content_models::{Particle, ParticleKind, ParticleLabel};
+use label_tree::Tree;
+use link_names::Place;
+use schema_parts::{RawDoc, RawLocal};
+use std::alloc::Global;
+use std::collections::BTreeMap;
+use xa_base::{Memory, Name};
+
+/// An element particle, where it was written, and its type. A reference that names nothing has none.
+#[derive(Clone, Copy)]
+pub(crate) struct TypedParticle<'a> {
+    pub name: &'a Name,
+    pub place: Place,
+    pub kind: Option<TypeIdentity<'a>>,
+}
+
+// The type of the global element of this name.
+fn type_of_global<'a>(
+    types: &BTreeMap<&'a Name, TypeIdentity<'a>>,
+    name: &'a Name,
+) -> Option<TypeIdentity<'a>>
+    ensures { result ≡ kept_in types.now name.now }
+{
+    match types.get(&name) {
+        Some(kind) => Some(*kind),
+        None => None,
+    }
+}
+
+fn type_of_local<'a>(
+    types: &BTreeMap<&'a Name, TypeIdentity<'a>>,
+    file: u32,
+    local: &'a RawLocal,
+) -> Option<TypeIdentity<'a>>
+    ensures { type_of result ≡ told.type_of_local (type_in types.now) file (local_of local.now) }
+{
+    match local {
+        RawLocal::Reference { name, .. } => type_of_global(types, name),
+        RawLocal::Own(element) => Some(TypeIdentity::of(file, &element.kind)),
+    }
+}
+
+// The type of the local declaration with this number.
+fn type_at<'a>(
+    types: &BTreeMap<&'a Name, TypeIdentity<'a>>,
+    doc: &'a RawDoc,
+    decl: u32,
+) -> Option<TypeIdentity<'a>>
+    ensures { type_of result ≡ types_in types.now doc.now decl }
+{
+    if decl < doc.local_count() {
+        return type_of_local(types, doc.file(), doc.local(decl));
+    }
+    None
+}
+
+fn push_own<'a>(
+    types: &BTreeMap<&'a Name, TypeIdentity<'a>>,
+    doc: &'a RawDoc,
+    label: &'a ParticleLabel,
+    out: &mut Vec<TypedParticle<'a>>,
+) -> Result<(), Memory>
+    ensures { OnOk result (particles_of out.new.items ≡ particles_of out.old.items ++ told.own_particle (types_in types.now doc.now) label.now) }
+{
+    match &label.kind {
+        ParticleKind::Element { decl, name } => {
+            out.push(TypedParticle {
+                name,
+                place: Place {
+                    file: label.file,
+                    at: label.at,
+                },
+                kind: type_at(types, doc, *decl),
+            })?;
+            Ok(())
+        }
+        ParticleKind::Sequence => Ok(()),
+        ParticleKind::Choice => Ok(()),
+    }
+}
+
+#[cycle(particles)]
+fn push_particles<'a>(
+    types: &BTreeMap<&'a Name, TypeIdentity<'a>>,
+    doc: &'a RawDoc,
+    tree: &'a Tree<ParticleLabel>,
+    out: &mut Vec<TypedParticle<'a>>,
+) -> Result<(), Memory>
+    ensures { OnOk result (particles_of out.new.items ≡ particles_of out.old.items ++ told.typed_particles (types_in types.now doc.now) tree.now) }
+{
+    push_own(types, doc, tree.label(), out)?;
+    push_all(types, doc, tree.kids(), out)?;
+    Ok(())
+}
+
+#[cycle(particles)]
+fn push_all<'a>(
+    types: &BTreeMap<&'a Name, TypeIdentity<'a>>,
+    doc: &'a RawDoc,
+    kids: &'a [Tree<ParticleLabel>],
+    out: &mut Vec<TypedParticle<'a>>,
+) -> Result<(), Memory>
+    ensures { OnOk result (particles_of out.new.items ≡ particles_of out.old.items ++ told.all_typed (types_in types.now doc.now) (roses_of kids.now)) }
+{
+    'kids: for kid in kids {
+        push_particles(types, doc, kid, out)?;
+    }
+    Ok(())
+}
+
+/// The element particles of the content model of a complex type in the document.
+pub(crate) fn typed_particles<'a>(
+    alloc: Global,
+    types: &BTreeMap<&'a Name, TypeIdentity<'a>>,
+    doc: &'a RawDoc,
+    model: &'a Particle,
+) -> Result<Vec<TypedParticle<'a>>, Memory>
+    ensures { IfOk result (λ found. particles_of found.items ≡ told.typed_particles (types_in types.now doc.now) model.now) }
+{
+    let mut found = Vec::new(alloc);
+    push_particles(types, doc, model.root(), &mut found)?;
+    Ok(found)
+}

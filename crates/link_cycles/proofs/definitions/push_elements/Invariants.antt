@@ -1,0 +1,11 @@
+use Rattle.std.proofs.Common.{◌≡◌, ◌++◌, map, take}
+use Rattle.std.specs.List.{flat_map}
+use Rattle.schema_parts.specs.Seen.{element_of}
+use Rattle.link_cycles.specs.SimpleTypes.{of_element}
+use Rattle.link_cycles.specs.Seen.{definitions_of}
+use Rattle.link_cycles.proofs.definitions.push_elements.Given as goal
+
+-- those of the ones before this one were put behind
+abbrev pub invariant-elements : goal.invariant-elements
+invariant-elements l =
+    definitions_of l.out.items ≡ definitions_of l.fn.out.items ++ flat_map (of_element l.file) (map element_of (take l.element-index l.elements))

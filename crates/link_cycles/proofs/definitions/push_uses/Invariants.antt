@@ -1,0 +1,11 @@
+use Rattle.std.proofs.Common.{◌≡◌, ◌++◌, map, take}
+use Rattle.std.specs.List.{flat_map}
+use Rattle.schema_parts.specs.Seen.{use_of}
+use Rattle.link_cycles.specs.SimpleTypes.{of_use}
+use Rattle.link_cycles.specs.Seen.{definitions_of}
+use Rattle.link_cycles.proofs.definitions.push_uses.Given as goal
+
+-- those of the ones before this one were put behind
+abbrev pub invariant-uses : goal.invariant-uses
+invariant-uses l =
+    definitions_of l.out.items ≡ definitions_of l.fn.out.items ++ flat_map (of_use l.file) (map use_of (take l.attribute-index l.uses))

@@ -1,0 +1,76 @@
+-- The order of faults: by files and places, and at one place by their reasons.
+use Rattle.std.specs.Prelude.{◌≡◌, ℕ, Bool, false, ◌&&◌, ◌||◌, not, nat_eq, nat_lt, ◌⊎◌, List, [], ◌∷◌, Option, Some, None, MatchOption, if◌then◌else◌}
+use Rattle.facet_rules.specs.declared.refusals.FacetWhy.{FacetWhy}
+use Rattle.facet_rules.specs.declared.refusals.FacetWhy.TheVariants as facet
+use Rattle.link_names.specs.declared.places.Place.{Place}
+use Rattle.link_names.specs.declared.faults.LinkWhy.{LinkWhy}
+use Rattle.link_names.specs.declared.faults.LinkWhy.TheVariants as why
+use Rattle.link_names.specs.declared.faults.Fault.{Fault}
+
+abbrev pub place : ℕ → ℕ → Place
+place file at = record { file = file; at = at }
+
+abbrev pub is_before : Place → Place → Bool
+is_before a b = nat_lt a.file b.file || (nat_eq a.file b.file && nat_lt a.at b.at)
+
+-- each reason has a rank of its own, so of two faults that differ one precedes the other
+abbrev pub rank_of_facet : FacetWhy → ℕ
+rank_of_facet facet.Misplaced = 5
+rank_of_facet facet.Widens = 6
+rank_of_facet facet.NotInBase = 7
+rank_of_facet facet.EmptySpace = 8
+rank_of_facet facet.BadNumber = 9
+rank_of_facet facet.TooWide = 10
+
+abbrev pub rank_of : LinkWhy → ℕ
+rank_of why.Limit = 0
+rank_of why.Duplicate = 1
+rank_of why.Unresolved = 2
+rank_of why.ComplexBase = 3
+rank_of why.CircularType = 4
+rank_of (why.Facet reason) = rank_of_facet reason
+rank_of why.BadItem = 11
+rank_of why.DuplicateUse = 12
+rank_of why.TypesDiffer = 13
+rank_of why.NotClear = 14
+
+abbrev pub fault : LinkWhy → Place → Fault
+fault w p = record { place = p; why = w }
+
+abbrev pub precedes : Fault → Fault → Bool
+precedes f g = is_before f.place g.place || (not (is_before g.place f.place) && nat_lt (rank_of f.why) (rank_of g.why))
+
+-- it is one of the faults
+abbrev pub Has : List Fault → Fault → Type 0
+Has [] f = ⊥
+Has (g ∷ gs) f = (g ≡ f) ⊎ Has gs f
+
+abbrev pub NonePrecedes : List Fault → Fault → Type 0
+NonePrecedes [] f = Unit {0}
+NonePrecedes (g ∷ gs) f = (precedes g f ≡ false) × NonePrecedes gs f
+
+-- one of the faults, which none precedes
+abbrev pub IsFirst : List Fault → Fault → Type 0
+IsFirst fs f = Has fs f × NonePrecedes fs f
+
+-- the first of them, or none where there is none
+abbrev pub IsFirstOf : List Fault → Option Fault → Type 0
+IsFirstOf fs found = MatchOption found (fs ≡ []) (IsFirst fs)
+
+-- a fault of this kind, which no other of the kind precedes; none where there is none of the kind
+abbrev pub IsFirstSuch : (Fault → Type 0) → Option Fault → Type 0
+IsFirstSuch P found = MatchOption found ((f : Fault) → P f → ⊥) (λ f. P f × ((g : Fault) → P g → precedes g f ≡ false))
+
+-- a fault that one of these has
+abbrev pub OneHas : {A : Type 0} → (A → Fault → Type 0) → List A → Fault → Type 0
+OneHas has [] f = ⊥
+OneHas has (x ∷ xs) f = has x f ⊎ OneHas has xs f
+
+-- the first of those found and one more
+abbrev pub earlier : Option Fault → Fault → Option Fault
+earlier None g = Some g
+earlier (Some f) g = if precedes g f then Some g else Some f
+
+abbrev pub first_of : Option Fault → Option Fault → Option Fault
+first_of found None = found
+first_of found (Some f) = earlier found f

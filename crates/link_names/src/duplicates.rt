@@ -1,0 +1,124 @@
+//! Global components of one name.
+ghost use Rattle.std.specs.Prelude.{◌≡◌, ◌++◌, List, map, IfOk};
+ghost use Rattle.xa_base.specs.declared.texts.Name.{Name};
+ghost use Rattle.schema_parts.specs.Documents.{doc_of};
+ghost use Rattle.link_names.specs.declared.faults.Fault.{Fault};
+ghost use Rattle.link_names.specs.declared.faults.LinkWhy.TheVariants.{Duplicate};
+ghost use Rattle.link_names.specs.Globals as globals;
+ghost use Rattle.link_names.specs.Globals.{duplicates, repeated};
+ghost use Rattle.link_names.specs.Order.{IsFirstOf};
+ghost use Rattle.link_names.specs.Seen.{globals_of};
+ghost use Rattle.link_names.specs.Tables.{place_in, first_place, lesser, stands_before};
+
+use crate::faults::{Fault, LinkWhy, earlier};
+use crate::global_names::{self, NamedPart};
+use crate::places::Place;
+use schema_parts::RawDoc;
+use std::alloc::Global;
+use std::collections::BTreeMap;
+use xa_base::{Memory, Name};
+
+// The place, or that of a component of the name further on, if it is before.
+fn lesser<'a>(table: &BTreeMap<&'a Name, Place>, name: &'a Name, place: Place) -> Place
+    ensures { result ≡ lesser place (place_in table.now name.now) }
+{
+    match table.get(&name) {
+        Some(other) if other.is_before(place) => *other,
+        _ => place,
+    }
+}
+
+// Where the first component of each name stands.
+fn first_places<'a>(
+    alloc: Global,
+    globals: &[NamedPart<'a>],
+) -> Result<BTreeMap<&'a Name, Place>, Memory>
+    ensures { IfOk result (λ places. (a : Name) → place_in places a ≡ first_place (globals_of globals.now) a) }
+{
+    let mut places = BTreeMap::new(alloc);
+    let mut i = globals.len();
+    'last_first: while i > 0 {
+        i -= 1;
+        let global = globals[i];
+        let place = lesser(&places, global.name, global.place);
+        places.insert(global.name, place)?;
+    }
+    Ok(places)
+}
+
+// Whether a component of the name stands before this one.
+fn is_repeated<'a>(places: &BTreeMap<&'a Name, Place>, global: NamedPart<'a>) -> bool
+    ensures { result ≡ stands_before (place_in places.now global.entry.name.now) global.entry.place }
+{
+    match places.get(&global.name) {
+        Some(first) => first.is_before(global.place),
+        None => false,
+    }
+}
+
+/// The first of what was found before and of those whose name another one has that stands before them, for this reason.
+/// The time grows as n log n with their number.
+pub fn first_repeated<'a>(
+    alloc: Global,
+    globals: &[NamedPart<'a>],
+    why: LinkWhy,
+    found: Option<Fault>,
+) -> Result<Option<Fault>, Memory>
+    ensures { (fs : List Fault) → IsFirstOf fs found → IfOk result (λ first. IsFirstOf (fs ++ repeated why (globals_of globals.now)) first) }
+{
+    let places = first_places(alloc, globals)?;
+    let mut first = found;
+    'globals: for global in globals {
+        if is_repeated(&places, *global) {
+            let fault = Fault {
+                place: global.place,
+                why,
+            };
+            first = earlier(first, fault);
+        }
+    }
+    Ok(first)
+}
+
+fn first_of_elements(
+    alloc: Global,
+    docs: &[RawDoc],
+    found: Option<Fault>,
+) -> Result<Option<Fault>, Memory>
+    ensures { (fs : List Fault) → IsFirstOf fs found → IfOk result (λ first. IsFirstOf (fs ++ repeated Duplicate (globals.elements (map doc_of docs.now))) first) }
+{
+    let globals = global_names::elements(alloc, docs)?;
+    first_repeated(alloc, &globals, LinkWhy::Duplicate, found)
+}
+
+fn first_of_attributes(
+    alloc: Global,
+    docs: &[RawDoc],
+    found: Option<Fault>,
+) -> Result<Option<Fault>, Memory>
+    ensures { (fs : List Fault) → IsFirstOf fs found → IfOk result (λ first. IsFirstOf (fs ++ repeated Duplicate (globals.attributes (map doc_of docs.now))) first) }
+{
+    let globals = global_names::attributes(alloc, docs)?;
+    first_repeated(alloc, &globals, LinkWhy::Duplicate, found)
+}
+
+fn first_of_types(
+    alloc: Global,
+    docs: &[RawDoc],
+    found: Option<Fault>,
+) -> Result<Option<Fault>, Memory>
+    ensures { (fs : List Fault) → IsFirstOf fs found → IfOk result (λ first. IsFirstOf (fs ++ repeated Duplicate (globals.types (map doc_of docs.now))) first) }
+{
+    let globals = global_names::types(alloc, docs)?;
+    first_repeated(alloc, &globals, LinkWhy::Duplicate, found)
+}
+
+/// The first global element, attribute or type whose name an earlier one of its kind has. Simple and complex types are
+/// one kind. The time grows as n log n with their number, whatever their names are.
+pub fn first_duplicate(alloc: Global, docs: &[RawDoc]) -> Result<Option<Fault>, Memory>
+    ensures { IfOk result (λ found. IsFirstOf (duplicates (map doc_of docs.now)) found) }
+{
+    let found = first_of_elements(alloc, docs, None)?;
+    let found = first_of_attributes(alloc, docs, found)?;
+    first_of_types(alloc, docs, found)
+}

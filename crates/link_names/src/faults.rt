@@ -1,0 +1,101 @@
+//! Faults of linking, and the first of several.
+ghost use Rattle.std.specs.Prelude.{◌≡◌};
+ghost use Rattle.link_names.specs.Order.{rank_of, rank_of_facet, precedes, earlier, first_of};
+
+use crate::places::Place;
+use facet_rules::FacetWhy;
+
+/// Why documents can't be linked. At one place the reasons come in this order,
+/// and those of facets in the order of `FacetWhy`.
+#[derive(Clone, Copy, Debug, PartialEq, Eq)]
+pub enum LinkWhy {
+    /// More than 10,000 components in the set, or a union over its own limits.
+    Limit,
+    /// A global element, an attribute or a type whose name an earlier one of its kind has.
+    Duplicate,
+    /// A reference that names nothing.
+    Unresolved,
+    /// A reference to a complex type where a simple one is needed.
+    ComplexBase,
+    /// A simple type that is made of itself.
+    CircularType,
+    /// A restriction whose facets don't fit its base.
+    Facet(FacetWhy),
+    /// A list of lists.
+    BadItem,
+    /// A second attribute of one name in a type.
+    DuplicateUse,
+    /// A second element of one name in a content model, with another type.
+    TypesDiffer,
+    /// A particle that can't be told apart without looking ahead.
+    NotClear,
+}
+
+/// A fault of several documents as one set.
+#[derive(Clone, Copy, Debug, PartialEq, Eq)]
+pub struct Fault {
+    /// The place of the element of the schema that has it.
+    pub place: Place,
+    /// What is wrong there.
+    pub why: LinkWhy,
+}
+
+fn rank_of_facet(why: FacetWhy) -> u8
+    ensures { result ≡ rank_of_facet why }
+{
+    match why {
+        FacetWhy::Misplaced => 5,
+        FacetWhy::Widens => 6,
+        FacetWhy::NotInBase => 7,
+        FacetWhy::EmptySpace => 8,
+        FacetWhy::BadNumber => 9,
+        FacetWhy::TooWide => 10,
+    }
+}
+
+fn rank(why: LinkWhy) -> u8
+    ensures { result ≡ rank_of why }
+{
+    match why {
+        LinkWhy::Limit => 0,
+        LinkWhy::Duplicate => 1,
+        LinkWhy::Unresolved => 2,
+        LinkWhy::ComplexBase => 3,
+        LinkWhy::CircularType => 4,
+        LinkWhy::Facet(reason) => rank_of_facet(reason),
+        LinkWhy::BadItem => 11,
+        LinkWhy::DuplicateUse => 12,
+        LinkWhy::TypesDiffer => 13,
+        LinkWhy::NotClear => 14,
+    }
+}
+
+impl Fault {
+    /// Whether it stands at a lesser place than the other one, or at the same place with an earlier reason.
+    pub fn precedes(self, other: Fault) -> bool
+        ensures { result ≡ precedes self other }
+    {
+        self.place.is_before(other.place)
+            || (!other.place.is_before(self.place) && rank(self.why) < rank(other.why))
+    }
+}
+
+/// The first of the faults found and one more.
+pub fn earlier(found: Option<Fault>, fault: Fault) -> Option<Fault>
+    ensures { result ≡ earlier found fault }
+{
+    match found {
+        Some(first) if !fault.precedes(first) => Some(first),
+        _ => Some(fault),
+    }
+}
+
+/// The first of two faults, or the one that there is.
+pub fn first_of(found: Option<Fault>, other: Option<Fault>) -> Option<Fault>
+    ensures { result ≡ first_of found other }
+{
+    match other {
+        Some(fault) => earlier(found, fault),
+        None => found,
+    }
+}

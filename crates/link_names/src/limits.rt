@@ -1,0 +1,35 @@
+//! How many components a set may have.
+ghost use Rattle.std.specs.Prelude.{◌≡◌, map};
+ghost use Rattle.schema_parts.specs.Documents.{doc_of};
+ghost use Rattle.link_names.specs.Order.{IsFirstOf};
+ghost use Rattle.link_names.specs.Limits.{beyond_limit};
+
+use crate::faults::{Fault, LinkWhy};
+use crate::places::Place;
+use schema_parts::RawDoc;
+
+/// The greatest number of the components of a set that count.
+const MOST_COUNTED: usize = 10_000;
+
+/// The component behind the first 10,000, in the order in which the documents are handed in and, in each, in the order
+/// written. That is the order of files and places only where the documents are handed in by the numbers of their files.
+pub fn first_beyond_limit(docs: &[RawDoc]) -> Option<Fault>
+    ensures { IsFirstOf (beyond_limit (map doc_of docs.now)) result }
+{
+    let mut left = MOST_COUNTED;
+    'docs: for doc in docs {
+        let counted = doc.counted();
+        if left < counted.len() {
+            let place = Place {
+                file: doc.file(),
+                at: counted[left],
+            };
+            return Some(Fault {
+                place,
+                why: LinkWhy::Limit,
+            });
+        }
+        left -= counted.len();
+    }
+    None
+}

@@ -1,0 +1,138 @@
+//! Which references name what they need.
+ghost use Rattle.std.specs.Prelude.{◌≡◌, map, IfOk};
+ghost use Rattle.std.specs.List.{filter_map};
+ghost use Rattle.xa_base.specs.declared.texts.Name.{Name};
+ghost use Rattle.schema_parts.specs.Documents.{doc_of};
+ghost use Rattle.link_names.specs.Globals.{is_there};
+ghost use Rattle.link_names.specs.Globals as globals;
+ghost use Rattle.link_names.specs.Mentioned.{mentions_of};
+ghost use Rattle.link_names.specs.Order.{IsFirstOf};
+ghost use Rattle.link_names.specs.Resolution as resolution;
+ghost use Rattle.link_names.specs.Resolution.{names_in, wrong, fault_of, unresolved};
+ghost use Rattle.link_names.specs.Seen.{globals_of};
+ghost use Rattle.link_names.specs.Tables.{holds};
+ghost use Rattle.link_names.specs.NameTables.{told_by, Agree};
+
+use crate::faults::{Fault, LinkWhy, earlier};
+use crate::global_names::{self, NamedPart};
+use crate::name_tables::{NameTable, TypeNames};
+use crate::references::{Mention, Need, mentions};
+use schema_parts::RawDoc;
+use std::alloc::Global;
+use std::collections::BTreeSet;
+use xa_base::{Memory, Name};
+
+fn names_of<'a>(alloc: Global, globals: &[NamedPart<'a>]) -> Result<BTreeSet<&'a Name>, Memory>
+    ensures { IfOk result (λ names. (a : Name) → holds names a ≡ is_there (globals_of globals.now) a) }
+{
+    let mut names = BTreeSet::new(alloc);
+    'globals: for global in globals {
+        names.insert(global.name)?;
+    }
+    Ok(names)
+}
+
+fn element_names<'a>(alloc: Global, docs: &'a [RawDoc]) -> Result<BTreeSet<&'a Name>, Memory>
+    ensures { IfOk result (λ names. (a : Name) → holds names a ≡ is_there (globals.elements (map doc_of docs.now)) a) }
+{
+    let globals = global_names::elements(alloc, docs)?;
+    names_of(alloc, &globals)
+}
+
+fn attribute_names<'a>(alloc: Global, docs: &'a [RawDoc]) -> Result<BTreeSet<&'a Name>, Memory>
+    ensures { IfOk result (λ names. (a : Name) → holds names a ≡ is_there (globals.attributes (map doc_of docs.now)) a) }
+{
+    let globals = global_names::attributes(alloc, docs)?;
+    names_of(alloc, &globals)
+}
+
+fn type_names<'a>(alloc: Global, docs: &'a [RawDoc]) -> Result<BTreeSet<&'a Name>, Memory>
+    ensures { IfOk result (λ names. (a : Name) → holds names a ≡ is_there (globals.types (map doc_of docs.now)) a) }
+{
+    let globals = global_names::types(alloc, docs)?;
+    names_of(alloc, &globals)
+}
+
+fn complex_names<'a>(alloc: Global, docs: &'a [RawDoc]) -> Result<BTreeSet<&'a Name>, Memory>
+    ensures { IfOk result (λ names. (a : Name) → holds names a ≡ is_there (globals.complexes (map doc_of docs.now)) a) }
+{
+    let globals = global_names::complexes(alloc, docs)?;
+    names_of(alloc, &globals)
+}
+
+fn types<'a>(alloc: Global, docs: &'a [RawDoc]) -> Result<TypeNames<'a>, Memory>
+    ensures { IfOk result (λ names. (a : Name) → (holds names.all a ≡ is_there (globals.types (map doc_of docs.now)) a)
+        × (holds names.complexes a ≡ is_there (globals.complexes (map doc_of docs.now)) a)) }
+{
+    let all = type_names(alloc, docs)?;
+    let complexes = complex_names(alloc, docs)?;
+    Ok(TypeNames { all, complexes })
+}
+
+fn name_table<'a>(alloc: Global, docs: &'a [RawDoc]) -> Result<NameTable<'a>, Memory>
+    ensures { IfOk result (λ table. Agree (told_by table) (names_in (map doc_of docs.now))) }
+{
+    let elements = element_names(alloc, docs)?;
+    let attributes = attribute_names(alloc, docs)?;
+    let types = types(alloc, docs)?;
+    Ok(NameTable {
+        elements,
+        attributes,
+        types,
+    })
+}
+
+fn unless_there(there: bool) -> Option<LinkWhy>
+    ensures { result ≡ resolution.unless_there there }
+{
+    if there {
+        return None;
+    }
+    Some(LinkWhy::Unresolved)
+}
+
+impl<'a> NameTable<'a> {
+    // What is wrong with a reference.
+    fn wrong(&self, need: Need, name: &'a Name) -> Option<LinkWhy>
+        ensures { result ≡ wrong (told_by self.now) need name.now }
+    {
+        match need {
+            Need::Element => unless_there(self.elements.contains(&name)),
+            Need::Attribute => unless_there(self.attributes.contains(&name)),
+            Need::Type => unless_there(self.types.all.contains(&name)),
+            Need::Simple => {
+                if self.types.complexes.contains(&name) {
+                    return Some(LinkWhy::ComplexBase);
+                }
+                unless_there(self.types.all.contains(&name))
+            }
+        }
+    }
+
+    // The first of the references with which something is wrong.
+    fn first_wrong(&self, mentions: &[Mention<'a>]) -> Option<Fault>
+        ensures { IsFirstOf (filter_map (fault_of (told_by self.now)) (mentions_of mentions.now)) result }
+    {
+        let mut found = None;
+        'mentions: for mention in mentions {
+            if let Some(why) = self.wrong(mention.need, mention.name) {
+                let fault = Fault {
+                    place: mention.place,
+                    why,
+                };
+                found = earlier(found, fault);
+            }
+        }
+        found
+    }
+}
+
+/// The first reference that names nothing, or names a complex type where a simple one is needed. The time grows as
+/// n log n with the number of names, whatever they are.
+pub fn first_unresolved(alloc: Global, docs: &[RawDoc]) -> Result<Option<Fault>, Memory>
+    ensures { IfOk result (λ found. IsFirstOf (unresolved (map doc_of docs.now)) found) }
+{
+    let table = name_table(alloc, docs)?;
+    let mentions = mentions(alloc, docs)?;
+    Ok(table.first_wrong(&mentions))
+}

@@ -1,0 +1,76 @@
+-- Tables of numbers, with one entry more before the others.
+use Rattle.std.proofs.Common.{◌≡◌, ℕ, suc, ◌+◌, ◌-◌, ◌<◌, ◌≤◌, arith, Bool, List, ◌∷◌, length, drop, get_or, Option, Some, None, refl, sym, ap, ◌∙◌, Bor}
+use Rattle.std.specs.Prelude.{cond, nat_eq}
+use Rattle.std.specs.Option.{option_map}
+use Rattle.std.specs.Ordering.{is_eq, nat_cmp, ordering_then}
+use Rattle.std.specs.BTreeMap as tree
+use Rattle.std.specs.BTreeMap.{BTreeMap}
+use Rattle.std.proofs.lemmas.Bool.Decides.{nat_tests}
+use Rattle.xa_base.specs.declared.texts.Name.{Name}
+use Rattle.xa_base.specs.Names.{name_eq}
+use Rattle.simple_types.specs.declared.simples.Builtin.{Builtin}
+use Rattle.link_names.specs.declared.places.Place.{Place}
+use Rattle.link_names.proofs.Placing.{cut}
+use Rattle.link_cycles.specs.Tables.{named_in, placed_in, names}
+use Rattle.link_cycles.proofs.Numbering.{put_placed}
+use Rattle.link_set.specs.Builtins.{rank, is_builtin}
+use Rattle.link_set.specs.Numbers.{Numbers, number_from, number_named, number_placed, builtin_numbers, is_called, has_name, stands_at}
+use Rattle.link_set.specs.Told.{entry_of, entries_of, ranked_in}
+use Rattle.link_set.specs.Seen.{told_attribute, attributes_of}
+use Rattle.link_set.specs.Sets.{attribute, attributes, type_of_attribute}
+use Rattle.link_set.specs.declared.numbers.Entry.{Entry}
+use Rattle.link_set.specs.declared.written.WrittenAttribute.{WrittenAttribute}
+
+number_here : {A : Type 0} (passes : A → Bool) (first i : ℕ) (x : A) (xs : List A) → 0 < i
+    → number_from (first + (i - 1)) passes (x ∷ xs) ≡ cond (passes x) (Some (first + (i - 1))) (number_from (first + i) passes xs)
+number_here passes first i x xs lt =
+    let next : suc (first + (i - 1)) ≡ first + i = omega arith in
+    ap (λ n. cond (passes x) (Some (first + (i - 1))) (number_from n passes xs)) next
+
+same_name : (o : Option (Bor Name)) (a : Name) → names o a ≡ is_called (option_map (λ (b : Bor Name). b.now) o) a
+same_name None a = refl
+same_name (Some b) a = refl
+
+module _ (es : List Entry) (first i : ℕ) (e : Entry) (lt : 0 < i) (le : i ≤ length es) (is : e ≡ get_or es (i - 1) e) where
+  pub one_named : (old new : BTreeMap (Bor Name) ℕ) → ((a : Name) → named_in old a ≡ number_named (first + i) (entries_of (drop i es)) a)
+      → ((a : Name) → named_in new a ≡ cond (names e.name a) (Some (first + (i - 1))) (named_in old a))
+      → (a : Name) → named_in new a ≡ number_named (first + (i - 1)) (entries_of (drop (i - 1) es)) a
+  one_named old new so_far up a =
+      up a ∙ ap (λ o. cond (names e.name a) (Some (first + (i - 1))) o) (so_far a)
+      ∙ ap (λ b. cond b (Some (first + (i - 1))) (number_named (first + i) (entries_of (drop i es)) a)) (same_name e.name a)
+      ∙ sym (number_here (has_name a) first i (entry_of e) (entries_of (drop i es)) lt)
+      ∙ ap (λ xs. number_named (first + (i - 1)) (entries_of xs) a) (sym (cut es i e lt le is))
+
+  pub one_placed : (old new : BTreeMap (ℕ × ℕ) ℕ) → ((p : Place) → placed_in old p ≡ number_placed (first + i) (entries_of (drop i es)) p)
+      → tree.Updates (λ (x y : ℕ × ℕ). ordering_then (nat_cmp x.0 y.0) (nat_cmp x.1 y.1)) old new (e.place.file, e.place.at) (Some (first + (i - 1)))
+      → (p : Place) → placed_in new p ≡ number_placed (first + (i - 1)) (entries_of (drop (i - 1) es)) p
+  one_placed old new so_far up p =
+      put_placed old new (e.place.file, e.place.at) (first + (i - 1)) up p
+      ∙ ap (λ o. cond (stands_at p (entry_of e)) (Some (first + (i - 1))) o) (so_far p)
+      ∙ sym (number_here (stands_at p) first i (entry_of e) (entries_of (drop i es)) lt)
+      ∙ ap (λ xs. number_placed (first + (i - 1)) (entries_of xs) p) (sym (cut es i e lt le is))
+
+rank_test : (a b : ℕ) → is_eq (nat_cmp a b) ≡ nat_eq a b
+rank_test a b = grind (arith, nat_tests)
+
+pub one_ranked : (used : List Builtin) (first i : ℕ) (which : Builtin) → 0 < i → i ≤ length used → which ≡ get_or used (i - 1) which
+    → (old new : BTreeMap ℕ ℕ) → ((w : Builtin) → ranked_in old w ≡ builtin_numbers (first + i) (drop i used) w)
+    → (k : ℕ) → k ≡ rank which → tree.Updates nat_cmp old new k (Some (first + (i - 1)))
+    → (w : Builtin) → ranked_in new w ≡ builtin_numbers (first + (i - 1)) (drop (i - 1) used) w
+one_ranked used first i which lt le is old new so_far k own up w =
+    let n = first + (i - 1) in
+    let at : ranked_in new w ≡ cond (is_eq (nat_cmp k (rank w))) (Some n) (ranked_in old w) = up.0 (rank w) in
+    at ∙ ap (λ b. cond b (Some n) (ranked_in old w)) (rank_test k (rank w) ∙ ap (λ m. nat_eq m (rank w)) own)
+    ∙ ap (λ o. cond (is_builtin w which) (Some n) o) (so_far w) ∙ sym (number_here (is_builtin w) first i which (drop i used) lt)
+    ∙ ap (λ xs. builtin_numbers n xs w) (sym (cut used i which lt le is))
+
+-- the type of an attribute, with one attribute more before the others
+pub one_typed : (ns : Numbers) (as_ : List WrittenAttribute) (i : ℕ) (w : WrittenAttribute) → 0 < i → i ≤ length as_ → w ≡ get_or as_ (i - 1) w
+    → (old new : BTreeMap (Bor Name) ℕ) → ((a : Name) → named_in old a ≡ type_of_attribute (attributes ns (attributes_of (drop i as_))) a)
+    → (n : ℕ) → n ≡ (attribute ns (told_attribute w)).simple
+    → ((a : Name) → named_in new a ≡ cond (name_eq w.attribute.now.name a) (Some n) (named_in old a))
+    → (a : Name) → named_in new a ≡ type_of_attribute (attributes ns (attributes_of (drop (i - 1) as_))) a
+one_typed ns as_ i w lt le is old new so_far n typed up a =
+    up a ∙ ap (λ o. cond (name_eq w.attribute.now.name a) (Some n) o) (so_far a)
+    ∙ ap (λ m. cond (name_eq w.attribute.now.name a) (Some m) (type_of_attribute (attributes ns (attributes_of (drop i as_))) a)) typed
+    ∙ ap (λ xs. type_of_attribute (attributes ns (attributes_of xs)) a) (sym (cut as_ i w lt le is))

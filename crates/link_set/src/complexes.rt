@@ -1,0 +1,250 @@
+//! Complex types with the numbers of what they name.
+ghost use Rattle.std.specs.Prelude.{◌≡◌, Some, map, IfOk};
+ghost use Rattle.std.specs.Option.{option_map};
+ghost use Rattle.label_tree.specs.Rose.{label_of};
+ghost use Rattle.schema_parts.specs.Documents.{doc_of};
+ghost use Rattle.schema_parts.specs.Seen.{base_of, use_of, uses_in};
+ghost use Rattle.link_cycles.specs.Tables.{named_in};
+ghost use Rattle.link_complex.specs.Seen.{definition_of, definitions_of};
+ghost use Rattle.link_set.specs.Ordered.{in_order};
+ghost use Rattle.link_set.specs.Sets as told;
+ghost use Rattle.link_set.specs.Told.{told_by};
+
+use crate::references::{number_named, or_zero};
+use crate::tables::Numbers;
+use link_complex::ComplexType;
+use content_models::{Particle, ParticleKind, ParticleLabel};
+use label_tree::{Tree, Whole};
+use schema_parts::{AttributeUse, ComplexDef, Content, RawBase, RawContent, RawDoc, RawUse, Uses};
+use std::alloc::Global;
+use std::collections::BTreeMap;
+use xa_base::{Memory, Name};
+
+fn uses_by_name(mut uses: Vec<AttributeUse>) -> Result<Vec<AttributeUse>, Memory>
+    ensures { IfOk result (λ sorted. sorted.items ≡ in_order told.use_before uses.items) }
+{
+    uses.sort_by(|a, b| a.name.cmp(&b.name))?;
+    Ok(uses)
+}
+
+/// The name, if there is one.
+pub(crate) fn name_copy(alloc: Global, name: Option<&Name>) -> Result<Option<Name>, Memory>
+    ensures { IfOk result (λ copy. copy ≡ option_map (λ a. a.now) name.entry) }
+{
+    match name {
+        Some(name) => {
+            let copy = name.copy(alloc)?;
+            Ok(Some(copy))
+        }
+        None => Ok(None),
+    }
+}
+
+impl<'a> Numbers<'a> {
+    fn type_of_use(&self, file: u32, kind: &'a Option<RawBase>) -> u32
+        ensures { result ≡ told.type_of_use (told_by self.now) file (option_map base_of kind.now) }
+    {
+        match kind {
+            Some(base) => self.simple_of_base(file, base),
+            None => 0,
+        }
+    }
+
+    fn simple_of_use(
+        &self,
+        types: &BTreeMap<&'a Name, u32>,
+        file: u32,
+        attribute: &'a RawUse,
+    ) -> u32
+        ensures { result ≡ told.simple_of_use (told_by self.now) (named_in types.now) file (use_of attribute.now) }
+    {
+        if attribute.reference {
+            return or_zero(number_named(types, &attribute.name));
+        }
+        self.type_of_use(file, &attribute.kind)
+    }
+
+    fn attribute_use(
+        &self,
+        alloc: Global,
+        types: &BTreeMap<&'a Name, u32>,
+        file: u32,
+        attribute: &'a RawUse,
+    ) -> Result<AttributeUse, Memory>
+        ensures { IfOk result (λ made. made ≡ told.attribute_use (told_by self.now) (named_in types.now) file (use_of attribute.now)) }
+    {
+        let name = attribute.name.copy(alloc)?;
+        Ok(AttributeUse {
+            name,
+            simple: self.simple_of_use(types, file, attribute),
+            required: attribute.required,
+        })
+    }
+
+    fn attribute_uses(
+        &self,
+        alloc: Global,
+        types: &BTreeMap<&'a Name, u32>,
+        file: u32,
+        attributes: &'a [RawUse],
+    ) -> Result<Vec<AttributeUse>, Memory>
+        ensures { IfOk result (λ made. made.items ≡ map (told.attribute_use (told_by self.now) (named_in types.now) file) (uses_in attributes.now)) }
+    {
+        let mut made = Vec::new(alloc);
+        'uses: for attribute in attributes {
+            let one = self.attribute_use(alloc, types, file, attribute)?;
+            made.push(one)?;
+        }
+        Ok(made)
+    }
+
+    fn uses(
+        &self,
+        alloc: Global,
+        types: &BTreeMap<&'a Name, u32>,
+        complex: ComplexType<'a>,
+    ) -> Result<Uses, Memory>
+        ensures { IfOk result (λ made. made ≡ told.uses (told_by self.now) (named_in types.now) (definition_of complex.entry)) }
+    {
+        let file = complex.place.file;
+        let made = self.attribute_uses(alloc, types, file, complex.body.uses.items())?;
+        let sorted = uses_by_name(made)?;
+        Ok(Uses::of(sorted))
+    }
+
+    fn numbered_kind(
+        &self,
+        alloc: Global,
+        docs: &'a [RawDoc],
+        file: u32,
+        kind: &ParticleKind,
+    ) -> Result<ParticleKind, Memory>
+        ensures { IfOk result (λ made. made ≡ told.numbered_kind (told.number_of_declaration (told_by self.now) (map doc_of docs.now) file) kind.now) }
+    {
+        match kind {
+            ParticleKind::Element { decl, name } => {
+                let name = name.copy(alloc)?;
+                Ok(ParticleKind::Element {
+                    decl: self.number_of_declaration(docs, file, *decl),
+                    name,
+                })
+            }
+            ParticleKind::Sequence => Ok(ParticleKind::Sequence),
+            ParticleKind::Choice => Ok(ParticleKind::Choice),
+        }
+    }
+
+    fn numbered_label(
+        &self,
+        alloc: Global,
+        docs: &'a [RawDoc],
+        file: u32,
+        label: &ParticleLabel,
+    ) -> Result<ParticleLabel, Memory>
+        ensures { IfOk result (λ made. made ≡ told.numbered_label (told.number_of_declaration (told_by self.now) (map doc_of docs.now) file) label.now) }
+    {
+        let kind = self.numbered_kind(alloc, docs, file, &label.kind)?;
+        Ok(ParticleLabel {
+            kind,
+            min: label.min,
+            max: label.max,
+            file: label.file,
+            at: label.at,
+        })
+    }
+
+    fn numbered(
+        &self,
+        alloc: Global,
+        docs: &'a [RawDoc],
+        file: u32,
+        tree: &Tree<ParticleLabel>,
+    ) -> Result<Tree<ParticleLabel>, Memory>
+        ensures { IfOk result (λ made. made ≡ told.numbered (told.number_of_declaration (told_by self.now) (map doc_of docs.now) file) tree.now) }
+    {
+        let label = self.numbered_label(alloc, docs, file, tree.label())?;
+        let kids = tree.kids();
+        let mut made = Vec::new(alloc);
+        'kids: for kid in kids {
+            let one = self.numbered(alloc, docs, file, kid)?;
+            made.push(one)?;
+        }
+        Ok(Tree::join(label, made))
+    }
+
+    fn model(
+        &self,
+        alloc: Global,
+        docs: &'a [RawDoc],
+        file: u32,
+        model: &Particle,
+    ) -> Result<Particle, Memory>
+        ensures { IfOk result (λ made. made ≡ told.numbered (told.number_of_declaration (told_by self.now) (map doc_of docs.now) file) model.now) }
+    {
+        let tree = self.numbered(alloc, docs, file, model.root())?;
+        match Whole::seal(tree) {
+            Ok(whole) => Ok(whole),
+            Err(_) => Err(Memory),
+        }
+    }
+
+    fn content(
+        &self,
+        alloc: Global,
+        docs: &'a [RawDoc],
+        file: u32,
+        content: &'a RawContent,
+    ) -> Result<Content, Memory>
+        ensures { IfOk result (λ made. made ≡ told.content_of (told_by self.now) (told.number_of_declaration (told_by self.now) (map doc_of docs.now) file) content.now) }
+    {
+        match content {
+            RawContent::Empty => Ok(Content::Empty),
+            RawContent::Simple { base, .. } => Ok(Content::Simple(self.simple_of_reference(base))),
+            RawContent::ElementOnly(model) => {
+                let made = self.model(alloc, docs, file, model)?;
+                Ok(Content::ElementOnly(made))
+            }
+            RawContent::Mixed(model) => {
+                let made = self.model(alloc, docs, file, model)?;
+                Ok(Content::Mixed(made))
+            }
+        }
+    }
+
+    fn complex(
+        &self,
+        alloc: Global,
+        types: &BTreeMap<&'a Name, u32>,
+        docs: &'a [RawDoc],
+        complex: ComplexType<'a>,
+    ) -> Result<ComplexDef, Memory>
+        ensures { IfOk result (λ made. made ≡ told.complex (told_by self.now) (named_in types.now) (map doc_of docs.now) (definition_of complex.entry)) }
+    {
+        let name = name_copy(alloc, complex.name)?;
+        let uses = self.uses(alloc, types, complex)?;
+        let content = self.content(alloc, docs, complex.place.file, &complex.body.content)?;
+        Ok(ComplexDef {
+            name,
+            uses,
+            content,
+        })
+    }
+
+    /// The complex types, where the global attributes have these types.
+    pub(crate) fn complexes(
+        &self,
+        alloc: Global,
+        types: &BTreeMap<&'a Name, u32>,
+        docs: &'a [RawDoc],
+        complexes: &[ComplexType<'a>],
+    ) -> Result<Vec<ComplexDef>, Memory>
+        ensures { IfOk result (λ made. made.items ≡ map (told.complex (told_by self.now) (named_in types.now) (map doc_of docs.now)) (definitions_of complexes.now)) }
+    {
+        let mut made = Vec::new(alloc);
+        'complexes: for complex in complexes {
+            let one = self.complex(alloc, types, docs, *complex)?;
+            made.push(one)?;
+        }
+        Ok(made)
+    }
+}

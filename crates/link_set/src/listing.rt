@@ -1,0 +1,76 @@
+//! The components of several documents, each kind in the order of its numbers.
+ghost use Rattle.std.specs.Prelude.{◌≡◌, map, IfOk};
+ghost use Rattle.schema_parts.specs.Documents.{doc_of};
+ghost use Rattle.link_cycles.specs.Seen.{definitions_of as simples_of};
+ghost use Rattle.link_complex.specs.Seen.{definitions_of as complexes_of};
+ghost use Rattle.link_set.specs.Seen.{elements_of};
+ghost use Rattle.link_set.specs.Written as told;
+ghost use Rattle.link_set.specs.Told.{listed_by};
+
+use crate::ordering::{complexes_in_order, simples_in_order};
+use crate::written::{
+    WrittenAttribute, WrittenElement, global_attributes, global_elements, local_elements,
+};
+use link_complex::ComplexType;
+use schema_parts::RawDoc;
+use std::alloc::Global;
+use link_cycles::SimpleType;
+use xa_base::Memory;
+
+/// The elements.
+#[derive(Drop)]
+pub(crate) struct ListedElements<'a> {
+    pub globals: Vec<WrittenElement<'a>>,
+    pub locals: Vec<WrittenElement<'a>>,
+}
+
+/// The types.
+#[derive(Drop)]
+pub(crate) struct ListedTypes<'a> {
+    pub simples: Vec<SimpleType<'a>>,
+    pub complexes: Vec<ComplexType<'a>>,
+}
+
+/// The components of each kind.
+#[derive(Drop)]
+pub(crate) struct Listed<'a> {
+    pub elements: ListedElements<'a>,
+    pub attributes: Vec<WrittenAttribute<'a>>,
+    pub types: ListedTypes<'a>,
+}
+
+impl<'a> ListedElements<'a> {
+    fn of(alloc: Global, docs: &'a [RawDoc]) -> Result<ListedElements<'a>, Memory>
+        ensures { IfOk result (λ listed. (elements_of listed.globals.items ≡ told.global_elements (map doc_of docs.now)) × (elements_of listed.locals.items ≡ told.local_elements (map doc_of docs.now))) }
+    {
+        let globals = global_elements(alloc, docs)?;
+        let locals = local_elements(alloc, docs)?;
+        Ok(ListedElements { globals, locals })
+    }
+}
+
+impl<'a> ListedTypes<'a> {
+    fn of(alloc: Global, docs: &'a [RawDoc]) -> Result<ListedTypes<'a>, Memory>
+        ensures { IfOk result (λ listed. (simples_of listed.simples.items ≡ told.simples_in_order (map doc_of docs.now)) × (complexes_of listed.complexes.items ≡ told.complexes_in_order (map doc_of docs.now))) }
+    {
+        let simples = simples_in_order(alloc, docs)?;
+        let complexes = complexes_in_order(alloc, docs)?;
+        Ok(ListedTypes { simples, complexes })
+    }
+}
+
+impl<'a> Listed<'a> {
+    /// Those of the documents.
+    pub(crate) fn of(alloc: Global, docs: &'a [RawDoc]) -> Result<Listed<'a>, Memory>
+        ensures { IfOk result (λ listed. listed_by listed ≡ told.lists_of (map doc_of docs.now)) }
+    {
+        let elements = ListedElements::of(alloc, docs)?;
+        let attributes = global_attributes(alloc, docs)?;
+        let types = ListedTypes::of(alloc, docs)?;
+        Ok(Listed {
+            elements,
+            attributes,
+            types,
+        })
+    }
+}

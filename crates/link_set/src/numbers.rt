@@ -1,0 +1,108 @@
+//! The numbers of components, by their names and by the places where they were written.
+ghost use Rattle.std.specs.Prelude.{◌≡◌, Some, cond, map, IfOk, OnOk};
+ghost use Rattle.xa_base.specs.declared.texts.Name.{Name as NameOf};
+ghost use Rattle.simple_types.specs.declared.simples.Builtin.{Builtin as BuiltinOf};
+ghost use Rattle.link_names.specs.declared.places.Place.{Place as PlaceOf};
+ghost use Rattle.link_cycles.specs.Tables.{named_in, placed_in, names};
+ghost use Rattle.link_set.specs.Builtins.{rank};
+ghost use Rattle.link_set.specs.Numbers as told;
+ghost use Rattle.link_set.specs.Told.{entries_of, ranked_in};
+
+use crate::builtins;
+use link_names::Place;
+use simple_types::Builtin;
+use std::alloc::Global;
+use std::collections::BTreeMap;
+use xa_base::{Memory, Name};
+
+/// How many components of one kind a linked set has at most.
+const MOST: u32 = 65_536;
+
+/// A component by its name, if it has one, and by the place where it was written.
+#[derive(Clone, Copy)]
+pub(crate) struct Entry<'a> {
+    pub name: Option<&'a Name>,
+    pub place: Place,
+}
+
+/// Puts the number at the name, if there is one.
+pub(crate) fn put_name<'a>(
+    table: &mut BTreeMap<&'a Name, u32>,
+    name: Option<&'a Name>,
+    n: u32,
+) -> Result<(), Memory>
+    ensures { OnOk result ((a : NameOf) → named_in table.new a ≡ cond (names name.entry a) (Some n) (named_in table.old a)) }
+{
+    match name {
+        Some(name) => {
+            table.insert(name, n)?;
+            Ok(())
+        }
+        None => Ok(()),
+    }
+}
+
+/// The numbers of components by their names, where that of the first is `first`. The last is put first, so that each name
+/// has the number of the first that has it.
+pub(crate) fn by_name<'a>(
+    alloc: Global,
+    first: u32,
+    entries: &[Entry<'a>],
+) -> Result<BTreeMap<&'a Name, u32>, Memory>
+    ensures { IfOk result (λ table. (a : NameOf) → named_in table a ≡ told.number_named first (entries_of entries.now) a) }
+{
+    if first > MOST || entries.len() > MOST as usize {
+        return Err(Memory);
+    }
+    let mut table = BTreeMap::new(alloc);
+    let mut i = entries.len();
+    'last_first: while i > 0 {
+        i -= 1;
+        let entry = entries[i];
+        put_name(&mut table, entry.name, first + i as u32)?;
+    }
+    Ok(table)
+}
+
+/// The same by their places.
+pub(crate) fn by_place(
+    alloc: Global,
+    first: u32,
+    entries: &[Entry<'_>],
+) -> Result<BTreeMap<(u32, u64), u32>, Memory>
+    ensures { IfOk result (λ table. (p : PlaceOf) → placed_in table p ≡ told.number_placed first (entries_of entries.now) p) }
+{
+    if first > MOST || entries.len() > MOST as usize {
+        return Err(Memory);
+    }
+    let mut table = BTreeMap::new(alloc);
+    let mut i = entries.len();
+    'last_first: while i > 0 {
+        i -= 1;
+        let entry = entries[i];
+        let place = entry.place;
+        table.insert((place.file, place.at), first + i as u32)?;
+    }
+    Ok(table)
+}
+
+/// The numbers of built-in types by their ranks.
+pub(crate) fn by_rank(
+    alloc: Global,
+    first: u32,
+    used: &[Builtin],
+) -> Result<BTreeMap<u32, u32>, Memory>
+    ensures { IfOk result (λ table. (w : BuiltinOf) → ranked_in table w ≡ told.builtin_numbers first used.now w) }
+{
+    if first > MOST || used.len() > MOST as usize {
+        return Err(Memory);
+    }
+    let mut table = BTreeMap::new(alloc);
+    let mut i = used.len();
+    'last_first: while i > 0 {
+        i -= 1;
+        let rank = builtins::rank(used[i]);
+        table.insert(rank, first + i as u32)?;
+    }
+    Ok(table)
+}

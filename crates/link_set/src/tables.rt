@@ -1,0 +1,228 @@
+//! The numbers of all components of several documents.
+ghost use Rattle.std.specs.Prelude.{◌≡◌, length, map, IfOk};
+ghost use Rattle.xa_base.specs.declared.texts.Name.{Name as NameOf};
+ghost use Rattle.simple_types.specs.declared.simples.Builtin.{Builtin as BuiltinOf};
+ghost use Rattle.link_names.specs.declared.places.Place.{Place as PlaceOf};
+ghost use Rattle.link_cycles.specs.Seen.{definitions_of as simples_of};
+ghost use Rattle.link_cycles.specs.Tables.{named_in, placed_in};
+ghost use Rattle.link_complex.specs.Seen.{definitions_of as complexes_of};
+ghost use Rattle.link_set.specs.Builtins as builtins_told;
+ghost use Rattle.link_set.specs.Numbers as told;
+ghost use Rattle.link_set.specs.Seen.{elements_of};
+ghost use Rattle.link_set.specs.Told.{entries_of, ranked_in, listed_by, told_types, told_by};
+
+use crate::listing::Listed;
+use crate::numbers::{Entry, by_name, by_place, by_rank};
+use crate::written::WrittenElement;
+use link_complex::ComplexType;
+use link_names::Place;
+use simple_types::Builtin;
+use std::alloc::Global;
+use std::collections::BTreeMap;
+use link_cycles::SimpleType;
+use xa_base::{Memory, Name};
+
+/// The numbers of global elements by their names, and of local ones by their places.
+#[derive(Drop)]
+pub(crate) struct ElementNumbers<'a> {
+    pub globals: BTreeMap<&'a Name, u32>,
+    pub locals: BTreeMap<(u32, u64), u32>,
+}
+
+/// The numbers of one kind of types, by their names and by their places.
+#[derive(Drop)]
+pub(crate) struct TypeNumbers<'a> {
+    pub named: BTreeMap<&'a Name, u32>,
+    pub placed: BTreeMap<(u32, u64), u32>,
+}
+
+/// The numbers of all types, of the built-in ones by their ranks.
+#[derive(Drop)]
+pub(crate) struct AllTypeNumbers<'a> {
+    pub simples: TypeNumbers<'a>,
+    pub builtins: BTreeMap<u32, u32>,
+    pub complexes: TypeNumbers<'a>,
+}
+
+#[derive(Drop)]
+pub(crate) struct Numbers<'a> {
+    pub elements: ElementNumbers<'a>,
+    pub types: AllTypeNumbers<'a>,
+}
+
+/// The number of parts as a `u32`. A set has no more than that many.
+pub(crate) fn count(length: usize) -> Result<u32, Memory>
+    ensures { IfOk result (λ n. n ≡ length) }
+{
+    if length > 65_536 {
+        return Err(Memory);
+    }
+    Ok(length as u32)
+}
+
+fn element_entries<'a>(
+    alloc: Global,
+    elements: &[WrittenElement<'a>],
+) -> Result<Vec<Entry<'a>>, Memory>
+    ensures { IfOk result (λ entries. entries_of entries.items ≡ map told.element_entry (elements_of elements.now)) }
+{
+    let mut entries = Vec::new(alloc);
+    'elements: for written in elements {
+        entries.push(Entry {
+            name: Some(&written.element.name),
+            place: Place {
+                file: written.file,
+                at: written.element.at,
+            },
+        })?;
+    }
+    Ok(entries)
+}
+
+fn simple_entries<'a>(alloc: Global, types: &[SimpleType<'a>]) -> Result<Vec<Entry<'a>>, Memory>
+    ensures { IfOk result (λ entries. entries_of entries.items ≡ map told.simple_entry (simples_of types.now)) }
+{
+    let mut entries = Vec::new(alloc);
+    'types: for definition in types {
+        entries.push(Entry {
+            name: definition.name,
+            place: definition.place,
+        })?;
+    }
+    Ok(entries)
+}
+
+fn complex_entries<'a>(alloc: Global, types: &[ComplexType<'a>]) -> Result<Vec<Entry<'a>>, Memory>
+    ensures { IfOk result (λ entries. entries_of entries.items ≡ map told.complex_entry (complexes_of types.now)) }
+{
+    let mut entries = Vec::new(alloc);
+    'types: for definition in types {
+        entries.push(Entry {
+            name: definition.name,
+            place: definition.place,
+        })?;
+    }
+    Ok(entries)
+}
+
+fn numbers_of_globals<'a>(
+    alloc: Global,
+    globals: &[WrittenElement<'a>],
+) -> Result<BTreeMap<&'a Name, u32>, Memory>
+    ensures { IfOk result (λ table. (a : NameOf) → named_in table a ≡ told.number_named 0 (map told.element_entry (elements_of globals.now)) a) }
+{
+    let entries = element_entries(alloc, globals)?;
+    by_name(alloc, 0, &entries)
+}
+
+fn numbers_of_locals(
+    alloc: Global,
+    first: usize,
+    locals: &[WrittenElement<'_>],
+) -> Result<BTreeMap<(u32, u64), u32>, Memory>
+    ensures { IfOk result (λ table. (p : PlaceOf) → placed_in table p ≡ told.number_placed first (map told.element_entry (elements_of locals.now)) p) }
+{
+    let first = count(first)?;
+    let entries = element_entries(alloc, locals)?;
+    by_place(alloc, first, &entries)
+}
+
+fn numbers_of_builtins(
+    alloc: Global,
+    first: usize,
+    used: &[Builtin],
+) -> Result<BTreeMap<u32, u32>, Memory>
+    ensures { IfOk result (λ table. (w : BuiltinOf) → ranked_in table w ≡ told.builtin_numbers first used.now w) }
+{
+    let first = count(first)?;
+    by_rank(alloc, first, used)
+}
+
+impl<'a> ElementNumbers<'a> {
+    fn of(
+        alloc: Global,
+        globals: &[WrittenElement<'a>],
+        locals: &[WrittenElement<'a>],
+    ) -> Result<ElementNumbers<'a>, Memory>
+        ensures { IfOk result (λ numbers. ((a : NameOf) → named_in numbers.globals a ≡ told.number_named 0 (map told.element_entry (elements_of globals.now)) a)
+            × ((p : PlaceOf) → placed_in numbers.locals p ≡ told.number_placed (length globals.now) (map told.element_entry (elements_of locals.now)) p)) }
+    {
+        let numbers = numbers_of_globals(alloc, globals)?;
+        let placed = numbers_of_locals(alloc, globals.len(), locals)?;
+        Ok(ElementNumbers {
+            globals: numbers,
+            locals: placed,
+        })
+    }
+}
+
+impl<'a> TypeNumbers<'a> {
+    fn of(alloc: Global, entries: &[Entry<'a>]) -> Result<TypeNumbers<'a>, Memory>
+        ensures { IfOk result (λ numbers. told_types numbers ≡ told.type_numbers (entries_of entries.now)) }
+    {
+        let named = by_name(alloc, 0, entries)?;
+        let placed = by_place(alloc, 0, entries)?;
+        Ok(TypeNumbers { named, placed })
+    }
+}
+
+fn numbers_of_simples<'a>(
+    alloc: Global,
+    types: &[SimpleType<'a>],
+) -> Result<TypeNumbers<'a>, Memory>
+    ensures { IfOk result (λ numbers. told_types numbers ≡ told.type_numbers (map told.simple_entry (simples_of types.now))) }
+{
+    let entries = simple_entries(alloc, types)?;
+    TypeNumbers::of(alloc, &entries)
+}
+
+fn numbers_of_complexes<'a>(
+    alloc: Global,
+    types: &[ComplexType<'a>],
+) -> Result<TypeNumbers<'a>, Memory>
+    ensures { IfOk result (λ numbers. told_types numbers ≡ told.type_numbers (map told.complex_entry (complexes_of types.now))) }
+{
+    let entries = complex_entries(alloc, types)?;
+    TypeNumbers::of(alloc, &entries)
+}
+
+impl<'a> AllTypeNumbers<'a> {
+    fn of(
+        alloc: Global,
+        listed: &Listed<'a>,
+        used: &[Builtin],
+    ) -> Result<AllTypeNumbers<'a>, Memory>
+        ensures { IfOk result (λ numbers. (told_types numbers.simples ≡ told.type_numbers (map told.simple_entry (listed_by listed.now).simples))
+            × ((w : BuiltinOf) → ranked_in numbers.builtins w ≡ told.builtin_numbers (length listed.now.types.simples.items) used.now w)
+            × (told_types numbers.complexes ≡ told.type_numbers (map told.complex_entry (listed_by listed.now).complexes))) }
+    {
+        let simples = numbers_of_simples(alloc, &listed.types.simples)?;
+        let builtins = numbers_of_builtins(alloc, listed.types.simples.len(), used)?;
+        let complexes = numbers_of_complexes(alloc, &listed.types.complexes)?;
+        Ok(AllTypeNumbers {
+            simples,
+            builtins,
+            complexes,
+        })
+    }
+}
+
+impl<'a> Numbers<'a> {
+    /// The numbers of these components and of the built-in types that they use.
+    pub(crate) fn of(
+        alloc: Global,
+        listed: &Listed<'a>,
+        used: &[Builtin],
+    ) -> Result<Numbers<'a>, Memory>
+        requires { used.now ≡ builtins_told.used_builtins (listed_by listed.now) }
+        ensures { IfOk result (λ numbers. told_by numbers ≡ told.numbers_in (listed_by listed.now)) }
+    {
+        let elements = ElementNumbers::of(
+            alloc,
+            &listed.elements.globals,
+            &listed.elements.locals,
+        )?;
+        let types = AllTypeNumbers::of(alloc, listed, used)?;
+        Ok(Numbers { elements, types })
+    }
+}

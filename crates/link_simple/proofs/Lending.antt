@@ -1,0 +1,59 @@
+-- Types that are lent, and lists of parts.
+use Rattle.std.proofs.Common.{◌≡◌, ℕ, zero, suc, ◌+◌, ◌<◌, ◌≤◌, arith, List, [], ◌∷◌, ◌++◌, length, drop, get_or, refl, sym, ap, ◌∙◌, Option, Some, None}
+use Rattle.std.specs.Option.{option_map}
+use Rattle.std.proofs.Math.Seq.{drop-cons}
+use Rattle.simple_types.specs.declared.simples.Simple.{Simple}
+use Rattle.simple_types.specs.Seen.{space_of, spaces_in}
+use Rattle.simple_types.specs.Sound.{Sound}
+use Rattle.simple_types.specs.Space.{Spaces, none, more}
+use Rattle.simple_types.specs.Joining.{joined}
+use Rattle.simple_types.proofs.Copies.{joined-none}
+use Rattle.facet_rules.specs.Making.{AreEachSound}
+use Rattle.link_simple.specs.declared.parts.Part.{Part}
+use Rattle.link_simple.specs.Making.{entry_at, with_space}
+use Rattle.link_simple.specs.Parts.{entries_of, seen, seen_all, behind}
+
+pub entry_read : (entries : List (Option Simple)) (n : ℕ) (o : Option Simple) → n < length entries → o ≡ get_or entries n o → entry_at (entries_of entries) n ≡ option_map space_of o
+entry_read [] n o lt is = absurd (omega (arith, lt))
+entry_read (e ∷ es) zero o lt is = ap (option_map space_of) (sym is)
+entry_read (e ∷ es) (suc n) o lt is = entry_read es n o (omega (arith, lt)) is
+
+pub entry_past : (entries : List (Option Simple)) (n : ℕ) → length entries ≤ n → entry_at (entries_of entries) n ≡ None
+entry_past [] n le = refl
+entry_past (e ∷ es) zero le = absurd (omega (arith, le))
+entry_past (e ∷ es) (suc n) le = entry_past es n (omega (arith, le))
+
+pub cut : {A : Type 0} (xs : List A) (i : ℕ) (x : A) → i < length xs → x ≡ get_or xs i x → drop i xs ≡ x ∷ drop (i + 1) xs
+cut xs i x lt is =
+    let same : suc i ≡ i + 1 = omega arith in
+    drop-cons xs i x lt ∙ ap (λ y. y ∷ drop (suc i) xs) (sym is) ∙ ap (λ n. x ∷ drop n xs) same
+
+pub past_end : {A : Type 0} (xs : List A) (i : ℕ) → length xs ≤ i → drop i xs ≡ []
+past_end [] zero le = refl
+past_end [] (suc i) le = refl
+past_end (x ∷ xs) zero le = absurd (omega (arith, le))
+past_end (x ∷ xs) (suc i) le = past_end xs i (omega (arith, le))
+
+joined_part : (ps : List Part) (p : Part) (rest : Spaces) → joined (seen_all ps) (more (seen p) rest) ≡ joined (seen_all (ps ++ p ∷ [])) rest
+joined_part [] p rest = refl
+joined_part (q ∷ ps) p rest = ap (more (seen q)) (joined_part ps p rest)
+
+pub part_behind : (ps : List Part) (p : Part) (rest : Option Spaces) → behind (seen_all ps) (with_space (Some (seen p)) rest) ≡ behind (seen_all (ps ++ p ∷ [])) rest
+part_behind ps p None = refl
+part_behind ps p (Some rest) = ap Some (joined_part ps p rest)
+
+pub part_missing : (front : Spaces) (rest : Option Spaces) → behind front (with_space None rest) ≡ None
+part_missing front None = refl
+part_missing front (Some rest) = refl
+
+pub all_behind : (ps : List Part) → behind (seen_all ps) (Some none) ≡ Some (seen_all ps)
+all_behind ps = ap Some (sym (joined-none (seen_all ps)))
+
+pub part_sound : (ps : List Part) (p : Part) → AreEachSound (seen_all ps) → Sound (seen p) → AreEachSound (seen_all (ps ++ p ∷ []))
+part_sound [] p each sound = (sound, tt)
+part_sound (q ∷ ps) p each sound = (each.0, part_sound ps p each.1 sound)
+
+-- one more copy
+pub joined_copy : (made : List Simple) (s : Simple) (rest : Spaces) → joined (spaces_in made) (more (space_of s) rest) ≡ joined (spaces_in (made ++ s ∷ [])) rest
+joined_copy [] s rest = refl
+joined_copy (m ∷ made) s rest = ap (more (space_of m)) (joined_copy made s rest)

@@ -1,0 +1,35 @@
+use Rattle.std.proofs.Common.{◌≡◌, ℕ, List, Option, Result, Ok, Err, sym, ap, ◌∙◌}
+use Rattle.std.specs.Prelude.{IfOk}
+use Rattle.std.specs.Option.{option_map}
+use Rattle.simple_types.specs.Space.{Space}
+use Rattle.link_simple.specs.declared.parts.Part.{Part}
+use Rattle.link_cycles.specs.Cycles as cycles
+use Rattle.schema_parts.specs.Seen.{base_of}
+use Rattle.schema_parts.specs.Raw.{Base, Named}
+use Rattle.schema_parts.proofs.Seen.{named_base, inner_base}
+use Rattle.link_names.specs.Order.{place}
+use Rattle.link_cycles.specs.Tables.{told_by}
+use Rattle.link_simple.specs.Making.{space_at, part_space}
+use Rattle.link_simple.specs.Parts.{entries_of, seen}
+use Rattle.link_simple.proofs.parts.part_of.Goals as goal
+
+named_space : {E : Type 0} (ns : cycles.Numbers) (made : List (Option Space)) (file : ℕ) (b c : Base) (r : Result (Option Part) E)
+    → IfOk r (λ found. (k : ℕ) → option_map seen found ≡ part_space ns made k c) → b ≡ c → IfOk r (λ found. option_map seen found ≡ part_space ns made file b)
+named_space ns made file b c (Ok found) h is = h file ∙ sym (ap (part_space ns made file) is)
+named_space ns made file b c (Err e) h is = tt
+
+pub returns-in-Named-clause-space : goal.returns-in-Named-clause-space
+returns-in-Named-clause-space c =
+    let told = ap base_of c.in-Named.is ∙ named_base c.in-Named.reference in
+    named_space (told_by c.args.numbers.now) (entries_of c.args.entries.now) c.args.file (base_of c.args.base.now) (Named c.in-Named.reference) c.named_part.result
+    c.named_part.ensures.space told
+
+pub returns-in-Inner-clause-space : goal.returns-in-Inner-clause-space
+returns-in-Inner-clause-space c =
+    let file = c.args.file in
+    let ns = told_by c.args.numbers.now in
+    let made = entries_of c.args.entries.now in
+    let told = ap base_of c.in-Inner.is ∙ inner_base c.in-Inner.body in
+    c.lent_part.ensures.space ∙ ap (space_at made) c.number_at.ensures
+    ∙ ap (λ b. space_at made (ns.placed (place file b.at))) c.deref.ensures
+    ∙ sym (ap (part_space ns made file) told)

@@ -1,0 +1,7 @@
+use Rattle.std.proofs.Common.{◌≡◌, ℕ, true, take}
+use Rattle.link_cycles.specs.Graphs.{IsIn}
+use Rattle.link_cycles.specs.Searching.{mark}
+use Rattle.link_simple.proofs.working.are_done.Given as goal
+
+abbrev pub invariant-nodes : goal.invariant-nodes
+invariant-nodes l = (n : ℕ) → IsIn (take l.node-index l.nodes) n → mark l.done n ≡ true

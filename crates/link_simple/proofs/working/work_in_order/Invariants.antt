@@ -1,0 +1,6 @@
+use Rattle.link_cycles.specs.Seen.{definitions_of}
+use Rattle.link_simple.specs.Working.{StandsIn}
+use Rattle.link_simple.proofs.working.work_in_order.Given as goal
+
+abbrev pub invariant-order : goal.invariant-order
+invariant-order l = StandsIn (definitions_of l.definitions) l.work

@@ -1,0 +1,91 @@
+-- How the simple types of several documents are made (XML Schema Part 2, section 4.1.2): a restriction from its base, a
+-- list from its item, a union from its members. The spaces are one list, by the numbers of the definitions, with none
+-- where a type can't be made. It is told of the whole list that each entry is what the entries of its parts leave; where
+-- no type is made of itself, one list fits.
+use Rattle.std.specs.Prelude.{◌≡◌, ◌⊎◌, ℕ, zero, suc, List, [], ◌∷◌, length, Option, Some, None, Result, Ok, Err, IsErr, if◌then◌else◌, slice_get}
+use Rattle.simple_types.specs.Builtins.{builtin_space}
+use Rattle.simple_types.specs.Joining.{flattened}
+use Rattle.simple_types.specs.Sound.{has_list}
+use Rattle.simple_types.specs.Space as space
+use Rattle.simple_types.specs.Space.{Space, Spaces}
+use Rattle.facet_rules.specs.declared.refusals.FacetWhy.{FacetWhy}
+use Rattle.facet_rules.specs.Making.{AreWithinLimits}
+use Rattle.facet_rules.specs.Restricting.{Restricted}
+use Rattle.simple_types.specs.declared.facets.Facet.{Facet}
+use Rattle.schema_parts.specs.declared.simple_definitions.RawRef.TheVariants as reference
+use Rattle.schema_parts.specs.Raw.{Base, Named, Inner, Bases, none, more, How, Restrict, ListOf, UnionOf, Document}
+use Rattle.link_names.specs.declared.faults.Fault.{Fault}
+use Rattle.link_names.specs.declared.faults.LinkWhy.{LinkWhy}
+use Rattle.link_names.specs.declared.faults.LinkWhy.TheVariants as why
+use Rattle.link_names.specs.Order.{place}
+use Rattle.link_cycles.specs.Cycles.{Numbers, numbers_in}
+use Rattle.link_cycles.specs.SimpleTypes.{SimpleDefinition, simple_types}
+
+-- the space with the number, if that type is made
+abbrev pub entry_at : List (Option Space) → ℕ → Option Space
+entry_at [] n = None
+entry_at (o ∷ os) zero = o
+entry_at (o ∷ os) (suc n) = entry_at os n
+
+abbrev pub space_at : List (Option Space) → Option ℕ → Option Space
+space_at made None = None
+space_at made (Some n) = entry_at made n
+
+-- the space of a base, an item or a member
+abbrev pub part_space : Numbers → List (Option Space) → ℕ → Base → Option Space
+part_space ns made file (Named (reference.Builtin which)) = Some (builtin_space which)
+part_space ns made file (Named (reference.Other name)) = space_at made (ns.named name)
+part_space ns made file (Inner at body_at how) = space_at made (ns.placed (place file at))
+
+abbrev pub with_space : Option Space → Option Spaces → Option Spaces
+with_space None others = None
+with_space (Some s) None = None
+with_space (Some s) (Some ss) = Some (space.more s ss)
+
+-- those of all members, if each is made
+abbrev pub part_spaces : Numbers → List (Option Space) → ℕ → Bases → Option Spaces
+part_spaces ns made file none = Some space.none
+part_spaces ns made file (more b bs) = with_space (part_space ns made file b) (part_spaces ns made file bs)
+
+-- what a base leaves: a space, or why there is none
+abbrev pub IsRestriction : Option Space → List Facet → Result Space LinkWhy → Type 0
+IsRestriction None facets r = ⊥
+IsRestriction (Some base) facets (Ok s) = Restricted base facets (Ok s)
+IsRestriction (Some base) facets (Err w) = (reason : FacetWhy) × (w ≡ why.Facet reason) × Restricted base facets (Err reason)
+
+-- no list of lists (section 2.5.1.2)
+abbrev pub IsList : Option Space → Result Space LinkWhy → Type 0
+IsList None r = ⊥
+IsList (Some item) r = r ≡ (if has_list item then Err why.BadItem else Ok (space.ListOf item 0 None))
+
+-- the members of inner unions stand in their place (section 2.5.1.3)
+abbrev pub IsUnion : Option Spaces → Result Space LinkWhy → Type 0
+IsUnion None r = ⊥
+IsUnion (Some members) r =
+    (AreWithinLimits (flattened members) × (r ≡ Ok (space.UnionOf (flattened members))))
+    ⊎ ((¬ AreWithinLimits (flattened members)) × (r ≡ Err why.Limit))
+
+-- what the parts of a type leave, if each is made
+abbrev pub IsLeft : Numbers → List (Option Space) → ℕ → How → Result Space LinkWhy → Type 0
+IsLeft ns made file (Restrict base facets) r = IsRestriction (part_space ns made file base) facets r
+IsLeft ns made file (ListOf item) r = IsList (part_space ns made file item) r
+IsLeft ns made file (UnionOf members) r = IsUnion (part_spaces ns made file members) r
+
+abbrev pub IsEntry : Numbers → List (Option Space) → SimpleDefinition → Option Space → Type 0
+IsEntry ns made d (Some s) = IsLeft ns made d.place.file d.how (Ok s)
+IsEntry ns made d None = (r : Result Space LinkWhy) → IsLeft ns made d.place.file d.how r → IsErr r
+
+-- the spaces of these definitions: one entry for each
+abbrev pub IsMaking : List SimpleDefinition → List (Option Space) → Type 0
+IsMaking ds made = (length made ≡ length ds)
+    × ((n : ℕ) (d : SimpleDefinition) → slice_get ds n ≡ Some d → IsEntry (numbers_in ds) made d (entry_at made n))
+
+-- at the `restriction`, `list` or `union` of a type that can't be made, although each of its parts is made
+abbrev pub IsNotMadeOf : List SimpleDefinition → Fault → Type 0
+IsNotMadeOf ds f =
+    (made : List (Option Space)) × IsMaking ds made
+    × (n : ℕ) × (d : SimpleDefinition) × (slice_get ds n ≡ Some d) × (f.place ≡ d.body)
+    × IsLeft (numbers_in ds) made d.place.file d.how (Err f.why)
+
+abbrev pub IsNotMade : List Document → Fault → Type 0
+IsNotMade docs f = IsNotMadeOf (simple_types docs) f

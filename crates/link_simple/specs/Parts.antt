@@ -1,0 +1,33 @@
+-- What only private contracts need: the types that the code has made, and those that one is made from.
+use Rattle.std.specs.Prelude.{ℕ, List, [], ◌∷◌, map, Option, Some, None, IfSome}
+use Rattle.std.specs.Option.{option_map}
+use Rattle.simple_types.specs.declared.simples.Simple.{Simple}
+use Rattle.simple_types.specs.Seen.{space_of}
+use Rattle.simple_types.specs.Sound.{Sound}
+use Rattle.simple_types.specs.Joining.{joined}
+use Rattle.simple_types.specs.Space.{Space, Spaces, none, more}
+use Rattle.link_simple.specs.declared.parts.Part.{Part}
+use Rattle.link_simple.specs.declared.parts.Part.TheVariants as part
+use Rattle.link_simple.specs.Making.{entry_at}
+
+abbrev pub entry_of : Option Simple → Option Space
+entry_of o = option_map space_of o
+
+abbrev pub entries_of : List (Option Simple) → List (Option Space)
+entries_of entries = map entry_of entries
+
+abbrev pub AreEntriesSound : List (Option Space) → Type 0
+AreEntriesSound made = (n : ℕ) → IfSome (entry_at made n) Sound
+
+abbrev pub seen : Part → Space
+seen (part.Own simple) = space_of simple
+seen (part.Lent simple) = space_of simple.now
+
+abbrev pub seen_all : List Part → Spaces
+seen_all [] = none
+seen_all (p ∷ ps) = more (seen p) (seen_all ps)
+
+-- some members and those behind them, if each is there
+abbrev pub behind : Spaces → Option Spaces → Option Spaces
+behind front None = None
+behind front (Some rest) = Some (joined front rest)

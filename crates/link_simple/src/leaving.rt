@@ -1,0 +1,133 @@
+//! What is left of a simple type whose parts are made.
+ghost use Rattle.std.specs.Prelude.{◌≡◌, ◌<◌, ◌↔◌, IfOk, IsTrue, true, Some, Ok, length};
+ghost use Rattle.schema_parts.specs.Seen.{base_of, how_of, bases_in};
+ghost use Rattle.simple_types.specs.Seen.{space_of};
+ghost use Rattle.simple_types.specs.Sound.{Sound};
+ghost use Rattle.simple_types.specs.Joining.{flattened};
+ghost use Rattle.facet_rules.specs.Making.{AreEachSound, AreWithinLimits};
+ghost use Rattle.link_cycles.specs.Seen.{definition_of};
+ghost use Rattle.link_cycles.specs.Tables.{told_by};
+ghost use Rattle.link_simple.specs.Making.{IsRestriction, IsList, IsUnion, IsLeft, part_space, part_spaces};
+ghost use Rattle.link_simple.specs.Parts.{entries_of, AreEntriesSound, seen_all};
+ghost use Rattle.link_simple.specs.Leaving.{LeftBy};
+
+use crate::parts::{part_of, parts_of};
+use crate::unions::union;
+use facet_rules::{Facet, ItemError, list_of, restrict};
+use link_names::LinkWhy;
+use schema_parts::{RawBase, RawHow};
+use simple_types::Simple;
+use std::alloc::Global;
+use link_cycles::{Numbers, SimpleType};
+use xa_base::Memory;
+
+/// What the parts of a type leave.
+#[derive(Drop)]
+pub(crate) enum Left {
+    Made(Simple),
+    /// The type can't be made.
+    Refused(LinkWhy),
+    /// Some part isn't made.
+    PartMissing,
+}
+
+/// The most facets of a restriction that is made; no schema document has as many.
+const MOST_FACETS: usize = 0xFFFF_FFFF;
+
+fn restricted(alloc: Global, base: &Simple, facets: &[Facet]) -> Result<Left, Memory>
+    requires { Sound (space_of base.now) }
+    ensures { IfOk result (LeftBy (IsRestriction (Some (space_of base.now)) facets.now)) }
+{
+    if facets.len() >= MOST_FACETS {
+        return Err(Memory);
+    }
+    match restrict(alloc, base, facets) {
+        Ok(simple) => Ok(Left::Made(simple)),
+        Err(error) => match error.why() {
+            Some(why) => Ok(Left::Refused(LinkWhy::Facet(why))),
+            None => Err(Memory),
+        },
+    }
+}
+
+fn listed(alloc: Global, item: &Simple) -> Result<Left, Memory>
+    requires { Sound (space_of item.now) }
+    ensures { IfOk result (LeftBy (IsList (Some (space_of item.now)))) }
+{
+    match list_of(alloc, item) {
+        Ok(simple) => Ok(Left::Made(simple)),
+        Err(ItemError::BadItem) => Ok(Left::Refused(LinkWhy::BadItem)),
+        Err(ItemError::Memory) => Err(Memory),
+    }
+}
+
+fn restriction<'a>(
+    alloc: Global,
+    numbers: &Numbers<'a>,
+    entries: &[Option<Simple>],
+    file: u32,
+    base: &'a RawBase,
+    facets: &[Facet],
+) -> Result<Left, Memory>
+    requires { AreEntriesSound (entries_of entries.now) }
+    ensures { IfOk result (LeftBy (IsRestriction (part_space (told_by numbers.now) (entries_of entries.now) file (base_of base.now)) facets.now)) }
+{
+    match part_of(alloc, numbers, entries, file, base)? {
+        Some(base) => restricted(alloc, base.simple(), facets),
+        None => Ok(Left::PartMissing),
+    }
+}
+
+fn list<'a>(
+    alloc: Global,
+    numbers: &Numbers<'a>,
+    entries: &[Option<Simple>],
+    file: u32,
+    item: &'a RawBase,
+) -> Result<Left, Memory>
+    requires { AreEntriesSound (entries_of entries.now) }
+    ensures { IfOk result (LeftBy (IsList (part_space (told_by numbers.now) (entries_of entries.now) file (base_of item.now)))) }
+{
+    match part_of(alloc, numbers, entries, file, item)? {
+        Some(item) => listed(alloc, item.simple()),
+        None => Ok(Left::PartMissing),
+    }
+}
+
+fn union_of_members<'a>(
+    alloc: Global,
+    numbers: &Numbers<'a>,
+    entries: &[Option<Simple>],
+    file: u32,
+    members: &'a [RawBase],
+) -> Result<Left, Memory>
+    requires { AreEntriesSound (entries_of entries.now) }
+    ensures { IfOk result (LeftBy (IsUnion (part_spaces (told_by numbers.now) (entries_of entries.now) file (bases_in members.now)))) }
+{
+    match parts_of(alloc, numbers, entries, file, members)? {
+        Some(members) => union(alloc, &members),
+        None => Ok(Left::PartMissing),
+    }
+}
+
+/// What is left of the type, beside the types made before.
+pub(crate) fn left_of<'a>(
+    alloc: Global,
+    numbers: &Numbers<'a>,
+    entries: &[Option<Simple>],
+    definition: SimpleType<'a>,
+) -> Result<Left, Memory>
+    requires { AreEntriesSound (entries_of entries.now) }
+    ensures { IfOk result (LeftBy (IsLeft (told_by numbers.now) (entries_of entries.now) definition.entry.place.file (how_of definition.entry.how.now))) }
+{
+    let file = definition.place.file;
+    match definition.how {
+        RawHow::Restrict { base, facets } => {
+            restriction(alloc, numbers, entries, file, base, facets.items())
+        }
+        RawHow::List { item } => list(alloc, numbers, entries, file, item),
+        RawHow::Union { members } => {
+            union_of_members(alloc, numbers, entries, file, members.items())
+        }
+    }
+}

@@ -1,0 +1,121 @@
+//! The simple types that one is made from.
+ghost use Rattle.std.specs.Prelude.{◌≡◌, ℕ, IfOk, IfSome};
+ghost use Rattle.std.specs.Option.{option_map};
+ghost use Rattle.schema_parts.specs.Raw.{Named};
+ghost use Rattle.schema_parts.specs.Seen.{base_of, bases_in};
+ghost use Rattle.simple_types.specs.Seen.{space_of};
+ghost use Rattle.simple_types.specs.Sound.{Sound};
+ghost use Rattle.facet_rules.specs.Making.{AreEachSound};
+ghost use Rattle.link_cycles.specs.Tables.{told_by};
+ghost use Rattle.link_simple.specs.Making.{space_at, part_space, part_spaces};
+ghost use Rattle.link_simple.specs.Parts.{entries_of, AreEntriesSound, seen, seen_all};
+
+use schema_parts::{RawBase, RawRef};
+use simple_types::{Simple, builtin};
+use std::alloc::Global;
+use link_cycles::Numbers;
+use xa_base::Memory;
+
+/// A part: a built-in type, or one that was made before.
+#[derive(Drop)]
+pub(crate) enum Part<'m> {
+    Own(Simple),
+    Lent(&'m Simple),
+}
+
+impl<'m> Part<'m> {
+    pub(crate) fn simple(&self) -> &Simple
+        ensures { space_of result.now ≡ seen self.now }
+    {
+        match self {
+            Part::Own(simple) => simple,
+            Part::Lent(simple) => simple,
+        }
+    }
+}
+
+// The type with this number, if it is made.
+fn lent<'m>(entries: &'m [Option<Simple>], number: Option<usize>) -> Option<&'m Simple>
+    requires { AreEntriesSound (entries_of entries.now) }
+    ensures space { option_map (λ s. space_of s.now) result ≡ space_at (entries_of entries.now) number }
+    ensures sound { IfSome result (λ s. Sound (space_of s.now)) }
+{
+    let n = number?;
+    if n >= entries.len() {
+        return None;
+    }
+    match &entries[n] {
+        Some(simple) => Some(simple),
+        None => None,
+    }
+}
+
+fn lent_part<'m>(entries: &'m [Option<Simple>], number: Option<usize>) -> Option<Part<'m>>
+    requires { AreEntriesSound (entries_of entries.now) }
+    ensures space { option_map seen result ≡ space_at (entries_of entries.now) number }
+    ensures sound { IfSome result (λ p. Sound (seen p)) }
+{
+    match lent(entries, number) {
+        Some(simple) => Some(Part::Lent(simple)),
+        None => None,
+    }
+}
+
+fn named_part<'m, 'a>(
+    alloc: Global,
+    numbers: &Numbers<'a>,
+    entries: &'m [Option<Simple>],
+    reference: &'a RawRef,
+) -> Result<Option<Part<'m>>, Memory>
+    requires { AreEntriesSound (entries_of entries.now) }
+    ensures space { IfOk result (λ found. (file : ℕ) → option_map seen found ≡ part_space (told_by numbers.now) (entries_of entries.now) file (Named reference.now)) }
+    ensures sound { IfOk result (λ found. IfSome found (λ p. Sound (seen p))) }
+{
+    match reference {
+        RawRef::Builtin(which) => {
+            let simple = builtin(alloc, *which)?;
+            Ok(Some(Part::Own(simple)))
+        }
+        RawRef::Other(name) => Ok(lent_part(entries, numbers.number_of(name))),
+    }
+}
+
+/// The base, the item or the member. None where it isn't made.
+pub(crate) fn part_of<'m, 'a>(
+    alloc: Global,
+    numbers: &Numbers<'a>,
+    entries: &'m [Option<Simple>],
+    file: u32,
+    base: &'a RawBase,
+) -> Result<Option<Part<'m>>, Memory>
+    requires { AreEntriesSound (entries_of entries.now) }
+    ensures space { IfOk result (λ found. option_map seen found ≡ part_space (told_by numbers.now) (entries_of entries.now) file (base_of base.now)) }
+    ensures sound { IfOk result (λ found. IfSome found (λ p. Sound (seen p))) }
+{
+    match base {
+        RawBase::Named(reference) => named_part(alloc, numbers, entries, reference),
+        RawBase::Inner(body) => Ok(lent_part(entries, numbers.number_at(file, body.at))),
+    }
+}
+
+/// All of these. None where one isn't made.
+pub(crate) fn parts_of<'m, 'a>(
+    alloc: Global,
+    numbers: &Numbers<'a>,
+    entries: &'m [Option<Simple>],
+    file: u32,
+    bases: &'a [RawBase],
+) -> Result<Option<Vec<Part<'m>>>, Memory>
+    requires { AreEntriesSound (entries_of entries.now) }
+    ensures spaces { IfOk result (λ found. option_map (λ ps. seen_all ps.items) found ≡ part_spaces (told_by numbers.now) (entries_of entries.now) file (bases_in bases.now)) }
+    ensures sound { IfOk result (λ found. IfSome found (λ ps. AreEachSound (seen_all ps.items))) }
+{
+    let mut found = Vec::new(alloc);
+    'bases: for base in bases {
+        match part_of(alloc, numbers, entries, file, base)? {
+            Some(part) => found.push(part)?,
+            None => return Ok(None),
+        }
+    }
+    Ok(Some(found))
+}

@@ -1,0 +1,205 @@
+//! The making of types, one after another, each after its parts.
+ghost use Rattle.std.specs.Prelude.{◌≡◌, ◌<◌, ◌∷◌, [], ℕ, List, set, replicate, None, length, map, true, false, IfOk, OnOk};
+ghost use Rattle.link_names.specs.Order.{first_of};
+ghost use Rattle.link_cycles.specs.Cycles.{numbers_in, edges};
+ghost use Rattle.link_cycles.specs.Graphs.{rows_of, IsIn, IsEdge};
+ghost use Rattle.link_cycles.specs.Searching.{mark};
+ghost use Rattle.link_cycles.specs.SimpleTypes.{SimpleDefinition};
+ghost use Rattle.link_cycles.specs.Seen.{definitions_of};
+ghost use Rattle.link_cycles.specs.Tables.{told_by};
+ghost use Rattle.link_simple.specs.Answering.{made_of, AnswersMakingOf};
+ghost use Rattle.link_simple.specs.Parts.{entries_of, entry_of};
+ghost use Rattle.link_simple.specs.Working.{space_left, fault_left, StandsIn};
+
+use crate::leaving::{Left, left_of};
+use crate::making::MakingError;
+use link_names::{Fault, Place, first_of};
+use simple_types::Simple;
+use std::alloc::Global;
+use link_cycles::{Numbers, SimpleType};
+use xa_base::Memory;
+
+/// The types made so far, which of all types are done, and the first fault among them. A type that is done and has no
+/// entry can't be made.
+#[derive(Drop)]
+pub(crate) struct Work {
+    entries: Vec<Option<Simple>>,
+    done: Vec<bool>,
+    found: Option<Fault>,
+}
+
+fn simple_in(left: Left) -> Option<Simple>
+    ensures { entry_of result ≡ space_left left }
+{
+    match left {
+        Left::Made(simple) => Some(simple),
+        Left::Refused(_) => None,
+        Left::PartMissing => None,
+    }
+}
+
+fn fault_in(left: &Left, body: Place) -> Option<Fault>
+    ensures { result ≡ fault_left body left.now }
+{
+    match left {
+        Left::Refused(why) => Some(Fault {
+            place: body,
+            why: *why,
+        }),
+        Left::Made(_) => None,
+        Left::PartMissing => None,
+    }
+}
+
+fn are_done(nodes: &[usize], done: &[bool]) -> bool
+    ensures { result ≡ true → (n : ℕ) → IsIn nodes.now n → mark done.now n ≡ true }
+{
+    'nodes: for node in nodes {
+        if *node >= done.len() {
+            return false;
+        }
+        if !done[*node] {
+            return false;
+        }
+    }
+    true
+}
+
+// Whether the type isn't done and its parts are.
+fn is_ready(graph: &[Vec<usize>], done: &[bool], n: usize) -> bool
+    ensures { result ≡ true → (mark done.now n ≡ false) × (n < length done.now)
+        × ((m : ℕ) → IsEdge (rows_of graph.now) n m → mark done.now m ≡ true) }
+{
+    if n >= graph.len() {
+        return false;
+    }
+    if n >= done.len() {
+        return false;
+    }
+    if done[n] {
+        return false;
+    }
+    are_done(&graph[n], done)
+}
+
+fn are_all_done(done: &[bool]) -> bool
+    ensures { result ≡ true → (n : ℕ) → n < length done.now → mark done.now n ≡ true }
+{
+    'types: for n in 0..done.len() {
+        if !done[n] {
+            return false;
+        }
+    }
+    true
+}
+
+fn nothing_made(alloc: Global, count: usize) -> Result<Vec<Option<Simple>>, Memory>
+    ensures { IfOk result (λ entries. entries.items ≡ replicate count None) }
+{
+    let mut entries = Vec::with_capacity(alloc, count)?;
+    'types: for _ in 0..count {
+        entries.push(None)?;
+    }
+    Ok(entries)
+}
+
+impl Work {
+    fn of(alloc: Global, definitions: &[SimpleType<'_>]) -> Result<Work, Memory>
+        ensures { IfOk result (StandsIn (definitions_of definitions.now)) }
+    {
+        let entries = nothing_made(alloc, definitions.len())?;
+        let done = vec![in alloc; false; definitions.len()]?;
+        Ok(Work {
+            entries,
+            done,
+            found: None,
+        })
+    }
+
+    fn put(&mut self, n: usize, body: Place, left: Left)
+        requires entry { n < length self.now.entries.items }
+        requires done { n < length self.now.done.items }
+        ensures entries { entries_of self.new.entries.items ≡ set (entries_of self.old.entries.items) n (space_left left) }
+        ensures done { self.new.done.items ≡ set self.old.done.items n true }
+        ensures found { self.new.found ≡ first_of self.old.found (fault_left body left) }
+    {
+        self.found = first_of(self.found, fault_in(&left, body));
+        self.entries[n] = simple_in(left);
+        self.done[n] = true;
+    }
+
+    // Makes the type, whose parts are done.
+    fn make<'a>(
+        &mut self,
+        alloc: Global,
+        definitions: &[SimpleType<'a>],
+        numbers: &Numbers<'a>,
+        graph: &[Vec<usize>],
+        n: usize,
+    ) -> Result<(), Memory>
+        requires numbers { told_by numbers.now ≡ numbers_in (definitions_of definitions.now) }
+        requires graph { rows_of graph.now ≡ edges (definitions_of definitions.now) }
+        requires stands { StandsIn (definitions_of definitions.now) self.now }
+        ensures { OnOk result (StandsIn (definitions_of definitions.now) self.new) }
+    {
+        if n >= definitions.len() {
+            return Err(Memory);
+        }
+        if !is_ready(graph, &self.done, n) {
+            return Err(Memory);
+        }
+        let definition = definitions[n];
+        let left = left_of(alloc, numbers, &self.entries, definition)?;
+        self.put(n, definition.body, left);
+        Ok(())
+    }
+
+    /// The types, if all are done, or the first fault.
+    pub(crate) fn end(self, alloc: Global) -> Result<Vec<Simple>, MakingError>
+        ensures { (ds : List SimpleDefinition) → StandsIn ds self → AnswersMakingOf ds result }
+    {
+        if !are_all_done(&self.done) {
+            return Err(MakingError::Memory);
+        }
+        match self.found {
+            Some(fault) => Err(MakingError::Shown(fault)),
+            None => match all_made(alloc, self.entries) {
+                Ok(simples) => Ok(simples),
+                Err(_) => Err(MakingError::Memory),
+            },
+        }
+    }
+}
+
+// The types, if each is made.
+fn all_made(alloc: Global, entries: Vec<Option<Simple>>) -> Result<Vec<Simple>, Memory>
+    ensures { IfOk result (λ simples. entries_of entries.items ≡ made_of simples.items) }
+{
+    let mut simples = Vec::new(alloc);
+    'entries: for entry in entries {
+        match entry {
+            Some(simple) => simples.push(simple)?,
+            None => return Err(Memory),
+        }
+    }
+    Ok(simples)
+}
+
+/// All types made, in an order in which each stands after its parts.
+pub(crate) fn work_in_order<'a>(
+    alloc: Global,
+    definitions: &[SimpleType<'a>],
+    numbers: &Numbers<'a>,
+    graph: &[Vec<usize>],
+    order: &[usize],
+) -> Result<Work, Memory>
+    requires numbers { told_by numbers.now ≡ numbers_in (definitions_of definitions.now) }
+    requires graph { rows_of graph.now ≡ edges (definitions_of definitions.now) }
+    ensures { IfOk result (StandsIn (definitions_of definitions.now)) }
+{
+    let mut work = Work::of(alloc, definitions)?;
+    'order: for n in order {
+        work.make(alloc, definitions, numbers, graph, *n)?;
+    }
+    Ok(work)
+}

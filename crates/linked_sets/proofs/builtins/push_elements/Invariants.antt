@@ -1,9 +1,0 @@
-use Rattle.std.proofs.Common.{◌≡◌, ◌++◌, take}
-use Rattle.std.specs.List.{flat_map}
-use Rattle.linked_sets.specs.Builtins.{in_element}
-use Rattle.linked_sets.specs.Seen.{elements_of}
-use Rattle.linked_sets.proofs.builtins.push_elements.Given as goal
-
--- those of the ones before this one were put behind
-abbrev pub invariant-elements : goal.invariant-elements
-invariant-elements l = l.out.items ≡ l.fn.out.items ++ flat_map in_element (elements_of (take l.written-index l.elements))

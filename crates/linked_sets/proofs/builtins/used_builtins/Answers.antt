@@ -1,7 +1,0 @@
-use Rattle.std.proofs.Common.{ap, ◌∙◌}
-use Rattle.std.specs.List.{filter}
-use Rattle.linked_sets.specs.Builtins.{is_among, all_builtins}
-use Rattle.linked_sets.proofs.builtins.used_builtins.Goals as goal
-
-pub returns : goal.returns
-returns c = c.in_ok-used.ensures ∙ ap (λ ns. filter (is_among ns) all_builtins) (c.deref.ensures.value ∙ c.in_ok-named.ensures)

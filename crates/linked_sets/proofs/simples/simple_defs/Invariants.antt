@@ -1,8 +1,0 @@
-use Rattle.std.proofs.Common.{◌≡◌, map}
-use Rattle.linked_sets.specs.Made.{made_of}
-use Rattle.linked_sets.specs.Sets.{named_spaces, space_of_made}
-use Rattle.linked_sets.proofs.simples.simple_defs.Given as goal
-
--- those of the types before this one
-abbrev pub invariant-types : goal.invariant-types
-invariant-types l = named_spaces l.simples.items ≡ map space_of_made (made_of l.yielded)

@@ -1,9 +1,0 @@
-use Rattle.std.proofs.Common.{◌≡◌, map, take}
-use Rattle.type_cycles.specs.Seen.{definitions_of}
-use Rattle.linked_sets.specs.Numbers.{simple_entry}
-use Rattle.linked_sets.specs.Told.{entries_of}
-use Rattle.linked_sets.proofs.tables.simple_entries.Given as goal
-
--- those of the ones before this one
-abbrev pub invariant-types : goal.invariant-types
-invariant-types l = entries_of l.entries.items ≡ map simple_entry (definitions_of (take l.definition-index l.types))

@@ -1,6 +1,0 @@
-use crate::same_items;
-
-#[test]
-fn laws() {
-    same_items();
-}

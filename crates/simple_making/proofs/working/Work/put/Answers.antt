@@ -1,9 +1,0 @@
-use Rattle.std.proofs.Common.{set, ap, ◌∙◌}
-use Rattle.simple_making.specs.Parts.{entries_of}
-use Rattle.simple_making.proofs.Standing.{entries_set}
-use Rattle.simple_making.proofs.working.Work.put.Goals as goal
-
-pub returns-clause-entries : goal.returns-clause-entries
-returns-clause-entries c =
-    let es = c.args.self.now.entries.items in
-    entries_set es c.args.n c.simple_in.result ∙ ap (set (entries_of es) c.args.n) c.simple_in.ensures

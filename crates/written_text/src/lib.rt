@@ -1,2 +1,0 @@
-//! The text that is written of items, as a definition, and what its parts are as pieces of XML text.
-#![tactic(auto)]
