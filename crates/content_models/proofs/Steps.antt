@@ -10,7 +10,7 @@ use Rattle.xa_base.specs.declared.texts.Name.{Name}
 use Rattle.content_models.specs.Particle.{Particle, Particles, more}
 use Rattle.content_models.specs.Clear.{and_then, first, first_in_order, first_of_any, empties, all_empty, any_empty}
 use Rattle.content_models.specs.Seen.{seen, all_seen}
-use Rattle.content_models.specs.Deciding.{has, lent, holds, clash, body_follow, after_follow, earliest, breach_of, breach_in_order}
+use Rattle.content_models.specs.Private.Deciding.{has, lent, holds, clash, body_follow, after_follow, earliest, breach_of, breach_in_order}
 use Rattle.content_models.specs.declared.particles.ParticleLabel.{ParticleLabel}
 use Rattle.content_models.specs.declared.breaches.Breach.{Breach}
 use Rattle.content_models.proofs.Sets.{has_append}

@@ -14,7 +14,7 @@ use Rattle.content_models.specs.Particle.{Term, element, sequence, choice, Parti
 use Rattle.content_models.specs.Clear.{Has, Apart, and_then, first, first_of_term, first_in_order, first_of_any, empties, empties_term, all_empty, any_empty, repeats, follow_of_body, Rule1, Rule2, Rule3, AllApart, OneEmpty, Clear, ClearBelow, ClearInOrder, ClearOneOf}
 use Rattle.content_models.specs.Seen.{seen, term_seen, all_seen}
 use Rattle.content_models.specs.Breaches.{Placed, placed, all_placed, placed_in_order, placed_of_any, KeepsRules, Breaks, StandsAt, StandsFrom, IsFirstBreach}
-use Rattle.content_models.specs.Deciding.{has, is_once, is_fixed, breaks_bounds, clash, breaks_choice, breach_at, breach_if, is_before, earlier, earliest, body_follow, after_follow, breach_of, breach_in_order, breach_of_any}
+use Rattle.content_models.specs.Private.Deciding.{has, is_once, is_fixed, breaks_bounds, clash, breaks_choice, breach_at, breach_if, is_before, earlier, earliest, body_follow, after_follow, breach_of, breach_in_order, breach_of_any}
 use Rattle.content_models.specs.declared.particles.ParticleKind.{ParticleKind}
 use Rattle.content_models.specs.declared.particles.ParticleKind.TheVariants.{Element, Sequence, Choice}
 use Rattle.content_models.specs.declared.particles.ParticleLabel.{ParticleLabel}

@@ -5,7 +5,7 @@ use Rattle.label_tree.proofs.Roses.{roses_of-list_of}
 use Rattle.xa_base.specs.declared.texts.Name.{Name}
 use Rattle.content_models.specs.Seen.{term_seen, all_seen}
 use Rattle.content_models.specs.Clear.{empties_term, first_of_term, repeats}
-use Rattle.content_models.specs.Deciding.{term_of, breaks_bounds, body_follow, earliest, breach_if, body_breach, breach_in_body, breach_of, breach_in_order, breach_of_any, breaks_choice}
+use Rattle.content_models.specs.Private.Deciding.{term_of, breaks_bounds, body_follow, earliest, breach_if, body_breach, breach_in_body, breach_of, breach_in_order, breach_of_any, breaks_choice}
 use Rattle.content_models.specs.declared.particles.ParticleKind.{ParticleKind}
 use Rattle.content_models.specs.declared.particles.ParticleKind.TheVariants.{Element, Sequence, Choice}
 use Rattle.content_models.specs.declared.particles.ParticleLabel.{ParticleLabel}

@@ -4,7 +4,7 @@ ghost use Rattle.label_tree.specs.Rose.{roses_of};
 ghost use Rattle.content_models.specs.Clear.{Clear, repeats};
 ghost use Rattle.content_models.specs.Seen.{seen, all_seen};
 ghost use Rattle.content_models.specs.Breaches.{all_placed, IsFirstBreach};
-ghost use Rattle.content_models.specs.Deciding as decide;
+ghost use Rattle.content_models.specs.Private.Deciding as decide;
 
 use crate::first_names::{push_first, push_first_of_any, push_first_of_body, put_before};
 use crate::name_sets::{behind, insert_all, meet, share};

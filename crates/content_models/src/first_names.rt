@@ -4,7 +4,7 @@ ghost use Rattle.label_tree.specs.Rose.{roses_of};
 ghost use Rattle.xa_base.specs.declared.texts.Name.{Name};
 ghost use Rattle.content_models.specs.Clear.{first, first_of_term, first_in_order, first_of_any, empties, empties_term, all_empty, any_empty};
 ghost use Rattle.content_models.specs.Seen.{seen, all_seen};
-ghost use Rattle.content_models.specs.Deciding as decide;
+ghost use Rattle.content_models.specs.Private.Deciding as decide;
 
 use crate::name_sets::insert_all;
 use crate::particles::{ParticleKind, ParticleLabel};

@@ -16,9 +16,9 @@ use Rattle.doc_text.specs.declared.error.DocWhy.{DocWhy}
 use Rattle.doc_text.specs.declared.error.DocWhy.TheVariants as why
 use Rattle.doc_text.specs.Namespaces.{xml_prefix, xml_space, bindings_of, attributes_of, element_name}
 use Rattle.doc_text.specs.Contexts.{Context, Open, is_nil, is_innermost, is_outside, is_white, brackets_after, scope, tag_scope, start_reason, reason, first_true, end_tests}
-use Rattle.doc_text.specs.States.{Above, State, open_of, context, kids_of_state, entering, element_of, opened, emptied, closed, passed, added}
-use Rattle.doc_text.specs.Entering.{Enters}
-use Rattle.doc_text.specs.Building.{above_of, state, IsNamed, AreNamed, Scoped, Takes, Flushed, Shuts}
+use Rattle.doc_text.specs.Private.States.{Above, State, open_of, context, kids_of_state, entering, element_of, opened, emptied, closed, passed, added}
+use Rattle.doc_text.specs.Private.Entering.{Enters}
+use Rattle.doc_text.specs.Private.Building.{above_of, state, IsNamed, AreNamed, Scoped, Takes, Flushed, Shuts}
 use Rattle.doc_text.proofs.Entered.{inside_is}
 use Rattle.doc_text.proofs.OpenNames.{named_tag, ends_named}
 use Rattle.doc_text.proofs.Telling.{some_innermost, innermost_is, is_nil-map, context-added}

@@ -7,7 +7,7 @@ use Rattle.doc_text.specs.declared.error.DocWhy.{DocWhy}
 use Rattle.doc_text.specs.declared.error.DocWhy.TheVariants as why
 use Rattle.doc_text.specs.Namespaces.{bindings_of, attributes_of, element_name, written_twice, expanded_twice}
 use Rattle.doc_text.specs.declared.tags.Head.{Head}
-use Rattle.doc_text.specs.Entering.{Enters}
+use Rattle.doc_text.specs.Private.Entering.{Enters}
 use Rattle.doc_text.specs.Contexts.{has_bad_name, has_long_name, has_reserved, has_unbound, has_duplicate, tag_scope, first_true, start_reason}
 
 abbrev pub name_tests : Tag → List (Bool × DocWhy)

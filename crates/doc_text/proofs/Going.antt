@@ -14,7 +14,7 @@ use Rattle.doc_text.specs.declared.error.DocWhy.TheVariants as why
 use Rattle.doc_text.specs.Sound.{AreItems}
 use Rattle.doc_text.specs.Contexts.{is_nil, scope, start_tests, first_true, reason, brackets_after}
 use Rattle.doc_text.specs.Documents.{why_of, mark_len, DocOf, BrokenAt}
-use Rattle.doc_text.specs.States.{Above, State, nothing, context, open_of, entering, kids_of_state, opened, emptied, closed, added, step}
+use Rattle.doc_text.specs.Private.States.{Above, State, nothing, context, open_of, entering, kids_of_state, opened, emptied, closed, added, step}
 use Rattle.doc_text.proofs.Telling.{passed, Passed, is_nil-map, some_innermost, innermost_is}
 use Rattle.doc_text.proofs.Keeping.{IsFine, Good, good_start, good_passed, good_opened, good_emptied, good_closed, good_written, items_of}
 use Rattle.doc_text.proofs.Soundness.{tag_sound, scope_sound}

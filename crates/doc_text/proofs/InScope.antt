@@ -10,7 +10,7 @@ use Rattle.std.proofs.Math.ListN.{get_or-append}
 use Rattle.std.proofs.Math.Seq.{get_or-append_seam}
 use Rattle.doc_text.specs.declared.scope.Binding.{Binding}
 use Rattle.doc_text.specs.Namespaces.{space_of}
-use Rattle.doc_text.specs.Scopes.{bound, place_of, Hides, Indexed}
+use Rattle.doc_text.specs.Private.Scopes.{bound, place_of, Hides, Indexed}
 
 abbrev pub place_in : BTreeMap (Bor (List ℕ)) ℕ → List ℕ → Option ℕ
 place_in m prefix = get_by (λ key. slice_cmp nat_cmp prefix key.now) m

@@ -11,7 +11,7 @@ use Rattle.doc_text.specs.declared.label.ItemLabel.TheVariants.{Element, Text}
 use Rattle.doc_text.specs.Labels.{MayHave}
 use Rattle.doc_text.specs.Sound.{has_xml_chars, is_sound_label, is_text, begins_with_text, is_sound, are_sound, is_element, levels, levels_all, AreItems}
 use Rattle.doc_text.specs.Contexts.{is_nil}
-use Rattle.doc_text.specs.States.{Above, State, nothing, with_text, kids_of_state, element_of}
+use Rattle.doc_text.specs.Private.States.{Above, State, nothing, with_text, kids_of_state, element_of}
 
 -- ---- booleans
 

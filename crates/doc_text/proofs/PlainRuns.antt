@@ -10,7 +10,7 @@ use Rattle.doc_pieces.specs.Reasons.{is_plain, IsPlainRun}
 use Rattle.doc_pieces.proofs.PlainLaws.{plain_piece}
 use Rattle.doc_text.specs.Sound.{is_empty}
 use Rattle.doc_text.specs.Contexts.{is_nil, reason, brackets_after}
-use Rattle.doc_text.specs.States.{State, context, open_of, added}
+use Rattle.doc_text.specs.Private.States.{State, context, open_of, added}
 use Rattle.doc_text.proofs.Keeping.{and_parts}
 use Rattle.doc_text.proofs.Soundness.{or_parts, not_true}
 use Rattle.doc_text.proofs.Telling.{is_nil-map}

@@ -13,7 +13,7 @@ use Rattle.doc_text.specs.Labels.{MayHave}
 use Rattle.doc_text.specs.Contexts.{Context, start, reason, after}
 use Rattle.doc_text.specs.Tokens.{Token, tokens}
 use Rattle.doc_text.specs.Documents.{told, Whole, Broken, why_of, mark_len, DocOf, BrokenAt}
-use Rattle.doc_text.specs.States.{State, nothing, context, step}
+use Rattle.doc_text.specs.Private.States.{State, nothing, context, step}
 use Rattle.doc_text.proofs.Telling.{so_far, context-step, tells}
 
 abbrev pub behind_mark : List ℕ → List ℕ

@@ -14,9 +14,9 @@ use Rattle.doc_text.specs.declared.error.DocError.{DocError}
 use Rattle.doc_text.specs.declared.error.DocError.TheVariants as errors
 use Rattle.doc_text.specs.Contexts.{is_nil, is_outside, reason}
 use Rattle.doc_text.specs.Documents.{why_of, BrokenAt, Refuses}
-use Rattle.doc_text.specs.States.{State, context, open_of, added}
-use Rattle.doc_text.specs.Entering.{Stopped}
-use Rattle.doc_text.specs.Building.{state, Takes}
+use Rattle.doc_text.specs.Private.States.{State, context, open_of, added}
+use Rattle.doc_text.specs.Private.Entering.{Stopped}
+use Rattle.doc_text.specs.Private.Building.{state, Takes}
 use Rattle.doc_text.proofs.Telling.{is_nil-map}
 use Rattle.doc_text.proofs.Known.{laws}
 use Rattle.doc_text.proofs.Reaching.{place_of, stops, stops_where_none, is_unfinished}

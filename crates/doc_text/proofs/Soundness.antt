@@ -13,7 +13,7 @@ use Rattle.doc_text.specs.declared.label.ItemLabel.TheVariants.{Element}
 use Rattle.doc_text.specs.Sound.{xmlns_space, is_empty, has_xml_chars, is_sound_space, spells_ncname, is_sound_part, is_sound_name, is_xmlns, is_sound_attribute, has_name, are_sound_attributes, is_sound_binding, is_sound_label}
 use Rattle.doc_text.specs.Namespaces.{xml_prefix, xml_space, xmlns_prefix, has_colon, prefix_of, local_of, is_qname, is_long, binds, bound_prefix, bindings_of, plain_of, is_reserved, space_of, is_unbound, or_absent, element_name, attribute_name, attributes_of, expanded_twice}
 use Rattle.doc_text.specs.Contexts.{tag_scope, start_tests}
-use Rattle.doc_text.specs.States.{Above, open_of}
+use Rattle.doc_text.specs.Private.States.{Above, open_of}
 use Rattle.doc_text.proofs.Telling.{Passed}
 use Rattle.doc_text.proofs.Keeping.{and_parts, and_both, Frames}
 

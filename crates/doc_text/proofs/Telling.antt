@@ -11,7 +11,7 @@ use Rattle.doc_text.specs.declared.error.DocWhy.TheVariants as why
 use Rattle.doc_text.specs.Contexts.{Context, is_nil, scope, inner, is_innermost, first_true, reason, after, brackets_after, end_tests}
 use Rattle.doc_text.specs.Tokens.{Token, Opens, Closes, Words, tokens, tokens_all, join}
 use Rattle.doc_text.specs.Documents.{told, opening}
-use Rattle.doc_text.specs.States.{Above, State, context, open_of, with_text, kids_of_state, entering, element_of, closed, added, step}
+use Rattle.doc_text.specs.Private.States.{Above, State, context, open_of, with_text, kids_of_state, entering, element_of, closed, added, step}
 
 -- ---- what is told
 

@@ -11,8 +11,8 @@ use Rattle.doc_pieces.specs.Found.{attribute_of, bytes_of}
 use Rattle.doc_text.specs.Sound.{has_xml_chars, spells_ncname}
 use Rattle.doc_text.specs.Namespaces.{xmlns_prefix, local_of, is_qname, bound_prefix}
 use Rattle.doc_text.specs.Contexts.{has_bad_name, first_true}
-use Rattle.doc_text.specs.Entering.{have_utf8, are_named}
-use Rattle.doc_text.specs.Building.{GivesUtf8}
+use Rattle.doc_text.specs.Private.Entering.{have_utf8, are_named}
+use Rattle.doc_text.specs.Private.Building.{GivesUtf8}
 use Rattle.doc_text.proofs.Keeping.{and_parts, and_both}
 use Rattle.doc_text.proofs.Soundness.{Each, or_parts}
 use Rattle.doc_text.proofs.PieceLaws.{Fine}

@@ -4,9 +4,6 @@ pub mod Namespaces
 pub mod Tokens
 pub mod Contexts
 pub mod Documents
-pub mod Scopes
-pub mod States
-pub mod Entering
-pub mod Building
 pub mod Bindings
 pub mod Same
+pub mod Private

@@ -5,10 +5,10 @@ ghost use Rattle.doc_pieces.specs.Found.{seen, tag_seen, bytes_of};
 ghost use Rattle.std.specs.List.{prefix_len};
 ghost use Rattle.doc_pieces.specs.Reasons.{IsPlainRun, is_plain_byte};
 ghost use Rattle.doc_text.specs.Contexts.{is_white, is_outside, is_innermost, first_true, end_tests, reason, scope, brackets_after};
-ghost use Rattle.doc_text.specs.States.{context, nothing, added, passed};
-ghost use Rattle.doc_text.specs.Entering.{Stopped, have_utf8};
+ghost use Rattle.doc_text.specs.Private.States.{context, nothing, added, passed};
+ghost use Rattle.doc_text.specs.Private.Entering.{Stopped, have_utf8};
 ghost use Rattle.doc_text.specs.declared.error.DocWhy.TheVariants as why;
-ghost use Rattle.doc_text.specs.Building.{state, Scoped, Takes, Begins, Flushed, Shuts, GivesUtf8};
+ghost use Rattle.doc_text.specs.Private.Building.{state, Scoped, Takes, Begins, Flushed, Shuts, GivesUtf8};
 
 use crate::error::{DocError, DocWhy};
 use crate::label::{Attributes, Bindings, ItemLabel};

@@ -4,7 +4,7 @@ ghost use Rattle.doc_pieces.specs.Found.{seen};
 ghost use Rattle.doc_text.specs.Sound.{AreItems};
 ghost use Rattle.doc_text.specs.Tokens.{tokens, Ascend};
 ghost use Rattle.doc_text.specs.Documents.{why_of, mark_len, DocOf, Refuses};
-ghost use Rattle.doc_text.specs.Building.{state};
+ghost use Rattle.doc_text.specs.Private.Building.{state};
 
 use crate::builder::Builder;
 use crate::error::{DocError, DocWhy};

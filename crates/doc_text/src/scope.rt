@@ -30,7 +30,7 @@ pub(crate) struct Scope<'a> {
 
 impl<'a> Model for Scope<'a> {
     ghost use Rattle.std.specs.Prelude.{List, ℕ, map};
-    ghost use Rattle.doc_text.specs.Scopes.{bound, Indexed};
+    ghost use Rattle.doc_text.specs.Private.Scopes.{bound, Indexed};
 
     ghost Value = { List (List ℕ × List ℕ) };
 

@@ -5,7 +5,7 @@ ghost use Rattle.std.specs.Prelude.{not, true, nat_le, ◌||◌, length, ◌&&�
 ghost use Rattle.doc_pieces.specs.Found.{tag_seen, attribute_of, bytes_of};
 ghost use Rattle.doc_text.specs.Namespaces as names;
 ghost use Rattle.doc_text.specs.Contexts as contexts;
-ghost use Rattle.doc_text.specs.Entering.{Enters, Stopped, have_utf8, are_named};
+ghost use Rattle.doc_text.specs.Private.Entering.{Enters, Stopped, have_utf8, are_named};
 ghost use Rattle.doc_text.specs.declared.error.DocWhy.TheVariants as why;
 
 use crate::duplicates::{expanded_twice, written_twice};

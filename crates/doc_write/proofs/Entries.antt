@@ -12,7 +12,7 @@ use Rattle.std.proofs.lemmas.Map.Text.{btree_map_updates_str}
 use Rattle.doc_text.specs.Sound.{is_empty}
 use Rattle.doc_written.specs.Spaces.{xml_space}
 use Rattle.doc_write.specs.declared.prefixes.Prefix.{Prefix}
-use Rattle.doc_write.specs.Binding.{prefix_text, entry_of, Indexed, is_bound}
+use Rattle.doc_write.specs.Private.Binding.{prefix_text, entry_of, Indexed, is_bound}
 
 -- the map after the prefix of a namespace was put
 abbrev pub Puts : BTreeMap (Bor (List ℕ)) Prefix → BTreeMap (Bor (List ℕ)) Prefix → List ℕ → Option Prefix → Type 0

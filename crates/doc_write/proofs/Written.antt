@@ -14,7 +14,7 @@ use Rattle.doc_written.specs.ReadBack.{ReadsAs}
 use Rattle.doc_written.proofs.Document.{read_back}
 use Rattle.doc_write.specs.declared.prefixes.Prefix.{Prefix}
 use Rattle.doc_written.specs.Spaces.{prefixes, attribute_spaces, label_spaces, spaces, all_spaces}
-use Rattle.doc_write.specs.Binding.{entry_of, with_space, with_spaces}
+use Rattle.doc_write.specs.Private.Binding.{entry_of, with_space, with_spaces}
 use Rattle.doc_written.specs.Written.{text_escape, written_start, written_end, written_element, written_declaration, xml_declaration, spelled, all_spelled, written}
 
 pub drop-item : {A : Type 0} (xs : List A) (i : ℕ) (x : A) → i < length xs → x ≡ get_or xs i x → drop i xs ≡ x ∷ drop (i + 1) xs

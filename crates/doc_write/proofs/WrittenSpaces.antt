@@ -8,7 +8,7 @@ use Rattle.label_tree.specs.Rose.{Rose}
 use Rattle.doc_text.specs.declared.label.ItemLabel.{ItemLabel}
 use Rattle.doc_text.specs.Sound.{is_empty}
 use Rattle.doc_written.specs.Spaces.{xml_space, xsi_space, spaces, has_space, unseen, numbered, prefixes}
-use Rattle.doc_write.specs.Binding.{next_prefix, is_bound, with_spaces}
+use Rattle.doc_write.specs.Private.Binding.{next_prefix, is_bound, with_spaces}
 
 lookup-push : (test : List ℕ → Bool) (table : List (List ℕ × List ℕ)) (space prefix : List ℕ)
     → is_some (lookup test (table ++ (space, prefix) ∷ [])) ≡ (is_some (lookup test table) || test space)

@@ -3,7 +3,7 @@ ghost use Rattle.std.specs.Prelude.{◌≡◌, ◌++◌, [], map, OnOk, bytes_eq
 ghost use Rattle.std.specs.Option.{option_map};
 ghost use Rattle.std.specs.Map.{lookup};
 ghost use Rattle.doc_written.specs.Spaces.{attribute_spaces, label_spaces, spaces, prefix_for};
-ghost use Rattle.doc_write.specs.Binding.{prefix_text, entry_of, next_prefix, is_bound, with_space, with_spaces};
+ghost use Rattle.doc_write.specs.Private.Binding.{prefix_text, entry_of, next_prefix, is_bound, with_space, with_spaces};
 
 use doc_text::{Attributes, ItemLabel};
 use itoa::Buffer;
@@ -35,7 +35,7 @@ pub(crate) struct Prefixes<'a> {
 
 impl<'a> Model for Prefixes<'a> {
     ghost use Rattle.std.specs.Prelude.{List, ℕ, map};
-    ghost use Rattle.doc_write.specs.Binding.{entry_of, Indexed};
+    ghost use Rattle.doc_write.specs.Private.Binding.{entry_of, Indexed};
 
     ghost Value = { List (List ℕ × List ℕ) };
 

@@ -3,8 +3,8 @@ ghost use Rattle.std.specs.Prelude.{◌≡◌, ◌≤◌, ◌++◌, ◌∷◌, [
 ghost use Rattle.std.specs.List.{flat_map};
 ghost use Rattle.doc_written.specs.Written.{written_name, written_value, written_attribute, written_declaration, written_start, written_end, spelled, written};
 ghost use Rattle.doc_written.specs.ReadBack.{ReadsAs};
-ghost use Rattle.doc_write.specs.Escapes.{escape_in};
-ghost use Rattle.doc_write.specs.Binding.{prefix_text, entry_of};
+ghost use Rattle.doc_write.specs.Private.Escapes.{escape_in};
+ghost use Rattle.doc_write.specs.Private.Binding.{prefix_text, entry_of};
 
 use crate::prefixes::{Prefix, Prefixes};
 use doc_text::{Attributes, ItemLabel, Items};

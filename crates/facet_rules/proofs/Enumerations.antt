@@ -40,7 +40,7 @@ use Rattle.simple_values.specs.Written.{Writes}
 use Rattle.facet_rules.specs.declared.refusals.FacetWhy.{FacetWhy}
 use Rattle.facet_rules.specs.declared.refusals.FacetWhy.TheVariants as why
 use Rattle.facet_rules.specs.Applying.{has_bounds}
-use Rattle.facet_rules.specs.Deciding.{has_number, has_word, IsTexts}
+use Rattle.facet_rules.specs.Private.Deciding.{has_number, has_word, IsTexts}
 use Rattle.facet_rules.specs.Restricting.{items_of, accepts, number_in, number_item, word_item, each_item, IsAscendingOf}
 use Rattle.facet_rules.proofs.InTurn.{facets_from}
 

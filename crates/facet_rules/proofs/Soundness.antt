@@ -27,7 +27,7 @@ use Rattle.simple_values.proofs.WholeNumbers.{and-second}
 use Rattle.facet_rules.specs.declared.refusals.FacetWhy.{FacetWhy}
 use Rattle.facet_rules.specs.declared.refusals.FacetWhy.TheVariants as why
 use Rattle.facet_rules.specs.declared.constraints.Constraints.{Constraints}
-use Rattle.facet_rules.specs.Deciding.{has_word, IsTexts}
+use Rattle.facet_rules.specs.Private.Deciding.{has_word, IsTexts}
 use Rattle.facet_rules.specs.Restricting.{narrowed, is_empty, are_crossed, keeps_number, keeps_word, is_length, least_length, greatest_length, accepts, word_item, each_item, IsAscendingOf, EnumeratedBy, IsNumbersOf, IsWordsOf}
 use Rattle.facet_rules.proofs.Enumerations.{accepts-word}
 

@@ -8,7 +8,7 @@ pub use Rattle.simple_values.specs.Lexical
 pub use Rattle.simple_values.specs.Reading
 pub mod Answering
 pub mod Applying
-pub mod Deciding
 pub mod Making
 pub mod Refusals
 pub mod Restricting
+pub mod Private

@@ -7,7 +7,7 @@ ghost use Rattle.simple_types.specs.Seen.{space_of};
 ghost use Rattle.simple_types.specs.Sound.{Sound};
 ghost use Rattle.facet_rules.specs.Answering.{Answers, AnswersSpace};
 ghost use Rattle.facet_rules.specs.Applying.{has_bounds};
-ghost use Rattle.facet_rules.specs.Deciding.{has_number, has_word, IsTexts};
+ghost use Rattle.facet_rules.specs.Private.Deciding.{has_number, has_word, IsTexts};
 ghost use Rattle.facet_rules.specs.Refusals.{why_of};
 ghost use Rattle.facet_rules.specs.Restricting as rule;
 

@@ -8,8 +8,8 @@ use Rattle.xa_base.specs.declared.texts.Name.{Name}
 use Rattle.schema_parts.specs.declared.components.ComplexDef.{ComplexDef}
 use Rattle.schema_parts.specs.Components.{Set}
 use Rattle.schema_parts.specs.Linked.{IsJustBelow, IsChain, leaves_of}
-use Rattle.link_check.specs.Leaves.{leaf_seen, leaves_seen}
-use Rattle.link_check.specs.Levels.{IsBelow, IsLevelBelow, IsLevel, AreShallow}
+use Rattle.link_check.specs.Private.Leaves.{leaf_seen, leaves_seen}
+use Rattle.link_check.specs.Private.Levels.{IsBelow, IsLevelBelow, IsLevel, AreShallow}
 use Rattle.link_check.specs.declared.leaves.Leaf.{Leaf}
 use Rattle.link_check.proofs.Numbered.{within}
 use Rattle.link_check.proofs.Steps.{all_more}

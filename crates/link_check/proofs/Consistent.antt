@@ -15,8 +15,8 @@ use Rattle.xa_base.proofs.NameLaws.{name_eq-Decides, name_cmp_total, exact_names
 use Rattle.schema_parts.specs.declared.components.TypeOf.{TypeOf}
 use Rattle.schema_parts.specs.Components.{Set, element_type}
 use Rattle.schema_parts.specs.Linked.{AreConsistent}
-use Rattle.link_check.specs.Kinds.{kind_in}
-use Rattle.link_check.specs.Leaves.{leaf_seen, leaves_seen}
+use Rattle.link_check.specs.Private.Kinds.{kind_in}
+use Rattle.link_check.specs.Private.Leaves.{leaf_seen, leaves_seen}
 use Rattle.link_check.specs.declared.leaves.Leaf.{Leaf}
 use Rattle.link_check.proofs.Steps.{all_more}
 

@@ -12,7 +12,7 @@ use Rattle.std.proofs.lemmas.Map.Keys.{IsDistinct-push}
 use Rattle.xa_base.specs.declared.texts.Name.{Name}
 use Rattle.xa_base.specs.Names.{name_eq, name_cmp}
 use Rattle.xa_base.proofs.NameLaws.{name_eq-Decides}
-use Rattle.content_models.specs.Deciding.{has, lent, holds}
+use Rattle.content_models.specs.Private.Deciding.{has, lent, holds}
 use Rattle.content_models.proofs.Sets.{holds_more, has_append, lent_more}
 
 alone : (o : Option Name) → cons_option o [] ≡ option_to_list o

@@ -10,7 +10,7 @@ use Rattle.schema_parts.specs.declared.components.ElementDecl.{ElementDecl}
 use Rattle.schema_parts.specs.declared.components.TypeOf.{TypeOf}
 use Rattle.schema_parts.specs.declared.components.TypeOf.TheVariants as kind
 use Rattle.schema_parts.specs.Linked.{has_complex_type}
-use Rattle.link_check.specs.Counting.{AreCounts, complex_number, IsWithoutName}
+use Rattle.link_check.specs.Private.Counting.{AreCounts, complex_number, IsWithoutName}
 
 same_number : (n : ℕ) → nat_eq n n ≡ true
 same_number n = nat_eq_equiv.refl n

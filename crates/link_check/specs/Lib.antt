@@ -1,6 +1,2 @@
-pub mod Counting
 pub mod Given
-pub mod Kinds
-pub mod Leaves
-pub mod Levels
-pub mod Told
+pub mod Private

@@ -3,13 +3,13 @@ ghost use Rattle.std.specs.Prelude.{◌≡◌, ◌++◌, ◌≤◌, IfOk, OnOk, 
 ghost use Rattle.std.specs.List.{IsDistinct, filter_map};
 ghost use Rattle.std.specs.Option.{option_to_list};
 ghost use Rattle.xa_base.specs.Names.{name_eq};
-ghost use Rattle.content_models.specs.Deciding.{lent};
+ghost use Rattle.content_models.specs.Private.Deciding.{lent};
 ghost use Rattle.schema_parts.specs.declared.components.ElementDecl.{ElementDecl};
 ghost use Rattle.schema_parts.specs.declared.components.SimpleDef.{SimpleDef};
 ghost use Rattle.schema_parts.specs.declared.components.ComplexDef.{ComplexDef};
 ghost use Rattle.schema_parts.specs.declared.components.GlobalAttribute.{GlobalAttribute};
 ghost use Rattle.schema_parts.specs.Components.{names_of_types};
-ghost use Rattle.link_check.specs.Told.{set_of, AreApart, names_of_globals, names_of_attributes};
+ghost use Rattle.link_check.specs.Private.Told.{set_of, AreApart, names_of_globals, names_of_attributes};
 
 use crate::parts::Parts;
 use schema_parts::{ComplexDef, ElementDecl, GlobalAttribute, SimpleDef};

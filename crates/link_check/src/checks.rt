@@ -3,7 +3,7 @@ ghost use Rattle.std.specs.Prelude.{IfOk, IsTrue};
 ghost use Rattle.schema_parts.specs.Components.{components};
 ghost use Rattle.schema_parts.specs.Linked.{IsLinked};
 ghost use Rattle.link_check.specs.Given.{AreSound};
-ghost use Rattle.link_check.specs.Told.{set_of, AreDeclared, AreTogether};
+ghost use Rattle.link_check.specs.Private.Told.{set_of, AreDeclared, AreTogether};
 
 use crate::apart::are_apart;
 use crate::complexes::are_complex_types;

@@ -5,7 +5,7 @@ ghost use Rattle.std.specs.List.Sorted.{IsStrictlySortedBy};
 ghost use Rattle.xa_base.specs.Names.{name_cmp};
 ghost use Rattle.schema_parts.specs.declared.components.AttributeUse.{AttributeUse};
 ghost use Rattle.schema_parts.specs.Linked.{IsUse, IsContent, IsComplexType};
-ghost use Rattle.link_check.specs.Told.{set_of};
+ghost use Rattle.link_check.specs.Private.Told.{set_of};
 
 use crate::declarations::{is_simple, may_be_named};
 use crate::models::is_model;

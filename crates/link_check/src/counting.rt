@@ -3,9 +3,9 @@ ghost use Rattle.std.specs.Prelude.{◌≡◌, ◌≤◌, ◌<◌, ◌++◌, ℕ
 ghost use Rattle.xa_base.specs.declared.texts.Name.{Name};
 ghost use Rattle.schema_parts.specs.Linked as linked;
 ghost use Rattle.schema_parts.specs.Linked.{named_declarations, has_complex_type};
-ghost use Rattle.link_check.specs.Told.{set_of};
-ghost use Rattle.link_check.specs.Leaves.{leaves_seen};
-ghost use Rattle.link_check.specs.Counting.{AreCounts, IsNamedOnce, IsHeldOnce, IsWithoutName, complex_number};
+ghost use Rattle.link_check.specs.Private.Told.{set_of};
+ghost use Rattle.link_check.specs.Private.Leaves.{leaves_seen};
+ghost use Rattle.link_check.specs.Private.Counting.{AreCounts, IsNamedOnce, IsHeldOnce, IsWithoutName, complex_number};
 
 use crate::leaves::{Leaf, leaves_of};
 use crate::parts::Parts;

@@ -4,7 +4,7 @@ ghost use Rattle.std.specs.List.{All};
 ghost use Rattle.schema_parts.specs.Declarable.{is_declarable};
 ghost use Rattle.schema_parts.specs.Linked.{IsTyped, IsElement, IsAttribute, IsSimpleType};
 ghost use Rattle.link_check.specs.Given.{AreSound};
-ghost use Rattle.link_check.specs.Told.{set_of, AreFew};
+ghost use Rattle.link_check.specs.Private.Told.{set_of, AreFew};
 
 use crate::parts::Parts;
 use schema_parts::{ElementDecl, GlobalAttribute, TypeOf, declarable, declarable_attribute};

@@ -3,7 +3,7 @@ ghost use Rattle.std.specs.Prelude.{◌≡◌, ◌++◌, IfOk, OnOk};
 ghost use Rattle.label_tree.specs.Rose.{roses_of};
 ghost use Rattle.content_models.specs.Seen.{seen, all_seen};
 ghost use Rattle.schema_parts.specs.Linked as linked;
-ghost use Rattle.link_check.specs.Leaves.{leaves_seen};
+ghost use Rattle.link_check.specs.Private.Leaves.{leaves_seen};
 
 use content_models::{Particle, ParticleKind, ParticleLabel};
 use label_tree::Tree;

@@ -1,9 +1,9 @@
 //! Complex types without a name that stand in one another: their numbers ascend, and there are few levels of them.
 ghost use Rattle.std.specs.Prelude.{◌≡◌, ◌≤◌, ℕ, Some, IfOk, IfSome, IsTrue};
 ghost use Rattle.schema_parts.specs.Components.{IsUnnamed, element_type};
-ghost use Rattle.link_check.specs.Told.{set_of};
-ghost use Rattle.link_check.specs.Leaves.{leaf_seen, leaves_seen};
-ghost use Rattle.link_check.specs.Levels.{IsBelow, IsLevelBelow, IsLevel, AreShallow};
+ghost use Rattle.link_check.specs.Private.Told.{set_of};
+ghost use Rattle.link_check.specs.Private.Leaves.{leaf_seen, leaves_seen};
+ghost use Rattle.link_check.specs.Private.Levels.{IsBelow, IsLevelBelow, IsLevel, AreShallow};
 
 use crate::leaves::{Leaf, leaves_of};
 use crate::parts::Parts;

@@ -5,9 +5,9 @@ ghost use Rattle.label_tree.specs.Rose.{roses_of};
 ghost use Rattle.content_models.specs.Occurring.{AllowOne, MayOccur, AllMayOccur};
 ghost use Rattle.content_models.specs.Seen.{seen, all_seen};
 ghost use Rattle.schema_parts.specs.Linked.{IsNamed, AreConsistent, IsModel};
-ghost use Rattle.link_check.specs.Told.{set_of};
-ghost use Rattle.link_check.specs.Leaves.{leaf_seen, leaves_seen};
-ghost use Rattle.link_check.specs.Kinds.{kind_in};
+ghost use Rattle.link_check.specs.Private.Told.{set_of};
+ghost use Rattle.link_check.specs.Private.Leaves.{leaf_seen, leaves_seen};
+ghost use Rattle.link_check.specs.Private.Kinds.{kind_in};
 
 use crate::leaves::{Leaf, leaves_of_model};
 use crate::parts::Parts;

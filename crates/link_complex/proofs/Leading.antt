@@ -5,10 +5,10 @@ use Rattle.std.proofs.lemmas.Bool.{cases_order, cases_lt, cases_Bool}
 use Rattle.xa_base.specs.declared.texts.Name.{Name}
 use Rattle.link_names.specs.declared.places.Place.{Place}
 use Rattle.link_names.specs.Order.{is_before}
-use Rattle.link_names.specs.Tables.{lesser, stands_before}
+use Rattle.link_names.specs.Private.Tables.{lesser, stands_before}
 use Rattle.link_names.proofs.Firsts.{Before, before_true, true_before, before_false}
 use Rattle.link_complex.specs.ElementTypes.{TypeIdentity, TypedParticle, IsIn, IsOther}
-use Rattle.link_complex.specs.Leading.{Leader, leading, joined, has_other}
+use Rattle.link_complex.specs.Private.Leading.{Leader, leading, joined, has_other}
 
 -- one more at the end
 

@@ -16,8 +16,8 @@ use Rattle.link_names.specs.Order.{fault, precedes, IsFirstSuch, OneHas, earlier
 use Rattle.link_names.proofs.Firsts.{precedes_itself}
 use Rattle.link_names.proofs.Placing.{name_test, cut}
 use Rattle.link_complex.specs.ElementTypes.{TypeIdentity, TypedParticle, type_named, IsOther, IsOtherAt}
-use Rattle.link_complex.specs.Identities.{identity_of, type_of, type_in, elements_of, particle_of, particles_of, leader_of, leader_in}
-use Rattle.link_complex.specs.Leading.{Leader, Joins, IsBehind}
+use Rattle.link_complex.specs.Private.Identities.{identity_of, type_of, type_in, elements_of, particle_of, particles_of, leader_of, leader_in}
+use Rattle.link_complex.specs.Private.Leading.{Leader, Joins, IsBehind}
 use Rattle.link_complex.specs.declared.identities.TypeIdentity.{TypeIdentity as KeptType}
 use Rattle.link_complex.specs.declared.element_types.TypedElement.{TypedElement as KeptElement}
 use Rattle.link_complex.specs.declared.particles.TypedParticle.{TypedParticle as KeptParticle}

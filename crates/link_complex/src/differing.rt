@@ -4,7 +4,7 @@ ghost use Rattle.schema_parts.specs.Documents.{doc_of};
 ghost use Rattle.link_names.specs.Order.{IsFirstSuch};
 ghost use Rattle.link_complex.specs.ComplexTypes.{model_of};
 ghost use Rattle.link_complex.specs.ElementTypes.{HasOtherIn, DiffersIn, Differs};
-ghost use Rattle.link_complex.specs.Identities.{type_in, types_in};
+ghost use Rattle.link_complex.specs.Private.Identities.{type_in, types_in};
 
 use crate::definitions::document_complex_types;
 use crate::element_types::element_types;

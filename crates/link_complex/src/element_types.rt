@@ -3,7 +3,7 @@ ghost use Rattle.std.specs.Prelude.{◌≡◌, ◌++◌, map, IfOk, OnOk};
 ghost use Rattle.xa_base.specs.declared.texts.Name.{Name};
 ghost use Rattle.schema_parts.specs.Documents.{doc_of};
 ghost use Rattle.link_complex.specs.ElementTypes as told;
-ghost use Rattle.link_complex.specs.Identities.{elements_of, type_in};
+ghost use Rattle.link_complex.specs.Private.Identities.{elements_of, type_in};
 
 use crate::identities::TypeIdentity;
 use schema_parts::RawDoc;

@@ -2,7 +2,7 @@
 ghost use Rattle.std.specs.Prelude.{◌≡◌, ◌↔◌, IsTrue};
 ghost use Rattle.schema_parts.specs.Seen.{kind_of};
 ghost use Rattle.link_complex.specs.ElementTypes.{identity, BuiltIn, ByName, InPlace};
-ghost use Rattle.link_complex.specs.Identities.{identity_of, type_of};
+ghost use Rattle.link_complex.specs.Private.Identities.{identity_of, type_of};
 
 use link_names::Place;
 use schema_parts::{RawKind, RawRef};

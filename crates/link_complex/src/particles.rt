@@ -4,7 +4,7 @@ ghost use Rattle.label_tree.specs.Rose.{roses_of};
 ghost use Rattle.schema_parts.specs.Seen.{local_of};
 ghost use Rattle.schema_parts.specs.Documents.{doc_of};
 ghost use Rattle.link_complex.specs.ElementTypes as told;
-ghost use Rattle.link_complex.specs.Identities.{type_of, kept_in, type_in, types_in, particles_of};
+ghost use Rattle.link_complex.specs.Private.Identities.{type_of, kept_in, type_in, types_in, particles_of};
 
 use crate::identities::TypeIdentity;
 use content_models::{Particle, ParticleKind, ParticleLabel};

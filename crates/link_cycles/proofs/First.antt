@@ -9,7 +9,7 @@ use Rattle.link_names.specs.declared.faults.LinkWhy.TheVariants.{CircularType}
 use Rattle.link_names.specs.Order.{fault, precedes, IsFirstSuch}
 use Rattle.link_names.proofs.Firsts.{precedes_itself, such_joined}
 use Rattle.link_cycles.specs.Cycles.{edges, IsCircularAt, IsCircularBelow, IsCircularOf}
-use Rattle.link_cycles.specs.Keeping.{Keeps, IsNext}
+use Rattle.link_cycles.specs.Private.Keeping.{Keeps, IsNext}
 use Rattle.link_cycles.specs.Graphs.{IsOnCycle}
 use Rattle.link_cycles.specs.SimpleTypes.{SimpleDefinition}
 use Rattle.link_cycles.specs.Seen.{definition_of, definitions_of}

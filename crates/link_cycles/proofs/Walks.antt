@@ -6,7 +6,7 @@ use Rattle.std.proofs.Math.ListN.{set, replicate, length-append, length-set}
 use Rattle.std.proofs.lemmas.List.{take_more}
 use Rattle.std.proofs.lemmas.Bool.{cases_lt, true≢false}
 use Rattle.link_cycles.specs.Graphs.{rows_of, row, IsIn, IsEdge, Leads, IsOnCycle}
-use Rattle.link_cycles.specs.Searching.{mark, unseen, Opened}
+use Rattle.link_cycles.specs.Private.Searching.{mark, unseen, Opened}
 
 -- lists of nodes
 

@@ -3,7 +3,7 @@ ghost use Rattle.std.specs.Prelude.{◌≡◌, ◌<◌, ◌≤◌, ◌↔◌, �
 ghost use Rattle.schema_parts.specs.Documents.{doc_of};
 ghost use Rattle.link_names.specs.Order.{IsFirstSuch};
 ghost use Rattle.link_cycles.specs.Cycles.{edges, IsCircularOf, IsCircular};
-ghost use Rattle.link_cycles.specs.Keeping.{Keeps, IsNext};
+ghost use Rattle.link_cycles.specs.Private.Keeping.{Keeps, IsNext};
 ghost use Rattle.link_cycles.specs.Graphs.{rows_of, IsEdge, IsOnCycle};
 ghost use Rattle.link_cycles.specs.Seen.{definitions_of};
 

@@ -1,7 +1,7 @@
 //! Which nodes of a graph a walk leads back to.
 ghost use Rattle.std.specs.Prelude.{◌≡◌, ◌<◌, ◌≤◌, ◌↔◌, IsTrue, ℕ, Bool, List, [], ◌∷◌, ◌++◌, length, IfOk, OnOk, true, slice_index};
 ghost use Rattle.link_cycles.specs.Graphs.{rows_of, IsIn, IsEdge, IsOnCycle};
-ghost use Rattle.link_cycles.specs.Searching.{Opened};
+ghost use Rattle.link_cycles.specs.Private.Searching.{Opened};
 
 use std::alloc::Global;
 use xa_base::Memory;

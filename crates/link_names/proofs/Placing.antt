@@ -23,7 +23,7 @@ use Rattle.link_names.specs.declared.faults.Fault.{Fault}
 use Rattle.link_names.specs.declared.faults.LinkWhy.{LinkWhy}
 use Rattle.link_names.specs.Globals.{GlobalComponent, is_repeated}
 use Rattle.link_names.specs.Seen.{globals_of, global_of}
-use Rattle.link_names.specs.Tables.{place_in, lesser, stands_before, first_place}
+use Rattle.link_names.specs.Private.Tables.{place_in, lesser, stands_before, first_place}
 use Rattle.link_names.proofs.Firsts.{one_more, Before, before_true, before_false, false_before}
 
 equal_of : (r : Ordering) → is_eq r ≡ true → r ≡ Equal

@@ -18,13 +18,13 @@ use Rattle.link_names.specs.declared.references.Mention.{Mention as Kept}
 use Rattle.link_names.specs.declared.references.Need.{Need}
 use Rattle.link_names.specs.declared.references.Need.TheVariants as need
 use Rattle.link_names.specs.Globals.{is_there}
-use Rattle.link_names.specs.Mentioned.{mentions_of, mention_of}
-use Rattle.link_names.specs.NameTables.{Agree}
+use Rattle.link_names.specs.Private.Mentioned.{mentions_of, mention_of}
+use Rattle.link_names.specs.Private.NameTables.{Agree}
 use Rattle.link_names.specs.Order.{IsFirstOf, earlier}
 use Rattle.link_names.specs.References.{Mention}
 use Rattle.link_names.specs.Resolution.{Names, wrong, fault_of, unless_there}
 use Rattle.link_names.specs.Seen.{globals_of, global_of}
-use Rattle.link_names.specs.Tables.{holds}
+use Rattle.link_names.specs.Private.Tables.{holds}
 use Rattle.link_names.proofs.Firsts.{one_more}
 use Rattle.link_names.proofs.Placing.{name_test}
 

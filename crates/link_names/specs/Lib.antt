@@ -1,9 +1,7 @@
 pub mod Globals
 pub mod Limits
-pub mod Mentioned
-pub mod NameTables
 pub mod Order
 pub mod References
 pub mod Resolution
 pub mod Seen
-pub mod Tables
+pub mod Private

@@ -8,7 +8,7 @@ ghost use Rattle.link_names.specs.Globals as globals;
 ghost use Rattle.link_names.specs.Globals.{duplicates, repeated};
 ghost use Rattle.link_names.specs.Order.{IsFirstOf};
 ghost use Rattle.link_names.specs.Seen.{globals_of};
-ghost use Rattle.link_names.specs.Tables.{place_in, first_place, lesser, stands_before};
+ghost use Rattle.link_names.specs.Private.Tables.{place_in, first_place, lesser, stands_before};
 
 use crate::faults::{Fault, LinkWhy, earlier};
 use crate::global_names::{self, NamedPart};

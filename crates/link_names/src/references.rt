@@ -5,7 +5,7 @@ ghost use Rattle.std.specs.Option.{option_map};
 ghost use Rattle.schema_parts.specs.Seen.{base_of, how_of, bases_in, simple_of, use_of, uses_of, complex_of, kind_of, element_of, attribute_of, type_of, local_of};
 ghost use Rattle.schema_parts.specs.Documents.{doc_of};
 ghost use Rattle.link_names.specs.References as told;
-ghost use Rattle.link_names.specs.Mentioned.{mentions_of};
+ghost use Rattle.link_names.specs.Private.Mentioned.{mentions_of};
 
 use crate::places::Place;
 use schema_parts::{

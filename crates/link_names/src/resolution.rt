@@ -5,13 +5,13 @@ ghost use Rattle.xa_base.specs.declared.texts.Name.{Name};
 ghost use Rattle.schema_parts.specs.Documents.{doc_of};
 ghost use Rattle.link_names.specs.Globals.{is_there};
 ghost use Rattle.link_names.specs.Globals as globals;
-ghost use Rattle.link_names.specs.Mentioned.{mentions_of};
+ghost use Rattle.link_names.specs.Private.Mentioned.{mentions_of};
 ghost use Rattle.link_names.specs.Order.{IsFirstOf};
 ghost use Rattle.link_names.specs.Resolution as resolution;
 ghost use Rattle.link_names.specs.Resolution.{names_in, wrong, fault_of, unresolved};
 ghost use Rattle.link_names.specs.Seen.{globals_of};
-ghost use Rattle.link_names.specs.Tables.{holds};
-ghost use Rattle.link_names.specs.NameTables.{told_by, Agree};
+ghost use Rattle.link_names.specs.Private.Tables.{holds};
+ghost use Rattle.link_names.specs.Private.NameTables.{told_by, Agree};
 
 use crate::faults::{Fault, LinkWhy, earlier};
 use crate::global_names::{self, NamedPart};

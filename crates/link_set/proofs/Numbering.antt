@@ -15,8 +15,8 @@ use Rattle.link_cycles.specs.Tables.{named_in, placed_in, names}
 use Rattle.link_cycles.proofs.Numbering.{put_placed}
 use Rattle.link_set.specs.Builtins.{rank, is_builtin}
 use Rattle.link_set.specs.Numbers.{Numbers, number_from, number_named, number_placed, builtin_numbers, is_called, has_name, stands_at}
-use Rattle.link_set.specs.Told.{entry_of, entries_of, ranked_in}
-use Rattle.link_set.specs.Seen.{told_attribute, attributes_of}
+use Rattle.link_set.specs.Private.Told.{entry_of, entries_of, ranked_in}
+use Rattle.link_set.specs.Private.Seen.{told_attribute, attributes_of}
 use Rattle.link_set.specs.Sets.{attribute, attributes, type_of_attribute}
 use Rattle.link_set.specs.declared.numbers.Entry.{Entry}
 use Rattle.link_set.specs.declared.written.WrittenAttribute.{WrittenAttribute}

@@ -1,9 +1,7 @@
 pub mod Builtins
-pub mod Made
 pub mod Numbers
 pub mod Ordered
 pub mod Parts
-pub mod Seen
 pub mod Sets
-pub mod Told
 pub mod Written
+pub mod Private

@@ -4,8 +4,8 @@ ghost use Rattle.std.specs.List.{flat_map, filter};
 ghost use Rattle.schema_parts.specs.Seen.{base_of, kind_of, use_of};
 ghost use Rattle.link_complex.specs.Seen.{definition_of, definitions_of};
 ghost use Rattle.link_set.specs.Builtins as told;
-ghost use Rattle.link_set.specs.Seen.{elements_of, attributes_of};
-ghost use Rattle.link_set.specs.Told.{listed_by};
+ghost use Rattle.link_set.specs.Private.Seen.{elements_of, attributes_of};
+ghost use Rattle.link_set.specs.Private.Told.{listed_by};
 
 use crate::listing::Listed;
 use crate::written::{WrittenAttribute, WrittenElement};

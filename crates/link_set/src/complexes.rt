@@ -8,7 +8,7 @@ ghost use Rattle.link_cycles.specs.Tables.{named_in};
 ghost use Rattle.link_complex.specs.Seen.{definition_of, definitions_of};
 ghost use Rattle.link_set.specs.Ordered.{in_order};
 ghost use Rattle.link_set.specs.Sets as told;
-ghost use Rattle.link_set.specs.Told.{told_by};
+ghost use Rattle.link_set.specs.Private.Told.{told_by};
 
 use crate::references::{number_named, or_zero};
 use crate::tables::Numbers;

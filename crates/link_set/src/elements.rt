@@ -2,9 +2,9 @@
 ghost use Rattle.std.specs.Prelude.{◌≡◌, ◌++◌, map, IfOk, OnOk};
 ghost use Rattle.xa_base.specs.declared.texts.Name.{Name as NameOf};
 ghost use Rattle.link_cycles.specs.Tables.{named_in};
-ghost use Rattle.link_set.specs.Seen.{written_of, elements_of, told_attribute, attributes_of};
+ghost use Rattle.link_set.specs.Private.Seen.{written_of, elements_of, told_attribute, attributes_of};
 ghost use Rattle.link_set.specs.Sets as told;
-ghost use Rattle.link_set.specs.Told.{listed_by, told_by};
+ghost use Rattle.link_set.specs.Private.Told.{listed_by, told_by};
 
 use crate::listing::Listed;
 use crate::numbers::put_name;

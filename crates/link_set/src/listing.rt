@@ -3,9 +3,9 @@ ghost use Rattle.std.specs.Prelude.{◌≡◌, map, IfOk};
 ghost use Rattle.schema_parts.specs.Documents.{doc_of};
 ghost use Rattle.link_cycles.specs.Seen.{definitions_of as simples_of};
 ghost use Rattle.link_complex.specs.Seen.{definitions_of as complexes_of};
-ghost use Rattle.link_set.specs.Seen.{elements_of};
+ghost use Rattle.link_set.specs.Private.Seen.{elements_of};
 ghost use Rattle.link_set.specs.Written as told;
-ghost use Rattle.link_set.specs.Told.{listed_by};
+ghost use Rattle.link_set.specs.Private.Told.{listed_by};
 
 use crate::ordering::{complexes_in_order, simples_in_order};
 use crate::written::{

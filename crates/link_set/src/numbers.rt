@@ -6,7 +6,7 @@ ghost use Rattle.link_names.specs.declared.places.Place.{Place as PlaceOf};
 ghost use Rattle.link_cycles.specs.Tables.{named_in, placed_in, names};
 ghost use Rattle.link_set.specs.Builtins.{rank};
 ghost use Rattle.link_set.specs.Numbers as told;
-ghost use Rattle.link_set.specs.Told.{entries_of, ranked_in};
+ghost use Rattle.link_set.specs.Private.Told.{entries_of, ranked_in};
 
 use crate::builtins;
 use link_names::Place;

@@ -5,7 +5,7 @@ ghost use Rattle.schema_parts.specs.Documents.{doc_of};
 ghost use Rattle.link_cycles.specs.SimpleTypes.{simple_types};
 ghost use Rattle.link_set.specs.Builtins as builtins_told;
 ghost use Rattle.link_set.specs.Sets as told;
-ghost use Rattle.link_set.specs.Told.{listed_by, told_by};
+ghost use Rattle.link_set.specs.Private.Told.{listed_by, told_by};
 ghost use Rattle.link_set.specs.Parts.{parts_made};
 
 use crate::builtins::used_builtins;

@@ -5,7 +5,7 @@ ghost use Rattle.schema_parts.specs.Seen.{base_of, kind_of, local_of};
 ghost use Rattle.link_names.specs.Order.{place};
 ghost use Rattle.link_cycles.specs.Tables.{named_in, placed_in};
 ghost use Rattle.link_set.specs.Sets as told;
-ghost use Rattle.link_set.specs.Told.{ranked_in, told_types, told_by};
+ghost use Rattle.link_set.specs.Private.Told.{ranked_in, told_types, told_by};
 
 use crate::builtins::rank;
 use crate::tables::{Numbers, TypeNumbers};

@@ -4,7 +4,7 @@ ghost use Rattle.simple_types.specs.Seen.{space_of};
 ghost use Rattle.schema_parts.specs.Documents.{doc_of};
 ghost use Rattle.link_cycles.specs.SimpleTypes.{simple_types as simple_types_told};
 ghost use Rattle.link_cycles.specs.Seen.{definitions_of};
-ghost use Rattle.link_set.specs.Made.{made_of};
+ghost use Rattle.link_set.specs.Private.Made.{made_of};
 ghost use Rattle.link_set.specs.Ordered.{in_order};
 ghost use Rattle.link_set.specs.Sets as told;
 

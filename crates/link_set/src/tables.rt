@@ -8,8 +8,8 @@ ghost use Rattle.link_cycles.specs.Tables.{named_in, placed_in};
 ghost use Rattle.link_complex.specs.Seen.{definitions_of as complexes_of};
 ghost use Rattle.link_set.specs.Builtins as builtins_told;
 ghost use Rattle.link_set.specs.Numbers as told;
-ghost use Rattle.link_set.specs.Seen.{elements_of};
-ghost use Rattle.link_set.specs.Told.{entries_of, ranked_in, listed_by, told_types, told_by};
+ghost use Rattle.link_set.specs.Private.Seen.{elements_of};
+ghost use Rattle.link_set.specs.Private.Told.{entries_of, ranked_in, listed_by, told_types, told_by};
 
 use crate::listing::Listed;
 use crate::numbers::{Entry, by_name, by_place, by_rank};

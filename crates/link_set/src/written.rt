@@ -4,7 +4,7 @@ ghost use Rattle.std.specs.List.{flat_map};
 ghost use Rattle.schema_parts.specs.Documents.{doc_of};
 ghost use Rattle.schema_parts.specs.Seen.{local_of};
 ghost use Rattle.link_set.specs.Written as told;
-ghost use Rattle.link_set.specs.Seen.{elements_of, attributes_of};
+ghost use Rattle.link_set.specs.Private.Seen.{elements_of, attributes_of};
 
 use schema_parts::{RawAttribute, RawDoc, RawElement, RawLocal};
 use std::alloc::Global;

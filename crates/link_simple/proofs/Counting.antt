@@ -10,7 +10,7 @@ use Rattle.simple_types.proofs.Members.{count_in}
 use Rattle.facet_rules.specs.Making.{count_items, count_all_items}
 use Rattle.facet_rules.proofs.Unions.{flattened_other, flattened-more}
 use Rattle.link_simple.specs.declared.parts.Part.{Part}
-use Rattle.link_simple.specs.Parts.{seen, seen_all}
+use Rattle.link_simple.specs.Private.Parts.{seen, seen_all}
 
 members_joined : (a b : Spaces) → count_members (joined a b) ≡ count_members a + count_members b
 members_joined none b = let e : count_members b ≡ 0 + count_members b = omega arith in e

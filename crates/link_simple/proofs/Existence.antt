@@ -29,7 +29,7 @@ use Rattle.link_names.specs.Order.{IsFirstSuch}
 use Rattle.link_cycles.specs.Cycles as cycles
 use Rattle.link_cycles.specs.Cycles.{numbers_in, parts_in, edges, IsCircular}
 use Rattle.link_cycles.specs.Graphs.{IsIn, IsEdge, Leads, IsOnCycle}
-use Rattle.link_cycles.specs.Searching.{mark, unseen}
+use Rattle.link_cycles.specs.Private.Searching.{mark, unseen}
 use Rattle.link_cycles.specs.SimpleTypes.{SimpleDefinition, simple_types}
 use Rattle.link_cycles.proofs.Walks.{one_step_more, set_parts, set_less, unmarked}
 use Rattle.link_simple.specs.Making.{entry_at, part_space, part_spaces, IsRestriction, IsList, IsUnion, IsLeft, IsEntry, IsMaking}

@@ -11,7 +11,7 @@ use Rattle.simple_types.proofs.Copies.{joined-none}
 use Rattle.facet_rules.specs.Making.{AreEachSound}
 use Rattle.link_simple.specs.declared.parts.Part.{Part}
 use Rattle.link_simple.specs.Making.{entry_at, with_space}
-use Rattle.link_simple.specs.Parts.{entries_of, seen, seen_all, behind}
+use Rattle.link_simple.specs.Private.Parts.{entries_of, seen, seen_all, behind}
 
 pub entry_read : (entries : List (Option Simple)) (n : ℕ) (o : Option Simple) → n < length entries → o ≡ get_or entries n o → entry_at (entries_of entries) n ≡ option_map space_of o
 entry_read [] n o lt is = absurd (omega (arith, lt))

@@ -16,16 +16,16 @@ use Rattle.link_names.specs.Order.{fault, precedes, first_of, IsFirstSuch}
 use Rattle.link_names.proofs.Firsts.{precedes_itself, such_joined}
 use Rattle.link_cycles.specs.Cycles.{numbers_in, parts_in, edges}
 use Rattle.link_cycles.specs.Graphs.{IsIn, IsEdge}
-use Rattle.link_cycles.specs.Searching.{mark}
+use Rattle.link_cycles.specs.Private.Searching.{mark}
 use Rattle.link_cycles.specs.SimpleTypes.{SimpleDefinition}
 use Rattle.link_cycles.proofs.Walks.{set_parts, set_here, set_kept, unmarked}
 use Rattle.link_simple.specs.declared.leaving.Left.{Left}
 use Rattle.link_simple.specs.declared.leaving.Left.TheVariants as left
 use Rattle.link_simple.specs.Answering.{made_of, AreSound}
-use Rattle.link_simple.specs.Leaving.{LeftBy}
+use Rattle.link_simple.specs.Private.Leaving.{LeftBy}
 use Rattle.link_simple.specs.Making.{entry_at, IsLeft, IsEntry, IsMaking, IsNotMadeOf}
-use Rattle.link_simple.specs.Parts.{entry_of, entries_of}
-use Rattle.link_simple.specs.Working.{space_left, fault_left, IsFaultAmong, Stands}
+use Rattle.link_simple.specs.Private.Parts.{entry_of, entries_of}
+use Rattle.link_simple.specs.Private.Working.{space_left, fault_left, IsFaultAmong, Stands}
 use Rattle.link_simple.proofs.Once.{once, same_left, same_entry, entry_stays}
 use Rattle.link_simple.proofs.Uniqueness.{row_of, same_list}
 

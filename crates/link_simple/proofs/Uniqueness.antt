@@ -10,7 +10,7 @@ use Rattle.link_names.specs.declared.faults.LinkWhy.TheVariants.{CircularType}
 use Rattle.link_names.specs.Order.{fault, IsFirstSuch}
 use Rattle.link_cycles.specs.Cycles.{numbers_in, parts_in, edges, IsCircular}
 use Rattle.link_cycles.specs.Graphs.{row, IsIn, IsEdge, Leads, IsOnCycle}
-use Rattle.link_cycles.specs.Searching.{mark, unseen}
+use Rattle.link_cycles.specs.Private.Searching.{mark, unseen}
 use Rattle.link_cycles.specs.SimpleTypes.{SimpleDefinition, simple_types}
 use Rattle.link_cycles.proofs.Walks.{one_step_more, set_parts, set_less, unmarked}
 use Rattle.link_simple.specs.Making.{entry_at, IsMaking}

@@ -1,5 +1,3 @@
 pub mod Answering
-pub mod Leaving
 pub mod Making
-pub mod Parts
-pub mod Working
+pub mod Private

@@ -8,8 +8,8 @@ ghost use Rattle.facet_rules.specs.Making.{AreEachSound, AreWithinLimits};
 ghost use Rattle.link_cycles.specs.Seen.{definition_of};
 ghost use Rattle.link_cycles.specs.Tables.{told_by};
 ghost use Rattle.link_simple.specs.Making.{IsRestriction, IsList, IsUnion, IsLeft, part_space, part_spaces};
-ghost use Rattle.link_simple.specs.Parts.{entries_of, AreEntriesSound, seen_all};
-ghost use Rattle.link_simple.specs.Leaving.{LeftBy};
+ghost use Rattle.link_simple.specs.Private.Parts.{entries_of, AreEntriesSound, seen_all};
+ghost use Rattle.link_simple.specs.Private.Leaving.{LeftBy};
 
 use crate::parts::{part_of, parts_of};
 use crate::unions::union;

@@ -5,7 +5,7 @@ ghost use Rattle.link_cycles.specs.Cycles.{numbers_in};
 ghost use Rattle.link_cycles.specs.Seen.{definitions_of};
 ghost use Rattle.link_cycles.specs.Tables.{told_by};
 ghost use Rattle.link_simple.specs.Answering.{AnswersMaking, AnswersMakingOf};
-ghost use Rattle.link_simple.specs.Working.{StandsIn};
+ghost use Rattle.link_simple.specs.Private.Working.{StandsIn};
 
 use crate::working::{Work, work_in_order};
 use link_names::Fault;

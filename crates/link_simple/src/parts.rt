@@ -8,7 +8,7 @@ ghost use Rattle.simple_types.specs.Sound.{Sound};
 ghost use Rattle.facet_rules.specs.Making.{AreEachSound};
 ghost use Rattle.link_cycles.specs.Tables.{told_by};
 ghost use Rattle.link_simple.specs.Making.{space_at, part_space, part_spaces};
-ghost use Rattle.link_simple.specs.Parts.{entries_of, AreEntriesSound, seen, seen_all};
+ghost use Rattle.link_simple.specs.Private.Parts.{entries_of, AreEntriesSound, seen, seen_all};
 
 use schema_parts::{RawBase, RawRef};
 use simple_types::{Simple, builtin};

@@ -6,8 +6,8 @@ ghost use Rattle.simple_types.specs.Sound.{is_union};
 ghost use Rattle.simple_types.specs.Joining.{joined, flattened};
 ghost use Rattle.facet_rules.specs.Making.{AreEachSound, AreWithinLimits, count_items, count_all_items};
 ghost use Rattle.link_simple.specs.Making.{IsUnion};
-ghost use Rattle.link_simple.specs.Parts.{seen, seen_all};
-ghost use Rattle.link_simple.specs.Leaving.{LeftBy};
+ghost use Rattle.link_simple.specs.Private.Parts.{seen, seen_all};
+ghost use Rattle.link_simple.specs.Private.Leaving.{LeftBy};
 
 use crate::leaving::Left;
 use crate::parts::Part;

@@ -3,13 +3,13 @@ ghost use Rattle.std.specs.Prelude.{◌≡◌, ◌<◌, ◌∷◌, [], ℕ, List
 ghost use Rattle.link_names.specs.Order.{first_of};
 ghost use Rattle.link_cycles.specs.Cycles.{numbers_in, edges};
 ghost use Rattle.link_cycles.specs.Graphs.{rows_of, IsIn, IsEdge};
-ghost use Rattle.link_cycles.specs.Searching.{mark};
+ghost use Rattle.link_cycles.specs.Private.Searching.{mark};
 ghost use Rattle.link_cycles.specs.SimpleTypes.{SimpleDefinition};
 ghost use Rattle.link_cycles.specs.Seen.{definitions_of};
 ghost use Rattle.link_cycles.specs.Tables.{told_by};
 ghost use Rattle.link_simple.specs.Answering.{made_of, AnswersMakingOf};
-ghost use Rattle.link_simple.specs.Parts.{entries_of, entry_of};
-ghost use Rattle.link_simple.specs.Working.{space_left, fault_left, StandsIn};
+ghost use Rattle.link_simple.specs.Private.Parts.{entries_of, entry_of};
+ghost use Rattle.link_simple.specs.Private.Working.{space_left, fault_left, StandsIn};
 
 use crate::leaving::{Left, left_of};
 use crate::making::MakingError;

@@ -18,7 +18,7 @@ use Rattle.schema_parts.specs.Components.{Set}
 use Rattle.map_subjects.specs.declared.subjects.Subject.{Subject}
 use Rattle.map_subjects.specs.declared.subjects.Entry.{Entry}
 use Rattle.map_subjects.specs.Subjects.{same_subject, place_in, AreEntries}
-use Rattle.map_subjects.specs.Collecting.{entry_with}
+use Rattle.map_subjects.specs.Private.Collecting.{entry_with}
 use Rattle.map_subjects.proofs.Earlier.{same-subject, self-same}
 use Rattle.map_assignments.specs.Planning.{body}
 use Rattle.map_assignments.specs.Naming.{IsNamed}

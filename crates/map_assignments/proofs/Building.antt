@@ -18,7 +18,7 @@ use Rattle.map_subjects.specs.declared.subjects.Subject.{Subject}
 use Rattle.map_assignments.specs.Plans.{Label, Plan, Parts, part, finish, sequence, choice, repeated}
 use Rattle.map_assignments.specs.Planning.{label_of, list_label_of, is_once, is_optional, particle_part}
 use Rattle.map_assignments.specs.Naming.{type_label, component_of, wanted, part_marks, named_part, repeated_part, sequence_marks, IsNamed, AreNamed}
-use Rattle.map_assignments.specs.Building.{AddsPart, Adds, LeadsToNamed}
+use Rattle.map_assignments.specs.Private.Building.{AddsPart, Adds, LeadsToNamed}
 
 -- one part more
 pub adds-next : (place : Subject → ℕ) (before after : PartList) (l : Label) (optional : Bool) (p : Plan) (kid : Rose TypeLabel) (rest whole : Parts)

@@ -12,7 +12,7 @@ use Rattle.content_models.specs.Particle.{occurs}
 use Rattle.content_models.specs.Seen.{term_seen, seen, all_seen}
 use Rattle.schema_parts.specs.Components.{Set}
 use Rattle.schema_parts.specs.Linked as linked
-use Rattle.map_assignments.specs.Building.{term_of, IsKnown, AreKnown}
+use Rattle.map_assignments.specs.Private.Building.{term_of, IsKnown, AreKnown}
 
 pub all-front : {X : Type 0} (P : X → Type 0) (xs ys : List X) → All P (xs ++ ys) → All P xs
 all-front P [] ys h = λ k d l. absurd (omega (arith, l))

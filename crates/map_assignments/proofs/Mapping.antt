@@ -6,7 +6,7 @@ use Rattle.schema_parts.specs.Components.{Set}
 use Rattle.map_subjects.specs.declared.subjects.Subject.{Subject}
 use Rattle.map_subjects.specs.declared.subjects.Entry.{Entry}
 use Rattle.map_assignments.specs.Mapped.{IsMapped, AreMapped}
-use Rattle.map_assignments.specs.Placing.{references_of}
+use Rattle.map_assignments.specs.Private.Placing.{references_of}
 use Rattle.map_subjects.proofs.Finding.{drop-next}
 
 pub references-push : (made : List Assignment) (a : Assignment) → references_of (made ++ a ∷ []) ≡ references_of made ++ a.reference ∷ []

@@ -12,7 +12,7 @@ use Rattle.schema_parts.specs.declared.components.Content.TheVariants as content
 use Rattle.schema_parts.specs.Components.{Set}
 use Rattle.map_assignments.specs.Plans.{Plan, sequence, finish}
 use Rattle.map_assignments.specs.Planning.{particle_part, term_type, particle_parts, top_part, top, content_parts, content_type}
-use Rattle.map_assignments.specs.Building.{term_of, is_plain}
+use Rattle.map_assignments.specs.Private.Building.{term_of, is_plain}
 use Rattle.map_assignments.proofs.Known.{seen-parts, term-parts}
 
 pub plain-sequence : (kind : ParticleKind) (least : ℕ) (most : Option ℕ) → is_plain kind least most ≡ true → kind ≡ Sequence

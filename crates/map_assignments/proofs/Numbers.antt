@@ -24,7 +24,7 @@ use Rattle.map_assignments.specs.Plans.{Plan, Parts, simple, sequence, choice, r
 use Rattle.map_assignments.specs.Planning.{body}
 use Rattle.map_assignments.specs.Naming.{type_label, IsNamed, AreNamed}
 use Rattle.map_assignments.specs.Mapped.{wanted_reference, AreMapped}
-use Rattle.map_assignments.specs.Placing.{number_at}
+use Rattle.map_assignments.specs.Private.Placing.{number_at}
 use Rattle.map_subjects.proofs.Finding.{drop-next}
 
 pub set-number : (xs : List ℕ) (n m v c : ℕ) → n < length xs → number_at (set xs n v) m c ≡ (if nat_eq n m then v else number_at xs m c)

@@ -15,7 +15,7 @@ use Rattle.schema_parts.specs.Declarable.{is_declarable}
 use Rattle.schema_parts.specs.Components.{components, IsUnnamed}
 use Rattle.schema_parts.specs.Linked.{IsLinked, IsElement, IsSimpleType, IsComplexType, IsAttribute, IsChain}
 use Rattle.simple_types.specs.Seen.{space_of}
-use Rattle.map_assignments.specs.Samples.{flag, truth_values, one_simple}
+use Rattle.map_assignments.specs.Private.Samples.{flag, truth_values, one_simple}
 
 none : {X : Type 0} (P : X → Type 0) → All P []
 none P = λ k d l. absurd (omega (arith, l))

@@ -2,6 +2,4 @@ pub mod Plans
 pub mod Planning
 pub mod Naming
 pub mod Mapped
-pub mod Building
-pub mod Placing
-pub mod Samples
+pub mod Private

@@ -4,8 +4,8 @@ ghost use Rattle.schema_parts.specs.Linked.{IsLinked, IsUse};
 ghost use Rattle.map_assignments.specs.Plans.{Parts};
 ghost use Rattle.map_assignments.specs.Planning as plan;
 ghost use Rattle.map_assignments.specs.Naming.{IsNamed};
-ghost use Rattle.map_assignments.specs.Placing.{place_of};
-ghost use Rattle.map_assignments.specs.Building.{LeadsToNamed};
+ghost use Rattle.map_assignments.specs.Private.Placing.{place_of};
+ghost use Rattle.map_assignments.specs.Private.Building.{LeadsToNamed};
 
 use crate::parts::PartList;
 use crate::places::Places;

@@ -7,8 +7,8 @@ ghost use Rattle.map_subjects.specs.declared.subjects.Subject.{Subject};
 ghost use Rattle.map_assignments.specs.Plans.{Parts, finish};
 ghost use Rattle.map_assignments.specs.Planning as plan;
 ghost use Rattle.map_assignments.specs.Naming.{IsNamed, sequence_marks};
-ghost use Rattle.map_assignments.specs.Placing.{place_of};
-ghost use Rattle.map_assignments.specs.Building.{LeadsToNamed, declared, term_of, IsKnown, AreKnown};
+ghost use Rattle.map_assignments.specs.Private.Placing.{place_of};
+ghost use Rattle.map_assignments.specs.Private.Building.{LeadsToNamed, declared, term_of, IsKnown, AreKnown};
 
 use crate::attributes::{push_attributes, simple_at};
 use crate::particles::{is_plain, push_base, push_nillable, push_particle, push_texts};

@@ -5,7 +5,7 @@ ghost use Rattle.asn_types.specs.Parts.{MayHave};
 ghost use Rattle.schema_parts.specs.Linked.{IsLinked};
 ghost use Rattle.map_assignments.specs.Planning as plan;
 ghost use Rattle.map_assignments.specs.Naming.{IsNamed};
-ghost use Rattle.map_assignments.specs.Placing.{place_of, references_of};
+ghost use Rattle.map_assignments.specs.Private.Placing.{place_of, references_of};
 ghost use Rattle.map_subjects.specs.Subjects.{place_in, IsSubject};
 ghost use Rattle.map_assignments.specs.Mapped.{assignment_marks, wanted_reference, IsMapped, AreMapped};
 

@@ -10,7 +10,7 @@ ghost use Rattle.map_assignments.specs.Plans.{Plan, Parts};
 ghost use Rattle.map_assignments.specs.Plans as plan;
 ghost use Rattle.map_assignments.specs.Planning.{label_of, list_label_of, is_once, is_optional, particle_part, texts_type};
 ghost use Rattle.map_assignments.specs.Naming.{type_label, repeated_part, wanted, IsNamed};
-ghost use Rattle.map_assignments.specs.Building.{AddsPart, Adds, LeadsToNamed, is_plain};
+ghost use Rattle.map_assignments.specs.Private.Building.{AddsPart, Adds, LeadsToNamed, is_plain};
 
 use crate::instructions::push_qualified;
 use crate::parts::PartList;

@@ -5,7 +5,7 @@ ghost use Rattle.name_map.specs.declared.conversion.NameKind.TheVariants.{Identi
 ghost use Rattle.name_map.specs.Taking.{IsTaken};
 ghost use Rattle.map_assignments.specs.Plans as plan;
 ghost use Rattle.map_assignments.specs.Naming.{type_label, component_of, sequence_marks};
-ghost use Rattle.map_assignments.specs.Building.{AddsPart, Adds};
+ghost use Rattle.map_assignments.specs.Private.Building.{AddsPart, Adds};
 
 use crate::instructions::push_qualified;
 use asn_types::{Component, Components, Form, Instruction, Marks, TypeLabel};

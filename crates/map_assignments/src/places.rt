@@ -6,7 +6,7 @@ ghost use Rattle.map_subjects.specs.declared.subjects.Subject.{Subject};
 ghost use Rattle.map_subjects.specs.Subjects.{same_subject, place_in, IsSubject};
 ghost use Rattle.map_assignments.specs.Plans as plan;
 ghost use Rattle.map_assignments.specs.Naming.{IsNamed};
-ghost use Rattle.map_assignments.specs.Placing.{place_of, number_at, HasLists, HasPlace};
+ghost use Rattle.map_assignments.specs.Private.Placing.{place_of, number_at, HasLists, HasPlace};
 
 use asn_types::{Form, Marks, TypeLabel};
 use label_tree::Tree;

@@ -1,7 +1,7 @@
 //! What no clause says: worked values, and that calls can succeed.
 ghost use Rattle.std.specs.Prelude.{◌≡◌, IfOk, All};
 ghost use Rattle.map_subjects.specs.Subjects.{IsSubject};
-ghost use Rattle.map_assignments.specs.Samples.{flag, one_simple};
+ghost use Rattle.map_assignments.specs.Private.Samples.{flag, one_simple};
 
 use crate::{assignments, type_of_simple};
 use asn_types::{Form, Instruction};

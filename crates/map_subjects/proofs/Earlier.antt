@@ -23,7 +23,7 @@ use Rattle.map_subjects.specs.declared.subjects.Subject.{Subject}
 use Rattle.map_subjects.specs.declared.subjects.Subject.TheVariants.{Element, Attribute, Simple, Complex, Nillable}
 use Rattle.map_subjects.specs.declared.subjects.Entry.{Entry}
 use Rattle.map_subjects.specs.Subjects.{name_of, entry_cmp, AreEntries, same_subject, place_in, is_nillable_of, has_nillable}
-use Rattle.map_subjects.specs.Collecting.{entry_with, entries_with, entries_of, firsts, collected, is_before, count_before}
+use Rattle.map_subjects.specs.Private.Collecting.{entry_with, entries_with, entries_of, firsts, collected, is_before, count_before}
 use Rattle.map_subjects.proofs.Finding.{drop-next}
 use Rattle.map_subjects.proofs.InOrder.{entry_total, tied, tied-back, turned, few-firsts, one-short, all-collected, has-collected, distinct-collected, named-element}
 

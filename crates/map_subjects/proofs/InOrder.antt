@@ -29,7 +29,7 @@ use Rattle.map_subjects.specs.declared.subjects.Subject.TheVariants.{Element, At
 use Rattle.map_subjects.specs.declared.subjects.Entry.{Entry}
 use Rattle.map_subjects.specs.Subjects.{has_nillable, complex_name, name_of, rank, entry_cmp, AreEntries}
 use Rattle.map_subjects.specs.Subjects.{IsSubject}
-use Rattle.map_subjects.specs.Collecting.{entry_with, entries_with, entries_of, firsts, element_entries, attribute_entries, simple_entries, complex_entries, nillable_entries, declaration_entries, type_entries, collected}
+use Rattle.map_subjects.specs.Private.Collecting.{entry_with, entries_with, entries_of, firsts, element_entries, attribute_entries, simple_entries, complex_entries, nillable_entries, declaration_entries, type_entries, collected}
 
 -- ---- the order of entries
 

@@ -12,7 +12,7 @@ use Rattle.schema_parts.specs.declared.components.TypeOf.TheVariants as kind
 use Rattle.schema_parts.specs.Components.{Set}
 use Rattle.schema_parts.specs.Linked.{IsLinked, IsElement, IsTyped}
 use Rattle.map_subjects.specs.Subjects.{is_nillable_of, has_nillable}
-use Rattle.map_subjects.specs.Collecting.{is_marked, HasMark}
+use Rattle.map_subjects.specs.Private.Collecting.{is_marked, HasMark}
 use Rattle.map_subjects.proofs.Finding.{all-at}
 use Rattle.map_subjects.proofs.Finding.{drop-next}
 

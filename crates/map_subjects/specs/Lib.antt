@@ -1,2 +1,2 @@
 pub mod Subjects
-pub mod Collecting
+pub mod Private

@@ -3,7 +3,7 @@ ghost use Rattle.std.specs.Prelude.{◌≡◌, ◌<◌, ◌^◌, ◌++◌, ◌||
 ghost use Rattle.std.specs.List.Sorted.{IsPermutation, IsSorted};
 ghost use Rattle.schema_parts.specs.Linked.{IsLinked};
 ghost use Rattle.map_subjects.specs.Subjects.{is_nillable_of, has_nillable, rank, order_of, entry_cmp, AreEntries};
-ghost use Rattle.map_subjects.specs.Collecting.{entries_with, entries_of, element_entries, attribute_entries, simple_entries, complex_entries, nillable_entries, declaration_entries, type_entries, collected, is_marked, HasMark};
+ghost use Rattle.map_subjects.specs.Private.Collecting.{entries_with, entries_of, element_entries, attribute_entries, simple_entries, complex_entries, nillable_entries, declaration_entries, type_entries, collected, is_marked, HasMark};
 
 use crate::subjects::{Entry, Subject};
 use schema_parts::{ElementDecl, SchemaSet, TypeOf};

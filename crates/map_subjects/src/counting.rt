@@ -3,7 +3,7 @@ ghost use Rattle.std.specs.Prelude.{◌≡◌, ◌≤◌, ◌<◌, List, Some, l
 ghost use Rattle.schema_parts.specs.Linked.{IsLinked};
 ghost use Rattle.map_subjects.specs.declared.subjects.Entry.{Entry};
 ghost use Rattle.map_subjects.specs.Subjects.{is_nillable_of, has_nillable, AreEntries, place_in};
-ghost use Rattle.map_subjects.specs.Collecting.{entries_with, entries_of, element_entries, attribute_entries, simple_entries, complex_entries, nillable_entries, is_before, entry_with, count_before, declaration_entries, type_entries};
+ghost use Rattle.map_subjects.specs.Private.Collecting.{entries_with, entries_of, element_entries, attribute_entries, simple_entries, complex_entries, nillable_entries, is_before, entry_with, count_before, declaration_entries, type_entries};
 
 use crate::collecting::{order, rank};
 use crate::subjects::Subject;

@@ -7,7 +7,7 @@ use Rattle.link_names.specs.declared.faults.LinkWhy.TheVariants.{CircularType}
 use Rattle.link_names.specs.Order.{fault, earlier}
 use Rattle.link_cycles.specs.Cycles.{edges, IsCircularBelow, IsCircularOf}
 use Rattle.link_cycles.specs.Graphs.{row, IsIn, IsEdge, Leads, IsOnCycle}
-use Rattle.link_cycles.specs.Searching.{mark, unseen}
+use Rattle.link_cycles.specs.Private.Searching.{mark, unseen}
 use Rattle.link_cycles.specs.SimpleTypes.{SimpleDefinition}
 use Rattle.link_cycles.proofs.First.{next_step, at_end, none_below}
 use Rattle.link_cycles.proofs.Walks.{set_parts, set_less, unmarked}

@@ -11,7 +11,7 @@ use Rattle.simple_types.specs.declared.simples.Builtin.{Builtin}
 use Rattle.simple_types.specs.declared.simples.Builtin.TheVariants as builtin
 use Rattle.content_models.specs.Breaches.{all_placed, IsFirstBreach}
 use Rattle.content_models.specs.Clear.{Clear}
-use Rattle.content_models.specs.Deciding.{breach_of}
+use Rattle.content_models.specs.Private.Deciding.{breach_of}
 use Rattle.content_models.specs.Seen.{seen}
 use Rattle.content_models.specs.declared.breaches.Breach.{Breach}
 use Rattle.content_models.specs.declared.particles.ParticleLabel.{ParticleLabel}

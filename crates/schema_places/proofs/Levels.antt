@@ -19,7 +19,7 @@ use Rattle.schema_parts.specs.declared.declarations.RawLocal.{RawLocal}
 use Rattle.schema_parts.specs.declared.declarations.RawType.{RawType}
 use Rattle.schema_parts.specs.Linked.{leaves, leaves_of_term, all_leaves}
 use Rattle.schema_parts.specs.Chains.{leaves_of_content, complex_in_element, complex_in_local, complex_in_type, HasComplex, IsJustIn, IsChain, BeginsShort, AreShort}
-use Rattle.schema_places.specs.Levels.{IsOver, IsLevel, IsBelowMost, AreLevels}
+use Rattle.schema_places.specs.Private.Levels.{IsOver, IsLevel, IsBelowMost, AreLevels}
 
 -- ---- loops: one more, and at the end
 

@@ -6,7 +6,7 @@ ghost use Rattle.content_models.specs.Seen.{seen, all_seen};
 ghost use Rattle.schema_parts.specs.Chains as rule;
 ghost use Rattle.schema_parts.specs.Linked.{leaves, all_leaves};
 ghost use Rattle.schema_parts.specs.Seen.{complex_of, kind_of, element_of, type_of, local_of};
-ghost use Rattle.schema_places.specs.Levels.{IsOver, IsLevel, IsBelowMost, AreLevels};
+ghost use Rattle.schema_places.specs.Private.Levels.{IsOver, IsLevel, IsBelowMost, AreLevels};
 
 use content_models::{ParticleKind, ParticleLabel};
 use label_tree::Tree;

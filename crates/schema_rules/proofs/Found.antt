@@ -7,7 +7,7 @@ use Rattle.std.specs.BTreeMap.{BTreeMap, get_by, UpdatesBy}
 use Rattle.std.proofs.lemmas.Map.Text.{btree_map_updates_str}
 use Rattle.std.proofs.Math.Seq.{drop-cons}
 use Rattle.doc_text.specs.Namespaces.{space_of}
-use Rattle.schema_rules.specs.Finding.{Finds}
+use Rattle.schema_rules.specs.Private.Finding.{Finds}
 
 -- what is left from a place on: that at the place, and what is behind
 cut : (xs : List (List ℕ × List ℕ)) (i : ℕ) (x : List ℕ × List ℕ) → 0 < i → i ≤ length xs → x ≡ get_or xs (i - 1) x → drop (i - 1) xs ≡ x ∷ drop i xs

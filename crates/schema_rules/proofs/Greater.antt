@@ -6,7 +6,7 @@ use Rattle.std.proofs.lemmas.Bool.{eqb-true, leb-true}
 use Rattle.std.proofs.lemmas.Bool.Decides.{nat_tests}
 use Rattle.doc_text.specs.Sound.{is_empty}
 use Rattle.schema_rules.specs.Numbers.{is_digit, is_number, number_from, number_of, is_over}
-use Rattle.schema_rules.specs.Comparing.{without_zeros, is_later, is_greater}
+use Rattle.schema_rules.specs.Private.Comparing.{without_zeros, is_later, is_greater}
 
 -- ---- tests
 

@@ -1,10 +1,9 @@
 pub mod Attributes
 pub mod Children
-pub mod Comparing
 pub mod Elements
-pub mod Finding
 pub mod Numbers
 pub mod References
 pub mod Scopes
 pub mod Seen
 pub mod Values
+pub mod Private

@@ -1,7 +1,7 @@
 //! Numbers of occurrences, in digits.
 ghost use Rattle.std.specs.Prelude.{◌≡◌, ◌==◌, true};
 ghost use Rattle.std.specs.List.{list_all};
-ghost use Rattle.schema_rules.specs.Comparing as comparing;
+ghost use Rattle.schema_rules.specs.Private.Comparing as comparing;
 ghost use Rattle.schema_rules.specs.Numbers as numbers;
 
 fn is_digit(byte: u8) -> bool

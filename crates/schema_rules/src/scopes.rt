@@ -1,7 +1,7 @@
 //! The namespaces in scope at an element.
 ghost use Rattle.std.specs.Prelude.{◌≡◌, ◌++◌, IfOk, option_map};
 ghost use Rattle.doc_text.specs.Namespaces.{space_of, xml_space};
-ghost use Rattle.schema_rules.specs.Finding.{Finds};
+ghost use Rattle.schema_rules.specs.Private.Finding.{Finds};
 ghost use Rattle.schema_rules.specs.Scopes.{bindings_in};
 
 use doc_text::Bindings;
@@ -20,7 +20,7 @@ pub struct Declared<'a> {
 
 impl<'a> Model for Declared<'a> {
     ghost use Rattle.std.specs.Prelude.{List, ℕ};
-    ghost use Rattle.schema_rules.specs.Finding.{Finds};
+    ghost use Rattle.schema_rules.specs.Private.Finding.{Finds};
 
     ghost Value = { List (List ℕ × List ℕ) };
 

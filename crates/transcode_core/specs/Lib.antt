@@ -1,5 +1,4 @@
 pub mod Words
-pub mod Requests
 pub mod TruthValues
 pub mod Booleans
 pub mod Order
@@ -8,4 +7,4 @@ pub mod Steps
 pub mod Due
 pub mod Lines
 pub mod Status
-pub mod Parts
+pub mod Private

@@ -5,7 +5,7 @@ ghost use Rattle.std.specs.Io.KnownBytes.{Appends};
 ghost use Rattle.xa_base.specs.Faults.{Counts};
 ghost use Rattle.xa_base.specs.Bytes.{AppendsFront};
 ghost use Rattle.transcode_core.specs.Lines as lines;
-ghost use Rattle.transcode_core.specs.Parts.{spelled};
+ghost use Rattle.transcode_core.specs.Private.Parts.{spelled};
 
 use crate::outcome::Outcome;
 use doc_text::DocWhy;

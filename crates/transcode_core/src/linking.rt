@@ -1,7 +1,7 @@
 //! The schema files as one set, and the root in it.
 ghost use Rattle.std.specs.Prelude.{◌≡◌, ◌≤◌, length, IfOk, IfErr, map};
 ghost use Rattle.schema_parts.specs.Documents.{doc_of};
-ghost use Rattle.transcode_core.specs.Requests.{root_seen};
+ghost use Rattle.transcode_core.specs.Private.Requests.{root_seen};
 ghost use Rattle.transcode_core.specs.Steps.{Linked, Taken, Rooted, Chosen};
 ghost use Rattle.transcode_core.specs.Order.{Then};
 ghost use Rattle.link_set.specs.Sets.{parts_of};

@@ -4,7 +4,7 @@ ghost use Rattle.std.specs.Io.KnownBytes.{Appends, IsAtEnd};
 ghost use Rattle.xa_base.specs.Faults.{Rose};
 ghost use Rattle.xa_base.specs.Bytes.{AppendsFront};
 ghost use Rattle.transcode_core.specs.Lines.{line};
-ghost use Rattle.transcode_core.specs.Requests.{root_seen, seen};
+ghost use Rattle.transcode_core.specs.Private.Requests.{root_seen, seen};
 ghost use Rattle.transcode_core.specs.Words as command;
 ghost use Rattle.schema_parts.specs.Documents.{doc_of};
 ghost use Rattle.schema_link.specs.Sets.{AreNumbered};

@@ -1,7 +1,7 @@
 //! The documents that are taken so far: a truth value in an element.
 ghost use Rattle.std.specs.Prelude.{◌≡◌, IfErr};
 ghost use Rattle.transcode_core.specs.TruthValues as truths;
-ghost use Rattle.transcode_core.specs.Requests.{root_seen};
+ghost use Rattle.transcode_core.specs.Private.Requests.{root_seen};
 ghost use Rattle.transcode_core.specs.Order.{Found};
 ghost use Rattle.transcode_core.specs.Causes.{Answers, Never, IsOfInput};
 

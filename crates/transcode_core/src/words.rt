@@ -3,7 +3,7 @@ ghost use Rattle.std.specs.Prelude.{◌≡◌, true, ℕ, List, ◌∷◌, Match
 ghost use Rattle.std.specs.List.{list_all};
 ghost use Rattle.std.specs.Str.{chars};
 ghost use Rattle.transcode_core.specs.Words as command_line;
-ghost use Rattle.transcode_core.specs.Requests.{root_seen, seen};
+ghost use Rattle.transcode_core.specs.Private.Requests.{root_seen, seen};
 ghost use Rattle.transcode_core.specs.Order.{Found};
 ghost use Rattle.transcode_core.specs.Causes.{Answers, Never};
 

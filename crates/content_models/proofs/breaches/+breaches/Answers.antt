@@ -4,7 +4,7 @@ use Rattle.label_tree.proofs.Roses.{node_count-kids}
 use Rattle.label_tree.proofs.Kids.{kid-count-le}
 use Rattle.content_models.specs.declared.particles.ParticleKind.TheVariants.{Sequence, Choice}
 use Rattle.content_models.specs.Clear.{first_of_term, repeats}
-use Rattle.content_models.specs.Deciding.{in_one, lent, breach_if, earliest, body_follow, breach_of_any, breaks_bounds, term_of}
+use Rattle.content_models.specs.Private.Deciding.{in_one, lent, breach_if, earliest, body_follow, breach_of_any, breaks_bounds, term_of}
 use Rattle.content_models.proofs.Steps.{kids_back, search_step, again_follow}
 use Rattle.content_models.proofs.Terms.{body_by_kind, whole_breach}
 use Rattle.content_models.proofs.breaches.+breaches.Goals as goal

@@ -2,7 +2,7 @@ use Rattle.std.proofs.Common.{◌≡◌, ◌+◌, ◌*◌, ◌++◌, ◌||◌, d
 use Rattle.label_tree.specs.Rose.{node_count, count_all, roses_of}
 use Rattle.content_models.specs.Clear.{first_in_order, first_of_any, all_empty, any_empty}
 use Rattle.content_models.specs.Seen.{all_seen}
-use Rattle.content_models.specs.Deciding.{lent}
+use Rattle.content_models.specs.Private.Deciding.{lent}
 use Rattle.content_models.proofs.first_names.+first_names.Given as goal
 
 abbrev pub decreases-push_first : goal.decreases-push_first

@@ -4,8 +4,8 @@ use Rattle.doc_text.proofs.Known.{laws}
 use Rattle.doc_text.proofs.Utf8.{gives_utf8}
 use Rattle.doc_pieces.specs.Found.{seen}
 use Rattle.doc_pieces.specs.Pieces.{Begins, NoPieceAt}
-use Rattle.doc_text.specs.States.{State}
-use Rattle.doc_text.specs.Building.{state}
+use Rattle.doc_text.specs.Private.States.{State}
+use Rattle.doc_text.specs.Private.Building.{state}
 use Rattle.doc_text.proofs.Going.{Stands, stands_first}
 use Rattle.doc_text.proofs.Built.{add_scoped}
 use Rattle.doc_text.proofs.Read.{at_none, at_fault, steps_on, gets_shorter, takes_plain, last_kid, unfinished, not_ended}

@@ -1,5 +1,5 @@
 use Rattle.std.proofs.Common.{length}
-use Rattle.doc_text.specs.Building.{state, Scoped}
+use Rattle.doc_text.specs.Private.Building.{state, Scoped}
 use Rattle.doc_text.proofs.Going.{Stands}
 use Rattle.doc_text.proofs.reader.read_utf8.Given as goal
 

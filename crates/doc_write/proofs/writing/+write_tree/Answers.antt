@@ -3,7 +3,7 @@ use Rattle.std.proofs.Common.{map, ◌≡◌, ◌++◌, ◌∷◌, [], ◌<◌, 
 use Rattle.label_tree.proofs.Kids.{node_count-kid}
 use Rattle.doc_write.proofs.Written.{OnOk-map, write-kid, spelled-kids, written-kids}
 use Rattle.doc_written.specs.Written.{written_declaration, written_start, written_end}
-use Rattle.doc_write.specs.Binding.{entry_of}
+use Rattle.doc_write.specs.Private.Binding.{entry_of}
 use Rattle.doc_write.proofs.writing.+write_tree.Goals as goal
 
 pub write_tree-requires : goal.write_tree-requires

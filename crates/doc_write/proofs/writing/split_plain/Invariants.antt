@@ -1,6 +1,6 @@
 use Rattle.std.proofs.Common.{◌≡◌, take}
 use Rattle.std.specs.List.{flat_map}
-use Rattle.doc_write.specs.Escapes.{escape_in}
+use Rattle.doc_write.specs.Private.Escapes.{escape_in}
 use Rattle.doc_write.proofs.writing.split_plain.Given as goal
 
 abbrev pub invariant-loop-len : goal.invariant-loop-len

@@ -1,7 +1,7 @@
 use Rattle.std.proofs.Common.{◌≡◌, ◌++◌, drop, map}
 use Rattle.std.specs.List.{flat_map}
 use Rattle.doc_written.specs.Written.{written_declaration}
-use Rattle.doc_write.specs.Binding.{entry_of}
+use Rattle.doc_write.specs.Private.Binding.{entry_of}
 use Rattle.doc_write.proofs.writing.write_declarations.Given as goal
 
 -- what is written, with what is still to be written

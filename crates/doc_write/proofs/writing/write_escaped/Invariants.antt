@@ -1,6 +1,6 @@
 use Rattle.std.proofs.Common.{◌≡◌, ◌++◌, length}
 use Rattle.std.specs.List.{flat_map}
-use Rattle.doc_write.specs.Escapes.{escape_in}
+use Rattle.doc_write.specs.Private.Escapes.{escape_in}
 use Rattle.doc_write.proofs.writing.write_escaped.Given as goal
 
 -- what is written, with what is still to be written

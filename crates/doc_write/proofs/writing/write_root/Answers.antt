@@ -1,7 +1,7 @@
 use Rattle.std.proofs.Common.{◌≡◌, ◌++◌, ◌∷◌, [], refl, ap, map, ◌∙◌, rules}
 use Rattle.std.specs.List.{flat_map}
 use Rattle.doc_written.specs.Spaces.{prefixes, spaces}
-use Rattle.doc_write.specs.Binding.{entry_of, with_spaces}
+use Rattle.doc_write.specs.Private.Binding.{entry_of, with_spaces}
 use Rattle.doc_written.specs.Written.{written_declaration, spelled, xml_declaration}
 use Rattle.doc_write.proofs.Written.{written-parts}
 use Rattle.doc_write.proofs.WrittenSpaces.{with_spaces-prefixes}

@@ -8,7 +8,7 @@ use Rattle.simple_types.specs.Seen.{space_of}
 use Rattle.simple_values.specs.declared.numbers.Whole.TheVariants.{Within}
 use Rattle.simple_values.specs.Lexical.{whole_number}
 use Rattle.simple_values.specs.Written.{Writes}
-use Rattle.facet_rules.specs.Deciding.{has_number}
+use Rattle.facet_rules.specs.Private.Deciding.{has_number}
 use Rattle.facet_rules.proofs.Enumerations.{item_within}
 use Rattle.facet_rules.proofs.enumerating.number_item.Goals as goal
 

@@ -2,7 +2,7 @@ use Rattle.std.proofs.Common.{◌≡◌, take}
 use Rattle.std.specs.List.{IsDistinct}
 use Rattle.xa_base.specs.declared.texts.Name.{Name}
 use Rattle.xa_base.specs.Names.{name_eq}
-use Rattle.content_models.specs.Deciding.{has, lent, holds}
+use Rattle.content_models.specs.Private.Deciding.{has, lent, holds}
 use Rattle.link_check.proofs.apart.are_distinct.Given as goal
 
 -- those before this one differ, and the set has them

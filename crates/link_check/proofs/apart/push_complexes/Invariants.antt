@@ -1,6 +1,6 @@
 use Rattle.std.proofs.Common.{◌≡◌, ◌++◌, take}
 use Rattle.std.specs.List.{filter_map}
-use Rattle.content_models.specs.Deciding.{lent}
+use Rattle.content_models.specs.Private.Deciding.{lent}
 use Rattle.schema_parts.specs.declared.components.ComplexDef.{ComplexDef}
 use Rattle.link_check.proofs.apart.push_complexes.Given as goal
 

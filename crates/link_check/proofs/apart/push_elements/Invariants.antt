@@ -1,5 +1,5 @@
 use Rattle.std.proofs.Common.{◌≡◌, ◌++◌, map, take}
-use Rattle.content_models.specs.Deciding.{lent}
+use Rattle.content_models.specs.Private.Deciding.{lent}
 use Rattle.schema_parts.specs.declared.components.ElementDecl.{ElementDecl}
 use Rattle.link_check.proofs.apart.push_elements.Given as goal
 

@@ -1,4 +1,4 @@
-use Rattle.content_models.specs.Deciding.{lent}
+use Rattle.content_models.specs.Private.Deciding.{lent}
 use Rattle.schema_parts.specs.declared.components.SimpleDef.{SimpleDef}
 use Rattle.link_check.proofs.Distinct.{named_more}
 use Rattle.link_check.proofs.apart.push_simples.Goals as goal

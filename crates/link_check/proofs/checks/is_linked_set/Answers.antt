@@ -1,4 +1,4 @@
-use Rattle.link_check.specs.Told.{set_of, AreDeclared, AreApart, AreTogether}
+use Rattle.link_check.specs.Private.Told.{set_of, AreDeclared, AreApart, AreTogether}
 use Rattle.link_check.proofs.checks.is_linked_set.Goals as goal
 
 pub returns-then-complexes : goal.returns-then-complexes

@@ -1,5 +1,5 @@
 use Rattle.schema_parts.specs.Linked.{IsUse}
-use Rattle.link_check.specs.Told.{set_of}
+use Rattle.link_check.specs.Private.Told.{set_of}
 use Rattle.link_check.proofs.Steps.{all_more, all_passed}
 use Rattle.link_check.proofs.complexes.are_uses.Goals as goal
 

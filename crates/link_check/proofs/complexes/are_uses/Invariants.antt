@@ -1,6 +1,6 @@
 use Rattle.std.proofs.Common.{take, All}
 use Rattle.schema_parts.specs.Linked.{IsUse}
-use Rattle.link_check.specs.Told.{set_of}
+use Rattle.link_check.specs.Private.Told.{set_of}
 use Rattle.link_check.proofs.complexes.are_uses.Given as goal
 
 -- those before this one

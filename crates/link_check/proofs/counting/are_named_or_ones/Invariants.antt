@@ -1,5 +1,5 @@
 use Rattle.std.proofs.Common.{◌≡◌, ◌<◌, ℕ, get_or}
-use Rattle.link_check.specs.Counting.{IsWithoutName}
+use Rattle.link_check.specs.Private.Counting.{IsWithoutName}
 use Rattle.link_check.proofs.counting.are_named_or_ones.Given as goal
 
 -- those before this one

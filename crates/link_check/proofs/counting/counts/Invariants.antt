@@ -1,4 +1,4 @@
-use Rattle.link_check.specs.Counting.{AreCounts}
+use Rattle.link_check.specs.Private.Counting.{AreCounts}
 use Rattle.std.proofs.Common.{take}
 use Rattle.link_check.proofs.counting.counts.Given as goal
 

@@ -1,6 +1,6 @@
 use Rattle.std.proofs.Common.{◌≡◌, ◌++◌, ℕ, map, take}
 use Rattle.xa_base.specs.declared.texts.Name.{Name}
-use Rattle.link_check.specs.Leaves.{leaves_seen}
+use Rattle.link_check.specs.Private.Leaves.{leaves_seen}
 use Rattle.link_check.proofs.counting.push_decls.Given as goal
 
 -- those before this one were put behind

@@ -2,7 +2,7 @@ use Rattle.std.proofs.Common.{◌≡◌, ◌+◌, ◌*◌, ◌++◌, drop}
 use Rattle.label_tree.specs.Rose.{node_count, count_all, roses_of}
 use Rattle.content_models.specs.Seen.{all_seen}
 use Rattle.schema_parts.specs.Linked.{all_leaves}
-use Rattle.link_check.specs.Leaves.{leaves_seen}
+use Rattle.link_check.specs.Private.Leaves.{leaves_seen}
 use Rattle.link_check.proofs.leaves.+leaves.Given as goal
 
 abbrev pub decreases-push_leaves : goal.decreases-push_leaves

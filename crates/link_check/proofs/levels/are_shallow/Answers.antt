@@ -2,9 +2,9 @@ use Rattle.std.proofs.Common.{◌≡◌, ◌+◌, ◌-◌, ◌<◌, length, arit
 use Rattle.std.proofs.lemmas.Option.{slice_get_read}
 use Rattle.schema_parts.specs.declared.components.ComplexDef.{ComplexDef}
 use Rattle.schema_parts.specs.Linked.{leaves_of}
-use Rattle.link_check.specs.Told.{set_of}
-use Rattle.link_check.specs.Leaves.{leaves_seen}
-use Rattle.link_check.specs.Levels.{IsLevel}
+use Rattle.link_check.specs.Private.Told.{set_of}
+use Rattle.link_check.specs.Private.Leaves.{leaves_seen}
+use Rattle.link_check.specs.Private.Levels.{IsLevel}
 use Rattle.link_check.proofs.Chains.{AreLevels, all_levels, one_type_more}
 use Rattle.link_check.proofs.levels.are_shallow.Goals as goal
 

@@ -1,4 +1,4 @@
-use Rattle.link_check.specs.Told.{set_of}
+use Rattle.link_check.specs.Private.Told.{set_of}
 use Rattle.link_check.proofs.Chains.{AreLevels}
 use Rattle.link_check.proofs.levels.are_shallow.Given as goal
 

@@ -1,6 +1,6 @@
-use Rattle.link_check.specs.Told.{set_of}
-use Rattle.link_check.specs.Leaves.{leaf_seen}
-use Rattle.link_check.specs.Levels.{IsLevelBelow}
+use Rattle.link_check.specs.Private.Told.{set_of}
+use Rattle.link_check.specs.Private.Leaves.{leaf_seen}
+use Rattle.link_check.specs.Private.Levels.{IsLevelBelow}
 use Rattle.link_check.specs.declared.leaves.Leaf.{Leaf}
 use Rattle.link_check.proofs.Chains.{whole_level}
 use Rattle.link_check.proofs.Steps.{all_passed}

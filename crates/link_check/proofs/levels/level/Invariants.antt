@@ -1,7 +1,7 @@
 use Rattle.std.proofs.Common.{take, All}
-use Rattle.link_check.specs.Told.{set_of}
-use Rattle.link_check.specs.Leaves.{leaf_seen}
-use Rattle.link_check.specs.Levels.{IsLevelBelow}
+use Rattle.link_check.specs.Private.Told.{set_of}
+use Rattle.link_check.specs.Private.Leaves.{leaf_seen}
+use Rattle.link_check.specs.Private.Levels.{IsLevelBelow}
 use Rattle.link_check.specs.declared.leaves.Leaf.{Leaf}
 use Rattle.link_check.proofs.levels.level.Given as goal
 

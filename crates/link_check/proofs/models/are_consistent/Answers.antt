@@ -1,7 +1,7 @@
 use Rattle.std.proofs.Common.{ap}
 use Rattle.std.specs.Option.{option_map}
 use Rattle.schema_parts.specs.declared.components.ElementDecl.{ElementDecl}
-use Rattle.link_check.specs.Told.{set_of}
+use Rattle.link_check.specs.Private.Told.{set_of}
 use Rattle.link_check.proofs.Steps.{all_passed}
 use Rattle.link_check.proofs.Consistent.{Kept, one_kept, all_kept}
 use Rattle.link_check.proofs.models.are_consistent.Goals as goal

@@ -1,7 +1,7 @@
 use Rattle.std.proofs.Common.{take, All}
 use Rattle.schema_parts.specs.Components.{element_type}
-use Rattle.link_check.specs.Told.{set_of}
-use Rattle.link_check.specs.Kinds.{kind_in}
+use Rattle.link_check.specs.Private.Told.{set_of}
+use Rattle.link_check.specs.Private.Kinds.{kind_in}
 use Rattle.link_check.specs.declared.leaves.Leaf.{Leaf}
 use Rattle.link_check.proofs.Consistent.{AreOne}
 use Rattle.link_check.proofs.models.are_consistent.Given as goal

@@ -1,7 +1,7 @@
 use Rattle.std.proofs.lemmas.List.Elements.{All-map}
 use Rattle.schema_parts.specs.Linked.{IsNamed}
-use Rattle.link_check.specs.Told.{set_of}
-use Rattle.link_check.specs.Leaves.{leaf_seen}
+use Rattle.link_check.specs.Private.Told.{set_of}
+use Rattle.link_check.specs.Private.Leaves.{leaf_seen}
 use Rattle.link_check.specs.declared.leaves.Leaf.{Leaf}
 use Rattle.link_check.proofs.Steps.{all_passed}
 use Rattle.link_check.proofs.models.are_named.Goals as goal

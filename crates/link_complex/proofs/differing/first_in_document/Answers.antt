@@ -2,7 +2,7 @@ use Rattle.schema_parts.specs.Documents.{doc_of}
 use Rattle.link_names.specs.Order.{IsFirstSuch, OneHas}
 use Rattle.link_complex.specs.ComplexTypes.{of_document}
 use Rattle.link_complex.specs.ElementTypes.{HasOtherOf}
-use Rattle.link_complex.specs.Identities.{types_in}
+use Rattle.link_complex.specs.Private.Identities.{types_in}
 use Rattle.link_complex.specs.Seen.{definition_of}
 use Rattle.link_complex.proofs.Stepping.{one_mapped, at_end}
 use Rattle.link_complex.proofs.differing.first_in_document.Goals as goal

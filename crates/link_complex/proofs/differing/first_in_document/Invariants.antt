@@ -1,7 +1,7 @@
 use Rattle.std.proofs.Common.{take}
 use Rattle.link_names.specs.Order.{OneHas, IsFirstSuch}
 use Rattle.link_complex.specs.ElementTypes.{HasOtherOf}
-use Rattle.link_complex.specs.Identities.{types_in}
+use Rattle.link_complex.specs.Private.Identities.{types_in}
 use Rattle.link_complex.specs.Seen.{definitions_of}
 use Rattle.link_complex.proofs.differing.first_in_document.Given as goal
 

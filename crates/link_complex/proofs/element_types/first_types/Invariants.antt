@@ -1,7 +1,7 @@
 use Rattle.std.proofs.Common.{◌≡◌, ◌≤◌, length, drop}
 use Rattle.xa_base.specs.declared.texts.Name.{Name}
 use Rattle.link_complex.specs.ElementTypes.{type_named}
-use Rattle.link_complex.specs.Identities.{elements_of, type_in}
+use Rattle.link_complex.specs.Private.Identities.{elements_of, type_in}
 use Rattle.link_complex.proofs.element_types.first_types.Given as goal
 
 -- the table has those from this place on

@@ -1,7 +1,7 @@
 use Rattle.std.proofs.Common.{◌≡◌, ◌++◌, map, take}
 use Rattle.schema_parts.specs.Seen.{element_of}
 use Rattle.link_complex.specs.ElementTypes.{typed_element}
-use Rattle.link_complex.specs.Identities.{elements_of}
+use Rattle.link_complex.specs.Private.Identities.{elements_of}
 use Rattle.link_complex.proofs.element_types.push_elements.Given as goal
 
 -- those before this one were put behind

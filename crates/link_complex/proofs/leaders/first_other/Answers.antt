@@ -1,5 +1,5 @@
 use Rattle.std.proofs.Common.{refl}
-use Rattle.link_complex.specs.Identities.{leader_in, particle_of, particles_of}
+use Rattle.link_complex.specs.Private.Identities.{leader_in, particle_of, particles_of}
 use Rattle.link_complex.proofs.Leading.{Told}
 use Rattle.link_complex.proofs.Stepping.{at_end}
 use Rattle.link_complex.proofs.Tables.{one_leader, with_other, without_other}

@@ -2,7 +2,7 @@ use Rattle.std.proofs.Common.{take}
 use Rattle.xa_base.specs.declared.texts.Name.{Name}
 use Rattle.link_names.specs.Order.{OneHas, IsFirstSuch}
 use Rattle.link_complex.specs.ElementTypes.{IsOtherAt}
-use Rattle.link_complex.specs.Identities.{particles_of, leader_in}
+use Rattle.link_complex.specs.Private.Identities.{particles_of, leader_in}
 use Rattle.link_complex.proofs.Leading.{Told}
 use Rattle.link_complex.proofs.leaders.first_other.Given as goal
 

@@ -4,7 +4,7 @@ use Rattle.label_tree.proofs.Roses.{node_count-kids, roses_of-list_of}
 use Rattle.label_tree.proofs.Kids.{kid-count-le}
 use Rattle.content_models.specs.declared.particles.ParticleLabel.{ParticleLabel}
 use Rattle.link_complex.specs.ElementTypes.{TypeIdentity, typed_particles, all_typed, own_particle}
-use Rattle.link_complex.specs.Identities.{types_in, particles_of}
+use Rattle.link_complex.specs.Private.Identities.{types_in, particles_of}
 use Rattle.link_complex.proofs.particles.+particles.Goals as goal
 
 by_parts : (types : ℕ → Option TypeIdentity) (t : Rose ParticleLabel) (label : ParticleLabel) (kids : List (Rose ParticleLabel))

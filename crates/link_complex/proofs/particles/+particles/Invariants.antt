@@ -1,7 +1,7 @@
 use Rattle.std.proofs.Common.{◌≡◌, ◌+◌, ◌*◌, ◌++◌, drop}
 use Rattle.label_tree.specs.Rose.{node_count, count_all, roses_of}
 use Rattle.link_complex.specs.ElementTypes.{all_typed}
-use Rattle.link_complex.specs.Identities.{types_in, particles_of}
+use Rattle.link_complex.specs.Private.Identities.{types_in, particles_of}
 use Rattle.link_complex.proofs.particles.+particles.Given as goal
 
 abbrev pub decreases-push_particles : goal.decreases-push_particles

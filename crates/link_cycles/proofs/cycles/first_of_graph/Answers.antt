@@ -2,7 +2,7 @@ use Rattle.std.proofs.Common.{◌≡◌, length, arith, subst}
 use Rattle.std.proofs.lemmas.List.{length-map}
 use Rattle.link_names.specs.declared.faults.LinkWhy.TheVariants.{CircularType}
 use Rattle.link_names.specs.Order.{fault}
-use Rattle.link_cycles.specs.Keeping.{IsNext}
+use Rattle.link_cycles.specs.Private.Keeping.{IsNext}
 use Rattle.link_cycles.specs.Graphs.{IsOnCycle}
 use Rattle.link_cycles.specs.Seen.{definition_of, definitions_of}
 use Rattle.link_cycles.proofs.First.{next_step, at_end, definition_at}

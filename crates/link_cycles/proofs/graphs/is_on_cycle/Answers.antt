@@ -1,7 +1,7 @@
 use Rattle.std.proofs.Common.{◌<◌, [], length, arith, rules, false, sym, ap, ◌∙◌, subst}
 use Rattle.std.proofs.Math.ListN.{length-replicate}
 use Rattle.link_cycles.specs.Graphs.{rows_of, row}
-use Rattle.link_cycles.specs.Searching.{Opened, mark}
+use Rattle.link_cycles.specs.Private.Searching.{Opened, mark}
 use Rattle.link_cycles.proofs.Walks.{Searched, searched_first, searched_more, search_ends, is_node, row_is, mark_is, unmarked, nothing}
 use Rattle.link_cycles.proofs.graphs.is_on_cycle.Goals as goal
 

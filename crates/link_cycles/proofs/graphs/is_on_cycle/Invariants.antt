@@ -1,6 +1,6 @@
 use Rattle.std.proofs.Common.{◌+◌, ◌*◌, length}
 use Rattle.link_cycles.specs.Graphs.{rows_of}
-use Rattle.link_cycles.specs.Searching.{unseen}
+use Rattle.link_cycles.specs.Private.Searching.{unseen}
 use Rattle.link_cycles.proofs.Walks.{Searched}
 use Rattle.link_cycles.proofs.graphs.is_on_cycle.Given as goal
 

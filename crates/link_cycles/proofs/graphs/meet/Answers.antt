@@ -1,6 +1,6 @@
 use Rattle.std.proofs.Common.{◌++◌, ◌∷◌, [], arith, inl, inr, sym, ◌∙◌, subst, true}
 use Rattle.std.proofs.Math.ListN.{set}
-use Rattle.link_cycles.specs.Searching.{Opened}
+use Rattle.link_cycles.specs.Private.Searching.{Opened}
 use Rattle.link_cycles.proofs.Walks.{opened_old, opened_new, mark_is}
 use Rattle.link_cycles.proofs.graphs.meet.Goals as goal
 

@@ -1,6 +1,6 @@
 use Rattle.std.proofs.Common.{take, sym, subst}
 use Rattle.std.proofs.lemmas.List.{take_more}
-use Rattle.link_cycles.specs.Searching.{Opened}
+use Rattle.link_cycles.specs.Private.Searching.{Opened}
 use Rattle.link_cycles.proofs.Walks.{opened_none}
 use Rattle.link_cycles.proofs.graphs.meet_all.Goals as goal
 

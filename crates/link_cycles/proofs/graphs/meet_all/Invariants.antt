@@ -1,5 +1,5 @@
 use Rattle.std.proofs.Common.{take}
-use Rattle.link_cycles.specs.Searching.{Opened}
+use Rattle.link_cycles.specs.Private.Searching.{Opened}
 use Rattle.link_cycles.proofs.graphs.meet_all.Given as goal
 
 -- those before this one were met

@@ -1,7 +1,7 @@
 use Rattle.std.proofs.Common.{◌≡◌, ap, sym, ◌∙◌}
 use Rattle.link_names.specs.Globals.{is_repeated}
 use Rattle.link_names.specs.Seen.{globals_of, global_of}
-use Rattle.link_names.specs.Tables.{stands_before}
+use Rattle.link_names.specs.Private.Tables.{stands_before}
 use Rattle.link_names.proofs.Placing.{repeats_by_first, with_fault, without_fault}
 use Rattle.link_names.proofs.duplicates.first_repeated.Goals as goal
 use Rattle.link_names.proofs.duplicates.first_repeated.Goals.{then-is_repeated, else-is_repeated}

@@ -3,7 +3,7 @@ use Rattle.schema_parts.specs.Raw.{UnionOf}
 use Rattle.schema_parts.specs.Seen.{base_of, how_of, bases_in}
 use Rattle.schema_parts.proofs.Seen.{named_base, inner_base, restriction, list_of_items, union}
 use Rattle.link_names.specs.References.{of_base, of_how, of_bases}
-use Rattle.link_names.specs.Mentioned.{mentions_of}
+use Rattle.link_names.specs.Private.Mentioned.{mentions_of}
 use Rattle.link_names.proofs.Parts.{base_parts, how_parts, part_base, one_base}
 use Rattle.link_names.proofs.references.+bases.Goals as goal
 

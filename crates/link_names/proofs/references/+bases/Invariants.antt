@@ -1,7 +1,7 @@
 use Rattle.std.proofs.Common.{◌≡◌, ◌+◌, ◌*◌, ◌++◌, take}
 use Rattle.schema_parts.specs.Seen.{base_of, how_of, bases_in}
 use Rattle.link_names.specs.References.{of_bases}
-use Rattle.link_names.specs.Mentioned.{mentions_of}
+use Rattle.link_names.specs.Private.Mentioned.{mentions_of}
 use Rattle.link_names.proofs.Parts.{base_parts, how_parts, bases_parts}
 use Rattle.link_names.proofs.references.+bases.Given as goal
 

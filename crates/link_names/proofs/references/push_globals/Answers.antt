@@ -1,7 +1,7 @@
 use Rattle.std.proofs.Common.{◌++◌, append_assoc, ap, ◌∙◌}
 use Rattle.std.specs.List.{flat_map}
 use Rattle.schema_parts.specs.Documents.{doc_of}
-use Rattle.link_names.specs.Mentioned.{mentions_of}
+use Rattle.link_names.specs.Private.Mentioned.{mentions_of}
 use Rattle.link_names.specs.References.{of_element, of_attribute, of_definition}
 use Rattle.link_names.proofs.references.push_globals.Goals as goal
 

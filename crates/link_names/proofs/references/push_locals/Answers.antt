@@ -2,7 +2,7 @@ use Rattle.std.proofs.Common.{◌++◌, take, append_assoc, sym, ap, ◌∙◌}
 use Rattle.std.specs.List.{flat_map}
 use Rattle.schema_parts.specs.Documents.{doc_of}
 use Rattle.schema_parts.specs.Seen.{local_of}
-use Rattle.link_names.specs.Mentioned.{mentions_of}
+use Rattle.link_names.specs.Private.Mentioned.{mentions_of}
 use Rattle.link_names.specs.References.{of_local}
 use Rattle.link_names.proofs.Flat.{flat_more}
 use Rattle.link_names.proofs.references.push_locals.Goals as goal

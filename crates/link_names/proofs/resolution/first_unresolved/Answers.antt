@@ -2,8 +2,8 @@ use Rattle.std.proofs.Common.{◌≡◌, map, List, ap, ◌∙◌, subst}
 use Rattle.std.specs.List.{filter_map}
 use Rattle.schema_parts.specs.Documents.{doc_of}
 use Rattle.link_names.specs.declared.faults.Fault.{Fault}
-use Rattle.link_names.specs.Mentioned.{mentions_of}
-use Rattle.link_names.specs.NameTables.{told_by}
+use Rattle.link_names.specs.Private.Mentioned.{mentions_of}
+use Rattle.link_names.specs.Private.NameTables.{told_by}
 use Rattle.link_names.specs.Order.{IsFirstOf}
 use Rattle.link_names.specs.References.{mentions}
 use Rattle.link_names.specs.Resolution.{names_in, fault_of, unresolved}

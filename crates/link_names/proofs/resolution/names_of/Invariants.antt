@@ -2,7 +2,7 @@ use Rattle.std.proofs.Common.{◌≡◌, take}
 use Rattle.xa_base.specs.declared.texts.Name.{Name}
 use Rattle.link_names.specs.Globals.{is_there}
 use Rattle.link_names.specs.Seen.{globals_of}
-use Rattle.link_names.specs.Tables.{holds}
+use Rattle.link_names.specs.Private.Tables.{holds}
 use Rattle.link_names.proofs.resolution.names_of.Given as goal
 
 -- the set has the names before this one

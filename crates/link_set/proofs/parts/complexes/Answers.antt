@@ -2,9 +2,9 @@ use Rattle.std.proofs.Common.{◌≡◌, map, ap, ap₂, ◌∙◌}
 use Rattle.schema_parts.specs.Documents.{doc_of}
 use Rattle.link_cycles.specs.Tables.{named_in}
 use Rattle.link_complex.specs.Seen.{definitions_of}
-use Rattle.link_set.specs.Seen.{attributes_of}
+use Rattle.link_set.specs.Private.Seen.{attributes_of}
 use Rattle.link_set.specs.Sets.{attributes, type_of_attribute, complex}
-use Rattle.link_set.specs.Told.{told_by}
+use Rattle.link_set.specs.Private.Told.{told_by}
 use Rattle.link_set.proofs.parts.complexes.Goals as goal
 
 pub returns : goal.returns

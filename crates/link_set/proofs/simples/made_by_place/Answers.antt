@@ -1,6 +1,6 @@
 use Rattle.std.proofs.Common.{refl, rules}
 use Rattle.std.proofs.lemmas.List.Sorted.{answers_always}
-use Rattle.link_set.specs.Made.{made_one}
+use Rattle.link_set.specs.Private.Made.{made_one}
 use Rattle.link_set.specs.Sets.{made_before}
 use Rattle.link_set.proofs.Sorted.{by_places}
 use Rattle.link_set.proofs.simples.made_by_place.Goals as goal

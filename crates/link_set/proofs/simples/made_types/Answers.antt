@@ -3,7 +3,7 @@ use Rattle.std.proofs.lemmas.List.{map-append, length-map, length-append}
 use Rattle.simple_types.specs.Seen.{space_of}
 use Rattle.link_cycles.specs.Seen.{definitions_of}
 use Rattle.link_set.proofs.Making.{none_made, one_made}
-use Rattle.link_set.specs.Made.{made_one, made_of}
+use Rattle.link_set.specs.Private.Made.{made_one, made_of}
 use Rattle.link_set.specs.Sets.{made_types}
 use Rattle.link_set.specs.declared.simples.MadeType.{MadeType}
 use Rattle.link_set.proofs.simples.made_types.Goals as goal

@@ -1,7 +1,7 @@
 use Rattle.std.proofs.Common.{◌≡◌, map, length}
 use Rattle.simple_types.specs.Seen.{space_of}
 use Rattle.link_cycles.specs.Seen.{definitions_of}
-use Rattle.link_set.specs.Made.{made_of}
+use Rattle.link_set.specs.Private.Made.{made_of}
 use Rattle.link_set.specs.Sets.{made_types}
 use Rattle.link_set.proofs.simples.made_types.Given as goal
 

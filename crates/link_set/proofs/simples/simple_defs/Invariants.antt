@@ -1,5 +1,5 @@
 use Rattle.std.proofs.Common.{◌≡◌, map}
-use Rattle.link_set.specs.Made.{made_of}
+use Rattle.link_set.specs.Private.Made.{made_of}
 use Rattle.link_set.specs.Sets.{named_spaces, space_of_made}
 use Rattle.link_set.proofs.simples.simple_defs.Given as goal
 

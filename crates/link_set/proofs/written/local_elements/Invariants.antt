@@ -1,7 +1,7 @@
 use Rattle.std.proofs.Common.{◌≡◌, map, take}
 use Rattle.schema_parts.specs.Documents.{doc_of}
 use Rattle.link_set.specs.Written.{local_elements}
-use Rattle.link_set.specs.Seen.{elements_of}
+use Rattle.link_set.specs.Private.Seen.{elements_of}
 use Rattle.link_set.proofs.written.local_elements.Given as goal
 
 -- those of the documents before this one

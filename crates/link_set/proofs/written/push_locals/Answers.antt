@@ -4,7 +4,7 @@ use Rattle.schema_parts.specs.Documents.{doc_of}
 use Rattle.schema_parts.specs.Seen.{local_of}
 use Rattle.link_names.proofs.Flat.{flat_more}
 use Rattle.link_set.specs.Written.{declared_by}
-use Rattle.link_set.specs.Seen.{elements_of}
+use Rattle.link_set.specs.Private.Seen.{elements_of}
 use Rattle.link_set.proofs.written.push_locals.Goals as goal
 
 pub locals-preserved : goal.locals-preserved

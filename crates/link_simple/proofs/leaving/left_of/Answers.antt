@@ -5,8 +5,8 @@ use Rattle.schema_parts.specs.Seen.{base_of, how_of}
 use Rattle.schema_parts.proofs.Seen.{restriction, list_of_items, union}
 use Rattle.link_cycles.specs.Tables.{told_by}
 use Rattle.link_simple.specs.Making.{IsLeft}
-use Rattle.link_simple.specs.Parts.{entries_of}
-use Rattle.link_simple.specs.Leaving.{LeftBy}
+use Rattle.link_simple.specs.Private.Parts.{entries_of}
+use Rattle.link_simple.specs.Private.Leaving.{LeftBy}
 use Rattle.link_simple.proofs.leaving.left_of.Goals as goal
 
 pub returns-in-Restrict : goal.returns-in-Restrict

@@ -4,7 +4,7 @@ use Rattle.std.specs.Option.{option_map}
 use Rattle.simple_types.specs.Seen.{space_of}
 use Rattle.simple_types.specs.Sound.{Sound}
 use Rattle.link_simple.specs.Making.{space_at}
-use Rattle.link_simple.specs.Parts.{entries_of}
+use Rattle.link_simple.specs.Private.Parts.{entries_of}
 use Rattle.link_simple.proofs.Lending.{entry_read, entry_past}
 use Rattle.link_simple.proofs.parts.lent.Goals as goal
 

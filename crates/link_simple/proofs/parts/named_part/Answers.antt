@@ -2,7 +2,7 @@ use Rattle.std.proofs.Common.{Some, sym, ap, ◌∙◌}
 use Rattle.schema_parts.specs.Raw.{Named}
 use Rattle.link_cycles.specs.Tables.{told_by}
 use Rattle.link_simple.specs.Making.{space_at, part_space}
-use Rattle.link_simple.specs.Parts.{entries_of}
+use Rattle.link_simple.specs.Private.Parts.{entries_of}
 use Rattle.link_simple.proofs.parts.named_part.Goals as goal
 
 pub returns-in_ok-simple-in-Builtin-clause-space : goal.returns-in_ok-simple-in-Builtin-clause-space

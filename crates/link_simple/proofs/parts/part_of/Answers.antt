@@ -10,7 +10,7 @@ use Rattle.schema_parts.proofs.Seen.{named_base, inner_base}
 use Rattle.link_names.specs.Order.{place}
 use Rattle.link_cycles.specs.Tables.{told_by}
 use Rattle.link_simple.specs.Making.{space_at, part_space}
-use Rattle.link_simple.specs.Parts.{entries_of, seen}
+use Rattle.link_simple.specs.Private.Parts.{entries_of, seen}
 use Rattle.link_simple.proofs.parts.part_of.Goals as goal
 
 named_space : {E : Type 0} (ns : cycles.Numbers) (made : List (Option Space)) (file : ℕ) (b c : Base) (r : Result (Option Part) E)

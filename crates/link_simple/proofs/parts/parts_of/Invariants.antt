@@ -3,7 +3,7 @@ use Rattle.facet_rules.specs.Making.{AreEachSound}
 use Rattle.schema_parts.specs.Seen.{bases_in}
 use Rattle.link_cycles.specs.Tables.{told_by}
 use Rattle.link_simple.specs.Making.{part_spaces}
-use Rattle.link_simple.specs.Parts.{entries_of, seen_all, behind}
+use Rattle.link_simple.specs.Private.Parts.{entries_of, seen_all, behind}
 use Rattle.link_simple.proofs.parts.parts_of.Given as goal
 
 -- those found are in front of the others

@@ -3,7 +3,7 @@ use Rattle.std.proofs.lemmas.Bool.{true≢false}
 use Rattle.simple_types.specs.Seen.{space_of}
 use Rattle.simple_types.specs.Joining.{flattened}
 use Rattle.facet_rules.specs.Making.{count_all_items}
-use Rattle.link_simple.specs.Parts.{seen_all}
+use Rattle.link_simple.specs.Private.Parts.{seen_all}
 use Rattle.link_simple.proofs.Lending.{cut, past_end}
 use Rattle.link_simple.proofs.Counting.{items_from}
 use Rattle.link_simple.proofs.unions.are_few_items.Goals as goal

@@ -1,7 +1,7 @@
 use Rattle.std.proofs.Common.{◌≡◌, ◌+◌, drop}
 use Rattle.simple_types.specs.Joining.{flattened}
 use Rattle.facet_rules.specs.Making.{count_all_items}
-use Rattle.link_simple.specs.Parts.{seen_all}
+use Rattle.link_simple.specs.Private.Parts.{seen_all}
 use Rattle.link_simple.proofs.unions.are_few_items.Given as goal
 
 abbrev pub invariant-parts : goal.invariant-parts

@@ -2,7 +2,7 @@ use Rattle.std.proofs.Common.{sym, ap, ◌∙◌}
 use Rattle.simple_types.specs.Seen.{space_of, spaces_in}
 use Rattle.simple_types.specs.Joining.{joined, flattened}
 use Rattle.simple_types.proofs.Copies.{joined-none}
-use Rattle.link_simple.specs.Parts.{seen_all}
+use Rattle.link_simple.specs.Private.Parts.{seen_all}
 use Rattle.link_simple.proofs.Lending.{cut, past_end}
 use Rattle.link_simple.proofs.Counting.{part_flat}
 use Rattle.link_simple.proofs.unions.flat_copies.Goals as goal

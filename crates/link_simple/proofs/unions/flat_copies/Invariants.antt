@@ -1,7 +1,7 @@
 use Rattle.std.proofs.Common.{◌≡◌, drop}
 use Rattle.simple_types.specs.Seen.{spaces_in}
 use Rattle.simple_types.specs.Joining.{joined, flattened}
-use Rattle.link_simple.specs.Parts.{seen_all}
+use Rattle.link_simple.specs.Private.Parts.{seen_all}
 use Rattle.link_simple.proofs.unions.flat_copies.Given as goal
 
 abbrev pub invariant-parts : goal.invariant-parts

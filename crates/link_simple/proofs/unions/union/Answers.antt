@@ -5,7 +5,7 @@ use Rattle.simple_types.specs.Space.{UnionOf}
 use Rattle.simple_types.specs.Sound.{Sound}
 use Rattle.simple_types.proofs.Seen.{union_space}
 use Rattle.facet_rules.proofs.Unions.{flattened_sound, flattened_some}
-use Rattle.link_simple.specs.Parts.{seen_all}
+use Rattle.link_simple.specs.Private.Parts.{seen_all}
 use Rattle.link_simple.proofs.Counting.{some_members}
 use Rattle.link_simple.proofs.unions.union.Goals as goal
 

@@ -1,6 +1,6 @@
 use Rattle.std.proofs.Common.{◌≡◌, inl, inr, true, arith, sym, subst}
 use Rattle.std.proofs.lemmas.Bool.{cases_order}
-use Rattle.link_cycles.specs.Searching.{mark}
+use Rattle.link_cycles.specs.Private.Searching.{mark}
 use Rattle.link_simple.proofs.Standing.{mark_read}
 use Rattle.link_simple.proofs.working.are_all_done.Goals as goal
 

@@ -1,7 +1,7 @@
 use Rattle.std.proofs.Common.{◌≡◌, true, arith, take, get_or, inl, inr, subst}
 use Rattle.std.proofs.lemmas.List.{take_more}
 use Rattle.link_cycles.specs.Graphs.{IsIn}
-use Rattle.link_cycles.specs.Searching.{mark}
+use Rattle.link_cycles.specs.Private.Searching.{mark}
 use Rattle.link_cycles.proofs.Walks.{in_parts}
 use Rattle.link_simple.proofs.Standing.{mark_read}
 use Rattle.link_simple.proofs.working.are_done.Goals as goal

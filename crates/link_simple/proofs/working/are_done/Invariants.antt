@@ -1,6 +1,6 @@
 use Rattle.std.proofs.Common.{◌≡◌, ℕ, true, take}
 use Rattle.link_cycles.specs.Graphs.{IsIn}
-use Rattle.link_cycles.specs.Searching.{mark}
+use Rattle.link_cycles.specs.Private.Searching.{mark}
 use Rattle.link_simple.proofs.working.are_done.Given as goal
 
 abbrev pub invariant-nodes : goal.invariant-nodes

@@ -1,5 +1,5 @@
 use Rattle.link_cycles.specs.Seen.{definitions_of}
-use Rattle.link_simple.specs.Working.{StandsIn}
+use Rattle.link_simple.specs.Private.Working.{StandsIn}
 use Rattle.link_simple.proofs.working.work_in_order.Given as goal
 
 abbrev pub invariant-order : goal.invariant-order

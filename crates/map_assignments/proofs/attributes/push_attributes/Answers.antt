@@ -2,8 +2,8 @@ use Rattle.std.proofs.Common.{not, subst}
 use Rattle.std.proofs.lemmas.List.{drop_all}
 use Rattle.map_assignments.specs.Plans.{attribute}
 use Rattle.map_assignments.specs.Planning.{attributes, simple_type}
-use Rattle.map_assignments.specs.Placing.{place_of}
-use Rattle.map_assignments.specs.Building.{LeadsToNamed}
+use Rattle.map_assignments.specs.Private.Placing.{place_of}
+use Rattle.map_assignments.specs.Private.Building.{LeadsToNamed}
 use Rattle.map_assignments.proofs.Building.{adds-next}
 use Rattle.map_subjects.proofs.Finding.{drop-next}
 use Rattle.map_assignments.proofs.attributes.push_attributes.Goals as goal

@@ -1,8 +1,8 @@
 use Rattle.std.proofs.Common.{drop}
 use Rattle.map_assignments.specs.Plans.{Parts}
 use Rattle.map_assignments.specs.Planning.{attributes}
-use Rattle.map_assignments.specs.Placing.{place_of}
-use Rattle.map_assignments.specs.Building.{LeadsToNamed}
+use Rattle.map_assignments.specs.Private.Placing.{place_of}
+use Rattle.map_assignments.specs.Private.Building.{LeadsToNamed}
 use Rattle.map_assignments.proofs.attributes.push_attributes.Given as goal
 
 -- the parts so far, with those of the uses that are left

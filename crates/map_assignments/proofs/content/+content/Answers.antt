@@ -7,8 +7,8 @@ use Rattle.content_models.specs.Seen.{term_seen, seen, all_seen}
 use Rattle.map_assignments.specs.Plans.{finish}
 use Rattle.map_assignments.specs.Planning.{simple_type, attributes, is_mixed, with_texts, rest_parts, content_parts, content_type, top, term_type, particle_parts}
 use Rattle.map_assignments.specs.Naming.{IsNamed, sequence_marks}
-use Rattle.map_assignments.specs.Placing.{place_of}
-use Rattle.map_assignments.specs.Building.{LeadsToNamed, declared}
+use Rattle.map_assignments.specs.Private.Placing.{place_of}
+use Rattle.map_assignments.specs.Private.Building.{LeadsToNamed, declared}
 use Rattle.map_assignments.proofs.Building.{on_ok, leads-init, named-sequence, named-choice}
 use Rattle.map_assignments.proofs.Known.{known-element, known-kids, known-alternatives, known-kid, term-parts}
 use Rattle.map_assignments.proofs.Models.{plain-sequence, content-sequence, top-plain, top-other, parts-more}

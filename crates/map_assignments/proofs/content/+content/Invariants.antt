@@ -3,8 +3,8 @@ use Rattle.label_tree.specs.Rose.{node_count, count_all, roses_of}
 use Rattle.content_models.specs.Seen.{all_seen}
 use Rattle.map_assignments.specs.Plans.{Parts}
 use Rattle.map_assignments.specs.Planning.{particle_parts}
-use Rattle.map_assignments.specs.Placing.{place_of}
-use Rattle.map_assignments.specs.Building.{LeadsToNamed, declared}
+use Rattle.map_assignments.specs.Private.Placing.{place_of}
+use Rattle.map_assignments.specs.Private.Building.{LeadsToNamed, declared}
 use Rattle.map_assignments.proofs.content.+content.Given as goal
 
 -- A complex type has so many levels below it, and a content model so many nodes.

@@ -1,6 +1,6 @@
 use Rattle.std.proofs.Common.{sym, subst}
 use Rattle.map_assignments.specs.Planning.{with_texts}
-use Rattle.map_assignments.specs.Building.{LeadsToNamed}
+use Rattle.map_assignments.specs.Private.Building.{LeadsToNamed}
 use Rattle.map_assignments.proofs.Building.{leads-init, if_ok}
 use Rattle.map_assignments.proofs.content.begin.Goals as goal
 

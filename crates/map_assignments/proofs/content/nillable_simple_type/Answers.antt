@@ -1,7 +1,7 @@
 use Rattle.std.proofs.Common.{true, false}
 use Rattle.map_assignments.specs.Plans.{part, content, finish}
 use Rattle.map_assignments.specs.Planning.{simple_type}
-use Rattle.map_assignments.specs.Placing.{place_of}
+use Rattle.map_assignments.specs.Private.Placing.{place_of}
 use Rattle.map_assignments.proofs.Building.{leads-init, named-sequence}
 use Rattle.map_assignments.proofs.content.nillable_simple_type.Goals as goal
 

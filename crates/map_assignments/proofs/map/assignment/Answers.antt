@@ -3,7 +3,7 @@ use Rattle.name_map.specs.declared.conversion.NameKind.TheVariants.{Reference}
 use Rattle.name_map.specs.Taking.{IsTaken}
 use Rattle.map_assignments.specs.Planning.{body}
 use Rattle.map_assignments.specs.Naming.{IsNamed}
-use Rattle.map_assignments.specs.Placing.{place_of, references_of}
+use Rattle.map_assignments.specs.Private.Placing.{place_of, references_of}
 use Rattle.map_assignments.proofs.Allowed.{named-allowed}
 use Rattle.map_assignments.proofs.map.assignment.Goals as goal
 

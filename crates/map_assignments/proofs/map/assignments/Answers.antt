@@ -1,6 +1,6 @@
 use Rattle.std.proofs.Common.{[]}
 use Rattle.map_subjects.specs.Subjects.{place_in}
-use Rattle.map_assignments.specs.Placing.{place_of}
+use Rattle.map_assignments.specs.Private.Placing.{place_of}
 use Rattle.map_assignments.proofs.Building.{if_ok}
 use Rattle.map_assignments.proofs.Numbers.{mapped-same}
 use Rattle.map_assignments.proofs.map.assignments.Goals as goal

@@ -1,5 +1,5 @@
 use Rattle.std.proofs.Common.{◌≡◌, drop}
-use Rattle.map_assignments.specs.Placing.{place_of, references_of}
+use Rattle.map_assignments.specs.Private.Placing.{place_of, references_of}
 use Rattle.map_assignments.proofs.Mapping.{LeadsToMapped}
 use Rattle.map_assignments.proofs.map.numbered_assignments.Given as goal
 

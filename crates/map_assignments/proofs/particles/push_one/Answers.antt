@@ -3,7 +3,7 @@ use Rattle.content_models.specs.Particle.{Particles}
 use Rattle.content_models.specs.Seen.{term_seen}
 use Rattle.map_assignments.specs.Plans.{group, a_sequence, a_choice}
 use Rattle.map_assignments.specs.Planning.{label_of}
-use Rattle.map_assignments.specs.Building.{Adds}
+use Rattle.map_assignments.specs.Private.Building.{Adds}
 use Rattle.map_assignments.proofs.Building.{on_ok, adds-marked}
 use Rattle.map_assignments.proofs.particles.push_one.Goals as goal
 

@@ -2,7 +2,7 @@ use Rattle.std.proofs.Common.{[], sym, subst, All, arith}
 use Rattle.std.proofs.lemmas.List.Elements.{All-cons}
 use Rattle.map_subjects.specs.declared.subjects.Entry.{Entry}
 use Rattle.map_subjects.specs.Subjects.{IsSubject}
-use Rattle.map_assignments.specs.Samples.{one_simple}
+use Rattle.map_assignments.specs.Private.Samples.{one_simple}
 use Rattle.map_assignments.proofs.tests.one_entry.Goals as goal
 
 pub returns : goal.returns

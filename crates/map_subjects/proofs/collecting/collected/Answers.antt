@@ -1,5 +1,5 @@
 use Rattle.std.proofs.Common.{◌++◌, ap, ◌∙◌}
-use Rattle.map_subjects.specs.Collecting.{declaration_entries, type_entries}
+use Rattle.map_subjects.specs.Private.Collecting.{declaration_entries, type_entries}
 use Rattle.map_subjects.proofs.collecting.collected.Goals as goal
 
 pub returns : goal.returns

@@ -1,6 +1,6 @@
 use Rattle.std.proofs.Common.{Some}
 use Rattle.map_subjects.specs.declared.subjects.Subject.TheVariants.{Attribute}
-use Rattle.map_subjects.specs.Collecting.{entries_with}
+use Rattle.map_subjects.specs.Private.Collecting.{entries_with}
 use Rattle.map_subjects.proofs.InOrder.{firsts-next, attribute-entry}
 use Rattle.map_subjects.proofs.collecting.push_attributes.Goals as goal
 

@@ -1,5 +1,5 @@
 use Rattle.std.proofs.Common.{◌++◌, ap, ◌∙◌, append_assoc}
-use Rattle.map_subjects.specs.Collecting.{element_entries, attribute_entries}
+use Rattle.map_subjects.specs.Private.Collecting.{element_entries, attribute_entries}
 use Rattle.map_subjects.proofs.collecting.push_declarations.Goals as goal
 
 pub returns : goal.returns

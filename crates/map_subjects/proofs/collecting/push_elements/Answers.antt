@@ -1,6 +1,6 @@
 use Rattle.std.proofs.Common.{◌<◌, subst, arith, Some}
 use Rattle.map_subjects.specs.declared.subjects.Subject.TheVariants.{Element}
-use Rattle.map_subjects.specs.Collecting.{entries_with}
+use Rattle.map_subjects.specs.Private.Collecting.{entries_with}
 use Rattle.map_subjects.proofs.InOrder.{firsts-next, element-entry}
 use Rattle.map_subjects.proofs.collecting.push_elements.Goals as goal
 

@@ -1,6 +1,6 @@
 use Rattle.std.proofs.Common.{◌<◌, refl, ap, subst, ◌∙◌}
 use Rattle.map_subjects.specs.declared.subjects.Subject.TheVariants.{Nillable}
-use Rattle.map_subjects.specs.Collecting.{entries_of, is_marked}
+use Rattle.map_subjects.specs.Private.Collecting.{entries_of, is_marked}
 use Rattle.map_subjects.proofs.InOrder.{firsts-next}
 use Rattle.map_subjects.proofs.collecting.push_nillables.Goals as goal
 

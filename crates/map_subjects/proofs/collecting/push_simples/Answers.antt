@@ -1,5 +1,5 @@
 use Rattle.map_subjects.specs.declared.subjects.Subject.TheVariants.{Simple}
-use Rattle.map_subjects.specs.Collecting.{entries_with}
+use Rattle.map_subjects.specs.Private.Collecting.{entries_with}
 use Rattle.map_subjects.proofs.InOrder.{firsts-next, simple-entry}
 use Rattle.map_subjects.proofs.collecting.push_simples.Goals as goal
 

@@ -1,5 +1,5 @@
 use Rattle.std.proofs.Common.{◌++◌, ap, ◌∙◌, append_assoc}
-use Rattle.map_subjects.specs.Collecting.{simple_entries, complex_entries, nillable_entries}
+use Rattle.map_subjects.specs.Private.Collecting.{simple_entries, complex_entries, nillable_entries}
 use Rattle.map_subjects.proofs.collecting.push_types.Goals as goal
 
 pub returns : goal.returns

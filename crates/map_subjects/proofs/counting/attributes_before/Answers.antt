@@ -1,7 +1,7 @@
 use Rattle.std.proofs.Common.{◌<◌, refl, subst, arith, Some}
 use Rattle.map_subjects.specs.declared.subjects.Subject.TheVariants.{Attribute}
 use Rattle.map_subjects.specs.Subjects.{name_of}
-use Rattle.map_subjects.specs.Collecting.{entries_with, entries_of}
+use Rattle.map_subjects.specs.Private.Collecting.{entries_with, entries_of}
 use Rattle.map_subjects.proofs.InOrder.{element-entry, attribute-entry, simple-entry, complex-entry}
 use Rattle.map_subjects.proofs.Earlier.{count-next, few-counted, one-counted}
 use Rattle.map_subjects.proofs.counting.attributes_before.Goals as goal

@@ -1,5 +1,5 @@
 use Rattle.std.proofs.Common.{◌+◌, sym, ap, ◌∙◌}
-use Rattle.map_subjects.specs.Collecting.{declaration_entries, type_entries, count_before}
+use Rattle.map_subjects.specs.Private.Collecting.{declaration_entries, type_entries, count_before}
 use Rattle.map_subjects.proofs.Earlier.{count-append, number-of-element}
 use Rattle.map_subjects.proofs.counting.number_of_element.Goals as goal
 

@@ -4,7 +4,7 @@ use Rattle.schema_parts.specs.Chains.{complex_in_element, complex_in_type}
 use Rattle.schema_parts.specs.Seen.{element_of, type_of, local_of}
 use Rattle.schema_parts.specs.declared.declarations.RawElement.{RawElement}
 use Rattle.schema_parts.specs.declared.declarations.RawType.{RawType}
-use Rattle.schema_places.specs.Levels.{IsBelowMost, AreLevels}
+use Rattle.schema_places.specs.Private.Levels.{IsBelowMost, AreLevels}
 use Rattle.schema_places.proofs.Levels.{all_short}
 use Rattle.schema_places.proofs.chains.are_short.Goals as goal
 

@@ -2,7 +2,7 @@ use Rattle.std.proofs.Common.{◌≡◌, ◌+◌, ◌-◌, map, arith, subst}
 use Rattle.std.specs.Prelude.{IfSome}
 use Rattle.schema_parts.specs.Chains.{complex_in_local}
 use Rattle.schema_parts.specs.Seen.{local_of}
-use Rattle.schema_places.specs.Levels.{IsLevel}
+use Rattle.schema_places.specs.Private.Levels.{IsLevel}
 use Rattle.schema_places.proofs.Levels.{local_at, one_local_more}
 use Rattle.schema_places.proofs.chains.levels_of.Goals as goal
 

@@ -1,6 +1,6 @@
 use Rattle.std.proofs.Common.{map}
 use Rattle.schema_parts.specs.Seen.{local_of}
-use Rattle.schema_places.specs.Levels.{AreLevels}
+use Rattle.schema_places.specs.Private.Levels.{AreLevels}
 use Rattle.schema_places.proofs.chains.levels_of.Given as goal
 
 -- the levels from this number on

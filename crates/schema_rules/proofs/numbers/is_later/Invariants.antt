@@ -1,5 +1,5 @@
 use Rattle.std.proofs.Common.{◌≡◌, length}
-use Rattle.schema_rules.specs.Comparing.{is_later}
+use Rattle.schema_rules.specs.Private.Comparing.{is_later}
 use Rattle.schema_rules.proofs.numbers.is_later.Given as goal
 
 -- the rest decides

@@ -1,5 +1,5 @@
 use Rattle.std.proofs.Common.{◌≡◌, length}
-use Rattle.schema_rules.specs.Comparing.{without_zeros}
+use Rattle.schema_rules.specs.Private.Comparing.{without_zeros}
 use Rattle.schema_rules.proofs.numbers.without_zeros.Given as goal
 
 abbrev pub invariant-zeros : goal.invariant-zeros

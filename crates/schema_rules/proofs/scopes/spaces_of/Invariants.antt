@@ -1,5 +1,5 @@
 use Rattle.std.proofs.Common.{◌≤◌, length, drop}
-use Rattle.schema_rules.specs.Finding.{Finds}
+use Rattle.schema_rules.specs.Private.Finding.{Finds}
 use Rattle.schema_rules.proofs.scopes.spaces_of.Given as goal
 
 -- the table has those from this place on

@@ -3,7 +3,7 @@ use Rattle.std.specs.List.{list_any}
 use Rattle.xa_base.specs.Names.{name_eq}
 use Rattle.schema_parts.specs.Components.{global_elements}
 use Rattle.schema_parts.specs.declared.components.ElementDecl.{ElementDecl}
-use Rattle.transcode_core.specs.Requests.{root_seen}
+use Rattle.transcode_core.specs.Private.Requests.{root_seen}
 use Rattle.transcode_core.proofs.SetLaws.{none_named}
 use Rattle.transcode_core.proofs.linking.check_root.Goals as goal
 

@@ -2,7 +2,7 @@ use Rattle.std.proofs.Common.{map}
 use Rattle.schema_parts.specs.Documents.{doc_of}
 use Rattle.link_set.specs.Sets.{parts_of}
 use Rattle.transcode_core.specs.Order.{Then}
-use Rattle.transcode_core.specs.Requests.{root_seen}
+use Rattle.transcode_core.specs.Private.Requests.{root_seen}
 use Rattle.transcode_core.specs.Steps.{Linked, Taken, Rooted}
 use Rattle.transcode_core.specs.Causes.{NoMemory}
 use Rattle.transcode_core.proofs.Joined.{passed}

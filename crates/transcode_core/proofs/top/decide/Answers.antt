@@ -1,7 +1,7 @@
 use Rattle.std.proofs.Common.{ℕ, inl, inr}
 use Rattle.std.specs.Prelude.{Vec}
 use Rattle.std.specs.declared.alloc.Global.{Global}
-use Rattle.transcode_core.specs.Requests.{seen}
+use Rattle.transcode_core.specs.Private.Requests.{seen}
 use Rattle.transcode_core.specs.Due.{Requested, Answered}
 use Rattle.transcode_core.specs.Causes.{Never, Answering, Deciding}
 use Rattle.transcode_core.proofs.Joined.{passed, refused}

@@ -2,7 +2,7 @@ use Rattle.std.proofs.Common.{ℕ, inl}
 use Rattle.std.specs.Prelude.{Vec}
 use Rattle.std.specs.declared.alloc.Global.{Global}
 use Rattle.transcode_core.specs.Order.{Pass}
-use Rattle.transcode_core.specs.Requests.{root_seen}
+use Rattle.transcode_core.specs.Private.Requests.{root_seen}
 use Rattle.transcode_core.specs.Due.{InputValue}
 use Rattle.transcode_core.specs.Steps.{encoded}
 use Rattle.transcode_core.specs.Causes.{NoMemory, OneRead}

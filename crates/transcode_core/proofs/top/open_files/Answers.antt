@@ -2,7 +2,7 @@ use Rattle.std.proofs.Common.{◌≡◌, inl, map, length, arith}
 use Rattle.std.proofs.lemmas.List.{length-map}
 use Rattle.transcode_core.proofs.SetLaws.{as_many, are_numbered}
 use Rattle.schema_parts.specs.Documents.{doc_of}
-use Rattle.transcode_core.specs.Requests.{root_seen}
+use Rattle.transcode_core.specs.Private.Requests.{root_seen}
 use Rattle.transcode_core.specs.Steps.{Schemas, Chosen}
 use Rattle.transcode_core.specs.Causes.{NoMemory, SomeLoad}
 use Rattle.transcode_core.proofs.Joined.{passed, refused}

@@ -1,5 +1,5 @@
 use Rattle.std.proofs.Common.{Bool, inl}
-use Rattle.transcode_core.specs.Requests.{root_seen}
+use Rattle.transcode_core.specs.Private.Requests.{root_seen}
 use Rattle.transcode_core.specs.Steps.{Input, Valued}
 use Rattle.transcode_core.specs.Causes.{NoMemory, OneRead}
 use Rattle.transcode_core.proofs.Joined.{passed, refused}

@@ -1,5 +1,5 @@
 use Rattle.std.proofs.Common.{inr}
-use Rattle.transcode_core.specs.Requests.{root_seen}
+use Rattle.transcode_core.specs.Private.Requests.{root_seen}
 use Rattle.transcode_core.proofs.Deciding.{goes_on, stops}
 use Rattle.transcode_core.proofs.top.to_per.Goals as goal
 

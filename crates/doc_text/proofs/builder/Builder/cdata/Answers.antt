@@ -1,6 +1,6 @@
 use Rattle.std.proofs.Common.{◌∙◌, ap, ℕ, List, rules, refl}
-use Rattle.doc_text.specs.States.{added}
-use Rattle.doc_text.specs.Building.{state}
+use Rattle.doc_text.specs.Private.States.{added}
+use Rattle.doc_text.specs.Private.Building.{state}
 use Rattle.doc_text.proofs.Built.{cdata_takes, cdata_stops}
 use Rattle.doc_text.proofs.builder.Builder.cdata.Goals as goal
 

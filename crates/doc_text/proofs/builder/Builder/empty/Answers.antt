@@ -1,7 +1,7 @@
 use Rattle.std.proofs.Common.{◌∙◌, length, Option, subst, rules, refl}
 use Rattle.doc_pieces.specs.Found.{tag_seen}
 use Rattle.doc_text.specs.declared.error.DocWhy.{DocWhy}
-use Rattle.doc_text.specs.Entering.{Stopped}
+use Rattle.doc_text.specs.Private.Entering.{Stopped}
 use Rattle.doc_text.proofs.Built.{empty_stops, enters_here, mid_of, empty_takes}
 use Rattle.doc_text.proofs.builder.Builder.empty.Goals as goal
 

@@ -1,7 +1,7 @@
 use Rattle.std.proofs.Common.{sym, subst}
 use Rattle.doc_pieces.specs.declared.found.Found.{Found}
 use Rattle.doc_pieces.specs.Found.{seen}
-use Rattle.doc_text.specs.Building.{Takes}
+use Rattle.doc_text.specs.Private.Building.{Takes}
 use Rattle.doc_text.proofs.Built.{comment_takes, instruction_takes}
 use Rattle.doc_text.proofs.builder.Builder.take.Goals as goal
 

@@ -1,7 +1,7 @@
 use Rattle.std.proofs.Common.{◌≡◌, drop}
 use Rattle.label_tree.specs.Rose.{node_count, roses_of}
 use Rattle.doc_written.specs.Spaces.{spaces, all_spaces}
-use Rattle.doc_write.specs.Binding.{with_spaces}
+use Rattle.doc_write.specs.Private.Binding.{with_spaces}
 use Rattle.doc_write.proofs.prefixes.Prefixes.+bind_tree.Given as goal
 
 abbrev pub decreases-bind_tree : goal.decreases-bind_tree

@@ -1,5 +1,5 @@
 use Rattle.std.proofs.Common.{ap, ◌∙◌}
-use Rattle.doc_write.specs.Binding.{with_space}
+use Rattle.doc_write.specs.Private.Binding.{with_space}
 use Rattle.doc_write.proofs.Written.{bind-attribute}
 use Rattle.doc_write.proofs.prefixes.Prefixes.bind_attributes.Goals as goal
 

@@ -1,6 +1,6 @@
 use Rattle.std.proofs.Common.{◌≡◌, drop}
 use Rattle.doc_written.specs.Spaces.{attribute_spaces}
-use Rattle.doc_write.specs.Binding.{with_spaces}
+use Rattle.doc_write.specs.Private.Binding.{with_spaces}
 use Rattle.doc_write.proofs.prefixes.Prefixes.bind_attributes.Given as goal
 
 -- what is bound, with what is still to be bound

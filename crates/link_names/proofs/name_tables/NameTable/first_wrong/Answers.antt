@@ -1,6 +1,6 @@
 use Rattle.std.proofs.Common.{ap, sym, ◌∙◌}
 use Rattle.std.specs.Option.{option_map}
-use Rattle.link_names.specs.NameTables.{told_by}
+use Rattle.link_names.specs.Private.NameTables.{told_by}
 use Rattle.link_names.specs.Order.{fault}
 use Rattle.link_names.specs.Resolution.{fault_of}
 use Rattle.link_names.proofs.Resolving.{wrong_one, right_one}

@@ -1,7 +1,7 @@
 use Rattle.std.proofs.Common.{take}
 use Rattle.std.specs.List.{filter_map}
-use Rattle.link_names.specs.Mentioned.{mentions_of}
-use Rattle.link_names.specs.NameTables.{told_by}
+use Rattle.link_names.specs.Private.Mentioned.{mentions_of}
+use Rattle.link_names.specs.Private.NameTables.{told_by}
 use Rattle.link_names.specs.Order.{IsFirstOf}
 use Rattle.link_names.specs.Resolution.{fault_of}
 use Rattle.link_names.proofs.name_tables.NameTable.first_wrong.Given as goal

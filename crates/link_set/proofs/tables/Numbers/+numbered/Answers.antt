@@ -5,7 +5,7 @@ use Rattle.label_tree.proofs.Roses.{node_count-kids}
 use Rattle.label_tree.proofs.Kids.{kid-count-le}
 use Rattle.schema_parts.specs.Documents.{doc_of}
 use Rattle.link_set.specs.Sets.{numbered, numbered_label, number_of_declaration}
-use Rattle.link_set.specs.Told.{told_by}
+use Rattle.link_set.specs.Private.Told.{told_by}
 use Rattle.link_set.proofs.Numbered.{of_parts}
 use Rattle.link_set.proofs.tables.Numbers.+numbered.Goals as goal
 

@@ -1,5 +1,5 @@
 use Rattle.std.proofs.Common.{arith}
-use Rattle.link_set.specs.Told.{told_by}
+use Rattle.link_set.specs.Private.Told.{told_by}
 use Rattle.link_set.proofs.Numbering.{one_typed}
 use Rattle.link_set.proofs.tables.Numbers.attribute_types.Goals as goal
 

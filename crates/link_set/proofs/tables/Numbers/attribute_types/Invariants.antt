@@ -1,9 +1,9 @@
 use Rattle.std.proofs.Common.{◌≡◌, ◌≤◌, length, drop}
 use Rattle.xa_base.specs.declared.texts.Name.{Name}
 use Rattle.link_cycles.specs.Tables.{named_in}
-use Rattle.link_set.specs.Seen.{attributes_of}
+use Rattle.link_set.specs.Private.Seen.{attributes_of}
 use Rattle.link_set.specs.Sets.{attributes, type_of_attribute}
-use Rattle.link_set.specs.Told.{told_by}
+use Rattle.link_set.specs.Private.Told.{told_by}
 use Rattle.link_set.proofs.tables.Numbers.attribute_types.Given as goal
 
 -- the table has those from this one on

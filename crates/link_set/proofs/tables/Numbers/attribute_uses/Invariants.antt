@@ -2,7 +2,7 @@ use Rattle.std.proofs.Common.{◌≡◌, map, take}
 use Rattle.schema_parts.specs.Seen.{uses_in}
 use Rattle.link_cycles.specs.Tables.{named_in}
 use Rattle.link_set.specs.Sets.{attribute_use}
-use Rattle.link_set.specs.Told.{told_by}
+use Rattle.link_set.specs.Private.Told.{told_by}
 use Rattle.link_set.proofs.tables.Numbers.attribute_uses.Given as goal
 
 -- those of the ones before this one

@@ -1,7 +1,7 @@
 use Rattle.std.proofs.Common.{◌≡◌, take}
-use Rattle.link_set.specs.Seen.{attributes_of}
+use Rattle.link_set.specs.Private.Seen.{attributes_of}
 use Rattle.link_set.specs.Sets.{attributes}
-use Rattle.link_set.specs.Told.{told_by}
+use Rattle.link_set.specs.Private.Told.{told_by}
 use Rattle.link_set.proofs.tables.Numbers.attributes.Given as goal
 
 -- those of the ones before this one

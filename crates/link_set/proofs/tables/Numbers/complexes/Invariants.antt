@@ -3,7 +3,7 @@ use Rattle.schema_parts.specs.Documents.{doc_of}
 use Rattle.link_cycles.specs.Tables.{named_in}
 use Rattle.link_complex.specs.Seen.{definitions_of}
 use Rattle.link_set.specs.Sets.{complex}
-use Rattle.link_set.specs.Told.{told_by}
+use Rattle.link_set.specs.Private.Told.{told_by}
 use Rattle.link_set.proofs.tables.Numbers.complexes.Given as goal
 
 -- those of the ones before this one

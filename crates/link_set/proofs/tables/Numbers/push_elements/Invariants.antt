@@ -1,7 +1,7 @@
 use Rattle.std.proofs.Common.{◌≡◌, ◌++◌, map, take}
-use Rattle.link_set.specs.Seen.{elements_of}
+use Rattle.link_set.specs.Private.Seen.{elements_of}
 use Rattle.link_set.specs.Sets.{element}
-use Rattle.link_set.specs.Told.{told_by}
+use Rattle.link_set.specs.Private.Told.{told_by}
 use Rattle.link_set.proofs.tables.Numbers.push_elements.Given as goal
 
 -- those of the ones before this one were put behind

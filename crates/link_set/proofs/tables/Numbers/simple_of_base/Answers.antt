@@ -3,7 +3,7 @@ use Rattle.schema_parts.specs.Seen.{base_of}
 use Rattle.schema_parts.proofs.Seen.{named_base, inner_base}
 use Rattle.link_names.specs.Order.{place}
 use Rattle.link_set.specs.Sets.{simple_of_base, or_zero}
-use Rattle.link_set.specs.Told.{told_by}
+use Rattle.link_set.specs.Private.Told.{told_by}
 use Rattle.link_set.proofs.tables.Numbers.simple_of_base.Goals as goal
 
 pub returns-in-Named : goal.returns-in-Named

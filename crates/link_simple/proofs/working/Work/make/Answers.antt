@@ -1,14 +1,14 @@
 use Rattle.std.proofs.Common.{◌≡◌, ◌<◌, ℕ, true, false, arith, length, set, sym, subst}
 use Rattle.link_cycles.specs.Cycles.{edges}
 use Rattle.link_cycles.specs.Graphs.{IsEdge}
-use Rattle.link_cycles.specs.Searching.{mark}
+use Rattle.link_cycles.specs.Private.Searching.{mark}
 use Rattle.link_cycles.specs.Seen.{definition_of, definitions_of}
 use Rattle.link_cycles.specs.Tables.{told_by}
 use Rattle.link_cycles.proofs.First.{definition_at}
-use Rattle.link_simple.specs.Leaving.{LeftBy}
+use Rattle.link_simple.specs.Private.Leaving.{LeftBy}
 use Rattle.link_simple.specs.Making.{IsLeft}
-use Rattle.link_simple.specs.Parts.{entries_of}
-use Rattle.link_simple.specs.Working.{space_left, fault_left, Stands}
+use Rattle.link_simple.specs.Private.Parts.{entries_of}
+use Rattle.link_simple.specs.Private.Working.{space_left, fault_left, Stands}
 use Rattle.link_simple.proofs.Standing.{stands_next, left_fits, left_sound, left_faults}
 use Rattle.link_simple.proofs.working.Work.make.Goals as goal
 

@@ -1,8 +1,8 @@
 use Rattle.std.proofs.Common.{◌≡◌, false, length, replicate, None, sym, ap, ◌∙◌, subst}
 use Rattle.std.proofs.lemmas.List.{length-map}
 use Rattle.link_cycles.specs.Seen.{definition_of, definitions_of}
-use Rattle.link_simple.specs.Parts.{entries_of}
-use Rattle.link_simple.specs.Working.{Stands}
+use Rattle.link_simple.specs.Private.Parts.{entries_of}
+use Rattle.link_simple.specs.Private.Working.{Stands}
 use Rattle.link_simple.proofs.Standing.{stands_first}
 use Rattle.link_simple.proofs.working.Work.of.Goals as goal
 

@@ -1,5 +1,5 @@
 use Rattle.std.proofs.Common.{set, ap, ◌∙◌}
-use Rattle.link_simple.specs.Parts.{entries_of}
+use Rattle.link_simple.specs.Private.Parts.{entries_of}
 use Rattle.link_simple.proofs.Standing.{entries_set}
 use Rattle.link_simple.proofs.working.Work.put.Goals as goal
 

@@ -1,6 +1,6 @@
 use Rattle.std.proofs.Common.{◌-◌, if◌then◌else◌, sym, ap, ◌∙◌, arith}
 use Rattle.map_subjects.specs.Subjects.{same_subject}
-use Rattle.map_assignments.specs.Placing.{place_of}
+use Rattle.map_assignments.specs.Private.Placing.{place_of}
 use Rattle.map_assignments.proofs.Numbers.{place-next}
 use Rattle.map_assignments.proofs.places.Places.of_entries.Goals as goal
 

@@ -1,7 +1,7 @@
 use Rattle.std.proofs.Common.{◌≡◌, ◌+◌, ◌≤◌, length, drop}
 use Rattle.map_subjects.specs.declared.subjects.Subject.{Subject}
 use Rattle.map_subjects.specs.Subjects.{place_in}
-use Rattle.map_assignments.specs.Placing.{place_of, HasLists}
+use Rattle.map_assignments.specs.Private.Placing.{place_of, HasLists}
 use Rattle.map_assignments.proofs.places.Places.of_entries.Given as goal
 
 abbrev pub decreases-entries : goal.decreases-entries

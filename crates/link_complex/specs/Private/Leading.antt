@@ -2,7 +2,7 @@
 use Rattle.std.specs.Prelude.{◌≡◌, ◌↔◌, IsTrue, Bool, true, false, Option, Some, None, if◌then◌else◌}
 use Rattle.link_names.specs.declared.places.Place.{Place}
 use Rattle.link_names.specs.Order.{is_before}
-use Rattle.link_names.specs.Tables.{lesser, stands_before}
+use Rattle.link_names.specs.Private.Tables.{lesser, stands_before}
 use Rattle.link_complex.specs.ElementTypes.{TypeIdentity, TypedParticle}
 
 -- the place and the type of the first, and the place of the first with another type

@@ -7,8 +7,8 @@ use Rattle.schema_parts.specs.declared.components.ElementDecl.{ElementDecl}
 use Rattle.schema_parts.specs.declared.components.GlobalAttribute.{GlobalAttribute}
 use Rattle.schema_parts.specs.Linked.{IsElement, IsSimpleType, IsAttribute}
 use Rattle.schema_parts.specs.Components.{Set, components, global_elements, names_of_types}
-use Rattle.link_check.specs.Counting.{IsNamedOnce, IsHeldOnce}
-use Rattle.link_check.specs.Levels.{AreShallow}
+use Rattle.link_check.specs.Private.Counting.{IsNamedOnce, IsHeldOnce}
+use Rattle.link_check.specs.Private.Levels.{AreShallow}
 use Rattle.link_check.specs.declared.parts.Parts.{Parts}
 
 abbrev pub set_of : Parts → Set

@@ -6,8 +6,8 @@ use Rattle.doc_text.specs.declared.builder.Builder.{Builder}
 use Rattle.std.specs.List.{flat_map}
 use Rattle.doc_text.specs.Namespaces.{xml_prefix, xml_space, is_qname, is_long, is_unbound, prefix_of}
 use Rattle.doc_text.specs.Contexts.{Open, is_nil, scope, reason}
-use Rattle.doc_text.specs.Entering.{have_utf8}
-use Rattle.doc_text.specs.States.{Above, State, nothing, context, kids_of_state, closed, step}
+use Rattle.doc_text.specs.Private.Entering.{have_utf8}
+use Rattle.doc_text.specs.Private.States.{Above, State, nothing, context, kids_of_state, closed, step}
 
 abbrev pub above_of : Frame → Above
 above_of f = record { written = f.written.now; name = f.name; attributes = f.attributes; declares = f.declares; at = f.at; before = f.before.items }

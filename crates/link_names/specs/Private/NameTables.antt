@@ -2,7 +2,7 @@
 use Rattle.std.specs.Prelude.{◌≡◌}
 use Rattle.xa_base.specs.declared.texts.Name.{Name}
 use Rattle.link_names.specs.declared.name_tables.NameTable.{NameTable}
-use Rattle.link_names.specs.Tables.{holds}
+use Rattle.link_names.specs.Private.Tables.{holds}
 use Rattle.link_names.specs.Resolution.{Names}
 
 abbrev pub told_by : NameTable → Names

@@ -8,7 +8,7 @@ use Rattle.xa_base.specs.Names.{name_cmp}
 use Rattle.schema_parts.specs.Documents.{doc_of}
 use Rattle.schema_parts.specs.declared.documents.RawDoc.{RawDoc}
 use Rattle.link_complex.specs.ElementTypes.{TypeIdentity, BuiltIn, ByName, InPlace, TypedElement, TypedParticle, type_at}
-use Rattle.link_complex.specs.Leading.{Leader}
+use Rattle.link_complex.specs.Private.Leading.{Leader}
 use Rattle.link_complex.specs.declared.identities.TypeIdentity.{TypeIdentity as KeptType}
 use Rattle.link_complex.specs.declared.identities.TypeIdentity.TheVariants as kept
 use Rattle.link_complex.specs.declared.element_types.TypedElement.{TypedElement as KeptElement}

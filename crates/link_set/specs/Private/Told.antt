@@ -8,7 +8,7 @@ use Rattle.xa_base.specs.declared.texts.Name.{Name}
 use Rattle.simple_types.specs.declared.simples.Builtin.{Builtin}
 use Rattle.link_set.specs.Builtins.{rank}
 use Rattle.link_set.specs.Numbers.{Entry, entry, Numbers, TypeNumbers}
-use Rattle.link_set.specs.Seen.{elements_of, attributes_of}
+use Rattle.link_set.specs.Private.Seen.{elements_of, attributes_of}
 use Rattle.link_set.specs.Written.{Lists}
 use Rattle.link_cycles.specs.Seen.{definitions_of as simples_of}
 use Rattle.link_cycles.specs.Tables.{named_in, placed_in}

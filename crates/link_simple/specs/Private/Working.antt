@@ -8,13 +8,13 @@ use Rattle.link_names.specs.declared.faults.Fault.{Fault}
 use Rattle.link_names.specs.Order.{fault, IsFirstSuch}
 use Rattle.link_cycles.specs.Cycles.{numbers_in, edges}
 use Rattle.link_cycles.specs.Graphs.{IsEdge}
-use Rattle.link_cycles.specs.Searching.{mark}
+use Rattle.link_cycles.specs.Private.Searching.{mark}
 use Rattle.link_cycles.specs.SimpleTypes.{SimpleDefinition}
 use Rattle.link_simple.specs.declared.leaving.Left.{Left}
 use Rattle.link_simple.specs.declared.leaving.Left.TheVariants as left
 use Rattle.link_simple.specs.declared.working.Work.{Work}
 use Rattle.link_simple.specs.Making.{entry_at, IsEntry, IsLeft, IsMaking}
-use Rattle.link_simple.specs.Parts.{entries_of}
+use Rattle.link_simple.specs.Private.Parts.{entries_of}
 
 abbrev pub space_left : Left → Option Space
 space_left (left.Made simple) = Some (space_of simple)

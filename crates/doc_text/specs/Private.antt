@@ -1,0 +1,4 @@
+pub mod States
+pub mod Entering
+pub mod Building
+pub mod Scopes

@@ -1,0 +1,3 @@
+pub mod Mentioned
+pub mod NameTables
+pub mod Tables
