@@ -4,7 +4,6 @@ pub mod Parts
 pub mod Placing
 pub mod Refs
 pub mod Roles
-pub mod Samples
 pub mod Simples
 pub mod Telling
 pub mod Values

@@ -20,6 +20,3 @@ pub use items::Items;
 pub use label::{Attributes, Bindings, ItemLabel};
 pub use laws::{document_items, one_answer};
 pub use reader::read_document;
-
-#[cfg(test)]
-mod tests;

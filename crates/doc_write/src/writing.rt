@@ -211,6 +211,3 @@ pub fn write_document(alloc: Global, items: &Items) -> Result<Vec<u8>, Memory>
 {
     write_root(alloc, items.tree().root())
 }
-
-#[cfg(test)]
-mod tests;

@@ -19,6 +19,3 @@ pub use simple_types::{
     ValueLabel, builtin,
 };
 pub use simple_values::{SimpleError, accept, holds, spell};
-
-#[cfg(test)]
-mod tests;

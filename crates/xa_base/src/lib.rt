@@ -21,6 +21,3 @@ pub use sources::{Failed, MemorySource, Source, SureSource};
 pub use steps::Steps;
 pub use texts::{Memory, Name, Text, TextError};
 pub use white_space::{WhiteSpace, first_word, is_treated, treat};
-
-#[cfg(test)]
-mod tests;
