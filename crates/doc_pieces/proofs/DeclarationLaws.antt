@@ -5,8 +5,8 @@ use Rattle.std.specs.Str.{chars}
 use Rattle.std.proofs.Math.Utf8.{encode}
 use Rattle.std.proofs.lemmas.Slice.Eq.{bytes_eq-Decides}
 use Rattle.xa_base.specs.Characters.{is_name_start, is_name_char}
-use Rattle.xa_base.specs.WhiteSpace.{is_white_space}
-use Rattle.doc_pieces.specs.Pieces.{Piece, Declaration, Instruction, behind, is_blank, IsName, IsSpace, IsAssigned, MaybeAssigned, IsInstruction, xml_name, version_name, encoding_name, standalone_name, is_standalone, is_version, is_encoding, IsDeclaration, IsAccepted}
+use Rattle.xa_base.specs.WhiteSpace.{is_white_space, is_blank}
+use Rattle.doc_pieces.specs.Pieces.{Piece, Declaration, Instruction, behind, IsName, IsSpace, IsAssigned, MaybeAssigned, IsInstruction, xml_name, version_name, encoding_name, standalone_name, is_standalone, is_version, is_encoding, IsDeclaration, IsAccepted}
 use Rattle.doc_pieces.specs.Reading.{◌>>=◌, ahead, only, past_blank, space_at, name_at, equals_at, quoted_at, instruction_at, assigned_at, with_some, maybe_assigned_at, declared_at, declaration_at, question_at}
 use Rattle.doc_pieces.proofs.Strips.{behind_again, behind_takes}
 use Rattle.doc_pieces.proofs.Tools.{bind_some, pairs, only_some, and_true, some_is, chosen}

@@ -5,7 +5,8 @@ use Rattle.std.specs.List.{list_all}
 use Rattle.std.specs.Str.{str_eq_ignore_ascii_case}
 use Rattle.std.proofs.lemmas.Slice.Eq.{bytes_eq-Decides}
 use Rattle.xa_base.specs.Characters.{is_name, is_ncname}
-use Rattle.doc_pieces.specs.Pieces.{Piece, Comment, Instruction, CData, behind, is_blank, line_ends, IsName, IsComment, IsCData, IsInstruction, is_apart, xml_name}
+use Rattle.xa_base.specs.WhiteSpace.{is_blank}
+use Rattle.doc_pieces.specs.Pieces.{Piece, Comment, Instruction, CData, behind, line_ends, IsName, IsComment, IsCData, IsInstruction, is_apart, xml_name}
 use Rattle.doc_pieces.specs.Reading.{◌>>=◌, only, until, is_text, is_name_byte, comment_at, cdata_at, is_target, instruction_at, declaration_at, question_at}
 use Rattle.doc_pieces.proofs.Strips.{behind_takes}
 use Rattle.doc_pieces.proofs.Tools.{bind_some, pairs, only_some, and_true, not_true, tells}

@@ -5,8 +5,8 @@ use Rattle.std.specs.List.{prefix_len, list_all}
 use Rattle.std.proofs.lemmas.List.{length-take, take_at, drop_at, take-append-drop}
 use Rattle.std.proofs.lemmas.List.Sums.{prefix_len-le-length}
 use Rattle.std.proofs.lemmas.Bool.{eqb-false, eq-eqb, ne_eqb}
-use Rattle.xa_base.specs.WhiteSpace.{is_white_space}
-use Rattle.doc_pieces.specs.Pieces.{behind, has_byte, is_blank, IsSpace, is_quote}
+use Rattle.xa_base.specs.WhiteSpace.{is_white_space, is_blank}
+use Rattle.doc_pieces.specs.Pieces.{behind, has_byte, IsSpace, is_quote}
 use Rattle.doc_pieces.specs.Reading.{past_blank, space_at, equals_at, upto_at, quoted_at, is_name_byte}
 use Rattle.doc_pieces.proofs.Strips.{behind_takes}
 use Rattle.doc_pieces.proofs.Tools.{bind_some, pairs, chosen, and_true, or_false, not_true, some_is, never, below, implied}

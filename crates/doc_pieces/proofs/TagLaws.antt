@@ -4,8 +4,8 @@ use Rattle.std.specs.Prelude.{◌⊎◌, IsUtf8}
 use Rattle.std.specs.List.{list_all}
 use Rattle.std.proofs.lemmas.Str.{chars-nil}
 use Rattle.xa_base.specs.Characters.{is_name}
-use Rattle.xa_base.specs.WhiteSpace.{is_white_space}
-use Rattle.doc_pieces.specs.Pieces.{Tag, Piece, Start, Empty, End, behind, is_blank, IsName, IsSpace, Manner, IsAssigned, IsAttribute, AreAttributes, IsTag, IsEnd}
+use Rattle.xa_base.specs.WhiteSpace.{is_white_space, is_blank}
+use Rattle.doc_pieces.specs.Pieces.{Tag, Piece, Start, Empty, End, behind, IsName, IsSpace, Manner, IsAssigned, IsAttribute, AreAttributes, IsTag, IsEnd}
 use Rattle.doc_pieces.specs.Reading.{◌>>=◌, before, many, past_blank, space_at, is_name_byte, name_at, equals_at, quoted_at, written_at, value_of, attribute_at, shut_at, tag_of, tag_at, end_at}
 use Rattle.doc_pieces.proofs.Strips.{behind_takes}
 use Rattle.doc_pieces.proofs.Tools.{bind_some, pairs, and_true, ahead_cases}

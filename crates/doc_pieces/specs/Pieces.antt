@@ -1,11 +1,11 @@
 -- The pieces of XML text, by XML 1.0 (fifth edition) and, for the target of an instruction, Namespaces in XML 1.0. A text
 -- is the list of its bytes, a character its code point.
-use Rattle.std.specs.Prelude.{◌≡◌, ◌≢◌, ◌⊎◌, ⊤, ◌==◌, ℕ, ◌<◌, ◌+◌, ◌*◌, nat_lt, Bool, true, false, ◌&&◌, ◌||◌, List, [], ◌∷◌, ◌++◌, length, map, bytes_eq, Option, Some, None, encode_utf8, IsUtf8, chars, if◌then◌else◌}
+use Rattle.std.specs.Prelude.{◌≡◌, ◌≢◌, ◌⊎◌, ⊤, ◌==◌, ℕ, ◌<◌, ◌+◌, ◌*◌, nat_lt, Bool, true, false, ◌&&◌, ◌||◌, List, [], ◌∷◌, ◌++◌, length, map, bytes_eq, codes, Option, Some, None, encode_utf8, IsUtf8, chars, if◌then◌else◌}
 use Rattle.std.specs.List.{list_all, list_any}
 use Rattle.std.specs.Char.{digit_value}
 use Rattle.std.specs.Str.{str_eq_ignore_ascii_case}
 use Rattle.xa_base.specs.Characters.{is_xml_char, is_name, is_ncname}
-use Rattle.xa_base.specs.WhiteSpace.{is_white_space, spaced}
+use Rattle.xa_base.specs.WhiteSpace.{is_white_space, is_blank, spaced}
 
 -- a tag: its Name as written, and each attribute's Name as written with its value, in which references are replaced and
 -- white space is read as section 3.3.3 says
@@ -60,10 +60,6 @@ pub record IsText (text : List ℕ) : Type 0 where
   pub utf8 : IsUtf8 text
   pub each : list_all is_xml_char (chars text) ≡ true
 
--- any white space
-abbrev pub is_blank : List ℕ → Bool
-is_blank text = list_all is_white_space text
-
 -- production [3] S
 pub record IsSpace (text : List ℕ) : Type 0 where
   pub some : 0 < length text
@@ -100,11 +96,11 @@ character_of Quotation = 0x22
 
 -- lt; gt; amp; apos; quot;
 abbrev pub rest_of : Entity → List ℕ
-rest_of Less = 108 ∷ 116 ∷ 59 ∷ []
-rest_of Greater = 103 ∷ 116 ∷ 59 ∷ []
-rest_of Ampersand = 97 ∷ 109 ∷ 112 ∷ 59 ∷ []
-rest_of Apostrophe = 97 ∷ 112 ∷ 111 ∷ 115 ∷ 59 ∷ []
-rest_of Quotation = 113 ∷ 117 ∷ 111 ∷ 116 ∷ 59 ∷ []
+rest_of Less = codes "lt;"
+rest_of Greater = codes "gt;"
+rest_of Ampersand = codes "amp;"
+rest_of Apostrophe = codes "apos;"
+rest_of Quotation = codes "quot;"
 
 abbrev pub is_digit : ℕ → ℕ → Bool
 is_digit base b = nat_lt (digit_value b) base
@@ -121,7 +117,7 @@ pub record IsNumbered (first : List ℕ) (base character : ℕ) (text : List ℕ
   pub each : list_all (is_digit base) digits ≡ true
   pub number_is : character ≡ number base 0 digits
   pub is_char : is_xml_char character ≡ true
-  pub text_is : text ≡ first ++ digits ++ 59 ∷ []
+  pub text_is : text ≡ first ++ digits ++ codes ";"
 
 -- one of the five entities
 pub record IsNamed (character : ℕ) (text : List ℕ) : Type 0 where
@@ -131,7 +127,7 @@ pub record IsNamed (character : ℕ) (text : List ℕ) : Type 0 where
 
 -- production [67] Reference without `&`; of the entities only the five of section 4.6
 abbrev pub IsReference : ℕ → List ℕ → Type 0
-IsReference character text = IsNamed character text ⊎ IsNumbered (35 ∷ []) 10 character text ⊎ IsNumbered (35 ∷ 120 ∷ []) 16 character text
+IsReference character text = IsNamed character text ⊎ IsNumbered (codes "#") 10 character text ⊎ IsNumbered (codes "#x") 16 character text
 
 -- ---- tags
 
@@ -218,7 +214,7 @@ pub record IsEnd (name text : List ℕ) : Type 0 where
   pub space : List ℕ
   pub named : IsName name
   pub blank : is_blank space ≡ true
-  pub text_is : text ≡ name ++ space ++ 62 ∷ []
+  pub text_is : text ≡ name ++ space ++ codes ">"
 
 -- ---- comments, instructions, CDATA
 
@@ -226,8 +222,8 @@ pub record IsEnd (name text : List ℕ) : Type 0 where
 pub record IsComment (text : List ℕ) : Type 0 where
   pub inner : List ℕ
   pub is_text : IsText inner
-  pub apart : has_part (45 ∷ 45 ∷ []) (inner ++ 45 ∷ []) ≡ false
-  pub text_is : text ≡ inner ++ 45 ∷ 45 ∷ 62 ∷ []
+  pub apart : has_part (codes "--") (inner ++ codes "-") ≡ false
+  pub text_is : text ≡ inner ++ codes "-->"
 
 -- nothing, or white space first
 abbrev pub is_apart : List ℕ → Bool
@@ -236,7 +232,7 @@ is_apart (b ∷ bs) = is_white_space b
 
 -- xml
 abbrev pub xml_name : List ℕ
-xml_name = 120 ∷ 109 ∷ 108 ∷ []
+xml_name = codes "xml"
 
 -- production [16] PI without `<?`, whose target is an NCName
 pub record IsInstruction (text : List ℕ) : Type 0 where
@@ -247,16 +243,16 @@ pub record IsInstruction (text : List ℕ) : Type 0 where
   pub not_xml : str_eq_ignore_ascii_case target xml_name ≡ false
   pub spaces : is_apart inner ≡ true
   pub is_text : IsText inner
-  pub apart : has_part (63 ∷ 62 ∷ []) inner ≡ false
-  pub text_is : text ≡ target ++ inner ++ 63 ∷ 62 ∷ []
+  pub apart : has_part (codes "?>") inner ≡ false
+  pub text_is : text ≡ target ++ inner ++ codes "?>"
 
 -- productions [18] CDSect to [21] without `<![CDATA[`
 pub record IsCData (value text : List ℕ) : Type 0 where
   pub inner : List ℕ
   pub is_text : IsText inner
-  pub apart : has_part (93 ∷ 93 ∷ 62 ∷ []) inner ≡ false
+  pub apart : has_part (codes "]]>") inner ≡ false
   pub value_is : value ≡ line_ends inner
-  pub text_is : text ≡ inner ++ 93 ∷ 93 ∷ 62 ∷ []
+  pub text_is : text ≡ inner ++ codes "]]>"
 
 -- ---- the declaration
 
@@ -266,17 +262,17 @@ MaybeAssigned name None text = text ≡ []
 MaybeAssigned name (Some written) text = IsAssigned name written text
 
 abbrev pub version_name : List ℕ
-version_name = 118 ∷ 101 ∷ 114 ∷ 115 ∷ 105 ∷ 111 ∷ 110 ∷ []
+version_name = codes "version"
 
 abbrev pub encoding_name : List ℕ
-encoding_name = 101 ∷ 110 ∷ 99 ∷ 111 ∷ 100 ∷ 105 ∷ 110 ∷ 103 ∷ []
+encoding_name = codes "encoding"
 
 abbrev pub standalone_name : List ℕ
-standalone_name = 115 ∷ 116 ∷ 97 ∷ 110 ∷ 100 ∷ 97 ∷ 108 ∷ 111 ∷ 110 ∷ 101 ∷ []
+standalone_name = codes "standalone"
 
 -- yes or no
 abbrev pub is_standalone_word : List ℕ → Bool
-is_standalone_word written = bytes_eq written (121 ∷ 101 ∷ 115 ∷ []) || bytes_eq written (110 ∷ 111 ∷ [])
+is_standalone_word written = bytes_eq written (codes "yes") || bytes_eq written (codes "no")
 
 abbrev pub is_standalone : Option (List ℕ) → Bool
 is_standalone None = true
@@ -284,11 +280,11 @@ is_standalone (Some written) = is_standalone_word written
 
 -- 1.0
 abbrev pub is_version : List ℕ → Bool
-is_version written = bytes_eq written (49 ∷ 46 ∷ 48 ∷ [])
+is_version written = bytes_eq written (codes "1.0")
 
 -- UTF-8 or US-ASCII in any case
 abbrev pub is_encoding_name : List ℕ → Bool
-is_encoding_name written = str_eq_ignore_ascii_case written (117 ∷ 116 ∷ 102 ∷ 45 ∷ 56 ∷ []) || str_eq_ignore_ascii_case written (117 ∷ 115 ∷ 45 ∷ 97 ∷ 115 ∷ 99 ∷ 105 ∷ 105 ∷ [])
+is_encoding_name written = str_eq_ignore_ascii_case written (codes "utf-8") || str_eq_ignore_ascii_case written (codes "us-ascii")
 
 abbrev pub is_encoding : Option (List ℕ) → Bool
 is_encoding None = true
@@ -306,7 +302,7 @@ pub record IsDeclaration (version : List ℕ) (encoding : Option (List ℕ)) (te
   pub alone : MaybeAssigned standalone_name standalone standalone_text
   pub accepted : is_standalone standalone ≡ true
   pub blank : is_blank space ≡ true
-  pub text_is : text ≡ version_text ++ encoding_text ++ standalone_text ++ space ++ 63 ∷ 62 ∷ []
+  pub text_is : text ≡ version_text ++ encoding_text ++ standalone_text ++ space ++ codes "?>"
 
 -- the same, with a version and an encoding that are accepted
 pub record IsAccepted (text : List ℕ) : Type 0 where
@@ -329,14 +325,14 @@ IsCharacter c text =
 
 -- a piece has this text
 abbrev pub Form : Piece → List ℕ → Type 0
-Form Declaration text = (inner : List ℕ) × IsAccepted inner × (text ≡ 60 ∷ 63 ∷ 120 ∷ 109 ∷ 108 ∷ inner)
-Form (Start tag) text = (inner : List ℕ) × IsTag Exact (62 ∷ []) tag inner × (text ≡ 60 ∷ inner)
-Form (Empty tag) text = (inner : List ℕ) × IsTag Exact (47 ∷ 62 ∷ []) tag inner × (text ≡ 60 ∷ inner)
-Form (End name) text = (inner : List ℕ) × IsEnd name inner × (text ≡ 60 ∷ 47 ∷ inner)
-Form Comment text = (inner : List ℕ) × IsComment inner × (text ≡ 60 ∷ 33 ∷ 45 ∷ 45 ∷ inner)
-Form Instruction text = (inner : List ℕ) × IsInstruction inner × (text ≡ 60 ∷ 63 ∷ inner)
-Form (CData value) text = (inner : List ℕ) × IsCData value inner × (text ≡ 60 ∷ 33 ∷ 91 ∷ 67 ∷ 68 ∷ 65 ∷ 84 ∷ 65 ∷ 91 ∷ inner)
-Form (Reference c) text = (inner : List ℕ) × IsReference c inner × (text ≡ 38 ∷ inner)
+Form Declaration text = (inner : List ℕ) × IsAccepted inner × (text ≡ codes "<?xml" ++ inner)
+Form (Start tag) text = (inner : List ℕ) × IsTag Exact (codes ">") tag inner × (text ≡ codes "<" ++ inner)
+Form (Empty tag) text = (inner : List ℕ) × IsTag Exact (codes "/>") tag inner × (text ≡ codes "<" ++ inner)
+Form (End name) text = (inner : List ℕ) × IsEnd name inner × (text ≡ codes "</" ++ inner)
+Form Comment text = (inner : List ℕ) × IsComment inner × (text ≡ codes "<!--" ++ inner)
+Form Instruction text = (inner : List ℕ) × IsInstruction inner × (text ≡ codes "<?" ++ inner)
+Form (CData value) text = (inner : List ℕ) × IsCData value inner × (text ≡ codes "<![CDATA[" ++ inner)
+Form (Reference c) text = (inner : List ℕ) × IsReference c inner × (text ≡ codes "&" ++ inner)
 Form (Character c) text = IsCharacter c text
 
 -- a piece stands at the front of the bytes, and the rest is behind it; a lone CR stands before no LF
@@ -353,12 +349,12 @@ NoPieceAt bytes = (p : Piece) (rest : List ℕ) → Begins p bytes rest → ⊥
 
 -- `<!DOCTYPE` stands here
 abbrev pub IsDoctype : List ℕ → Type 0
-IsDoctype bytes = (rest : List ℕ) × (bytes ≡ 60 ∷ 33 ∷ 68 ∷ 79 ∷ 67 ∷ 84 ∷ 89 ∷ 80 ∷ 69 ∷ rest)
+IsDoctype bytes = (rest : List ℕ) × (bytes ≡ codes "<!DOCTYPE" ++ rest)
 
 -- a declaration, if any texts could stand as its version and its encoding, begins here with these
 abbrev pub WouldBeDeclaration : List ℕ → List ℕ → Option (List ℕ) → Type 0
-WouldBeDeclaration bytes version encoding = (inner rest : List ℕ) × IsDeclaration version encoding inner × (bytes ≡ 60 ∷ 63 ∷ 120 ∷ 109 ∷ 108 ∷ inner ++ rest)
+WouldBeDeclaration bytes version encoding = (inner rest : List ℕ) × IsDeclaration version encoding inner × (bytes ≡ codes "<?xml" ++ inner ++ rest)
 
 -- a start or empty tag, if each `&` within its values were a plain character, begins here
 abbrev pub WouldBeTag : List ℕ → Type 0
-WouldBeTag bytes = (shut : List ℕ) × (tag : Tag) × (inner rest : List ℕ) × ((shut ≡ 62 ∷ []) ⊎ (shut ≡ 47 ∷ 62 ∷ [])) × IsTag Loose shut tag inner × (bytes ≡ 60 ∷ inner ++ rest)
+WouldBeTag bytes = (shut : List ℕ) × (tag : Tag) × (inner rest : List ℕ) × ((shut ≡ codes ">") ⊎ (shut ≡ codes "/>")) × IsTag Loose shut tag inner × (bytes ≡ codes "<" ++ inner ++ rest)

@@ -1,5 +1,5 @@
 -- Reading the piece at the front of the bytes.
-use Rattle.std.specs.Prelude.{◌≡◌, ◌==◌, ◌&&◌, ◌||◌, not, ℕ, zero, suc, nat_le, nat_lt, Bool, true, false, List, [], ◌∷◌, ◌++◌, length, take, drop, Option, Some, None, option_and_then, encode_utf8, chars, bytes_eq, if◌then◌else◌}
+use Rattle.std.specs.Prelude.{◌≡◌, ◌==◌, ◌&&◌, ◌||◌, not, ℕ, zero, suc, nat_le, nat_lt, Bool, true, false, List, [], ◌∷◌, ◌++◌, length, take, drop, Option, Some, None, option_and_then, encode_utf8, chars, bytes_eq, codes, if◌then◌else◌}
 use Rattle.std.specs.List.{prefix_len, list_all}
 use Rattle.std.specs.Str.{str_eq_ignore_ascii_case}
 use Rattle.xa_base.specs.Characters.{is_xml_char, is_name, is_ncname}
@@ -86,7 +86,7 @@ space_at bytes = if prefix_len is_white_space bytes == 0 then None else Some (pa
 
 -- = with white space round it
 unfoldable pub equals_at : List ℕ → Option (List ℕ)
-equals_at bytes = behind (61 ∷ []) (past_blank bytes) >>= λ rest. Some (past_blank rest)
+equals_at bytes = behind (codes "=") (past_blank bytes) >>= λ rest. Some (past_blank rest)
 
 -- up to this byte, and behind it
 unfoldable pub upto_at : ℕ → List ℕ → Option (List ℕ × List ℕ)
@@ -110,12 +110,12 @@ unfoldable pub numbered_at : ℕ → List ℕ → Option (ℕ × List ℕ)
 numbered_at base bytes =
     let n = prefix_len (is_digit base) bytes in
     let c = number base 0 (take n bytes) in
-    only (not (n == 0) && is_xml_char c) (behind (59 ∷ []) (drop n bytes) >>= λ rest. Some (c, rest))
+    only (not (n == 0) && is_xml_char c) (behind (codes ";") (drop n bytes) >>= λ rest. Some (c, rest))
 
 unfoldable pub reference_at : List ℕ → Option (ℕ × List ℕ)
 reference_at bytes =
-    ahead (behind (35 ∷ 120 ∷ []) bytes)
-    (ahead (behind (35 ∷ []) bytes) (named_at bytes) (numbered_at 10))
+    ahead (behind (codes "#x") bytes)
+    (ahead (behind (codes "#") bytes) (named_at bytes) (numbered_at 10))
     (numbered_at 16)
 
 -- ---- tags, behind < or </
@@ -127,7 +127,7 @@ run_len bytes = prefix_len (λ b. not (b == 0x26)) bytes
 -- the value of a reference and the run behind it
 unfoldable pub mention_at : List ℕ → Option (List ℕ × List ℕ)
 mention_at bytes = do
-  inner ← behind (0x26 ∷ []) bytes
+  inner ← behind (codes "&") bytes
   c ← reference_at inner
   Some (encode_utf8 c.0 ++ spaced_ends (take (run_len c.1) c.1), drop (run_len c.1) c.1)
 
@@ -173,8 +173,8 @@ attribute_at manner bytes = do
 -- > or />
 unfoldable pub shut_at : Tag → List ℕ → Option (Piece × List ℕ)
 shut_at tag bytes =
-    ahead (behind (62 ∷ []) bytes)
-    (behind (47 ∷ 62 ∷ []) bytes >>= λ rest. Some (Empty tag, rest))
+    ahead (behind (codes ">") bytes)
+    (behind (codes "/>") bytes >>= λ rest. Some (Empty tag, rest))
     (λ rest. Some (Start tag, rest))
 
 abbrev pub tag_of : List ℕ → List (List ℕ × List ℕ) → Tag
@@ -189,20 +189,20 @@ tag_at manner bytes =
 unfoldable pub end_at : List ℕ → Option (Piece × List ℕ)
 end_at bytes = do
   name ← name_at bytes
-  rest ← behind (62 ∷ []) (past_blank name.1)
+  rest ← behind (codes ">") (past_blank name.1)
   Some (End name.0, rest)
 
 -- ---- comments, CDATA, instructions
 
 unfoldable pub comment_at : List ℕ → Option (Piece × List ℕ)
 comment_at bytes = do
-  inner ← until (45 ∷ 45 ∷ []) bytes
-  rest ← behind (62 ∷ []) inner.1
+  inner ← until (codes "--") bytes
+  rest ← behind (codes ">") inner.1
   only (is_text inner.0) (Some (Comment, rest))
 
 unfoldable pub cdata_at : List ℕ → Option (Piece × List ℕ)
 cdata_at bytes = do
-  inner ← until (93 ∷ 93 ∷ 62 ∷ []) bytes
+  inner ← until (codes "]]>") bytes
   only (is_text inner.0) (Some (CData (line_ends inner.0), inner.1))
 
 abbrev pub is_target : List ℕ → Bool
@@ -211,7 +211,7 @@ is_target target = is_ncname (chars target) && not (str_eq_ignore_ascii_case tar
 -- behind the target of an instruction
 unfoldable pub instruction_at : List ℕ → List ℕ → Option (Piece × List ℕ)
 instruction_at target bytes = do
-  inner ← until (63 ∷ 62 ∷ []) bytes
+  inner ← until (codes "?>") bytes
   only (is_target target && (is_apart inner.0 && is_text inner.0)) (Some (Instruction, inner.1))
 
 -- ---- the declaration, behind <?xml
@@ -235,7 +235,7 @@ declared_at bytes =
     assigned_at version_name bytes >>= λ version.
     let encoding = maybe_assigned_at encoding_name version.1 in
     let standalone = maybe_assigned_at standalone_name encoding.1 in
-    only (is_standalone standalone.0) (behind (63 ∷ 62 ∷ []) (past_blank standalone.1) >>= λ rest. Some (version.0, encoding.0, rest))
+    only (is_standalone standalone.0) (behind (codes "?>") (past_blank standalone.1) >>= λ rest. Some (version.0, encoding.0, rest))
 
 unfoldable pub declaration_at : List ℕ → Option (Piece × List ℕ)
 declaration_at bytes = declared_at bytes >>= λ d. only (is_version d.0 && is_encoding d.1) (Some (Declaration, d.2))
@@ -265,16 +265,16 @@ character_at bytes = ahead (behind (0xD ∷ []) bytes) (char_at bytes >>= λ c. 
 -- behind <
 unfoldable pub markup_at : List ℕ → Option (Piece × List ℕ)
 markup_at bytes =
-    ahead (behind (33 ∷ 45 ∷ 45 ∷ []) bytes)
-    (ahead (behind (33 ∷ 91 ∷ 67 ∷ 68 ∷ 65 ∷ 84 ∷ 65 ∷ 91 ∷ []) bytes)
-    (ahead (behind (63 ∷ []) bytes)
-    (ahead (behind (47 ∷ []) bytes) (tag_at Exact bytes) end_at)
+    ahead (behind (codes "!--") bytes)
+    (ahead (behind (codes "![CDATA[") bytes)
+    (ahead (behind (codes "?") bytes)
+    (ahead (behind (codes "/") bytes) (tag_at Exact bytes) end_at)
     question_at)
     cdata_at)
     comment_at
 
 unfoldable pub piece_at : List ℕ → Option (Piece × List ℕ)
 piece_at bytes =
-    ahead (behind (60 ∷ []) bytes)
-    (ahead (behind (38 ∷ []) bytes) (character_at bytes) (λ rest. reference_at rest >>= λ c. Some (Reference c.0, c.1)))
+    ahead (behind (codes "<") bytes)
+    (ahead (behind (codes "&") bytes) (character_at bytes) (λ rest. reference_at rest >>= λ c. Some (Reference c.0, c.1)))
     markup_at

@@ -1,5 +1,5 @@
 -- Why no piece begins: the first reason that holds, and runs of characters that need no look.
-use Rattle.std.specs.Prelude.{◌≡◌, ◌⊎◌, ℕ, ◌==◌, ◌||◌, ◌&&◌, not, nat_le, Bool, true, false, List, [], ◌∷◌, Option, IsUtf8, chars, if◌then◌else◌}
+use Rattle.std.specs.Prelude.{◌≡◌, ◌⊎◌, ℕ, ◌==◌, ◌||◌, ◌&&◌, not, nat_le, Bool, true, false, List, [], ◌∷◌, ◌++◌, codes, Option, IsUtf8, chars, if◌then◌else◌}
 use Rattle.std.specs.List.{list_all}
 use Rattle.xa_base.specs.Characters.{is_xml_char}
 use Rattle.doc_pieces.specs.declared.reason.NoneWhy.{NoneWhy}
@@ -17,7 +17,7 @@ IsBadEncoding is_first bytes = (is_first ≡ true) × (version : List ℕ) × (e
 
 -- `&` stands here, or a tag would begin if each `&` within its values were a plain character
 abbrev pub IsBadReference : List ℕ → Type 0
-IsBadReference bytes = ((rest : List ℕ) × (bytes ≡ 38 ∷ rest)) ⊎ WouldBeTag bytes
+IsBadReference bytes = ((rest : List ℕ) × (bytes ≡ codes "&" ++ rest)) ⊎ WouldBeTag bytes
 
 -- the first reason that holds, in this order, where no piece begins
 abbrev pub NoneReason : Bool → List ℕ → NoneWhy → Type 0
@@ -30,20 +30,20 @@ NoneReason is_first bytes why.NoPiece = (IsDoctype bytes → ⊥) × (IsBadVersi
 -- ---- the same, read from the bytes
 
 abbrev pub declared_in : List ℕ → Option (List ℕ × Option (List ℕ) × List ℕ)
-declared_in bytes = behind (60 ∷ 63 ∷ 120 ∷ 109 ∷ 108 ∷ []) bytes >>= declared_at
+declared_in bytes = behind (codes "<?xml") bytes >>= declared_at
 
 abbrev pub loose_tag_in : List ℕ → Option (Piece × List ℕ)
-loose_tag_in bytes = behind (60 ∷ []) bytes >>= tag_at Loose
+loose_tag_in bytes = behind (codes "<") bytes >>= tag_at Loose
 
 unfoldable pub reference_why : List ℕ → NoneWhy
-reference_why bytes = ahead (behind (38 ∷ []) bytes) (ahead (loose_tag_in bytes) why.NoPiece (λ r. why.BadReference)) (λ r. why.BadReference)
+reference_why bytes = ahead (behind (codes "&") bytes) (ahead (loose_tag_in bytes) why.NoPiece (λ r. why.BadReference)) (λ r. why.BadReference)
 
 unfoldable pub declared_why : Bool → List ℕ → NoneWhy
 declared_why false bytes = reference_why bytes
 declared_why true bytes = ahead (declared_in bytes) (reference_why bytes) (λ d. if is_version d.0 then (if is_encoding d.1 then reference_why bytes else why.Encoding) else why.Version)
 
 unfoldable pub why_at : Bool → List ℕ → NoneWhy
-why_at is_first bytes = ahead (behind (60 ∷ 33 ∷ 68 ∷ 79 ∷ 67 ∷ 84 ∷ 89 ∷ 80 ∷ 69 ∷ []) bytes) (declared_why is_first bytes) (λ r. why.Doctype)
+why_at is_first bytes = ahead (behind (codes "<!DOCTYPE") bytes) (declared_why is_first bytes) (λ r. why.Doctype)
 
 -- ---- plain characters
 

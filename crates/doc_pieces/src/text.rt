@@ -8,7 +8,7 @@ ghost use Rattle.doc_pieces.specs.Pieces.{behind, has_byte, is_quote, version_na
 ghost use Rattle.doc_pieces.specs.Reading as reading;
 ghost use Rattle.doc_pieces.specs.Reading.{Gives, past_blank, space_at, equals_at, upto_at, quoted_at, name_at};
 
-use xa_base::{is_name_text, is_xml_char};
+use xa_base::{is_name_text, is_white_space, is_xml_char};
 
 /// The text that these bytes spell.
 pub fn text_of(bytes: &[u8]) -> &str
@@ -38,12 +38,6 @@ pub fn until<'a>(mark: &[u8], bytes: &'a [u8]) -> Option<(&'a [u8], &'a [u8])>
         at += 1;
     }
     None
-}
-
-fn is_white_space(b: u8) -> bool
-    ensures { result ≡ white.is_white_space b }
-{
-    matches!(b, b' ' | b'\t' | b'\n' | b'\r')
 }
 
 fn blank_len(bytes: &[u8]) -> usize

@@ -4,6 +4,8 @@ use Rattle.std.specs.Prelude.{nat_eq, nat_le, not, ◌==◌, ◌&&◌, encode_ut
 use Rattle.std.specs.List.{flat_map}
 use Rattle.std.proofs.lemmas.List.{length-append, length-map, length-reverse, reverse-append, reverse-reverse, take-append-le, take_all}
 use Rattle.std.proofs.lemmas.Bool.Decides.{eqb_tells}
+use Rattle.xa_base.specs.Namespaces.{xml_prefix, xml_space}
+use Rattle.xa_base.specs.WhiteSpace.{is_white_space}
 use Rattle.label_tree.specs.Rose.{Rose, node, roses_of}
 use Rattle.doc_pieces.specs.Pieces.{Tag, Declaration, Start, Empty, End, Comment, Instruction, CData, Reference, Character}
 use Rattle.xa_base.specs.declared.texts.Name.{Name}
@@ -14,8 +16,8 @@ use Rattle.doc_text.specs.declared.builder.Builder.{Builder}
 use Rattle.doc_text.specs.declared.tags.Head.{Head}
 use Rattle.doc_text.specs.declared.error.DocWhy.{DocWhy}
 use Rattle.doc_text.specs.declared.error.DocWhy.TheVariants as why
-use Rattle.doc_text.specs.Namespaces.{xml_prefix, xml_space, bindings_of, attributes_of, element_name}
-use Rattle.doc_text.specs.Contexts.{Context, Open, is_nil, is_innermost, is_outside, is_white, brackets_after, scope, tag_scope, start_reason, reason, first_true, end_tests}
+use Rattle.doc_text.specs.Namespaces.{bindings_of, attributes_of, element_name}
+use Rattle.doc_text.specs.Contexts.{Context, Open, is_nil, is_innermost, is_outside, brackets_after, scope, tag_scope, start_reason, reason, first_true, end_tests}
 use Rattle.doc_text.specs.Private.States.{Above, State, open_of, context, kids_of_state, entering, element_of, opened, emptied, closed, passed, added}
 use Rattle.doc_text.specs.Private.Entering.{Enters}
 use Rattle.doc_text.specs.Private.Building.{above_of, state, IsNamed, AreNamed, Scoped, Takes, Flushed, Shuts}
@@ -250,7 +252,7 @@ pub reference_takes : (old new : Builder) (code at : ℕ) → Scoped old → fir
 reference_takes old new code at scoped none steps same = record { none = reference_stops old code ∙ none; steps = steps; scoped = rescoped old new (added (encode_utf8 code) at 0 (state old)) scoped steps same (kept_open (encode_utf8 code) at 0 (state old)) }
 
 abbrev pub character_tests : Builder → ℕ → List (Bool × DocWhy)
-character_tests b code = (code == 0x3E && nat_le 2 b.brackets, why.NoPiece) ∷ (is_outside (context (state b)) && not (is_white code), why.TextOutside) ∷ []
+character_tests b code = (code == 0x3E && nat_le 2 b.brackets, why.NoPiece) ∷ (is_outside (context (state b)) && not (is_white_space code), why.TextOutside) ∷ []
 
 pub character_stops : (b : Builder) (code : ℕ) → reason (Character code) (context (state b)) ≡ first_true (character_tests b code)
 unfolding reason

@@ -8,8 +8,8 @@ use Rattle.std.proofs.lemmas.Slice.Eq.{bytes_eq-Decides}
 use Rattle.std.proofs.lemmas.Map.Text.{btree_map_updates_str}
 use Rattle.std.proofs.Math.ListN.{get_or-append}
 use Rattle.std.proofs.Math.Seq.{get_or-append_seam}
+use Rattle.xa_base.specs.Entries.{beside}
 use Rattle.doc_text.specs.declared.scope.Binding.{Binding}
-use Rattle.doc_text.specs.Namespaces.{space_of}
 use Rattle.doc_text.specs.Private.Scopes.{bound, place_of, Hides, Indexed}
 
 abbrev pub place_in : BTreeMap (Bor (List ℕ)) ℕ → List ℕ → Option ℕ
@@ -39,7 +39,7 @@ within prefix (b ∷ outer) i e = within_or (bytes_eq b.prefix.now prefix) prefi
 
 -- the binding at a place has the namespace of the prefix
 abbrev Stands : List ℕ → List Binding → ℕ → Binding → Type 0
-Stands prefix bs i d = space_of prefix (map bound bs) ≡ Some (get_or (reverse bs) i d).space
+Stands prefix bs i d = beside prefix (map bound bs) ≡ Some (get_or (reverse bs) i d).space
 
 at_front : (prefix : List ℕ) (b : Binding) (outer : List Binding) (i : ℕ) (d : Binding) → bytes_eq b.prefix.now prefix ≡ true → i ≡ length outer → Stands prefix (b ∷ outer) i d
 at_front prefix b outer i d e is =
@@ -64,9 +64,9 @@ none_or : (t : Bool) (n : ℕ) (s : List ℕ) (o : Option ℕ) (p : Option (List
 none_or true n s o p h e = absurd cc
 none_or false n s o p h e = h e
 
-missing : (prefix : List ℕ) (bs : List Binding) → place_of prefix bs ≡ None → space_of prefix (map bound bs) ≡ None
+missing : (prefix : List ℕ) (bs : List Binding) → place_of prefix bs ≡ None → beside prefix (map bound bs) ≡ None
 missing prefix [] e = refl
-missing prefix (b ∷ outer) e = none_or (bytes_eq b.prefix.now prefix) (length outer) b.space (place_of prefix outer) (space_of prefix (map bound outer)) (missing prefix outer) e
+missing prefix (b ∷ outer) e = none_or (bytes_eq b.prefix.now prefix) (length outer) b.space (place_of prefix outer) (beside prefix (map bound outer)) (missing prefix outer) e
 
 map-end : (xs : List Binding) (b : Binding) → map bound (xs ++ b ∷ []) ≡ map bound xs ++ bound b ∷ []
 map-end [] b = refl
@@ -81,13 +81,13 @@ map-turned (b ∷ bs) =
 pub found_within : (prefix : List ℕ) (bs : List Binding) (m : BTreeMap (Bor (List ℕ)) ℕ) (i : ℕ) → Indexed bs m → place_in m prefix ≡ Some i → i < length bs
 found_within prefix bs m i indexed e = omega (arith, within prefix (reverse bs) i (sym (indexed.found prefix) ∙ e), length-reverse bs)
 
-pub found_space : (prefix : List ℕ) (bs : List Binding) (m : BTreeMap (Bor (List ℕ)) ℕ) (i : ℕ) (x : Binding) → Indexed bs m → place_in m prefix ≡ Some i → x ≡ get_or bs i x → Some x.space ≡ space_of prefix (reverse (map bound bs))
+pub found_space : (prefix : List ℕ) (bs : List Binding) (m : BTreeMap (Bor (List ℕ)) ℕ) (i : ℕ) (x : Binding) → Indexed bs m → place_in m prefix ≡ Some i → x ≡ get_or bs i x → Some x.space ≡ beside prefix (reverse (map bound bs))
 found_space prefix bs m i x indexed e is =
     let here : Some x.space ≡ Some (get_or (reverse (reverse bs)) i x).space = rw (reverse-reverse bs) (ap (λ (b : Binding). Some b.space) is) in
-    here ∙ sym (stands prefix (reverse bs) i x (sym (indexed.found prefix) ∙ e)) ∙ ap (space_of prefix) (sym (map-turned bs))
+    here ∙ sym (stands prefix (reverse bs) i x (sym (indexed.found prefix) ∙ e)) ∙ ap (beside prefix) (sym (map-turned bs))
 
-pub not_found : (prefix : List ℕ) (bs : List Binding) (m : BTreeMap (Bor (List ℕ)) ℕ) → Indexed bs m → place_in m prefix ≡ None → None ≡ space_of prefix (reverse (map bound bs))
-not_found prefix bs m indexed e = sym (missing prefix (reverse bs) (sym (indexed.found prefix) ∙ e)) ∙ ap (space_of prefix) (sym (map-turned bs))
+pub not_found : (prefix : List ℕ) (bs : List Binding) (m : BTreeMap (Bor (List ℕ)) ℕ) → Indexed bs m → place_in m prefix ≡ None → None ≡ beside prefix (reverse (map bound bs))
+not_found prefix bs m indexed e = sym (missing prefix (reverse bs) (sym (indexed.found prefix) ∙ e)) ∙ ap (beside prefix) (sym (map-turned bs))
 
 -- ---- entered
 

@@ -1,12 +1,12 @@
 -- What is known of pieces, from the crate of pieces.
 use Rattle.std.proofs.Common.{◌≡◌, ℕ, true, List, [], ◌∷◌, refl, sym, ap, ◌∙◌}
 use Rattle.std.specs.Prelude.{IsUtf8, encode_utf8}
+use Rattle.xa_base.specs.Limits.{has_xml_chars}
 use Rattle.doc_pieces.specs.Pieces.{IsText, Piece, Declaration, Start, Empty, End, Comment, Instruction, CData, Reference, Character, Begins}
 use Rattle.doc_pieces.proofs.PieceLaws.{piece_takes, piece_again}
 use Rattle.doc_pieces.proofs.Facts.{begins_utf8, form_some, reference_xml, character_xml}
 use Rattle.doc_pieces.proofs.Fine.{AreFine, attributes_fine, cdata_fine}
 use Rattle.xa_base.specs.Characters.{is_xml_char}
-use Rattle.doc_text.specs.Sound.{has_xml_chars}
 use Rattle.doc_text.proofs.Keeping.{IsFine, fine_chars}
 use Rattle.doc_text.proofs.Soundness.{Each}
 use Rattle.doc_pieces.proofs.ReasonLaws.{none_reason_one, none_reason_some}

@@ -5,10 +5,10 @@ use Rattle.std.specs.List.{list_all}
 use Rattle.std.proofs.lemmas.List.{append-nil, take-append-drop, length-take-le}
 use Rattle.std.proofs.lemmas.Str.{encodes-chars, length-le-encodes}
 use Rattle.xa_base.specs.Characters.{is_xml_char}
+use Rattle.xa_base.specs.Limits.{is_empty}
 use Rattle.doc_pieces.specs.Pieces.{Character, Begins}
 use Rattle.doc_pieces.specs.Reasons.{is_plain, IsPlainRun}
 use Rattle.doc_pieces.proofs.PlainLaws.{plain_piece}
-use Rattle.doc_text.specs.Sound.{is_empty}
 use Rattle.doc_text.specs.Contexts.{is_nil, reason, brackets_after}
 use Rattle.doc_text.specs.Private.States.{State, context, open_of, added}
 use Rattle.doc_text.proofs.Keeping.{and_parts}

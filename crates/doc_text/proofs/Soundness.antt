@@ -8,10 +8,13 @@ use Rattle.std.proofs.lemmas.Slice.Eq.{bytes_eq-Decides}
 use Rattle.std.proofs.Math.Utf8.{encode}
 use Rattle.xa_base.specs.Characters.{is_xml_char, is_name_start, is_name_char}
 use Rattle.xa_base.specs.declared.texts.Name.{Name}
+use Rattle.xa_base.specs.Namespaces.{xmlns_space, xml_prefix, xml_space, xmlns_prefix}
+use Rattle.xa_base.specs.Limits.{is_empty, has_xml_chars, spells_ncname, is_name_part, is_xmlns}
+use Rattle.xa_base.specs.Entries.{beside}
 use Rattle.doc_pieces.specs.Pieces.{Tag}
 use Rattle.doc_text.specs.declared.label.ItemLabel.TheVariants.{Element}
-use Rattle.doc_text.specs.Sound.{xmlns_space, is_empty, has_xml_chars, is_sound_space, spells_ncname, is_sound_part, is_sound_name, is_xmlns, is_sound_attribute, has_name, are_sound_attributes, is_sound_binding, is_sound_label}
-use Rattle.doc_text.specs.Namespaces.{xml_prefix, xml_space, xmlns_prefix, has_colon, prefix_of, local_of, is_qname, is_long, binds, bound_prefix, bindings_of, plain_of, is_reserved, space_of, is_unbound, or_absent, element_name, attribute_name, attributes_of, expanded_twice}
+use Rattle.doc_text.specs.Sound.{is_sound_space, is_sound_name, is_sound_attribute, has_name, are_sound_attributes, is_sound_binding, is_sound_label}
+use Rattle.doc_text.specs.Namespaces.{has_colon, prefix_of, local_of, is_qname, is_long, binds, bound_prefix, bindings_of, plain_of, is_reserved, is_unbound, or_absent, element_name, attribute_name, attributes_of, expanded_twice}
 use Rattle.doc_text.specs.Contexts.{tag_scope, start_tests}
 use Rattle.doc_text.specs.Private.States.{Above, open_of}
 use Rattle.doc_text.proofs.Telling.{Passed}
@@ -84,7 +87,7 @@ all-append p (x ∷ xs) ys e f = let h = and_parts (p x) (list_all p xs) e in an
 
 -- ---- names
 
-part_sound : (w : List ℕ) → is_qname w ≡ true → is_long w ≡ false → is_sound_part (local_of w) ≡ true
+part_sound : (w : List ℕ) → is_qname w ≡ true → is_long w ≡ false → is_name_part (local_of w) ≡ true
 unfolding is_qname is_long
 part_sound w q l =
     let spelled = (and_parts _ (spells_ncname (local_of w)) q).1 in
@@ -103,19 +106,19 @@ binding_gives b prefix sound e =
     let parts = and_parts _ (is_sound_space b.1) sound in (
       parts.1,
       λ some. (let empty : is_empty b.0 ≡ false = ap is_empty (same_bytes b.0 prefix e) ∙ some in
-          let right : (is_sound_part b.0 && not (is_empty b.1)) ≡ true = rw empty at parts.0 in
-          not_true (is_empty b.1) (and_parts (is_sound_part b.0) (not (is_empty b.1)) right).1),
+          let right : (is_name_part b.0 && not (is_empty b.1)) ≡ true = rw empty at parts.0 in
+          not_true (is_empty b.1) (and_parts (is_name_part b.0) (not (is_empty b.1)) right).1),
     )
 
 found_or : (prefix : List ℕ) (b : Bool) (space : List ℕ) (other : Option (List ℕ)) → (b ≡ true → Found prefix (Some space)) → Found prefix other → Found prefix (cond b (Some space) other)
 found_or prefix true space other f g = f refl
 found_or prefix false space other f g = g
 
-found_sound : (prefix : List ℕ) (bs : List (List ℕ × List ℕ)) → list_all is_sound_binding bs ≡ true → Found prefix (space_of prefix bs)
+found_sound : (prefix : List ℕ) (bs : List (List ℕ × List ℕ)) → list_all is_sound_binding bs ≡ true → Found prefix (beside prefix bs)
 found_sound prefix [] e = tt
 found_sound prefix (b ∷ bs) e =
     let h = and_parts (is_sound_binding b) (list_all is_sound_binding bs) e in
-    found_or prefix (bytes_eq b.0 prefix) b.1 (space_of prefix bs) (binding_gives b prefix h.0) (found_sound prefix bs h.1)
+    found_or prefix (bytes_eq b.0 prefix) b.1 (beside prefix bs) (binding_gives b prefix h.0) (found_sound prefix bs h.1)
 
 absent_sound : is_sound_space [] ≡ true
 absent_sound = rw (is_utf8-from_IsUtf8 [] IsUtf8-nil, chars-nil) refl
@@ -126,7 +129,7 @@ or_absent_sound prefix (Some space) f = f.0
 
 element_sound : (inside : List (List ℕ × List ℕ)) (w : List ℕ) → list_all is_sound_binding inside ≡ true → is_qname w ≡ true → is_long w ≡ false → is_sound_name (element_name inside w) ≡ true
 unfolding element_name
-element_sound inside w e q l = and_both _ _ (or_absent_sound (prefix_of w) (space_of (prefix_of w) inside) (found_sound (prefix_of w) inside e)) (part_sound w q l)
+element_sound inside w e q l = and_both _ _ (or_absent_sound (prefix_of w) (beside (prefix_of w) inside) (found_sound (prefix_of w) inside e)) (part_sound w q l)
 
 -- ---- attributes
 
@@ -167,8 +170,8 @@ or_last : (b : Bool) → (b || true) ≡ true
 or_last true = refl
 or_last false = refl
 
-plain_name : (inside : List (List ℕ × List ℕ)) (w : List ℕ) (b : Bool) (o : Option (List ℕ)) → is_empty (prefix_of w) ≡ b → space_of (prefix_of w) inside ≡ o
-    → Found (prefix_of w) o → is_qname w ≡ true → binds w ≡ false → is_unbound inside (prefix_of w) ≡ false → is_sound_part (local_of w) ≡ true → Sound (attribute_name inside w)
+plain_name : (inside : List (List ℕ × List ℕ)) (w : List ℕ) (b : Bool) (o : Option (List ℕ)) → is_empty (prefix_of w) ≡ b → beside (prefix_of w) inside ≡ o
+    → Found (prefix_of w) o → is_qname w ≡ true → binds w ≡ false → is_unbound inside (prefix_of w) ≡ false → is_name_part (local_of w) ≡ true → Sound (attribute_name inside w)
 unfolding attribute_name binds is_unbound
 plain_name inside w true o e f found q plain bound part =
     let whole : local_of w ≡ w = colon_cases w (has_colon w) refl q e in
@@ -190,7 +193,7 @@ pub record Known (inside : List (List ℕ × List ℕ)) (a : List ℕ × List �
 
 attribute_sound : (inside : List (List ℕ × List ℕ)) → list_all is_sound_binding inside ≡ true → (a : List ℕ × List ℕ) → Known inside a → not (binds a.0) ≡ true → is_sound_attribute (attribute_name inside a.0, a.1) ≡ true
 attribute_sound inside e a known plain =
-    let s = plain_name inside a.0 (is_empty (prefix_of a.0)) (space_of (prefix_of a.0) inside) refl refl (found_sound (prefix_of a.0) inside e) known.qname (not_true (binds a.0) plain) (known.bound plain) (part_sound a.0 known.qname known.short) in
+    let s = plain_name inside a.0 (is_empty (prefix_of a.0)) (beside (prefix_of a.0) inside) refl refl (found_sound (prefix_of a.0) inside e) known.qname (not_true (binds a.0) plain) (known.bound plain) (part_sound a.0 known.qname known.short) in
     and_both _ _ (and_both _ _ s.0 (to_not _ s.1)) known.fine
 
 space_sound : (prefix space : List ℕ) → is_reserved (prefix, space) ≡ false → (bytes_eq space xmlns_space ≡ false) × ((is_empty space && not (is_empty prefix)) ≡ false)
@@ -201,13 +204,13 @@ space_sound prefix space e =
     let three = or_parts _ (bytes_eq space xmlns_space) two.0 in
     (three.1, one.1)
 
-prefix_sound : (prefix space : List ℕ) → is_sound_part prefix ≡ true ⊎ (prefix ≡ []) → (is_empty space && not (is_empty prefix)) ≡ false → (is_empty prefix || (is_sound_part prefix && not (is_empty space))) ≡ true
+prefix_sound : (prefix space : List ℕ) → is_name_part prefix ≡ true ⊎ (prefix ≡ []) → (is_empty space && not (is_empty prefix)) ≡ false → (is_empty prefix || (is_name_part prefix && not (is_empty space))) ≡ true
 prefix_sound [] space h e = refl
 prefix_sound (b ∷ bs) [] h e = absurd cc
 prefix_sound (b ∷ bs) (c ∷ cs) (inl h) e = rw h refl
 prefix_sound (b ∷ bs) (c ∷ cs) (inr h) e = absurd cc
 
-bound_part : (w : List ℕ) (b : Bool) → bytes_eq w xmlns_prefix ≡ b → is_sound_part (local_of w) ≡ true → is_sound_part (bound_prefix w) ≡ true ⊎ (bound_prefix w ≡ [])
+bound_part : (w : List ℕ) (b : Bool) → bytes_eq w xmlns_prefix ≡ b → is_name_part (local_of w) ≡ true → is_name_part (bound_prefix w) ≡ true ⊎ (bound_prefix w ≡ [])
 unfolding bound_prefix
 bound_part w true e h = rw e (inr refl)
 bound_part w false e h = rw e (inl h)

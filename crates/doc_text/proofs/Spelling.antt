@@ -7,9 +7,9 @@ use Rattle.std.proofs.lemmas.Bool.Decides.{nat_tests}
 use Rattle.std.proofs.lemmas.List.{length-take, length-drop}
 use Rattle.std.proofs.lemmas.Str.{IsUtf8-from_is_utf8, is_utf8-from_IsUtf8, IsUtf8-from_ascii, chars-IsAscii}
 use Rattle.xa_base.specs.Characters.{is_ncname}
+use Rattle.xa_base.specs.Limits.{is_short_part, spells_ncname}
 use Rattle.doc_pieces.specs.Reading.{is_ascii_name}
 use Rattle.doc_pieces.proofs.AsciiNames.{ascii, named}
-use Rattle.doc_text.specs.Sound.{spells_ncname}
 use Rattle.doc_text.specs.Namespaces.{colon_at, has_colon, prefix_of, local_of, is_long}
 
 pub spelled : (bytes : List ℕ) (b : Bool) → IsUtf8 bytes → b ≡ is_ncname (chars bytes) → b ≡ spells_ncname bytes
@@ -53,6 +53,8 @@ both_short m n h i =
     let b : nat_le n 255 ≡ true = grind (arith, nat_tests, i) in
     rw (a, b) refl
 
-pub short_name : (written : List ℕ) → length written ≤ 255 → false ≡ is_long written
+pub short_name : (written : List ℕ) → is_short_part written ≡ true → false ≡ is_long written
 unfolding is_long prefix_of local_of
-short_name written h = both_short _ _ (short_prefix (has_colon written) written (colon_at written) h) (short_local (has_colon written) written (colon_at written + 1) h)
+short_name written e =
+    let h : length written ≤ 255 = grind (arith, nat_tests, e) in
+    both_short _ _ (short_prefix (has_colon written) written (colon_at written) h) (short_local (has_colon written) written (colon_at written + 1) h)

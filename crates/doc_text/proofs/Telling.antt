@@ -2,6 +2,7 @@
 use Rattle.std.proofs.Common.{◌≡◌, ◌≢◌, ℕ, Bool, true, false, cond, List, [], ◌∷◌, ◌++◌, map, refl, sym, ap, ◌∙◌, append_assoc, None}
 use Rattle.std.specs.Prelude.{not, encode_utf8}
 use Rattle.std.proofs.lemmas.List.{append-nil}
+use Rattle.xa_base.specs.Limits.{is_empty}
 use Rattle.label_tree.specs.Rose.{Rose, node, none, roses_of}
 use Rattle.doc_pieces.specs.Pieces.{Tag, Piece, Declaration, Start, Empty, End, Comment, Instruction, CData, Reference, Character}
 use Rattle.doc_text.specs.declared.label.ItemLabel.{ItemLabel}
@@ -131,8 +132,8 @@ tells_added : (text : List ℕ) (at n : ℕ) (s : State) (above : List Above) (t
 tells_added text at n s [] ts e h = absurd cc
 tells_added text at n s (a ∷ above) ts e h =
     let inside : is_nil s.above ≡ false = rw (← e) refl in
-    let empty : (xs : List ℕ) → xs ≡ [] → cond (Rattle.doc_text.specs.Sound.is_empty xs) at s.text_at ≡ at = λ xs g. rw g refl in
-    let full : (xs : List ℕ) → xs ≢ [] → cond (Rattle.doc_text.specs.Sound.is_empty xs) at s.text_at ≡ s.text_at = λ xs. elim xs as (λ (v : List ℕ). v ≢ [] → cond (Rattle.doc_text.specs.Sound.is_empty v) at s.text_at ≡ s.text_at) [ [] ↦ (λ g. absurd (g refl)) | (y ∷ ys) ↦ (λ g. refl) ] in
+    let empty : (xs : List ℕ) → xs ≡ [] → cond (is_empty xs) at s.text_at ≡ at = λ xs g. rw g refl in
+    let full : (xs : List ℕ) → xs ≢ [] → cond (is_empty xs) at s.text_at ≡ s.text_at = λ xs. elim xs as (λ (v : List ℕ). v ≢ [] → cond (is_empty v) at s.text_at ≡ s.text_at) [ [] ↦ (λ g. absurd (g refl)) | (y ∷ ys) ↦ (λ g. refl) ] in
     rw inside (ap (λ (r : List Token). outer s.above (all s.kids ++ r)) (join-join s.text text _ s.text_at at ts (empty s.text) (full s.text)))
 
 not_outside : (w : DocWhy) (above : List Above) (later : List (Bool × DocWhy)) → first_true ((is_nil (map open_of above), w) ∷ later) ≡ None → is_nil above ≡ false

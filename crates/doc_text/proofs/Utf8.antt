@@ -5,11 +5,12 @@ use Rattle.std.specs.Str.{is_utf8}
 use Rattle.std.specs.List.{list_all, list_any}
 use Rattle.std.proofs.lemmas.Str.{IsUtf8-from_is_utf8, IsUtf8-nil}
 use Rattle.xa_base.specs.Characters.{is_xml_char, is_ncname}
+use Rattle.xa_base.specs.Limits.{has_xml_chars, spells_ncname}
+use Rattle.xa_base.specs.Namespaces.{xmlns_prefix}
 use Rattle.doc_pieces.specs.Pieces.{Tag, Piece, Declaration, Start, Empty, End, Comment, Instruction, CData, Reference, Character}
 use Rattle.doc_pieces.specs.declared.found.Attribute.{Attribute}
 use Rattle.doc_pieces.specs.Found.{attribute_of, bytes_of}
-use Rattle.doc_text.specs.Sound.{has_xml_chars, spells_ncname}
-use Rattle.doc_text.specs.Namespaces.{xmlns_prefix, local_of, is_qname, bound_prefix}
+use Rattle.doc_text.specs.Namespaces.{local_of, is_qname, bound_prefix}
 use Rattle.doc_text.specs.Contexts.{has_bad_name, first_true}
 use Rattle.doc_text.specs.Private.Entering.{have_utf8, are_named}
 use Rattle.doc_text.specs.Private.Building.{GivesUtf8}

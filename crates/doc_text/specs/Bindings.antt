@@ -1,15 +1,12 @@
 -- The namespace that a prefix is bound to at an element of a document (Namespaces in XML 1.0, section 6.1).
-use Rattle.std.specs.Prelude.{◌≡◌, ℕ, true, List, [], ◌∷◌, bytes_eq, Option, Some, None, slice_get, if◌then◌else◌}
+use Rattle.std.specs.Prelude.{◌≡◌, ℕ, true, List, [], ◌∷◌, Option, Some, None, slice_get, if◌then◌else◌}
 use Rattle.std.specs.Option.{option_or}
+use Rattle.xa_base.specs.Entries.{beside}
+use Rattle.xa_base.specs.Limits.{is_empty}
 use Rattle.label_tree.specs.Rose.{Rose, label_of, kids_of}
 use Rattle.doc_text.specs.declared.label.ItemLabel.{ItemLabel}
 use Rattle.doc_text.specs.declared.label.ItemLabel.TheVariants.{Element, Text}
-use Rattle.doc_text.specs.Sound.{is_empty, is_element}
-
--- the namespace beside the prefix
-abbrev pub beside : List ℕ → List (List ℕ × List ℕ) → Option (List ℕ)
-beside prefix [] = None
-beside prefix (binding ∷ bindings) = if bytes_eq binding.0 prefix then Some binding.1 else beside prefix bindings
+use Rattle.doc_text.specs.Sound.{is_element}
 
 -- what the node binds the prefix to itself
 abbrev pub declared_on : List ℕ → ItemLabel → Option (List ℕ)

@@ -1,10 +1,13 @@
 -- Where a piece of a document stands, and the reasons that may stand against it.
 use Rattle.std.specs.Prelude.{◌==◌, ◌+◌, ℕ, Bool, true, false, ◌&&◌, ◌||◌, not, nat_le, min, List, [], ◌∷◌, ◌++◌, length, map, bytes_eq, Option, Some, None, if◌then◌else◌}
 use Rattle.std.specs.List.{list_any, flat_map}
+use Rattle.xa_base.specs.Limits.{is_short_space}
+use Rattle.xa_base.specs.Namespaces.{xml_prefix, xml_space}
+use Rattle.xa_base.specs.WhiteSpace.{is_white_space}
 use Rattle.doc_pieces.specs.Pieces.{Tag, Piece, Declaration, Start, Empty, End, Comment, Instruction, CData, Reference, Character}
 use Rattle.doc_text.specs.declared.error.DocWhy.{DocWhy}
 use Rattle.doc_text.specs.declared.error.DocWhy.TheVariants as why
-use Rattle.doc_text.specs.Namespaces.{xml_prefix, xml_space, prefix_of, is_qname, is_long, bindings_of, plain_of, is_reserved, is_unbound, attributes_of, written_twice, expanded_twice}
+use Rattle.doc_text.specs.Namespaces.{prefix_of, is_qname, is_long, bindings_of, plain_of, is_reserved, is_unbound, attributes_of, written_twice, expanded_twice}
 
 -- an element that is open: its name as written, and what it binds, each a prefix with a namespace
 pub record Open : Type 0 where
@@ -49,7 +52,7 @@ abbrev pub has_bad_name : Tag → Bool
 has_bad_name tag = list_any (λ written. not (is_qname written)) (names_of tag)
 
 abbrev pub has_long_name : Tag → Bool
-has_long_name tag = list_any is_long (names_of tag) || list_any (λ b. not (nat_le (length b.1) 1023)) (bindings_of tag.attributes)
+has_long_name tag = list_any is_long (names_of tag) || list_any (λ b. not (is_short_space b.1)) (bindings_of tag.attributes)
 
 abbrev pub has_reserved : Tag → Bool
 has_reserved tag = list_any is_reserved (bindings_of tag.attributes)
@@ -63,9 +66,6 @@ has_duplicate tag inside = written_twice tag.attributes || expanded_twice (attri
 abbrev pub is_innermost : List ℕ → List Open → Bool
 is_innermost written [] = false
 is_innermost written (e ∷ es) = bytes_eq e.written written
-
-abbrev pub is_white : ℕ → Bool
-is_white c = c == 0x20 || c == 0x9 || c == 0xA || c == 0xD
 
 -- of a start or empty tag; depth is the number of elements that are open
 abbrev pub start_tests : Tag → List (List ℕ × List ℕ) → Bool → ℕ → List (Bool × DocWhy)
@@ -97,7 +97,7 @@ tests Comment c = []
 tests Instruction c = []
 tests (CData text) c = (is_outside c, why.TextOutside) ∷ []
 tests (Reference code) c = (is_outside c, why.TextOutside) ∷ []
-tests (Character code) c = (code == 0x3E && nat_le 2 c.brackets, why.NoPiece) ∷ (is_outside c && not (is_white code), why.TextOutside) ∷ []
+tests (Character code) c = (code == 0x3E && nat_le 2 c.brackets, why.NoPiece) ∷ (is_outside c && not (is_white_space code), why.TextOutside) ∷ []
 
 abbrev pub first_true : List (Bool × DocWhy) → Option DocWhy
 first_true [] = None

@@ -1,19 +1,12 @@
 -- Names as written, and what they stand for, by Namespaces in XML 1.0.
-use Rattle.std.specs.Prelude.{◌==◌, ◌+◌, ℕ, Bool, true, false, ◌&&◌, ◌||◌, not, nat_le, List, [], ◌∷◌, length, take, drop, map, filter, bytes_eq, codes, Option, Some, None, if◌then◌else◌}
+use Rattle.std.specs.Prelude.{◌==◌, ◌+◌, ℕ, Bool, true, false, ◌&&◌, ◌||◌, not, nat_le, List, [], ◌∷◌, length, take, drop, map, filter, bytes_eq, Option, Some, None, if◌then◌else◌}
 use Rattle.std.specs.List.{prefix_len, list_any}
 use Rattle.std.specs.Option.{is_some}
 use Rattle.xa_base.specs.declared.texts.Name.{Name}
-use Rattle.doc_text.specs.Sound.{is_empty, spells_ncname, has_name, xmlns_space}
-
-abbrev pub xml_prefix : List ℕ
-xml_prefix = codes "xml"
-
-abbrev pub xmlns_prefix : List ℕ
-xmlns_prefix = codes "xmlns"
-
--- Namespaces in XML 1.0, section 3
-abbrev pub xml_space : List ℕ
-xml_space = codes "http://www.w3.org/XML/1998/namespace"
+use Rattle.xa_base.specs.Entries.{beside}
+use Rattle.xa_base.specs.Limits.{is_empty, spells_ncname, is_short_part}
+use Rattle.xa_base.specs.Namespaces.{xml_prefix, xmlns_prefix, xml_space, xmlns_space}
+use Rattle.doc_text.specs.Sound.{has_name}
 
 -- ---- names as written
 
@@ -38,7 +31,7 @@ is_qname written = (not (has_colon written) || spells_ncname (prefix_of written)
 
 -- its prefix or its local name is over 255 bytes
 unfoldable pub is_long : List ℕ → Bool
-is_long written = not (nat_le (length (prefix_of written)) 255 && nat_le (length (local_of written)) 255)
+is_long written = not (is_short_part (prefix_of written) && is_short_part (local_of written))
 
 -- ---- bindings
 
@@ -71,14 +64,12 @@ is_reserved binding =
     || not (same_bool (bytes_eq binding.0 xml_prefix) (bytes_eq binding.1 xml_space))
     || (is_empty binding.1 && not (is_empty binding.0))
 
--- the namespace of a prefix by the bindings that are in scope, the innermost first
-abbrev pub space_of : List ℕ → List (List ℕ × List ℕ) → Option (List ℕ)
-space_of prefix [] = None
-space_of prefix (binding ∷ bindings) = if bytes_eq binding.0 prefix then Some binding.1 else space_of prefix bindings
+-- A scope has the bindings in scope, each a prefix with its namespace, the innermost first: what stands beside a prefix
+-- in its first entry is its namespace.
 
 -- a prefix that nothing binds; `xmlns` is bound, but to what no name has
 unfoldable pub is_unbound : List (List ℕ × List ℕ) → List ℕ → Bool
-is_unbound scope prefix = not (is_empty prefix) && (bytes_eq prefix xmlns_prefix || not (is_some (space_of prefix scope)))
+is_unbound scope prefix = not (is_empty prefix) && (bytes_eq prefix xmlns_prefix || not (is_some (beside prefix scope)))
 
 -- ---- expanded names
 
@@ -88,11 +79,11 @@ or_absent (Some space) = space
 
 -- of an element: without a prefix it has the default namespace
 unfoldable pub element_name : List (List ℕ × List ℕ) → List ℕ → Name
-element_name scope written = record { space = or_absent (space_of (prefix_of written) scope); local = local_of written }
+element_name scope written = record { space = or_absent (beside (prefix_of written) scope); local = local_of written }
 
 -- of an attribute: without a prefix it has no namespace
 abbrev pub attribute_space : List (List ℕ × List ℕ) → List ℕ → List ℕ
-attribute_space scope prefix = if is_empty prefix then [] else or_absent (space_of prefix scope)
+attribute_space scope prefix = if is_empty prefix then [] else or_absent (beside prefix scope)
 
 unfoldable pub attribute_name : List (List ℕ × List ℕ) → List ℕ → Name
 attribute_name scope written = record { space = attribute_space scope (prefix_of written); local = local_of written }

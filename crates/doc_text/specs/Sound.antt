@@ -1,53 +1,29 @@
 -- What each tree of items keeps, by XML 1.0 and Namespaces in XML 1.0 and within the limits of this program.
-use Rattle.std.specs.Prelude.{◌≡◌, ℕ, suc, max, Bool, true, false, ◌&&◌, ◌||◌, not, nat_le, ◌≤◌, ◌<◌, ◌^◌, List, [], ◌∷◌, length, bytes_eq, codes}
+use Rattle.std.specs.Prelude.{◌≡◌, ℕ, suc, max, Bool, true, false, ◌&&◌, ◌||◌, not, ◌≤◌, ◌<◌, ◌^◌, List, [], ◌∷◌, bytes_eq}
 use Rattle.std.specs.List.{list_all, list_any}
-use Rattle.std.specs.Str.{chars, is_utf8}
-use Rattle.xa_base.specs.Characters.{is_xml_char, is_ncname}
+use Rattle.xa_base.specs.Limits.{is_empty, has_xml_chars, is_namespace, is_name_part, is_xmlns}
+use Rattle.xa_base.specs.Names.{name_eq}
+use Rattle.xa_base.specs.Namespaces.{xmlns_space}
 use Rattle.xa_base.specs.declared.texts.Name.{Name}
 use Rattle.label_tree.specs.Rose.{Rose, node, Roses, none, more, node_count, Allowed}
 use Rattle.doc_text.specs.declared.label.ItemLabel.{ItemLabel}
 use Rattle.doc_text.specs.declared.label.ItemLabel.TheVariants.{Element, Text}
 use Rattle.doc_text.specs.Labels.{MayHave}
 
--- the namespace of `xmlns`, which no name has (Namespaces in XML 1.0, section 3)
-abbrev pub xmlns_space : List ℕ
-xmlns_space = codes "http://www.w3.org/2000/xmlns/"
-
-abbrev pub is_empty : List ℕ → Bool
-is_empty [] = true
-is_empty (b ∷ bs) = false
-
--- UTF-8 of the characters of XML 1.0, production [2] Char
-abbrev pub has_xml_chars : List ℕ → Bool
-has_xml_chars text = is_utf8 text && list_all is_xml_char (chars text)
-
--- UTF-8 of an NCName (Namespaces in XML 1.0, production [4])
-abbrev pub spells_ncname : List ℕ → Bool
-spells_ncname bytes = is_utf8 bytes && is_ncname (chars bytes)
-
+-- a namespace but that of `xmlns`, which no name has (Namespaces in XML 1.0, section 3)
 abbrev pub is_sound_space : List ℕ → Bool
-is_sound_space space = has_xml_chars space && nat_le (length space) 1023 && not (bytes_eq space xmlns_space)
-
-abbrev pub is_sound_part : List ℕ → Bool
-is_sound_part part = spells_ncname part && nat_le (length part) 255
+is_sound_space space = is_namespace space && not (bytes_eq space xmlns_space)
 
 -- an expanded name: a namespace, empty where there is none, and an NCName
 abbrev pub is_sound_name : Name → Bool
-is_sound_name name = is_sound_space name.space && is_sound_part name.local
-
-abbrev pub same_name : Name → Name → Bool
-same_name a b = bytes_eq a.space b.space && bytes_eq a.local b.local
-
--- `xmlns` binds a namespace and is no attribute
-abbrev pub is_xmlns : Name → Bool
-is_xmlns name = is_empty name.space && bytes_eq name.local (codes "xmlns")
+is_sound_name name = is_sound_space name.space && is_name_part name.local
 
 -- one attribute: its name, and the characters of its value
 abbrev pub is_sound_attribute : Name × List ℕ → Bool
 is_sound_attribute attribute = is_sound_name attribute.0 && not (is_xmlns attribute.0) && has_xml_chars attribute.1
 
 abbrev pub has_name : Name → List (Name × List ℕ) → Bool
-has_name name attributes = list_any (λ attribute. same_name attribute.0 name) attributes
+has_name name attributes = list_any (λ attribute. name_eq attribute.0 name) attributes
 
 -- no two have one name (Namespaces in XML 1.0, section 6.3)
 abbrev pub are_sound_attributes : List (Name × List ℕ) → Bool
@@ -57,7 +33,7 @@ are_sound_attributes (attribute ∷ attributes) =
 
 -- a prefix, empty for the default, with a namespace, which is empty only where the default is taken away
 abbrev pub is_sound_binding : List ℕ × List ℕ → Bool
-is_sound_binding binding = (is_empty binding.0 || (is_sound_part binding.0 && not (is_empty binding.1))) && is_sound_space binding.1
+is_sound_binding binding = (is_empty binding.0 || (is_name_part binding.0 && not (is_empty binding.1))) && is_sound_space binding.1
 
 abbrev pub is_sound_label : ItemLabel → Bool
 is_sound_label (Element name attributes declares at) =

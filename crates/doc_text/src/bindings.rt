@@ -1,7 +1,8 @@
 //! The namespaces that prefixes are bound to at an element.
 ghost use Rattle.std.specs.Prelude.{◌≡◌, ◌≢◌, codes};
 ghost use Rattle.std.specs.Option.{option_map, option_or};
-ghost use Rattle.doc_text.specs.Bindings.{beside, declared_on, LeadsToElement, unless_empty, bound_at};
+ghost use Rattle.xa_base.specs.Entries.{beside};
+ghost use Rattle.doc_text.specs.Bindings.{declared_on, LeadsToElement, unless_empty, bound_at};
 
 use crate::items::Items;
 use crate::label::ItemLabel;

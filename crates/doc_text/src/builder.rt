@@ -1,10 +1,11 @@
 //! What a reader has so far, and its step at each piece.
 ghost use Rattle.std.specs.Prelude.{if◌then◌else◌, cond, not, true, false, string_bytes, nat_le, encode_utf8, ◌≡◌, ◌==◌, ◌<◌, ◌≤◌, ◌&&◌, ◌∷◌, [], reverse, take, IfOk, IfErr, IsUtf8, OnOk, length};
+ghost use Rattle.xa_base.specs.WhiteSpace.{is_white_space};
 ghost use Rattle.doc_pieces.specs.Pieces as pieces;
 ghost use Rattle.doc_pieces.specs.Found.{seen, tag_seen, bytes_of};
 ghost use Rattle.std.specs.List.{prefix_len};
 ghost use Rattle.doc_pieces.specs.Reasons.{IsPlainRun, is_plain_byte};
-ghost use Rattle.doc_text.specs.Contexts.{is_white, is_outside, is_innermost, first_true, end_tests, reason, scope, brackets_after};
+ghost use Rattle.doc_text.specs.Contexts.{is_outside, is_innermost, first_true, end_tests, reason, scope, brackets_after};
 ghost use Rattle.doc_text.specs.Private.States.{context, nothing, added, passed};
 ghost use Rattle.doc_text.specs.Private.Entering.{Stopped, have_utf8};
 ghost use Rattle.doc_text.specs.declared.error.DocWhy.TheVariants as why;
@@ -50,8 +51,9 @@ pub(crate) struct Builder<'a> {
     brackets: u8,
 }
 
+#[tactic(auto, unfolding(xa_base::specs::WhiteSpace::is_white_space))]
 fn is_white_char(c: char) -> bool
-    ensures { result ≡ is_white c }
+    ensures { result ≡ is_white_space c }
 {
     matches!(c, ' ' | '\t' | '\n' | '\r')
 }
@@ -352,7 +354,7 @@ impl<'a> Builder<'a> {
     }
 
     fn character_reason(&self, c: char) -> Option<DocWhy>
-        ensures { result ≡ first_true ((c == 0x3E && nat_le 2 self.now.brackets, why.NoPiece) ∷ (is_outside (context (state self.now)) && not (is_white c), why.TextOutside) ∷ []) }
+        ensures { result ≡ first_true ((c == 0x3E && nat_le 2 self.now.brackets, why.NoPiece) ∷ (is_outside (context (state self.now)) && not (is_white_space c), why.TextOutside) ∷ []) }
     {
         if is_closing(c, self.brackets) {
             Some(DocWhy::NoPiece)

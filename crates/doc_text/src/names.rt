@@ -1,9 +1,9 @@
 //! Names as written.
 ghost use Rattle.std.specs.Prelude.{◌≡◌, ◌≤◌, length};
-ghost use Rattle.doc_text.specs.Sound.{spells_ncname};
+ghost use Rattle.xa_base.specs.Limits.{spells_ncname};
 ghost use Rattle.doc_text.specs.Namespaces as names;
 
-use xa_base::is_ncname_text;
+use xa_base::{XML_SPACE, XMLNS_SPACE, is_ncname_text, is_short_part};
 use doc_pieces::is_ascii_name;
 
 fn colon_at(written: &[u8]) -> usize
@@ -69,10 +69,10 @@ pub(crate) fn is_qname(written: &[u8]) -> bool
 pub(crate) fn is_long(written: &[u8]) -> bool
     ensures { result ≡ names.is_long written.now }
 {
-    if written.len() <= 255 {
+    if is_short_part(written) {
         return false;
     }
-    !(prefix_of(written).len() <= 255 && local_of(written).len() <= 255)
+    !(is_short_part(prefix_of(written)) && is_short_part(local_of(written)))
 }
 
 // Whether an attribute of this name binds a namespace.
@@ -103,11 +103,7 @@ pub(crate) fn is_reserved(prefix: &[u8], space: &[u8]) -> bool
     let is_xml = prefix == b"xml".as_slice();
     let is_xml_space = space == XML_SPACE.as_bytes();
     prefix == b"xmlns".as_slice()
-        || space == XMLNS_SPACE
+        || space == XMLNS_SPACE.as_bytes()
         || is_xml != is_xml_space
         || (space.is_empty() && !prefix.is_empty())
 }
-
-pub(crate) const XML_SPACE: &str = "http://www.w3.org/XML/1998/namespace";
-
-const XMLNS_SPACE: &[u8] = b"http://www.w3.org/2000/xmlns/";

@@ -1,13 +1,13 @@
 //! The namespaces that are bound where a reader stands.
 ghost use Rattle.std.specs.Prelude.{◌≡◌, ◌≤◌, ◌∷◌, ◌++◌, ◌-◌, [], take, length, reverse, IfOk, IsUtf8, OnOk};
 ghost use Rattle.std.specs.Option.{option_map};
-ghost use Rattle.doc_text.specs.Namespaces as names;
+ghost use Rattle.xa_base.specs.Entries.{beside};
+ghost use Rattle.xa_base.specs.Namespaces.{xml_prefix, xml_space};
 
-use crate::names::XML_SPACE;
 use std::alloc::Global;
 use std::collections::BTreeMap;
 use std::marker::Model;
-use xa_base::{Memory, Text};
+use xa_base::{Memory, Text, XML_SPACE};
 
 // A prefix with a namespace.
 #[derive(Drop)]
@@ -50,7 +50,7 @@ pub(crate) fn text_of(alloc: Global, bytes: &[u8]) -> Result<Text, Memory>
 impl<'a> Scope<'a> {
     // What is bound outside the root.
     pub(crate) fn new(alloc: Global) -> Result<Scope<'a>, Memory>
-        ensures { IfOk result (λ scope. scope ≡ (names.xml_prefix, names.xml_space) ∷ []) }
+        ensures { IfOk result (λ scope. scope ≡ (xml_prefix, xml_space) ∷ []) }
     {
         let mut scope = Scope {
             bindings: Vec::new(alloc),
@@ -118,7 +118,7 @@ impl<'a> Scope<'a> {
 
     // The namespace of a prefix.
     pub(crate) fn space_of(&self, prefix: &[u8]) -> Option<&Text>
-        ensures { option_map (λ space. space.now) result ≡ names.space_of prefix.now (reverse self.now) }
+        ensures { option_map (λ space. space.now) result ≡ beside prefix.now (reverse self.now) }
     {
         let bindings = self.bindings.as_slice();
         let place = *self.innermost.get(prefix)?;

@@ -2,6 +2,7 @@
 ghost use Rattle.std.specs.List.{list_any};
 ghost use Rattle.std.specs.Option.{option_map};
 ghost use Rattle.std.specs.Prelude.{not, true, nat_le, ◌||◌, length, ◌&&◌, ◌≡◌, ◌∷◌, ◌++◌, [], map, reverse, IfOk, OnOk, IfErr};
+ghost use Rattle.xa_base.specs.Limits.{is_short_space};
 ghost use Rattle.doc_pieces.specs.Found.{tag_seen, attribute_of, bytes_of};
 ghost use Rattle.doc_text.specs.Namespaces as names;
 ghost use Rattle.doc_text.specs.Contexts as contexts;
@@ -15,7 +16,7 @@ use crate::names::{binds, bound_prefix, is_long, is_qname, is_reserved, local_of
 use crate::scope::{Scope, text_of};
 use crate::short_lists::push;
 use std::alloc::Global;
-use xa_base::{Memory, Name, Text};
+use xa_base::{Memory, Name, Text, is_short_space};
 use doc_pieces::{Attribute, Element, Value};
 
 pub(crate) fn value_of<'v>(value: &'v Value<'_>) -> &'v [u8]
@@ -47,11 +48,11 @@ fn is_any_long(attributes: &[Attribute<'_>]) -> bool
 }
 
 fn is_any_space_long(attributes: &[Attribute<'_>]) -> bool
-    ensures { result ≡ list_any (λ a. names.binds a.name.now && not (nat_le (length (bytes_of a.value)) 1023)) attributes.now }
+    ensures { result ≡ list_any (λ a. names.binds a.name.now && not (is_short_space (bytes_of a.value))) attributes.now }
 {
     attributes
         .iter()
-        .any(|a| binds(a.name) && value_of(&a.value).len() > 1023)
+        .any(|a| binds(a.name) && !is_short_space(value_of(&a.value)))
 }
 
 fn is_any_reserved(attributes: &[Attribute<'_>]) -> bool

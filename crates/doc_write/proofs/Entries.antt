@@ -9,8 +9,8 @@ use Rattle.std.proofs.lemmas.Bool.{cases_Bool}
 use Rattle.std.proofs.lemmas.List.{map-append}
 use Rattle.std.proofs.lemmas.Slice.Eq.{bytes_eq-Decides}
 use Rattle.std.proofs.lemmas.Map.Text.{btree_map_updates_str}
-use Rattle.doc_text.specs.Sound.{is_empty}
-use Rattle.doc_written.specs.Spaces.{xml_space}
+use Rattle.xa_base.specs.Limits.{is_empty}
+use Rattle.xa_base.specs.Namespaces.{xml_space}
 use Rattle.doc_write.specs.declared.prefixes.Prefix.{Prefix}
 use Rattle.doc_write.specs.Private.Binding.{prefix_text, entry_of, Indexed, is_bound}
 

@@ -11,12 +11,7 @@ use label_tree::Tree;
 use std::alloc::{AllocError, Global};
 use std::collections::BTreeMap;
 use std::marker::Model;
-
-// Namespaces in XML 1.0, section 3.
-const XML_SPACE: &[u8] = b"http://www.w3.org/XML/1998/namespace";
-
-// XML Schema Part 1, section 2.6.
-const XSI_SPACE: &[u8] = b"http://www.w3.org/2001/XMLSchema-instance";
+use xa_base::{XML_SPACE, XSI_SPACE};
 
 // `xsi`, or `n` with a number.
 #[derive(Clone, Copy)]
@@ -72,17 +67,17 @@ impl<'a> Prefixes<'a> {
     fn is_bound(&self, space: &[u8]) -> bool
         ensures { result ≡ is_bound self.now space.now }
     {
-        space.is_empty() || space == XML_SPACE || self.get(space).is_some()
+        space.is_empty() || space == XML_SPACE.as_bytes() || self.get(space).is_some()
     }
 
     // The prefix of a namespace that is new.
     fn next(&self, space: &[u8]) -> Prefix
         ensures { prefix_text result ≡ next_prefix self.now space.now }
     {
-        if space == XSI_SPACE {
+        if space == XSI_SPACE.as_bytes() {
             return Prefix::Xsi;
         }
-        let xsi_count = usize::from(self.get(XSI_SPACE).is_some());
+        let xsi_count = usize::from(self.get(XSI_SPACE.as_bytes()).is_some());
         Prefix::Numbered(self.found.len() + 1 - xsi_count)
     }
 
@@ -145,7 +140,7 @@ impl<'a> Prefixes<'a> {
     pub(crate) fn write_for(&self, out: &mut Vec<u8>, space: &[u8]) -> Result<(), AllocError>
         ensures { OnOk result (out.new.items ≡ out.old.items ++ prefix_for self.now space.now) }
     {
-        if space == XML_SPACE {
+        if space == XML_SPACE.as_bytes() {
             return out.extend_from_slice(b"xml");
         }
         match self.get(space) {

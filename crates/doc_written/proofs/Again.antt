@@ -7,8 +7,8 @@ use Rattle.std.proofs.lemmas.List.Concat.{flat_map-append}
 use Rattle.std.proofs.lemmas.Bool.{true≢false, and_parts}
 use Rattle.std.proofs.lemmas.Str.{IsUtf8-append, encodes-chars, length-encode, len_utf8_bounds}
 use Rattle.xa_base.specs.Characters.{is_xml_char}
+use Rattle.xa_base.specs.Limits.{is_empty}
 use Rattle.doc_pieces.specs.Pieces.{Piece, Reference, Character, IsText, Form}
-use Rattle.doc_text.specs.Sound.{is_empty}
 use Rattle.doc_text.specs.Contexts.{Open, Context, is_nil, reason, brackets_after, after}
 use Rattle.doc_text.specs.Tokens.{Token, Opens, Closes, Words, join}
 use Rattle.doc_text.specs.Documents.{told, Whole}

@@ -7,12 +7,14 @@ use Rattle.std.proofs.lemmas.Bool.{true≢false, and_parts}
 use Rattle.std.proofs.lemmas.Slice.Eq.{bytes_eq-Decides}
 use Rattle.std.proofs.lemmas.Str.{IsUtf8-nil, encode_ascii}
 use Rattle.xa_base.specs.Characters.{is_xml_char}
+use Rattle.xa_base.specs.WhiteSpace.{is_white_space}
 use Rattle.xa_base.specs.declared.texts.Name.{Name}
+use Rattle.xa_base.specs.Limits.{is_name_part, is_xmlns, has_xml_chars}
 use Rattle.label_tree.specs.Rose.{Rose, node, Roses, none, more}
 use Rattle.doc_pieces.specs.Pieces.{Declaration, Character, IsAssigned, IsAccepted, Form}
 use Rattle.doc_text.specs.declared.label.ItemLabel.{ItemLabel}
 use Rattle.doc_text.specs.declared.label.ItemLabel.TheVariants.{Element, Text}
-use Rattle.doc_text.specs.Sound.{has_name, is_sound_space, is_sound_part, is_sound_name, is_xmlns, has_xml_chars, is_sound_attribute, are_sound_attributes, is_sound_binding, is_sound_label, is_sound, are_sound, AreItems}
+use Rattle.doc_text.specs.Sound.{has_name, is_sound_space, is_sound_name, is_sound_attribute, are_sound_attributes, is_sound_binding, is_sound_label, is_sound, are_sound, AreItems}
 use Rattle.doc_text.specs.Contexts.{start, reason}
 use Rattle.doc_text.specs.Tokens.{Token, tokens}
 use Rattle.doc_written.specs.Spaces.{attribute_spaces, label_spaces, spaces, all_spaces, has_space, declared_spaces, prefixes}
@@ -79,11 +81,11 @@ line_utf8 : IsUtf8 (10 ∷ [])
 line_utf8 = ascii_utf8 10 [] (omega arith) IsUtf8-nil
 
 first_free : reason (Character 10) (within [] 0) ≡ None
-unfolding reason
+unfolding reason is_white_space
 first_free = refl
 
 last_free : reason (Character 10) (behind []) ≡ None
-unfolding reason
+unfolding reason is_white_space
 last_free = refl
 
 -- what stands behind the root
@@ -102,7 +104,7 @@ abbrev IsSpace : List ℕ → Type 0
 IsSpace space = is_sound_space space ≡ true
 
 name_space : (name : Name) → is_sound_name name ≡ true → IsSpace name.space
-name_space name sound = (and_parts (is_sound_space name.space) (is_sound_part name.local) sound).0
+name_space name sound = (and_parts (is_sound_space name.space) (is_name_part name.local) sound).0
 
 attributes_sound : (attributes : List (Name × List ℕ)) → are_sound_attributes attributes ≡ true → Each IsSpace (attribute_spaces attributes)
 attributes_sound [] sound = tt

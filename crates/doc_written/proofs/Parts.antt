@@ -12,11 +12,13 @@ use Rattle.xa_base.specs.Characters.{is_name_start, is_name_char, is_name, is_nc
 use Rattle.xa_base.specs.declared.texts.Name.{Name}
 use Rattle.xa_base.proofs.CharacterLaws.{name_start-name_char}
 use Rattle.xa_base.proofs.NameLaws.{same_names}
+use Rattle.xa_base.specs.Limits.{is_empty, spells_ncname, is_name_part, is_xmlns}
+use Rattle.xa_base.specs.Namespaces.{xmlns_prefix}
+use Rattle.xa_base.specs.Entries.{beside}
 use Rattle.doc_pieces.specs.Pieces.{IsName}
 use Rattle.doc_pieces.proofs.Names.{list_all-append}
 use Rattle.doc_pieces.proofs.Runs.{prefix_again, prefix_whole}
-use Rattle.doc_text.specs.Sound.{is_empty, spells_ncname, is_sound_part, is_xmlns}
-use Rattle.doc_text.specs.Namespaces.{xmlns_prefix, colon_at, has_colon, prefix_of, local_of, is_qname, is_long, binds, bound_prefix, space_of, is_unbound, or_absent, attribute_space, element_name, attribute_name}
+use Rattle.doc_text.specs.Namespaces.{colon_at, has_colon, prefix_of, local_of, is_qname, is_long, binds, bound_prefix, is_unbound, or_absent, attribute_space, element_name, attribute_name}
 use Rattle.doc_written.proofs.Texts.{is_high, high_bytes}
 
 -- an NCName of at most 255 bytes
@@ -25,7 +27,7 @@ pub record IsPart (part : List ℕ) : Type 0 where
   pub named : is_ncname (chars part) ≡ true
   pub short : nat_le (length part) 255 ≡ true
 
-pub part_of : (part : List ℕ) → is_sound_part part ≡ true → IsPart part
+pub part_of : (part : List ℕ) → is_name_part part ≡ true → IsPart part
 part_of part sound =
     let one = and_parts (spells_ncname part) (nat_le (length part) 255) sound in
     let two = and_parts (is_utf8 part) (is_ncname (chars part)) one.0 in
@@ -189,14 +191,14 @@ pub record IsResolved (scope : List (List ℕ × List ℕ)) (name : Name) (writt
   pub plain : is_xmlns name ≡ false → binds written ≡ false
 
 module _ (scope : List (List ℕ × List ℕ)) (name : Name) (part : IsPart name.local) where
-  module _ (space_is : name.space ≡ []) (absent : space_of [] scope ≡ None) where
+  module _ (space_is : name.space ≡ []) (absent : beside [] scope ≡ None) where
     plain_bound : is_unbound scope (prefix_of name.local) ≡ false
     unfolding is_unbound
     plain_bound = rw (plain_prefix name.local part) refl
 
     plain_element : element_name scope name.local ≡ name
     unfolding element_name
-    plain_element = same_names (element_name scope name.local) name (ap (λ (x : List ℕ). or_absent (space_of x scope)) (plain_prefix name.local part) ∙ ap or_absent absent ∙ sym space_is) (plain_local name.local part)
+    plain_element = same_names (element_name scope name.local) name (ap (λ (x : List ℕ). or_absent (beside x scope)) (plain_prefix name.local part) ∙ ap or_absent absent ∙ sym space_is) (plain_local name.local part)
 
     plain_attribute : attribute_name scope name.local ≡ name
     unfolding attribute_name
@@ -219,7 +221,7 @@ module _ (scope : List (List ℕ × List ℕ)) (name : Name) (part : IsPart name
       plain = plain_binds;
     }
 
-  module _ (prefix : List ℕ) (first : IsPart prefix) (other : bytes_eq prefix xmlns_prefix ≡ false) (found : space_of prefix scope ≡ Some name.space) where
+  module _ (prefix : List ℕ) (first : IsPart prefix) (other : bytes_eq prefix xmlns_prefix ≡ false) (found : beside prefix scope ≡ Some name.space) where
     abbrev written : List ℕ
     written = prefix ++ 58 ∷ name.local
 
@@ -232,13 +234,13 @@ module _ (scope : List (List ℕ × List ℕ)) (name : Name) (part : IsPart name
 
     joined_element : element_name scope written ≡ name
     unfolding element_name
-    joined_element = same_names (element_name scope written) name (ap (λ (x : List ℕ). or_absent (space_of x scope)) prefix_is ∙ ap or_absent found) (joined_local prefix name.local first part)
+    joined_element = same_names (element_name scope written) name (ap (λ (x : List ℕ). or_absent (beside x scope)) prefix_is ∙ ap or_absent found) (joined_local prefix name.local first part)
 
     joined_attribute : attribute_name scope written ≡ name
     unfolding attribute_name
     joined_attribute =
         same_names (attribute_name scope written) name
-        (ap (attribute_space scope) prefix_is ∙ ap (λ (b : Bool). cond b [] (or_absent (space_of prefix scope))) (part_some prefix first) ∙ ap or_absent found)
+        (ap (attribute_space scope) prefix_is ∙ ap (λ (b : Bool). cond b [] (or_absent (beside prefix scope))) (part_some prefix first) ∙ ap or_absent found)
         (joined_local prefix name.local first part)
 
     joined_binds : binds written ≡ false

@@ -11,12 +11,14 @@ use Rattle.std.proofs.lemmas.Bool.{true≢false, cases_Bool, not-true, and_parts
 use Rattle.std.proofs.lemmas.Fmt.{decimal_by_steps, decimal_injective, length-decimal-le, IsAscii-decimal}
 use Rattle.std.proofs.lemmas.Slice.Eq.{bytes_eq-Decides}
 use Rattle.xa_base.specs.Characters.{is_name_start, is_name_char, is_ncname}
+use Rattle.xa_base.specs.Namespaces.{xmlns_space, xml_prefix, xmlns_prefix, xml_space, xsi_space}
+use Rattle.xa_base.specs.Limits.{is_empty, has_xml_chars}
+use Rattle.xa_base.specs.Entries.{beside}
 use Rattle.doc_pieces.specs.Pieces.{IsText}
 use Rattle.doc_pieces.proofs.Tools.{or_false, below, implied}
 use Rattle.doc_pieces.proofs.Names.{list_all-append}
-use Rattle.doc_text.specs.Sound.{xmlns_space, is_empty, has_xml_chars, is_sound_space}
-use Rattle.doc_text.specs.Namespaces.{xml_prefix, xmlns_prefix, space_of}
-use Rattle.doc_written.specs.Spaces.{xml_space, xsi_space, has_space, unseen, numbered, or_none, prefix_for}
+use Rattle.doc_text.specs.Sound.{is_sound_space}
+use Rattle.doc_written.specs.Spaces.{has_space, unseen, numbered, or_none, prefix_for}
 use Rattle.doc_written.proofs.Lists.{Each, each_by, each_both}
 use Rattle.doc_written.proofs.Texts.{text_of}
 use Rattle.doc_written.proofs.Parts.{IsPart}
@@ -159,7 +161,7 @@ abbrev pub turned : List (List ℕ × List ℕ) → List (List ℕ × List ℕ)
 turned table = map (λ e. (e.1, e.0)) table
 
 pub found : (F : List ℕ → Type 0) (table : List (List ℕ × List ℕ)) (space : List ℕ) (rest : List (List ℕ × List ℕ)) → Apart table → Each (λ e. F e.1) table → has_space (keys table) space ≡ true
-    → (prefix : List ℕ) × (lookup (bytes_eq space) table ≡ Some prefix) × (space_of prefix (turned table ++ rest) ≡ Some space) × F prefix
+    → (prefix : List ℕ) × (lookup (bytes_eq space) table ≡ Some prefix) × (beside prefix (turned table ++ rest) ≡ Some space) × F prefix
 found F [] space rest apart each has = absurd (true≢false (sym has))
 found F (e ∷ es) space rest apart each has = elim (cases_Bool (bytes_eq space e.0)) [
   | inl k ↦ (
@@ -172,7 +174,7 @@ found F (e ∷ es) space rest apart each has = elim (cases_Bool (bytes_eq space 
       (r.0, rw k r.1, rw other r.2, r.3.0))
 ]
 
-pub passed_over : (prefix : List ℕ) (table rest : List (List ℕ × List ℕ)) → Each (λ e. bytes_eq e.1 prefix ≡ false) table → space_of prefix (turned table ++ rest) ≡ space_of prefix rest
+pub passed_over : (prefix : List ℕ) (table rest : List (List ℕ × List ℕ)) → Each (λ e. bytes_eq e.1 prefix ≡ false) table → beside prefix (turned table ++ rest) ≡ beside prefix rest
 passed_over prefix [] rest h = refl
 passed_over prefix (e ∷ es) rest h = rw h.0 (passed_over prefix es rest h.1)
 
@@ -255,7 +257,7 @@ given_prefix top le e (inr (number, from, below_top, is)) = subst IsPrefix (sym 
 pub record IsBound (table scope : List (List ℕ × List ℕ)) (space : List ℕ) : Type 0 where
   pub part : IsPart (prefix_for table space)
   pub not_xmlns : bytes_eq (prefix_for table space) xmlns_prefix ≡ false
-  pub found : space_of (prefix_for table space) scope ≡ Some space
+  pub found : beside (prefix_for table space) scope ≡ Some space
 
 -- an entry that may be declared: a namespace with its prefix
 pub record IsDeclared (entry : List ℕ × List ℕ) : Type 0 where
@@ -296,10 +298,10 @@ module _ (spaces : List (List ℕ)) (few : 1 + length (unseen start_seen spaces)
   pub table_apart : Apart table
   table_apart = numbered_apart 1 last few (unseen start_seen spaces) (omega arith) (unseen_distinct start_seen spaces)
 
-  pub absent : space_of [] scope ≡ None
+  pub absent : beside [] scope ≡ None
   absent = passed_over [] table ((xml_prefix, xml_space) ∷ []) (each_by (λ e. IsPrefix e.1) (λ e. bytes_eq e.1 [] ≡ false) (λ e p. p.not_default) table prefixes_fine)
 
-  xml_found : space_of xml_prefix scope ≡ Some xml_space
+  xml_found : beside xml_prefix scope ≡ Some xml_space
   xml_found = passed_over xml_prefix table ((xml_prefix, xml_space) ∷ []) (each_by (λ e. IsPrefix e.1) (λ e. bytes_eq e.1 xml_prefix ≡ false) (λ e p. p.not_xml) table prefixes_fine)
 
   xml_bound : (space : List ℕ) → bytes_eq space xml_space ≡ true → IsBound table scope space
@@ -308,7 +310,7 @@ module _ (spaces : List (List ℕ)) (few : 1 + length (unseen start_seen spaces)
       record {
         part = subst IsPart (sym is) xml_part;
         not_xmlns = ap (λ (x : List ℕ). bytes_eq x xmlns_prefix) is;
-        found = ap (λ (x : List ℕ). space_of x scope) is ∙ xml_found ∙ ap (λ (x : List ℕ). Some x) (sym ((bytes_eq-Decides space xml_space).0 k));
+        found = ap (λ (x : List ℕ). beside x scope) is ∙ xml_found ∙ ap (λ (x : List ℕ). Some x) (sym ((bytes_eq-Decides space xml_space).0 k));
       }
 
   other_bound : (space : List ℕ) → bytes_eq space xml_space ≡ false → has_space spaces space ≡ true → is_empty space ≡ false → IsBound table scope space
@@ -320,7 +322,7 @@ module _ (spaces : List (List ℕ)) (few : 1 + length (unseen start_seen spaces)
       record {
         part = subst IsPart (sym is) r.3.part;
         not_xmlns = ap (λ (x : List ℕ). bytes_eq x xmlns_prefix) is ∙ r.3.not_xmlns;
-        found = ap (λ (x : List ℕ). space_of x scope) is ∙ r.2;
+        found = ap (λ (x : List ℕ). beside x scope) is ∙ r.2;
       }
 
   pub all_bound : (space : List ℕ) → has_space spaces space ≡ true → is_empty space ≡ false → IsBound table scope space

@@ -9,10 +9,11 @@ use Rattle.std.proofs.lemmas.Slice.Eq.{bytes_eq-Decides}
 use Rattle.std.proofs.lemmas.Str.{IsUtf8-append, IsUtf8-nil, IsUtf8-encode, encode_ascii}
 use Rattle.xa_base.specs.declared.texts.Name.{Name}
 use Rattle.xa_base.specs.WhiteSpace.{is_white_space}
+use Rattle.xa_base.specs.Names.{name_eq}
 use Rattle.doc_pieces.specs.Pieces.{Tag, Start, Empty, IsName, IsText, IsSpace, Exact, IsAttribute, AreAttributes, IsTag, Form}
 use Rattle.doc_pieces.proofs.Tools.{or_false}
 use Rattle.doc_text.specs.declared.error.DocWhy.{DocWhy}
-use Rattle.doc_text.specs.Sound.{same_name, has_name}
+use Rattle.doc_text.specs.Sound.{has_name}
 use Rattle.doc_text.specs.Namespaces.{prefix_of, is_qname, is_long, binds, bindings_of, plain_of, is_reserved, is_unbound, attribute_name, attributes_of, element_name, written_twice, expanded_twice}
 use Rattle.doc_text.specs.Contexts.{names_of, has_bad_name, has_long_name, has_reserved, has_unbound, has_duplicate, tag_scope, start_tests, first_true}
 use Rattle.doc_written.specs.Written.{value_escape, written_name, written_value, written_attribute, written_declaration, written_start}
@@ -157,7 +158,7 @@ module _ (table scope : List (List ℕ × List ℕ)) where
 
   -- ---- no name stands twice
 
-  same_own : (a b : Name × List ℕ) → IsOwn table scope a → IsOwn table scope b → same_name b.0 a.0 ≡ false → bytes_eq (written_name table b.0) (written_name table a.0) ≡ false
+  same_own : (a b : Name × List ℕ) → IsOwn table scope a → IsOwn table scope b → name_eq b.0 a.0 ≡ false → bytes_eq (written_name table b.0) (written_name table a.0) ≡ false
   same_own a b o p apart = differs (written_name table b.0) (written_name table a.0) (λ e.
       let same : b.0 ≡ a.0 = sym p.resolved.attribute ∙ ap (attribute_name scope) e ∙ o.resolved.attribute in
       let spaces : bytes_eq b.0.space a.0.space ≡ true = (bytes_eq-Decides b.0.space a.0.space).1 (ap (λ (n : Name). n.space) same) in
@@ -168,8 +169,8 @@ module _ (table scope : List (List ℕ × List ℕ)) where
   own_apart [] own e = refl
   own_apart (a ∷ later) own e =
       let parts = or_false (has_name a.0 later) (expanded_twice later) e in
-      let each = each_both (IsOwn table scope) (λ b. same_name b.0 a.0 ≡ false) later own.1 (any_none (λ b. same_name b.0 a.0) later parts.0) in
-      let none = none_any (λ b. bytes_eq b.0 (written_name table a.0)) (map (owning table) later) (each_map (λ b. bytes_eq b.0 (written_name table a.0) ≡ false) (owning table) later (each_by (λ b. IsOwn table scope b × (same_name b.0 a.0 ≡ false)) (λ b. bytes_eq (written_name table b.0) (written_name table a.0) ≡ false) (λ b h. same_own a b own.0 h.0 h.1) later each)) in
+      let each = each_both (IsOwn table scope) (λ b. name_eq b.0 a.0 ≡ false) later own.1 (any_none (λ b. name_eq b.0 a.0) later parts.0) in
+      let none = none_any (λ b. bytes_eq b.0 (written_name table a.0)) (map (owning table) later) (each_map (λ b. bytes_eq b.0 (written_name table a.0) ≡ false) (owning table) later (each_by (λ b. IsOwn table scope b × (name_eq b.0 a.0 ≡ false)) (λ b. bytes_eq (written_name table b.0) (written_name table a.0) ≡ false) (λ b h. same_own a b own.0 h.0 h.1) later each)) in
       rw none (own_apart later own.1 parts.1)
 
   declared_apart : (e f : List ℕ × List ℕ) → (e.1 ≡ f.1 → ⊥) → bytes_eq (codes "xmlns:" ++ f.1) (codes "xmlns:" ++ e.1) ≡ false

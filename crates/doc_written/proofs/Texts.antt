@@ -9,8 +9,8 @@ use Rattle.std.proofs.lemmas.Str.{chars-nil, chars-append, chars-encodes, encode
 use Rattle.std.proofs.Math.Utf8.{encode}
 use Rattle.std.proofs.Common.{cond}
 use Rattle.xa_base.specs.Characters.{is_xml_char}
+use Rattle.xa_base.specs.Limits.{has_xml_chars}
 use Rattle.doc_pieces.specs.Pieces.{IsText}
-use Rattle.doc_text.specs.Sound.{has_xml_chars}
 use Rattle.doc_pieces.proofs.Tools.{and_true}
 use Rattle.doc_pieces.proofs.Numbers.{xml_scalar}
 use Rattle.doc_pieces.proofs.Names.{list_all-append}

@@ -7,13 +7,16 @@ use Rattle.std.proofs.lemmas.Bool.{true≢false, and_parts, lt-leb, not-true}
 use Rattle.std.proofs.lemmas.Slice.Eq.{bytes_eq-Decides}
 use Rattle.std.proofs.lemmas.Str.{IsUtf8-append, IsUtf8-nil}
 use Rattle.xa_base.specs.declared.texts.Name.{Name}
+use Rattle.xa_base.specs.Limits.{is_empty, has_xml_chars, is_name_part, is_xmlns}
+use Rattle.xa_base.specs.Namespaces.{xml_prefix, xml_space}
+use Rattle.xa_base.specs.Entries.{beside}
 use Rattle.label_tree.specs.Rose.{Rose, node, Roses, none, more, Allowed, AllowedAll}
 use Rattle.doc_pieces.specs.Pieces.{Tag, Start, Empty, End, Form}
 use Rattle.doc_text.specs.declared.label.ItemLabel.{ItemLabel}
 use Rattle.doc_text.specs.declared.label.ItemLabel.TheVariants.{Element, Text}
 use Rattle.doc_text.specs.Labels.{MayHave}
-use Rattle.doc_text.specs.Sound.{is_empty, has_xml_chars, is_sound_name, is_sound_part, is_sound_space, is_xmlns, has_name, is_sound_attribute, are_sound_attributes, is_sound_binding, is_sound_label, is_text, begins_with_text, is_sound, are_sound, levels, levels_all}
-use Rattle.doc_text.specs.Namespaces.{xml_prefix, xml_space, prefix_of, is_unbound, bindings_of, space_of, expanded_twice}
+use Rattle.doc_text.specs.Sound.{is_sound_name, is_sound_space, has_name, is_sound_attribute, are_sound_attributes, is_sound_binding, is_sound_label, is_text, begins_with_text, is_sound, are_sound, levels, levels_all}
+use Rattle.doc_text.specs.Namespaces.{prefix_of, is_unbound, bindings_of, expanded_twice}
 use Rattle.doc_text.specs.Contexts.{Open, is_nil, scope, end_tests, start_tests, first_true, reason, entered}
 use Rattle.doc_text.specs.Tokens.{Token, Opens, Closes, tokens, tokens_all}
 use Rattle.doc_text.specs.Documents.{opening}
@@ -52,13 +55,13 @@ pub record IsElement (table scope : List (List ℕ × List ℕ)) (name : Name) (
 abbrev pub HasPrefix : List (List ℕ × List ℕ) → List (List ℕ × List ℕ) → List ℕ → Type 0
 HasPrefix table scope space = is_empty space ≡ false → IsBound table scope space
 
-module _ (table scope : List (List ℕ × List ℕ)) (absent : space_of [] scope ≡ None) where
+module _ (table scope : List (List ℕ × List ℕ)) (absent : beside [] scope ≡ None) where
   resolved_by : (name : Name) (b : Bool) → is_empty name.space ≡ b → IsPart name.local → HasPrefix table scope name.space → IsResolved scope name (cond b name.local (prefix_for table name.space ++ 58 ∷ name.local))
   resolved_by name true e part bound = plain_resolved scope name part (empty_is name.space e) absent
   resolved_by name false e part bound = let p = bound e in joined_resolved scope name part (prefix_for table name.space) p.part p.not_xmlns p.found
 
   resolved : (name : Name) → is_sound_name name ≡ true → HasPrefix table scope name.space → IsResolved scope name (written_name table name)
-  resolved name sound bound = resolved_by name (is_empty name.space) refl (part_of name.local (and_parts (is_sound_space name.space) (is_sound_part name.local) sound).1) bound
+  resolved name sound bound = resolved_by name (is_empty name.space) refl (part_of name.local (and_parts (is_sound_space name.space) (is_name_part name.local) sound).1) bound
 
   own_one : (a : Name × List ℕ) → is_sound_attribute a ≡ true → HasPrefix table scope a.0.space → IsOwn table scope a
   own_one a sound bound =
@@ -234,7 +237,7 @@ and_false : (a b : Bool) → a ≡ true → (a && b) ≡ false → b ≡ false
 and_false true b e f = f
 and_false false b e f = absurd (true≢false (sym e))
 
-module _ (table outer : List (List ℕ × List ℕ)) (absent : space_of [] outer ≡ None) where
+module _ (table outer : List (List ℕ × List ℕ)) (absent : beside [] outer ≡ None) where
   mutual
     node_reads : (t : Rose ItemLabel) → is_sound t ≡ true → Each (HasPrefix table outer) (spaces t) → Allowed MayHave t → NodeReads table outer t
     node_reads (node (Element name attributes binds place) kids) sound bound allowed = λ es inside scope_is room at rest ts apart next.

@@ -3,16 +3,11 @@
 use Rattle.std.specs.Prelude.{ℕ, suc, List, [], ◌∷◌, ◌++◌, map, Bool, Option, Some, None, if◌then◌else◌, codes, decimal, bytes_eq}
 use Rattle.std.specs.List.{list_any}
 use Rattle.std.specs.Map.{lookup}
+use Rattle.xa_base.specs.Namespaces.{xml_space, xsi_space}
 use Rattle.xa_base.specs.declared.texts.Name.{Name}
 use Rattle.label_tree.specs.Rose.{Rose, node, Roses, none, more}
 use Rattle.doc_text.specs.declared.label.ItemLabel.{ItemLabel}
 use Rattle.doc_text.specs.declared.label.ItemLabel.TheVariants.{Element, Text}
-
-abbrev pub xml_space : List ℕ
-xml_space = codes "http://www.w3.org/XML/1998/namespace"
-
-abbrev pub xsi_space : List ℕ
-xsi_space = codes "http://www.w3.org/2001/XMLSchema-instance"
 
 abbrev pub attribute_spaces : List (Name × List ℕ) → List (List ℕ)
 attribute_spaces attributes = map (λ attribute. attribute.0.space) attributes

@@ -8,7 +8,7 @@ use Rattle.std.proofs.lemmas.Slice.Eq.{bytes_eq-Decides}
 use Rattle.xa_base.specs.declared.white_space.WhiteSpace.TheVariants.{Collapse}
 use Rattle.xa_base.specs.WhiteSpace.{is_white_space, words_of, treated, IsWord}
 use Rattle.xa_base.proofs.WordLaws.{words_of-join, words_of-IsWord}
-use Rattle.simple_values.specs.Lexical.{is_digit, is_numeral}
+use Rattle.xa_base.specs.Digits.{is_digit, is_numeral}
 use Rattle.simple_values.proofs.WholeNumbers.{and-first, not-true, numeral_is}
 use Rattle.simple_values.proofs.Decimals.{numeral_word, digit_other}
 use Rattle.simple_values.proofs.Again.{word_alone, plain_letters}

@@ -5,8 +5,9 @@ use Rattle.std.specs.Str.Parse.{digits_value}
 use Rattle.xa_base.specs.declared.white_space.WhiteSpace.{WhiteSpace}
 use Rattle.xa_base.specs.declared.white_space.WhiteSpace.TheVariants.{Preserve, Replace, Collapse}
 use Rattle.xa_base.specs.WhiteSpace.{treated}
+use Rattle.xa_base.specs.Digits.{is_numeral}
 use Rattle.simple_types.specs.Space.{Space, Wholes, Numbers, Words, Characters, ListOf, UnionOf}
-use Rattle.simple_values.specs.Lexical.{is_numeral, whole_number, is_128_bits, is_at_most}
+use Rattle.simple_values.specs.Lexical.{whole_number, is_128_bits, is_at_most}
 use Rattle.facet_rules.specs.declared.refusals.FacetWhy.{FacetWhy}
 use Rattle.facet_rules.specs.declared.refusals.FacetWhy.TheVariants as why
 

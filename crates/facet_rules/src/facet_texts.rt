@@ -3,8 +3,8 @@ ghost use Rattle.std.specs.Prelude.{◌≡◌};
 ghost use Rattle.facet_rules.specs.Applying as rule;
 
 use crate::refusals::FacetWhy;
-use simple_values::{Whole, collapsed_number, is_numeral, only_word};
-use xa_base::{Text, WhiteSpace};
+use simple_values::{Whole, collapsed_number, only_word};
+use xa_base::{Text, WhiteSpace, is_numeral};
 
 fn parsed_length(digits: &str) -> Result<u32, FacetWhy>
     ensures { result ≡ rule.length_in digits.now }

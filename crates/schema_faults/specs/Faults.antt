@@ -1,8 +1,8 @@
 -- The nodes of a schema document that are looked at, with the first reason against each.
 use Rattle.std.specs.Prelude.{ℕ, Bool, true, false, ◌&&◌, List, [], ◌∷◌, ◌++◌, bytes_eq, codes, Option, Some, None}
 use Rattle.xa_base.specs.declared.texts.Name.{Name}
+use Rattle.xa_base.specs.Namespaces.{xml_prefix, xml_space}
 use Rattle.label_tree.specs.Rose.{Rose, node, Roses, none, more, label_of, list_of}
-use Rattle.doc_text.specs.Namespaces.{xml_prefix, xml_space}
 use Rattle.doc_text.specs.declared.label.ItemLabel.{ItemLabel}
 use Rattle.doc_text.specs.declared.label.ItemLabel.TheVariants.{Element, Text}
 use Rattle.schema_rules.specs.Elements.{is_schema_name, placement}

@@ -2,7 +2,7 @@
 use Rattle.std.specs.Prelude.{ℕ, Bool, true, false, ◌||◌, ◌&&◌, not, nat_le, List, [], ◌∷◌, codes, Option, Some, None, unwrap_or, if◌then◌else◌}
 use Rattle.std.specs.List.{list_any, list_all}
 use Rattle.std.specs.Option.{option_or}
-use Rattle.xa_base.specs.WhiteSpace.{is_white_space, words_of}
+use Rattle.xa_base.specs.WhiteSpace.{is_blank, words_of}
 use Rattle.label_tree.specs.Rose.{Rose, label_of}
 use Rattle.doc_text.specs.declared.label.ItemLabel.{ItemLabel}
 use Rattle.doc_text.specs.declared.label.ItemLabel.TheVariants.{Element, Text}
@@ -146,4 +146,4 @@ reason_against role scope level own kids =
 
 -- text stands between elements alone, as white space (Part 1, section 2.1)
 abbrev pub reason_against_text : List ℕ → Option SchemaWhy
-reason_against_text text = if list_all is_white_space text then None else Some why.Misplaced
+reason_against_text text = if is_blank text then None else Some why.Misplaced

@@ -1,7 +1,7 @@
 -- What an element has to have, and what it may not have at once (XML Schema Part 1, sections 3.2.3, 3.3.3, 3.4.3 and 3.14.3).
 use Rattle.std.specs.Prelude.{ℕ, Bool, false, ◌||◌, ◌&&◌, not, List, codes, Some, None}
+use Rattle.xa_base.specs.Limits.{is_empty}
 use Rattle.label_tree.specs.Rose.{Rose}
-use Rattle.doc_text.specs.Sound.{is_empty}
 use Rattle.doc_text.specs.declared.label.ItemLabel.{ItemLabel}
 use Rattle.schema_rules.specs.Elements.{beside}
 use Rattle.schema_rules.specs.Attributes.{has}

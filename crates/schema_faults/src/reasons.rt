@@ -2,7 +2,7 @@
 ghost use Rattle.std.specs.Prelude.{◌≡◌, IfOk};
 ghost use Rattle.std.specs.List.{list_all, list_any};
 ghost use Rattle.label_tree.specs.Rose.{label_of};
-ghost use Rattle.xa_base.specs.WhiteSpace.{words_of, is_white_space};
+ghost use Rattle.xa_base.specs.WhiteSpace.{words_of};
 ghost use Rattle.schema_rules.specs.Scopes.{bindings_in};
 ghost use Rattle.schema_faults.specs.Reasons as reason;
 
@@ -15,7 +15,7 @@ use schema_rules::{
     never_occurs, own_attributes, truth_of, type_of, value_of,
 };
 use std::alloc::Global;
-use xa_base::{Memory, Text, first_word};
+use xa_base::{Memory, Text, first_word, is_blank};
 
 // Whether the attribute of this name is true.
 fn is_true(name: &str, own: &[(Text, Text)]) -> bool
@@ -260,19 +260,6 @@ pub fn reason_against(
         return Ok(Some(SchemaWhy::EmptyChoice));
     }
     Ok(None)
-}
-
-#[tactic(auto, unfolding(xa_base::specs::WhiteSpace::is_white_space))]
-fn is_white_space(byte: u8) -> bool
-    ensures { result ≡ is_white_space byte }
-{
-    matches!(byte, b' ' | b'\t' | b'\n' | b'\r')
-}
-
-fn is_blank(text: &[u8]) -> bool
-    ensures { result ≡ list_all is_white_space text.now }
-{
-    text.iter().all(|byte| is_white_space(*byte))
 }
 
 /// The reason against a text: all of it has to be white space.

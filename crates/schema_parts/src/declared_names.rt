@@ -1,54 +1,18 @@
 //! The names that schema documents declare.
 ghost use Rattle.std.specs.Prelude.{◌≡◌, bytes_eq, map};
-ghost use Rattle.std.specs.List.{list_all, list_any};
-ghost use Rattle.std.specs.Str.{chars};
-ghost use Rattle.xa_base.specs.Characters.{is_xml_char};
+ghost use Rattle.std.specs.List.{list_any};
 ghost use Rattle.schema_parts.specs.Seen.{element_of, kind_of, use_of, attribute_of, type_of, local_of};
 ghost use Rattle.schema_parts.specs.Declarable as rule;
 ghost use Rattle.schema_parts.specs.DeclaredNames as names;
 
 use crate::declarations::{RawAttribute, RawElement, RawKind, RawLocal, RawType, RawUse};
-use xa_base::{Name, Text, is_ncname, is_xml_char};
-
-const XMLNS_SPACE: &[u8] = b"http://www.w3.org/2000/xmlns/";
-
-const INSTANCE_SPACE: &[u8] = b"http://www.w3.org/2001/XMLSchema-instance";
-
-/// How many bytes a namespace has at most.
-const LONGEST_SPACE: usize = 1023;
-
-/// How many bytes a local name has at most.
-const LONGEST_LOCAL: usize = 255;
-
-fn are_xml_chars(text: &str) -> bool
-    ensures { result ≡ list_all is_xml_char (chars text.now) }
-{
-    text.chars().all(|c| is_xml_char(c))
-}
-
-fn is_namespace(space: &Text) -> bool
-    ensures { result ≡ rule.is_namespace space.now }
-{
-    are_xml_chars(space.as_str()) && space.bytes().len() <= LONGEST_SPACE
-}
-
-fn is_local_name(part: &Text) -> bool
-    ensures { result ≡ rule.is_local_name part.now }
-{
-    is_ncname(part) && part.bytes().len() <= LONGEST_LOCAL
-}
+use xa_base::{Name, XMLNS_SPACE, XSI_SPACE, is_name_part, is_namespace, is_xmlns};
 
 // Whether no declared name has the namespace.
 fn is_kept(space: &[u8]) -> bool
     ensures { result ≡ list_any (bytes_eq space.now) rule.kept_spaces }
 {
-    space == XMLNS_SPACE || space == INSTANCE_SPACE
-}
-
-fn is_xmlns(name: &Name) -> bool
-    ensures { result ≡ rule.is_xmlns name.now }
-{
-    name.space.bytes().is_empty() && name.local.bytes() == b"xmlns".as_slice()
+    space == XMLNS_SPACE.as_bytes() || space == XSI_SPACE.as_bytes()
 }
 
 /// Whether a schema may declare an element or a type of this name: the local name is an NCName of at most 255 bytes, the
@@ -57,7 +21,7 @@ fn is_xmlns(name: &Name) -> bool
 pub fn declarable(name: &Name) -> bool
     ensures { result ≡ rule.is_declarable name.now }
 {
-    is_namespace(&name.space) && is_local_name(&name.local) && !is_kept(name.space.bytes())
+    is_namespace(&name.space) && is_name_part(&name.local) && !is_kept(name.space.bytes())
 }
 
 /// Whether a schema may declare an attribute of this name, which besides isn't `xmlns` without a namespace (XML Schema

@@ -2,7 +2,7 @@
 use Rattle.std.proofs.Common.{◌≡◌, ℕ, Bool, true, false, cond, ◌+◌, ◌-◌, ◌*◌, ◌<◌, ◌≤◌, List, [], ◌∷◌, length, get_or, refl, arith, Some, None}
 use Rattle.std.specs.Prelude.{if◌then◌else◌, nat_lt}
 use Rattle.std.proofs.lemmas.Bool.Decides.{nat_tests}
-use Rattle.schema_rules.specs.Numbers.{number_from}
+use Rattle.xa_base.specs.Digits.{number_from}
 
 -- more digits make no number less
 pub le-number_from : (n : ℕ) (bs : List ℕ) → n ≤ number_from n bs

@@ -6,7 +6,7 @@ use Rattle.std.specs.Cmp.Lexicographic.{slice_cmp}
 use Rattle.std.specs.BTreeMap.{BTreeMap, get_by, UpdatesBy}
 use Rattle.std.proofs.lemmas.Map.Text.{btree_map_updates_str}
 use Rattle.std.proofs.Math.Seq.{drop-cons}
-use Rattle.doc_text.specs.Namespaces.{space_of}
+use Rattle.xa_base.specs.Entries.{beside}
 use Rattle.schema_rules.specs.Private.Finding.{Finds}
 
 -- what is left from a place on: that at the place, and what is behind
@@ -27,9 +27,9 @@ pub one_binding : (bs : List (List ℕ × List ℕ)) (i : ℕ) (b : List ℕ × 
     → UpdatesBy (λ x y. slice_cmp nat_cmp x.now y.now) (λ key. slice_cmp nat_cmp prefix.now key.now) old new (Some space)
     → Finds (drop (i - 1) bs) new
 one_binding bs i b old new prefix space lt le is its_prefix its_space so_far up a =
-    let rest = space_of a (drop i bs) in
+    let rest = beside a (drop i bs) in
     ap (option_map (λ (x : Bor (List ℕ)). x.now)) (btree_map_updates_str prefix.now old new (Some space) up a)
     ∙ either (bytes_eq prefix.now a) space (get_by (λ key. slice_cmp nat_cmp a key.now) old) rest (so_far a)
     ∙ ap (λ p. cond (bytes_eq p a) (Some space.now) rest) its_prefix
     ∙ ap (λ s. cond (bytes_eq b.0 a) (Some s) rest) its_space
-    ∙ ap (space_of a) (sym (cut bs i b lt le is))
+    ∙ ap (beside a) (sym (cut bs i b lt le is))

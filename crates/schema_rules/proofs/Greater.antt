@@ -4,8 +4,9 @@ use Rattle.std.specs.Prelude.{◌==◌, nat_lt, nat_le, ◌&&◌, ◌||◌, not}
 use Rattle.std.specs.List.{list_all}
 use Rattle.std.proofs.lemmas.Bool.{eqb-true, leb-true}
 use Rattle.std.proofs.lemmas.Bool.Decides.{nat_tests}
-use Rattle.doc_text.specs.Sound.{is_empty}
-use Rattle.schema_rules.specs.Numbers.{is_digit, is_number, number_from, number_of, is_over}
+use Rattle.xa_base.specs.Limits.{is_empty}
+use Rattle.xa_base.specs.Digits.{is_digit, is_numeral, number_from, number_of}
+use Rattle.schema_rules.specs.Numbers.{is_over}
 use Rattle.schema_rules.specs.Private.Comparing.{without_zeros, is_later, is_greater}
 
 -- ---- tests
@@ -140,7 +141,7 @@ by_lengths false false xs ys is more dx dy lx ly =
     let lower : number_of xs < number_of ys = more_digits ys xs less dx ly in
     lt_false (number_of ys) (number_of xs) (omega arith)
 
-numbers_alone : (a b : List ℕ) → is_number a ≡ true → is_number b ≡ true → is_greater (without_zeros a) (without_zeros b) ≡ nat_lt (number_of b) (number_of a)
+numbers_alone : (a b : List ℕ) → is_numeral a ≡ true → is_numeral b ≡ true → is_greater (without_zeros a) (without_zeros b) ≡ nat_lt (number_of b) (number_of a)
 numbers_alone a b na nb =
     let da : Digits a = digits_of a (second_true (not (is_empty a)) (list_all is_digit a) na) in
     let db : Digits b = digits_of b (second_true (not (is_empty b)) (list_all is_digit b) nb) in
@@ -156,8 +157,8 @@ chosen true false u e f = cc
 chosen false t u e f = cc
 
 -- what the comparison tells of two numbers
-pub greater_number : (a b xs ys : List ℕ) (r : Bool) → is_number a ≡ true → is_number b ≡ true → xs ≡ without_zeros a → ys ≡ without_zeros b → r ≡ is_greater xs ys
+pub greater_number : (a b xs ys : List ℕ) (r : Bool) → is_numeral a ≡ true → is_numeral b ≡ true → xs ≡ without_zeros a → ys ≡ without_zeros b → r ≡ is_greater xs ys
     → r ≡ is_over a b
 greater_number a b xs ys r na nb cut cut' told =
     told ∙ (ap (λ l. is_greater l ys) cut ∙ (ap (λ l. is_greater (without_zeros a) l) cut' ∙ (numbers_alone a b na nb
-    ∙ chosen (is_number a) (is_number b) (nat_lt (number_of b) (number_of a)) na nb)))
+    ∙ chosen (is_numeral a) (is_numeral b) (nat_lt (number_of b) (number_of a)) na nb)))

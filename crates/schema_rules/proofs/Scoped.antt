@@ -1,20 +1,20 @@
 -- The bindings of an element, and those around it.
 use Rattle.std.proofs.Common.{◌≡◌, ℕ, Bool, true, false, cond, List, [], ◌∷◌, ◌++◌, Option, Some, None, refl, ap, sym, ◌∙◌, bytes_eq}
 use Rattle.std.specs.Option.{option_or}
-use Rattle.doc_text.specs.Namespaces.{space_of}
+use Rattle.xa_base.specs.Entries.{beside}
 
 first_or : (b : Bool) (x : List ℕ) (m n : Option (List ℕ)) → option_or (cond b (Some x) m) n ≡ cond b (Some x) (option_or m n)
 first_or true x m n = refl
 first_or false x m n = refl
 
 -- what the first bindings bind, or else the others
-pub space_of-append : (prefix : List ℕ) (xs ys : List (List ℕ × List ℕ)) → space_of prefix (xs ++ ys) ≡ option_or (space_of prefix xs) (space_of prefix ys)
+pub space_of-append : (prefix : List ℕ) (xs ys : List (List ℕ × List ℕ)) → beside prefix (xs ++ ys) ≡ option_or (beside prefix xs) (beside prefix ys)
 space_of-append prefix [] ys = refl
 space_of-append prefix (x ∷ xs) ys =
-    ap (λ m. cond (bytes_eq x.0 prefix) (Some x.1) m) (space_of-append prefix xs ys) ∙ sym (first_or (bytes_eq x.0 prefix) x.1 (space_of prefix xs) (space_of prefix ys))
+    ap (λ m. cond (bytes_eq x.0 prefix) (Some x.1) m) (space_of-append prefix xs ys) ∙ sym (first_or (bytes_eq x.0 prefix) x.1 (beside prefix xs) (beside prefix ys))
 
-pub found_inside : (prefix : List ℕ) (xs ys : List (List ℕ × List ℕ)) (space : List ℕ) → Some space ≡ space_of prefix xs → Some space ≡ space_of prefix (xs ++ ys)
-found_inside prefix xs ys space is = ap (λ m. option_or m (space_of prefix ys)) is ∙ sym (space_of-append prefix xs ys)
+pub found_inside : (prefix : List ℕ) (xs ys : List (List ℕ × List ℕ)) (space : List ℕ) → Some space ≡ beside prefix xs → Some space ≡ beside prefix (xs ++ ys)
+found_inside prefix xs ys space is = ap (λ m. option_or m (beside prefix ys)) is ∙ sym (space_of-append prefix xs ys)
 
-pub found_outside : (prefix : List ℕ) (xs ys : List (List ℕ × List ℕ)) → None ≡ space_of prefix xs → space_of prefix ys ≡ space_of prefix (xs ++ ys)
-found_outside prefix xs ys is = ap (λ m. option_or m (space_of prefix ys)) is ∙ sym (space_of-append prefix xs ys)
+pub found_outside : (prefix : List ℕ) (xs ys : List (List ℕ × List ℕ)) → None ≡ beside prefix xs → beside prefix ys ≡ beside prefix (xs ++ ys)
+found_outside prefix xs ys is = ap (λ m. option_or m (beside prefix ys)) is ∙ sym (space_of-append prefix xs ys)

@@ -5,7 +5,7 @@ use Rattle.std.specs.Option.{is_some}
 use Rattle.xa_base.specs.WhiteSpace.{treated}
 use Rattle.xa_base.specs.declared.white_space.WhiteSpace.TheVariants.{Collapse}
 use Rattle.xa_base.specs.declared.texts.Name.{Name}
-use Rattle.doc_text.specs.Sound.{is_empty}
+use Rattle.xa_base.specs.Limits.{is_empty}
 use Rattle.schema_rules.specs.Elements.{beside, has_name}
 use Rattle.schema_rules.specs.declared.roles.Role.{Role}
 use Rattle.schema_rules.specs.declared.roles.Role.TheVariants.{Schema, Composition, GlobalElement, LocalElement, GlobalAttribute, LocalAttribute, GlobalSimpleType, InnerSimpleType, Restriction, List as ListRole, Union, Facet, GlobalComplexType, InnerComplexType, SimpleContent, Extension, Sequence, Choice}

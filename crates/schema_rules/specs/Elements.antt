@@ -1,6 +1,7 @@
 -- The elements of schema documents and where they stand (XML Schema Part 1, section 3, and Part 2, section 4.3).
 use Rattle.std.specs.Prelude.{ℕ, Bool, true, false, ◌||◌, ◌&&◌, not, List, [], ◌∷◌, bytes_eq, codes, Option, Some, None, if◌then◌else◌}
 use Rattle.std.specs.Option.{option_or}
+use Rattle.xa_base.specs.Namespaces.{schema_space}
 use Rattle.xa_base.specs.declared.texts.Name.{Name}
 use Rattle.schema_rules.specs.declared.why.SchemaWhy.{SchemaWhy}
 use Rattle.schema_rules.specs.declared.why.SchemaWhy.TheVariants as why
@@ -11,10 +12,6 @@ use Rattle.schema_rules.specs.declared.roles.Position.TheVariants.{Anywhere, Fir
 use Rattle.schema_rules.specs.declared.roles.Part.{Part}
 use Rattle.schema_rules.specs.declared.elements.Placement.{Placement}
 use Rattle.schema_rules.specs.declared.elements.Placement.TheVariants.{Skipped, Refused, Placed}
-
--- section 2.6
-abbrev pub schema_space : List ℕ
-schema_space = codes "http://www.w3.org/2001/XMLSchema"
 
 -- what stands beside a name
 abbrev pub beside : {A : Type 0} → List ℕ → List (List ℕ × A) → Option A

@@ -1,6 +1,6 @@
 -- The bindings in scope, the innermost first (Namespaces in XML 1.0, section 6.1).
 use Rattle.std.specs.Prelude.{ℕ, List, [], ◌∷◌, ◌++◌}
-use Rattle.doc_text.specs.Namespaces.{xml_prefix, xml_space}
+use Rattle.xa_base.specs.Namespaces.{xml_prefix, xml_space}
 use Rattle.schema_rules.specs.declared.scopes.Scope.{Scope, Document, Element'}
 
 abbrev pub bindings_in : Scope → List (List ℕ × List ℕ)

@@ -1,13 +1,15 @@
 -- The values of attributes of schema documents (XML Schema Part 1, section 3, with the types of its schema in appendix A).
-use Rattle.std.specs.Prelude.{ℕ, Bool, true, false, ◌||◌, ◌&&◌, not, nat_le, List, [], ◌∷◌, bytes_eq, codes, length, Option, Some, None, unwrap_or, if◌then◌else◌}
+use Rattle.std.specs.Prelude.{ℕ, Bool, true, false, ◌||◌, ◌&&◌, not, List, [], ◌∷◌, bytes_eq, codes, Option, Some, None, unwrap_or, if◌then◌else◌}
 use Rattle.std.specs.List.{list_any, list_all}
 use Rattle.std.specs.Option.{is_some}
 use Rattle.std.specs.Str.{chars}
 use Rattle.xa_base.specs.Characters.{is_ncname}
 use Rattle.xa_base.specs.WhiteSpace.{words_of}
-use Rattle.doc_text.specs.Sound.{is_empty, xmlns_space}
-use Rattle.schema_rules.specs.Elements.{beside, has_name, schema_space}
-use Rattle.schema_rules.specs.Numbers.{is_number, is_over, is_zero, number_of, small}
+use Rattle.xa_base.specs.Limits.{is_empty, is_short_space, is_short_part}
+use Rattle.xa_base.specs.Namespaces.{xmlns_space, schema_space, xsi_space}
+use Rattle.xa_base.specs.Digits.{is_numeral, number_of}
+use Rattle.schema_rules.specs.Elements.{beside, has_name}
+use Rattle.schema_rules.specs.Numbers.{is_over, is_zero, small}
 use Rattle.schema_rules.specs.References.{resolved, type_name}
 use Rattle.schema_rules.specs.declared.roles.Role.{Role}
 use Rattle.schema_rules.specs.declared.roles.Role.TheVariants.{GlobalAttribute, LocalAttribute}
@@ -35,26 +37,22 @@ prescriptions = codes "optional" ∷ codes "required" ∷ codes "prohibited" ∷
 abbrev pub unbounded : List ℕ
 unbounded = codes "unbounded"
 
--- the namespace of `nil` and `type` in documents (Part 1, section 2.6)
-abbrev pub instance_space : List ℕ
-instance_space = codes "http://www.w3.org/2001/XMLSchema-instance"
-
 -- a name that is declared: an NCName within the limit
 abbrev pub is_name : List ℕ → Bool
-is_name text = is_ncname (chars text) && nat_le (length text) 255
+is_name text = is_ncname (chars text) && is_short_part text
 
 -- a namespace that names of documents may have, but for those that are taken
 abbrev pub is_target : List ℕ → Bool
 is_target space =
-    not (is_empty space) && nat_le (length space) 1023 && not (bytes_eq space schema_space) && not (bytes_eq space instance_space)
+    not (is_empty space) && is_short_space space && not (bytes_eq space schema_space) && not (bytes_eq space xsi_space)
     && not (bytes_eq space xmlns_space)
 
 abbrev pub has_form : List (List ℕ × List ℕ) → Form → List ℕ → Bool
 has_form scope Truth value = is_some (beside value truth_values)
 has_form scope Qualification value = is_some (beside value qualifications)
 has_form scope Prescription value = has_name value prescriptions
-has_form scope Digits value = is_number value
-has_form scope DigitsOrUnbounded value = is_number value || bytes_eq value unbounded
+has_form scope Digits value = is_numeral value
+has_form scope DigitsOrUnbounded value = is_numeral value || bytes_eq value unbounded
 has_form scope NcName value = is_name value
 has_form scope Reference value = is_some (resolved scope value)
 has_form scope TypeName value = is_some (type_name scope value)
@@ -93,7 +91,7 @@ has_bad_value role scope own = has_malformed scope own || is_xmlns role own || i
 -- ---- occurrences
 
 abbrev pub occurrences : List ℕ → Option ℕ
-occurrences text = if is_number text then small (number_of text) else None
+occurrences text = if is_numeral text then small (number_of text) else None
 
 abbrev pub least_of : List (List ℕ × List ℕ) → ℕ
 least_of own = unwrap_or (occurrences (digits_of (codes "minOccurs") own)) 1

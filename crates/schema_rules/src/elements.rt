@@ -4,10 +4,7 @@ ghost use Rattle.schema_rules.specs.Elements as table;
 
 use crate::roles::{Part, Position, Role, child_of};
 use crate::why::SchemaWhy;
-use xa_base::Name;
-
-/// The namespace of schema documents (XML Schema Part 1, section 2.6).
-pub(crate) const SCHEMA_SPACE: &[u8] = b"http://www.w3.org/2001/XMLSchema";
+use xa_base::{Name, SCHEMA_SPACE};
 
 /// What an element is in its parent.
 #[derive(Clone, Copy, Debug, PartialEq, Eq)]
@@ -104,7 +101,7 @@ fn placed(before: Option<Position>, found: Option<Part>) -> Placement
 pub fn is_schema_name(name: &Name) -> bool
     ensures { result ≡ table.is_schema_name name.now }
 {
-    name.space.bytes() == SCHEMA_SPACE
+    name.space.bytes() == SCHEMA_SPACE.as_bytes()
 }
 
 // What an element of the schema namespace is, but for an annotation.

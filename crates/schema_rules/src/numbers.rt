@@ -1,27 +1,11 @@
 //! Numbers of occurrences, in digits.
 ghost use Rattle.std.specs.Prelude.{◌≡◌, ◌==◌, true};
 ghost use Rattle.std.specs.List.{list_all};
+ghost use Rattle.xa_base.specs.Digits as digits;
 ghost use Rattle.schema_rules.specs.Private.Comparing as comparing;
 ghost use Rattle.schema_rules.specs.Numbers as numbers;
 
-fn is_digit(byte: u8) -> bool
-    ensures { result ≡ numbers.is_digit byte }
-{
-    b'0' <= byte && byte <= b'9'
-}
-
-fn are_digits(text: &[u8]) -> bool
-    ensures { result ≡ list_all numbers.is_digit text.now }
-{
-    text.iter().all(|byte| is_digit(*byte))
-}
-
-/// Whether the text is one digit or more, and nothing else.
-pub fn is_number(text: &[u8]) -> bool
-    ensures { result ≡ numbers.is_number text.now }
-{
-    !text.is_empty() && are_digits(text)
-}
+use xa_base::is_numeral;
 
 fn are_zeros(text: &[u8]) -> bool
     ensures { result ≡ list_all (λ b. b == 48) text.now }
@@ -38,8 +22,8 @@ pub fn is_zero(text: &[u8]) -> bool
 
 /// The number in digits, if it is below 2^32.
 pub fn small_number(digits: &[u8]) -> Option<u32>
-    requires { list_all numbers.is_digit digits.now ≡ true }
-    ensures { result ≡ numbers.small (numbers.number_of digits.now) }
+    requires { list_all digits.is_digit digits.now ≡ true }
+    ensures { result ≡ numbers.small (digits.number_of digits.now) }
 {
     let mut number = 0u64;
     let mut rest = digits;
@@ -57,7 +41,7 @@ pub fn small_number(digits: &[u8]) -> Option<u32>
 pub fn is_large(text: &[u8]) -> bool
     ensures { result ≡ numbers.is_large text.now }
 {
-    is_number(text) && small_number(text).is_none()
+    is_numeral(text) && small_number(text).is_none()
 }
 
 // The digits from the first one on that isn't zero.
@@ -105,5 +89,5 @@ fn is_greater(a: &[u8], b: &[u8]) -> bool
 pub fn is_over(a: &[u8], b: &[u8]) -> bool
     ensures { result ≡ numbers.is_over a.now b.now }
 {
-    is_number(a) && is_number(b) && is_greater(without_zeros(a), without_zeros(b))
+    is_numeral(a) && is_numeral(b) && is_greater(without_zeros(a), without_zeros(b))
 }

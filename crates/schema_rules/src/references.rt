@@ -5,11 +5,10 @@ ghost use Rattle.schema_rules.specs.References as table;
 ghost use Rattle.schema_rules.specs.Scopes.{bindings_in};
 ghost use Rattle.schema_rules.specs.Seen.{name_seen, type_seen};
 
-use crate::elements::SCHEMA_SPACE;
 use crate::scopes::Scope;
 use crate::why::SchemaWhy;
 use simple_types::Builtin;
-use xa_base::is_ncname_text;
+use xa_base::{SCHEMA_SPACE, is_ncname_text};
 
 /// The expanded name that a reference stands for. The empty namespace stands for none.
 #[derive(Clone, Copy)]
@@ -149,7 +148,7 @@ fn type_named<'s, 't>(found: Option<Resolved<'s, 't>>) -> Option<TypeName<'s, 't
 {
     match found {
         None => None,
-        Some(name) if name.space == SCHEMA_SPACE => datatype(name.local),
+        Some(name) if name.space == SCHEMA_SPACE.as_bytes() => datatype(name.local),
         Some(name) => Some(TypeName::Elsewhere(name)),
     }
 }

@@ -1,6 +1,7 @@
 //! The namespaces in scope at an element.
 ghost use Rattle.std.specs.Prelude.{◌≡◌, ◌++◌, IfOk, option_map};
-ghost use Rattle.doc_text.specs.Namespaces.{space_of, xml_space};
+ghost use Rattle.xa_base.specs.Entries.{beside};
+ghost use Rattle.xa_base.specs.Namespaces.{xml_space};
 ghost use Rattle.schema_rules.specs.Private.Finding.{Finds};
 ghost use Rattle.schema_rules.specs.Scopes.{bindings_in};
 
@@ -8,7 +9,7 @@ use doc_text::Bindings;
 use std::alloc::Global;
 use std::collections::BTreeMap;
 use std::marker::Model;
-use xa_base::{Memory, Text};
+use xa_base::{Memory, Text, XML_SPACE};
 
 /// The namespaces that one element binds, each a prefix with a namespace, in the order written.
 #[derive(Drop)]
@@ -55,7 +56,7 @@ impl<'a> Declared<'a> {
     }
 
     fn space_of(&self, prefix: &[u8]) -> Option<&'a [u8]>
-        ensures { option_map (λ space. space.now) result ≡ space_of prefix.now self.now }
+        ensures { option_map (λ space. space.now) result ≡ beside prefix.now self.now }
     {
         self.spaces.get(prefix).copied()
     }
@@ -71,14 +72,12 @@ pub enum Scope<'a, 'b> {
     Element(Declared<'a>, &'b Scope<'a, 'b>),
 }
 
-const XML_SPACE: &[u8] = b"http://www.w3.org/XML/1998/namespace";
-
 // What is bound outside the root.
 fn outside<'a>(prefix: &[u8]) -> Option<&'a [u8]>
-    ensures { option_map (λ space. space.now) result ≡ space_of prefix.now (bindings_in Scope.Document) }
+    ensures { option_map (λ space. space.now) result ≡ beside prefix.now (bindings_in Scope.Document) }
 {
     if prefix == b"xml".as_slice() {
-        Some(XML_SPACE)
+        Some(XML_SPACE.as_bytes())
     } else {
         None
     }
@@ -101,7 +100,7 @@ impl<'a, 'b> Scope<'a, 'b> {
     /// The namespace that the prefix is bound to. The time grows with the number of open elements, and for each of them
     /// with the logarithm of the number of its bindings.
     pub fn space_of(&self, prefix: &[u8]) -> Option<&'a [u8]>
-        ensures { option_map (λ space. space.now) result ≡ space_of prefix.now (bindings_in self.now) }
+        ensures { option_map (λ space. space.now) result ≡ beside prefix.now (bindings_in self.now) }
     {
         match self {
             Scope::Document => outside(prefix),

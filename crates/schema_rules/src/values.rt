@@ -9,12 +9,11 @@ ghost use Rattle.schema_rules.specs.Scopes.{bindings_in};
 ghost use Rattle.schema_rules.specs.Values as table;
 
 use crate::attributes::value_of;
-use crate::elements::SCHEMA_SPACE;
-use crate::numbers::{is_number, is_over, is_zero, small_number};
+use crate::numbers::{is_over, is_zero, small_number};
 use crate::references::{resolve, type_of};
 use crate::roles::Role;
 use crate::scopes::Scope;
-use xa_base::{Text, first_word, is_ncname};
+use xa_base::{SCHEMA_SPACE, Text, XMLNS_SPACE, XSI_SPACE, first_word, is_ncname, is_numeral, is_short_part, is_short_space};
 
 /// The form of an attribute's value.
 #[derive(Clone, Copy, Debug, PartialEq, Eq)]
@@ -91,22 +90,18 @@ fn is_prescription(text: &str) -> bool
 fn is_name(text: &Text) -> bool
     ensures { result ≡ table.is_name text.now }
 {
-    is_ncname(text) && text.bytes().len() <= 255
+    is_ncname(text) && is_short_part(text.bytes())
 }
 
 fn is_target(space: &[u8]) -> bool
     ensures { result ≡ table.is_target space.now }
 {
     !space.is_empty()
-        && space.len() <= 1023
-        && space != SCHEMA_SPACE
-        && space != INSTANCE_SPACE
-        && space != XMLNS_SPACE
+        && is_short_space(space)
+        && space != SCHEMA_SPACE.as_bytes()
+        && space != XSI_SPACE.as_bytes()
+        && space != XMLNS_SPACE.as_bytes()
 }
-
-const INSTANCE_SPACE: &[u8] = b"http://www.w3.org/2001/XMLSchema-instance";
-
-const XMLNS_SPACE: &[u8] = b"http://www.w3.org/2000/xmlns/";
 
 // Whether each word is the name of a type.
 fn are_type_names(scope: &Scope<'_, '_>, text: &str) -> bool
@@ -130,9 +125,9 @@ fn has_form(scope: &Scope<'_, '_>, form: Form, value: &Text) -> bool
         Form::Truth => truth_of(value.as_str()).is_some(),
         Form::Qualification => qualification_of(value.as_str()).is_some(),
         Form::Prescription => is_prescription(value.as_str()),
-        Form::Digits => is_number(value.bytes()),
+        Form::Digits => is_numeral(value.bytes()),
         Form::DigitsOrUnbounded => {
-            is_number(value.bytes()) || value.bytes() == b"unbounded".as_slice()
+            is_numeral(value.bytes()) || value.bytes() == b"unbounded".as_slice()
         }
         Form::NcName => is_name(value),
         Form::Reference => resolve(scope, value.as_str()).is_some(),
@@ -200,7 +195,7 @@ pub fn has_bad_value(role: Role, scope: &Scope<'_, '_>, own: &[(Text, Text)]) ->
 fn occurrences(text: &[u8]) -> Option<u32>
     ensures { result ≡ table.occurrences text.now }
 {
-    if is_number(text) {
+    if is_numeral(text) {
         small_number(text)
     } else {
         None

@@ -6,7 +6,8 @@ use Rattle.std.proofs.lemmas.Bool.{true≢false}
 use Rattle.xa_base.specs.declared.white_space.WhiteSpace.TheVariants.{Collapse}
 use Rattle.xa_base.specs.WhiteSpace.{has_bytes, words_of, treated}
 use Rattle.xa_base.proofs.WordLaws.{word_has}
-use Rattle.simple_values.specs.Lexical.{is_digit, is_numeral, whole_number, boolean_of}
+use Rattle.xa_base.specs.Digits.{is_digit, is_numeral}
+use Rattle.simple_values.specs.Lexical.{whole_number, boolean_of}
 use Rattle.simple_values.specs.Written.{Writes}
 use Rattle.simple_values.proofs.WholeNumbers.{and-first, and-second, unwritten}
 

@@ -10,7 +10,8 @@ use Rattle.std.proofs.lemmas.Fmt.{decimal_is_IsNumeral_wide}
 use Rattle.std.proofs.lemmas.List.Elements.{All-nil, All-cons}
 use Rattle.std.proofs.lemmas.Str.Parse.{digit_from_value}
 use Rattle.xa_base.specs.WhiteSpace.{is_white_space, IsWord}
-use Rattle.simple_values.specs.Lexical.{is_digit, is_numeral, whole_number, is_128_bits}
+use Rattle.xa_base.specs.Digits.{is_digit, is_numeral}
+use Rattle.simple_values.specs.Lexical.{whole_number, is_128_bits}
 use Rattle.simple_values.proofs.WholeNumbers.{and-first, and-second}
 
 digit_from : (c : ℕ) → digit_value c < 10 → is_digit c ≡ true

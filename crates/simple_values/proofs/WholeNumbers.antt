@@ -7,10 +7,11 @@ use Rattle.std.specs.Str.Parse.{AllDigits, IsNumeral, digits_value, without_lead
 use Rattle.std.proofs.lemmas.Bool.{true≢false, lt-ltb, ltb-true, leb-true}
 use Rattle.std.proofs.lemmas.Str.{digit_value_digit}
 use mir.Syntax.{w128}
+use Rattle.xa_base.specs.Digits.{is_digit, is_numeral}
 use Rattle.simple_values.specs.declared.numbers.Whole.TheVariants.{Within, Above, Below}
 use Rattle.std.specs.Str.{chars}
 use Rattle.xa_base.specs.Characters.{is_name_char}
-use Rattle.simple_values.specs.Lexical.{is_nmtoken, is_digit, is_numeral, whole_number, is_128_bits}
+use Rattle.simple_values.specs.Lexical.{is_nmtoken, whole_number, is_128_bits}
 use Rattle.simple_values.specs.Written.{Writes, Shows}
 use Rattle.simple_values.specs.Reading.{number_from, item_at}
 use Rattle.std.specs.Ordering.{int_eq}

@@ -6,6 +6,8 @@ use Rattle.std.specs.List.{list_all, slice_split, position_or_len}
 use Rattle.std.specs.Str.{chars}
 use Rattle.std.specs.Str.Parse.{without_leading_sign, signed_digits_value}
 use Rattle.xa_base.specs.WhiteSpace.{has_bytes}
+use Rattle.xa_base.specs.Digits.{is_digit, is_numeral}
+use Rattle.xa_base.specs.Entries.{beside}
 use Rattle.xa_base.specs.Characters.{is_name_char, is_name, is_ncname}
 use Rattle.simple_types.specs.declared.simples.Class.{Class}
 use Rattle.simple_types.specs.declared.simples.Class.TheVariants.{Any, Language, NmToken, Name, NcName}
@@ -14,25 +16,13 @@ use Rattle.simple_types.specs.declared.simples.Class.TheVariants.{Any, Language,
 abbrev pub boolean_texts : List (List ℕ × Bool)
 boolean_texts = (codes "true", true) ∷ (codes "1", true) ∷ (codes "false", false) ∷ (codes "0", false) ∷ []
 
--- what stands beside the text in the table
-abbrev pub beside : List (List ℕ × Bool) → List ℕ → Option Bool
-beside [] text = None
-beside (entry ∷ entries) text = if bytes_eq entry.0 text then Some entry.1 else beside entries text
-
 abbrev pub boolean_of : List ℕ → Option Bool
-boolean_of text = beside boolean_texts text
+boolean_of text = beside text boolean_texts
 
 -- section 3.2.2.2: the canonical ones
 abbrev pub boolean_text : Bool → List ℕ
 boolean_text true = codes "true"
 boolean_text false = codes "false"
-
-abbrev pub is_digit : ℕ → Bool
-is_digit b = nat_le 0x30 b && nat_le b 0x39
-
--- one digit or more
-abbrev pub is_numeral : List ℕ → Bool
-is_numeral text = has_bytes text && list_all is_digit text
 
 -- section 3.3.13.1: an optional sign and a numeral; the profile takes a sign for the unsigned types too. The canonical
 -- text of a number, by section 3.3.13.2, is `signed_decimal` of it: no `+`, no needless zero, no sign of zero.

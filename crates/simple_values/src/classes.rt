@@ -3,11 +3,12 @@ ghost use Rattle.std.specs.Prelude.{◌≡◌, ◌&&◌, ◌||◌, length, nat_l
 ghost use Rattle.std.specs.List.{list_all, position_or_len, slice_split};
 ghost use Rattle.std.specs.Str.{chars};
 ghost use Rattle.xa_base.specs.Characters.{is_xml_char};
+ghost use Rattle.xa_base.specs.Digits.{is_digit};
 ghost use Rattle.simple_values.specs.Lexical as lexical;
 ghost use Rattle.simple_values.specs.Reading.{has_characters};
 
 use simple_types::Class;
-use xa_base::{is_name_char, is_name_text, is_ncname_text, is_xml_char};
+use xa_base::{is_digit, is_name_char, is_name_text, is_ncname_text, is_xml_char};
 
 fn is_letter(b: u8) -> bool
     ensures { result ≡ lexical.is_letter b }
@@ -16,13 +17,13 @@ fn is_letter(b: u8) -> bool
 }
 
 fn is_letter_or_digit(b: u8) -> bool
-    ensures { result ≡ (lexical.is_letter b || lexical.is_digit b) }
+    ensures { result ≡ (lexical.is_letter b || is_digit b) }
 {
-    is_letter(b) || matches!(b, b'0'..=b'9')
+    is_letter(b) || is_digit(b)
 }
 
 fn are_letters_or_digits(bytes: &[u8]) -> bool
-    ensures { result ≡ list_all (λ b. lexical.is_letter b || lexical.is_digit b) bytes.now }
+    ensures { result ≡ list_all (λ b. lexical.is_letter b || is_digit b) bytes.now }
 {
     bytes.iter().all(|b| is_letter_or_digit(*b))
 }

@@ -6,7 +6,7 @@ ghost use Rattle.xa_base.specs.WhiteSpace.{words_of, treated};
 ghost use Rattle.simple_values.specs.Lexical as lexical;
 ghost use Rattle.simple_values.specs.Written.{Writes, Shows};
 
-use xa_base::{WhiteSpace, first_word};
+use xa_base::{WhiteSpace, first_word, is_numeral};
 
 /// A whole number, as far as 128 bits show it.
 #[derive(Clone, Copy)]
@@ -16,19 +16,6 @@ pub enum Whole {
     Above,
     /// Under -2^127.
     Below,
-}
-
-fn is_digit(b: u8) -> bool
-    ensures { result ≡ lexical.is_digit b }
-{
-    matches!(b, b'0'..=b'9')
-}
-
-/// Whether the bytes are one digit or more.
-pub fn is_numeral(bytes: &[u8]) -> bool
-    ensures { result ≡ lexical.is_numeral bytes.now }
-{
-    !bytes.is_empty() && bytes.iter().all(|b| is_digit(*b))
 }
 
 fn has_minus(bytes: &[u8]) -> bool

@@ -6,7 +6,8 @@ use Rattle.std.proofs.lemmas.Bool.{eqb-true}
 use Rattle.std.proofs.lemmas.Str.{chars-nil}
 use Rattle.xa_base.specs.Characters.{is_ncname}
 use Rattle.xa_base.specs.declared.texts.Name.{Name}
-use Rattle.transcode_core.specs.Words.{number_from, root_of, braced}
+use Rattle.xa_base.specs.Digits.{number_from}
+use Rattle.transcode_core.specs.Words.{root_of, braced}
 
 -- more digits make no number less
 pub le-number_from : (n : ℕ) (bs : List ℕ) → n ≤ number_from n bs

@@ -1,8 +1,10 @@
 -- The words of the command line.
-use Rattle.std.specs.Prelude.{ℕ, Bool, false, ◌+◌, ◌-◌, ◌*◌, ◌&&◌, not, ◌==◌, List, [], ◌∷◌, length, nat_le, nat_lt, bytes_eq, codes, Option, Some, None, option_map, if◌then◌else◌}
+use Rattle.std.specs.Prelude.{ℕ, Bool, false, ◌&&◌, not, ◌==◌, List, [], ◌∷◌, length, nat_le, nat_lt, bytes_eq, codes, Option, Some, None, option_map, if◌then◌else◌}
 use Rattle.std.specs.List.{list_all, position_or_len, before_first, after_first}
 use Rattle.std.specs.Str.{chars}
 use Rattle.xa_base.specs.Characters.{is_xml_char, is_ncname}
+use Rattle.xa_base.specs.Digits.{is_digit, number_of}
+use Rattle.xa_base.specs.Limits.{is_short_space}
 use Rattle.xa_base.specs.declared.texts.Name.{Name}
 
 -- what the words ask for: a command with its root and its files, or its number
@@ -23,7 +25,7 @@ is_space_char c = is_xml_char c && not (c == 123) && not (c == 125)
 
 -- a namespace of 1 to 1,023 bytes
 abbrev pub is_space : List ℕ → Bool
-is_space space = nat_le 1 (length space) && nat_le (length space) 1023 && list_all is_space_char (chars space)
+is_space space = nat_le 1 (length space) && is_short_space space && list_all is_space_char (chars space)
 
 abbrev pub is_closing : ℕ → Bool
 is_closing b = b == 125
@@ -43,21 +45,13 @@ root_of (b ∷ bs) =
     else if is_ncname (chars (b ∷ bs)) then Some (record { space = []; local = b ∷ bs })
     else None
 
-abbrev pub is_digit : ℕ → Bool
-is_digit b = nat_le 48 b && nat_le b 57
-
--- the number that goes on with these digits
-abbrev pub number_from : ℕ → List ℕ → ℕ
-number_from n [] = n
-number_from n (b ∷ bs) = number_from (10 * n + (b - 48)) bs
-
 -- from 1 to 100,000, in digits and without a leading zero
 abbrev pub is_count : List ℕ → Bool
 is_count [] = false
-is_count (b ∷ bs) = list_all is_digit (b ∷ bs) && not (b == 48) && nat_le (number_from 0 (b ∷ bs)) 100000
+is_count (b ∷ bs) = list_all is_digit (b ∷ bs) && not (b == 48) && nat_le (number_of (b ∷ bs)) 100000
 
 abbrev pub count_of : List ℕ → Option ℕ
-count_of word = if is_count word then Some (number_from 0 word) else None
+count_of word = if is_count word then Some (number_of word) else None
 
 -- a root and its files
 abbrev pub rooted_parts : List (List ℕ) → Option (Name × List (List ℕ))

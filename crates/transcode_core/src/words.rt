@@ -2,13 +2,14 @@
 ghost use Rattle.std.specs.Prelude.{◌≡◌, true, ℕ, List, ◌∷◌, MatchOption, Some, None, ◌+◌, ◌≤◌, ◌<◌, ◌^◌, ◌*◌, ◌&&◌, length, nat_le, option_map};
 ghost use Rattle.std.specs.List.{list_all};
 ghost use Rattle.std.specs.Str.{chars};
+ghost use Rattle.xa_base.specs.Digits as digits;
 ghost use Rattle.transcode_core.specs.Words as command_line;
 ghost use Rattle.transcode_core.specs.Private.Requests.{root_seen, seen};
 ghost use Rattle.transcode_core.specs.Order.{Found};
 ghost use Rattle.transcode_core.specs.Causes.{Answers, Never};
 
 use crate::outcome::Outcome;
-use xa_base::{Text, is_ncname, is_ncname_text, is_xml_char};
+use xa_base::{Text, are_digits, is_ncname, is_ncname_text, is_short_space, is_xml_char};
 
 /// The name of a root element: its namespace, empty where there is none, and its local name.
 #[derive(Clone, Copy)]
@@ -53,7 +54,7 @@ fn has_space_chars(space: &str) -> bool
 fn is_space(space: &str) -> bool
     ensures { result ≡ command_line.is_space space.now }
 {
-    1 <= space.len() && space.len() <= 1023 && has_space_chars(space)
+    1 <= space.len() && is_short_space(space.as_bytes()) && has_space_chars(space)
 }
 
 // What stands behind `{`: a namespace, `}` and an NCName.
@@ -71,23 +72,11 @@ fn braced(text: &str) -> Option<Root<'_>>
     }
 }
 
-fn is_digit(byte: u8) -> bool
-    ensures { result ≡ command_line.is_digit byte }
-{
-    48 <= byte && byte <= 57
-}
-
-fn are_digits(word: &[u8]) -> bool
-    ensures { result ≡ list_all command_line.is_digit word.now }
-{
-    word.iter().all(|byte| is_digit(*byte))
-}
-
 // The number in digits, if it is at most 100,000.
 fn number_of(digits: &[u8]) -> Option<u32>
-    requires { list_all command_line.is_digit digits.now ≡ true }
-    ensures { MatchOption result (100000 < command_line.number_from 0 digits.now)
-        (λ number. (number ≡ command_line.number_from 0 digits.now) × (number ≤ 100000)) }
+    requires { list_all digits.is_digit digits.now ≡ true }
+    ensures { MatchOption result (100000 < digits.number_from 0 digits.now)
+        (λ number. (number ≡ digits.number_from 0 digits.now) × (number ≤ 100000)) }
 {
     let mut number = 0u32;
     let mut rest = digits;

@@ -1,10 +1,11 @@
 -- What a reader of the code has so far, as a state.
 use Rattle.std.specs.Prelude.{◌≡◌, ℕ, true, false, List, [], ◌∷◌, ◌++◌, map, reverse, None, string_bytes, IsUtf8}
+use Rattle.xa_base.specs.Namespaces.{xml_prefix, xml_space}
 use Rattle.doc_pieces.specs.Pieces.{Piece, Declaration, Start, Empty, End, Comment, Instruction, CData, Reference, Character}
 use Rattle.doc_text.specs.declared.builder.Frame.{Frame}
 use Rattle.doc_text.specs.declared.builder.Builder.{Builder}
 use Rattle.std.specs.List.{flat_map}
-use Rattle.doc_text.specs.Namespaces.{xml_prefix, xml_space, is_qname, is_long, is_unbound, prefix_of}
+use Rattle.doc_text.specs.Namespaces.{is_qname, is_long, is_unbound, prefix_of}
 use Rattle.doc_text.specs.Contexts.{Open, is_nil, scope, reason}
 use Rattle.doc_text.specs.Private.Entering.{have_utf8}
 use Rattle.doc_text.specs.Private.States.{Above, State, nothing, context, kids_of_state, closed, step}

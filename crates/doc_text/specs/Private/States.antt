@@ -1,11 +1,11 @@
 -- What a reader has so far, as one value: what it does at a piece is a step from one to the next.
 use Rattle.std.specs.Prelude.{ℕ, Bool, true, false, List, [], ◌∷◌, ◌++◌, map, encode_utf8, if◌then◌else◌}
 use Rattle.xa_base.specs.declared.texts.Name.{Name}
+use Rattle.xa_base.specs.Limits.{is_empty}
 use Rattle.label_tree.specs.Rose.{Rose, node, none, roses_of}
 use Rattle.doc_pieces.specs.Pieces.{Tag, Piece, Declaration, Start, Empty, End, Comment, Instruction, CData, Reference, Character}
 use Rattle.doc_text.specs.declared.label.ItemLabel.{ItemLabel}
 use Rattle.doc_text.specs.declared.label.ItemLabel.TheVariants.{Element, Text}
-use Rattle.doc_text.specs.Sound.{is_empty}
 use Rattle.doc_text.specs.Namespaces.{bindings_of, attributes_of, element_name}
 use Rattle.doc_text.specs.Contexts.{Context, Open, is_nil, scope, tag_scope, brackets_after}
 

@@ -7,10 +7,10 @@ use Rattle.std.specs.Cmp.Lexicographic.{slice_cmp}
 use Rattle.std.specs.BTreeMap.{BTreeMap, get_by}
 use Rattle.std.specs.Map.{lookup}
 use Rattle.std.specs.Option.{option_map}
-use Rattle.doc_text.specs.Sound.{is_empty}
+use Rattle.xa_base.specs.Limits.{is_empty}
+use Rattle.xa_base.specs.Namespaces.{xml_space, xsi_space}
 use Rattle.doc_write.specs.declared.prefixes.Prefix.{Prefix}
 use Rattle.doc_write.specs.declared.prefixes.Prefix.TheVariants.{Xsi, Numbered}
-use Rattle.doc_written.specs.Spaces.{xml_space, xsi_space}
 
 abbrev pub prefix_text : Prefix → List ℕ
 prefix_text Xsi = codes "xsi"

@@ -5,7 +5,7 @@ use Rattle.std.specs.Option.{option_map}
 use Rattle.std.specs.Ordering.{nat_cmp}
 use Rattle.std.specs.Cmp.Lexicographic.{slice_cmp}
 use Rattle.std.specs.BTreeMap.{BTreeMap, get_by}
-use Rattle.doc_text.specs.Namespaces.{space_of}
+use Rattle.xa_base.specs.Entries.{beside}
 
 -- what the table has beside the prefix
 abbrev pub found_in : BTreeMap (Bor (List ℕ)) (Bor (List ℕ)) → List ℕ → Option (List ℕ)
@@ -13,4 +13,4 @@ found_in spaces prefix = option_map (λ space. space.now) (get_by (λ key. slice
 
 -- the table has the namespace of each prefix that is bound
 abbrev pub Finds : List (List ℕ × List ℕ) → BTreeMap (Bor (List ℕ)) (Bor (List ℕ)) → Type 0
-Finds bindings spaces = (prefix : List ℕ) → found_in spaces prefix ≡ space_of prefix bindings
+Finds bindings spaces = (prefix : List ℕ) → found_in spaces prefix ≡ beside prefix bindings

@@ -1,5 +1,5 @@
 use Rattle.std.proofs.Common.{◌≡◌, drop}
-use Rattle.doc_text.specs.Bindings.{beside}
+use Rattle.xa_base.specs.Entries.{beside}
 use Rattle.doc_text.proofs.bindings.beside.Given as goal
 
 -- it is among those that are left

@@ -1,5 +1,5 @@
 use Rattle.std.proofs.Common.{sym, ap, ◌∙◌}
-use Rattle.simple_values.specs.Lexical.{is_numeral}
+use Rattle.xa_base.specs.Digits.{is_numeral}
 use Rattle.facet_rules.proofs.FacetWords.{too_long}
 use Rattle.facet_rules.proofs.facet_texts.parsed_length.Goals as goal
 

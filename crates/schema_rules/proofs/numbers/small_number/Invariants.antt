@@ -1,6 +1,6 @@
 use Rattle.std.proofs.Common.{◌≡◌, ◌<◌, true, length}
 use Rattle.std.specs.List.{list_all}
-use Rattle.schema_rules.specs.Numbers.{is_digit, number_from, number_of}
+use Rattle.xa_base.specs.Digits.{is_digit, number_from, number_of}
 use Rattle.schema_rules.proofs.numbers.small_number.Given as goal
 
 abbrev pub invariant-digits : goal.invariant-digits

@@ -1,7 +1,8 @@
 use Rattle.std.proofs.Common.{rules, tests, ◌||◌}
 use Rattle.std.proofs.lemmas.Iterator.{YieldsList-from_slice}
 use Rattle.std.proofs.lemmas.Iterator.Search.{all_from_yields_List}
-use Rattle.simple_values.specs.Lexical.{is_letter, is_digit}
+use Rattle.xa_base.specs.Digits.{is_digit}
+use Rattle.simple_values.specs.Lexical.{is_letter}
 use Rattle.simple_values.proofs.classes.are_letters_or_digits.Goals as goal
 
 pub returns : goal.returns

@@ -3,7 +3,7 @@ use Rattle.std.specs.Prelude.{FitsSigned}
 use Rattle.std.specs.Str.Parse.{without_leading_sign, starts_with_minus}
 use Rattle.std.proofs.lemmas.Int.{to_z-of_z}
 use mir.Syntax.{w128}
-use Rattle.simple_values.specs.Lexical.{is_numeral}
+use Rattle.xa_base.specs.Digits.{is_numeral}
 use Rattle.simple_values.proofs.WholeNumbers.{unwritten, written_within, written_below, written_above, numeral_is}
 use Rattle.simple_values.proofs.numbers.whole_number.Goals as goal
 

@@ -1,6 +1,6 @@
 use Rattle.std.proofs.Common.{◌≡◌, true, ◌≤◌, length}
 use Rattle.std.specs.List.{list_all}
-use Rattle.transcode_core.specs.Words.{is_digit, number_from}
+use Rattle.xa_base.specs.Digits.{is_digit, number_from}
 use Rattle.transcode_core.proofs.words.number_of.Given as goal
 
 -- the number so far goes on with the rest
