@@ -17,9 +17,9 @@ pub enum WhiteSpace {
     Collapse,
 }
 
-// White space of XML 1.0.
+/// Whether the byte is white space (XML 1.0, production [3] S).
 #[tactic(auto, unfolding(crate::specs::WhiteSpace::is_white_space))]
-fn is_white_space(b: u8) -> bool
+pub fn is_white_space(b: u8) -> bool
     ensures { result ≡ is_white_space b }
 {
     matches!(b, b' ' | b'\t' | b'\n' | b'\r')
