@@ -273,6 +273,11 @@ markup_at bytes =
     cdata_at)
     comment_at
 
+-- with which a comment, a CDATA section, an instruction or a declaration goes on behind its <
+abbrev pub is_marked : List ℕ → Bool
+is_marked [] = false
+is_marked (b ∷ bs) = b == 0x21 || b == 0x3F
+
 unfoldable pub piece_at : List ℕ → Option (Piece × List ℕ)
 piece_at bytes =
     ahead (behind (60 ∷ []) bytes)

@@ -137,11 +137,16 @@ fn is_ascii_start(b: u8) -> bool
     matches!(b, b'a'..=b'z' | b'A'..=b'Z' | b'_' | b':')
 }
 
+// Small letters first, since most names have no others.
 #[tactic(auto, unfolding(crate::specs::Reading::is_ascii_part))]
 fn is_ascii_part(b: u8) -> bool
     ensures { result ≡ reading.is_ascii_part b }
 {
-    matches!(b, b'a'..=b'z' | b'A'..=b'Z' | b'0'..=b':' | b'-' | b'.' | b'_')
+    if b >= b'a' {
+        b <= b'z'
+    } else {
+        matches!(b, b'A'..=b'Z' | b'0'..=b':' | b'-' | b'.' | b'_')
+    }
 }
 
 fn are_ascii_parts(bytes: &[u8]) -> bool
@@ -211,14 +216,25 @@ fn plain_name(bytes: &[u8]) -> Option<(&[u8], &[u8])>
 }
 
 // A Name, and what is behind it.
+#[inline]
 #[tactic(auto, unfolding(crate::specs::Reading::name_at))]
 pub fn name(bytes: &[u8]) -> Option<(&[u8], &[u8])>
     requires { IsUtf8 bytes.now }
     ensures { Gives (λ x. (x.0.now, x.1.now)) result (name_at bytes.now) }
 {
-    if let Some(plain) = plain_name(bytes) {
-        return Some(plain);
+    match plain_name(bytes) {
+        Some(plain) => Some(plain),
+        None => any_name(bytes),
     }
+}
+
+// A Name of any characters, and what is behind it.
+#[inline(never)]
+#[tactic(auto, unfolding(crate::specs::Reading::name_at))]
+fn any_name(bytes: &[u8]) -> Option<(&[u8], &[u8])>
+    requires { IsUtf8 bytes.now }
+    ensures { Gives (λ x. (x.0.now, x.1.now)) result (name_at bytes.now) }
+{
     let (name, rest) = bytes.split_at(name_len(bytes));
     if is_name(name) {
         Some((name, rest))
