@@ -26,4 +26,4 @@ pub use sinks::{MemorySink, Sink, SureSink};
 pub use sources::{Failed, MemorySource, Source, SureSource};
 pub use steps::Steps;
 pub use texts::{Memory, Name, Text, TextError};
-pub use white_space::{WhiteSpace, first_word, is_treated, is_white_space, treat};
+pub use white_space::{WhiteSpace, first_word, is_blank, is_treated, is_white_space, treat};
