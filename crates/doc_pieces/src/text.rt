@@ -155,14 +155,52 @@ fn are_ascii_parts(bytes: &[u8]) -> bool
     bytes.iter().all(|b| is_ascii_part(*b))
 }
 
-/// Whether the bytes are a Name of ASCII characters alone, as most names are: a test that decodes nothing.
-pub fn is_ascii_name(bytes: &[u8]) -> bool
+// Whether the bytes are a Name of ASCII characters alone, as most names are: a test that decodes nothing.
+fn is_ascii_name(bytes: &[u8]) -> bool
     ensures { result ≡ reading.is_ascii_name bytes.now }
 {
     let Some((first, rest)) = bytes.split_first() else {
         return false;
     };
     is_ascii_start(*first) && are_ascii_parts(rest)
+}
+
+#[tactic(auto, unfolding(crate::specs::Reading::is_ncname_start))]
+fn is_ncname_start(b: u8) -> bool
+    ensures { result ≡ reading.is_ncname_start b }
+{
+    if b >= b'a' {
+        b <= b'z'
+    } else {
+        matches!(b, b'A'..=b'Z' | b'_')
+    }
+}
+
+#[tactic(auto, unfolding(crate::specs::Reading::is_ncname_part))]
+fn is_ncname_part(b: u8) -> bool
+    ensures { result ≡ reading.is_ncname_part b }
+{
+    if b >= b'a' {
+        b <= b'z'
+    } else {
+        matches!(b, b'A'..=b'Z' | b'0'..=b'9' | b'-' | b'.' | b'_')
+    }
+}
+
+fn are_ncname_parts(bytes: &[u8]) -> bool
+    ensures { result ≡ list_all reading.is_ncname_part bytes.now }
+{
+    bytes.iter().all(|b| is_ncname_part(*b))
+}
+
+/// Whether the bytes are an NCName of ASCII characters alone, as most names are: a test that decodes nothing.
+pub fn is_ascii_ncname(bytes: &[u8]) -> bool
+    ensures { result ≡ reading.is_ascii_ncname bytes.now }
+{
+    let Some((first, rest)) = bytes.split_first() else {
+        return false;
+    };
+    is_ncname_start(*first) && are_ncname_parts(rest)
 }
 
 // Whether the bytes are a Name.
