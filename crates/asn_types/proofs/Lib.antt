@@ -4,6 +4,5 @@ pub mod Following
 pub mod Inside
 pub mod Placed
 mod Rows
-pub mod SampleLaws
 pub mod SimpleLaws
 pub mod Simpling

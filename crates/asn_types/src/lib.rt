@@ -21,6 +21,3 @@ pub use rules::own;
 pub use simples::simple_of;
 pub use types::{Component, Components, Form, TypeLabel};
 pub use values::is_value;
-
-#[cfg(test)]
-mod tests;

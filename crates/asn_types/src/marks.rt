@@ -2,7 +2,7 @@
 ghost use Rattle.std.specs.Prelude.{◌≡◌, ◌↔◌, ◌∷◌, [], IfOk, IsTrue, MatchOption};
 ghost use Rattle.asn_types.specs.Marks as marked;
 ghost use Rattle.asn_types.specs.Simples.{counting, white_space_marks};
-ghost use Rattle.asn_types.specs.Telling as telling;
+ghost use Rattle.asn_types.specs.Private.Telling as telling;
 
 use std::alloc::Global;
 use std::marker::Model;

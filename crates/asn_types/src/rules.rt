@@ -2,7 +2,7 @@
 ghost use Rattle.std.specs.Prelude.{◌≡◌, ◌-◌, ◌^◌, ◌↔◌, min, map, replicate, length, IfOk, IsTrue};
 ghost use Rattle.label_tree.specs.Rose.{label_of, kids_of, roses_of};
 ghost use Rattle.asn_types.specs.Modules.{AreWellFormed};
-ghost use Rattle.asn_types.specs.Placing.{place_seen};
+ghost use Rattle.asn_types.specs.Private.Placing.{place_seen};
 ghost use Rattle.asn_types.specs.Refs.{IsOf};
 ghost use Rattle.asn_types.specs.Values as rule;
 
