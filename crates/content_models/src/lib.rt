@@ -14,6 +14,3 @@ pub use laws::{
     law_of_first_names, law_of_next_leaves, law_of_some_lists, law_of_splits, law_of_unique_lists,
 };
 pub use particles::{Particle, ParticleKind, ParticleLabel};
-
-#[cfg(test)]
-mod tests;

@@ -16,11 +16,14 @@ use crate::names::{is_long, is_qname, prefix_of};
 use crate::scope::Scope;
 use crate::short_lists::push;
 use crate::tags::{enter, is_unbound, value_of};
+use doc_pieces::{Element, Found, plain_run, text_of};
 use label_tree::Tree;
 use std::alloc::Global;
 use std::mem;
 use xa_base::{Memory, Name, Text};
-use doc_pieces::{Element, Found, plain_run, text_of};
+
+// For how many kids there is room where an element has a first one and doesn't end behind it.
+const FEW: usize = 2;
 
 /// An element that is open, with what stands before it beside it.
 #[derive(Drop)]
@@ -94,8 +97,9 @@ impl<'a> Builder<'a> {
         })
     }
 
-    // Makes a node of the characters so far.
-    fn flush(&mut self) -> Result<(), Memory>
+    // Makes a node of the characters so far. `room` says how many kids an element has that has any.
+    fn flush(&mut self, room: usize) -> Result<(), Memory>
+        requires { 1 ≤ room }
         ensures { OnOk result (Flushed self.old self.new) }
     {
         if self.text.is_empty() {
@@ -106,7 +110,7 @@ impl<'a> Builder<'a> {
             text,
             at: self.text_at,
         };
-        push(&mut self.kids, Tree::leaf(self.alloc, label))?;
+        push(&mut self.kids, room, Tree::leaf(self.alloc, label))?;
         self.text.clear();
         Ok(())
     }
@@ -122,7 +126,7 @@ impl<'a> Builder<'a> {
             Ok(head) => head,
             Err(error) => return Err(error),
         };
-        self.flush()?;
+        self.flush(FEW)?;
         let before = mem::replace(&mut self.kids, Vec::new(self.alloc));
         self.open.push(Frame {
             written: tag.name,
@@ -149,14 +153,14 @@ impl<'a> Builder<'a> {
             Err(error) => return Err(error),
         };
         self.scope.leave(head.declares.items().len());
-        self.flush()?;
+        self.flush(FEW)?;
         let label = ItemLabel::Element {
             name: head.name,
             attributes: head.attributes,
             declares: head.declares,
             at,
         };
-        push(&mut self.kids, Tree::leaf(self.alloc, label))?;
+        push(&mut self.kids, FEW, Tree::leaf(self.alloc, label))?;
         self.ended = self.open.is_empty();
         self.first = false;
         self.brackets = 0;
@@ -221,7 +225,7 @@ impl<'a> Builder<'a> {
             declares,
             at,
         };
-        push(&mut self.kids, Tree::join(label, kids))?;
+        push(&mut self.kids, FEW, Tree::join(label, kids))?;
         self.ended = self.open.is_empty();
         self.first = false;
         self.brackets = 0;
@@ -236,7 +240,7 @@ impl<'a> Builder<'a> {
         if let Some(why) = self.end_reason(written) {
             return Err(DocError::Syntax { at, why });
         }
-        self.flush()?;
+        self.flush(1)?;
         self.close()?;
         Ok(())
     }

@@ -9,10 +9,3 @@ mod requirements;
 
 pub use faults::{Fault, first_fault};
 pub use laws::one_answer;
-
-#[cfg(test)]
-mod attribute_tests;
-#[cfg(test)]
-mod limit_tests;
-#[cfg(test)]
-mod tests;

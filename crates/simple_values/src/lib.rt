@@ -16,6 +16,3 @@ pub use laws::{accepted_holds, chain_ends, one_reading};
 pub use numbers::{Whole, collapsed_number, is_numeral, only_word};
 pub use reading::{SimpleError, is_within, place_of, place_of_word};
 pub use spelling::spell;
-
-#[cfg(test)]
-mod tests;
