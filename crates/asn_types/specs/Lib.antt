@@ -1,3 +1,5 @@
+pub mod Bounds
+pub mod Laws
 pub mod Marks
 pub mod Modules
 pub mod Parts
