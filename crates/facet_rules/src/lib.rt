@@ -11,7 +11,7 @@ mod narrowing;
 mod refusals;
 mod restricting;
 
-pub use making::{ItemError, UnionError, list_of, union_of};
+pub use making::{ItemError, UnionError, list_of, union_of, union_of_lent};
 pub use refusals::{FacetError, FacetWhy};
 pub use restricting::restrict;
 pub use simple_types::{

@@ -1,0 +1,8 @@
+//! The parts of schema documents, all in one list.
+#![tactic(auto)]
+
+mod parts;
+mod walk;
+
+pub use parts::{Part, TypeRole, What};
+pub use walk::document_parts;
