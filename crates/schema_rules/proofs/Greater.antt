@@ -4,7 +4,7 @@ use Rattle.std.specs.Prelude.{◌==◌, nat_lt, nat_le, ◌&&◌, ◌||◌, not}
 use Rattle.std.specs.List.{list_all}
 use Rattle.std.proofs.lemmas.Bool.{eqb-true, leb-true}
 use Rattle.std.proofs.lemmas.Bool.Decides.{nat_tests}
-use Rattle.xa_base.specs.Limits.{is_empty}
+use Rattle.xa_base.specs.WhiteSpace.{has_bytes}
 use Rattle.xa_base.specs.Digits.{is_digit, is_numeral, number_from, number_of}
 use Rattle.schema_rules.specs.Numbers.{is_over}
 use Rattle.schema_rules.specs.Private.Comparing.{without_zeros, is_later, is_greater}
@@ -143,8 +143,8 @@ by_lengths false false xs ys is more dx dy lx ly =
 
 numbers_alone : (a b : List ℕ) → is_numeral a ≡ true → is_numeral b ≡ true → is_greater (without_zeros a) (without_zeros b) ≡ nat_lt (number_of b) (number_of a)
 numbers_alone a b na nb =
-    let da : Digits a = digits_of a (second_true (not (is_empty a)) (list_all is_digit a) na) in
-    let db : Digits b = digits_of b (second_true (not (is_empty b)) (list_all is_digit b) nb) in
+    let da : Digits a = digits_of a (second_true (has_bytes a) (list_all is_digit a) na) in
+    let db : Digits b = digits_of b (second_true (has_bytes b) (list_all is_digit b) nb) in
     let xs = without_zeros a in
     let ys = without_zeros b in
     by_lengths (length xs == length ys) (nat_lt (length ys) (length xs)) xs ys refl refl (without_zeros-digits a da) (without_zeros-digits b db)
