@@ -48,7 +48,7 @@ nothing_missing M t is inside =
       no-reference M t is (well-formed M t is inside),
       (λ flags h e. present_there (label_of u) 0 parts (kids_of u) flags all h e),
       (λ i below e.
-        let part = within parts i below in
-        let type = within (kids_of u) i (omega (arith, all, below)) in
-        at_place (label_of u) i (slice_get parts i) (slice_get (kids_of u) i) part.0 type.0 part.1 type.1 e),
+          let part = within parts i below in
+          let type = within (kids_of u) i (omega (arith, all, below)) in
+          at_place (label_of u) i (slice_get parts i) (slice_get (kids_of u) i) part.0 type.0 part.1 type.1 e),
     )
