@@ -1,18 +1,19 @@
 # The two commands that do all: `make run` and `make test`.
 RT = rt
 PROGRAM = bin/ruvkhiska
+SOURCES = crates.txt $(shell find crates -name out -prune -o \( -name '*.rt' -o -name '*.antt' \) -print)
 
-# Proves and builds the program, puts it at bin/ruvkhiska, and encodes the example: it shows the octet 80.
+# Proves and builds the program, puts it at bin/ruvkhiska, and shows the module of an example.
 .PHONY: run
 run: $(PROGRAM)
-	$(PROGRAM) to-per f examples/f.xsd < examples/f.xml | od -An -tx1
+	$(PROGRAM) show examples/order.xsd
 
-$(PROGRAM): crates.txt $(wildcard crates/*/src/*.rt crates/*/specs/*.antt crates/*/proofs/*.antt)
-	cd crates/transcode_cmd && $(RT) run -- to-per f data/f.xsd < stdin > /dev/null
+$(PROGRAM): $(SOURCES)
+	cd crates/transcode_cmd && $(RT) run -- show data/collisions-1.xsd > /dev/null
 	mkdir -p bin
 	cp crates/transcode_cmd/out/transcode_cmd $(PROGRAM)
 
-# The merge gate: every proof, the edits that must be refused, the tests and the program.
+# The merge gate: every proof, the edits that must be refused, the tests and the programs.
 .PHONY: test
 test:
 	.ci/run

@@ -10,7 +10,7 @@ use Rattle.asn_types.specs.declared.types.Form.{Form}
 use Rattle.asn_types.specs.declared.types.Form.TheVariants as form
 use Rattle.asn_types.specs.declared.types.TypeLabel.{TypeLabel}
 use Rattle.asn_types.specs.Modules.{AreWellFormed, AllWellFormed}
-use Rattle.asn_types.specs.Placing.{ArePlaces}
+use Rattle.asn_types.specs.Private.Placing.{ArePlaces}
 use Rattle.asn_types.specs.Values.{Place, place_of, put_first, present_from, place_at, alone, repeated, none_if, places_in, places}
 use Rattle.asn_types.proofs.Inside.{kids-well_formed}
 

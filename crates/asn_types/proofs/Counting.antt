@@ -10,7 +10,7 @@ use Rattle.asn_types.specs.declared.modules.Assignment.{Assignment}
 use Rattle.asn_types.specs.declared.places.Place as code
 use Rattle.asn_types.specs.declared.types.TypeLabel.{TypeLabel}
 use Rattle.asn_types.specs.Modules.{AreWellFormed}
-use Rattle.asn_types.specs.Placing.{place_seen, ArePlaces, FitPlaces, FitKids}
+use Rattle.asn_types.specs.Private.Placing.{place_seen, ArePlaces, FitPlaces, FitKids}
 use Rattle.asn_types.specs.Refs.{resolve}
 use Rattle.asn_types.specs.Values.{Place, places, counted, child_count, count_in, below, FitsAt, FitEach, Own}
 

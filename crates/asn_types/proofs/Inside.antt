@@ -49,7 +49,7 @@ module _ (M : List Assignment) where
     from-target None u some = absurd cc
     from-target (Some k) u some = body-well_formed k u some
 
-    next-well_formed : (t u : Rose TypeLabel) → next M t ≡ Some u → AreWellFormed M u
+    pub next-well_formed : (t u : Rose TypeLabel) → next M t ≡ Some u → AreWellFormed M u
     next-well_formed t u some = from-target (target (label_of t).form) u some
 
     one-well_formed : (o : Option (Rose TypeLabel)) (f : Rose TypeLabel → Rose TypeLabel) (t : Rose TypeLabel) → AreWellFormed M t → ((u : Rose TypeLabel) → o ≡ Some u → AreWellFormed M (f u))

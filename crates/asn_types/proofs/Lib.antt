@@ -1,9 +1,11 @@
 pub mod Belonging
+pub mod Chaining
 pub mod Counting
 pub mod Following
 pub mod Inside
+mod Judging
 pub mod Placed
 mod Rows
-pub mod SampleLaws
+mod SeenBounds
 pub mod SimpleLaws
 pub mod Simpling

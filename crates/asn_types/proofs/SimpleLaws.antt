@@ -11,12 +11,11 @@ use Rattle.simple_types.specs.Sound.{Sound}
 use Rattle.asn_types.specs.declared.marks.Instruction.{Instruction}
 use Rattle.asn_types.specs.declared.marks.Instruction.TheVariants as mark
 use Rattle.asn_types.specs.declared.marks.Told.TheVariants as told_
-use Rattle.asn_types.specs.declared.types.Form.TheVariants as form
 use Rattle.asn_types.specs.declared.types.TypeLabel.{TypeLabel}
 use Rattle.asn_types.specs.Marks.{white_space_of}
-use Rattle.asn_types.specs.Spaces.{space_at, spaces_at, first_space}
+use Rattle.asn_types.specs.Spaces.{space_at, spaces_at}
 use Rattle.asn_types.specs.Simples.{counts, counting, white_space_marks, MapsTo, MapToEach, IsSimple}
-use Rattle.asn_types.specs.Telling.{told, beside, with_mark}
+use Rattle.asn_types.specs.Private.Telling.{told, beside, with_mark}
 
 -- one more instruction
 pub told-push : (xs : List Instruction) (m : Instruction) → told (xs ++ m ∷ []) ≡ beside (told xs) m

@@ -14,7 +14,7 @@ use Rattle.asn_types.specs.declared.types.Form.{Form}
 use Rattle.asn_types.specs.declared.types.Form.TheVariants as form
 use Rattle.asn_types.specs.declared.types.TypeLabel.{TypeLabel}
 use Rattle.asn_types.specs.Simples.{counting, IsPlain, ArePlain, MapsTo, MapToEach, IsSimple}
-use Rattle.asn_types.specs.Telling.{Finds}
+use Rattle.asn_types.specs.Private.Telling.{Finds}
 use Rattle.asn_types.specs.Spaces.{space_at, first_space, spaces_at}
 use Rattle.asn_types.proofs.SimpleLaws.{is_seen}
 

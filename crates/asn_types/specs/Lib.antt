@@ -1,11 +1,11 @@
+pub mod Bounds
+pub mod Laws
 pub mod Marks
 pub mod Modules
 pub mod Parts
-pub mod Placing
 pub mod Refs
 pub mod Roles
-pub mod Samples
 pub mod Simples
-pub mod Telling
-pub mod Values
 pub mod Spaces
+pub mod Values
+pub mod Private

@@ -1,6 +1,8 @@
 //! ASN.1 types with their encoding instructions, modules of them, and what is a value of a type.
 #![tactic(auto)]
 
+mod bounds;
+mod laws;
 mod marks;
 mod modules;
 mod parts;
@@ -12,6 +14,7 @@ mod simples;
 mod types;
 mod values;
 
+pub use laws::{references, types_of_modules};
 pub use marks::{Instruction, Marks};
 pub use modules::{Assignment, Module};
 pub use parts::{int_bounds, role, size_bounds};
@@ -21,6 +24,3 @@ pub use rules::own;
 pub use simples::simple_of;
 pub use types::{Component, Components, Form, TypeLabel};
 pub use values::is_value;
-
-#[cfg(test)]
-mod tests;

@@ -1,8 +1,10 @@
 //! Encoding instructions.
 ghost use Rattle.std.specs.Prelude.{◌≡◌, ◌↔◌, ◌∷◌, [], IfOk, IsTrue, MatchOption};
+ghost use Rattle.std.specs.List.{list_any};
 ghost use Rattle.asn_types.specs.Marks as marked;
+ghost use Rattle.asn_types.specs.Private.Seeking as seeking;
 ghost use Rattle.asn_types.specs.Simples.{counting, white_space_marks};
-ghost use Rattle.asn_types.specs.Telling as telling;
+ghost use Rattle.asn_types.specs.Private.Telling as telling;
 
 use std::alloc::Global;
 use std::marker::Model;
@@ -107,6 +109,32 @@ impl Instruction {
     }
 }
 
+/// An instruction that says alone what a part or its type stands for.
+#[derive(Clone, Copy)]
+enum Sought {
+    Attribute,
+    Untagged,
+    UseNil,
+    EmbedValues,
+    List,
+    UseUnion,
+}
+
+impl Sought {
+    fn is(self, mark: &Instruction) -> bool
+        ensures { result ≡ seeking.is_sought self mark.now }
+    {
+        match self {
+            Sought::Attribute => matches!(mark, Instruction::Attribute),
+            Sought::Untagged => matches!(mark, Instruction::Untagged),
+            Sought::UseNil => matches!(mark, Instruction::UseNil),
+            Sought::EmbedValues => matches!(mark, Instruction::EmbedValues),
+            Sought::List => matches!(mark, Instruction::List),
+            Sought::UseUnion => matches!(mark, Instruction::UseUnion),
+        }
+    }
+}
+
 /// Encoding instructions, in their order.
 #[derive(Drop)]
 pub struct Marks {
@@ -148,58 +176,52 @@ impl Marks {
         Ok(Marks::of(copies))
     }
 
+    fn has(&self, sought: Sought) -> bool
+        ensures { result ≡ list_any (seeking.is_sought sought) self.now }
+    {
+        self.items().iter().any(|mark| sought.is(mark))
+    }
+
     /// Whether ATTRIBUTE stands among them.
     pub fn has_attribute(&self) -> bool
         ensures { result ≡ marked.has_attribute self.now }
     {
-        self.items()
-            .iter()
-            .any(|mark| matches!(mark, Instruction::Attribute))
+        self.has(Sought::Attribute)
     }
 
     /// Whether UNTAGGED stands among them.
     pub fn has_untagged(&self) -> bool
         ensures { result ≡ marked.has_untagged self.now }
     {
-        self.items()
-            .iter()
-            .any(|mark| matches!(mark, Instruction::Untagged))
+        self.has(Sought::Untagged)
     }
 
     /// Whether USE-NIL stands among them.
     pub fn has_use_nil(&self) -> bool
         ensures { result ≡ marked.has_use_nil self.now }
     {
-        self.items()
-            .iter()
-            .any(|mark| matches!(mark, Instruction::UseNil))
+        self.has(Sought::UseNil)
     }
 
     /// Whether EMBED-VALUES stands among them.
     pub fn has_embed_values(&self) -> bool
         ensures { result ≡ marked.has_embed_values self.now }
     {
-        self.items()
-            .iter()
-            .any(|mark| matches!(mark, Instruction::EmbedValues))
+        self.has(Sought::EmbedValues)
     }
 
     /// Whether LIST stands among them.
     pub fn has_list(&self) -> bool
         ensures { result ≡ marked.has_list self.now }
     {
-        self.items()
-            .iter()
-            .any(|mark| matches!(mark, Instruction::List))
+        self.has(Sought::List)
     }
 
     /// Whether USE-UNION stands among them.
     pub fn has_use_union(&self) -> bool
         ensures { result ≡ marked.has_use_union self.now }
     {
-        self.items()
-            .iter()
-            .any(|mark| matches!(mark, Instruction::UseUnion))
+        self.has(Sought::UseUnion)
     }
 
     /// What the first WHITESPACE says, and to preserve where there is none.

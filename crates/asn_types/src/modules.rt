@@ -1,8 +1,10 @@
 //! Modules of types.
 ghost use Rattle.std.specs.Prelude.{◌≡◌, ◌<◌, Some, None, MatchOption, length, slice_get};
+ghost use Rattle.asn_types.specs.Bounds.{IsBounded};
 ghost use Rattle.asn_types.specs.Modules.{IsModule};
 ghost use Rattle.asn_types.specs.Refs.{body_at};
 
+use crate::bounds::see_assignments;
 use crate::marks::Marks;
 use crate::types::TypeLabel;
 use label_tree::{Tree, Whole};
@@ -35,18 +37,20 @@ impl Model for Module {
     ghost coded = { coded_list row.the_row.coded };
 
     ghost use Rattle.asn_types.specs.Modules.{IsModule};
+    ghost use Rattle.asn_types.specs.Bounds.{IsBounded};
 
     ghost view = { λ a. a.assignments.items };
 
-    ghost invariant = { λ a. IsModule a.assignments.items };
+    ghost invariant = { λ a. IsModule a.assignments.items × IsBounded a.assignments.items };
 }
 
 impl Module {
-    /// The module of these assignments.
+    /// The module of these assignments. It goes through all types once, and takes no memory.
     pub fn of(assignments: Vec<Assignment>) -> Module
         requires { IsModule assignments.items }
         ensures { result ≡ assignments.items }
     {
+        see_assignments(&assignments);
         Module { assignments }
     }
 
@@ -54,6 +58,7 @@ impl Module {
     pub fn count(&self) -> u32
         ensures count { result ≡ length self.now }
         ensures module { IsModule self.now }
+        ensures bounded { IsBounded self.now }
     {
         self.assignments.len() as u32
     }

@@ -2,7 +2,7 @@
 ghost use Rattle.std.specs.Prelude.{◌≡◌, ◌<◌, ◌∷◌, [], ℕ, ◌&&◌, IfOk, MatchOption, Some, None, length, map, slice_get};
 ghost use Rattle.simple_values.specs.Lexical.{is_128_bits, is_from, is_to};
 ghost use Rattle.asn_types.specs.Parts.{parts_of};
-ghost use Rattle.asn_types.specs.Placing.{place_seen, Found};
+ghost use Rattle.asn_types.specs.Private.Placing.{place_seen, Found};
 ghost use Rattle.asn_types.specs.Values as rule;
 
 use crate::roles::Role;

@@ -2,7 +2,7 @@
 ghost use Rattle.std.specs.Prelude.{◌≡◌, ◌-◌, ◌^◌, ◌↔◌, min, map, replicate, length, IfOk, IsTrue};
 ghost use Rattle.label_tree.specs.Rose.{label_of, kids_of, roses_of};
 ghost use Rattle.asn_types.specs.Modules.{AreWellFormed};
-ghost use Rattle.asn_types.specs.Placing.{place_seen};
+ghost use Rattle.asn_types.specs.Private.Placing.{place_seen};
 ghost use Rattle.asn_types.specs.Refs.{IsOf};
 ghost use Rattle.asn_types.specs.Values as rule;
 
@@ -165,7 +165,9 @@ fn has_texts(
     Ok(children < texts && texts - children == 1)
 }
 
-// Whether a value keeps the rules of its first node, where that is of this type, which is no reference.
+// Whether a value keeps the rules of its first node, where that is of this type, which is no reference. LIST stands on a
+// SEQUENCE OF alone, USE-UNION on a CHOICE and EMBED-VALUES on a SEQUENCE, so the instructions of other types, as the many
+// TEXT of an ENUMERATED, are not looked at.
 pub(crate) fn own_at(
     alloc: Global,
     module: &Module,
@@ -175,17 +177,20 @@ pub(crate) fn own_at(
     requires { AreWellFormed module.now node.now }
     ensures { IfOk result (λ b. IsTrue b ↔ rule.OwnAt module.now (label_of node.now) node.now value.now) }
 {
-    let marks = &node.label().marks;
-    if !is_text_of(node.label(), value.label()) {
-        return Ok(false);
+    let label = node.label();
+    match &label.form {
+        Form::Utf8 { .. } => Ok(is_text_of(label, value.label())),
+        Form::SequenceOf { .. } if label.marks.has_list() => {
+            is_spelled(alloc, module, node, value)
+        }
+        Form::Choice { .. } if label.marks.has_use_union() => {
+            is_spelled(alloc, module, node, value)
+        }
+        Form::Sequence { .. } if label.marks.has_embed_values() => {
+            has_texts(alloc, module, node, value)
+        }
+        _ => Ok(true),
     }
-    if (marks.has_list() || marks.has_use_union()) && !is_spelled(alloc, module, node, value)? {
-        return Ok(false);
-    }
-    if marks.has_embed_values() && !has_texts(alloc, module, node, value)? {
-        return Ok(false);
-    }
-    Ok(true)
 }
 
 /// Whether a value keeps the rules of its first node. A text has XML characters alone, its WHITESPACE leaves it as it

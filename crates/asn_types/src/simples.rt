@@ -8,7 +8,7 @@ ghost use Rattle.asn_types.specs.declared.types.TypeLabel.{TypeLabel};
 ghost use Rattle.asn_types.specs.Modules.{IsForm, AreWellFormed, AllWellFormed};
 ghost use Rattle.asn_types.specs.Refs.{IsOf, resolve};
 ghost use Rattle.asn_types.specs.Simples.{IsPlain, ArePlain, MapToEach};
-ghost use Rattle.asn_types.specs.Telling.{Finds, IsLeaf, IsFormOfWords, is_list};
+ghost use Rattle.asn_types.specs.Private.Telling.{Finds, IsLeaf, IsFormOfWords, is_list};
 
 use crate::modules::Module;
 use crate::resolving::resolve;

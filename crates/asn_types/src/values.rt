@@ -2,7 +2,7 @@
 ghost use Rattle.std.specs.Prelude.{◌≡◌, ◌≤◌, ◌<◌, ◌↔◌, map, replicate, length, IfOk, IsTrue};
 ghost use Rattle.label_tree.specs.Rose.{roses_of};
 ghost use Rattle.asn_types.specs.Modules.{AreWellFormed};
-ghost use Rattle.asn_types.specs.Placing.{place_seen, ArePlaces, FitKids};
+ghost use Rattle.asn_types.specs.Private.Placing.{place_seen, ArePlaces, FitKids};
 ghost use Rattle.asn_types.specs.Values as rule;
 
 use crate::modules::Module;

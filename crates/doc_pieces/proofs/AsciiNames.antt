@@ -1,12 +1,12 @@
 -- Names of ASCII characters, which are tested byte by byte.
 use Rattle.std.proofs.Common.{◌≡◌, ℕ, suc, ◌+◌, ◌<◌, Bool, true, false, cond, List, [], ◌∷◌, take, drop, Some, refl, sym, ap, subst, arith, inl, inr}
-use Rattle.std.specs.Prelude.{◌||◌, not, chars}
+use Rattle.std.specs.Prelude.{◌==◌, ◌&&◌, ◌||◌, not, chars}
 use Rattle.std.specs.List.{list_all, prefix_len}
 use Rattle.std.specs.Str.{IsAscii}
 use Rattle.std.proofs.lemmas.Str.{chars-IsAscii}
 use Rattle.std.proofs.lemmas.Str.Ascii.{IsAscii-nil, IsAscii-cons}
 use Rattle.xa_base.specs.Characters.{is_name, is_name_start, is_name_char}
-use Rattle.doc_pieces.specs.Reading.{is_name_byte, is_ascii_start, is_ascii_part, is_ascii_name, starts_ascii, starts_low, name_at}
+use Rattle.doc_pieces.specs.Reading.{is_name_byte, is_ascii_start, is_ascii_part, is_ascii_name, is_ncname_start, is_ncname_part, is_ascii_ncname, starts_ascii, starts_low, name_at}
 use Rattle.doc_pieces.proofs.Tools.{and_true, below, implied, tells}
 
 start_low : (b : ℕ) → is_ascii_start b ≡ true → b < 128
@@ -47,6 +47,50 @@ named (b ∷ bs) e =
 
 pub ascii_name : (bs : List ℕ) → is_ascii_name bs ≡ true → is_name (chars bs) ≡ true
 ascii_name bs e = rw (chars-IsAscii bs (ascii bs e)) (named bs e)
+
+-- ---- such a name without a colon
+
+ncstart_low : (b : ℕ) → is_ncname_start b ≡ true → b < 128
+unfolding is_ncname_start
+ncstart_low b e = grind (arith, e)
+
+ncpart_low : (b : ℕ) → is_ncname_part b ≡ true → b < 128
+unfolding is_ncname_part
+ncpart_low b e = grind (arith, e)
+
+ncstart_table : below 128 (λ x. not (is_ncname_start x) || (is_ascii_start x && not (x == 0x3A))) ≡ true
+unfolding is_ncname_start is_ascii_start
+ncstart_table = refl
+
+ncpart_table : below 128 (λ x. not (is_ncname_part x) || (is_ascii_part x && not (x == 0x3A))) ≡ true
+unfolding is_ncname_part is_ascii_part
+ncpart_table = refl
+
+nc_part : (b : ℕ) → is_ncname_part b ≡ true → (is_ascii_part b ≡ true) × (not (b == 0x3A) ≡ true)
+nc_part b e = and_true (is_ascii_part b) (not (b == 0x3A)) (implied 128 is_ncname_part (λ x. is_ascii_part x && not (x == 0x3A)) b (ncpart_low b e) ncpart_table e)
+
+nc_start : (b : ℕ) → is_ncname_start b ≡ true → (is_ascii_start b ≡ true) × (not (b == 0x3A) ≡ true)
+nc_start b e = and_true (is_ascii_start b) (not (b == 0x3A)) (implied 128 is_ncname_start (λ x. is_ascii_start x && not (x == 0x3A)) b (ncstart_low b e) ncstart_table e)
+
+nc_parts : (bs : List ℕ) → list_all is_ncname_part bs ≡ true → (list_all is_ascii_part bs ≡ true) × (list_all (λ b. not (b == 0x3A)) bs ≡ true)
+nc_parts [] e = (refl, refl)
+nc_parts (b ∷ bs) e =
+    let both = and_true (is_ncname_part b) (list_all is_ncname_part bs) e in
+    let own = nc_part b both.0 in
+    let more = nc_parts bs both.1 in
+    (rw own.0 more.0, rw own.1 more.1)
+
+pub ncname_named : (bs : List ℕ) → is_ascii_ncname bs ≡ true → is_ascii_name bs ≡ true
+ncname_named [] e = e
+ncname_named (b ∷ bs) e =
+    let both = and_true (is_ncname_start b) (list_all is_ncname_part bs) e in
+    rw (nc_start b both.0).0 (nc_parts bs both.1).0
+
+pub ncname_colons : (bs : List ℕ) → is_ascii_ncname bs ≡ true → list_all (λ b. not (b == 0x3A)) bs ≡ true
+ncname_colons [] e = refl
+ncname_colons (b ∷ bs) e =
+    let both = and_true (is_ncname_start b) (list_all is_ncname_part bs) e in
+    rw (nc_start b both.0).1 (nc_parts bs both.1).1
 
 -- ---- the bytes of such a name, where no byte behind ASCII follows
 

@@ -2,6 +2,7 @@ pub mod Tools
 pub mod Runs
 pub mod Strips
 pub mod Many
+mod Marked
 pub mod Cutting
 pub mod Utf8
 pub mod Ends

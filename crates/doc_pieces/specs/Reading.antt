@@ -69,6 +69,19 @@ abbrev pub is_ascii_name : List ℕ → Bool
 is_ascii_name [] = false
 is_ascii_name (b ∷ bs) = is_ascii_start b && list_all is_ascii_part bs
 
+-- the same of an NCName, which has no colon (Namespaces in XML 1.0, production [4])
+unfoldable pub is_ncname_start : ℕ → Bool
+is_ncname_start b = (nat_le 0x61 b && nat_le b 0x7A) || (nat_le 0x41 b && nat_le b 0x5A) || b == 0x5F
+
+unfoldable pub is_ncname_part : ℕ → Bool
+is_ncname_part b =
+    (nat_le 0x61 b && nat_le b 0x7A) || (nat_le 0x41 b && nat_le b 0x5A) || (nat_le 0x30 b && nat_le b 0x39)
+    || b == 0x2D || b == 0x2E || b == 0x5F
+
+abbrev pub is_ascii_ncname : List ℕ → Bool
+is_ascii_ncname [] = false
+is_ascii_ncname (b ∷ bs) = is_ncname_start b && list_all is_ncname_part bs
+
 abbrev pub is_text : List ℕ → Bool
 is_text bytes = list_all is_xml_char (chars bytes)
 
@@ -272,6 +285,11 @@ markup_at bytes =
     question_at)
     cdata_at)
     comment_at
+
+-- with which a comment, a CDATA section, an instruction or a declaration goes on behind its <
+abbrev pub is_marked : List ℕ → Bool
+is_marked [] = false
+is_marked (b ∷ bs) = b == 0x21 || b == 0x3F
 
 unfoldable pub piece_at : List ℕ → Option (Piece × List ℕ)
 piece_at bytes =

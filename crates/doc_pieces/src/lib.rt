@@ -13,7 +13,4 @@ mod value;
 pub use found::{Attribute, Element, Found, Value};
 pub use piece::read_piece;
 pub use reason::{NoneWhy, plain_run, why_none};
-pub use text::{is_ascii_name, text_of};
-
-#[cfg(test)]
-mod tests;
+pub use text::{is_ascii_ncname, text_of};

@@ -1,6 +1,7 @@
 //! The piece at the front of a text.
 ghost use Rattle.std.specs.Prelude.{◌≡◌, Some, IfOk, IsUtf8, MatchOption, length};
 ghost use Rattle.doc_pieces.specs.Pieces.{Exact, Begins, NoPieceAt};
+ghost use Rattle.doc_pieces.specs.Reading as reading;
 ghost use Rattle.doc_pieces.specs.Reading.{Gives, char_at, line_end_at, character_at, markup_at, piece_at, tag_at, cdata_at};
 ghost use Rattle.doc_pieces.specs.Found.{seen};
 
@@ -51,9 +52,31 @@ fn character(bytes: &[u8]) -> Option<(Found<'_>, &[u8])>
     }
 }
 
-// The piece at the front, behind its `<`.
-#[tactic(auto, unfolding(crate::specs::Reading::markup_at))]
+// Whether a comment, a CDATA section, an instruction or a declaration may stand here, behind its `<`.
+fn is_marked(bytes: &[u8]) -> bool
+    ensures { result ≡ reading.is_marked bytes.now }
+{
+    matches!(bytes, [b'!' | b'?', ..])
+}
+
+// The piece at the front, behind its `<`. Most are tags.
 fn markup<'a>(alloc: Global, bytes: &'a [u8]) -> Result<Option<(Found<'a>, &'a [u8])>, Memory>
+    requires { IsUtf8 bytes.now }
+    ensures { IfOk result (λ o. Gives (λ x. (seen x.0, x.1.now)) o (markup_at bytes.now)) }
+{
+    if let Some(rest) = strip(b"/", bytes) {
+        return Ok(end_tag(rest));
+    }
+    if is_marked(bytes) {
+        return marked(alloc, bytes);
+    }
+    tag(alloc, bytes)
+}
+
+// The same of what is mostly no tag.
+#[inline(never)]
+#[tactic(auto, unfolding(crate::specs::Reading::markup_at))]
+fn marked<'a>(alloc: Global, bytes: &'a [u8]) -> Result<Option<(Found<'a>, &'a [u8])>, Memory>
     requires { IsUtf8 bytes.now }
     ensures { IfOk result (λ o. Gives (λ x. (seen x.0, x.1.now)) o (markup_at bytes.now)) }
 {

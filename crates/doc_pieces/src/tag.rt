@@ -12,6 +12,7 @@ use std::alloc::Global;
 use xa_base::Memory;
 
 // White space, a Name, `=` and a text in quotes: the name, the text, and what is behind.
+#[inline(always)]
 #[tactic(auto, unfolding(crate::specs::Reading::written_at))]
 pub fn written(bytes: &[u8]) -> Option<(&[u8], &[u8], &[u8])>
     requires { IsUtf8 bytes.now }

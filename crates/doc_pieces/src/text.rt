@@ -137,11 +137,16 @@ fn is_ascii_start(b: u8) -> bool
     matches!(b, b'a'..=b'z' | b'A'..=b'Z' | b'_' | b':')
 }
 
+// Small letters first, since most names have no others.
 #[tactic(auto, unfolding(crate::specs::Reading::is_ascii_part))]
 fn is_ascii_part(b: u8) -> bool
     ensures { result ≡ reading.is_ascii_part b }
 {
-    matches!(b, b'a'..=b'z' | b'A'..=b'Z' | b'0'..=b':' | b'-' | b'.' | b'_')
+    if b >= b'a' {
+        b <= b'z'
+    } else {
+        matches!(b, b'A'..=b'Z' | b'0'..=b':' | b'-' | b'.' | b'_')
+    }
 }
 
 fn are_ascii_parts(bytes: &[u8]) -> bool
@@ -150,14 +155,52 @@ fn are_ascii_parts(bytes: &[u8]) -> bool
     bytes.iter().all(|b| is_ascii_part(*b))
 }
 
-/// Whether the bytes are a Name of ASCII characters alone, as most names are: a test that decodes nothing.
-pub fn is_ascii_name(bytes: &[u8]) -> bool
+// Whether the bytes are a Name of ASCII characters alone, as most names are: a test that decodes nothing.
+fn is_ascii_name(bytes: &[u8]) -> bool
     ensures { result ≡ reading.is_ascii_name bytes.now }
 {
     let Some((first, rest)) = bytes.split_first() else {
         return false;
     };
     is_ascii_start(*first) && are_ascii_parts(rest)
+}
+
+#[tactic(auto, unfolding(crate::specs::Reading::is_ncname_start))]
+fn is_ncname_start(b: u8) -> bool
+    ensures { result ≡ reading.is_ncname_start b }
+{
+    if b >= b'a' {
+        b <= b'z'
+    } else {
+        matches!(b, b'A'..=b'Z' | b'_')
+    }
+}
+
+#[tactic(auto, unfolding(crate::specs::Reading::is_ncname_part))]
+fn is_ncname_part(b: u8) -> bool
+    ensures { result ≡ reading.is_ncname_part b }
+{
+    if b >= b'a' {
+        b <= b'z'
+    } else {
+        matches!(b, b'A'..=b'Z' | b'0'..=b'9' | b'-' | b'.' | b'_')
+    }
+}
+
+fn are_ncname_parts(bytes: &[u8]) -> bool
+    ensures { result ≡ list_all reading.is_ncname_part bytes.now }
+{
+    bytes.iter().all(|b| is_ncname_part(*b))
+}
+
+/// Whether the bytes are an NCName of ASCII characters alone, as most names are: a test that decodes nothing.
+pub fn is_ascii_ncname(bytes: &[u8]) -> bool
+    ensures { result ≡ reading.is_ascii_ncname bytes.now }
+{
+    let Some((first, rest)) = bytes.split_first() else {
+        return false;
+    };
+    is_ncname_start(*first) && are_ncname_parts(rest)
 }
 
 // Whether the bytes are a Name.
@@ -211,14 +254,25 @@ fn plain_name(bytes: &[u8]) -> Option<(&[u8], &[u8])>
 }
 
 // A Name, and what is behind it.
+#[inline]
 #[tactic(auto, unfolding(crate::specs::Reading::name_at))]
 pub fn name(bytes: &[u8]) -> Option<(&[u8], &[u8])>
     requires { IsUtf8 bytes.now }
     ensures { Gives (λ x. (x.0.now, x.1.now)) result (name_at bytes.now) }
 {
-    if let Some(plain) = plain_name(bytes) {
-        return Some(plain);
+    match plain_name(bytes) {
+        Some(plain) => Some(plain),
+        None => any_name(bytes),
     }
+}
+
+// A Name of any characters, and what is behind it.
+#[inline(never)]
+#[tactic(auto, unfolding(crate::specs::Reading::name_at))]
+fn any_name(bytes: &[u8]) -> Option<(&[u8], &[u8])>
+    requires { IsUtf8 bytes.now }
+    ensures { Gives (λ x. (x.0.now, x.1.now)) result (name_at bytes.now) }
+{
     let (name, rest) = bytes.split_at(name_len(bytes));
     if is_name(name) {
         Some((name, rest))

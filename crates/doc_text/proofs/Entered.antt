@@ -5,9 +5,9 @@ use Rattle.std.proofs.lemmas.List.{reverse-append, reverse-reverse}
 use Rattle.doc_pieces.specs.Pieces.{Tag}
 use Rattle.doc_text.specs.declared.error.DocWhy.{DocWhy}
 use Rattle.doc_text.specs.declared.error.DocWhy.TheVariants as why
-use Rattle.doc_text.specs.Namespaces.{bindings_of, attributes_of, element_name, written_twice, expanded_twice}
+use Rattle.doc_text.specs.Namespaces.{bindings_of, attributes_of, element_name, written_twice, expanded_twice, is_unbound, or_absent, space_of}
 use Rattle.doc_text.specs.declared.tags.Head.{Head}
-use Rattle.doc_text.specs.Private.Entering.{Enters}
+use Rattle.doc_text.specs.Private.Entering.{Enters, IsPlain}
 use Rattle.doc_text.specs.Contexts.{has_bad_name, has_long_name, has_reserved, has_unbound, has_duplicate, tag_scope, first_true, start_reason}
 
 abbrev pub name_tests : Tag → List (Bool × DocWhy)
@@ -83,3 +83,18 @@ enters tag scope inside ended depth head none is name attributes declares =
       attributes_are = attributes ∙ ap (λ (x : List (List ℕ × List ℕ)). attributes_of x tag.attributes) same;
       declares_are = declares;
     }
+
+-- a tag without attributes, and with a name that nothing speaks against
+pub plain_reason : (tag : Tag) (outer : List (List ℕ × List ℕ)) (ended : Bool) (depth : ℕ) → tag.attributes ≡ [] → IsPlain tag.name → start_reason tag outer ended depth ≡ first_true (place_tests ended depth)
+unfolding start_reason is_unbound
+plain_reason tag outer ended depth none p = rw (none, p.qname, p.short, p.alone) refl
+
+pub plain_enters : (tag : Tag) (outer : List (List ℕ × List ℕ)) (ended : Bool) (depth : ℕ) (head : Head) → tag.attributes ≡ [] → IsPlain tag.name → first_true (place_tests ended depth) ≡ None
+    → head.name.space ≡ or_absent (space_of [] outer) → head.name.local ≡ tag.name → head.attributes ≡ [] → head.declares ≡ [] → Enters outer ended depth tag head
+unfolding element_name
+plain_enters tag outer ended depth head empty p none space local attributes declares = record {
+  none = plain_reason tag outer ended depth empty p ∙ none;
+  name_is = rw (empty, p.alone, p.whole, space, local) refl;
+  attributes_are = rw empty attributes;
+  declares_are = rw empty declares;
+}

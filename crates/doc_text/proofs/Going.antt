@@ -1,6 +1,6 @@
 -- Each step keeps what a state keeps; so each list of bytes has an answer.
 use Rattle.std.proofs.Common.{◌≡◌, ◌≢◌, ℕ, zero, suc, ◌≤◌, ◌<◌, Bool, true, false, List, [], ◌∷◌, length, map, drop, Option, Some, None, refl, sym, subst, ◌∙◌, arith, inl, inr}
-use Rattle.std.specs.Prelude.{◌⊎◌, IsUtf8, encode_utf8, nat_le}
+use Rattle.std.specs.Prelude.{◌⊎◌, ◌^◌, IsUtf8, encode_utf8, nat_le}
 use Rattle.std.specs.Str.{is_utf8}
 use Rattle.std.proofs.lemmas.Str.{IsUtf8-from_is_utf8, is_utf8-from_IsUtf8}
 use Rattle.std.proofs.lemmas.Bool.Decides.{nat_tests}
@@ -16,11 +16,11 @@ use Rattle.doc_text.specs.Contexts.{is_nil, scope, start_tests, first_true, reas
 use Rattle.doc_text.specs.Documents.{why_of, mark_len, DocOf, BrokenAt}
 use Rattle.doc_text.specs.Private.States.{Above, State, nothing, context, open_of, entering, kids_of_state, opened, emptied, closed, added, step}
 use Rattle.doc_text.proofs.Telling.{passed, Passed, is_nil-map, some_innermost, innermost_is}
-use Rattle.doc_text.proofs.Keeping.{IsFine, Good, good_start, good_passed, good_opened, good_emptied, good_closed, good_written, items_of}
+use Rattle.doc_text.proofs.Keeping.{IsFine, Root, Good, good_start, good_passed, good_opened, good_emptied, good_closed, good_written, root_allowed, items_of}
 use Rattle.doc_text.proofs.Soundness.{tag_sound, scope_sound}
 use Rattle.doc_text.proofs.PieceLaws.{PieceLaws, Fine}
 use Rattle.doc_text.proofs.Reaching.{Reaches, place_of, begins, goes_on, front_len, stops, stops_where_none, is_unfinished, is_whole}
-use Rattle.doc_text.proofs.OneTree.{utf8_behind, mark_within, valid_up_to}
+use Rattle.doc_text.proofs.OneTree.{utf8_behind, mark_within, valid_up_to, one_tree, tree_or_fault}
 
 over : (a b : ℕ) → nat_le a b ≡ false → b < a
 over a b e = grind (arith, nat_tests)
@@ -94,21 +94,26 @@ pub record DocOfItems (bytes : List ℕ) (root : Rose ItemLabel) : Type 0 where
   pub doc : DocOf bytes root
   pub items : AreItems root
 
-pub ends_whole : (bytes : List ℕ) (s : State) (root : Rose ItemLabel) → length bytes ≤ 16777216 → Stands bytes [] s → s.ended ≡ true → s.kids ≡ root ∷ [] → DocOfItems bytes root
+abbrev pub IsWholeOf : List ℕ → Rose ItemLabel → Type 0
+IsWholeOf bytes root = DocOf bytes root × (length bytes < 2 ^ 31 → AreItems root)
+
+whole_of : (bytes : List ℕ) (s : State) (r : Root s) → Stands bytes [] s → s.ended ≡ true → IsWholeOf bytes r.root
+whole_of bytes s r stands ended =
+    (is_whole bytes s r.root stands.utf8 stands.reaches ended r.above (stands.good.no_text r.above) r.kids (root_allowed s (place_of bytes []) r stands.good),
+      λ short. items_of s (place_of bytes []) r stands.good (omega arith))
+
+pub ends_whole : (bytes : List ℕ) (s : State) (root : Rose ItemLabel) → length bytes < 2 ^ 31 → Stands bytes [] s → s.ended ≡ true → s.kids ≡ root ∷ [] → DocOfItems bytes root
 ends_whole bytes s root short stands ended kids =
     let r = stands.good.one ended in
     let lists : root ∷ [] ≡ r.root ∷ [] = sym kids ∙ r.kids in
     let same : r.root ≡ root = cc in
-    let items : AreItems root = subst AreItems same (items_of s (place_of bytes []) r stands.good (omega arith)) in
-    record {
-      doc = is_whole bytes s root stands.utf8 stands.reaches ended r.above (stands.good.no_text r.above) kids items.allowed;
-      items = items;
-    }
+    let whole : IsWholeOf bytes root = subst (IsWholeOf bytes) same (whole_of bytes s r stands ended) in
+    record { doc = whole.0; items = whole.1 short }
 
 -- ---- each list of bytes has an answer
 
 abbrev pub Answer : List ℕ → Type 0
-Answer bytes = ((root : Rose ItemLabel) × DocOf bytes root) ⊎ ((at : ℕ) × (cause : DocWhy) × BrokenAt bytes at cause)
+Answer bytes = ((root : Rose ItemLabel) × IsWholeOf bytes root) ⊎ ((at : ℕ) × (cause : DocWhy) × BrokenAt bytes at cause)
 
 never : (x : Piece × List ℕ) (o : Option (Piece × List ℕ)) → o ≡ None → o ≡ Some x → ⊥
 never x o e f = let clash : o ≡ Some x = f in absurd cc
@@ -116,29 +121,40 @@ never x o e f = let clash : o ≡ Some x = f in absurd cc
 pub none_at : PieceLaws → (rest : List ℕ) → IsUtf8 rest → piece_at rest ≡ None → NoPieceAt rest
 none_at laws rest utf8 e p behind b = never (p, behind) (piece_at rest) e (laws.again p rest behind utf8 b)
 
-at_end : (bytes : List ℕ) (s : State) (b : Bool) → length bytes ≤ 16777216 → Stands bytes [] s → s.ended ≡ b → Answer bytes
-at_end bytes s true short stands e = let r = stands.good.one e in inl (r.root, (ends_whole bytes s r.root short stands e r.kids).doc)
-at_end bytes s false short stands e = inr (length bytes, why.Unfinished, is_unfinished bytes s (length bytes) stands.utf8 stands.reaches refl e)
+at_end : (bytes : List ℕ) (s : State) (b : Bool) → Stands bytes [] s → s.ended ≡ b → Answer bytes
+at_end bytes s true stands e = let r = stands.good.one e in inl (r.root, whole_of bytes s r stands e)
+at_end bytes s false stands e = inr (length bytes, why.Unfinished, is_unfinished bytes s (length bytes) stands.utf8 stands.reaches refl e)
 
 some_rest : (b : ℕ) (bs : List ℕ) → b ∷ bs ≢ []
 some_rest b bs e = cc
 
-answered : PieceLaws → (n : ℕ) (bytes rest : List ℕ) (s : State) → length rest ≤ n → length bytes ≤ 16777216 → Stands bytes rest s → Answer bytes
-answered laws n bytes [] s le short stands = at_end bytes s s.ended short stands refl
-answered laws zero bytes (b ∷ bs) s le short stands = absurd (omega arith)
-answered laws (suc n) bytes (b ∷ bs) s le short stands =
+answered : PieceLaws → (n : ℕ) (bytes rest : List ℕ) (s : State) → length rest ≤ n → Stands bytes rest s → Answer bytes
+answered laws n bytes [] s le stands = at_end bytes s s.ended stands refl
+answered laws zero bytes (b ∷ bs) s le stands = absurd (omega arith)
+answered laws (suc n) bytes (b ∷ bs) s le stands =
     elim (piece_at (b ∷ bs)) as (λ (o : Option (Piece × List ℕ)). piece_at (b ∷ bs) ≡ o → Answer bytes) [
       | None ↦ (λ e. let cause = laws.none_some s.first (b ∷ bs) stands.rest_utf8 in
           inr (place_of bytes (b ∷ bs), why_of cause.0, stops_where_none bytes (b ∷ bs) s (place_of bytes (b ∷ bs)) cause.0 stands.utf8 stands.reaches refl (some_rest b bs) (none_at laws (b ∷ bs) stands.rest_utf8 e) cause.1))
       | Some x ↦ (λ e. let begin : Begins x.0 (b ∷ bs) x.1 = laws.takes (b ∷ bs) x.1 x.0 stands.rest_utf8 e in
           elim (reason x.0 (context s)) as (λ (r : Option DocWhy). reason x.0 (context s) ≡ r → Answer bytes) [
-            | None ↦ (λ f. answered laws n bytes x.1 (step x.0 (place_of bytes (b ∷ bs)) s) (omega (arith, shorter laws x.0 (b ∷ bs) x.1 begin)) short (stands_on laws bytes (b ∷ bs) x.1 s x.0 (place_of bytes (b ∷ bs)) stands refl begin f))
+            | None ↦ (λ f. answered laws n bytes x.1 (step x.0 (place_of bytes (b ∷ bs)) s) (omega (arith, shorter laws x.0 (b ∷ bs) x.1 begin)) (stands_on laws bytes (b ∷ bs) x.1 s x.0 (place_of bytes (b ∷ bs)) stands refl begin f))
             | Some cause ↦ (λ f. inr (place_of bytes (b ∷ bs), cause, stops bytes (b ∷ bs) x.1 s x.0 (place_of bytes (b ∷ bs)) cause stands.utf8 stands.reaches refl begin (some_rest b bs) f))
           ] refl)
     ] refl
 
-pub has_answer : PieceLaws → (bytes : List ℕ) → length bytes ≤ 16777216 → Answer bytes
-has_answer laws bytes short = elim (is_utf8 bytes) as (λ (b : Bool). is_utf8 bytes ≡ b → Answer bytes) [
-  | true ↦ (λ e. let rest = drop (mark_len bytes) bytes in answered laws (length rest) bytes rest nothing (omega arith) short (stands_first bytes rest (IsUtf8-from_is_utf8 bytes e) refl))
+pub has_answer : PieceLaws → (bytes : List ℕ) → Answer bytes
+has_answer laws bytes = elim (is_utf8 bytes) as (λ (b : Bool). is_utf8 bytes ≡ b → Answer bytes) [
+  | true ↦ (λ e. let rest = drop (mark_len bytes) bytes in answered laws (length rest) bytes rest nothing (omega arith) (stands_first bytes rest (IsUtf8-from_is_utf8 bytes e) refl))
   | false ↦ (λ e. let bad : ¬ IsUtf8 bytes = λ u. (let fits : is_utf8 bytes ≡ true = is_utf8-from_IsUtf8 bytes u in cc) in let v = valid_up_to bytes bad in inr (v.0, why.NotUtf8, inl (bad, v.1, refl)))
 ] refl
+
+pub answer : PieceLaws → (bytes : List ℕ) → ((root : Rose ItemLabel) × DocOf bytes root) ⊎ ((at : ℕ) × (cause : DocWhy) × BrokenAt bytes at cause)
+answer laws bytes = elim (has_answer laws bytes) [ inl a ↦ inl (a.0, a.1.0) | inr a ↦ inr a ]
+
+-- ---- the tree of a document is one of items
+
+pub document_items : PieceLaws → (bytes : List ℕ) (root : Rose ItemLabel) → DocOf bytes root → length bytes < 2 ^ 31 → AreItems root
+document_items laws bytes root doc short = elim (has_answer laws bytes) [
+  | inl a ↦ subst AreItems (one_tree laws bytes a.0 root a.1.0 doc) (a.1.1 short)
+  | inr a ↦ absurd (tree_or_fault laws bytes root a.0 a.1 doc a.2)
+]

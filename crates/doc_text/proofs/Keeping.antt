@@ -273,9 +273,15 @@ good_written s text text_at n at later good lt inside fine = record {
 
 -- ---- at the end
 
+root_kids : (s : State) (at : ℕ) (r : Root s) → Good s at → Kids 0 (r.root ∷ [])
+root_kids s at r good = subst (λ (x : List (Rose ItemLabel)). Kids 0 x) r.kids (subst (λ (x : List Above). Kids (length x) s.kids) r.above good.kids)
+
+pub root_allowed : (s : State) (at : ℕ) (r : Root s) → Good s at → Allowed MayHave r.root
+root_allowed s at r good = (root_kids s at r good).allowed.0
+
 pub items_of : (s : State) (at : ℕ) (r : Root s) → Good s at → at < 2147483648 → AreItems r.root
 items_of s at r good few =
-    let kids : Kids 0 (r.root ∷ []) = subst (λ (x : List (Rose ItemLabel)). Kids 0 x) r.kids (subst (λ (x : List Above). Kids (length x) s.kids) r.above good.kids) in
+    let kids = root_kids s at r good in
     record {
       allowed = kids.allowed.0;
       element = r.element;

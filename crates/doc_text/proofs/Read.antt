@@ -1,7 +1,6 @@
 -- The code's loop over pieces.
 use Rattle.std.proofs.Common.{◌≡◌, ◌≢◌, ℕ, ◌≤◌, ◌<◌, Bool, true, false, List, [], ◌∷◌, ◌++◌, length, take, drop, refl, sym, ap, subst, ◌∙◌, arith}
 use Rattle.std.proofs.lemmas.List.{length-append, nil_from_length}
-use Rattle.std.specs.Prelude.{Result, Ok, Err, MatchResult, IfOk}
 use Rattle.label_tree.specs.Rose.{Rose}
 use Rattle.doc_pieces.specs.Pieces.{Piece, Begins, NoPieceAt}
 use Rattle.doc_pieces.specs.Reasons.{NoneReason, IsPlainRun}
@@ -58,7 +57,7 @@ last_kid bytes rest b root kids short stands over ended kids_are =
     let here = at_end bytes rest (state b) stands over in
     let r = here.good.one ended in
     let none : kids ≡ [] = nil_from_length kids (omega (arith, ap length kids_are, length-append kids (root ∷ []), ap length r.kids)) in
-    ends_whole bytes (state b) root short here ended (kids_are ∙ ap (λ (k : List (Rose ItemLabel)). k ++ root ∷ []) none)
+    ends_whole bytes (state b) root (omega (arith, short)) here ended (kids_are ∙ ap (λ (k : List (Rose ItemLabel)). k ++ root ∷ []) none)
 
 pub unfinished : (bytes rest : List ℕ) (b : Builder) (at : ℕ) → Stands bytes rest (state b) → length rest ≡ 0 → at ≡ length bytes → b.ended ≡ false → BrokenAt bytes at why.Unfinished
 unfinished bytes rest b at stands over at_is open_still = let here = at_end bytes rest (state b) stands over in is_unfinished bytes (state b) at here.utf8 here.reaches at_is open_still

@@ -1,16 +1,18 @@
 -- Tests of names on bytes.
-use Rattle.std.proofs.Common.{◌≡◌, ℕ, ◌≤◌, Bool, true, false, cond, List, [], ◌∷◌, ◌+◌, length, take, drop, refl, arith}
+use Rattle.std.proofs.Common.{◌≡◌, ℕ, ◌≤◌, Bool, true, false, cond, List, [], ◌∷◌, ◌+◌, length, take, drop, refl, sym, arith}
 use Rattle.std.specs.Prelude.{◌&&◌, IsUtf8, not, nat_le, ◌==◌}
-use Rattle.std.specs.List.{list_all, prefix_len}
+use Rattle.std.specs.List.{list_all}
 use Rattle.std.specs.Str.{chars, is_utf8}
 use Rattle.std.proofs.lemmas.Bool.Decides.{nat_tests}
 use Rattle.std.proofs.lemmas.List.{length-take, length-drop}
 use Rattle.std.proofs.lemmas.Str.{IsUtf8-from_is_utf8, is_utf8-from_IsUtf8, IsUtf8-from_ascii, chars-IsAscii}
 use Rattle.xa_base.specs.Characters.{is_ncname}
-use Rattle.doc_pieces.specs.Reading.{is_ascii_name}
-use Rattle.doc_pieces.proofs.AsciiNames.{ascii, named}
+use Rattle.doc_pieces.specs.Reading.{is_ascii_ncname}
+use Rattle.doc_pieces.proofs.AsciiNames.{ascii, named, ncname_named, ncname_colons}
+use Rattle.doc_pieces.proofs.Tools.{and_true}
 use Rattle.doc_text.specs.Sound.{spells_ncname}
-use Rattle.doc_text.specs.Namespaces.{colon_at, has_colon, prefix_of, local_of, is_long}
+use Rattle.doc_text.specs.Namespaces.{colon_at, has_colon, prefix_of, local_of, is_qname, is_long}
+use Rattle.doc_text.specs.Private.Entering.{IsPlain}
 
 pub spelled : (bytes : List ℕ) (b : Bool) → IsUtf8 bytes → b ≡ is_ncname (chars bytes) → b ≡ spells_ncname bytes
 spelled bytes b utf8 e = rw (is_utf8-from_IsUtf8 bytes utf8) e
@@ -22,20 +24,23 @@ by_test bytes false e bad = refl
 pub unspelled : (bytes : List ℕ) → ¬ IsUtf8 bytes → false ≡ spells_ncname bytes
 unspelled bytes bad = by_test bytes (is_utf8 bytes) refl bad
 
--- ---- names of ASCII characters
+-- ---- names of ASCII characters without a colon
 
-all_pass : (p : ℕ → Bool) (b : ℕ) (bs : List ℕ) (k : Bool) → p b ≡ k → prefix_len p (b ∷ bs) ≡ length (b ∷ bs) → (k ≡ true) × (prefix_len p bs ≡ length bs)
-all_pass p b bs true e f = (refl, grind (arith, e, f))
-all_pass p b bs false e f = absurd (grind (arith, e, f))
+pub ascii_spelled : (bytes : List ℕ) → is_ascii_ncname bytes ≡ true → true ≡ spells_ncname bytes
+ascii_spelled bytes e =
+    let is = ncname_named bytes e in
+    let a = ascii bytes is in
+    rw (is_utf8-from_IsUtf8 bytes (IsUtf8-from_ascii bytes a), chars-IsAscii bytes a, named bytes is, ncname_colons bytes e) refl
 
-no_colon : (bs : List ℕ) → colon_at bs ≡ length bs → list_all (λ b. not (b == 0x3A)) bs ≡ true
-no_colon [] e = refl
-no_colon (b ∷ bs) e = let both = all_pass (λ x. not (x == 0x3A)) b bs (not (b == 0x3A)) refl e in rw both.0 (no_colon bs both.1)
+colons_behind : (bs : List ℕ) → list_all (λ b. not (b == 0x3A)) bs ≡ true → colon_at bs ≡ length bs
+colons_behind [] e = refl
+colons_behind (b ∷ bs) e = let both = and_true (not (b == 0x3A)) (list_all (λ x. not (x == 0x3A)) bs) e in rw (both.0, colons_behind bs both.1) (omega arith)
 
-pub ascii_spelled : (bytes : List ℕ) → is_ascii_name bytes ≡ true → colon_at bytes ≡ length bytes → true ≡ spells_ncname bytes
-ascii_spelled bytes e f =
-    let a = ascii bytes e in
-    rw (is_utf8-from_IsUtf8 bytes (IsUtf8-from_ascii bytes a), chars-IsAscii bytes a, named bytes e, no_colon bytes f) refl
+no_colon : (bs : List ℕ) → list_all (λ b. not (b == 0x3A)) bs ≡ true → has_colon bs ≡ false
+no_colon bs e =
+    let at : length bs ≤ colon_at bs = omega (arith, colons_behind bs e) in
+    let le : nat_le (length bs) (colon_at bs) ≡ true = grind (arith, nat_tests, at) in
+    rw le refl
 
 -- ---- lengths
 
@@ -56,3 +61,14 @@ both_short m n h i =
 pub short_name : (written : List ℕ) → length written ≤ 255 → false ≡ is_long written
 unfolding is_long prefix_of local_of
 short_name written h = both_short _ _ (short_prefix (has_colon written) written (colon_at written) h) (short_local (has_colon written) written (colon_at written + 1) h)
+
+pub plain_name : (written : List ℕ) → length written ≤ 255 → is_ascii_ncname written ≡ true → IsPlain written
+unfolding is_qname prefix_of local_of
+plain_name written h e =
+    let none = no_colon written (ncname_colons written e) in
+    record {
+      qname = rw (none, ← ascii_spelled written e) refl;
+      short = sym (short_name written h);
+      alone = rw none refl;
+      whole = rw none refl;
+    }

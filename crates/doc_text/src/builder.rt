@@ -11,16 +11,19 @@ ghost use Rattle.doc_text.specs.declared.error.DocWhy.TheVariants as why;
 ghost use Rattle.doc_text.specs.Private.Building.{state, Scoped, Takes, Begins, Flushed, Shuts, GivesUtf8};
 
 use crate::error::{DocError, DocWhy};
-use crate::label::{Attributes, Bindings, ItemLabel};
+use crate::label::{Absent, Attributes, Bindings, ItemLabel};
 use crate::names::{is_long, is_qname, prefix_of};
 use crate::scope::Scope;
 use crate::short_lists::push;
 use crate::tags::{enter, is_unbound, value_of};
+use doc_pieces::{Element, Found, plain_run, text_of};
 use label_tree::Tree;
 use std::alloc::Global;
 use std::mem;
 use xa_base::{Memory, Name, Text};
-use doc_pieces::{Element, Found, plain_run, text_of};
+
+// For how many kids there is room where an element has a first one and doesn't end behind it.
+const FEW: usize = 2;
 
 /// An element that is open, with what stands before it beside it.
 #[derive(Drop)]
@@ -36,6 +39,7 @@ pub(crate) struct Frame<'a> {
 #[derive(Drop)]
 pub(crate) struct Builder<'a> {
     alloc: Global,
+    absent: Absent,
     scope: Scope<'a>,
     // The elements that are open, the innermost last.
     open: Vec<Frame<'a>>,
@@ -80,9 +84,11 @@ impl<'a> Builder<'a> {
     pub(crate) fn new(alloc: Global) -> Result<Builder<'a>, Memory>
         ensures { IfOk result Begins }
     {
+        let absent = Absent::new(alloc)?;
         let scope = Scope::new(alloc)?;
         Ok(Builder {
             alloc,
+            absent,
             scope,
             open: Vec::new(alloc),
             kids: Vec::new(alloc),
@@ -94,8 +100,9 @@ impl<'a> Builder<'a> {
         })
     }
 
-    // Makes a node of the characters so far.
-    fn flush(&mut self) -> Result<(), Memory>
+    // Makes a node of the characters so far. `room` says how many kids an element has that has any.
+    fn flush(&mut self, room: usize) -> Result<(), Memory>
+        requires { 1 ≤ room }
         ensures { OnOk result (Flushed self.old self.new) }
     {
         if self.text.is_empty() {
@@ -106,7 +113,7 @@ impl<'a> Builder<'a> {
             text,
             at: self.text_at,
         };
-        push(&mut self.kids, Tree::leaf(self.alloc, label))?;
+        push(&mut self.kids, room, Tree::leaf(self.alloc, label))?;
         self.text.clear();
         Ok(())
     }
@@ -118,11 +125,19 @@ impl<'a> Builder<'a> {
         ensures err { IfErr result (Stopped (reason (pieces.Start (tag_seen tag.entry)) (context (state self.old))) at) }
     {
         let depth = self.open.as_slice().len();
-        let head = match enter(self.alloc, &mut self.scope, self.ended, depth, &tag, at) {
+        let head = match enter(
+            self.alloc,
+            &self.absent,
+            &mut self.scope,
+            self.ended,
+            depth,
+            &tag,
+            at,
+        ) {
             Ok(head) => head,
             Err(error) => return Err(error),
         };
-        self.flush()?;
+        self.flush(FEW)?;
         let before = mem::replace(&mut self.kids, Vec::new(self.alloc));
         self.open.push(Frame {
             written: tag.name,
@@ -144,19 +159,27 @@ impl<'a> Builder<'a> {
         ensures err { IfErr result (Stopped (reason (pieces.Empty (tag_seen tag.entry)) (context (state self.old))) at) }
     {
         let depth = self.open.as_slice().len();
-        let head = match enter(self.alloc, &mut self.scope, self.ended, depth, &tag, at) {
+        let head = match enter(
+            self.alloc,
+            &self.absent,
+            &mut self.scope,
+            self.ended,
+            depth,
+            &tag,
+            at,
+        ) {
             Ok(head) => head,
             Err(error) => return Err(error),
         };
         self.scope.leave(head.declares.items().len());
-        self.flush()?;
+        self.flush(FEW)?;
         let label = ItemLabel::Element {
             name: head.name,
             attributes: head.attributes,
             declares: head.declares,
             at,
         };
-        push(&mut self.kids, Tree::leaf(self.alloc, label))?;
+        push(&mut self.kids, FEW, Tree::leaf(self.alloc, label))?;
         self.ended = self.open.is_empty();
         self.first = false;
         self.brackets = 0;
@@ -221,7 +244,7 @@ impl<'a> Builder<'a> {
             declares,
             at,
         };
-        push(&mut self.kids, Tree::join(label, kids))?;
+        push(&mut self.kids, FEW, Tree::join(label, kids))?;
         self.ended = self.open.is_empty();
         self.first = false;
         self.brackets = 0;
@@ -236,7 +259,7 @@ impl<'a> Builder<'a> {
         if let Some(why) = self.end_reason(written) {
             return Err(DocError::Syntax { at, why });
         }
-        self.flush()?;
+        self.flush(1)?;
         self.close()?;
         Ok(())
     }

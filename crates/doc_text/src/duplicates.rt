@@ -3,10 +3,10 @@ ghost use Rattle.std.specs.Prelude.{◌≡◌, map, IfOk};
 ghost use Rattle.doc_pieces.specs.Found.{attribute_of};
 ghost use Rattle.doc_text.specs.Namespaces as names;
 
+use doc_pieces::Attribute;
 use std::alloc::Global;
 use std::collections::BTreeSet;
 use xa_base::{Memory, Name, Text};
-use doc_pieces::Attribute;
 
 // Whether two are written with one name.
 pub(crate) fn written_twice(alloc: Global, attributes: &[Attribute<'_>]) -> Result<bool, Memory>

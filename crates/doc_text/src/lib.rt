@@ -18,8 +18,5 @@ pub use bindings::prefix_at;
 pub use error::{DocError, DocWhy};
 pub use items::Items;
 pub use label::{Attributes, Bindings, ItemLabel};
-pub use laws::one_answer;
+pub use laws::{document_items, one_answer};
 pub use reader::read_document;
-
-#[cfg(test)]
-mod tests;

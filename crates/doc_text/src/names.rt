@@ -1,10 +1,11 @@
 //! Names as written.
-ghost use Rattle.std.specs.Prelude.{◌≡◌, ◌≤◌, length};
+ghost use Rattle.std.specs.Prelude.{◌≡◌, ◌≤◌, length, IsTrue};
+ghost use Rattle.doc_text.specs.Private.Entering.{IsPlain};
 ghost use Rattle.doc_text.specs.Sound.{spells_ncname};
 ghost use Rattle.doc_text.specs.Namespaces as names;
 
+use doc_pieces::is_ascii_ncname;
 use xa_base::is_ncname_text;
-use doc_pieces::is_ascii_name;
 
 fn colon_at(written: &[u8]) -> usize
     ensures value { result ≡ names.colon_at written.now }
@@ -43,7 +44,7 @@ pub(crate) fn local_of(written: &[u8]) -> &[u8]
 fn spells_ncname(bytes: &[u8]) -> bool
     ensures { result ≡ spells_ncname bytes.now }
 {
-    if is_ascii_name(bytes) && colon_at(bytes) == bytes.len() {
+    if is_ascii_ncname(bytes) {
         return true;
     }
     match simdutf8::basic::from_utf8(bytes) {
@@ -62,6 +63,13 @@ pub(crate) fn is_qname(written: &[u8]) -> bool
     } else {
         spells_ncname(written)
     }
+}
+
+// Whether it is of ASCII characters, and there is nothing against it, and no prefix: as most names.
+pub(crate) fn is_plain(written: &[u8]) -> bool
+    ensures { IsTrue result → IsPlain written.now }
+{
+    written.len() <= 255 && is_ascii_ncname(written)
 }
 
 // Whether its prefix or its local name is over 255 bytes.

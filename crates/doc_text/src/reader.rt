@@ -10,9 +10,9 @@ use crate::builder::Builder;
 use crate::error::{DocError, DocWhy};
 use crate::items::Items;
 use crate::label::ItemLabel;
+use doc_pieces::{NoneWhy, read_piece, text_of, why_none};
 use label_tree::{Tree, Whole};
 use std::alloc::Global;
-use doc_pieces::{NoneWhy, read_piece, text_of, why_none};
 
 const MARK: &[u8] = b"\xEF\xBB\xBF";
 

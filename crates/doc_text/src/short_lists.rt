@@ -1,14 +1,16 @@
 //! Lists that mostly stay short.
-ghost use Rattle.std.specs.Prelude.{◌≡◌, ◌∷◌, ◌++◌, [], OnOk};
+ghost use Rattle.std.specs.Prelude.{◌≡◌, ◌≤◌, ◌∷◌, ◌++◌, [], OnOk};
 
 use xa_base::Memory;
 
-/// Adds an item. Most lists of a document have one or two, and these take no room beside.
-pub(crate) fn push<T: Drop>(list: &mut Vec<T>, item: T) -> Result<(), Memory>
+/// Adds an item. An empty list makes room for so many and no more.
+#[inline(always)]
+pub(crate) fn push<T: Drop>(list: &mut Vec<T>, room: usize, item: T) -> Result<(), Memory>
+    requires { 1 ≤ room }
     ensures { OnOk result (list.new.items ≡ list.old.items ++ item ∷ []) }
 {
-    if list.as_slice().len() < 2 {
-        list.reserve_exact(1)?;
+    if list.as_slice().is_empty() {
+        list.reserve_exact(room)?;
     } else {
         list.reserve(1)?;
     }

@@ -5,18 +5,20 @@ ghost use Rattle.std.specs.Prelude.{not, true, nat_le, ◌||◌, length, ◌&&�
 ghost use Rattle.doc_pieces.specs.Found.{tag_seen, attribute_of, bytes_of};
 ghost use Rattle.doc_text.specs.Namespaces as names;
 ghost use Rattle.doc_text.specs.Contexts as contexts;
-ghost use Rattle.doc_text.specs.Private.Entering.{Enters, Stopped, have_utf8, are_named};
+ghost use Rattle.doc_text.specs.Private.Entering.{Enters, Stopped, IsPlain, have_utf8, are_named};
 ghost use Rattle.doc_text.specs.declared.error.DocWhy.TheVariants as why;
 
 use crate::duplicates::{expanded_twice, written_twice};
 use crate::error::{DocError, DocWhy};
-use crate::label::{Attributes, Bindings};
-use crate::names::{binds, bound_prefix, is_long, is_qname, is_reserved, local_of, prefix_of};
+use crate::label::{Absent, Attributes, Bindings};
+use crate::names::{
+    binds, bound_prefix, is_long, is_plain, is_qname, is_reserved, local_of, prefix_of,
+};
 use crate::scope::{Scope, text_of};
 use crate::short_lists::push;
+use doc_pieces::{Attribute, Element, Value};
 use std::alloc::Global;
 use xa_base::{Memory, Name, Text};
-use doc_pieces::{Attribute, Element, Value};
 
 pub(crate) fn value_of<'v>(value: &'v Value<'_>) -> &'v [u8]
     ensures { result.now ≡ bytes_of value.now }
@@ -158,7 +160,7 @@ fn read_attributes(
     requires { are_named (map attribute_of attributes.now) ≡ true }
     ensures { IfOk result (λ all. all.items ≡ names.attributes_of (reverse scope.now) (map attribute_of attributes.now)) }
 {
-    let mut all = Vec::new(alloc);
+    let mut all = Vec::with_capacity(alloc, attributes.len())?;
     let mut rest = attributes;
     'each: while let [attribute, others @ ..] = rest {
         rest = others;
@@ -167,7 +169,7 @@ fn read_attributes(
         }
         let name = attribute_name(alloc, scope, attribute.name)?;
         let value = text_of(alloc, value_of(&attribute.value))?;
-        push(&mut all, (name, value))?;
+        all.push((name, value))?;
     }
     all.shrink_to_fit();
     Ok(all)
@@ -187,7 +189,7 @@ fn read_bindings(alloc: Global, attributes: &[Attribute<'_>]) -> Result<Vec<(Tex
         }
         let prefix = text_of(alloc, bound_prefix(attribute.name))?;
         let space = text_of(alloc, value_of(&attribute.value))?;
-        push(&mut all, (prefix, space))?;
+        push(&mut all, 1, (prefix, space))?;
     }
     all.shrink_to_fit();
     Ok(all)
@@ -277,9 +279,59 @@ fn first_of_place(ended: bool, depth: usize) -> Option<DocWhy>
     }
 }
 
+// What a tag opens.
+fn head_of(
+    absent: &Absent,
+    name: Name,
+    attributes: Vec<(Name, Text)>,
+    declares: Vec<(Text, Text)>,
+) -> Result<Head, Memory>
+    ensures name { IfOk result (λ head. head.name ≡ name) }
+    ensures attributes { IfOk result (λ head. head.attributes ≡ attributes.items) }
+    ensures declares { IfOk result (λ head. head.declares ≡ declares.items) }
+{
+    let attributes = absent.attributes(attributes)?;
+    let declares = absent.declares(declares)?;
+    Ok(Head {
+        name,
+        attributes,
+        declares,
+    })
+}
+
+// What a tag without attributes opens, or what speaks against it, where nothing speaks against its name and this has
+// no prefix.
+fn enter_plain(
+    alloc: Global,
+    absent: &Absent,
+    scope: &Scope<'_>,
+    ended: bool,
+    depth: usize,
+    tag: &Element<'_>,
+    at: u64,
+) -> Result<Head, DocError>
+    requires attributes { (tag_seen tag.now).attributes ≡ [] }
+    requires name { IsPlain (tag_seen tag.now).name }
+    ensures ok { IfOk result (Enters (reverse scope.now) ended depth (tag_seen tag.now)) }
+    ensures err { IfErr result (Stopped (contexts.start_reason (tag_seen tag.now) (reverse scope.now) ended depth) at) }
+{
+    if let Some(why) = first_of_place(ended, depth) {
+        return Err(DocError::Syntax { at, why });
+    }
+    let space = copy_space(alloc, scope.space_of(b""))?;
+    let local = text_of(alloc, tag.name)?;
+    Ok(head_of(
+        absent,
+        Name { space, local },
+        Vec::new(alloc),
+        Vec::new(alloc),
+    )?)
+}
+
 // What a tag opens, with its bindings in scope then; or what speaks against it.
 pub(crate) fn enter<'a>(
     alloc: Global,
+    absent: &Absent,
     scope: &mut Scope<'a>,
     ended: bool,
     depth: usize,
@@ -291,6 +343,9 @@ pub(crate) fn enter<'a>(
     ensures scope { OnOk result (scope.new ≡ scope.old ++ reverse (names.bindings_of (tag_seen tag.now).attributes)) }
     ensures err { IfErr result (Stopped (contexts.start_reason (tag_seen tag.now) (reverse scope.old) ended depth) at) }
 {
+    if tag.attributes.is_empty() && is_plain(tag.name) {
+        return enter_plain(alloc, absent, scope, ended, depth, tag, at);
+    }
     if let Some(why) = first_of_names(tag) {
         return Err(DocError::Syntax { at, why });
     }
@@ -312,9 +367,5 @@ pub(crate) fn enter<'a>(
         return Err(DocError::Syntax { at, why });
     }
     let name = element_name(alloc, scope, tag.name)?;
-    Ok(Head {
-        name,
-        attributes: Attributes::of(attributes),
-        declares: Bindings::of(declares),
-    })
+    Ok(head_of(absent, name, attributes, declares)?)
 }

@@ -1,6 +1,7 @@
 -- What the steps of writing give.
 use Rattle.std.proofs.Common.{Result, Ok, Err, Bor, map, subst, ◌≡◌, ℕ, ◌+◌, ◌<◌, ◌≤◌, List, [], ◌∷◌, ◌++◌, length, drop, get_or, refl, sym, ◌∙◌, ap, arith, append_assoc}
-use Rattle.std.specs.Prelude.{OnOk, IfOk}
+use Rattle.std.specs.Prelude.{OnOk, IfOk, ◌^◌}
+use Rattle.std.specs.Global.{Vec}
 use Rattle.std.specs.List.{flat_map}
 use Rattle.std.proofs.lemmas.List.{drop_more, drop_all, append-nil}
 use Rattle.xa_base.specs.declared.texts.Name.{Name}
@@ -30,11 +31,15 @@ pub IfOk-map : {A E : Type 0} (P Q : A → Type 0) → ((a : A) → P a → Q a)
 IfOk-map P Q f (Ok a) h = f a h
 IfOk-map P Q f (Err e) h = h
 
+-- a Vec is shorter than memory
+pub vec_short : {A : Type 0} (v : Vec A) → length v.items < 2 ^ 64
+vec_short v = omega (arith, v.ok.0, v.ok.1, v.small)
+
 -- what is written of items is read back
-pub reads_back : (root items : Rose ItemLabel) (text : List ℕ) → root ≡ items → AreItems items → text ≡ written root → length text ≤ 16777216 → ReadsAs text items
+pub reads_back : (root items : Rose ItemLabel) (text : List ℕ) → root ≡ items → AreItems items → text ≡ written root → length text < 2 ^ 64 → ReadsAs text items
 reads_back root items text same are is short =
     let all : text ≡ written items = is ∙ ap written same in
-    subst (λ (x : List ℕ). ReadsAs x items) (sym all) (read_back items are (subst (λ (x : List ℕ). length x ≤ 16777216) all short))
+    subst (λ (x : List ℕ). ReadsAs x items) (sym all) (read_back items are (subst (λ (x : List ℕ). length x < 2 ^ 64) all short))
 
 -- ---- binding
 

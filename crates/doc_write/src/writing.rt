@@ -204,14 +204,10 @@ fn write_root(alloc: Global, root: &Tree<ItemLabel>) -> Result<Vec<u8>, Memory>
 
 /// The text of a document with these items, in UTF-8. All namespaces are declared on the root, each with one prefix, and
 /// the default namespace isn't used. The time is linear in the length of the text, but for a factor of the logarithm of
-/// the number of namespaces. Where the text has at most 16,777,216 bytes, which is what a document may have, it is read
-/// back as the same items.
+/// the number of namespaces. The text is read back as the same items.
 pub fn write_document(alloc: Global, items: &Items) -> Result<Vec<u8>, Memory>
     ensures written { IfOk result (λ text. text.items ≡ written items.now) }
-    ensures read_back { IfOk result (λ text. length text.items ≤ 16777216 → ReadsAs text.items items.now) }
+    ensures read_back { IfOk result (λ text. ReadsAs text.items items.now) }
 {
     write_root(alloc, items.tree().root())
 }
-
-#[cfg(test)]
-mod tests;

@@ -1,6 +1,6 @@
 -- The text that is written of items is a document of the same items.
 use Rattle.std.proofs.Common.{◌≡◌, ℕ, ◌+◌, ◌≤◌, Bool, true, false, List, [], ◌∷◌, ◌++◌, length, Some, None, refl, sym, ap, subst, ◌∙◌, inl, arith}
-use Rattle.std.specs.Prelude.{◌&&◌, ◌||◌, not, bytes_eq, codes, IsUtf8}
+use Rattle.std.specs.Prelude.{◌&&◌, ◌||◌, ◌^◌, ◌<◌, not, bytes_eq, codes, IsUtf8}
 use Rattle.std.specs.List.{flat_map, list_all}
 use Rattle.std.proofs.lemmas.List.{append-nil, length-append, length-map}
 use Rattle.std.proofs.lemmas.Bool.{true≢false, and_parts}
@@ -158,7 +158,7 @@ element_le front inner end (more k ks) = omega (arith, length-append (front ++ 6
 front_le : (name declarations attributes : List ℕ) → length declarations ≤ length (60 ∷ name ++ declarations ++ attributes)
 front_le name declarations attributes = omega (arith, length-append (60 ∷ name ++ declarations) attributes, length-append (60 ∷ name) declarations)
 
-written_le : (text : List ℕ) → length text ≤ length (xml_declaration ++ text ++ 10 ∷ [])
+written_le : (text : List ℕ) → 1 + length text ≤ length (xml_declaration ++ text ++ 10 ∷ [])
 written_le text = omega (arith, length-append (xml_declaration ++ text) (10 ∷ []), length-append xml_declaration text)
 
 -- ---- the document
@@ -173,7 +173,7 @@ module _ (name : Name) (attributes : List (Name × List ℕ)) (binds : List (Lis
   abbrev declarations : List ℕ
   declarations = flat_map written_declaration found
 
-  few : length (written root) ≤ 16777216 → length (declared_spaces root) ≤ 16777216
+  few : length (written root) < 2 ^ 64 → 1 + length (declared_spaces root) < 2 ^ 64
   few short =
       let front = written_start found declarations name attributes in
       let text = spelled found declarations root in
@@ -188,7 +188,7 @@ module _ (name : Name) (attributes : List (Name × List ℕ)) (binds : List (Lis
         written_le text,
       )
 
-  element_read : AreItems root → length (written root) ≤ 16777216 → ReadsAs (written root) root
+  element_read : AreItems root → length (written root) < 2 ^ 64 → ReadsAs (written root) root
   element_read items short =
       let names = spaces root in
       let count = few short in
@@ -204,7 +204,7 @@ module _ (name : Name) (attributes : List (Name × List ℕ)) (binds : List (Lis
       let whole = subst (Reads start 0 (written root)) (append-nil (tokens r.0)) read in
       (r.0, record { utf8 = whole.0; allowed = r.2; pieces = whole.1.0; whole = whole.1.1 }, r.1)
 
--- What is written of items is a document of the same items, if it isn't longer than a document may be.
-pub read_back : (root : Rose ItemLabel) → AreItems root → length (written root) ≤ 16777216 → ReadsAs (written root) root
+-- What is written of items is a document of the same items, as long as the numbers of its prefixes have 64 bits.
+pub read_back : (root : Rose ItemLabel) → AreItems root → length (written root) < 2 ^ 64 → ReadsAs (written root) root
 read_back (node (Element name attributes binds place) kids) items short = element_read name attributes binds place kids items short
 read_back (node (Text text place) kids) items short = absurd (true≢false (sym items.element))

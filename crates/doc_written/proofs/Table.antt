@@ -208,10 +208,7 @@ all_names (b ∷ bs) e =
     let more = all_names bs both.1 in
     (rw here.0 more.0, rw here.1 more.1)
 
-module _ (number : ℕ) (below_limit : number < 1000000000) where
-  fits : number < 2 ^ 64
-  fits = omega arith
-
+module _ (number : ℕ) (fits : number < 2 ^ 64) where
   ascii : IsAscii (decimal number)
   ascii = IsAscii-decimal number fits
 
@@ -230,7 +227,7 @@ module _ (number : ℕ) (below_limit : number < 1000000000) where
   number_part = record {
     utf8 = n_utf8;
     named = ap is_ncname n_chars ∙ n_ncname;
-    short = le-leb (length (110 ∷ decimal number)) 255 (omega (arith, length-decimal-le 9 number (omega arith) (omega arith) fits));
+    short = le-leb (length (110 ∷ decimal number)) 255 (omega (arith, length-decimal-le 20 number (omega arith) (omega (arith, fits)) fits));
   }
 
 xsi_part : IsPart (codes "xsi")
@@ -248,7 +245,7 @@ pub record IsPrefix (prefix : List ℕ) : Type 0 where
   pub not_xml : bytes_eq prefix xml_prefix ≡ false
   pub not_default : bytes_eq prefix [] ≡ false
 
-given_prefix : (top : ℕ) → top ≤ 1000000000 → (e : List ℕ × List ℕ) → Given 1 top e → IsPrefix e.1
+given_prefix : (top : ℕ) → top < 2 ^ 64 → (e : List ℕ × List ℕ) → Given 1 top e → IsPrefix e.1
 given_prefix top le e (inl g) = subst IsPrefix (sym g.1) (record { part = xsi_part; not_xmlns = refl; not_xml = refl; not_default = refl })
 given_prefix top le e (inr (number, from, below_top, is)) = subst IsPrefix (sym is) (record { part = number_part number (omega arith); not_xmlns = refl; not_xml = refl; not_default = refl })
 
@@ -283,18 +280,21 @@ is_new : (space : List ℕ) → is_empty space ≡ false → bytes_eq space xml_
 is_new [] e f = absurd (true≢false e)
 is_new (b ∷ bs) e f = rw f refl
 
-module _ (spaces : List (List ℕ)) (few : length (unseen start_seen spaces) ≤ 16777216) where
+module _ (spaces : List (List ℕ)) (few : 1 + length (unseen start_seen spaces) < 2 ^ 64) where
   abbrev pub table : List (List ℕ × List ℕ)
   table = numbered 1 (unseen start_seen spaces)
 
   abbrev pub scope : List (List ℕ × List ℕ)
   scope = turned table ++ (xml_prefix, xml_space) ∷ []
 
+  abbrev last : ℕ
+  last = 1 + length (unseen start_seen spaces)
+
   prefixes_fine : Each (λ e. IsPrefix e.1) table
-  prefixes_fine = each_by (Given 1 16777217) (λ e. IsPrefix e.1) (given_prefix 16777217 (omega arith)) table (numbered_given 1 16777217 (unseen start_seen spaces) (omega arith))
+  prefixes_fine = each_by (Given 1 last) (λ e. IsPrefix e.1) (given_prefix last few) table (numbered_given 1 last (unseen start_seen spaces) (omega arith))
 
   pub table_apart : Apart table
-  table_apart = numbered_apart 1 16777217 (omega arith) (unseen start_seen spaces) (omega arith) (unseen_distinct start_seen spaces)
+  table_apart = numbered_apart 1 last few (unseen start_seen spaces) (omega arith) (unseen_distinct start_seen spaces)
 
   pub absent : space_of [] scope ≡ None
   absent = passed_over [] table ((xml_prefix, xml_space) ∷ []) (each_by (λ e. IsPrefix e.1) (λ e. bytes_eq e.1 [] ≡ false) (λ e p. p.not_default) table prefixes_fine)

@@ -1,3 +1,4 @@
+pub mod Counting
 pub mod Enumerations
 pub mod FacetWords
 pub mod InTurn

@@ -1,5 +1,8 @@
 -- Lists and unions that are made of simple types.
-use Rattle.std.specs.Prelude.{◌≡◌, ℕ, ◌+◌, ◌≤◌, false, None, length}
+use Rattle.std.specs.Prelude.{◌≡◌, ℕ, ◌+◌, ◌≤◌, false, None, List, [], ◌∷◌, length}
+use Rattle.std.specs.Borrow.{Bor}
+use Rattle.simple_types.specs.declared.simples.Simple.{Simple}
+use Rattle.simple_types.specs.Seen.{space_of}
 use Rattle.simple_types.specs.Space.{Space, Spaces, none, more, Numbers, Words, ListOf, UnionOf, count_members}
 use Rattle.simple_types.specs.Sound.{Sound, has_list}
 use Rattle.simple_types.specs.Joining.{flattened}
@@ -29,3 +32,10 @@ IsListOf item made = (has_list item ≡ false) × (made ≡ ListOf item 0 None)
 -- section 2.5.1.3, with the members of inner unions in their place
 abbrev pub IsUnionOf : Spaces → Space → Type 0
 IsUnionOf members made = AreWithinLimits (flattened members) × (made ≡ UnionOf (flattened members))
+
+-- ---- what the code has of it
+
+-- the spaces of types that are lent
+abbrev pub lent_spaces : List (Bor Simple) → Spaces
+lent_spaces [] = none
+lent_spaces (m ∷ ms) = more (space_of m.now) (lent_spaces ms)

@@ -11,7 +11,7 @@ mod narrowing;
 mod refusals;
 mod restricting;
 
-pub use making::{ItemError, UnionError, list_of, union_of};
+pub use making::{ItemError, UnionError, list_of, union_of, union_of_lent};
 pub use refusals::{FacetError, FacetWhy};
 pub use restricting::restrict;
 pub use simple_types::{
@@ -19,6 +19,3 @@ pub use simple_types::{
     ValueLabel, builtin,
 };
 pub use simple_values::{SimpleError, accept, holds, spell};
-
-#[cfg(test)]
-mod tests;

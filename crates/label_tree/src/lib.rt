@@ -8,6 +8,3 @@ mod wholes;
 pub use shapes::Shape;
 pub use trees::Tree;
 pub use wholes::Whole;
-
-#[cfg(test)]
-mod tests;

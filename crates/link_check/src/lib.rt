@@ -12,6 +12,3 @@ mod models;
 mod parts;
 
 pub use checks::is_linked;
-
-#[cfg(test)]
-mod tests;

@@ -7,6 +7,5 @@ pub mod Formed
 pub mod Planned
 pub mod Bodies
 pub mod Whole
-mod Sample
 pub mod Once
 pub mod SameSets

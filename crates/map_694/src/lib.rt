@@ -4,6 +4,3 @@
 mod modules;
 
 pub use modules::{map_set, root_type};
-
-#[cfg(test)]
-mod tests;

@@ -6,5 +6,4 @@ mod Models
 pub mod Allowed
 mod Mapping
 mod Numbers
-mod Sample
 pub mod Simples

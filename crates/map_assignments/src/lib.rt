@@ -13,6 +13,3 @@ mod words;
 
 pub use map::assignments;
 pub use simple::type_of_simple;
-
-#[cfg(test)]
-mod tests;

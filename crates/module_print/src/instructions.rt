@@ -7,7 +7,7 @@ use asn_types::{Form, Instruction, Marks};
 use itoa::Buffer;
 use name_map::{NameForm, restoring};
 use std::alloc::{AllocError, Global};
-use xa_base::{Text, WhiteSpace};
+use xa_base::{Memory, Text, WhiteSpace};
 
 // A name, in the form that tells it from the generated one.
 fn write_as_name(out: &mut Vec<u8>, generated: &Text, name: &Text) -> Result<(), AllocError>
@@ -48,7 +48,7 @@ fn write_white_space(out: &mut Vec<u8>, how: WhiteSpace) -> Result<(), AllocErro
 }
 
 // The identifier of an item that stands for a number.
-fn number_identifier(alloc: Global, n: i128) -> Result<Text, AllocError>
+fn number_identifier(alloc: Global, n: i128) -> Result<Text, Memory>
     ensures { IfOk result (λ identifier. identifier ≡ number_identifier n) }
 {
     let mut identifier = String::from_str(alloc, "int")?;
@@ -57,15 +57,16 @@ fn number_identifier(alloc: Global, n: i128) -> Result<Text, AllocError>
 }
 
 // The text of an item with this identifier.
-fn write_as_item(out: &mut Vec<u8>, identifier: &Text, text: &Text) -> Result<(), AllocError>
+fn write_as_item(out: &mut Vec<u8>, identifier: &Text, text: &Text) -> Result<(), Memory>
     ensures { OnOk result (out.new.items ≡ out.old.items ++ as_item identifier.now text.now) }
 {
     out.extend_from_slice(identifier.bytes())?;
-    write_as_name(out, identifier, text)
+    write_as_name(out, identifier, text)?;
+    Ok(())
 }
 
 // The text of the item with this number.
-fn write_item(out: &mut Vec<u8>, form: &Form, item: u32, text: &Text) -> Result<(), AllocError>
+fn write_item(out: &mut Vec<u8>, form: &Form, item: u32, text: &Text) -> Result<(), Memory>
     ensures { OnOk result (out.new.items ≡ out.old.items ++ as_item (unwrap_or (item_identifier form.now item) []) text.now) }
 {
     let alloc = *out.allocator();
@@ -86,12 +87,13 @@ fn write_item(out: &mut Vec<u8>, form: &Form, item: u32, text: &Text) -> Result<
     write_as_item(out, &Text::empty(), text)
 }
 
-fn write_text(out: &mut Vec<u8>, form: &Form, item: u32, text: &Text) -> Result<(), AllocError>
+fn write_text(out: &mut Vec<u8>, form: &Form, item: u32, text: &Text) -> Result<(), Memory>
     ensures { OnOk result (out.new.items ≡ out.old.items ++ text_prefix form.now item text.now) }
 {
     out.extend_from_slice(b"[TEXT:")?;
     write_item(out, form, item, text)?;
-    out.extend_from_slice(b"] ")
+    out.extend_from_slice(b"] ")?;
+    Ok(())
 }
 
 // An instruction of a type of this form, whose part or assignment has this generated name.
@@ -100,22 +102,23 @@ fn write_instruction(
     generated: &Text,
     form: &Form,
     mark: &Instruction,
-) -> Result<(), AllocError>
+) -> Result<(), Memory>
     ensures { OnOk result (out.new.items ≡ out.old.items ++ instruction generated.now form.now mark.now) }
 {
     match mark {
-        Instruction::Attribute => out.extend_from_slice(b"[ATTRIBUTE] "),
-        Instruction::Untagged => out.extend_from_slice(b"[UNTAGGED] "),
-        Instruction::Name(name) => write_name(out, generated, name),
-        Instruction::Namespace(space) => write_namespace(out, space),
-        Instruction::UseNil => out.extend_from_slice(b"[USE-NIL] "),
-        Instruction::EmbedValues => out.extend_from_slice(b"[EMBED-VALUES] "),
-        Instruction::List => out.extend_from_slice(b"[LIST] "),
-        Instruction::UseUnion => out.extend_from_slice(b"[USE-UNION] "),
-        Instruction::UseNumber => out.extend_from_slice(b"[USE-NUMBER] "),
-        Instruction::WhiteSpace(how) => write_white_space(out, *how),
-        Instruction::Text { item, text } => write_text(out, form, *item, text),
+        Instruction::Attribute => out.extend_from_slice(b"[ATTRIBUTE] ")?,
+        Instruction::Untagged => out.extend_from_slice(b"[UNTAGGED] ")?,
+        Instruction::Name(name) => write_name(out, generated, name)?,
+        Instruction::Namespace(space) => write_namespace(out, space)?,
+        Instruction::UseNil => out.extend_from_slice(b"[USE-NIL] ")?,
+        Instruction::EmbedValues => out.extend_from_slice(b"[EMBED-VALUES] ")?,
+        Instruction::List => out.extend_from_slice(b"[LIST] ")?,
+        Instruction::UseUnion => out.extend_from_slice(b"[USE-UNION] ")?,
+        Instruction::UseNumber => out.extend_from_slice(b"[USE-NUMBER] ")?,
+        Instruction::WhiteSpace(how) => write_white_space(out, *how)?,
+        Instruction::Text { item, text } => write_text(out, form, *item, text)?,
     }
+    Ok(())
 }
 
 // Where an instruction stands among others.
@@ -146,7 +149,7 @@ fn write_if_ranked(
     form: &Form,
     mark: &Instruction,
     place: u8,
-) -> Result<(), AllocError>
+) -> Result<(), Memory>
     ensures { OnOk result (out.new.items ≡ out.old.items ++ if_ranked generated.now form.now place mark.now) }
 {
     if rank(mark) == place {
@@ -162,7 +165,7 @@ fn write_ranked(
     form: &Form,
     marks: &[Instruction],
     place: u8,
-) -> Result<(), AllocError>
+) -> Result<(), Memory>
     ensures { OnOk result (out.new.items ≡ out.old.items ++ ranked generated.now form.now marks.now place) }
 {
     'marks: for mark in marks {
@@ -177,7 +180,7 @@ pub(crate) fn write_instructions(
     generated: &Text,
     form: &Form,
     marks: &Marks,
-) -> Result<(), AllocError>
+) -> Result<(), Memory>
     ensures { OnOk result (out.new.items ≡ out.old.items ++ instructions generated.now form.now marks.now) }
 {
     let marks = marks.items();

@@ -7,6 +7,3 @@ mod printing;
 mod types;
 
 pub use printing::print_module;
-
-#[cfg(test)]
-mod tests;

@@ -4,7 +4,7 @@ ghost use Rattle.module_print.specs.Printed.{printed_assignment, opening, closin
 
 use crate::types::write_type;
 use asn_types::{Assignment, Module};
-use std::alloc::{AllocError, Global};
+use std::alloc::Global;
 use xa_base::Memory;
 
 const OPENING: &[u8] = b"Schema-Set DEFINITIONS XER INSTRUCTIONS AUTOMATIC TAGS ::= BEGIN\n";
@@ -17,7 +17,7 @@ fn write_assignment(
     out: &mut Vec<u8>,
     assignments: &[Assignment],
     assignment: &Assignment,
-) -> Result<(), AllocError>
+) -> Result<(), Memory>
     ensures { OnOk result (out.new.items ≡ out.old.items ++ printed_assignment assignments.now assignment.now) }
 {
     let Assignment {

@@ -13,7 +13,7 @@ use asn_types::{Assignment, Component, Form, Marks, TypeLabel};
 use label_tree::Tree;
 use simple_types::Class;
 use std::alloc::AllocError;
-use xa_base::Text;
+use xa_base::{Memory, Text};
 
 // An item that stands for a number.
 fn write_numbered_item(out: &mut Vec<u8>, n: i128) -> Result<(), AllocError>
@@ -124,7 +124,7 @@ fn write_prefixes(
     generated: &Text,
     marks: &Marks,
     label: &TypeLabel,
-) -> Result<(), AllocError>
+) -> Result<(), Memory>
     ensures { OnOk result (out.new.items ≡ out.old.items ++ prefixes generated.now marks.now label.now) }
 {
     write_instructions(out, generated, &label.form, marks)?;
@@ -150,7 +150,7 @@ pub(crate) fn write_type(
     generated: &Text,
     marks: &Marks,
     tree: &Tree<TypeLabel>,
-) -> Result<(), AllocError>
+) -> Result<(), Memory>
     requires { Allowed MayHave tree.now }
     ensures { OnOk result (out.new.items ≡ out.old.items ++ printed_type assignments.now levels generated.now marks.now tree.now) }
 {
@@ -166,40 +166,41 @@ fn write_form(
     levels: usize,
     form: &Form,
     kids: &[Tree<TypeLabel>],
-) -> Result<(), AllocError>
+) -> Result<(), Memory>
     requires count { length kids.now ≡ length (parts_of form.now) }
     requires allowed { AllowedAll MayHave (roses_of kids.now) }
     ensures { OnOk result (out.new.items ≡ out.old.items ++ type_of assignments.now levels form.now (printed_parts assignments.now (level_of_parts levels form.now) (parts_of form.now) (roses_of kids.now))) }
 {
     match form {
-        Form::Bool => out.extend_from_slice(b"BOOLEAN"),
-        Form::Int { lo, hi } => write_integer(out, *lo, *hi),
-        Form::Numbers { numbers } => write_numbers(out, numbers.items()),
-        Form::Words { identifiers, .. } => write_words(out, identifiers.items()),
-        Form::Utf8 { min, max, class } => write_text_type(out, *min, *max, *class),
+        Form::Bool => out.extend_from_slice(b"BOOLEAN")?,
+        Form::Int { lo, hi } => write_integer(out, *lo, *hi)?,
+        Form::Numbers { numbers } => write_numbers(out, numbers.items())?,
+        Form::Words { identifiers, .. } => write_words(out, identifiers.items())?,
+        Form::Utf8 { min, max, class } => write_text_type(out, *min, *max, *class)?,
         Form::Sequence { parts } => {
             out.extend_from_slice(b"SEQUENCE ")?;
-            write_block(out, assignments, levels, parts.items(), kids)
+            write_block(out, assignments, levels, parts.items(), kids)?;
         }
         Form::Choice { parts } => {
             out.extend_from_slice(b"CHOICE ")?;
-            write_block(out, assignments, levels, parts.items(), kids)
+            write_block(out, assignments, levels, parts.items(), kids)?;
         }
         Form::SequenceOf { part, min, max } => {
             write_sequence_of(out, *min, *max)?;
-            write_part(out, assignments, levels, part, &kids[0])
+            write_part(out, assignments, levels, part, &kids[0])?;
         }
-        Form::Ref { to } => write_reference(out, assignments, *to),
+        Form::Ref { to } => write_reference(out, assignments, *to)?,
     }
+    Ok(())
 }
 
 // The level of the parts on a line of this level. A line that is too long for a number is too long for memory.
-fn next_level(levels: usize) -> Result<usize, AllocError>
+fn next_level(levels: usize) -> Result<usize, Memory>
     ensures { IfOk result (λ next. next ≡ suc levels) }
 {
     match levels.checked_add(1) {
         Some(next) => Ok(next),
-        None => Err(AllocError),
+        None => Err(Memory),
     }
 }
 
@@ -211,18 +212,20 @@ fn write_block(
     levels: usize,
     parts: &[Component],
     kids: &[Tree<TypeLabel>],
-) -> Result<(), AllocError>
+) -> Result<(), Memory>
     requires count { length kids.now ≡ length parts.now }
     requires allowed { AllowedAll MayHave (roses_of kids.now) }
     ensures { OnOk result (out.new.items ≡ out.old.items ++ block levels (printed_parts assignments.now (suc levels) parts.now (roses_of kids.now))) }
 {
     if kids.is_empty() {
-        return out.extend_from_slice(b"{}");
+        out.extend_from_slice(b"{}")?;
+        return Ok(());
     }
     let inner = next_level(levels)?;
     out.push(b'{')?;
     write_parts(out, assignments, inner, parts, kids)?;
-    write_closing_brace(out, levels)
+    write_closing_brace(out, levels)?;
+    Ok(())
 }
 
 // The parts, each on a line of its own.
@@ -233,7 +236,7 @@ fn write_parts(
     levels: usize,
     parts: &[Component],
     kids: &[Tree<TypeLabel>],
-) -> Result<(), AllocError>
+) -> Result<(), Memory>
     requires count { length kids.now ≡ length parts.now }
     requires allowed { AllowedAll MayHave (roses_of kids.now) }
     ensures { OnOk result (out.new.items ≡ out.old.items ++ listed (new_line levels) (printed_parts assignments.now levels parts.now (roses_of kids.now))) }
@@ -253,11 +256,12 @@ fn write_part(
     levels: usize,
     part: &Component,
     kid: &Tree<TypeLabel>,
-) -> Result<(), AllocError>
+) -> Result<(), Memory>
     requires { Allowed MayHave kid.now }
     ensures { OnOk result (out.new.items ≡ out.old.items ++ with_type part.now (printed_type assignments.now levels part.now.identifier part.now.marks kid.now)) }
 {
     write_identifier(out, &part.identifier)?;
     write_type(out, assignments, levels, &part.identifier, &part.marks, kid)?;
-    write_optional(out, part.optional)
+    write_optional(out, part.optional)?;
+    Ok(())
 }

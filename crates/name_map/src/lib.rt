@@ -9,6 +9,3 @@ mod scope;
 pub use conversion::{NameKind, convert};
 pub use restoration::{NameForm, restoring};
 pub use scope::Scope;
-
-#[cfg(test)]
-mod tests;

@@ -8,11 +8,4 @@ mod reasons;
 mod requirements;
 
 pub use faults::{Fault, first_fault};
-pub use laws::one_answer;
-
-#[cfg(test)]
-mod attribute_tests;
-#[cfg(test)]
-mod limit_tests;
-#[cfg(test)]
-mod tests;
+pub use laws::{first_is_shown, one_answer};

@@ -9,10 +9,3 @@ pub use laws::one_answer;
 pub use linking::{are_numbered, link};
 pub use passes::{LinkError, check_content, check_names, make_simple_types};
 pub use link_names::LinkWhy;
-
-#[cfg(test)]
-mod linking_tests;
-#[cfg(test)]
-mod making_tests;
-#[cfg(test)]
-mod tests;

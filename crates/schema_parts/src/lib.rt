@@ -24,6 +24,3 @@ pub use roots::find_root;
 pub use schema_sets::SchemaSet;
 pub use simple_definitions::{RawBase, RawBases, RawHow, RawRef, RawSimple};
 pub use varieties::all_varied;
-
-#[cfg(test)]
-mod tests;

@@ -14,6 +14,3 @@ mod simple_definitions;
 pub use documents::read_schema;
 pub use error::SchemaError;
 pub use schema_rules::SchemaWhy;
-
-#[cfg(test)]
-mod tests;

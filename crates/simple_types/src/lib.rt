@@ -14,6 +14,3 @@ pub use facets::{Facet, Facets};
 pub use labels::{Value, ValueLabel};
 pub use lists::{Flags, NumberList, TextList};
 pub use simples::{Builtin, Class, Simple, SimpleList};
-
-#[cfg(test)]
-mod tests;

@@ -2,7 +2,7 @@
 use Rattle.std.proofs.Common.{◌≡◌, ◌⊎◌, ℕ, Bool, true, List, sym, ◌∙◌, subst, inl, inr, Option, Some, Result, Ok, Err}
 use Rattle.std.specs.Prelude.{Vec}
 use Rattle.std.specs.declared.alloc.Global.{Global}
-use Rattle.xa_base.specs.Faults.{Rose}
+use Rattle.xa_base.specs.Faults.{HasRisen}
 use Rattle.xa_base.specs.declared.texts.Name.{Name}
 use Rattle.transcode_core.specs.declared.outcome.Outcome.{Outcome}
 use Rattle.transcode_core.specs.declared.outcome.Outcome.TheVariants.{LoadFault, ReadFault, OutOfMemory}
@@ -54,7 +54,7 @@ module _ (words : List (List ℕ)) (entries : Option (List (List ℕ × List ℕ
 
   -- the input failed where the order comes to it
   pub read_failed : (o : Outcome) → (Due words entries left (Err o) × IsRefusal o) ⊎ Deciding loads loads_now sure entries reads reads_now words o
-      → o ≡ ReadFault → Rose reads reads_now × ReachesInput words entries
+      → o ≡ ReadFault → HasRisen reads reads_now × ReachesInput words entries
   read_failed o (inl (due, own)) is = absurd (subst IsRefusal is own)
   read_failed o (inr (request, asks, inl (inl memory))) is = let e : OutOfMemory ≡ ReadFault = sym memory ∙ is in cc
   read_failed o (inr (request, asks, inl (inr (k, name, load, rest, fails)))) is = let e : LoadFault k ≡ ReadFault = sym load ∙ is in cc

@@ -3,7 +3,7 @@ use Rattle.std.proofs.Common.{◌≡◌, ℕ, suc, Bool, ◌+◌, ◌<◌, ◌�
 use Rattle.std.proofs.lemmas.List.{take-append-drop, take_more}
 use Rattle.std.proofs.Math.Seq.{drop-cons}
 use Rattle.std.proofs.lemmas.Grind.{common_steps}
-use Rattle.xa_base.specs.Faults.{Rose}
+use Rattle.xa_base.specs.Faults.{HasRisen}
 use Rattle.schema_parts.specs.Raw.{Document}
 use Rattle.transcode_core.specs.declared.outcome.Outcome.{Outcome}
 use Rattle.transcode_core.specs.Steps.{Schema, Schemas}
@@ -36,8 +36,8 @@ Schemas-append entries k (name ∷ names) after documents (Err o) (document, fir
     inr (document, first, inl (Schemas-append entries (k + 1) names after others (Err o) sound rest'))
 
 -- a number that rose in a call rose in a longer one
-Rose-earlier : (first before now : ℕ) → first ≤ before → Rose before now → Rose first now
-Rose-earlier first before now earlier rose = omega arith
+HasRisen-earlier : (first before now : ℕ) → first ≤ before → HasRisen before now → HasRisen first now
+HasRisen-earlier first before now earlier rose = omega arith
 
 -- one more file is a schema document
 pub one_more : (entries entries' : Option (List (List ℕ × List ℕ))) (names : List (List ℕ)) (i : ℕ) (name : List ℕ) (documents : Documents) (document : Document)
@@ -77,6 +77,6 @@ refused_at entries entries' names i name documents first prior now sure sure' o 
         name,
         is_load,
         record { before = take i names; after = drop (i + 1) names; documents = documents; split = there; number = n; sound = sound },
-        record { rose = Rose-earlier first prior now earlier fails.rose; lacks = fails.lacks },
+        record { rose = HasRisen-earlier first prior now earlier fails.rose; lacks = fails.lacks },
       ))
     ]

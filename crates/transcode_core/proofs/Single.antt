@@ -1,7 +1,7 @@
 -- Where contents are told, there is no other verdict beside a result that is due.
 use Rattle.std.proofs.Common.{◌≡◌, ◌⊎◌, ℕ, ◌+◌, Bool, true, false, List, [], ◌∷◌, length, map, refl, sym, ap, ◌∙◌, subst, inl, inr, arith, Option, Some, None, Result, Ok, Err}
-use Rattle.xa_base.specs.Faults.{Rose}
-use Rattle.xa_base.specs.Entries.{entry_of}
+use Rattle.xa_base.specs.Faults.{HasRisen}
+use Rattle.xa_base.specs.Entries.{beside}
 use Rattle.xa_base.specs.declared.texts.Name.{Name}
 use Rattle.label_tree.specs.Rose as tree
 use Rattle.doc_text.specs.declared.label.ItemLabel.{ItemLabel}
@@ -84,12 +84,12 @@ same_contents : (found : Option (List ℕ)) (x y : List ℕ) → found ≡ Some 
 same_contents found x y p q = let e : Some x ≡ Some y = sym p ∙ q in cc
 
 pub Loaded-single : (entries : List (List ℕ × List ℕ)) (k : ℕ) (name : List ℕ) → IsSingle (Loaded (Some entries) k name)
-Loaded-single entries k name (Ok x) (Ok y) p q = ap (λ z. Ok z) (same_contents (entry_of name entries) x y p.0 q.0)
+Loaded-single entries k name (Ok x) (Ok y) p q = ap (λ z. Ok z) (same_contents (beside name entries) x y p.0 q.0)
 Loaded-single entries k name (Ok x) (Err o) p (inl (is, (bytes, has, long))) =
-    absurd (omega (arith, ap (λ l. length l) (same_contents (entry_of name entries) x bytes p.0 has)))
+    absurd (omega (arith, ap (λ l. length l) (same_contents (beside name entries) x bytes p.0 has)))
 Loaded-single entries k name (Ok x) (Err o) p (inr q) = let e : Some x ≡ None = sym p.0 ∙ q.1 in cc
 Loaded-single entries k name (Err o) (Ok x) (inl (is, (bytes, has, long))) p =
-    absurd (omega (arith, ap (λ l. length l) (same_contents (entry_of name entries) x bytes p.0 has)))
+    absurd (omega (arith, ap (λ l. length l) (same_contents (beside name entries) x bytes p.0 has)))
 Loaded-single entries k name (Err o) (Ok x) (inr q) p = let e : Some x ≡ None = sym p.0 ∙ q.1 in cc
 Loaded-single entries k name (Err o) (Err n) (inl p) (inl q) = ap (λ z. Err z) (p.0 ∙ sym q.0)
 Loaded-single entries k name (Err o) (Err n) (inl (is, (bytes, has, long))) (inr q) = let e : Some bytes ≡ None = sym has ∙ q.1 in cc
@@ -204,7 +204,7 @@ Due-sure laws words entries left = Then-sure _ _ (sure _ (Found-single _ _)) (λ
 
 -- where Done is due and nothing rose, only memory may be missing
 pub completed : PieceLaws → (words : List (List ℕ)) (entries : List (List ℕ × List ℕ)) (left bytes : List ℕ) (loads loads_now reads reads_now : ℕ) (sure : Bool) (o : Outcome)
-    → Due words (Some entries) (Some left) (Ok bytes) → (Rose loads loads_now → ⊥) → (Rose reads reads_now → ⊥)
+    → Due words (Some entries) (Some left) (Ok bytes) → (HasRisen loads loads_now → ⊥) → (HasRisen reads reads_now → ⊥)
     → (Due words (Some entries) (Some left) (Err o) × IsRefusal o) ⊎ Deciding loads loads_now sure (Some entries) reads reads_now words o
     → (o ≡ Done) ⊎ (o ≡ OutOfMemory)
 completed laws words entries left bytes loads loads_now reads reads_now sure o due no_load no_read (inl (refused, own)) =
@@ -216,7 +216,7 @@ completed laws words entries left bytes loads loads_now reads reads_now sure o d
 -- the same, of contents that are told
 pub completed_told : PieceLaws → (words : List (List ℕ)) (known : Option (List (List ℕ × List ℕ))) (told : Option (List ℕ)) (entries : List (List ℕ × List ℕ)) (left bytes : List ℕ)
     (loads loads_now reads reads_now : ℕ) (sure : Bool) (o : Outcome) → known ≡ Some entries → told ≡ Some left
-    → Due words (Some entries) (Some left) (Ok bytes) → (Rose loads loads_now → ⊥) → (Rose reads reads_now → ⊥)
+    → Due words (Some entries) (Some left) (Ok bytes) → (HasRisen loads loads_now → ⊥) → (HasRisen reads reads_now → ⊥)
     → (Due words known told (Err o) × IsRefusal o) ⊎ Deciding loads loads_now sure known reads reads_now words o
     → (o ≡ Done) ⊎ (o ≡ OutOfMemory)
 completed_told laws words known told entries left bytes loads loads_now reads reads_now sure o files input due no_load no_read answer =

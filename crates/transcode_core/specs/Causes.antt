@@ -1,6 +1,6 @@
 -- Answers of the outside, each with its cause.
 use Rattle.std.specs.Prelude.{◌≡◌, ◌⊎◌, ℕ, suc, ◌+◌, Bool, true, false, IsTrue, List, [], ◌∷◌, ◌++◌, length, Option, Result, Ok, Err}
-use Rattle.xa_base.specs.Faults.{Rose}
+use Rattle.xa_base.specs.Faults.{HasRisen}
 use Rattle.xa_base.specs.Entries.{Lacks}
 use Rattle.transcode_core.specs.declared.outcome.Outcome.{Outcome}
 use Rattle.transcode_core.specs.declared.outcome.Outcome.TheVariants.{Done, Usage, SchemaSyntax, SchemaFault, LinkFault, UnknownRoot, TooLong, LoadFault, ReadFault, WriteFault, OutOfMemory}
@@ -34,7 +34,7 @@ NoMemory o = o ≡ OutOfMemory
 
 -- the count of the library rose, and over a sure library none has the name
 pub record Fails (before now : ℕ) (is_sure : Bool) (entries : Option (List (List ℕ × List ℕ))) (name : List ℕ) : Type 0 where
-  pub rose : Rose before now
+  pub rose : HasRisen before now
   pub lacks : IsTrue is_sure → Lacks entries name
 
 -- memory is missing, or file k failed to load
@@ -67,7 +67,7 @@ ReachesFile words entries k name = (request : Asked) × Requested words (Ok requ
 
 -- memory is missing, or the input failed
 abbrev pub OneRead : ℕ → ℕ → Outcome → Type 0
-OneRead before now o = (o ≡ OutOfMemory) ⊎ ((o ≡ ReadFault) × Rose before now)
+OneRead before now o = (o ≡ OutOfMemory) ⊎ ((o ≡ ReadFault) × HasRisen before now)
 
 -- the command reads the input
 abbrev pub reads_input : Asked → Bool
@@ -100,7 +100,7 @@ IsOfInput o = Unit {0}
 -- memory is missing, or a file or the input failed where the order of this command comes to it
 abbrev pub Answering : ℕ → ℕ → Bool → Option (List (List ℕ × List ℕ)) → ℕ → ℕ → Asked → Outcome → Type 0
 Answering loads loads_now is_sure entries reads reads_now request o =
-    SomeLoad loads loads_now is_sure entries (files_of request) o ⊎ ((o ≡ ReadFault) × Rose reads reads_now × ComesToInput entries request)
+    SomeLoad loads loads_now is_sure entries (files_of request) o ⊎ ((o ≡ ReadFault) × HasRisen reads reads_now × ComesToInput entries request)
 
 -- the same of the words
 abbrev pub Deciding : ℕ → ℕ → Bool → Option (List (List ℕ × List ℕ)) → ℕ → ℕ → List (List ℕ) → Outcome → Type 0

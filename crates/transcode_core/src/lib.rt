@@ -14,6 +14,3 @@ mod words;
 pub use lines::write_line;
 pub use outcome::Outcome;
 pub use top::run;
-
-#[cfg(test)]
-mod tests;

@@ -1,7 +1,7 @@
 //! The top call.
 ghost use Rattle.std.specs.Prelude.{◌≡◌, ◌⊎◌, ℕ, ◌≤◌, true, List, length, map, OnOk, IfOk, IfErr, Ok, Err, Some};
 ghost use Rattle.std.specs.Io.KnownBytes.{Appends, IsAtEnd};
-ghost use Rattle.xa_base.specs.Faults.{Rose};
+ghost use Rattle.xa_base.specs.Faults.{HasRisen};
 ghost use Rattle.xa_base.specs.Bytes.{AppendsFront};
 ghost use Rattle.transcode_core.specs.Lines.{line};
 ghost use Rattle.transcode_core.specs.Private.Requests.{root_seen, seen};
@@ -221,8 +221,8 @@ fn perform<F: Library, S: Source, K: Sink>(
     ensures done { result ≡ Outcome.Done → (bytes : List ℕ) × Due words.now (F.entries files.old) (S.left input.old) (Ok bytes) × Appends (K.written output.old) (K.written output.new) bytes }
     ensures load { (file : ℕ) → result ≡ Outcome.LoadFault file → (name : List ℕ) × ReachesFile words.now (F.entries files.old) file name
         × Fails (F.faults files.old) (F.faults files.new) (F.is_sure files.old) (F.entries files.old) name }
-    ensures read { result ≡ Outcome.ReadFault → Rose (S.faults input.old) (S.faults input.new) × ReachesInput words.now (F.entries files.old) }
-    ensures write { result ≡ Outcome.WriteFault → Rose (K.faults output.old) (K.faults output.new)
+    ensures read { result ≡ Outcome.ReadFault → HasRisen (S.faults input.old) (S.faults input.new) × ReachesInput words.now (F.entries files.old) }
+    ensures write { result ≡ Outcome.WriteFault → HasRisen (K.faults output.old) (K.faults output.new)
         × ((bytes : List ℕ) × Due words.now (F.entries files.old) (S.left input.old) (Ok bytes) × AppendsFront (K.written output.old) (K.written output.new) bytes) }
     ensures kept { WritesNothing result → K.written output.new ≡ K.written output.old }
     ensures end { result ≡ Outcome.Done → ReadsInput words.now → IsAtEnd (S.left input.new) }
@@ -230,8 +230,8 @@ fn perform<F: Library, S: Source, K: Sink>(
     ensures files { (F.entries files.new ≡ F.entries files.old) × (F.is_sure files.new ≡ F.is_sure files.old) }
     // Where Done is due and no count rose, it is Done, or memory is missing.
     ensures complete { (entries : List (List ℕ × List ℕ)) (left bytes : List ℕ) → F.entries files.old ≡ Some entries → S.left input.old ≡ Some left
-        → Due words.now (Some entries) (Some left) (Ok bytes) → (Rose (F.faults files.old) (F.faults files.new) → ⊥) → (Rose (S.faults input.old) (S.faults input.new) → ⊥)
-        → (Rose (K.faults output.old) (K.faults output.new) → ⊥) → (result ≡ Outcome.Done) ⊎ (result ≡ Outcome.OutOfMemory) }
+        → Due words.now (Some entries) (Some left) (Ok bytes) → (HasRisen (F.faults files.old) (F.faults files.new) → ⊥) → (HasRisen (S.faults input.old) (S.faults input.new) → ⊥)
+        → (HasRisen (K.faults output.old) (K.faults output.new) → ⊥) → (result ≡ Outcome.Done) ⊎ (result ≡ Outcome.OutOfMemory) }
     ensures loads { F.faults files.old ≤ F.faults files.new }
     ensures reads { S.faults input.old ≤ S.faults input.new }
     ensures writes { K.faults output.old ≤ K.faults output.new }
@@ -269,8 +269,8 @@ pub fn run<F: Library, S: Source, K: Sink, E: Sink, L: Ledger>(
     // A fault of the outside comes only where that object's count rose, at the step that meets it.
     ensures load { (file : ℕ) → result ≡ Outcome.LoadFault file → (name : List ℕ) × ReachesFile words.now (F.entries files.old) file name
         × Fails (F.faults files.old) (F.faults files.new) (F.is_sure files.old) (F.entries files.old) name }
-    ensures read { result ≡ Outcome.ReadFault → Rose (S.faults input.old) (S.faults input.new) × ReachesInput words.now (F.entries files.old) }
-    ensures write { result ≡ Outcome.WriteFault → Rose (K.faults output.old) (K.faults output.new)
+    ensures read { result ≡ Outcome.ReadFault → HasRisen (S.faults input.old) (S.faults input.new) × ReachesInput words.now (F.entries files.old) }
+    ensures write { result ≡ Outcome.WriteFault → HasRisen (K.faults output.old) (K.faults output.new)
         × ((bytes : List ℕ) × Due words.now (F.entries files.old) (S.left input.old) (Ok bytes) × AppendsFront (K.written output.old) (K.written output.new) bytes) }
     ensures kept { WritesNothing result → K.written output.new ≡ K.written output.old }
     ensures end { result ≡ Outcome.Done → ReadsInput words.now → IsAtEnd (S.left input.new) }
@@ -278,14 +278,14 @@ pub fn run<F: Library, S: Source, K: Sink, E: Sink, L: Ledger>(
     ensures files { (F.entries files.new ≡ F.entries files.old) × (F.is_sure files.new ≡ F.is_sure files.old) }
     // Where Done is due and no count rose, it is Done, or memory is missing.
     ensures complete { (entries : List (List ℕ × List ℕ)) (left bytes : List ℕ) → F.entries files.old ≡ Some entries → S.left input.old ≡ Some left
-        → Due words.now (Some entries) (Some left) (Ok bytes) → (Rose (F.faults files.old) (F.faults files.new) → ⊥) → (Rose (S.faults input.old) (S.faults input.new) → ⊥)
-        → (Rose (K.faults output.old) (K.faults output.new) → ⊥) → (result ≡ Outcome.Done) ⊎ (result ≡ Outcome.OutOfMemory) }
+        → Due words.now (Some entries) (Some left) (Ok bytes) → (HasRisen (F.faults files.old) (F.faults files.new) → ⊥) → (HasRisen (S.faults input.old) (S.faults input.new) → ⊥)
+        → (HasRisen (K.faults output.old) (K.faults output.new) → ⊥) → (result ≡ Outcome.Done) ⊎ (result ≡ Outcome.OutOfMemory) }
     ensures loads { F.faults files.old ≤ F.faults files.new }
     ensures reads { S.faults input.old ≤ S.faults input.new }
     ensures writes { K.faults output.old ≤ K.faults output.new }
     // Complaints receive the whole line, or a front of it where their count rose.
     ensures complaint { Appends (E.written complaints.old) (E.written complaints.new) (line result)
-        ⊎ (Rose (E.faults complaints.old) (E.faults complaints.new) × AppendsFront (E.written complaints.old) (E.written complaints.new) (line result)) }
+        ⊎ (HasRisen (E.faults complaints.old) (E.faults complaints.new) × AppendsFront (E.written complaints.old) (E.written complaints.new) (line result)) }
     ensures complaints { E.faults complaints.old ≤ E.faults complaints.new }
 {
     let outcome = perform(alloc, words, files, input, output);

@@ -1,27 +1,27 @@
--- A library as a list of names with contents.
+-- Names with what stands beside each; a library is such a list, of names with contents.
 use Rattle.std.specs.Prelude.{◌≡◌, ℕ, Bool, true, false, ◌<◌, ⊤, List, [], ◌∷◌, length, bytes_eq, Option, Some, None, Result, Ok, Err, if◌then◌else◌}
 use Rattle.xa_base.specs.declared.libraries.LoadError.{LoadError}
 use Rattle.xa_base.specs.declared.libraries.LoadError.TheVariants.{Failed, TooLong, Memory}
 
--- the contents of the first entry of the name
-abbrev pub entry_of : List ℕ → List (List ℕ × List ℕ) → Option (List ℕ)
-entry_of name [] = None
-entry_of name (entry ∷ entries) = if bytes_eq entry.0 name then Some entry.1 else entry_of name entries
+-- what stands beside the name, in its first entry
+abbrev pub beside : {A : Type 0} → List ℕ → List (List ℕ × A) → Option A
+beside name [] = None
+beside name (entry ∷ entries) = if bytes_eq entry.0 name then Some entry.1 else beside name entries
 
 -- where the entries are told, these are the contents of the first entry of the name
 abbrev pub Has : Option (List (List ℕ × List ℕ)) → List ℕ → List ℕ → Type 0
 Has None name bytes = ⊤
-Has (Some entries) name bytes = entry_of name entries ≡ Some bytes
+Has (Some entries) name bytes = beside name entries ≡ Some bytes
 
 -- where the entries are told, none has the name
 abbrev pub Lacks : Option (List (List ℕ × List ℕ)) → List ℕ → Type 0
 Lacks None name = ⊤
-Lacks (Some entries) name = entry_of name entries ≡ None
+Lacks (Some entries) name = beside name entries ≡ None
 
 -- where the entries are told, the contents of the first entry of the name are longer than the limit
 abbrev pub HasLonger : Option (List (List ℕ × List ℕ)) → List ℕ → ℕ → Type 0
 HasLonger None name limit = ⊤
-HasLonger (Some entries) name limit = (bytes : List ℕ) × (entry_of name entries ≡ Some bytes) × (limit < length bytes)
+HasLonger (Some entries) name limit = (bytes : List ℕ) × (beside name entries ≡ Some bytes) × (limit < length bytes)
 
 -- whether a load failed
 abbrev pub has_failed : {A : Type 0} → Result A LoadError → Bool

@@ -6,3 +6,6 @@ pub mod Names
 pub mod States
 pub mod WhiteSpace
 pub mod Texts
+pub mod Namespaces
+pub mod Digits
+pub mod Limits

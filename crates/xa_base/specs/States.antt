@@ -48,6 +48,6 @@ piece_of [] most = most
 piece_of (size ∷ sizes) most = min size most
 
 -- the pieces behind the next
-abbrev pub behind : List ℕ → List ℕ
-behind [] = []
-behind (size ∷ sizes) = sizes
+abbrev pub later_pieces : List ℕ → List ℕ
+later_pieces [] = []
+later_pieces (size ∷ sizes) = sizes

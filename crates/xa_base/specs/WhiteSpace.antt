@@ -1,12 +1,16 @@
 -- White space, by XML Schema Part 2, section 4.3.6. A text is the list of its bytes: white space is ASCII.
 use Rattle.std.specs.Prelude.{◌≡◌, ℕ, Bool, true, false, ◌==◌, ◌||◌, List, [], ◌∷◌, map, filter, if◌then◌else◌}
-use Rattle.std.specs.List.{slice_split, join_with_byte, All}
+use Rattle.std.specs.List.{list_all, slice_split, join_with_byte, All}
 use Rattle.xa_base.specs.declared.white_space.WhiteSpace.{WhiteSpace}
 use Rattle.xa_base.specs.declared.white_space.WhiteSpace.TheVariants.{Preserve, Replace, Collapse}
 
 -- XML 1.0, production [3] S: a space, a tab, a line feed, a carriage return
 unfoldable pub is_white_space : ℕ → Bool
 is_white_space b = b == 0x20 || b == 0x9 || b == 0xA || b == 0xD
+
+-- white space alone, or nothing
+abbrev pub is_blank : List ℕ → Bool
+is_blank bytes = list_all is_white_space bytes
 
 -- `replace`, at one byte
 abbrev pub spaced : ℕ → ℕ

@@ -3,8 +3,11 @@
 #![tactic(auto)]
 
 mod characters;
+mod digits;
 mod libraries;
+mod limits;
 mod moves;
+mod namespaces;
 mod sinks;
 mod sources;
 mod steps;
@@ -14,13 +17,13 @@ mod white_space;
 pub use characters::{
     is_name_char, is_name_start, is_name_text, is_ncname, is_ncname_text, is_xml_char,
 };
+pub use digits::{are_digits, is_digit, is_numeral};
 pub use libraries::{Entry, Library, LoadError, MemoryLibrary, SureLibrary};
+pub use limits::{is_name_part, is_namespace, is_short_part, is_short_space, is_xmlns};
 pub use moves::{ReadError, read_all, write_all};
+pub use namespaces::{SCHEMA_SPACE, XML_SPACE, XMLNS_SPACE, XSI_SPACE};
 pub use sinks::{MemorySink, Sink, SureSink};
 pub use sources::{Failed, MemorySource, Source, SureSource};
 pub use steps::Steps;
 pub use texts::{Memory, Name, Text, TextError};
-pub use white_space::{WhiteSpace, first_word, is_treated, treat};
-
-#[cfg(test)]
-mod tests;
+pub use white_space::{WhiteSpace, first_word, is_blank, is_treated, is_white_space, treat};

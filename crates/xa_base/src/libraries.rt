@@ -1,7 +1,7 @@
 //! Where named files come from.
 ghost use Rattle.std.specs.Prelude.{◌≡◌, ◌⊎◌, ℕ, Bool, true, false, ◌+◌, ◌-◌, ◌^◌, ◌<◌, ◌≤◌, ◌↔◌, ◌&&◌, min, List, [], ◌∷◌, length, map, bytes_eq, nat_lt, Option, Some, None, Ok, Err, MatchOption, MatchResult, IsErr, IsErrOf, IfOk, IfSome, IsTrue, IsSome, Contains, if◌then◌else◌};
 ghost use Rattle.xa_base.specs.Faults.{Counts, count_after, one_more};
-ghost use Rattle.xa_base.specs.Entries.{entry_of, Has, HasLonger, Lacks, has_failed};
+ghost use Rattle.xa_base.specs.Entries.{beside, Has, HasLonger, Lacks, has_failed};
 
 use crate::texts::Text;
 use std::alloc::Global;
@@ -81,7 +81,7 @@ impl Entry {
 
 // The contents of the first entry of that name.
 fn find<'a>(entries: &'a [Entry], name: &Text) -> Option<&'a [u8]>
-    ensures { MatchOption result (entry_of name.now entries.now ≡ None) (λ found. entry_of name.now entries.now ≡ Some found.now) }
+    ensures { MatchOption result (beside name.now entries.now ≡ None) (λ found. beside name.now entries.now ≡ Some found.now) }
 {
     for entry in entries {
         if entry.has(name) {
@@ -129,7 +129,7 @@ impl Library for SureLibrary {
         ensures kept { self.new.entries ≡ self.old.entries }
         ensures cause { Counts self.old.faults self.new.faults (IsErrOf result LoadError.Failed) }
         // It fails just where the name isn't there, and counts each fault.
-        ensures missing { IsErrOf result LoadError.Failed ↔ (entry_of name.now self.old.entries ≡ None) }
+        ensures missing { IsErrOf result LoadError.Failed ↔ (beside name.now self.old.entries ≡ None) }
         ensures faults { self.new.faults ≡ count_after (has_failed result) self.old.faults }
     {
         let Some(found) = find(&self.entries, name) else {
@@ -193,7 +193,7 @@ impl Library for MemoryLibrary {
         ensures kept { self.new.entries ≡ self.old.entries }
         ensures cause { Counts self.old.faults self.new.faults (IsErrOf result LoadError.Failed) }
         // It fails just at the calls with the numbers and where the name isn't there, and counts each fault.
-        ensures fails { IsErrOf result LoadError.Failed ↔ (Contains self.old.fails (one_more self.old.calls) ⊎ (entry_of name.now self.old.entries ≡ None)) }
+        ensures fails { IsErrOf result LoadError.Failed ↔ (Contains self.old.fails (one_more self.old.calls) ⊎ (beside name.now self.old.entries ≡ None)) }
         ensures faults { self.new.faults ≡ count_after (has_failed result) self.old.faults }
         ensures calls { (self.new.calls ≡ one_more self.old.calls) × (self.new.fails ≡ self.old.fails) }
     {

@@ -2,7 +2,7 @@
 ghost use Rattle.std.specs.Prelude.{◌≡◌, ◌⊎◌, ℕ, ◌+◌, ◌-◌, ◌^◌, ◌<◌, ◌≤◌, ◌↔◌, [], min, List, length, take, Option, Some, IsErr, is_err, IfOk, OnOk, OnErr, All, Contains};
 ghost use Rattle.std.specs.Io.KnownBytes.{WriteAppends};
 ghost use Rattle.xa_base.specs.Faults.{Counts, count_after, one_more};
-ghost use Rattle.xa_base.specs.States.{piece_of, behind};
+ghost use Rattle.xa_base.specs.States.{piece_of, later_pieces};
 
 use crate::sources::{Failed, piece_at};
 use crate::texts::Memory;
@@ -96,7 +96,7 @@ impl Sink for SureSink {
         ensures faults { self.new.faults ≡ count_after (is_err result) self.old.faults }
         ensures room { self.new.room ≡ self.old.room }
         ensures moved { IfOk result (λ n. n ≡ piece_of self.old.pieces (min (length piece.now) (self.old.room - length self.old.written))) }
-        ensures pieces { OnOk result (self.new.pieces ≡ behind self.old.pieces) }
+        ensures pieces { OnOk result (self.new.pieces ≡ later_pieces self.old.pieces) }
         ensures kept { OnErr result (self.new.pieces ≡ self.old.pieces) }
     {
         let free = self.room - self.bytes.len();
@@ -182,7 +182,7 @@ impl Sink for MemorySink {
         ensures calls { (self.new.calls ≡ one_more self.old.calls) × (self.new.fails ≡ self.old.fails) }
         ensures room { self.new.room ≡ self.old.room }
         ensures moved { IfOk result (λ n. n ≡ piece_of self.old.pieces (min (length piece.now) (self.old.room - length self.old.written))) }
-        ensures pieces { OnOk result (self.new.pieces ≡ behind self.old.pieces) }
+        ensures pieces { OnOk result (self.new.pieces ≡ later_pieces self.old.pieces) }
         ensures kept { OnErr result (self.new.pieces ≡ self.old.pieces) }
     {
         self.calls = self.calls.saturating_add(1);

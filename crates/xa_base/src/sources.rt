@@ -3,7 +3,7 @@ ghost use Rattle.std.specs.Prelude.{◌≡◌, ◌≢◌, ℕ, ◌+◌, ◌-◌,
 ghost use Rattle.std.specs.Io.{ReadsAtMost};
 ghost use Rattle.std.specs.Io.KnownBytes.{ReadConsumes};
 ghost use Rattle.xa_base.specs.Faults.{Counts, count_after, one_more};
-ghost use Rattle.xa_base.specs.States.{piece_of, behind};
+ghost use Rattle.xa_base.specs.States.{piece_of, later_pieces};
 
 use std::marker::Model;
 use thiserror::Error;
@@ -104,7 +104,7 @@ impl Source for SureSource {
         ensures bytes { ReadConsumes (Some self.old.left) (Some self.new.left) result buf.new }
         ensures cause { Counts 0 0 (IsErr result) }
         ensures moved { result ≡ Ok (piece_of self.old.pieces (min (length buf.old) (length self.old.left))) }
-        ensures pieces { self.new.pieces ≡ behind self.old.pieces }
+        ensures pieces { self.new.pieces ≡ later_pieces self.old.pieces }
     {
         let rest = self.left();
         let count = piece_at(&self.pieces, self.turn, rest.len().min(buf.len()));
@@ -171,7 +171,7 @@ impl Source for MemorySource {
         ensures faults { self.new.faults ≡ count_after (is_err result) self.old.faults }
         ensures calls { (self.new.calls ≡ one_more self.old.calls) × (self.new.fails ≡ self.old.fails) }
         ensures moved { IfOk result (λ n. n ≡ piece_of self.old.pieces (min (length buf.old) (length self.old.left))) }
-        ensures pieces { OnOk result (self.new.pieces ≡ behind self.old.pieces) }
+        ensures pieces { OnOk result (self.new.pieces ≡ later_pieces self.old.pieces) }
         ensures kept { OnErr result ((self.new.left ≡ self.old.left) × (self.new.pieces ≡ self.old.pieces)) }
     {
         self.calls = self.calls.saturating_add(1);

@@ -1,6 +1,7 @@
 //! White space, as the facet `whiteSpace` of XML Schema treats it.
 ghost use Rattle.std.specs.Prelude.{◌≡◌, ◌∷◌, ◌++◌, ◌↔◌, [], IfOk, IfSome, IsTrue, IsUtf8, MatchOption, not, map, position, ◌==◌, string_bytes};
 ghost use Rattle.std.specs.List.{join_with_byte, position_or_len};
+ghost use Rattle.xa_base.specs.WhiteSpace as rule;
 ghost use Rattle.xa_base.specs.WhiteSpace.{is_white_space, spaced, words_of, treated, IsTreated};
 
 use crate::texts::{Memory, Text};
@@ -17,12 +18,19 @@ pub enum WhiteSpace {
     Collapse,
 }
 
-// White space of XML 1.0.
+/// Whether the byte is white space (XML 1.0, production [3] S).
 #[tactic(auto, unfolding(crate::specs::WhiteSpace::is_white_space))]
-fn is_white_space(b: u8) -> bool
+pub fn is_white_space(b: u8) -> bool
     ensures { result ≡ is_white_space b }
 {
     matches!(b, b' ' | b'\t' | b'\n' | b'\r')
+}
+
+/// Whether each byte is white space.
+pub fn is_blank(bytes: &[u8]) -> bool
+    ensures { result ≡ rule.is_blank bytes.now }
+{
+    bytes.iter().all(|b| is_white_space(*b))
 }
 
 // How many bytes of white space there are at the front.

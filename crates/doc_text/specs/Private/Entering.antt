@@ -1,5 +1,5 @@
 -- What is read at a tag.
-use Rattle.std.specs.Prelude.{◌≡◌, ℕ, Bool, ◌&&◌, List, Option, Some, None}
+use Rattle.std.specs.Prelude.{◌≡◌, ℕ, Bool, true, false, ◌&&◌, List, [], Option, Some, None}
 use Rattle.std.specs.List.{list_all}
 use Rattle.std.specs.Str.{is_utf8}
 use Rattle.doc_pieces.specs.Pieces.{Tag}
@@ -7,8 +7,15 @@ use Rattle.doc_text.specs.declared.tags.Head.{Head}
 use Rattle.doc_text.specs.declared.error.DocWhy.{DocWhy}
 use Rattle.doc_text.specs.declared.error.DocError.{DocError}
 use Rattle.doc_text.specs.declared.error.DocError.TheVariants as errors
-use Rattle.doc_text.specs.Namespaces.{is_qname, bindings_of, attributes_of, element_name}
+use Rattle.doc_text.specs.Namespaces.{is_qname, is_long, prefix_of, local_of, bindings_of, attributes_of, element_name}
 use Rattle.doc_text.specs.Contexts.{tag_scope, start_reason}
+
+-- nothing speaks against the name, which has no prefix
+pub record IsPlain (written : List ℕ) : Type 0 where
+  pub qname : is_qname written ≡ true
+  pub short : is_long written ≡ false
+  pub alone : prefix_of written ≡ []
+  pub whole : local_of written ≡ written
 
 -- nothing speaks against the tag, and this is what it opens
 pub record Enters (outer : List (List ℕ × List ℕ)) (ended : Bool) (depth : ℕ) (tag : Tag) (head : Head) : Type 0 where

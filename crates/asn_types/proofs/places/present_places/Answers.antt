@@ -2,7 +2,7 @@ use Rattle.std.proofs.Common.{◌<◌, ◌+◌, sym, ap, ◌∙◌, length, arit
 use Rattle.std.specs.Prelude.{map}
 use Rattle.std.proofs.lemmas.List.{map-append}
 use Rattle.label_tree.specs.Rose.{node, none}
-use Rattle.asn_types.specs.Placing.{place_seen}
+use Rattle.asn_types.specs.Private.Placing.{place_seen}
 use Rattle.asn_types.specs.Values.{place_of, present_from}
 use Rattle.asn_types.proofs.Placed.{prepended, left, present-differ, left-unset, push-left}
 use Rattle.asn_types.proofs.places.present_places.Goals.{then-present-i+in_ok-push, else-present-i+else-not-parts-i}

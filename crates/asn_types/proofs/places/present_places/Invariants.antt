@@ -1,5 +1,5 @@
 use Rattle.std.proofs.Common.{◌≡◌, map}
-use Rattle.asn_types.specs.Placing.{place_seen}
+use Rattle.asn_types.specs.Private.Placing.{place_seen}
 use Rattle.asn_types.specs.Values.{present_from}
 use Rattle.asn_types.proofs.Placed.{prepended, left}
 use Rattle.asn_types.proofs.places.present_places.Given as goal

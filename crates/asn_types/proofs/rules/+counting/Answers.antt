@@ -3,7 +3,7 @@ use Rattle.std.specs.Prelude.{map, replicate}
 use Rattle.label_tree.specs.Rose.{roses_of}
 use Rattle.label_tree.proofs.Roses.{node_count-kids}
 use Rattle.label_tree.proofs.Kids.{kid-count-le}
-use Rattle.asn_types.specs.Placing.{place_seen, Found}
+use Rattle.asn_types.specs.Private.Placing.{place_seen, Found}
 use Rattle.asn_types.specs.Values.{places, child_count, count_in}
 use Rattle.asn_types.proofs.Counting.{if_ok, places-drop, replicate-drop, drop-past, found_count, count_in-none, ends, count_step}
 use Rattle.asn_types.proofs.rules.+counting.Goals as goal

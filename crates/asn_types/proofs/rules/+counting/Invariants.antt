@@ -1,7 +1,7 @@
 use Rattle.std.proofs.Common.{◌≡◌, ◌+◌, ◌-◌, ◌*◌, ◌^◌, ◌≤◌, length, drop, min}
 use Rattle.std.specs.Prelude.{map, replicate}
 use Rattle.label_tree.specs.Rose.{node_count, count_all, roses_of}
-use Rattle.asn_types.specs.Placing.{place_seen}
+use Rattle.asn_types.specs.Private.Placing.{place_seen}
 use Rattle.asn_types.specs.Values.{count_in}
 use Rattle.asn_types.proofs.rules.+counting.Given as goal
 

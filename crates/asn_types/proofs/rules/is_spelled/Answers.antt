@@ -2,7 +2,7 @@ use Rattle.std.proofs.Common.{subst}
 use Rattle.std.specs.Prelude.{◌↔◌, IsTrue}
 use Rattle.simple_types.specs.Seen.{space_of}
 use Rattle.simple_values.specs.Reading.{Holds}
-use Rattle.asn_types.specs.Telling.{Finds}
+use Rattle.asn_types.specs.Private.Telling.{Finds}
 use Rattle.asn_types.specs.Values.{IsSpelled}
 use Rattle.asn_types.proofs.Counting.{if_ok}
 use Rattle.asn_types.proofs.SimpleLaws.{maps_once}

@@ -10,7 +10,7 @@ use Rattle.simple_types.specs.Sound.{Sound, AreSound, has_list, is_union}
 use Rattle.simple_types.proofs.Seen.{union_space, list_space}
 use Rattle.asn_types.specs.Modules.{IsForm}
 use Rattle.asn_types.specs.Simples.{counting, MapsTo, MapToEach}
-use Rattle.asn_types.specs.Telling.{Finds}
+use Rattle.asn_types.specs.Private.Telling.{Finds}
 use Rattle.asn_types.proofs.Inside.{kid-well_formed, kids-well_formed, form-well_formed}
 use Rattle.asn_types.proofs.SimpleLaws.{maps_once}
 use Rattle.asn_types.proofs.Simpling.{member_at, members-push, count-maps, union-of, union-maps, list-of, list-maps, same_some, true_is_false, not_found}

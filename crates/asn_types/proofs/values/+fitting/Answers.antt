@@ -5,7 +5,7 @@ use Rattle.label_tree.specs.Rose.{roses_of, label_of}
 use Rattle.label_tree.proofs.Roses.{node_count-kids}
 use Rattle.label_tree.proofs.Kids.{kid-count-le}
 use Rattle.asn_types.specs.Modules.{AreWellFormed}
-use Rattle.asn_types.specs.Placing.{place_seen, Found, ArePlaces, FitKids}
+use Rattle.asn_types.specs.Private.Placing.{place_seen, Found, ArePlaces, FitKids}
 use Rattle.asn_types.specs.Values.{places, FitsAt, FitEach, OwnAt}
 use Rattle.asn_types.proofs.Belonging.{places-belong}
 use Rattle.asn_types.proofs.Counting.{if_ok, places-drop, replicate-drop, drop-past, fits-kids, fits-from_kids, fit_each-length, fit_none, fit-split, fit-join, places-first}

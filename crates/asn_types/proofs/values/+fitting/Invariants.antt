@@ -1,7 +1,7 @@
 use Rattle.std.proofs.Common.{◌↔◌, ◌+◌, ◌-◌, ◌*◌, length, drop}
 use Rattle.std.specs.Prelude.{map, replicate}
 use Rattle.label_tree.specs.Rose.{node_count, count_all, roses_of}
-use Rattle.asn_types.specs.Placing.{place_seen, ArePlaces}
+use Rattle.asn_types.specs.Private.Placing.{place_seen, ArePlaces}
 use Rattle.asn_types.specs.Values.{FitEach}
 use Rattle.asn_types.proofs.values.+fitting.Given as goal
 

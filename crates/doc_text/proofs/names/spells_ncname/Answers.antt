@@ -8,5 +8,5 @@ returns-in-Ok c = spelled c.args.bytes.now _ (search rules) (search rules)
 pub returns-in-Err : goal.returns-in-Err
 returns-in-Err c = unspelled c.args.bytes.now (search rules)
 
-pub returns-then-colon_at-bytes : goal.returns-then-colon_at-bytes
-returns-then-colon_at-bytes c = ascii_spelled c.args.bytes.now (search rules) (search rules)
+pub returns-then-is_ascii_ncname : goal.returns-then-is_ascii_ncname
+returns-then-is_ascii_ncname c = ascii_spelled c.args.bytes.now (search rules)

@@ -15,4 +15,4 @@ returns-in_ok-push-in-None c =
     ap spaces_in c.in_ok-push-in-None.ensures.items
     ∙ spaces-append c.args.flat.now.items (c.in_ok-copied-in-None.copied ∷ [])
     ∙ ap (λ s. joined (spaces_in c.args.flat.now.items) (more s none)) c.in_ok-copied-in-None.ensures
-    ∙ ap (joined (spaces_in c.args.flat.now.items)) (sym (flattened_other (space_of c.args.member.now) none c.in-None.ensures))
+    ∙ ap (joined (spaces_in c.args.flat.now.items)) (sym (flattened_other (space_of c.args.simple.now) none c.in-None.ensures))

@@ -32,9 +32,9 @@ pub write_block-returns : goal.write_block-returns
 write_block-returns t c =
     let kids = c.args.kids.now in
     let some : 0 < length kids = search rules in
-    let all = block-parts c.args.assignments.now c.args.levels c.in_ok-inner.inner c.args.parts.now kids c.args.out.now.items c.push.new.self.items c.write_parts.new.out.items
-    some c.requires.count c.in_ok-inner.ensures c.in_ok-push.ensures.items c.in_ok-write_parts.ensures in
-    on_ok c.write_closing_brace.result _ _ (λ e. e ∙ all) c.write_closing_brace.ensures
+    c.in_ok-write_closing_brace.ensures
+    ∙ block-parts c.args.assignments.now c.args.levels c.in_ok-inner.inner c.args.parts.now kids c.args.out.now.items c.push.new.self.items c.write_parts.new.out.items
+    some c.requires.count c.in_ok-inner.ensures c.in_ok-push.ensures.items c.in_ok-write_parts.ensures
 
 pub write_parts-write_part-requires : goal.write_parts-write_part-requires
 write_parts-write_part-requires t c =

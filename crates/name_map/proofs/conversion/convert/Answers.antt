@@ -1,6 +1,7 @@
 use Rattle.std.proofs.Common.{◌≡◌, ◌<◌, ◌++◌, [], ◌∷◌, arith, ap, length, sym, ◌∙◌, string_bytes, Some}
 use Rattle.std.proofs.lemmas.Bool.Decides.{nat_tests}
 use Rattle.std.proofs.lemmas.List.{append-nil, map-id}
+use Rattle.std.proofs.lemmas.Result.{IfOk-weaker}
 use Rattle.std.proofs.lemmas.Str.{encode_ascii}
 use Rattle.std.specs.Prelude.{if◌then◌else◌}
 use Rattle.std.specs.Str.{chars}
@@ -60,4 +61,5 @@ returns c =
           let some : 0 < length made = grind (arith, nat_tests, ok) in
           ap (λ s. string_bytes s) w.made-is ∙ sym (ends-done kind made c.characters.is_apart some)
     ] in
-    c.from.ensures ∙ final ∙ sym done ∙ ap (converted kind) all
+    let chars_made : string_bytes c.if-is_empty-2.made ≡ converted kind (chars c.args.name.now) = final ∙ sym done ∙ ap (converted kind) all in
+    IfOk-weaker c.from_string.result _ _ (λ made' is. is ∙ chars_made) c.from_string.ensures

@@ -1,7 +1,7 @@
 use Rattle.std.proofs.Common.{◌∷◌, [], ◌++◌, take, ◌∙◌, sym, ap}
 use Rattle.std.proofs.lemmas.List.{take_more}
 use Rattle.asn_types.specs.Simples.{counting}
-use Rattle.asn_types.specs.Telling.{told, with_mark}
+use Rattle.asn_types.specs.Private.Telling.{told, with_mark}
 use Rattle.asn_types.proofs.SimpleLaws.{told-counting}
 use Rattle.asn_types.proofs.marks.Marks.told.Goals as goal
 

@@ -1,6 +1,6 @@
 use Rattle.std.proofs.Common.{◌≡◌, take}
 use Rattle.asn_types.specs.Simples.{counting}
-use Rattle.asn_types.specs.Telling.{told}
+use Rattle.asn_types.specs.Private.Telling.{told}
 use Rattle.asn_types.proofs.marks.Marks.told.Given as goal
 
 abbrev pub invariant-marks : goal.invariant-marks

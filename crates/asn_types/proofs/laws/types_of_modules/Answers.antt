@@ -1,0 +1,5 @@
+use Rattle.asn_types.proofs.Chaining.{well-formed, parts-of-module, resolved-of-module}
+use Rattle.asn_types.proofs.laws.types_of_modules.Goals as goal
+
+pub returns : goal.returns
+returns c = record { well_formed = well-formed; parts = parts-of-module; resolved = resolved-of-module }

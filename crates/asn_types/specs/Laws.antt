@@ -1,0 +1,44 @@
+-- What code needs that goes down types without a value, as a decoder does: it has only so many elements, references and
+-- kids before it.
+use Rattle.std.specs.Prelude.{◌≡◌, ℕ, suc, false, Some, None, List, slice_get}
+use Rattle.label_tree.specs.Rose.{Rose, node, Roses, list_of, label_of}
+use Rattle.asn_types.specs.declared.types.Component.{Component}
+use Rattle.asn_types.specs.declared.types.TypeLabel.{TypeLabel}
+use Rattle.asn_types.specs.declared.modules.Assignment.{Assignment}
+use Rattle.asn_types.specs.Modules.{IsModule, AreWellFormed}
+use Rattle.asn_types.specs.Parts.{parts_of}
+use Rattle.asn_types.specs.Refs.{target, next, resolve, is_element, ChainsWithin, IsOf}
+use Rattle.asn_types.specs.Roles.{role_of}
+
+-- the part with number i of a type, and the type of the part
+abbrev pub IsPart : TypeLabel → Roses TypeLabel → ℕ → Component → Rose TypeLabel → Type 0
+IsPart l ts i part t = (slice_get (parts_of l.form) i ≡ Some part) × (slice_get (list_of ts) i ≡ Some t)
+
+-- A part that is no element has the references that its type has,
+abbrev pub PartKeepsReferences : Type 0
+PartKeepsReferences = (M : List Assignment) (n : ℕ) (l : TypeLabel) (ts : Roses TypeLabel) (i : ℕ) (part : Component) (t : Rose TypeLabel)
+    → ChainsWithin M n (node l ts) → IsPart l ts i part t → is_element (role_of l i part) ≡ false → ChainsWithin M n t
+
+-- a reference takes one,
+abbrev pub ReferenceTakesOne : Type 0
+ReferenceTakesOne = (M : List Assignment) (n : ℕ) (t u : Rose TypeLabel) → ChainsWithin M (suc n) t → next M t ≡ Some u → ChainsWithin M n u
+
+-- and each type of a module has four, an element's too.
+abbrev pub TypeHasFour : Type 0
+TypeHasFour = (M : List Assignment) (t : Rose TypeLabel) → AreWellFormed M t → ChainsWithin M 4 t
+
+-- Behind so many references as a type may have stands a type that is none.
+abbrev pub ResolvedIsNoReference : Type 0
+ResolvedIsNoReference = (M : List Assignment) (t : Rose TypeLabel) → IsModule M → AreWellFormed M t → target (label_of (resolve M t)).form ≡ None
+
+-- The types of a module are well formed, those of their parts are of the module,
+abbrev pub TypesAreWellFormed : Type 0
+TypesAreWellFormed = (M : List Assignment) (t : Rose TypeLabel) → IsModule M → IsOf M t → AreWellFormed M t
+
+abbrev pub PartsAreOfTheModule : Type 0
+PartsAreOfTheModule = (M : List Assignment) (l : TypeLabel) (ts : Roses TypeLabel) (i : ℕ) (t : Rose TypeLabel)
+    → IsOf M (node l ts) → slice_get (list_of ts) i ≡ Some t → IsOf M t
+
+-- and so are those behind their references.
+abbrev pub ResolvedIsOfTheModule : Type 0
+ResolvedIsOfTheModule = (M : List Assignment) (t : Rose TypeLabel) → IsOf M t → IsOf M (resolve M t)
