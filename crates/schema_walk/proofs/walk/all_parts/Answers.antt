@@ -2,7 +2,7 @@ use Rattle.std.proofs.Common.{◌++◌, ap, sym, ◌∙◌}
 use Rattle.schema_parts.specs.Documents.{doc_of}
 use Rattle.schema_walk.specs.Parts.{in_document}
 use Rattle.schema_walk.proofs.Flat.{mapped_more}
-use Rattle.schema_walk.proofs.walk.document_parts.Goals as goal
+use Rattle.schema_walk.proofs.walk.all_parts.Goals as goal
 
 pub docs-preserved : goal.docs-preserved
 docs-preserved c =
