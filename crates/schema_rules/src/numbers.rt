@@ -1,7 +1,7 @@
 //! Numbers of occurrences, in digits.
 ghost use Rattle.std.specs.Prelude.{◌≡◌, ◌==◌, true};
 ghost use Rattle.std.specs.List.{list_all};
-ghost use Rattle.xa_base.specs.Digits as digits;
+ghost use Rattle.xa_base.specs.Digits as decimal;
 ghost use Rattle.schema_rules.specs.Private.Comparing as comparing;
 ghost use Rattle.schema_rules.specs.Numbers as numbers;
 
@@ -22,8 +22,8 @@ pub fn is_zero(text: &[u8]) -> bool
 
 /// The number in digits, if it is below 2^32.
 pub fn small_number(digits: &[u8]) -> Option<u32>
-    requires { list_all digits.is_digit digits.now ≡ true }
-    ensures { result ≡ numbers.small (digits.number_of digits.now) }
+    requires { list_all decimal.is_digit digits.now ≡ true }
+    ensures { result ≡ numbers.small (decimal.number_of digits.now) }
 {
     let mut number = 0u64;
     let mut rest = digits;

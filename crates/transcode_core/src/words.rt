@@ -2,7 +2,7 @@
 ghost use Rattle.std.specs.Prelude.{◌≡◌, true, ℕ, List, ◌∷◌, MatchOption, Some, None, ◌+◌, ◌≤◌, ◌<◌, ◌^◌, ◌*◌, ◌&&◌, length, nat_le, option_map};
 ghost use Rattle.std.specs.List.{list_all};
 ghost use Rattle.std.specs.Str.{chars};
-ghost use Rattle.xa_base.specs.Digits as digits;
+ghost use Rattle.xa_base.specs.Digits as decimal;
 ghost use Rattle.transcode_core.specs.Words as command_line;
 ghost use Rattle.transcode_core.specs.Private.Requests.{root_seen, seen};
 ghost use Rattle.transcode_core.specs.Order.{Found};
@@ -74,9 +74,9 @@ fn braced(text: &str) -> Option<Root<'_>>
 
 // The number in digits, if it is at most 100,000.
 fn number_of(digits: &[u8]) -> Option<u32>
-    requires { list_all digits.is_digit digits.now ≡ true }
-    ensures { MatchOption result (100000 < digits.number_from 0 digits.now)
-        (λ number. (number ≡ digits.number_from 0 digits.now) × (number ≤ 100000)) }
+    requires { list_all decimal.is_digit digits.now ≡ true }
+    ensures { MatchOption result (100000 < decimal.number_from 0 digits.now)
+        (λ number. (number ≡ decimal.number_from 0 digits.now) × (number ≤ 100000)) }
 {
     let mut number = 0u32;
     let mut rest = digits;
