@@ -2,7 +2,7 @@
 use Rattle.std.proofs.Common.{◌≡◌, ℕ, ◌⊎◌, inl, inr, Bool, true, false, cond, ◌||◌, ◌&&◌, List, [], ◌∷◌, ◌++◌, Option, Some, None, nat_eq, refl, sym, ap, ◌∙◌, subst, arith}
 use Rattle.std.specs.Prelude.{not, MatchOption, IfOk, Result, Ok, Err}
 use Rattle.std.specs.List.{list_any, All, Any, Contains}
-use Rattle.std.proofs.lemmas.List.Elements.{All-nil, All-cons, All-append, All-weaker, All-contains, Contains-append_left, Contains-append_right}
+use Rattle.std.proofs.lemmas.List.Elements.{All-nil, All-cons, All-head, All-tail, All-append, All-weaker, All-contains, Contains-append_left, Contains-append_right}
 use Rattle.std.proofs.Math.Bool.{or_comm}
 use borrow.Author.Tests.{eqb-true, eq-eqb}
 use Rattle.label_tree.specs.Rose.{Rose, node, Roses}
@@ -13,6 +13,7 @@ use Rattle.xa_base.proofs.NameLaws.{name_eq-Decides}
 use Rattle.content_models.specs.Particle.{Term, element, sequence, choice, Particles, none, more}
 use Rattle.content_models.specs.Clear.{Has, Apart, and_then, first, first_of_term, first_in_order, first_of_any, empties, empties_term, all_empty, any_empty, repeats, follow_of_body, Rule1, Rule2, Rule3, AllApart, OneEmpty, Clear, ClearBelow, ClearInOrder, ClearOneOf}
 use Rattle.content_models.specs.Seen.{seen, term_seen, all_seen}
+use Rattle.content_models.specs.Laws.{LawOfRules}
 use Rattle.content_models.specs.Breaches.{Placed, placed, all_placed, placed_in_order, placed_of_any, KeepsRules, Breaks, StandsAt, StandsFrom, IsFirstBreach}
 use Rattle.content_models.specs.Private.Deciding.{has, is_once, is_fixed, breaks_bounds, clash, breaks_choice, breach_at, breach_if, is_before, earlier, earliest, body_follow, after_follow, breach_of, breach_in_order, breach_of_any}
 use Rattle.content_models.specs.declared.particles.ParticleKind.{ParticleKind}
@@ -415,3 +416,18 @@ pub answers_clear : {E : Type 0} (t u : Rose ParticleLabel) (P : Name → Bool) 
     → IfOk result (λ found. MatchOption found (Clear (seen t) []) (λ breach. (Clear (seen t) [] → ⊥) × IsFirstBreach (all_placed t []) breach))
 answers_clear t u P (Ok found) e nothing h = decides_clear t P nothing found (h ∙ ap (λ z. breach_of z P) e)
 answers_clear t u P (Err x) e nothing h = tt
+
+-- a content model is clear exactly where all that is placed in it keeps the rules
+all_keep : (ps : List Placed) → KeepAll ps → All KeepsRules ps
+all_keep [] h = All-nil KeepsRules
+all_keep (p ∷ ps) h = All-cons KeepsRules p ps h.0 (all_keep ps h.1)
+
+keep_all : (ps : List Placed) → All KeepsRules ps → KeepAll ps
+keep_all [] h = tt
+keep_all (p ∷ ps) h = (All-head KeepsRules p ps h, keep_all ps (All-tail KeepsRules p ps h))
+
+pub law_of_rules : LawOfRules
+law_of_rules t follow = (
+  λ h. all_keep (all_placed t follow) (kept_clear t follow h),
+  λ h. clear_kept t follow (keep_all (all_placed t follow) h),
+)

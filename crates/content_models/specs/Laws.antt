@@ -1,11 +1,15 @@
 -- The laws of content models.
-use Rattle.std.specs.Prelude.{◌≡◌, ◌↔◌, ◌⊎◌, ℕ, List, [], ◌∷◌, ◌++◌, Bool, true}
+use Rattle.std.specs.Prelude.{◌≡◌, ◌↔◌, ◌⊎◌, ℕ, List, [], ◌∷◌, ◌++◌, Bool, true, All}
+use Rattle.label_tree.specs.Rose.{Rose}
 use Rattle.xa_base.specs.declared.texts.Name.{Name}
 use Rattle.content_models.specs.Particle.{Particle}
 use Rattle.content_models.specs.Language.{Turn, Leaf, names, Lang, Viable, ComesNext}
 use Rattle.content_models.specs.Clear.{Has, first, empties, Clear}
 use Rattle.content_models.specs.Occurring.{MayOccur}
 use Rattle.content_models.specs.Undeclared.{undeclared}
+use Rattle.content_models.specs.Breaches.{all_placed, KeepsRules}
+use Rattle.content_models.specs.Seen.{seen}
+use Rattle.content_models.specs.declared.particles.ParticleLabel.{ParticleLabel}
 
 -- The names begin with one of the first, or there are none, where that is allowed.
 abbrev pub Opens : List Name → Bool → List Name → Type 0
@@ -81,3 +85,8 @@ Starts L a = (w : List Leaf) × (r : List Name) × L w × (names w ≡ a ∷ r)
 abbrev pub LawOfFirstNames : Type 0
 LawOfFirstNames = (p : Particle) (n : ℕ) (path : List Turn) → MayOccur p
     → ((a : Name) → Has a (first p) ↔ Starts (Lang p n path) a) × ((empties p ≡ true) ↔ Lang p n path [])
+
+-- A content model is clear before a follow exactly where each particle in it, with the follow that it has there, keeps the
+-- rules: so where none that is placed breaks one.
+abbrev pub LawOfRules : Type 0
+LawOfRules = (t : Rose ParticleLabel) (follow : List Name) → Clear (seen t) follow ↔ All KeepsRules (all_placed t follow)

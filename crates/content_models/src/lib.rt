@@ -11,6 +11,7 @@ pub use breaches::{Breach, first_breach, is_clear};
 pub use first_names::push_first;
 pub use laws::{
     law_of_beginnings, law_of_beginnings_before_follow, law_of_declaration_numbers,
-    law_of_first_names, law_of_next_leaves, law_of_some_lists, law_of_splits, law_of_unique_lists,
+    law_of_first_names, law_of_next_leaves, law_of_rules, law_of_some_lists, law_of_splits,
+    law_of_unique_lists,
 };
 pub use particles::{Particle, ParticleKind, ParticleLabel};

@@ -1,9 +1,10 @@
 //! What holds of schema documents.
-ghost use Rattle.std.specs.Prelude.{◌≡◌, ◌⊎◌, ℕ, Some, None};
+ghost use Rattle.std.specs.Prelude.{◌≡◌, ◌⊎◌, ◌↔◌, ℕ, Some, None};
 ghost use Rattle.label_tree.specs.Rose.{Rose};
 ghost use Rattle.doc_text.specs.Tokens.{tokens, Ascend};
 ghost use Rattle.doc_text.specs.declared.label.ItemLabel.{ItemLabel};
 ghost use Rattle.schema_rules.specs.declared.why.SchemaWhy.{SchemaWhy};
+ghost use Rattle.schema_faults.specs.Faults.{first_fault, reasons, fault_if};
 ghost use Rattle.schema_faults.specs.Shown.{Shown, IsSchema};
 
 /// Items whose places ascend, as those of every document that is read, are a schema or have one first fault, and never
@@ -12,4 +13,11 @@ pub fn one_answer()
     ensures some { (root : Rose ItemLabel) (bound : ℕ) → Ascend 0 bound (tokens root) → IsSchema root ⊎ ((at : ℕ) × (why : SchemaWhy) × Shown root at why) }
     ensures fault { (root : Rose ItemLabel) (bound a b : ℕ) (why other : SchemaWhy) → Ascend 0 bound (tokens root) → Shown root a why → Shown root b other → (a ≡ b) × (why ≡ other) }
     ensures not_both { (root : Rose ItemLabel) (at : ℕ) (why : SchemaWhy) → IsSchema root → Shown root at why → ⊥ }
+{}
+
+/// Where the places ascend, the first fault in the order written is the one at the least place, and a document in which
+/// none is found is a schema.
+pub fn first_is_shown()
+    ensures fault { (root : Rose ItemLabel) (bound at : ℕ) (why : SchemaWhy) → Ascend 0 bound (tokens root) → (first_fault (reasons root) ≡ fault_if at (Some why)) ↔ Shown root at why }
+    ensures none { (root : Rose ItemLabel) (bound : ℕ) → Ascend 0 bound (tokens root) → (first_fault (reasons root) ≡ None) ↔ IsSchema root }
 {}

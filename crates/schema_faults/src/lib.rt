@@ -8,4 +8,4 @@ mod reasons;
 mod requirements;
 
 pub use faults::{Fault, first_fault};
-pub use laws::one_answer;
+pub use laws::{first_is_shown, one_answer};

@@ -57,7 +57,7 @@ unfolding is_white_space
 boolean_word true = record { has = refl; plain = plain_letters (boolean_text true) refl }
 boolean_word false = record { has = refl; plain = plain_letters (boolean_text false) refl }
 
-is_boolean : (o : Option Bool) (value : Rose ValueLabel) → boolean_from o ≡ Ok value → (b : Bool) × (value ≡ leaf (label.Bool b))
+pub is_boolean : (o : Option Bool) (value : Rose ValueLabel) → boolean_from o ≡ Ok value → (b : Bool) × (value ≡ leaf (label.Bool b))
 is_boolean None value e = absurd (cc)
 is_boolean (Some b) value e = (b, cc)
 
@@ -72,17 +72,17 @@ read_boolean-word text value e =
     rw known.1 (boolean_word known.0)
 
 -- whole numbers
-record IsWhole (least greatest : Option ℤ) (value : Rose ValueLabel) : Type 0 where
-  z : ℤ
-  bits : is_128_bits z ≡ true
-  is : value ≡ leaf (label.Int z)
-  within : whole_within least greatest z ≡ Ok value
+pub record IsWhole (least greatest : Option ℤ) (value : Rose ValueLabel) : Type 0 where
+  pub z : ℤ
+  pub bits : is_128_bits z ≡ true
+  pub is : value ≡ leaf (label.Int z)
+  pub within : whole_within least greatest z ≡ Ok value
 
 refused_outside : (bound : Option ℤ) (value : Rose ValueLabel) → outside bound ≡ Ok value → ⊥
 refused_outside None value e = cc
 refused_outside (Some z) value e = cc
 
-is_whole : (least greatest : Option ℤ) (o : Option ℤ) (value : Rose ValueLabel) → whole_from least greatest o ≡ Ok value → IsWhole least greatest value
+pub is_whole : (least greatest : Option ℤ) (o : Option ℤ) (value : Rose ValueLabel) → whole_from least greatest o ≡ Ok value → IsWhole least greatest value
 is_whole least greatest None value e = absurd (cc)
 is_whole least greatest (Some z) value e = by (is_128_bits z) refl (is_from least z && is_to greatest z) refl
   where
@@ -105,17 +105,17 @@ read_whole-word least greatest text value e =
     rw known.is (decimal_word known.z known.bits)
 
 -- items of an enumeration
-is_item : (o : Option ℕ) (value : Rose ValueLabel) → item_at o ≡ Ok value → (i : ℕ) × (o ≡ Some i) × (value ≡ leaf (label.Enum i))
+pub is_item : (o : Option ℕ) (value : Rose ValueLabel) → item_at o ≡ Ok value → (i : ℕ) × (o ≡ Some i) × (value ≡ leaf (label.Enum i))
 is_item None value e = absurd (cc)
 is_item (Some i) value e = (i, refl, cc)
 
-record IsNumber (numbers : List ℤ) (value : Rose ValueLabel) : Type 0 where
-  z : ℤ
-  bits : is_128_bits z ≡ true
-  spelled_is : spelled_number numbers (label_of value) ≡ signed_decimal z
-  given : number_from numbers (Some z) ≡ Ok value
+pub record IsNumber (numbers : List ℤ) (value : Rose ValueLabel) : Type 0 where
+  pub z : ℤ
+  pub bits : is_128_bits z ≡ true
+  pub spelled_is : spelled_number numbers (label_of value) ≡ signed_decimal z
+  pub given : number_from numbers (Some z) ≡ Ok value
 
-is_number : (numbers : List ℤ) (o : Option ℤ) (value : Rose ValueLabel) → number_from numbers o ≡ Ok value → IsNumber numbers value
+pub is_number : (numbers : List ℤ) (o : Option ℤ) (value : Rose ValueLabel) → number_from numbers o ≡ Ok value → IsNumber numbers value
 is_number numbers None value e = absurd (cc)
 is_number numbers (Some z) value e = by (is_128_bits z) refl
   where
@@ -172,14 +172,14 @@ read_characters-again how least most class text value e =
     ∙ ap (read_characters least most class) (treated-treated how text) ∙ e
 
 -- items of a list
-record IsRead (read : List ℕ → Reading) (text : List ℕ) (texts : List (List ℕ)) (values : List (Rose ValueLabel)) : Type 0 where
-  value : Rose ValueLabel
-  further : List (Rose ValueLabel)
-  first : read text ≡ Ok value
-  rest : read_each read texts ≡ Ok further
-  is : values ≡ value ∷ further
+pub record IsRead (read : List ℕ → Reading) (text : List ℕ) (texts : List (List ℕ)) (values : List (Rose ValueLabel)) : Type 0 where
+  pub value : Rose ValueLabel
+  pub further : List (Rose ValueLabel)
+  pub first : read text ≡ Ok value
+  pub rest : read_each read texts ≡ Ok further
+  pub is : values ≡ value ∷ further
 
-is_read : (read : List ℕ → Reading) (text : List ℕ) (texts : List (List ℕ)) (values : List (Rose ValueLabel)) → read_each read (text ∷ texts) ≡ Ok values → IsRead read text texts values
+pub is_read : (read : List ℕ → Reading) (text : List ℕ) (texts : List (List ℕ)) (values : List (Rose ValueLabel)) → read_each read (text ∷ texts) ≡ Ok values → IsRead read text texts values
 is_read read text texts values e = by (read text) refl (read_each read texts) refl
   where
     by : (r : Reading) → read text ≡ r → (rs : Result (List (Rose ValueLabel)) Refusal) → read_each read texts ≡ rs → IsRead read text texts values
@@ -203,13 +203,13 @@ module _ (read : List ℕ → Reading) (spell : Rose ValueLabel → List ℕ) wh
       rw known.is (All-cons IsWord (spell known.value) (map spell known.further) (word text known.value (All-head IsWord text texts each) known.first)
       (each_word word texts known.further (All-tail IsWord text texts each) known.rest))
 
-record IsList (least : ℕ) (most : Option ℕ) (read_items : Result (List (Rose ValueLabel)) Refusal) (value : Rose ValueLabel) : Type 0 where
-  values : List (Rose ValueLabel)
-  read : read_items ≡ Ok values
-  is : value ≡ node label.SequenceOf (roses_of values)
-  given : list_within least most (Ok values) ≡ Ok value
+pub record IsList (least : ℕ) (most : Option ℕ) (read_items : Result (List (Rose ValueLabel)) Refusal) (value : Rose ValueLabel) : Type 0 where
+  pub values : List (Rose ValueLabel)
+  pub read : read_items ≡ Ok values
+  pub is : value ≡ node label.SequenceOf (roses_of values)
+  pub given : list_within least most (Ok values) ≡ Ok value
 
-is_list : (least : ℕ) (most : Option ℕ) (r : Result (List (Rose ValueLabel)) Refusal) (value : Rose ValueLabel) → list_within least most r ≡ Ok value → IsList least most r value
+pub is_list : (least : ℕ) (most : Option ℕ) (r : Result (List (Rose ValueLabel)) Refusal) (value : Rose ValueLabel) → list_within least most r ≡ Ok value → IsList least most r value
 is_list least most (Err why) value e = absurd (cc)
 is_list least most (Ok values) value e = by (nat_le least (length values) && is_at_most (length values) most) refl
   where

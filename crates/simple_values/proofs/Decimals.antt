@@ -20,7 +20,7 @@ digits_from : (cs : List ℕ) → AllDigits 10 cs → list_all is_digit cs ≡ t
 digits_from [] each = refl
 digits_from (c ∷ cs) each = rw (digit_from c each.0, digits_from cs each.1) refl
 
-numeral_from : (cs : List ℕ) → IsNumeral 10 cs → is_numeral cs ≡ true
+pub numeral_from : (cs : List ℕ) → IsNumeral 10 cs → is_numeral cs ≡ true
 numeral_from [] numeral = absurd (let some = numeral.0 in omega arith)
 numeral_from (c ∷ cs) numeral = digits_from (c ∷ cs) numeral.1
 
@@ -59,7 +59,7 @@ minus_number : (cs : List ℕ) → is_numeral cs ≡ true → whole_number (45 �
 unfolding whole_number
 minus_number cs e = rw e refl
 
-short : (n : ℕ) → n < 2 ^ 127 → n + 1 < 10 ^ 64
+pub short : (n : ℕ) → n < 2 ^ 127 → n + 1 < 10 ^ 64
 short n below = let room : 2 ^ 127 + 1 ≤ 10 ^ 64 = lit≤ tt in omega (arith, below, room)
 
 pub decimal_word : (z : ℤ) → is_128_bits z ≡ true → IsWord (signed_decimal z)

@@ -6,3 +6,4 @@ pub mod Places
 pub mod Readings
 pub mod Spellings
 pub mod WholeNumbers
+pub mod XmlTexts

@@ -37,10 +37,10 @@ later_again i value (Err Bad) (Err Wide) again = tt
 later_again i value (Err Bad) (Err Bad) again = again
 
 -- what takes is the first member, or a later one
-abbrev IsFirst : Reading → Taking → ℕ → Rose ValueLabel → Type 0
+abbrev pub IsFirst : Reading → Taking → ℕ → Rose ValueLabel → Type 0
 IsFirst r t i value = ((i ≡ 0) × (r ≡ Ok value)) ⊎ ((j : ℕ) × (i ≡ suc j) × (t ≡ Ok (j, value)))
 
-which : (r : Reading) (t : Taking) (i : ℕ) (value : Rose ValueLabel) → first_taking r t ≡ Ok (i, value) → IsFirst r t i value
+pub which : (r : Reading) (t : Taking) (i : ℕ) (value : Rose ValueLabel) → first_taking r t ≡ Ok (i, value) → IsFirst r t i value
 which (Ok first) t i value e =
     let same : ◌≡◌ {A = ℕ × Rose ValueLabel} (0, first) (i, value) = cc in
     inl (sym (ap (λ p. p.0) same), ap (λ p. Ok p.1) same)
@@ -155,39 +155,40 @@ module _ (take : List ℕ → Taking) (spell : ℕ → Rose ValueLabel → List 
                 ∙ turn_same take spell next turns next some known.took (eq-eqb known.i known.i refl) ∙ ap Ok (sym known.is),
           )
 
--- what a list's item spells is a word
-module _ (take : List ℕ → Taking) (spell : ℕ → Rose ValueLabel → List ℕ) (word : (text : List ℕ) (i : ℕ) (value : Rose ValueLabel) → IsWord text → take text ≡ Ok (i, value) → IsWord (spell i value)) where
-  abbrev SpellsWord : Rose ValueLabel → Type 0
-  SpellsWord value = (i : ℕ) × (inner : Rose ValueLabel) × (value ≡ choice_of (i, inner)) × IsWord (spell i inner)
+-- what is so of each spelling that a member takes of such a text is so of the union's
+module _ (take : List ℕ → Taking) (spell : ℕ → Rose ValueLabel → List ℕ) (Such So : List ℕ → Type 0) (further : (text : List ℕ) → So text → Such text)
+    (each : (text : List ℕ) (i : ℕ) (value : Rose ValueLabel) → Such text → take text ≡ Ok (i, value) → So (spell i value)) where
+  abbrev pub SpellsSo : Rose ValueLabel → Type 0
+  SpellsSo value = (i : ℕ) × (inner : Rose ValueLabel) × (value ≡ choice_of (i, inner)) × So (spell i inner)
 
-  words_more : (turns : ℕ) → ((next : ℕ × Rose ValueLabel) → IsWord (spell next.0 next.1) → (value : Rose ValueLabel) → goes_on take spell turns next ≡ Ok value → SpellsWord value)
-      → (taken : ℕ × Rose ValueLabel) → IsWord (spell taken.0 taken.1) → (value : Rose ValueLabel) → goes_on take spell (suc turns) taken ≡ Ok value → SpellsWord value
-  words_more turns rest taken is value e = by (take (spell taken.0 taken.1)) refl
+  so_more : (turns : ℕ) → ((next : ℕ × Rose ValueLabel) → So (spell next.0 next.1) → (value : Rose ValueLabel) → goes_on take spell turns next ≡ Ok value → SpellsSo value)
+      → (taken : ℕ × Rose ValueLabel) → So (spell taken.0 taken.1) → (value : Rose ValueLabel) → goes_on take spell (suc turns) taken ≡ Ok value → SpellsSo value
+  so_more turns rest taken is value e = by (take (spell taken.0 taken.1)) refl
     where
-      goes : (next : ℕ × Rose ValueLabel) → take (spell taken.0 taken.1) ≡ Ok next → (same : Bool) → (next.0 == taken.0) ≡ same → SpellsWord value
+      goes : (next : ℕ × Rose ValueLabel) → take (spell taken.0 taken.1) ≡ Ok next → (same : Bool) → (next.0 == taken.0) ≡ same → SpellsSo value
       goes next took true same =
           let given : Ok (choice_of taken) ≡ Ok value = sym (turn_same take spell taken (suc turns) next (omega arith) took same) ∙ e in
           let value_is : value ≡ choice_of taken = cc in
           (taken.0, taken.1, value_is, is)
       goes next took false other =
           let one_less : suc turns - 1 ≡ turns = omega arith in
-          rest next (word (spell taken.0 taken.1) next.0 next.1 is took) value
+          rest next (each (spell taken.0 taken.1) next.0 next.1 (further (spell taken.0 taken.1) is) took) value
           (sym (turn_further take spell taken (suc turns) next (omega arith) took other ∙ ap (λ n. goes_on take spell n next) one_less) ∙ e)
 
-      by : (t : Taking) → take (spell taken.0 taken.1) ≡ t → SpellsWord value
+      by : (t : Taking) → take (spell taken.0 taken.1) ≡ t → SpellsSo value
       by (Err why) took = absurd (let f : Err why ≡ Ok value = sym (turn_refused take spell taken (suc turns) why (omega arith) took) ∙ e in cc)
       by (Ok next) took = goes next took (next.0 == taken.0) refl
 
-  words_at : (turns : ℕ) (taken : ℕ × Rose ValueLabel) → IsWord (spell taken.0 taken.1) → (value : Rose ValueLabel) → goes_on take spell turns taken ≡ Ok value → SpellsWord value
-  words_at zero taken is value e = absurd (cc)
-  words_at (suc turns) taken is value e = words_more turns (words_at turns) taken is value e
+  so_at : (turns : ℕ) (taken : ℕ × Rose ValueLabel) → So (spell taken.0 taken.1) → (value : Rose ValueLabel) → goes_on take spell turns taken ≡ Ok value → SpellsSo value
+  so_at zero taken is value e = absurd (cc)
+  so_at (suc turns) taken is value e = so_more turns (so_at turns) taken is value e
 
-  settles_word : (turns : ℕ) (text : List ℕ) (value : Rose ValueLabel) → IsWord text → settled take spell turns text ≡ Ok value → SpellsWord value
-  settles_word turns text value is e = by (take text) refl
+  pub settles_so : (turns : ℕ) (text : List ℕ) (value : Rose ValueLabel) → Such text → settled take spell turns text ≡ Ok value → SpellsSo value
+  settles_so turns text value is e = by (take text) refl
     where
-      by : (t : Taking) → take text ≡ t → SpellsWord value
+      by : (t : Taking) → take text ≡ t → SpellsSo value
       by (Err why) took = absurd (let f = rw (settled, took) at e in cc)
-      by (Ok taken) took = words_at turns taken (word text taken.0 taken.1 is took) value (sym (settled_from take spell turns text taken took) ∙ e)
+      by (Ok taken) took = so_at turns taken (each text taken.0 taken.1 is took) value (sym (settled_from take spell turns text taken took) ∙ e)
 
 abbrev WordsFrom : (List ℕ → Reading) → (Rose ValueLabel → List ℕ) → Type 0
 WordsFrom read spell = (text : List ℕ) (value : Rose ValueLabel) → IsWord text → read text ≡ Ok value → IsWord (spell value)
@@ -209,7 +210,7 @@ none_words text i value is e = absurd (cc)
 union_words : (members : Spaces) → WordsTaken (taken_by members) (spelled_by members) → WordsFrom (reads (UnionOf members)) (spelled (UnionOf members))
 unfolding spelled spelled_by
 union_words members words text value is e =
-    let known = settles_word (taken_by members) (spelled_by members) words (count_members members) text value is (sym (reads-UnionOf members text) ∙ e) in
+    let known = settles_so (taken_by members) (spelled_by members) IsWord IsWord (λ text is. is) words (count_members members) text value is (sym (reads-UnionOf members text) ∙ e) in
     subst (λ v. IsWord (spelled (UnionOf members) v)) (sym known.2) known.3
 
 or-left : (a b : Bool) → (a || b) ≡ false → a ≡ false
@@ -346,3 +347,7 @@ not_bad_too s text v a b = let same : Ok v ≡ Err Bad = sym a ∙ b in cc
 
 pub not_wide_and_bad : (s : Space) (text : List ℕ) → TooWide s text → ¬ BadText s text
 not_wide_and_bad s text a b = let same : Err Wide ≡ Err Bad = sym a ∙ b in cc
+
+-- two values that hold and are spelled alike are one
+pub one_spelling : (s : Space) (v w : Rose ValueLabel) → Holds s v → Holds s w → spelled s v ≡ spelled s w → v ≡ w
+one_spelling s v w hv hw e = one_value s (spelled s w) v w (subst (λ t. Accepts s t v) e hv) hw

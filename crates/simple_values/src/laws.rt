@@ -1,11 +1,13 @@
 //! The laws of simple types. Each is proved for all types and texts.
-ghost use Rattle.std.specs.Prelude.{◌≡◌, ◌⊎◌, ℕ, List};
+ghost use Rattle.std.specs.Prelude.{◌≡◌, ◌⊎◌, ℕ, List, true, IsUtf8, chars};
+ghost use Rattle.std.specs.List.{list_all};
+ghost use Rattle.xa_base.specs.Characters.{is_xml_char};
 ghost use Rattle.label_tree.specs.Rose.{Rose};
 ghost use Rattle.simple_types.specs.declared.labels.ValueLabel.{ValueLabel};
 ghost use Rattle.simple_types.specs.Space.{Space, Spaces, UnionOf};
 ghost use Rattle.simple_types.specs.Sound.{Sound};
 ghost use Rattle.simple_values.specs.Chains.{ChainEnds};
-ghost use Rattle.simple_values.specs.Reading.{reads, taken_by, spelled_by, Accepts, TooWide, BadText, Holds};
+ghost use Rattle.simple_values.specs.Reading.{reads, taken_by, spelled, spelled_by, Accepts, TooWide, BadText, Holds};
 
 /// A type accepts a text with one value, or finds it too wide, or finds it no text of the type; one of the three, and
 /// never two.
@@ -26,4 +28,15 @@ pub fn accepted_holds()
 /// earlier member.
 pub fn chain_ends()
     ensures { (members : Spaces) → Sound (UnionOf members) → (text : List ℕ) → ChainEnds (taken_by members) (spelled_by members) text (reads (UnionOf members) text) }
+{}
+
+/// Two values that hold and are spelled alike are equal.
+pub fn one_spelling()
+    ensures { (s : Space) (v w : Rose ValueLabel) → Holds s v → Holds s w → spelled s v ≡ spelled s w → v ≡ w }
+{}
+
+/// A value that holds is spelled in XML characters. Its spelling has to be UTF-8, as it is where the texts in the value are.
+pub fn spelled_in_xml_characters()
+    ensures { (s : Space) → Sound s → (value : Rose ValueLabel) → Holds s value
+        → IsUtf8 (spelled s value) → list_all is_xml_char (chars (spelled s value)) ≡ true }
 {}
