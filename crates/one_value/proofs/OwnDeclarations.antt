@@ -140,14 +140,11 @@ named wanted name g e (node (Element other ys binds place) us) q = let same : ot
 pub items-of-values : ItemsOfValues
 items-of-values s M linked small is_map d below v fits = by (slice_get s.elements d) refl
   where
-    Result : Type 0
-    Result = (b : Rose Plain) × (Xer M (root_at s M is_map d) v ≡ Some b) × IsItsOwn s d b
-
     at-root : (o : Option Assignment) (a : Assignment) → o ≡ Some a → elim o as (λ _. Type 0) [ None ↦ ⊥ | Some x ↦ FitsAt M 1 x.body v ] → FitsAt M 1 a.body v
     at-root None a g p = absurd p
     at-root (Some x) a g p = let same : x ≡ a = cc in subst (λ y. FitsAt M 1 y.body v) same p
 
-    by : (o : Option ElementDecl) → slice_get s.elements d ≡ o → Result
+    by : (o : Option ElementDecl) → slice_get s.elements d ≡ o → (b : Rose Plain) × (Xer M (root_at s M is_map d) v ≡ Some b) × IsItsOwn s d b
     by None g = absurd (let few = none-at s.elements d g in let globals = linked.globals in omega (arith, few, below, globals))
     by (Some x) g =
         let root = roots-lead s M linked is_map d x below g in

@@ -102,7 +102,7 @@ kids-text (b ∷ bs) = refl
 
 -- a text in canonical spelling is valid simple content
 module _ (asks : ℕ → Asked) where
-  spelled-valid : (space : Space) (words : List ℕ) → (w : Rose ValueLabel) × (reads space words ≡ Ok w) × (spelled space w ≡ words) → (us : Roses ItemLabel)
+  pub spelled-valid : (space : Space) (words : List ℕ) → (w : Rose ValueLabel) × (reads space words ≡ Ok w) × (spelled space w ≡ words) → (us : Roses ItemLabel)
       → plain_all us ≡ text_before words rose.none → NilValid asks not_nil (ask.simple space) us (text_before words rose.none)
   spelled-valid space words (w, read, same) us q =
       (words, text_alone us words (q ∙ kids-text words),
@@ -191,7 +191,7 @@ module _ (M : List Assignment) (E : ℕ → Rose TypeLabel → Type 0) (depth : 
       ⊎ ((nil ≡ false) × (words : List ℕ) × IsSpelling (space_at (parts_of s)) (space_at (parts_of s) n) words × (k ≡ text_before words rose.none))
 
   text-of : (n : ℕ) (nil : Bool) → nil ≡ false → (u : Rose TypeLabel) (v : Rose ValueLabel) → IsSimpleOf s n (resolve M u) → FitsAt M depth u v → TextOf n nil (inside M u v).kids
-  text-of n nil e u v is h = let t = text_spelled n u v is h in inr (e, (spelling M u v, t.1, ap (λ (z : Given). z.kids) t.0))
+  text-of n nil e u v is h = let t = text_spelled n u v is h in inr (e, spelling M u v, t.1, ap (λ (z : Given). z.kids) t.0)
 
   base-so : (n : ℕ) → nillable ≡ false → (l : TypeLabel) → KidsSo (TextOf n) l (λ i cs us. IsOnly (IsBase s M n l i) cs us)
   base-so n never l i [] us fs vs g h x = absurd g
@@ -267,7 +267,7 @@ module _ (M : List Assignment) (E : ℕ → Rose TypeLabel → Type 0) (depth : 
 
     text-valid : (n : ℕ) (nil : Bool) (k : Roses Plain) → TextOf n nil k → (us : Roses ItemLabel) → plain_all us ≡ k → NilValid asks (nil_as nil) (ask.simple (space_at (parts_of s) n)) us k
     text-valid n nil k (inl (e, f)) us q = none-valid (ask.simple (space_at (parts_of s) n)) nil e k f us q
-    text-valid n nil k (inr (e, (words, is, f))) us q =
+    text-valid n nil k (inr (e, words, is, f)) us q =
         subst (λ b. NilValid asks (nil_as b) (ask.simple (space_at (parts_of s) n)) us k) (sym e)
         (subst (NilValid asks not_nil (ask.simple (space_at (parts_of s) n)) us) (sym f) (spelled-valid asks (space_at (parts_of s) n) words is us (q ∙ f)))
 
