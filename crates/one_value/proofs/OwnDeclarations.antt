@@ -1,5 +1,5 @@
 -- The items of a value of a declaration's type are valid with themselves: by induction over the levels of elements that are left.
-use Rattle.std.proofs.Common.{◌≡◌, ℕ, zero, suc, ◌+◌, ◌≤◌, ◌<◌, nat_lt, Bool, true, false, Option, Some, None, List, [], map, refl, sym, ap, subst, ◌∙◌, arith}
+use Rattle.std.proofs.Common.{◌≡◌, ℕ, zero, suc, ◌+◌, ◌≤◌, nat_lt, Bool, true, false, Option, Some, None, List, [], refl, sym, ap, subst, ◌∙◌, arith}
 use Rattle.std.specs.Prelude.{slice_get, IsSomeAnd, MatchBool, Ok}
 use Rattle.std.specs.Option.{option_map}
 use Rattle.xa_base.specs.declared.texts.Name.{Name}
@@ -46,7 +46,7 @@ use Rattle.validity.specs.Asked.{Asked, asked, space_at, asked_by, asked_by_type
 use Rattle.validity.specs.Asked as ask
 use Rattle.validity.specs.Attributes.{not_nil}
 use Rattle.validity.specs.OwnForms.{IsOwnForm}
-use Rattle.validity.specs.Valid.{HasName, Valid}
+use Rattle.validity.specs.Valid.{HasName}
 use Rattle.validity.proofs.Again.{IsFair}
 use Rattle.validity.proofs.Fair.{fair_at}
 use Rattle.one_value.specs.Statements.{AreSmall, root_at, IsItsOwn, ItemsOfValues}
@@ -152,8 +152,7 @@ items-of-values s M linked small is_map d below v fits = by (slice_get s.element
         let here = at-root (slice_get M (root_at s M is_map d)) a root.at fits in
         let name = xml_name a.reference a.marks in
         let told : name ≡ x.name = name-same a.reference a.marks ∙ root.name in
-        let at : name_at (parts_of s) d ≡ Some name = ap (option_map (λ (e : ElementDecl). e.name)) g ∙ ap (λ n. Some n) (sym told) in
-        (
+        let at : name_at (parts_of s) d ≡ Some name = ap (option_map (λ (e : ElementDecl). e.name)) g ∙ ap (λ n. Some n) (sym told) in (
           root_of M a v,
           ap (option_map (λ (y : Assignment). root_of M y v)) root.at,
           λ u q. (named (name_at (parts_of s) d) name (inside M a.body v) at u q, content-owns s M linked small is_map 64 1 (omega arith) d x g a.body root.content v here name u q),

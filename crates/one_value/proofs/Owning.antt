@@ -1,5 +1,5 @@
 -- What a value of a complex type gives: attributes in canonical spelling, and kids that are valid with themselves.
-use Rattle.std.proofs.Common.{◌≡◌, ℕ, suc, ◌+◌, ◌&&◌, ◌⊎◌, inl, inr, Bool, true, false, not, Option, Some, None, List, [], ◌∷◌, ◌++◌, length, map, refl, sym, ap, subst, ◌∙◌}
+use Rattle.std.proofs.Common.{◌≡◌, ℕ, suc, ◌+◌, ◌&&◌, ◌⊎◌, inl, inr, Bool, true, false, Option, Some, None, List, [], ◌∷◌, ◌++◌, length, map, refl, sym, ap, subst, ◌∙◌}
 use Rattle.std.specs.Prelude.{codes, Ok}
 use Rattle.xa_base.specs.declared.texts.Name.{Name}
 use Rattle.xa_base.specs.WhiteSpace.{is_white_space, words_of, treated}
@@ -8,7 +8,7 @@ use Rattle.label_tree.specs.Rose as rose
 use Rattle.simple_types.specs.Space.{Space}
 use Rattle.simple_types.specs.declared.labels.ValueLabel.{ValueLabel}
 use Rattle.simple_types.specs.declared.labels.ValueLabel.TheVariants as value
-use Rattle.simple_values.specs.Reading.{Reading, reads, spelled}
+use Rattle.simple_values.specs.Reading.{reads, spelled}
 use Rattle.content_models.specs.declared.particles.ParticleLabel.{ParticleLabel}
 use Rattle.content_models.specs.Language.{Lang}
 use Rattle.content_models.specs.Seen.{seen}
@@ -48,15 +48,13 @@ use Rattle.validity.specs.Asked.{Asked, asked, space_at, attribute_in, inside_of
 use Rattle.validity.specs.Asked as ask
 use Rattle.validity.specs.Attributes.{Nil, not_nil, is_nil, bad_nil, nil_by, with_nil}
 use Rattle.validity.specs.OwnForms.{IsOwnForm}
-use Rattle.validity.specs.Valid.{only_text, text_kids, Spells, KidsValid}
-use Rattle.validity.proofs.Treated as treated
-use Rattle.validity.proofs.Treated.{IsPlain}
+use Rattle.validity.specs.Valid.{text_kids, Spells}
 use Rattle.validity.proofs.Unique.{NilValid}
 use Rattle.validity.proofs.Again.{text_alone, IsFair}
-use Rattle.one_value.proofs.Groups.{told, gives_at, present_given, sequence-inside, inside-found}
+use Rattle.one_value.proofs.Groups.{told, present_given, sequence-inside, inside-found}
 use Rattle.one_value.proofs.Walking.{last_from, AllApart}
-use Rattle.one_value.proofs.Attributes.{Silent, attribute-gives, rest-silent}
-use Rattle.one_value.proofs.Mixed.{text_in, length-texts, TellKids, attributes-tell, rest-tells, elements-tell}
+use Rattle.one_value.proofs.Attributes.{attribute-gives, rest-silent}
+use Rattle.one_value.proofs.Mixed.{text_in, TellKids, attributes-tell, rest-tells, elements-tell}
 use Rattle.one_value.proofs.Complexes.{not-textual, nil-mark, embed-mark, last-is, texts-keep, texts-counted}
 use Rattle.one_value.proofs.Own.{elements-own, mixed-own}
 use Rattle.one_value.proofs.OwnComplexes.{given-is-own, nothing-valid, empty-valid}
@@ -104,16 +102,17 @@ kids-text (b ∷ bs) = refl
 module _ (asks : ℕ → Asked) where
   pub spelled-valid : (space : Space) (words : List ℕ) → (w : Rose ValueLabel) × (reads space words ≡ Ok w) × (spelled space w ≡ words) → (us : Roses ItemLabel)
       → plain_all us ≡ text_before words rose.none → NilValid asks not_nil (ask.simple space) us (text_before words rose.none)
-  spelled-valid space words (w, read, same) us q =
-      (words, text_alone us words (q ∙ kids-text words),
-      subst (λ r. Spells space r (text_before words rose.none)) (sym read) (kids-text words ∙ ap text_kids (sym same)))
+  spelled-valid space words (w, read, same) us q = (
+    words,
+    text_alone us words (q ∙ kids-text words),
+    subst (λ r. Spells space r (text_before words rose.none)) (sym read) (kids-text words ∙ ap text_kids (sym same)),
+  )
 
 module _ (M : List Assignment) (E : ℕ → Rose TypeLabel → Type 0) (depth : ℕ) (s : Set)
     (text_inside : (n : ℕ) (u : Rose TypeLabel) (v : Rose ValueLabel) → IsSimpleOf s n (resolve M u) → (words : List ℕ) × (inside M u v ≡ given [] (text_before words rose.none)))
     (text_spelled : (n : ℕ) (u : Rose TypeLabel) (v : Rose ValueLabel) → IsSimpleOf s n (resolve M u) → FitsAt M depth u v
     → (inside M u v ≡ given [] (text_before (spelling M u v) rose.none)) × IsSpelling (space_at (parts_of s)) (space_at (parts_of s) n) (spelling M u v))
     (nillable : Bool) where
-
   -- ---- kids by walking over the parts
 
   abbrev KidsSo : (Bool → Roses Plain → Type 0) → TypeLabel → Behind → Type 0
