@@ -1,7 +1,6 @@
 -- The code's loop over pieces.
 use Rattle.std.proofs.Common.{◌≡◌, ◌≢◌, ℕ, ◌≤◌, ◌<◌, Bool, true, false, List, [], ◌∷◌, ◌++◌, length, take, drop, refl, sym, ap, subst, ◌∙◌, arith}
 use Rattle.std.proofs.lemmas.List.{length-append, nil_from_length}
-use Rattle.std.specs.Prelude.{Result, Ok, Err, MatchResult, IfOk}
 use Rattle.label_tree.specs.Rose.{Rose}
 use Rattle.doc_pieces.specs.Pieces.{Piece, Begins, NoPieceAt}
 use Rattle.doc_pieces.specs.Reasons.{NoneReason, IsPlainRun}

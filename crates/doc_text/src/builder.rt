@@ -11,7 +11,7 @@ ghost use Rattle.doc_text.specs.declared.error.DocWhy.TheVariants as why;
 ghost use Rattle.doc_text.specs.Private.Building.{state, Scoped, Takes, Begins, Flushed, Shuts, GivesUtf8};
 
 use crate::error::{DocError, DocWhy};
-use crate::label::{Attributes, Bindings, ItemLabel};
+use crate::label::{Absent, Attributes, Bindings, ItemLabel};
 use crate::names::{is_long, is_qname, prefix_of};
 use crate::scope::Scope;
 use crate::short_lists::push;
@@ -39,6 +39,7 @@ pub(crate) struct Frame<'a> {
 #[derive(Drop)]
 pub(crate) struct Builder<'a> {
     alloc: Global,
+    absent: Absent,
     scope: Scope<'a>,
     // The elements that are open, the innermost last.
     open: Vec<Frame<'a>>,
@@ -83,9 +84,11 @@ impl<'a> Builder<'a> {
     pub(crate) fn new(alloc: Global) -> Result<Builder<'a>, Memory>
         ensures { IfOk result Begins }
     {
+        let absent = Absent::new(alloc)?;
         let scope = Scope::new(alloc)?;
         Ok(Builder {
             alloc,
+            absent,
             scope,
             open: Vec::new(alloc),
             kids: Vec::new(alloc),
@@ -122,7 +125,15 @@ impl<'a> Builder<'a> {
         ensures err { IfErr result (Stopped (reason (pieces.Start (tag_seen tag.entry)) (context (state self.old))) at) }
     {
         let depth = self.open.as_slice().len();
-        let head = match enter(self.alloc, &mut self.scope, self.ended, depth, &tag, at) {
+        let head = match enter(
+            self.alloc,
+            &self.absent,
+            &mut self.scope,
+            self.ended,
+            depth,
+            &tag,
+            at,
+        ) {
             Ok(head) => head,
             Err(error) => return Err(error),
         };
@@ -148,7 +159,15 @@ impl<'a> Builder<'a> {
         ensures err { IfErr result (Stopped (reason (pieces.Empty (tag_seen tag.entry)) (context (state self.old))) at) }
     {
         let depth = self.open.as_slice().len();
-        let head = match enter(self.alloc, &mut self.scope, self.ended, depth, &tag, at) {
+        let head = match enter(
+            self.alloc,
+            &self.absent,
+            &mut self.scope,
+            self.ended,
+            depth,
+            &tag,
+            at,
+        ) {
             Ok(head) => head,
             Err(error) => return Err(error),
         };

@@ -5,89 +5,132 @@ ghost use Rattle.doc_text.specs.Labels.{MayHave};
 use label_tree::Shape;
 use std::alloc::Global;
 use std::marker::Model;
+use std::rc::RcSlice;
 use xa_base::{Memory, Name, Text};
 
-/// The attributes of an element, each a name with a value, in the order written.
+/// The attributes of an element, each a name with a value, in the order written. A copy shares them.
 #[derive(Drop)]
 pub struct Attributes {
-    entries: Vec<(Name, Text)>,
+    entries: RcSlice<(Name, Text)>,
 }
 
 impl Model for Attributes {
     ghost use Rattle.std.specs.Prelude.{List, ℕ};
+    ghost use Rattle.std.specs.Rc.{rc_slice_items};
     ghost use Rattle.xa_base.specs.declared.texts.Name.{Name};
 
     ghost Value = { List (Name × List ℕ) };
 
-    ghost view = { λ a. a.entries.items };
+    ghost view = { λ a. rc_slice_items a.entries };
 }
 
 impl Attributes {
-    pub fn of(entries: Vec<(Name, Text)>) -> Attributes
-        ensures { result ≡ entries.items }
+    pub fn of(entries: Vec<(Name, Text)>) -> Result<Attributes, Memory>
+        ensures { IfOk result (λ attributes. attributes ≡ entries.items) }
     {
-        Attributes { entries }
+        let entries = RcSlice::from_vec(entries)?;
+        Ok(Attributes { entries })
     }
 
     pub fn items(&self) -> &[(Name, Text)]
         ensures { result.now ≡ self.now }
     {
-        &self.entries
+        self.entries.as_slice()
     }
 
-    fn copy(&self, alloc: Global) -> Result<Attributes, Memory>
+    fn copy(&self) -> Result<Attributes, Memory>
         ensures { IfOk result (λ attributes. attributes ≡ self.now) }
     {
-        let entries = self.items();
-        let mut copies = Vec::new(alloc);
-        for (name, value) in entries {
-            let name = name.copy(alloc)?;
-            let value = value.copy(alloc)?;
-            copies.push((name, value))?;
-        }
-        Ok(Attributes::of(copies))
+        let entries = self.entries.clone()?;
+        Ok(Attributes { entries })
     }
 }
 
 /// The namespaces that an element binds, each a prefix with a namespace, in the order written. The empty prefix binds
-/// the default namespace, and the empty namespace takes it away.
+/// the default namespace, and the empty namespace takes it away. A copy shares them.
 #[derive(Drop)]
 pub struct Bindings {
-    entries: Vec<(Text, Text)>,
+    entries: RcSlice<(Text, Text)>,
 }
 
 impl Model for Bindings {
     ghost use Rattle.std.specs.Prelude.{List, ℕ};
+    ghost use Rattle.std.specs.Rc.{rc_slice_items};
 
     ghost Value = { List (List ℕ × List ℕ) };
 
-    ghost view = { λ a. a.entries.items };
+    ghost view = { λ a. rc_slice_items a.entries };
 }
 
 impl Bindings {
-    pub fn of(entries: Vec<(Text, Text)>) -> Bindings
-        ensures { result ≡ entries.items }
+    pub fn of(entries: Vec<(Text, Text)>) -> Result<Bindings, Memory>
+        ensures { IfOk result (λ bindings. bindings ≡ entries.items) }
     {
-        Bindings { entries }
+        let entries = RcSlice::from_vec(entries)?;
+        Ok(Bindings { entries })
     }
 
     pub fn items(&self) -> &[(Text, Text)]
         ensures { result.now ≡ self.now }
     {
-        &self.entries
+        self.entries.as_slice()
     }
 
-    fn copy(&self, alloc: Global) -> Result<Bindings, Memory>
+    fn copy(&self) -> Result<Bindings, Memory>
         ensures { IfOk result (λ bindings. bindings ≡ self.now) }
     {
-        let entries = self.items();
-        let mut copies = Vec::new(alloc);
-        for (prefix, space) in entries {
-            let prefix = prefix.copy(alloc)?;
-            let space = space.copy(alloc)?;
-            copies.push((prefix, space))?;
+        let entries = self.entries.clone()?;
+        Ok(Bindings { entries })
+    }
+}
+
+/// No attributes and no bindings, of which most elements share these.
+#[derive(Drop)]
+pub(crate) struct Absent {
+    attributes: Attributes,
+    declares: Bindings,
+}
+
+impl Model for Absent {
+    ghost use Rattle.std.specs.Prelude.{ℕ, ◌≡◌, []};
+
+    ghost Value = { ℕ };
+
+    ghost view = { λ _. 0 };
+
+    ghost invariant = { λ a. (a.attributes ≡ []) × (a.declares ≡ []) };
+}
+
+impl Absent {
+    pub(crate) fn new(alloc: Global) -> Result<Absent, Memory> {
+        let attributes = Attributes::of(Vec::new(alloc))?;
+        let declares = Bindings::of(Vec::new(alloc))?;
+        Ok(Absent {
+            attributes,
+            declares,
+        })
+    }
+
+    // These attributes.
+    pub(crate) fn attributes(&self, entries: Vec<(Name, Text)>) -> Result<Attributes, Memory>
+        ensures { IfOk result (λ attributes. attributes ≡ entries.items) }
+    {
+        if entries.is_empty() {
+            self.attributes.copy()
+        } else {
+            Attributes::of(entries)
         }
-        Ok(Bindings::of(copies))
+    }
+
+    // These bindings.
+    pub(crate) fn declares(&self, entries: Vec<(Text, Text)>) -> Result<Bindings, Memory>
+        ensures { IfOk result (λ bindings. bindings ≡ entries.items) }
+    {
+        if entries.is_empty() {
+            self.declares.copy()
+        } else {
+            Bindings::of(entries)
+        }
     }
 }
 
@@ -127,8 +170,8 @@ impl Shape for ItemLabel {
                 at,
             } => {
                 let name = name.copy(alloc)?;
-                let attributes = attributes.copy(alloc)?;
-                let declares = declares.copy(alloc)?;
+                let attributes = attributes.copy()?;
+                let declares = declares.copy()?;
                 Ok(ItemLabel::Element {
                     name,
                     attributes,

@@ -10,7 +10,7 @@ ghost use Rattle.doc_text.specs.declared.error.DocWhy.TheVariants as why;
 
 use crate::duplicates::{expanded_twice, written_twice};
 use crate::error::{DocError, DocWhy};
-use crate::label::{Attributes, Bindings};
+use crate::label::{Absent, Attributes, Bindings};
 use crate::names::{
     binds, bound_prefix, is_long, is_plain, is_qname, is_reserved, local_of, prefix_of,
 };
@@ -279,10 +279,31 @@ fn first_of_place(ended: bool, depth: usize) -> Option<DocWhy>
     }
 }
 
+// What a tag opens.
+fn head_of(
+    absent: &Absent,
+    name: Name,
+    attributes: Vec<(Name, Text)>,
+    declares: Vec<(Text, Text)>,
+) -> Result<Head, Memory>
+    ensures name { IfOk result (λ head. head.name ≡ name) }
+    ensures attributes { IfOk result (λ head. head.attributes ≡ attributes.items) }
+    ensures declares { IfOk result (λ head. head.declares ≡ declares.items) }
+{
+    let attributes = absent.attributes(attributes)?;
+    let declares = absent.declares(declares)?;
+    Ok(Head {
+        name,
+        attributes,
+        declares,
+    })
+}
+
 // What a tag without attributes opens, or what speaks against it, where nothing speaks against its name and this has
 // no prefix.
 fn enter_plain(
     alloc: Global,
+    absent: &Absent,
     scope: &Scope<'_>,
     ended: bool,
     depth: usize,
@@ -299,16 +320,18 @@ fn enter_plain(
     }
     let space = copy_space(alloc, scope.space_of(b""))?;
     let local = text_of(alloc, tag.name)?;
-    Ok(Head {
-        name: Name { space, local },
-        attributes: Attributes::of(Vec::new(alloc)),
-        declares: Bindings::of(Vec::new(alloc)),
-    })
+    Ok(head_of(
+        absent,
+        Name { space, local },
+        Vec::new(alloc),
+        Vec::new(alloc),
+    )?)
 }
 
 // What a tag opens, with its bindings in scope then; or what speaks against it.
 pub(crate) fn enter<'a>(
     alloc: Global,
+    absent: &Absent,
     scope: &mut Scope<'a>,
     ended: bool,
     depth: usize,
@@ -321,7 +344,7 @@ pub(crate) fn enter<'a>(
     ensures err { IfErr result (Stopped (contexts.start_reason (tag_seen tag.now) (reverse scope.old) ended depth) at) }
 {
     if tag.attributes.is_empty() && is_plain(tag.name) {
-        return enter_plain(alloc, scope, ended, depth, tag, at);
+        return enter_plain(alloc, absent, scope, ended, depth, tag, at);
     }
     if let Some(why) = first_of_names(tag) {
         return Err(DocError::Syntax { at, why });
@@ -344,9 +367,5 @@ pub(crate) fn enter<'a>(
         return Err(DocError::Syntax { at, why });
     }
     let name = element_name(alloc, scope, tag.name)?;
-    Ok(Head {
-        name,
-        attributes: Attributes::of(attributes),
-        declares: Bindings::of(declares),
-    })
+    Ok(head_of(absent, name, attributes, declares)?)
 }

@@ -387,9 +387,18 @@ fn push_document<'a>(doc: &'a RawDoc, out: &mut Vec<Part<'a>>) -> Result<(), Mem
     Ok(())
 }
 
-/// The parts of the documents, each behind the part that it stands in: of each document those of its global elements,
-/// its global attributes, its types with a name and its local elements. Time and memory grow with their number.
-pub fn document_parts<'a>(alloc: Global, docs: &'a [RawDoc]) -> Result<Vec<Part<'a>>, Memory>
+/// The parts of a document, each behind the part that it stands in: those of its global elements, its global attributes,
+/// its types with a name and its local elements. Time and memory grow with their number.
+pub fn document_parts<'a>(alloc: Global, doc: &'a RawDoc) -> Result<Vec<Part<'a>>, Memory>
+    ensures { IfOk result (λ found. parts_of found.items ≡ told.in_document (doc_of doc.now)) }
+{
+    let mut found = Vec::new(alloc);
+    push_document(doc, &mut found)?;
+    Ok(found)
+}
+
+/// The parts of the documents, those of each document together.
+pub fn all_parts<'a>(alloc: Global, docs: &'a [RawDoc]) -> Result<Vec<Part<'a>>, Memory>
     ensures { IfOk result (λ found. parts_of found.items ≡ told.parts (map doc_of docs.now)) }
 {
     let mut found = Vec::new(alloc);
