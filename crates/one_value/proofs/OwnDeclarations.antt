@@ -1,5 +1,5 @@
 -- The items of a value of a declaration's type are valid with themselves: by induction over the levels of elements that are left.
-use Rattle.std.proofs.Common.{◌≡◌, ℕ, zero, suc, ◌+◌, ◌≤◌, ◌<◌, nat_lt, Bool, true, false, Option, Some, None, List, [], map, refl, sym, ap, subst, ◌∙◌, arith}
+use Rattle.std.proofs.Common.{◌≡◌, ℕ, zero, suc, ◌+◌, ◌≤◌, nat_lt, Bool, true, false, Option, Some, None, List, [], refl, sym, ap, subst, ◌∙◌, arith}
 use Rattle.std.specs.Prelude.{slice_get, IsSomeAnd, MatchBool, Ok}
 use Rattle.std.specs.Option.{option_map}
 use Rattle.xa_base.specs.declared.texts.Name.{Name}
@@ -46,7 +46,7 @@ use Rattle.validity.specs.Asked.{Asked, asked, space_at, asked_by, asked_by_type
 use Rattle.validity.specs.Asked as ask
 use Rattle.validity.specs.Attributes.{not_nil}
 use Rattle.validity.specs.OwnForms.{IsOwnForm}
-use Rattle.validity.specs.Valid.{HasName, Valid}
+use Rattle.validity.specs.Valid.{HasName}
 use Rattle.validity.proofs.Again.{IsFair}
 use Rattle.validity.proofs.Fair.{fair_at}
 use Rattle.one_value.specs.Statements.{AreSmall, root_at, IsItsOwn, ItemsOfValues}
@@ -140,14 +140,11 @@ named wanted name g e (node (Element other ys binds place) us) q = let same : ot
 pub items-of-values : ItemsOfValues
 items-of-values s M linked small is_map d below v fits = by (slice_get s.elements d) refl
   where
-    Result : Type 0
-    Result = (b : Rose Plain) × (Xer M (root_at s M is_map d) v ≡ Some b) × IsItsOwn s d b
-
     at-root : (o : Option Assignment) (a : Assignment) → o ≡ Some a → elim o as (λ _. Type 0) [ None ↦ ⊥ | Some x ↦ FitsAt M 1 x.body v ] → FitsAt M 1 a.body v
     at-root None a g p = absurd p
     at-root (Some x) a g p = let same : x ≡ a = cc in subst (λ y. FitsAt M 1 y.body v) same p
 
-    by : (o : Option ElementDecl) → slice_get s.elements d ≡ o → Result
+    by : (o : Option ElementDecl) → slice_get s.elements d ≡ o → (b : Rose Plain) × (Xer M (root_at s M is_map d) v ≡ Some b) × IsItsOwn s d b
     by None g = absurd (let few = none-at s.elements d g in let globals = linked.globals in omega (arith, few, below, globals))
     by (Some x) g =
         let root = roots-lead s M linked is_map d x below g in
@@ -155,8 +152,7 @@ items-of-values s M linked small is_map d below v fits = by (slice_get s.element
         let here = at-root (slice_get M (root_at s M is_map d)) a root.at fits in
         let name = xml_name a.reference a.marks in
         let told : name ≡ x.name = name-same a.reference a.marks ∙ root.name in
-        let at : name_at (parts_of s) d ≡ Some name = ap (option_map (λ (e : ElementDecl). e.name)) g ∙ ap (λ n. Some n) (sym told) in
-        (
+        let at : name_at (parts_of s) d ≡ Some name = ap (option_map (λ (e : ElementDecl). e.name)) g ∙ ap (λ n. Some n) (sym told) in (
           root_of M a v,
           ap (option_map (λ (y : Assignment). root_of M y v)) root.at,
           λ u q. (named (name_at (parts_of s) d) name (inside M a.body v) at u q, content-owns s M linked small is_map 64 1 (omega arith) d x g a.body root.content v here name u q),

@@ -1,5 +1,5 @@
 -- What a value of a complex type gives: attributes in canonical spelling, and kids that are valid with themselves.
-use Rattle.std.proofs.Common.{◌≡◌, ℕ, suc, ◌+◌, ◌&&◌, ◌⊎◌, inl, inr, Bool, true, false, not, Option, Some, None, List, [], ◌∷◌, ◌++◌, length, map, refl, sym, ap, subst, ◌∙◌}
+use Rattle.std.proofs.Common.{◌≡◌, ℕ, suc, ◌+◌, ◌&&◌, ◌⊎◌, inl, inr, Bool, true, false, Option, Some, None, List, [], ◌∷◌, ◌++◌, length, map, refl, sym, ap, subst, ◌∙◌}
 use Rattle.std.specs.Prelude.{codes, Ok}
 use Rattle.xa_base.specs.declared.texts.Name.{Name}
 use Rattle.xa_base.specs.WhiteSpace.{is_white_space, words_of, treated}
@@ -8,7 +8,7 @@ use Rattle.label_tree.specs.Rose as rose
 use Rattle.simple_types.specs.Space.{Space}
 use Rattle.simple_types.specs.declared.labels.ValueLabel.{ValueLabel}
 use Rattle.simple_types.specs.declared.labels.ValueLabel.TheVariants as value
-use Rattle.simple_values.specs.Reading.{Reading, reads, spelled}
+use Rattle.simple_values.specs.Reading.{reads, spelled}
 use Rattle.content_models.specs.declared.particles.ParticleLabel.{ParticleLabel}
 use Rattle.content_models.specs.Language.{Lang}
 use Rattle.content_models.specs.Seen.{seen}
@@ -48,15 +48,13 @@ use Rattle.validity.specs.Asked.{Asked, asked, space_at, attribute_in, inside_of
 use Rattle.validity.specs.Asked as ask
 use Rattle.validity.specs.Attributes.{Nil, not_nil, is_nil, bad_nil, nil_by, with_nil}
 use Rattle.validity.specs.OwnForms.{IsOwnForm}
-use Rattle.validity.specs.Valid.{only_text, text_kids, Spells, KidsValid}
-use Rattle.validity.proofs.Treated as treated
-use Rattle.validity.proofs.Treated.{IsPlain}
+use Rattle.validity.specs.Valid.{text_kids, Spells}
 use Rattle.validity.proofs.Unique.{NilValid}
 use Rattle.validity.proofs.Again.{text_alone, IsFair}
-use Rattle.one_value.proofs.Groups.{told, gives_at, present_given, sequence-inside, inside-found}
+use Rattle.one_value.proofs.Groups.{told, present_given, sequence-inside, inside-found}
 use Rattle.one_value.proofs.Walking.{last_from, AllApart}
-use Rattle.one_value.proofs.Attributes.{Silent, attribute-gives, rest-silent}
-use Rattle.one_value.proofs.Mixed.{text_in, length-texts, TellKids, attributes-tell, rest-tells, elements-tell}
+use Rattle.one_value.proofs.Attributes.{attribute-gives, rest-silent}
+use Rattle.one_value.proofs.Mixed.{text_in, TellKids, attributes-tell, rest-tells, elements-tell}
 use Rattle.one_value.proofs.Complexes.{not-textual, nil-mark, embed-mark, last-is, texts-keep, texts-counted}
 use Rattle.one_value.proofs.Own.{elements-own, mixed-own}
 use Rattle.one_value.proofs.OwnComplexes.{given-is-own, nothing-valid, empty-valid}
@@ -102,18 +100,19 @@ kids-text (b ∷ bs) = refl
 
 -- a text in canonical spelling is valid simple content
 module _ (asks : ℕ → Asked) where
-  spelled-valid : (space : Space) (words : List ℕ) → (w : Rose ValueLabel) × (reads space words ≡ Ok w) × (spelled space w ≡ words) → (us : Roses ItemLabel)
+  pub spelled-valid : (space : Space) (words : List ℕ) → (w : Rose ValueLabel) × (reads space words ≡ Ok w) × (spelled space w ≡ words) → (us : Roses ItemLabel)
       → plain_all us ≡ text_before words rose.none → NilValid asks not_nil (ask.simple space) us (text_before words rose.none)
-  spelled-valid space words (w, read, same) us q =
-      (words, text_alone us words (q ∙ kids-text words),
-      subst (λ r. Spells space r (text_before words rose.none)) (sym read) (kids-text words ∙ ap text_kids (sym same)))
+  spelled-valid space words (w, read, same) us q = (
+    words,
+    text_alone us words (q ∙ kids-text words),
+    subst (λ r. Spells space r (text_before words rose.none)) (sym read) (kids-text words ∙ ap text_kids (sym same)),
+  )
 
 module _ (M : List Assignment) (E : ℕ → Rose TypeLabel → Type 0) (depth : ℕ) (s : Set)
     (text_inside : (n : ℕ) (u : Rose TypeLabel) (v : Rose ValueLabel) → IsSimpleOf s n (resolve M u) → (words : List ℕ) × (inside M u v ≡ given [] (text_before words rose.none)))
     (text_spelled : (n : ℕ) (u : Rose TypeLabel) (v : Rose ValueLabel) → IsSimpleOf s n (resolve M u) → FitsAt M depth u v
     → (inside M u v ≡ given [] (text_before (spelling M u v) rose.none)) × IsSpelling (space_at (parts_of s)) (space_at (parts_of s) n) (spelling M u v))
     (nillable : Bool) where
-
   -- ---- kids by walking over the parts
 
   abbrev KidsSo : (Bool → Roses Plain → Type 0) → TypeLabel → Behind → Type 0
@@ -191,7 +190,7 @@ module _ (M : List Assignment) (E : ℕ → Rose TypeLabel → Type 0) (depth : 
       ⊎ ((nil ≡ false) × (words : List ℕ) × IsSpelling (space_at (parts_of s)) (space_at (parts_of s) n) words × (k ≡ text_before words rose.none))
 
   text-of : (n : ℕ) (nil : Bool) → nil ≡ false → (u : Rose TypeLabel) (v : Rose ValueLabel) → IsSimpleOf s n (resolve M u) → FitsAt M depth u v → TextOf n nil (inside M u v).kids
-  text-of n nil e u v is h = let t = text_spelled n u v is h in inr (e, (spelling M u v, t.1, ap (λ (z : Given). z.kids) t.0))
+  text-of n nil e u v is h = let t = text_spelled n u v is h in inr (e, spelling M u v, t.1, ap (λ (z : Given). z.kids) t.0)
 
   base-so : (n : ℕ) → nillable ≡ false → (l : TypeLabel) → KidsSo (TextOf n) l (λ i cs us. IsOnly (IsBase s M n l i) cs us)
   base-so n never l i [] us fs vs g h x = absurd g
@@ -267,7 +266,7 @@ module _ (M : List Assignment) (E : ℕ → Rose TypeLabel → Type 0) (depth : 
 
     text-valid : (n : ℕ) (nil : Bool) (k : Roses Plain) → TextOf n nil k → (us : Roses ItemLabel) → plain_all us ≡ k → NilValid asks (nil_as nil) (ask.simple (space_at (parts_of s) n)) us k
     text-valid n nil k (inl (e, f)) us q = none-valid (ask.simple (space_at (parts_of s) n)) nil e k f us q
-    text-valid n nil k (inr (e, (words, is, f))) us q =
+    text-valid n nil k (inr (e, words, is, f)) us q =
         subst (λ b. NilValid asks (nil_as b) (ask.simple (space_at (parts_of s) n)) us k) (sym e)
         (subst (NilValid asks not_nil (ask.simple (space_at (parts_of s) n)) us) (sym f) (spelled-valid asks (space_at (parts_of s) n) words is us (q ∙ f)))
 
