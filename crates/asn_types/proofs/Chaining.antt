@@ -1,7 +1,6 @@
 -- References on the way down a type, and the types that they lead to.
 use Rattle.std.proofs.Common.{◌≡◌, ℕ, zero, suc, ◌+◌, ◌<◌, Bool, true, false, Option, Some, None, List, [], ◌∷◌, length, All, refl, sym, ap, subst, ◌∙◌, inl, inr, arith}
 use Rattle.std.specs.Prelude.{slice_get, option_and_then, IfSome, MatchBool}
-use Rattle.std.specs.Option.{option_map}
 use Rattle.label_tree.specs.Rose.{Rose, node, Roses, none, more, list_of, label_of, kids_of, Allowed, AllowedAll}
 use Rattle.label_tree.proofs.Roses.{length-list_of}
 use Rattle.std.proofs.lemmas.List.Elements.{All-head, All-tail}
@@ -10,7 +9,7 @@ use Rattle.asn_types.specs.declared.types.Form.{Form}
 use Rattle.asn_types.specs.declared.types.Form.TheVariants as form
 use Rattle.asn_types.specs.declared.types.TypeLabel.{TypeLabel}
 use Rattle.asn_types.specs.declared.modules.Assignment.{Assignment}
-use Rattle.asn_types.specs.Laws.{IsPart, PartKeepsReferences, ReferenceTakesOne, TypeHasFour, ResolvedIsNoReference, TypesAreWellFormed, PartsAreOfTheModule, TypesHaveTheirParts, ResolvedIsOfTheModule}
+use Rattle.asn_types.specs.Laws.{PartKeepsReferences, ReferenceTakesOne, TypeHasFour, ResolvedIsNoReference, TypesAreWellFormed, PartsAreOfTheModule, TypesHaveTheirParts, ResolvedIsOfTheModule}
 use Rattle.asn_types.specs.Modules.{AreWellFormed, IsAssignment, IsModule, IsForm}
 use Rattle.asn_types.specs.Parts.{parts_of, MayHave}
 use Rattle.asn_types.specs.Refs.{target, body_at, next, follow, is_element, NearRefs, NearRefsOf, ChainsWithin, StandsIn, StandsInSome, IsOf}

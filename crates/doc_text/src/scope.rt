@@ -110,6 +110,7 @@ impl<'a> Scope<'a> {
     }
 
     // Takes the innermost bindings away.
+    #[inline(always)]
     pub(crate) fn leave(&mut self, count: usize)
         ensures { self.new ≡ take (length self.old - count) self.old }
     {
