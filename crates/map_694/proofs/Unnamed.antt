@@ -1,25 +1,19 @@
 -- In a map just the items of lists and the texts between child elements have no identifier.
-use Rattle.std.proofs.Common.{◌≡◌, ℕ, zero, suc, Bool, true, false, ◌&&◌, ◌||◌, not, cond, Option, Some, None, List, [], ◌∷◌, ◌++◌, refl, sym, ap, subst, ◌∙◌}
+use Rattle.std.proofs.Common.{◌≡◌, ℕ, zero, suc, Bool, true, false, ◌&&◌, not, Option, Some, None, List, [], ◌∷◌, ◌++◌, refl, sym, subst, ◌∙◌}
 use Rattle.std.specs.Prelude.{slice_get, nat_lt, codes, if◌then◌else◌}
 use Rattle.std.specs.Str.{chars}
 use Rattle.std.specs.Char.{is_ascii_digit}
 use Rattle.xa_base.specs.declared.texts.Name.{Name}
-use Rattle.label_tree.specs.Rose.{Rose, node, Roses}
-use Rattle.label_tree.specs.Rose as rose
+use Rattle.label_tree.specs.Rose.{Rose, Roses}
 use Rattle.simple_types.specs.Space.{Space, Spaces, none, more, Booleans, Wholes, Numbers, Words, Characters, ListOf, UnionOf}
 use Rattle.simple_types.specs.Seen.{space_of}
 use Rattle.content_models.specs.Particle as model
 use Rattle.content_models.specs.Particle.{Particle, occurs, Term, Particles}
 use Rattle.content_models.specs.Seen.{seen}
-use Rattle.asn_types.specs.declared.marks.Instruction.{Instruction}
-use Rattle.asn_types.specs.declared.marks.Instruction.TheVariants as mark
 use Rattle.asn_types.specs.declared.types.Component.{Component}
-use Rattle.asn_types.specs.declared.types.Form.TheVariants as form
 use Rattle.asn_types.specs.declared.types.TypeLabel.{TypeLabel}
-use Rattle.asn_types.specs.Marks.{has_list, has_embed_values}
 use Rattle.asn_types.specs.Modules.{AreItemsNamed, AllItemsNamed}
 use Rattle.asn_types.specs.Roles.{is_empty_text}
-use Rattle.asn_types.specs.Simples.{white_space_marks}
 use Rattle.schema_parts.specs.declared.components.ElementDecl.{ElementDecl}
 use Rattle.schema_parts.specs.declared.components.TypeOf.{TypeOf}
 use Rattle.schema_parts.specs.declared.components.TypeOf.TheVariants as kind
@@ -36,8 +30,8 @@ use Rattle.name_map.specs.Conversion.{letter_x, cased, begun, joined, converted}
 use Rattle.map_subjects.specs.declared.subjects.Subject.{Subject}
 use Rattle.map_subjects.specs.declared.subjects.Subject.TheVariants as subject
 use Rattle.map_assignments.specs.Plans.{a_sequence, a_choice, Label, attribute, element, group, elements, groups, texts, item, base, content, Plan, simple, sequence, choice, repeated, reference, Parts, finish, part}
-use Rattle.map_assignments.specs.Planning.{label_of, list_label_of, is_once, is_optional, simple_plan, simple_type, attributes, is_mixed, texts_type, with_texts, term_type, particle_parts, top_part, top, content_parts, content_type, rest_parts, complex_plan, nillable_simple_type, own_type, particle_type, in_place, body}
-use Rattle.map_assignments.specs.Naming.{type_label, component_of, list_item, identifier_of, text_marks, wanted, named_part, repeated_part, sequence_marks, IsSimpleType, AreMembers, IsNamed, AreNamed}
+use Rattle.map_assignments.specs.Planning.{label_of, list_label_of, is_once, is_optional, simple_plan, simple_type, attributes, is_mixed, with_texts, term_type, particle_parts, top_part, top, content_parts, content_type, rest_parts, complex_plan, nillable_simple_type, own_type, particle_type, in_place, body}
+use Rattle.map_assignments.specs.Naming.{identifier_of, wanted, IsSimpleType, AreMembers, IsNamed, AreNamed}
 use Rattle.map_694.proofs.Marked.{sequence-embeds}
 
 -- ---- labels
