@@ -1,0 +1,130 @@
+//! The lines that a text is written in.
+use crate::error::LineError;
+use crate::row::{NamedText, find_text};
+use std::alloc::Global;
+
+/// What a line of a text stands for.
+#[derive(Drop)]
+pub struct Piece {
+    pub bytes: Vec<u8>,
+    /// Where a `^` stood, which is left out.
+    pub mark: Option<usize>,
+}
+
+/// What a line stands for. None where it is no line of a text.
+pub fn piece_of_line(
+    alloc: Global,
+    texts: &[NamedText<'_>],
+    line: &str,
+) -> Result<Option<Piece>, LineError> {
+    if let Some(piece) = written(alloc, line)? {
+        return Ok(Some(piece));
+    }
+    match other_bytes(alloc, texts, line)? {
+        Some(bytes) => Ok(Some(Piece { bytes, mark: None })),
+        None => Ok(None),
+    }
+}
+
+// `> TEXT` stands for the text, `| TEXT` for the text and a line feed.
+fn written(alloc: Global, line: &str) -> Result<Option<Piece>, LineError> {
+    if let Some(text) = line.strip_prefix('>') {
+        return Ok(Some(marked(alloc, behind_space(text))?));
+    }
+    if let Some(text) = line.strip_prefix('|') {
+        let mut piece = marked(alloc, behind_space(text))?;
+        piece.bytes.push(b'\n')?;
+        return Ok(Some(piece));
+    }
+    Ok(None)
+}
+
+// `= 0D 0A` stands for octets, `copy NAME` for the text of that name, `repeat 101 400 > TEXT` for the text with each of
+// these numbers in place of its `@`.
+fn other_bytes(
+    alloc: Global,
+    texts: &[NamedText<'_>],
+    line: &str,
+) -> Result<Option<Vec<u8>>, LineError> {
+    if let Some(digits) = line.strip_prefix('=') {
+        return Ok(Some(octets(alloc, digits)?));
+    }
+    if let Some(name) = line.strip_prefix("copy ") {
+        let contents = find_text(texts, name).ok_or(LineError::NoText)?;
+        return Ok(Some(contents.to_vec(alloc)?));
+    }
+    if let Some(rest) = line.strip_prefix("repeat ") {
+        return Ok(Some(repeated(alloc, rest)?));
+    }
+    Ok(None)
+}
+
+/// A text without the first `^` in it.
+pub fn marked(alloc: Global, text: &str) -> Result<Piece, LineError> {
+    let Some((front, back)) = text.split_once('^') else {
+        return Ok(Piece {
+            bytes: text.as_bytes().to_vec(alloc)?,
+            mark: None,
+        });
+    };
+    let mut bytes = front.as_bytes().to_vec(alloc)?;
+    bytes.extend_from_slice(back.as_bytes())?;
+    Ok(Piece {
+        bytes,
+        mark: Some(front.len()),
+    })
+}
+
+// The text behind the one space that stands between it and its mark.
+fn behind_space(text: &str) -> &str {
+    text.strip_prefix(' ').unwrap_or(text)
+}
+
+// Octets in hexadecimal.
+fn octets(alloc: Global, digits: &str) -> Result<Vec<u8>, LineError> {
+    let mut bytes = Vec::new(alloc);
+    for word in digits.split_whitespace() {
+        let Ok(more) = hex::decode(alloc, word) else {
+            return Err(LineError::NoOctets);
+        };
+        bytes.extend_from_slice(&more)?;
+    }
+    Ok(bytes)
+}
+
+// `101 400 > a@` stands for `a101` to `a400`.
+fn repeated(alloc: Global, rest: &str) -> Result<Vec<u8>, LineError> {
+    let (first, rest) = rest.split_once(' ').ok_or(LineError::Unknown)?;
+    let (last, line) = rest.split_once(' ').ok_or(LineError::Unknown)?;
+    let first: u16 = first.parse()?;
+    let last: u16 = last.parse()?;
+    let once = written(alloc, line)?.ok_or(LineError::Unknown)?;
+    let mut bytes = Vec::new(alloc);
+    for number in first..=last {
+        let number = format!(in alloc; "{number}")?;
+        push_numbered(&mut bytes, &once.bytes, number.as_bytes())?;
+    }
+    Ok(bytes)
+}
+
+// Adds the bytes with the number in place of each `@`.
+fn push_numbered(bytes: &mut Vec<u8>, text: &[u8], number: &[u8]) -> Result<(), LineError> {
+    for byte in text {
+        if *byte == b'@' {
+            bytes.extend_from_slice(number)?;
+        } else {
+            bytes.push(*byte)?;
+        }
+    }
+    Ok(())
+}
+
+/// Numbers, separated by spaces.
+pub fn numbers(alloc: Global, words: &str) -> Result<Vec<u64>, LineError> {
+    let mut all = Vec::new(alloc);
+    for word in words.split_whitespace() {
+        let number: u64 = word.parse()?;
+        all.push(number)?;
+    }
+    Ok(all)
+}

@@ -1,0 +1,28 @@
+//! Runs the rows of a table that stands in its input: each does what `transcode_cmd` does, over files and streams in
+//! memory, and tells what must come.
+#![tactic(auto)]
+
+mod error;
+mod lines;
+mod row;
+mod running;
+mod table;
+
+use running::passes;
+use std::io;
+use table::read_table;
+
+fn main(rt: HostRuntime) -> anyhow::Result<()> {
+    let text = io::read_to_string(rt.alloc(), rt.stdin())?;
+    let rows = read_table(rt.alloc(), text.as_str())?;
+    let count = rows.len();
+    let mut passed = 0usize;
+    for row in rows {
+        if passes(&rt, row)? {
+            passed = passed.saturating_add(1);
+        }
+    }
+    let failed = count.saturating_sub(passed);
+    println!(rt; "{passed} rows passed, {failed} failed")?;
+    Ok(())
+}
