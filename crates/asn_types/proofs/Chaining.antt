@@ -1,16 +1,17 @@
 -- References on the way down a type, and the types that they lead to.
-use Rattle.std.proofs.Common.{◌≡◌, ℕ, zero, suc, ◌+◌, ◌<◌, Bool, true, false, Option, Some, None, List, [], ◌∷◌, length, refl, sym, ap, subst, ◌∙◌, inl, inr, arith}
+use Rattle.std.proofs.Common.{◌≡◌, ℕ, zero, suc, ◌+◌, ◌<◌, Bool, true, false, Option, Some, None, List, [], ◌∷◌, length, All, refl, sym, ap, subst, ◌∙◌, inl, inr, arith}
 use Rattle.std.specs.Prelude.{slice_get, option_and_then, IfSome, MatchBool}
-use Rattle.std.specs.Option.{option_map}
-use Rattle.label_tree.specs.Rose.{Rose, node, Roses, none, more, list_of, label_of}
+use Rattle.label_tree.specs.Rose.{Rose, node, Roses, none, more, list_of, label_of, kids_of, Allowed, AllowedAll}
+use Rattle.label_tree.proofs.Roses.{length-list_of}
+use Rattle.std.proofs.lemmas.List.Elements.{All-head, All-tail}
 use Rattle.asn_types.specs.declared.types.Component.{Component}
 use Rattle.asn_types.specs.declared.types.Form.{Form}
 use Rattle.asn_types.specs.declared.types.Form.TheVariants as form
 use Rattle.asn_types.specs.declared.types.TypeLabel.{TypeLabel}
 use Rattle.asn_types.specs.declared.modules.Assignment.{Assignment}
-use Rattle.asn_types.specs.Laws.{IsPart, PartKeepsReferences, ReferenceTakesOne, TypeHasFour, ResolvedIsNoReference, TypesAreWellFormed, PartsAreOfTheModule, ResolvedIsOfTheModule}
-use Rattle.asn_types.specs.Modules.{AreWellFormed, IsModule, IsForm}
-use Rattle.asn_types.specs.Parts.{parts_of}
+use Rattle.asn_types.specs.Laws.{PartKeepsReferences, ReferenceTakesOne, TypeHasFour, ResolvedIsNoReference, TypesAreWellFormed, PartsAreOfTheModule, TypesHaveTheirParts, ResolvedIsOfTheModule}
+use Rattle.asn_types.specs.Modules.{AreWellFormed, IsAssignment, IsModule, IsForm}
+use Rattle.asn_types.specs.Parts.{parts_of, MayHave}
 use Rattle.asn_types.specs.Refs.{target, body_at, next, follow, is_element, NearRefs, NearRefsOf, ChainsWithin, StandsIn, StandsInSome, IsOf}
 use Rattle.asn_types.specs.Roles.{role_of}
 use Rattle.asn_types.proofs.Inside.{of-well_formed, next-well_formed, form-well_formed}
@@ -117,6 +118,27 @@ pub parts-of-module : PartsAreOfTheModule
 parts-of-module [] l ts i t inside e = absurd inside
 parts-of-module (a ∷ others) l ts i t (inl inside) e = inl (part-inside l ts a.body i t inside e)
 parts-of-module (a ∷ others) l ts i t (inr inside) e = inr (parts-of-module others l ts i t inside e)
+
+mutual
+  inside-allowed : (t u : Rose TypeLabel) → StandsIn t u → Allowed MayHave u → Allowed MayHave t
+  inside-allowed t (node l us) (inl same) h = subst (Allowed MayHave) (sym same) h
+  inside-allowed t (node l us) (inr inside) h = inside_some-allowed t us inside h.1
+
+  inside_some-allowed : (t : Rose TypeLabel) (us : Roses TypeLabel) → StandsInSome t us → AllowedAll MayHave us → Allowed MayHave t
+  inside_some-allowed t none inside h = absurd inside
+  inside_some-allowed t (more u us) (inl inside) h = inside-allowed t u inside h.0
+  inside_some-allowed t (more u us) (inr inside) h = inside_some-allowed t us inside h.1
+
+among-allowed : (M others : List Assignment) (t : Rose TypeLabel) → All (IsAssignment M) others → IsOf others t → Allowed MayHave t
+among-allowed M [] t all inside = absurd inside
+among-allowed M (a ∷ others) t all (inl inside) = inside-allowed t a.body inside (All-head (IsAssignment M) a others all).allowed
+among-allowed M (a ∷ others) t all (inr inside) = among-allowed M others t (All-tail (IsAssignment M) a others all) inside
+
+parts-by : (t : Rose TypeLabel) → Allowed MayHave t → length (kids_of t) ≡ length (parts_of (label_of t).form)
+parts-by (node l ts) h = length-list_of ts ∙ h.0
+
+pub have-parts : TypesHaveTheirParts
+have-parts M t is inside = parts-by t (among-allowed M M t is.assignments inside)
 
 bodies-are : (M : List Assignment) (k : ℕ) (u : Rose TypeLabel) → body_at M k ≡ Some u → IsOf M u
 bodies-are [] k u e = absurd cc

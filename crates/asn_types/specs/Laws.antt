@@ -1,7 +1,7 @@
 -- What code needs that goes down types without a value, as a decoder does: it has only so many elements, references and
 -- kids before it.
-use Rattle.std.specs.Prelude.{◌≡◌, ℕ, suc, false, Some, None, List, slice_get}
-use Rattle.label_tree.specs.Rose.{Rose, node, Roses, list_of, label_of}
+use Rattle.std.specs.Prelude.{◌≡◌, ℕ, suc, false, Some, None, List, length, slice_get}
+use Rattle.label_tree.specs.Rose.{Rose, node, Roses, list_of, label_of, kids_of}
 use Rattle.asn_types.specs.declared.types.Component.{Component}
 use Rattle.asn_types.specs.declared.types.TypeLabel.{TypeLabel}
 use Rattle.asn_types.specs.declared.modules.Assignment.{Assignment}
@@ -38,6 +38,10 @@ TypesAreWellFormed = (M : List Assignment) (t : Rose TypeLabel) → IsModule M �
 abbrev pub PartsAreOfTheModule : Type 0
 PartsAreOfTheModule = (M : List Assignment) (l : TypeLabel) (ts : Roses TypeLabel) (i : ℕ) (t : Rose TypeLabel)
     → IsOf M (node l ts) → slice_get (list_of ts) i ≡ Some t → IsOf M t
+
+-- one for each component, alternative and item,
+abbrev pub TypesHaveTheirParts : Type 0
+TypesHaveTheirParts = (M : List Assignment) (t : Rose TypeLabel) → IsModule M → IsOf M t → length (kids_of t) ≡ length (parts_of (label_of t).form)
 
 -- and so are those behind their references.
 abbrev pub ResolvedIsOfTheModule : Type 0

@@ -1,5 +1,5 @@
 -- What each module keeps.
-use Rattle.std.specs.Prelude.{◌≡◌, ◌^◌, ◌<◌, ◌-◌, ◌||◌, true, false, Some, None, List, [], ◌∷◌, length, map, slice_get, bytes_eq, All}
+use Rattle.std.specs.Prelude.{◌≡◌, ◌^◌, ◌<◌, ◌-◌, ◌||◌, Bool, true, false, Some, None, List, [], ◌∷◌, length, map, slice_get, bytes_eq, All}
 use Rattle.std.specs.List.{IsDistinct}
 use Rattle.std.specs.List.Sorted.{IsStrictlySortedBy}
 use Rattle.std.specs.Ordering.{nat_cmp, int_cmp}
@@ -16,6 +16,7 @@ use Rattle.asn_types.specs.Marks.{has_attribute, has_use_nil, has_embed_values, 
 use Rattle.asn_types.specs.Parts.{parts_of, MayHave}
 use Rattle.asn_types.specs.Simples.{IsSimple}
 use Rattle.asn_types.specs.Refs.{resolve, ChainsWithin}
+use Rattle.asn_types.specs.Roles.{is_empty_text}
 
 -- no bounds are crossed, numbers and words ascend, no ENUMERATED and no CHOICE is empty, references are of the module
 abbrev pub IsForm : List Assignment → Form → Type 0
@@ -83,10 +84,26 @@ abbrev mutual
   AllWellFormed M none = Unit {0}
   AllWellFormed M (more t ts) = AreWellFormed M t × AllWellFormed M ts
 
+-- The part of a SEQUENCE OF has no identifier exactly where it is the item of a LIST or one of the texts of EMBED-VALUES.
+abbrev pub IsItemNamed : Bool → Form → Type 0
+IsItemNamed nameless (form.SequenceOf part least most) = is_empty_text part.identifier ≡ nameless
+IsItemNamed nameless _ = Unit {0}
+
+abbrev mutual
+  -- in a type, which is that of such texts or not
+  pub AreItemsNamed : Bool → Rose TypeLabel → Type 0
+  AreItemsNamed texts (node l ts) = IsItemNamed (has_list l.marks || texts) l.form × AllItemsNamed (has_embed_values l.marks) ts
+
+  -- in the types of parts, of which the first is that of such texts or not
+  pub AllItemsNamed : Bool → Roses TypeLabel → Type 0
+  AllItemsNamed texts none = Unit {0}
+  AllItemsNamed texts (more t ts) = AreItemsNamed texts t × AllItemsNamed false ts
+
 -- what holds of each assignment
 pub record IsAssignment (M : List Assignment) (a : Assignment) : Type 0 where
   pub allowed : Allowed MayHave a.body
   pub types : AreWellFormed M a.body
+  pub items : AreItemsNamed false a.body
   pub attribute : has_attribute a.marks ≡ true → IsSimple (resolve M a.body)
 
 pub record IsModule (M : List Assignment) : Type 0 where

@@ -6,8 +6,11 @@ use crate::modules::Module;
 use crate::types::{Form, TypeLabel};
 use label_tree::Tree;
 
-// The type to which the reference leads, where the type is one.
-fn next<'a>(module: &'a Module, node: &Tree<TypeLabel>) -> Option<&'a Tree<TypeLabel>>
+/// The type to which the reference leads, in one step. None where the type is no reference.
+pub fn follow_reference<'a>(
+    module: &'a Module,
+    node: &Tree<TypeLabel>,
+) -> Option<&'a Tree<TypeLabel>>
     ensures { MatchOption result (refs.next module.now node.now ≡ None) (λ body. refs.next module.now node.now ≡ Some body.now) }
 {
     match node.label().form {
@@ -22,7 +25,7 @@ pub fn resolve<'a>(module: &'a Module, node: &'a Tree<TypeLabel>) -> &'a Tree<Ty
 {
     let mut found = node;
     'refs: for _ in 0..4u32 {
-        match next(module, found) {
+        match follow_reference(module, found) {
             Some(body) => found = body,
             None => return found,
         }

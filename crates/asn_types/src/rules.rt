@@ -207,6 +207,7 @@ pub fn own(
     requires { IsOf module.now node.now }
     ensures { IfOk result (λ b. IsTrue b ↔ rule.Own module.now node.now value.now) }
 {
+    // What each module keeps is known once one of its readers was called.
     let _ = module.count();
     own_at(alloc, module, resolve(module, node), value)
 }

@@ -264,6 +264,7 @@ pub fn simple_of(
     requires { IsOf module.now node.now }
     ensures { IfOk result (λ found. Finds found (resolve module.now node.now)) }
 {
+    // What each module keeps is known once one of its readers was called.
     let _ = module.count();
     simple_at(alloc, module, resolve(module, node))
 }

@@ -119,6 +119,7 @@ fn fits_at(
     if depth > MOST_DEEP {
         return Ok(false);
     }
+    // What each module keeps is known once one of its readers was called.
     let _ = module.count();
     let found = resolve(module, node);
     if !fit_kids(alloc, module, depth, found, value)? {

@@ -114,7 +114,7 @@ fn breaks_choice<'a>(
     Ok(empty && meet(follow, &names))
 }
 
-// Whether a particle breaks the first rule or the second, where one occurrence begins with these names.
+// Whether a particle breaks the first rule or the second, where one occurrence begins with these names or may be empty.
 fn breaks_bounds<'a>(
     label: &ParticleLabel,
     empty: bool,
@@ -242,7 +242,7 @@ pub fn first_breach(alloc: Global, particle: &Particle) -> Result<Option<Breach>
     breach_in(alloc, particle.root(), &[])
 }
 
-/// Whether a content model is clear.
+/// Whether a content model is clear before an empty follow.
 pub fn is_clear(alloc: Global, particle: &Particle) -> Result<bool, Memory>
     ensures { IfOk result (λ clear. IsTrue clear ↔ Clear (seen particle.now) []) }
 {

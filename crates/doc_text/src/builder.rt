@@ -101,6 +101,7 @@ impl<'a> Builder<'a> {
     }
 
     // Makes a node of the characters so far. `room` says how many kids an element has that has any.
+    #[inline(always)]
     fn flush(&mut self, room: usize) -> Result<(), Memory>
         requires { 1 ≤ room }
         ensures { OnOk result (Flushed self.old self.new) }

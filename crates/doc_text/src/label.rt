@@ -112,6 +112,7 @@ impl Absent {
     }
 
     // These attributes.
+    #[inline(always)]
     pub(crate) fn attributes(&self, entries: Vec<(Name, Text)>) -> Result<Attributes, Memory>
         ensures { IfOk result (λ attributes. attributes ≡ entries.items) }
     {
@@ -123,6 +124,7 @@ impl Absent {
     }
 
     // These bindings.
+    #[inline(always)]
     pub(crate) fn declares(&self, entries: Vec<(Text, Text)>) -> Result<Bindings, Memory>
         ensures { IfOk result (λ bindings. bindings ≡ entries.items) }
     {

@@ -75,6 +75,7 @@ impl<'a> Scope<'a> {
         match self.innermost.insert(prefix, place) {
             Ok(_) => Ok(()),
             Err(_) => {
+                // The binding is taken back.
                 let _ = self.bindings.pop();
                 Err(Memory)
             }
@@ -102,12 +103,14 @@ impl<'a> Scope<'a> {
                 }
             }
             None => {
+                // Its place is that of the binding that was taken away.
                 let _ = self.innermost.remove(prefix);
             }
         }
     }
 
     // Takes the innermost bindings away.
+    #[inline(always)]
     pub(crate) fn leave(&mut self, count: usize)
         ensures { self.new ≡ take (length self.old - count) self.old }
     {

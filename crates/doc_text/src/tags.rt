@@ -280,6 +280,7 @@ fn first_of_place(ended: bool, depth: usize) -> Option<DocWhy>
 }
 
 // What a tag opens.
+#[inline(always)]
 fn head_of(
     absent: &Absent,
     name: Name,

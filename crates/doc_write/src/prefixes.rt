@@ -97,6 +97,7 @@ impl<'a> Prefixes<'a> {
         match self.by_space.insert(space, prefix) {
             Ok(_) => Ok(()),
             Err(_) => {
+                // The prefix is taken back.
                 let _ = self.found.pop();
                 Err(AllocError)
             }

@@ -9,17 +9,17 @@ use xa_base::Memory;
 /// Why a type can't be restricted by its facets (XML Schema Part 2, section 4.3).
 #[derive(Clone, Copy, Debug, PartialEq, Eq)]
 pub enum FacetWhy {
-    /// The base has no such facet, or it stood before.
+    /// The base has no such facet, or it stood before; an inclusive and an exclusive bound of one side are the same facet.
     Misplaced,
-    /// A bound, or a treatment of white space, reaches outside the base.
+    /// A bound or a length reaches past the base's own on its side, or a treatment of white space does less than the base's.
     Widens,
-    /// An enumeration isn't of the space so far.
+    /// An enumeration isn't of the space that the other facets leave.
     NotInBase,
-    /// No value is left.
+    /// The bounds or the lengths that are left cross, or no number and no word is left.
     EmptySpace,
-    /// The facet's text is no number, or no treatment.
+    /// The facet's text is no whole number, no digits where it is a length, or no treatment.
     BadNumber,
-    /// The facet's number is past 128 bits, or a length is 2^32 or more.
+    /// A bound or an enumeration is past 128 bits, or the number next to an exclusive bound is; or a length is 2^32 or more.
     TooWide,
 }
 

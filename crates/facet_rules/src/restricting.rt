@@ -13,8 +13,9 @@ use simple_types::{Facet, Simple};
 use std::alloc::Global;
 
 /// The type of the base's values that meet the facets. First come the facets but `enumeration`, in their order; then
-/// whether a value is left; then the enumerations, in their order, each of which must name a value of what is left. The
-/// first reason against them is the one that is answered. `length` may stand beside `minLength` and `maxLength`.
+/// whether bounds or lengths cross or no number and no word is left; then the enumerations, in their order, each of which
+/// must name a value of what is left. Where there are some, their values are the space, ascending, each once. The first
+/// reason against the facets is answered, or `Memory`. `length` may stand beside `minLength` and `maxLength`.
 pub fn restrict(alloc: Global, base: &Simple, facets: &[Facet]) -> Result<Simple, FacetError>
     requires sound { Sound (space_of base.now) }
     requires few { length (items_of facets.now) < 2 ^ 32 }

@@ -15,7 +15,7 @@ use schema_parts::{ComplexDef, ElementDecl, GlobalAttribute, SimpleDef};
 use std::alloc::Global;
 use xa_base::Memory;
 
-// Whether the components are few, have names that may be declared, and name types that are there.
+// True only where the components are few, have names that may be declared, and name types that are there.
 fn are_declared(set: &Parts<'_>) -> bool
     requires { AreSound set.now.simples.now }
     ensures { IsTrue result → AreDeclared (set_of set.now) }
@@ -23,7 +23,8 @@ fn are_declared(set: &Parts<'_>) -> bool
     are_few(set) && are_elements(set) && are_simple_types(set) && are_attributes(set)
 }
 
-// Whether each local declaration and each complex type without a name has one place, and there are few levels of them.
+// True only where each local declaration and each complex type without a name has one place, and there are few levels of
+// them.
 fn are_together(alloc: Global, set: &Parts<'_>) -> Result<bool, Memory>
     ensures { IfOk result (λ together. IsTrue together → AreTogether (set_of set.now)) }
 {
@@ -46,8 +47,8 @@ fn is_linked_set(alloc: Global, set: &Parts<'_>) -> Result<bool, Memory>
     Ok(apart && complexes && together)
 }
 
-/// Whether these components, of which the first `globals` elements are the global ones, are those of a linked set: then
-/// `SchemaSet::of` takes them. The time grows as n log n with the number n of components, attribute uses and particles,
+/// True only where these components, of which the first `globals` elements are the global ones, are those of a linked set,
+/// which `SchemaSet::of` takes. That it is true of each linked set isn't promised. The time grows as n log n with the number n of components, attribute uses and particles,
 /// whatever their names are.
 pub fn is_linked(
     alloc: Global,

@@ -14,7 +14,7 @@ use xa_base::Memory;
 // At most so many complex types without a name stand in one another: more can't be written in 64 levels of elements.
 const MOST_LEVELS: u32 = 21;
 
-// The number, if the complex type with it has no name.
+// The number, where the complex type with it has no name.
 fn without_name(set: &Parts<'_>, n: u32) -> Option<u32>
     ensures { IsUnnamed (set_of set.now) n → result ≡ Some n }
 {
@@ -24,7 +24,7 @@ fn without_name(set: &Parts<'_>, n: u32) -> Option<u32>
     }
 }
 
-// The type of the declaration, if it is a local one.
+// The type of a local declaration.
 fn local_type(set: &Parts<'_>, decl: u32) -> Option<TypeOf>
     ensures { set.now.globals ≤ decl → result ≡ element_type (set_of set.now) decl }
 {
@@ -37,7 +37,8 @@ fn local_type(set: &Parts<'_>, decl: u32) -> Option<TypeOf>
     }
 }
 
-// The number of the complex type without a name that the declaration of the leaf has, if that is a local one.
+// The number of the complex type without a name that the declaration of the leaf has, where that is a local one and has
+// such a type.
 fn number_below(set: &Parts<'_>, leaf: Leaf<'_>) -> Option<u32>
     ensures { (m : ℕ) → IsBelow (set_of set.now) (leaf_seen leaf.entry) m → result ≡ Some m }
 {
@@ -48,7 +49,8 @@ fn number_below(set: &Parts<'_>, leaf: Leaf<'_>) -> Option<u32>
     }
 }
 
-// The level of the type below the leaf, 0 where there is none. `None` where its number isn't greater than `n`.
+// A level that the type below the leaf, if there is one, doesn't pass; such a type has a number greater than `n`. `None`
+// where that doesn't hold, or its level isn't known.
 fn level_below(set: &Parts<'_>, n: usize, leaf: Leaf<'_>, levels: &[u32]) -> Option<u32>
     ensures { IfSome result (λ level. IsLevelBelow (set_of set.now) n levels.now level (leaf_seen leaf.entry)) }
 {
@@ -59,8 +61,8 @@ fn level_below(set: &Parts<'_>, n: usize, leaf: Leaf<'_>, levels: &[u32]) -> Opt
     }
 }
 
-// The level of the type with the number `n` and these leaves: one more than the greatest of those below it. `None` where
-// one of those hasn't a greater number, or there are more than 21 levels.
+// A level from 1 to 21 for the type with the number `n` and these leaves, greater than those of the types below it, whose
+// numbers are greater than `n`. `None` where none is found.
 fn level(set: &Parts<'_>, n: usize, leaves: &[Leaf<'_>], levels: &[u32]) -> Option<u32>
     ensures { IfSome result (λ level. IsLevel (set_of set.now) n levels.now level (leaves_seen leaves.now)) }
 {
@@ -76,7 +78,8 @@ fn level(set: &Parts<'_>, n: usize, leaves: &[Leaf<'_>], levels: &[u32]) -> Opti
     }
 }
 
-/// Whether the numbers of complex types that stand in one another ascend, and there are at most 21 levels of them.
+/// True only where the numbers of complex types without a name that stand in one another ascend, and there are at most 21
+/// levels of them.
 pub(crate) fn are_shallow(alloc: Global, set: &Parts<'_>) -> Result<bool, Memory>
     ensures { IfOk result (λ shallow. IsTrue shallow → AreShallow (set_of set.now)) }
 {

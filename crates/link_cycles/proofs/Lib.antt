@@ -1,4 +1,3 @@
-pub mod Bases
 pub mod First
 pub mod Numbering
 pub mod Walks

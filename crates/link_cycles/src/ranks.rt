@@ -1,4 +1,6 @@
 //! Ranks of the nodes of a graph, by its strongly connected components.
+ghost use Rattle.std.specs.Prelude.{◌≡◌, length, IfOk};
+
 use std::alloc::Global;
 use xa_base::Memory;
 
@@ -33,7 +35,9 @@ fn at(list: &[usize], n: usize) -> usize {
     }
 }
 
-fn put(list: &mut Vec<usize>, n: usize, value: usize) {
+fn put(list: &mut Vec<usize>, n: usize, value: usize)
+    ensures { length list.new.items ≡ length list.old.items }
+{
     if n < list.len() {
         list[n] = value;
     }
@@ -51,7 +55,9 @@ fn edge(graph: &[Vec<usize>], step: Step) -> Option<usize> {
 }
 
 impl Walk {
-    fn of(alloc: Global, nodes: usize) -> Result<Walk, Memory> {
+    fn of(alloc: Global, nodes: usize) -> Result<Walk, Memory>
+        ensures { IfOk result (λ walk. length walk.rank.items ≡ nodes) }
+    {
         Ok(Walk {
             number: vec![in alloc; 0; nodes]?,
             low: vec![in alloc; 0; nodes]?,
@@ -63,7 +69,9 @@ impl Walk {
         })
     }
 
-    fn come_to(&mut self, node: usize) -> Result<(), Memory> {
+    fn come_to(&mut self, node: usize) -> Result<(), Memory>
+        ensures { length self.new.rank.items ≡ length self.old.rank.items }
+    {
         self.numbered = self.numbered.saturating_add(1);
         put(&mut self.number, node, self.numbered);
         put(&mut self.low, node, self.numbered);
@@ -71,16 +79,20 @@ impl Walk {
         Ok(())
     }
 
-    fn lower(&mut self, node: usize, number: usize) {
+    fn lower(&mut self, node: usize, number: usize)
+        ensures { length self.new.rank.items ≡ length self.old.rank.items }
+    {
         if number < at(&self.low, node) {
             put(&mut self.low, node, number);
         }
     }
 
     // The nodes held from this one on are a component.
-    fn rank_from(&mut self, node: usize) {
+    fn rank_from(&mut self, node: usize)
+        ensures { length self.new.rank.items ≡ length self.old.rank.items }
+    {
         self.ranked = self.ranked.saturating_add(1);
-        for _ in 0..self.held.len() {
+        'held: for _ in 0..self.held.len() {
             if let Some(other) = self.held.pop() {
                 put(&mut self.rank, other, self.ranked);
                 if other == node {
@@ -90,7 +102,9 @@ impl Walk {
         }
     }
 
-    fn leave(&mut self, node: usize) {
+    fn leave(&mut self, node: usize)
+        ensures { length self.new.rank.items ≡ length self.old.rank.items }
+    {
         let low = at(&self.low, node);
         if low == at(&self.number, node) {
             self.rank_from(node);
@@ -101,7 +115,9 @@ impl Walk {
         }
     }
 
-    fn follow(&mut self, step: Step, to: usize) -> Result<(), Memory> {
+    fn follow(&mut self, step: Step, to: usize) -> Result<(), Memory>
+        ensures { length self.new.rank.items ≡ length self.old.rank.items }
+    {
         self.way.push(Step {
             node: step.node,
             followed: step.followed.saturating_add(1),
@@ -118,7 +134,9 @@ impl Walk {
         Ok(())
     }
 
-    fn go_on(&mut self, graph: &[Vec<usize>], step: Step) -> Result<(), Memory> {
+    fn go_on(&mut self, graph: &[Vec<usize>], step: Step) -> Result<(), Memory>
+        ensures { length self.new.rank.items ≡ length self.old.rank.items }
+    {
         if step.followed == 0 {
             self.come_to(step.node)?;
         }
@@ -132,12 +150,14 @@ impl Walk {
     }
 
     // From a node on, in at most so many steps.
-    fn from(&mut self, graph: &[Vec<usize>], node: usize, most: usize) -> Result<(), Memory> {
+    fn from(&mut self, graph: &[Vec<usize>], node: usize, most: usize) -> Result<(), Memory>
+        ensures { length self.new.rank.items ≡ length self.old.rank.items }
+    {
         if at(&self.number, node) != 0 {
             return Ok(());
         }
         self.way.push(Step { node, followed: 0 })?;
-        for _ in 0..most {
+        'steps: for _ in 0..most {
             match self.way.pop() {
                 Some(step) => self.go_on(graph, step)?,
                 None => return Ok(()),
@@ -157,11 +177,14 @@ fn most_steps(graph: &[Vec<usize>]) -> usize {
 }
 
 /// A rank of each node, from 1: an edge leads to a node of a lesser rank, or of the same if both are on one cycle.
-/// No contract says so: what needs it has to test it. The time grows with the number of edges.
-pub fn ranks_of(alloc: Global, graph: &[Vec<usize>]) -> Result<Vec<usize>, Memory> {
+/// The contract promises a number for each node alone: what needs more has to test it. The time grows with the number of
+/// edges.
+pub fn ranks_of(alloc: Global, graph: &[Vec<usize>]) -> Result<Vec<usize>, Memory>
+    ensures { IfOk result (λ ranks. length ranks.items ≡ length graph.now) }
+{
     let mut walk = Walk::of(alloc, graph.len())?;
     let most = most_steps(graph);
-    for node in 0..graph.len() {
+    'nodes: for node in 0..graph.len() {
         walk.from(graph, node, most)?;
     }
     Ok(walk.rank)

@@ -1,10 +1,14 @@
 -- The global components of several documents by their names (XML Schema Part 1, section 2.2).
-use Rattle.std.specs.Prelude.{ℕ, Bool, true, false, ◌&&◌, List, ◌++◌, map}
+use Rattle.std.specs.Prelude.{Bool, ◌&&◌, List, [], ◌∷◌, ◌++◌, map, Option, Some, None}
 use Rattle.std.specs.List.{flat_map, filter, list_any}
 use Rattle.xa_base.specs.declared.texts.Name.{Name}
 use Rattle.xa_base.specs.Names.{name_eq}
-use Rattle.schema_parts.specs.Raw.{Document, Element, Attribute, TypeDefinition, SimpleType, ComplexType}
+use Rattle.schema_parts.specs.Raw.{Document}
+use Rattle.schema_walk.specs.Parts as part
+use Rattle.schema_walk.specs.Parts.{What, Part, parts}
 use Rattle.link_names.specs.declared.places.Place.{Place}
+use Rattle.link_names.specs.declared.global_names.NameKind.{NameKind}
+use Rattle.link_names.specs.declared.global_names.NameKind.TheVariants as kind
 use Rattle.link_names.specs.declared.faults.Fault.{Fault}
 use Rattle.link_names.specs.declared.faults.LinkWhy.{LinkWhy}
 use Rattle.link_names.specs.declared.faults.LinkWhy.TheVariants.{Duplicate}
@@ -18,36 +22,56 @@ pub record GlobalComponent : Type 0 where
 abbrev pub global : Name → Place → GlobalComponent
 global name p = record { name = name; place = p }
 
-abbrev pub type_name : TypeDefinition → Name
-type_name (SimpleType name body) = name
-type_name (ComplexType name body) = name
+-- ---- the name of a part, if it is a global component of the kind; simple and complex types are one kind (section 2.5)
 
-abbrev pub type_at : TypeDefinition → ℕ
-type_at (SimpleType name body) = body.at
-type_at (ComplexType name body) = body.at
+abbrev pub element_name : What → Option Name
+element_name (part.GlobalElement e) = Some e.name
+element_name other = None
 
-abbrev pub is_complex : TypeDefinition → Bool
-is_complex (SimpleType name body) = false
-is_complex (ComplexType name body) = true
+abbrev pub attribute_name : What → Option Name
+attribute_name (part.GlobalAttribute a) = Some a.name
+attribute_name other = None
 
-abbrev pub element_global : ℕ → Element → GlobalComponent
-element_global file e = global e.name (place file e.at)
+abbrev pub type_name : What → Option Name
+type_name (part.SimpleDefinition name s) = name
+type_name (part.ComplexDefinition name c) = name
+type_name other = None
 
-abbrev pub attribute_global : ℕ → Attribute → GlobalComponent
-attribute_global file a = global a.name (place file a.at)
+abbrev pub complex_name : What → Option Name
+complex_name (part.ComplexDefinition name c) = name
+complex_name other = None
 
-abbrev pub type_global : ℕ → TypeDefinition → GlobalComponent
-type_global file t = global (type_name t) (place file (type_at t))
+abbrev pub name_in : NameKind → What → Option Name
+name_in kind.Element what = element_name what
+name_in kind.Attribute what = attribute_name what
+name_in kind.Type what = type_name what
+name_in kind.ComplexType what = complex_name what
 
--- those of each kind; simple and complex types are one kind (section 2.5)
+abbrev pub named_at : Option Name → Place → List GlobalComponent
+named_at None p = []
+named_at (Some a) p = global a p ∷ []
+
+abbrev pub of_part : NameKind → Part → List GlobalComponent
+of_part k p = named_at (name_in k p.what) (place p.file p.at)
+
+-- the global components of a kind among these parts
+abbrev pub globals_among : NameKind → List Part → List GlobalComponent
+globals_among k ps = flat_map (of_part k) ps
+
+-- ---- the global components of documents
+
 abbrev pub elements : List Document → List GlobalComponent
-elements docs = flat_map (λ d. map (element_global d.file) d.elements) docs
+elements docs = globals_among kind.Element (parts docs)
 
 abbrev pub attributes : List Document → List GlobalComponent
-attributes docs = flat_map (λ d. map (attribute_global d.file) d.attributes) docs
+attributes docs = globals_among kind.Attribute (parts docs)
 
 abbrev pub types : List Document → List GlobalComponent
-types docs = flat_map (λ d. map (type_global d.file) d.types) docs
+types docs = globals_among kind.Type (parts docs)
+
+-- the complex types with a name
+abbrev pub complexes : List Document → List GlobalComponent
+complexes docs = globals_among kind.ComplexType (parts docs)
 
 -- one of the same name stands before it
 abbrev pub is_repeated : List GlobalComponent → GlobalComponent → Bool
@@ -60,10 +84,6 @@ repeated why gs = map (λ g. fault why g.place) (filter (is_repeated gs) gs)
 -- the components whose name an earlier one of their kind has
 abbrev pub duplicates : List Document → List Fault
 duplicates docs = repeated Duplicate (elements docs) ++ repeated Duplicate (attributes docs) ++ repeated Duplicate (types docs)
-
--- the complex types with a name
-abbrev pub complexes : List Document → List GlobalComponent
-complexes docs = flat_map (λ d. map (type_global d.file) (filter is_complex d.types)) docs
 
 -- one of them has the name
 abbrev pub is_there : List GlobalComponent → Name → Bool

@@ -4,13 +4,15 @@ use Rattle.std.specs.List.{filter_map}
 use Rattle.std.specs.Option.{option_map}
 use Rattle.xa_base.specs.declared.texts.Name.{Name}
 use Rattle.schema_parts.specs.Raw.{Document}
+use Rattle.schema_walk.specs.Parts.{Part, parts}
 use Rattle.link_names.specs.declared.faults.Fault.{Fault}
 use Rattle.link_names.specs.declared.faults.LinkWhy.{LinkWhy}
 use Rattle.link_names.specs.declared.faults.LinkWhy.TheVariants.{Unresolved, ComplexBase}
 use Rattle.link_names.specs.declared.references.Need.{Need}
 use Rattle.link_names.specs.declared.references.Need.TheVariants as need
 use Rattle.link_names.specs.Order.{fault}
-use Rattle.link_names.specs.Globals.{elements, attributes, types, complexes, is_there}
+use Rattle.link_names.specs.declared.global_names.NameKind.TheVariants as kind
+use Rattle.link_names.specs.Globals.{globals_among, is_there}
 use Rattle.link_names.specs.References.{Mention, mentions}
 
 -- the names of the global components of each kind, as tests
@@ -20,14 +22,17 @@ pub record Names : Type 0 where
   pub types : Name → Bool
   pub complexes : Name → Bool
 
-abbrev pub names_in : List Document → Names
-names_in docs =
+abbrev pub names_among : List Part → Names
+names_among ps =
     record {
-      elements = is_there (elements docs);
-      attributes = is_there (attributes docs);
-      types = is_there (types docs);
-      complexes = is_there (complexes docs);
+      elements = is_there (globals_among kind.Element ps);
+      attributes = is_there (globals_among kind.Attribute ps);
+      types = is_there (globals_among kind.Type ps);
+      complexes = is_there (globals_among kind.ComplexType ps);
     }
+
+abbrev pub names_in : List Document → Names
+names_in docs = names_among (parts docs)
 
 abbrev pub unless_there : Bool → Option LinkWhy
 unless_there there = if there then None else Some Unresolved

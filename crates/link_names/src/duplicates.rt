@@ -2,18 +2,19 @@
 ghost use Rattle.std.specs.Prelude.{◌≡◌, ◌++◌, List, map, IfOk};
 ghost use Rattle.xa_base.specs.declared.texts.Name.{Name};
 ghost use Rattle.schema_parts.specs.Documents.{doc_of};
+ghost use Rattle.schema_walk.specs.Seen.{parts_of};
 ghost use Rattle.link_names.specs.declared.faults.Fault.{Fault};
 ghost use Rattle.link_names.specs.declared.faults.LinkWhy.TheVariants.{Duplicate};
-ghost use Rattle.link_names.specs.Globals as globals;
-ghost use Rattle.link_names.specs.Globals.{duplicates, repeated};
+ghost use Rattle.link_names.specs.Globals.{duplicates, globals_among, repeated};
 ghost use Rattle.link_names.specs.Order.{IsFirstOf};
 ghost use Rattle.link_names.specs.Seen.{globals_of};
 ghost use Rattle.link_names.specs.Private.Tables.{place_in, first_place, lesser, stands_before};
 
 use crate::faults::{Fault, LinkWhy, earlier};
-use crate::global_names::{self, NamedPart};
+use crate::global_names::{NameKind, NamedPart, globals_among};
 use crate::places::Place;
 use schema_parts::RawDoc;
+use schema_walk::{Part, all_parts};
 use std::alloc::Global;
 use std::collections::BTreeMap;
 use xa_base::{Memory, Name};
@@ -80,36 +81,15 @@ pub fn first_repeated<'a>(
     Ok(first)
 }
 
-fn first_of_elements(
+fn first_of_kind(
     alloc: Global,
-    docs: &[RawDoc],
+    kind: NameKind,
+    parts: &[Part<'_>],
     found: Option<Fault>,
 ) -> Result<Option<Fault>, Memory>
-    ensures { (fs : List Fault) → IsFirstOf fs found → IfOk result (λ first. IsFirstOf (fs ++ repeated Duplicate (globals.elements (map doc_of docs.now))) first) }
+    ensures { (fs : List Fault) → IsFirstOf fs found → IfOk result (λ first. IsFirstOf (fs ++ repeated Duplicate (globals_among kind (parts_of parts.now))) first) }
 {
-    let globals = global_names::elements(alloc, docs)?;
-    first_repeated(alloc, &globals, LinkWhy::Duplicate, found)
-}
-
-fn first_of_attributes(
-    alloc: Global,
-    docs: &[RawDoc],
-    found: Option<Fault>,
-) -> Result<Option<Fault>, Memory>
-    ensures { (fs : List Fault) → IsFirstOf fs found → IfOk result (λ first. IsFirstOf (fs ++ repeated Duplicate (globals.attributes (map doc_of docs.now))) first) }
-{
-    let globals = global_names::attributes(alloc, docs)?;
-    first_repeated(alloc, &globals, LinkWhy::Duplicate, found)
-}
-
-fn first_of_types(
-    alloc: Global,
-    docs: &[RawDoc],
-    found: Option<Fault>,
-) -> Result<Option<Fault>, Memory>
-    ensures { (fs : List Fault) → IsFirstOf fs found → IfOk result (λ first. IsFirstOf (fs ++ repeated Duplicate (globals.types (map doc_of docs.now))) first) }
-{
-    let globals = global_names::types(alloc, docs)?;
+    let globals = globals_among(alloc, kind, parts)?;
     first_repeated(alloc, &globals, LinkWhy::Duplicate, found)
 }
 
@@ -118,7 +98,9 @@ fn first_of_types(
 pub fn first_duplicate(alloc: Global, docs: &[RawDoc]) -> Result<Option<Fault>, Memory>
     ensures { IfOk result (λ found. IsFirstOf (duplicates (map doc_of docs.now)) found) }
 {
-    let found = first_of_elements(alloc, docs, None)?;
-    let found = first_of_attributes(alloc, docs, found)?;
-    first_of_types(alloc, docs, found)
+    let parts = all_parts(alloc, docs)?;
+    let parts = parts.as_slice();
+    let found = first_of_kind(alloc, NameKind::Element, parts, None)?;
+    let found = first_of_kind(alloc, NameKind::Attribute, parts, found)?;
+    first_of_kind(alloc, NameKind::Type, parts, found)
 }

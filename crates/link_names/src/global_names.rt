@@ -1,15 +1,23 @@
 //! The global components of several documents, each kind in one list.
-ghost use Rattle.std.specs.Prelude.{◌≡◌, ◌++◌, map, IfOk, OnOk};
-ghost use Rattle.std.specs.List.{filter};
-ghost use Rattle.schema_parts.specs.Seen.{type_of};
-ghost use Rattle.schema_parts.specs.Documents.{doc_of};
-ghost use Rattle.link_names.specs.Globals as globals;
-ghost use Rattle.link_names.specs.Seen.{global_of, globals_of};
+ghost use Rattle.std.specs.Prelude.{◌≡◌, ◌++◌, IfOk, OnOk};
+ghost use Rattle.schema_walk.specs.Seen.{name_of, what_of, part_of, parts_of};
+ghost use Rattle.link_names.specs.Globals as told;
+ghost use Rattle.link_names.specs.Seen.{globals_of};
 
 use crate::places::Place;
-use schema_parts::{RawDoc, RawType};
+use schema_walk::{Part, What};
 use std::alloc::Global;
 use xa_base::{Memory, Name};
+
+/// Global components whose names are looked up together.
+#[derive(Clone, Copy)]
+pub(crate) enum NameKind {
+    Element,
+    Attribute,
+    /// Simple and complex types.
+    Type,
+    ComplexType,
+}
 
 /// A component by its name, and where it was written.
 #[derive(Clone, Copy)]
@@ -20,127 +28,57 @@ pub struct NamedPart<'a> {
     pub place: Place,
 }
 
-fn push_elements<'a>(doc: &'a RawDoc, out: &mut Vec<NamedPart<'a>>) -> Result<(), Memory>
-    ensures { OnOk result (globals_of out.new.items ≡ globals_of out.old.items ++ map (globals.element_global (doc_of doc.now).file) (doc_of doc.now).elements) }
+// The name of a part, if it is a global component of the kind.
+fn name_in<'a>(kind: NameKind, what: What<'a>) -> Option<&'a Name>
+    ensures { name_of result ≡ told.name_in kind (what_of what.entry) }
 {
-    let file = doc.file();
-    'elements: for element in doc.elements() {
+    match kind {
+        NameKind::Element => match what {
+            What::GlobalElement(element) => Some(&element.name),
+            _ => None,
+        },
+        NameKind::Attribute => match what {
+            What::GlobalAttribute(attribute) => Some(&attribute.name),
+            _ => None,
+        },
+        NameKind::Type => match what {
+            What::SimpleDefinition { name, .. } => name,
+            What::ComplexDefinition { name, .. } => name,
+            _ => None,
+        },
+        NameKind::ComplexType => match what {
+            What::ComplexDefinition { name, .. } => name,
+            _ => None,
+        },
+    }
+}
+
+fn push_part<'a>(kind: NameKind, part: Part<'a>, out: &mut Vec<NamedPart<'a>>) -> Result<(), Memory>
+    ensures { OnOk result (globals_of out.new.items ≡ globals_of out.old.items ++ told.of_part kind (part_of part.entry)) }
+{
+    if let Some(name) = name_in(kind, part.what) {
         out.push(NamedPart {
-            name: &element.name,
+            name,
             place: Place {
-                file,
-                at: element.at,
+                file: part.file,
+                at: part.at,
             },
         })?;
     }
     Ok(())
 }
 
-fn push_attributes<'a>(doc: &'a RawDoc, out: &mut Vec<NamedPart<'a>>) -> Result<(), Memory>
-    ensures { OnOk result (globals_of out.new.items ≡ globals_of out.old.items ++ map (globals.attribute_global (doc_of doc.now).file) (doc_of doc.now).attributes) }
-{
-    let file = doc.file();
-    'attributes: for attribute in doc.attributes() {
-        out.push(NamedPart {
-            name: &attribute.name,
-            place: Place {
-                file,
-                at: attribute.at,
-            },
-        })?;
-    }
-    Ok(())
-}
-
-pub(crate) fn type_global<'a>(file: u32, definition: &'a RawType) -> NamedPart<'a>
-    ensures { global_of result ≡ globals.type_global file (type_of definition.now) }
-{
-    match definition {
-        RawType::Simple { name, body } => NamedPart {
-            name,
-            place: Place { file, at: body.at },
-        },
-        RawType::Complex { name, body } => NamedPart {
-            name,
-            place: Place { file, at: body.at },
-        },
-    }
-}
-
-fn is_complex(definition: &RawType) -> bool
-    ensures { result ≡ globals.is_complex (type_of definition.now) }
-{
-    match definition {
-        RawType::Simple { .. } => false,
-        RawType::Complex { .. } => true,
-    }
-}
-
-fn push_types<'a>(doc: &'a RawDoc, out: &mut Vec<NamedPart<'a>>) -> Result<(), Memory>
-    ensures { OnOk result (globals_of out.new.items ≡ globals_of out.old.items ++ map (globals.type_global (doc_of doc.now).file) (doc_of doc.now).types) }
-{
-    let file = doc.file();
-    'types: for definition in doc.types() {
-        out.push(type_global(file, definition))?;
-    }
-    Ok(())
-}
-
-/// The global elements.
-pub(crate) fn elements<'a>(alloc: Global, docs: &'a [RawDoc]) -> Result<Vec<NamedPart<'a>>, Memory>
-    ensures { IfOk result (λ found. globals_of found.items ≡ globals.elements (map doc_of docs.now)) }
-{
-    let mut found = Vec::new(alloc);
-    'docs: for doc in docs {
-        push_elements(doc, &mut found)?;
-    }
-    Ok(found)
-}
-
-/// The global attributes.
-pub(crate) fn attributes<'a>(
+/// The global components of the kind among these parts.
+pub(crate) fn globals_among<'a>(
     alloc: Global,
-    docs: &'a [RawDoc],
+    kind: NameKind,
+    parts: &[Part<'a>],
 ) -> Result<Vec<NamedPart<'a>>, Memory>
-    ensures { IfOk result (λ found. globals_of found.items ≡ globals.attributes (map doc_of docs.now)) }
+    ensures { IfOk result (λ found. globals_of found.items ≡ told.globals_among kind (parts_of parts.now)) }
 {
     let mut found = Vec::new(alloc);
-    'docs: for doc in docs {
-        push_attributes(doc, &mut found)?;
-    }
-    Ok(found)
-}
-
-/// The types with a name.
-pub(crate) fn types<'a>(alloc: Global, docs: &'a [RawDoc]) -> Result<Vec<NamedPart<'a>>, Memory>
-    ensures { IfOk result (λ found. globals_of found.items ≡ globals.types (map doc_of docs.now)) }
-{
-    let mut found = Vec::new(alloc);
-    'docs: for doc in docs {
-        push_types(doc, &mut found)?;
-    }
-    Ok(found)
-}
-
-fn push_complexes<'a>(doc: &'a RawDoc, out: &mut Vec<NamedPart<'a>>) -> Result<(), Memory>
-    ensures { OnOk result (globals_of out.new.items ≡ globals_of out.old.items ++ map (globals.type_global (doc_of doc.now).file) (filter globals.is_complex (doc_of doc.now).types)) }
-{
-    let file = doc.file();
-    'types: for definition in doc.types() {
-        if is_complex(definition) {
-            out.push(type_global(file, definition))?;
-        }
-    }
-    Ok(())
-}
-
-/// The complex types with a name.
-pub(crate) fn complexes<'a>(alloc: Global, docs: &'a [RawDoc]) -> Result<Vec<NamedPart<'a>>, Memory>
-    ensures { IfOk result (λ found. globals_of found.items ≡ globals.complexes (map doc_of docs.now)) }
-{
-    let mut found = Vec::new(alloc);
-    'docs: for doc in docs {
-        push_complexes(doc, &mut found)?;
+    'parts: for part in parts {
+        push_part(kind, *part, &mut found)?;
     }
     Ok(found)
 }

@@ -3,21 +3,23 @@ ghost use Rattle.std.specs.Prelude.{◌≡◌, map, IfOk};
 ghost use Rattle.std.specs.List.{filter_map};
 ghost use Rattle.xa_base.specs.declared.texts.Name.{Name};
 ghost use Rattle.schema_parts.specs.Documents.{doc_of};
-ghost use Rattle.link_names.specs.Globals.{is_there};
-ghost use Rattle.link_names.specs.Globals as globals;
+ghost use Rattle.schema_walk.specs.Seen.{parts_of};
+ghost use Rattle.link_names.specs.Globals.{globals_among, is_there};
+ghost use Rattle.link_names.specs.declared.global_names.NameKind.TheVariants as kind;
 ghost use Rattle.link_names.specs.Private.Mentioned.{mentions_of};
 ghost use Rattle.link_names.specs.Order.{IsFirstOf};
 ghost use Rattle.link_names.specs.Resolution as resolution;
-ghost use Rattle.link_names.specs.Resolution.{names_in, wrong, fault_of, unresolved};
+ghost use Rattle.link_names.specs.Resolution.{names_among, wrong, fault_of, unresolved};
 ghost use Rattle.link_names.specs.Seen.{globals_of};
 ghost use Rattle.link_names.specs.Private.Tables.{holds};
 ghost use Rattle.link_names.specs.Private.NameTables.{told_by, Agree};
 
 use crate::faults::{Fault, LinkWhy, earlier};
-use crate::global_names::{self, NamedPart};
+use crate::global_names::{NameKind, NamedPart, globals_among};
 use crate::name_tables::{NameTable, TypeNames};
 use crate::references::{Mention, Need, mentions};
 use schema_parts::RawDoc;
+use schema_walk::{Part, all_parts};
 use std::alloc::Global;
 use std::collections::BTreeSet;
 use xa_base::{Memory, Name};
@@ -32,49 +34,32 @@ fn names_of<'a>(alloc: Global, globals: &[NamedPart<'a>]) -> Result<BTreeSet<&'a
     Ok(names)
 }
 
-fn element_names<'a>(alloc: Global, docs: &'a [RawDoc]) -> Result<BTreeSet<&'a Name>, Memory>
-    ensures { IfOk result (λ names. (a : Name) → holds names a ≡ is_there (globals.elements (map doc_of docs.now)) a) }
+fn names_among<'a>(
+    alloc: Global,
+    kind: NameKind,
+    parts: &[Part<'a>],
+) -> Result<BTreeSet<&'a Name>, Memory>
+    ensures { IfOk result (λ names. (a : Name) → holds names a ≡ is_there (globals_among kind (parts_of parts.now)) a) }
 {
-    let globals = global_names::elements(alloc, docs)?;
+    let globals = globals_among(alloc, kind, parts)?;
     names_of(alloc, &globals)
 }
 
-fn attribute_names<'a>(alloc: Global, docs: &'a [RawDoc]) -> Result<BTreeSet<&'a Name>, Memory>
-    ensures { IfOk result (λ names. (a : Name) → holds names a ≡ is_there (globals.attributes (map doc_of docs.now)) a) }
+fn types_among<'a>(alloc: Global, parts: &[Part<'a>]) -> Result<TypeNames<'a>, Memory>
+    ensures { IfOk result (λ names. (a : Name) → (holds names.all a ≡ is_there (globals_among kind.Type (parts_of parts.now)) a)
+        × (holds names.complexes a ≡ is_there (globals_among kind.ComplexType (parts_of parts.now)) a)) }
 {
-    let globals = global_names::attributes(alloc, docs)?;
-    names_of(alloc, &globals)
-}
-
-fn type_names<'a>(alloc: Global, docs: &'a [RawDoc]) -> Result<BTreeSet<&'a Name>, Memory>
-    ensures { IfOk result (λ names. (a : Name) → holds names a ≡ is_there (globals.types (map doc_of docs.now)) a) }
-{
-    let globals = global_names::types(alloc, docs)?;
-    names_of(alloc, &globals)
-}
-
-fn complex_names<'a>(alloc: Global, docs: &'a [RawDoc]) -> Result<BTreeSet<&'a Name>, Memory>
-    ensures { IfOk result (λ names. (a : Name) → holds names a ≡ is_there (globals.complexes (map doc_of docs.now)) a) }
-{
-    let globals = global_names::complexes(alloc, docs)?;
-    names_of(alloc, &globals)
-}
-
-fn types<'a>(alloc: Global, docs: &'a [RawDoc]) -> Result<TypeNames<'a>, Memory>
-    ensures { IfOk result (λ names. (a : Name) → (holds names.all a ≡ is_there (globals.types (map doc_of docs.now)) a)
-        × (holds names.complexes a ≡ is_there (globals.complexes (map doc_of docs.now)) a)) }
-{
-    let all = type_names(alloc, docs)?;
-    let complexes = complex_names(alloc, docs)?;
+    let all = names_among(alloc, NameKind::Type, parts)?;
+    let complexes = names_among(alloc, NameKind::ComplexType, parts)?;
     Ok(TypeNames { all, complexes })
 }
 
-fn name_table<'a>(alloc: Global, docs: &'a [RawDoc]) -> Result<NameTable<'a>, Memory>
-    ensures { IfOk result (λ table. Agree (told_by table) (names_in (map doc_of docs.now))) }
+fn name_table<'a>(alloc: Global, parts: &[Part<'a>]) -> Result<NameTable<'a>, Memory>
+    ensures { IfOk result (λ table. Agree (told_by table) (names_among (parts_of parts.now))) }
 {
-    let elements = element_names(alloc, docs)?;
-    let attributes = attribute_names(alloc, docs)?;
-    let types = types(alloc, docs)?;
+    let elements = names_among(alloc, NameKind::Element, parts)?;
+    let attributes = names_among(alloc, NameKind::Attribute, parts)?;
+    let types = types_among(alloc, parts)?;
     Ok(NameTable {
         elements,
         attributes,
@@ -132,7 +117,9 @@ impl<'a> NameTable<'a> {
 pub fn first_unresolved(alloc: Global, docs: &[RawDoc]) -> Result<Option<Fault>, Memory>
     ensures { IfOk result (λ found. IsFirstOf (unresolved (map doc_of docs.now)) found) }
 {
-    let table = name_table(alloc, docs)?;
-    let mentions = mentions(alloc, docs)?;
+    let parts = all_parts(alloc, docs)?;
+    let parts = parts.as_slice();
+    let table = name_table(alloc, parts)?;
+    let mentions = mentions(alloc, parts)?;
     Ok(table.first_wrong(&mentions))
 }

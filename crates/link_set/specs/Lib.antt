@@ -1,4 +1,5 @@
 pub mod Builtins
+pub mod NamedBuiltins
 pub mod Numbers
 pub mod Ordered
 pub mod Parts

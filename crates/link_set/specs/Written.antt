@@ -2,10 +2,12 @@
 -- and places. A document lists its elements, its attributes and its local declarations in the order of places.
 use Rattle.std.specs.Prelude.{ℕ, Bool, List, [], ◌∷◌, map}
 use Rattle.std.specs.List.{flat_map}
+use Rattle.simple_types.specs.declared.simples.Builtin.{Builtin}
 use Rattle.schema_parts.specs.Raw.{Element, Local, Reference, Own, Attribute, Document}
 use Rattle.link_names.specs.Order.{is_before}
 use Rattle.link_cycles.specs.SimpleTypes.{SimpleDefinition, simple_types}
 use Rattle.link_complex.specs.ComplexTypes.{ComplexDefinition, complex_types}
+use Rattle.link_set.specs.NamedBuiltins.{named_builtins}
 use Rattle.link_set.specs.Ordered.{in_order}
 
 -- an element declaration, and the number of the file in which it was written
@@ -49,13 +51,14 @@ simples_in_order docs = in_order simple_before (simple_types docs)
 abbrev pub complexes_in_order : List Document → List ComplexDefinition
 complexes_in_order docs = in_order complex_before (complex_types docs)
 
--- the components of each kind, in the order of their numbers
+-- the components of each kind, in the order of their numbers, and the built-in types that they name
 pub record Lists : Type 0 where
   pub globals : List WrittenElement
   pub locals : List WrittenElement
   pub attributes : List WrittenAttribute
   pub simples : List SimpleDefinition
   pub complexes : List ComplexDefinition
+  pub named : List Builtin
 
 abbrev pub lists_of : List Document → Lists
 lists_of docs =
@@ -65,4 +68,5 @@ lists_of docs =
       attributes = global_attributes docs;
       simples = simples_in_order docs;
       complexes = complexes_in_order docs;
+      named = named_builtins docs;
     }

@@ -1,16 +1,15 @@
 //! The built-in types that elements, attributes and extensions name.
 ghost use Rattle.std.specs.Prelude.{◌≡◌, ◌++◌, map, IfOk, OnOk};
 ghost use Rattle.std.specs.List.{flat_map, filter};
-ghost use Rattle.schema_parts.specs.Seen.{base_of, kind_of, use_of};
-ghost use Rattle.link_complex.specs.Seen.{definition_of, definitions_of};
+ghost use Rattle.schema_parts.specs.Documents.{doc_of};
+ghost use Rattle.schema_walk.specs.Seen.{part_of, parts_of};
 ghost use Rattle.link_set.specs.Builtins as told;
-ghost use Rattle.link_set.specs.Private.Seen.{elements_of, attributes_of};
+ghost use Rattle.link_set.specs.NamedBuiltins as named_told;
 ghost use Rattle.link_set.specs.Private.Told.{listed_by};
 
 use crate::listing::Listed;
-use crate::written::{WrittenAttribute, WrittenElement};
-use link_complex::ComplexType;
-use schema_parts::{RawBase, RawContent, RawKind, RawRef, RawUse};
+use schema_parts::{RawDoc, RawRef};
+use schema_walk::{Part, TypeRole, What, all_parts};
 use simple_types::Builtin;
 use std::alloc::Global;
 use xa_base::Memory;
@@ -74,7 +73,7 @@ pub(crate) fn rank(which: Builtin) -> u32
 }
 
 fn push_reference(reference: &RawRef, out: &mut Vec<Builtin>) -> Result<(), Memory>
-    ensures { OnOk result (out.new.items ≡ out.old.items ++ told.in_reference reference.now) }
+    ensures { OnOk result (out.new.items ≡ out.old.items ++ named_told.in_reference reference.now) }
 {
     match reference {
         RawRef::Builtin(which) => {
@@ -85,90 +84,43 @@ fn push_reference(reference: &RawRef, out: &mut Vec<Builtin>) -> Result<(), Memo
     }
 }
 
-fn push_base(base: &RawBase, out: &mut Vec<Builtin>) -> Result<(), Memory>
-    ensures { OnOk result (out.new.items ≡ out.old.items ++ told.in_base (base_of base.now)) }
+fn push_named(role: TypeRole, reference: &RawRef, out: &mut Vec<Builtin>) -> Result<(), Memory>
+    ensures { OnOk result (out.new.items ≡ out.old.items ++ named_told.in_role role reference.now) }
 {
-    match base {
-        RawBase::Named(reference) => push_reference(reference, out),
-        RawBase::Inner(_) => Ok(()),
+    match role {
+        TypeRole::Element => push_reference(reference, out),
+        TypeRole::Attribute => push_reference(reference, out),
+        TypeRole::Content => push_reference(reference, out),
+        TypeRole::SimpleType => Ok(()),
     }
 }
 
-fn push_kind(kind: &RawKind, out: &mut Vec<Builtin>) -> Result<(), Memory>
-    ensures { OnOk result (out.new.items ≡ out.old.items ++ told.in_kind (kind_of kind.now)) }
+fn push_part(part: Part<'_>, out: &mut Vec<Builtin>) -> Result<(), Memory>
+    ensures { OnOk result (out.new.items ≡ out.old.items ++ named_told.in_part (part_of part.entry)) }
 {
-    match kind {
-        RawKind::Named(reference) => push_reference(reference, out),
-        RawKind::Simple(_) => Ok(()),
-        RawKind::Complex(_) => Ok(()),
+    match part.what {
+        What::TypeReference { role, name } => push_named(role, name, out),
+        _ => Ok(()),
     }
 }
 
-fn push_use(attribute: &RawUse, out: &mut Vec<Builtin>) -> Result<(), Memory>
-    ensures { OnOk result (out.new.items ≡ out.old.items ++ told.in_use (use_of attribute.now)) }
+fn push_parts(parts: &[Part<'_>], out: &mut Vec<Builtin>) -> Result<(), Memory>
+    ensures { OnOk result (out.new.items ≡ out.old.items ++ flat_map named_told.in_part (parts_of parts.now)) }
 {
-    match &attribute.kind {
-        Some(base) => push_base(base, out),
-        None => Ok(()),
-    }
-}
-
-fn push_content(content: &RawContent, out: &mut Vec<Builtin>) -> Result<(), Memory>
-    ensures { OnOk result (out.new.items ≡ out.old.items ++ told.in_content content.now) }
-{
-    match content {
-        RawContent::Empty => Ok(()),
-        RawContent::Simple { base, .. } => push_reference(base, out),
-        RawContent::ElementOnly(_) => Ok(()),
-        RawContent::Mixed(_) => Ok(()),
-    }
-}
-
-fn push_uses(uses: &[RawUse], out: &mut Vec<Builtin>) -> Result<(), Memory>
-    ensures { OnOk result (out.new.items ≡ out.old.items ++ flat_map told.in_use (map use_of uses.now)) }
-{
-    'uses: for attribute in uses {
-        push_use(attribute, out)?;
+    'parts: for part in parts {
+        push_part(*part, out)?;
     }
     Ok(())
 }
 
-fn push_complex(complex: ComplexType<'_>, out: &mut Vec<Builtin>) -> Result<(), Memory>
-    ensures { OnOk result (out.new.items ≡ out.old.items ++ told.in_complex (definition_of complex.entry)) }
+/// The built-in types that elements, attributes and extensions name, as often as they do.
+pub(crate) fn named_builtins(alloc: Global, docs: &[RawDoc]) -> Result<Vec<Builtin>, Memory>
+    ensures { IfOk result (λ named. named.items ≡ named_told.named_builtins (map doc_of docs.now)) }
 {
-    push_uses(complex.body.uses.items(), out)?;
-    push_content(&complex.body.content, out)?;
-    Ok(())
-}
-
-fn push_elements(elements: &[WrittenElement<'_>], out: &mut Vec<Builtin>) -> Result<(), Memory>
-    ensures { OnOk result (out.new.items ≡ out.old.items ++ flat_map told.in_element (elements_of elements.now)) }
-{
-    'elements: for written in elements {
-        push_kind(&written.element.kind, out)?;
-    }
-    Ok(())
-}
-
-fn push_attributes(
-    attributes: &[WrittenAttribute<'_>],
-    out: &mut Vec<Builtin>,
-) -> Result<(), Memory>
-    ensures { OnOk result (out.new.items ≡ out.old.items ++ flat_map told.in_attribute (attributes_of attributes.now)) }
-{
-    'attributes: for written in attributes {
-        push_base(&written.attribute.kind, out)?;
-    }
-    Ok(())
-}
-
-fn push_complexes(complexes: &[ComplexType<'_>], out: &mut Vec<Builtin>) -> Result<(), Memory>
-    ensures { OnOk result (out.new.items ≡ out.old.items ++ flat_map told.in_complex (definitions_of complexes.now)) }
-{
-    'complexes: for complex in complexes {
-        push_complex(*complex, out)?;
-    }
-    Ok(())
+    let parts = all_parts(alloc, docs)?;
+    let mut named = Vec::new(alloc);
+    push_parts(&parts, &mut named)?;
+    Ok(named)
 }
 
 fn is_among(named: &[Builtin], which: Builtin) -> bool
@@ -196,37 +148,9 @@ fn those_in_order(alloc: Global, named: &[Builtin]) -> Result<Vec<Builtin>, Memo
     those_among(alloc, &BUILTINS, named)
 }
 
-fn push_all_elements(listed: &Listed<'_>, out: &mut Vec<Builtin>) -> Result<(), Memory>
-    ensures { OnOk result (out.new.items ≡ out.old.items ++ (flat_map told.in_element (listed_by listed.now).globals ++ flat_map told.in_element (listed_by listed.now).locals)) }
-{
-    push_elements(&listed.elements.globals, out)?;
-    push_elements(&listed.elements.locals, out)?;
-    Ok(())
-}
-
-fn push_others(listed: &Listed<'_>, out: &mut Vec<Builtin>) -> Result<(), Memory>
-    ensures { OnOk result (out.new.items ≡ out.old.items ++ (flat_map told.in_attribute (listed_by listed.now).attributes ++ flat_map told.in_complex (listed_by listed.now).complexes)) }
-{
-    push_attributes(&listed.attributes, out)?;
-    push_complexes(&listed.types.complexes, out)?;
-    Ok(())
-}
-
-/// The built-in types that elements, attributes and extensions name, as often as they do.
-fn named_builtins(alloc: Global, listed: &Listed<'_>) -> Result<Vec<Builtin>, Memory>
-    ensures { IfOk result (λ named. named.items ≡ told.named_builtins (listed_by listed.now)) }
-{
-    let mut named = Vec::new(alloc);
-    push_all_elements(listed, &mut named)?;
-    push_others(listed, &mut named)?;
-    Ok(named)
-}
-
 /// The built-in types that a set has, in the order of their numbers.
 pub(crate) fn used_builtins(alloc: Global, listed: &Listed<'_>) -> Result<Vec<Builtin>, Memory>
     ensures { IfOk result (λ used. used.items ≡ told.used_builtins (listed_by listed.now)) }
 {
-    let named = named_builtins(alloc, listed)?;
-    let used = those_in_order(alloc, &named)?;
-    Ok(used)
+    those_in_order(alloc, &listed.types.named)
 }

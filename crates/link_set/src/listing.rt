@@ -4,17 +4,20 @@ ghost use Rattle.schema_parts.specs.Documents.{doc_of};
 ghost use Rattle.link_cycles.specs.Seen.{definitions_of as simples_of};
 ghost use Rattle.link_complex.specs.Seen.{definitions_of as complexes_of};
 ghost use Rattle.link_set.specs.Private.Seen.{elements_of};
+ghost use Rattle.link_set.specs.NamedBuiltins as named_told;
 ghost use Rattle.link_set.specs.Written as told;
 ghost use Rattle.link_set.specs.Private.Told.{listed_by};
 
+use crate::builtins::named_builtins;
 use crate::ordering::{complexes_in_order, simples_in_order};
 use crate::written::{
     WrittenAttribute, WrittenElement, global_attributes, global_elements, local_elements,
 };
 use link_complex::ComplexType;
-use schema_parts::RawDoc;
-use std::alloc::Global;
 use link_cycles::SimpleType;
+use schema_parts::RawDoc;
+use simple_types::Builtin;
+use std::alloc::Global;
 use xa_base::Memory;
 
 /// The elements.
@@ -29,6 +32,8 @@ pub(crate) struct ListedElements<'a> {
 pub(crate) struct ListedTypes<'a> {
     pub simples: Vec<SimpleType<'a>>,
     pub complexes: Vec<ComplexType<'a>>,
+    /// The built-in types that elements, attributes and extensions name, as often as they do.
+    pub named: Vec<Builtin>,
 }
 
 /// The components of each kind.
@@ -51,11 +56,16 @@ impl<'a> ListedElements<'a> {
 
 impl<'a> ListedTypes<'a> {
     fn of(alloc: Global, docs: &'a [RawDoc]) -> Result<ListedTypes<'a>, Memory>
-        ensures { IfOk result (λ listed. (simples_of listed.simples.items ≡ told.simples_in_order (map doc_of docs.now)) × (complexes_of listed.complexes.items ≡ told.complexes_in_order (map doc_of docs.now))) }
+        ensures { IfOk result (λ listed. (simples_of listed.simples.items ≡ told.simples_in_order (map doc_of docs.now)) × (complexes_of listed.complexes.items ≡ told.complexes_in_order (map doc_of docs.now)) × (listed.named.items ≡ named_told.named_builtins (map doc_of docs.now))) }
     {
         let simples = simples_in_order(alloc, docs)?;
         let complexes = complexes_in_order(alloc, docs)?;
-        Ok(ListedTypes { simples, complexes })
+        let named = named_builtins(alloc, docs)?;
+        Ok(ListedTypes {
+            simples,
+            complexes,
+            named,
+        })
     }
 }
 

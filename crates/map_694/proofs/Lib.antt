@@ -6,6 +6,7 @@ pub mod Chains
 pub mod Formed
 pub mod Planned
 pub mod Bodies
+mod Unnamed
 pub mod Whole
 pub mod Once
 pub mod SameSets

@@ -20,6 +20,7 @@ use Rattle.map_694.proofs.Shapes.{HasName}
 use Rattle.map_694.proofs.Marked.{assignment-attribute}
 use Rattle.map_694.proofs.Places.{mapped-length, references-differ, located-within}
 use Rattle.map_694.proofs.Formed.{simple-part, named-formed}
+use Rattle.map_694.proofs.Unnamed.{body-unnamed}
 use Rattle.map_694.proofs.Bodies.{body-refers, body-plan, attribute-plan, body-simple}
 
 module _ (s : Set) (es : List Entry) (M : List Assignment) (linked : IsLinked s) (entries : AreEntries s es) (mapped : AreMapped (place_in es) s [] es M) where
@@ -34,6 +35,7 @@ module _ (s : Set) (es : List Entry) (M : List Assignment) (linked : IsLinked s)
     allowed = named-allowed (place_in es) (body s e.subject) a.body h.body;
     types = named-formed s es M entries mapped (body-plan s linked) (body-refers s) (body-simple s linked (place_in es)) (body s e.subject) a.body (body-plan s linked e.subject) h.body;
     attribute = attribute-simple before e a h;
+    items = body-unnamed s (place_in es) e.subject a.body h.body;
   }
 
   all-assignments : (before : List (List ℕ)) (rest : List Entry) (made : List Assignment) → AreMapped (place_in es) s before rest made → All (IsAssignment M) made

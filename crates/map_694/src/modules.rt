@@ -21,6 +21,7 @@ pub fn map_set(alloc: Global, set: &SchemaSet) -> Result<Module, Memory>
     ensures map { IfOk result (λ made. IsMapOf set.now made) }
     ensures only { IfOk result (λ made. (other : List Assignment) → IsMapOf set.now other → other ≡ made) }
 {
+    // What each linked set keeps is known once one of its readers was called.
     let _ = set.element_count();
     let ordered = entries(alloc, set)?;
     let made = assignments(alloc, set, &ordered)?;
@@ -36,6 +37,7 @@ pub fn root_type(set: &SchemaSet, element: u32) -> u32
     ensures number { (entries : List Entry) → AreEntries set.now entries → result ≡ place_in entries (Element element) }
     ensures within { (M : List Assignment) → IsMapOf set.now M → result < length M }
 {
+    // What each linked set keeps is known once one of its readers was called.
     let _ = set.element_count();
     number_of_element(set, element)
 }

@@ -156,6 +156,7 @@ pub fn number_of_element(set: &SchemaSet, element: u32) -> u32
     requires { element < set.now.globals }
     ensures { (entries : List Entry) → AreEntries set.now entries → result ≡ place_in entries (Subject.Element element) }
 {
+    // What each linked set keeps is known once one of its readers was called.
     let _ = set.element_count();
     let name = &set.element(element).name;
     let declarations = declarations_before(set, name);

@@ -10,13 +10,13 @@ use xa_base::{Memory, Text};
 /// What a name of ASN.1 names.
 #[derive(Clone, Copy, Debug, PartialEq, Eq)]
 pub enum NameKind {
-    /// A type, by a reference, which begins with a capital letter.
+    /// A type. Its name begins with a capital letter.
     Reference,
-    /// A component, an alternative or an enumeration item, by an identifier, which begins with a small letter.
+    /// A component, an alternative or an enumeration item. Its name begins with a small letter.
     Identifier,
 }
 
-// What is kept of a character.
+// What is kept of a character: a letter or a digit as it is, and a hyphen for what stands between words.
 #[tactic(auto, unfolding(crate::specs::Conversion::kept))]
 fn kept(c: char) -> Option<char>
     ensures { result ≡ kept c }
@@ -46,7 +46,7 @@ fn cased(kind: NameKind, c: char) -> char
     }
 }
 
-// Appends the first letter or digit of a name.
+// Appends the first letter or digit of a name, the letter in the case of its kind, and the digit behind an `x`.
 fn begin(name: &mut String, kind: NameKind, c: char) -> Result<(), AllocError>
     requires { c < 128 }
     ensures { OnOk result (string_bytes name.new ≡ string_bytes name.old ++ (if is_ascii_digit c then letter_x kind ∷ c ∷ [] else cased kind c ∷ [])) }
@@ -57,7 +57,8 @@ fn begin(name: &mut String, kind: NameKind, c: char) -> Result<(), AllocError>
     name.push(cased(kind, c))
 }
 
-/// The name of ASN.1 that is made from a name of XML, after X.694. It has ASCII letters, digits and hyphens alone.
+/// The name of ASN.1 that is made from a name of XML, after X.694: its letters and digits of ASCII, and one hyphen where
+/// spaces, full stops, low lines or hyphens stand between them; begun by a letter in the case of its kind.
 pub fn convert(alloc: Global, kind: NameKind, name: &Text) -> Result<Text, Memory>
     ensures { IfOk result (λ made. made ≡ converted kind (chars name.now)) }
 {

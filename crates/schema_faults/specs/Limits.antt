@@ -5,7 +5,7 @@ use Rattle.doc_text.specs.declared.label.ItemLabel.{ItemLabel}
 use Rattle.schema_rules.specs.Elements.{beside}
 use Rattle.schema_rules.specs.Numbers.{is_large}
 use Rattle.schema_rules.specs.Children.{child_count}
-use Rattle.schema_rules.specs.declared.children.ChildSet.TheVariants.{Particles, Attributes, Enumerations}
+use Rattle.schema_rules.specs.declared.children.ChildSet.TheVariants.{TakenParticles, Attributes, Enumerations}
 use Rattle.schema_rules.specs.declared.roles.Role.{Role}
 use Rattle.schema_rules.specs.declared.roles.Role.TheVariants.{Restriction, GlobalComplexType, InnerComplexType, Extension, Sequence, Choice}
 
@@ -13,11 +13,11 @@ use Rattle.schema_rules.specs.declared.roles.Role.TheVariants.{Restriction, Glob
 abbrev pub has_large : List ℕ → List (List ℕ × List ℕ) → Bool
 has_large name own = elim (beside name own) [ None ↦ false | Some value ↦ is_large value ]
 
--- a group behind 16 levels of groups, or of more than 500 particles; a type or an extension of more than 400 attributes; a restriction of more
+-- a group behind 16 levels of groups, or of more than 500 particles, those that are left out not counted; a type or an extension of more than 400 attributes; a restriction of more
 -- than 10,000 enumerations
 abbrev pub is_too_large : Role → ℕ → List (Rose ItemLabel) → Bool
-is_too_large Sequence level kids = nat_le 16 level || nat_lt 500 (child_count Particles kids)
-is_too_large Choice level kids = nat_le 16 level || nat_lt 500 (child_count Particles kids)
+is_too_large Sequence level kids = nat_le 16 level || nat_lt 500 (child_count TakenParticles kids)
+is_too_large Choice level kids = nat_le 16 level || nat_lt 500 (child_count TakenParticles kids)
 is_too_large GlobalComplexType level kids = nat_lt 400 (child_count Attributes kids)
 is_too_large InnerComplexType level kids = nat_lt 400 (child_count Attributes kids)
 is_too_large Extension level kids = nat_lt 400 (child_count Attributes kids)

@@ -32,7 +32,7 @@ fn is_too_large(role: Role, level: u32, kids: &[Tree<ItemLabel>]) -> bool
 {
     match role {
         Role::Sequence | Role::Choice => {
-            MOST_LEVELS <= level || MOST_PARTICLES < child_count(ChildSet::Particles, kids)
+            MOST_LEVELS <= level || MOST_PARTICLES < child_count(ChildSet::TakenParticles, kids)
         }
         Role::GlobalComplexType | Role::InnerComplexType | Role::Extension => {
             MOST_ATTRIBUTES < child_count(ChildSet::Attributes, kids)

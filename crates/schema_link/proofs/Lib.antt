@@ -3,6 +3,7 @@ mod FirstDiffering
 mod FirstNotMade
 mod Firsts
 mod Numbered
-mod OneAnswer
+pub mod OneAnswer
+pub mod OneSet
 pub mod Passing
 mod Spaces

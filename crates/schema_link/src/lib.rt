@@ -5,7 +5,7 @@ mod laws;
 mod linking;
 mod passes;
 
-pub use laws::one_answer;
+pub use laws::{one_answer, one_set};
 pub use linking::{are_numbered, link};
 pub use passes::{LinkError, check_content, check_names, make_simple_types};
 pub use link_names::LinkWhy;

@@ -1,4 +1,4 @@
-//! Whether few complex types stand in one another.
+//! A test that few complex types stand in one another.
 ghost use Rattle.std.specs.Prelude.{◌≡◌, ◌≤◌, map, slice_index, IfOk, IfSome, IsTrue};
 ghost use Rattle.std.specs.List.{All};
 ghost use Rattle.label_tree.specs.Rose.{roses_of};
@@ -17,7 +17,8 @@ use xa_base::Memory;
 // At most so many complex types stand in one another: more can't be written in 64 levels of elements.
 const MOST_LEVELS: u32 = 21;
 
-// The level of the local declaration with this number. `None` where the number is less than `first`, or there is none.
+// A level that the local declaration with this number doesn't pass; the number isn't less than `first`. `None` where that
+// doesn't hold, or there is no such declaration.
 fn level_at(decl: u32, first: usize, levels: &[u32]) -> Option<u32>
     ensures { IfSome result (λ level. (first ≤ decl) × (slice_index levels.now decl ≤ level)) }
 {
@@ -27,8 +28,8 @@ fn level_at(decl: u32, first: usize, levels: &[u32]) -> Option<u32>
     levels.get(decl as usize).copied()
 }
 
-// The greatest level of the declarations of these particles, 0 where there are none. `None` where one of those has a
-// number less than `first`.
+// A level that the declarations of these particles don't pass; their numbers aren't less than `first`. `None` where none
+// is found.
 #[cycle(particles)]
 fn level_over(tree: &Tree<ParticleLabel>, first: usize, levels: &[u32]) -> Option<u32>
     ensures { IfSome result (λ level. IsOver first levels.now level (leaves (seen tree.now))) }
@@ -63,7 +64,7 @@ fn level_in(content: &RawContent, first: usize, levels: &[u32]) -> Option<u32>
     }
 }
 
-// The level of the complex type: one more than the greatest of those in it. `None` where there are more than 21.
+// A level from 1 to 21 for the complex type, greater than those of the declarations in it. `None` where none is found.
 fn level_of(body: &RawComplex, first: usize, levels: &[u32]) -> Option<u32>
     ensures { IfSome result (λ level. IsLevel first levels.now level (complex_of body.now)) }
 {
@@ -85,7 +86,7 @@ fn level_of_kind(kind: &RawKind, first: usize, levels: &[u32]) -> Option<u32>
     }
 }
 
-// The level of the declaration's complex type, 0 where it has none.
+// A level for the declaration's complex type, if it has one.
 fn level_of_local(local: &RawLocal, first: usize, levels: &[u32]) -> Option<u32>
     ensures { IfSome result (λ level. IfSome (rule.complex_in_local (local_of local.now)) (IsLevel first levels.now level)) }
 {
@@ -95,8 +96,7 @@ fn level_of_local(local: &RawLocal, first: usize, levels: &[u32]) -> Option<u32>
     }
 }
 
-// The levels of the local declarations. `None` where one stands in another that isn't before it, or there are more than
-// 21.
+// Levels for the local declarations, where each stands behind the one that it stands in. `None` where none are found.
 fn levels_of(alloc: Global, locals: &[RawLocal]) -> Result<Option<Vec<u32>>, Memory>
     ensures { IfOk result (λ found. IfSome found (λ levels. AreLevels (map local_of locals.now) levels.items 0)) }
 {
@@ -149,8 +149,9 @@ fn are_short_types(types: &[RawType], levels: &[u32]) -> bool
     true
 }
 
-/// Whether each chain of complex types, each in a declaration of the content model of the one before, has at most 21,
-/// where what stands in a local declaration is declared behind it. The time grows with the number of parts.
+/// True only where each chain of complex types, each in a declaration of the content model of the one before, has at most
+/// 21. That it is true of all such components isn't promised: it asks besides that what stands in a local declaration is
+/// declared behind it. The time grows with the number of parts.
 pub fn are_short(
     alloc: Global,
     elements: &[RawElement],

@@ -1,4 +1,4 @@
-//! Whether the limit of components counts each part.
+//! A test that the limit of components counts each part.
 ghost use Rattle.std.specs.Prelude.{◌≡◌, map, true, IfOk};
 ghost use Rattle.schema_parts.specs.Places.{StandAmong};
 ghost use Rattle.schema_parts.specs.Places as rule;
@@ -9,7 +9,7 @@ use schema_parts::{RawAttribute, RawElement, RawLocal, RawType};
 use std::alloc::Global;
 use xa_base::Memory;
 
-// Whether the first list is the second one without some of its numbers.
+// True only where the first list is the second one without some of its numbers.
 fn is_part_of(places: &[u64], counted: &[u64]) -> bool
     ensures { result ≡ true → StandAmong places.now counted.now }
 {
@@ -22,8 +22,8 @@ fn is_part_of(places: &[u64], counted: &[u64]) -> bool
     found == places.len()
 }
 
-/// Whether each part of these components that the limit of components counts has a place of its own among these, which
-/// have to ascend. The time grows with n log n, for n parts.
+/// True only where each part of these components that the limit of components counts has a place of its own among these.
+/// That it is true of all such places isn't promised: it asks besides that these ascend. The time grows with n log n, for n parts.
 pub fn are_counted(
     alloc: Global,
     elements: &[RawElement],

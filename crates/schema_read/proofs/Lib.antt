@@ -6,3 +6,4 @@ pub mod Leaves
 pub mod Making
 pub mod Simple
 pub mod WholeDocument
+mod NameRules

@@ -7,10 +7,12 @@ mod declarations;
 mod documents;
 mod error;
 mod globals;
+mod laws;
 mod names;
 mod particles;
 mod simple_definitions;
 
 pub use documents::read_schema;
 pub use error::SchemaError;
+pub use laws::one_name_rule;
 pub use schema_rules::SchemaWhy;

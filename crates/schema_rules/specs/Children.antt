@@ -6,7 +6,7 @@ use Rattle.doc_text.specs.declared.label.ItemLabel.{ItemLabel}
 use Rattle.doc_text.specs.declared.label.ItemLabel.TheVariants.{Element, Text}
 use Rattle.schema_rules.specs.Elements.{has_name, is_schema_name}
 use Rattle.schema_rules.specs.declared.children.ChildSet.{ChildSet}
-use Rattle.schema_rules.specs.declared.children.ChildSet.TheVariants.{Types, SimpleTypes, Varieties, Derivations, Particles, Attributes, Enumerations}
+use Rattle.schema_rules.specs.declared.children.ChildSet.TheVariants.{Types, SimpleTypes, Varieties, Derivations, Particles, TakenParticles, Attributes, Enumerations}
 
 -- the names of the elements in a set, with those that are left out where they take the place of others
 abbrev pub names_in : ChildSet → List (List ℕ)
@@ -15,6 +15,7 @@ names_in SimpleTypes = codes "simpleType" ∷ []
 names_in Varieties = codes "restriction" ∷ codes "list" ∷ codes "union" ∷ []
 names_in Derivations = codes "extension" ∷ codes "restriction" ∷ []
 names_in Particles = codes "element" ∷ codes "sequence" ∷ codes "choice" ∷ codes "any" ∷ codes "group" ∷ codes "all" ∷ []
+names_in TakenParticles = codes "element" ∷ codes "sequence" ∷ codes "choice" ∷ []
 names_in Attributes = codes "attribute" ∷ []
 names_in Enumerations = codes "enumeration" ∷ []
 

@@ -22,6 +22,8 @@ pub enum ChildSet {
     Derivations,
     /// What a group is made of.
     Particles,
+    /// The same without those that are left out.
+    TakenParticles,
     /// `attribute`.
     Attributes,
     /// The facet `enumeration`.
@@ -52,6 +54,7 @@ fn belongs(set: ChildSet, name: &str) -> bool
         ChildSet::Varieties => is_variety(name),
         ChildSet::Derivations => matches!(name, "extension" | "restriction"),
         ChildSet::Particles => is_particle(name),
+        ChildSet::TakenParticles => matches!(name, "element" | "sequence" | "choice"),
         ChildSet::Attributes => name == "attribute",
         ChildSet::Enumerations => name == "enumeration",
     }

@@ -7,7 +7,8 @@ pub enum SchemaWhy {
     /// The root isn't `schema` of the schema namespace (XML Schema Part 1, section 3.15.2).
     #[error("the root isn't `schema`")]
     NotASchema,
-    /// An element of another namespace, or of a name that XML Schema doesn't have.
+    /// An element of another namespace, or of a name that this profile doesn't know: one that XML Schema doesn't have, or
+    /// has only in what is skipped or left out, as `documentation` and `selector`.
     #[error("no element of XML Schema")]
     UnknownElement,
     /// `any` or `anyAttribute`, left out.

@@ -121,8 +121,11 @@ abbrev pub in_globals : ℕ → List Element → List Attribute → List TypeDef
 in_globals file elements attributes types =
     flat_map (in_element file) elements ++ (flat_map (in_attribute file) attributes ++ flat_map (in_definition file) types)
 
+abbrev pub in_components : ℕ → List Element → List Attribute → List TypeDefinition → List Local → List Part
+in_components file elements attributes types locals = in_globals file elements attributes types ++ flat_map (in_local file) locals
+
 abbrev pub in_document : Document → List Part
-in_document d = in_globals d.file d.elements d.attributes d.types ++ flat_map (in_local d.file) d.locals
+in_document d = in_components d.file d.elements d.attributes d.types d.locals
 
 abbrev pub parts : List Document → List Part
 parts docs = flat_map in_document docs

@@ -1,5 +1,5 @@
 //! Reading texts of the types that have no parts.
-ghost use Rattle.std.specs.Prelude.{◌≡◌, ◌&&◌, ◌^◌, ◌<◌, IfOk, Err, length, position, bytes_eq};
+ghost use Rattle.std.specs.Prelude.{◌≡◌, ◌&&◌, ◌^◌, ◌<◌, IfOk, IfSome, Err, length, position, bytes_eq};
 ghost use Rattle.std.specs.List.Sorted.{IsStrictlySortedBy};
 ghost use Rattle.std.specs.Ordering.{nat_cmp, int_cmp, int_eq};
 ghost use Rattle.std.specs.Cmp.Lexicographic.{slice_cmp};
@@ -9,7 +9,7 @@ ghost use Rattle.simple_values.specs.Lexical as lexical;
 ghost use Rattle.simple_values.specs.Reading as rule;
 
 use crate::classes::has_characters;
-use crate::numbers::{Whole, collapsed_boolean, collapsed_number};
+use crate::numbers::{Whole, collapsed_boolean, collapsed_number, only_word};
 use label_tree::Tree;
 use simple_types::{Class, ValueLabel};
 use std::alloc::{AllocFailed, Global};
@@ -116,16 +116,25 @@ pub fn place_of(numbers: &[i128], n: i128) -> Option<u32>
     }
 }
 
+// The place of a text among words that ascend.
+fn place_of_text(words: &[Text], text: &str) -> Option<u32>
+    requires sorted { IsStrictlySortedBy (slice_cmp nat_cmp) words.now }
+    requires count { length words.now < 2 ^ 32 }
+    ensures { result ≡ position (λ x. bytes_eq x text.now) words.now }
+{
+    match words.binary_search_by(|word| word.bytes().cmp(text.as_bytes())) {
+        Ok(i) => Some(i as u32),
+        Err(_) => None,
+    }
+}
+
 /// Where the text stands among these, from 0. It is found by binary search.
 pub fn place_of_word(words: &[Text], word: &Text) -> Option<u32>
     requires sorted { IsStrictlySortedBy (slice_cmp nat_cmp) words.now }
     requires count { length words.now < 2 ^ 32 }
     ensures { result ≡ position (λ x. bytes_eq x word.now) words.now }
 {
-    match words.binary_search(word) {
-        Ok(i) => Some(i as u32),
-        Err(_) => None,
-    }
+    place_of_text(words, word.as_str())
 }
 
 fn item(alloc: Global, place: Option<u32>) -> Result<Tree<ValueLabel>, SimpleError>
@@ -165,6 +174,19 @@ fn treated(alloc: Global, space: WhiteSpace, text: &str) -> Result<Text, Memory>
     }
 }
 
+// The part of the text that its treatment leaves, where it leaves one part of it as it is: there is nothing to copy.
+#[tactic(auto, unfolding(xa_base::specs::WhiteSpace::treated))]
+fn treated_part(space: WhiteSpace, text: &str) -> Option<&str>
+    ensures { IfSome result (λ part. part.now ≡ treated space text.now) }
+{
+    match space {
+        WhiteSpace::Preserve => Some(text),
+        WhiteSpace::Replace => None,
+        WhiteSpace::Collapse => only_word(text),
+    }
+}
+
+// Most words have no white space in them, so that nothing is copied to look for one.
 pub(crate) fn read_word(
     alloc: Global,
     space: WhiteSpace,
@@ -175,8 +197,13 @@ pub(crate) fn read_word(
     requires count { length words.now < 2 ^ 32 }
     ensures { Answers result (rule.read_word words.now (treated space text.now)) }
 {
-    let made = treated(alloc, space, text)?;
-    item(alloc, place_of_word(words, &made))
+    match treated_part(space, text) {
+        Some(word) => item(alloc, place_of_text(words, word)),
+        None => {
+            let made = treated(alloc, space, text)?;
+            item(alloc, place_of_word(words, &made))
+        }
+    }
 }
 
 pub(crate) fn read_characters(

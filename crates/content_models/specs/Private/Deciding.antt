@@ -55,7 +55,7 @@ breaks_choice ps follow = clash ps || (any_empty ps && list_any follow (first_of
 abbrev pub breach_at : ParticleLabel → Breach
 breach_at l = record { file = l.file; at = l.at }
 
--- where the particle stands, if it breaks a rule
+-- where the particle stands, if this says that it breaks a rule
 abbrev pub breach_if : Bool → ParticleLabel → Option Breach
 breach_if breaks l = cond breaks (Some (breach_at l)) None
 
@@ -82,7 +82,7 @@ abbrev pub term_of : Rose ParticleLabel → Term
 term_of (node l ts) = term_seen l.kind (all_seen ts)
 
 abbrev mutual
-  -- where the first particle stands that breaks a rule
+  -- where the first particle stands that breaks a rule, in the order of files and places
   pub breach_of : Rose ParticleLabel → (Name → Bool) → Option Breach
   breach_of (node l ts) follow =
       let t = term_seen l.kind (all_seen ts) in

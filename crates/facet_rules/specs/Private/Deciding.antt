@@ -1,4 +1,5 @@
--- Whether a space accepts a number or a treated text, as a test of its own. Private contracts use it.
+-- Whether a number is one of a space of whole numbers, and a treated text one of a space of texts, as tests. They are false
+-- of all other spaces. Private contracts use them.
 use Rattle.std.specs.Prelude.{◌≡◌, ℕ, Bool, true, false, ◌&&◌, is_some, ℤ, Option, List, position, bytes_eq}
 use Rattle.std.specs.Ordering.{int_eq}
 use Rattle.xa_base.specs.declared.white_space.WhiteSpace.{WhiteSpace}

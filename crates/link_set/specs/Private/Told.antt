@@ -36,6 +36,7 @@ listed_by l =
       attributes = attributes_of l.attributes.items;
       simples = simples_of l.types.simples.items;
       complexes = complexes_of l.types.complexes.items;
+      named = l.types.named.items;
     }
 
 abbrev pub told_types : KeptTypes → TypeNumbers

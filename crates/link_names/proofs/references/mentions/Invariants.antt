@@ -1,9 +1,10 @@
-use Rattle.std.proofs.Common.{◌≡◌, map, take}
-use Rattle.schema_parts.specs.Documents.{doc_of}
-use Rattle.link_names.specs.References.{mentions}
+use Rattle.std.proofs.Common.{◌≡◌, take}
+use Rattle.std.specs.List.{flat_map}
+use Rattle.schema_walk.specs.Seen.{parts_of}
+use Rattle.link_names.specs.References.{of_part}
 use Rattle.link_names.specs.Private.Mentioned.{mentions_of}
 use Rattle.link_names.proofs.references.mentions.Given as goal
 
--- those of the documents before this one
-abbrev pub invariant-docs : goal.invariant-docs
-invariant-docs l = mentions_of l.found.items ≡ mentions (map doc_of (take l.doc-index l.docs))
+-- those of the parts before this one
+abbrev pub invariant-parts : goal.invariant-parts
+invariant-parts l = mentions_of l.found.items ≡ flat_map of_part (parts_of (take l.part-index l.parts))

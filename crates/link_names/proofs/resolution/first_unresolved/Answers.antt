@@ -1,12 +1,13 @@
 use Rattle.std.proofs.Common.{◌≡◌, map, List, ap, ◌∙◌, subst}
-use Rattle.std.specs.List.{filter_map}
+use Rattle.std.specs.List.{filter_map, flat_map}
 use Rattle.schema_parts.specs.Documents.{doc_of}
+use Rattle.schema_walk.specs.Seen.{parts_of}
 use Rattle.link_names.specs.declared.faults.Fault.{Fault}
 use Rattle.link_names.specs.Private.Mentioned.{mentions_of}
 use Rattle.link_names.specs.Private.NameTables.{told_by}
 use Rattle.link_names.specs.Order.{IsFirstOf}
-use Rattle.link_names.specs.References.{mentions}
-use Rattle.link_names.specs.Resolution.{names_in, fault_of, unresolved}
+use Rattle.link_names.specs.References.{of_part}
+use Rattle.link_names.specs.Resolution.{names_among, fault_of, unresolved}
 use Rattle.link_names.proofs.Resolving.{same_faults}
 use Rattle.link_names.proofs.resolution.first_unresolved.Goals as goal
 
@@ -14,7 +15,11 @@ pub returns : goal.returns
 returns c =
     let docs = map doc_of c.args.docs.now in
     let told = told_by c.in_ok-table.table in
+    let ps = parts_of c.as_slice-parts.result.now in
+    let same = ap parts_of c.as_slice-parts.ensures.value ∙ c.in_ok-parts.ensures in
     let all : filter_map (fault_of told) (mentions_of c.deref.result.now) ≡ unresolved docs =
-    ap (filter_map (fault_of told)) (ap mentions_of c.deref.ensures.value ∙ c.in_ok-mentions.ensures) ∙ same_faults told (names_in docs) c.in_ok-table.ensures (mentions docs) in
+    ap (filter_map (fault_of told)) (ap mentions_of c.deref.ensures.value ∙ c.in_ok-mentions.ensures)
+    ∙ same_faults told (names_among ps) c.in_ok-table.ensures (flat_map of_part ps)
+    ∙ ap (λ qs. filter_map (fault_of (names_among qs)) (flat_map of_part qs)) same in
     let P : List Fault → Type 0 = λ fs. IsFirstOf fs c.first_wrong.result in
     subst P all c.first_wrong.ensures
