@@ -80,8 +80,9 @@ fn made_of<'a>(
     work.end(alloc)
 }
 
-/// The simple types of the documents, in the order of `link_cycles::simple_types`. Where a type is made of itself or a
-/// reference names no simple type, the answer is `Memory`. The time grows with the number of parts, and as n log n with that
+/// The simple types of the documents, in the order of `link_cycles::simple_types`, or the first fault: at a type that can't
+/// be made although its parts can. `Memory` is also answered where a type is made of itself, and where none has a fault and
+/// yet one refers to no simple type. The time grows with the number of parts, and as n log n with that
 /// of names and places; beside it stands what restricting by facets takes and the size of the types.
 pub fn made(alloc: Global, docs: &[RawDoc]) -> Result<Vec<Simple>, MakingError>
     ensures { AnswersMaking (map doc_of docs.now) result }
