@@ -11,23 +11,23 @@ use Rattle.asn_types.specs.declared.types.Form.TheVariants as form
 use Rattle.asn_types.specs.declared.types.TypeLabel.{TypeLabel}
 use Rattle.asn_types.specs.Modules.{AreWellFormed, AllWellFormed}
 use Rattle.asn_types.specs.Private.Placing.{ArePlaces}
-use Rattle.asn_types.specs.Values.{Place, place_of, put_first, present_from, place_at, alone, repeated, none_if, places_in, places}
+use Rattle.asn_types.specs.Values.{ComponentPlace, place_of, put_first, present_from, place_at, alone, repeated, none_if, places_in, places}
 use Rattle.asn_types.proofs.Inside.{kids-well_formed}
 
 module _ (M : List Assignment) where
-  abbrev IfPlaces : Option (List Place) → Type 0
+  abbrev IfPlaces : Option (List ComponentPlace) → Type 0
   IfPlaces None = Unit {0}
   IfPlaces (Some ps) = ArePlaces M ps
 
-  from_if : (o : Option (List Place)) (ps : List Place) → IfPlaces o → o ≡ Some ps → ArePlaces M ps
+  from_if : (o : Option (List ComponentPlace)) (ps : List ComponentPlace) → IfPlaces o → o ≡ Some ps → ArePlaces M ps
   from_if None ps h e = absurd cc
   from_if (Some qs) ps h e = let same : qs ≡ ps = cc in subst (ArePlaces M) same h
 
-  put-belong : (p : Place) (o : Option (List Place)) → AreWellFormed M p.type → IfPlaces o → IfPlaces (put_first p o)
+  put-belong : (p : ComponentPlace) (o : Option (List ComponentPlace)) → AreWellFormed M p.type → IfPlaces o → IfPlaces (put_first p o)
   put-belong p None h k = tt
   put-belong p (Some ps) h k = (h, k)
 
-  cond-belong : (b : Bool) (o : Option (List Place)) → IfPlaces o → IfPlaces (cond b o None)
+  cond-belong : (b : Bool) (o : Option (List ComponentPlace)) → IfPlaces o → IfPlaces (cond b o None)
   cond-belong true o h = h
   cond-belong false o h = tt
 
@@ -40,7 +40,7 @@ module _ (M : List Assignment) where
   present-belong l i (c ∷ cs) (t ∷ ts) (true ∷ fs) h = put-belong (place_of l i c t) (present_from l (i + 1) cs ts fs) h.0 (present-belong l (i + 1) cs ts fs h.1)
   present-belong l i (c ∷ cs) (t ∷ ts) (false ∷ fs) h = cond-belong c.optional (present_from l (i + 1) cs ts fs) (present-belong l (i + 1) cs ts fs h.1)
 
-  abbrev IfPlace : Option Place → Type 0
+  abbrev IfPlace : Option ComponentPlace → Type 0
   IfPlace None = Unit {0}
   IfPlace (Some p) = AreWellFormed M p.type
 
@@ -59,15 +59,15 @@ module _ (M : List Assignment) where
   place-belongs l i (Some part) None h = tt
   place-belongs l i (Some part) (Some t) h = h
 
-  alone-belongs : (o : Option Place) → IfPlace o → IfPlaces (alone o)
+  alone-belongs : (o : Option ComponentPlace) → IfPlace o → IfPlaces (alone o)
   alone-belongs None h = tt
   alone-belongs (Some p) h = (h, tt)
 
-  copies-belong : (n : ℕ) (p : Place) → AreWellFormed M p.type → ArePlaces M (replicate n p)
+  copies-belong : (n : ℕ) (p : ComponentPlace) → AreWellFormed M p.type → ArePlaces M (replicate n p)
   copies-belong zero p h = tt
   copies-belong (suc n) p h = (h, copies-belong n p h)
 
-  repeated-belong : (n : ℕ) (o : Option Place) → IfPlace o → IfPlaces (repeated n o)
+  repeated-belong : (n : ℕ) (o : Option ComponentPlace) → IfPlace o → IfPlaces (repeated n o)
   repeated-belong n None h = tt
   repeated-belong n (Some p) h = copies-belong n p h
 
@@ -87,5 +87,5 @@ module _ (M : List Assignment) where
       cond-belong _ (repeated n (place_at l 0 (Some part) (slice_get ts 0))) (repeated-belong n (place_at l 0 (Some part) (slice_get ts 0)) (place-belongs l 0 (Some part) (slice_get ts 0) (type-belongs ts 0 h)))
   all-belong l ts f v n h = tt
 
-  pub places-belong : (t : Rose TypeLabel) (v : ValueLabel) (n : ℕ) (ps : List Place) → AreWellFormed M t → places t v n ≡ Some ps → ArePlaces M ps
+  pub places-belong : (t : Rose TypeLabel) (v : ValueLabel) (n : ℕ) (ps : List ComponentPlace) → AreWellFormed M t → places t v n ≡ Some ps → ArePlaces M ps
   places-belong t v n ps h is = from_if (places t v n) ps (all-belong (label_of t) (kids_of t) (label_of t).form v n (kids-well_formed M t h)) is

@@ -7,19 +7,19 @@ use Rattle.label_tree.proofs.Roses.{roses_of-list_of, length-list_of}
 use Rattle.label_tree.proofs.Kids.{roses_of-drop}
 use Rattle.simple_types.specs.declared.labels.ValueLabel.{ValueLabel}
 use Rattle.asn_types.specs.declared.modules.Assignment.{Assignment}
-use Rattle.asn_types.specs.declared.places.Place as code
+use Rattle.asn_types.specs.declared.places.ComponentPlace as code
 use Rattle.asn_types.specs.declared.types.TypeLabel.{TypeLabel}
 use Rattle.asn_types.specs.Modules.{AreWellFormed}
 use Rattle.asn_types.specs.Private.Placing.{place_seen, ArePlaces, FitPlaces, FitKids}
 use Rattle.asn_types.specs.Refs.{resolve}
-use Rattle.asn_types.specs.Values.{Place, places, counted, child_count, count_in, below, FitsAt, FitEach, Own}
+use Rattle.asn_types.specs.Values.{ComponentPlace, places, counted, child_count, count_in, below, FitsAt, FitEach, Own}
 
 pub if_ok : {A E : Type 0} (P Q : A → Type 0) (r : Result A E) → ((a : A) → P a → Q a) → IfOk r P → IfOk r Q
 if_ok P Q (Ok a) f h = f a h
 if_ok P Q (Err e) f h = tt
 
 -- the first of what is left
-pub places-drop : (ps : List code.Place) (i : ℕ) (p : code.Place) → i < length ps → p ≡ get_or ps i p → map place_seen (drop i ps) ≡ place_seen p ∷ map place_seen (drop (i + 1) ps)
+pub places-drop : (ps : List code.ComponentPlace) (i : ℕ) (p : code.ComponentPlace) → i < length ps → p ≡ get_or ps i p → map place_seen (drop i ps) ≡ place_seen p ∷ map place_seen (drop (i + 1) ps)
 places-drop ps i p below here = ap (map place_seen) (drop_more ps i p below) ∙ ap (λ q. place_seen q ∷ map place_seen (drop (i + 1) ps)) (sym here)
 
 pub replicate-drop : {A : Type 0} (n i : ℕ) (a : A) → i < n → replicate (n - i) a ≡ a ∷ replicate (n - (i + 1)) a
@@ -36,7 +36,7 @@ pub add_shown : (count x rest most : ℕ) → min (count + (x + rest)) most ≡ 
 add_shown count x rest most = omega arith
 
 module _ (M : List Assignment) where
-  abbrev pub counted_by : Option (List Place) → Roses ValueLabel → ℕ
+  abbrev pub counted_by : Option (List ComponentPlace) → Roses ValueLabel → ℕ
   counted_by o vs = elim o [ None ↦ 0 | Some ps ↦ count_in M ps vs ]
 
   pub child_count-kids : (t : Rose TypeLabel) (v : Rose ValueLabel)
@@ -47,7 +47,7 @@ module _ (M : List Assignment) where
       ∙ ap (λ ws. counted_by (places (resolve M t) l (length (list_of vs))) ws) (sym (roses_of-list_of vs))
 
   -- where the places were found
-  pub found_count : (t : Rose TypeLabel) (v : Rose ValueLabel) (r : Rose TypeLabel) (l : ValueLabel) (ks : List (Rose ValueLabel)) (o : Option (List Place))
+  pub found_count : (t : Rose TypeLabel) (v : Rose ValueLabel) (r : Rose TypeLabel) (l : ValueLabel) (ks : List (Rose ValueLabel)) (o : Option (List ComponentPlace))
       → r ≡ resolve M t → l ≡ label_of v → ks ≡ kids_of v → places r l (length ks) ≡ o → child_count M t v ≡ counted_by o (roses_of ks)
   found_count t v r l ks o er el ek is =
       child_count-kids t v
@@ -56,11 +56,11 @@ module _ (M : List Assignment) where
       ∙ ap (λ x. counted_by (places (resolve M t) (label_of v) (length x)) (roses_of x)) ek)
       ∙ ap (λ x. counted_by x (roses_of ks)) is
 
-  pub count_in-more : (p : Place) (ps : List Place) (v : Rose ValueLabel) (vs : Roses ValueLabel) → count_in M (p ∷ ps) (more v vs) ≡ counted p.role (child_count M p.type v) + count_in M ps vs
+  pub count_in-more : (p : ComponentPlace) (ps : List ComponentPlace) (v : Rose ValueLabel) (vs : Roses ValueLabel) → count_in M (p ∷ ps) (more v vs) ≡ counted p.role (child_count M p.type v) + count_in M ps vs
   unfolding count_in
   count_in-more p ps v vs = refl
 
-  pub count_in-none : (ps : List Place) → count_in M ps none ≡ 0
+  pub count_in-none : (ps : List ComponentPlace) → count_in M ps none ≡ 0
   unfolding count_in
   count_in-none ps = refl
 
@@ -70,14 +70,14 @@ module _ (M : List Assignment) where
   count_in-[] (more v vs) = refl
 
   -- no more are counted where the places or the values end
-  pub ends : (ps : List code.Place) (vs : List (Rose ValueLabel)) (i : ℕ) → min (length ps) (length vs) ≤ i → count_in M (map place_seen (drop i ps)) (roses_of (drop i vs)) ≡ 0
+  pub ends : (ps : List code.ComponentPlace) (vs : List (Rose ValueLabel)) (i : ℕ) → min (length ps) (length vs) ≤ i → count_in M (map place_seen (drop i ps)) (roses_of (drop i vs)) ≡ 0
   ends [] vs i past = ap (λ qs. count_in M (map place_seen qs) (roses_of (drop i vs))) (drop-past i [] (omega arith)) ∙ count_in-[] (roses_of (drop i vs))
   ends (p ∷ ps) [] i past = ap (λ ws. count_in M (map place_seen (drop i (p ∷ ps))) (roses_of ws)) (drop-past i [] (omega arith)) ∙ count_in-none (map place_seen (drop i (p ∷ ps)))
   ends (p ∷ ps) (v ∷ vs) zero past = absurd (omega arith)
   ends (p ∷ ps) (v ∷ vs) (suc i) past = ends ps vs i (omega arith)
 
   -- one more of what is left is counted
-  pub count_step : (p : Place) (ps qs : List Place) (v : Rose ValueLabel) (vs : List (Rose ValueLabel)) (i count whole : ℕ) → i < length vs → v ≡ get_or vs i v → ps ≡ p ∷ qs
+  pub count_step : (p : ComponentPlace) (ps qs : List ComponentPlace) (v : Rose ValueLabel) (vs : List (Rose ValueLabel)) (i count whole : ℕ) → i < length vs → v ≡ get_or vs i v → ps ≡ p ∷ qs
       → whole ≡ min (count + count_in M ps (roses_of (drop i vs))) (2 ^ 64 - 1)
       → whole ≡ min (min (count + min (counted p.role (child_count M p.type v)) (2 ^ 64 - 1)) (2 ^ 64 - 1) + count_in M qs (roses_of (drop (i + 1) vs))) (2 ^ 64 - 1)
   count_step p ps qs v vs i count whole less here is so_far =
@@ -100,7 +100,7 @@ module _ (M : List Assignment) where
       let long = subst (λ n. FitPlaces M depth (places (resolve M t) l n) vs) (length-list_of vs) back in
       (deep, long, own)
 
-  pub fit_each-length : (depth : ℕ) (ps : List Place) (vs : List (Rose ValueLabel)) → FitEach M depth ps (roses_of vs) → length ps ≡ length vs
+  pub fit_each-length : (depth : ℕ) (ps : List ComponentPlace) (vs : List (Rose ValueLabel)) → FitEach M depth ps (roses_of vs) → length ps ≡ length vs
   unfolding FitEach
   fit_each-length depth [] [] h = refl
   fit_each-length depth [] (v ∷ vs) h = absurd h
@@ -111,7 +111,7 @@ module _ (M : List Assignment) where
   unfolding FitEach
   fit_none depth = tt
 
-  module _ (depth : ℕ) (p : Place) (ps qs : List Place) (v : Rose ValueLabel) (vs : List (Rose ValueLabel)) (i : ℕ) (less : i < length vs) (here : v ≡ get_or vs i v) (is : ps ≡ p ∷ qs) where
+  module _ (depth : ℕ) (p : ComponentPlace) (ps qs : List ComponentPlace) (v : Rose ValueLabel) (vs : List (Rose ValueLabel)) (i : ℕ) (less : i < length vs) (here : v ≡ get_or vs i v) (is : ps ≡ p ∷ qs) where
     pub fit-split : FitEach M depth ps (roses_of (drop i vs)) → FitsAt M (below p.role depth) p.type v × FitEach M depth qs (roses_of (drop (i + 1) vs))
     unfolding FitEach
     fit-split h = subst (FitEach M depth (p ∷ qs)) (roses_of-drop vs i v less here) (subst (λ ks. FitEach M depth ks (roses_of (drop i vs))) is h)
@@ -122,17 +122,17 @@ module _ (M : List Assignment) where
         let both : FitEach M depth (p ∷ qs) (more v (roses_of (drop (i + 1) vs))) = (one, others) in
         subst (λ ks. FitEach M depth ks (roses_of (drop i vs))) (sym is) (subst (FitEach M depth (p ∷ qs)) (sym (roses_of-drop vs i v less here)) both)
 
-  pub places-first : (p : Place) (ps qs : List Place) → ps ≡ p ∷ qs → ArePlaces M ps → AreWellFormed M p.type × ArePlaces M qs
+  pub places-first : (p : ComponentPlace) (ps qs : List ComponentPlace) → ps ≡ p ∷ qs → ArePlaces M ps → AreWellFormed M p.type × ArePlaces M qs
   places-first p ps qs is h = subst (ArePlaces M) is h
 
   -- the kids fit where the places were found
-  pub kids_from : (depth : ℕ) (t : Rose TypeLabel) (v : Rose ValueLabel) (l : ValueLabel) (ks : List (Rose ValueLabel)) (o : Option (List Place))
+  pub kids_from : (depth : ℕ) (t : Rose TypeLabel) (v : Rose ValueLabel) (l : ValueLabel) (ks : List (Rose ValueLabel)) (o : Option (List ComponentPlace))
       → l ≡ label_of v → ks ≡ kids_of v → places t l (length ks) ≡ o → FitPlaces M depth o (roses_of ks) → FitKids M depth t v
   kids_from depth t v l ks o el ek is h =
       subst (λ x. FitPlaces M depth (places t x (length (kids_of v))) (roses_of (kids_of v))) el
       (subst (λ x. FitPlaces M depth (places t l (length x)) (roses_of x)) ek (subst (λ x. FitPlaces M depth x (roses_of ks)) (sym is) h))
 
-  pub kids_to : (depth : ℕ) (t : Rose TypeLabel) (v : Rose ValueLabel) (l : ValueLabel) (ks : List (Rose ValueLabel)) (o : Option (List Place))
+  pub kids_to : (depth : ℕ) (t : Rose TypeLabel) (v : Rose ValueLabel) (l : ValueLabel) (ks : List (Rose ValueLabel)) (o : Option (List ComponentPlace))
       → l ≡ label_of v → ks ≡ kids_of v → places t l (length ks) ≡ o → FitKids M depth t v → FitPlaces M depth o (roses_of ks)
   kids_to depth t v l ks o el ek is h =
       subst (λ x. FitPlaces M depth x (roses_of ks)) is

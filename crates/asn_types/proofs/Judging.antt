@@ -21,7 +21,7 @@ module _ (M : List Assignment) where
   spelled-own : (l : TypeLabel) (t : Rose TypeLabel) (v : Rose ValueLabel) → IsTextOf l.form l.marks (label_of v) → (has_list l.marks || has_use_union l.marks) ≡ true → has_embed_values l.marks ≡ false
       → IsSpelled t v ↔ OwnAt M l t v
   spelled-own l t v text asks embeds = (
-    (λ s. (text, subst (λ b. MatchBool b (IsSpelled t v) (Unit {0})) (sym asks) s, subst (λ b. MatchBool b (rule.HasTexts M l t v) (Unit {0})) (sym embeds) tt)),
+    (λ s. (text, subst (λ b. MatchBool b (IsSpelled t v) (Unit {0})) (sym asks) s, subst (λ b. MatchBool b (rule.HasTextCount M l t v) (Unit {0})) (sym embeds) tt)),
     (λ own. subst (λ b. MatchBool b (IsSpelled t v) (Unit {0})) asks own.1),
   )
 

@@ -4,18 +4,18 @@ use Rattle.std.proofs.lemmas.List.{drop_more}
 use Rattle.label_tree.specs.Rose.{Rose}
 use Rattle.asn_types.specs.declared.types.Component.{Component}
 use Rattle.asn_types.specs.declared.types.TypeLabel.{TypeLabel}
-use Rattle.asn_types.specs.Values.{Place, place_of, put_first, present_from}
+use Rattle.asn_types.specs.Values.{ComponentPlace, place_of, put_first, present_from}
 
 -- these, and then those if there are some
-abbrev pub prepended : List Place → Option (List Place) → Option (List Place)
+abbrev pub prepended : List ComponentPlace → Option (List ComponentPlace) → Option (List ComponentPlace)
 prepended ps None = None
 prepended ps (Some qs) = Some (ps ++ qs)
 
-prepended-put_first : (ps : List Place) (p : Place) (o : Option (List Place)) → prepended ps (put_first p o) ≡ prepended (ps ++ p ∷ []) o
+prepended-put_first : (ps : List ComponentPlace) (p : ComponentPlace) (o : Option (List ComponentPlace)) → prepended ps (put_first p o) ≡ prepended (ps ++ p ∷ []) o
 prepended-put_first ps p None = refl
 prepended-put_first ps p (Some qs) = ap Some (sym (append_assoc ps (p ∷ []) qs))
 
-none_if_none : (b : Bool) (o : Option (List Place)) → o ≡ None → cond b o None ≡ None
+none_if_none : (b : Bool) (o : Option (List ComponentPlace)) → o ≡ None → cond b o None ≡ None
 none_if_none true o e = e
 none_if_none false o e = refl
 
@@ -34,7 +34,7 @@ present-differ l i (c ∷ cs) (t ∷ ts) (false ∷ fs) h =
 
 module _ (l : TypeLabel) (parts : List Component) (ts : List (Rose TypeLabel)) (flags : List Bool) where
   -- what the components from number i on have
-  abbrev pub left : ℕ → Option (List Place)
+  abbrev pub left : ℕ → Option (List ComponentPlace)
   left i = present_from l i (drop i parts) (drop i ts) (drop i flags)
 
   module _ (i : ℕ) (part : Component) (d : Rose TypeLabel) (in_parts : i < length parts) (in_ts : i < length ts) (in_flags : i < length flags) (part_is : part ≡ get_or parts i part) where
@@ -51,5 +51,5 @@ module _ (l : TypeLabel) (parts : List Component) (ts : List (Rose TypeLabel)) (
     left-missing unset must = opened false unset ∙ ap (λ b. cond b (left (i + 1)) None) must
 
     -- the present ones so far, and those that are left
-    pub push-left : (ps : List Place) (whole : Option (List Place)) → whole ≡ prepended ps (left i) → get_or flags i false ≡ true → whole ≡ prepended (ps ++ place_of l i part (get_or ts i d) ∷ []) (left (i + 1))
+    pub push-left : (ps : List ComponentPlace) (whole : Option (List ComponentPlace)) → whole ≡ prepended ps (left i) → get_or flags i false ≡ true → whole ≡ prepended (ps ++ place_of l i part (get_or ts i d) ∷ []) (left (i + 1))
     push-left ps whole so_far set = so_far ∙ ap (prepended ps) (opened true set) ∙ prepended-put_first ps (place_of l i part (get_or ts i d)) (left (i + 1))

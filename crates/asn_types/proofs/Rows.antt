@@ -14,7 +14,7 @@ use Rattle.asn_types.specs.declared.types.Form.TheVariants as form
 use Rattle.asn_types.specs.declared.types.TypeLabel.{TypeLabel}
 use Rattle.asn_types.specs.Refs.{follow}
 use Rattle.asn_types.specs.Simples.{MapsTo}
-use Rattle.asn_types.specs.Values.{child_count, count_in, HasTexts}
+use Rattle.asn_types.specs.Values.{child_count, count_in, HasTextCount}
 
 abbrev part : List ℕ → List Instruction → Component
 part identifier marks = record { identifier = identifier; optional = false; marks = marks }
@@ -95,10 +95,10 @@ p-children = refl
 abbrev p_label : TypeLabel
 p_label = record { form = form.Sequence (part (codes "embed-values") [] ∷ part (codes "choice-list") (mark.Untagged ∷ []) ∷ []); marks = mark.EmbedValues ∷ [] }
 
-p-texts : HasTexts [] p_label p (p_value (leaf (value.Utf8 (codes "Hi ")) ∷ leaf (value.Utf8 (codes "!")) ∷ []))
+p-texts : HasTextCount [] p_label p (p_value (leaf (value.Utf8 (codes "Hi ")) ∷ leaf (value.Utf8 (codes "!")) ∷ []))
 unfolding child_count count_in follow
 p-texts = refl
 
-p-refused : HasTexts [] p_label p (p_value (leaf (value.Utf8 []) ∷ [])) → ⊥
+p-refused : HasTextCount [] p_label p (p_value (leaf (value.Utf8 []) ∷ [])) → ⊥
 unfolding child_count count_in follow
 p-refused h = omega (arith, h)

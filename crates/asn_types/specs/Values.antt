@@ -22,12 +22,12 @@ use Rattle.asn_types.specs.Roles.{role_of}
 use Rattle.asn_types.specs.Simples.{MapsTo}
 
 -- where a kid of a value stands: the part, its role, and its type
-pub record Place : Type 0 where
+pub record ComponentPlace : Type 0 where
   pub role : Role
   pub part : Component
   pub type : Rose TypeLabel
 
-abbrev pub place_of : TypeLabel → ℕ → Component → Rose TypeLabel → Place
+abbrev pub place_of : TypeLabel → ℕ → Component → Rose TypeLabel → ComponentPlace
 place_of l i part t = record { role = role_of l i part; part = part; type = t }
 
 abbrev pub put_first : {A : Type 0} → A → Option (List A) → Option (List A)
@@ -36,31 +36,31 @@ put_first x (Some xs) = Some (x ∷ xs)
 
 -- A SEQUENCE has a flag for each component, and a component without a value is optional (X.680, clause 25). These are the
 -- places of those that are present, from the component with number i on.
-abbrev pub present_from : TypeLabel → ℕ → List Component → List (Rose TypeLabel) → List Bool → Option (List Place)
+abbrev pub present_from : TypeLabel → ℕ → List Component → List (Rose TypeLabel) → List Bool → Option (List ComponentPlace)
 present_from l i [] ts [] = Some []
 present_from l i (part ∷ parts) (t ∷ ts) (true ∷ flags) = put_first (place_of l i part t) (present_from l (i + 1) parts ts flags)
 present_from l i (part ∷ parts) (t ∷ ts) (false ∷ flags) = if part.optional then present_from l (i + 1) parts ts flags else None
 present_from _ _ _ _ _ = None
 
 -- the place of the alternative, or of the items
-abbrev pub place_at : TypeLabel → ℕ → Option Component → Option (Rose TypeLabel) → Option Place
+abbrev pub place_at : TypeLabel → ℕ → Option Component → Option (Rose TypeLabel) → Option ComponentPlace
 place_at l i (Some part) (Some t) = Some (place_of l i part t)
 place_at _ _ _ _ = None
 
-abbrev pub alone : Option Place → Option (List Place)
+abbrev pub alone : Option ComponentPlace → Option (List ComponentPlace)
 alone None = None
 alone (Some place) = Some (place ∷ [])
 
-abbrev pub repeated : ℕ → Option Place → Option (List Place)
+abbrev pub repeated : ℕ → Option ComponentPlace → Option (List ComponentPlace)
 repeated n None = None
 repeated n (Some place) = Some (replicate n place)
 
-abbrev pub none_if : Bool → Option (List Place)
+abbrev pub none_if : Bool → Option (List ComponentPlace)
 none_if holds = if holds then Some [] else None
 
 -- The places of the kids of a value with this label and so many kids, where it is of a type with this form: its number,
 -- index and size are within bounds (X.680, clauses 18 to 29 and 41).
-abbrev pub places_in : TypeLabel → List (Rose TypeLabel) → Form → ValueLabel → ℕ → Option (List Place)
+abbrev pub places_in : TypeLabel → List (Rose TypeLabel) → Form → ValueLabel → ℕ → Option (List ComponentPlace)
 places_in l ts form.Bool (value.Bool b) n = Some []
 places_in l ts (form.Int least greatest) (value.Int z) n = none_if (is_128_bits z && is_from least z && is_to greatest z)
 places_in l ts (form.Numbers numbers) (value.Enum i) n = none_if (nat_lt i (length numbers))
@@ -72,7 +72,7 @@ places_in l ts (form.SequenceOf part least most) value.SequenceOf n =
     if nat_le least n && is_at_most n most then repeated n (place_at l 0 (Some part) (slice_get ts 0)) else None
 places_in _ _ _ _ _ = None
 
-abbrev pub places : Rose TypeLabel → ValueLabel → ℕ → Option (List Place)
+abbrev pub places : Rose TypeLabel → ValueLabel → ℕ → Option (List ComponentPlace)
 places t v n = places_in (label_of t) (kids_of t) (label_of t).form v n
 
 -- how many child elements a part gives to the element that it stands in: itself, or those of its value
@@ -88,7 +88,7 @@ module _ (M : List Assignment) where
     pub child_count : Rose TypeLabel → Rose ValueLabel → ℕ
     child_count t (node v vs) = elim (places (resolve M t) v (length_all vs)) [ None ↦ 0 | Some ps ↦ count_in ps vs ]
 
-    pub count_in : List Place → Roses ValueLabel → ℕ
+    pub count_in : List ComponentPlace → Roses ValueLabel → ℕ
     count_in ps none = 0
     count_in ps (more v vs) = elim ps [ [] ↦ 0 | p ∷ others ↦ counted p.role (child_count p.type v) + count_in others vs ]
 
@@ -121,8 +121,8 @@ abbrev pub text_count : Bool → ℕ → ℕ
 text_count nil children = if nil then 0 else children + 1
 
 module _ (M : List Assignment) where
-  abbrev pub HasTexts : TypeLabel → Rose TypeLabel → Rose ValueLabel → Type 0
-  HasTexts l t v =
+  abbrev pub HasTextCount : TypeLabel → Rose TypeLabel → Rose ValueLabel → Type 0
+  HasTextCount l t v =
       first_count (label_of v) (kids_of v) ≡ text_count (has_use_nil l.marks && is_last_absent (label_of v)) (child_count M t v)
 
   -- the rule of one node, whose type is found
@@ -130,7 +130,7 @@ module _ (M : List Assignment) where
   OwnAt l t v =
       IsTextOf l.form l.marks (label_of v)
       × MatchBool (has_list l.marks || has_use_union l.marks) (IsSpelled t v) (Unit {0})
-      × MatchBool (has_embed_values l.marks) (HasTexts l t v) (Unit {0})
+      × MatchBool (has_embed_values l.marks) (HasTextCount l t v) (Unit {0})
 
   abbrev pub Own : Rose TypeLabel → Rose ValueLabel → Type 0
   Own t v = let found = resolve M t in OwnAt (label_of found) found v
@@ -148,7 +148,7 @@ module _ (M : List Assignment) where
         × elim (places (resolve M t) v (length_all vs)) [ None ↦ ⊥ | Some ps ↦ FitEach depth ps vs ]
         × Own M t (node v vs)
 
-    pub FitEach : ℕ → List Place → Roses ValueLabel → Type 0
+    pub FitEach : ℕ → List ComponentPlace → Roses ValueLabel → Type 0
     FitEach depth ps none = elim ps [ [] ↦ Unit {0} | p ∷ others ↦ ⊥ ]
     FitEach depth ps (more v vs) = elim ps [ [] ↦ ⊥ | p ∷ others ↦ FitsAt (below p.role depth) p.type v × FitEach depth others vs ]
 

@@ -15,7 +15,7 @@ use xa_base::Memory;
 
 /// Where a kid of a value stands: the part, its role, and its type.
 #[derive(Drop)]
-pub(crate) struct Place<'a> {
+pub(crate) struct ComponentPlace<'a> {
     pub(crate) role: Role,
     pub(crate) part: &'a Component,
     pub(crate) node: &'a Tree<TypeLabel>,
@@ -25,9 +25,9 @@ pub(crate) struct Place<'a> {
 #[derive(Drop)]
 pub(crate) enum Places<'a> {
     /// One after the other.
-    Each(Vec<Place<'a>>),
+    Each(Vec<ComponentPlace<'a>>),
     /// All of them.
-    All(Place<'a>),
+    All(ComponentPlace<'a>),
 }
 
 // Whether a number is within the bounds of its type.
@@ -50,11 +50,11 @@ fn place_of<'a>(
     i: usize,
     part: &'a Component,
     node: &'a Tree<TypeLabel>,
-) -> Place<'a>
+) -> ComponentPlace<'a>
     requires { i < length (parts_of label.now.form) }
     ensures { place_seen result ≡ rule.place_of label.now i part.now node.now }
 {
-    Place {
+    ComponentPlace {
         role: label.role_of(i, part),
         part,
         node,
@@ -68,7 +68,7 @@ fn present_places<'a>(
     parts: &'a [Component],
     kids: &'a [Tree<TypeLabel>],
     present: &[bool],
-) -> Result<Option<Vec<Place<'a>>>, Memory>
+) -> Result<Option<Vec<ComponentPlace<'a>>>, Memory>
     requires { parts.now ≡ parts_of label.now.form }
     ensures { IfOk result (λ found. MatchOption found
         (rule.present_from label.now 0 parts.now kids.now present.now ≡ None)
@@ -94,7 +94,7 @@ fn place_at<'a>(
     i: usize,
     part: &'a Component,
     kids: &'a [Tree<TypeLabel>],
-) -> Option<Place<'a>>
+) -> Option<ComponentPlace<'a>>
     requires { i < length (parts_of label.now.form) }
     ensures { MatchOption result
         (rule.place_at label.now i (Some part.now) (slice_get kids.now i) ≡ None)
@@ -177,7 +177,7 @@ fn places_by_form<'a>(
     }
 }
 
-fn one_place<'a>(alloc: Global, place: Place<'a>) -> Result<Option<Places<'a>>, Memory>
+fn one_place<'a>(alloc: Global, place: ComponentPlace<'a>) -> Result<Option<Places<'a>>, Memory>
     ensures { IfOk result (λ found. (n : ℕ) → Found n found (Some (place_seen place.entry ∷ []))) }
 {
     let places = vec![in alloc; place]?;

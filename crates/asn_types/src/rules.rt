@@ -7,7 +7,7 @@ ghost use Rattle.asn_types.specs.Refs.{IsOf};
 ghost use Rattle.asn_types.specs.Values as rule;
 
 use crate::modules::Module;
-use crate::places::{Place, Places, find_places};
+use crate::places::{ComponentPlace, Places, find_places};
 use crate::resolving::resolve;
 use crate::roles::Role;
 use crate::simples::simple_at;
@@ -55,7 +55,7 @@ fn is_spelled(
 fn count_at(
     alloc: Global,
     module: &Module,
-    place: &Place,
+    place: &ComponentPlace,
     value: &Tree<ValueLabel>,
 ) -> Result<u64, Memory>
     ensures { IfOk result (λ n. n ≡ min (rule.counted place.now.role (rule.child_count module.now place.now.node.now value.now)) (2 ^ 64 - 1)) }
@@ -72,7 +72,7 @@ fn count_at(
 fn count_each(
     alloc: Global,
     module: &Module,
-    places: &[Place],
+    places: &[ComponentPlace],
     values: &[Tree<ValueLabel>],
 ) -> Result<u64, Memory>
     ensures { IfOk result (λ n. n ≡ min (rule.count_in module.now (map place_seen places.now) (roses_of values.now)) (2 ^ 64 - 1)) }
@@ -88,7 +88,7 @@ fn count_each(
 fn count_all(
     alloc: Global,
     module: &Module,
-    place: &Place,
+    place: &ComponentPlace,
     values: &[Tree<ValueLabel>],
 ) -> Result<u64, Memory>
     ensures { IfOk result (λ n. n ≡ min (rule.count_in module.now (replicate (length values.now) (place_seen place.now)) (roses_of values.now)) (2 ^ 64 - 1)) }
@@ -155,7 +155,7 @@ fn has_texts(
     node: &Tree<TypeLabel>,
     value: &Tree<ValueLabel>,
 ) -> Result<bool, Memory>
-    ensures { IfOk result (λ b. IsTrue b ↔ rule.HasTexts module.now (label_of node.now) node.now value.now) }
+    ensures { IfOk result (λ b. IsTrue b ↔ rule.HasTextCount module.now (label_of node.now) node.now value.now) }
 {
     let texts = first_count(value.label(), value.kids()) as u64;
     if node.label().marks.has_use_nil() && is_last_absent(value.label()) {

@@ -6,7 +6,7 @@ ghost use Rattle.asn_types.specs.Private.Placing.{place_seen, ArePlaces, FitKids
 ghost use Rattle.asn_types.specs.Values as rule;
 
 use crate::modules::Module;
-use crate::places::{Place, Places, find_places};
+use crate::places::{ComponentPlace, Places, find_places};
 use crate::resolving::resolve;
 use crate::roles::Role;
 use crate::rules::own_at;
@@ -37,7 +37,7 @@ fn fit_each(
     alloc: Global,
     module: &Module,
     depth: u32,
-    places: &[Place],
+    places: &[ComponentPlace],
     values: &[Tree<ValueLabel>],
 ) -> Result<bool, Memory>
     requires depth { depth ≤ 64 }
@@ -67,7 +67,7 @@ fn fit_all(
     alloc: Global,
     module: &Module,
     depth: u32,
-    place: &Place,
+    place: &ComponentPlace,
     values: &[Tree<ValueLabel>],
 ) -> Result<bool, Memory>
     requires depth { depth ≤ 64 }

@@ -3,8 +3,8 @@ use Rattle.std.proofs.Common.{◌≡◌, ◌≢◌, ℕ, zero, suc, ◌+◌, ◌
 use Rattle.xa_base.specs.declared.texts.Name.{Name}
 use Rattle.content_models.specs.Particle.{Particle, occurs, Term, element, sequence, choice, Particles, none, more}
 use Rattle.content_models.specs.Language.{Turn, Leaf, names, Times, Within, Lang, Body, InOrder, OneOf, size_of, turn_of}
-use Rattle.content_models.specs.Clear.{Has, Apart, and_then, first, first_of_term, first_in_order, first_of_any, empties, empties_term, all_empty, any_empty, repeats, follow_of_body, Rule1, Rule2, Rule3, AllApart, OneEmpty, Clear, ClearBelow, ClearInOrder, ClearOneOf}
-use Rattle.content_models.specs.Laws.{Opens, Share, Pass, Begins, LawOfBeginnings}
+use Rattle.content_models.specs.Clear.{IsNameIn, Apart, and_then, first, first_of_term, first_in_order, first_of_any, empties, empties_term, all_empty, any_empty, repeats, follow_of_body, Rule1, Rule2, Rule3, AllApart, OneEmpty, Clear, ClearBelow, ClearInOrder, ClearOneOf}
+use Rattle.content_models.specs.Laws.{Opens, Share, GoPast, Begins, LawOfBeginnings}
 use Rattle.content_models.proofs.Opening.{has_left, has_right, opens_more, times_opens, names-append, lang_opens, body_opens, order_opens, one_opens}
 use Rattle.content_models.proofs.Splitting.{later, order_after, or_right, regroup, within_one, within_same, within_repeats}
 
@@ -24,7 +24,7 @@ module _ (v1 v2 v w1 w2 w : List Leaf) (x y zs r s : List Name) (ev : v ≡ v1 +
     named = h.named;
   }
 
-  share_back : (h : Pass v1 w1 (names v2 ++ x) (names w2 ++ y) zs r s) → Share v2 w2 h.rest → Share v w zs
+  share_back : (h : GoPast v1 w1 (names v2 ++ x) (names w2 ++ y) zs r s) → Share v2 w2 h.rest → Share v w zs
   share_back h k = record {
     common = v1 ++ k.common;
     more_left = k.more_left;
@@ -34,7 +34,7 @@ module _ (v1 v2 v w1 w2 w : List Leaf) (x y zs r s : List Name) (ev : v ≡ v1 +
     named = names-append v1 k.common ∙ ap (λ a. names v1 ++ a) k.named ∙ sym h.past;
   }
 
-  pass_both : (h : Pass v1 w1 (names v2 ++ x) (names w2 ++ y) zs r s) → Pass v2 w2 x y h.rest r s → Pass v w x y zs r s
+  pass_both : (h : GoPast v1 w1 (names v2 ++ x) (names w2 ++ y) zs r s) → GoPast v2 w2 x y h.rest r s → GoPast v w x y zs r s
   pass_both h k = record {
     same = cc (h.same, k.same, ev, ew);
     rest = k.rest;
@@ -43,26 +43,26 @@ module _ (v1 v2 v w1 w2 w : List Leaf) (x y zs r s : List Name) (ev : v ≡ v1 +
     right = k.right;
   }
 
-  behind : Share v1 w1 zs ⊎ Pass v1 w1 (names v2 ++ x) (names w2 ++ y) zs r s
-      → ((h : Pass v1 w1 (names v2 ++ x) (names w2 ++ y) zs r s) → Share v2 w2 h.rest ⊎ Pass v2 w2 x y h.rest r s)
-      → Share v w zs ⊎ Pass v w x y zs r s
+  behind : Share v1 w1 zs ⊎ GoPast v1 w1 (names v2 ++ x) (names w2 ++ y) zs r s
+      → ((h : GoPast v1 w1 (names v2 ++ x) (names w2 ++ y) zs r s) → Share v2 w2 h.rest ⊎ GoPast v2 w2 x y h.rest r s)
+      → Share v w zs ⊎ GoPast v w x y zs r s
   behind (inl h) k = inl (share_front h)
   behind (inr h) k = front h (k h)
     where
-      front : (h : Pass v1 w1 (names v2 ++ x) (names w2 ++ y) zs r s) → Share v2 w2 h.rest ⊎ Pass v2 w2 x y h.rest r s → Share v w zs ⊎ Pass v w x y zs r s
+      front : (h : GoPast v1 w1 (names v2 ++ x) (names w2 ++ y) zs r s) → Share v2 w2 h.rest ⊎ GoPast v2 w2 x y h.rest r s → Share v w zs ⊎ GoPast v w x y zs r s
       front h (inl k) = inl (share_back h k)
       front h (inr k) = inr (pass_both h k)
 
 -- the first name is one of the list's, or the list is empty and it is one of the follow
 head_in : (f g : List Name) (e : Bool) (a x : List Name) (z : Name) (q : List Name)
-    → Opens f e a → Opens g true x → a ++ x ≡ z ∷ q → Has z f ⊎ ((e ≡ true) × Has z g)
+    → Opens f e a → Opens g true x → a ++ x ≡ z ∷ q → IsNameIn z f ⊎ ((e ≡ true) × IsNameIn z g)
 head_in f g e [] [] z q h o is = absurd (cc)
-head_in f g e [] (b ∷ x) z q h o is = let same : b ≡ z = cc in inr (h, subst (λ s. Has s g) same o)
-head_in f g e (b ∷ a) x z q h o is = let same : b ≡ z = cc in inl (subst (λ s. Has s f) same h)
+head_in f g e [] (b ∷ x) z q h o is = let same : b ≡ z = cc in inr (h, subst (λ s. IsNameIn s g) same o)
+head_in f g e (b ∷ a) x z q h o is = let same : b ≡ z = cc in inl (subst (λ s. IsNameIn s f) same h)
 
 -- two lists of different alternatives share no name
 apart_begin : (f g follow : List Name) (e d : Bool) (z : Name) → Apart f g → (e ≡ true → d ≡ false) → ((e || d) ≡ true → Apart (f ++ g) follow)
-    → Has z f ⊎ ((e ≡ true) × Has z follow) → Has z g ⊎ ((d ≡ true) × Has z follow) → ⊥
+    → IsNameIn z f ⊎ ((e ≡ true) × IsNameIn z follow) → IsNameIn z g ⊎ ((d ≡ true) × IsNameIn z follow) → ⊥
 apart_begin f g follow e d z apart one free (inl a) (inl b) = apart z a b
 apart_begin f g follow e d z apart one free (inl a) (inr b) = free (or_right e d b.0) z (has_left z f g a) b.1
 apart_begin f g follow e d z apart one free (inr a) (inl b) = free (rw a.0 refl) z (has_right z f g b) a.1
@@ -97,14 +97,14 @@ module _ (B : ℕ → List Leaf → Type 0) (first follow : List Name) (empty ma
       → v ≡ [] → Times B (suc j) t w → Opens follow true x → Opens follow true y → names v ++ x ≡ z ∷ q → names w ++ y ≡ z ∷ p → ⊥
   fewer j t v w x y z q p apart full hv hw ox oy e d = go (head_in [] follow true (names v) x z q (rw hv refl) ox e) (head_in first follow false (names w) y z p (full_opens j t w full hw) oy d)
     where
-      go : Has z [] ⊎ ((true ≡ true) × Has z follow) → Has z first ⊎ ((false ≡ true) × Has z follow) → ⊥
+      go : IsNameIn z [] ⊎ ((true ≡ true) × IsNameIn z follow) → IsNameIn z first ⊎ ((false ≡ true) × IsNameIn z follow) → ⊥
       go (inl a) b = a
       go (inr a) (inl b) = apart z b a.1
       go (inr a) (inr b) = cc (b.0)
 
   times_begin : (k j t : ℕ) → (k ≢ j → Apart first follow × (empty ≡ false)) → (2 ≤ k → (many ≡ true) × (empty ≡ false)) → (2 ≤ j → (many ≡ true) × (empty ≡ false))
       → (v w : List Leaf) (x y zs r s : List Name) → Times B k t v → Times B j t w → Opens follow true x → Opens follow true y
-      → names v ++ x ≡ zs ++ r → names w ++ y ≡ zs ++ s → Share v w zs ⊎ Pass v w x y zs r s
+      → names v ++ x ≡ zs ++ r → names w ++ y ≡ zs ++ s → Share v w zs ⊎ GoPast v w x y zs r s
   times_begin k j t apart mk mj v w x y [] r s hv hw ox oy e d = inl (nothing v w [] refl)
   times_begin zero zero t apart mk mj v w x y (z ∷ zs) r s hv hw ox oy e d =
       inr (record { same = hv ∙ sym hw; rest = z ∷ zs; past = rw hv refl; left = rw hv at e; right = rw hw at d })
@@ -165,7 +165,7 @@ mutual
       (head_in (first p) follow (empties p) (names w) y z (zs ++ s) (lang_opens p n path w hw) oy d)
       (head_in (first_of_any ps) follow (any_empty ps) (names v) x z (zs ++ r) (one_opens ps (n + size_of p) path v hv) ox e))
 
-whole : (v w : List Leaf) (zs r s : List Name) → Share v w zs ⊎ Pass v w [] [] zs r s → Share v w zs
+whole : (v w : List Leaf) (zs r s : List Name) → Share v w zs ⊎ GoPast v w [] [] zs r s → Share v w zs
 whole v w zs r s (inl h) = h
 whole v w zs r s (inr h) = record {
   common = v;

@@ -3,20 +3,20 @@ use Rattle.std.proofs.Common.{◌≡◌, ℕ, zero, suc, ◌+◌, inl, inr, List
 use Rattle.xa_base.specs.declared.texts.Name.{Name}
 use Rattle.content_models.specs.Particle.{Particle, occurs, Term, element, sequence, choice, Particles, none, more}
 use Rattle.content_models.specs.Language.{Turn, Leaf, names, Times, Within, Lang, Body, InOrder, OneOf, size_of, turn_of}
-use Rattle.content_models.specs.Clear.{Has, is_zero, and_then, first, first_of_term, first_in_order, first_of_any, empties, empties_term, all_empty, any_empty}
+use Rattle.content_models.specs.Clear.{IsNameIn, is_zero, and_then, first, first_of_term, first_in_order, first_of_any, empties, empties_term, all_empty, any_empty}
 use Rattle.content_models.specs.Laws.{Opens}
 
-pub has_left : (a : Name) (xs ys : List Name) → Has a xs → Has a (xs ++ ys)
+pub has_left : (a : Name) (xs ys : List Name) → IsNameIn a xs → IsNameIn a (xs ++ ys)
 has_left a [] ys h = absurd h
 has_left a (x ∷ xs) ys (inl e) = inl e
 has_left a (x ∷ xs) ys (inr h) = inr (has_left a xs ys h)
 
-pub has_right : (a : Name) (xs ys : List Name) → Has a ys → Has a (xs ++ ys)
+pub has_right : (a : Name) (xs ys : List Name) → IsNameIn a ys → IsNameIn a (xs ++ ys)
 has_right a [] ys h = h
 has_right a (x ∷ xs) ys h = inr (has_right a xs ys h)
 
 pub opens_more : (f g : List Name) (e d : Bool) (xs : List Name)
-    → ((a : Name) → Has a f → Has a g) → (e ≡ true → d ≡ true) → Opens f e xs → Opens g d xs
+    → ((a : Name) → IsNameIn a f → IsNameIn a g) → (e ≡ true → d ≡ true) → Opens f e xs → Opens g d xs
 opens_more f g e d [] m n h = n h
 opens_more f g e d (a ∷ xs) m n h = m a h
 

@@ -4,7 +4,7 @@ use Rattle.std.proofs.lemmas.Bool.{lt-ltb}
 use Rattle.xa_base.specs.declared.texts.Name.{Name}
 use Rattle.content_models.specs.Particle.{Particle, occurs, Term, element, sequence, choice, Particles, none, more}
 use Rattle.content_models.specs.Language.{Turn, Leaf, names, Times, Within, Lang, Body, InOrder, OneOf, size_of, turn_of}
-use Rattle.content_models.specs.Clear.{Has, Apart, and_then, first, first_of_term, first_in_order, first_of_any, empties, empties_term, all_empty, any_empty, repeats, follow_of_body, Rule1, Rule2, Rule3, AllApart, OneEmpty, Clear, ClearBelow, ClearInOrder, ClearOneOf}
+use Rattle.content_models.specs.Clear.{IsNameIn, Apart, and_then, first, first_of_term, first_in_order, first_of_any, empties, empties_term, all_empty, any_empty, repeats, follow_of_body, Rule1, Rule2, Rule3, AllApart, OneEmpty, Clear, ClearBelow, ClearInOrder, ClearOneOf}
 use Rattle.content_models.specs.Laws.{Opens, Splits}
 use Rattle.content_models.proofs.Opening.{has_left, has_right, opens_more, opens_then, times_opens, names-append, lang_opens, body_opens, order_opens, one_opens}
 
@@ -64,7 +64,7 @@ apart_lists f g follow e d apart one free (a ∷ as') [] x y ha hb ox oy is =
     let o : Opens follow true (a ∷ (as' ++ x)) = subst (λ s. Opens follow true s) (sym is) oy in
     free (or_right e d hb) a (has_left a f g ha) o
 apart_lists f g follow e d apart one free (a ∷ as') (b ∷ bs) x y ha hb ox oy is =
-    let q : a ≡ b = cc in apart b (subst (λ s. Has s f) q ha) hb
+    let q : a ≡ b = cc in apart b (subst (λ s. IsNameIn s f) q ha) hb
 
 once_splits : (B : ℕ → List Leaf → Type 0) (follow extra : List Name) → Splits (B 0) (follow ++ extra) → Splits (Times B 1 0) follow
 once_splits B follow extra splits v w x y (v1, v2, ev, hv, rv) (w1, w2, ew, hw, rw') ox oy e =

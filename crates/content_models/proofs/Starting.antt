@@ -3,7 +3,7 @@ use Rattle.std.proofs.Common.{◌≡◌, ℕ, zero, suc, ◌+◌, ◌⊎◌, inl
 use Rattle.xa_base.specs.declared.texts.Name.{Name}
 use Rattle.content_models.specs.Particle.{Particle, occurs, Term, element, sequence, choice, Particles, none, more}
 use Rattle.content_models.specs.Language.{Turn, Leaf, leaf_at, names, Times, Within, Lang, Body, InOrder, OneOf, size_of, turn_of}
-use Rattle.content_models.specs.Clear.{Has, is_zero, first, first_of_term, first_in_order, first_of_any, empties, empties_term, all_empty, any_empty}
+use Rattle.content_models.specs.Clear.{IsNameIn, is_zero, first, first_of_term, first_in_order, first_of_any, empties, empties_term, all_empty, any_empty}
 use Rattle.content_models.specs.Occurring.{AllowOne, MayOccur, TermMayOccur, AllMayOccur}
 use Rattle.content_models.specs.Laws.{Opens, Starts, LawOfFirstNames}
 use Rattle.content_models.proofs.Opening.{names-append, lang_opens}
@@ -88,7 +88,7 @@ mutual
       either (empties p) (any_empty ps) (Lang p n path []) (OneOf ps (n + size_of p) path []) e
       (λ d. empty_list p n path s.0 d) (λ d. empty_one ps (n + size_of p) path s.1 d)
 
-has_split : (a : Name) (xs ys : List Name) → Has a (xs ++ ys) → Has a xs ⊎ Has a ys
+has_split : (a : Name) (xs ys : List Name) → IsNameIn a (xs ++ ys) → IsNameIn a xs ⊎ IsNameIn a ys
 has_split a [] ys h = inr h
 has_split a (x ∷ xs) ys (inl e) = inl (inl e)
 has_split a (x ∷ xs) ys (inr h) = elim (has_split a xs ys h) [ inl k ↦ inl (inr k) | inr k ↦ inr k ]
@@ -100,13 +100,13 @@ start_front L M a u f (w, r, h, e) = (w ++ u, r ++ names u, f w h, names-append 
 start_same : (L M : List Leaf → Type 0) (a : Name) → ((w : List Leaf) → L w → M w) → Starts L a → Starts M a
 start_same L M a f (w, r, h, e) = (w, r, f w h, e)
 
-first_then : (a : Name) (e : Bool) (fs gs : List Name) (P : Type 0) → Has a (fs ++ cond e gs []) → (Has a fs → P) → (e ≡ true → Has a gs → P) → P
+first_then : (a : Name) (e : Bool) (fs gs : List Name) (P : Type 0) → IsNameIn a (fs ++ cond e gs []) → (IsNameIn a fs → P) → (e ≡ true → IsNameIn a gs → P) → P
 first_then a true fs gs P h f g = elim (has_split a fs gs h) [ inl k ↦ f k | inr k ↦ g refl k ]
 first_then a false fs gs P h f g = elim (has_split a fs [] h) [ inl k ↦ f k | inr k ↦ absurd k ]
 
 -- each first name begins a list
 mutual
-  pub start_list : (p : Particle) (n : ℕ) (path : List Turn) → MayOccur p → (a : Name) → Has a (first p) → Starts (Lang p n path) a
+  pub start_list : (p : Particle) (n : ℕ) (path : List Turn) → MayOccur p → (a : Name) → IsNameIn a (first p) → Starts (Lang p n path) a
   start_list (occurs t least most) n path s a h =
       let B : ℕ → List Leaf → Type 0 = λ i. Body t n (path ++ turn_of n i ∷ []) in
       let k = within_more least most s.0 in
@@ -114,13 +114,13 @@ mutual
       start_front (B 0) (Lang (occurs t least most) n path) a rest.0 (λ w b. (suc k.0, k.1, (w, rest.0, refl, b, rest.1)))
       (start_body t n (path ++ turn_of n 0 ∷ []) s.1 a h)
 
-  pub start_body : (t : Term) (n : ℕ) (path : List Turn) → TermMayOccur t → (a : Name) → Has a (first_of_term t) → Starts (Body t n path) a
+  pub start_body : (t : Term) (n : ℕ) (path : List Turn) → TermMayOccur t → (a : Name) → IsNameIn a (first_of_term t) → Starts (Body t n path) a
   start_body (element d b) n path s a (inl e) = (leaf_at n d b path ∷ [], [], refl, ap (λ x. x ∷ []) (sym e))
   start_body (element d b) n path s a (inr h) = absurd h
   start_body (sequence ps) n path s a h = start_order ps (suc n) path s a h
   start_body (choice ps) n path s a h = start_one ps (suc n) path s.1 a h
 
-  pub start_order : (ps : Particles) (n : ℕ) (path : List Turn) → AllMayOccur ps → (a : Name) → Has a (first_in_order ps) → Starts (InOrder ps n path) a
+  pub start_order : (ps : Particles) (n : ℕ) (path : List Turn) → AllMayOccur ps → (a : Name) → IsNameIn a (first_in_order ps) → Starts (InOrder ps n path) a
   start_order none n path s a h = absurd h
   start_order (more p ps) n path s a h =
       let rest = some_order ps (n + size_of p) path s.1 in
@@ -128,7 +128,7 @@ mutual
       (λ k. start_front (Lang p n path) (InOrder (more p ps) n path) a rest.0 (λ w b. (w, rest.0, refl, b, rest.1)) (start_list p n path s.0 a k))
       (λ e k. start_same (InOrder ps (n + size_of p) path) (InOrder (more p ps) n path) a (λ w b. ([], w, refl, empty_list p n path s.0 e, b)) (start_order ps (n + size_of p) path s.1 a k))
 
-  pub start_one : (ps : Particles) (n : ℕ) (path : List Turn) → AllMayOccur ps → (a : Name) → Has a (first_of_any ps) → Starts (OneOf ps n path) a
+  pub start_one : (ps : Particles) (n : ℕ) (path : List Turn) → AllMayOccur ps → (a : Name) → IsNameIn a (first_of_any ps) → Starts (OneOf ps n path) a
   start_one none n path s a h = absurd h
   start_one (more p ps) n path s a h =
       elim (has_split a (first p) (first_of_any ps) h) [
@@ -136,7 +136,7 @@ mutual
         | inr k ↦ start_same (OneOf ps (n + size_of p) path) (OneOf (more p ps) n path) a (λ w b. inr b) (start_one ps (n + size_of p) path s.1 a k)
       ]
 
-started : (p : Particle) (n : ℕ) (path : List Turn) (a : Name) → Starts (Lang p n path) a → Has a (first p)
+started : (p : Particle) (n : ℕ) (path : List Turn) (a : Name) → Starts (Lang p n path) a → IsNameIn a (first p)
 started p n path a (w, r, h, e) = subst (λ xs. Opens (first p) (empties p) xs) e (lang_opens p n path w h)
 
 pub law_of_first_names : LawOfFirstNames

@@ -11,7 +11,7 @@ use Rattle.xa_base.specs.declared.texts.Name.{Name}
 use Rattle.xa_base.specs.Names.{name_eq}
 use Rattle.xa_base.proofs.NameLaws.{name_eq-Decides}
 use Rattle.content_models.specs.Particle.{Term, element, sequence, choice, Particles, none, more}
-use Rattle.content_models.specs.Clear.{Has, Apart, and_then, first, first_of_term, first_in_order, first_of_any, empties, empties_term, all_empty, any_empty, repeats, follow_of_body, Rule1, Rule2, Rule3, AllApart, OneEmpty, Clear, ClearBelow, ClearInOrder, ClearOneOf}
+use Rattle.content_models.specs.Clear.{IsNameIn, Apart, and_then, first, first_of_term, first_in_order, first_of_any, empties, empties_term, all_empty, any_empty, repeats, follow_of_body, Rule1, Rule2, Rule3, AllApart, OneEmpty, Clear, ClearBelow, ClearInOrder, ClearOneOf}
 use Rattle.content_models.specs.Seen.{seen, term_seen, all_seen}
 use Rattle.content_models.specs.Laws.{LawOfRules}
 use Rattle.content_models.specs.Breaches.{Placed, placed, all_placed, placed_in_order, placed_of_any, KeepsRules, Breaks, StandsAt, StandsFrom, IsFirstBreach}
@@ -33,7 +33,7 @@ both_false true q e = absurd (cc)
 both_false false q e = (refl, e)
 
 -- a test of names tells what is in a list
-pub has-Has : (a : Name) (xs : List Name) → has xs a ≡ true → Has a xs
+pub has-Has : (a : Name) (xs : List Name) → has xs a ≡ true → IsNameIn a xs
 has-Has a [] e = absurd (cc)
 has-Has a (b ∷ xs) e =
     elim (either_true (name_eq a b) (has xs a) e) [ inl p ↦ inl ((name_eq-Decides a b).0 p) | inr q ↦ inr (has-Has a xs q) ]
@@ -46,7 +46,7 @@ or_right : (p q : Bool) → q ≡ true → (p || q) ≡ true
 or_right true q e = refl
 or_right false q e = e
 
-pub Has-has : (a : Name) (xs : List Name) → Has a xs → has xs a ≡ true
+pub Has-has : (a : Name) (xs : List Name) → IsNameIn a xs → has xs a ≡ true
 Has-has a [] h = absurd h
 Has-has a (b ∷ xs) (inl p) = or_left (name_eq a b) (has xs a) ((name_eq-Decides a b).1 p)
 Has-has a (b ∷ xs) (inr h) = or_right (name_eq a b) (has xs a) (Has-has a xs h)
@@ -72,7 +72,7 @@ module _ (P : Name → Bool) (follow : List Name) (same : (a : Name) → P a ≡
     λ e. one (either_true (P x) (list_any P xs) e),
   )
     where
-      some : (a : Name) → (P x ≡ false) × (list_any P xs ≡ false) → Has a (x ∷ xs) → Has a follow → ⊥
+      some : (a : Name) → (P x ≡ false) × (list_any P xs ≡ false) → IsNameIn a (x ∷ xs) → IsNameIn a follow → ⊥
       some a e (inl h) f =
           let here : P a ≡ true = same a ∙ Has-has a follow f in
           let there : P a ≡ false = ap P h ∙ e.0 in

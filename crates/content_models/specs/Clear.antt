@@ -6,13 +6,13 @@ use Rattle.xa_base.specs.declared.texts.Name.{Name}
 use Rattle.content_models.specs.Particle.{Particle, occurs, Term, element, sequence, choice, Particles, none, more}
 
 -- x is one of them
-abbrev pub Has : Name → List Name → Type 0
-Has x [] = ⊥
-Has x (y ∷ ys) = (x ≡ y) ⊎ Has x ys
+abbrev pub IsNameIn : Name → List Name → Type 0
+IsNameIn x [] = ⊥
+IsNameIn x (y ∷ ys) = (x ≡ y) ⊎ IsNameIn x ys
 
 -- none is in both
 abbrev pub Apart : List Name → List Name → Type 0
-Apart xs ys = (x : Name) → Has x xs → Has x ys → ⊥
+Apart xs ys = (x : Name) → IsNameIn x xs → IsNameIn x ys → ⊥
 
 -- the first names of what may be empty, and those of what comes after it
 abbrev pub and_then : List Name → Bool → List Name → List Name

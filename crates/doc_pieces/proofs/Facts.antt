@@ -4,7 +4,7 @@ use Rattle.std.specs.Prelude.{◌⊎◌, IsUtf8}
 use Rattle.std.proofs.lemmas.List.{length-append}
 use Rattle.std.proofs.lemmas.Str.{length-encode, len_utf8_bounds, IsUtf8-past_char}
 use Rattle.xa_base.specs.Characters.{is_xml_char}
-use Rattle.doc_pieces.specs.Pieces.{Tag, Piece, Declaration, Start, Empty, End, Comment, Instruction, CData, Reference, Character, Entity, Less, Greater, Ampersand, Apostrophe, Quotation, character_of, rest_of, IsTag, Exact, IsReference, IsCharacter, Form, Begins}
+use Rattle.doc_pieces.specs.Pieces.{Tag, Piece, Declaration, Start, Empty, End, Comment, Instruction, CData, Reference, Character, Entity, Less, Greater, Ampersand, Apostrophe, Quotation, character_of, rest_of, IsTag, Exact, IsReference, IsCharacter, PieceForm, Begins}
 use Rattle.doc_pieces.specs.Reading.{piece_at}
 use Rattle.doc_pieces.proofs.Utf8.{cut_utf8}
 use Rattle.doc_pieces.proofs.Names.{name_some}
@@ -30,7 +30,7 @@ reference_ends c text (inr (inl n)) = (35 ∷ n.digits, n.text_is)
 reference_ends c text (inr (inr n)) = (35 ∷ 120 ∷ n.digits, n.text_is)
 
 -- each piece but a character ends with a byte of ASCII
-ends_low : (p : Piece) (front : List ℕ) → Form p front → EndsLow front ⊎ ((c : ℕ) × (p ≡ Character c))
+ends_low : (p : Piece) (front : List ℕ) → PieceForm p front → EndsLow front ⊎ ((c : ℕ) × (p ≡ Character c))
 ends_low Declaration front f = inl (record { init = 60 ∷ 63 ∷ 120 ∷ 109 ∷ 108 ∷ (f.1.declares.version_text ++ f.1.declares.encoding_text ++ f.1.declares.standalone_text ++ f.1.declares.space ++ 63 ∷ []); last = 62; low = omega arith; is = f.2 ∙ ap (λ (x : List ℕ). 60 ∷ 63 ∷ 120 ∷ 109 ∷ 108 ∷ x) (f.1.declares.text_is ∙ sym (append_assoc (f.1.declares.version_text ++ f.1.declares.encoding_text ++ f.1.declares.standalone_text ++ f.1.declares.space) (63 ∷ []) (62 ∷ []))) })
 ends_low (Start tag) front f = inl (record { init = 60 ∷ (tag.name ++ f.1.listed ++ f.1.space); last = 62; low = omega arith; is = f.2 ∙ ap (λ (x : List ℕ). 60 ∷ x) f.1.text_is })
 ends_low (Empty tag) front f = inl (record { init = 60 ∷ (tag.name ++ f.1.listed ++ f.1.space ++ 47 ∷ []); last = 62; low = omega arith; is = f.2 ∙ ap (λ (x : List ℕ). 60 ∷ x) (f.1.text_is ∙ sym (append_assoc (tag.name ++ f.1.listed ++ f.1.space) (47 ∷ []) (62 ∷ []))) })
@@ -53,7 +53,7 @@ character_rest c bytes front rest (inr (inr l)) u is = low_rest bytes front rest
 pub begins_utf8 : (p : Piece) (bytes rest : List ℕ) → IsUtf8 bytes → Begins p bytes rest → IsUtf8 rest
 begins_utf8 p bytes rest u b = elim (ends_low p b.front b.form) [
   | inl e ↦ low_rest bytes b.front rest u b.parts e
-  | inr c ↦ character_rest c.0 bytes b.front rest (subst (λ (q : Piece). Form q b.front) c.1 b.form) u b.parts
+  | inr c ↦ character_rest c.0 bytes b.front rest (subst (λ (q : Piece). PieceForm q b.front) c.1 b.form) u b.parts
 ]
 
 character_some : (c : ℕ) (front : List ℕ) → IsCharacter c front → 1 ≤ length front
@@ -62,7 +62,7 @@ character_some c front (inr (inl l)) = omega (arith, ap length l.1)
 character_some c front (inr (inr l)) = omega (arith, ap length l.1)
 
 -- each piece has some bytes
-pub form_some : (p : Piece) (front : List ℕ) → Form p front → 1 ≤ length front
+pub form_some : (p : Piece) (front : List ℕ) → PieceForm p front → 1 ≤ length front
 form_some Declaration front f = omega (arith, ap length f.2)
 form_some (Start tag) front f = omega (arith, ap length f.2)
 form_some (Empty tag) front f = omega (arith, ap length f.2)
@@ -77,10 +77,10 @@ tag_some : (shut : List ℕ) (tag : Tag) (text : List ℕ) → 1 ≤ length shut
 tag_some shut tag text some t = omega (arith, some, ap length t.text_is, name_some tag.name t.named, length-append (tag.name ++ t.listed ++ t.space) shut, length-append (tag.name ++ t.listed) t.space, length-append tag.name t.listed)
 
 -- a tag has three bytes at least
-pub start_some : (tag : Tag) (front : List ℕ) → Form (Start tag) front → 3 ≤ length front
+pub start_some : (tag : Tag) (front : List ℕ) → PieceForm (Start tag) front → 3 ≤ length front
 start_some tag front f = omega (arith, ap length f.2, tag_some (62 ∷ []) tag f.0 (omega arith) f.1)
 
-pub empty_some : (tag : Tag) (front : List ℕ) → Form (Empty tag) front → 3 ≤ length front
+pub empty_some : (tag : Tag) (front : List ℕ) → PieceForm (Empty tag) front → 3 ≤ length front
 empty_some tag front f = omega (arith, ap length f.2, tag_some (47 ∷ 62 ∷ []) tag f.0 (omega arith) f.1)
 
 -- the rest behind a piece that is read is valid UTF-8 and shorter

@@ -6,7 +6,7 @@ use Rattle.std.proofs.lemmas.List.{drop_at}
 use Rattle.std.proofs.lemmas.Bool.{ne_eqb}
 use Rattle.std.proofs.lemmas.Str.{chars-nil, encodes-chars, encode_ascii, encode_same, chars_past_char}
 use Rattle.xa_base.specs.Characters.{is_xml_char, is_name}
-use Rattle.doc_pieces.specs.Pieces.{Tag, Piece, Declaration, Start, Empty, End, Comment, Instruction, CData, Reference, Character, behind, Exact, IsName, IsTag, IsCharacter, Form, Begins, NoPieceAt}
+use Rattle.doc_pieces.specs.Pieces.{Tag, Piece, Declaration, Start, Empty, End, Comment, Instruction, CData, Reference, Character, behind, Exact, IsName, IsTag, IsCharacter, PieceForm, Begins, NoPieceAt}
 use Rattle.doc_pieces.specs.Reading.{◌>>=◌, Gives, ahead, only, is_name_byte, first_at, char_at, line_end_at, character_at, comment_at, cdata_at, question_at, end_at, tag_at, markup_at, reference_at, piece_at}
 use Rattle.doc_pieces.proofs.Strips.{behind_again, behind_takes}
 use Rattle.doc_pieces.proofs.Tools.{bind_some, pairs, only_some, and_true, ahead_cases, never}
@@ -116,10 +116,10 @@ character_again c front rest (inr (inr l)) lone u =
 
 -- a piece whose text begins with this byte
 abbrev IsMarked : ℕ → List ℕ → Piece → List ℕ → Type 0
-IsMarked first bytes p rest = (text : List ℕ) × Form p (first ∷ text) × (bytes ≡ text ++ rest)
+IsMarked first bytes p rest = (text : List ℕ) × PieceForm p (first ∷ text) × (bytes ≡ text ++ rest)
 
-abbrev marked : (first : ℕ) (bytes rest : List ℕ) (p q : Piece) (text : List ℕ) → q ≡ p → Form q (first ∷ text) → bytes ≡ text ++ rest → IsMarked first bytes p rest
-marked first bytes rest p q text is form parts = (text, subst (λ (x : Piece). Form x (first ∷ text)) is form, parts)
+abbrev marked : (first : ℕ) (bytes rest : List ℕ) (p q : Piece) (text : List ℕ) → q ≡ p → PieceForm q (first ∷ text) → bytes ≡ text ++ rest → IsMarked first bytes p rest
+marked first bytes rest p q text is form parts = (text, subst (λ (x : Piece). PieceForm x (first ∷ text)) is form, parts)
 
 markup_takes : (bytes rest : List ℕ) (p : Piece) → IsUtf8 bytes → markup_at bytes ≡ Some (p, rest) → IsMarked 60 bytes p rest
 unfolding markup_at
@@ -179,7 +179,7 @@ piece_takes bytes rest p u e =
             begins_marked 38 bytes f.0 rest p (λ h. omega (arith, h)) (behind_takes (38 ∷ []) bytes f.0 f.1) (marked 38 f.0 rest p (Reference b.0.0) t.0 both.0 (t.0, t.1, refl) (t.2 ∙ ap (λ (x : List ℕ). t.0 ++ x) both.1)))
         | inr e2 ↦ (
             let h = character_takes bytes rest p u e1.0 e2.0 e2.1 in
-            record { front = h.1; form = subst (λ (x : Piece). Form x h.1) (sym h.2) h.3; parts = h.4; lone = h.5 })
+            record { front = h.1; form = subst (λ (x : Piece). PieceForm x h.1) (sym h.2) h.3; parts = h.4; lone = h.5 })
       ]
     ]
 
@@ -235,7 +235,7 @@ at_slash : (rest : List ℕ) → markup_at (47 ∷ rest) ≡ end_at rest
 unfolding markup_at
 at_slash rest = refl
 
-form_again : (p : Piece) (front rest : List ℕ) → Form p front → NotLone front rest → IsUtf8 (front ++ rest) → piece_at (front ++ rest) ≡ Some (p, rest)
+form_again : (p : Piece) (front rest : List ℕ) → PieceForm p front → NotLone front rest → IsUtf8 (front ++ rest) → piece_at (front ++ rest) ≡ Some (p, rest)
 form_again Declaration front rest f lone u = ap (λ (x : List ℕ). piece_at (x ++ rest)) f.2 ∙ at_less (63 ∷ 120 ∷ 109 ∷ 108 ∷ (f.0 ++ rest)) ∙ at_question (120 ∷ 109 ∷ 108 ∷ (f.0 ++ rest)) ∙ declaration_again f.0 rest f.1
 form_again (Start tag) front rest f lone u = ap (λ (x : List ℕ). piece_at (x ++ rest)) f.2 ∙ at_less (f.0 ++ rest) ∙ tag_first (62 ∷ []) tag f.0 rest f.1 ∙ start_again Exact tag f.0 rest f.1
 form_again (Empty tag) front rest f lone u = ap (λ (x : List ℕ). piece_at (x ++ rest)) f.2 ∙ at_less (f.0 ++ rest) ∙ tag_first (47 ∷ 62 ∷ []) tag f.0 rest f.1 ∙ empty_again Exact tag f.0 rest f.1

@@ -324,21 +324,21 @@ IsCharacter c text =
 -- ---- pieces
 
 -- a piece has this text
-abbrev pub Form : Piece → List ℕ → Type 0
-Form Declaration text = (inner : List ℕ) × IsAccepted inner × (text ≡ codes "<?xml" ++ inner)
-Form (Start tag) text = (inner : List ℕ) × IsTag Exact (codes ">") tag inner × (text ≡ codes "<" ++ inner)
-Form (Empty tag) text = (inner : List ℕ) × IsTag Exact (codes "/>") tag inner × (text ≡ codes "<" ++ inner)
-Form (End name) text = (inner : List ℕ) × IsEnd name inner × (text ≡ codes "</" ++ inner)
-Form Comment text = (inner : List ℕ) × IsComment inner × (text ≡ codes "<!--" ++ inner)
-Form Instruction text = (inner : List ℕ) × IsInstruction inner × (text ≡ codes "<?" ++ inner)
-Form (CData value) text = (inner : List ℕ) × IsCData value inner × (text ≡ codes "<![CDATA[" ++ inner)
-Form (Reference c) text = (inner : List ℕ) × IsReference c inner × (text ≡ codes "&" ++ inner)
-Form (Character c) text = IsCharacter c text
+abbrev pub PieceForm : Piece → List ℕ → Type 0
+PieceForm Declaration text = (inner : List ℕ) × IsAccepted inner × (text ≡ codes "<?xml" ++ inner)
+PieceForm (Start tag) text = (inner : List ℕ) × IsTag Exact (codes ">") tag inner × (text ≡ codes "<" ++ inner)
+PieceForm (Empty tag) text = (inner : List ℕ) × IsTag Exact (codes "/>") tag inner × (text ≡ codes "<" ++ inner)
+PieceForm (End name) text = (inner : List ℕ) × IsEnd name inner × (text ≡ codes "</" ++ inner)
+PieceForm Comment text = (inner : List ℕ) × IsComment inner × (text ≡ codes "<!--" ++ inner)
+PieceForm Instruction text = (inner : List ℕ) × IsInstruction inner × (text ≡ codes "<?" ++ inner)
+PieceForm (CData value) text = (inner : List ℕ) × IsCData value inner × (text ≡ codes "<![CDATA[" ++ inner)
+PieceForm (Reference c) text = (inner : List ℕ) × IsReference c inner × (text ≡ codes "&" ++ inner)
+PieceForm (Character c) text = IsCharacter c text
 
 -- a piece stands at the front of the bytes, and the rest is behind it; a lone CR stands before no LF
 pub record Begins (p : Piece) (bytes rest : List ℕ) : Type 0 where
   pub front : List ℕ
-  pub form : Form p front
+  pub form : PieceForm p front
   pub parts : bytes ≡ front ++ rest
   pub lone : (more : List ℕ) → front ≡ 0xD ∷ [] → rest ≡ 0xA ∷ more → ⊥
 

@@ -98,9 +98,10 @@ abbrev pub IsWholeOf : List ℕ → Rose ItemLabel → Type 0
 IsWholeOf bytes root = DocOf bytes root × (length bytes < 2 ^ 31 → AreItems root)
 
 whole_of : (bytes : List ℕ) (s : State) (r : Root s) → Stands bytes [] s → s.ended ≡ true → IsWholeOf bytes r.root
-whole_of bytes s r stands ended =
-    (is_whole bytes s r.root stands.utf8 stands.reaches ended r.above (stands.good.no_text r.above) r.kids (root_allowed s (place_of bytes []) r stands.good),
-      λ short. items_of s (place_of bytes []) r stands.good (omega arith))
+whole_of bytes s r stands ended = (
+  is_whole bytes s r.root stands.utf8 stands.reaches ended r.above (stands.good.no_text r.above) r.kids (root_allowed s (place_of bytes []) r stands.good),
+  λ short. items_of s (place_of bytes []) r stands.good (omega arith),
+)
 
 pub ends_whole : (bytes : List ℕ) (s : State) (root : Rose ItemLabel) → length bytes < 2 ^ 31 → Stands bytes [] s → s.ended ≡ true → s.kids ≡ root ∷ [] → DocOfItems bytes root
 ends_whole bytes s root short stands ended kids =

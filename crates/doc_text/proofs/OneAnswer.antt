@@ -15,12 +15,12 @@ nothing_begins laws p bytes rest e b = omega (arith, ap length (sym e ∙ b.part
 front_len : (p : Piece) (bytes rest : List ℕ) (b : Begins p bytes rest) → length b.front ≡ length bytes - length rest
 front_len p bytes rest b = omega (arith, ap length b.parts, length-append b.front rest)
 
-record Place : Type 0 where
+record PiecePlace : Type 0 where
   piece : Piece
   rest : List ℕ
   len : ℕ
 
-abbrev at_place : Piece → List ℕ → ℕ → Place
+abbrev at_place : Piece → List ℕ → ℕ → PiecePlace
 at_place p rest n = record { piece = p; rest = rest; len = n }
 
 pairs : (x y : Piece × List ℕ) → Some x ≡ Some y → (x.0 ≡ y.0) × (x.1 ≡ y.1)
@@ -37,9 +37,9 @@ whole_one laws [] (q ∷ qs) c at bytes ts us utf8 v w = absurd (nothing_begins 
 whole_one laws (p ∷ ps) [] c at bytes ts us utf8 v w = absurd (nothing_begins laws p bytes v.0 w.1 v.2)
 whole_one laws (p ∷ ps) (q ∷ qs) c at bytes ts us utf8 v w =
     let same = same_place laws p q bytes v.0 w.0 utf8 v.2 w.2 in
-    let moved : Whole qs (after p c) (at + length v.2.front) v.0 w.1 = subst (λ (x : Place). Whole qs (after x.piece c) (at + x.len) x.rest w.1) (sym same) w.5 in
+    let moved : Whole qs (after p c) (at + length v.2.front) v.0 w.1 = subst (λ (x : PiecePlace). Whole qs (after x.piece c) (at + x.len) x.rest w.1) (sym same) w.5 in
     let later : v.1 ≡ w.1 = whole_one laws ps qs (after p c) (at + length v.2.front) v.0 v.1 w.1 (laws.utf8 p bytes v.0 utf8 v.2) v.5 moved in
-    let p_is : p ≡ q = ap (λ (x : Place). x.piece) same in
+    let p_is : p ≡ q = ap (λ (x : PiecePlace). x.piece) same in
     v.4 ∙ ap (told p c at) later ∙ ap (λ (x : Piece). told x c at w.1) p_is ∙ sym w.4
 
 pub not_both : PieceLaws → (ps qs : List Piece) (c : Context) (at : ℕ) (bytes : List ℕ) (ts : List Token) (place : ℕ) (cause : DocWhy) → IsUtf8 bytes → Whole ps c at bytes ts → Broken qs c at bytes place cause → ⊥
@@ -51,7 +51,7 @@ not_both laws (p ∷ ps) [] c at (b ∷ bs) ts place cause utf8 v w = elim w.1 [
   | inl f ↦ f.0 p v.0 v.2
   | inr f ↦ (
       let same = same_place laws p f.0 (b ∷ bs) v.0 f.1 utf8 v.2 f.2 in
-      let p_is : p ≡ f.0 = ap (λ (x : Place). x.piece) same in
+      let p_is : p ≡ f.0 = ap (λ (x : PiecePlace). x.piece) same in
       let one : reason p c ≡ None = v.3 in
       let other : reason f.0 c ≡ Some cause = f.3 in
       let clash : reason p c ≡ Some cause = ap (λ (x : Piece). reason x c) p_is ∙ other in
@@ -59,13 +59,13 @@ not_both laws (p ∷ ps) [] c at (b ∷ bs) ts place cause utf8 v w = elim w.1 [
 ]
 not_both laws (p ∷ ps) (q ∷ qs) c at bytes ts place cause utf8 v w =
     let same = same_place laws p q bytes v.0 w.0 utf8 v.2 w.1 in
-    not_both laws ps qs (after p c) (at + length v.2.front) v.0 v.1 place cause (laws.utf8 p bytes v.0 utf8 v.2) v.5 (subst (λ (x : Place). Broken qs (after x.piece c) (at + x.len) x.rest place cause) (sym same) w.3)
+    not_both laws ps qs (after p c) (at + length v.2.front) v.0 v.1 place cause (laws.utf8 p bytes v.0 utf8 v.2) v.5 (subst (λ (x : PiecePlace). Broken qs (after x.piece c) (at + x.len) x.rest place cause) (sym same) w.3)
 
-pub record Fault : Type 0 where
+pub record DocFault : Type 0 where
   pub place : ℕ
   pub cause : DocWhy
 
-abbrev pub fault_of : ℕ → DocWhy → Fault
+abbrev pub fault_of : ℕ → DocWhy → DocFault
 fault_of place cause = record { place = place; cause = cause }
 
 some_is : (a b : DocWhy) → Some a ≡ Some b → a ≡ b
@@ -77,14 +77,14 @@ fault_at_one laws c (b ∷ bs) cause other utf8 (inl f) (inl g) = f.1.2 ∙ ap w
 fault_at_one laws c (b ∷ bs) cause other utf8 (inl f) (inr g) = absurd (f.0 g.0 g.1 g.2)
 fault_at_one laws c (b ∷ bs) cause other utf8 (inr f) (inl g) = absurd (g.0 f.0 f.1 f.2)
 fault_at_one laws c (b ∷ bs) cause other utf8 (inr f) (inr g) =
-    let p_is : f.0 ≡ g.0 = ap (λ (x : Place). x.piece) (same_place laws f.0 g.0 (b ∷ bs) f.1 g.1 utf8 f.2 g.2) in
+    let p_is : f.0 ≡ g.0 = ap (λ (x : PiecePlace). x.piece) (same_place laws f.0 g.0 (b ∷ bs) f.1 g.1 utf8 f.2 g.2) in
     some_is cause other (sym f.3 ∙ ap (λ (x : Piece). reason x c) p_is ∙ g.3)
 
 no_fault : PieceLaws → (p : Piece) (c : Context) (bytes rest : List ℕ) (cause : DocWhy) → IsUtf8 bytes → Begins p bytes rest → reason p c ≡ None → FaultAt c bytes cause → ⊥
 no_fault laws p c [] rest cause utf8 b none f = nothing_begins laws p [] rest refl b
 no_fault laws p c (x ∷ bs) rest cause utf8 b none (inl f) = f.0 p rest b
 no_fault laws p c (x ∷ bs) rest cause utf8 b none (inr f) =
-    let p_is : p ≡ f.0 = ap (λ (y : Place). y.piece) (same_place laws p f.0 (x ∷ bs) rest f.1 utf8 b f.2) in
+    let p_is : p ≡ f.0 = ap (λ (y : PiecePlace). y.piece) (same_place laws p f.0 (x ∷ bs) rest f.1 utf8 b f.2) in
     let other : reason f.0 c ≡ Some cause = f.3 in
     let clash : reason p c ≡ Some cause = ap (λ (y : Piece). reason y c) p_is ∙ other in
     absurd cc
@@ -95,4 +95,4 @@ broken_one laws [] (q ∷ qs) c at bytes a b cause other utf8 v w = absurd (no_f
 broken_one laws (p ∷ ps) [] c at bytes a b cause other utf8 v w = absurd (no_fault laws p c bytes v.0 other utf8 v.1 v.2 w.1)
 broken_one laws (p ∷ ps) (q ∷ qs) c at bytes a b cause other utf8 v w =
     let same = same_place laws p q bytes v.0 w.0 utf8 v.1 w.1 in
-    broken_one laws ps qs (after p c) (at + length v.1.front) v.0 a b cause other (laws.utf8 p bytes v.0 utf8 v.1) v.3 (subst (λ (x : Place). Broken qs (after x.piece c) (at + x.len) x.rest b other) (sym same) w.3)
+    broken_one laws ps qs (after p c) (at + length v.1.front) v.0 a b cause other (laws.utf8 p bytes v.0 utf8 v.1) v.3 (subst (λ (x : PiecePlace). Broken qs (after x.piece c) (at + x.len) x.rest b other) (sym same) w.3)

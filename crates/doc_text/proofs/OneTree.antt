@@ -17,7 +17,7 @@ use Rattle.doc_text.specs.Contexts.{start}
 use Rattle.doc_text.specs.Tokens.{Token, Opens, Closes, Words, tokens, tokens_all}
 use Rattle.doc_text.specs.Documents.{mark_len, DocOf, BrokenAt}
 use Rattle.doc_text.proofs.PieceLaws.{PieceLaws}
-use Rattle.doc_text.proofs.OneAnswer.{whole_one, not_both, broken_one, Fault}
+use Rattle.doc_text.proofs.OneAnswer.{whole_one, not_both, broken_one, DocFault}
 
 -- ---- tokens
 
@@ -100,7 +100,7 @@ one_fault laws bytes a b cause other (inl v) (inr w) = absurd (v.0 w.0)
 one_fault laws bytes a b cause other (inr v) (inl w) = absurd (w.0 v.0)
 one_fault laws bytes a b cause other (inr v) (inr w) =
     let e = broken_one laws v.1.0 w.1.0 start (mark_len bytes) (drop (mark_len bytes) bytes) a b cause other (utf8_behind bytes v.0) v.1.1 w.1.1 in
-    (ap (λ (f : Fault). f.place) e, ap (λ (f : Fault). f.cause) e)
+    (ap (λ (f : DocFault). f.place) e, ap (λ (f : DocFault). f.cause) e)
 
 -- ---- the longest front that is UTF-8
 

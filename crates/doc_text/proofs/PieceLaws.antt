@@ -3,7 +3,7 @@ use Rattle.std.proofs.Common.{◌≡◌, ℕ, ◌≤◌, Bool, List, length, Som
 use Rattle.std.specs.Prelude.{IsUtf8, encode_utf8}
 use Rattle.doc_text.proofs.Keeping.{IsFine}
 use Rattle.doc_text.proofs.Soundness.{AreFine}
-use Rattle.doc_pieces.specs.Pieces.{Piece, Declaration, Start, Empty, End, Comment, Instruction, CData, Reference, Character, Begins, Form}
+use Rattle.doc_pieces.specs.Pieces.{Piece, Declaration, Start, Empty, End, Comment, Instruction, CData, Reference, Character, Begins, PieceForm}
 use Rattle.doc_pieces.specs.Reading.{piece_at}
 use Rattle.doc_pieces.specs.Reasons.{NoneReason}
 use Rattle.doc_pieces.specs.declared.reason.NoneWhy.{NoneWhy}
@@ -24,7 +24,7 @@ pub record PieceLaws : Type 0 where
   pub takes : (bytes rest : List ℕ) (p : Piece) → IsUtf8 bytes → piece_at bytes ≡ Some (p, rest) → Begins p bytes rest
   pub again : (p : Piece) (bytes rest : List ℕ) → IsUtf8 bytes → Begins p bytes rest → piece_at bytes ≡ Some (p, rest)
   pub utf8 : (p : Piece) (bytes rest : List ℕ) → IsUtf8 bytes → Begins p bytes rest → IsUtf8 rest
-  pub nonempty : (p : Piece) (front : List ℕ) → Form p front → 1 ≤ length front
+  pub nonempty : (p : Piece) (front : List ℕ) → PieceForm p front → 1 ≤ length front
   pub fine : (p : Piece) (bytes rest : List ℕ) → IsUtf8 bytes → Begins p bytes rest → Fine p
   pub none_one : (first : Bool) (bytes : List ℕ) (a b : NoneWhy) → IsUtf8 bytes → NoneReason first bytes a → NoneReason first bytes b → a ≡ b
   pub none_some : (first : Bool) (bytes : List ℕ) → IsUtf8 bytes → (why : NoneWhy) × NoneReason first bytes why

@@ -14,7 +14,7 @@ ghost use Rattle.doc_text.specs.Private.Building.{state, Scoped, Takes, Begins, 
 use crate::error::{DocError, DocWhy};
 use crate::label::{Absent, Attributes, Bindings, ItemLabel};
 use crate::names::{is_long, is_qname, prefix_of};
-use crate::scope::Scope;
+use crate::scope::BindingsInScope;
 use crate::short_lists::push;
 use crate::tags::{enter, is_unbound, value_of};
 use doc_pieces::{Element, Found, plain_run, text_of};
@@ -41,7 +41,7 @@ pub(crate) struct Frame<'a> {
 pub(crate) struct Builder<'a> {
     alloc: Global,
     absent: Absent,
-    scope: Scope<'a>,
+    scope: BindingsInScope<'a>,
     // The elements that are open, the innermost last.
     open: Vec<Frame<'a>>,
     // What stands in the innermost of them, or outside.
@@ -87,7 +87,7 @@ impl<'a> Builder<'a> {
         ensures { IfOk result Begins }
     {
         let absent = Absent::new(alloc)?;
-        let scope = Scope::new(alloc)?;
+        let scope = BindingsInScope::new(alloc)?;
         Ok(Builder {
             alloc,
             absent,

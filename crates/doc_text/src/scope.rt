@@ -21,14 +21,14 @@ struct Binding<'a> {
 /// The bindings in scope, each a prefix with a namespace, seen with the outermost first. A prefix is found in time in
 /// proportion to the logarithm of how many prefixes are bound, whatever names a stranger chooses.
 #[derive(Drop)]
-pub(crate) struct Scope<'a> {
+pub(crate) struct BindingsInScope<'a> {
     // The outermost first.
     bindings: Vec<Binding<'a>>,
     // The place of the innermost binding of each prefix.
     innermost: BTreeMap<&'a [u8], usize>,
 }
 
-impl<'a> Model for Scope<'a> {
+impl<'a> Model for BindingsInScope<'a> {
     ghost use Rattle.std.specs.Prelude.{List, ℕ, map};
     ghost use Rattle.doc_text.specs.Private.Scopes.{bound, Indexed};
 
@@ -47,12 +47,12 @@ pub(crate) fn text_of(alloc: Global, bytes: &[u8]) -> Result<Text, Memory>
     Text::from_str(alloc, doc_pieces::text_of(bytes))
 }
 
-impl<'a> Scope<'a> {
+impl<'a> BindingsInScope<'a> {
     // What is bound outside the root.
-    pub(crate) fn new(alloc: Global) -> Result<Scope<'a>, Memory>
+    pub(crate) fn new(alloc: Global) -> Result<BindingsInScope<'a>, Memory>
         ensures { IfOk result (λ scope. scope ≡ (xml_prefix, xml_space) ∷ []) }
     {
-        let mut scope = Scope {
+        let mut scope = BindingsInScope {
             bindings: Vec::new(alloc),
             innermost: BTreeMap::new(alloc),
         };

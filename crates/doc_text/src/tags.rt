@@ -15,7 +15,7 @@ use crate::label::{Absent, Attributes, Bindings};
 use crate::names::{
     binds, bound_prefix, is_long, is_plain, is_qname, is_reserved, local_of, prefix_of,
 };
-use crate::scope::{Scope, text_of};
+use crate::scope::{BindingsInScope, text_of};
 use crate::short_lists::push;
 use doc_pieces::{Attribute, Element, Value};
 use std::alloc::Global;
@@ -88,13 +88,13 @@ fn has_reserved(tag: &Element<'_>) -> bool
 }
 
 #[tactic(auto, unfolding(crate::specs::Namespaces::is_unbound))]
-pub(crate) fn is_unbound(scope: &Scope<'_>, prefix: &[u8]) -> bool
+pub(crate) fn is_unbound(scope: &BindingsInScope<'_>, prefix: &[u8]) -> bool
     ensures { result ≡ names.is_unbound (reverse scope.now) prefix.now }
 {
     !prefix.is_empty() && (prefix == b"xmlns".as_slice() || scope.space_of(prefix).is_none())
 }
 
-fn is_any_unbound(scope: &Scope<'_>, attributes: &[Attribute<'_>]) -> bool
+fn is_any_unbound(scope: &BindingsInScope<'_>, attributes: &[Attribute<'_>]) -> bool
     ensures { result ≡ list_any (λ a. not (names.binds a.name.now) && names.is_unbound (reverse scope.now) (names.prefix_of a.name.now)) attributes.now }
 {
     attributes
@@ -102,7 +102,7 @@ fn is_any_unbound(scope: &Scope<'_>, attributes: &[Attribute<'_>]) -> bool
         .any(|a| !binds(a.name) && is_unbound(scope, prefix_of(a.name)))
 }
 
-fn has_unbound(scope: &Scope<'_>, tag: &Element<'_>) -> bool
+fn has_unbound(scope: &BindingsInScope<'_>, tag: &Element<'_>) -> bool
     ensures { result ≡ contexts.has_unbound (tag_seen tag.now) (reverse scope.now) }
 {
     let is_own = is_unbound(scope, prefix_of(tag.name));
@@ -122,7 +122,7 @@ fn copy_space(alloc: Global, space: Option<&Text>) -> Result<Text, Memory>
 
 // The expanded name of an element.
 #[tactic(auto, unfolding(crate::specs::Namespaces::element_name))]
-fn element_name(alloc: Global, scope: &Scope<'_>, written: &[u8]) -> Result<Name, Memory>
+fn element_name(alloc: Global, scope: &BindingsInScope<'_>, written: &[u8]) -> Result<Name, Memory>
     requires { names.is_qname written.now ≡ true }
     ensures { IfOk result (λ name. name ≡ names.element_name (reverse scope.now) written.now) }
 {
@@ -131,7 +131,7 @@ fn element_name(alloc: Global, scope: &Scope<'_>, written: &[u8]) -> Result<Name
     Ok(Name { space, local })
 }
 
-fn attribute_space<'s>(scope: &'s Scope<'_>, prefix: &[u8]) -> Option<&'s Text>
+fn attribute_space<'s>(scope: &'s BindingsInScope<'_>, prefix: &[u8]) -> Option<&'s Text>
     ensures { names.or_absent (option_map (λ x. x.now) result) ≡ names.attribute_space (reverse scope.now) prefix.now }
 {
     if prefix.is_empty() {
@@ -143,7 +143,11 @@ fn attribute_space<'s>(scope: &'s Scope<'_>, prefix: &[u8]) -> Option<&'s Text>
 
 // The expanded name of an attribute.
 #[tactic(auto, unfolding(crate::specs::Namespaces::attribute_name))]
-fn attribute_name(alloc: Global, scope: &Scope<'_>, written: &[u8]) -> Result<Name, Memory>
+fn attribute_name(
+    alloc: Global,
+    scope: &BindingsInScope<'_>,
+    written: &[u8],
+) -> Result<Name, Memory>
     requires { names.is_qname written.now ≡ true }
     ensures { IfOk result (λ name. name ≡ names.attribute_name (reverse scope.now) written.now) }
 {
@@ -155,7 +159,7 @@ fn attribute_name(alloc: Global, scope: &Scope<'_>, written: &[u8]) -> Result<Na
 // The attributes that bind nothing.
 fn read_attributes(
     alloc: Global,
-    scope: &Scope<'_>,
+    scope: &BindingsInScope<'_>,
     attributes: &[Attribute<'_>],
 ) -> Result<Vec<(Name, Text)>, Memory>
     requires { are_named (map attribute_of attributes.now) ≡ true }
@@ -199,7 +203,7 @@ fn read_bindings(alloc: Global, attributes: &[Attribute<'_>]) -> Result<Vec<(Tex
 // Adds what the attributes bind to what is in scope, the last of them first.
 fn declare<'a>(
     alloc: Global,
-    scope: &mut Scope<'a>,
+    scope: &mut BindingsInScope<'a>,
     attributes: &[Attribute<'a>],
 ) -> Result<(), Memory>
     requires { are_named (map attribute_of attributes.now) ≡ true }
@@ -221,7 +225,7 @@ fn declare<'a>(
 // What the attributes bind, which is in scope then.
 fn enter_scope<'a>(
     alloc: Global,
-    scope: &mut Scope<'a>,
+    scope: &mut BindingsInScope<'a>,
     attributes: &[Attribute<'a>],
 ) -> Result<Vec<(Text, Text)>, Memory>
     requires { are_named (map attribute_of attributes.now) ≡ true }
@@ -306,7 +310,7 @@ fn head_of(
 fn enter_plain(
     alloc: Global,
     absent: &Absent,
-    scope: &Scope<'_>,
+    scope: &BindingsInScope<'_>,
     ended: bool,
     depth: usize,
     tag: &Element<'_>,
@@ -334,7 +338,7 @@ fn enter_plain(
 pub(crate) fn enter<'a>(
     alloc: Global,
     absent: &Absent,
-    scope: &mut Scope<'a>,
+    scope: &mut BindingsInScope<'a>,
     ended: bool,
     depth: usize,
     tag: &Element<'a>,

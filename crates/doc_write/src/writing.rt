@@ -16,13 +16,13 @@ const XML_DECLARATION: &[u8] = b"<?xml version=\"1.0\" encoding=\"UTF-8\"?>\n";
 
 // Where characters stand: in an element, or in an attribute's value.
 #[derive(Clone, Copy)]
-enum Place {
+enum CharacterPlace {
     Content,
     Value,
 }
 
 // What is written in place of a byte that can't stand there as itself.
-fn reference(place: Place, byte: u8) -> Option<&'static [u8]>
+fn reference(place: CharacterPlace, byte: u8) -> Option<&'static [u8]>
     ensures some { IfSome result (λ text. escape_in place byte ≡ text.now) }
     ensures none { IfNone result (escape_in place byte ≡ byte ∷ []) }
 {
@@ -31,16 +31,16 @@ fn reference(place: Place, byte: u8) -> Option<&'static [u8]>
         (b'<', _) => b"&lt;",
         (b'>', _) => b"&gt;",
         (b'\r', _) => b"&#13;",
-        (b'"', Place::Value) => b"&quot;",
-        (b'\t', Place::Value) => b"&#9;",
-        (b'\n', Place::Value) => b"&#10;",
+        (b'"', CharacterPlace::Value) => b"&quot;",
+        (b'\t', CharacterPlace::Value) => b"&#9;",
+        (b'\n', CharacterPlace::Value) => b"&#10;",
         _ => return None,
     };
     Some(text)
 }
 
 // The longest front of the bytes that stands there as itself, and the rest.
-fn split_plain(place: Place, bytes: &[u8]) -> (&[u8], &[u8])
+fn split_plain(place: CharacterPlace, bytes: &[u8]) -> (&[u8], &[u8])
     ensures parts { bytes.now ≡ result.0.now ++ result.1.now }
     ensures plain { flat_map (escape_in place) result.0.now ≡ result.0.now }
 {
@@ -52,7 +52,7 @@ fn split_plain(place: Place, bytes: &[u8]) -> (&[u8], &[u8])
     (bytes, &[])
 }
 
-fn write_escaped(out: &mut Vec<u8>, place: Place, bytes: &[u8]) -> Result<(), AllocError>
+fn write_escaped(out: &mut Vec<u8>, place: CharacterPlace, bytes: &[u8]) -> Result<(), AllocError>
     ensures { OnOk result (out.new.items ≡ out.old.items ++ flat_map (escape_in place) bytes.now) }
 {
     let mut rest = bytes;
@@ -86,7 +86,7 @@ fn write_value(out: &mut Vec<u8>, value: &[u8]) -> Result<(), AllocError>
     ensures { OnOk result (out.new.items ≡ out.old.items ++ written_value value.now) }
 {
     out.extend_from_slice(b"=\"")?;
-    write_escaped(out, Place::Value, value)?;
+    write_escaped(out, CharacterPlace::Value, value)?;
     out.push(b'"')?;
     Ok(())
 }
@@ -171,7 +171,7 @@ fn write_tree(
 {
     let kids = tree.kids();
     match tree.label() {
-        ItemLabel::Text { text, .. } => write_escaped(out, Place::Content, text.bytes()),
+        ItemLabel::Text { text, .. } => write_escaped(out, CharacterPlace::Content, text.bytes()),
         ItemLabel::Element {
             name,
             attributes,

@@ -8,7 +8,7 @@ use Rattle.std.proofs.lemmas.Bool.{true≢false, and_parts}
 use Rattle.std.proofs.lemmas.Str.{IsUtf8-append, encodes-chars, length-encode, len_utf8_bounds}
 use Rattle.xa_base.specs.Characters.{is_xml_char}
 use Rattle.xa_base.specs.Limits.{is_empty}
-use Rattle.doc_pieces.specs.Pieces.{Piece, Reference, Character, IsText, Form}
+use Rattle.doc_pieces.specs.Pieces.{Piece, Reference, Character, IsText, PieceForm}
 use Rattle.doc_text.specs.Contexts.{Open, Context, is_nil, reason, brackets_after, after}
 use Rattle.doc_text.specs.Tokens.{Token, Opens, Closes, Words, join}
 use Rattle.doc_text.specs.Documents.{told, Whole}
@@ -22,7 +22,7 @@ abbrev pub Reads : Context → ℕ → List ℕ → List Token → Type 0
 Reads c at bytes ts = IsUtf8 bytes × ((ps : List Piece) × Whole ps c at bytes ts)
 
 -- one piece more at the front
-pub one_more : (p : Piece) (c : Context) (at : ℕ) (front rest : List ℕ) (ts : List Token) → Form p front → (front ≡ 0xD ∷ [] → ⊥) → IsUtf8 front → reason p c ≡ None
+pub one_more : (p : Piece) (c : Context) (at : ℕ) (front rest : List ℕ) (ts : List Token) → PieceForm p front → (front ≡ 0xD ∷ [] → ⊥) → IsUtf8 front → reason p c ≡ None
     → Reads (after p c) (at + length front) rest ts → Reads c at (front ++ rest) (told p c at ts)
 one_more p c at front rest ts form lone utf8 free (u, (ps, whole)) =
     (IsUtf8-append front rest utf8 u, (p ∷ ps, (rest, ts, record { front = front; form = form; parts = refl; lone = λ more e r. lone e }, free, refl, whole)))

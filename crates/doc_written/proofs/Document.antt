@@ -11,7 +11,7 @@ use Rattle.xa_base.specs.WhiteSpace.{is_white_space}
 use Rattle.xa_base.specs.declared.texts.Name.{Name}
 use Rattle.xa_base.specs.Limits.{is_name_part, is_xmlns, has_xml_chars}
 use Rattle.label_tree.specs.Rose.{Rose, node, Roses, none, more}
-use Rattle.doc_pieces.specs.Pieces.{Declaration, Character, IsAssigned, IsAccepted, Form}
+use Rattle.doc_pieces.specs.Pieces.{Declaration, Character, IsAssigned, IsAccepted, PieceForm}
 use Rattle.doc_text.specs.declared.label.ItemLabel.{ItemLabel}
 use Rattle.doc_text.specs.declared.label.ItemLabel.TheVariants.{Element, Text}
 use Rattle.doc_text.specs.Sound.{has_name, is_sound_space, is_sound_name, is_sound_attribute, are_sound_attributes, is_sound_binding, is_sound_label, is_sound, are_sound, AreItems}
@@ -63,7 +63,7 @@ heading_low : list_all is_low heading ≡ true
 unfolding is_xml_char
 heading_low = refl
 
-heading_form : Form Declaration heading
+heading_form : PieceForm Declaration heading
 heading_form = (codes " version=\"1.0\" encoding=\"UTF-8\"?>", accepted, refl)
 
 heading_free : reason Declaration start ≡ None
@@ -74,7 +74,7 @@ line_xml : is_xml_char 10 ≡ true
 unfolding is_xml_char
 line_xml = refl
 
-line_form : Form (Character 10) (10 ∷ [])
+line_form : PieceForm (Character 10) (10 ∷ [])
 line_form = inl (line_xml, (λ e. omega (arith, e)), (λ e. omega (arith, e)), (λ e. omega (arith, e)), sym (encode_ascii 10 (omega arith)))
 
 line_utf8 : IsUtf8 (10 ∷ [])

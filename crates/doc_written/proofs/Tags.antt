@@ -10,7 +10,7 @@ use Rattle.std.proofs.lemmas.Str.{IsUtf8-append, IsUtf8-nil, IsUtf8-encode, enco
 use Rattle.xa_base.specs.declared.texts.Name.{Name}
 use Rattle.xa_base.specs.WhiteSpace.{is_white_space}
 use Rattle.xa_base.specs.Names.{name_eq}
-use Rattle.doc_pieces.specs.Pieces.{Tag, Start, Empty, IsName, IsText, IsSpace, Exact, IsAttribute, AreAttributes, IsTag, Form}
+use Rattle.doc_pieces.specs.Pieces.{Tag, Start, Empty, IsName, IsText, IsSpace, Exact, IsAttribute, AreAttributes, IsTag, PieceForm}
 use Rattle.doc_pieces.proofs.Tools.{or_false}
 use Rattle.doc_text.specs.declared.error.DocWhy.{DocWhy}
 use Rattle.doc_text.specs.Sound.{has_name}
@@ -217,10 +217,10 @@ module _ (table scope : List (List ℕ × List ℕ)) where
       text_is = refl;
     }
 
-    pub start_form : Form (Start tag) (start ++ 62 ∷ [])
+    pub start_form : PieceForm (Start tag) (start ++ 62 ∷ [])
     start_form = (inner (62 ∷ []), is_tag (62 ∷ []), start_text (written_name table name) declarations (flat_map (written_attribute table) attributes) (62 ∷ []))
 
-    pub empty_form : Form (Empty tag) (start ++ 47 ∷ 62 ∷ [])
+    pub empty_form : PieceForm (Empty tag) (start ++ 47 ∷ 62 ∷ [])
     empty_form = (inner (47 ∷ 62 ∷ []), is_tag (47 ∷ 62 ∷ []), start_text (written_name table name) declarations (flat_map (written_attribute table) attributes) (47 ∷ 62 ∷ []))
 
     pub start_utf8 : IsUtf8 start

@@ -11,7 +11,7 @@ use Rattle.xa_base.specs.Limits.{is_empty, has_xml_chars, is_name_part, is_xmlns
 use Rattle.xa_base.specs.Namespaces.{xml_prefix, xml_space}
 use Rattle.xa_base.specs.Entries.{beside}
 use Rattle.label_tree.specs.Rose.{Rose, node, Roses, none, more, Allowed, AllowedAll}
-use Rattle.doc_pieces.specs.Pieces.{Tag, Start, Empty, End, Form}
+use Rattle.doc_pieces.specs.Pieces.{Tag, Start, Empty, End, PieceForm}
 use Rattle.doc_text.specs.declared.label.ItemLabel.{ItemLabel}
 use Rattle.doc_text.specs.declared.label.ItemLabel.TheVariants.{Element, Text}
 use Rattle.doc_text.specs.Labels.{MayHave}
@@ -176,7 +176,7 @@ module _ (table outer declared : List (List ℕ × List ℕ)) (name : Name) (att
         let bound : is_unbound (scope_of opened) (prefix_of (written_name table name)) ≡ false = ap (λ (s : List (List ℕ × List ℕ)). is_unbound s (prefix_of (written_name table name))) opened_scope ∙ fine.named.bound in
         none_true (end_tests (written_name table name) (scope_of opened) opened) (ap not fine.named.qname, (fine.named.short, (bound, (ap not own, tt))))
 
-    end_form : Form (End (written_name table name)) end
+    end_form : PieceForm (End (written_name table name)) end
     end_form = (
       written_name table name ++ [] ++ 62 ∷ [],
       record { space = []; named = fine.named.named; blank = refl; text_is = refl },

@@ -9,9 +9,9 @@ use Rattle.facet_rules.specs.declared.refusals.FacetError.{FacetError}
 use Rattle.facet_rules.specs.Refusals.{why_of}
 
 -- with what is due, or for want of memory
-abbrev pub Answers : {A : Type 0} → Result A FacetError → (Result A FacetWhy → Type 0) → Type 0
-Answers (Ok value) Due = Due (Ok value)
-Answers (Err error) Due = IfSome (why_of error) (λ w. Due (Err w))
+abbrev pub AnswersFacets : {A : Type 0} → Result A FacetError → (Result A FacetWhy → Type 0) → Type 0
+AnswersFacets (Ok value) Due = Due (Ok value)
+AnswersFacets (Err error) Due = IfSome (why_of error) (λ w. Due (Err w))
 
 -- with a type of the space that is due
 abbrev pub AnswersSpace : Result Simple FacetError → (Result Space FacetWhy → Type 0) → Type 0

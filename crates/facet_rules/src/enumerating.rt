@@ -5,7 +5,7 @@ ghost use Rattle.std.specs.Ordering.{nat_cmp, int_cmp};
 ghost use Rattle.std.specs.Cmp.Lexicographic.{slice_cmp};
 ghost use Rattle.simple_types.specs.Seen.{space_of};
 ghost use Rattle.simple_types.specs.Sound.{Sound};
-ghost use Rattle.facet_rules.specs.Answering.{Answers, AnswersSpace};
+ghost use Rattle.facet_rules.specs.Answering.{AnswersFacets, AnswersSpace};
 ghost use Rattle.facet_rules.specs.Applying.{has_bounds};
 ghost use Rattle.facet_rules.specs.Private.Deciding.{has_number, has_word, IsTexts};
 ghost use Rattle.facet_rules.specs.Refusals.{why_of};
@@ -33,7 +33,7 @@ fn has_number(now: &Simple, n: i128) -> bool
 fn number_item(now: &Simple, text: &Text) -> Result<i128, FacetError>
     requires sound { Sound (space_of now.now) }
     requires numbers { has_bounds (space_of now.now) ≡ true }
-    ensures { Answers result (λ due. due ≡ rule.number_item (space_of now.now) text.now) }
+    ensures { AnswersFacets result (λ due. due ≡ rule.number_item (space_of now.now) text.now) }
 {
     match collapsed_number(text.as_str()) {
         None => Err(FacetError::NotInBase),
@@ -74,7 +74,7 @@ fn word_item(
 ) -> Result<Text, FacetError>
     requires sound { Sound (space_of now.now) }
     requires texts { IsTexts space (space_of now.now) }
-    ensures { Answers result (λ due. due ≡ rule.word_item space (space_of now.now) text.now) }
+    ensures { AnswersFacets result (λ due. due ≡ rule.word_item space (space_of now.now) text.now) }
 {
     let word = treat(alloc, space, text)?;
     if has_word(now, &word) {

@@ -11,7 +11,7 @@ use Rattle.content_models.specs.declared.breaches.Breach.{Breach}
 use Rattle.content_models.specs.declared.particles.ParticleLabel.{ParticleLabel}
 use Rattle.content_models.proofs.Telling.{kept_clear, KeepAll}
 use Rattle.link_names.specs.declared.places.Place.{Place}
-use Rattle.link_names.specs.declared.faults.Fault.{Fault}
+use Rattle.link_names.specs.declared.faults.LinkingFault.{LinkingFault}
 use Rattle.link_names.specs.declared.faults.LinkWhy.TheVariants.{NotClear}
 use Rattle.link_names.specs.Order.{place, fault, rank_of, IsFirstSuch}
 use Rattle.link_names.proofs.Firsts.{Earlier, not_earlier}
@@ -22,13 +22,13 @@ kept_all [] k = All-nil KeepsRules
 kept_all (p ∷ ps) k = All-cons KeepsRules p ps k.0 (kept_all ps k.1)
 
 -- a content model that is clear has no such fault
-none_breaks : (m : Rose ParticleLabel) → Clear (seen m) [] → (f : Fault) → BreaksIn (Some m) f → ⊥
+none_breaks : (m : Rose ParticleLabel) → Clear (seen m) [] → (f : LinkingFault) → BreaksIn (Some m) f → ⊥
 none_breaks m clear f b =
     let a = b.1 in
     a.4.0 (All-contains KeepsRules (all_placed m []) a.1 (kept_all (all_placed m []) (kept_clear m [] clear)) (a.0, a.2, a.3))
 
 -- what stands from a place on doesn't stand before it
-not_before : (g : Fault) (l : ParticleLabel) (b : Breach) → g.place.file ≡ l.file → g.place.at ≡ l.at → rank_of g.why ≡ 14 → StandsFrom l b
+not_before : (g : LinkingFault) (l : ParticleLabel) (b : Breach) → g.place.file ≡ l.file → g.place.at ≡ l.at → rank_of g.why ≡ 14 → StandsFrom l b
     → Earlier g (fault NotClear (place b.file b.at)) → ⊥
 not_before g l b file at rank (inl s) (inl e) = omega (arith, file, s, e)
 not_before g l b file at rank (inl s) (inr (inl e)) = let d = e.0 in omega (arith, file, s, d)

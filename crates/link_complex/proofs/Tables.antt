@@ -10,7 +10,7 @@ use Rattle.std.proofs.lemmas.Bool.{true≢false}
 use Rattle.xa_base.specs.declared.texts.Name.{Name}
 use Rattle.xa_base.specs.Names.{name_eq, name_cmp}
 use Rattle.xa_base.proofs.NameLaws.{name_eq-Decides}
-use Rattle.link_names.specs.declared.faults.Fault.{Fault}
+use Rattle.link_names.specs.declared.faults.LinkingFault.{LinkingFault}
 use Rattle.link_names.specs.declared.faults.LinkWhy.TheVariants.{TypesDiffer}
 use Rattle.link_names.specs.Order.{fault, precedes, IsFirstSuch, OneHas, earlier, first_of}
 use Rattle.link_names.proofs.Firsts.{precedes_itself}
@@ -93,9 +93,9 @@ from_behind ps p None r t b h = absurd (t h.0 h.1 h.2)
 from_behind ps p (Some l) r t b h = b.2 ∙ from_other ps p l b.0 (λ d. b.1.0 d) (not_false b.0 (l.kind ≡ p.kind) b.1) t h
 
 module _ (ps : List KeptParticle) (i : ℕ) (p : KeptParticle) (lt : i < length ps) (is : p ≡ get_or ps i p) (o : Option Leader) (r : Bool)
-    (told : Told (particles_of ps) p.name.now o) (behind : IsBehind o (particle_of p) r) (found : Option Fault)
+    (told : Told (particles_of ps) p.name.now o) (behind : IsBehind o (particle_of p) r) (found : Option LinkingFault)
     (so_far : IsFirstSuch (OneHas (IsOtherAt (particles_of ps)) (particles_of (take i ps))) found) where
-  step : (here : Option Fault) → IsFirstSuch (IsOtherAt (particles_of ps) (particle_of p)) here
+  step : (here : Option LinkingFault) → IsFirstSuch (IsOtherAt (particles_of ps) (particle_of p)) here
       → IsFirstSuch (OneHas (IsOtherAt (particles_of ps)) (particles_of (take (i + 1) ps))) (first_of found here)
   step here h = one_mapped (IsOtherAt (particles_of ps)) particle_of ps i p lt is found here so_far h
 

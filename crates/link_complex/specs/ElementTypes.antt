@@ -12,7 +12,7 @@ use Rattle.content_models.specs.declared.particles.ParticleKind.TheVariants as p
 use Rattle.schema_parts.specs.declared.simple_definitions.RawRef.TheVariants as reference
 use Rattle.schema_parts.specs.Raw.{Kind, NamedKind, SimpleKind, ComplexKind, Element, Local, Reference, Own, Document}
 use Rattle.link_names.specs.declared.places.Place.{Place}
-use Rattle.link_names.specs.declared.faults.Fault.{Fault}
+use Rattle.link_names.specs.declared.faults.LinkingFault.{LinkingFault}
 use Rattle.link_names.specs.declared.faults.LinkWhy.TheVariants.{TypesDiffer}
 use Rattle.link_names.specs.Order.{place, fault, is_before, OneHas}
 use Rattle.link_complex.specs.ComplexTypes.{ComplexDefinition, of_document, model_of}
@@ -84,30 +84,30 @@ abbrev mutual
   all_typed types rose.none = []
   all_typed types (rose.more t ts) = typed_particles types t ++ all_typed types ts
 
-abbrev pub IsIn : List TypedParticle → TypedParticle → Type 0
-IsIn [] p = ⊥
-IsIn (q ∷ qs) p = (q ≡ p) ⊎ IsIn qs p
+abbrev pub HasParticle : List TypedParticle → TypedParticle → Type 0
+HasParticle [] p = ⊥
+HasParticle (q ∷ qs) p = (q ≡ p) ⊎ HasParticle qs p
 
 -- one of the same name stands before it and has another type
 abbrev pub IsOther : List TypedParticle → TypedParticle → Type 0
 IsOther ps p =
-    (q : TypedParticle) × IsIn ps q × (q.name ≡ p.name) × (is_before q.place p.place ≡ true) × (q.kind ≡ p.kind → ⊥)
+    (q : TypedParticle) × HasParticle ps q × (q.name ≡ p.name) × (is_before q.place p.place ≡ true) × (q.kind ≡ p.kind → ⊥)
 
-abbrev pub IsOtherAt : List TypedParticle → TypedParticle → Fault → Type 0
+abbrev pub IsOtherAt : List TypedParticle → TypedParticle → LinkingFault → Type 0
 IsOtherAt ps p f = (f ≡ fault TypesDiffer p.place) × IsOther ps p
 
-abbrev pub HasOther : List TypedParticle → Fault → Type 0
+abbrev pub HasOther : List TypedParticle → LinkingFault → Type 0
 HasOther ps f = OneHas (IsOtherAt ps) ps f
 
-abbrev pub HasOtherIn : (ℕ → Option TypeIdentity) → Option (Rose ParticleLabel) → Fault → Type 0
+abbrev pub HasOtherIn : (ℕ → Option TypeIdentity) → Option (Rose ParticleLabel) → LinkingFault → Type 0
 HasOtherIn types None f = ⊥
 HasOtherIn types (Some model) f = HasOther (typed_particles types model) f
 
-abbrev pub HasOtherOf : (ℕ → Option TypeIdentity) → ComplexDefinition → Fault → Type 0
+abbrev pub HasOtherOf : (ℕ → Option TypeIdentity) → ComplexDefinition → LinkingFault → Type 0
 HasOtherOf types c f = HasOtherIn types (model_of c.body.content) f
 
-abbrev pub DiffersIn : (Name → Option TypeIdentity) → Document → Fault → Type 0
+abbrev pub DiffersIn : (Name → Option TypeIdentity) → Document → LinkingFault → Type 0
 DiffersIn types d f = OneHas (HasOtherOf (type_at types d)) (of_document d) f
 
-abbrev pub Differs : List Document → Fault → Type 0
+abbrev pub Differs : List Document → LinkingFault → Type 0
 Differs docs f = OneHas (DiffersIn (type_named (typed_elements docs))) docs f

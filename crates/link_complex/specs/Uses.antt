@@ -3,7 +3,7 @@
 use Rattle.std.specs.Prelude.{ℕ, List, map}
 use Rattle.std.specs.List.{flat_map}
 use Rattle.schema_parts.specs.Raw.{Use, Document}
-use Rattle.link_names.specs.declared.faults.Fault.{Fault}
+use Rattle.link_names.specs.declared.faults.LinkingFault.{LinkingFault}
 use Rattle.link_names.specs.declared.faults.LinkWhy.TheVariants.{DuplicateUse}
 use Rattle.link_names.specs.Order.{place}
 use Rattle.link_names.specs.Globals.{GlobalComponent, global, repeated}
@@ -16,8 +16,8 @@ abbrev pub uses_of_type : ComplexDefinition → List GlobalComponent
 uses_of_type c = map (use_part c.place.file) c.body.uses
 
 -- those whose name one before them has
-abbrev pub double_uses_of : ComplexDefinition → List Fault
+abbrev pub double_uses_of : ComplexDefinition → List LinkingFault
 double_uses_of c = repeated DuplicateUse (uses_of_type c)
 
-abbrev pub double_uses : List Document → List Fault
+abbrev pub double_uses : List Document → List LinkingFault
 double_uses docs = flat_map double_uses_of (complex_types docs)

@@ -7,18 +7,18 @@ ghost use Rattle.link_complex.specs.Content.{BreaksIn, IsUnclear};
 
 use crate::definitions::complex_types;
 use content_models::{Particle, first_breach};
-use link_names::{Fault, LinkWhy, Place, first_of};
+use link_names::{LinkWhy, LinkingFault, Place, first_of};
 use schema_parts::{RawContent, RawDoc};
 use std::alloc::Global;
 use xa_base::Memory;
 
 // The first particle of a content model that breaks a rule.
-fn first_in_model(alloc: Global, model: &Particle) -> Result<Option<Fault>, Memory>
+fn first_in_model(alloc: Global, model: &Particle) -> Result<Option<LinkingFault>, Memory>
     ensures { IfOk result (λ found. IsFirstSuch (BreaksIn (Some model.now)) found) }
 {
     let found = first_breach(alloc, model)?;
     match found {
-        Some(breach) => Ok(Some(Fault {
+        Some(breach) => Ok(Some(LinkingFault {
             place: Place {
                 file: breach.file,
                 at: breach.at,
@@ -29,7 +29,7 @@ fn first_in_model(alloc: Global, model: &Particle) -> Result<Option<Fault>, Memo
     }
 }
 
-fn first_in_content(alloc: Global, content: &RawContent) -> Result<Option<Fault>, Memory>
+fn first_in_content(alloc: Global, content: &RawContent) -> Result<Option<LinkingFault>, Memory>
     ensures { IfOk result (λ found. IsFirstSuch (BreaksIn (model_of content.now)) found) }
 {
     match content {
@@ -42,7 +42,7 @@ fn first_in_content(alloc: Global, content: &RawContent) -> Result<Option<Fault>
 
 /// The first particle that breaks a rule of clear content models. The time grows as n log n with the number n of
 /// particles, whatever their names are.
-pub fn first_unclear(alloc: Global, docs: &[RawDoc]) -> Result<Option<Fault>, Memory>
+pub fn first_unclear(alloc: Global, docs: &[RawDoc]) -> Result<Option<LinkingFault>, Memory>
     ensures { IfOk result (λ found. IsFirstSuch (IsUnclear (map doc_of docs.now)) found) }
 {
     let complexes = complex_types(alloc, docs)?;

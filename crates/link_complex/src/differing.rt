@@ -12,7 +12,7 @@ use crate::identities::TypeIdentity;
 use crate::leaders::first_other;
 use crate::particles::typed_particles;
 use content_models::Particle;
-use link_names::{Fault, first_of};
+use link_names::{LinkingFault, first_of};
 use schema_parts::{RawContent, RawDoc};
 use std::alloc::Global;
 use std::collections::BTreeMap;
@@ -23,7 +23,7 @@ fn first_in_model<'a>(
     types: &BTreeMap<&'a Name, TypeIdentity<'a>>,
     doc: &'a RawDoc,
     model: &'a Particle,
-) -> Result<Option<Fault>, Memory>
+) -> Result<Option<LinkingFault>, Memory>
     ensures { IfOk result (λ found. IsFirstSuch (HasOtherIn (types_in types.now doc.now) (Some model.now)) found) }
 {
     let particles = typed_particles(alloc, types, doc, model)?;
@@ -35,7 +35,7 @@ fn first_in_content<'a>(
     types: &BTreeMap<&'a Name, TypeIdentity<'a>>,
     doc: &'a RawDoc,
     content: &'a RawContent,
-) -> Result<Option<Fault>, Memory>
+) -> Result<Option<LinkingFault>, Memory>
     ensures { IfOk result (λ found. IsFirstSuch (HasOtherIn (types_in types.now doc.now) (model_of content.now)) found) }
 {
     match content {
@@ -51,7 +51,7 @@ fn first_in_document<'a>(
     alloc: Global,
     types: &BTreeMap<&'a Name, TypeIdentity<'a>>,
     doc: &'a RawDoc,
-) -> Result<Option<Fault>, Memory>
+) -> Result<Option<LinkingFault>, Memory>
     ensures { IfOk result (λ found. IsFirstSuch (DiffersIn (type_in types.now) (doc_of doc.now)) found) }
 {
     let complexes = document_complex_types(alloc, doc)?;
@@ -66,7 +66,7 @@ fn first_in_document<'a>(
 /// The first element particle of a content model that one of the same name stands before whose type is another: not the
 /// same built-in type, nor the one of the same name, nor the one written at the same place. The time grows as n log n
 /// with the number of particles, whatever their names are.
-pub fn first_differing(alloc: Global, docs: &[RawDoc]) -> Result<Option<Fault>, Memory>
+pub fn first_differing(alloc: Global, docs: &[RawDoc]) -> Result<Option<LinkingFault>, Memory>
     ensures { IfOk result (λ found. IsFirstSuch (Differs (map doc_of docs.now)) found) }
 {
     let types = element_types(alloc, docs)?;

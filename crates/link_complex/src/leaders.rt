@@ -8,7 +8,7 @@ ghost use Rattle.link_complex.specs.Private.Leading as told;
 
 use crate::identities::{TypeIdentity, is_same};
 use crate::particles::TypedParticle;
-use link_names::{Fault, LinkWhy, Place, earlier};
+use link_names::{LinkWhy, LinkingFault, Place, earlier};
 use std::alloc::Global;
 use std::collections::BTreeMap;
 use xa_base::{Memory, Name};
@@ -109,7 +109,7 @@ fn is_behind_other<'a>(
 pub(crate) fn first_other(
     alloc: Global,
     particles: &[TypedParticle<'_>],
-) -> Result<Option<Fault>, Memory>
+) -> Result<Option<LinkingFault>, Memory>
     ensures { IfOk result (λ found. IsFirstSuch (HasOther (particles_of particles.now)) found) }
 {
     let mut leaders = BTreeMap::new(alloc);
@@ -120,7 +120,7 @@ pub(crate) fn first_other(
     let mut found = None;
     'particles: for particle in particles {
         if is_behind_other(&leaders, *particle) {
-            let fault = Fault {
+            let fault = LinkingFault {
                 place: particle.place,
                 why: LinkWhy::TypesDiffer,
             };

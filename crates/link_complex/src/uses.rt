@@ -1,14 +1,14 @@
 //! Attributes of one name in a complex type.
 ghost use Rattle.std.specs.Prelude.{◌≡◌, ◌++◌, List, map, IfOk};
 ghost use Rattle.schema_parts.specs.Documents.{doc_of};
-ghost use Rattle.link_names.specs.declared.faults.Fault.{Fault};
+ghost use Rattle.link_names.specs.declared.faults.LinkingFault.{LinkingFault};
 ghost use Rattle.link_names.specs.Order.{IsFirstOf};
 ghost use Rattle.link_names.specs.Seen.{globals_of};
 ghost use Rattle.link_complex.specs.Seen.{definition_of};
 ghost use Rattle.link_complex.specs.Uses.{uses_of_type, double_uses_of, double_uses};
 
 use crate::definitions::{ComplexType, complex_types};
-use link_names::{Fault, LinkWhy, NamedPart, Place, first_repeated};
+use link_names::{LinkWhy, LinkingFault, NamedPart, Place, first_repeated};
 use schema_parts::RawDoc;
 use std::alloc::Global;
 use xa_base::Memory;
@@ -34,9 +34,9 @@ fn uses<'a>(alloc: Global, complex: ComplexType<'a>) -> Result<Vec<NamedPart<'a>
 fn first_in_type(
     alloc: Global,
     complex: ComplexType<'_>,
-    found: Option<Fault>,
-) -> Result<Option<Fault>, Memory>
-    ensures { (fs : List Fault) → IsFirstOf fs found → IfOk result (λ first. IsFirstOf (fs ++ double_uses_of (definition_of complex.entry)) first) }
+    found: Option<LinkingFault>,
+) -> Result<Option<LinkingFault>, Memory>
+    ensures { (fs : List LinkingFault) → IsFirstOf fs found → IfOk result (λ first. IsFirstOf (fs ++ double_uses_of (definition_of complex.entry)) first) }
 {
     let uses = uses(alloc, complex)?;
     first_repeated(alloc, &uses, LinkWhy::DuplicateUse, found)
@@ -44,7 +44,7 @@ fn first_in_type(
 
 /// The first attribute of a complex type whose name one before it has. The time grows as n log n with the number of
 /// attributes, whatever their names are.
-pub fn first_double_use(alloc: Global, docs: &[RawDoc]) -> Result<Option<Fault>, Memory>
+pub fn first_double_use(alloc: Global, docs: &[RawDoc]) -> Result<Option<LinkingFault>, Memory>
     ensures { IfOk result (λ found. IsFirstOf (double_uses (map doc_of docs.now)) found) }
 {
     let complexes = complex_types(alloc, docs)?;

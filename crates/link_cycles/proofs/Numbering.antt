@@ -13,7 +13,7 @@ use Rattle.link_names.specs.declared.places.Place.{Place}
 use Rattle.link_names.proofs.Placing.{name_test, cut}
 use Rattle.schema_parts.specs.Seen.{base_of, bases_in}
 use Rattle.schema_parts.specs.declared.simple_definitions.RawBase.{RawBase}
-use Rattle.link_cycles.specs.Cycles.{Numbers, is_named, stands_at, number_from, part_of, parts_of_bases}
+use Rattle.link_cycles.specs.Cycles.{SimpleNumbers, is_named, stands_at, number_from, part_of, parts_of_bases}
 use Rattle.link_cycles.specs.Seen.{definition_of, definitions_of}
 use Rattle.link_cycles.specs.Tables.{named_in, placed_in, names}
 use Rattle.link_cycles.specs.SimpleTypes.{SimpleDefinition}
@@ -67,13 +67,13 @@ module _ (ds : List SimpleType) (i : ℕ) (d : SimpleType) (lt : 0 < i) (le : i 
 
 -- the parts of a list of bases, with one base more
 
-joined : (ns : Numbers) (file : ℕ) (xs ys : List RawBase) → parts_of_bases ns file (bases_in (xs ++ ys)) ≡ parts_of_bases ns file (bases_in xs) ++ parts_of_bases ns file (bases_in ys)
+joined : (ns : SimpleNumbers) (file : ℕ) (xs ys : List RawBase) → parts_of_bases ns file (bases_in (xs ++ ys)) ≡ parts_of_bases ns file (bases_in xs) ++ parts_of_bases ns file (bases_in ys)
 joined ns file [] ys = refl
 joined ns file (x ∷ xs) ys =
     ap (λ ms. part_of ns file (base_of x) ++ ms) (joined ns file xs ys)
     ∙ sym (append_assoc (part_of ns file (base_of x)) (parts_of_bases ns file (bases_in xs)) (parts_of_bases ns file (bases_in ys)))
 
-pub one_part : (ns : Numbers) (file : ℕ) (bs : List RawBase) (i : ℕ) (b : RawBase) → i < length bs → b ≡ get_or bs i b
+pub one_part : (ns : SimpleNumbers) (file : ℕ) (bs : List RawBase) (i : ℕ) (b : RawBase) → i < length bs → b ≡ get_or bs i b
     → parts_of_bases ns file (bases_in (take (i + 1) bs)) ≡ parts_of_bases ns file (bases_in (take i bs)) ++ part_of ns file (base_of b)
 one_part ns file bs i b lt is =
     ap (λ xs. parts_of_bases ns file (bases_in xs)) (take_more bs i b lt ∙ ap (λ x. take i bs ++ x ∷ []) (sym is))

@@ -7,7 +7,7 @@ use Rattle.schema_parts.specs.declared.simple_definitions.RawRef.{RawRef}
 use Rattle.schema_parts.specs.declared.simple_definitions.RawRef.TheVariants as reference
 use Rattle.schema_parts.specs.Raw.{Base, Named, Inner, Bases, none, more, How, Restrict, ListOf, UnionOf, Document}
 use Rattle.link_names.specs.declared.places.Place.{Place}
-use Rattle.link_names.specs.declared.faults.Fault.{Fault}
+use Rattle.link_names.specs.declared.faults.LinkingFault.{LinkingFault}
 use Rattle.link_names.specs.declared.faults.LinkWhy.TheVariants.{CircularType}
 use Rattle.link_names.specs.Order.{place, fault}
 use Rattle.link_cycles.specs.Graphs.{IsOnCycle}
@@ -25,11 +25,11 @@ number_from n passes [] = None
 number_from n passes (d ∷ ds) = if passes d then Some n else number_from (suc n) passes ds
 
 -- the numbers of simple types, by their names and by the places where they were written
-pub record Numbers : Type 0 where
+pub record SimpleNumbers : Type 0 where
   pub named : Name → Option ℕ
   pub placed : Place → Option ℕ
 
-abbrev pub numbers_in : List SimpleDefinition → Numbers
+abbrev pub numbers_in : List SimpleDefinition → SimpleNumbers
 numbers_in ds = record { named = λ a. number_from 0 (is_named a) ds; placed = λ p. number_from 0 (stands_at p) ds }
 
 abbrev pub one_of : Option ℕ → List ℕ
@@ -37,39 +37,39 @@ one_of None = []
 one_of (Some n) = n ∷ []
 
 -- the simple types that one is made from, by their numbers; a built-in one has none
-abbrev pub named_part : Numbers → RawRef → List ℕ
+abbrev pub named_part : SimpleNumbers → RawRef → List ℕ
 named_part ns (reference.Builtin which) = []
 named_part ns (reference.Other name) = one_of (ns.named name)
 
-abbrev pub part_of : Numbers → ℕ → Base → List ℕ
+abbrev pub part_of : SimpleNumbers → ℕ → Base → List ℕ
 part_of ns file (Named r) = named_part ns r
 part_of ns file (Inner at body_at how) = one_of (ns.placed (place file at))
 
-abbrev pub parts_of_bases : Numbers → ℕ → Bases → List ℕ
+abbrev pub parts_of_bases : SimpleNumbers → ℕ → Bases → List ℕ
 parts_of_bases ns file none = []
 parts_of_bases ns file (more b bs) = part_of ns file b ++ parts_of_bases ns file bs
 
-abbrev pub parts_of : Numbers → ℕ → How → List ℕ
+abbrev pub parts_of : SimpleNumbers → ℕ → How → List ℕ
 parts_of ns file (Restrict base facets) = part_of ns file base
 parts_of ns file (ListOf item) = part_of ns file item
 parts_of ns file (UnionOf members) = parts_of_bases ns file members
 
-abbrev pub parts_in : Numbers → SimpleDefinition → List ℕ
+abbrev pub parts_in : SimpleNumbers → SimpleDefinition → List ℕ
 parts_in ns d = parts_of ns d.place.file d.how
 
 -- from each simple type to those that it is made from
 abbrev pub edges : List SimpleDefinition → List (List ℕ)
 edges ds = map (parts_in (numbers_in ds)) ds
 
-abbrev pub IsCircularAt : List SimpleDefinition → ℕ → Fault → Type 0
+abbrev pub IsCircularAt : List SimpleDefinition → ℕ → LinkingFault → Type 0
 IsCircularAt ds n f = (d : SimpleDefinition) × (slice_get ds n ≡ Some d) × (f ≡ fault CircularType d.place) × IsOnCycle (edges ds) n
 
 -- one of the first n
-abbrev pub IsCircularBelow : List SimpleDefinition → ℕ → Fault → Type 0
+abbrev pub IsCircularBelow : List SimpleDefinition → ℕ → LinkingFault → Type 0
 IsCircularBelow ds n f = (m : ℕ) × (m < n) × IsCircularAt ds m f
 
-abbrev pub IsCircularOf : List SimpleDefinition → Fault → Type 0
+abbrev pub IsCircularOf : List SimpleDefinition → LinkingFault → Type 0
 IsCircularOf ds f = (n : ℕ) × IsCircularAt ds n f
 
-abbrev pub IsCircular : List Document → Fault → Type 0
+abbrev pub IsCircular : List Document → LinkingFault → Type 0
 IsCircular docs f = IsCircularOf (simple_types docs) f

@@ -7,7 +7,7 @@ use Rattle.xa_base.specs.declared.texts.Name.{Name}
 use Rattle.xa_base.specs.Names.{name_eq, name_cmp}
 use Rattle.link_names.specs.declared.places.Place.{Place}
 use Rattle.link_cycles.specs.Cycles as cycles
-use Rattle.link_cycles.specs.declared.numbers.Numbers.{Numbers}
+use Rattle.link_cycles.specs.declared.numbers.SimpleNumbers.{SimpleNumbers}
 
 -- what the table has at the name
 abbrev pub named_in : BTreeMap (Bor Name) ℕ → Name → Option ℕ
@@ -17,7 +17,7 @@ named_in table a = get_by (λ k. name_cmp a k.now) table
 abbrev pub placed_in : BTreeMap (ℕ × ℕ) ℕ → Place → Option ℕ
 placed_in table p = get_by (λ k. ordering_then (nat_cmp p.file k.0) (nat_cmp p.at k.1)) table
 
-abbrev pub told_by : Numbers → cycles.Numbers
+abbrev pub told_by : SimpleNumbers → cycles.SimpleNumbers
 told_by n = record { named = named_in n.named; placed = placed_in n.placed }
 
 -- a name that is there is this one

@@ -11,13 +11,13 @@ use crate::definitions::{SimpleType, simple_types};
 use crate::graphs::{falls_from, is_falling, is_on_cycle};
 use crate::numbers::graph_of;
 use crate::ranks::ranks_of;
-use link_names::{Fault, LinkWhy, earlier};
+use link_names::{LinkWhy, LinkingFault, earlier};
 use schema_parts::RawDoc;
 use std::alloc::Global;
 use xa_base::Memory;
 
 // Whether what was found stays the first beside one more.
-fn is_kept(found: Option<Fault>, fault: Fault) -> bool
+fn is_kept(found: Option<LinkingFault>, fault: LinkingFault) -> bool
     ensures { result ≡ true → Keeps found fault }
 {
     match found {
@@ -55,9 +55,9 @@ fn next_found(
     ranks: &[usize],
     falling: bool,
     n: usize,
-    fault: Fault,
-    found: Option<Fault>,
-) -> Result<Option<Fault>, Memory>
+    fault: LinkingFault,
+    found: Option<LinkingFault>,
+) -> Result<Option<LinkingFault>, Memory>
     requires within { n < length graph.now }
     requires falls { falling ≡ true → (a b : ℕ) → IsEdge (rows_of graph.now) a b → slice_index ranks.now b ≤ slice_index ranks.now a }
     ensures { IfOk result (λ first. IsNext (IsOnCycle (rows_of graph.now) n) found fault first) }
@@ -76,7 +76,7 @@ fn first_of_graph(
     alloc: Global,
     definitions: &[SimpleType<'_>],
     graph: &[Vec<usize>],
-) -> Result<Option<Fault>, Memory>
+) -> Result<Option<LinkingFault>, Memory>
     requires { rows_of graph.now ≡ edges (definitions_of definitions.now) }
     ensures { IfOk result (λ found. IsFirstSuch (IsCircularOf (definitions_of definitions.now)) found) }
 {
@@ -85,7 +85,7 @@ fn first_of_graph(
     let mut found = None;
     'numbers: for n in 0..definitions.len() {
         let definition = definitions[n];
-        let fault = Fault {
+        let fault = LinkingFault {
             place: definition.place,
             why: LinkWhy::CircularType,
         };
@@ -97,7 +97,7 @@ fn first_of_graph(
 /// The first simple type that is made of itself. The time grows with the number of parts of simple types, and as
 /// n log n with that of names and places, where each list of a document stands in the order written; one search more is
 /// made each time that a type on a cycle stands before all found so far.
-pub fn first_circular(alloc: Global, docs: &[RawDoc]) -> Result<Option<Fault>, Memory>
+pub fn first_circular(alloc: Global, docs: &[RawDoc]) -> Result<Option<LinkingFault>, Memory>
     ensures { IfOk result (λ found. IsFirstSuch (IsCircular (map doc_of docs.now)) found) }
 {
     let definitions = simple_types(alloc, docs)?;

@@ -9,5 +9,5 @@ mod ranks;
 
 pub use cycles::first_circular;
 pub use definitions::{SimpleType, simple_types};
-pub use numbers::Numbers;
+pub use numbers::SimpleNumbers;
 pub use ranks::ranks_of;

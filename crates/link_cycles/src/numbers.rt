@@ -17,7 +17,7 @@ use xa_base::{Memory, Name};
 
 /// The numbers of simple types by their names and by the places where they were written, each a file and a place in it.
 #[derive(Drop)]
-pub struct Numbers<'a> {
+pub struct SimpleNumbers<'a> {
     named: BTreeMap<&'a Name, usize>,
     placed: BTreeMap<(u32, u64), usize>,
 }
@@ -72,14 +72,14 @@ fn placed(
     Ok(table)
 }
 
-impl<'a> Numbers<'a> {
+impl<'a> SimpleNumbers<'a> {
     /// The numbers of these simple types, from 0, in their order; of several with one name or place, that of the first.
-    pub fn of(alloc: Global, definitions: &[SimpleType<'a>]) -> Result<Numbers<'a>, Memory>
+    pub fn of(alloc: Global, definitions: &[SimpleType<'a>]) -> Result<SimpleNumbers<'a>, Memory>
         ensures { IfOk result (λ numbers. told_by numbers ≡ numbers_in (definitions_of definitions.now)) }
     {
         let named = named(alloc, definitions)?;
         let placed = placed(alloc, definitions)?;
-        Ok(Numbers { named, placed })
+        Ok(SimpleNumbers { named, placed })
     }
 
     /// The number of the simple type with this name.
@@ -194,6 +194,6 @@ pub(crate) fn graph_of<'a>(
 ) -> Result<Vec<Vec<usize>>, Memory>
     ensures { IfOk result (λ graph. rows_of graph.items ≡ edges (definitions_of definitions.now)) }
 {
-    let numbers = Numbers::of(alloc, definitions)?;
+    let numbers = SimpleNumbers::of(alloc, definitions)?;
     numbers.graph(alloc, definitions)
 }

@@ -3,7 +3,7 @@ use Rattle.std.proofs.Common.{◌≡◌, ℕ, false, inl, inr, Option, Some, Non
 use Rattle.std.specs.Prelude.{nat_eq, if◌then◌else◌}
 use Rattle.std.proofs.lemmas.Bool.{cases_order, true≢false}
 use Rattle.facet_rules.specs.declared.refusals.FacetWhy.TheVariants as facet
-use Rattle.link_names.specs.declared.faults.Fault.{Fault}
+use Rattle.link_names.specs.declared.faults.LinkingFault.{LinkingFault}
 use Rattle.link_names.specs.declared.faults.LinkWhy.{LinkWhy}
 use Rattle.link_names.specs.declared.faults.LinkWhy.TheVariants as why
 use Rattle.link_names.specs.Order.{rank_of, precedes, IsFirstSuch}
@@ -35,11 +35,11 @@ reason_of why.DuplicateUse = refl
 reason_of why.TypesDiffer = refl
 reason_of why.NotClear = refl
 
-not_earlier : (f g : Fault) → precedes f g ≡ false → Earlier f g → ⊥
+not_earlier : (f g : LinkingFault) → precedes f g ≡ false → Earlier f g → ⊥
 not_earlier f g e l = true≢false (sym (true_earlier f g l) ∙ e)
 
 -- of two faults one precedes the other, or they are one
-neither : (f g : Fault) → (Earlier f g → ⊥) → (Earlier g f → ⊥) → f ≡ g
+neither : (f g : LinkingFault) → (Earlier f g → ⊥) → (Earlier g f → ⊥) → f ≡ g
 neither f g a b =
     elim (cases_order f.place.file g.place.file) [
       | inr apart ↦ elim apart [ inl lt ↦ absurd (a (inl lt)) | inr gt ↦ absurd (b (inl gt)) ]
@@ -54,7 +54,7 @@ neither f g a b =
       ]
     ]
 
-pub one_first : (P : Fault → Type 0) (found other : Option Fault) → IsFirstSuch P found → IsFirstSuch P other → found ≡ other
+pub one_first : (P : LinkingFault → Type 0) (found other : Option LinkingFault) → IsFirstSuch P found → IsFirstSuch P other → found ≡ other
 one_first P None None a b = refl
 one_first P None (Some g) a b = absurd (a g b.0)
 one_first P (Some f) None a b = absurd (b f a.0)

@@ -19,7 +19,7 @@ use Rattle.xa_base.proofs.NameLaws.{name_eq-Decides, name_cmp_total, exact_names
 use Rattle.link_names.specs.declared.places.Place.{Place}
 use Rattle.link_names.specs.declared.global_names.NamedPart.{NamedPart}
 use Rattle.link_names.specs.Order.{is_before, fault, IsFirstOf, earlier}
-use Rattle.link_names.specs.declared.faults.Fault.{Fault}
+use Rattle.link_names.specs.declared.faults.LinkingFault.{LinkingFault}
 use Rattle.link_names.specs.declared.faults.LinkWhy.{LinkWhy}
 use Rattle.link_names.specs.Globals.{GlobalComponent, is_repeated}
 use Rattle.link_names.specs.Seen.{globals_of, global_of}
@@ -125,7 +125,7 @@ module _ (why : LinkWhy) (all : List GlobalComponent) (gs : List NamedPart) (i :
   told = ap (map (λ h. fault why h.place)) kept ∙ map-append (λ h. fault why h.place) (filter (is_repeated all) (globals_of (take i gs))) (filter (is_repeated all) (global_of g ∷ []))
 
   -- a component that an earlier one has the name of
-  pub with_fault : (fs : List Fault) (first : Option Fault) → is_repeated all (global_of g) ≡ true
+  pub with_fault : (fs : List LinkingFault) (first : Option LinkingFault) → is_repeated all (global_of g) ≡ true
       → IsFirstOf (fs ++ map (λ h. fault why h.place) (filter (is_repeated all) (globals_of (take i gs)))) first
       → IsFirstOf (fs ++ map (λ h. fault why h.place) (filter (is_repeated all) (globals_of (take (i + 1) gs)))) (earlier first (fault why g.place))
   with_fault fs first e so_far =
@@ -136,7 +136,7 @@ module _ (why : LinkWhy) (all : List GlobalComponent) (gs : List NamedPart) (i :
       ∙ sym (append_assoc fs (map (λ h. fault why h.place) (filter (is_repeated all) (globals_of (take i gs)))) (fault why g.place ∷ [])) in
       rw longer (one_more (fs ++ map (λ h. fault why h.place) (filter (is_repeated all) (globals_of (take i gs)))) first (fault why g.place) so_far)
 
-  pub without_fault : (fs : List Fault) (first : Option Fault) → is_repeated all (global_of g) ≡ false
+  pub without_fault : (fs : List LinkingFault) (first : Option LinkingFault) → is_repeated all (global_of g) ≡ false
       → IsFirstOf (fs ++ map (λ h. fault why h.place) (filter (is_repeated all) (globals_of (take i gs)))) first
       → IsFirstOf (fs ++ map (λ h. fault why h.place) (filter (is_repeated all) (globals_of (take (i + 1) gs)))) first
   without_fault fs first e so_far =

@@ -12,7 +12,7 @@ use Rattle.std.proofs.lemmas.List.Folds.{list_any-append}
 use Rattle.xa_base.specs.declared.texts.Name.{Name}
 use Rattle.xa_base.specs.Names.{name_eq, name_cmp}
 use Rattle.xa_base.proofs.NameLaws.{name_eq-Decides}
-use Rattle.link_names.specs.declared.faults.Fault.{Fault}
+use Rattle.link_names.specs.declared.faults.LinkingFault.{LinkingFault}
 use Rattle.link_names.specs.declared.global_names.NamedPart.{NamedPart}
 use Rattle.link_names.specs.declared.references.Mention.{Mention as Kept}
 use Rattle.link_names.specs.declared.references.Need.{Need}
@@ -54,7 +54,7 @@ one_name gs i g old new lt is so_far up a =
     ∙ either (name_eq a g.name.now) (is_there (globals_of (take i gs)) a)
     ∙ sym (ap (λ xs. is_there xs a) all ∙ list_any-append (λ h. name_eq a h.name) (globals_of (take i gs)) (global_of g ∷ []))
 
-module _ (F : Mention → Option Fault) (ms : List Kept) (i : ℕ) (m : Kept) (lt : i < length ms) (is : m ≡ get_or ms i m) (found : Option Fault)
+module _ (F : Mention → Option LinkingFault) (ms : List Kept) (i : ℕ) (m : Kept) (lt : i < length ms) (is : m ≡ get_or ms i m) (found : Option LinkingFault)
     (so_far : IsFirstOf (filter_map F (mentions_of (take i ms))) found) where
   all : mentions_of (take (i + 1) ms) ≡ mentions_of (take i ms) ++ mention_of m ∷ []
   all = map_more mention_of ms i m lt ∙ ap (λ x. mentions_of (take i ms) ++ mention_of x ∷ []) (sym is)
@@ -62,7 +62,7 @@ module _ (F : Mention → Option Fault) (ms : List Kept) (i : ℕ) (m : Kept) (l
   told : filter_map F (mentions_of (take (i + 1) ms)) ≡ filter_map F (mentions_of (take i ms)) ++ filter_map F (mention_of m ∷ [])
   told = ap (filter_map F) all ∙ filter_map-append F (mentions_of (take i ms)) (mention_of m ∷ [])
 
-  pub wrong_one : (f : Fault) → F (mention_of m) ≡ Some f → IsFirstOf (filter_map F (mentions_of (take (i + 1) ms))) (earlier found f)
+  pub wrong_one : (f : LinkingFault) → F (mention_of m) ≡ Some f → IsFirstOf (filter_map F (mentions_of (take (i + 1) ms))) (earlier found f)
   wrong_one f e =
       let one : filter_map F (mention_of m ∷ []) ≡ f ∷ [] = rw e refl in
       rw (told ∙ ap (λ fs. filter_map F (mentions_of (take i ms)) ++ fs) one) (one_more (filter_map F (mentions_of (take i ms))) found f so_far)

@@ -9,7 +9,7 @@ use Rattle.schema_walk.specs.Parts.{What, Part, parts}
 use Rattle.link_names.specs.declared.places.Place.{Place}
 use Rattle.link_names.specs.declared.global_names.NameKind.{NameKind}
 use Rattle.link_names.specs.declared.global_names.NameKind.TheVariants as kind
-use Rattle.link_names.specs.declared.faults.Fault.{Fault}
+use Rattle.link_names.specs.declared.faults.LinkingFault.{LinkingFault}
 use Rattle.link_names.specs.declared.faults.LinkWhy.{LinkWhy}
 use Rattle.link_names.specs.declared.faults.LinkWhy.TheVariants.{Duplicate}
 use Rattle.link_names.specs.Order.{place, fault, is_before}
@@ -78,11 +78,11 @@ abbrev pub is_repeated : List GlobalComponent → GlobalComponent → Bool
 is_repeated gs g = list_any (λ h. name_eq h.name g.name && is_before h.place g.place) gs
 
 -- the faults, for this reason, of those whose name one before them has
-abbrev pub repeated : LinkWhy → List GlobalComponent → List Fault
+abbrev pub repeated : LinkWhy → List GlobalComponent → List LinkingFault
 repeated why gs = map (λ g. fault why g.place) (filter (is_repeated gs) gs)
 
 -- the components whose name an earlier one of their kind has
-abbrev pub duplicates : List Document → List Fault
+abbrev pub duplicates : List Document → List LinkingFault
 duplicates docs = repeated Duplicate (elements docs) ++ repeated Duplicate (attributes docs) ++ repeated Duplicate (types docs)
 
 -- one of them has the name

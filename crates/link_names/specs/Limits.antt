@@ -3,7 +3,7 @@ use Rattle.std.specs.Prelude.{List, [], ◌∷◌, map, Option, Some, None, slic
 use Rattle.std.specs.List.{flat_map}
 use Rattle.schema_parts.specs.Raw.{Document}
 use Rattle.link_names.specs.declared.places.Place.{Place}
-use Rattle.link_names.specs.declared.faults.Fault.{Fault}
+use Rattle.link_names.specs.declared.faults.LinkingFault.{LinkingFault}
 use Rattle.link_names.specs.declared.faults.LinkWhy.TheVariants.{Limit}
 use Rattle.link_names.specs.Order.{place, fault}
 
@@ -11,10 +11,10 @@ use Rattle.link_names.specs.Order.{place, fault}
 abbrev pub counted_places : List Document → List Place
 counted_places docs = flat_map (λ d. map (place d.file) d.counted) docs
 
-abbrev pub limit_at : Option Place → List Fault
+abbrev pub limit_at : Option Place → List LinkingFault
 limit_at None = []
 limit_at (Some p) = fault Limit p ∷ []
 
 -- the one behind the first 10,000
-abbrev pub beyond_limit : List Document → List Fault
+abbrev pub beyond_limit : List Document → List LinkingFault
 beyond_limit docs = limit_at (slice_get (counted_places docs) 10000)

@@ -5,7 +5,7 @@ use Rattle.facet_rules.specs.declared.refusals.FacetWhy.TheVariants as facet
 use Rattle.link_names.specs.declared.places.Place.{Place}
 use Rattle.link_names.specs.declared.faults.LinkWhy.{LinkWhy}
 use Rattle.link_names.specs.declared.faults.LinkWhy.TheVariants as why
-use Rattle.link_names.specs.declared.faults.Fault.{Fault}
+use Rattle.link_names.specs.declared.faults.LinkingFault.{LinkingFault}
 
 abbrev pub place : ℕ → ℕ → Place
 place file at = record { file = file; at = at }
@@ -34,43 +34,43 @@ rank_of why.DuplicateUse = 12
 rank_of why.TypesDiffer = 13
 rank_of why.NotClear = 14
 
-abbrev pub fault : LinkWhy → Place → Fault
+abbrev pub fault : LinkWhy → Place → LinkingFault
 fault w p = record { place = p; why = w }
 
-abbrev pub precedes : Fault → Fault → Bool
+abbrev pub precedes : LinkingFault → LinkingFault → Bool
 precedes f g = is_before f.place g.place || (not (is_before g.place f.place) && nat_lt (rank_of f.why) (rank_of g.why))
 
 -- it is one of the faults
-abbrev pub Has : List Fault → Fault → Type 0
-Has [] f = ⊥
-Has (g ∷ gs) f = (g ≡ f) ⊎ Has gs f
+abbrev pub HasFault : List LinkingFault → LinkingFault → Type 0
+HasFault [] f = ⊥
+HasFault (g ∷ gs) f = (g ≡ f) ⊎ HasFault gs f
 
-abbrev pub NonePrecedes : List Fault → Fault → Type 0
+abbrev pub NonePrecedes : List LinkingFault → LinkingFault → Type 0
 NonePrecedes [] f = Unit {0}
 NonePrecedes (g ∷ gs) f = (precedes g f ≡ false) × NonePrecedes gs f
 
 -- one of the faults, which none precedes
-abbrev pub IsFirst : List Fault → Fault → Type 0
-IsFirst fs f = Has fs f × NonePrecedes fs f
+abbrev pub IsFirst : List LinkingFault → LinkingFault → Type 0
+IsFirst fs f = HasFault fs f × NonePrecedes fs f
 
 -- the first of them, or none where there is none
-abbrev pub IsFirstOf : List Fault → Option Fault → Type 0
+abbrev pub IsFirstOf : List LinkingFault → Option LinkingFault → Type 0
 IsFirstOf fs found = MatchOption found (fs ≡ []) (IsFirst fs)
 
 -- a fault of this kind, which no other of the kind precedes; none where there is none of the kind
-abbrev pub IsFirstSuch : (Fault → Type 0) → Option Fault → Type 0
-IsFirstSuch P found = MatchOption found ((f : Fault) → P f → ⊥) (λ f. P f × ((g : Fault) → P g → precedes g f ≡ false))
+abbrev pub IsFirstSuch : (LinkingFault → Type 0) → Option LinkingFault → Type 0
+IsFirstSuch P found = MatchOption found ((f : LinkingFault) → P f → ⊥) (λ f. P f × ((g : LinkingFault) → P g → precedes g f ≡ false))
 
 -- a fault that one of these has
-abbrev pub OneHas : {A : Type 0} → (A → Fault → Type 0) → List A → Fault → Type 0
+abbrev pub OneHas : {A : Type 0} → (A → LinkingFault → Type 0) → List A → LinkingFault → Type 0
 OneHas has [] f = ⊥
 OneHas has (x ∷ xs) f = has x f ⊎ OneHas has xs f
 
 -- the first of those found and one more
-abbrev pub earlier : Option Fault → Fault → Option Fault
+abbrev pub earlier : Option LinkingFault → LinkingFault → Option LinkingFault
 earlier None g = Some g
 earlier (Some f) g = if precedes g f then Some g else Some f
 
-abbrev pub first_of : Option Fault → Option Fault → Option Fault
+abbrev pub first_of : Option LinkingFault → Option LinkingFault → Option LinkingFault
 first_of found None = found
 first_of found (Some f) = earlier found f

@@ -5,7 +5,7 @@ use Rattle.std.specs.Option.{option_map}
 use Rattle.xa_base.specs.declared.texts.Name.{Name}
 use Rattle.schema_parts.specs.Raw.{Document}
 use Rattle.schema_walk.specs.Parts.{Part, parts}
-use Rattle.link_names.specs.declared.faults.Fault.{Fault}
+use Rattle.link_names.specs.declared.faults.LinkingFault.{LinkingFault}
 use Rattle.link_names.specs.declared.faults.LinkWhy.{LinkWhy}
 use Rattle.link_names.specs.declared.faults.LinkWhy.TheVariants.{Unresolved, ComplexBase}
 use Rattle.link_names.specs.declared.references.Need.{Need}
@@ -44,8 +44,8 @@ wrong names need.Attribute a = unless_there (names.attributes a)
 wrong names need.Type a = unless_there (names.types a)
 wrong names need.Simple a = if names.complexes a then Some ComplexBase else unless_there (names.types a)
 
-abbrev pub fault_of : Names → Mention → Option Fault
+abbrev pub fault_of : Names → Mention → Option LinkingFault
 fault_of names m = option_map (λ w. fault w m.place) (wrong names m.need m.name)
 
-abbrev pub unresolved : List Document → List Fault
+abbrev pub unresolved : List Document → List LinkingFault
 unresolved docs = filter_map (fault_of (names_in docs)) (mentions docs)

@@ -3,14 +3,14 @@ ghost use Rattle.std.specs.Prelude.{◌≡◌, ◌++◌, List, map, IfOk};
 ghost use Rattle.xa_base.specs.declared.texts.Name.{Name};
 ghost use Rattle.schema_parts.specs.Documents.{doc_of};
 ghost use Rattle.schema_walk.specs.Seen.{parts_of};
-ghost use Rattle.link_names.specs.declared.faults.Fault.{Fault};
+ghost use Rattle.link_names.specs.declared.faults.LinkingFault.{LinkingFault};
 ghost use Rattle.link_names.specs.declared.faults.LinkWhy.TheVariants.{Duplicate};
 ghost use Rattle.link_names.specs.Globals.{duplicates, globals_among, repeated};
 ghost use Rattle.link_names.specs.Order.{IsFirstOf};
 ghost use Rattle.link_names.specs.Seen.{globals_of};
 ghost use Rattle.link_names.specs.Private.Tables.{place_in, first_place, lesser, stands_before};
 
-use crate::faults::{Fault, LinkWhy, earlier};
+use crate::faults::{LinkWhy, LinkingFault, earlier};
 use crate::global_names::{NameKind, NamedPart, globals_among};
 use crate::places::Place;
 use schema_parts::RawDoc;
@@ -63,15 +63,15 @@ pub fn first_repeated<'a>(
     alloc: Global,
     globals: &[NamedPart<'a>],
     why: LinkWhy,
-    found: Option<Fault>,
-) -> Result<Option<Fault>, Memory>
-    ensures { (fs : List Fault) → IsFirstOf fs found → IfOk result (λ first. IsFirstOf (fs ++ repeated why (globals_of globals.now)) first) }
+    found: Option<LinkingFault>,
+) -> Result<Option<LinkingFault>, Memory>
+    ensures { (fs : List LinkingFault) → IsFirstOf fs found → IfOk result (λ first. IsFirstOf (fs ++ repeated why (globals_of globals.now)) first) }
 {
     let places = first_places(alloc, globals)?;
     let mut first = found;
     'globals: for global in globals {
         if is_repeated(&places, *global) {
-            let fault = Fault {
+            let fault = LinkingFault {
                 place: global.place,
                 why,
             };
@@ -85,9 +85,9 @@ fn first_of_kind(
     alloc: Global,
     kind: NameKind,
     parts: &[Part<'_>],
-    found: Option<Fault>,
-) -> Result<Option<Fault>, Memory>
-    ensures { (fs : List Fault) → IsFirstOf fs found → IfOk result (λ first. IsFirstOf (fs ++ repeated Duplicate (globals_among kind (parts_of parts.now))) first) }
+    found: Option<LinkingFault>,
+) -> Result<Option<LinkingFault>, Memory>
+    ensures { (fs : List LinkingFault) → IsFirstOf fs found → IfOk result (λ first. IsFirstOf (fs ++ repeated Duplicate (globals_among kind (parts_of parts.now))) first) }
 {
     let globals = globals_among(alloc, kind, parts)?;
     first_repeated(alloc, &globals, LinkWhy::Duplicate, found)
@@ -95,7 +95,7 @@ fn first_of_kind(
 
 /// The first global element, attribute or type whose name an earlier one of its kind has. Simple and complex types are
 /// one kind. The time grows as n log n with their number, whatever their names are.
-pub fn first_duplicate(alloc: Global, docs: &[RawDoc]) -> Result<Option<Fault>, Memory>
+pub fn first_duplicate(alloc: Global, docs: &[RawDoc]) -> Result<Option<LinkingFault>, Memory>
     ensures { IfOk result (λ found. IsFirstOf (duplicates (map doc_of docs.now)) found) }
 {
     let parts = all_parts(alloc, docs)?;

@@ -33,7 +33,7 @@ pub enum LinkWhy {
 
 /// A fault of several documents as one set.
 #[derive(Clone, Copy, Debug, PartialEq, Eq)]
-pub struct Fault {
+pub struct LinkingFault {
     /// The place of the element of the schema that has it.
     pub place: Place,
     /// What is wrong there.
@@ -70,9 +70,9 @@ fn rank(why: LinkWhy) -> u8
     }
 }
 
-impl Fault {
+impl LinkingFault {
     /// Whether it stands at a lesser place than the other one, or at the same place with an earlier reason.
-    pub fn precedes(self, other: Fault) -> bool
+    pub fn precedes(self, other: LinkingFault) -> bool
         ensures { result ≡ precedes self other }
     {
         self.place.is_before(other.place)
@@ -81,7 +81,7 @@ impl Fault {
 }
 
 /// The first of the faults found and one more.
-pub fn earlier(found: Option<Fault>, fault: Fault) -> Option<Fault>
+pub fn earlier(found: Option<LinkingFault>, fault: LinkingFault) -> Option<LinkingFault>
     ensures { result ≡ earlier found fault }
 {
     match found {
@@ -91,7 +91,7 @@ pub fn earlier(found: Option<Fault>, fault: Fault) -> Option<Fault>
 }
 
 /// The first of two faults, or the one that there is.
-pub fn first_of(found: Option<Fault>, other: Option<Fault>) -> Option<Fault>
+pub fn first_of(found: Option<LinkingFault>, other: Option<LinkingFault>) -> Option<LinkingFault>
     ensures { result ≡ first_of found other }
 {
     match other {

@@ -12,7 +12,7 @@ mod references;
 mod resolution;
 
 pub use duplicates::{first_duplicate, first_repeated};
-pub use faults::{Fault, LinkWhy, earlier, first_of};
+pub use faults::{LinkWhy, LinkingFault, earlier, first_of};
 pub use global_names::NamedPart;
 pub use limits::first_beyond_limit;
 pub use places::Place;

@@ -4,7 +4,7 @@ ghost use Rattle.schema_parts.specs.Documents.{doc_of};
 ghost use Rattle.link_names.specs.Order.{IsFirstOf};
 ghost use Rattle.link_names.specs.Limits.{beyond_limit};
 
-use crate::faults::{Fault, LinkWhy};
+use crate::faults::{LinkWhy, LinkingFault};
 use crate::places::Place;
 use schema_parts::RawDoc;
 
@@ -13,7 +13,7 @@ const MOST_COUNTED: usize = 10_000;
 
 /// The component behind the first 10,000, in the order in which the documents are handed in and, in each, in the order
 /// written. That is the order of files and places only where the documents are handed in by the numbers of their files.
-pub fn first_beyond_limit(docs: &[RawDoc]) -> Option<Fault>
+pub fn first_beyond_limit(docs: &[RawDoc]) -> Option<LinkingFault>
     ensures { IsFirstOf (beyond_limit (map doc_of docs.now)) result }
 {
     let mut left = MOST_COUNTED;
@@ -24,7 +24,7 @@ pub fn first_beyond_limit(docs: &[RawDoc]) -> Option<Fault>
                 file: doc.file(),
                 at: counted[left],
             };
-            return Some(Fault {
+            return Some(LinkingFault {
                 place,
                 why: LinkWhy::Limit,
             });

@@ -14,7 +14,7 @@ ghost use Rattle.link_names.specs.Seen.{globals_of};
 ghost use Rattle.link_names.specs.Private.Tables.{holds};
 ghost use Rattle.link_names.specs.Private.NameTables.{told_by, Agree};
 
-use crate::faults::{Fault, LinkWhy, earlier};
+use crate::faults::{LinkWhy, LinkingFault, earlier};
 use crate::global_names::{NameKind, NamedPart, globals_among};
 use crate::name_tables::{NameTable, TypeNames};
 use crate::references::{Mention, Need, mentions};
@@ -95,13 +95,13 @@ impl<'a> NameTable<'a> {
     }
 
     // The first of the references with which something is wrong.
-    fn first_wrong(&self, mentions: &[Mention<'a>]) -> Option<Fault>
+    fn first_wrong(&self, mentions: &[Mention<'a>]) -> Option<LinkingFault>
         ensures { IsFirstOf (filter_map (fault_of (told_by self.now)) (mentions_of mentions.now)) result }
     {
         let mut found = None;
         'mentions: for mention in mentions {
             if let Some(why) = self.wrong(mention.need, mention.name) {
-                let fault = Fault {
+                let fault = LinkingFault {
                     place: mention.place,
                     why,
                 };
@@ -114,7 +114,7 @@ impl<'a> NameTable<'a> {
 
 /// The first reference that names nothing, or names a complex type where a simple one is needed. The time grows as
 /// n log n with the number of names, whatever they are.
-pub fn first_unresolved(alloc: Global, docs: &[RawDoc]) -> Result<Option<Fault>, Memory>
+pub fn first_unresolved(alloc: Global, docs: &[RawDoc]) -> Result<Option<LinkingFault>, Memory>
     ensures { IfOk result (λ found. IsFirstOf (unresolved (map doc_of docs.now)) found) }
 {
     let parts = all_parts(alloc, docs)?;

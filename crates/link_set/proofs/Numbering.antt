@@ -14,11 +14,11 @@ use Rattle.link_names.proofs.Placing.{cut}
 use Rattle.link_cycles.specs.Tables.{named_in, placed_in, names}
 use Rattle.link_cycles.proofs.Numbering.{put_placed}
 use Rattle.link_set.specs.Builtins.{rank, is_builtin}
-use Rattle.link_set.specs.Numbers.{Numbers, number_from, number_named, number_placed, builtin_numbers, is_called, has_name, stands_at}
+use Rattle.link_set.specs.Numbering.{ComponentNumbers, number_from, number_named, number_placed, builtin_numbers, is_called, has_name, stands_at}
 use Rattle.link_set.specs.Private.Told.{entry_of, entries_of, ranked_in}
 use Rattle.link_set.specs.Private.Seen.{told_attribute, attributes_of}
 use Rattle.link_set.specs.Sets.{attribute, attributes, type_of_attribute}
-use Rattle.link_set.specs.declared.numbers.Entry.{Entry}
+use Rattle.link_set.specs.declared.numbers.NamedPlace.{NamedPlace}
 use Rattle.link_set.specs.declared.written.WrittenAttribute.{WrittenAttribute}
 
 number_here : {A : Type 0} (passes : A → Bool) (first i : ℕ) (x : A) (xs : List A) → 0 < i
@@ -31,7 +31,7 @@ same_name : (o : Option (Bor Name)) (a : Name) → names o a ≡ is_called (opti
 same_name None a = refl
 same_name (Some b) a = refl
 
-module _ (es : List Entry) (first i : ℕ) (e : Entry) (lt : 0 < i) (le : i ≤ length es) (is : e ≡ get_or es (i - 1) e) where
+module _ (es : List NamedPlace) (first i : ℕ) (e : NamedPlace) (lt : 0 < i) (le : i ≤ length es) (is : e ≡ get_or es (i - 1) e) where
   pub one_named : (old new : BTreeMap (Bor Name) ℕ) → ((a : Name) → named_in old a ≡ number_named (first + i) (entries_of (drop i es)) a)
       → ((a : Name) → named_in new a ≡ cond (names e.name a) (Some (first + (i - 1))) (named_in old a))
       → (a : Name) → named_in new a ≡ number_named (first + (i - 1)) (entries_of (drop (i - 1) es)) a
@@ -65,7 +65,7 @@ one_ranked used first i which lt le is old new so_far k own up w =
     ∙ ap (λ xs. builtin_numbers n xs w) (sym (cut used i which lt le is))
 
 -- the type of an attribute, with one attribute more before the others
-pub one_typed : (ns : Numbers) (as_ : List WrittenAttribute) (i : ℕ) (w : WrittenAttribute) → 0 < i → i ≤ length as_ → w ≡ get_or as_ (i - 1) w
+pub one_typed : (ns : ComponentNumbers) (as_ : List WrittenAttribute) (i : ℕ) (w : WrittenAttribute) → 0 < i → i ≤ length as_ → w ≡ get_or as_ (i - 1) w
     → (old new : BTreeMap (Bor Name) ℕ) → ((a : Name) → named_in old a ≡ type_of_attribute (attributes ns (attributes_of (drop i as_))) a)
     → (n : ℕ) → n ≡ (attribute ns (told_attribute w)).simple
     → ((a : Name) → named_in new a ≡ cond (name_eq w.attribute.now.name a) (Some n) (named_in old a))

@@ -1,6 +1,6 @@
 pub mod Builtins
 pub mod NamedBuiltins
-pub mod Numbers
+pub mod Numbering
 pub mod Ordered
 pub mod Parts
 pub mod Sets

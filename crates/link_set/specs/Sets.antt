@@ -34,7 +34,7 @@ use Rattle.link_names.specs.Order.{place, is_before}
 use Rattle.link_cycles.specs.SimpleTypes.{SimpleDefinition, simple_types}
 use Rattle.link_complex.specs.ComplexTypes.{ComplexDefinition}
 use Rattle.link_set.specs.Builtins.{used_builtins}
-use Rattle.link_set.specs.Numbers.{Numbers, numbers_in}
+use Rattle.link_set.specs.Numbering.{ComponentNumbers, numbers_in}
 use Rattle.link_set.specs.Ordered.{in_order}
 use Rattle.link_set.specs.Written.{WrittenElement, WrittenAttribute, Lists, lists_of}
 
@@ -48,35 +48,35 @@ abbrev pub simple_or_complex : Option ℕ → ℕ → TypeOf
 simple_or_complex (Some n) m = kind.Simple n
 simple_or_complex None m = kind.Complex m
 
-abbrev pub type_of_reference : Numbers → RawRef → TypeOf
+abbrev pub type_of_reference : ComponentNumbers → RawRef → TypeOf
 type_of_reference ns (reference.Builtin which) = kind.Simple (or_zero (ns.builtins which))
 type_of_reference ns (reference.Other name) = simple_or_complex (ns.simples.named name) (or_zero (ns.complexes.named name))
 
-abbrev pub type_of_kind : Numbers → ℕ → Kind → TypeOf
+abbrev pub type_of_kind : ComponentNumbers → ℕ → Kind → TypeOf
 type_of_kind ns file (NamedKind r) = type_of_reference ns r
 type_of_kind ns file (SimpleKind s) = kind.Simple (or_zero (ns.simples.placed (place file s.at)))
 type_of_kind ns file (ComplexKind c) = kind.Complex (or_zero (ns.complexes.placed (place file c.at)))
 
-abbrev pub simple_of_reference : Numbers → RawRef → ℕ
+abbrev pub simple_of_reference : ComponentNumbers → RawRef → ℕ
 simple_of_reference ns (reference.Builtin which) = or_zero (ns.builtins which)
 simple_of_reference ns (reference.Other name) = or_zero (ns.simples.named name)
 
-abbrev pub simple_of_base : Numbers → ℕ → Base → ℕ
+abbrev pub simple_of_base : ComponentNumbers → ℕ → Base → ℕ
 simple_of_base ns file (Named r) = simple_of_reference ns r
 simple_of_base ns file (Inner at body_at how) = or_zero (ns.simples.placed (place file at))
 
 -- ---- elements and attributes
 
-abbrev pub element : Numbers → WrittenElement → ElementDecl
+abbrev pub element : ComponentNumbers → WrittenElement → ElementDecl
 element ns e = record { name = e.element.name; nillable = e.element.nillable; kind = type_of_kind ns e.file e.element.kind }
 
-abbrev pub elements : Numbers → Lists → List ElementDecl
+abbrev pub elements : ComponentNumbers → Lists → List ElementDecl
 elements ns ls = map (element ns) ls.globals ++ map (element ns) ls.locals
 
-abbrev pub attribute : Numbers → WrittenAttribute → GlobalAttribute
+abbrev pub attribute : ComponentNumbers → WrittenAttribute → GlobalAttribute
 attribute ns a = record { name = a.attribute.name; simple = simple_of_base ns a.file a.attribute.kind }
 
-abbrev pub attributes : Numbers → List WrittenAttribute → List GlobalAttribute
+abbrev pub attributes : ComponentNumbers → List WrittenAttribute → List GlobalAttribute
 attributes ns as_ = map (attribute ns) as_
 
 -- the type of the first global attribute of this name
@@ -86,42 +86,42 @@ type_of_attribute (g ∷ gs) a = if name_eq g.name a then Some g.simple else typ
 
 -- ---- complex types
 
-abbrev pub type_of_use : Numbers → ℕ → Option Base → ℕ
+abbrev pub type_of_use : ComponentNumbers → ℕ → Option Base → ℕ
 type_of_use ns file None = 0
 type_of_use ns file (Some base) = simple_of_base ns file base
 
 -- a reference has the type of the global attribute
-abbrev pub simple_of_use : Numbers → (Name → Option ℕ) → ℕ → Use → ℕ
+abbrev pub simple_of_use : ComponentNumbers → (Name → Option ℕ) → ℕ → Use → ℕ
 simple_of_use ns types file u = if u.reference then or_zero (types u.name) else type_of_use ns file u.kind
 
-abbrev pub attribute_use : Numbers → (Name → Option ℕ) → ℕ → Use → AttributeUse
+abbrev pub attribute_use : ComponentNumbers → (Name → Option ℕ) → ℕ → Use → AttributeUse
 attribute_use ns types file u = record { name = u.name; simple = simple_of_use ns types file u; required = u.required }
 
 abbrev pub use_before : AttributeUse → AttributeUse → Bool
 use_before a b = is_lt (name_cmp a.name b.name)
 
 -- the uses of a complex type, in the order of their names
-abbrev pub uses : Numbers → (Name → Option ℕ) → ComplexDefinition → List AttributeUse
+abbrev pub uses : ComponentNumbers → (Name → Option ℕ) → ComplexDefinition → List AttributeUse
 uses ns types c = in_order use_before (map (attribute_use ns types c.place.file) c.body.uses)
 
 -- the element that a local declaration is: a global one by its name, or this one by its place
-abbrev pub number_of_local : Numbers → ℕ → Local → ℕ
+abbrev pub number_of_local : ComponentNumbers → ℕ → Local → ℕ
 number_of_local ns file (Reference name at) = or_zero (ns.elements name)
 number_of_local ns file (Own e) = or_zero (ns.locals (place file e.at))
 
-abbrev pub number_of_found : Numbers → ℕ → Option Local → ℕ
+abbrev pub number_of_found : ComponentNumbers → ℕ → Option Local → ℕ
 number_of_found ns file None = 0
 number_of_found ns file (Some l) = number_of_local ns file l
 
-abbrev pub number_in : Numbers → ℕ → Document → ℕ → ℕ
+abbrev pub number_in : ComponentNumbers → ℕ → Document → ℕ → ℕ
 number_in ns file d n = number_of_found ns file (slice_get d.locals n)
 
-abbrev pub number_in_found : Numbers → ℕ → Option Document → ℕ → ℕ
+abbrev pub number_in_found : ComponentNumbers → ℕ → Option Document → ℕ → ℕ
 number_in_found ns file None n = 0
 number_in_found ns file (Some d) n = number_in ns file d n
 
 -- the number in the set of the local declaration with a number in its file; the number of the first file is 1
-abbrev pub number_of_declaration : Numbers → List Document → ℕ → ℕ → ℕ
+abbrev pub number_of_declaration : ComponentNumbers → List Document → ℕ → ℕ → ℕ
 number_of_declaration ns docs file n = number_in_found ns file (slice_get docs (file - 1)) n
 
 abbrev pub numbered_kind : (ℕ → ℕ) → ParticleKind → ParticleKind
@@ -140,13 +140,13 @@ abbrev mutual
   all_numbered number rose.none = rose.none
   all_numbered number (rose.more t ts) = rose.more (numbered number t) (all_numbered number ts)
 
-abbrev pub content_of : Numbers → (ℕ → ℕ) → RawContent → Content
+abbrev pub content_of : ComponentNumbers → (ℕ → ℕ) → RawContent → Content
 content_of ns number raw.Empty = content.Empty
 content_of ns number (raw.Simple base at) = content.Simple (simple_of_reference ns base)
 content_of ns number (raw.ElementOnly model) = content.ElementOnly (numbered number model)
 content_of ns number (raw.Mixed model) = content.Mixed (numbered number model)
 
-abbrev pub complex : Numbers → (Name → Option ℕ) → List Document → ComplexDefinition → ComplexDef
+abbrev pub complex : ComponentNumbers → (Name → Option ℕ) → List Document → ComplexDefinition → ComplexDef
 complex ns types docs c =
     record {
       name = c.name;
@@ -154,7 +154,7 @@ complex ns types docs c =
       content = content_of ns (number_of_declaration ns docs c.place.file) c.body.content;
     }
 
-abbrev pub complexes : Numbers → List Document → Lists → List ComplexDef
+abbrev pub complexes : ComponentNumbers → List Document → Lists → List ComplexDef
 complexes ns docs ls = map (complex ns (type_of_attribute (attributes ns ls.attributes)) docs) ls.complexes
 
 -- ---- simple types
@@ -188,7 +188,7 @@ simples ds spaces used = map space_of_made (in_order made_before (made_types ds 
 
 -- ---- the whole set
 
-abbrev pub set_with : List Document → Lists → Numbers → List Space → SetParts
+abbrev pub set_with : List Document → Lists → ComponentNumbers → List Space → SetParts
 set_with docs ls ns spaces =
     record {
       elements = elements ns ls;

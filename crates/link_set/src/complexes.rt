@@ -11,10 +11,10 @@ ghost use Rattle.link_set.specs.Sets as told;
 ghost use Rattle.link_set.specs.Private.Told.{told_by};
 
 use crate::references::{number_named, or_zero};
-use crate::tables::Numbers;
-use link_complex::ComplexType;
+use crate::tables::ComponentNumbers;
 use content_models::{Particle, ParticleKind, ParticleLabel};
 use label_tree::{Tree, Whole};
+use link_complex::ComplexType;
 use schema_parts::{AttributeUse, ComplexDef, Content, RawBase, RawContent, RawDoc, RawUse, Uses};
 use std::alloc::Global;
 use std::collections::BTreeMap;
@@ -40,7 +40,7 @@ pub(crate) fn name_copy(alloc: Global, name: Option<&Name>) -> Result<Option<Nam
     }
 }
 
-impl<'a> Numbers<'a> {
+impl<'a> ComponentNumbers<'a> {
     fn type_of_use(&self, file: u32, kind: &'a Option<RawBase>) -> u32
         ensures { result ≡ told.type_of_use (told_by self.now) file (option_map base_of kind.now) }
     {

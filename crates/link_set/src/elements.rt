@@ -8,14 +8,14 @@ ghost use Rattle.link_set.specs.Private.Told.{listed_by, told_by};
 
 use crate::listing::Listed;
 use crate::numbers::put_name;
-use crate::tables::Numbers;
+use crate::tables::ComponentNumbers;
 use crate::written::{WrittenAttribute, WrittenElement};
 use schema_parts::{ElementDecl, GlobalAttribute};
 use std::alloc::Global;
 use std::collections::BTreeMap;
 use xa_base::{Memory, Name};
 
-impl<'a> Numbers<'a> {
+impl<'a> ComponentNumbers<'a> {
     fn element(&self, alloc: Global, written: WrittenElement<'a>) -> Result<ElementDecl, Memory>
         ensures { IfOk result (λ declaration. declaration ≡ told.element (told_by self.now) (written_of written.entry)) }
     {

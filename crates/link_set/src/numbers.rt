@@ -5,7 +5,7 @@ ghost use Rattle.simple_types.specs.declared.simples.Builtin.{Builtin as Builtin
 ghost use Rattle.link_names.specs.declared.places.Place.{Place as PlaceOf};
 ghost use Rattle.link_cycles.specs.Tables.{named_in, placed_in, names};
 ghost use Rattle.link_set.specs.Builtins.{rank};
-ghost use Rattle.link_set.specs.Numbers as told;
+ghost use Rattle.link_set.specs.Numbering as told;
 ghost use Rattle.link_set.specs.Private.Told.{entries_of, ranked_in};
 
 use crate::builtins;
@@ -20,7 +20,7 @@ const MOST: u32 = 65_536;
 
 /// A component by its name, if it has one, and by the place where it was written.
 #[derive(Clone, Copy)]
-pub(crate) struct Entry<'a> {
+pub(crate) struct NamedPlace<'a> {
     pub name: Option<&'a Name>,
     pub place: Place,
 }
@@ -47,7 +47,7 @@ pub(crate) fn put_name<'a>(
 pub(crate) fn by_name<'a>(
     alloc: Global,
     first: u32,
-    entries: &[Entry<'a>],
+    entries: &[NamedPlace<'a>],
 ) -> Result<BTreeMap<&'a Name, u32>, Memory>
     ensures { IfOk result (λ table. (a : NameOf) → named_in table a ≡ told.number_named first (entries_of entries.now) a) }
 {
@@ -68,7 +68,7 @@ pub(crate) fn by_name<'a>(
 pub(crate) fn by_place(
     alloc: Global,
     first: u32,
-    entries: &[Entry<'_>],
+    entries: &[NamedPlace<'_>],
 ) -> Result<BTreeMap<(u32, u64), u32>, Memory>
     ensures { IfOk result (λ table. (p : PlaceOf) → placed_in table p ≡ told.number_placed first (entries_of entries.now) p) }
 {

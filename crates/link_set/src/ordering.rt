@@ -7,9 +7,9 @@ ghost use Rattle.link_set.specs.Ordered.{in_order};
 ghost use Rattle.link_set.specs.Written as told;
 
 use link_complex::{ComplexType, complex_types};
+use link_cycles::{SimpleType, simple_types};
 use schema_parts::RawDoc;
 use std::alloc::Global;
-use link_cycles::{SimpleType, simple_types};
 use xa_base::Memory;
 
 fn simples_by_place<'a>(mut found: Vec<SimpleType<'a>>) -> Result<Vec<SimpleType<'a>>, Memory>

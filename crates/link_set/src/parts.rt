@@ -11,7 +11,7 @@ ghost use Rattle.link_set.specs.Parts.{parts_made};
 use crate::builtins::used_builtins;
 use crate::listing::Listed;
 use crate::simples::simples;
-use crate::tables::{Numbers, count};
+use crate::tables::{ComponentNumbers, count};
 use schema_parts::{ComplexDef, ElementDecl, GlobalAttribute, RawDoc, SimpleDef};
 use simple_types::{Builtin, Simple};
 use std::alloc::Global;
@@ -31,7 +31,7 @@ fn complexes<'a>(
     alloc: Global,
     docs: &'a [RawDoc],
     listed: &Listed<'a>,
-    numbers: &Numbers<'a>,
+    numbers: &ComponentNumbers<'a>,
 ) -> Result<Vec<ComplexDef>, Memory>
     ensures { IfOk result (λ complexes. complexes.items ≡ told.complexes (told_by numbers.now) (map doc_of docs.now) (listed_by listed.now)) }
 {
@@ -51,7 +51,7 @@ struct Declarations {
 fn declared<'a>(
     alloc: Global,
     listed: &Listed<'a>,
-    numbers: &Numbers<'a>,
+    numbers: &ComponentNumbers<'a>,
 ) -> Result<Declarations, Memory>
     ensures { IfOk result (λ made. (made.elements.items ≡ told.elements (told_by numbers.now) (listed_by listed.now))
         × (made.globals ≡ length (listed_by listed.now).globals)
@@ -78,7 +78,7 @@ fn typed<'a>(
     alloc: Global,
     docs: &'a [RawDoc],
     listed: &Listed<'a>,
-    numbers: &Numbers<'a>,
+    numbers: &ComponentNumbers<'a>,
     spaces: Vec<Simple>,
     used: &[Builtin],
 ) -> Result<Types, Memory>
@@ -94,7 +94,7 @@ fn parts_with<'a>(
     alloc: Global,
     docs: &'a [RawDoc],
     listed: &Listed<'a>,
-    numbers: &Numbers<'a>,
+    numbers: &ComponentNumbers<'a>,
     spaces: Vec<Simple>,
     used: &[Builtin],
 ) -> Result<SetParts, Memory>
@@ -119,6 +119,6 @@ pub fn set_parts(alloc: Global, docs: &[RawDoc], spaces: Vec<Simple>) -> Result<
 {
     let listed = Listed::of(alloc, docs)?;
     let used = used_builtins(alloc, &listed)?;
-    let numbers = Numbers::of(alloc, &listed, &used)?;
+    let numbers = ComponentNumbers::of(alloc, &listed, &used)?;
     parts_with(alloc, docs, &listed, &numbers, spaces, &used)
 }

@@ -8,7 +8,7 @@ ghost use Rattle.link_set.specs.Sets as told;
 ghost use Rattle.link_set.specs.Private.Told.{ranked_in, told_types, told_by};
 
 use crate::builtins::rank;
-use crate::tables::{Numbers, TypeNumbers};
+use crate::tables::{ComponentNumbers, TypeNumbers};
 use schema_parts::{RawBase, RawDoc, RawKind, RawLocal, RawRef, TypeOf};
 use simple_types::Builtin;
 use std::collections::BTreeMap;
@@ -75,7 +75,7 @@ impl<'a> TypeNumbers<'a> {
     }
 }
 
-impl<'a> Numbers<'a> {
+impl<'a> ComponentNumbers<'a> {
     fn builtin(&self, which: Builtin) -> u32
         ensures { result ≡ told.or_zero ((told_by self.now).builtins which) }
     {

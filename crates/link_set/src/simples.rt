@@ -9,10 +9,10 @@ ghost use Rattle.link_set.specs.Ordered.{in_order};
 ghost use Rattle.link_set.specs.Sets as told;
 
 use crate::complexes::name_copy;
+use link_cycles::{SimpleType, simple_types};
 use schema_parts::{RawDoc, SimpleDef};
 use simple_types::{Builtin, Simple, builtin};
 use std::alloc::Global;
-use link_cycles::{SimpleType, simple_types};
 use xa_base::Memory;
 
 /// A simple type with its space.

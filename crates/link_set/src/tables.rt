@@ -7,19 +7,19 @@ ghost use Rattle.link_cycles.specs.Seen.{definitions_of as simples_of};
 ghost use Rattle.link_cycles.specs.Tables.{named_in, placed_in};
 ghost use Rattle.link_complex.specs.Seen.{definitions_of as complexes_of};
 ghost use Rattle.link_set.specs.Builtins as builtins_told;
-ghost use Rattle.link_set.specs.Numbers as told;
+ghost use Rattle.link_set.specs.Numbering as told;
 ghost use Rattle.link_set.specs.Private.Seen.{elements_of};
 ghost use Rattle.link_set.specs.Private.Told.{entries_of, ranked_in, listed_by, told_types, told_by};
 
 use crate::listing::Listed;
-use crate::numbers::{Entry, by_name, by_place, by_rank};
+use crate::numbers::{NamedPlace, by_name, by_place, by_rank};
 use crate::written::WrittenElement;
 use link_complex::ComplexType;
+use link_cycles::SimpleType;
 use link_names::Place;
 use simple_types::Builtin;
 use std::alloc::Global;
 use std::collections::BTreeMap;
-use link_cycles::SimpleType;
 use xa_base::{Memory, Name};
 
 /// The numbers of global elements by their names, and of local ones by their places.
@@ -45,7 +45,7 @@ pub(crate) struct AllTypeNumbers<'a> {
 }
 
 #[derive(Drop)]
-pub(crate) struct Numbers<'a> {
+pub(crate) struct ComponentNumbers<'a> {
     pub elements: ElementNumbers<'a>,
     pub types: AllTypeNumbers<'a>,
 }
@@ -63,12 +63,12 @@ pub(crate) fn count(length: usize) -> Result<u32, Memory>
 fn element_entries<'a>(
     alloc: Global,
     elements: &[WrittenElement<'a>],
-) -> Result<Vec<Entry<'a>>, Memory>
+) -> Result<Vec<NamedPlace<'a>>, Memory>
     ensures { IfOk result (λ entries. entries_of entries.items ≡ map told.element_entry (elements_of elements.now)) }
 {
     let mut entries = Vec::new(alloc);
     'elements: for written in elements {
-        entries.push(Entry {
+        entries.push(NamedPlace {
             name: Some(&written.element.name),
             place: Place {
                 file: written.file,
@@ -79,12 +79,15 @@ fn element_entries<'a>(
     Ok(entries)
 }
 
-fn simple_entries<'a>(alloc: Global, types: &[SimpleType<'a>]) -> Result<Vec<Entry<'a>>, Memory>
+fn simple_entries<'a>(
+    alloc: Global,
+    types: &[SimpleType<'a>],
+) -> Result<Vec<NamedPlace<'a>>, Memory>
     ensures { IfOk result (λ entries. entries_of entries.items ≡ map told.simple_entry (simples_of types.now)) }
 {
     let mut entries = Vec::new(alloc);
     'types: for definition in types {
-        entries.push(Entry {
+        entries.push(NamedPlace {
             name: definition.name,
             place: definition.place,
         })?;
@@ -92,12 +95,15 @@ fn simple_entries<'a>(alloc: Global, types: &[SimpleType<'a>]) -> Result<Vec<Ent
     Ok(entries)
 }
 
-fn complex_entries<'a>(alloc: Global, types: &[ComplexType<'a>]) -> Result<Vec<Entry<'a>>, Memory>
+fn complex_entries<'a>(
+    alloc: Global,
+    types: &[ComplexType<'a>],
+) -> Result<Vec<NamedPlace<'a>>, Memory>
     ensures { IfOk result (λ entries. entries_of entries.items ≡ map told.complex_entry (complexes_of types.now)) }
 {
     let mut entries = Vec::new(alloc);
     'types: for definition in types {
-        entries.push(Entry {
+        entries.push(NamedPlace {
             name: definition.name,
             place: definition.place,
         })?;
@@ -157,7 +163,7 @@ impl<'a> ElementNumbers<'a> {
 }
 
 impl<'a> TypeNumbers<'a> {
-    fn of(alloc: Global, entries: &[Entry<'a>]) -> Result<TypeNumbers<'a>, Memory>
+    fn of(alloc: Global, entries: &[NamedPlace<'a>]) -> Result<TypeNumbers<'a>, Memory>
         ensures { IfOk result (λ numbers. told_types numbers ≡ told.type_numbers (entries_of entries.now)) }
     {
         let named = by_name(alloc, 0, entries)?;
@@ -207,13 +213,13 @@ impl<'a> AllTypeNumbers<'a> {
     }
 }
 
-impl<'a> Numbers<'a> {
+impl<'a> ComponentNumbers<'a> {
     /// The numbers of these components and of the built-in types that they use.
     pub(crate) fn of(
         alloc: Global,
         listed: &Listed<'a>,
         used: &[Builtin],
-    ) -> Result<Numbers<'a>, Memory>
+    ) -> Result<ComponentNumbers<'a>, Memory>
         requires { used.now ≡ builtins_told.used_builtins (listed_by listed.now) }
         ensures { IfOk result (λ numbers. told_by numbers ≡ told.numbers_in (listed_by listed.now)) }
     {
@@ -223,6 +229,6 @@ impl<'a> Numbers<'a> {
             &listed.elements.locals,
         )?;
         let types = AllTypeNumbers::of(alloc, listed, used)?;
-        Ok(Numbers { elements, types })
+        Ok(ComponentNumbers { elements, types })
     }
 }

@@ -114,13 +114,13 @@ some_union (Some members) = elim (within_limits (flattened members)) [
   | inr over ↦ inl (Err why.Limit, inr (over, refl))
 ]
 
-pub some_left : (ns : cycles.Numbers) (made : List (Option Space)) (file : ℕ) (how : How) → SomeLeft (IsLeft ns made file how)
+pub some_left : (ns : cycles.SimpleNumbers) (made : List (Option Space)) (file : ℕ) (how : How) → SomeLeft (IsLeft ns made file how)
 some_left ns made file (Restrict base facets) = some_restriction (part_space ns made file base) facets
 some_left ns made file (ListOf item) = some_list (part_space ns made file item)
 some_left ns made file (UnionOf members) = some_union (part_spaces ns made file members)
 
 -- the entry of a type
-module _ (ns : cycles.Numbers) (made : List (Option Space)) (d : SimpleDefinition) where
+module _ (ns : cycles.SimpleNumbers) (made : List (Option Space)) (d : SimpleDefinition) where
   entry_from : (r : Result Space LinkWhy) → IsLeft ns made d.place.file d.how r → (o : Option Space) × IsEntry ns made d o
   entry_from (Ok s) h = (Some s, h)
   entry_from (Err w) h = (None, λ r k. subst IsErr (once ns made d.place.file d.how (Err w) r h k) refl)

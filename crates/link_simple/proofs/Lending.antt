@@ -1,14 +1,15 @@
 -- Types that are lent, and lists of parts.
 use Rattle.std.proofs.Common.{◌≡◌, ℕ, zero, suc, ◌+◌, ◌<◌, ◌≤◌, arith, List, [], ◌∷◌, ◌++◌, length, drop, get_or, refl, sym, ap, ◌∙◌, Option, Some, None}
 use Rattle.std.specs.Option.{option_map}
-use Rattle.std.proofs.Math.Seq.{drop-cons}
+use Rattle.std.specs.Borrow.{Bor}
 use Rattle.simple_types.specs.declared.simples.Simple.{Simple}
 use Rattle.simple_types.specs.Seen.{space_of, spaces_in}
 use Rattle.simple_types.specs.Sound.{Sound}
 use Rattle.simple_types.specs.Space.{Spaces, none, more}
 use Rattle.simple_types.specs.Joining.{joined}
 use Rattle.simple_types.proofs.Copies.{joined-none}
-use Rattle.facet_rules.specs.Making.{AreEachSound}
+use Rattle.facet_rules.specs.Making.{AreEachSound, lent_spaces}
+use Rattle.facet_rules.proofs.Counting.{cut, lent_more}
 use Rattle.link_simple.specs.declared.parts.Part.{Part}
 use Rattle.link_simple.specs.Making.{entry_at, with_space}
 use Rattle.link_simple.specs.Private.Parts.{entries_of, seen, seen_all, behind}
@@ -22,17 +23,6 @@ pub entry_past : (entries : List (Option Simple)) (n : ℕ) → length entries �
 entry_past [] n le = refl
 entry_past (e ∷ es) zero le = absurd (omega (arith, le))
 entry_past (e ∷ es) (suc n) le = entry_past es n (omega (arith, le))
-
-pub cut : {A : Type 0} (xs : List A) (i : ℕ) (x : A) → i < length xs → x ≡ get_or xs i x → drop i xs ≡ x ∷ drop (i + 1) xs
-cut xs i x lt is =
-    let same : suc i ≡ i + 1 = omega arith in
-    drop-cons xs i x lt ∙ ap (λ y. y ∷ drop (suc i) xs) (sym is) ∙ ap (λ n. x ∷ drop n xs) same
-
-pub past_end : {A : Type 0} (xs : List A) (i : ℕ) → length xs ≤ i → drop i xs ≡ []
-past_end [] zero le = refl
-past_end [] (suc i) le = refl
-past_end (x ∷ xs) zero le = absurd (omega (arith, le))
-past_end (x ∷ xs) (suc i) le = past_end xs i (omega (arith, le))
 
 joined_part : (ps : List Part) (p : Part) (rest : Spaces) → joined (seen_all ps) (more (seen p) rest) ≡ joined (seen_all (ps ++ p ∷ [])) rest
 joined_part [] p rest = refl
@@ -53,7 +43,11 @@ pub part_sound : (ps : List Part) (p : Part) → AreEachSound (seen_all ps) → 
 part_sound [] p each sound = (sound, tt)
 part_sound (q ∷ ps) p each sound = (each.0, part_sound ps p each.1 sound)
 
--- one more copy
-pub joined_copy : (made : List Simple) (s : Simple) (rest : Spaces) → joined (spaces_in made) (more (space_of s) rest) ≡ joined (spaces_in (made ++ s ∷ [])) rest
-joined_copy [] s rest = refl
-joined_copy (m ∷ made) s rest = ap (more (space_of m)) (joined_copy made s rest)
+-- one more part is lent
+pub part_lent : (lent lent_now : List (Bor Simple)) (b : Bor Simple) (ps : List Part) (i : ℕ) (p : Part) → i < length ps → p ≡ get_or ps i p → space_of b.now ≡ seen p → lent_now ≡ lent ++ b ∷ []
+    → joined (lent_spaces lent) (seen_all (drop i ps)) ≡ seen_all ps → joined (lent_spaces lent_now) (seen_all (drop (i + 1) ps)) ≡ seen_all ps
+part_lent lent lent_now b ps i p lt is same pushed so_far =
+    let rest = seen_all (drop (i + 1) ps) in
+    ap (λ ls. joined (lent_spaces ls) rest) pushed ∙ sym (lent_more lent b rest) ∙ ap (λ s. joined (lent_spaces lent) (more s rest)) same
+    ∙ sym (ap (λ qs. joined (lent_spaces lent) (seen_all qs)) (cut ps i p lt is))
+    ∙ so_far

@@ -1,5 +1,4 @@
 pub mod Ascending
-pub mod Counting
 pub mod Existence
 pub mod Inserting
 pub mod Lending

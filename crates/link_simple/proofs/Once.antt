@@ -122,7 +122,7 @@ union_once (Some members) r q (inl h) (inr k) = absurd (k.0 h.0)
 union_once (Some members) r q (inr h) (inl k) = absurd (h.0 k.0)
 union_once (Some members) r q (inr h) (inr k) = h.1 ∙ sym k.1
 
-pub once : (ns : cycles.Numbers) (made : List (Option Space)) (file : ℕ) (how : How) (r q : Result Space LinkWhy) → IsLeft ns made file how r → IsLeft ns made file how q → r ≡ q
+pub once : (ns : cycles.SimpleNumbers) (made : List (Option Space)) (file : ℕ) (how : How) (r q : Result Space LinkWhy) → IsLeft ns made file how r → IsLeft ns made file how q → r ≡ q
 once ns made file (Restrict base facets) r q h k = restriction_once (part_space ns made file base) facets r q h k
 once ns made file (ListOf item) r q h k = list_once (part_space ns made file item) r q h k
 once ns made file (UnionOf members) r q h k = union_once (part_spaces ns made file members) r q h k
@@ -137,7 +137,7 @@ in_right : (xs ys : List ℕ) (n : ℕ) → IsIn ys n → IsIn (xs ++ ys) n
 in_right [] ys n h = h
 in_right (x ∷ xs) ys n h = inr (in_right xs ys n h)
 
-module _ (ns : cycles.Numbers) (a b : List (Option Space)) (file : ℕ) where
+module _ (ns : cycles.SimpleNumbers) (a b : List (Option Space)) (file : ℕ) where
   abbrev pub Agree : List ℕ → Type 0
   Agree parts = (n : ℕ) → IsIn parts n → entry_at a n ≡ entry_at b n
 
@@ -166,7 +166,7 @@ abbrev space_left : Result Space LinkWhy → Option Space
 space_left (Ok s) = Some s
 space_left (Err w) = None
 
-module _ (ns : cycles.Numbers) (a b : List (Option Space)) (d : SimpleDefinition) (same : (n : ℕ) → IsIn (parts_in ns d) n → entry_at a n ≡ entry_at b n) where
+module _ (ns : cycles.SimpleNumbers) (a b : List (Option Space)) (d : SimpleDefinition) (same : (n : ℕ) → IsIn (parts_in ns d) n → entry_at a n ≡ entry_at b n) where
   back : (n : ℕ) → IsIn (parts_in ns d) n → entry_at b n ≡ entry_at a n
   back n h = sym (same n h)
 

@@ -10,7 +10,7 @@ use Rattle.simple_types.specs.declared.simples.Simple.{Simple}
 use Rattle.simple_types.specs.Seen.{space_of}
 use Rattle.simple_types.specs.Sound.{Sound}
 use Rattle.simple_types.specs.Space.{Space}
-use Rattle.link_names.specs.declared.faults.Fault.{Fault}
+use Rattle.link_names.specs.declared.faults.LinkingFault.{LinkingFault}
 use Rattle.link_names.specs.declared.faults.LinkWhy.{LinkWhy}
 use Rattle.link_names.specs.Order.{fault, precedes, first_of, IsFirstSuch}
 use Rattle.link_names.proofs.Firsts.{precedes_itself, such_joined}
@@ -88,7 +88,7 @@ ok_err : (s : Space) (v : LinkWhy) → (let r : Result Space LinkWhy = Ok s in r
 ok_err s v e = true≢false (ap is_ok e)
 
 module _ (ds : List SimpleDefinition) (made : List (Option Space)) (d : SimpleDefinition) where
-  abbrev pub IsHere : Fault → Type 0
+  abbrev pub IsHere : LinkingFault → Type 0
   IsHere f = (f.place ≡ d.body) × IsLeft (numbers_in ds) made d.place.file d.how (Err f.why)
 
   pub left_fits : (l : Left) → LeftBy (IsLeft (numbers_in ds) made d.place.file d.how) l → IsEntry (numbers_in ds) made d (space_left l)
@@ -101,7 +101,7 @@ module _ (ds : List SimpleDefinition) (made : List (Option Space)) (d : SimpleDe
   left_sound (left.Refused why) h = tt
   left_sound left.PartMissing h = tt
 
-  same_fault : (why : LinkWhy) (f : Fault) → IsLeft (numbers_in ds) made d.place.file d.how (Err why) → IsHere f → fault why d.body ≡ f
+  same_fault : (why : LinkWhy) (f : LinkingFault) → IsLeft (numbers_in ds) made d.place.file d.how (Err why) → IsHere f → fault why d.body ≡ f
   same_fault why f h k =
       let same = err_is why f.why (once (numbers_in ds) made d.place.file d.how (Err why) (Err f.why) h k.1) in
       λ i. record { place = sym k.0 i; why = same i }
@@ -117,9 +117,9 @@ module _ (ds : List SimpleDefinition) (made : List (Option Space)) (d : SimpleDe
 -- one more
 
 module _
-    (ds : List SimpleDefinition) (made : List (Option Space)) (done : List Bool) (found : Option Fault) (h : Stands ds made done found) (n : ℕ) (d : SimpleDefinition)
+    (ds : List SimpleDefinition) (made : List (Option Space)) (done : List Bool) (found : Option LinkingFault) (h : Stands ds made done found) (n : ℕ) (d : SimpleDefinition)
     (is : slice_get ds n ≡ Some d) (free : mark done n ≡ false) (within : n < length done) (ready : (m : ℕ) → IsEdge (edges ds) n m → mark done m ≡ true)
-    (o : Option Space) (w : Option Fault) (fits : IsEntry (numbers_in ds) made d o) (sound : IfSome o Sound) (faults : IsFirstSuch (IsHere ds made d) w) where
+    (o : Option Space) (w : Option LinkingFault) (fits : IsEntry (numbers_in ds) made d o) (sound : IfSome o Sound) (faults : IsFirstSuch (IsHere ds made d) w) where
   here : entry_at (set made n o) n ≡ o
   here = let long = h.long in let marks = h.marks in set_entry_here made n o (omega (arith, long, marks, within))
 
@@ -171,7 +171,7 @@ module _
     | inr apart ↦ subst (λ p. IfSome p Sound) (sym (set_entry_other made n k o apart)) (h.sound k)
   ]
 
-  fault_parts : (f : Fault) → IsFaultAmong ds (set made n o) (set done n true) f → IsFaultAmong ds made done f ⊎ IsHere ds made d f
+  fault_parts : (f : LinkingFault) → IsFaultAmong ds (set made n o) (set done n true) f → IsFaultAmong ds made done f ⊎ IsHere ds made d f
   fault_parts f r = elim (set_parts done n r.0 r.2) [
     | inl old ↦ inl (
       r.0,
@@ -190,7 +190,7 @@ module _
         )
   ]
 
-  old_fault : (f : Fault) → IsFaultAmong ds made done f → IsFaultAmong ds (set made n o) (set done n true) f
+  old_fault : (f : LinkingFault) → IsFaultAmong ds made done f → IsFaultAmong ds (set made n o) (set done n true) f
   old_fault f r = (
     r.0,
     r.1,
@@ -200,7 +200,7 @@ module _
     same_left (numbers_in ds) made (set made n o) r.1.place.file r.1.how (agree_old r.0 r.1 r.2 r.3) (Err f.why) r.5,
   )
 
-  new_fault : (f : Fault) → IsHere ds made d f → IsFaultAmong ds (set made n o) (set done n true) f
+  new_fault : (f : LinkingFault) → IsHere ds made d f → IsFaultAmong ds (set made n o) (set done n true) f
   new_fault f k = (n, d, set_here done n within, is, k.0, same_left (numbers_in ds) made (set made n o) d.place.file d.how agree_here (Err f.why) k.1)
 
   pub stands_next : Stands ds (set made n o) (set done n true) (first_of found w)
@@ -216,12 +216,12 @@ module _
 
 -- all
 
-such_same : (P Q : Fault → Type 0) → ((f : Fault) → P f → Q f) → ((f : Fault) → Q f → P f) → (found : Option Fault) → IsFirstSuch P found → IsFirstSuch Q found
+such_same : (P Q : LinkingFault → Type 0) → ((f : LinkingFault) → P f → Q f) → ((f : LinkingFault) → Q f → P f) → (found : Option LinkingFault) → IsFirstSuch P found → IsFirstSuch Q found
 such_same P Q to from None h = λ f q. h f (from f q)
 such_same P Q to from (Some f) h = (to f h.0, λ g q. h.1 g (from g q))
 
 module _
-    (ds : List SimpleDefinition) (made : List (Option Space)) (done : List Bool) (found : Option Fault) (h : Stands ds made done found)
+    (ds : List SimpleDefinition) (made : List (Option Space)) (done : List Bool) (found : Option LinkingFault) (h : Stands ds made done found)
     (all : (n : ℕ) → n < length done → mark done n ≡ true) where
   marked : (n : ℕ) → n < length ds → mark done n ≡ true
   marked n lt = let marks = h.marks in all n (omega (arith, lt, marks))
@@ -234,10 +234,10 @@ module _
       let long = making.0 in
       same_list others made (making.0 ∙ sym h.long) (λ n lt. h.only others making n (marked n (omega (arith, long, lt))))
 
-  to : (f : Fault) → IsFaultAmong ds made done f → IsNotMadeOf ds f
+  to : (f : LinkingFault) → IsFaultAmong ds made done f → IsNotMadeOf ds f
   to f r = (made, is_making, r.0, r.1, r.3, r.4, r.5)
 
-  from : (f : Fault) → IsNotMadeOf ds f → IsFaultAmong ds made done f
+  from : (f : LinkingFault) → IsNotMadeOf ds f → IsFaultAmong ds made done f
   from f q = (
     q.2,
     q.3,

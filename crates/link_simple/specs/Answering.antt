@@ -9,7 +9,7 @@ use Rattle.simple_types.specs.Sound.{Sound}
 use Rattle.simple_types.specs.Space.{Space}
 use Rattle.schema_parts.specs.Raw.{Document}
 use Rattle.link_names.specs.Order.{IsFirstSuch}
-use Rattle.link_names.specs.declared.faults.Fault.{Fault}
+use Rattle.link_names.specs.declared.faults.LinkingFault.{LinkingFault}
 use Rattle.link_cycles.specs.SimpleTypes.{SimpleDefinition, simple_types}
 use Rattle.link_simple.specs.declared.making.MakingError.{MakingError}
 use Rattle.link_simple.specs.declared.making.MakingError.TheVariants as error
@@ -23,7 +23,7 @@ abbrev pub AreSound : List Simple → Type 0
 AreSound simples = All (λ s. Sound (space_of s)) simples
 
 -- the fault that an error shows; none where memory was missing
-abbrev pub shown_by : MakingError → Option Fault
+abbrev pub shown_by : MakingError → Option LinkingFault
 shown_by (error.Shown f) = Some f
 shown_by error.Memory = None
 

@@ -14,11 +14,11 @@ use Rattle.facet_rules.specs.Restricting.{Restricted}
 use Rattle.simple_types.specs.declared.facets.Facet.{Facet}
 use Rattle.schema_parts.specs.declared.simple_definitions.RawRef.TheVariants as reference
 use Rattle.schema_parts.specs.Raw.{Base, Named, Inner, Bases, none, more, How, Restrict, ListOf, UnionOf, Document}
-use Rattle.link_names.specs.declared.faults.Fault.{Fault}
+use Rattle.link_names.specs.declared.faults.LinkingFault.{LinkingFault}
 use Rattle.link_names.specs.declared.faults.LinkWhy.{LinkWhy}
 use Rattle.link_names.specs.declared.faults.LinkWhy.TheVariants as why
 use Rattle.link_names.specs.Order.{place}
-use Rattle.link_cycles.specs.Cycles.{Numbers, numbers_in}
+use Rattle.link_cycles.specs.Cycles.{SimpleNumbers, numbers_in}
 use Rattle.link_cycles.specs.SimpleTypes.{SimpleDefinition, simple_types}
 
 -- the space with the number, if that type is made
@@ -32,7 +32,7 @@ space_at made None = None
 space_at made (Some n) = entry_at made n
 
 -- the space of a base, an item or a member
-abbrev pub part_space : Numbers → List (Option Space) → ℕ → Base → Option Space
+abbrev pub part_space : SimpleNumbers → List (Option Space) → ℕ → Base → Option Space
 part_space ns made file (Named (reference.Builtin which)) = Some (builtin_space which)
 part_space ns made file (Named (reference.Other name)) = space_at made (ns.named name)
 part_space ns made file (Inner at body_at how) = space_at made (ns.placed (place file at))
@@ -43,7 +43,7 @@ with_space (Some s) None = None
 with_space (Some s) (Some ss) = Some (space.more s ss)
 
 -- those of all members, if each is made
-abbrev pub part_spaces : Numbers → List (Option Space) → ℕ → Bases → Option Spaces
+abbrev pub part_spaces : SimpleNumbers → List (Option Space) → ℕ → Bases → Option Spaces
 part_spaces ns made file none = Some space.none
 part_spaces ns made file (more b bs) = with_space (part_space ns made file b) (part_spaces ns made file bs)
 
@@ -66,12 +66,12 @@ IsUnion (Some members) r =
     ⊎ ((¬ AreWithinLimits (flattened members)) × (r ≡ Err why.Limit))
 
 -- what the parts of a type leave, if each is made
-abbrev pub IsLeft : Numbers → List (Option Space) → ℕ → How → Result Space LinkWhy → Type 0
+abbrev pub IsLeft : SimpleNumbers → List (Option Space) → ℕ → How → Result Space LinkWhy → Type 0
 IsLeft ns made file (Restrict base facets) r = IsRestriction (part_space ns made file base) facets r
 IsLeft ns made file (ListOf item) r = IsList (part_space ns made file item) r
 IsLeft ns made file (UnionOf members) r = IsUnion (part_spaces ns made file members) r
 
-abbrev pub IsEntry : Numbers → List (Option Space) → SimpleDefinition → Option Space → Type 0
+abbrev pub IsEntry : SimpleNumbers → List (Option Space) → SimpleDefinition → Option Space → Type 0
 IsEntry ns made d (Some s) = IsLeft ns made d.place.file d.how (Ok s)
 IsEntry ns made d None = (r : Result Space LinkWhy) → IsLeft ns made d.place.file d.how r → IsErr r
 
@@ -81,11 +81,11 @@ IsMaking ds made = (length made ≡ length ds)
     × ((n : ℕ) (d : SimpleDefinition) → slice_get ds n ≡ Some d → IsEntry (numbers_in ds) made d (entry_at made n))
 
 -- at the `restriction`, `list` or `union` of a type that can't be made, although each of its parts is made
-abbrev pub IsNotMadeOf : List SimpleDefinition → Fault → Type 0
+abbrev pub IsNotMadeOf : List SimpleDefinition → LinkingFault → Type 0
 IsNotMadeOf ds f =
     (made : List (Option Space)) × IsMaking ds made
     × (n : ℕ) × (d : SimpleDefinition) × (slice_get ds n ≡ Some d) × (f.place ≡ d.body)
     × IsLeft (numbers_in ds) made d.place.file d.how (Err f.why)
 
-abbrev pub IsNotMade : List Document → Fault → Type 0
+abbrev pub IsNotMade : List Document → LinkingFault → Type 0
 IsNotMade docs f = IsNotMadeOf (simple_types docs) f

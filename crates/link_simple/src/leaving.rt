@@ -14,11 +14,11 @@ ghost use Rattle.link_simple.specs.Private.Leaving.{LeftBy};
 use crate::parts::{part_of, parts_of};
 use crate::unions::union;
 use facet_rules::{Facet, ItemError, list_of, restrict};
+use link_cycles::{SimpleNumbers, SimpleType};
 use link_names::LinkWhy;
 use schema_parts::{RawBase, RawHow};
 use simple_types::Simple;
 use std::alloc::Global;
-use link_cycles::{Numbers, SimpleType};
 use xa_base::Memory;
 
 /// What the parts of a type leave.
@@ -63,7 +63,7 @@ fn listed(alloc: Global, item: &Simple) -> Result<Left, Memory>
 
 fn restriction<'a>(
     alloc: Global,
-    numbers: &Numbers<'a>,
+    numbers: &SimpleNumbers<'a>,
     entries: &[Option<Simple>],
     file: u32,
     base: &'a RawBase,
@@ -80,7 +80,7 @@ fn restriction<'a>(
 
 fn list<'a>(
     alloc: Global,
-    numbers: &Numbers<'a>,
+    numbers: &SimpleNumbers<'a>,
     entries: &[Option<Simple>],
     file: u32,
     item: &'a RawBase,
@@ -96,7 +96,7 @@ fn list<'a>(
 
 fn union_of_members<'a>(
     alloc: Global,
-    numbers: &Numbers<'a>,
+    numbers: &SimpleNumbers<'a>,
     entries: &[Option<Simple>],
     file: u32,
     members: &'a [RawBase],
@@ -113,7 +113,7 @@ fn union_of_members<'a>(
 /// What is left of the type, beside the types made before.
 pub(crate) fn left_of<'a>(
     alloc: Global,
-    numbers: &Numbers<'a>,
+    numbers: &SimpleNumbers<'a>,
     entries: &[Option<Simple>],
     definition: SimpleType<'a>,
 ) -> Result<Left, Memory>

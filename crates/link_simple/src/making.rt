@@ -8,12 +8,12 @@ ghost use Rattle.link_simple.specs.Answering.{AnswersMaking, AnswersMakingOf};
 ghost use Rattle.link_simple.specs.Private.Working.{StandsIn};
 
 use crate::working::{Work, work_in_order};
-use link_names::Fault;
+use link_cycles::{SimpleNumbers, SimpleType, ranks_of, simple_types};
+use link_names::LinkingFault;
 use schema_parts::RawDoc;
 use simple_types::Simple;
 use std::alloc::Global;
 use thiserror::Error;
-use link_cycles::{Numbers, SimpleType, ranks_of, simple_types};
 use xa_base::Memory;
 
 /// Why the simple types aren't made.
@@ -21,7 +21,7 @@ use xa_base::Memory;
 pub enum MakingError {
     /// The first fault, at the `restriction`, `list` or `union` of a type that can't be made although its parts can.
     #[error("{0:?}")]
-    Shown(Fault),
+    Shown(LinkingFault),
     #[error("out of memory")]
     Memory,
 }
@@ -58,7 +58,7 @@ fn order_of(alloc: Global, graph: &[Vec<usize>]) -> Result<Vec<usize>, Memory> {
 fn work<'a>(
     alloc: Global,
     definitions: &[SimpleType<'a>],
-    numbers: &Numbers<'a>,
+    numbers: &SimpleNumbers<'a>,
 ) -> Result<Work, Memory>
     requires { told_by numbers.now ≡ numbers_in (definitions_of definitions.now) }
     ensures { IfOk result (StandsIn (definitions_of definitions.now)) }
@@ -71,7 +71,7 @@ fn work<'a>(
 fn made_of<'a>(
     alloc: Global,
     definitions: &[SimpleType<'a>],
-    numbers: &Numbers<'a>,
+    numbers: &SimpleNumbers<'a>,
 ) -> Result<Vec<Simple>, MakingError>
     requires { told_by numbers.now ≡ numbers_in (definitions_of definitions.now) }
     ensures { AnswersMakingOf (definitions_of definitions.now) result }
@@ -80,13 +80,14 @@ fn made_of<'a>(
     work.end(alloc)
 }
 
-/// The simple types of the documents, in the order of `link_cycles::simple_types`. Where a type is made of itself or a
-/// reference names no simple type, the answer is `Memory`. The time grows with the number of parts, and as n log n with that
+/// The simple types of the documents, in the order of `link_cycles::simple_types`, or the first fault: at a type that can't
+/// be made although its parts can. `Memory` is also answered where a type is made of itself, and where none has a fault and
+/// yet one refers to no simple type. The time grows with the number of parts, and as n log n with that
 /// of names and places; beside it stands what restricting by facets takes and the size of the types.
 pub fn made(alloc: Global, docs: &[RawDoc]) -> Result<Vec<Simple>, MakingError>
     ensures { AnswersMaking (map doc_of docs.now) result }
 {
     let definitions = simple_types(alloc, docs)?;
-    let numbers = Numbers::of(alloc, &definitions)?;
+    let numbers = SimpleNumbers::of(alloc, &definitions)?;
     made_of(alloc, &definitions, &numbers)
 }

@@ -10,10 +10,10 @@ ghost use Rattle.link_cycles.specs.Tables.{told_by};
 ghost use Rattle.link_simple.specs.Making.{space_at, part_space, part_spaces};
 ghost use Rattle.link_simple.specs.Private.Parts.{entries_of, AreEntriesSound, seen, seen_all};
 
+use link_cycles::SimpleNumbers;
 use schema_parts::{RawBase, RawRef};
 use simple_types::{Simple, builtin};
 use std::alloc::Global;
-use link_cycles::Numbers;
 use xa_base::Memory;
 
 /// A part: a built-in type, or one that was made before.
@@ -63,7 +63,7 @@ fn lent_part<'m>(entries: &'m [Option<Simple>], number: Option<usize>) -> Option
 
 fn named_part<'m, 'a>(
     alloc: Global,
-    numbers: &Numbers<'a>,
+    numbers: &SimpleNumbers<'a>,
     entries: &'m [Option<Simple>],
     reference: &'a RawRef,
 ) -> Result<Option<Part<'m>>, Memory>
@@ -83,7 +83,7 @@ fn named_part<'m, 'a>(
 /// The base, the item or the member. None where it isn't made.
 pub(crate) fn part_of<'m, 'a>(
     alloc: Global,
-    numbers: &Numbers<'a>,
+    numbers: &SimpleNumbers<'a>,
     entries: &'m [Option<Simple>],
     file: u32,
     base: &'a RawBase,
@@ -101,7 +101,7 @@ pub(crate) fn part_of<'m, 'a>(
 /// All of these. None where one isn't made.
 pub(crate) fn parts_of<'m, 'a>(
     alloc: Global,
-    numbers: &Numbers<'a>,
+    numbers: &SimpleNumbers<'a>,
     entries: &'m [Option<Simple>],
     file: u32,
     bases: &'a [RawBase],

@@ -13,10 +13,10 @@ ghost use Rattle.link_simple.specs.Private.Working.{space_left, fault_left, Stan
 
 use crate::leaving::{Left, left_of};
 use crate::making::MakingError;
-use link_names::{Fault, Place, first_of};
+use link_cycles::{SimpleNumbers, SimpleType};
+use link_names::{LinkingFault, Place, first_of};
 use simple_types::Simple;
 use std::alloc::Global;
-use link_cycles::{Numbers, SimpleType};
 use xa_base::Memory;
 
 /// The types made so far, which of all types are done, and the first fault among them. A type that is done and has no
@@ -25,7 +25,7 @@ use xa_base::Memory;
 pub(crate) struct Work {
     entries: Vec<Option<Simple>>,
     done: Vec<bool>,
-    found: Option<Fault>,
+    found: Option<LinkingFault>,
 }
 
 fn simple_in(left: Left) -> Option<Simple>
@@ -38,11 +38,11 @@ fn simple_in(left: Left) -> Option<Simple>
     }
 }
 
-fn fault_in(left: &Left, body: Place) -> Option<Fault>
+fn fault_in(left: &Left, body: Place) -> Option<LinkingFault>
     ensures { result ≡ fault_left body left.now }
 {
     match left {
-        Left::Refused(why) => Some(Fault {
+        Left::Refused(why) => Some(LinkingFault {
             place: body,
             why: *why,
         }),
@@ -133,7 +133,7 @@ impl Work {
         &mut self,
         alloc: Global,
         definitions: &[SimpleType<'a>],
-        numbers: &Numbers<'a>,
+        numbers: &SimpleNumbers<'a>,
         graph: &[Vec<usize>],
         n: usize,
     ) -> Result<(), Memory>
@@ -189,7 +189,7 @@ fn all_made(alloc: Global, entries: Vec<Option<Simple>>) -> Result<Vec<Simple>, 
 pub(crate) fn work_in_order<'a>(
     alloc: Global,
     definitions: &[SimpleType<'a>],
-    numbers: &Numbers<'a>,
+    numbers: &SimpleNumbers<'a>,
     graph: &[Vec<usize>],
     order: &[usize],
 ) -> Result<Work, Memory>

@@ -26,13 +26,13 @@ use Rattle.map_subjects.specs.declared.subjects.Subject.TheVariants as subject
 use Rattle.map_subjects.specs.Subjects.{is_nillable_of, has_nillable, complex_name}
 use Rattle.map_subjects.proofs.Finding.{all-at}
 use Rattle.map_subjects.proofs.InOrder.{named-element}
-use Rattle.map_assignments.specs.Plans.{Label, attribute, texts, Plan, simple, sequence, choice, repeated, reference, Parts, finish, part}
+use Rattle.map_assignments.specs.Plans.{Label, attribute, texts, TypePlan, simple, sequence, choice, repeated, reference, Parts, finish, part}
 use Rattle.map_assignments.specs.Planning.{simple_plan, simple_type, attributes, is_mixed, texts_type, with_texts, top, content_parts, content_type, rest_parts, complex_plan, nillable_simple_type, own_type, particle_type, in_place, body}
 use Rattle.map_assignments.specs.Naming.{IsSimpleType as IsTypeOf, IsNamed}
 use Rattle.map_694.proofs.Shapes.{count_parts, EndsOptional, NoElements, HasName, IsSimplePlan, IsPlan, ArePlans, Refers, ReferInAll, depth_of}
 use Rattle.map_694.proofs.Planned.{never, plain-sequence, seen-nodes, top-refers, top-plans, top-count}
 
-simple-is-plan : (s : Set) (p : Plan) → IsSimplePlan s p → IsPlan s p
+simple-is-plan : (s : Set) (p : TypePlan) → IsSimplePlan s p → IsPlan s p
 simple-is-plan s (simple sp) g = g
 simple-is-plan s (sequence nillable mixed ps) g = absurd g
 simple-is-plan s (choice ps) g = absurd g
@@ -61,7 +61,7 @@ module _ (s : Set) (P : Subject → Type 0) (simples : (n : ℕ) → P (subject.
   attributes-refer [] rest h = h
   attributes-refer (u ∷ us) rest h = (simple-refers u.simple, attributes-refer us rest h)
 
-  module _ (T : ℕ → Plan) where
+  module _ (T : ℕ → TypePlan) where
     content-parts-refer : (c : Content) → ReferInAll P (content_parts T s c)
     content-parts-refer content_.Empty = tt
     content-parts-refer (content_.Simple n) = (simple-refers n, tt)
@@ -95,7 +95,7 @@ module _ (s : Set) (P : Subject → Type 0) (simples : (n : ℕ) → P (subject.
       by None = tt
       by (Some c) = complex-refers (particle_type s (in_place s levels)) nillable c
 
-  own-refers : (inner : Bool → ℕ → Plan) → ((b : Bool) (n : ℕ) → Refers P (inner b n)) → ((n : ℕ) → P (subject.Complex n)) → ((n : ℕ) → P (subject.Nillable n))
+  own-refers : (inner : Bool → ℕ → TypePlan) → ((b : Bool) (n : ℕ) → Refers P (inner b n)) → ((n : ℕ) → P (subject.Complex n)) → ((n : ℕ) → P (subject.Nillable n))
       → (e : ElementDecl) → Refers P (own_type s inner e)
   own-refers inner within complexes nillables e = by e.kind
     where
@@ -163,7 +163,7 @@ global-named s d linked below =
     let e = found s.elements d (omega (arith, below, within)) in
     (e.0.name, named-element s d e.0 below e.1)
 
-ends-part : (l : Label) (optional : Bool) (p : Plan) (ps : Parts) → EndsOptional ps → EndsOptional (part l optional p ps)
+ends-part : (l : Label) (optional : Bool) (p : TypePlan) (ps : Parts) → EndsOptional ps → EndsOptional (part l optional p ps)
 ends-part l optional p finish e = absurd e
 ends-part l optional p (part k other q ps) e = e
 
@@ -200,7 +200,7 @@ module _ (s : Set) (linked : IsLinked s) where
   attributes-plans [] rest g = g
   attributes-plans (u ∷ us) rest g = (simple-plan u.simple, (λ e. simple-plan-is u.simple), attributes-plans us rest g)
 
-  module _ (T : ℕ → Plan) (plans : (d : ℕ) → IsPlan s (T d)) where
+  module _ (T : ℕ → TypePlan) (plans : (d : ℕ) → IsPlan s (T d)) where
     content-parts-plans : (c : Content) → IsContent s c → ArePlans s (content_parts T s c)
     content-parts-plans content_.Empty h = tt
     content-parts-plans (content_.Simple n) h = (simple-plan n, (λ e. never _ e), tt)
@@ -272,7 +272,7 @@ module _ (s : Set) (linked : IsLinked s) where
       ∙ ap (λ t. true && elim t [ kind.Simple m ↦ false | kind.Complex m ↦ nat_eq m n ]) k ∙ same)
 
   -- a declaration, where complex types in place have such plans
-  own-plan : (inner : Bool → ℕ → Plan) → ((b : Bool) (n : ℕ) → IsPlan s (inner b n)) → (i : ℕ) (e : ElementDecl) → slice_get s.elements i ≡ Some e → IsPlan s (own_type s inner e)
+  own-plan : (inner : Bool → ℕ → TypePlan) → ((b : Bool) (n : ℕ) → IsPlan s (inner b n)) → (i : ℕ) (e : ElementDecl) → slice_get s.elements i ≡ Some e → IsPlan s (own_type s inner e)
   own-plan inner within i e got = by e.kind refl
     where
       of-simple : (b : Bool) (n : ℕ) → IsPlan s (if b then nillable_simple_type s n else simple_type s n)
@@ -308,7 +308,7 @@ module _ (s : Set) (linked : IsLinked s) where
       by (kind.Simple n) f = of-simple e.nillable n
       by (kind.Complex n) f = of-complex n (slice_get s.complexes n) f refl
 
-  particle-plan : (inner : Bool → ℕ → Plan) → ((b : Bool) (n : ℕ) → IsPlan s (inner b n)) → (d : ℕ) → IsPlan s (particle_type s inner d)
+  particle-plan : (inner : Bool → ℕ → TypePlan) → ((b : Bool) (n : ℕ) → IsPlan s (inner b n)) → (d : ℕ) → IsPlan s (particle_type s inner d)
   particle-plan inner within d = by (nat_lt d s.globals) refl
     where
       declared : (o : Option ElementDecl) → slice_get s.elements d ≡ o → IsPlan s (elim o [ None ↦ simple Booleans | Some e ↦ own_type s inner e ])

@@ -20,9 +20,9 @@ use Rattle.asn_types.specs.Roles.{role_of, is_content, is_embed, is_item, is_emp
 use Rattle.asn_types.specs.Refs.{body_at, is_element, NearRefs, NearRefsOf, ChainsWithin}
 use Rattle.schema_parts.specs.Components.{Set}
 use Rattle.map_subjects.specs.declared.subjects.Subject.{Subject}
-use Rattle.map_subjects.specs.declared.subjects.Entry.{Entry}
+use Rattle.map_subjects.specs.declared.subjects.NamedSubject.{NamedSubject}
 use Rattle.map_subjects.specs.Subjects.{place_in, AreEntries}
-use Rattle.map_assignments.specs.Plans.{Label, attribute, element, group, elements, groups, texts, item, base, content, Plan, simple, sequence, choice, repeated, reference, Parts, finish, part}
+use Rattle.map_assignments.specs.Plans.{Label, attribute, element, group, elements, groups, texts, item, base, content, TypePlan, simple, sequence, choice, repeated, reference, Parts, finish, part}
 use Rattle.map_assignments.specs.Planning.{body}
 use Rattle.map_assignments.specs.Naming.{type_label, identifier_of, wanted, named_part, repeated_part, sequence_marks, IsNamed, AreNamed}
 use Rattle.map_assignments.specs.Mapped.{AreMapped}
@@ -123,7 +123,7 @@ repeated-element l least most e =
 
 module _ (s : Set) (place : Subject → ℕ) (P : ℕ → Type 0) where
   -- of a part
-  at-part : (k : Label) (r : Role) (p : Plan) (u : Rose TypeLabel) → (is_element_label k ≡ true → r ≡ Element) → MatchBool (is_element_label k) (Unit {0}) (Refers (λ w. P (place w)) p)
+  at-part : (k : Label) (r : Role) (p : TypePlan) (u : Rose TypeLabel) → (is_element_label k ≡ true → r ≡ Element) → MatchBool (is_element_label k) (Unit {0}) (Refers (λ w. P (place w)) p)
       → (Refers (λ w. P (place w)) p → NearRefs P u) → MatchBool (is_element r) (Unit {0}) (NearRefs P u)
   at-part k r p u role refers f = by (is_element_label k) refl refers
     where
@@ -134,7 +134,7 @@ module _ (s : Set) (place : Subject → ℕ) (P : ℕ → Type 0) where
   mutual
     unfolding NearRefs NearRefsOf
 
-    pub named-near : (p : Plan) (t : Rose TypeLabel) → IsPlan s p → Refers (λ w. P (place w)) p → IsNamed place p t → NearRefs P t
+    pub named-near : (p : TypePlan) (t : Rose TypeLabel) → IsPlan s p → Refers (λ w. P (place w)) p → IsNamed place p t → NearRefs P t
     named-near (simple sp) t g r h = simple-near P sp t h
     named-near (sequence nillable mixed ps) t g r h =
         subst (NearRefs P) (sym h.2)
@@ -159,9 +159,9 @@ module _ (s : Set) (place : Subject → ℕ) (P : ℕ → Type 0) where
         ))
 
 -- chains of references in a map
-module _ (s : Set) (es : List Entry) (M : List Assignment) (entries : AreEntries s es) (mapped : AreMapped (place_in es) s [] es M)
+module _ (s : Set) (es : List NamedSubject) (M : List Assignment) (entries : AreEntries s es) (mapped : AreMapped (place_in es) s [] es M)
     (plans : (w : Subject) → IsPlan s (body s w)) (depths : (w : Subject) → Refers (λ v. depth_of v < depth_of w) (body s w)) where
-  pub chain : (k : ℕ) (p : Plan) (t : Rose TypeLabel) → IsPlan s p → Refers (λ w. depth_of w < k) p → IsNamed (place_in es) p t → ChainsWithin M k t
+  pub chain : (k : ℕ) (p : TypePlan) (t : Rose TypeLabel) → IsPlan s p → Refers (λ w. depth_of w < k) p → IsNamed (place_in es) p t → ChainsWithin M k t
   unfolding ChainsWithin
   chain zero p t g r h =
       named-near s (place_in es) (λ k. ⊥) p t g (refers-weaker s (λ w. depth_of w < 0) (λ w. ⊥) (λ w n l. absurd (omega (arith, l))) p g r) h

@@ -22,9 +22,9 @@ use Rattle.asn_types.specs.Simples.{IsSimple, white_space_marks}
 use Rattle.schema_parts.specs.Components.{Set}
 use Rattle.map_subjects.specs.declared.subjects.Subject.{Subject}
 use Rattle.map_subjects.specs.declared.subjects.Subject.TheVariants as subject
-use Rattle.map_subjects.specs.declared.subjects.Entry.{Entry}
+use Rattle.map_subjects.specs.declared.subjects.NamedSubject.{NamedSubject}
 use Rattle.map_subjects.specs.Subjects.{place_in, AreEntries}
-use Rattle.map_assignments.specs.Plans.{item, Plan, simple, sequence, choice, repeated, reference, Parts, finish, part}
+use Rattle.map_assignments.specs.Plans.{item, TypePlan, simple, sequence, choice, repeated, reference, Parts, finish, part}
 use Rattle.map_assignments.specs.Planning.{body, texts_type}
 use Rattle.map_assignments.specs.Naming.{type_label, component_of, list_item, identifier_of, text_marks, part_marks, named_part, repeated_part, wanted, sequence_marks, AreTaken, IsSimpleType, AreMembers, IsNamed, AreNamed}
 use Rattle.map_assignments.specs.Mapped.{AreMapped}
@@ -63,7 +63,7 @@ module _ (place : Subject → ℕ) where
   content-last before (part l optional p (part k other q ps)) parts ts e h =
       subst HasLast (sym h.5) (last-later (named_part l h.0 optional) h.1 (content-last (before ++ h.0 ∷ []) (part k other q ps) h.1 h.3 e h.8))
 
-  are-texts : (p : Plan) (u : Rose TypeLabel) → p ≡ texts_type → IsNamed place p u → AreTexts u
+  are-texts : (p : TypePlan) (u : Rose TypeLabel) → p ≡ texts_type → IsNamed place p u → AreTexts u
   are-texts p u is h =
       let named : IsNamed place texts_type u = subst (λ q. IsNamed place q u) is h in
       subst AreTexts (sym named.1) (repeated_part item, refl, subst IsAnyText (sym named.2) refl)
@@ -173,10 +173,10 @@ module _ (M : List Assignment) where
 
 -- ---- all types of a map
 
-module _ (s : Set) (es : List Entry) (M : List Assignment) (entries : AreEntries s es) (mapped : AreMapped (place_in es) s [] es M)
+module _ (s : Set) (es : List NamedSubject) (M : List Assignment) (entries : AreEntries s es) (mapped : AreMapped (place_in es) s [] es M)
     (plans : (w : Subject) → IsPlan s (body s w)) (depths : (w : Subject) → Refers (λ v. depth_of v < depth_of w) (body s w))
     (simples : (n : ℕ) (u : Rose TypeLabel) → IsNamed (place_in es) (body s (subject.Simple n)) u → (sp : Space) × Sound sp × IsSimpleType sp u) where
-  pub simple-part : (p : Plan) (t : Rose TypeLabel) → IsSimplePlan s p → IsNamed (place_in es) p t → IsSimple (resolve M t)
+  pub simple-part : (p : TypePlan) (t : Rose TypeLabel) → IsSimplePlan s p → IsNamed (place_in es) p t → IsSimple (resolve M t)
   simple-part (simple sp) t g h = itself M sp t g h
   simple-part (sequence nillable mixed ps) t g h = absurd g
   simple-part (choice ps) t g h = absurd g
@@ -197,11 +197,11 @@ module _ (s : Set) (es : List Entry) (M : List Assignment) (entries : AreEntries
   shallow (subject.Complex n) = omega arith
   shallow (subject.Nillable n) = omega arith
 
-  chains-of : (p : Plan) (t : Rose TypeLabel) → IsPlan s p → IsNamed (place_in es) p t → ChainsWithin M 4 t
+  chains-of : (p : TypePlan) (t : Rose TypeLabel) → IsPlan s p → IsNamed (place_in es) p t → ChainsWithin M 4 t
   chains-of p t g h = chain s es M entries mapped plans depths 4 p t g (refers-all (λ w. depth_of w < 4) shallow p) h
 
   mutual
-    pub named-formed : (p : Plan) (t : Rose TypeLabel) → IsPlan s p → IsNamed (place_in es) p t → AreWellFormed M t
+    pub named-formed : (p : TypePlan) (t : Rose TypeLabel) → IsPlan s p → IsNamed (place_in es) p t → AreWellFormed M t
     named-formed (simple sp) t g h = simple-formed M sp t g h
     named-formed (sequence nillable mixed ps) t g h =
         let marks = sequence_marks nillable mixed in

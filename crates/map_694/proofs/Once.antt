@@ -21,10 +21,10 @@ use Rattle.asn_types.specs.declared.modules.Assignment.{Assignment}
 use Rattle.asn_types.specs.Simples.{white_space_marks}
 use Rattle.schema_parts.specs.Components.{Set}
 use Rattle.map_subjects.specs.declared.subjects.Subject.{Subject}
-use Rattle.map_subjects.specs.declared.subjects.Entry.{Entry}
+use Rattle.map_subjects.specs.declared.subjects.NamedSubject.{NamedSubject}
 use Rattle.map_subjects.specs.Subjects.{entry_cmp, AreEntries, place_in}
 use Rattle.map_subjects.proofs.InOrder.{turned}
-use Rattle.map_assignments.specs.Plans.{Plan, simple, sequence, choice, repeated, reference, Parts, finish, part}
+use Rattle.map_assignments.specs.Plans.{TypePlan, simple, sequence, choice, repeated, reference, Parts, finish, part}
 use Rattle.map_assignments.specs.Planning.{body}
 use Rattle.map_assignments.specs.Naming.{type_label, component_of, list_item, identifier_of, text_marks, named_part, repeated_part, sequence_marks, wanted, AreTaken, IsSimpleType, AreMembers, IsNamed, AreNamed}
 use Rattle.map_assignments.specs.Mapped.{assignment_marks, wanted_reference, AreMapped, IsMapOf}
@@ -89,7 +89,7 @@ mutual
 
 module _ (place : Subject → ℕ) where
   mutual
-    named-once : (p : Plan) (t u : Rose TypeLabel) → IsNamed place p t → IsNamed place p u → t ≡ u
+    named-once : (p : TypePlan) (t u : Rose TypeLabel) → IsNamed place p t → IsNamed place p u → t ≡ u
     named-once (simple s) t u a b = simple-once s t u a b
     named-once (sequence nillable mixed ps) t u a b =
         let both = parts-once [] ps a.0 b.0 a.1 b.1 a.3 b.3 in
@@ -118,7 +118,7 @@ abbrev assigned : List ℕ → List Instruction → Rose TypeLabel → Assignmen
 assigned name instructions type = record { reference = name; marks = instructions; body = type }
 
 module _ (place : Subject → ℕ) (s : Set) where
-  mapped-once : (before : List (List ℕ)) (es : List Entry) (M N : List Assignment) → AreMapped place s before es M → AreMapped place s before es N → M ≡ N
+  mapped-once : (before : List (List ℕ)) (es : List NamedSubject) (M N : List Assignment) → AreMapped place s before es M → AreMapped place s before es N → M ≡ N
   mapped-once before [] [] [] h k = refl
   mapped-once before [] [] (b ∷ N) h k = absurd k
   mapped-once before [] (a ∷ M) N h k = absurd h
@@ -135,27 +135,27 @@ module _ (place : Subject → ℕ) (s : Set) where
 
 -- ---- entries
 
-not-back : (x y : Entry) → entry_cmp x y ≡ Less → entry_cmp y x ≡ Less → ⊥
+not-back : (x y : NamedSubject) → entry_cmp x y ≡ Less → entry_cmp y x ≡ Less → ⊥
 not-back x y h k = true≢false (ap is_lt (sym h ∙ turned x y ∙ ap ordering_reverse k))
 
-only : (x z : Entry) → Contains (x ∷ []) z → x ≡ z
+only : (x z : NamedSubject) → Contains (x ∷ []) z → x ≡ z
 only x z (zero, below, is) = is
 only x z (suc k, below, is) = absurd (omega (arith, below))
 
-first-of : (x : Entry) (xs : List Entry) → Contains (x ∷ xs) x
+first-of : (x : NamedSubject) (xs : List NamedSubject) → Contains (x ∷ xs) x
 first-of x xs = Contains-get_or (x ∷ xs) zero x (omega arith)
 
-above : (x z : Entry) (xs : List Entry) → IsStrictlySortedBy entry_cmp (x ∷ xs) → Contains xs z → entry_cmp x z ≡ Less
+above : (x z : NamedSubject) (xs : List NamedSubject) → IsStrictlySortedBy entry_cmp (x ∷ xs) → Contains xs z → entry_cmp x z ≡ Less
 above x z xs up has = All-contains (λ y. entry_cmp x y ≡ Less) xs z (All-from_recursion (λ y. entry_cmp x y ≡ Less) xs (sorted_head entry_cmp x xs up)) has
 
 -- what stands in the whole list and isn't the first stands in the rest
-among-rest : (x z : Entry) (xs : List Entry) → Contains (x ∷ xs) z → (x ≡ z → ⊥) → Contains xs z
+among-rest : (x z : NamedSubject) (xs : List NamedSubject) → Contains (x ∷ xs) z → (x ≡ z → ⊥) → Contains xs z
 among-rest x z xs has apart = elim (Contains-append_cases (x ∷ []) xs z has) [
   | inl here ↦ absurd (apart (only x z here))
   | inr later ↦ later
 ]
 
-same-first : (x y : Entry) (xs ys : List Entry) → IsStrictlySortedBy entry_cmp (x ∷ xs) → IsStrictlySortedBy entry_cmp (y ∷ ys) → Contains (y ∷ ys) x → Contains (x ∷ xs) y → x ≡ y
+same-first : (x y : NamedSubject) (xs ys : List NamedSubject) → IsStrictlySortedBy entry_cmp (x ∷ xs) → IsStrictlySortedBy entry_cmp (y ∷ ys) → Contains (y ∷ ys) x → Contains (x ∷ xs) y → x ≡ y
 same-first x y xs ys up also here there = elim (Contains-append_cases (y ∷ []) ys x here) [
   | inl is ↦ sym (only y x is)
   | inr later ↦ elim (Contains-append_cases (x ∷ []) xs y there) [
@@ -164,8 +164,8 @@ same-first x y xs ys up also here there = elim (Contains-append_cases (y ∷ [])
   ]
 ]
 
-entries-once : (xs ys : List Entry) → IsStrictlySortedBy entry_cmp xs → IsStrictlySortedBy entry_cmp ys → ((z : Entry) → Contains xs z → Contains ys z)
-    → ((z : Entry) → Contains ys z → Contains xs z) → xs ≡ ys
+entries-once : (xs ys : List NamedSubject) → IsStrictlySortedBy entry_cmp xs → IsStrictlySortedBy entry_cmp ys → ((z : NamedSubject) → Contains xs z → Contains ys z)
+    → ((z : NamedSubject) → Contains ys z → Contains xs z) → xs ≡ ys
 entries-once [] [] up also into back = refl
 entries-once [] (y ∷ ys) up also into back = let h = back y (first-of y ys) in absurd (omega (arith, h.1))
 entries-once (x ∷ xs) [] up also into back = let h = into x (first-of x xs) in absurd (omega (arith, h.1))

@@ -16,7 +16,7 @@ use Rattle.asn_types.specs.declared.modules.Assignment.{Assignment}
 use Rattle.asn_types.specs.Refs.{body_at}
 use Rattle.schema_parts.specs.Components.{Set}
 use Rattle.map_subjects.specs.declared.subjects.Subject.{Subject}
-use Rattle.map_subjects.specs.declared.subjects.Entry.{Entry}
+use Rattle.map_subjects.specs.declared.subjects.NamedSubject.{NamedSubject}
 use Rattle.map_subjects.specs.Subjects.{same_subject, place_in, AreEntries}
 use Rattle.map_subjects.specs.Private.Collecting.{entry_with}
 use Rattle.map_subjects.proofs.Earlier.{same-subject, self-same}
@@ -34,7 +34,7 @@ abbrev references : List Assignment → List (List ℕ)
 references M = map (λ (a : Assignment). a.reference) M
 
 module _ (place : Subject → ℕ) (s : Set) where
-  pub mapped-length : (before : List (List ℕ)) (es : List Entry) (made : List Assignment) → AreMapped place s before es made → length made ≡ length es
+  pub mapped-length : (before : List (List ℕ)) (es : List NamedSubject) (made : List Assignment) → AreMapped place s before es made → length made ≡ length es
   mapped-length before [] [] h = refl
   mapped-length before [] (a ∷ made) h = absurd h
   mapped-length before (e ∷ es) [] h = absurd h
@@ -47,7 +47,7 @@ module _ (place : Subject → ℕ) (s : Set) where
       by true e = absurd (lacks (subst (Contains (before ++ r ∷ [])) ((bytes_eq-Decides r x).0 e) (Contains-push before r)))
       by false e = e
 
-  mapped-apart : (before : List (List ℕ)) (es : List Entry) (made : List Assignment) → AreMapped place s before es made
+  mapped-apart : (before : List (List ℕ)) (es : List NamedSubject) (made : List Assignment) → AreMapped place s before es made
       → IsDistinct bytes_eq (references made) × All (λ r. Contains before r → ⊥) (references made)
   unfolding IsDistinct
   mapped-apart before [] [] h = (tt, All-nil (λ r. Contains before r → ⊥))
@@ -64,18 +64,18 @@ module _ (place : Subject → ℕ) (s : Set) where
             (All-weaker (λ r. Contains (before ++ a.reference ∷ []) r → ⊥) (λ r. Contains before r → ⊥) (λ r lacks has. lacks (Contains-append_left before (a.reference ∷ []) r has)) others rest.1),
       )
 
-  pub references-differ : (es : List Entry) (made : List Assignment) → AreMapped place s [] es made → IsDistinct bytes_eq (references made)
+  pub references-differ : (es : List NamedSubject) (made : List Assignment) → AreMapped place s [] es made → IsDistinct bytes_eq (references made)
   references-differ es made h = (mapped-apart [] es made h).0
 
   -- the assignment of a component
-  abbrev pub IsAt : List Entry → List Assignment → Subject → Type 0
+  abbrev pub IsAt : List NamedSubject → List Assignment → Subject → Type 0
   IsAt es made w = (a : Assignment) × (slice_get made (place_in es w) ≡ Some a) × IsNamed place (body s w) a.body
 
-  only : (x z : Entry) → Contains (x ∷ []) z → x ≡ z
+  only : (x z : NamedSubject) → Contains (x ∷ []) z → x ≡ z
   only x z (zero, below, is) = is
   only x z (suc k, below, is) = absurd (omega (arith, below))
 
-  pub mapped-at : (before : List (List ℕ)) (es : List Entry) (made : List Assignment) (w : Subject) (name : Name) → AreMapped place s before es made → Contains es (entry_with w name)
+  pub mapped-at : (before : List (List ℕ)) (es : List NamedSubject) (made : List Assignment) (w : Subject) (name : Name) → AreMapped place s before es made → Contains es (entry_with w name)
       → IsAt es made w
   mapped-at before [] [] w name h has = absurd (omega (arith, has.1))
   mapped-at before [] (a ∷ made) w name h has = absurd h
@@ -89,14 +89,14 @@ module _ (place : Subject → ℕ) (s : Set) where
         subst (λ v. IsNamed place (body s v) a.body) (same-subject e.subject w f) h.0.body,
       )
       by false f rest = elim (Contains-append_cases (e ∷ []) es (entry_with w name) has) [
-        | inl first ↦ absurd (true≢false (sym (subst (λ (x : Entry). same_subject x.subject w ≡ true) (sym (only e (entry_with w name) first)) (self-same w)) ∙ f))
+        | inl first ↦ absurd (true≢false (sym (subst (λ (x : NamedSubject). same_subject x.subject w ≡ true) (sym (only e (entry_with w name) first)) (self-same w)) ∙ f))
         | inr inside ↦
             let found = rest inside in
             (found.0, ap (λ b. slice_get (a ∷ made) (elim b [ true ↦ 0 | false ↦ suc (place_in es w) ])) f ∙ found.1, found.2)
       ]
 
 -- where each component has its assignment, in a whole map
-module _ (s : Set) (es : List Entry) (M : List Assignment) (entries : AreEntries s es) (mapped : AreMapped (place_in es) s [] es M) where
+module _ (s : Set) (es : List NamedSubject) (M : List Assignment) (entries : AreEntries s es) (mapped : AreMapped (place_in es) s [] es M) where
   pub located : (w : Subject) → HasName s w → (u : Rose TypeLabel) × (body_at M (place_in es w) ≡ Some u) × IsNamed (place_in es) (body s w) u
   located w named =
       let found = mapped-at (place_in es) s [] es M w named.0 mapped ((entries.whole w named.0).1 named.1) in

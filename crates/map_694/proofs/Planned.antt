@@ -13,7 +13,7 @@ use Rattle.content_models.specs.Occurring.{AllowOne, IsMore, MayOccur, TermMayOc
 use Rattle.content_models.specs.Seen.{term_seen, seen, all_seen}
 use Rattle.schema_parts.specs.Components.{Set}
 use Rattle.map_subjects.specs.declared.subjects.Subject.{Subject}
-use Rattle.map_assignments.specs.Plans.{Plan, repeated, Parts, finish, part}
+use Rattle.map_assignments.specs.Plans.{TypePlan, repeated, Parts, finish, part}
 use Rattle.map_assignments.specs.Planning.{label_of, list_label_of, is_once, is_optional, term_type, particle_parts, top_part, top}
 use Rattle.map_694.proofs.Shapes.{is_attribute_label, is_element_label, count_parts, IsSequence, IsPlan, ArePlans, Refers, ReferInAll, either-way}
 
@@ -63,7 +63,7 @@ mutual
   all-seen-nodes rose.none = omega arith
   all-seen-nodes (rose.more t ts) = omega (arith, seen-nodes t, all-seen-nodes ts)
 
-abbrev chosen : Bool → Bool → Term → Plan → ℕ → Option ℕ → Parts → Parts
+abbrev chosen : Bool → Bool → Term → TypePlan → ℕ → Option ℕ → Parts → Parts
 chosen o q t p least most rest =
     if o then part (label_of t) false p rest else if q then part (label_of t) true p rest else part (list_label_of t) false (repeated (label_of t) p least most) rest
 
@@ -71,19 +71,19 @@ sizes : (least : ℕ) (most : Option ℕ) → AllowOne least most → AreSizes l
 sizes least None h = tt
 sizes least (Some most) h = h.0
 
-chosen-count : (o q : Bool) (t : Term) (p : Plan) (least : ℕ) (most : Option ℕ) (rest : Parts) → count_parts (chosen o q t p least most rest) ≡ suc (count_parts rest)
+chosen-count : (o q : Bool) (t : Term) (p : TypePlan) (least : ℕ) (most : Option ℕ) (rest : Parts) → count_parts (chosen o q t p least most rest) ≡ suc (count_parts rest)
 chosen-count true q t p least most rest = refl
 chosen-count false true t p least most rest = refl
 chosen-count false false t p least most rest = refl
 
-chosen-refers : (P : Subject → Type 0) (o q : Bool) (t : Term) (p : Plan) (least : ℕ) (most : Option ℕ) (rest : Parts)
+chosen-refers : (P : Subject → Type 0) (o q : Bool) (t : Term) (p : TypePlan) (least : ℕ) (most : Option ℕ) (rest : Parts)
     → MatchBool (is_element_label (label_of t)) (Unit {0}) (Refers P p) → ReferInAll P rest → ReferInAll P (chosen o q t p least most rest)
 chosen-refers P true q t p least most rest h k = (h, k)
 chosen-refers P false true t p least most rest h k = (h, k)
 chosen-refers P false false t p least most rest h k = (either-way (is_element_label (list_label_of t)) (Refers P (repeated (label_of t) p least most)) h, k)
 
 module _ (s : Set) where
-  chosen-plans : (o q : Bool) (t : Term) (p : Plan) (least : ℕ) (most : Option ℕ) (rest : Parts) → AllowOne least most → IsPlan s p → ArePlans s rest
+  chosen-plans : (o q : Bool) (t : Term) (p : TypePlan) (least : ℕ) (most : Option ℕ) (rest : Parts) → AllowOne least most → IsPlan s p → ArePlans s rest
       → ArePlans s (chosen o q t p least most rest)
   chosen-plans true q t p least most rest a g k = (g, (λ e. not-both _ _ (label-plain t) e), k)
   chosen-plans false true t p least most rest a g k = (g, (λ e. not-both _ _ (label-plain t) e), k)
@@ -93,14 +93,14 @@ module _ (s : Set) where
 pub plain-sequence : (ps : Parts) → IsSequence false false ps
 plain-sequence ps = ((λ e. never _ e), (λ e. never _ e))
 
-positive : (b : Bool) (T : ℕ → Plan) (ps : Particles) → IsMore ps → 0 < count_parts (particle_parts T b ps)
+positive : (b : Bool) (T : ℕ → TypePlan) (ps : Particles) → IsMore ps → 0 < count_parts (particle_parts T b ps)
 positive b T model.none h = absurd h
 positive b T (model.more (occurs t least most) ps) h =
     let n = chosen-count (is_once least most) (is_optional least most && not b) t (term_type T t) least most (particle_parts T b ps) in omega (arith, n)
 
 -- ---- content models, where each declaration has a plan
 
-module _ (s : Set) (T : ℕ → Plan) where
+module _ (s : Set) (T : ℕ → TypePlan) where
   parts-count : (b : Bool) (ps : Particles) → count_parts (particle_parts T b ps) ≤ all_nodes ps
   parts-count b model.none = omega arith
   parts-count b (model.more (occurs t least most) ps) =

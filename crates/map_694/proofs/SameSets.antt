@@ -22,16 +22,16 @@ use Rattle.schema_parts.specs.declared.components.Content.TheVariants as content
 use Rattle.schema_parts.specs.Components.{Set}
 use Rattle.map_subjects.specs.declared.subjects.Subject.{Subject}
 use Rattle.map_subjects.specs.declared.subjects.Subject.TheVariants as subject
-use Rattle.map_subjects.specs.declared.subjects.Entry.{Entry}
+use Rattle.map_subjects.specs.declared.subjects.NamedSubject.{NamedSubject}
 use Rattle.map_subjects.specs.Subjects.{is_nillable_of, has_nillable, simple_name, complex_name, name_of, AreEntries, place_in}
-use Rattle.map_assignments.specs.Plans.{attribute, base, content, Plan, simple, sequence, choice, reference, Parts, finish, part}
+use Rattle.map_assignments.specs.Plans.{attribute, base, content, TypePlan, simple, sequence, choice, reference, Parts, finish, part}
 use Rattle.map_assignments.specs.Planning.{simple_plan, simple_type, attributes, particle_part, is_once, is_mixed, with_texts, term_type, particle_parts, top_part, top, content_parts, content_type, rest_parts, complex_plan, nillable_simple_type, own_type, particle_type, in_place, body}
 use Rattle.map_assignments.specs.Naming.{IsNamed}
 use Rattle.map_assignments.specs.Mapped.{IsMapped, AreMapped, IsMapOf}
 
 -- ---- content models, where declarations have the same plans
 
-module _ (T U : ℕ → Plan) (same : (d : ℕ) → T d ≡ U d) where
+module _ (T U : ℕ → TypePlan) (same : (d : ℕ) → T d ≡ U d) where
   mutual
     term-same : (t : Term) → term_type T t ≡ term_type U t
     term-same (model.element d name) = same d
@@ -73,12 +73,12 @@ abbrev joined_name : Option (Option Name) → Option Name
 joined_name None = None
 joined_name (Some o) = o
 
-abbrev planned : ℕ → Option (Option Name) → Option Space → Plan
+abbrev planned : ℕ → Option (Option Name) → Option Space → TypePlan
 planned n None space = simple Booleans
 planned n (Some o) None = simple Booleans
 planned n (Some o) (Some space) = elim o [ None ↦ simple space | Some name ↦ reference (subject.Simple n) ]
 
-abbrev spaced : Option Space → Plan
+abbrev spaced : Option Space → TypePlan
 spaced None = simple Booleans
 spaced (Some space) = simple space
 
@@ -96,28 +96,28 @@ body-is None = refl
 body-is (Some d) = refl
 
 -- the plan of a declaration, of a complex type in place, and of a global attribute, by what is found
-abbrev to_named : Plan → Bool → ℕ → Option Name → Plan
+abbrev to_named : TypePlan → Bool → ℕ → Option Name → TypePlan
 to_named inner nillable n o = elim o [ None ↦ inner | Some name ↦ reference (if nillable then subject.Nillable n else subject.Complex n) ]
 
-abbrev of_declaration : Set → (Bool → ℕ → Plan) → Option ElementDecl → Plan
+abbrev of_declaration : Set → (Bool → ℕ → TypePlan) → Option ElementDecl → TypePlan
 of_declaration s inner o = elim o [ None ↦ simple Booleans | Some e ↦ own_type s inner e ]
 
-abbrev of_particle : Set → (Bool → ℕ → Plan) → ℕ → Bool → Option ElementDecl → Plan
+abbrev of_particle : Set → (Bool → ℕ → TypePlan) → ℕ → Bool → Option ElementDecl → TypePlan
 of_particle s inner d b o = if b then reference (subject.Element d) else of_declaration s inner o
 
-abbrev of_type : Set → ℕ → Bool → Option ComplexDef → Plan
+abbrev of_type : Set → ℕ → Bool → Option ComplexDef → TypePlan
 of_type s levels nillable o = elim o [ None ↦ sequence false false finish | Some c ↦ complex_plan (particle_type s (in_place s levels)) s nillable c ]
 
-abbrev of_attribute : Set → Option GlobalAttribute → Plan
+abbrev of_attribute : Set → Option GlobalAttribute → TypePlan
 of_attribute s o = elim o [ None ↦ simple Booleans | Some a ↦ simple_type s a.simple ]
 
-abbrev of_simple : Set → Bool → ℕ → Plan
+abbrev of_simple : Set → Bool → ℕ → TypePlan
 of_simple s b n = if b then nillable_simple_type s n else simple_type s n
 
-abbrev of_complex : (Bool → ℕ → Plan) → Bool → ℕ → Option ComplexDef → Plan
+abbrev of_complex : (Bool → ℕ → TypePlan) → Bool → ℕ → Option ComplexDef → TypePlan
 of_complex i nillable n o = elim o [ None ↦ sequence false false finish | Some c ↦ to_named (i nillable n) nillable n c.name ]
 
-abbrev of_kind : Set → (Bool → ℕ → Plan) → Bool → TypeOf → Plan
+abbrev of_kind : Set → (Bool → ℕ → TypePlan) → Bool → TypeOf → TypePlan
 of_kind s i nillable k = elim k [ kind.Simple n ↦ of_simple s nillable n | kind.Complex n ↦ of_complex i nillable n (slice_get s.complexes n) ]
 
 module _ (s t : Set) (h : AreSame s t) where
@@ -146,7 +146,7 @@ module _ (s t : Set) (h : AreSame s t) where
       ap (λ p. part (attribute u.name) (not u.required) p (attributes s us rest)) (simple-same u.simple)
       ∙ ap (λ ps. part (attribute u.name) (not u.required) (simple_type t u.simple) ps) (attributes-same us rest others e)
 
-  module _ (T U : ℕ → Plan) (same : (d : ℕ) → T d ≡ U d) where
+  module _ (T U : ℕ → TypePlan) (same : (d : ℕ) → T d ≡ U d) where
     content-parts-same : (c : Content) → content_parts T s c ≡ content_parts U t c
     content-parts-same content_.Empty = refl
     content-parts-same (content_.Simple n) = ap (λ p. part base false p finish) (simple-same n)
@@ -171,7 +171,7 @@ module _ (s t : Set) (h : AreSame s t) where
   nillable-simple-same : (n : ℕ) → nillable_simple_type s n ≡ nillable_simple_type t n
   nillable-simple-same n = ap (λ p. sequence true false (part content true p finish)) (simple-same n)
 
-  module _ (inner other : Bool → ℕ → Plan) (same : (b : Bool) (n : ℕ) → inner b n ≡ other b n) where
+  module _ (inner other : Bool → ℕ → TypePlan) (same : (b : Bool) (n : ℕ) → inner b n ≡ other b n) where
     name-same : (b : Bool) (n : ℕ) (o : Option Name) → to_named (inner b n) b n o ≡ to_named (other b n) b n o
     name-same b n None = same b n
     name-same b n (Some a) = refl
@@ -239,7 +239,7 @@ module _ (s t : Set) (h : AreSame s t) where
       ap (λ es. cond (list_any (is_nillable_of n) es) (complex_name s n) None) h.elements
       ∙ ap (λ cs. cond (has_nillable t n) (option_and_then (λ (c : ComplexDef). c.name) (slice_get cs n)) None) h.complexes
 
-  entries-same : (es : List Entry) → AreEntries s es → AreEntries t es
+  entries-same : (es : List NamedSubject) → AreEntries s es → AreEntries t es
   entries-same es k = record {
     ascending = k.ascending;
     whole = λ w name. (
@@ -248,7 +248,7 @@ module _ (s t : Set) (h : AreSame s t) where
     );
   }
 
-  mapped-same : (place : Subject → ℕ) (before : List (List ℕ)) (es : List Entry) (M : List Assignment) → AreMapped place s before es M → AreMapped place t before es M
+  mapped-same : (place : Subject → ℕ) (before : List (List ℕ)) (es : List NamedSubject) (M : List Assignment) → AreMapped place s before es M → AreMapped place t before es M
   mapped-same place before [] [] k = k
   mapped-same place before [] (a ∷ M) k = k
   mapped-same place before (e ∷ es) [] k = k

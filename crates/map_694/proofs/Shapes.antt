@@ -7,7 +7,7 @@ use Rattle.schema_parts.specs.Components.{Set}
 use Rattle.map_subjects.specs.declared.subjects.Subject.{Subject}
 use Rattle.map_subjects.specs.declared.subjects.Subject.TheVariants as subject
 use Rattle.map_subjects.specs.Subjects.{name_of}
-use Rattle.map_assignments.specs.Plans.{Label, attribute, element, Plan, simple, sequence, choice, repeated, reference, Parts, finish, part}
+use Rattle.map_assignments.specs.Plans.{Label, attribute, element, TypePlan, simple, sequence, choice, repeated, reference, Parts, finish, part}
 use Rattle.map_assignments.specs.Planning.{texts_type}
 
 abbrev pub is_attribute_label : Label → Bool
@@ -46,13 +46,13 @@ module _ (s : Set) where
   HasName w = (name : Name) × (name_of s w ≡ Some name)
 
   -- the plan is that of a simple type
-  abbrev pub IsSimplePlan : Plan → Type 0
+  abbrev pub IsSimplePlan : TypePlan → Type 0
   IsSimplePlan (simple sp) = Sound sp
   IsSimplePlan (reference (subject.Simple n)) = HasName (subject.Simple n)
   IsSimplePlan _ = ⊥
 
   abbrev mutual
-    pub IsPlan : Plan → Type 0
+    pub IsPlan : TypePlan → Type 0
     IsPlan (simple sp) = Sound sp
     IsPlan (sequence nillable mixed ps) = IsSequence nillable mixed ps × (count_parts ps < 2 ^ 32) × ArePlans ps
     IsPlan (choice ps) = IsCounted (count_parts ps) × ArePlans ps
@@ -66,7 +66,7 @@ module _ (s : Set) where
 -- what holds of each component that is referred to without passing an element
 module _ (P : Subject → Type 0) where
   abbrev mutual
-    pub Refers : Plan → Type 0
+    pub Refers : TypePlan → Type 0
     Refers (simple sp) = Unit {0}
     Refers (sequence nillable mixed ps) = ReferInAll ps
     Refers (choice ps) = ReferInAll ps
@@ -100,7 +100,7 @@ within false A B f h = f h
 -- weaker facts
 module _ (s : Set) (P Q : Subject → Type 0) (f : (w : Subject) → HasName s w → P w → Q w) where
   mutual
-    pub refers-weaker : (p : Plan) → IsPlan s p → Refers P p → Refers Q p
+    pub refers-weaker : (p : TypePlan) → IsPlan s p → Refers P p → Refers Q p
     refers-weaker (simple sp) g h = tt
     refers-weaker (sequence nillable mixed ps) g h = refer-weaker ps g.2 h
     refers-weaker (choice ps) g h = refer-weaker ps g.1 h
@@ -114,7 +114,7 @@ module _ (s : Set) (P Q : Subject → Type 0) (f : (w : Subject) → HasName s w
 -- what holds of all
 module _ (P : Subject → Type 0) (f : (w : Subject) → P w) where
   mutual
-    pub refers-all : (p : Plan) → Refers P p
+    pub refers-all : (p : TypePlan) → Refers P p
     refers-all (simple sp) = tt
     refers-all (sequence nillable mixed ps) = refer-all ps
     refers-all (choice ps) = refer-all ps

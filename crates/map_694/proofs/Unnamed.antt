@@ -29,7 +29,7 @@ use Rattle.name_map.specs.declared.conversion.NameKind.TheVariants.{Identifier}
 use Rattle.name_map.specs.Conversion.{letter_x, cased, begun, joined, converted}
 use Rattle.map_subjects.specs.declared.subjects.Subject.{Subject}
 use Rattle.map_subjects.specs.declared.subjects.Subject.TheVariants as subject
-use Rattle.map_assignments.specs.Plans.{a_sequence, a_choice, Label, attribute, element, group, elements, groups, texts, item, base, content, Plan, simple, sequence, choice, repeated, reference, Parts, finish, part}
+use Rattle.map_assignments.specs.Plans.{a_sequence, a_choice, Label, attribute, element, group, elements, groups, texts, item, base, content, TypePlan, simple, sequence, choice, repeated, reference, Parts, finish, part}
 use Rattle.map_assignments.specs.Planning.{label_of, list_label_of, is_once, is_optional, simple_plan, simple_type, attributes, is_mixed, with_texts, term_type, particle_parts, top_part, top, content_parts, content_type, rest_parts, complex_plan, nillable_simple_type, own_type, particle_type, in_place, body}
 use Rattle.map_assignments.specs.Naming.{identifier_of, wanted, IsSimpleType, AreMembers, IsNamed, AreNamed}
 use Rattle.map_694.proofs.Marked.{sequence-embeds}
@@ -73,7 +73,7 @@ label-nameless content = refl
 
 abbrev mutual
   -- of a plan, which is that of such texts or not
-  ItemsIn : Bool → Plan → Type 0
+  ItemsIn : Bool → TypePlan → Type 0
   ItemsIn embedded (simple sp) = embedded ≡ false
   ItemsIn embedded (sequence nillable mixed ps) = ItemsInAll mixed ps
   ItemsIn embedded (choice ps) = ItemsInAll false ps
@@ -103,7 +103,7 @@ mutual
 
 module _ (place : Subject → ℕ) where
   mutual
-    named-items : (embedded : Bool) (p : Plan) (t : Rose TypeLabel) → ItemsIn embedded p → IsNamed place p t → AreItemsNamed embedded t
+    named-items : (embedded : Bool) (p : TypePlan) (t : Rose TypeLabel) → ItemsIn embedded p → IsNamed place p t → AreItemsNamed embedded t
     named-items embedded (simple sp) t g h = subst (λ b. AreItemsNamed b t) (sym g) (simple-items sp t h)
     named-items embedded (sequence nillable mixed ps) t g h =
         subst (AreItemsNamed embedded) (sym h.2)
@@ -125,16 +125,16 @@ label-no_item (model.element d name) = refl
 label-no_item (model.sequence ps) = refl
 label-no_item (model.choice ps) = refl
 
-abbrev chosen : Bool → Bool → Term → Plan → ℕ → Option ℕ → Parts → Parts
+abbrev chosen : Bool → Bool → Term → TypePlan → ℕ → Option ℕ → Parts → Parts
 chosen o q t p least most rest =
     if o then part (label_of t) false p rest else if q then part (label_of t) true p rest else part (list_label_of t) false (repeated (label_of t) p least most) rest
 
-chosen-items : (o q : Bool) (t : Term) (p : Plan) (least : ℕ) (most : Option ℕ) (rest : Parts) → ItemsIn false p → ItemsInAll false rest → ItemsInAll false (chosen o q t p least most rest)
+chosen-items : (o q : Bool) (t : Term) (p : TypePlan) (least : ℕ) (most : Option ℕ) (rest : Parts) → ItemsIn false p → ItemsInAll false rest → ItemsInAll false (chosen o q t p least most rest)
 chosen-items true q t p least most rest g k = (g, k)
 chosen-items false true t p least most rest g k = (g, k)
 chosen-items false false t p least most rest g k = ((label-no_item t, g), k)
 
-module _ (T : ℕ → Plan) (items : (d : ℕ) → ItemsIn false (T d)) where
+module _ (T : ℕ → TypePlan) (items : (d : ℕ) → ItemsIn false (T d)) where
   mutual
     term-items : (t : Term) → ItemsIn false (term_type T t)
     term-items (model.element d name) = items d
@@ -174,7 +174,7 @@ module _ (s : Set) where
   attributes-items [] rest h = h
   attributes-items (u ∷ us) rest h = (simple-plan-items u.simple, attributes-items us rest h)
 
-  module _ (T : ℕ → Plan) (items : (d : ℕ) → ItemsIn false (T d)) where
+  module _ (T : ℕ → TypePlan) (items : (d : ℕ) → ItemsIn false (T d)) where
     content-parts-items : (c : Content) → ItemsInAll false (content_parts T s c)
     content-parts-items content_.Empty = tt
     content-parts-items (content_.Simple n) = (simple-plan-items n, tt)
@@ -200,7 +200,7 @@ module _ (s : Set) where
         with-texts-items (is_mixed c.content) (attributes s c.uses (rest_parts T s nillable c.content))
         (attributes-items c.uses (rest_parts T s nillable c.content) (rest-items nillable c.content))
 
-  own-items : (inner : Bool → ℕ → Plan) → ((b : Bool) (n : ℕ) → ItemsIn false (inner b n)) → (e : ElementDecl) → ItemsIn false (own_type s inner e)
+  own-items : (inner : Bool → ℕ → TypePlan) → ((b : Bool) (n : ℕ) → ItemsIn false (inner b n)) → (e : ElementDecl) → ItemsIn false (own_type s inner e)
   own-items inner within e = by e.kind
     where
       of-simple : (b : Bool) (n : ℕ) → ItemsIn false (if b then nillable_simple_type s n else simple_type s n)
@@ -228,7 +228,7 @@ module _ (s : Set) where
       by (kind.Simple n) = of-simple e.nillable n
       by (kind.Complex n) = of-complex n (slice_get s.complexes n)
 
-  particle-items : (inner : Bool → ℕ → Plan) → ((b : Bool) (n : ℕ) → ItemsIn false (inner b n)) → (d : ℕ) → ItemsIn false (particle_type s inner d)
+  particle-items : (inner : Bool → ℕ → TypePlan) → ((b : Bool) (n : ℕ) → ItemsIn false (inner b n)) → (d : ℕ) → ItemsIn false (particle_type s inner d)
   particle-items inner within d = by (nat_lt d s.globals)
     where
       local : (o : Option ElementDecl) → ItemsIn false (elim o [ None ↦ simple Booleans | Some e ↦ own_type s inner e ])

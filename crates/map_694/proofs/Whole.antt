@@ -10,7 +10,7 @@ use Rattle.schema_parts.specs.Components.{Set}
 use Rattle.schema_parts.specs.Linked.{IsLinked}
 use Rattle.map_subjects.specs.declared.subjects.Subject.{Subject}
 use Rattle.map_subjects.specs.declared.subjects.Subject.TheVariants as subject
-use Rattle.map_subjects.specs.declared.subjects.Entry.{Entry}
+use Rattle.map_subjects.specs.declared.subjects.NamedSubject.{NamedSubject}
 use Rattle.map_subjects.specs.Subjects.{place_in, AreEntries}
 use Rattle.map_assignments.specs.Planning.{body}
 use Rattle.map_assignments.specs.Naming.{IsNamed}
@@ -23,14 +23,14 @@ use Rattle.map_694.proofs.Formed.{simple-part, named-formed}
 use Rattle.map_694.proofs.Unnamed.{body-unnamed}
 use Rattle.map_694.proofs.Bodies.{body-refers, body-plan, attribute-plan, body-simple}
 
-module _ (s : Set) (es : List Entry) (M : List Assignment) (linked : IsLinked s) (entries : AreEntries s es) (mapped : AreMapped (place_in es) s [] es M) where
-  attribute-simple : (before : List (List ℕ)) (e : Entry) (a : Assignment) → IsMapped (place_in es) s before e a → has_attribute a.marks ≡ true → IsSimple (resolve M a.body)
+module _ (s : Set) (es : List NamedSubject) (M : List Assignment) (linked : IsLinked s) (entries : AreEntries s es) (mapped : AreMapped (place_in es) s [] es M) where
+  attribute-simple : (before : List (List ℕ)) (e : NamedSubject) (a : Assignment) → IsMapped (place_in es) s before e a → has_attribute a.marks ≡ true → IsSimple (resolve M a.body)
   attribute-simple before e a h marked =
       let is = assignment-attribute e.subject e.name a.reference (subst (λ ms. has_attribute ms ≡ true) h.marks marked) in
       let named : IsNamed (place_in es) (body s (subject.Attribute is.0)) a.body = subst (λ w. IsNamed (place_in es) (body s w) a.body) is.1 h.body in
       simple-part s es M entries mapped (body-plan s linked) (body-refers s) (body-simple s linked (place_in es)) (body s (subject.Attribute is.0)) a.body (attribute-plan s linked is.0) named
 
-  is-assignment : (before : List (List ℕ)) (e : Entry) (a : Assignment) → IsMapped (place_in es) s before e a → IsAssignment M a
+  is-assignment : (before : List (List ℕ)) (e : NamedSubject) (a : Assignment) → IsMapped (place_in es) s before e a → IsAssignment M a
   is-assignment before e a h = record {
     allowed = named-allowed (place_in es) (body s e.subject) a.body h.body;
     types = named-formed s es M entries mapped (body-plan s linked) (body-refers s) (body-simple s linked (place_in es)) (body s e.subject) a.body (body-plan s linked e.subject) h.body;
@@ -38,7 +38,7 @@ module _ (s : Set) (es : List Entry) (M : List Assignment) (linked : IsLinked s)
     items = body-unnamed s (place_in es) e.subject a.body h.body;
   }
 
-  all-assignments : (before : List (List ℕ)) (rest : List Entry) (made : List Assignment) → AreMapped (place_in es) s before rest made → All (IsAssignment M) made
+  all-assignments : (before : List (List ℕ)) (rest : List NamedSubject) (made : List Assignment) → AreMapped (place_in es) s before rest made → All (IsAssignment M) made
   all-assignments before [] [] h = All-nil (IsAssignment M)
   all-assignments before [] (a ∷ made) h = absurd h
   all-assignments before (e ∷ rest) [] h = absurd h

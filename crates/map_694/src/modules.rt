@@ -1,7 +1,7 @@
 //! The module of a linked set.
 ghost use Rattle.std.specs.Prelude.{◌≡◌, ◌<◌, List, IfOk, length};
 ghost use Rattle.asn_types.specs.declared.modules.Assignment.{Assignment};
-ghost use Rattle.map_subjects.specs.declared.subjects.Entry.{Entry};
+ghost use Rattle.map_subjects.specs.declared.subjects.NamedSubject.{NamedSubject};
 ghost use Rattle.map_subjects.specs.Subjects.{AreEntries, place_in};
 ghost use Rattle.map_subjects.specs.declared.subjects.Subject.TheVariants.{Element};
 ghost use Rattle.map_assignments.specs.Mapped.{IsMapOf};
@@ -34,7 +34,7 @@ pub fn map_set(alloc: Global, set: &SchemaSet) -> Result<Module, Memory>
 /// with a name in a namespace that stands before the element's.
 pub fn root_type(set: &SchemaSet, element: u32) -> u32
     requires { element < set.now.globals }
-    ensures number { (entries : List Entry) → AreEntries set.now entries → result ≡ place_in entries (Element element) }
+    ensures number { (entries : List NamedSubject) → AreEntries set.now entries → result ≡ place_in entries (Element element) }
     ensures within { (M : List Assignment) → IsMapOf set.now M → result < length M }
 {
     // What each linked set keeps is known once one of its readers was called.

@@ -6,7 +6,7 @@ use Rattle.asn_types.specs.Parts.{MayHave}
 use Rattle.asn_types.specs.declared.types.Component.{Component}
 use Rattle.asn_types.specs.declared.types.TypeLabel.{TypeLabel}
 use Rattle.map_subjects.specs.declared.subjects.Subject.{Subject}
-use Rattle.map_assignments.specs.Plans.{Plan, Parts, simple, sequence, choice, repeated, reference, finish, part}
+use Rattle.map_assignments.specs.Plans.{TypePlan, Parts, simple, sequence, choice, repeated, reference, finish, part}
 use Rattle.map_assignments.specs.Naming.{IsSimpleType, AreMembers, IsNamed, AreNamed}
 
 mutual
@@ -28,7 +28,7 @@ mutual
 
 module _ (place : Subject → ℕ) where
   mutual
-    pub named-allowed : (p : Plan) (t : Rose TypeLabel) → IsNamed place p t → Allowed MayHave t
+    pub named-allowed : (p : TypePlan) (t : Rose TypeLabel) → IsNamed place p t → Allowed MayHave t
     named-allowed (simple s) t h = simple-allowed s t h
     named-allowed (sequence nillable mixed ps) t h = subst (Allowed MayHave) (sym h.2) (parts-allowed [] ps h.0 h.1 h.3)
     named-allowed (choice ps) t h = subst (Allowed MayHave) (sym h.2) (parts-allowed [] ps h.0 h.1 h.3)

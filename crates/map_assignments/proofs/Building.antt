@@ -15,13 +15,13 @@ use Rattle.content_models.specs.Seen.{term_seen}
 use Rattle.asn_types.specs.declared.types.TypeLabel.{TypeLabel}
 use Rattle.map_assignments.specs.declared.parts.PartList.{PartList}
 use Rattle.map_subjects.specs.declared.subjects.Subject.{Subject}
-use Rattle.map_assignments.specs.Plans.{Label, Plan, Parts, part, finish, sequence, choice, repeated}
+use Rattle.map_assignments.specs.Plans.{Label, TypePlan, Parts, part, finish, sequence, choice, repeated}
 use Rattle.map_assignments.specs.Planning.{label_of, list_label_of, is_once, is_optional, particle_part}
 use Rattle.map_assignments.specs.Naming.{type_label, component_of, wanted, part_marks, named_part, repeated_part, sequence_marks, IsNamed, AreNamed}
 use Rattle.map_assignments.specs.Private.Building.{AddsPart, Adds, LeadsToNamed}
 
 -- one part more
-pub adds-next : (place : Subject → ℕ) (before after : PartList) (l : Label) (optional : Bool) (p : Plan) (kid : Rose TypeLabel) (rest whole : Parts)
+pub adds-next : (place : Subject → ℕ) (before after : PartList) (l : Label) (optional : Bool) (p : TypePlan) (kid : Rose TypeLabel) (rest whole : Parts)
     → Adds before after l optional kid → IsNamed place p kid
     → LeadsToNamed place before (part l optional p rest) whole → LeadsToNamed place after rest whole
 adds-next place before after l optional p kid rest whole added named so_far parts ts more =
@@ -103,7 +103,7 @@ list-marks Sequence ps g = refl
 list-marks Choice ps g = refl
 
 -- the part for a particle
-module _ (place : Subject → ℕ) (before after : PartList) (in_choice : Bool) (t : Term) (type : Plan) (least : ℕ) (most : Option ℕ) (rest whole : Parts) where
+module _ (place : Subject → ℕ) (before after : PartList) (in_choice : Bool) (t : Term) (type : TypePlan) (least : ℕ) (most : Option ℕ) (rest whole : Parts) where
   pub particle-once : (kid : Rose TypeLabel) → is_once least most ≡ true → Adds before after (label_of t) false kid → IsNamed place type kid
       → LeadsToNamed place before (particle_part in_choice t type least most rest) whole → LeadsToNamed place after rest whole
   particle-once kid e added named lead =

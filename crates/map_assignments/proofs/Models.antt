@@ -10,7 +10,7 @@ use Rattle.content_models.specs.Seen.{term_seen, seen, all_seen}
 use Rattle.schema_parts.specs.declared.components.Content.{Content}
 use Rattle.schema_parts.specs.declared.components.Content.TheVariants as content
 use Rattle.schema_parts.specs.Components.{Set}
-use Rattle.map_assignments.specs.Plans.{Plan, sequence, finish}
+use Rattle.map_assignments.specs.Plans.{TypePlan, sequence, finish}
 use Rattle.map_assignments.specs.Planning.{particle_part, term_type, particle_parts, top_part, top, content_parts, content_type}
 use Rattle.map_assignments.specs.Private.Building.{term_of, is_plain}
 use Rattle.map_assignments.proofs.Known.{seen-parts, term-parts}
@@ -21,13 +21,13 @@ plain-sequence Sequence least most e = refl
 plain-sequence Choice least most e = absurd (cc)
 
 -- the type of what a nillable element has
-pub content-sequence : (T : ℕ → Plan) (s : Set) (c : Content) → ((n : ℕ) → c ≡ content.Simple n → ⊥) → content_type T s c ≡ sequence false false (content_parts T s c)
+pub content-sequence : (T : ℕ → TypePlan) (s : Set) (c : Content) → ((n : ℕ) → c ≡ content.Simple n → ⊥) → content_type T s c ≡ sequence false false (content_parts T s c)
 content-sequence T s content.Empty h = refl
 content-sequence T s (content.Simple n) h = absurd (h n refl)
 content-sequence T s (content.ElementOnly particle) h = refl
 content-sequence T s (content.Mixed particle) h = refl
 
-module _ (T : ℕ → Plan) where
+module _ (T : ℕ → TypePlan) where
   plain : (kind : ParticleKind) (ps : Particles) (least : ℕ) (most : Option ℕ) → is_plain kind least most ≡ true
       → top T (occurs (term_seen kind ps) least most) ≡ particle_parts T false ps
   plain (Element d name) ps least most e = absurd (cc)

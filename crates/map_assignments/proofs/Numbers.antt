@@ -18,9 +18,9 @@ use Rattle.xa_base.specs.declared.texts.Name.{Name}
 use Rattle.schema_parts.specs.Components.{Set}
 use Rattle.map_subjects.specs.declared.subjects.Subject.{Subject}
 use Rattle.map_subjects.specs.declared.subjects.Subject.TheVariants.{Element, Attribute, Simple, Complex, Nillable}
-use Rattle.map_subjects.specs.declared.subjects.Entry.{Entry}
+use Rattle.map_subjects.specs.declared.subjects.NamedSubject.{NamedSubject}
 use Rattle.map_subjects.specs.Subjects.{same_subject, place_in}
-use Rattle.map_assignments.specs.Plans.{Plan, Parts, simple, sequence, choice, repeated, reference, finish, part}
+use Rattle.map_assignments.specs.Plans.{TypePlan, Parts, simple, sequence, choice, repeated, reference, finish, part}
 use Rattle.map_assignments.specs.Planning.{body}
 use Rattle.map_assignments.specs.Naming.{type_label, IsNamed, AreNamed}
 use Rattle.map_assignments.specs.Mapped.{wanted_reference, AreMapped}
@@ -52,7 +52,7 @@ either : (b : Bool) (below old rest : ℕ) → old ≡ suc below + rest → (if 
 either true below old rest is = omega arith
 either false below old rest is = omega (arith, is)
 
-pub place-next : (entries : List Entry) (left below : ℕ) (e : Entry) (w : Subject) (old new : ℕ) → left ≡ below + 1 → below < length entries → e ≡ get_or entries below e
+pub place-next : (entries : List NamedSubject) (left below : ℕ) (e : NamedSubject) (w : Subject) (old new : ℕ) → left ≡ below + 1 → below < length entries → e ≡ get_or entries below e
     → old ≡ left + place_in (drop left entries) w → new ≡ (if same_subject e.subject w then below else old) → new ≡ below + place_in (drop below entries) w
 place-next entries left below e w old new is at here so_far set_to =
     let rest = place_in (drop (below + 1) entries) w in
@@ -62,7 +62,7 @@ place-next entries left below e w old new is at here so_far set_to =
 -- equal numbers serve as well
 module _ (f g : Subject → ℕ) (same : (w : Subject) → f w ≡ g w) where
   mutual
-    pub named-same : (p : Plan) (t : Rose TypeLabel) → IsNamed f p t → IsNamed g p t
+    pub named-same : (p : TypePlan) (t : Rose TypeLabel) → IsNamed f p t → IsNamed g p t
     named-same (simple s) t h = h
     named-same (sequence nillable mixed ps) t h = (h.0, h.1, h.2, parts-same [] ps h.0 h.1 h.3)
     named-same (choice ps) t h = (h.0, h.1, h.2, parts-same [] ps h.0 h.1 h.3)
@@ -81,7 +81,7 @@ module _ (f g : Subject → ℕ) (same : (w : Subject) → f w ≡ g w) where
   wanted-same before (Complex n) name = refl
   wanted-same before (Nillable n) name = ap (λ k. unwrap_or (slice_get before k) [] ++ codes "-nillable") (same (Complex n))
 
-  pub mapped-same : (s : Set) (before : List (List ℕ)) (es : List Entry) (made : List Assignment) → AreMapped f s before es made → AreMapped g s before es made
+  pub mapped-same : (s : Set) (before : List (List ℕ)) (es : List NamedSubject) (made : List Assignment) → AreMapped f s before es made → AreMapped g s before es made
   mapped-same s before [] [] h = h
   mapped-same s before [] (a ∷ made) h = h
   mapped-same s before (e ∷ es) [] h = h

@@ -9,7 +9,7 @@ use Rattle.asn_types.specs.declared.modules.Assignment.{Assignment}
 use Rattle.schema_parts.specs.Components.{Set}
 use Rattle.map_subjects.specs.declared.subjects.Subject.{Subject}
 use Rattle.map_subjects.specs.declared.subjects.Subject.TheVariants as subject
-use Rattle.map_subjects.specs.declared.subjects.Entry.{Entry}
+use Rattle.map_subjects.specs.declared.subjects.NamedSubject.{NamedSubject}
 use Rattle.map_subjects.specs.Subjects.{AreEntries, place_in}
 use Rattle.map_assignments.specs.Planning.{body}
 use Rattle.map_assignments.specs.Naming.{reference_of, name_marks, qualified_marks, IsNamed}
@@ -32,18 +32,18 @@ module _ (place : Subject → ℕ) where
 
   module _ (s : Set) where
     -- an assignment behind those with these references
-    pub record IsMapped (before : List (List ℕ)) (e : Entry) (a : Assignment) : Type 0 where
+    pub record IsMapped (before : List (List ℕ)) (e : NamedSubject) (a : Assignment) : Type 0 where
       pub reference : IsTaken Reference before (wanted_reference before e.subject e.name) a.reference
       pub marks : a.marks ≡ assignment_marks e.subject e.name a.reference
       pub body : IsNamed place (body s e.subject) a.body
 
-    abbrev pub AreMapped : List (List ℕ) → List Entry → List Assignment → Type 0
+    abbrev pub AreMapped : List (List ℕ) → List NamedSubject → List Assignment → Type 0
     AreMapped before [] [] = Unit {0}
     AreMapped before (e ∷ others) (a ∷ assignments) = IsMapped before e a × AreMapped (before ++ a.reference ∷ []) others assignments
     AreMapped before _ _ = ⊥
 
 -- the module is the map of the set
 pub record IsMapOf (s : Set) (M : List Assignment) : Type 0 where
-  pub entries : List Entry
+  pub entries : List NamedSubject
   pub are_entries : AreEntries s entries
   pub assignments : AreMapped (place_in entries) s [] entries M

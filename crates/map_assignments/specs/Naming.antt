@@ -18,7 +18,7 @@ use Rattle.asn_types.specs.declared.types.Form.TheVariants as form
 use Rattle.asn_types.specs.declared.types.TypeLabel.{TypeLabel}
 use Rattle.asn_types.specs.Simples.{white_space_marks}
 use Rattle.map_subjects.specs.declared.subjects.Subject.{Subject}
-use Rattle.map_assignments.specs.Plans.{Group, a_sequence, a_choice, Label, attribute, element, group, elements, groups, texts, item, base, content, Plan, simple, sequence, choice, repeated, reference, Parts, finish, part}
+use Rattle.map_assignments.specs.Plans.{Group, a_sequence, a_choice, Label, attribute, element, group, elements, groups, texts, item, base, content, TypePlan, simple, sequence, choice, repeated, reference, Parts, finish, part}
 
 abbrev pub type_label : Form → List Instruction → TypeLabel
 type_label f marks = record { form = f; marks = marks }
@@ -148,7 +148,7 @@ sequence_marks nillable mixed = (if nillable then mark.UseNil ∷ [] else []) ++
 
 module _ (place : Subject → ℕ) where
   abbrev mutual
-    pub IsNamed : Plan → Rose TypeLabel → Type 0
+    pub IsNamed : TypePlan → Rose TypeLabel → Type 0
     IsNamed (simple s) t = IsSimpleType s t
     IsNamed (sequence nillable mixed ps) t =
         (parts : List Component) × (ts : Roses TypeLabel)

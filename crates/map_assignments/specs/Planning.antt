@@ -17,15 +17,15 @@ use Rattle.schema_parts.specs.declared.components.Content.TheVariants as content
 use Rattle.schema_parts.specs.Components.{Set}
 use Rattle.map_subjects.specs.declared.subjects.Subject.{Subject}
 use Rattle.map_subjects.specs.declared.subjects.Subject.TheVariants as subject
-use Rattle.map_assignments.specs.Plans.{a_sequence, a_choice, Label, attribute, element, group, elements, groups, texts, item, base, content, Plan, simple, sequence, choice, repeated, reference, Parts, finish, part}
+use Rattle.map_assignments.specs.Plans.{a_sequence, a_choice, Label, attribute, element, group, elements, groups, texts, item, base, content, TypePlan, simple, sequence, choice, repeated, reference, Parts, finish, part}
 
 -- ---- simple types (clauses 11 to 13)
 
 -- the type of what has a simple type: that of its assignment where it has a name, else in place
-abbrev pub simple_plan : SimpleDef → ℕ → Plan
+abbrev pub simple_plan : SimpleDef → ℕ → TypePlan
 simple_plan t n = elim t.name [ None ↦ simple (space_of t.space) | Some name ↦ reference (subject.Simple n) ]
 
-abbrev pub simple_type : Set → ℕ → Plan
+abbrev pub simple_type : Set → ℕ → TypePlan
 simple_type s n = elim (slice_get s.simples n) [ None ↦ simple Booleans | Some t ↦ simple_plan t n ]
 
 -- ---- attribute uses (clause 22), in the order of their names, which is that of the linked set
@@ -58,7 +58,7 @@ is_optional least None = false
 is_optional least (Some most) = (least == 0) && (most == 1)
 
 -- The part for a particle. Bounds of 0 and 1 make it OPTIONAL, but in a CHOICE, where no alternative is.
-abbrev pub particle_part : Bool → Term → Plan → ℕ → Option ℕ → Parts → Parts
+abbrev pub particle_part : Bool → Term → TypePlan → ℕ → Option ℕ → Parts → Parts
 particle_part in_choice t type least most rest =
     if is_once least most then part (label_of t) false type rest
     else if is_optional least most && not in_choice then part (label_of t) true type rest
@@ -69,16 +69,16 @@ is_mixed (content_.Mixed particle) = true
 is_mixed _ = false
 
 -- the texts between child elements of mixed content (clause 20): SEQUENCE OF UTF8String
-abbrev pub texts_type : Plan
+abbrev pub texts_type : TypePlan
 texts_type = repeated item (simple (Characters Preserve 0 None Any)) 0 None
 
 abbrev pub with_texts : Bool → Parts → Parts
 with_texts mixed rest = if mixed then part texts false texts_type rest else rest
 
 -- where each declaration has this type at a particle
-module _ (T : ℕ → Plan) where
+module _ (T : ℕ → TypePlan) where
   abbrev mutual
-    pub term_type : Term → Plan
+    pub term_type : Term → TypePlan
     term_type (model.element d name) = T d
     term_type (model.sequence ps) = sequence false false (particle_parts false ps)
     term_type (model.choice ps) = choice (particle_parts true ps)
@@ -105,7 +105,7 @@ module _ (T : ℕ → Plan) where
   content_parts s (content_.Mixed particle) = top (seen particle)
 
   -- the type of what a nillable element has where it isn't nil
-  abbrev pub content_type : Set → Content → Plan
+  abbrev pub content_type : Set → Content → TypePlan
   content_type s content_.Empty = sequence false false finish
   content_type s (content_.Simple n) = simple_type s n
   content_type s (content_.ElementOnly particle) = sequence false false (top (seen particle))
@@ -115,18 +115,18 @@ module _ (T : ℕ → Plan) where
   abbrev pub rest_parts : Set → Bool → Content → Parts
   rest_parts s nillable c = if nillable then part content true (content_type s c) finish else content_parts s c
 
-  abbrev pub complex_plan : Set → Bool → ComplexDef → Plan
+  abbrev pub complex_plan : Set → Bool → ComplexDef → TypePlan
   complex_plan s nillable c =
       sequence nillable (is_mixed c.content) (with_texts (is_mixed c.content) (attributes s c.uses (rest_parts s nillable c.content)))
 
-abbrev pub nillable_simple_type : Set → ℕ → Plan
+abbrev pub nillable_simple_type : Set → ℕ → TypePlan
 nillable_simple_type s n = sequence true false (part content true (simple_type s n) finish)
 
 -- ---- declarations (clauses 14 and 15)
 
 module _ (s : Set) where
   -- the type of a declaration, where complex types in place are these, for nillable elements and for others
-  abbrev pub own_type : (Bool → ℕ → Plan) → ElementDecl → Plan
+  abbrev pub own_type : (Bool → ℕ → TypePlan) → ElementDecl → TypePlan
   own_type inner e = elim e.kind [
     | kind.Simple n ↦ if e.nillable then nillable_simple_type s n else simple_type s n
     | kind.Complex n ↦ elim (slice_get s.complexes n) [
@@ -136,19 +136,19 @@ module _ (s : Set) where
   ]
 
   -- the type where an element particle stands (clause 19): a global element is referred to
-  abbrev pub particle_type : (Bool → ℕ → Plan) → ℕ → Plan
+  abbrev pub particle_type : (Bool → ℕ → TypePlan) → ℕ → TypePlan
   particle_type inner d =
       if nat_lt d s.globals then reference (subject.Element d)
       else elim (slice_get s.elements d) [ None ↦ simple Booleans | Some e ↦ own_type inner e ]
 
   -- The type of the complex type n, in which so many types without a name may stand in one another, itself included.
-  abbrev pub in_place : ℕ → Bool → ℕ → Plan
+  abbrev pub in_place : ℕ → Bool → ℕ → TypePlan
   in_place zero nillable n = sequence false false finish
   in_place (suc levels) nillable n =
       elim (slice_get s.complexes n) [ None ↦ sequence false false finish | Some c ↦ complex_plan (particle_type (in_place levels)) s nillable c ]
 
   -- in a linked set no more than 21 types without a name stand in one another
-  abbrev pub body : Subject → Plan
+  abbrev pub body : Subject → TypePlan
   body (subject.Element d) = elim (slice_get s.elements d) [ None ↦ simple Booleans | Some e ↦ own_type (in_place 21) e ]
   body (subject.Attribute n) = elim (slice_get s.attributes n) [ None ↦ simple Booleans | Some a ↦ simple_type s a.simple ]
   body (subject.Simple n) = elim (slice_get s.simples n) [ None ↦ simple Booleans | Some t ↦ simple (space_of t.space) ]

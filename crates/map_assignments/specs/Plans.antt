@@ -26,18 +26,18 @@ pub data Label : Type 0 where
   content : Label
 
 mutual
-  pub data Plan : Type 0 where
+  pub data TypePlan : Type 0 where
     -- a simple type in place
-    simple : Space → Plan
+    simple : Space → TypePlan
     -- SEQUENCE; whether USE-NIL and EMBED-VALUES stand on it
-    sequence : Bool → Bool → Parts → Plan
-    choice : Parts → Plan
+    sequence : Bool → Bool → Parts → TypePlan
+    choice : Parts → TypePlan
     -- SEQUENCE OF so many
-    repeated : Label → Plan → ℕ → Option ℕ → Plan
+    repeated : Label → TypePlan → ℕ → Option ℕ → TypePlan
     -- the type of an assignment
-    reference : Subject → Plan
+    reference : Subject → TypePlan
 
   pub data Parts : Type 0 where
     finish : Parts
     -- a part, whether it is optional, its type, and the parts behind it
-    part : Label → Bool → Plan → Parts → Parts
+    part : Label → Bool → TypePlan → Parts → Parts

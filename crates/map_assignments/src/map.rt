@@ -16,7 +16,7 @@ use crate::places::Places;
 use crate::simple::simple_type;
 use asn_types::{Assignment, Instruction, Marks, TypeLabel};
 use label_tree::{Tree, Whole};
-use map_subjects::{Entry, Subject};
+use map_subjects::{NamedSubject, Subject};
 use name_map::{NameKind, Scope, convert};
 use schema_parts::SchemaSet;
 use std::alloc::Global;
@@ -115,7 +115,7 @@ fn assignment(
     places: &Places,
     scope: &mut Scope,
     made: &[Assignment],
-    entry: &Entry,
+    entry: &NamedSubject,
 ) -> Result<Assignment, Memory>
     requires linked { IsLinked set.now }
     requires subject { IsSubject set.now entry.now.subject }
@@ -139,7 +139,7 @@ fn numbered_assignments(
     alloc: Global,
     set: &SchemaSet,
     places: &Places,
-    entries: &[Entry],
+    entries: &[NamedSubject],
 ) -> Result<Vec<Assignment>, Memory>
     requires linked { IsLinked set.now }
     requires entries { All (λ e. IsSubject set.now e.subject) entries.now }
@@ -160,7 +160,7 @@ fn numbered_assignments(
 pub fn assignments(
     alloc: Global,
     set: &SchemaSet,
-    entries: &[Entry],
+    entries: &[NamedSubject],
 ) -> Result<Vec<Assignment>, Memory>
     requires linked { IsLinked set.now }
     requires few { length entries.now < 2 ^ 32 }

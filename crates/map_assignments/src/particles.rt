@@ -6,7 +6,7 @@ ghost use Rattle.asn_types.specs.declared.types.TypeLabel.{TypeLabel};
 ghost use Rattle.content_models.specs.Particle.{Particles};
 ghost use Rattle.content_models.specs.Seen.{term_seen};
 ghost use Rattle.map_subjects.specs.declared.subjects.Subject.{Subject};
-ghost use Rattle.map_assignments.specs.Plans.{Plan, Parts};
+ghost use Rattle.map_assignments.specs.Plans.{TypePlan, Parts};
 ghost use Rattle.map_assignments.specs.Plans as plan;
 ghost use Rattle.map_assignments.specs.Planning.{label_of, list_label_of, is_once, is_optional, particle_part, texts_type};
 ghost use Rattle.map_assignments.specs.Naming.{type_label, repeated_part, wanted, IsNamed};
@@ -186,7 +186,7 @@ pub(crate) fn push_particle(
     label: &ParticleLabel,
     kid: Tree<TypeLabel>,
 ) -> Result<(), Memory>
-    ensures { OnOk result ((place : Subject → ℕ) (ps : Particles) (type : Plan) (rest whole : Parts) → IsNamed place type kid
+    ensures { OnOk result ((place : Subject → ℕ) (ps : Particles) (type : TypePlan) (rest whole : Parts) → IsNamed place type kid
         → LeadsToNamed place parts.old (particle_part in_choice (term_seen label.now.kind ps) type label.now.min label.now.max rest) whole
         → LeadsToNamed place parts.new rest whole) }
 {
@@ -242,7 +242,7 @@ pub(crate) fn push_nillable(
     parts: &mut PartList,
     kid: Tree<TypeLabel>,
 ) -> Result<(), Memory>
-    ensures { OnOk result ((place : Subject → ℕ) (type : Plan) (whole : Parts) → IsNamed place type kid
+    ensures { OnOk result ((place : Subject → ℕ) (type : TypePlan) (whole : Parts) → IsNamed place type kid
         → LeadsToNamed place parts.old (plan.part plan.content true type plan.finish) whole → LeadsToNamed place parts.new plan.finish whole) }
 {
     let name = text(alloc, "content")?;
@@ -256,7 +256,7 @@ pub(crate) fn push_base(
     parts: &mut PartList,
     kid: Tree<TypeLabel>,
 ) -> Result<(), Memory>
-    ensures { OnOk result ((place : Subject → ℕ) (type : Plan) (whole : Parts) → IsNamed place type kid
+    ensures { OnOk result ((place : Subject → ℕ) (type : TypePlan) (whole : Parts) → IsNamed place type kid
         → LeadsToNamed place parts.old (plan.part plan.base false type plan.finish) whole → LeadsToNamed place parts.new plan.finish whole) }
 {
     let name = text(alloc, "base")?;

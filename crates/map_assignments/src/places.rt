@@ -10,7 +10,7 @@ ghost use Rattle.map_assignments.specs.Private.Placing.{place_of, number_at, Has
 
 use asn_types::{Form, Marks, TypeLabel};
 use label_tree::Tree;
-use map_subjects::{Entry, Subject};
+use map_subjects::{NamedSubject, Subject};
 use schema_parts::SchemaSet;
 use std::alloc::Global;
 use xa_base::Memory;
@@ -117,7 +117,7 @@ impl Places {
     pub(crate) fn of_entries(
         alloc: Global,
         set: &SchemaSet,
-        entries: &[Entry],
+        entries: &[NamedSubject],
     ) -> Result<Places, Memory>
         requires linked { IsLinked set.now }
         requires few { length entries.now < 2 ^ 32 }

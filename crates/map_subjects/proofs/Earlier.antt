@@ -21,7 +21,7 @@ use Rattle.schema_parts.specs.Components.{Set}
 use Rattle.schema_parts.specs.Linked.{IsLinked}
 use Rattle.map_subjects.specs.declared.subjects.Subject.{Subject}
 use Rattle.map_subjects.specs.declared.subjects.Subject.TheVariants.{Element, Attribute, Simple, Complex, Nillable}
-use Rattle.map_subjects.specs.declared.subjects.Entry.{Entry}
+use Rattle.map_subjects.specs.declared.subjects.NamedSubject.{NamedSubject}
 use Rattle.map_subjects.specs.Subjects.{name_of, entry_cmp, AreEntries, same_subject, place_in, is_nillable_of, has_nillable}
 use Rattle.map_subjects.specs.Private.Collecting.{entry_with, entries_with, entries_of, firsts, collected, is_before, count_before}
 use Rattle.map_subjects.proofs.Finding.{drop-next}
@@ -67,10 +67,10 @@ module _ {X : Type 0} (e : X → X → Bool) (same : (x : X) → e x x ≡ true)
 
 -- ---- what stands before one of a sorted list
 
-tied-same : (x : Entry) → tied x x ≡ true
+tied-same : (x : NamedSubject) → tied x x ≡ true
 tied-same x = let laws = eq_by_cmp_equiv entry_total in laws.refl x
 
-later : (x e : Entry) → entry_cmp e x ≡ Less → is_lt (entry_cmp x e) ≡ false
+later : (x e : NamedSubject) → entry_cmp e x ≡ Less → is_lt (entry_cmp x e) ≡ false
 later x e h = ap is_lt (turned x e ∙ ap ordering_reverse h)
 
 not-itself : (o : Ordering) → is_eq o ≡ true → is_lt o ≡ false
@@ -93,23 +93,23 @@ count-none p (x ∷ xs) h =
     let rest = count-none p xs (All-tail (λ y. p y ≡ false) x xs h) in
     sum_by-cons (λ y. cond (p y) 1 0) x xs ∙ ap (λ k. k + count_by p xs) (amount-is (p x)) ∙ omega (arith, one, rest)
 
-all-later : (e : Entry) (xs : List Entry) → All (λ x. entry_cmp e x ≡ Less) xs → All (λ x. is_lt (entry_cmp x e) ≡ false) xs
+all-later : (e : NamedSubject) (xs : List NamedSubject) → All (λ x. entry_cmp e x ≡ Less) xs → All (λ x. is_lt (entry_cmp x e) ≡ false) xs
 all-later e xs h = λ k d l. later (get_or xs k d) e (h k d l)
 
-pub place-count : (w : Subject) (e : Entry) (es : List Entry) → same_subject e.subject w ≡ true → IsStrictlySortedBy entry_cmp es → Contains es e
-    → All (λ (x : Entry). same_subject x.subject w ≡ true → x ≡ e) es → count_by (λ x. is_lt (entry_cmp x e)) es ≡ place_in es w
+pub place-count : (w : Subject) (e : NamedSubject) (es : List NamedSubject) → same_subject e.subject w ≡ true → IsStrictlySortedBy entry_cmp es → Contains es e
+    → All (λ (x : NamedSubject). same_subject x.subject w ≡ true → x ≡ e) es → count_by (λ x. is_lt (entry_cmp x e)) es ≡ place_in es w
 place-count w e [] is up has alone = absurd (omega (arith, has.1))
 place-count w e (x ∷ es) is up has alone =
-    let p = λ (y : Entry). is_lt (entry_cmp y e) in
+    let p = λ (y : NamedSubject). is_lt (entry_cmp y e) in
     let above = All-from_recursion (λ y. entry_cmp x y ≡ Less) es (sorted_head entry_cmp x es up) in
-    let rest = λ (inside : Contains es e). place-count w e es is (sorted_tail entry_cmp x es up) inside (All-tail (λ (y : Entry). same_subject y.subject w ≡ true → y ≡ e) x es alone) in
+    let rest = λ (inside : Contains es e). place-count w e es is (sorted_tail entry_cmp x es up) inside (All-tail (λ (y : NamedSubject). same_subject y.subject w ≡ true → y ≡ e) x es alone) in
     sum_by-cons (λ y. cond (p y) 1 0) x es
     ∙ by (same_subject x.subject w) refl above rest
   where
     by : (b : Bool) → same_subject x.subject w ≡ b → All (λ y. entry_cmp x y ≡ Less) es → (Contains es e → count_by (λ y. is_lt (entry_cmp y e)) es ≡ place_in es w)
         → cond (is_lt (entry_cmp x e)) 1 0 + count_by (λ y. is_lt (entry_cmp y e)) es ≡ (elim (same_subject x.subject w) [ true ↦ 0 | false ↦ suc (place_in es w) ])
     by true f above rest =
-        let here : x ≡ e = All-head (λ (y : Entry). same_subject y.subject w ≡ true → y ≡ e) x es alone f in
+        let here : x ≡ e = All-head (λ (y : NamedSubject). same_subject y.subject w ≡ true → y ≡ e) x es alone f in
         let self : is_lt (entry_cmp x e) ≡ false = not-itself (entry_cmp x e) (subst (λ y. tied y e ≡ true) (sym here) (tied-same e)) in
         let none : count_by (λ y. is_lt (entry_cmp y e)) es ≡ 0 = count-none (λ y. is_lt (entry_cmp y e)) es (all-later e es (subst (λ z. All (λ y. entry_cmp z y ≡ Less) es) here above)) in
         let first : amount (is_lt (entry_cmp x e)) ≡ 0 = ap amount self in
@@ -117,7 +117,7 @@ place-count w e (x ∷ es) is up has alone =
         ap (λ k. k + count_by (λ y. is_lt (entry_cmp y e)) es) (amount-is (is_lt (entry_cmp x e))) ∙ both ∙ sym (ap (λ b. elim b [ true ↦ 0 | false ↦ suc (place_in es w) ]) f)
     by false f above rest =
         elim (Contains-append_cases (x ∷ []) es e has) [
-          | inl first ↦ absurd (true≢false (sym (subst (λ (y : Entry). same_subject y.subject w ≡ true) (sym (only x e first)) is) ∙ f))
+          | inl first ↦ absurd (true≢false (sym (subst (λ (y : NamedSubject). same_subject y.subject w ≡ true) (sym (only x e first)) is) ∙ f))
           | inr inside ↦
               let below : entry_cmp x e ≡ Less = All-contains (λ y. entry_cmp x y ≡ Less) es e above inside in
               let one : amount (is_lt (entry_cmp x e)) ≡ 1 = ap (λ o. amount (is_lt o)) below in
@@ -163,7 +163,7 @@ self-same (Simple m) = elim (eqb_tells m m) [ inl e ↦ e.0 | inr e ↦ absurd (
 self-same (Complex m) = elim (eqb_tells m m) [ inl e ↦ e.0 | inr e ↦ absurd (e.1 refl) ]
 self-same (Nillable m) = elim (eqb_tells m m) [ inl e ↦ e.0 | inr e ↦ absurd (e.1 refl) ]
 
-same-entry : (s : Set) (x : Entry) (w : Subject) (a : Name) → name_of s x.subject ≡ Some x.name → name_of s w ≡ Some a → same_subject x.subject w ≡ true → x ≡ entry_with w a
+same-entry : (s : Set) (x : NamedSubject) (w : Subject) (a : Name) → name_of s x.subject ≡ Some x.name → name_of s w ≡ Some a → same_subject x.subject w ≡ true → x ≡ entry_with w a
 same-entry s x w a p q is =
     let one = same-subject x.subject w is in
     let names : Some x.name ≡ Some a = sym p ∙ ap (name_of s) one ∙ q in
@@ -174,28 +174,28 @@ same-entry s x w a p q is =
     from (Some b) = b
 
 -- the number of a component with a name
-pub number-of : (s : Set) (es : List Entry) (w : Subject) (a : Name) → IsLinked s → AreEntries s es → name_of s w ≡ Some a
+pub number-of : (s : Set) (es : List NamedSubject) (w : Subject) (a : Name) → IsLinked s → AreEntries s es → name_of s w ≡ Some a
     → count_by (λ x. is_lt (entry_cmp x (entry_with w a))) (collected s) ≡ place_in es w
 number-of s es w a linked h named =
     let e = entry_with w a in
-    let p = λ (x : Entry). is_lt (entry_cmp x e) in
+    let p = λ (x : NamedSubject). is_lt (entry_cmp x e) in
     same-count tied tied-same tied-back p (collected s) es (distinct-collected s linked) (IsDistinct-from_sorted entry_cmp es h.ascending)
-    (λ z has. (h.whole z.subject z.name).1 (All-contains (λ (y : Entry). name_of s y.subject ≡ Some y.name) (collected s) z (all-collected s (λ y. name_of s y.subject ≡ Some y.name) (λ v b is. is)) has))
+    (λ z has. (h.whole z.subject z.name).1 (All-contains (λ (y : NamedSubject). name_of s y.subject ≡ Some y.name) (collected s) z (all-collected s (λ y. name_of s y.subject ≡ Some y.name) (λ v b is. is)) has))
     (λ z has. has-collected s z.subject z.name ((h.whole z.subject z.name).0 has))
     ∙ place-count w e es (self-same w) h.ascending ((h.whole w a).1 named)
     (λ k d l. let x = get_or es k d in same-entry s x w a ((h.whole x.subject x.name).0 (Contains-get_or es k d l)) named)
 
-pub number-of-element : (s : Set) (es : List Entry) (n : ℕ) (e : ElementDecl) → IsLinked s → AreEntries s es → n < s.globals → slice_get s.elements n ≡ Some e
+pub number-of-element : (s : Set) (es : List NamedSubject) (n : ℕ) (e : ElementDecl) → IsLinked s → AreEntries s es → n < s.globals → slice_get s.elements n ≡ Some e
     → count_before e.name (collected s) ≡ place_in es (Element n)
 number-of-element s es n e linked h l got = number-of s es (Element n) e.name linked h (named-element s n e l got)
 
 -- ---- counting kind by kind
 
-pub count-append : (name : Name) (xs ys : List Entry) → count_before name (xs ++ ys) ≡ count_before name xs + count_before name ys
+pub count-append : (name : Name) (xs ys : List NamedSubject) → count_before name (xs ++ ys) ≡ count_before name xs + count_before name ys
 count-append name xs ys = sum_by-append (λ x. cond (is_before name x) 1 0) xs ys
 
 -- one more
-pub count-next : (s : Set) (of_kind : ℕ → Subject) (name : Name) (n count added : ℕ) (more : List Entry) → count ≡ count_before name (firsts s of_kind n)
+pub count-next : (s : Set) (of_kind : ℕ → Subject) (name : Name) (n count added : ℕ) (more : List NamedSubject) → count ≡ count_before name (firsts s of_kind n)
     → added ≡ count_before name more → more ≡ entries_of s (of_kind n) → count + added ≡ count_before name (firsts s of_kind (n + 1))
 count-next s of_kind name n count added more so_far is entries =
     ap (λ k. k + added) so_far ∙ ap (λ k. count_before name (firsts s of_kind n) + k) (is ∙ ap (count_before name) entries)

@@ -26,7 +26,7 @@ use Rattle.schema_parts.specs.Components.{Set}
 use Rattle.schema_parts.specs.Linked.{IsLinked}
 use Rattle.map_subjects.specs.declared.subjects.Subject.{Subject}
 use Rattle.map_subjects.specs.declared.subjects.Subject.TheVariants.{Element, Attribute, Simple, Complex, Nillable}
-use Rattle.map_subjects.specs.declared.subjects.Entry.{Entry}
+use Rattle.map_subjects.specs.declared.subjects.NamedSubject.{NamedSubject}
 use Rattle.map_subjects.specs.Subjects.{has_nillable, complex_name, name_of, rank, entry_cmp, AreEntries}
 use Rattle.map_subjects.specs.Subjects.{IsSubject}
 use Rattle.map_subjects.specs.Private.Collecting.{entry_with, entries_with, entries_of, firsts, element_entries, attribute_entries, simple_entries, complex_entries, nillable_entries, declaration_entries, type_entries, collected}
@@ -35,11 +35,11 @@ use Rattle.map_subjects.specs.Private.Collecting.{entry_with, entries_with, entr
 
 pub entry_total : IsTotalOrder entry_cmp
 entry_total =
-    then_total (on_total (λ (e : Entry). e.name.space) nat_list_cmp_total)
-    (then_total (on_total (λ (e : Entry). rank e.subject) nat_cmp_total) (on_total (λ (e : Entry). e.name.local) nat_list_cmp_total))
+    then_total (on_total (λ (e : NamedSubject). e.name.space) nat_list_cmp_total)
+    (then_total (on_total (λ (e : NamedSubject). rank e.subject) nat_cmp_total) (on_total (λ (e : NamedSubject). e.name.local) nat_list_cmp_total))
 
 -- two entries that the order doesn't tell apart
-abbrev pub tied : Entry → Entry → Bool
+abbrev pub tied : NamedSubject → NamedSubject → Bool
 tied = eq_by_cmp entry_cmp
 
 tied-then : (p q : Ordering) → is_eq (ordering_then p q) ≡ (is_eq p && is_eq q)
@@ -47,7 +47,7 @@ tied-then Less q = refl
 tied-then Equal q = refl
 tied-then Greater q = refl
 
-tied-parts : (x y : Entry) → tied x y
+tied-parts : (x y : NamedSubject) → tied x y
     ≡ (is_eq (slice_cmp nat_cmp x.name.space y.name.space) && (is_eq (nat_cmp (rank x.subject) (rank y.subject)) && is_eq (slice_cmp nat_cmp x.name.local y.name.local)))
 tied-parts x y =
     let within = ordering_then (nat_cmp (rank x.subject) (rank y.subject)) (slice_cmp nat_cmp x.name.local y.name.local) in
@@ -64,7 +64,7 @@ inner-false false r b e = refl
 inner-false true r b e = ap (λ c. c && b) e
 
 -- other names are told apart, and so are other ranks
-apart-names : (x y : Entry) → name_eq x.name y.name ≡ false → tied x y ≡ false
+apart-names : (x y : NamedSubject) → name_eq x.name y.name ≡ false → tied x y ≡ false
 apart-names x y e =
     let space = is_eq-slice_cmp x.name.space y.name.space in
     let local = is_eq-slice_cmp x.name.local y.name.local in
@@ -77,7 +77,7 @@ other-rank m n Less h l = refl
 other-rank m n Equal h l = absurd (omega (arith, h, l))
 other-rank m n Greater h l = refl
 
-apart-ranks : (x y : Entry) → rank x.subject < rank y.subject → tied x y ≡ false
+apart-ranks : (x y : NamedSubject) → rank x.subject < rank y.subject → tied x y ≡ false
 apart-ranks x y l =
     tied-parts x y
     ∙ inner-false (is_eq (slice_cmp nat_cmp x.name.space y.name.space)) (is_eq (nat_cmp (rank x.subject) (rank y.subject))) (is_eq (slice_cmp nat_cmp x.name.local y.name.local))
@@ -88,14 +88,14 @@ less Less o e h k = absurd (true≢false h)
 less Equal o e h k = absurd (true≢false (sym (ap is_eq e) ∙ k))
 less Greater o e h k = e
 
-pub turned : (x y : Entry) → entry_cmp x y ≡ ordering_reverse (entry_cmp y x)
+pub turned : (x y : NamedSubject) → entry_cmp x y ≡ ordering_reverse (entry_cmp y x)
 turned x y = let o = entry_total in o.antisymm x y
 
-pub tied-back : (x y : Entry) → tied x y ≡ tied y x
+pub tied-back : (x y : NamedSubject) → tied x y ≡ tied y x
 tied-back x y = let same = eq_by_cmp_equiv entry_total in same.symm x y
 
 -- a sorted list in which the order tells all apart
-strict : (es : List Entry) → IsSorted entry_cmp es → IsDistinct tied es → IsStrictlySortedBy entry_cmp es
+strict : (es : List NamedSubject) → IsSorted entry_cmp es → IsDistinct tied es → IsStrictlySortedBy entry_cmp es
 unfolding IsStrictlySortedBy
 strict [] up d = tt
 strict (e ∷ es) up d =
@@ -202,7 +202,7 @@ nillable-named false o a e = absurd (none-some a e)
 
 -- ---- the entries of a kind
 
-all-one : (w : Subject) (P : Entry → Type 0) (o : Option Name) → ((a : Name) → o ≡ Some a → P (entry_with w a)) → All P (entries_with w o)
+all-one : (w : Subject) (P : NamedSubject → Type 0) (o : Option Name) → ((a : Name) → o ≡ Some a → P (entry_with w a)) → All P (entries_with w o)
 all-one w P None h = All-nil P
 all-one w P (Some a) h = All-cons P (entry_with w a) [] (h a refl) (All-nil P)
 
@@ -211,7 +211,7 @@ one-short w None = omega arith
 one-short w (Some a) = omega arith
 
 module _ (s : Set) (of_kind : ℕ → Subject) where
-  all-firsts : (P : Entry → Type 0) (n : ℕ) → ((i : ℕ) (a : Name) → i < n → name_of s (of_kind i) ≡ Some a → P (entry_with (of_kind i) a)) → All P (firsts s of_kind n)
+  all-firsts : (P : NamedSubject → Type 0) (n : ℕ) → ((i : ℕ) (a : Name) → i < n → name_of s (of_kind i) ≡ Some a → P (entry_with (of_kind i) a)) → All P (firsts s of_kind n)
   all-firsts P zero h = All-nil P
   all-firsts P (suc n) h =
       All-append P (firsts s of_kind n) (entries_of s (of_kind n))
@@ -246,14 +246,14 @@ module _ (s : Set) (of_kind : ℕ → Subject) where
       (λ b f. apart-names (entry_with (of_kind i) a) (entry_with (of_kind n) b) (h i n a b l e f))))
 
   -- one more
-  pub firsts-next : (n : ℕ) (first made after more : List Entry) → made ≡ first ++ firsts s of_kind n → after ≡ made ++ more → more ≡ entries_of s (of_kind n)
+  pub firsts-next : (n : ℕ) (first made after more : List NamedSubject) → made ≡ first ++ firsts s of_kind n → after ≡ made ++ more → more ≡ entries_of s (of_kind n)
       → after ≡ first ++ firsts s of_kind (n + 1)
   firsts-next n first made after more so_far added is =
       added ∙ ap (λ m. made ++ m) is ∙ ap (λ m. m ++ entries_of s (of_kind n)) so_far
       ∙ append_assoc first (firsts s of_kind n) (entries_of s (of_kind n)) ∙ ap (λ k. first ++ firsts s of_kind k) (sym (add-one n))
 
 -- entries of lesser ranks and of greater ones
-ranked-apart : (r : ℕ) (xs ys : List Entry) → All (λ x. rank x.subject ≤ r) xs → All (λ y. r < rank y.subject) ys → All (λ x. All (λ y. tied x y ≡ false) ys) xs
+ranked-apart : (r : ℕ) (xs ys : List NamedSubject) → All (λ x. rank x.subject ≤ r) xs → All (λ y. r < rank y.subject) ys → All (λ x. All (λ y. tied x y ≡ false) ys) xs
 ranked-apart r xs ys low high =
     All-weaker (λ x. rank x.subject ≤ r) (λ x. All (λ y. tied x y ≡ false) ys)
     (λ x l. All-weaker (λ y. r < rank y.subject) (λ y. tied x y ≡ false) (λ y g. apart-ranks x y (omega (arith, l, g))) ys high) xs low
@@ -284,7 +284,7 @@ nillable-entry s n c got has =
 pub nillable-none : (s : Set) (n : ℕ) → has_nillable s n ≡ false → [] ≡ entries_of s (Nillable n)
 nillable-none s n has = ap (λ b. entries_with (Nillable n) (cond b (complex_name s n) None)) (sym has)
 
-pub all-collected : (s : Set) (P : Entry → Type 0) → ((w : Subject) (a : Name) → name_of s w ≡ Some a → P (entry_with w a)) → All P (collected s)
+pub all-collected : (s : Set) (P : NamedSubject → Type 0) → ((w : Subject) (a : Name) → name_of s w ≡ Some a → P (entry_with w a)) → All P (collected s)
 all-collected s P h =
     All-append P (declaration_entries s) (type_entries s)
     (All-append P (element_entries s) (attribute_entries s)
@@ -387,20 +387,20 @@ distinct-collected s h =
 
 -- ---- in the order of the module
 
-pub sorted-entries : (s : Set) (made es : List Entry) → IsLinked s → made ≡ collected s → IsPermutation made es → IsSorted entry_cmp es → AreEntries s es
+pub sorted-entries : (s : Set) (made es : List NamedSubject) → IsLinked s → made ≡ collected s → IsPermutation made es → IsSorted entry_cmp es → AreEntries s es
 sorted-entries s made es h is moved up =
     let perm = subst (λ l. IsPermutation l es) is moved in
     let distinct = IsDistinct-IsPermutation tied tied-back (collected s) es perm (distinct-collected s h) in
-    let named = All-permutation (λ (e : Entry). name_of s e.subject ≡ Some e.name) (collected s) es perm (all-collected s (λ e. name_of s e.subject ≡ Some e.name) (λ w a e. e)) in
+    let named = All-permutation (λ (e : NamedSubject). name_of s e.subject ≡ Some e.name) (collected s) es perm (all-collected s (λ e. name_of s e.subject ≡ Some e.name) (λ w a e. e)) in
     record {
       ascending = strict es up distinct;
       whole = λ w name. (
-        λ found. All-contains (λ (e : Entry). name_of s e.subject ≡ Some e.name) es (entry_with w name) named found,
+        λ found. All-contains (λ (e : NamedSubject). name_of s e.subject ≡ Some e.name) es (entry_with w name) named found,
         λ has. Contains-permutation (collected s) es (entry_with w name) perm (has-collected s w name has),
       );
     }
 
-pub few-entries : (s : Set) (made es : List Entry) → IsLinked s → made ≡ collected s → IsPermutation made es → length es < 2 ^ 32
+pub few-entries : (s : Set) (made es : List NamedSubject) → IsLinked s → made ≡ collected s → IsPermutation made es → length es < 2 ^ 32
 few-entries s made es h is moved =
     let few = few-collected s h in
     let same = length_permutation made es moved in
@@ -408,7 +408,7 @@ few-entries s made es h is moved =
     omega (arith, few, same, all)
 
 -- each has a component of the set
-pub all-subjects : (s : Set) (es : List Entry) → AreEntries s es → All (λ e. IsSubject s e.subject) es
+pub all-subjects : (s : Set) (es : List NamedSubject) → AreEntries s es → All (λ e. IsSubject s e.subject) es
 all-subjects s es h = λ k d l.
     let e = get_or es k d in
     named-subject s e.subject e.name ((h.whole e.subject e.name).0 (Contains-get_or es k d l))

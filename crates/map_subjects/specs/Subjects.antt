@@ -11,7 +11,7 @@ use Rattle.schema_parts.specs.declared.components.ElementDecl.{ElementDecl}
 use Rattle.schema_parts.specs.declared.components.TypeOf.TheVariants as kind
 use Rattle.schema_parts.specs.Components.{Set}
 use Rattle.map_subjects.specs.declared.subjects.Subject.{Subject}
-use Rattle.map_subjects.specs.declared.subjects.Entry.{Entry}
+use Rattle.map_subjects.specs.declared.subjects.NamedSubject.{NamedSubject}
 use Rattle.map_subjects.specs.declared.subjects.Subject.TheVariants.{Element, Attribute, Simple, Complex, Nillable}
 
 -- some nillable element, global or local, has the complex type
@@ -56,11 +56,11 @@ abbrev pub order_of : ℕ → Name → ℕ → Name → Ordering
 order_of i a j b =
     ordering_then (slice_cmp nat_cmp a.space b.space) (ordering_then (nat_cmp i j) (slice_cmp nat_cmp a.local b.local))
 
-abbrev pub entry_cmp : Entry → Entry → Ordering
+abbrev pub entry_cmp : NamedSubject → NamedSubject → Ordering
 entry_cmp a b = order_of (rank a.subject) a.name (rank b.subject) b.name
 
 -- These are the assignments of the module in their order: each component that has a name of its own stands once.
-pub record AreEntries (s : Set) (es : List Entry) : Type 0 where
+pub record AreEntries (s : Set) (es : List NamedSubject) : Type 0 where
   pub ascending : IsStrictlySortedBy entry_cmp es
   pub whole : (w : Subject) (name : Name) → Contains es (record { subject = w; name = name }) ↔ (name_of s w ≡ Some name)
 
@@ -73,6 +73,6 @@ same_subject (Nillable m) (Nillable n) = nat_eq m n
 same_subject _ _ = false
 
 -- the number of the assignment: how many stand before it
-abbrev pub place_in : List Entry → Subject → ℕ
+abbrev pub place_in : List NamedSubject → Subject → ℕ
 place_in [] w = 0
 place_in (e ∷ es) w = elim (same_subject e.subject w) [ true ↦ 0 | false ↦ suc (place_in es w) ]

@@ -5,7 +5,7 @@ ghost use Rattle.schema_parts.specs.Linked.{IsLinked};
 ghost use Rattle.map_subjects.specs.Subjects.{is_nillable_of, has_nillable, rank, order_of, entry_cmp, AreEntries};
 ghost use Rattle.map_subjects.specs.Private.Collecting.{entries_with, entries_of, element_entries, attribute_entries, simple_entries, complex_entries, nillable_entries, declaration_entries, type_entries, collected, is_marked, HasMark};
 
-use crate::subjects::{Entry, Subject};
+use crate::subjects::{NamedSubject, Subject};
 use schema_parts::{ElementDecl, SchemaSet, TypeOf};
 use std::alloc::{AllocError, Global};
 use std::cmp::Ordering;
@@ -13,21 +13,21 @@ use xa_base::{Memory, Name};
 
 fn push_entry(
     alloc: Global,
-    made: &mut Vec<Entry>,
+    made: &mut Vec<NamedSubject>,
     subject: Subject,
     name: &Name,
 ) -> Result<(), Memory>
     ensures { OnOk result (made.new.items ≡ made.old.items ++ entries_with subject (Some name.now)) }
 {
     let name = name.copy(alloc)?;
-    made.push(Entry { subject, name })?;
+    made.push(NamedSubject { subject, name })?;
     Ok(())
 }
 
 // The entry of a type, where it has a name.
 fn push_named(
     alloc: Global,
-    made: &mut Vec<Entry>,
+    made: &mut Vec<NamedSubject>,
     subject: Subject,
     name: &Option<Name>,
 ) -> Result<(), Memory>
@@ -39,7 +39,7 @@ fn push_named(
     }
 }
 
-fn push_elements(alloc: Global, set: &SchemaSet, made: &mut Vec<Entry>) -> Result<(), Memory>
+fn push_elements(alloc: Global, set: &SchemaSet, made: &mut Vec<NamedSubject>) -> Result<(), Memory>
     requires { IsLinked set.now }
     ensures { OnOk result (made.new.items ≡ made.old.items ++ element_entries set.now) }
 {
@@ -49,7 +49,11 @@ fn push_elements(alloc: Global, set: &SchemaSet, made: &mut Vec<Entry>) -> Resul
     Ok(())
 }
 
-fn push_attributes(alloc: Global, set: &SchemaSet, made: &mut Vec<Entry>) -> Result<(), Memory>
+fn push_attributes(
+    alloc: Global,
+    set: &SchemaSet,
+    made: &mut Vec<NamedSubject>,
+) -> Result<(), Memory>
     ensures { OnOk result (made.new.items ≡ made.old.items ++ attribute_entries set.now) }
 {
     'attributes: for n in 0..set.attribute_count() {
@@ -58,7 +62,7 @@ fn push_attributes(alloc: Global, set: &SchemaSet, made: &mut Vec<Entry>) -> Res
     Ok(())
 }
 
-fn push_simples(alloc: Global, set: &SchemaSet, made: &mut Vec<Entry>) -> Result<(), Memory>
+fn push_simples(alloc: Global, set: &SchemaSet, made: &mut Vec<NamedSubject>) -> Result<(), Memory>
     ensures { OnOk result (made.new.items ≡ made.old.items ++ simple_entries set.now) }
 {
     'simples: for n in 0..set.simple_count() {
@@ -67,7 +71,11 @@ fn push_simples(alloc: Global, set: &SchemaSet, made: &mut Vec<Entry>) -> Result
     Ok(())
 }
 
-fn push_complexes(alloc: Global, set: &SchemaSet, made: &mut Vec<Entry>) -> Result<(), Memory>
+fn push_complexes(
+    alloc: Global,
+    set: &SchemaSet,
+    made: &mut Vec<NamedSubject>,
+) -> Result<(), Memory>
     ensures { OnOk result (made.new.items ≡ made.old.items ++ complex_entries set.now) }
 {
     'complexes: for n in 0..set.complex_count() {
@@ -133,7 +141,7 @@ fn push_nillable(
     alloc: Global,
     set: &SchemaSet,
     marks: &[bool],
-    made: &mut Vec<Entry>,
+    made: &mut Vec<NamedSubject>,
     n: u32,
 ) -> Result<(), Memory>
     requires number { n < length set.now.complexes }
@@ -147,7 +155,11 @@ fn push_nillable(
     }
 }
 
-fn push_nillables(alloc: Global, set: &SchemaSet, made: &mut Vec<Entry>) -> Result<(), Memory>
+fn push_nillables(
+    alloc: Global,
+    set: &SchemaSet,
+    made: &mut Vec<NamedSubject>,
+) -> Result<(), Memory>
     requires { IsLinked set.now }
     ensures { OnOk result (made.new.items ≡ made.old.items ++ nillable_entries set.now) }
 {
@@ -158,7 +170,11 @@ fn push_nillables(alloc: Global, set: &SchemaSet, made: &mut Vec<Entry>) -> Resu
     Ok(())
 }
 
-fn push_declarations(alloc: Global, set: &SchemaSet, made: &mut Vec<Entry>) -> Result<(), Memory>
+fn push_declarations(
+    alloc: Global,
+    set: &SchemaSet,
+    made: &mut Vec<NamedSubject>,
+) -> Result<(), Memory>
     requires { IsLinked set.now }
     ensures { OnOk result (made.new.items ≡ made.old.items ++ declaration_entries set.now) }
 {
@@ -167,7 +183,7 @@ fn push_declarations(alloc: Global, set: &SchemaSet, made: &mut Vec<Entry>) -> R
     Ok(())
 }
 
-fn push_types(alloc: Global, set: &SchemaSet, made: &mut Vec<Entry>) -> Result<(), Memory>
+fn push_types(alloc: Global, set: &SchemaSet, made: &mut Vec<NamedSubject>) -> Result<(), Memory>
     requires { IsLinked set.now }
     ensures { OnOk result (made.new.items ≡ made.old.items ++ type_entries set.now) }
 {
@@ -177,7 +193,7 @@ fn push_types(alloc: Global, set: &SchemaSet, made: &mut Vec<Entry>) -> Result<(
     Ok(())
 }
 
-fn collected(alloc: Global, set: &SchemaSet) -> Result<Vec<Entry>, Memory>
+fn collected(alloc: Global, set: &SchemaSet) -> Result<Vec<NamedSubject>, Memory>
     requires { IsLinked set.now }
     ensures { IfOk result (λ made. made.items ≡ collected set.now) }
 {
@@ -213,13 +229,13 @@ pub(crate) fn order(first: u8, a: &Name, second: u8, b: &Name) -> Ordering
     }
 }
 
-fn compare(a: &Entry, b: &Entry) -> Ordering
+fn compare(a: &NamedSubject, b: &NamedSubject) -> Ordering
     ensures { result ≡ entry_cmp a.now b.now }
 {
     order(rank(a.subject), &a.name, rank(b.subject), &b.name)
 }
 
-fn sort(entries: &mut Vec<Entry>) -> Result<(), AllocError>
+fn sort(entries: &mut Vec<NamedSubject>) -> Result<(), AllocError>
     ensures same { IsPermutation entries.old.items entries.new.items }
     ensures sorted { OnOk result (IsSorted entry_cmp entries.new.items) }
 {
@@ -229,7 +245,7 @@ fn sort(entries: &mut Vec<Entry>) -> Result<(), AllocError>
 /// What has an assignment in the module, in the order of the assignments: by namespace; in one namespace elements first,
 /// then attributes, types, and types of nillable elements; among these by local name. Namespaces and local names are
 /// compared byte by byte. The time is that of a sort.
-pub fn entries(alloc: Global, set: &SchemaSet) -> Result<Vec<Entry>, Memory>
+pub fn entries(alloc: Global, set: &SchemaSet) -> Result<Vec<NamedSubject>, Memory>
     requires { IsLinked set.now }
     ensures entries { IfOk result (λ made. AreEntries set.now made.items) }
     ensures few { IfOk result (λ made. length made.items < 2 ^ 32) }

@@ -1,7 +1,7 @@
 //! How many assignments stand before that of a global element.
 ghost use Rattle.std.specs.Prelude.{◌≡◌, ◌≤◌, ◌<◌, List, Some, length};
 ghost use Rattle.schema_parts.specs.Linked.{IsLinked};
-ghost use Rattle.map_subjects.specs.declared.subjects.Entry.{Entry};
+ghost use Rattle.map_subjects.specs.declared.subjects.NamedSubject.{NamedSubject};
 ghost use Rattle.map_subjects.specs.Subjects.{is_nillable_of, has_nillable, AreEntries, place_in};
 ghost use Rattle.map_subjects.specs.Private.Collecting.{entries_with, entries_of, element_entries, attribute_entries, simple_entries, complex_entries, nillable_entries, is_before, entry_with, count_before, declaration_entries, type_entries};
 
@@ -154,7 +154,7 @@ fn types_before(set: &SchemaSet, element: &Name) -> u32
 /// with a name in a namespace that stands before the element's.
 pub fn number_of_element(set: &SchemaSet, element: u32) -> u32
     requires { element < set.now.globals }
-    ensures { (entries : List Entry) → AreEntries set.now entries → result ≡ place_in entries (Subject.Element element) }
+    ensures { (entries : List NamedSubject) → AreEntries set.now entries → result ≡ place_in entries (Subject.Element element) }
 {
     // What each linked set keeps is known once one of its readers was called.
     let _ = set.element_count();

@@ -7,4 +7,4 @@ mod subjects;
 
 pub use collecting::entries;
 pub use counting::number_of_element;
-pub use subjects::{Entry, Subject};
+pub use subjects::{NamedSubject, Subject};

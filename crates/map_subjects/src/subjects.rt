@@ -18,7 +18,7 @@ pub enum Subject {
 
 /// An assignment of the module: whose it is, and the name of that component.
 #[derive(Drop)]
-pub struct Entry {
+pub struct NamedSubject {
     pub subject: Subject,
     pub name: Name,
 }

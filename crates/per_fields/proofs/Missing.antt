@@ -6,7 +6,7 @@ use Rattle.asn_types.specs.declared.types.Component.{Component}
 use Rattle.asn_types.specs.declared.types.TypeLabel.{TypeLabel}
 use Rattle.asn_types.specs.Parts.{parts_of}
 use Rattle.asn_types.specs.Refs.{resolve}
-use Rattle.asn_types.specs.Values.{Place, place_of, place_at, put_first, present_from}
+use Rattle.asn_types.specs.Values.{ComponentPlace, place_of, place_at, put_first, present_from}
 use Rattle.asn_types.proofs.Chaining.{no-reference, well-formed, have-parts, resolved-of-module}
 use Rattle.per_fields.specs.Laws.{Present, NothingIsMissing}
 
@@ -15,12 +15,12 @@ within [] i below = absurd (omega arith)
 within (x ∷ xs) zero below = (x, refl)
 within (x ∷ xs) (suc i) below = within xs i (omega arith)
 
-put_some : (p : Place) (o : Option (List Place)) → (o ≡ None → ⊥) → put_first p o ≡ None → ⊥
+put_some : (p : ComponentPlace) (o : Option (List ComponentPlace)) → (o ≡ None → ⊥) → put_first p o ≡ None → ⊥
 put_some p None h e = h refl
 put_some p (Some ps) h e = absurd cc
 
 -- an absent component is OPTIONAL
-left_out : (optional : Bool) (o : Option (List Place)) → MatchBool optional (Unit {0}) (false ≡ true) → (o ≡ None → ⊥) → (if optional then o else None) ≡ None → ⊥
+left_out : (optional : Bool) (o : Option (List ComponentPlace)) → MatchBool optional (Unit {0}) (false ≡ true) → (o ≡ None → ⊥) → (if optional then o else None) ≡ None → ⊥
 left_out true o h k e = k e
 left_out false o h k e = absurd cc
 

@@ -6,12 +6,12 @@ use Rattle.doc_text.specs.declared.label.ItemLabel.{ItemLabel}
 use Rattle.schema_rules.specs.declared.why.SchemaWhy.{SchemaWhy}
 use Rattle.schema_faults.specs.Faults.{first_fault, reasons, fault_if}
 use Rattle.schema_faults.specs.Shown.{Shown, IsSchema}
-use Rattle.schema_faults.specs.declared.faults.Fault.{Fault}
+use Rattle.schema_faults.specs.declared.faults.DocumentFault.{DocumentFault}
 use Rattle.schema_faults.proofs.ShownLaws.{shown, no_fault, one_shown}
 use Rattle.schema_faults.proofs.Least.{none_stands}
 
 module _ (root : Rose ItemLabel) (bound : ℕ) (ascend : Ascend 0 bound (tokens root)) where
-  none_of : (found : Option Fault) → IsSchema root → first_fault (reasons root) ≡ found → found ≡ None
+  none_of : (found : Option DocumentFault) → IsSchema root → first_fault (reasons root) ≡ found → found ≡ None
   none_of None is found = refl
   none_of (Some f) is found = absurd (none_stands (reasons root) f.at f.why is (shown root bound f ascend found).0)
 
@@ -19,7 +19,7 @@ module _ (root : Rose ItemLabel) (bound : ℕ) (ascend : Ascend 0 bound (tokens 
   pub found_none : IsSchema root → first_fault (reasons root) ≡ None
   found_none is = none_of (first_fault (reasons root)) is refl
 
-  this_one : (found : Option Fault) (at : ℕ) (why : SchemaWhy) → Shown root at why → first_fault (reasons root) ≡ found → found ≡ fault_if at (Some why)
+  this_one : (found : Option DocumentFault) (at : ℕ) (why : SchemaWhy) → Shown root at why → first_fault (reasons root) ≡ found → found ≡ fault_if at (Some why)
   this_one None at why is found = absurd (none_stands (reasons root) at why (no_fault root found) is.0)
   this_one (Some f) at why is found =
       let same = one_shown root bound f.at at f.why why ascend (shown root bound f ascend found) is in

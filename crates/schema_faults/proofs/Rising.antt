@@ -8,9 +8,9 @@ use Rattle.doc_text.specs.declared.label.ItemLabel.{ItemLabel}
 use Rattle.doc_text.specs.declared.label.ItemLabel.TheVariants.{Element, Text}
 use Rattle.schema_rules.specs.Elements.{placement}
 use Rattle.schema_faults.specs.Limits.{level_inside}
-use Rattle.schema_faults.specs.Faults.{Seen, own_reason, unless_composition, placed_at, position_behind, is_schema, place_of, outside, reasons_of, reasons_at, reasons_among, reasons}
-use Rattle.schema_rules.specs.declared.roles.Role.{Role}
-use Rattle.schema_rules.specs.declared.roles.Role.TheVariants.{Schema, Composition}
+use Rattle.schema_faults.specs.Faults.{LookedAt, own_reason, unless_composition, placed_at, position_behind, is_schema, place_of, outside, reasons_of, reasons_at, reasons_among, reasons}
+use Rattle.schema_rules.specs.declared.roles.ElementRole.{ElementRole}
+use Rattle.schema_rules.specs.declared.roles.ElementRole.TheVariants.{Schema, Composition}
 use Rattle.schema_rules.specs.declared.roles.Position.{Position}
 use Rattle.schema_rules.specs.declared.elements.Placement.{Placement}
 use Rattle.schema_rules.specs.declared.elements.Placement.TheVariants.{Skipped, Refused, Placed}
@@ -31,21 +31,21 @@ module _ (bound : ℕ) where
   behind (Words text at ∷ ts) rest least h = weaker least (at + 1) rest (let k = h.0 in omega arith) (behind ts rest (at + 1) h.2)
 
   -- those that follow rise from wherever the tokens that follow ascend
-  abbrev Follow : List Token → List Seen → Type 0
+  abbrev Follow : List Token → List LookedAt → Type 0
   Follow rest more = (least : ℕ) → Ascend least bound rest → Rising least more
 
-  placed_rising : (at least : ℕ) (p : Placement) (inside : Role → List Seen) (more : List Seen) → least ≤ at → Rising least more → Rising (at + 1) more
-      → ((role : Role) → Rising least (inside role ++ more)) → Rising least (placed_at at p inside ++ more)
+  placed_rising : (at least : ℕ) (p : Placement) (inside : ElementRole → List LookedAt) (more : List LookedAt) → least ≤ at → Rising least more → Rising (at + 1) more
+      → ((role : ElementRole) → Rising least (inside role ++ more)) → Rising least (placed_at at p inside ++ more)
   placed_rising at least Skipped inside more le here there each = here
   placed_rising at least (Refused why) inside more le here there each = (le, there)
   placed_rising at least (Placed part) inside more le here there each = each part.role
 
-  inside_rising : (at : ℕ) (role : Role) (inside more : List Seen) → Rising at more → Rising at (inside ++ more) → Rising at (unless_composition role inside ++ more)
+  inside_rising : (at : ℕ) (role : ElementRole) (inside more : List LookedAt) → Rising at more → Rising at (inside ++ more) → Rising at (unless_composition role inside ++ more)
   inside_rising at Composition inside more there all = there
   inside_rising at role inside more there all = all
 
   mutual
-    rising_at : (t : Rose ItemLabel) (parent : Role) (before : Option Position) (outer : List (List ℕ × List ℕ)) (level : ℕ) (rest : List Token) (more : List Seen) (least : ℕ)
+    rising_at : (t : Rose ItemLabel) (parent : ElementRole) (before : Option Position) (outer : List (List ℕ × List ℕ)) (level : ℕ) (rest : List Token) (more : List LookedAt) (least : ℕ)
         → Follow rest more → Ascend least bound (tokens t ++ rest) → Rising least (reasons_at parent before outer level t ++ more)
     rising_at (node (Text text at) ts) parent before outer level rest more least follow h =
         (h.0, follow (at + 1) (behind (tokens_all ts) rest (at + 1) h.2))
@@ -63,7 +63,7 @@ module _ (bound : ℕ) where
               (rising_among ts role None (declares ++ outer) (level_inside role level) (Closes ∷ rest) more (at + 1) follow (weaker (at + 1) (at + 2) (tokens_all ts ++ (Closes ∷ rest)) (omega arith) inner)),
         ))
 
-    rising_among : (ts : Roses ItemLabel) (parent : Role) (before : Option Position) (scope : List (List ℕ × List ℕ)) (level : ℕ) (rest : List Token) (more : List Seen) (least : ℕ)
+    rising_among : (ts : Roses ItemLabel) (parent : ElementRole) (before : Option Position) (scope : List (List ℕ × List ℕ)) (level : ℕ) (rest : List Token) (more : List LookedAt) (least : ℕ)
         → Follow rest more → Ascend least bound (tokens_all ts ++ rest) → Rising least (reasons_among parent before scope level ts ++ more)
     rising_among rose.none parent before scope level rest more least follow h = follow least h
     rising_among (rose.more t ts) parent before scope level rest more least follow h =
@@ -73,7 +73,7 @@ module _ (bound : ℕ) where
         (subst (Ascend least bound) (append_assoc (tokens t) (tokens_all ts) rest) h))
 
 -- an element by its role, at the root
-of_rising : (bound : ℕ) (t : Rose ItemLabel) (role : Role) (outer : List (List ℕ × List ℕ)) (level least : ℕ) → Ascend least bound (tokens t) → Rising least (reasons_of role outer level t)
+of_rising : (bound : ℕ) (t : Rose ItemLabel) (role : ElementRole) (outer : List (List ℕ × List ℕ)) (level least : ℕ) → Ascend least bound (tokens t) → Rising least (reasons_of role outer level t)
 of_rising bound (node (Text text at) ts) role outer level least h = tt
 of_rising bound (node (Element name attributes declares at) ts) role outer level least h =
     let inside = reasons_among role None (declares ++ outer) (level_inside role level) ts in
@@ -82,7 +82,7 @@ of_rising bound (node (Element name attributes declares at) ts) role outer level
     let end : Rising (at + 1) (unless_composition role inside ++ []) = inside_rising bound (at + 1) role inside [] tt all in
     (h.0, subst (Rising (at + 1)) (append-nil (unless_composition role inside)) end)
 
-chosen : (b : Bool) (least at : ℕ) (found other : List Seen) → Rising least found → Rising least other → Rising least (elim b [ true ↦ found | false ↦ other ])
+chosen : (b : Bool) (least at : ℕ) (found other : List LookedAt) → Rising least found → Rising least other → Rising least (elim b [ true ↦ found | false ↦ other ])
 chosen true least at found other h k = h
 chosen false least at found other h k = k
 

@@ -6,17 +6,17 @@ use Rattle.doc_text.specs.declared.label.ItemLabel.{ItemLabel}
 use Rattle.schema_faults.specs.Faults.{reasons, first_fault}
 use Rattle.schema_faults.specs.Shown.{Shown, IsSchema}
 use Rattle.schema_rules.specs.declared.why.SchemaWhy.{SchemaWhy}
-use Rattle.schema_faults.specs.declared.faults.Fault.{Fault}
+use Rattle.schema_faults.specs.declared.faults.DocumentFault.{DocumentFault}
 use Rattle.schema_faults.proofs.Least.{first_shown, none_shown, one_fault}
 use Rattle.schema_faults.proofs.Rising.{reasons_rise}
 
-pub shown : (root : Rose ItemLabel) (bound : ℕ) (f : Fault) → Ascend 0 bound (tokens root) → first_fault (reasons root) ≡ Some f → Shown root f.at f.why
+pub shown : (root : Rose ItemLabel) (bound : ℕ) (f : DocumentFault) → Ascend 0 bound (tokens root) → first_fault (reasons root) ≡ Some f → Shown root f.at f.why
 shown root bound f ascend is = first_shown 0 (reasons root) f (reasons_rise bound root 0 ascend) is
 
 pub no_fault : (root : Rose ItemLabel) → first_fault (reasons root) ≡ None → IsSchema root
 no_fault root is = none_shown (reasons root) is
 
-by_first : (root : Rose ItemLabel) (bound : ℕ) (found : Option Fault) → Ascend 0 bound (tokens root) → first_fault (reasons root) ≡ found
+by_first : (root : Rose ItemLabel) (bound : ℕ) (found : Option DocumentFault) → Ascend 0 bound (tokens root) → first_fault (reasons root) ≡ found
     → IsSchema root ⊎ ((at : ℕ) × (why : SchemaWhy) × Shown root at why)
 by_first root bound None ascend is = inl (no_fault root is)
 by_first root bound (Some f) ascend is = inr (f.at, f.why, shown root bound f ascend is)

@@ -11,27 +11,27 @@ use Rattle.schema_faults.specs.Limits.{level_inside}
 use Rattle.schema_faults.specs.Reasons.{reason_against, reason_against_text}
 use Rattle.schema_rules.specs.declared.elements.Placement.{Placement}
 use Rattle.schema_rules.specs.declared.elements.Placement.TheVariants.{Skipped, Refused, Placed}
-use Rattle.schema_rules.specs.declared.roles.Role.{Role}
-use Rattle.schema_rules.specs.declared.roles.Role.TheVariants.{Schema, Composition}
+use Rattle.schema_rules.specs.declared.roles.ElementRole.{ElementRole}
+use Rattle.schema_rules.specs.declared.roles.ElementRole.TheVariants.{Schema, Composition}
 use Rattle.schema_rules.specs.declared.roles.Position.{Position}
 use Rattle.schema_rules.specs.declared.why.SchemaWhy.{SchemaWhy}
 use Rattle.schema_rules.specs.declared.why.SchemaWhy.TheVariants as why
-use Rattle.schema_faults.specs.declared.faults.Fault.{Fault}
+use Rattle.schema_faults.specs.declared.faults.DocumentFault.{DocumentFault}
 
 -- a node that is looked at: its place, and the first reason against it, if there is one
-abbrev pub Seen : Type 0
-Seen = ℕ × Option SchemaWhy
+abbrev pub LookedAt : Type 0
+LookedAt = ℕ × Option SchemaWhy
 
-abbrev pub fault_if : ℕ → Option SchemaWhy → Option Fault
+abbrev pub fault_if : ℕ → Option SchemaWhy → Option DocumentFault
 fault_if at None = None
 fault_if at (Some reason) = Some (record { at = at; why = reason })
 
-abbrev pub is_composition : Role → Bool
+abbrev pub is_composition : ElementRole → Bool
 is_composition Composition = true
 is_composition role = false
 
 -- what `include` and `import` have in them isn't looked at
-abbrev pub unless_composition : Role → List Seen → List Seen
+abbrev pub unless_composition : ElementRole → List LookedAt → List LookedAt
 unless_composition Composition inside = []
 unless_composition role inside = inside
 
@@ -41,36 +41,36 @@ placed_behind before Skipped = before
 placed_behind before (Refused reason) = before
 placed_behind before (Placed part) = Some part.position
 
-abbrev pub position_behind : Role → Option Position → ItemLabel → Option Position
+abbrev pub position_behind : ElementRole → Option Position → ItemLabel → Option Position
 position_behind parent before (Text text at) = before
 position_behind parent before (Element name attributes declares at) = placed_behind before (placement parent before name)
 
-abbrev pub own_reason : Role → List (List ℕ × List ℕ) → ℕ → List (Name × List ℕ) → List (Rose ItemLabel) → Option SchemaWhy
+abbrev pub own_reason : ElementRole → List (List ℕ × List ℕ) → ℕ → List (Name × List ℕ) → List (Rose ItemLabel) → Option SchemaWhy
 own_reason role scope level attributes kids = reason_against role scope level (own_attributes attributes) kids
 
 -- the node by itself, and then what stands in it
-abbrev pub placed_at : ℕ → Placement → (Role → List Seen) → List Seen
+abbrev pub placed_at : ℕ → Placement → (ElementRole → List LookedAt) → List LookedAt
 placed_at at Skipped inside = []
 placed_at at (Refused reason) inside = (at, Some reason) ∷ []
 placed_at at (Placed part) inside = inside part.role
 
 abbrev mutual
   -- an element of this role, with its bindings and those around it: itself, and then what stands in it in preorder
-  pub reasons_of : Role → List (List ℕ × List ℕ) → ℕ → Rose ItemLabel → List Seen
+  pub reasons_of : ElementRole → List (List ℕ × List ℕ) → ℕ → Rose ItemLabel → List LookedAt
   reasons_of role outer level (node (Text text at) kids) = []
   reasons_of role outer level (node (Element name attributes declares at) kids) =
       (at, own_reason role (declares ++ outer) level attributes (list_of kids))
       ∷ unless_composition role (reasons_among role None (declares ++ outer) (level_inside role level) kids)
 
   -- a node in a parent of this role, behind an element of this position where there is one
-  pub reasons_at : Role → Option Position → List (List ℕ × List ℕ) → ℕ → Rose ItemLabel → List Seen
+  pub reasons_at : ElementRole → Option Position → List (List ℕ × List ℕ) → ℕ → Rose ItemLabel → List LookedAt
   reasons_at parent before outer level (node (Text text at) kids) = (at, reason_against_text text) ∷ []
   reasons_at parent before outer level (node (Element name attributes declares at) kids) =
       placed_at at (placement parent before name) (λ role.
       (at, own_reason role (declares ++ outer) level attributes (list_of kids))
       ∷ unless_composition role (reasons_among role None (declares ++ outer) (level_inside role level) kids))
 
-  pub reasons_among : Role → Option Position → List (List ℕ × List ℕ) → ℕ → Roses ItemLabel → List Seen
+  pub reasons_among : ElementRole → Option Position → List (List ℕ × List ℕ) → ℕ → Roses ItemLabel → List LookedAt
   reasons_among parent before scope level none = []
   reasons_among parent before scope level (more t ts) =
       reasons_at parent before scope level t ++ reasons_among parent (position_behind parent before (label_of t)) scope level ts
@@ -88,10 +88,10 @@ abbrev pub outside : List (List ℕ × List ℕ)
 outside = (xml_prefix, xml_space) ∷ []
 
 -- the whole document
-abbrev pub reasons : Rose ItemLabel → List Seen
+abbrev pub reasons : Rose ItemLabel → List LookedAt
 reasons root = elim (is_schema (label_of root)) [ true ↦ reasons_of Schema outside 0 root | false ↦ (place_of (label_of root), Some why.NotASchema) ∷ [] ]
 
 -- the first of them against which a reason stands
-abbrev pub first_fault : List Seen → Option Fault
+abbrev pub first_fault : List LookedAt → Option DocumentFault
 first_fault [] = None
 first_fault (s ∷ seen) = elim s.1 [ None ↦ first_fault seen | Some reason ↦ Some (record { at = s.0; why = reason }) ]

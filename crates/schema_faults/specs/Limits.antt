@@ -3,11 +3,11 @@ use Rattle.std.specs.Prelude.{◌+◌, ℕ, Bool, false, ◌||◌, nat_le, nat_l
 use Rattle.label_tree.specs.Rose.{Rose}
 use Rattle.doc_text.specs.declared.label.ItemLabel.{ItemLabel}
 use Rattle.schema_rules.specs.Elements.{beside}
-use Rattle.schema_rules.specs.Numbers.{is_large}
+use Rattle.schema_rules.specs.Digits.{is_large}
 use Rattle.schema_rules.specs.Children.{child_count}
 use Rattle.schema_rules.specs.declared.children.ChildSet.TheVariants.{TakenParticles, Attributes, Enumerations}
-use Rattle.schema_rules.specs.declared.roles.Role.{Role}
-use Rattle.schema_rules.specs.declared.roles.Role.TheVariants.{Restriction, GlobalComplexType, InnerComplexType, Extension, Sequence, Choice}
+use Rattle.schema_rules.specs.declared.roles.ElementRole.{ElementRole}
+use Rattle.schema_rules.specs.declared.roles.ElementRole.TheVariants.{Restriction, GlobalComplexType, InnerComplexType, Extension, Sequence, Choice}
 
 -- a number of occurrences of 2^32 or more
 abbrev pub has_large : List ℕ → List (List ℕ × List ℕ) → Bool
@@ -15,7 +15,7 @@ has_large name own = elim (beside name own) [ None ↦ false | Some value ↦ is
 
 -- a group behind 16 levels of groups, or of more than 500 particles, those that are left out not counted; a type or an extension of more than 400 attributes; a restriction of more
 -- than 10,000 enumerations
-abbrev pub is_too_large : Role → ℕ → List (Rose ItemLabel) → Bool
+abbrev pub is_too_large : ElementRole → ℕ → List (Rose ItemLabel) → Bool
 is_too_large Sequence level kids = nat_le 16 level || nat_lt 500 (child_count TakenParticles kids)
 is_too_large Choice level kids = nat_le 16 level || nat_lt 500 (child_count TakenParticles kids)
 is_too_large GlobalComplexType level kids = nat_lt 400 (child_count Attributes kids)
@@ -24,11 +24,11 @@ is_too_large Extension level kids = nat_lt 400 (child_count Attributes kids)
 is_too_large Restriction level kids = nat_lt 10000 (child_count Enumerations kids)
 is_too_large role level kids = false
 
-abbrev pub is_over_limit : Role → ℕ → List (List ℕ × List ℕ) → List (Rose ItemLabel) → Bool
+abbrev pub is_over_limit : ElementRole → ℕ → List (List ℕ × List ℕ) → List (Rose ItemLabel) → Bool
 is_over_limit role level own kids = has_large (codes "minOccurs") own || has_large (codes "maxOccurs") own || is_too_large role level kids
 
 -- how many groups of the same content model stand round the children, where 17 stands for more; a complex type begins anew
-abbrev pub level_inside : Role → ℕ → ℕ
+abbrev pub level_inside : ElementRole → ℕ → ℕ
 level_inside Sequence level = if nat_lt level 17 then level + 1 else 17
 level_inside Choice level = if nat_lt level 17 then level + 1 else 17
 level_inside GlobalComplexType level = 0

@@ -14,8 +14,8 @@ use Rattle.schema_rules.specs.Children.{is_in}
 use Rattle.schema_faults.specs.Requirements.{lacks_required, has_both_forms, is_untyped}
 use Rattle.schema_faults.specs.Limits.{is_over_limit}
 use Rattle.schema_rules.specs.declared.children.ChildSet.TheVariants.{Particles}
-use Rattle.schema_rules.specs.declared.roles.Role.{Role}
-use Rattle.schema_rules.specs.declared.roles.Role.TheVariants.{GlobalElement, LocalElement, GlobalAttribute, LocalAttribute, Choice}
+use Rattle.schema_rules.specs.declared.roles.ElementRole.{ElementRole}
+use Rattle.schema_rules.specs.declared.roles.ElementRole.TheVariants.{GlobalElement, LocalElement, GlobalAttribute, LocalAttribute, Choice}
 use Rattle.schema_rules.specs.declared.why.SchemaWhy.{SchemaWhy}
 use Rattle.schema_rules.specs.declared.why.SchemaWhy.TheVariants as why
 
@@ -23,17 +23,17 @@ abbrev pub first_true : List (Bool × SchemaWhy) → Option SchemaWhy
 first_true [] = None
 first_true (test ∷ more) = if test.0 then Some test.1 else first_true more
 
-abbrev pub is_element : Role → Bool
+abbrev pub is_element : ElementRole → Bool
 is_element GlobalElement = true
 is_element LocalElement = true
 is_element role = false
 
-abbrev pub is_attribute : Role → Bool
+abbrev pub is_attribute : ElementRole → Bool
 is_attribute GlobalAttribute = true
 is_attribute LocalAttribute = true
 is_attribute role = false
 
-abbrev pub is_choice : Role → Bool
+abbrev pub is_choice : ElementRole → Bool
 is_choice Choice = true
 is_choice role = false
 
@@ -45,7 +45,7 @@ is_true name own = elim (beside name own) [ None ↦ false | Some value ↦ unwr
 abbrev pub has_default : List (List ℕ × List ℕ) → Bool
 has_default own = has (codes "default") own || has (codes "fixed") own
 
-abbrev pub left_out_attributes : Role → List (List ℕ × List ℕ) → List (Bool × SchemaWhy)
+abbrev pub left_out_attributes : ElementRole → List (List ℕ × List ℕ) → List (Bool × SchemaWhy)
 left_out_attributes role own =
     (has (codes "substitutionGroup") own, why.SubstitutionGroup)
     ∷ (is_true (codes "abstract") own, why.Abstract)
@@ -112,7 +112,7 @@ left_out_reference scope own =
     (left_out_value (codes "itemType") scope own)) (left_out_value (codes "memberTypes") scope own)
 
 -- a declaration without a type is of the type that all others are derived from (Part 1, sections 3.2.2 and 3.3.2)
-abbrev pub untyped : Role → List (List ℕ × List ℕ) → List (Rose ItemLabel) → Option SchemaWhy
+abbrev pub untyped : ElementRole → List (List ℕ × List ℕ) → List (Rose ItemLabel) → Option SchemaWhy
 untyped role own kids = first_true
     ((is_element role && is_untyped role own kids, why.AnyType) ∷ (is_attribute role && is_untyped role own kids, why.AnySimpleType) ∷ [])
 
@@ -123,12 +123,12 @@ abbrev pub occurs : ItemLabel → Bool
 occurs (Element name attributes declares at) = is_in Particles (Element name attributes declares at) && not (never_occurs (own_attributes attributes))
 occurs (Text text at) = false
 
-abbrev pub is_empty_choice : Role → List (List ℕ × List ℕ) → List (Rose ItemLabel) → Bool
+abbrev pub is_empty_choice : ElementRole → List (List ℕ × List ℕ) → List (Rose ItemLabel) → Bool
 is_empty_choice role own kids = is_choice role && not (never_occurs own) && not (list_any (λ kid. occurs (label_of kid)) kids)
 
 -- ---- all of them
 
-abbrev pub early_tests : Role → List (List ℕ × List ℕ) → ℕ → List (List ℕ × List ℕ) → List (Rose ItemLabel) → List (Bool × SchemaWhy)
+abbrev pub early_tests : ElementRole → List (List ℕ × List ℕ) → ℕ → List (List ℕ × List ℕ) → List (Rose ItemLabel) → List (Bool × SchemaWhy)
 early_tests role scope level own kids =
     (has_unknown role own, why.UnknownAttribute)
     ∷ (lacks_required role own kids, why.MissingAttribute)
@@ -136,10 +136,10 @@ early_tests role scope level own kids =
     ∷ (is_over_limit role level own kids, why.Limit)
     ∷ left_out_attributes role own
 
-abbrev pub late_tests : Role → List (List ℕ × List ℕ) → List (Rose ItemLabel) → List (Bool × SchemaWhy)
+abbrev pub late_tests : ElementRole → List (List ℕ × List ℕ) → List (Rose ItemLabel) → List (Bool × SchemaWhy)
 late_tests role own kids = (has_both_forms role own kids, why.BothForms) ∷ (is_empty_choice role own kids, why.EmptyChoice) ∷ []
 
-unfoldable pub reason_against : Role → List (List ℕ × List ℕ) → ℕ → List (List ℕ × List ℕ) → List (Rose ItemLabel) → Option SchemaWhy
+unfoldable pub reason_against : ElementRole → List (List ℕ × List ℕ) → ℕ → List (List ℕ × List ℕ) → List (Rose ItemLabel) → Option SchemaWhy
 reason_against role scope level own kids =
     option_or (option_or (option_or (first_true (early_tests role scope level own kids)) (left_out_reference scope own)) (untyped role own kids))
     (first_true (late_tests role own kids))

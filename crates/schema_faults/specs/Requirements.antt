@@ -7,11 +7,11 @@ use Rattle.schema_rules.specs.Elements.{beside}
 use Rattle.schema_rules.specs.Attributes.{has}
 use Rattle.schema_rules.specs.Children.{has_child}
 use Rattle.schema_rules.specs.declared.children.ChildSet.TheVariants.{Types, SimpleTypes, Varieties, Derivations}
-use Rattle.schema_rules.specs.declared.roles.Role.{Role}
-use Rattle.schema_rules.specs.declared.roles.Role.TheVariants.{Schema, Composition, GlobalElement, LocalElement, GlobalAttribute, LocalAttribute, GlobalSimpleType, InnerSimpleType, Restriction, List as ListRole, Union, Facet, GlobalComplexType, InnerComplexType, SimpleContent, Extension, Sequence, Choice}
+use Rattle.schema_rules.specs.declared.roles.ElementRole.{ElementRole}
+use Rattle.schema_rules.specs.declared.roles.ElementRole.TheVariants.{Schema, Composition, GlobalElement, LocalElement, GlobalAttribute, LocalAttribute, GlobalSimpleType, InnerSimpleType, Restriction, List as ListRole, Union, Facet, GlobalComplexType, InnerComplexType, SimpleContent, Extension, Sequence, Choice}
 
 -- a type in place, where one by its name may stand instead
-abbrev pub has_inner_type : Role → List (Rose ItemLabel) → Bool
+abbrev pub has_inner_type : ElementRole → List (Rose ItemLabel) → Bool
 has_inner_type GlobalElement kids = has_child Types kids
 has_inner_type LocalElement kids = has_child Types kids
 has_inner_type GlobalAttribute kids = has_child SimpleTypes kids
@@ -23,7 +23,7 @@ has_inner_type role kids = false
 abbrev pub names_members : List (List ℕ × List ℕ) → Bool
 names_members own = elim (beside (codes "memberTypes") own) [ None ↦ false | Some value ↦ not (is_empty value) ]
 
-abbrev pub lacks_required : Role → List (List ℕ × List ℕ) → List (Rose ItemLabel) → Bool
+abbrev pub lacks_required : ElementRole → List (List ℕ × List ℕ) → List (Rose ItemLabel) → Bool
 lacks_required GlobalElement own kids = not (has (codes "name") own)
 lacks_required LocalElement own kids = not (has (codes "name") own) && not (has (codes "ref") own)
 lacks_required GlobalAttribute own kids = not (has (codes "name") own)
@@ -50,10 +50,10 @@ names_type own = has (codes "type") own || has (codes "base") own || has (codes 
 abbrev pub declares : List (List ℕ × List ℕ) → Bool
 declares own = has (codes "name") own || has (codes "type") own || has (codes "nillable") own || has (codes "form") own
 
-abbrev pub has_both_forms : Role → List (List ℕ × List ℕ) → List (Rose ItemLabel) → Bool
+abbrev pub has_both_forms : ElementRole → List (List ℕ × List ℕ) → List (Rose ItemLabel) → Bool
 has_both_forms role own kids =
     (has (codes "ref") own && (declares own || has_inner_type role kids)) || (names_type own && has_inner_type role kids)
 
 -- no type, by its name, in place or by a reference
-abbrev pub is_untyped : Role → List (List ℕ × List ℕ) → List (Rose ItemLabel) → Bool
+abbrev pub is_untyped : ElementRole → List (List ℕ × List ℕ) → List (Rose ItemLabel) → Bool
 is_untyped role own kids = not (has (codes "ref") own) && not (has (codes "type") own) && not (has_inner_type role kids)

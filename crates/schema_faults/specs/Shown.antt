@@ -2,21 +2,21 @@
 use Rattle.std.specs.Prelude.{◌≡◌, ◌⊎◌, ℕ, ◌≤◌, List, [], ◌∷◌, Some, None}
 use Rattle.label_tree.specs.Rose.{Rose}
 use Rattle.doc_text.specs.declared.label.ItemLabel.{ItemLabel}
-use Rattle.schema_faults.specs.Faults.{Seen, reasons}
+use Rattle.schema_faults.specs.Faults.{LookedAt, reasons}
 use Rattle.schema_rules.specs.declared.why.SchemaWhy.{SchemaWhy}
 
 -- the reason is the first against the node at this place
-abbrev pub Stands : ℕ → SchemaWhy → List Seen → Type 0
+abbrev pub Stands : ℕ → SchemaWhy → List LookedAt → Type 0
 Stands at why [] = ⊥
 Stands at why (s ∷ seen) = ((s.0 ≡ at) × (s.1 ≡ Some why)) ⊎ Stands at why seen
 
 -- no reason stands at a lesser place
-abbrev pub NoneBelow : ℕ → List Seen → Type 0
+abbrev pub NoneBelow : ℕ → List LookedAt → Type 0
 NoneBelow at [] = Unit {0}
 NoneBelow at (s ∷ seen) = ((why : SchemaWhy) → s.1 ≡ Some why → at ≤ s.0) × NoneBelow at seen
 
 -- no reason stands anywhere
-abbrev pub NoneAtAll : List Seen → Type 0
+abbrev pub NoneAtAll : List LookedAt → Type 0
 NoneAtAll [] = Unit {0}
 NoneAtAll (s ∷ seen) = (s.1 ≡ None) × NoneAtAll seen
 

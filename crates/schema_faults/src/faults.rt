@@ -9,31 +9,36 @@ use crate::reasons::{reason_against, reason_against_text};
 use doc_text::{ItemLabel, Items};
 use label_tree::Tree;
 use schema_rules::{
-    Placement, Position, Role, SchemaWhy, Scope, is_schema_name, own_attributes, placement_in,
+    ElementRole, NamespaceScope, Placement, Position, SchemaWhy, is_schema_name, own_attributes,
+    placement_in,
 };
 use std::alloc::Global;
 use xa_base::{Memory, Name, Text};
 
 /// The first reason against an element or a text, with its place in bytes from 0.
 #[derive(Clone, Copy, Debug, PartialEq, Eq)]
-pub struct Fault {
+pub struct DocumentFault {
     /// The byte of the `<` of the element's start tag, or the first byte of the text.
     pub at: u64,
     /// The first reason there, in the order of `SchemaWhy`.
     pub why: SchemaWhy,
 }
 
-fn fault_if(at: u64, found: Option<SchemaWhy>) -> Option<Fault>
+fn fault_if(at: u64, found: Option<SchemaWhy>) -> Option<DocumentFault>
     ensures { result ≡ faults.fault_if at found }
 {
     match found {
-        Some(why) => Some(Fault { at, why }),
+        Some(why) => Some(DocumentFault { at, why }),
         None => None,
     }
 }
 
 // The position of the nearest element before, behind this node.
-fn position_behind(parent: Role, before: Option<Position>, label: &ItemLabel) -> Option<Position>
+fn position_behind(
+    parent: ElementRole,
+    before: Option<Position>,
+    label: &ItemLabel,
+) -> Option<Position>
     ensures { result ≡ faults.position_behind parent before label.now }
 {
     match label {
@@ -45,17 +50,17 @@ fn position_behind(parent: Role, before: Option<Position>, label: &ItemLabel) ->
     }
 }
 
-fn is_composition(role: Role) -> bool
+fn is_composition(role: ElementRole) -> bool
     ensures { result ≡ faults.is_composition role }
 {
-    matches!(role, Role::Composition)
+    matches!(role, ElementRole::Composition)
 }
 
 // The reason against an element that has this role, by itself.
 fn own_reason(
     alloc: Global,
-    role: Role,
-    scope: &Scope<'_, '_>,
+    role: ElementRole,
+    scope: &NamespaceScope<'_, '_>,
     level: u32,
     attributes: &[(Name, Text)],
     kids: &[Tree<ItemLabel>],
@@ -71,10 +76,10 @@ fn own_reason(
 fn fault_of<'a, 'b>(
     alloc: Global,
     tree: &'a Tree<ItemLabel>,
-    role: Role,
-    scope: &'b Scope<'a, 'b>,
+    role: ElementRole,
+    scope: &'b NamespaceScope<'a, 'b>,
     level: u32,
-) -> Result<Option<Fault>, Memory>
+) -> Result<Option<DocumentFault>, Memory>
     ensures { IfOk result (λ found. found ≡ faults.first_fault (faults.reasons_of role (bindings_in scope.now) level tree.now)) }
 {
     let ItemLabel::Element {
@@ -86,7 +91,7 @@ fn fault_of<'a, 'b>(
     else {
         return Ok(None);
     };
-    let inside = Scope::inside(alloc, declares, scope)?;
+    let inside = NamespaceScope::inside(alloc, declares, scope)?;
     let found = own_reason(alloc, role, &inside, level, attributes.items(), tree.kids())?;
     if found.is_some() {
         return Ok(fault_if(*at, found));
@@ -102,11 +107,11 @@ fn fault_of<'a, 'b>(
 fn fault_at<'a, 'b>(
     alloc: Global,
     tree: &'a Tree<ItemLabel>,
-    parent: Role,
+    parent: ElementRole,
     before: Option<Position>,
-    scope: &'b Scope<'a, 'b>,
+    scope: &'b NamespaceScope<'a, 'b>,
     level: u32,
-) -> Result<Option<Fault>, Memory>
+) -> Result<Option<DocumentFault>, Memory>
     ensures { IfOk result (λ found. found ≡ faults.first_fault (faults.reasons_at parent before (bindings_in scope.now) level tree.now)) }
 {
     match tree.label() {
@@ -124,10 +129,10 @@ fn fault_at<'a, 'b>(
 fn fault_among<'a, 'b>(
     alloc: Global,
     kids: &'a [Tree<ItemLabel>],
-    parent: Role,
-    scope: &'b Scope<'a, 'b>,
+    parent: ElementRole,
+    scope: &'b NamespaceScope<'a, 'b>,
     level: u32,
-) -> Result<Option<Fault>, Memory>
+) -> Result<Option<DocumentFault>, Memory>
     ensures { IfOk result (λ found. found ≡ faults.first_fault (faults.reasons_among parent None (bindings_in scope.now) level (roses_of kids.now))) }
 {
     let mut before = None;
@@ -165,13 +170,13 @@ fn place_of(label: &ItemLabel) -> u64
 ///
 /// The time grows with the size of the document, and for each element and each reference with the logarithm of the
 /// number of bindings of the elements that are open.
-pub fn first_fault(alloc: Global, items: &Items) -> Result<Option<Fault>, Memory>
+pub fn first_fault(alloc: Global, items: &Items) -> Result<Option<DocumentFault>, Memory>
     ensures { IfOk result (λ found. found ≡ faults.first_fault (faults.reasons items.now)) }
 {
     let root = items.tree().root();
     if !is_schema(root.label()) {
         return Ok(fault_if(place_of(root.label()), Some(SchemaWhy::NotASchema)));
     }
-    let outside = Scope::Document;
-    fault_of(alloc, root, Role::Schema, &outside, 0)
+    let outside = NamespaceScope::Document;
+    fault_of(alloc, root, ElementRole::Schema, &outside, 0)
 }

@@ -4,7 +4,7 @@ ghost use Rattle.schema_faults.specs.Limits as limit;
 
 use doc_text::ItemLabel;
 use label_tree::Tree;
-use schema_rules::{ChildSet, Role, child_count, is_large, value_of};
+use schema_rules::{ChildSet, ElementRole, child_count, is_large, value_of};
 use xa_base::Text;
 
 /// How many levels of groups one content model may have.
@@ -27,23 +27,28 @@ fn has_large(name: &str, own: &[(Text, Text)]) -> bool
 }
 
 // Whether there are too many levels or children. So many groups of the same content model stand round it.
-fn is_too_large(role: Role, level: u32, kids: &[Tree<ItemLabel>]) -> bool
+fn is_too_large(role: ElementRole, level: u32, kids: &[Tree<ItemLabel>]) -> bool
     ensures { result ≡ limit.is_too_large role level kids.now }
 {
     match role {
-        Role::Sequence | Role::Choice => {
+        ElementRole::Sequence | ElementRole::Choice => {
             MOST_LEVELS <= level || MOST_PARTICLES < child_count(ChildSet::TakenParticles, kids)
         }
-        Role::GlobalComplexType | Role::InnerComplexType | Role::Extension => {
+        ElementRole::GlobalComplexType | ElementRole::InnerComplexType | ElementRole::Extension => {
             MOST_ATTRIBUTES < child_count(ChildSet::Attributes, kids)
         }
-        Role::Restriction => MOST_ENUMERATIONS < child_count(ChildSet::Enumerations, kids),
+        ElementRole::Restriction => MOST_ENUMERATIONS < child_count(ChildSet::Enumerations, kids),
         _ => false,
     }
 }
 
 /// Whether it is more than this program takes. So many groups of the same content model stand round it.
-pub fn is_over_limit(role: Role, level: u32, own: &[(Text, Text)], kids: &[Tree<ItemLabel>]) -> bool
+pub fn is_over_limit(
+    role: ElementRole,
+    level: u32,
+    own: &[(Text, Text)],
+    kids: &[Tree<ItemLabel>],
+) -> bool
     ensures { result ≡ limit.is_over_limit role level own.now kids.now }
 {
     has_large("minOccurs", own) || has_large("maxOccurs", own) || is_too_large(role, level, kids)
@@ -51,12 +56,12 @@ pub fn is_over_limit(role: Role, level: u32, own: &[(Text, Text)], kids: &[Tree<
 
 /// How many groups of the same content model stand round the children of an element, where so many stand round it. 17
 /// stands for that number and every greater one.
-pub fn level_inside(role: Role, level: u32) -> u32
+pub fn level_inside(role: ElementRole, level: u32) -> u32
     ensures { result ≡ limit.level_inside role level }
 {
     match role {
-        Role::Sequence | Role::Choice => { if level < 17 { level + 1 } else { 17 } }
-        Role::GlobalComplexType | Role::InnerComplexType => 0,
+        ElementRole::Sequence | ElementRole::Choice => { if level < 17 { level + 1 } else { 17 } }
+        ElementRole::GlobalComplexType | ElementRole::InnerComplexType => 0,
         _ => level,
     }
 }

@@ -11,8 +11,8 @@ use crate::requirements::{has_both_forms, is_untyped, lacks_required};
 use doc_text::ItemLabel;
 use label_tree::Tree;
 use schema_rules::{
-    ChildSet, Role, SchemaWhy, Scope, TypeName, has_attribute, has_bad_value, has_unknown, is_in,
-    never_occurs, own_attributes, truth_of, type_of, value_of,
+    ChildSet, ElementRole, NamespaceScope, SchemaWhy, TypeName, has_attribute, has_bad_value,
+    has_unknown, is_in, never_occurs, own_attributes, truth_of, type_of, value_of,
 };
 use std::alloc::Global;
 use xa_base::{Memory, Text, first_word, is_blank};
@@ -33,22 +33,25 @@ fn has_default(own: &[(Text, Text)]) -> bool
     has_attribute("default", own) || has_attribute("fixed", own)
 }
 
-fn is_element(role: Role) -> bool
+fn is_element(role: ElementRole) -> bool
     ensures { result ≡ reason.is_element role }
 {
-    matches!(role, Role::GlobalElement | Role::LocalElement)
+    matches!(role, ElementRole::GlobalElement | ElementRole::LocalElement)
 }
 
-fn is_attribute(role: Role) -> bool
+fn is_attribute(role: ElementRole) -> bool
     ensures { result ≡ reason.is_attribute role }
 {
-    matches!(role, Role::GlobalAttribute | Role::LocalAttribute)
+    matches!(
+        role,
+        ElementRole::GlobalAttribute | ElementRole::LocalAttribute
+    )
 }
 
 // The first reason before those that speak of datatypes.
 fn early_reason(
-    role: Role,
-    scope: &Scope<'_, '_>,
+    role: ElementRole,
+    scope: &NamespaceScope<'_, '_>,
     level: u32,
     own: &[(Text, Text)],
     kids: &[Tree<ItemLabel>],
@@ -68,7 +71,7 @@ fn early_reason(
     }
 }
 
-fn left_out_attribute(role: Role, own: &[(Text, Text)]) -> Option<SchemaWhy>
+fn left_out_attribute(role: ElementRole, own: &[(Text, Text)]) -> Option<SchemaWhy>
     ensures { result ≡ reason.first_true (reason.left_out_attributes role own.now) }
 {
     if has_attribute("substitutionGroup", own) {
@@ -128,7 +131,7 @@ fn earlier(a: Option<SchemaWhy>, b: Option<SchemaWhy>) -> Option<SchemaWhy>
 }
 
 // Why the datatype of this name is left out, if it is one that is.
-fn left_out_type(scope: &Scope<'_, '_>, text: &str) -> Option<SchemaWhy>
+fn left_out_type(scope: &NamespaceScope<'_, '_>, text: &str) -> Option<SchemaWhy>
     ensures { result ≡ reason.left_out_type (bindings_in scope.now) text.now }
 {
     match type_of(scope, text) {
@@ -138,7 +141,7 @@ fn left_out_type(scope: &Scope<'_, '_>, text: &str) -> Option<SchemaWhy>
 }
 
 // The first reason among those of several names.
-fn left_out_types(scope: &Scope<'_, '_>, text: &str) -> Option<SchemaWhy>
+fn left_out_types(scope: &NamespaceScope<'_, '_>, text: &str) -> Option<SchemaWhy>
     ensures { result ≡ reason.earliest None (bindings_in scope.now) (words_of text.now) }
 {
     let mut found = None;
@@ -150,7 +153,11 @@ fn left_out_types(scope: &Scope<'_, '_>, text: &str) -> Option<SchemaWhy>
     found
 }
 
-fn left_out_value(name: &str, scope: &Scope<'_, '_>, own: &[(Text, Text)]) -> Option<SchemaWhy>
+fn left_out_value(
+    name: &str,
+    scope: &NamespaceScope<'_, '_>,
+    own: &[(Text, Text)],
+) -> Option<SchemaWhy>
     ensures { result ≡ reason.left_out_value name.now (bindings_in scope.now) own.now }
 {
     match value_of(name, own) {
@@ -161,7 +168,7 @@ fn left_out_value(name: &str, scope: &Scope<'_, '_>, own: &[(Text, Text)]) -> Op
 
 // The first of the left-out datatypes that it refers to.
 #[tactic(auto, unfolding(crate::specs::Reasons::left_out_reference))]
-fn left_out_reference(scope: &Scope<'_, '_>, own: &[(Text, Text)]) -> Option<SchemaWhy>
+fn left_out_reference(scope: &NamespaceScope<'_, '_>, own: &[(Text, Text)]) -> Option<SchemaWhy>
     ensures { result ≡ reason.left_out_reference (bindings_in scope.now) own.now }
 {
     left_out_value("type", scope, own)
@@ -171,7 +178,7 @@ fn left_out_reference(scope: &Scope<'_, '_>, own: &[(Text, Text)]) -> Option<Sch
 }
 
 // The left-out datatype of a declaration without a type.
-fn untyped(role: Role, own: &[(Text, Text)], kids: &[Tree<ItemLabel>]) -> Option<SchemaWhy>
+fn untyped(role: ElementRole, own: &[(Text, Text)], kids: &[Tree<ItemLabel>]) -> Option<SchemaWhy>
     ensures { result ≡ reason.untyped role own.now kids.now }
 {
     if !is_untyped(role, own, kids) {
@@ -212,16 +219,16 @@ fn one_occurs(alloc: Global, kids: &[Tree<ItemLabel>]) -> Result<bool, Memory>
     Ok(false)
 }
 
-fn is_choice(role: Role) -> bool
+fn is_choice(role: ElementRole) -> bool
     ensures { result ≡ reason.is_choice role }
 {
-    matches!(role, Role::Choice)
+    matches!(role, ElementRole::Choice)
 }
 
 // Whether a choice has to be made and there is none.
 fn is_empty_choice(
     alloc: Global,
-    role: Role,
+    role: ElementRole,
     own: &[(Text, Text)],
     kids: &[Tree<ItemLabel>],
 ) -> Result<bool, Memory>
@@ -239,8 +246,8 @@ fn is_empty_choice(
 #[tactic(auto, unfolding(crate::specs::Reasons::reason_against))]
 pub fn reason_against(
     alloc: Global,
-    role: Role,
-    scope: &Scope<'_, '_>,
+    role: ElementRole,
+    scope: &NamespaceScope<'_, '_>,
     level: u32,
     own: &[(Text, Text)],
     kids: &[Tree<ItemLabel>],

@@ -4,18 +4,19 @@ ghost use Rattle.schema_faults.specs.Requirements as rule;
 
 use doc_text::ItemLabel;
 use label_tree::Tree;
-use schema_rules::{ChildSet, Role, has_attribute, has_child, value_of};
+use schema_rules::{ChildSet, ElementRole, has_attribute, has_child, value_of};
 use xa_base::Text;
 
 // Whether a type stands in an element of this role that takes the place of one by its name.
-fn has_inner_type(role: Role, kids: &[Tree<ItemLabel>]) -> bool
+fn has_inner_type(role: ElementRole, kids: &[Tree<ItemLabel>]) -> bool
     ensures { result ≡ rule.has_inner_type role kids.now }
 {
     match role {
-        Role::GlobalElement | Role::LocalElement => has_child(ChildSet::Types, kids),
-        Role::GlobalAttribute | Role::LocalAttribute | Role::Restriction | Role::List => {
-            has_child(ChildSet::SimpleTypes, kids)
-        }
+        ElementRole::GlobalElement | ElementRole::LocalElement => has_child(ChildSet::Types, kids),
+        ElementRole::GlobalAttribute
+        | ElementRole::LocalAttribute
+        | ElementRole::Restriction
+        | ElementRole::List => { has_child(ChildSet::SimpleTypes, kids) }
         _ => false,
     }
 }
@@ -31,26 +32,29 @@ fn names_members(own: &[(Text, Text)]) -> bool
 }
 
 /// Whether an attribute, both of two, or a child is missing.
-pub fn lacks_required(role: Role, own: &[(Text, Text)], kids: &[Tree<ItemLabel>]) -> bool
+pub fn lacks_required(role: ElementRole, own: &[(Text, Text)], kids: &[Tree<ItemLabel>]) -> bool
     ensures { result ≡ rule.lacks_required role own.now kids.now }
 {
     match role {
-        Role::GlobalElement | Role::GlobalAttribute | Role::GlobalComplexType => !has_attribute(
-            "name", own,
-        ),
-        Role::LocalElement | Role::LocalAttribute => !has_attribute("name", own)
+        ElementRole::GlobalElement
+        | ElementRole::GlobalAttribute
+        | ElementRole::GlobalComplexType => !has_attribute("name", own),
+        ElementRole::LocalElement | ElementRole::LocalAttribute => !has_attribute("name", own)
             && !has_attribute("ref", own),
-        Role::GlobalSimpleType => !has_attribute("name", own)
+        ElementRole::GlobalSimpleType => !has_attribute("name", own)
             || !has_child(ChildSet::Varieties, kids),
-        Role::InnerSimpleType => !has_child(ChildSet::Varieties, kids),
-        Role::Restriction => !has_attribute("base", own) && !has_inner_type(role, kids),
-        Role::List => !has_attribute("itemType", own) && !has_inner_type(role, kids),
-        Role::Union => !names_members(own) && !has_child(ChildSet::SimpleTypes, kids),
-        Role::Facet => !has_attribute("value", own),
-        Role::SimpleContent => !has_child(ChildSet::Derivations, kids),
-        Role::Extension => !has_attribute("base", own),
-        Role::Schema | Role::Composition | Role::InnerComplexType | Role::Sequence | Role::Choice =>
-            { false }
+        ElementRole::InnerSimpleType => !has_child(ChildSet::Varieties, kids),
+        ElementRole::Restriction => !has_attribute("base", own) && !has_inner_type(role, kids),
+        ElementRole::List => !has_attribute("itemType", own) && !has_inner_type(role, kids),
+        ElementRole::Union => !names_members(own) && !has_child(ChildSet::SimpleTypes, kids),
+        ElementRole::Facet => !has_attribute("value", own),
+        ElementRole::SimpleContent => !has_child(ChildSet::Derivations, kids),
+        ElementRole::Extension => !has_attribute("base", own),
+        ElementRole::Schema
+        | ElementRole::Composition
+        | ElementRole::InnerComplexType
+        | ElementRole::Sequence
+        | ElementRole::Choice => { false }
     }
 }
 
@@ -72,7 +76,7 @@ fn declares(own: &[(Text, Text)]) -> bool
 }
 
 /// Whether it has two forms that exclude each other.
-pub fn has_both_forms(role: Role, own: &[(Text, Text)], kids: &[Tree<ItemLabel>]) -> bool
+pub fn has_both_forms(role: ElementRole, own: &[(Text, Text)], kids: &[Tree<ItemLabel>]) -> bool
     ensures { result ≡ rule.has_both_forms role own.now kids.now }
 {
     let inner = has_inner_type(role, kids);
@@ -80,7 +84,7 @@ pub fn has_both_forms(role: Role, own: &[(Text, Text)], kids: &[Tree<ItemLabel>]
 }
 
 /// Whether it has no type, by its name, in place or by a reference.
-pub fn is_untyped(role: Role, own: &[(Text, Text)], kids: &[Tree<ItemLabel>]) -> bool
+pub fn is_untyped(role: ElementRole, own: &[(Text, Text)], kids: &[Tree<ItemLabel>]) -> bool
     ensures { result ≡ rule.is_untyped role own.now kids.now }
 {
     !has_attribute("ref", own) && !has_attribute("type", own) && !has_inner_type(role, kids)

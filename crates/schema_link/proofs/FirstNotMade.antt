@@ -5,7 +5,7 @@ use Rattle.std.specs.Result.{is_ok}
 use Rattle.std.proofs.lemmas.Bool.{true≢false}
 use Rattle.simple_types.specs.Space.{Space}
 use Rattle.schema_parts.specs.Raw.{Document}
-use Rattle.link_names.specs.declared.faults.Fault.{Fault}
+use Rattle.link_names.specs.declared.faults.LinkingFault.{LinkingFault}
 use Rattle.link_names.specs.declared.faults.LinkWhy.{LinkWhy}
 use Rattle.link_names.specs.Order.{fault, OneHas, IsFirstSuch}
 use Rattle.link_cycles.specs.Cycles.{numbers_in, IsCircular}
@@ -27,7 +27,7 @@ the_same d e p = cc
 
 module _ (ds : List SimpleDefinition) (made : List (Option Space)) (fits : IsMaking ds made) (only : (others : List (Option Space)) → IsMaking ds others → others ≡ made) where
   -- one type can't be made
-  abbrev IsHere : SimpleDefinition → Fault → Type 0
+  abbrev IsHere : SimpleDefinition → LinkingFault → Type 0
   IsHere d f = (f.place ≡ d.body) × IsLeft (numbers_in ds) made d.place.file d.how (Err f.why)
 
   here_if : (d : SimpleDefinition) (r : Result Space LinkWhy) → IsLeft (numbers_in ds) made d.place.file d.how r → SomeFirst (IsHere d)
@@ -43,23 +43,23 @@ module _ (ds : List SimpleDefinition) (made : List (Option Space)) (fits : IsMak
   ]
 
   -- by its number
-  abbrev IsAmong : List SimpleDefinition → Fault → Type 0
+  abbrev IsAmong : List SimpleDefinition → LinkingFault → Type 0
   IsAmong xs f = (n : ℕ) × (d : SimpleDefinition) × (slice_get xs n ≡ Some d) × IsHere d f
 
-  number_of : (xs : List SimpleDefinition) (f : Fault) → OneHas IsHere xs f → IsAmong xs f
+  number_of : (xs : List SimpleDefinition) (f : LinkingFault) → OneHas IsHere xs f → IsAmong xs f
   number_of [] f h = absurd h
   number_of (x ∷ xs) f (inl h) = (0, x, refl, h)
   number_of (x ∷ xs) f (inr h) = let rest = number_of xs f h in (suc rest.0, rest.1, rest.2, rest.3)
 
-  of_number : (xs : List SimpleDefinition) (f : Fault) (n : ℕ) (d : SimpleDefinition) → slice_get xs n ≡ Some d → IsHere d f → OneHas IsHere xs f
+  of_number : (xs : List SimpleDefinition) (f : LinkingFault) (n : ℕ) (d : SimpleDefinition) → slice_get xs n ≡ Some d → IsHere d f → OneHas IsHere xs f
   of_number [] f n d is h = absurd cc
   of_number (x ∷ xs) f zero d is h = inl (subst (λ y. IsHere y f) (sym (the_same x d is)) h)
   of_number (x ∷ xs) f (suc n) d is h = inr (of_number xs f n d is h)
 
-  to : (f : Fault) → OneHas IsHere ds f → IsNotMadeOf ds f
+  to : (f : LinkingFault) → OneHas IsHere ds f → IsNotMadeOf ds f
   to f h = let a = number_of ds f h in (made, fits, a.0, a.1, a.2, a.3.0, a.3.1)
 
-  from : (f : Fault) → IsNotMadeOf ds f → OneHas IsHere ds f
+  from : (f : LinkingFault) → IsNotMadeOf ds f → OneHas IsHere ds f
   from f q =
       of_number ds f q.2 q.3 q.4 (q.5, subst (λ m. IsLeft (numbers_in ds) m q.3.place.file q.3.how (Err f.why)) (only q.0 q.1) q.6)
 

@@ -1,8 +1,8 @@
 -- Passes show just one fault, or they are passed.
 use Rattle.std.proofs.Common.{◌≡◌, ◌⊎◌, inl, inr, List, [], ◌∷◌, Option, Some, None}
 use Rattle.schema_parts.specs.Raw.{Document}
-use Rattle.link_names.specs.declared.faults.Fault.{Fault}
-use Rattle.link_names.specs.Order.{Has, IsFirstSuch}
+use Rattle.link_names.specs.declared.faults.LinkingFault.{LinkingFault}
+use Rattle.link_names.specs.Order.{HasFault, IsFirstSuch}
 use Rattle.link_names.specs.Limits.{beyond_limit}
 use Rattle.link_names.specs.Globals.{duplicates}
 use Rattle.link_names.specs.Resolution.{unresolved}
@@ -16,20 +16,20 @@ use Rattle.schema_link.proofs.FirstCircular.{some_circular}
 use Rattle.schema_link.proofs.FirstDiffering.{some_differing, some_unclear}
 use Rattle.schema_link.proofs.FirstNotMade.{some_not_made}
 
-the_same : (f g : Fault) → Some f ≡ Some g → f ≡ g
+the_same : (f g : LinkingFault) → Some f ≡ Some g → f ≡ g
 the_same f g e = cc
 
-some≢none : (f : Fault) → Some f ≡ None → ⊥
+some≢none : (f : LinkingFault) → Some f ≡ None → ⊥
 some≢none f e = cc
 
-pub one_shown : (docs : List Document) (ps : List Pass) (f g : Fault) → IsShownBy docs ps f → IsShownBy docs ps g → f ≡ g
+pub one_shown : (docs : List Document) (ps : List Pass) (f g : LinkingFault) → IsShownBy docs ps f → IsShownBy docs ps g → f ≡ g
 one_shown docs [] f g a b = absurd a
 one_shown docs (p ∷ ps) f g (inl a) (inl b) = the_same f g (one_first (IsFault docs p) (Some f) (Some g) a b)
 one_shown docs (p ∷ ps) f g (inl a) (inr b) = absurd (some≢none f (one_first (IsFault docs p) (Some f) None a b.0))
 one_shown docs (p ∷ ps) f g (inr a) (inl b) = absurd (some≢none g (one_first (IsFault docs p) (Some g) None b a.0))
 one_shown docs (p ∷ ps) f g (inr a) (inr b) = one_shown docs ps f g a.1 b.1
 
-pub none_shown : (docs : List Document) (ps : List Pass) (f : Fault) → ArePassed docs ps → IsShownBy docs ps f → ⊥
+pub none_shown : (docs : List Document) (ps : List Pass) (f : LinkingFault) → ArePassed docs ps → IsShownBy docs ps f → ⊥
 none_shown docs [] f all h = h
 none_shown docs (p ∷ ps) f all (inl h) = some≢none f (one_first (IsFault docs p) (Some f) None h all.0)
 none_shown docs (p ∷ ps) f all (inr h) = none_shown docs ps f all.1 h.1
@@ -37,9 +37,9 @@ none_shown docs (p ∷ ps) f all (inr h) = none_shown docs ps f all.1 h.1
 -- the first of the passes that has a fault shows its first
 
 abbrev Answer : List Document → List Pass → Type 0
-Answer docs ps = ArePassed docs ps ⊎ ((f : Fault) × IsShownBy docs ps f)
+Answer docs ps = ArePassed docs ps ⊎ ((f : LinkingFault) × IsShownBy docs ps f)
 
-pass : (docs : List Document) (p : Pass) (ps : List Pass) → (o : Option Fault) → IsFirstSuch (IsFault docs p) o → (IsFirstSuch (IsFault docs p) None → Answer docs ps)
+pass : (docs : List Document) (p : Pass) (ps : List Pass) → (o : Option LinkingFault) → IsFirstSuch (IsFault docs p) o → (IsFirstSuch (IsFault docs p) None → Answer docs ps)
     → Answer docs (p ∷ ps)
 pass docs p ps (Some f) h behind = inr (f, inl h)
 pass docs p ps None h behind = elim (behind h) [ inl all ↦ inl (h, all) | inr s ↦ inr (s.0, inr (h, s.1)) ]
@@ -50,7 +50,7 @@ go_on docs p ps first behind = pass docs p ps first.0 first.1 behind
 content : (docs : List Document) → Answer docs (Comparing ∷ Clearing ∷ [])
 content docs =
     go_on docs Comparing (Clearing ∷ [])
-    (some_of_both (Has (double_uses docs)) (Differs docs) (IsFault docs Comparing) (λ f h. h) (λ f h. inl h) (λ f h. inr h) (some_of_list (double_uses docs)) (some_differing docs))
+    (some_of_both (HasFault (double_uses docs)) (Differs docs) (IsFault docs Comparing) (λ f h. h) (λ f h. inl h) (λ f h. inr h) (some_of_list (double_uses docs)) (some_differing docs))
     (λ _. go_on docs Clearing [] (some_unclear docs) (λ _. inl tt))
 
 pub some_answer : (docs : List Document) → Answer docs passes

@@ -7,13 +7,13 @@ use Rattle.simple_types.specs.declared.simples.Simple.{Simple}
 use Rattle.simple_types.specs.Seen.{space_of}
 use Rattle.schema_parts.specs.Raw.{Document}
 use Rattle.schema_parts.specs.Components.{Set}
-use Rattle.link_names.specs.declared.faults.Fault.{Fault}
+use Rattle.link_names.specs.declared.faults.LinkingFault.{LinkingFault}
 use Rattle.link_cycles.specs.SimpleTypes.{simple_types}
 use Rattle.link_simple.specs.Answering.{made_of}
 use Rattle.link_simple.specs.Making.{IsMaking}
 use Rattle.link_set.specs.Sets.{parts_of, set_of}
 use Rattle.schema_link.specs.declared.passes.LinkError.{LinkError}
-use Rattle.schema_link.specs.Answering.{shown, Answers, AnswersSimples}
+use Rattle.schema_link.specs.Answering.{shown, AnswersPasses, AnswersSimples}
 use Rattle.schema_link.specs.Passes.{Pass, Making, Comparing, Clearing, passes, passes_of_names, passes_of_content, IsShownBy}
 use Rattle.schema_link.specs.Sets.{AnswersSpaces, Links}
 use Rattle.schema_link.proofs.Passing.{goes_on, ends}
@@ -21,33 +21,33 @@ use Rattle.schema_link.proofs.Passing.{goes_on, ends}
 abbrev later : List Pass
 later = Making ∷ Comparing ∷ Clearing ∷ []
 
-each_some : (o : Option Fault) (P Q : Fault → Type 0) → ((f : Fault) → P f → Q f) → IfSome o P → IfSome o Q
+each_some : (o : Option LinkingFault) (P Q : LinkingFault → Type 0) → ((f : LinkingFault) → P f → Q f) → IfSome o P → IfSome o Q
 each_some None P Q all h = h
 each_some (Some f) P Q all h = all f h
 
-shown_longer : (docs : List Document) (ps qs : List Pass) (f : Fault) → IsShownBy docs ps f → IsShownBy docs (ps ++ qs) f
+shown_longer : (docs : List Document) (ps qs : List Pass) (f : LinkingFault) → IsShownBy docs ps f → IsShownBy docs (ps ++ qs) f
 shown_longer docs [] qs f s = absurd s
 shown_longer docs (p ∷ ps) qs f (inl first) = inl first
 shown_longer docs (p ∷ ps) qs f (inr behind) = inr (behind.0, shown_longer docs ps qs f behind.1)
 
 pub made_and_clear : (docs : List Document) (simples : Vec Simple Global) (u : Unit {0}) → AnswersSimples docs (Ok simples)
-    → Answers docs passes_of_content (Ok u) → AnswersSpaces docs later (Ok simples)
+    → AnswersPasses docs passes_of_content (Ok u) → AnswersSpaces docs later (Ok simples)
 made_and_clear docs simples u h k = ((h.2.0, k), h.0, h.1)
 
 pub made_not_clear : (docs : List Document) (simples : Vec Simple Global) (e : LinkError) → AnswersSimples docs (Ok simples)
-    → Answers docs passes_of_content (Err e) → AnswersSpaces docs later (Err e)
+    → AnswersPasses docs passes_of_content (Err e) → AnswersSpaces docs later (Err e)
 made_not_clear docs simples e h k = goes_on docs Making passes_of_content tt (Err e) h.2 k
 
 pub not_made : (docs : List Document) (e : LinkError) → AnswersSimples docs (Err e) → AnswersSpaces docs later (Err e)
 not_made docs e h = ends docs Making passes_of_content e h
 
-pub behind_names : (docs : List Document) (u : Unit {0}) (r : Result (Vec Simple Global) LinkError) → Answers docs passes_of_names (Ok u)
+pub behind_names : (docs : List Document) (u : Unit {0}) (r : Result (Vec Simple Global) LinkError) → AnswersPasses docs passes_of_names (Ok u)
     → AnswersSpaces docs later r → AnswersSpaces docs passes r
 behind_names docs u (Ok simples) n h = ((n.0, (n.1.0, (n.1.1.0, (n.1.1.1.0, h.0)))), h.1, h.2)
 behind_names docs u (Err e) n h =
     each_some (shown e) (IsShownBy docs later) (IsShownBy docs passes) (λ f s. inr (n.0, inr (n.1.0, inr (n.1.1.0, inr (n.1.1.1.0, s))))) h
 
-pub in_names : (docs : List Document) (e : LinkError) → Answers docs passes_of_names (Err e) → AnswersSpaces docs passes (Err e)
+pub in_names : (docs : List Document) (e : LinkError) → AnswersPasses docs passes_of_names (Err e) → AnswersSpaces docs passes (Err e)
 in_names docs e h = each_some (shown e) (IsShownBy docs passes_of_names) (IsShownBy docs passes) (shown_longer docs passes_of_names later) h
 
 twice : (simples : List Simple) → made_of simples ≡ map Some (map space_of simples)

@@ -4,7 +4,7 @@ use Rattle.std.specs.Option.{IfSome}
 use Rattle.std.specs.Global.{Global}
 use Rattle.simple_types.specs.declared.simples.Simple.{Simple}
 use Rattle.schema_parts.specs.Raw.{Document}
-use Rattle.link_names.specs.declared.faults.Fault.{Fault}
+use Rattle.link_names.specs.declared.faults.LinkingFault.{LinkingFault}
 use Rattle.link_names.specs.Order.{place, fault}
 use Rattle.link_cycles.specs.SimpleTypes.{simple_types}
 use Rattle.link_simple.specs.Answering.{made_of, AreSound}
@@ -14,17 +14,17 @@ use Rattle.schema_link.specs.declared.passes.LinkError.TheVariants as error
 use Rattle.schema_link.specs.Passes.{Pass, Making, IsShownBy, ArePassed}
 
 -- the fault that an error shows; none where memory was missing
-abbrev pub shown : LinkError → Option Fault
+abbrev pub shown : LinkError → Option LinkingFault
 shown (error.Shown file at why) = Some (fault why (place file at))
 shown error.Memory = None
 
 -- Ok where the passes have no fault, and else the one that they show; or for want of memory
-abbrev pub Answers : List Document → List Pass → Result (Unit {0}) LinkError → Type 0
-Answers docs ps (Ok u) = ArePassed docs ps
-Answers docs ps (Err e) = IfSome (shown e) (λ f. IsShownBy docs ps f)
+abbrev pub AnswersPasses : List Document → List Pass → Result (Unit {0}) LinkError → Type 0
+AnswersPasses docs ps (Ok u) = ArePassed docs ps
+AnswersPasses docs ps (Err e) = IfSome (shown e) (λ f. IsShownBy docs ps f)
 
 -- an error for what was found, and none for nothing
-abbrev pub AnswersFault : Option Fault → Result (Unit {0}) LinkError → Type 0
+abbrev pub AnswersFault : Option LinkingFault → Result (Unit {0}) LinkError → Type 0
 AnswersFault None result = result ≡ Ok tt
 AnswersFault (Some f) result = result ≡ Err (error.Shown f.place.file f.place.at f.why)
 

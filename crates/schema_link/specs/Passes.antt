@@ -2,8 +2,8 @@
 -- it, and of its faults the one at the least file and place, at one place with the first reason.
 use Rattle.std.specs.Prelude.{◌⊎◌, List, [], ◌∷◌, Some, None}
 use Rattle.schema_parts.specs.Raw.{Document}
-use Rattle.link_names.specs.declared.faults.Fault.{Fault}
-use Rattle.link_names.specs.Order.{Has, IsFirstSuch}
+use Rattle.link_names.specs.declared.faults.LinkingFault.{LinkingFault}
+use Rattle.link_names.specs.Order.{HasFault, IsFirstSuch}
 use Rattle.link_names.specs.Limits.{beyond_limit}
 use Rattle.link_names.specs.Globals.{duplicates}
 use Rattle.link_names.specs.Resolution.{unresolved}
@@ -16,17 +16,17 @@ use Rattle.link_complex.specs.Content.{IsUnclear}
 pub data Pass : Type 0 where
   Counting Naming Resolving Ordering Making Comparing Clearing : Pass
 
-abbrev pub IsFault : List Document → Pass → Fault → Type 0
-IsFault docs Counting f = Has (beyond_limit docs) f
-IsFault docs Naming f = Has (duplicates docs) f
-IsFault docs Resolving f = Has (unresolved docs) f
+abbrev pub IsFault : List Document → Pass → LinkingFault → Type 0
+IsFault docs Counting f = HasFault (beyond_limit docs) f
+IsFault docs Naming f = HasFault (duplicates docs) f
+IsFault docs Resolving f = HasFault (unresolved docs) f
 IsFault docs Ordering f = IsCircular docs f
 IsFault docs Making f = IsNotMade docs f
-IsFault docs Comparing f = Has (double_uses docs) f ⊎ Differs docs f
+IsFault docs Comparing f = HasFault (double_uses docs) f ⊎ Differs docs f
 IsFault docs Clearing f = IsUnclear docs f
 
 -- the first fault of the first of the passes that has one
-abbrev pub IsShownBy : List Document → List Pass → Fault → Type 0
+abbrev pub IsShownBy : List Document → List Pass → LinkingFault → Type 0
 IsShownBy docs [] f = ⊥
 IsShownBy docs (p ∷ ps) f =
     IsFirstSuch (IsFault docs p) (Some f) ⊎ (IsFirstSuch (IsFault docs p) None × IsShownBy docs ps f)

@@ -6,6 +6,6 @@ mod linking;
 mod passes;
 
 pub use laws::{one_answer, one_set};
+pub use link_names::LinkWhy;
 pub use linking::{are_numbered, link};
 pub use passes::{LinkError, check_content, check_names, make_simple_types};
-pub use link_names::LinkWhy;

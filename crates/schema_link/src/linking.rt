@@ -8,9 +8,9 @@ ghost use Rattle.schema_link.specs.Passes.{Making, Comparing, Clearing, passes};
 ghost use Rattle.schema_link.specs.Sets.{AreNumbered, AnswersSpaces, Links};
 
 use crate::passes::{LinkError, check_content, check_names, make_simple_types};
+use link_check::is_linked;
 use link_set::set_parts;
 use schema_parts::{RawDoc, SchemaSet};
-use link_check::is_linked;
 use simple_types::Simple;
 use std::alloc::Global;
 use xa_base::Memory;

@@ -2,19 +2,19 @@
 ghost use Rattle.std.specs.Prelude.{◌≡◌, ◌∷◌, [], Ok, Err, map, MatchOption, IfOk};
 ghost use Rattle.schema_parts.specs.Documents.{doc_of};
 ghost use Rattle.link_names.specs.Order.{IsFirstSuch};
-ghost use Rattle.schema_link.specs.Answering.{Answers, AnswersFault, AnswersSimples};
+ghost use Rattle.schema_link.specs.Answering.{AnswersPasses, AnswersFault, AnswersSimples};
 ghost use Rattle.schema_link.specs.Passes.{Counting, Naming, Resolving, Ordering, Comparing, Clearing, IsFault, passes_of_names, passes_of_content};
 
 use link_complex::{first_differing, first_double_use, first_unclear};
+use link_cycles::first_circular;
 use link_names::{
-    Fault, LinkWhy, first_beyond_limit, first_duplicate, first_of, first_unresolved,
+    LinkWhy, LinkingFault, first_beyond_limit, first_duplicate, first_of, first_unresolved,
 };
-use schema_parts::RawDoc;
 use link_simple::{MakingError, made};
+use schema_parts::RawDoc;
 use simple_types::Simple;
 use std::alloc::Global;
 use thiserror::Error;
-use link_cycles::first_circular;
 use xa_base::Memory;
 
 /// Why documents aren't linked.
@@ -35,7 +35,7 @@ impl From<Memory> for LinkError {
     }
 }
 
-fn unless(found: Option<Fault>) -> Result<(), LinkError>
+fn unless(found: Option<LinkingFault>) -> Result<(), LinkError>
     ensures { AnswersFault found result }
 {
     match found {
@@ -49,13 +49,13 @@ fn unless(found: Option<Fault>) -> Result<(), LinkError>
 }
 
 fn counted(docs: &[RawDoc]) -> Result<(), LinkError>
-    ensures { Answers (map doc_of docs.now) (Counting ∷ []) result }
+    ensures { AnswersPasses (map doc_of docs.now) (Counting ∷ []) result }
 {
     unless(first_beyond_limit(docs))
 }
 
 fn named(alloc: Global, docs: &[RawDoc]) -> Result<(), LinkError>
-    ensures { Answers (map doc_of docs.now) (Naming ∷ []) result }
+    ensures { AnswersPasses (map doc_of docs.now) (Naming ∷ []) result }
 {
     match first_duplicate(alloc, docs) {
         Ok(found) => unless(found),
@@ -64,7 +64,7 @@ fn named(alloc: Global, docs: &[RawDoc]) -> Result<(), LinkError>
 }
 
 fn resolved(alloc: Global, docs: &[RawDoc]) -> Result<(), LinkError>
-    ensures { Answers (map doc_of docs.now) (Resolving ∷ []) result }
+    ensures { AnswersPasses (map doc_of docs.now) (Resolving ∷ []) result }
 {
     match first_unresolved(alloc, docs) {
         Ok(found) => unless(found),
@@ -73,7 +73,7 @@ fn resolved(alloc: Global, docs: &[RawDoc]) -> Result<(), LinkError>
 }
 
 fn ordered(alloc: Global, docs: &[RawDoc]) -> Result<(), LinkError>
-    ensures { Answers (map doc_of docs.now) (Ordering ∷ []) result }
+    ensures { AnswersPasses (map doc_of docs.now) (Ordering ∷ []) result }
 {
     match first_circular(alloc, docs) {
         Ok(found) => unless(found),
@@ -81,7 +81,7 @@ fn ordered(alloc: Global, docs: &[RawDoc]) -> Result<(), LinkError>
     }
 }
 
-fn first_inconsistent(alloc: Global, docs: &[RawDoc]) -> Result<Option<Fault>, Memory>
+fn first_inconsistent(alloc: Global, docs: &[RawDoc]) -> Result<Option<LinkingFault>, Memory>
     ensures { IfOk result (λ found. IsFirstSuch (IsFault (map doc_of docs.now) Comparing) found) }
 {
     let double = first_double_use(alloc, docs)?;
@@ -90,7 +90,7 @@ fn first_inconsistent(alloc: Global, docs: &[RawDoc]) -> Result<Option<Fault>, M
 }
 
 fn compared(alloc: Global, docs: &[RawDoc]) -> Result<(), LinkError>
-    ensures { Answers (map doc_of docs.now) (Comparing ∷ []) result }
+    ensures { AnswersPasses (map doc_of docs.now) (Comparing ∷ []) result }
 {
     match first_inconsistent(alloc, docs) {
         Ok(found) => unless(found),
@@ -99,7 +99,7 @@ fn compared(alloc: Global, docs: &[RawDoc]) -> Result<(), LinkError>
 }
 
 fn cleared(alloc: Global, docs: &[RawDoc]) -> Result<(), LinkError>
-    ensures { Answers (map doc_of docs.now) (Clearing ∷ []) result }
+    ensures { AnswersPasses (map doc_of docs.now) (Clearing ∷ []) result }
 {
     match first_unclear(alloc, docs) {
         Ok(found) => unless(found),
@@ -108,7 +108,7 @@ fn cleared(alloc: Global, docs: &[RawDoc]) -> Result<(), LinkError>
 }
 
 fn resolved_and_ordered(alloc: Global, docs: &[RawDoc]) -> Result<(), LinkError>
-    ensures { Answers (map doc_of docs.now) (Resolving ∷ Ordering ∷ []) result }
+    ensures { AnswersPasses (map doc_of docs.now) (Resolving ∷ Ordering ∷ []) result }
 {
     match resolved(alloc, docs) {
         Ok(()) => ordered(alloc, docs),
@@ -117,7 +117,7 @@ fn resolved_and_ordered(alloc: Global, docs: &[RawDoc]) -> Result<(), LinkError>
 }
 
 fn named_and_on(alloc: Global, docs: &[RawDoc]) -> Result<(), LinkError>
-    ensures { Answers (map doc_of docs.now) (Naming ∷ Resolving ∷ Ordering ∷ []) result }
+    ensures { AnswersPasses (map doc_of docs.now) (Naming ∷ Resolving ∷ Ordering ∷ []) result }
 {
     match named(alloc, docs) {
         Ok(()) => resolved_and_ordered(alloc, docs),
@@ -128,7 +128,7 @@ fn named_and_on(alloc: Global, docs: &[RawDoc]) -> Result<(), LinkError>
 /// The passes before any component is made: whether there are too many components, a name that stands twice, a
 /// reference that names nothing or a complex type where a simple one is needed, a simple type that is made of itself.
 pub fn check_names(alloc: Global, docs: &[RawDoc]) -> Result<(), LinkError>
-    ensures { Answers (map doc_of docs.now) passes_of_names result }
+    ensures { AnswersPasses (map doc_of docs.now) passes_of_names result }
 {
     match counted(docs) {
         Ok(()) => named_and_on(alloc, docs),
@@ -155,7 +155,7 @@ pub fn make_simple_types(alloc: Global, docs: &[RawDoc]) -> Result<Vec<Simple>, 
 /// The passes over complex types: whether two attributes of a type have one name or two element particles of one name
 /// have different types, and whether a content model can't be read without looking ahead.
 pub fn check_content(alloc: Global, docs: &[RawDoc]) -> Result<(), LinkError>
-    ensures { Answers (map doc_of docs.now) passes_of_content result }
+    ensures { AnswersPasses (map doc_of docs.now) passes_of_content result }
 {
     match compared(alloc, docs) {
         Ok(()) => cleared(alloc, docs),

@@ -18,7 +18,7 @@ use content_models::ParticleLabel;
 use doc_text::ItemLabel;
 use label_tree::Tree;
 use schema_parts::{RawComplex, RawElement, RawKind, RawLocal, RawRef};
-use schema_rules::{ChildSet, Scope, is_in, never_occurs, own_attributes, value_of};
+use schema_rules::{ChildSet, NamespaceScope, is_in, never_occurs, own_attributes, value_of};
 use std::alloc::Global;
 use xa_base::{Memory, Name, Text};
 
@@ -28,7 +28,7 @@ fn particle_at<'a, 'b>(
     alloc: Global,
     setting: Setting<'_>,
     tree: &'a Tree<ItemLabel>,
-    scope: &'b Scope<'a, 'b>,
+    scope: &'b NamespaceScope<'a, 'b>,
     locals: &mut Vec<RawLocal>,
 ) -> Result<Option<Tree<ParticleLabel>>, Memory>
     ensures { IfOk result (λ found. Makes locals.old.items locals.new.items found (parts.particle_at (said setting.entry) (bindings_in scope.now) (length locals.old.items) tree.now)) }
@@ -49,7 +49,7 @@ fn particle_at<'a, 'b>(
     if never_occurs(&own) {
         return Ok(None);
     }
-    let inside = Scope::inside(alloc, declares, scope)?;
+    let inside = NamespaceScope::inside(alloc, declares, scope)?;
     let particle = particle_of(
         alloc,
         setting,
@@ -71,7 +71,7 @@ fn particle_of<'a, 'b>(
     at: u64,
     own: &[(Text, Text)],
     kids: &'a [Tree<ItemLabel>],
-    scope: &'b Scope<'a, 'b>,
+    scope: &'b NamespaceScope<'a, 'b>,
     locals: &mut Vec<RawLocal>,
 ) -> Result<Tree<ParticleLabel>, Memory>
     ensures { IfOk result (λ particle. Makes locals.old.items locals.new.items particle (parts.particle_by (said setting.entry) (length locals.old.items) name.now at (bindings_in scope.now) own.now
@@ -94,7 +94,7 @@ fn particles_among<'a, 'b>(
     alloc: Global,
     setting: Setting<'_>,
     kids: &'a [Tree<ItemLabel>],
-    scope: &'b Scope<'a, 'b>,
+    scope: &'b NamespaceScope<'a, 'b>,
     locals: &mut Vec<RawLocal>,
 ) -> Result<Vec<Tree<ParticleLabel>>, Memory>
     ensures { IfOk result (λ particles. Makes locals.old.items locals.new.items particles.items (parts.particles_among (said setting.entry) (bindings_in scope.now) (length locals.old.items) (roses_of kids.now))) }
@@ -119,7 +119,7 @@ fn next_number(locals: &[RawLocal]) -> Result<u32, Memory>
 // Adds a reference to a global element.
 fn refer(
     alloc: Global,
-    scope: &Scope<'_, '_>,
+    scope: &NamespaceScope<'_, '_>,
     text: &str,
     at: u64,
     locals: &mut Vec<RawLocal>,
@@ -139,7 +139,7 @@ fn declare<'a, 'b>(
     at: u64,
     own: &[(Text, Text)],
     kids: &'a [Tree<ItemLabel>],
-    scope: &'b Scope<'a, 'b>,
+    scope: &'b NamespaceScope<'a, 'b>,
     locals: &mut Vec<RawLocal>,
 ) -> Result<u32, Memory>
     ensures { IfOk result (λ decl. Makes locals.old.items locals.new.items decl (made (length locals.old.items) (parts.declared (said setting.entry) at (bindings_in scope.now) own.now
@@ -176,7 +176,7 @@ fn declare_own<'a, 'b>(
     at: u64,
     own: &[(Text, Text)],
     kids: &'a [Tree<ItemLabel>],
-    scope: &'b Scope<'a, 'b>,
+    scope: &'b NamespaceScope<'a, 'b>,
     locals: &mut Vec<RawLocal>,
 ) -> Result<(), Memory>
     ensures { OnOk result (map seen.local_of locals.new.items ≡ map seen.local_of locals.old.items ++ parts.declared_with (parts.element_by
@@ -200,7 +200,7 @@ pub(crate) fn element_of<'a, 'b>(
     at: u64,
     own: &[(Text, Text)],
     kids: &'a [Tree<ItemLabel>],
-    scope: &'b Scope<'a, 'b>,
+    scope: &'b NamespaceScope<'a, 'b>,
     locals: &mut Vec<RawLocal>,
 ) -> Result<RawElement, Memory>
     ensures { IfOk result (λ element. Makes locals.old.items locals.new.items (seen.element_of element) (parts.element_by name own.now at (parts.kind_by (bindings_in scope.now) own.now
@@ -224,7 +224,7 @@ fn group_among<'a, 'b>(
     alloc: Global,
     setting: Setting<'_>,
     kids: &'a [Tree<ItemLabel>],
-    scope: &'b Scope<'a, 'b>,
+    scope: &'b NamespaceScope<'a, 'b>,
     locals: &mut Vec<RawLocal>,
 ) -> Result<Option<Tree<ParticleLabel>>, Memory>
     ensures { IfOk result (λ found. Makes locals.old.items locals.new.items found (parts.group_among (said setting.entry) (bindings_in scope.now) (length locals.old.items) (roses_of kids.now))) }
@@ -244,7 +244,7 @@ fn inner_kind<'a, 'b>(
     alloc: Global,
     setting: Setting<'_>,
     kids: &'a [Tree<ItemLabel>],
-    scope: &'b Scope<'a, 'b>,
+    scope: &'b NamespaceScope<'a, 'b>,
     locals: &mut Vec<RawLocal>,
 ) -> Result<RawKind, Memory>
     ensures { IfOk result (λ kind. Makes locals.old.items locals.new.items (seen.kind_of kind) (parts.inner_kind (said setting.entry) (bindings_in scope.now) (length locals.old.items) (roses_of kids.now))) }
@@ -268,7 +268,7 @@ pub(crate) fn complex_type<'a, 'b>(
     alloc: Global,
     setting: Setting<'_>,
     tree: &'a Tree<ItemLabel>,
-    scope: &'b Scope<'a, 'b>,
+    scope: &'b NamespaceScope<'a, 'b>,
     locals: &mut Vec<RawLocal>,
 ) -> Result<Option<RawComplex>, Memory>
     ensures { IfOk result (λ found. Makes locals.old.items locals.new.items (option_map seen.complex_of found) (parts.complex_type (said setting.entry) (bindings_in scope.now) (length locals.old.items) tree.now)) }
@@ -285,7 +285,7 @@ pub(crate) fn complex_type<'a, 'b>(
     if !is_named("complexType", tree.label()) {
         return Ok(None);
     }
-    let inside = Scope::inside(alloc, declares, scope)?;
+    let inside = NamespaceScope::inside(alloc, declares, scope)?;
     let own = own_attributes(alloc, attributes.items())?;
     let mixed = is_true("mixed", &own);
     let body = complex_of(alloc, setting, *at, mixed, tree.kids(), &inside, locals)?;
@@ -299,7 +299,7 @@ fn complex_of<'a, 'b>(
     at: u64,
     mixed: bool,
     kids: &'a [Tree<ItemLabel>],
-    scope: &'b Scope<'a, 'b>,
+    scope: &'b NamespaceScope<'a, 'b>,
     locals: &mut Vec<RawLocal>,
 ) -> Result<RawComplex, Memory>
     ensures { IfOk result (λ body. Makes locals.old.items locals.new.items (seen.complex_of body) (parts.complex_of (said setting.entry) at mixed (bindings_in scope.now) kids.now

@@ -13,7 +13,9 @@ use content_models::{ParticleKind, ParticleLabel};
 use doc_text::ItemLabel;
 use label_tree::{Tree, Whole};
 use schema_parts::{RawComplex, RawContent, RawRef, RawUses};
-use schema_rules::{ChildSet, Scope, is_in, is_schema_name, own_attributes, truth_of, value_of};
+use schema_rules::{
+    ChildSet, NamespaceScope, is_in, is_schema_name, own_attributes, truth_of, value_of,
+};
 use std::alloc::Global;
 use xa_base::{Memory, Text};
 
@@ -39,7 +41,7 @@ pub(crate) fn is_named(local: &str, label: &ItemLabel) -> bool
 
 fn extension_base(
     alloc: Global,
-    scope: &Scope<'_, '_>,
+    scope: &NamespaceScope<'_, '_>,
     own: &[(Text, Text)],
 ) -> Result<RawRef, Memory>
     ensures { IfOk result (λ base. base ≡ contents.extension_base (bindings_in scope.now) own.now) }
@@ -55,7 +57,7 @@ fn extended<'a, 'b>(
     alloc: Global,
     setting: Setting<'_>,
     tree: &'a Tree<ItemLabel>,
-    scope: &'b Scope<'a, 'b>,
+    scope: &'b NamespaceScope<'a, 'b>,
 ) -> Result<Option<(RawContent, RawUses)>, Memory>
     ensures { IfOk result (λ found. option_map contents.content_seen found ≡ contents.extended (said setting.entry) (bindings_in scope.now) (label_of tree.now) (kids_of tree.now)) }
 {
@@ -71,7 +73,7 @@ fn extended<'a, 'b>(
     if !is_named("extension", tree.label()) {
         return Ok(None);
     }
-    let inside = Scope::inside(alloc, declares, scope)?;
+    let inside = NamespaceScope::inside(alloc, declares, scope)?;
     let own = own_attributes(alloc, attributes.items())?;
     let base = extension_base(alloc, &inside, &own)?;
     let uses = uses_among(alloc, setting, tree.kids(), &inside)?;
@@ -82,7 +84,7 @@ fn extended_among<'a, 'b>(
     alloc: Global,
     setting: Setting<'_>,
     kids: &'a [Tree<ItemLabel>],
-    scope: &'b Scope<'a, 'b>,
+    scope: &'b NamespaceScope<'a, 'b>,
 ) -> Result<Option<(RawContent, RawUses)>, Memory>
     ensures { IfOk result (λ found. option_map contents.content_seen found ≡ contents.extended_among (said setting.entry) (bindings_in scope.now) kids.now) }
 {
@@ -99,7 +101,7 @@ fn simple_content_at<'a, 'b>(
     alloc: Global,
     setting: Setting<'_>,
     tree: &'a Tree<ItemLabel>,
-    scope: &'b Scope<'a, 'b>,
+    scope: &'b NamespaceScope<'a, 'b>,
 ) -> Result<Option<(RawContent, RawUses)>, Memory>
     ensures { IfOk result (λ found. option_map contents.content_seen found ≡ contents.simple_content_at (said setting.entry) (bindings_in scope.now) (label_of tree.now) (kids_of tree.now)) }
 {
@@ -109,7 +111,7 @@ fn simple_content_at<'a, 'b>(
     if !is_named("simpleContent", tree.label()) {
         return Ok(None);
     }
-    let inside = Scope::inside(alloc, declares, scope)?;
+    let inside = NamespaceScope::inside(alloc, declares, scope)?;
     extended_among(alloc, setting, tree.kids(), &inside)
 }
 
@@ -118,7 +120,7 @@ pub(crate) fn simple_content<'a, 'b>(
     alloc: Global,
     setting: Setting<'_>,
     kids: &'a [Tree<ItemLabel>],
-    scope: &'b Scope<'a, 'b>,
+    scope: &'b NamespaceScope<'a, 'b>,
 ) -> Result<Option<(RawContent, RawUses)>, Memory>
     ensures { IfOk result (λ found. option_map contents.content_seen found ≡ contents.simple_content (said setting.entry) (bindings_in scope.now) kids.now) }
 {
@@ -270,7 +272,7 @@ pub(crate) fn complex_by<'a, 'b>(
     at: u64,
     mixed: bool,
     kids: &'a [Tree<ItemLabel>],
-    scope: &'b Scope<'a, 'b>,
+    scope: &'b NamespaceScope<'a, 'b>,
     group: Option<Tree<ParticleLabel>>,
 ) -> Result<RawComplex, Memory>
     ensures { IfOk result (λ body. complex_of body ≡ contents.complex_by (said setting.entry) at mixed (bindings_in scope.now) kids.now group) }

@@ -12,7 +12,7 @@ use crate::simple_definitions::declared_type;
 use doc_text::ItemLabel;
 use label_tree::Tree;
 use schema_parts::{RawAttribute, RawUse, RawUses};
-use schema_rules::{ChildSet, Scope, is_in, own_attributes, qualification_of, value_of};
+use schema_rules::{ChildSet, NamespaceScope, is_in, own_attributes, qualification_of, value_of};
 use std::alloc::Global;
 use xa_base::{Memory, Name, Text};
 
@@ -65,7 +65,7 @@ fn has_use(how: &str, own: &[(Text, Text)]) -> bool
 
 fn use_to(
     alloc: Global,
-    scope: &Scope<'_, '_>,
+    scope: &NamespaceScope<'_, '_>,
     text: &str,
     own: &[(Text, Text)],
     at: u64,
@@ -86,7 +86,7 @@ fn own_use<'a, 'b>(
     alloc: Global,
     setting: Setting<'_>,
     at: u64,
-    scope: &'b Scope<'a, 'b>,
+    scope: &'b NamespaceScope<'a, 'b>,
     own: &[(Text, Text)],
     kids: &'a [Tree<ItemLabel>],
 ) -> Result<RawUse, Memory>
@@ -108,7 +108,7 @@ fn use_by<'a, 'b>(
     alloc: Global,
     setting: Setting<'_>,
     at: u64,
-    scope: &'b Scope<'a, 'b>,
+    scope: &'b NamespaceScope<'a, 'b>,
     own: &[(Text, Text)],
     kids: &'a [Tree<ItemLabel>],
 ) -> Result<RawUse, Memory>
@@ -125,7 +125,7 @@ fn use_at<'a, 'b>(
     alloc: Global,
     setting: Setting<'_>,
     tree: &'a Tree<ItemLabel>,
-    scope: &'b Scope<'a, 'b>,
+    scope: &'b NamespaceScope<'a, 'b>,
 ) -> Result<Option<RawUse>, Memory>
     ensures { IfOk result (λ found. option_map use_of found ≡ attributes.use_at setting.entry.target.now setting.entry.attributes_qualified (bindings_in scope.now) (label_of tree.now) (kids_of tree.now)) }
 {
@@ -145,7 +145,7 @@ fn use_at<'a, 'b>(
     if has_use("prohibited", &own) {
         return Ok(None);
     }
-    let inside = Scope::inside(alloc, declares, scope)?;
+    let inside = NamespaceScope::inside(alloc, declares, scope)?;
     let found = use_by(alloc, setting, *at, &inside, &own, tree.kids())?;
     Ok(Some(found))
 }
@@ -155,7 +155,7 @@ pub(crate) fn uses_among<'a, 'b>(
     alloc: Global,
     setting: Setting<'_>,
     kids: &'a [Tree<ItemLabel>],
-    scope: &'b Scope<'a, 'b>,
+    scope: &'b NamespaceScope<'a, 'b>,
 ) -> Result<RawUses, Memory>
     ensures { IfOk result (λ uses. uses_of uses ≡ attributes.uses_among setting.entry.target.now setting.entry.attributes_qualified (bindings_in scope.now) kids.now) }
 {
@@ -172,7 +172,7 @@ fn attribute_by<'a, 'b>(
     alloc: Global,
     target: &Text,
     at: u64,
-    scope: &'b Scope<'a, 'b>,
+    scope: &'b NamespaceScope<'a, 'b>,
     own: &[(Text, Text)],
     kids: &'a [Tree<ItemLabel>],
 ) -> Result<RawAttribute, Memory>
@@ -188,7 +188,7 @@ pub(crate) fn global_attribute<'a, 'b>(
     alloc: Global,
     target: &Text,
     tree: &'a Tree<ItemLabel>,
-    scope: &'b Scope<'a, 'b>,
+    scope: &'b NamespaceScope<'a, 'b>,
 ) -> Result<Option<RawAttribute>, Memory>
     ensures { IfOk result (λ found. option_map attribute_of found ≡ attributes.global_attribute target.now (bindings_in scope.now) (label_of tree.now) (kids_of tree.now)) }
 {
@@ -202,7 +202,7 @@ pub(crate) fn global_attribute<'a, 'b>(
         return Ok(None);
     };
     let own = own_attributes(alloc, attributes.items())?;
-    let inside = Scope::inside(alloc, declares, scope)?;
+    let inside = NamespaceScope::inside(alloc, declares, scope)?;
     let found = attribute_by(alloc, target, *at, &inside, &own, tree.kids())?;
     Ok(Some(found))
 }

@@ -17,10 +17,10 @@ use crate::globals::{Globals, globals_among};
 use crate::names::value_or_empty;
 use doc_text::{ItemLabel, Items};
 use label_tree::Tree;
-use schema_places::{all_ascend, all_inward, are_counted, are_short};
-use schema_faults::{Fault, first_fault};
+use schema_faults::{DocumentFault, first_fault};
 use schema_parts::{RawDoc, RawLocal, all_fit, all_named, all_varied, ascend};
-use schema_rules::{Scope, is_counted, is_looked_into, own_attributes};
+use schema_places::{all_ascend, all_inward, are_counted, are_short};
+use schema_rules::{NamespaceScope, is_counted, is_looked_into, own_attributes};
 use std::alloc::Global;
 use xa_base::{Memory, Name, Text};
 
@@ -120,7 +120,7 @@ fn described_by<'a, 'b>(
     alloc: Global,
     setting: Setting<'_>,
     kids: &'a [Tree<ItemLabel>],
-    scope: &'b Scope<'a, 'b>,
+    scope: &'b NamespaceScope<'a, 'b>,
 ) -> Result<RawDoc, Memory>
     ensures { IfOk result (λ doc. doc_of doc ≡ document_with setting.entry.file setting.entry.target.now (counted_among (roses_of kids.now)) (parts_among (said setting.entry) (bindings_in scope.now) 0 kids.now)) }
 {
@@ -137,7 +137,7 @@ fn described<'a, 'b>(
     file: u32,
     own: &[(Text, Text)],
     kids: &'a [Tree<ItemLabel>],
-    scope: &'b Scope<'a, 'b>,
+    scope: &'b NamespaceScope<'a, 'b>,
 ) -> Result<RawDoc, Memory>
     ensures { IfOk result (λ doc. doc_of doc ≡ document_by file own.now (bindings_in scope.now) kids.now) }
 {
@@ -164,8 +164,8 @@ fn components(alloc: Global, root: &Tree<ItemLabel>, file: u32) -> Result<RawDoc
         return Err(Memory);
     };
     let own = own_attributes(alloc, attributes.items())?;
-    let outside = Scope::Document;
-    let scope = Scope::inside(alloc, declares, &outside)?;
+    let outside = NamespaceScope::Document;
+    let scope = NamespaceScope::inside(alloc, declares, &outside)?;
     described(alloc, file, &own, root.kids(), &scope)
 }
 
@@ -181,7 +181,7 @@ pub fn read_schema(alloc: Global, items: &Items, file: u32) -> Result<RawDoc, Sc
     // All of its components.
     ensures raw { IfOk result (λ doc. doc_of doc ≡ raw_of file items.now) }
 {
-    if let Some(Fault { at, why }) = first_fault(alloc, items)? {
+    if let Some(DocumentFault { at, why }) = first_fault(alloc, items)? {
         return Err(SchemaError::Shown { at, why });
     }
     let doc = components(alloc, items.tree().root(), file)?;

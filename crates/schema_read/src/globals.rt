@@ -17,7 +17,7 @@ use crate::simple_definitions::simple_type;
 use doc_text::ItemLabel;
 use label_tree::Tree;
 use schema_parts::{RawAttribute, RawElement, RawLocal, RawType};
-use schema_rules::{Scope, is_schema_name, own_attributes};
+use schema_rules::{NamespaceScope, is_schema_name, own_attributes};
 use std::alloc::Global;
 use xa_base::{Memory, Text};
 
@@ -36,7 +36,7 @@ fn add_element<'a, 'b>(
     at: u64,
     own: &[(Text, Text)],
     kids: &'a [Tree<ItemLabel>],
-    scope: &'b Scope<'a, 'b>,
+    scope: &'b NamespaceScope<'a, 'b>,
     globals: &mut Globals,
     locals: &mut Vec<RawLocal>,
 ) -> Result<(), Memory>
@@ -53,7 +53,7 @@ fn add_attribute<'a, 'b>(
     alloc: Global,
     setting: Setting<'_>,
     tree: &'a Tree<ItemLabel>,
-    scope: &'b Scope<'a, 'b>,
+    scope: &'b NamespaceScope<'a, 'b>,
     globals: &mut Globals,
 ) -> Result<(), Memory>
     ensures { OnOk result (Adds globals.old globals.new [] [] (raw.attribute_parts
@@ -71,7 +71,7 @@ fn add_simple_type<'a, 'b>(
     setting: Setting<'_>,
     own: &[(Text, Text)],
     tree: &'a Tree<ItemLabel>,
-    scope: &'b Scope<'a, 'b>,
+    scope: &'b NamespaceScope<'a, 'b>,
     globals: &mut Globals,
 ) -> Result<(), Memory>
     ensures { OnOk result (Adds globals.old globals.new [] [] (raw.simple_type_parts
@@ -90,7 +90,7 @@ fn add_complex_type<'a, 'b>(
     setting: Setting<'_>,
     own: &[(Text, Text)],
     tree: &'a Tree<ItemLabel>,
-    scope: &'b Scope<'a, 'b>,
+    scope: &'b NamespaceScope<'a, 'b>,
     globals: &mut Globals,
     locals: &mut Vec<RawLocal>,
 ) -> Result<(), Memory>
@@ -111,10 +111,10 @@ fn add_named<'a, 'b>(
     setting: Setting<'_>,
     name: &str,
     own: &[(Text, Text)],
-    inside: &'b Scope<'a, 'b>,
+    inside: &'b NamespaceScope<'a, 'b>,
     at: u64,
     tree: &'a Tree<ItemLabel>,
-    scope: &'b Scope<'a, 'b>,
+    scope: &'b NamespaceScope<'a, 'b>,
     globals: &mut Globals,
     locals: &mut Vec<RawLocal>,
 ) -> Result<(), Memory>
@@ -144,7 +144,7 @@ fn add<'a, 'b>(
     alloc: Global,
     setting: Setting<'_>,
     tree: &'a Tree<ItemLabel>,
-    scope: &'b Scope<'a, 'b>,
+    scope: &'b NamespaceScope<'a, 'b>,
     globals: &mut Globals,
     locals: &mut Vec<RawLocal>,
 ) -> Result<(), Memory>
@@ -163,7 +163,7 @@ fn add<'a, 'b>(
         return Ok(());
     }
     let own = own_attributes(alloc, attributes.items())?;
-    let inside = Scope::inside(alloc, declares, scope)?;
+    let inside = NamespaceScope::inside(alloc, declares, scope)?;
     add_named(
         alloc,
         setting,
@@ -183,7 +183,7 @@ pub(crate) fn globals_among<'a, 'b>(
     alloc: Global,
     setting: Setting<'_>,
     kids: &'a [Tree<ItemLabel>],
-    scope: &'b Scope<'a, 'b>,
+    scope: &'b NamespaceScope<'a, 'b>,
     locals: &mut Vec<RawLocal>,
 ) -> Result<Globals, Memory>
     ensures { IfOk result (λ globals. Are globals locals.old.items locals.new.items (raw.parts_among (said setting.entry) (bindings_in scope.now) (length locals.old.items) kids.now)) }

@@ -5,7 +5,7 @@ ghost use Rattle.schema_rules.specs.Seen.{name_seen};
 ghost use Rattle.schema_read.specs.Names as names;
 
 use schema_parts::RawRef;
-use schema_rules::{Resolved, Scope, TypeName, resolve, type_of, value_of};
+use schema_rules::{NamespaceScope, Resolved, TypeName, resolve, type_of, value_of};
 use std::alloc::Global;
 use xa_base::{Memory, Name, Text};
 
@@ -49,7 +49,11 @@ fn name_of(alloc: Global, found: Resolved<'_, '_>) -> Result<Name, Memory>
 }
 
 /// The type that the text names.
-pub(crate) fn type_ref(alloc: Global, scope: &Scope<'_, '_>, text: &str) -> Result<RawRef, Memory>
+pub(crate) fn type_ref(
+    alloc: Global,
+    scope: &NamespaceScope<'_, '_>,
+    text: &str,
+) -> Result<RawRef, Memory>
     ensures { IfOk result (λ reference. reference ≡ names.type_ref (bindings_in scope.now) text.now) }
 {
     match type_of(scope, text) {
@@ -63,7 +67,11 @@ pub(crate) fn type_ref(alloc: Global, scope: &Scope<'_, '_>, text: &str) -> Resu
 }
 
 /// The name that the text refers to.
-pub(crate) fn referred(alloc: Global, scope: &Scope<'_, '_>, text: &str) -> Result<Name, Memory>
+pub(crate) fn referred(
+    alloc: Global,
+    scope: &NamespaceScope<'_, '_>,
+    text: &str,
+) -> Result<Name, Memory>
     ensures { IfOk result (λ name. name ≡ names.referred (bindings_in scope.now) text.now) }
 {
     match resolve(scope, text) {

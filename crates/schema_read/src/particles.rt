@@ -14,7 +14,7 @@ use crate::names::referred;
 use content_models::{ParticleKind, ParticleLabel};
 use label_tree::Tree;
 use schema_parts::{RawElement, RawKind, RawLocal};
-use schema_rules::{Scope, least_of, most_of, value_of};
+use schema_rules::{NamespaceScope, least_of, most_of, value_of};
 use std::alloc::Global;
 use xa_base::{Memory, Name, Text};
 
@@ -22,7 +22,7 @@ use xa_base::{Memory, Name, Text};
 pub(crate) fn element_name(
     alloc: Global,
     setting: Setting<'_>,
-    scope: &Scope<'_, '_>,
+    scope: &NamespaceScope<'_, '_>,
     own: &[(Text, Text)],
 ) -> Result<Name, Memory>
     ensures { IfOk result (λ name. name ≡ parts.element_name (said setting.entry) (bindings_in scope.now) own.now) }

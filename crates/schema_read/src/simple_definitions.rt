@@ -13,7 +13,7 @@ use crate::names::{no_name, type_ref};
 use doc_text::ItemLabel;
 use label_tree::Tree;
 use schema_parts::{RawBase, RawBases, RawHow, RawRef, RawSimple};
-use schema_rules::{ChildSet, Scope, is_in, own_attributes, value_of};
+use schema_rules::{ChildSet, NamespaceScope, is_in, own_attributes, value_of};
 use simple_types::{Facet, Facets};
 use std::alloc::Global;
 use xa_base::{Memory, Text, first_word};
@@ -91,7 +91,11 @@ fn facets_among(alloc: Global, kids: &[Tree<ItemLabel>]) -> Result<Facets, Memor
 }
 
 // The types that the words name.
-fn named_in(alloc: Global, scope: &Scope<'_, '_>, text: &str) -> Result<Vec<RawBase>, Memory>
+fn named_in(
+    alloc: Global,
+    scope: &NamespaceScope<'_, '_>,
+    text: &str,
+) -> Result<Vec<RawBase>, Memory>
     ensures { IfOk result (λ members. bases_in members.items ≡ simple.named_in (bindings_in scope.now) (words_of text.now)) }
 {
     let mut members = Vec::new(alloc);
@@ -107,7 +111,7 @@ fn named_in(alloc: Global, scope: &Scope<'_, '_>, text: &str) -> Result<Vec<RawB
 // The types that a union names.
 fn named_members(
     alloc: Global,
-    scope: &Scope<'_, '_>,
+    scope: &NamespaceScope<'_, '_>,
     own: &[(Text, Text)],
 ) -> Result<Vec<RawBase>, Memory>
     ensures { IfOk result (λ members. bases_in members.items ≡ simple.named_members (bindings_in scope.now) own.now) }
@@ -129,7 +133,7 @@ fn first_or_none(alloc: Global, mut inner: Vec<RawBase>) -> RawBase
 }
 
 #[tactic(auto, unfolding(schema_parts::specs::Seen::base_of))]
-fn named_type(alloc: Global, scope: &Scope<'_, '_>, text: &str) -> Result<RawBase, Memory>
+fn named_type(alloc: Global, scope: &NamespaceScope<'_, '_>, text: &str) -> Result<RawBase, Memory>
     ensures { IfOk result (λ base. base_of base ≡ Named (type_ref (bindings_in scope.now) text.now)) }
 {
     let reference = type_ref(alloc, scope, text)?;
@@ -140,7 +144,7 @@ fn named_type(alloc: Global, scope: &Scope<'_, '_>, text: &str) -> Result<RawBas
 fn base_by(
     alloc: Global,
     attribute: &str,
-    scope: &Scope<'_, '_>,
+    scope: &NamespaceScope<'_, '_>,
     own: &[(Text, Text)],
     inner: Vec<RawBase>,
 ) -> Result<RawBase, Memory>
@@ -155,7 +159,7 @@ fn base_by(
 // The members of a union: those that it names, and then those in it.
 fn members_of(
     alloc: Global,
-    scope: &Scope<'_, '_>,
+    scope: &NamespaceScope<'_, '_>,
     own: &[(Text, Text)],
     mut inner: Vec<RawBase>,
 ) -> Result<RawBases, Memory>
@@ -169,7 +173,7 @@ fn members_of(
 #[tactic(auto, unfolding(schema_parts::specs::Seen::how_of))]
 fn restriction_of(
     alloc: Global,
-    scope: &Scope<'_, '_>,
+    scope: &NamespaceScope<'_, '_>,
     own: &[(Text, Text)],
     inner: Vec<RawBase>,
     kids: &[Tree<ItemLabel>],
@@ -184,7 +188,7 @@ fn restriction_of(
 #[tactic(auto, unfolding(schema_parts::specs::Seen::how_of))]
 fn list_of(
     alloc: Global,
-    scope: &Scope<'_, '_>,
+    scope: &NamespaceScope<'_, '_>,
     own: &[(Text, Text)],
     inner: Vec<RawBase>,
 ) -> Result<RawHow, Memory>
@@ -196,7 +200,7 @@ fn list_of(
 
 fn union_of(
     alloc: Global,
-    scope: &Scope<'_, '_>,
+    scope: &NamespaceScope<'_, '_>,
     own: &[(Text, Text)],
     inner: Vec<RawBase>,
 ) -> Result<RawHow, Memory>
@@ -210,7 +214,7 @@ fn union_of(
 fn made_by(
     alloc: Global,
     name: &str,
-    scope: &Scope<'_, '_>,
+    scope: &NamespaceScope<'_, '_>,
     own: &[(Text, Text)],
     inner: Vec<RawBase>,
     kids: &[Tree<ItemLabel>],
@@ -248,7 +252,7 @@ fn defined(at: u64, found: Option<(u64, RawHow)>) -> Option<RawSimple>
 fn variety_at<'a, 'b>(
     alloc: Global,
     tree: &'a Tree<ItemLabel>,
-    scope: &'b Scope<'a, 'b>,
+    scope: &'b NamespaceScope<'a, 'b>,
 ) -> Result<Option<(u64, RawHow)>, Memory>
     ensures { IfOk result (λ found. option_map simple.made_seen found ≡ simple.variety_at (bindings_in scope.now) tree.now) }
 {
@@ -264,7 +268,7 @@ fn variety_at<'a, 'b>(
     if !is_in(ChildSet::Varieties, tree.label()) {
         return Ok(None);
     }
-    let inside = Scope::inside(alloc, declares, scope)?;
+    let inside = NamespaceScope::inside(alloc, declares, scope)?;
     let inner = inner_types(alloc, tree.kids(), &inside)?;
     let own = own_attributes(alloc, attributes.items())?;
     let made = made_by(
@@ -283,7 +287,7 @@ fn variety_at<'a, 'b>(
 fn variety_among<'a, 'b>(
     alloc: Global,
     kids: &'a [Tree<ItemLabel>],
-    scope: &'b Scope<'a, 'b>,
+    scope: &'b NamespaceScope<'a, 'b>,
 ) -> Result<Option<(u64, RawHow)>, Memory>
     ensures { IfOk result (λ found. option_map simple.made_seen found ≡ simple.variety_among (bindings_in scope.now) (roses_of kids.now)) }
 {
@@ -301,7 +305,7 @@ fn variety_among<'a, 'b>(
 pub(crate) fn simple_type<'a, 'b>(
     alloc: Global,
     tree: &'a Tree<ItemLabel>,
-    scope: &'b Scope<'a, 'b>,
+    scope: &'b NamespaceScope<'a, 'b>,
 ) -> Result<Option<RawSimple>, Memory>
     ensures { IfOk result (λ found. option_map simple_of found ≡ simple.simple_type (bindings_in scope.now) tree.now) }
 {
@@ -311,7 +315,7 @@ pub(crate) fn simple_type<'a, 'b>(
     if !is_in(ChildSet::SimpleTypes, tree.label()) {
         return Ok(None);
     }
-    let inside = Scope::inside(alloc, declares, scope)?;
+    let inside = NamespaceScope::inside(alloc, declares, scope)?;
     let found = variety_among(alloc, tree.kids(), &inside)?;
     Ok(defined(*at, found))
 }
@@ -336,7 +340,7 @@ fn push_inner(
 pub(crate) fn inner_types<'a, 'b>(
     alloc: Global,
     kids: &'a [Tree<ItemLabel>],
-    scope: &'b Scope<'a, 'b>,
+    scope: &'b NamespaceScope<'a, 'b>,
 ) -> Result<Vec<RawBase>, Memory>
     ensures { IfOk result (λ inner. bases_in inner.items ≡ simple.inner_types (bindings_in scope.now) (roses_of kids.now)) }
 {
@@ -351,7 +355,7 @@ pub(crate) fn inner_types<'a, 'b>(
 /// The simple type of a declaration: the one that it names, or the one in it.
 pub(crate) fn declared_type<'a, 'b>(
     alloc: Global,
-    scope: &'b Scope<'a, 'b>,
+    scope: &'b NamespaceScope<'a, 'b>,
     own: &[(Text, Text)],
     kids: &'a [Tree<ItemLabel>],
 ) -> Result<RawBase, Memory>

@@ -6,7 +6,7 @@ use Rattle.std.proofs.lemmas.Bool.{eqb-true, leb-true}
 use Rattle.std.proofs.lemmas.Bool.Decides.{nat_tests}
 use Rattle.xa_base.specs.WhiteSpace.{has_bytes}
 use Rattle.xa_base.specs.Digits.{is_digit, is_numeral, number_from, number_of}
-use Rattle.schema_rules.specs.Numbers.{is_over}
+use Rattle.schema_rules.specs.Digits.{is_over}
 use Rattle.schema_rules.specs.Private.Comparing.{without_zeros, is_later, is_greater}
 
 -- ---- tests

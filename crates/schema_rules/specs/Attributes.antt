@@ -7,8 +7,8 @@ use Rattle.xa_base.specs.declared.white_space.WhiteSpace.TheVariants.{Collapse}
 use Rattle.xa_base.specs.declared.texts.Name.{Name}
 use Rattle.xa_base.specs.Limits.{is_empty}
 use Rattle.schema_rules.specs.Elements.{beside, has_name}
-use Rattle.schema_rules.specs.declared.roles.Role.{Role}
-use Rattle.schema_rules.specs.declared.roles.Role.TheVariants.{Schema, Composition, GlobalElement, LocalElement, GlobalAttribute, LocalAttribute, GlobalSimpleType, InnerSimpleType, Restriction, List as ListRole, Union, Facet, GlobalComplexType, InnerComplexType, SimpleContent, Extension, Sequence, Choice}
+use Rattle.schema_rules.specs.declared.roles.ElementRole.{ElementRole}
+use Rattle.schema_rules.specs.declared.roles.ElementRole.TheVariants.{Schema, Composition, GlobalElement, LocalElement, GlobalAttribute, LocalAttribute, GlobalSimpleType, InnerSimpleType, Restriction, List as ListRole, Union, Facet, GlobalComplexType, InnerComplexType, SimpleContent, Extension, Sequence, Choice}
 
 -- ---- values in use
 
@@ -45,7 +45,7 @@ local_element_attributes =
 abbrev pub local_attribute_attributes : List (List ℕ)
 local_attribute_attributes = codes "name" ∷ codes "ref" ∷ codes "type" ∷ codes "use" ∷ codes "form" ∷ codes "default" ∷ codes "fixed" ∷ []
 
-abbrev pub attributes_of : Role → List (List ℕ)
+abbrev pub attributes_of : ElementRole → List (List ℕ)
 attributes_of Schema = codes "targetNamespace" ∷ codes "elementFormDefault" ∷ codes "attributeFormDefault" ∷ []
 attributes_of Composition = codes "schemaLocation" ∷ codes "namespace" ∷ []
 attributes_of GlobalElement = global_element_attributes
@@ -65,8 +65,8 @@ attributes_of Extension = codes "base" ∷ []
 attributes_of Sequence = codes "minOccurs" ∷ codes "maxOccurs" ∷ []
 attributes_of Choice = codes "minOccurs" ∷ codes "maxOccurs" ∷ []
 
-abbrev pub is_listed : Role → List ℕ → Bool
+abbrev pub is_listed : ElementRole → List ℕ → Bool
 is_listed role name = has_name name common_attributes || has_name name (attributes_of role)
 
-abbrev pub has_unknown : Role → List (List ℕ × List ℕ) → Bool
+abbrev pub has_unknown : ElementRole → List (List ℕ × List ℕ) → Bool
 has_unknown role own = list_any (λ a. not (is_listed role a.0)) own

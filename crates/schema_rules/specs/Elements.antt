@@ -5,8 +5,8 @@ use Rattle.xa_base.specs.Namespaces.{schema_space}
 use Rattle.xa_base.specs.declared.texts.Name.{Name}
 use Rattle.schema_rules.specs.declared.why.SchemaWhy.{SchemaWhy}
 use Rattle.schema_rules.specs.declared.why.SchemaWhy.TheVariants as why
-use Rattle.schema_rules.specs.declared.roles.Role.{Role}
-use Rattle.schema_rules.specs.declared.roles.Role.TheVariants.{Schema, Composition, GlobalElement, LocalElement, GlobalAttribute, LocalAttribute, GlobalSimpleType, InnerSimpleType, Restriction, List as ListRole, Union, Facet, GlobalComplexType, InnerComplexType, SimpleContent, Extension, Sequence, Choice}
+use Rattle.schema_rules.specs.declared.roles.ElementRole.{ElementRole}
+use Rattle.schema_rules.specs.declared.roles.ElementRole.TheVariants.{Schema, Composition, GlobalElement, LocalElement, GlobalAttribute, LocalAttribute, GlobalSimpleType, InnerSimpleType, Restriction, List as ListRole, Union, Facet, GlobalComplexType, InnerComplexType, SimpleContent, Extension, Sequence, Choice}
 use Rattle.schema_rules.specs.declared.roles.Position.{Position}
 use Rattle.schema_rules.specs.declared.roles.Position.TheVariants.{Anywhere, First, Alone}
 use Rattle.schema_rules.specs.declared.roles.Part.{Part}
@@ -33,11 +33,11 @@ left_out_elements =
     ∷ (codes "pattern", why.Pattern) ∷ (codes "totalDigits", why.TotalDigits) ∷ (codes "fractionDigits", why.FractionDigits) ∷ []
 
 -- those that it leaves out in one parent alone
-abbrev pub left_out_there : Role → List (List ℕ × SchemaWhy)
+abbrev pub left_out_there : ElementRole → List (List ℕ × SchemaWhy)
 left_out_there SimpleContent = (codes "restriction", why.SimpleContentRestriction) ∷ []
 left_out_there _ = []
 
-abbrev pub left_out : Role → List ℕ → Option SchemaWhy
+abbrev pub left_out : ElementRole → List ℕ → Option SchemaWhy
 left_out parent name = option_or (beside name (left_out_there parent)) (beside name left_out_elements)
 
 -- the others, but for `annotation`
@@ -50,12 +50,12 @@ element_names =
 
 -- ---- places
 
-abbrev pub part : Role → Position → Option Part
+abbrev pub part : ElementRole → Position → Option Part
 part role position = Some (record { role = role; position = position })
 
 -- a child of a parent: its name, what it is there, and where among the children it stands
 abbrev pub Row : Type 0
-Row = List ℕ × Role × Position
+Row = List ℕ × ElementRole × Position
 
 abbrev pub child_in : List ℕ → List Row → Option Part
 child_in name [] = None
@@ -97,7 +97,7 @@ extension_children = (codes "attribute", LocalAttribute, Anywhere) ∷ []
 abbrev pub group_children : List Row
 group_children = (codes "element", LocalElement, Anywhere) ∷ (codes "sequence", Sequence, Anywhere) ∷ (codes "choice", Choice, Anywhere) ∷ []
 
-abbrev pub children : Role → List Row
+abbrev pub children : ElementRole → List Row
 children Schema = schema_children
 children Composition = []
 children GlobalElement = element_children
@@ -135,7 +135,7 @@ refused_or None otherwise = otherwise
 refused_or (Some reason) otherwise = Refused reason
 
 -- The reasons against an element of the schema namespace by its name and its place, in their order.
-abbrev pub placement_of : Role → Option Position → List ℕ → Placement
+abbrev pub placement_of : ElementRole → Option Position → List ℕ → Placement
 placement_of parent before name =
     refused_or (left_out parent name)
     (if has_name name element_names then placed before (child_in name (children parent)) else Refused why.UnknownElement)
@@ -144,7 +144,7 @@ abbrev pub is_schema_name : Name → Bool
 is_schema_name name = bytes_eq name.space schema_space
 
 -- An annotation may stand anywhere.
-abbrev pub placement : Role → Option Position → Name → Placement
+abbrev pub placement : ElementRole → Option Position → Name → Placement
 placement parent before name =
     if not (is_schema_name name) then Refused why.UnknownElement
     else if bytes_eq name.local (codes "annotation") then Skipped

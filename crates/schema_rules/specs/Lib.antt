@@ -1,7 +1,7 @@
 pub mod Attributes
 pub mod Children
 pub mod Elements
-pub mod Numbers
+pub mod Digits
 pub mod References
 pub mod Scopes
 pub mod Seen

@@ -9,15 +9,15 @@ use Rattle.xa_base.specs.Limits.{is_empty, is_short_space, is_short_part}
 use Rattle.xa_base.specs.Namespaces.{xmlns_space, schema_space, xsi_space}
 use Rattle.xa_base.specs.Digits.{is_numeral, number_of}
 use Rattle.schema_rules.specs.Elements.{beside, has_name}
-use Rattle.schema_rules.specs.Numbers.{is_over, is_zero, small}
+use Rattle.schema_rules.specs.Digits.{is_over, is_zero, small}
 use Rattle.schema_rules.specs.References.{resolved, type_name}
-use Rattle.schema_rules.specs.declared.roles.Role.{Role}
-use Rattle.schema_rules.specs.declared.roles.Role.TheVariants.{GlobalAttribute, LocalAttribute}
-use Rattle.schema_rules.specs.declared.values.Form.{Form}
-use Rattle.schema_rules.specs.declared.values.Form.TheVariants.{Truth, Qualification, Prescription, Digits, DigitsOrUnbounded, NcName, Reference, TypeName, TypeNames, TargetNamespace}
+use Rattle.schema_rules.specs.declared.roles.ElementRole.{ElementRole}
+use Rattle.schema_rules.specs.declared.roles.ElementRole.TheVariants.{GlobalAttribute, LocalAttribute}
+use Rattle.schema_rules.specs.declared.values.ValueForm.{ValueForm}
+use Rattle.schema_rules.specs.declared.values.ValueForm.TheVariants.{Truth, Qualification, Prescription, Digits, DigitsOrUnbounded, NcName, Reference, TypeName, TypeNames, TargetNamespace}
 
 -- the form of the value of each attribute that has one
-abbrev pub forms : List (List ℕ × Form)
+abbrev pub forms : List (List ℕ × ValueForm)
 forms =
     (codes "targetNamespace", TargetNamespace) ∷ (codes "elementFormDefault", Qualification) ∷ (codes "attributeFormDefault", Qualification)
     ∷ (codes "form", Qualification) ∷ (codes "name", NcName) ∷ (codes "ref", Reference) ∷ (codes "type", TypeName) ∷ (codes "base", TypeName)
@@ -47,7 +47,7 @@ is_target space =
     not (is_empty space) && is_short_space space && not (bytes_eq space schema_space) && not (bytes_eq space xsi_space)
     && not (bytes_eq space xmlns_space)
 
-abbrev pub has_form : List (List ℕ × List ℕ) → Form → List ℕ → Bool
+abbrev pub has_form : List (List ℕ × List ℕ) → ValueForm → List ℕ → Bool
 has_form scope Truth value = is_some (beside value truth_values)
 has_form scope Qualification value = is_some (beside value qualifications)
 has_form scope Prescription value = has_name value prescriptions
@@ -59,7 +59,7 @@ has_form scope TypeName value = is_some (type_name scope value)
 has_form scope TypeNames value = list_all (λ word. is_some (type_name scope word)) (words_of value)
 has_form scope TargetNamespace value = is_target value
 
-abbrev pub formed : List (List ℕ × List ℕ) → Option Form → List ℕ → Bool
+abbrev pub formed : List (List ℕ × List ℕ) → Option ValueForm → List ℕ → Bool
 formed scope None value = true
 formed scope (Some form) value = has_form scope form value
 
@@ -73,7 +73,7 @@ has_malformed scope own = list_any (λ a. not (is_well_formed scope a.0 a.1)) ow
 abbrev pub is_named : List ℕ → List (List ℕ × List ℕ) → Bool
 is_named name own = elim (beside (codes "name") own) [ None ↦ false | Some value ↦ bytes_eq value name ]
 
-abbrev pub is_xmlns : Role → List (List ℕ × List ℕ) → Bool
+abbrev pub is_xmlns : ElementRole → List (List ℕ × List ℕ) → Bool
 is_xmlns GlobalAttribute own = is_named (codes "xmlns") own
 is_xmlns LocalAttribute own = is_named (codes "xmlns") own
 is_xmlns role own = false
@@ -85,7 +85,7 @@ digits_of name own = elim (beside name own) [ None ↦ codes "1" | Some value �
 abbrev pub is_crossed : List (List ℕ × List ℕ) → Bool
 is_crossed own = is_over (digits_of (codes "minOccurs") own) (digits_of (codes "maxOccurs") own)
 
-abbrev pub has_bad_value : Role → List (List ℕ × List ℕ) → List (List ℕ × List ℕ) → Bool
+abbrev pub has_bad_value : ElementRole → List (List ℕ × List ℕ) → List (List ℕ × List ℕ) → Bool
 has_bad_value role scope own = has_malformed scope own || is_xmlns role own || is_crossed own
 
 -- ---- occurrences

@@ -4,7 +4,7 @@ ghost use Rattle.std.specs.List.{list_any};
 ghost use Rattle.schema_rules.specs.Elements.{beside, has_name};
 ghost use Rattle.schema_rules.specs.Attributes as table;
 
-use crate::roles::Role;
+use crate::roles::ElementRole;
 use std::alloc::Global;
 use xa_base::{Memory, Name, Text, WhiteSpace, treat};
 
@@ -72,7 +72,7 @@ fn is_common(name: &str) -> bool
 }
 
 fn is_of_schema(name: &str) -> bool
-    ensures { result ≡ has_name name.now (table.attributes_of Role.Schema) }
+    ensures { result ≡ has_name name.now (table.attributes_of ElementRole.Schema) }
 {
     matches!(
         name,
@@ -107,7 +107,7 @@ fn is_of_local_element(name: &str) -> bool
 }
 
 fn is_of_global_attribute(name: &str) -> bool
-    ensures { result ≡ has_name name.now (table.attributes_of Role.GlobalAttribute) }
+    ensures { result ≡ has_name name.now (table.attributes_of ElementRole.GlobalAttribute) }
 {
     matches!(name, "name" | "type" | "default" | "fixed")
 }
@@ -122,48 +122,48 @@ fn is_of_local_attribute(name: &str) -> bool
 }
 
 fn is_of_global_complex_type(name: &str) -> bool
-    ensures { result ≡ has_name name.now (table.attributes_of Role.GlobalComplexType) }
+    ensures { result ≡ has_name name.now (table.attributes_of ElementRole.GlobalComplexType) }
 {
     matches!(name, "name" | "mixed" | "abstract")
 }
 
 fn is_of_group(name: &str) -> bool
-    ensures { result ≡ has_name name.now (table.attributes_of Role.Sequence) }
+    ensures { result ≡ has_name name.now (table.attributes_of ElementRole.Sequence) }
 {
     matches!(name, "minOccurs" | "maxOccurs")
 }
 
 // Whether an element of this role has such an attribute, beside those that every element has.
-fn is_of(role: Role, name: &str) -> bool
+fn is_of(role: ElementRole, name: &str) -> bool
     ensures { result ≡ has_name name.now (table.attributes_of role) }
 {
     match role {
-        Role::Schema => is_of_schema(name),
-        Role::Composition => matches!(name, "schemaLocation" | "namespace"),
-        Role::GlobalElement => is_of_global_element(name),
-        Role::LocalElement => is_of_local_element(name),
-        Role::GlobalAttribute => is_of_global_attribute(name),
-        Role::LocalAttribute => is_of_local_attribute(name),
-        Role::GlobalSimpleType => name == "name",
-        Role::Restriction | Role::Extension => name == "base",
-        Role::List => name == "itemType",
-        Role::Union => name == "memberTypes",
-        Role::Facet => matches!(name, "value" | "fixed"),
-        Role::GlobalComplexType => is_of_global_complex_type(name),
-        Role::InnerComplexType => matches!(name, "mixed" | "abstract"),
-        Role::Sequence | Role::Choice => is_of_group(name),
-        Role::InnerSimpleType | Role::SimpleContent => false,
+        ElementRole::Schema => is_of_schema(name),
+        ElementRole::Composition => matches!(name, "schemaLocation" | "namespace"),
+        ElementRole::GlobalElement => is_of_global_element(name),
+        ElementRole::LocalElement => is_of_local_element(name),
+        ElementRole::GlobalAttribute => is_of_global_attribute(name),
+        ElementRole::LocalAttribute => is_of_local_attribute(name),
+        ElementRole::GlobalSimpleType => name == "name",
+        ElementRole::Restriction | ElementRole::Extension => name == "base",
+        ElementRole::List => name == "itemType",
+        ElementRole::Union => name == "memberTypes",
+        ElementRole::Facet => matches!(name, "value" | "fixed"),
+        ElementRole::GlobalComplexType => is_of_global_complex_type(name),
+        ElementRole::InnerComplexType => matches!(name, "mixed" | "abstract"),
+        ElementRole::Sequence | ElementRole::Choice => is_of_group(name),
+        ElementRole::InnerSimpleType | ElementRole::SimpleContent => false,
     }
 }
 
-fn is_listed(role: Role, name: &str) -> bool
+fn is_listed(role: ElementRole, name: &str) -> bool
     ensures { result ≡ table.is_listed role name.now }
 {
     is_common(name) || is_of(role, name)
 }
 
 /// Whether one of the attributes isn't of an element of this role.
-pub fn has_unknown(role: Role, own: &[(Text, Text)]) -> bool
+pub fn has_unknown(role: ElementRole, own: &[(Text, Text)]) -> bool
     ensures { result ≡ table.has_unknown role own.now }
 {
     own.iter()

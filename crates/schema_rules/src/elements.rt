@@ -2,7 +2,7 @@
 ghost use Rattle.std.specs.Prelude.{◌≡◌};
 ghost use Rattle.schema_rules.specs.Elements as table;
 
-use crate::roles::{Part, Position, Role, child_of};
+use crate::roles::{ElementRole, Part, Position, child_of};
 use crate::why::SchemaWhy;
 use xa_base::{Name, SCHEMA_SPACE};
 
@@ -36,11 +36,13 @@ fn left_out_element(name: &str) -> Option<SchemaWhy>
 }
 
 // Why an element of this name is left out in this parent.
-fn left_out(parent: Role, name: &str) -> Option<SchemaWhy>
+fn left_out(parent: ElementRole, name: &str) -> Option<SchemaWhy>
     ensures { result ≡ table.left_out parent name.now }
 {
     match parent {
-        Role::SimpleContent if name == "restriction" => Some(SchemaWhy::SimpleContentRestriction),
+        ElementRole::SimpleContent if name == "restriction" => Some(
+            SchemaWhy::SimpleContentRestriction,
+        ),
         _ => left_out_element(name),
     }
 }
@@ -105,7 +107,7 @@ pub fn is_schema_name(name: &Name) -> bool
 }
 
 // What an element of the schema namespace is, but for an annotation.
-fn placement_of(parent: Role, before: Option<Position>, name: &str) -> Placement
+fn placement_of(parent: ElementRole, before: Option<Position>, name: &str) -> Placement
     ensures { result ≡ table.placement_of parent before name.now }
 {
     if let Some(why) = left_out(parent, name) {
@@ -118,7 +120,7 @@ fn placement_of(parent: Role, before: Option<Position>, name: &str) -> Placement
 }
 
 /// What an element of this name is in a parent of this role, behind one of this position where there is one.
-pub fn placement_in(parent: Role, before: Option<Position>, name: &Name) -> Placement
+pub fn placement_in(parent: ElementRole, before: Option<Position>, name: &Name) -> Placement
     ensures { result ≡ table.placement parent before name.now }
 {
     if !is_schema_name(name) {

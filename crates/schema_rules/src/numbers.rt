@@ -3,7 +3,7 @@ ghost use Rattle.std.specs.Prelude.{◌≡◌, ◌==◌, true};
 ghost use Rattle.std.specs.List.{list_all};
 ghost use Rattle.xa_base.specs.Digits as decimal;
 ghost use Rattle.schema_rules.specs.Private.Comparing as comparing;
-ghost use Rattle.schema_rules.specs.Numbers as numbers;
+ghost use Rattle.schema_rules.specs.Digits as numbers;
 
 use xa_base::is_numeral;
 

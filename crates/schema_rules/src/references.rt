@@ -5,7 +5,7 @@ ghost use Rattle.schema_rules.specs.References as table;
 ghost use Rattle.schema_rules.specs.Scopes.{bindings_in};
 ghost use Rattle.schema_rules.specs.Seen.{name_seen, type_seen};
 
-use crate::scopes::Scope;
+use crate::scopes::NamespaceScope;
 use crate::why::SchemaWhy;
 use simple_types::Builtin;
 use xa_base::{SCHEMA_SPACE, is_ncname_text};
@@ -30,7 +30,7 @@ pub enum TypeName<'s, 't> {
     Elsewhere(Resolved<'s, 't>),
 }
 
-fn unprefixed<'s, 't>(scope: &Scope<'s, '_>, text: &'t str) -> Option<Resolved<'s, 't>>
+fn unprefixed<'s, 't>(scope: &NamespaceScope<'s, '_>, text: &'t str) -> Option<Resolved<'s, 't>>
     ensures { option_map name_seen result ≡ table.unprefixed (bindings_in scope.now) text.now }
 {
     if !is_ncname_text(text) {
@@ -45,7 +45,11 @@ fn unprefixed<'s, 't>(scope: &Scope<'s, '_>, text: &'t str) -> Option<Resolved<'
     }
 }
 
-fn prefixed<'s, 't>(scope: &Scope<'s, '_>, prefix: &str, local: &'t str) -> Option<Resolved<'s, 't>>
+fn prefixed<'s, 't>(
+    scope: &NamespaceScope<'s, '_>,
+    prefix: &str,
+    local: &'t str,
+) -> Option<Resolved<'s, 't>>
     ensures { option_map name_seen result ≡ table.prefixed (bindings_in scope.now) prefix.now local.now }
 {
     if !is_ncname_text(prefix) || !is_ncname_text(local) {
@@ -59,7 +63,7 @@ fn prefixed<'s, 't>(scope: &Scope<'s, '_>, prefix: &str, local: &'t str) -> Opti
 
 /// The expanded name of a QName, if its prefix is bound.
 #[tactic(auto, unfolding(crate::specs::References::resolved))]
-pub fn resolve<'s, 't>(scope: &Scope<'s, '_>, text: &'t str) -> Option<Resolved<'s, 't>>
+pub fn resolve<'s, 't>(scope: &NamespaceScope<'s, '_>, text: &'t str) -> Option<Resolved<'s, 't>>
     ensures { option_map name_seen result ≡ table.resolved (bindings_in scope.now) text.now }
 {
     match text.split_once(':') {
@@ -156,7 +160,7 @@ fn type_named<'s, 't>(found: Option<Resolved<'s, 't>>) -> Option<TypeName<'s, 't
 /// What a type's name stands for. `None` where it is no QName, where its prefix isn't bound, and where it has the
 /// schema namespace and no datatype has the name.
 #[tactic(auto, unfolding(crate::specs::References::type_name))]
-pub fn type_of<'s, 't>(scope: &Scope<'s, '_>, text: &'t str) -> Option<TypeName<'s, 't>>
+pub fn type_of<'s, 't>(scope: &NamespaceScope<'s, '_>, text: &'t str) -> Option<TypeName<'s, 't>>
     ensures { option_map type_seen result ≡ table.type_name (bindings_in scope.now) text.now }
 {
     type_named(resolve(scope, text))

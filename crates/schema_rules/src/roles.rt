@@ -5,7 +5,7 @@ ghost use Rattle.schema_rules.specs.Elements as table;
 /// What an element of the schema namespace is, by its name and where it stands. A declaration or definition that stands
 /// in `schema` is global; other declarations are local, and other types are inner ones.
 #[derive(Clone, Copy, Debug, PartialEq, Eq)]
-pub enum Role {
+pub enum ElementRole {
     /// `schema`, the root.
     Schema,
     /// `include` and `import`.
@@ -59,13 +59,13 @@ pub enum Position {
 #[derive(Clone, Copy, Debug, PartialEq, Eq)]
 pub struct Part {
     /// What it is there.
-    pub role: Role,
+    pub role: ElementRole,
     /// Where among the elements of the parent it may stand.
     pub position: Position,
 }
 
 impl Part {
-    fn of(role: Role, position: Position) -> Option<Part>
+    fn of(role: ElementRole, position: Position) -> Option<Part>
         ensures { result ≡ table.part role position }
     {
         Some(Part { role, position })
@@ -76,11 +76,11 @@ fn child_of_schema(name: &str) -> Option<Part>
     ensures { result ≡ table.child_in name.now table.schema_children }
 {
     match name {
-        "include" | "import" => Part::of(Role::Composition, Position::Anywhere),
-        "element" => Part::of(Role::GlobalElement, Position::Anywhere),
-        "attribute" => Part::of(Role::GlobalAttribute, Position::Anywhere),
-        "simpleType" => Part::of(Role::GlobalSimpleType, Position::Anywhere),
-        "complexType" => Part::of(Role::GlobalComplexType, Position::Anywhere),
+        "include" | "import" => Part::of(ElementRole::Composition, Position::Anywhere),
+        "element" => Part::of(ElementRole::GlobalElement, Position::Anywhere),
+        "attribute" => Part::of(ElementRole::GlobalAttribute, Position::Anywhere),
+        "simpleType" => Part::of(ElementRole::GlobalSimpleType, Position::Anywhere),
+        "complexType" => Part::of(ElementRole::GlobalComplexType, Position::Anywhere),
         _ => None,
     }
 }
@@ -89,8 +89,8 @@ fn child_of_element(name: &str) -> Option<Part>
     ensures { result ≡ table.child_in name.now table.element_children }
 {
     match name {
-        "simpleType" => Part::of(Role::InnerSimpleType, Position::Alone),
-        "complexType" => Part::of(Role::InnerComplexType, Position::Alone),
+        "simpleType" => Part::of(ElementRole::InnerSimpleType, Position::Alone),
+        "complexType" => Part::of(ElementRole::InnerComplexType, Position::Alone),
         _ => None,
     }
 }
@@ -100,7 +100,7 @@ fn child_of_attribute(name: &str) -> Option<Part>
     ensures { result ≡ table.child_in name.now table.attribute_children }
 {
     match name {
-        "simpleType" => Part::of(Role::InnerSimpleType, Position::Alone),
+        "simpleType" => Part::of(ElementRole::InnerSimpleType, Position::Alone),
         _ => None,
     }
 }
@@ -109,9 +109,9 @@ fn child_of_simple_type(name: &str) -> Option<Part>
     ensures { result ≡ table.child_in name.now table.simple_type_children }
 {
     match name {
-        "restriction" => Part::of(Role::Restriction, Position::Alone),
-        "list" => Part::of(Role::List, Position::Alone),
-        "union" => Part::of(Role::Union, Position::Alone),
+        "restriction" => Part::of(ElementRole::Restriction, Position::Alone),
+        "list" => Part::of(ElementRole::List, Position::Alone),
+        "union" => Part::of(ElementRole::Union, Position::Alone),
         _ => None,
     }
 }
@@ -120,7 +120,7 @@ fn child_of_restriction(name: &str) -> Option<Part>
     ensures { result ≡ table.child_in name.now table.restriction_children }
 {
     match name {
-        "simpleType" => Part::of(Role::InnerSimpleType, Position::First),
+        "simpleType" => Part::of(ElementRole::InnerSimpleType, Position::First),
         "length"
         | "minLength"
         | "maxLength"
@@ -129,7 +129,7 @@ fn child_of_restriction(name: &str) -> Option<Part>
         | "minExclusive"
         | "maxExclusive"
         | "enumeration"
-        | "whiteSpace" => { Part::of(Role::Facet, Position::Anywhere) }
+        | "whiteSpace" => { Part::of(ElementRole::Facet, Position::Anywhere) }
         _ => None,
     }
 }
@@ -138,7 +138,7 @@ fn child_of_union(name: &str) -> Option<Part>
     ensures { result ≡ table.child_in name.now table.union_children }
 {
     match name {
-        "simpleType" => Part::of(Role::InnerSimpleType, Position::Anywhere),
+        "simpleType" => Part::of(ElementRole::InnerSimpleType, Position::Anywhere),
         _ => None,
     }
 }
@@ -147,10 +147,10 @@ fn child_of_complex_type(name: &str) -> Option<Part>
     ensures { result ≡ table.child_in name.now table.complex_type_children }
 {
     match name {
-        "simpleContent" => Part::of(Role::SimpleContent, Position::Alone),
-        "sequence" => Part::of(Role::Sequence, Position::First),
-        "choice" => Part::of(Role::Choice, Position::First),
-        "attribute" => Part::of(Role::LocalAttribute, Position::Anywhere),
+        "simpleContent" => Part::of(ElementRole::SimpleContent, Position::Alone),
+        "sequence" => Part::of(ElementRole::Sequence, Position::First),
+        "choice" => Part::of(ElementRole::Choice, Position::First),
+        "attribute" => Part::of(ElementRole::LocalAttribute, Position::Anywhere),
         _ => None,
     }
 }
@@ -159,7 +159,7 @@ fn child_of_simple_content(name: &str) -> Option<Part>
     ensures { result ≡ table.child_in name.now table.simple_content_children }
 {
     match name {
-        "extension" => Part::of(Role::Extension, Position::Alone),
+        "extension" => Part::of(ElementRole::Extension, Position::Alone),
         _ => None,
     }
 }
@@ -168,7 +168,7 @@ fn child_of_extension(name: &str) -> Option<Part>
     ensures { result ≡ table.child_in name.now table.extension_children }
 {
     match name {
-        "attribute" => Part::of(Role::LocalAttribute, Position::Anywhere),
+        "attribute" => Part::of(ElementRole::LocalAttribute, Position::Anywhere),
         _ => None,
     }
 }
@@ -177,28 +177,31 @@ fn child_of_group(name: &str) -> Option<Part>
     ensures { result ≡ table.child_in name.now table.group_children }
 {
     match name {
-        "element" => Part::of(Role::LocalElement, Position::Anywhere),
-        "sequence" => Part::of(Role::Sequence, Position::Anywhere),
-        "choice" => Part::of(Role::Choice, Position::Anywhere),
+        "element" => Part::of(ElementRole::LocalElement, Position::Anywhere),
+        "sequence" => Part::of(ElementRole::Sequence, Position::Anywhere),
+        "choice" => Part::of(ElementRole::Choice, Position::Anywhere),
         _ => None,
     }
 }
 
 /// What an element of this name is in a parent of this role, if it may stand there.
-pub(crate) fn child_of(parent: Role, name: &str) -> Option<Part>
+pub(crate) fn child_of(parent: ElementRole, name: &str) -> Option<Part>
     ensures { result ≡ table.child_in name.now (table.children parent) }
 {
     match parent {
-        Role::Schema => child_of_schema(name),
-        Role::GlobalElement | Role::LocalElement => child_of_element(name),
-        Role::GlobalAttribute | Role::LocalAttribute | Role::List => child_of_attribute(name),
-        Role::GlobalSimpleType | Role::InnerSimpleType => child_of_simple_type(name),
-        Role::Restriction => child_of_restriction(name),
-        Role::Union => child_of_union(name),
-        Role::GlobalComplexType | Role::InnerComplexType => child_of_complex_type(name),
-        Role::SimpleContent => child_of_simple_content(name),
-        Role::Extension => child_of_extension(name),
-        Role::Sequence | Role::Choice => child_of_group(name),
-        Role::Composition | Role::Facet => None,
+        ElementRole::Schema => child_of_schema(name),
+        ElementRole::GlobalElement | ElementRole::LocalElement => child_of_element(name),
+        ElementRole::GlobalAttribute | ElementRole::LocalAttribute | ElementRole::List =>
+            child_of_attribute(name),
+        ElementRole::GlobalSimpleType | ElementRole::InnerSimpleType => child_of_simple_type(name),
+        ElementRole::Restriction => child_of_restriction(name),
+        ElementRole::Union => child_of_union(name),
+        ElementRole::GlobalComplexType | ElementRole::InnerComplexType => child_of_complex_type(
+            name,
+        ),
+        ElementRole::SimpleContent => child_of_simple_content(name),
+        ElementRole::Extension => child_of_extension(name),
+        ElementRole::Sequence | ElementRole::Choice => child_of_group(name),
+        ElementRole::Composition | ElementRole::Facet => None,
     }
 }

@@ -65,16 +65,16 @@ impl<'a> Declared<'a> {
 /// The bindings of the elements that are open, the innermost first, each a prefix with a namespace: those that a
 /// document lends for `'a`, of elements that are open for `'b`.
 #[derive(Drop)]
-pub enum Scope<'a, 'b> {
+pub enum NamespaceScope<'a, 'b> {
     /// Outside the root, where `xml` alone is bound.
     Document,
     /// In an element, with the scope round it.
-    Element(Declared<'a>, &'b Scope<'a, 'b>),
+    Element(Declared<'a>, &'b NamespaceScope<'a, 'b>),
 }
 
 // What is bound outside the root.
 fn outside<'a>(prefix: &[u8]) -> Option<&'a [u8]>
-    ensures { option_map (λ space. space.now) result ≡ beside prefix.now (bindings_in Scope.Document) }
+    ensures { option_map (λ space. space.now) result ≡ beside prefix.now (bindings_in NamespaceScope.Document) }
 {
     if prefix == b"xml".as_slice() {
         Some(XML_SPACE.as_bytes())
@@ -83,18 +83,18 @@ fn outside<'a>(prefix: &[u8]) -> Option<&'a [u8]>
     }
 }
 
-impl<'a, 'b> Scope<'a, 'b> {
+impl<'a, 'b> NamespaceScope<'a, 'b> {
     /// The scope in an element with these bindings, where `outer` is the scope round the element. Its bindings are put
     /// in order here, once, so that each prefix is then found in logarithmic time.
     pub fn inside(
         alloc: Global,
         bindings: &'a Bindings,
-        outer: &'b Scope<'a, 'b>,
-    ) -> Result<Scope<'a, 'b>, Memory>
+        outer: &'b NamespaceScope<'a, 'b>,
+    ) -> Result<NamespaceScope<'a, 'b>, Memory>
         ensures { IfOk result (λ scope. bindings_in scope ≡ bindings.now ++ bindings_in outer.now) }
     {
         let declared = Declared::of(alloc, bindings.items())?;
-        Ok(Scope::Element(declared, outer))
+        Ok(NamespaceScope::Element(declared, outer))
     }
 
     /// The namespace that the prefix is bound to. The time grows with the number of open elements, and for each of them
@@ -103,8 +103,8 @@ impl<'a, 'b> Scope<'a, 'b> {
         ensures { option_map (λ space. space.now) result ≡ beside prefix.now (bindings_in self.now) }
     {
         match self {
-            Scope::Document => outside(prefix),
-            Scope::Element(declared, outer) => match declared.space_of(prefix) {
+            NamespaceScope::Document => outside(prefix),
+            NamespaceScope::Element(declared, outer) => match declared.space_of(prefix) {
                 Some(space) => Some(space),
                 None => outer.space_of(prefix),
             },

@@ -11,13 +11,16 @@ ghost use Rattle.schema_rules.specs.Values as table;
 use crate::attributes::value_of;
 use crate::numbers::{is_over, is_zero, small_number};
 use crate::references::{resolve, type_of};
-use crate::roles::Role;
-use crate::scopes::Scope;
-use xa_base::{SCHEMA_SPACE, Text, XMLNS_SPACE, XSI_SPACE, first_word, is_ncname, is_numeral, is_short_part, is_short_space};
+use crate::roles::ElementRole;
+use crate::scopes::NamespaceScope;
+use xa_base::{
+    SCHEMA_SPACE, Text, XMLNS_SPACE, XSI_SPACE, first_word, is_ncname, is_numeral, is_short_part,
+    is_short_space,
+};
 
 /// The form of an attribute's value.
 #[derive(Clone, Copy, Debug, PartialEq, Eq)]
-pub enum Form {
+pub enum ValueForm {
     /// A truth value (Part 2, section 3.2.2.1).
     Truth,
     /// `qualified` or `unqualified`.
@@ -41,20 +44,20 @@ pub enum Form {
 }
 
 // The form of the value of the attribute with this name, if it has one.
-fn form_of(name: &str) -> Option<Form>
+fn form_of(name: &str) -> Option<ValueForm>
     ensures { result ≡ beside name.now table.forms }
 {
     match name {
-        "targetNamespace" => Some(Form::TargetNamespace),
-        "elementFormDefault" | "attributeFormDefault" | "form" => Some(Form::Qualification),
-        "name" => Some(Form::NcName),
-        "ref" => Some(Form::Reference),
-        "type" | "base" | "itemType" => Some(Form::TypeName),
-        "memberTypes" => Some(Form::TypeNames),
-        "nillable" | "abstract" | "mixed" => Some(Form::Truth),
-        "use" => Some(Form::Prescription),
-        "minOccurs" => Some(Form::Digits),
-        "maxOccurs" => Some(Form::DigitsOrUnbounded),
+        "targetNamespace" => Some(ValueForm::TargetNamespace),
+        "elementFormDefault" | "attributeFormDefault" | "form" => Some(ValueForm::Qualification),
+        "name" => Some(ValueForm::NcName),
+        "ref" => Some(ValueForm::Reference),
+        "type" | "base" | "itemType" => Some(ValueForm::TypeName),
+        "memberTypes" => Some(ValueForm::TypeNames),
+        "nillable" | "abstract" | "mixed" => Some(ValueForm::Truth),
+        "use" => Some(ValueForm::Prescription),
+        "minOccurs" => Some(ValueForm::Digits),
+        "maxOccurs" => Some(ValueForm::DigitsOrUnbounded),
         _ => None,
     }
 }
@@ -104,7 +107,7 @@ fn is_target(space: &[u8]) -> bool
 }
 
 // Whether each word is the name of a type.
-fn are_type_names(scope: &Scope<'_, '_>, text: &str) -> bool
+fn are_type_names(scope: &NamespaceScope<'_, '_>, text: &str) -> bool
     ensures { result ≡ list_all (λ word. is_some (type_name (bindings_in scope.now) word)) (words_of text.now) }
 {
     let mut rest = text;
@@ -118,28 +121,28 @@ fn are_type_names(scope: &Scope<'_, '_>, text: &str) -> bool
 }
 
 // Whether the value has the form.
-fn has_form(scope: &Scope<'_, '_>, form: Form, value: &Text) -> bool
+fn has_form(scope: &NamespaceScope<'_, '_>, form: ValueForm, value: &Text) -> bool
     ensures { result ≡ table.has_form (bindings_in scope.now) form value.now }
 {
     match form {
-        Form::Truth => truth_of(value.as_str()).is_some(),
-        Form::Qualification => qualification_of(value.as_str()).is_some(),
-        Form::Prescription => is_prescription(value.as_str()),
-        Form::Digits => is_numeral(value.bytes()),
-        Form::DigitsOrUnbounded => {
+        ValueForm::Truth => truth_of(value.as_str()).is_some(),
+        ValueForm::Qualification => qualification_of(value.as_str()).is_some(),
+        ValueForm::Prescription => is_prescription(value.as_str()),
+        ValueForm::Digits => is_numeral(value.bytes()),
+        ValueForm::DigitsOrUnbounded => {
             is_numeral(value.bytes()) || value.bytes() == b"unbounded".as_slice()
         }
-        Form::NcName => is_name(value),
-        Form::Reference => resolve(scope, value.as_str()).is_some(),
-        Form::TypeName => type_of(scope, value.as_str()).is_some(),
-        Form::TypeNames => are_type_names(scope, value.as_str()),
-        Form::TargetNamespace => is_target(value.bytes()),
+        ValueForm::NcName => is_name(value),
+        ValueForm::Reference => resolve(scope, value.as_str()).is_some(),
+        ValueForm::TypeName => type_of(scope, value.as_str()).is_some(),
+        ValueForm::TypeNames => are_type_names(scope, value.as_str()),
+        ValueForm::TargetNamespace => is_target(value.bytes()),
     }
 }
 
 // Whether the value of the attribute has the form that it is to have.
 #[tactic(auto, unfolding(crate::specs::Values::is_well_formed))]
-fn is_well_formed(scope: &Scope<'_, '_>, name: &str, value: &Text) -> bool
+fn is_well_formed(scope: &NamespaceScope<'_, '_>, name: &str, value: &Text) -> bool
     ensures { result ≡ table.is_well_formed (bindings_in scope.now) name.now value.now }
 {
     match form_of(name) {
@@ -148,18 +151,18 @@ fn is_well_formed(scope: &Scope<'_, '_>, name: &str, value: &Text) -> bool
     }
 }
 
-fn has_malformed(scope: &Scope<'_, '_>, own: &[(Text, Text)]) -> bool
+fn has_malformed(scope: &NamespaceScope<'_, '_>, own: &[(Text, Text)]) -> bool
     ensures { result ≡ table.has_malformed (bindings_in scope.now) own.now }
 {
     own.iter().any(|attribute| !is_well_formed(scope, attribute.0.as_str(), &attribute.1))
 }
 
 // Whether this declares an attribute of the name `xmlns`.
-fn is_xmlns(role: Role, own: &[(Text, Text)]) -> bool
+fn is_xmlns(role: ElementRole, own: &[(Text, Text)]) -> bool
     ensures { result ≡ table.is_xmlns role own.now }
 {
     match role {
-        Role::GlobalAttribute | Role::LocalAttribute => match value_of("name", own) {
+        ElementRole::GlobalAttribute | ElementRole::LocalAttribute => match value_of("name", own) {
             Some(name) => name.bytes() == b"xmlns".as_slice(),
             None => false,
         },
@@ -185,7 +188,11 @@ fn is_crossed(own: &[(Text, Text)]) -> bool
 }
 
 /// Whether a value isn't of its form, or two don't fit together.
-pub fn has_bad_value(role: Role, scope: &Scope<'_, '_>, own: &[(Text, Text)]) -> bool
+pub fn has_bad_value(
+    role: ElementRole,
+    scope: &NamespaceScope<'_, '_>,
+    own: &[(Text, Text)],
+) -> bool
     ensures { result ≡ table.has_bad_value role (bindings_in scope.now) own.now }
 {
     has_malformed(scope, own) || is_xmlns(role, own) || is_crossed(own)

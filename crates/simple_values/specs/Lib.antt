@@ -1,4 +1,4 @@
-pub mod Answers
+pub mod Answering
 pub mod Chains
 pub mod Lexical
 pub mod Reading

@@ -2,7 +2,7 @@
 ghost use Rattle.std.specs.Prelude.{◌≡◌, ◌<◌, ◌^◌, MatchResult, IfOk, Ok, Err, length};
 ghost use Rattle.label_tree.specs.Rose.{node, none as no_kids, more as with_kid};
 ghost use Rattle.xa_base.specs.WhiteSpace.{words_of};
-ghost use Rattle.simple_values.specs.Answers.{Answers};
+ghost use Rattle.simple_values.specs.Answering.{AnswersReading};
 ghost use Rattle.simple_types.specs.Seen.{space_of, spaces_in};
 ghost use Rattle.simple_types.specs.Sound.{Sound, AreSound};
 ghost use Rattle.simple_values.specs.Reading as rule;
@@ -23,7 +23,7 @@ fn read_each(alloc: Global, item: &Simple, text: &str) -> Result<Vec<Tree<ValueL
     requires { Sound (space_of item.now) }
     ensures { MatchResult result
         (λ values. rule.read_each (rule.reads (space_of item.now)) (words_of text.now) ≡ Ok values.items)
-        (λ error. Answers (Err error) (rule.read_each (rule.reads (space_of item.now)) (words_of text.now))) }
+        (λ error. AnswersReading (Err error) (rule.read_each (rule.reads (space_of item.now)) (words_of text.now))) }
 {
     let mut values = Vec::new(alloc);
     let mut rest = text;
@@ -44,7 +44,7 @@ fn read_list(
     text: &str,
 ) -> Result<Tree<ValueLabel>, SimpleError>
     requires { Sound (space_of item.now) }
-    ensures { Answers result (rule.list_within min max (rule.read_each (rule.reads (space_of item.now)) (words_of text.now))) }
+    ensures { AnswersReading result (rule.list_within min max (rule.read_each (rule.reads (space_of item.now)) (words_of text.now))) }
 {
     let values = read_each(alloc, item, text)?;
     let count = values.len();
@@ -66,7 +66,7 @@ fn take(
     ensures bound { IfOk result (λ taken. taken.0 < length members.now) }
     ensures taken { MatchResult result
         (λ taken. rule.taken_by (spaces_in members.now) text.now ≡ Ok (taken.0, taken.1))
-        (λ error. Answers (Err error) (rule.taken_by (spaces_in members.now) text.now)) }
+        (λ error. AnswersReading (Err error) (rule.taken_by (spaces_in members.now) text.now)) }
 {
     'members: for i in 0..members.len() {
         match read(alloc, &members[i], text) {
@@ -92,7 +92,7 @@ fn take_again(
     ensures bound { IfOk result (λ taken. taken.0 < length members.now) }
     ensures taken { MatchResult result
         (λ taken. rule.taken_by (spaces_in members.now) (rule.spelled_by (spaces_in members.now) member value.now) ≡ Ok (taken.0, taken.1))
-        (λ error. Answers (Err error) (rule.taken_by (spaces_in members.now) (rule.spelled_by (spaces_in members.now) member value.now))) }
+        (λ error. AnswersReading (Err error) (rule.taken_by (spaces_in members.now) (rule.spelled_by (spaces_in members.now) member value.now))) }
 {
     let spelled = spelling(alloc, &members[member], value)?;
     take(alloc, members, spelled.as_str())
@@ -116,7 +116,7 @@ fn choice(
 fn settle(alloc: Global, members: &[Simple], text: &str) -> Result<Tree<ValueLabel>, SimpleError>
     requires sound { AreSound (spaces_in members.now) }
     requires counted { length members.now < 2 ^ 32 }
-    ensures { Answers result (rule.settled (rule.taken_by (spaces_in members.now)) (rule.spelled_by (spaces_in members.now)) (length members.now) text.now) }
+    ensures { AnswersReading result (rule.settled (rule.taken_by (spaces_in members.now)) (rule.spelled_by (spaces_in members.now)) (length members.now) text.now) }
 {
     let (mut member, mut value) = take(alloc, members, text)?;
     let mut turns = members.len();
@@ -139,7 +139,7 @@ pub(crate) fn read(
     text: &str,
 ) -> Result<Tree<ValueLabel>, SimpleError>
     requires { Sound (space_of simple.now) }
-    ensures { Answers result (rule.reads (space_of simple.now) text.now) }
+    ensures { AnswersReading result (rule.reads (space_of simple.now) text.now) }
 {
     match simple {
         Simple::Bool => read_boolean(alloc, text),
@@ -161,7 +161,7 @@ pub(crate) fn read(
 /// text; the spelling of what was taken is read again until the member stays the same.
 pub fn accept(alloc: Global, simple: &Simple, text: &Text) -> Result<Tree<ValueLabel>, SimpleError>
     requires { Sound (space_of simple.now) }
-    ensures { Answers result (rule.reads (space_of simple.now) text.now) }
+    ensures { AnswersReading result (rule.reads (space_of simple.now) text.now) }
 {
     read(alloc, simple, text.as_str())
 }

@@ -4,7 +4,7 @@ ghost use Rattle.std.specs.List.Sorted.{IsStrictlySortedBy};
 ghost use Rattle.std.specs.Ordering.{nat_cmp, int_cmp, int_eq};
 ghost use Rattle.std.specs.Cmp.Lexicographic.{slice_cmp};
 ghost use Rattle.xa_base.specs.WhiteSpace.{treated};
-ghost use Rattle.simple_values.specs.Answers.{Answers};
+ghost use Rattle.simple_values.specs.Answering.{AnswersReading};
 ghost use Rattle.simple_values.specs.Lexical as lexical;
 ghost use Rattle.simple_values.specs.Reading as rule;
 
@@ -49,7 +49,7 @@ impl<T: Drop> From<AllocFailed<T>> for SimpleError {
 }
 
 pub(crate) fn read_boolean(alloc: Global, text: &str) -> Result<Tree<ValueLabel>, SimpleError>
-    ensures { Answers result (rule.read_boolean (treated WhiteSpace.Collapse text.now)) }
+    ensures { AnswersReading result (rule.read_boolean (treated WhiteSpace.Collapse text.now)) }
 {
     match collapsed_boolean(text) {
         Some(b) => Ok(Tree::leaf(alloc, ValueLabel::Bool(b))),
@@ -74,7 +74,7 @@ pub fn is_within(lo: Option<i128>, hi: Option<i128>, n: i128) -> bool
 
 // Why a number past 128 bits is refused, by the bound on its side.
 fn outside(bound: Option<i128>) -> SimpleError
-    ensures { Answers (Err result) (rule.outside bound) }
+    ensures { AnswersReading (Err result) (rule.outside bound) }
 {
     match bound {
         Some(_) => SimpleError::BadText,
@@ -88,7 +88,7 @@ pub(crate) fn read_whole(
     hi: Option<i128>,
     text: &str,
 ) -> Result<Tree<ValueLabel>, SimpleError>
-    ensures { Answers result (rule.read_whole lo hi (treated WhiteSpace.Collapse text.now)) }
+    ensures { AnswersReading result (rule.read_whole lo hi (treated WhiteSpace.Collapse text.now)) }
 {
     match collapsed_number(text) {
         None => Err(SimpleError::BadText),
@@ -138,7 +138,7 @@ pub fn place_of_word(words: &[Text], word: &Text) -> Option<u32>
 }
 
 fn item(alloc: Global, place: Option<u32>) -> Result<Tree<ValueLabel>, SimpleError>
-    ensures { Answers result (rule.item_at place) }
+    ensures { AnswersReading result (rule.item_at place) }
 {
     match place {
         Some(i) => Ok(Tree::leaf(alloc, ValueLabel::Enum(i))),
@@ -153,7 +153,7 @@ pub(crate) fn read_number(
 ) -> Result<Tree<ValueLabel>, SimpleError>
     requires sorted { IsStrictlySortedBy int_cmp numbers.now }
     requires count { length numbers.now < 2 ^ 32 }
-    ensures { Answers result (rule.read_number numbers.now (treated WhiteSpace.Collapse text.now)) }
+    ensures { AnswersReading result (rule.read_number numbers.now (treated WhiteSpace.Collapse text.now)) }
 {
     match collapsed_number(text) {
         Some(Whole::Within(n)) => item(alloc, place_of(numbers, n)),
@@ -195,7 +195,7 @@ pub(crate) fn read_word(
 ) -> Result<Tree<ValueLabel>, SimpleError>
     requires sorted { IsStrictlySortedBy (slice_cmp nat_cmp) words.now }
     requires count { length words.now < 2 ^ 32 }
-    ensures { Answers result (rule.read_word words.now (treated space text.now)) }
+    ensures { AnswersReading result (rule.read_word words.now (treated space text.now)) }
 {
     match treated_part(space, text) {
         Some(word) => item(alloc, place_of_text(words, word)),
@@ -214,7 +214,7 @@ pub(crate) fn read_characters(
     class: Class,
     text: &str,
 ) -> Result<Tree<ValueLabel>, SimpleError>
-    ensures { Answers result (rule.read_characters min max class (treated space text.now)) }
+    ensures { AnswersReading result (rule.read_characters min max class (treated space text.now)) }
 {
     let made = treated(alloc, space, text)?;
     if has_characters(min, max, class, made.as_str()) {

@@ -10,7 +10,7 @@ use Rattle.doc_text.specs.declared.label.ItemLabel.{ItemLabel}
 use Rattle.doc_text.specs.declared.label.ItemLabel.TheVariants.{Element, Text}
 use Rattle.schema_parts.specs.Raw.{Document}
 use Rattle.schema_parts.specs.declared.components.ElementDecl.{ElementDecl}
-use Rattle.link_names.specs.declared.faults.Fault.{Fault}
+use Rattle.link_names.specs.declared.faults.LinkingFault.{LinkingFault}
 use Rattle.schema_link.specs.Passes.{Pass, IsShownBy, ArePassed}
 use Rattle.schema_read.specs.Raw.{raw_of, raw_by}
 use Rattle.schema_link.specs.Sets.{AreNumbered}
@@ -51,7 +51,7 @@ as_many entries k [] documents is = ap length is
 as_many entries k (name ∷ names) documents (document, first, (others, rest, is)) = ap length is ∙ ap suc (as_many entries (k + 1) names others rest)
 
 -- no fault is shown where no pass has one
-pub never_shown : (docs : List Document) (ps : List Pass) (f : Fault) → ArePassed docs ps → IsShownBy docs ps f → ⊥
+pub never_shown : (docs : List Document) (ps : List Pass) (f : LinkingFault) → ArePassed docs ps → IsShownBy docs ps f → ⊥
 never_shown docs [] f passed shown = shown
 never_shown docs (p ∷ ps) f passed (inl first) = passed.0 f first.0
 never_shown docs (p ∷ ps) f passed (inr later) = never_shown docs ps f passed.1 later.1

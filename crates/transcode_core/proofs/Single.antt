@@ -10,9 +10,9 @@ use Rattle.doc_text.proofs.OneTree.{one_tree, tree_or_fault, one_fault}
 use Rattle.doc_text.proofs.PieceLaws.{PieceLaws}
 use Rattle.transcode_core.specs.declared.outcome.Outcome.{Outcome}
 use Rattle.transcode_core.specs.declared.outcome.Outcome.TheVariants.{Done, SchemaFault, OutOfMemory}
-use Rattle.transcode_core.specs.Order.{Pass, Found, Then}
+use Rattle.transcode_core.specs.Order.{Give, Found, Then}
 use Rattle.schema_faults.specs.Faults.{first_fault, reasons}
-use Rattle.schema_faults.specs.declared.faults.Fault.{Fault}
+use Rattle.schema_faults.specs.declared.faults.DocumentFault.{DocumentFault}
 use Rattle.transcode_core.specs.Steps.{Loaded, Read, Faultless, Linked, Printed, HasRoot, Chosen, Schema, Schemas, Input}
 use Rattle.transcode_core.specs.Due.{InputValue, Answered, Due}
 use Rattle.transcode_core.specs.Words.{Asked, Show, Check, ToPer, ToXml, Trial}
@@ -38,10 +38,10 @@ IsSingle {A} step = (v w : Result A Outcome) → step v → step w → v ≡ w
 ok_inj : {A : Type 0} (a b : A) → (let v : Result A Outcome = Ok a in let w : Result A Outcome = Ok b in v ≡ w) → a ≡ b
 ok_inj a b e = cc
 
-pub Pass-single : {A : Type 0} (a : A) → IsSingle (Pass a)
-Pass-single a (Ok x) (Ok y) p q = ap (λ z. Ok z) (p ∙ sym q)
-Pass-single a (Ok x) (Err o) p q = absurd q
-Pass-single a (Err o) w p q = absurd p
+pub Give-single : {A : Type 0} (a : A) → IsSingle (Give a)
+Give-single a (Ok x) (Ok y) p q = ap (λ z. Ok z) (p ∙ sym q)
+Give-single a (Ok x) (Err o) p q = absurd q
+Give-single a (Err o) w p q = absurd p
 
 pub Found-single : {A : Type 0} (found : Option A) (refusal : Outcome) → IsSingle (Found found refusal)
 Found-single found refusal (Ok x) (Ok y) p q = let e : Some x ≡ Some y = sym p ∙ q in cc
@@ -104,7 +104,7 @@ Read-single laws refusal bytes (Err o) (Err n) (a, v, broken, is) (b, w, other, 
     let e : (a ≡ b) × (v ≡ w) = one_fault laws bytes a b v w broken other in
     ap (λ z. Err z) (is ∙ (ap (λ m. refusal m v) e.0 ∙ (ap (λ r. refusal b r) e.1 ∙ sym was)))
 
-same_fault : (found : Option Fault) (x y : Fault) → found ≡ Some x → found ≡ Some y → x ≡ y
+same_fault : (found : Option DocumentFault) (x y : DocumentFault) → found ≡ Some x → found ≡ Some y → x ≡ y
 same_fault found x y p q = let e : Some x ≡ Some y = sym p ∙ q in cc
 
 Faultless-single : (k : ℕ) (items : tree.Rose ItemLabel) → IsSingle (Faultless k items)
@@ -113,19 +113,19 @@ Faultless-single k items (Ok x) (Err o) p (fault, found, is) = let e : None ≡ 
 Faultless-single k items (Err o) (Ok y) (fault, found, is) q = let e : None ≡ Some fault = sym q ∙ found in cc
 Faultless-single k items (Err o) (Err n) (fault, found, is) (other, finds, was) =
     let same = same_fault (first_fault (reasons items)) fault other found finds in
-    ap (λ z. Err z) (is ∙ (ap (λ (f : Fault). SchemaFault k f.at f.why) same ∙ sym was))
+    ap (λ z. Err z) (is ∙ (ap (λ (f : DocumentFault). SchemaFault k f.at f.why) same ∙ sym was))
 
 pub Schema-single : PieceLaws → (entries : List (List ℕ × List ℕ)) (k : ℕ) (name : List ℕ) → IsSingle (Schema (Some entries) k name)
 Schema-single laws entries k name =
     Then-single _ _ (Loaded-single entries k name) (λ bytes.
     Then-single _ _ (Read-single laws _ bytes) (λ items.
-    Then-single _ _ (Faultless-single k items) (λ _. Pass-single (raw_of k items))))
+    Then-single _ _ (Faultless-single k items) (λ _. Give-single (raw_of k items))))
 
 pub Schemas-single : PieceLaws → (entries : List (List ℕ × List ℕ)) (k : ℕ) (names : List (List ℕ)) → IsSingle (Schemas (Some entries) k names)
-Schemas-single laws entries k [] = Pass-single []
+Schemas-single laws entries k [] = Give-single []
 Schemas-single laws entries k (name ∷ names) =
     Then-single _ _ (Schema-single laws entries k name) (λ document.
-    Then-single _ _ (Schemas-single laws entries (k + 1) names) (λ others. Pass-single (document ∷ others)))
+    Then-single _ _ (Schemas-single laws entries (k + 1) names) (λ others. Give-single (document ∷ others)))
 
 pub Input-single : (left : List ℕ) → IsSingle (Input (Some left))
 Input-single left (Ok x) (Ok y) p q = ap (λ z. Ok z) (sym p.0 ∙ q.0)
@@ -193,7 +193,7 @@ Answered-sure laws entries left (Show files) =
     Then-sure _ _ (Linked-sure documents) (λ parts. Printed-sure parts))
 Answered-sure laws entries left (ToPer root files) =
     Then-sure _ _ (Then-sure _ _ (sure _ (Schemas-single laws entries 1 files)) (λ documents. Chosen-sure root documents)) (λ found.
-    sure _ (Then-single _ _ (InputValue-single laws found left) (λ value. Pass-single _)))
+    sure _ (Then-single _ _ (InputValue-single laws found left) (λ value. Give-single _)))
 Answered-sure laws entries left (Check root files) = λ a w due. absurd due
 Answered-sure laws entries left (ToXml root files) = λ a w due. absurd due
 Answered-sure laws entries left (Trial n) = λ a w due. absurd due

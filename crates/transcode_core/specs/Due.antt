@@ -4,7 +4,7 @@ use Rattle.xa_base.specs.declared.texts.Name.{Name}
 use Rattle.transcode_core.specs.declared.outcome.Outcome.{Outcome}
 use Rattle.transcode_core.specs.declared.outcome.Outcome.TheVariants.{Usage, NotYet}
 use Rattle.transcode_core.specs.Words.{Asked, Show, ToPer, asked}
-use Rattle.transcode_core.specs.Order.{Pass, Found, Refuse, Then}
+use Rattle.transcode_core.specs.Order.{Give, Found, Refuse, Then}
 use Rattle.transcode_core.specs.Steps.{Schemas, Linked, Printed, Chosen, Input, Valued, encoded}
 
 -- the words: what they ask for
@@ -12,8 +12,8 @@ abbrev pub Requested : List (List ℕ) → Result Asked Outcome → Type 0
 Requested words = Found (asked words) Usage
 
 -- the module of the set that the documents are
-abbrev pub Shown : Option (List (List ℕ × List ℕ)) → List (List ℕ) → Result (List ℕ) Outcome → Type 0
-Shown entries files =
+abbrev pub PrintedModule : Option (List (List ℕ × List ℕ)) → List (List ℕ) → Result (List ℕ) Outcome → Type 0
+PrintedModule entries files =
     Then (Schemas entries 1 files) (λ documents.
     Then (Linked documents) (λ parts.
     Printed parts))
@@ -30,11 +30,11 @@ InputValue root left = Then (Input left) (λ bytes. Valued root bytes)
 
 -- the encoding of the value in the input, in which this is the root
 abbrev pub Encoding : Name → Option (List ℕ) → Result (List ℕ) Outcome → Type 0
-Encoding root left = Then (InputValue root left) (λ value. Pass (encoded value))
+Encoding root left = Then (InputValue root left) (λ value. Give (encoded value))
 
 -- the answer to what is asked for; what isn't built is `NotYet`
 abbrev pub Answered : Option (List (List ℕ × List ℕ)) → Option (List ℕ) → Asked → Result (List ℕ) Outcome → Type 0
-Answered entries left (Show files) = Shown entries files
+Answered entries left (Show files) = PrintedModule entries files
 Answered entries left (ToPer root files) = Then (Opened entries root files) (λ found. Encoding found left)
 Answered entries left request = Refuse NotYet
 

@@ -3,9 +3,9 @@ use Rattle.std.specs.Prelude.{◌≡◌, ◌⊎◌, Bool, true, false, Option, S
 use Rattle.transcode_core.specs.declared.outcome.Outcome.{Outcome}
 
 -- this value, and no refusal
-abbrev pub Pass : {A : Type 0} → A → Result A Outcome → Type 0
-Pass a (Ok b) = b ≡ a
-Pass a (Err o) = ⊥
+abbrev pub Give : {A : Type 0} → A → Result A Outcome → Type 0
+Give a (Ok b) = b ≡ a
+Give a (Err o) = ⊥
 
 -- this refusal, and no value
 abbrev pub Refuse : {A : Type 0} → Outcome → Result A Outcome → Type 0

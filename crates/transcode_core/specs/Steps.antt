@@ -2,13 +2,13 @@
 use Rattle.std.specs.Prelude.{◌≡◌, ◌⊎◌, ℕ, Bool, ◌+◌, ◌<◌, ◌≤◌, ⊤, List, [], ◌∷◌, map, take, length, Option, Some, None, Result, Ok, Err, if◌then◌else◌}
 use Rattle.std.specs.List.{Any}
 use Rattle.label_tree.specs.Rose.{Rose}
-use Rattle.xa_base.specs.Entries.{Has, HasLonger, Lacks}
+use Rattle.xa_base.specs.Entries.{HasEntry, HasLonger, Lacks}
 use Rattle.xa_base.specs.declared.texts.Name.{Name}
 use Rattle.doc_text.specs.declared.label.ItemLabel.{ItemLabel}
 use Rattle.doc_text.specs.declared.error.DocWhy.{DocWhy}
 use Rattle.doc_text.specs.Documents.{DocOf, BrokenAt}
 use Rattle.schema_faults.specs.Faults.{first_fault, reasons}
-use Rattle.schema_faults.specs.declared.faults.Fault.{Fault}
+use Rattle.schema_faults.specs.declared.faults.DocumentFault.{DocumentFault}
 use Rattle.schema_parts.specs.Raw.{Document}
 use Rattle.simple_types.specs.Space.{Space}
 use Rattle.link_cycles.specs.SimpleTypes.{simple_types}
@@ -18,7 +18,7 @@ use Rattle.asn_types.specs.declared.modules.Assignment.{Assignment}
 use Rattle.map_assignments.specs.Mapped.{IsMapOf}
 use Rattle.module_print.specs.Printed.{printed}
 use Rattle.schema_parts.specs.declared.components.ElementDecl.{ElementDecl}
-use Rattle.link_names.specs.declared.faults.Fault as link
+use Rattle.link_names.specs.declared.faults.LinkingFault as link
 use Rattle.schema_link.specs.Passes.{passes, IsShownBy, ArePassed}
 use Rattle.schema_read.specs.Raw.{raw_of}
 use Rattle.link_simple.specs.Making.{IsMaking}
@@ -26,11 +26,11 @@ use Rattle.transcode_core.specs.declared.outcome.Outcome.{Outcome}
 use Rattle.transcode_core.specs.declared.outcome.Outcome.TheVariants.{SchemaSyntax, SchemaFault, LinkFault, UnknownRoot, DocSyntax, TooLong, LoadFault, NotYet}
 use Rattle.transcode_core.specs.Booleans.{are_booleans}
 use Rattle.transcode_core.specs.TruthValues.{truth_in}
-use Rattle.transcode_core.specs.Order.{Pass, Found, Test, Then}
+use Rattle.transcode_core.specs.Order.{Give, Found, Test, Then}
 
 -- the contents of file k, if they are no more than the limit
 abbrev pub Loaded : Option (List (List ℕ × List ℕ)) → ℕ → List ℕ → Result (List ℕ) Outcome → Type 0
-Loaded entries k name (Ok bytes) = Has entries name bytes × (length bytes ≤ 16777216)
+Loaded entries k name (Ok bytes) = HasEntry entries name bytes × (length bytes ≤ 16777216)
 Loaded entries k name (Err o) =
     ((o ≡ TooLong k) × HasLonger entries name 16777216) ⊎ ((o ≡ LoadFault k) × Lacks entries name)
 
@@ -42,14 +42,14 @@ Read refusal bytes (Err o) = (at : ℕ) × (why : DocWhy) × BrokenAt bytes at w
 -- the items of file k are a schema document, or have a first fault
 abbrev pub Faultless : ℕ → Rose ItemLabel → Result (Unit {0}) Outcome → Type 0
 Faultless k items (Ok _) = first_fault (reasons items) ≡ None
-Faultless k items (Err o) = (fault : Fault) × (first_fault (reasons items) ≡ Some fault) × (o ≡ SchemaFault k fault.at fault.why)
+Faultless k items (Err o) = (fault : DocumentFault) × (first_fault (reasons items) ≡ Some fault) × (o ≡ SchemaFault k fault.at fault.why)
 
 -- the components of the schema document in the bytes of file k
 abbrev pub SchemaIn : ℕ → List ℕ → Result Document Outcome → Type 0
 SchemaIn k bytes =
     Then (Read (λ at why. SchemaSyntax k at why) bytes) (λ items.
     Then (Faultless k items) (λ _.
-    Pass (raw_of k items)))
+    Give (raw_of k items)))
 
 -- file k is loaded, and is a schema document
 abbrev pub Schema : Option (List (List ℕ × List ℕ)) → ℕ → List ℕ → Result Document Outcome → Type 0
@@ -57,8 +57,8 @@ Schema entries k name = Then (Loaded entries k name) (λ bytes. SchemaIn k bytes
 
 -- the files from number k on, each in turn: their components
 abbrev pub Schemas : Option (List (List ℕ × List ℕ)) → ℕ → List (List ℕ) → Result (List Document) Outcome → Type 0
-Schemas entries k [] = Pass []
-Schemas entries k (name ∷ names) = Then (Schema entries k name) (λ document. Then (Schemas entries (k + 1) names) (λ others. Pass (document ∷ others)))
+Schemas entries k [] = Give []
+Schemas entries k (name ∷ names) = Then (Schema entries k name) (λ document. Then (Schemas entries (k + 1) names) (λ others. Give (document ∷ others)))
 
 -- the parts of the set that the documents stand for
 abbrev pub AreParts : List Document → SetParts → Type 0
@@ -67,7 +67,7 @@ AreParts documents parts = (spaces : List Space) × IsMaking (simple_types docum
 -- the documents as one set, or the first fault of linking
 abbrev pub Linked : List Document → Result SetParts Outcome → Type 0
 Linked documents (Ok parts) = ArePassed documents passes × AreParts documents parts
-Linked documents (Err o) = (fault : link.Fault) × IsShownBy documents passes fault × (o ≡ LinkFault fault.place.file fault.place.at fault.why)
+Linked documents (Err o) = (fault : link.LinkingFault) × IsShownBy documents passes fault × (o ≡ LinkFault fault.place.file fault.place.at fault.why)
 
 -- What is taken so far of sets: global elements of the type boolean.
 abbrev pub Taken : List Document → Result (Unit {0}) Outcome → Type 0

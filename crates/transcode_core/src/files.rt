@@ -3,7 +3,7 @@ ghost use Rattle.std.specs.Prelude.{◌≡◌, ◌≤◌, length, IfOk, IfErr, O
 ghost use Rattle.doc_text.specs.Tokens.{tokens, Ascend};
 ghost use Rattle.schema_parts.specs.Documents.{doc_of};
 ghost use Rattle.schema_read.specs.Raw.{raw_of};
-ghost use Rattle.transcode_core.specs.Order.{Pass, Then};
+ghost use Rattle.transcode_core.specs.Order.{Give, Then};
 ghost use Rattle.std.specs.Io.KnownBytes.{IsAtEnd};
 ghost use Rattle.transcode_core.specs.Steps.{Loaded, Input, Read, Faultless};
 ghost use Rattle.transcode_core.specs.Causes.{Answers, NoMemory, OneLoad, OneRead, IsOfInput};
@@ -71,7 +71,7 @@ pub fn read_schema_items(alloc: Global, file: u32, bytes: &[u8]) -> Result<Items
 /// The components of a schema document, which is this file.
 pub fn read_components(alloc: Global, file: u32, items: &Items) -> Result<RawDoc, Outcome>
     requires { Ascend 0 16777216 (tokens items.now) }
-    ensures { Answers doc_of (Then (Faultless file items.now) (λ _. Pass (raw_of file items.now))) NoMemory result }
+    ensures { Answers doc_of (Then (Faultless file items.now) (λ _. Give (raw_of file items.now))) NoMemory result }
 {
     match read_schema(alloc, items, file) {
         Ok(document) => Ok(document),

@@ -10,8 +10,8 @@ ghost use Rattle.schema_parts.specs.Documents.{doc_of};
 ghost use Rattle.schema_link.specs.Sets.{AreNumbered};
 ghost use Rattle.link_set.specs.Sets.{parts_of};
 ghost use Rattle.transcode_core.specs.Steps.{Linked, Printed, Valued, encoded};
-ghost use Rattle.transcode_core.specs.Order.{Pass, Then};
-ghost use Rattle.transcode_core.specs.Due.{Requested, Shown, Opened, InputValue, Encoding, Answered, Due};
+ghost use Rattle.transcode_core.specs.Order.{Give, Then};
+ghost use Rattle.transcode_core.specs.Due.{Requested, PrintedModule, Opened, InputValue, Encoding, Answered, Due};
 ghost use Rattle.transcode_core.specs.Causes.{Answers, Never, NoMemory, SomeLoad, OneRead, files_of, ReachesFile, reads_input, ReadsInput, ComesToInput, ReachesInput, IsOfInput, Answering, Deciding, Fails, IsRefusal, WritesNothing};
 
 use crate::files::{read_input, read_input_items};
@@ -64,7 +64,7 @@ fn show_documents(alloc: Global, documents: &[RawDoc]) -> Result<Vec<u8>, Outcom
 // What `show` answers for these files.
 fn show<F: Library>(alloc: Global, files: &mut F, names: &[Text]) -> Result<Vec<u8>, Outcome>
     requires { length names.now ≤ 64 }
-    ensures due { Answers (λ bytes. bytes.items) (Shown (F.entries files.old) names.now)
+    ensures due { Answers (λ bytes. bytes.items) (PrintedModule (F.entries files.old) names.now)
         (SomeLoad (F.faults files.old) (F.faults files.new) (F.is_sure files.old) (F.entries files.old) names.now) result }
     ensures files { (F.entries files.new ≡ F.entries files.old) × (F.is_sure files.new ≡ F.is_sure files.old) }
     ensures later { F.faults files.old ≤ F.faults files.new }
@@ -119,7 +119,7 @@ fn read_value<S: Source>(alloc: Global, root: Root<'_>, input: &mut S) -> Result
 
 // The encoding of a truth value.
 fn encode(alloc: Global, value: bool) -> Result<Vec<u8>, Outcome>
-    ensures due { Answers (λ bytes. bytes.items) (Pass (encoded value)) NoMemory result }
+    ensures due { Answers (λ bytes. bytes.items) (Give (encoded value)) NoMemory result }
     ensures stage { IfErr result IsOfInput }
 {
     let octet = if value { 0x80 } else { 0 };

@@ -23,7 +23,7 @@ use Rattle.schema_parts.specs.declared.components.Content.TheVariants as content
 use Rattle.schema_parts.specs.SetParts.{SetParts}
 use Rattle.validity.specs.Asked.{Attribute, asked_at}
 use Rattle.validity.specs.Attributes.{IsRight, Stands, xsi}
-use Rattle.validity.specs.Fault.{FirstFault}
+use Rattle.validity.specs.Faults.{FirstFault}
 use Rattle.validity.specs.Private.WorkedSets.{unqualified, any_byte, element_decl, attribute_use, complex_def, unnamed_type, particle_of, element_particle}
 use Rattle.validity.specs.declared.why.InvalidWhy.TheVariants.{WrongRoot, XsiType, BadNil, UnknownAttribute, BadAttribute, TooWide, MissingAttribute, NilWithContent, TextNotAllowed, ElementNotAllowed, BadText, UnexpectedElement}
 

@@ -9,9 +9,9 @@ beside name [] = None
 beside name (entry ∷ entries) = if bytes_eq entry.0 name then Some entry.1 else beside name entries
 
 -- where the entries are told, these are the contents of the first entry of the name
-abbrev pub Has : Option (List (List ℕ × List ℕ)) → List ℕ → List ℕ → Type 0
-Has None name bytes = ⊤
-Has (Some entries) name bytes = beside name entries ≡ Some bytes
+abbrev pub HasEntry : Option (List (List ℕ × List ℕ)) → List ℕ → List ℕ → Type 0
+HasEntry None name bytes = ⊤
+HasEntry (Some entries) name bytes = beside name entries ≡ Some bytes
 
 -- where the entries are told, none has the name
 abbrev pub Lacks : Option (List (List ℕ × List ℕ)) → List ℕ → Type 0

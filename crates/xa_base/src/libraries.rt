@@ -1,7 +1,7 @@
 //! Where named files come from.
 ghost use Rattle.std.specs.Prelude.{◌≡◌, ◌⊎◌, ℕ, Bool, true, false, ◌+◌, ◌-◌, ◌^◌, ◌<◌, ◌≤◌, ◌↔◌, ◌&&◌, min, List, [], ◌∷◌, length, map, bytes_eq, nat_lt, Option, Some, None, Ok, Err, MatchOption, MatchResult, IsErr, IsErrOf, IfOk, IfSome, IsTrue, IsSome, Contains, if◌then◌else◌};
 ghost use Rattle.xa_base.specs.Faults.{Counts, count_after, one_more};
-ghost use Rattle.xa_base.specs.Entries.{beside, Has, HasLonger, Lacks, has_failed};
+ghost use Rattle.xa_base.specs.Entries.{beside, HasEntry, HasLonger, Lacks, has_failed};
 
 use crate::texts::Text;
 use std::alloc::Global;
@@ -34,7 +34,7 @@ pub trait Library {
     fn load(&mut self, alloc: Global, name: &Text, limit: u64) -> Result<Vec<u8>, LoadError>
         requires { limit ≤ 2 ^ 32 }
         ensures most { IfOk result (λ bytes. length bytes.items ≤ limit) }
-        ensures contents { IfOk result (λ bytes. Has (entries self.old) name.now bytes.items) }
+        ensures contents { IfOk result (λ bytes. HasEntry (entries self.old) name.now bytes.items) }
         ensures too_long { IsErrOf result LoadError.TooLong → HasLonger (entries self.old) name.now limit }
         ensures kept { entries self.new ≡ entries self.old }
         ensures sure { is_sure self.new ≡ is_sure self.old }
@@ -124,7 +124,7 @@ impl Library for SureLibrary {
 
     fn load(&mut self, alloc: Global, name: &Text, limit: u64) -> Result<Vec<u8>, LoadError>
         ensures most { IfOk result (λ bytes. length bytes.items ≤ limit) }
-        ensures contents { IfOk result (λ bytes. Has (Some self.old.entries) name.now bytes.items) }
+        ensures contents { IfOk result (λ bytes. HasEntry (Some self.old.entries) name.now bytes.items) }
         ensures too_long { IsErrOf result LoadError.TooLong ↔ HasLonger (Some self.old.entries) name.now limit }
         ensures kept { self.new.entries ≡ self.old.entries }
         ensures cause { Counts self.old.faults self.new.faults (IsErrOf result LoadError.Failed) }
@@ -187,7 +187,7 @@ impl Library for MemoryLibrary {
 
     fn load(&mut self, alloc: Global, name: &Text, limit: u64) -> Result<Vec<u8>, LoadError>
         ensures most { IfOk result (λ bytes. length bytes.items ≤ limit) }
-        ensures contents { IfOk result (λ bytes. Has (Some self.old.entries) name.now bytes.items) }
+        ensures contents { IfOk result (λ bytes. HasEntry (Some self.old.entries) name.now bytes.items) }
         ensures too_long { IsErrOf result LoadError.TooLong → HasLonger (Some self.old.entries) name.now limit }
         ensures longer { HasLonger (Some self.old.entries) name.now limit → IsErrOf result LoadError.TooLong ⊎ IsErrOf result LoadError.Failed }
         ensures kept { self.new.entries ≡ self.old.entries }

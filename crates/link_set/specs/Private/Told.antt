@@ -7,7 +7,7 @@ use Rattle.std.specs.Ordering.{nat_cmp}
 use Rattle.xa_base.specs.declared.texts.Name.{Name}
 use Rattle.simple_types.specs.declared.simples.Builtin.{Builtin}
 use Rattle.link_set.specs.Builtins.{rank}
-use Rattle.link_set.specs.Numbers.{Entry, entry, Numbers, TypeNumbers}
+use Rattle.link_set.specs.Numbering.{NamedPlace, entry, ComponentNumbers, TypeNumbers}
 use Rattle.link_set.specs.Private.Seen.{elements_of, attributes_of}
 use Rattle.link_set.specs.Written.{Lists}
 use Rattle.link_cycles.specs.Seen.{definitions_of as simples_of}
@@ -15,13 +15,13 @@ use Rattle.link_cycles.specs.Tables.{named_in, placed_in}
 use Rattle.link_complex.specs.Seen.{definitions_of as complexes_of}
 use Rattle.link_set.specs.declared.listing.Listed.{Listed}
 use Rattle.link_set.specs.declared.tables.TypeNumbers.{TypeNumbers as KeptTypes}
-use Rattle.link_set.specs.declared.tables.Numbers.{Numbers as KeptNumbers}
-use Rattle.link_set.specs.declared.numbers.Entry.{Entry as KeptEntry}
+use Rattle.link_set.specs.declared.tables.ComponentNumbers.{ComponentNumbers as KeptNumbers}
+use Rattle.link_set.specs.declared.numbers.NamedPlace.{NamedPlace as KeptEntry}
 
-abbrev pub entry_of : KeptEntry → Entry
+abbrev pub entry_of : KeptEntry → NamedPlace
 entry_of e = entry (option_map (λ (a : Bor Name). a.now) e.name) e.place
 
-abbrev pub entries_of : List KeptEntry → List Entry
+abbrev pub entries_of : List KeptEntry → List NamedPlace
 entries_of es = map entry_of es
 
 -- what the table has at the rank of a built-in type
@@ -42,7 +42,7 @@ listed_by l =
 abbrev pub told_types : KeptTypes → TypeNumbers
 told_types t = record { named = named_in t.named; placed = placed_in t.placed }
 
-abbrev pub told_by : KeptNumbers → Numbers
+abbrev pub told_by : KeptNumbers → ComponentNumbers
 told_by n =
     record {
       elements = named_in n.elements.globals;

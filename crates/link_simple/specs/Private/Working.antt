@@ -4,7 +4,7 @@ use Rattle.simple_types.specs.Seen.{space_of}
 use Rattle.simple_types.specs.Sound.{Sound}
 use Rattle.simple_types.specs.Space.{Space}
 use Rattle.link_names.specs.declared.places.Place.{Place}
-use Rattle.link_names.specs.declared.faults.Fault.{Fault}
+use Rattle.link_names.specs.declared.faults.LinkingFault.{LinkingFault}
 use Rattle.link_names.specs.Order.{fault, IsFirstSuch}
 use Rattle.link_cycles.specs.Cycles.{numbers_in, edges}
 use Rattle.link_cycles.specs.Graphs.{IsEdge}
@@ -21,19 +21,19 @@ space_left (left.Made simple) = Some (space_of simple)
 space_left (left.Refused why) = None
 space_left left.PartMissing = None
 
-abbrev pub fault_left : Place → Left → Option Fault
+abbrev pub fault_left : Place → Left → Option LinkingFault
 fault_left body (left.Made simple) = None
 fault_left body (left.Refused why) = Some (fault why body)
 fault_left body left.PartMissing = None
 
 -- of a type that is done
-abbrev pub IsFaultAmong : List SimpleDefinition → List (Option Space) → List Bool → Fault → Type 0
+abbrev pub IsFaultAmong : List SimpleDefinition → List (Option Space) → List Bool → LinkingFault → Type 0
 IsFaultAmong ds made done f =
     (n : ℕ) × (d : SimpleDefinition) × (mark done n ≡ true) × (slice_get ds n ≡ Some d) × (f.place ≡ d.body)
     × IsLeft (numbers_in ds) made d.place.file d.how (Err f.why)
 
 -- those that are done are what their parts leave, in each making of all
-pub record Stands (ds : List SimpleDefinition) (made : List (Option Space)) (done : List Bool) (found : Option Fault) : Type 0 where
+pub record Stands (ds : List SimpleDefinition) (made : List (Option Space)) (done : List Bool) (found : Option LinkingFault) : Type 0 where
   pub long : length made ≡ length ds
   pub marks : length done ≡ length ds
   pub fits : (n : ℕ) (d : SimpleDefinition) → mark done n ≡ true → slice_get ds n ≡ Some d → IsEntry (numbers_in ds) made d (entry_at made n)

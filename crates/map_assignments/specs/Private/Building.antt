@@ -16,7 +16,7 @@ use Rattle.asn_types.specs.declared.types.Component.{Component}
 use Rattle.asn_types.specs.declared.types.TypeLabel.{TypeLabel}
 use Rattle.map_assignments.specs.declared.parts.PartList.{PartList}
 use Rattle.map_subjects.specs.declared.subjects.Subject.{Subject}
-use Rattle.map_assignments.specs.Plans.{Label, Plan, Parts}
+use Rattle.map_assignments.specs.Plans.{Label, TypePlan, Parts}
 use Rattle.map_assignments.specs.Planning.{is_once, particle_type, in_place}
 use Rattle.map_assignments.specs.Naming.{component_of, wanted, part_marks, AreNamed}
 
@@ -38,7 +38,7 @@ LeadsToNamed place made rest whole =
     → AreNamed place [] whole (made.components.items ++ parts) (roses_of (made.kids.items ++ ts))
 
 -- the type of a declaration at a particle, where so many types without a name may stand in one another
-abbrev pub declared : Set → ℕ → ℕ → Plan
+abbrev pub declared : Set → ℕ → ℕ → TypePlan
 declared s levels = particle_type s (in_place s levels)
 
 abbrev pub term_of : Rose ParticleLabel → Term

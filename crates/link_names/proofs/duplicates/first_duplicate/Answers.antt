@@ -1,14 +1,14 @@
 use Rattle.std.proofs.Common.{IfOk, [], ◌++◌, List, refl, ap, ◌∙◌, subst}
 use Rattle.schema_walk.specs.Parts.{Part}
 use Rattle.schema_walk.specs.Seen.{parts_of}
-use Rattle.link_names.specs.declared.faults.Fault.{Fault}
+use Rattle.link_names.specs.declared.faults.LinkingFault.{LinkingFault}
 use Rattle.link_names.specs.declared.faults.LinkWhy.TheVariants.{Duplicate}
 use Rattle.link_names.specs.declared.global_names.NameKind.TheVariants as kind
 use Rattle.link_names.specs.Globals.{repeated, globals_among}
 use Rattle.link_names.specs.Order.{IsFirstOf}
 use Rattle.link_names.proofs.duplicates.first_duplicate.Goals as goal
 
-abbrev among : List Part → List Fault
+abbrev among : List Part → List LinkingFault
 among ps =
     repeated Duplicate (globals_among kind.Element ps) ++ repeated Duplicate (globals_among kind.Attribute ps) ++ repeated Duplicate (globals_among kind.Type ps)
 

@@ -2,7 +2,7 @@ use Rattle.std.proofs.Common.{◌≡◌, map, List, ap, ◌∙◌, subst}
 use Rattle.std.specs.List.{filter_map, flat_map}
 use Rattle.schema_parts.specs.Documents.{doc_of}
 use Rattle.schema_walk.specs.Seen.{parts_of}
-use Rattle.link_names.specs.declared.faults.Fault.{Fault}
+use Rattle.link_names.specs.declared.faults.LinkingFault.{LinkingFault}
 use Rattle.link_names.specs.Private.Mentioned.{mentions_of}
 use Rattle.link_names.specs.Private.NameTables.{told_by}
 use Rattle.link_names.specs.Order.{IsFirstOf}
@@ -21,5 +21,5 @@ returns c =
     ap (filter_map (fault_of told)) (ap mentions_of c.deref.ensures.value ∙ c.in_ok-mentions.ensures)
     ∙ same_faults told (names_among ps) c.in_ok-table.ensures (flat_map of_part ps)
     ∙ ap (λ qs. filter_map (fault_of (names_among qs)) (flat_map of_part qs)) same in
-    let P : List Fault → Type 0 = λ fs. IsFirstOf fs c.first_wrong.result in
+    let P : List LinkingFault → Type 0 = λ fs. IsFirstOf fs c.first_wrong.result in
     subst P all c.first_wrong.ensures

@@ -1,6 +1,6 @@
 use Rattle.std.proofs.Common.{◌≡◌, ◌+◌, ◌≤◌, length, drop}
 use Rattle.simple_types.specs.declared.simples.Builtin.{Builtin}
-use Rattle.link_set.specs.Numbers.{builtin_numbers}
+use Rattle.link_set.specs.Numbering.{builtin_numbers}
 use Rattle.link_set.specs.Private.Told.{ranked_in}
 use Rattle.link_set.proofs.numbers.by_rank.Given as goal
 

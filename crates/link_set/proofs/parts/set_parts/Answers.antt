@@ -2,7 +2,7 @@ use Rattle.std.proofs.Common.{◌≡◌, map, ap, ap₂, ◌∙◌, subst}
 use Rattle.std.specs.Prelude.{IfOk}
 use Rattle.simple_types.specs.Seen.{space_of}
 use Rattle.schema_parts.specs.Documents.{doc_of}
-use Rattle.link_set.specs.Numbers.{numbers_in}
+use Rattle.link_set.specs.Numbering.{numbers_in}
 use Rattle.link_set.specs.Parts.{parts_made}
 use Rattle.link_set.specs.Sets.{SetParts, set_with}
 use Rattle.link_set.specs.declared.parts.SetParts.{SetParts as KeptParts}

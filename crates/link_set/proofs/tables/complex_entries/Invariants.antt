@@ -1,6 +1,6 @@
 use Rattle.std.proofs.Common.{◌≡◌, map, take}
 use Rattle.link_complex.specs.Seen.{definitions_of}
-use Rattle.link_set.specs.Numbers.{complex_entry}
+use Rattle.link_set.specs.Numbering.{complex_entry}
 use Rattle.link_set.specs.Private.Told.{entries_of}
 use Rattle.link_set.proofs.tables.complex_entries.Given as goal
 

@@ -1,6 +1,6 @@
 use Rattle.std.proofs.Common.{◌≡◌, map, take}
 use Rattle.link_set.specs.Private.Seen.{elements_of}
-use Rattle.link_set.specs.Numbers.{element_entry}
+use Rattle.link_set.specs.Numbering.{element_entry}
 use Rattle.link_set.specs.Private.Told.{entries_of}
 use Rattle.link_set.proofs.tables.element_entries.Given as goal
 

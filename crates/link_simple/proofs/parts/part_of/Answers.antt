@@ -13,7 +13,7 @@ use Rattle.link_simple.specs.Making.{space_at, part_space}
 use Rattle.link_simple.specs.Private.Parts.{entries_of, seen}
 use Rattle.link_simple.proofs.parts.part_of.Goals as goal
 
-named_space : {E : Type 0} (ns : cycles.Numbers) (made : List (Option Space)) (file : ℕ) (b c : Base) (r : Result (Option Part) E)
+named_space : {E : Type 0} (ns : cycles.SimpleNumbers) (made : List (Option Space)) (file : ℕ) (b c : Base) (r : Result (Option Part) E)
     → IfOk r (λ found. (k : ℕ) → option_map seen found ≡ part_space ns made k c) → b ≡ c → IfOk r (λ found. option_map seen found ≡ part_space ns made file b)
 named_space ns made file b c (Ok found) h is = h file ∙ sym (ap (part_space ns made file) is)
 named_space ns made file b c (Err e) h is = tt

@@ -7,7 +7,8 @@ use Rattle.facet_rules.specs.Making.{AreEachSound}
 use Rattle.link_cycles.specs.Tables.{told_by}
 use Rattle.link_simple.specs.Making.{part_space, part_spaces, with_space}
 use Rattle.link_simple.specs.Private.Parts.{entries_of, seen, seen_all, behind}
-use Rattle.link_simple.proofs.Lending.{cut, past_end, part_behind, part_missing, all_behind, part_sound}
+use Rattle.facet_rules.proofs.Counting.{cut, past_end}
+use Rattle.link_simple.proofs.Lending.{part_behind, part_missing, all_behind, part_sound}
 use Rattle.link_simple.proofs.parts.parts_of.Goals as goal
 
 pub bases-preserved : goal.bases-preserved

@@ -1,5 +1,5 @@
 use Rattle.std.proofs.Common.{◌<◌, ◌^◌, [], All, length, sym, subst, ◌∙◌}
-use Rattle.map_subjects.specs.declared.subjects.Entry.{Entry}
+use Rattle.map_subjects.specs.declared.subjects.NamedSubject.{NamedSubject}
 use Rattle.map_subjects.specs.Subjects.{place_in, IsSubject}
 use Rattle.map_subjects.proofs.InOrder.{all-subjects}
 use Rattle.map_assignments.specs.Mapped.{AreMapped}
@@ -14,7 +14,7 @@ assignments-requires c =
     let made = c.in_ok-ordered.ensures in record {
       linked = c.element_count.ensures.linked;
       few = subst (λ es. length es < 2 ^ 32) (sym lent) made.few;
-      entries = subst (All (λ (e : Entry). IsSubject s e.subject)) (sym lent) (all-subjects s c.in_ok-ordered.ordered.items made.entries);
+      entries = subst (All (λ (e : NamedSubject). IsSubject s e.subject)) (sym lent) (all-subjects s c.in_ok-ordered.ordered.items made.entries);
     }
 
 pub of-requires : goal.of-requires

@@ -1,7 +1,7 @@
 use Rattle.std.proofs.Common.{◌≡◌, refl, sym, ap, ◌∙◌, subst, arith, Err}
 use Rattle.std.specs.Prelude.{◌==◌, false}
 use Rattle.std.proofs.lemmas.Bool.Decides.{nat_tests}
-use Rattle.simple_values.specs.Answers.{Answers}
+use Rattle.simple_values.specs.Answering.{AnswersReading}
 use Rattle.simple_types.specs.Space.{count_parts}
 use Rattle.simple_types.specs.Seen.{space_of, spaces_in}
 use Rattle.simple_types.specs.Sound.{Sound}
@@ -93,7 +93,7 @@ pub take-members-preserved : goal.take-members-preserved
 take-members-preserved t c =
     let members = c.args.members.now in
     let text = c.args.text.now in
-    let refused = subst (λ e. Answers (Err e) (reads (space_of c.index-members-i.result) text)) c.in-Err-BadText.field-0-is c.in-Err-BadText.ensures in
+    let refused = subst (λ e. AnswersReading (Err e) (reads (space_of c.index-members-i.result) text)) c.in-Err-BadText.field-0-is c.in-Err-BadText.ensures in
     passes members text c.members.i c.index-members-i.result c.members-test.true c.members.invariant (ap (λ m. reads (space_of m) text) (sym c.index-members-i.is) ∙ refused)
 
 pub settle-turns-init : goal.settle-turns-init
@@ -120,5 +120,5 @@ pub take-returns-in-Err-TooWide-clause-taken : goal.take-returns-in-Err-TooWide-
 take-returns-in-Err-TooWide-clause-taken t c =
     let members = c.args.members.now in
     let text = c.args.text.now in
-    let refused = subst (λ e. Answers (Err e) (reads (space_of c.index-members-i.result) text)) c.in-Err-TooWide.field-0-is c.in-Err-TooWide.ensures in
+    let refused = subst (λ e. AnswersReading (Err e) (reads (space_of c.index-members-i.result) text)) c.in-Err-TooWide.field-0-is c.in-Err-TooWide.ensures in
     finds_wide members text c.members.i c.index-members-i.result c.members-test.true c.members.invariant (ap (λ m. reads (space_of m) text) (sym c.index-members-i.is) ∙ refused)

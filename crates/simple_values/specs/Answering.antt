@@ -1,0 +1,12 @@
+-- How the code answers.
+use Rattle.std.specs.Prelude.{◌≡◌, Result, Ok, Err}
+use Rattle.simple_values.specs.declared.reading.SimpleError.{SimpleError}
+use Rattle.simple_values.specs.declared.reading.SimpleError.TheVariants as error
+use Rattle.simple_values.specs.Reading.{Refusal, Wide, Bad}
+
+-- with what is due, or for want of memory
+abbrev pub AnswersReading : {A : Type 0} → Result A SimpleError → Result A Refusal → Type 0
+AnswersReading (Ok value) due = due ≡ Ok value
+AnswersReading (Err error.BadText) due = due ≡ Err Bad
+AnswersReading (Err error.TooWide) due = due ≡ Err Wide
+AnswersReading (Err error.Memory) due = Unit {0}
