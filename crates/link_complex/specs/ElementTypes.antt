@@ -1,21 +1,21 @@
 -- Element particles of one name in a content model whose types differ (XML Schema Part 1, section 3.8.6, 'Element
 -- Declarations Consistent').
-use Rattle.std.specs.Prelude.{◌≡◌, ℕ, true, List, [], ◌∷◌, ◌++◌, map, Option, Some, None, slice_get, ◌⊎◌, if◌then◌else◌}
+use Rattle.std.specs.Prelude.{◌≡◌, ℕ, true, List, [], ◌∷◌, map, Option, Some, None, slice_get, ◌⊎◌, if◌then◌else◌}
 use Rattle.std.specs.List.{flat_map}
 use Rattle.xa_base.specs.declared.texts.Name.{Name}
 use Rattle.xa_base.specs.Names.{name_eq}
-use Rattle.label_tree.specs.Rose.{Rose, node, Roses}
-use Rattle.label_tree.specs.Rose as rose
 use Rattle.simple_types.specs.declared.simples.Builtin.{Builtin}
 use Rattle.content_models.specs.declared.particles.ParticleLabel.{ParticleLabel}
 use Rattle.content_models.specs.declared.particles.ParticleKind.TheVariants as particle
 use Rattle.schema_parts.specs.declared.simple_definitions.RawRef.TheVariants as reference
 use Rattle.schema_parts.specs.Raw.{Kind, NamedKind, SimpleKind, ComplexKind, Element, Local, Reference, Own, Document}
+use Rattle.schema_walk.specs.Parts as part
+use Rattle.schema_walk.specs.Parts.{What, in_content}
 use Rattle.link_names.specs.declared.places.Place.{Place}
 use Rattle.link_names.specs.declared.faults.LinkingFault.{LinkingFault}
 use Rattle.link_names.specs.declared.faults.LinkWhy.TheVariants.{TypesDiffer}
 use Rattle.link_names.specs.Order.{place, fault, is_before, OneHas}
-use Rattle.link_complex.specs.ComplexTypes.{ComplexDefinition, of_document, model_of}
+use Rattle.link_complex.specs.ComplexTypes.{ComplexDefinition, of_document}
 
 -- which definition a type is: a built-in one, the one of this name, or one that was written in place
 pub data TypeIdentity : Type 0 where
@@ -67,22 +67,22 @@ pub record TypedParticle : Type 0 where
 abbrev pub typed_particle : Name → Place → Option TypeIdentity → TypedParticle
 typed_particle a p k = record { name = a; place = p; kind = k }
 
--- the particle itself, if it is an element
-abbrev pub own_particle : (ℕ → Option TypeIdentity) → ParticleLabel → List TypedParticle
-own_particle types l = elim l.kind [
+-- the particle, if it is an element
+abbrev pub of_label : (ℕ → Option TypeIdentity) → ParticleLabel → List TypedParticle
+of_label types l = elim l.kind [
   | particle.Element decl name ↦ typed_particle name (place l.file l.at) (types decl) ∷ []
   | particle.Sequence ↦ []
   | particle.Choice ↦ []
 ]
 
--- the element particles of a content model
-abbrev mutual
-  pub typed_particles : (ℕ → Option TypeIdentity) → Rose ParticleLabel → List TypedParticle
-  typed_particles types (node l ts) = own_particle types l ++ all_typed types ts
+abbrev pub of_part : (ℕ → Option TypeIdentity) → What → List TypedParticle
+of_part types (part.Particle l) = of_label types l
+of_part types (part.MixedGroup l) = of_label types l
+of_part types other = []
 
-  pub all_typed : (ℕ → Option TypeIdentity) → Roses ParticleLabel → List TypedParticle
-  all_typed types rose.none = []
-  all_typed types (rose.more t ts) = typed_particles types t ++ all_typed types ts
+-- the element particles of the content of a complex type
+abbrev pub typed_particles : (ℕ → Option TypeIdentity) → ComplexDefinition → List TypedParticle
+typed_particles types c = flat_map (λ p. of_part types p.what) (in_content c.place.file c.body.at c.body.content)
 
 abbrev pub HasParticle : List TypedParticle → TypedParticle → Type 0
 HasParticle [] p = ⊥
@@ -99,12 +99,8 @@ IsOtherAt ps p f = (f ≡ fault TypesDiffer p.place) × IsOther ps p
 abbrev pub HasOther : List TypedParticle → LinkingFault → Type 0
 HasOther ps f = OneHas (IsOtherAt ps) ps f
 
-abbrev pub HasOtherIn : (ℕ → Option TypeIdentity) → Option (Rose ParticleLabel) → LinkingFault → Type 0
-HasOtherIn types None f = ⊥
-HasOtherIn types (Some model) f = HasOther (typed_particles types model) f
-
 abbrev pub HasOtherOf : (ℕ → Option TypeIdentity) → ComplexDefinition → LinkingFault → Type 0
-HasOtherOf types c f = HasOtherIn types (model_of c.body.content) f
+HasOtherOf types c f = HasOther (typed_particles types c) f
 
 abbrev pub DiffersIn : (Name → Option TypeIdentity) → Document → LinkingFault → Type 0
 DiffersIn types d f = OneHas (HasOtherOf (type_at types d)) (of_document d) f

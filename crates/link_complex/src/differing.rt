@@ -1,49 +1,32 @@
 //! Element particles of one name whose types differ.
-ghost use Rattle.std.specs.Prelude.{map, IfOk, Some};
+ghost use Rattle.std.specs.Prelude.{map, IfOk};
 ghost use Rattle.schema_parts.specs.Documents.{doc_of};
 ghost use Rattle.link_names.specs.Order.{IsFirstSuch};
-ghost use Rattle.link_complex.specs.ComplexTypes.{model_of};
-ghost use Rattle.link_complex.specs.ElementTypes.{HasOtherIn, DiffersIn, Differs};
+ghost use Rattle.link_complex.specs.ElementTypes.{HasOtherOf, DiffersIn, Differs};
 ghost use Rattle.link_complex.specs.Private.Identities.{type_in, types_in};
+ghost use Rattle.link_complex.specs.Seen.{definition_of};
 
-use crate::definitions::document_complex_types;
+use crate::definitions::{ComplexType, document_complex_types};
 use crate::element_types::element_types;
 use crate::identities::TypeIdentity;
 use crate::leaders::first_other;
 use crate::particles::typed_particles;
-use content_models::Particle;
 use link_names::{LinkingFault, first_of};
-use schema_parts::{RawContent, RawDoc};
+use schema_parts::RawDoc;
 use std::alloc::Global;
 use std::collections::BTreeMap;
 use xa_base::{Memory, Name};
 
-fn first_in_model<'a>(
+fn first_in_type<'a>(
     alloc: Global,
     types: &BTreeMap<&'a Name, TypeIdentity<'a>>,
     doc: &'a RawDoc,
-    model: &'a Particle,
+    complex: ComplexType<'a>,
 ) -> Result<Option<LinkingFault>, Memory>
-    ensures { IfOk result (λ found. IsFirstSuch (HasOtherIn (types_in types.now doc.now) (Some model.now)) found) }
+    ensures { IfOk result (λ found. IsFirstSuch (HasOtherOf (types_in types.now doc.now) (definition_of complex.entry)) found) }
 {
-    let particles = typed_particles(alloc, types, doc, model)?;
+    let particles = typed_particles(alloc, types, doc, complex)?;
     first_other(alloc, &particles)
-}
-
-fn first_in_content<'a>(
-    alloc: Global,
-    types: &BTreeMap<&'a Name, TypeIdentity<'a>>,
-    doc: &'a RawDoc,
-    content: &'a RawContent,
-) -> Result<Option<LinkingFault>, Memory>
-    ensures { IfOk result (λ found. IsFirstSuch (HasOtherIn (types_in types.now doc.now) (model_of content.now)) found) }
-{
-    match content {
-        RawContent::Empty => Ok(None),
-        RawContent::Simple { .. } => Ok(None),
-        RawContent::ElementOnly(model) => first_in_model(alloc, types, doc, model),
-        RawContent::Mixed(model) => first_in_model(alloc, types, doc, model),
-    }
 }
 
 // The first in the complex types of one document.
@@ -57,7 +40,7 @@ fn first_in_document<'a>(
     let complexes = document_complex_types(alloc, doc)?;
     let mut found = None;
     'complexes: for complex in &complexes {
-        let here = first_in_content(alloc, types, doc, &complex.body.content)?;
+        let here = first_in_type(alloc, types, doc, *complex)?;
         found = first_of(found, here);
     }
     Ok(found)

@@ -1,16 +1,19 @@
-//! The element particles of a content model, with their types.
-ghost use Rattle.std.specs.Prelude.{◌≡◌, ◌++◌, IfOk, OnOk, Some};
-ghost use Rattle.label_tree.specs.Rose.{roses_of};
+//! The element particles of a complex type, with their types.
+ghost use Rattle.std.specs.Prelude.{◌≡◌, ◌++◌, IfOk, OnOk};
+ghost use Rattle.std.specs.List.{flat_map};
 ghost use Rattle.schema_parts.specs.Seen.{local_of};
 ghost use Rattle.schema_parts.specs.Documents.{doc_of};
+ghost use Rattle.schema_walk.specs.Seen.{part_of, parts_of};
 ghost use Rattle.link_complex.specs.ElementTypes as told;
 ghost use Rattle.link_complex.specs.Private.Identities.{type_of, kept_in, type_in, types_in, particles_of};
+ghost use Rattle.link_complex.specs.Seen.{definition_of};
 
+use crate::definitions::ComplexType;
 use crate::identities::TypeIdentity;
-use content_models::{Particle, ParticleKind, ParticleLabel};
-use label_tree::Tree;
+use content_models::{ParticleKind, ParticleLabel};
 use link_names::Place;
 use schema_parts::{RawDoc, RawLocal};
+use schema_walk::{Part, What, content_parts};
 use std::alloc::Global;
 use std::collections::BTreeMap;
 use xa_base::{Memory, Name};
@@ -63,13 +66,13 @@ fn type_at<'a>(
     None
 }
 
-fn push_own<'a>(
+fn push_label<'a>(
     types: &BTreeMap<&'a Name, TypeIdentity<'a>>,
     doc: &'a RawDoc,
     label: &'a ParticleLabel,
     out: &mut Vec<TypedParticle<'a>>,
 ) -> Result<(), Memory>
-    ensures { OnOk result (particles_of out.new.items ≡ particles_of out.old.items ++ told.own_particle (types_in types.now doc.now) label.now) }
+    ensures { OnOk result (particles_of out.new.items ≡ particles_of out.old.items ++ told.of_label (types_in types.now doc.now) label.now) }
 {
     match &label.kind {
         ParticleKind::Element { decl, name } => {
@@ -88,45 +91,47 @@ fn push_own<'a>(
     }
 }
 
-#[cycle(particles)]
-fn push_particles<'a>(
+fn push_part<'a>(
     types: &BTreeMap<&'a Name, TypeIdentity<'a>>,
     doc: &'a RawDoc,
-    tree: &'a Tree<ParticleLabel>,
+    part: Part<'a>,
     out: &mut Vec<TypedParticle<'a>>,
 ) -> Result<(), Memory>
-    ensures { OnOk result (particles_of out.new.items ≡ particles_of out.old.items ++ told.typed_particles (types_in types.now doc.now) tree.now) }
+    ensures { OnOk result (particles_of out.new.items ≡ particles_of out.old.items ++ told.of_part (types_in types.now doc.now) (part_of part.entry).what) }
 {
-    push_own(types, doc, tree.label(), out)?;
-    push_all(types, doc, tree.kids(), out)?;
-    Ok(())
+    match part.what {
+        What::Particle(label) => push_label(types, doc, label, out),
+        What::MixedGroup(label) => push_label(types, doc, label, out),
+        _ => Ok(()),
+    }
 }
 
-#[cycle(particles)]
-fn push_all<'a>(
+fn push_parts<'a>(
     types: &BTreeMap<&'a Name, TypeIdentity<'a>>,
     doc: &'a RawDoc,
-    kids: &'a [Tree<ParticleLabel>],
+    parts: &[Part<'a>],
     out: &mut Vec<TypedParticle<'a>>,
 ) -> Result<(), Memory>
-    ensures { OnOk result (particles_of out.new.items ≡ particles_of out.old.items ++ told.all_typed (types_in types.now doc.now) (roses_of kids.now)) }
+    ensures { OnOk result (particles_of out.new.items ≡ particles_of out.old.items ++ flat_map (λ p. told.of_part (types_in types.now doc.now) p.what) (parts_of parts.now)) }
 {
-    'kids: for kid in kids {
-        push_particles(types, doc, kid, out)?;
+    'parts: for part in parts {
+        push_part(types, doc, *part, out)?;
     }
     Ok(())
 }
 
-/// The element particles of the content model of a complex type in the document.
+/// The element particles of the content of a complex type in the document.
 pub(crate) fn typed_particles<'a>(
     alloc: Global,
     types: &BTreeMap<&'a Name, TypeIdentity<'a>>,
     doc: &'a RawDoc,
-    model: &'a Particle,
+    complex: ComplexType<'a>,
 ) -> Result<Vec<TypedParticle<'a>>, Memory>
-    ensures { IfOk result (λ found. particles_of found.items ≡ told.typed_particles (types_in types.now doc.now) model.now) }
+    ensures { IfOk result (λ found. particles_of found.items ≡ told.typed_particles (types_in types.now doc.now) (definition_of complex.entry)) }
 {
+    let body = complex.body;
+    let parts = content_parts(alloc, complex.place.file, body.at, &body.content)?;
     let mut found = Vec::new(alloc);
-    push_particles(types, doc, model.root(), &mut found)?;
+    push_parts(types, doc, &parts, &mut found)?;
     Ok(found)
 }

@@ -20,9 +20,9 @@ use Rattle.schema_parts.specs.Raw.{Document}
 use Rattle.link_names.specs.declared.places.Place.{Place}
 use Rattle.link_names.specs.declared.faults.LinkWhy.TheVariants.{NotClear, TypesDiffer}
 use Rattle.link_names.specs.Order.{place, fault, is_before}
-use Rattle.link_complex.specs.ComplexTypes.{complex_types, of_document, model_of}
+use Rattle.link_complex.specs.ComplexTypes.{ComplexDefinition, complex_types, of_document, model_of}
 use Rattle.link_complex.specs.Content.{BreaksIn, IsUnclearType, IsUnclear}
-use Rattle.link_complex.specs.ElementTypes.{TypeIdentity, BuiltIn, ByName, InPlace, TypedParticle, typed_particles, typed_elements, type_named, type_at, HasParticle, IsOtherAt, HasOtherIn, HasOtherOf, DiffersIn, Differs}
+use Rattle.link_complex.specs.ElementTypes.{TypeIdentity, BuiltIn, ByName, InPlace, TypedParticle, typed_particles, typed_elements, type_named, type_at, HasParticle, IsOtherAt, HasOtherOf, DiffersIn, Differs}
 use Rattle.link_complex.proofs.Clearing.{some_answered, none_answered}
 use Rattle.schema_link.proofs.Firsts.{SomeFirst, some_of_none, some_of_one, some_of_all}
 
@@ -173,14 +173,13 @@ other_at ps p = elim (other_of ps p) [
   | inr none ↦ some_of_none (IsOtherAt ps p) (λ f h. none h.1)
 ]
 
-other_in : (types : ℕ → Option TypeIdentity) (model : Option (Rose ParticleLabel)) → SomeFirst (HasOtherIn types model)
-other_in types None = some_of_none (HasOtherIn types None) (λ f h. h)
-other_in types (Some model) = let ps = typed_particles types model in some_of_all (IsOtherAt ps) (other_at ps) ps
+other_in : (types : ℕ → Option TypeIdentity) (c : ComplexDefinition) → SomeFirst (HasOtherOf types c)
+other_in types c = let ps = typed_particles types c in some_of_all (IsOtherAt ps) (other_at ps) ps
 
 pub some_differing : (docs : List Document) → SomeFirst (Differs docs)
 some_differing docs =
     let types = type_named (typed_elements docs) in
-    some_of_all (DiffersIn types) (λ d. some_of_all (HasOtherOf (type_at types d)) (λ c. other_in (type_at types d) (model_of c.body.content)) (of_document d)) docs
+    some_of_all (DiffersIn types) (λ d. some_of_all (HasOtherOf (type_at types d)) (other_in (type_at types d)) (of_document d)) docs
 
 -- whether a content model is clear
 
