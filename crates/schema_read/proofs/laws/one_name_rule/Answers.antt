@@ -1,8 +1,5 @@
-use Rattle.schema_read.proofs.NameRules.{same_rule, same_xmlns}
+use Rattle.schema_read.proofs.NameRules.{same_rule}
 use Rattle.schema_read.proofs.laws.one_name_rule.Goals as goal
 
-pub returns-clause-names : goal.returns-clause-names
-returns-clause-names c = same_rule
-
-pub returns-clause-xmlns : goal.returns-clause-xmlns
-returns-clause-xmlns c = same_xmlns
+pub returns : goal.returns
+returns c = same_rule
