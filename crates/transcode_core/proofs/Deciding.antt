@@ -7,8 +7,9 @@ use Rattle.xa_base.specs.declared.texts.Name.{Name}
 use Rattle.transcode_core.specs.declared.outcome.Outcome.{Outcome}
 use Rattle.transcode_core.specs.declared.outcome.Outcome.TheVariants.{LoadFault, ReadFault, OutOfMemory}
 use Rattle.transcode_core.specs.Words.{Asked, ToPer}
-use Rattle.transcode_core.specs.Due.{Requested, Opened, Encoding, Answered, Due}
-use Rattle.transcode_core.specs.Causes.{Answers, IsRefusal, SomeLoad, OneRead, Fails, Reaches, files_of, ReachesFile, reads_input, ReadsInput, ReachesInput, Answering, Deciding}
+use Rattle.schema_parts.specs.SetParts.{SetParts}
+use Rattle.transcode_core.specs.Due.{Requested, Opened, Encoded, Answered, Due}
+use Rattle.transcode_core.specs.Causes.{Answers, IsRefusal, SomeLoad, TakenRead, Fails, Reaches, files_of, ReachesFile, reads_input, ReadsInput, ReachesInput, Answering, Deciding}
 
 -- the words ask for one thing
 pub same_request : (words : List (List ℕ)) (a b : Asked) → Requested words (Ok a) → Requested words (Ok b) → a ≡ b
@@ -19,12 +20,13 @@ reads_too words request asks (other, also, reads) = subst (λ r. reads_input r �
 
 module _ (entries : Option (List (List ℕ × List ℕ))) (left : Option (List ℕ)) (loads loads_now : ℕ) (sure : Bool) (reads reads_now : ℕ) (root : Name) (names : List (List ℕ)) where
   -- the files and the root are sound, and the input decides
-  pub goes_on : (found : Name) (v : Result (Vec ℕ Global) Outcome) → Opened entries root names (Ok found) → Answers (λ (b : Vec ℕ Global). b.items) (Encoding found left) (OneRead reads reads_now) v
+  pub goes_on : (opened : SetParts × ℕ) (v : Result (Vec ℕ Global) Outcome) → Opened entries root names (Ok opened)
+      → Answers (λ (b : Vec ℕ Global). b.items) (Encoded root opened left) (TakenRead opened reads reads_now) v
       → Answers (λ (b : Vec ℕ Global). b.items) (Answered entries left (ToPer root names)) (Answering loads loads_now sure entries reads reads_now (ToPer root names)) v
-  goes_on found (Ok v) opened due = (found, opened, due)
-  goes_on found (Err o) opened (inl (due, own)) = inl (inr (found, opened, due), own)
-  goes_on found (Err o) opened (inr (inl memory)) = inr (inl (inl memory))
-  goes_on found (Err o) opened (inr (inr read)) = inr (inr (read.0, read.1, (found, opened)))
+  goes_on opened (Ok v) is due = (opened, is, due)
+  goes_on opened (Err o) is (inl (due, own)) = inl (inr (opened, is, due), own)
+  goes_on opened (Err o) is (inr (inl memory)) = inr (inl (inl memory))
+  goes_on opened (Err o) is (inr (inr (read, rose, taken))) = inr (inr (read, rose, (opened, is, taken)))
 
   -- they are refused
   pub stops : (o : Outcome) → (Opened entries root names (Err o) × IsRefusal o) ⊎ SomeLoad loads loads_now sure entries names o

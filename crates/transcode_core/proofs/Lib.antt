@@ -3,7 +3,7 @@ pub mod Deciding
 pub mod WordLemmas
 pub mod Joined
 pub mod SetLaws
+pub mod Roots
 pub mod Single
 pub mod Loading
-pub mod Reading
 pub mod FewFiles

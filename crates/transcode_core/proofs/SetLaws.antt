@@ -1,17 +1,10 @@
 -- The documents of the files, and the set that they are.
 use Rattle.std.proofs.Common.{◌≡◌, ◌⊎◌, inl, inr, ℕ, zero, suc, ◌+◌, ◌≤◌, Bool, true, false, List, [], ◌∷◌, length, refl, sym, ap, ◌∙◌, subst, arith, Option, Some, None, Result, Ok, Err}
-use Rattle.std.specs.Prelude.{slice_get, IsSomeAnd, ◌||◌}
-use Rattle.std.specs.List.{Any, list_any}
-use Rattle.xa_base.specs.declared.texts.Name.{Name}
-use Rattle.xa_base.specs.Names.{name_eq}
-use Rattle.xa_base.proofs.NameLaws.{name_eq-Decides}
+use Rattle.std.specs.Prelude.{slice_get}
 use Rattle.label_tree.specs.Rose.{Rose, label_of, kids_of}
 use Rattle.doc_text.specs.declared.label.ItemLabel.{ItemLabel}
 use Rattle.doc_text.specs.declared.label.ItemLabel.TheVariants.{Element, Text}
 use Rattle.schema_parts.specs.Raw.{Document}
-use Rattle.schema_parts.specs.declared.components.ElementDecl.{ElementDecl}
-use Rattle.link_names.specs.declared.faults.LinkingFault.{LinkingFault}
-use Rattle.schema_link.specs.Passes.{Pass, IsShownBy, ArePassed}
 use Rattle.schema_read.specs.Raw.{raw_of, raw_by}
 use Rattle.schema_link.specs.Sets.{AreNumbered}
 use Rattle.transcode_core.specs.Steps.{Schema, Schemas}
@@ -49,31 +42,3 @@ are_numbered entries names documents sound i d at = let n : d.file ≡ 1 + i = f
 pub as_many : (entries : Option (List (List ℕ × List ℕ))) (k : ℕ) (names : List (List ℕ)) (documents : List Document) → Schemas entries k names (Ok documents) → length documents ≡ length names
 as_many entries k [] documents is = ap length is
 as_many entries k (name ∷ names) documents (document, first, (others, rest, is)) = ap length is ∙ ap suc (as_many entries (k + 1) names others rest)
-
--- no fault is shown where no pass has one
-pub never_shown : (docs : List Document) (ps : List Pass) (f : LinkingFault) → ArePassed docs ps → IsShownBy docs ps f → ⊥
-never_shown docs [] f passed shown = shown
-never_shown docs (p ∷ ps) f passed (inl first) = passed.0 f first.0
-never_shown docs (p ∷ ps) f passed (inr later) = never_shown docs ps f passed.1 later.1
-
--- ---- the root among the global elements
-
-pub has_named : (es : List ElementDecl) (n : ℕ) (a : Name) → IsSomeAnd (slice_get es n) (λ (e : ElementDecl). e.name ≡ a) → Any (λ (e : ElementDecl). e.name ≡ a) es
-has_named [] n a h = absurd h
-has_named (e ∷ es) zero a h = (0, e, omega arith, refl, h)
-has_named (e ∷ es) (suc n) a h =
-    let (i, d, lt, is, named) = has_named es n a h in
-    (suc i, d, omega (arith, lt), is, named)
-
-neither : (p q : Bool) → (p || q) ≡ false → (p ≡ false) × (q ≡ false)
-neither true q e = absurd (cc)
-neither false q e = (refl, e)
-
-pub none_named : (es : List ElementDecl) (a : Name) → list_any (λ (e : ElementDecl). name_eq e.name a) es ≡ false → Any (λ (e : ElementDecl). e.name ≡ a) es → ⊥
-none_named [] a absent (i, d, lt, is, named) = omega (arith, lt)
-none_named (e ∷ es) a absent (zero, d, lt, is, named) =
-    let same : e.name ≡ a = ap (λ (x : ElementDecl). x.name) is ∙ named in
-    let f : true ≡ false = sym ((name_eq-Decides e.name a).1 same) ∙ (neither (name_eq e.name a) (list_any (λ (d : ElementDecl). name_eq d.name a) es) absent).0 in
-    cc
-none_named (e ∷ es) a absent (suc i, d, lt, is, named) =
-    none_named es a (neither (name_eq e.name a) (list_any (λ (d : ElementDecl). name_eq d.name a) es) absent).1 (i, d, omega (arith, lt), is, named)

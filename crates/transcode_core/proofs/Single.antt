@@ -1,4 +1,4 @@
--- Where contents are told, there is no other verdict beside a result that is due.
+-- Where contents are told, at most one outcome or result is due.
 use Rattle.std.proofs.Common.{◌≡◌, ◌⊎◌, ℕ, ◌+◌, Bool, true, false, List, [], ◌∷◌, length, map, refl, sym, ap, ◌∙◌, subst, inl, inr, arith, Option, Some, None, Result, Ok, Err}
 use Rattle.xa_base.specs.Faults.{HasRisen}
 use Rattle.xa_base.specs.Entries.{beside}
@@ -9,27 +9,28 @@ use Rattle.doc_text.specs.declared.error.DocWhy.{DocWhy}
 use Rattle.doc_text.proofs.OneTree.{one_tree, tree_or_fault, one_fault}
 use Rattle.doc_text.proofs.PieceLaws.{PieceLaws}
 use Rattle.transcode_core.specs.declared.outcome.Outcome.{Outcome}
-use Rattle.transcode_core.specs.declared.outcome.Outcome.TheVariants.{Done, SchemaFault, OutOfMemory}
-use Rattle.transcode_core.specs.Order.{Give, Found, Then}
+use Rattle.transcode_core.specs.declared.outcome.Outcome.TheVariants.{Done, SchemaFault, LinkFault, OutOfMemory, NotYet}
+use Rattle.transcode_core.specs.Order.{Give, Found, Refuse, Test, Then}
 use Rattle.schema_faults.specs.Faults.{first_fault, reasons}
 use Rattle.schema_faults.specs.declared.faults.DocumentFault.{DocumentFault}
-use Rattle.transcode_core.specs.Steps.{Loaded, Read, Faultless, Linked, Printed, HasRoot, Chosen, Schema, Schemas, Input}
-use Rattle.transcode_core.specs.Due.{InputValue, Answered, Due}
+use Rattle.transcode_core.specs.Steps.{Loaded, Read, Faultless, Linked, Printed, Schema, Schemas, Input}
+use Rattle.transcode_core.specs.Due.{Requested, SetIn, Opened, ItemsIn, Encoded, Answered, Due}
 use Rattle.transcode_core.specs.Words.{Asked, Show, Check, ToPer, ToXml, Trial}
-use Rattle.transcode_core.specs.Causes.{IsRefusal, Deciding}
+use Rattle.transcode_core.specs.Causes.{IsRefusal, reads_input, ReadsInput, IsTold, Deciding}
 use Rattle.schema_read.specs.Raw.{raw_of}
-use Rattle.link_set.specs.Sets.{SetParts, NamedSpace, named_spaces, parts_of, set_of}
-use Rattle.simple_types.specs.Space.{Space}
+use Rattle.schema_parts.specs.SetParts.{SetParts, NamedSpace, named_spaces, parts_of}
+use Rattle.link_set.specs.Sets.{set_of}
 use Rattle.simple_types.specs.Seen.{space_of}
 use Rattle.schema_parts.specs.Components.{Set}
 use Rattle.schema_parts.specs.declared.components.SimpleDef.{SimpleDef}
-use Rattle.link_simple.proofs.Uniqueness.{one_making}
 use Rattle.map_694.proofs.Once.{one-map}
 use Rattle.map_694.proofs.SameSets.{AreSame, map-same}
 use Rattle.module_print.specs.Printed.{printed}
-use Rattle.schema_link.specs.Passes.{passes}
 use Rattle.schema_parts.specs.Raw.{Document}
-use Rattle.transcode_core.proofs.SetLaws.{never_shown}
+use Rattle.link_names.specs.declared.faults.LinkingFault as link
+use Rattle.schema_link.specs.Passes.{passes}
+use Rattle.schema_link.proofs.OneAnswer.{one_shown, none_shown}
+use Rattle.schema_link.proofs.OneSet.{one_list}
 
 -- at most one verdict
 abbrev pub IsSingle : {A : Type 0} → (Result A Outcome → Type 0) → Type 0
@@ -49,36 +50,37 @@ Found-single found refusal (Ok x) (Err o) p q = let e : Some x ≡ None = sym p 
 Found-single found refusal (Err o) (Ok y) p q = let e : Some y ≡ None = sym q ∙ p.0 in cc
 Found-single found refusal (Err o) (Err n) p q = ap (λ z. Err z) (p.1 ∙ sym q.1)
 
+-- the next step may use what the first passed on
+pub Then-with : {A B : Type 0} (first : Result A Outcome → Type 0) (next : A → Result B Outcome → Type 0)
+    → IsSingle first → ((a : A) → first (Ok a) → IsSingle (next a)) → IsSingle (Then first next)
+Then-with first next one each (Ok x) (Ok y) (a, p, q) (b, r, s) =
+    each a p (Ok x) (Ok y) q (subst (λ z. next z (Ok y)) (sym (ok_inj a b (one (Ok a) (Ok b) p r))) s)
+Then-with first next one each (Ok x) (Err n) (a, p, q) (inl r) = let e = one (Ok a) (Err n) p r in cc
+Then-with first next one each (Ok x) (Err n) (a, p, q) (inr (b, r, s)) =
+    each a p (Ok x) (Err n) q (subst (λ z. next z (Err n)) (sym (ok_inj a b (one (Ok a) (Ok b) p r))) s)
+Then-with first next one each (Err o) (Ok y) (inl p) (b, r, s) = let e = one (Err o) (Ok b) p r in cc
+Then-with first next one each (Err o) (Ok y) (inr (a, p, q)) (b, r, s) =
+    each a p (Err o) (Ok y) q (subst (λ z. next z (Ok y)) (sym (ok_inj a b (one (Ok a) (Ok b) p r))) s)
+Then-with {A} {B} first next one each (Err o) (Err n) (inl p) (inl r) = let e = one (Err o) (Err n) p r in cc
+Then-with first next one each (Err o) (Err n) (inl p) (inr (b, r, s)) = let e = one (Err o) (Ok b) p r in cc
+Then-with first next one each (Err o) (Err n) (inr (a, p, q)) (inl r) = let e = one (Ok a) (Err n) p r in cc
+Then-with first next one each (Err o) (Err n) (inr (a, p, q)) (inr (b, r, s)) =
+    each a p (Err o) (Err n) q (subst (λ z. next z (Err n)) (sym (ok_inj a b (one (Ok a) (Ok b) p r))) s)
+
 pub Then-single : {A B : Type 0} (first : Result A Outcome → Type 0) (next : A → Result B Outcome → Type 0)
     → IsSingle first → ((a : A) → IsSingle (next a)) → IsSingle (Then first next)
-Then-single first next one each (Ok x) (Ok y) (a, p, q) (b, r, s) =
-    each a (Ok x) (Ok y) q (subst (λ z. next z (Ok y)) (sym (ok_inj a b (one (Ok a) (Ok b) p r))) s)
-Then-single first next one each (Ok x) (Err n) (a, p, q) (inl r) = let e = one (Ok a) (Err n) p r in cc
-Then-single first next one each (Ok x) (Err n) (a, p, q) (inr (b, r, s)) =
-    each a (Ok x) (Err n) q (subst (λ z. next z (Err n)) (sym (ok_inj a b (one (Ok a) (Ok b) p r))) s)
-Then-single first next one each (Err o) (Ok y) (inl p) (b, r, s) = let e = one (Err o) (Ok b) p r in cc
-Then-single first next one each (Err o) (Ok y) (inr (a, p, q)) (b, r, s) =
-    each a (Err o) (Ok y) q (subst (λ z. next z (Ok y)) (sym (ok_inj a b (one (Ok a) (Ok b) p r))) s)
-Then-single {A} {B} first next one each (Err o) (Err n) (inl p) (inl r) = let e = one (Err o) (Err n) p r in cc
-Then-single first next one each (Err o) (Err n) (inl p) (inr (b, r, s)) = let e = one (Err o) (Ok b) p r in cc
-Then-single first next one each (Err o) (Err n) (inr (a, p, q)) (inl r) = let e = one (Ok a) (Err n) p r in cc
-Then-single first next one each (Err o) (Err n) (inr (a, p, q)) (inr (b, r, s)) =
-    each a (Err o) (Err n) q (subst (λ z. next z (Err n)) (sym (ok_inj a b (one (Ok a) (Ok b) p r))) s)
+Then-single first next one each = Then-with first next one (λ a _. each a)
 
--- beside a verdict that passes there is no other
-abbrev pub IsSure : {A : Type 0} → (Result A Outcome → Type 0) → Type 0
-IsSure {A} step = (a : A) (w : Result A Outcome) → step (Ok a) → step w → w ≡ Ok a
+pub Test-single : (holds : Bool) (refusal : Outcome) → IsSingle (Test holds refusal)
+Test-single holds refusal (Ok x) (Ok y) p q = refl
+Test-single holds refusal (Ok x) (Err o) p q = let e : true ≡ false = sym p ∙ q.0 in cc
+Test-single holds refusal (Err o) (Ok y) p q = let e : true ≡ false = sym q ∙ p.0 in cc
+Test-single holds refusal (Err o) (Err n) p q = ap (λ z. Err z) (p.1 ∙ sym q.1)
 
-sure : {A : Type 0} (step : Result A Outcome → Type 0) → IsSingle step → IsSure step
-sure step one a w p q = one w (Ok a) q p
-
-pub Then-sure : {A B : Type 0} (first : Result A Outcome → Type 0) (next : A → Result B Outcome → Type 0)
-    → IsSure first → ((a : A) → IsSure (next a)) → IsSure (Then first next)
-Then-sure first next one each x (Ok y) (a, p, q) (b, r, s) =
-    each a x (Ok y) q (subst (λ z. next z (Ok y)) (ok_inj b a (one a (Ok b) p r)) s)
-Then-sure first next one each x (Err n) (a, p, q) (inl r) = let e = one a (Err n) p r in cc
-Then-sure first next one each x (Err n) (a, p, q) (inr (b, r, s)) =
-    each a x (Err n) q (subst (λ z. next z (Err n)) (ok_inj b a (one a (Ok b) p r)) s)
+pub Refuse-single : {A : Type 0} (refusal : Outcome) → IsSingle {A = A} (Refuse refusal)
+Refuse-single refusal (Ok x) w p q = absurd p
+Refuse-single refusal (Err o) (Ok y) p q = absurd q
+Refuse-single refusal (Err o) (Err n) p q = ap (λ z. Err z) (p ∙ sym q)
 
 same_contents : (found : Option (List ℕ)) (x y : List ℕ) → found ≡ Some x → found ≡ Some y → x ≡ y
 same_contents found x y p q = let e : Some x ≡ Some y = sym p ∙ q in cc
@@ -133,31 +135,14 @@ Input-single left (Ok x) (Err o) p q = absurd (omega (arith, ap (λ l. length l)
 Input-single left (Err o) (Ok x) q p = absurd (omega (arith, ap (λ l. length l) p.0))
 Input-single left (Err o) (Err n) p q = ap (λ z. Err z) (p.1 ∙ sym q.1)
 
--- Which spaces the simple types of the set have doesn't matter to the names of its elements.
-Chosen-sure : (root : Name) (documents : List Document) → IsSure (Chosen root documents)
-Chosen-sure root documents x (Ok y) (parts, linked, (u, taken, (is, there))) (others, same, (v, held, (was, has))) = ap (λ z. Ok z) (was ∙ sym is)
-Chosen-sure root documents x (Err o) (parts, linked, rest) (inl (fault, shown, is)) = absurd (never_shown documents passes fault linked.0 shown)
-Chosen-sure root documents x (Err o) (parts, linked, (u, taken, (is, there))) (inr (others, same, inl not)) = let e : true ≡ false = sym taken ∙ not.0 in cc
-Chosen-sure root documents x (Err o) (parts, (passed, (spaces, making, told)), (u, taken, (is, there))) (inr (others, (passes_too, (more, made, said)), inr (v, held, (none, was)))) =
-    let here : HasRoot root (set_of documents spaces) = subst (HasRoot root) told there in
-    let has : HasRoot root others = subst (HasRoot root) (sym said) here in
-    absurd (none has)
-
-all_some : (xs ys : List Space) → map (λ (x : Space). Some x) xs ≡ map (λ (x : Space). Some x) ys → xs ≡ ys
-all_some [] [] e = refl
-all_some [] (y ∷ ys) e = absurd (cc)
-all_some (x ∷ xs) [] e = absurd (cc)
-all_some (x ∷ xs) (y ∷ ys) e =
-    let first : x ≡ y = cc in
-    let others : map (λ (z : Space). Some z) xs ≡ map (λ (z : Space). Some z) ys = cc in
-    let rest : xs ≡ ys = all_some xs ys others in
-    cc
-
-Linked-sure : (documents : List Document) → IsSure (Linked documents)
-Linked-sure documents parts (Err o) (passed, rest) (fault, shown, is) = absurd (never_shown documents passes fault passed shown)
-Linked-sure documents parts (Ok others) (passed, (spaces, making, told)) (passes_too, (more, made, said)) =
-    let same : spaces ≡ more = all_some spaces more (one_making documents passed.1.1.1.0 (map Some spaces) (map Some more) making made) in
-    ap (λ z. Ok z) (said ∙ (ap (λ z. set_of documents z) (sym same) ∙ sym told))
+pub Linked-single : (documents : List Document) → IsSingle (Linked documents)
+Linked-single documents (Ok parts) (Ok others) (passed, (spaces, making, told)) (passes_too, (more, made, said)) =
+    ap (λ z. Ok z) (told ∙ (ap (λ z. set_of documents z) (one_list documents passed spaces more making made) ∙ sym said))
+Linked-single documents (Ok parts) (Err o) (passed, rest) (fault, shown, is) = absurd (none_shown documents passes fault passed shown)
+Linked-single documents (Err o) (Ok parts) (fault, shown, is) (passed, rest) = absurd (none_shown documents passes fault passed shown)
+Linked-single documents (Err o) (Err n) (fault, shown, is) (other, shows, was) =
+    let same = one_shown documents passes fault other shown shows in
+    ap (λ z. Err z) (is ∙ (ap (λ (f : link.LinkingFault). LinkFault f.place.file f.place.at f.why) same ∙ sym was))
 
 names_in : (ts : List SimpleDef) → map (λ (n : NamedSpace). n.name) (named_spaces ts) ≡ map (λ (t : SimpleDef). t.name) ts
 names_in [] = refl
@@ -178,48 +163,63 @@ same_parts s t e =
       spaces = sym (spaces_in s.simples) ∙ (ap (λ (p : SetParts). map (λ (n : NamedSpace). n.space) p.simples) e ∙ spaces_in t.simples);
     }
 
-Printed-sure : (parts : SetParts) → IsSure (Printed parts)
-Printed-sure parts x (Err o) due none = absurd none
-Printed-sure parts x (Ok y) (s, of_s, m, map_of_s, is) (t, of_t, n, map_of_t, was) =
+pub Printed-single : (parts : SetParts) → IsSingle (Printed parts)
+Printed-single parts (Err o) w none also = absurd none
+Printed-single parts (Ok x) (Err o) due none = absurd none
+Printed-single parts (Ok x) (Ok y) (s, of_s, m, map_of_s, is) (t, of_t, n, map_of_t, was) =
     let one : m ≡ n = one-map t m n (map-same s t (same_parts s t (of_s ∙ sym of_t)) m map_of_s) map_of_t in
-    ap (λ z. Ok z) (was ∙ (ap (λ z. printed z) (sym one) ∙ sym is))
+    ap (λ z. Ok z) (is ∙ (ap (λ z. printed z) one ∙ sym was))
 
-InputValue-single : PieceLaws → (root : Name) (left : List ℕ) → IsSingle (InputValue root (Some left))
-InputValue-single laws root left = Then-single _ _ (Input-single left) (λ bytes. Then-single _ _ (Read-single laws _ bytes) (λ items. Found-single _ _))
+pub SetIn-single : PieceLaws → (entries : List (List ℕ × List ℕ)) (files : List (List ℕ)) → IsSingle (SetIn (Some entries) files)
+SetIn-single laws entries files = Then-single _ _ (Schemas-single laws entries 1 files) (λ documents. Linked-single documents)
 
-Answered-sure : PieceLaws → (entries : List (List ℕ × List ℕ)) (left : List ℕ) (request : Asked) → IsSure (Answered (Some entries) (Some left) request)
-Answered-sure laws entries left (Show files) =
-    Then-sure _ _ (sure _ (Schemas-single laws entries 1 files)) (λ documents.
-    Then-sure _ _ (Linked-sure documents) (λ parts. Printed-sure parts))
-Answered-sure laws entries left (ToPer root files) =
-    Then-sure _ _ (Then-sure _ _ (sure _ (Schemas-single laws entries 1 files)) (λ documents. Chosen-sure root documents)) (λ found.
-    sure _ (Then-single _ _ (InputValue-single laws found left) (λ value. Give-single _)))
-Answered-sure laws entries left (Check root files) = λ a w due. absurd due
-Answered-sure laws entries left (ToXml root files) = λ a w due. absurd due
-Answered-sure laws entries left (Trial n) = λ a w due. absurd due
+pub Opened-single : PieceLaws → (entries : List (List ℕ × List ℕ)) (root : Name) (files : List (List ℕ)) → IsSingle (Opened (Some entries) root files)
+Opened-single laws entries root files =
+    Then-single _ _ (SetIn-single laws entries files) (λ parts.
+    Then-single _ _ (Found-single _ _) (λ n. Give-single (parts, n)))
 
--- where Done is due, it is due with these bytes alone, and no refusal is
-pub Due-sure : PieceLaws → (words : List (List ℕ)) (entries : List (List ℕ × List ℕ)) (left : List ℕ) → IsSure (Due words (Some entries) (Some left))
-Due-sure laws words entries left = Then-sure _ _ (sure _ (Found-single _ _)) (λ request. Answered-sure laws entries left request)
+pub ItemsIn-single : PieceLaws → (left : List ℕ) → IsSingle (ItemsIn (Some left))
+ItemsIn-single laws left = Then-single _ _ (Input-single left) (λ bytes. Read-single laws _ bytes)
+
+pub Encoded-single : PieceLaws → (root : Name) (opened : SetParts × ℕ) (left : List ℕ) → IsSingle (Encoded root opened (Some left))
+Encoded-single laws root opened left =
+    Then-single _ _ (Test-single _ _) (λ _.
+    Then-single _ _ (ItemsIn-single laws left) (λ items.
+    Then-single _ _ (Found-single _ _) (λ value. Give-single _)))
+
+-- where what the command reads is told
+pub Answered-single : PieceLaws → (entries : List (List ℕ × List ℕ)) (left : Option (List ℕ)) (request : Asked) → (reads_input request ≡ true → IsTold left)
+    → IsSingle (Answered (Some entries) left request)
+Answered-single laws entries left (Show files) told = Then-single _ _ (SetIn-single laws entries files) (λ parts. Printed-single parts)
+Answered-single laws entries left (Check root files) told = Refuse-single NotYet
+Answered-single laws entries (Some left) (ToPer root files) told = Then-single _ _ (Opened-single laws entries root files) (λ opened. Encoded-single laws root opened left)
+Answered-single laws entries None (ToPer root files) told = absurd (told refl)
+Answered-single laws entries left (ToXml root files) told = Refuse-single NotYet
+Answered-single laws entries left (Trial lines) told = Refuse-single NotYet
+
+-- at most one outcome or result is due
+pub Due-single : PieceLaws → (words : List (List ℕ)) (entries : List (List ℕ × List ℕ)) (left : Option (List ℕ)) → (ReadsInput words → IsTold left)
+    → IsSingle (Due words (Some entries) left)
+Due-single laws words entries left told =
+    Then-with _ _ (Found-single _ _) (λ request asks. Answered-single laws entries left request (λ reads. told (request, asks, reads)))
 
 -- where Done is due and nothing rose, only memory may be missing
-pub completed : PieceLaws → (words : List (List ℕ)) (entries : List (List ℕ × List ℕ)) (left bytes : List ℕ) (loads loads_now reads reads_now : ℕ) (sure : Bool) (o : Outcome)
-    → Due words (Some entries) (Some left) (Ok bytes) → (HasRisen loads loads_now → ⊥) → (HasRisen reads reads_now → ⊥)
-    → (Due words (Some entries) (Some left) (Err o) × IsRefusal o) ⊎ Deciding loads loads_now sure (Some entries) reads reads_now words o
+completed : PieceLaws → (words : List (List ℕ)) (entries : List (List ℕ × List ℕ)) (left : Option (List ℕ)) (bytes : List ℕ) (loads loads_now reads reads_now : ℕ) (sure : Bool) (o : Outcome)
+    → (ReadsInput words → IsTold left) → Due words (Some entries) left (Ok bytes) → (HasRisen loads loads_now → ⊥) → (HasRisen reads reads_now → ⊥)
+    → (Due words (Some entries) left (Err o) × IsRefusal o) ⊎ Deciding loads loads_now sure (Some entries) reads reads_now words o
     → (o ≡ Done) ⊎ (o ≡ OutOfMemory)
-completed laws words entries left bytes loads loads_now reads reads_now sure o due no_load no_read (inl (refused, own)) =
-    let e = Due-sure laws words entries left bytes (Err o) due refused in cc
-completed laws words entries left bytes loads loads_now reads reads_now sure o due no_load no_read (inr (request, asks, inl (inl memory))) = inr memory
-completed laws words entries left bytes loads loads_now reads reads_now sure o due no_load no_read (inr (request, asks, inl (inr (k, name, load, named, fails)))) = absurd (no_load fails.rose)
-completed laws words entries left bytes loads loads_now reads reads_now sure o due no_load no_read (inr (request, asks, inr (read, rose, comes))) = absurd (no_read rose)
+completed laws words entries left bytes loads loads_now reads reads_now sure o told due no_load no_read (inl (refused, own)) =
+    let e = Due-single laws words entries left told (Err o) (Ok bytes) refused due in cc
+completed laws words entries left bytes loads loads_now reads reads_now sure o told due no_load no_read (inr (request, asks, inl (inl memory))) = inr memory
+completed laws words entries left bytes loads loads_now reads reads_now sure o told due no_load no_read (inr (request, asks, inl (inr (k, name, load, named, fails)))) = absurd (no_load fails.rose)
+completed laws words entries left bytes loads loads_now reads reads_now sure o told due no_load no_read (inr (request, asks, inr (read, rose, comes))) = absurd (no_read rose)
 
--- the same, of contents that are told
-pub completed_told : PieceLaws → (words : List (List ℕ)) (known : Option (List (List ℕ × List ℕ))) (told : Option (List ℕ)) (entries : List (List ℕ × List ℕ)) (left bytes : List ℕ)
-    (loads loads_now reads reads_now : ℕ) (sure : Bool) (o : Outcome) → known ≡ Some entries → told ≡ Some left
-    → Due words (Some entries) (Some left) (Ok bytes) → (HasRisen loads loads_now → ⊥) → (HasRisen reads reads_now → ⊥)
-    → (Due words known told (Err o) × IsRefusal o) ⊎ Deciding loads loads_now sure known reads reads_now words o
+-- the same, of files that are told
+pub completed_told : PieceLaws → (words : List (List ℕ)) (known : Option (List (List ℕ × List ℕ))) (left : Option (List ℕ)) (entries : List (List ℕ × List ℕ)) (bytes : List ℕ)
+    (loads loads_now reads reads_now : ℕ) (sure : Bool) (o : Outcome) → known ≡ Some entries → (ReadsInput words → IsTold left)
+    → Due words known left (Ok bytes) → (HasRisen loads loads_now → ⊥) → (HasRisen reads reads_now → ⊥)
+    → (Due words known left (Err o) × IsRefusal o) ⊎ Deciding loads loads_now sure known reads reads_now words o
     → (o ≡ Done) ⊎ (o ≡ OutOfMemory)
-completed_told laws words known told entries left bytes loads loads_now reads reads_now sure o files input due no_load no_read answer =
-    let known' = subst (λ e. (Due words e told (Err o) × IsRefusal o) ⊎ Deciding loads loads_now sure e reads reads_now words o) files answer in
-    let told' = subst (λ l. (Due words (Some entries) l (Err o) × IsRefusal o) ⊎ Deciding loads loads_now sure (Some entries) reads reads_now words o) input known' in
-    completed laws words entries left bytes loads loads_now reads reads_now sure o due no_load no_read told'
+completed_told laws words known left entries bytes loads loads_now reads reads_now sure o files told due no_load no_read answer =
+    completed laws words entries left bytes loads loads_now reads reads_now sure o told (subst (λ e. Due words e left (Ok bytes)) files due) no_load no_read
+    (subst (λ e. (Due words e left (Err o) × IsRefusal o) ⊎ Deciding loads loads_now sure e reads reads_now words o) files answer)

@@ -1,21 +1,19 @@
--- The schema documents that are taken so far: global elements of the type boolean, and nothing else.
-use Rattle.std.specs.Prelude.{Bool, true, false, ◌&&◌, not, ◌==◌, List, length}
-use Rattle.std.specs.List.{list_all}
-use Rattle.simple_types.specs.declared.simples.Builtin.TheVariants as builtin
-use Rattle.schema_parts.specs.declared.simple_definitions.RawRef.TheVariants as reference
-use Rattle.schema_parts.specs.Raw.{Kind, NamedKind, Element, Document}
+-- The elements that are encoded so far: those of the type boolean.
+use Rattle.std.specs.Prelude.{ℕ, Bool, true, false, ◌&&◌, not, Some, None, slice_get}
+use Rattle.simple_types.specs.Space.{Space, Booleans}
+use Rattle.schema_parts.specs.SetParts.{SetParts}
+use Rattle.schema_parts.specs.declared.components.TypeOf.{TypeOf}
+use Rattle.schema_parts.specs.declared.components.TypeOf.TheVariants as kind
 
--- the built-in type boolean (XML Schema Part 2, section 3.2.2)
-abbrev pub is_boolean : Kind → Bool
-is_boolean (NamedKind (reference.Builtin builtin.Boolean)) = true
-is_boolean kind = false
+-- the truth values (XML Schema Part 2, section 3.2.2)
+abbrev pub is_truth_values : Space → Bool
+is_truth_values Booleans = true
+is_truth_values _ = false
 
-abbrev pub is_plain : Element → Bool
-is_plain e = not e.nillable && is_boolean e.kind
+abbrev pub has_truth_values : SetParts → TypeOf → Bool
+has_truth_values parts (kind.Simple n) = elim (slice_get parts.simples n) [ None ↦ false | Some t ↦ is_truth_values t.space ]
+has_truth_values parts (kind.Complex n) = false
 
--- nothing but global elements that aren't nillable and whose type is boolean
-abbrev pub has_booleans : Document → Bool
-has_booleans d = list_all is_plain d.elements && length d.attributes == 0 && length d.types == 0 && length d.locals == 0
-
-abbrev pub are_booleans : List Document → Bool
-are_booleans documents = list_all has_booleans documents
+-- the element with this number has such a type, and isn't nillable
+abbrev pub is_boolean : SetParts → ℕ → Bool
+is_boolean parts n = elim (slice_get parts.elements n) [ None ↦ false | Some e ↦ not e.nillable && has_truth_values parts e.kind ]

@@ -1,13 +1,13 @@
 -- Answers of the outside, each with its cause.
-use Rattle.std.specs.Prelude.{◌≡◌, ◌⊎◌, ℕ, suc, ◌+◌, Bool, true, false, IsTrue, List, [], ◌∷◌, ◌++◌, length, Option, Result, Ok, Err}
+use Rattle.std.specs.Prelude.{◌≡◌, ◌⊎◌, ℕ, suc, ◌+◌, Bool, true, false, IsTrue, List, [], ◌∷◌, ◌++◌, length, Option, Some, None, Result, Ok, Err}
 use Rattle.xa_base.specs.Faults.{HasRisen}
 use Rattle.xa_base.specs.Entries.{Lacks}
 use Rattle.transcode_core.specs.declared.outcome.Outcome.{Outcome}
 use Rattle.transcode_core.specs.declared.outcome.Outcome.TheVariants.{Done, Usage, SchemaSyntax, SchemaFault, LinkFault, UnknownRoot, TooLong, LoadFault, ReadFault, WriteFault, OutOfMemory}
-use Rattle.xa_base.specs.declared.texts.Name.{Name}
 use Rattle.schema_parts.specs.Raw.{Document}
-use Rattle.transcode_core.specs.Steps.{Schemas}
-use Rattle.transcode_core.specs.Words.{Asked, Show, ToPer}
+use Rattle.schema_parts.specs.SetParts.{SetParts}
+use Rattle.transcode_core.specs.Steps.{Schemas, Taken}
+use Rattle.transcode_core.specs.Words.{Asked, Show, Check, ToPer, ToXml, Trial}
 use Rattle.transcode_core.specs.Due.{Requested, Opened}
 
 -- an outcome that refuses the words, a file or the input
@@ -58,8 +58,10 @@ SomeLoad before now is_sure entries names o =
 -- the files that are loaded
 abbrev pub files_of : Asked → List (List ℕ)
 files_of (Show files) = files
+files_of (Check root files) = []
 files_of (ToPer root files) = files
-files_of request = []
+files_of (ToXml root files) = []
+files_of (Trial lines) = []
 
 -- the words name this file, by this number, and the order passes to its load
 abbrev pub ReachesFile : List (List ℕ) → Option (List (List ℕ × List ℕ)) → ℕ → List ℕ → Type 0
@@ -69,18 +71,33 @@ ReachesFile words entries k name = (request : Asked) × Requested words (Ok requ
 abbrev pub OneRead : ℕ → ℕ → Outcome → Type 0
 OneRead before now o = (o ≡ OutOfMemory) ⊎ ((o ≡ ReadFault) × HasRisen before now)
 
+-- memory is missing, or the input failed and this element is taken
+abbrev pub TakenRead : SetParts × ℕ → ℕ → ℕ → Outcome → Type 0
+TakenRead opened before now o = (o ≡ OutOfMemory) ⊎ ((o ≡ ReadFault) × HasRisen before now × Taken opened.0 opened.1 (Ok tt))
+
 -- the command reads the input
 abbrev pub reads_input : Asked → Bool
+reads_input (Show files) = false
+reads_input (Check root files) = false
 reads_input (ToPer root files) = true
-reads_input request = false
+reads_input (ToXml root files) = false
+reads_input (Trial lines) = false
 
 abbrev pub ReadsInput : List (List ℕ) → Type 0
 ReadsInput words = (request : Asked) × Requested words (Ok request) × (reads_input request ≡ true)
 
+-- what is left is told
+abbrev pub IsTold : Option (List ℕ) → Type 0
+IsTold None = ⊥
+IsTold (Some left) = Unit {0}
+
 -- it does, and the files and the root pass
 abbrev pub ComesToInput : Option (List (List ℕ × List ℕ)) → Asked → Type 0
-ComesToInput entries (ToPer root files) = (found : Name) × Opened entries root files (Ok found)
-ComesToInput entries request = ⊥
+ComesToInput entries (Show files) = ⊥
+ComesToInput entries (Check root files) = ⊥
+ComesToInput entries (ToPer root files) = (opened : SetParts × ℕ) × Opened entries root files (Ok opened) × Taken opened.0 opened.1 (Ok tt)
+ComesToInput entries (ToXml root files) = ⊥
+ComesToInput entries (Trial lines) = ⊥
 
 -- the order passes to the input
 abbrev pub ReachesInput : List (List ℕ) → Option (List (List ℕ × List ℕ)) → Type 0

@@ -1,9 +1,10 @@
 -- Each step with what it passes on and what it refuses.
-use Rattle.std.specs.Prelude.{◌≡◌, ◌⊎◌, ℕ, Bool, ◌+◌, ◌<◌, ◌≤◌, ⊤, List, [], ◌∷◌, map, take, length, Option, Some, None, Result, Ok, Err, if◌then◌else◌}
-use Rattle.std.specs.List.{Any}
+use Rattle.std.specs.Prelude.{◌≡◌, ◌⊎◌, ℕ, suc, Bool, ◌+◌, ◌<◌, ◌≤◌, ⊤, List, [], ◌∷◌, map, take, length, Option, Some, None, Result, Ok, Err, if◌then◌else◌}
+use Rattle.std.specs.Option.{option_map}
 use Rattle.label_tree.specs.Rose.{Rose}
 use Rattle.xa_base.specs.Entries.{HasEntry, HasLonger, Lacks}
 use Rattle.xa_base.specs.declared.texts.Name.{Name}
+use Rattle.xa_base.specs.Names.{name_eq}
 use Rattle.doc_text.specs.declared.label.ItemLabel.{ItemLabel}
 use Rattle.doc_text.specs.declared.error.DocWhy.{DocWhy}
 use Rattle.doc_text.specs.Documents.{DocOf, BrokenAt}
@@ -24,7 +25,7 @@ use Rattle.schema_read.specs.Raw.{raw_of}
 use Rattle.link_simple.specs.Making.{IsMaking}
 use Rattle.transcode_core.specs.declared.outcome.Outcome.{Outcome}
 use Rattle.transcode_core.specs.declared.outcome.Outcome.TheVariants.{SchemaSyntax, SchemaFault, LinkFault, UnknownRoot, DocSyntax, TooLong, LoadFault, NotYet}
-use Rattle.transcode_core.specs.Booleans.{are_booleans}
+use Rattle.transcode_core.specs.Booleans.{is_boolean}
 use Rattle.transcode_core.specs.TruthValues.{truth_in}
 use Rattle.transcode_core.specs.Order.{Give, Found, Test, Then}
 
@@ -69,25 +70,18 @@ abbrev pub Linked : List Document → Result SetParts Outcome → Type 0
 Linked documents (Ok parts) = ArePassed documents passes × AreParts documents parts
 Linked documents (Err o) = (fault : link.LinkingFault) × IsShownBy documents passes fault × (o ≡ LinkFault fault.place.file fault.place.at fault.why)
 
--- What is taken so far of sets: global elements of the type boolean.
-abbrev pub Taken : List Document → Result (Unit {0}) Outcome → Type 0
-Taken documents = Test (are_booleans documents) NotYet
+-- the number of the first of these that has the name, if one has it; in a set the global elements have names of their own
+abbrev pub number_named : Name → List ElementDecl → Option ℕ
+number_named name [] = None
+number_named name (e ∷ es) = if name_eq e.name name then Some 0 else option_map (λ n. suc n) (number_named name es)
 
--- a global element has the name
-abbrev pub HasRoot : Name → SetParts → Type 0
-HasRoot root parts = Any (λ (e : ElementDecl). e.name ≡ root) (take parts.globals parts.elements)
+-- the number of the global element with the name
+abbrev pub Rooted : Name → SetParts → Result ℕ Outcome → Type 0
+Rooted root parts = Found (number_named root (take parts.globals parts.elements)) UnknownRoot
 
--- the root, where a global element has its name
-abbrev pub Rooted : Name → SetParts → Result Name Outcome → Type 0
-Rooted root parts (Ok found) = (found ≡ root) × HasRoot root parts
-Rooted root parts (Err o) = (HasRoot root parts → ⊥) × (o ≡ UnknownRoot)
-
--- the root in the set that the documents are
-abbrev pub Chosen : Name → List Document → Result Name Outcome → Type 0
-Chosen root documents =
-    Then (Linked documents) (λ parts.
-    Then (Taken documents) (λ _.
-    Rooted root parts))
+-- What is taken so far: elements of the type boolean.
+abbrev pub Taken : SetParts → ℕ → Result (Unit {0}) Outcome → Type 0
+Taken parts n = Test (is_boolean parts n) NotYet
 
 -- the text of the module that the set maps to
 abbrev pub Printed : SetParts → Result (List ℕ) Outcome → Type 0
@@ -110,8 +104,8 @@ Input left (Ok bytes) = IsAll left bytes × (length bytes ≤ 16777216)
 Input left (Err o) = IsMore left × (o ≡ TooLong 0)
 
 -- the truth value in a document whose root has this name
-abbrev pub Valued : Name → List ℕ → Result Bool Outcome → Type 0
-Valued root bytes = Then (Read (λ at why. DocSyntax at why) bytes) (λ items. Found (truth_in root items) NotYet)
+abbrev pub Valued : Name → Rose ItemLabel → Result Bool Outcome → Type 0
+Valued root items = Found (truth_in root items) NotYet
 
 -- the encoding of a truth value: one bit, padded to an octet (X.691, sections 12 and 11.1)
 abbrev pub encoded : Bool → List ℕ

@@ -3,6 +3,7 @@
 
 mod booleans;
 mod files;
+mod laws;
 mod lines;
 mod linking;
 mod outcome;
@@ -11,6 +12,7 @@ mod top;
 mod truth_values;
 mod words;
 
+pub use laws::one_answer;
 pub use lines::write_line;
 pub use outcome::Outcome;
 pub use top::run;

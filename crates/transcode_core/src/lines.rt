@@ -1,5 +1,6 @@
 //! The line that complaints receive.
 ghost use Rattle.std.specs.Prelude.{◌≡◌, ◌++◌, IsErr, OnOk, OnErr, map, codes, decimal};
+ghost use Rattle.std.specs.Option.{IfSome};
 ghost use Rattle.std.specs.List.{concat};
 ghost use Rattle.std.specs.Io.KnownBytes.{Appends};
 ghost use Rattle.xa_base.specs.Faults.{Counts};
@@ -8,12 +9,30 @@ ghost use Rattle.transcode_core.specs.Lines as lines;
 ghost use Rattle.transcode_core.specs.Private.Parts.{spelled};
 
 use crate::outcome::Outcome;
+use arrayvec::ArrayVec;
 use doc_text::DocWhy;
 use facet_rules::FacetWhy;
 use itoa::Buffer;
 use schema_link::LinkWhy;
 use schema_rules::SchemaWhy;
 use xa_base::{Failed, Sink, write_all};
+
+// The room for a line. The longest, that of the usage, has 99 bytes.
+const ROOM: usize = 128;
+
+// The pieces as one, if there is room for them.
+fn joined(parts: &[&[u8]]) -> Option<ArrayVec<u8, ROOM>>
+    ensures { IfSome result (λ line. line.items ≡ concat (map (λ part. part.now) parts.now)) }
+{
+    let mut line = ArrayVec::new();
+    for part in parts {
+        match line.try_extend_from_slice(part) {
+            Ok(()) => {}
+            Err(_) => return None,
+        }
+    }
+    Some(line)
+}
 
 // Writes the pieces, one after another.
 fn write_parts<E: Sink>(sink: &mut E, parts: &[&[u8]]) -> Result<(), Failed>
@@ -28,6 +47,18 @@ fn write_parts<E: Sink>(sink: &mut E, parts: &[&[u8]]) -> Result<(), Failed>
         }
     }
     Ok(())
+}
+
+// Writes the pieces at once, if there is room for them in one.
+fn write_joined<E: Sink>(sink: &mut E, parts: &[&[u8]]) -> Result<(), Failed>
+    ensures ok { OnOk result (Appends (E.written sink.old) (E.written sink.new) (concat (map (λ part. part.now) parts.now))) }
+    ensures prefix { OnErr result (AppendsFront (E.written sink.old) (E.written sink.new) (concat (map (λ part. part.now) parts.now))) }
+    ensures cause { Counts (E.faults sink.old) (E.faults sink.new) (IsErr result) }
+{
+    match joined(parts) {
+        Some(line) => write_all(sink, line.as_slice()),
+        None => write_parts(sink, parts),
+    }
 }
 
 // A line as its parts: text with up to two numbers and the name of a reason in it.
@@ -227,7 +258,7 @@ fn parts_of(outcome: Outcome) -> Parts
     }
 }
 
-/// Writes the line of the outcome, and nothing for `Done`. It takes no memory.
+/// Writes the line of the outcome, at once, and nothing for `Done`. It takes no memory.
 pub fn write_line<E: Sink>(outcome: &Outcome, complaints: &mut E) -> Result<(), Failed>
     ensures ok { OnOk result (Appends (E.written complaints.old) (E.written complaints.new) (lines.line outcome.now)) }
     ensures prefix { OnErr result (AppendsFront (E.written complaints.old) (E.written complaints.new) (lines.line outcome.now)) }
@@ -244,7 +275,7 @@ pub fn write_line<E: Sink>(outcome: &Outcome, complaints: &mut E) -> Result<(), 
         Some(at) => second.format(at).as_bytes(),
         None => b"".as_slice(),
     };
-    write_parts(
+    write_joined(
         complaints,
         &[
             parts.head,

@@ -1,20 +1,26 @@
 //! The schema files as one set, and the root in it.
 ghost use Rattle.std.specs.Prelude.{◌≡◌, ◌≤◌, length, IfOk, IfErr, map};
 ghost use Rattle.schema_parts.specs.Documents.{doc_of};
-ghost use Rattle.transcode_core.specs.Private.Requests.{root_seen};
-ghost use Rattle.transcode_core.specs.Steps.{Linked, Taken, Rooted, Chosen};
-ghost use Rattle.transcode_core.specs.Order.{Then};
-ghost use Rattle.link_set.specs.Sets.{parts_of};
+ghost use Rattle.schema_parts.specs.SetParts.{parts_of};
+ghost use Rattle.transcode_core.specs.Private.Requests.{root_seen, opened_seen};
+ghost use Rattle.transcode_core.specs.Steps.{Linked, Rooted};
+ghost use Rattle.transcode_core.specs.Order.{Give, Then};
 ghost use Rattle.schema_link.specs.Sets.{AreNumbered};
 ghost use Rattle.transcode_core.specs.Causes.{Answers, NoMemory};
 
-use crate::booleans::check_taken;
 use crate::outcome::Outcome;
 use crate::words::Root;
 use schema_link::{LinkError, link};
 use schema_parts::{RawDoc, SchemaSet, find_root};
 use std::alloc::Global;
 use xa_base::{Name, Text};
+
+/// A linked set, and the number of a global element in it.
+#[derive(Drop)]
+pub struct Opened {
+    pub set: SchemaSet,
+    pub root: u32,
+}
 
 /// The documents as one set.
 pub fn link_files(alloc: Global, documents: &[RawDoc]) -> Result<SchemaSet, Outcome>
@@ -49,44 +55,24 @@ fn name_of(alloc: Global, root: Root<'_>) -> Result<Name, Outcome>
     Ok(Name { space, local })
 }
 
-// The root, where a global element has its name.
-fn check_root<'a>(alloc: Global, root: Root<'a>, set: &SchemaSet) -> Result<Root<'a>, Outcome>
-    ensures { Answers root_seen (Rooted (root_seen root.entry) (parts_of set.now)) NoMemory result }
+// The number of the root, where a global element has its name.
+fn root_number(alloc: Global, root: Root<'_>, set: &SchemaSet) -> Result<u32, Outcome>
+    ensures { Answers (λ n. n) (Rooted (root_seen root.entry) (parts_of set.now)) NoMemory result }
 {
     let name = name_of(alloc, root)?;
+    let _ = set.element_count();
     match find_root(set, &name) {
-        Some(_) => Ok(root),
+        Some(n) => Ok(n),
         None => Err(Outcome::UnknownRoot),
     }
 }
 
-// The root in the set that the documents are, where they are such as are taken so far.
-fn root_in<'a>(
-    alloc: Global,
-    root: Root<'a>,
-    documents: &[RawDoc],
-    set: &SchemaSet,
-) -> Result<Root<'a>, Outcome>
-    ensures { Answers root_seen (Then (Taken (map doc_of documents.now)) (λ _. Rooted (root_seen root.entry) (parts_of set.now))) NoMemory result }
+/// The set with the number of the root in it.
+pub fn open_set(alloc: Global, root: Root<'_>, set: SchemaSet) -> Result<Opened, Outcome>
+    ensures { Answers opened_seen (Then (Rooted (root_seen root.entry) (parts_of set)) (λ n. Give (parts_of set, n))) NoMemory result }
 {
-    match check_taken(documents) {
-        Ok(()) => check_root(alloc, root, set),
-        Err(outcome) => Err(outcome),
-    }
-}
-
-/// The root in the set that the documents are.
-pub fn choose_root<'a>(
-    alloc: Global,
-    root: Root<'a>,
-    documents: &[RawDoc],
-) -> Result<Root<'a>, Outcome>
-    requires few { length documents.now ≤ 64 }
-    requires numbered { AreNumbered (map doc_of documents.now) }
-    ensures { Answers root_seen (Chosen (root_seen root.entry) (map doc_of documents.now)) NoMemory result }
-{
-    match link_files(alloc, documents) {
-        Ok(set) => root_in(alloc, root, documents, &set),
+    match root_number(alloc, root, &set) {
+        Ok(root) => Ok(Opened { set, root }),
         Err(outcome) => Err(outcome),
     }
 }

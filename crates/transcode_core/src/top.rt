@@ -1,29 +1,30 @@
 //! The top call.
-ghost use Rattle.std.specs.Prelude.{◌≡◌, ◌⊎◌, ℕ, ◌≤◌, true, List, length, map, OnOk, IfOk, IfErr, Ok, Err, Some};
+ghost use Rattle.std.specs.Prelude.{◌≡◌, ◌⊎◌, ℕ, ◌≤◌, true, List, length, OnOk, IfOk, IfErr, Ok, Err, Some};
 ghost use Rattle.std.specs.Io.KnownBytes.{Appends, IsAtEnd};
 ghost use Rattle.xa_base.specs.Faults.{HasRisen};
 ghost use Rattle.xa_base.specs.Bytes.{AppendsFront};
+ghost use Rattle.schema_parts.specs.SetParts.{parts_of};
 ghost use Rattle.transcode_core.specs.Lines.{line};
-ghost use Rattle.transcode_core.specs.Private.Requests.{root_seen, seen};
+ghost use Rattle.transcode_core.specs.Private.Requests.{root_seen, seen, opened_seen};
 ghost use Rattle.transcode_core.specs.Words as command;
-ghost use Rattle.schema_parts.specs.Documents.{doc_of};
-ghost use Rattle.schema_link.specs.Sets.{AreNumbered};
-ghost use Rattle.link_set.specs.Sets.{parts_of};
-ghost use Rattle.transcode_core.specs.Steps.{Linked, Printed, Valued, encoded};
+ghost use Rattle.transcode_core.specs.Steps.{Printed, Taken, encoded};
 ghost use Rattle.transcode_core.specs.Order.{Give, Then};
-ghost use Rattle.transcode_core.specs.Due.{Requested, PrintedModule, Opened, InputValue, Encoding, Answered, Due};
-ghost use Rattle.transcode_core.specs.Causes.{Answers, Never, NoMemory, SomeLoad, OneRead, files_of, ReachesFile, reads_input, ReadsInput, ComesToInput, ReachesInput, IsOfInput, Answering, Deciding, Fails, IsRefusal, WritesNothing};
+ghost use Rattle.transcode_core.specs.Due as due;
+ghost use Rattle.transcode_core.specs.Due.{Requested, SetIn, ItemsIn, Encoding, Encoded, Answered, Due};
+ghost use Rattle.transcode_core.specs.Causes.{Answers, Never, NoMemory, SomeLoad, OneRead, TakenRead, files_of, ReachesFile, reads_input, ReadsInput, IsTold, ComesToInput, ReachesInput, IsOfInput, Answering, Deciding, Fails, IsRefusal, WritesNothing};
 
+use crate::booleans::check_taken;
 use crate::files::{read_input, read_input_items};
 use crate::lines::write_line;
-use crate::linking::{choose_root, link_files};
+use crate::linking::{Opened, link_files, open_set};
 use crate::outcome::Outcome;
 use crate::schemas::load_schemas;
 use crate::truth_values::read_truth;
 use crate::words::{Request, Root, read_words};
+use doc_text::Items;
 use map_694::map_set;
 use module_print::print_module;
-use schema_parts::{RawDoc, SchemaSet};
+use schema_parts::SchemaSet;
 use std::alloc::Global;
 use std::sync::ledger::Ledger;
 use xa_base::{Failed, Library, Sink, Source, Steps, Text, write_all};
@@ -49,14 +50,48 @@ fn print(alloc: Global, set: &SchemaSet) -> Result<Vec<u8>, Outcome>
     }
 }
 
-// The text of the module of the set that the documents are.
-fn show_documents(alloc: Global, documents: &[RawDoc]) -> Result<Vec<u8>, Outcome>
-    requires few { length documents.now ≤ 64 }
-    requires numbered { AreNumbered (map doc_of documents.now) }
-    ensures { Answers (λ bytes. bytes.items) (Then (Linked (map doc_of documents.now)) (λ parts. Printed parts)) NoMemory result }
+// The set that these files are.
+fn read_set<F: Library>(alloc: Global, files: &mut F, names: &[Text]) -> Result<SchemaSet, Outcome>
+    requires { length names.now ≤ 64 }
+    ensures due { Answers parts_of (SetIn (F.entries files.old) names.now)
+        (SomeLoad (F.faults files.old) (F.faults files.new) (F.is_sure files.old) (F.entries files.old) names.now) result }
+    ensures files { (F.entries files.new ≡ F.entries files.old) × (F.is_sure files.new ≡ F.is_sure files.old) }
+    ensures later { F.faults files.old ≤ F.faults files.new }
 {
-    match link_files(alloc, documents) {
-        Ok(set) => print(alloc, &set),
+    match load_schemas(alloc, files, names) {
+        Ok(documents) => link_files(alloc, &documents),
+        Err(outcome) => Err(outcome),
+    }
+}
+
+// The set that these files are, with the root in it.
+fn open_files<F: Library>(
+    alloc: Global,
+    files: &mut F,
+    root: Root<'_>,
+    names: &[Text],
+) -> Result<Opened, Outcome>
+    requires { length names.now ≤ 64 }
+    ensures due { Answers opened_seen (due.Opened (F.entries files.old) (root_seen root.entry) names.now)
+        (SomeLoad (F.faults files.old) (F.faults files.new) (F.is_sure files.old) (F.entries files.old) names.now) result }
+    ensures files { (F.entries files.new ≡ F.entries files.old) × (F.is_sure files.new ≡ F.is_sure files.old) }
+    ensures later { F.faults files.old ≤ F.faults files.new }
+{
+    match read_set(alloc, files, names) {
+        Ok(set) => open_set(alloc, root, set),
+        Err(outcome) => Err(outcome),
+    }
+}
+
+// The items of the document in the input.
+fn read_items<S: Source>(alloc: Global, input: &mut S) -> Result<Items, Outcome>
+    ensures due { Answers (λ items. items) (ItemsIn (S.left input.old)) (OneRead (S.faults input.old) (S.faults input.new)) result }
+    ensures end { OnOk result (IsAtEnd (S.left input.new)) }
+    ensures stage { IfErr result IsOfInput }
+    ensures later { S.faults input.old ≤ S.faults input.new }
+{
+    match read_input(alloc, input) {
+        Ok(bytes) => read_input_items(alloc, &bytes),
         Err(outcome) => Err(outcome),
     }
 }
@@ -64,55 +99,13 @@ fn show_documents(alloc: Global, documents: &[RawDoc]) -> Result<Vec<u8>, Outcom
 // What `show` answers for these files.
 fn show<F: Library>(alloc: Global, files: &mut F, names: &[Text]) -> Result<Vec<u8>, Outcome>
     requires { length names.now ≤ 64 }
-    ensures due { Answers (λ bytes. bytes.items) (PrintedModule (F.entries files.old) names.now)
+    ensures due { Answers (λ bytes. bytes.items) (Then (SetIn (F.entries files.old) names.now) (λ parts. Printed parts))
         (SomeLoad (F.faults files.old) (F.faults files.new) (F.is_sure files.old) (F.entries files.old) names.now) result }
     ensures files { (F.entries files.new ≡ F.entries files.old) × (F.is_sure files.new ≡ F.is_sure files.old) }
     ensures later { F.faults files.old ≤ F.faults files.new }
 {
-    match load_schemas(alloc, files, names) {
-        Ok(documents) => show_documents(alloc, &documents),
-        Err(outcome) => Err(outcome),
-    }
-}
-
-// The root in the set that the files are.
-fn open_files<'a, F: Library>(
-    alloc: Global,
-    files: &mut F,
-    root: Root<'a>,
-    names: &[Text],
-) -> Result<Root<'a>, Outcome>
-    requires { length names.now ≤ 64 }
-    ensures due { Answers root_seen (Opened (F.entries files.old) (root_seen root.entry) names.now)
-        (SomeLoad (F.faults files.old) (F.faults files.new) (F.is_sure files.old) (F.entries files.old) names.now) result }
-    ensures files { (F.entries files.new ≡ F.entries files.old) × (F.is_sure files.new ≡ F.is_sure files.old) }
-    ensures later { F.faults files.old ≤ F.faults files.new }
-{
-    match load_schemas(alloc, files, names) {
-        Ok(documents) => choose_root(alloc, root, &documents),
-        Err(outcome) => Err(outcome),
-    }
-}
-
-// The truth value in the input's text.
-fn read_text(alloc: Global, root: Root<'_>, bytes: &[u8]) -> Result<bool, Outcome>
-    requires { length bytes.now ≤ 16777216 }
-    ensures due { Answers (λ value. value) (Valued (root_seen root.entry) bytes.now) NoMemory result }
-    ensures stage { IfErr result IsOfInput }
-{
-    let items = read_input_items(alloc, bytes)?;
-    read_truth(root, &items)
-}
-
-// The input and its truth value.
-fn read_value<S: Source>(alloc: Global, root: Root<'_>, input: &mut S) -> Result<bool, Outcome>
-    ensures due { Answers (λ value. value) (InputValue (root_seen root.entry) (S.left input.old)) (OneRead (S.faults input.old) (S.faults input.new)) result }
-    ensures end { OnOk result (IsAtEnd (S.left input.new)) }
-    ensures stage { IfErr result IsOfInput }
-    ensures later { S.faults input.old ≤ S.faults input.new }
-{
-    match read_input(alloc, input) {
-        Ok(bytes) => read_text(alloc, root, &bytes),
+    match read_set(alloc, files, names) {
+        Ok(set) => print(alloc, &set),
         Err(outcome) => Err(outcome),
     }
 }
@@ -129,15 +122,45 @@ fn encode(alloc: Global, value: bool) -> Result<Vec<u8>, Outcome>
     }
 }
 
-// The encoding of the input, in which this is the root.
+// The encoding of the value in the document, in which this is the root.
+fn encode_items(alloc: Global, root: Root<'_>, items: &Items) -> Result<Vec<u8>, Outcome>
+    ensures due { Answers (λ bytes. bytes.items) (Encoding (root_seen root.entry) items.now) NoMemory result }
+    ensures stage { IfErr result IsOfInput }
+{
+    match read_truth(root, items) {
+        Ok(value) => encode(alloc, value),
+        Err(outcome) => Err(outcome),
+    }
+}
+
+// The encoding of the document in the input.
 fn encode_input<S: Source>(alloc: Global, root: Root<'_>, input: &mut S) -> Result<Vec<u8>, Outcome>
-    ensures due { Answers (λ bytes. bytes.items) (Encoding (root_seen root.entry) (S.left input.old)) (OneRead (S.faults input.old) (S.faults input.new)) result }
+    ensures due { Answers (λ bytes. bytes.items) (Then (ItemsIn (S.left input.old)) (λ items. Encoding (root_seen root.entry) items)) (OneRead (S.faults input.old) (S.faults input.new)) result }
     ensures end { OnOk result (IsAtEnd (S.left input.new)) }
     ensures stage { IfErr result IsOfInput }
     ensures later { S.faults input.old ≤ S.faults input.new }
 {
-    match read_value(alloc, root, input) {
-        Ok(value) => encode(alloc, value),
+    match read_items(alloc, input) {
+        Ok(items) => encode_items(alloc, root, &items),
+        Err(outcome) => Err(outcome),
+    }
+}
+
+// The same in this set, where its root is such as is taken.
+fn encode_taken<S: Source>(
+    alloc: Global,
+    root: Root<'_>,
+    opened: &Opened,
+    input: &mut S,
+) -> Result<Vec<u8>, Outcome>
+    ensures due { Answers (λ bytes. bytes.items) (Encoded (root_seen root.entry) (opened_seen opened.now) (S.left input.old))
+        (TakenRead (opened_seen opened.now) (S.faults input.old) (S.faults input.new)) result }
+    ensures end { OnOk result (IsAtEnd (S.left input.new)) }
+    ensures untouched { (S.left input.new ≡ S.left input.old) ⊎ (Taken (parts_of opened.now.set) opened.now.root (Ok tt) × IfErr result IsOfInput) }
+    ensures later { S.faults input.old ≤ S.faults input.new }
+{
+    match check_taken(&opened.set, opened.root) {
+        Ok(()) => encode_input(alloc, root, input),
         Err(outcome) => Err(outcome),
     }
 }
@@ -160,7 +183,7 @@ fn to_per<F: Library, S: Source>(
     ensures reads { S.faults input.old ≤ S.faults input.new }
 {
     match open_files(alloc, files, root, names) {
-        Ok(root) => encode_input(alloc, root, input),
+        Ok(opened) => encode_taken(alloc, root, &opened, input),
         Err(outcome) => Err(outcome),
     }
 }
@@ -184,7 +207,9 @@ fn answer<F: Library, S: Source>(
     match request {
         Request::Show { files: names } => show(alloc, files, names),
         Request::ToPer { root, files: names } => to_per(alloc, root, names, files, input),
-        _ => Err(Outcome::NotYet),
+        Request::Check { .. } | Request::ToXml { .. } | Request::Trial { .. } => {
+            Err(Outcome::NotYet)
+        }
     }
 }
 
@@ -209,50 +234,23 @@ fn decide<F: Library, S: Source>(
     }
 }
 
-// Decides and then writes.
-fn perform<F: Library, S: Source, K: Sink>(
-    alloc: Global,
-    words: &[Text],
-    files: &mut F,
-    input: &mut S,
-    output: &mut K,
-) -> Outcome
-    ensures refused { IsRefusal result → Due words.now (F.entries files.old) (S.left input.old) (Err result) }
-    ensures done { result ≡ Outcome.Done → (bytes : List ℕ) × Due words.now (F.entries files.old) (S.left input.old) (Ok bytes) × Appends (K.written output.old) (K.written output.new) bytes }
-    ensures load { (file : ℕ) → result ≡ Outcome.LoadFault file → (name : List ℕ) × ReachesFile words.now (F.entries files.old) file name
-        × Fails (F.faults files.old) (F.faults files.new) (F.is_sure files.old) (F.entries files.old) name }
-    ensures read { result ≡ Outcome.ReadFault → HasRisen (S.faults input.old) (S.faults input.new) × ReachesInput words.now (F.entries files.old) }
-    ensures write { result ≡ Outcome.WriteFault → HasRisen (K.faults output.old) (K.faults output.new)
-        × ((bytes : List ℕ) × Due words.now (F.entries files.old) (S.left input.old) (Ok bytes) × AppendsFront (K.written output.old) (K.written output.new) bytes) }
-    ensures kept { WritesNothing result → K.written output.new ≡ K.written output.old }
-    ensures end { result ≡ Outcome.Done → ReadsInput words.now → IsAtEnd (S.left input.new) }
-    ensures untouched { (S.left input.new ≡ S.left input.old) ⊎ (ReachesInput words.now (F.entries files.old) × IsOfInput result) }
-    ensures files { (F.entries files.new ≡ F.entries files.old) × (F.is_sure files.new ≡ F.is_sure files.old) }
-    // Where Done is due and no count rose, it is Done, or memory is missing.
-    ensures complete { (entries : List (List ℕ × List ℕ)) (left bytes : List ℕ) → F.entries files.old ≡ Some entries → S.left input.old ≡ Some left
-        → Due words.now (Some entries) (Some left) (Ok bytes) → (HasRisen (F.faults files.old) (F.faults files.new) → ⊥) → (HasRisen (S.faults input.old) (S.faults input.new) → ⊥)
-        → (HasRisen (K.faults output.old) (K.faults output.new) → ⊥) → (result ≡ Outcome.Done) ⊎ (result ≡ Outcome.OutOfMemory) }
-    ensures loads { F.faults files.old ≤ F.faults files.new }
-    ensures reads { S.faults input.old ≤ S.faults input.new }
-    ensures writes { K.faults output.old ≤ K.faults output.new }
+// Tells complaints of the outcome, which stands whatever becomes of its line.
+fn complain<E: Sink>(outcome: Outcome, complaints: &mut E)
+    ensures complaint { Appends (E.written complaints.old) (E.written complaints.new) (line outcome)
+        ⊎ (HasRisen (E.faults complaints.old) (E.faults complaints.new) × AppendsFront (E.written complaints.old) (E.written complaints.new) (line outcome)) }
+    ensures later { E.faults complaints.old ≤ E.faults complaints.new }
 {
-    match decide(alloc, words, files, input) {
-        Ok(bytes) => match write_all(output, &bytes) {
-            Ok(()) => Outcome::Done,
-            Err(Failed) => Outcome::WriteFault,
-        },
-        Err(outcome) => outcome,
-    }
+    let _ = write_line(&outcome, complaints);
 }
 
 /// Does what the words ask for. `show FILE...` and `to-per ROOT FILE...` load the schema files in turn and end at the
 /// first that can't be loaded, has over 16,777,216 bytes, or has a fault in its text or as a schema document. Then the
 /// files are linked into one set, or the answer is the first fault of linking. `show` writes the module that the set maps
-/// to and leaves the input alone. Of `to-per` a set of global elements of the type boolean alone, none of them nillable,
-/// is taken: the input, of as many bytes at most, is read as a document with the element ROOT as its root, and its encoding
-/// is written. The other commands, and sets and documents of `to-per` beyond that, are `NotYet`. The whole result is made
-/// before writing begins. Complaints receive the line of the outcome. A fault outside is one that raises the count of its
-/// object. Nothing is counted in the steps yet.
+/// to and leaves the input alone. `to-per` looks for the root in the set, and takes one whose type is boolean: the input,
+/// of as many bytes at most, is read as a document with the element ROOT as its root, and its encoding is written. The
+/// other commands, and roots and documents of `to-per` beyond that, are `NotYet`. The whole result is made before writing
+/// begins. Complaints receive the line of the outcome. A fault outside is one that raises the count of its object.
+/// Nothing is counted in the steps yet.
 pub fn run<F: Library, S: Source, K: Sink, E: Sink, L: Ledger>(
     alloc: Global,
     words: &[Text],
@@ -276,9 +274,10 @@ pub fn run<F: Library, S: Source, K: Sink, E: Sink, L: Ledger>(
     ensures end { result ≡ Outcome.Done → ReadsInput words.now → IsAtEnd (S.left input.new) }
     ensures untouched { (S.left input.new ≡ S.left input.old) ⊎ (ReachesInput words.now (F.entries files.old) × IsOfInput result) }
     ensures files { (F.entries files.new ≡ F.entries files.old) × (F.is_sure files.new ≡ F.is_sure files.old) }
-    // Where Done is due and no count rose, it is Done, or memory is missing.
-    ensures complete { (entries : List (List ℕ × List ℕ)) (left bytes : List ℕ) → F.entries files.old ≡ Some entries → S.left input.old ≡ Some left
-        → Due words.now (Some entries) (Some left) (Ok bytes) → (HasRisen (F.faults files.old) (F.faults files.new) → ⊥) → (HasRisen (S.faults input.old) (S.faults input.new) → ⊥)
+    // Where Done is due and no count rose, it is Done, or memory is missing. The input need not be told where the words
+    // don't ask for it.
+    ensures complete { (entries : List (List ℕ × List ℕ)) (bytes : List ℕ) → F.entries files.old ≡ Some entries → (ReadsInput words.now → IsTold (S.left input.old))
+        → Due words.now (F.entries files.old) (S.left input.old) (Ok bytes) → (HasRisen (F.faults files.old) (F.faults files.new) → ⊥) → (HasRisen (S.faults input.old) (S.faults input.new) → ⊥)
         → (HasRisen (K.faults output.old) (K.faults output.new) → ⊥) → (result ≡ Outcome.Done) ⊎ (result ≡ Outcome.OutOfMemory) }
     ensures loads { F.faults files.old ≤ F.faults files.new }
     ensures reads { S.faults input.old ≤ S.faults input.new }
@@ -288,8 +287,20 @@ pub fn run<F: Library, S: Source, K: Sink, E: Sink, L: Ledger>(
         ⊎ (HasRisen (E.faults complaints.old) (E.faults complaints.new) × AppendsFront (E.written complaints.old) (E.written complaints.new) (line result)) }
     ensures complaints { E.faults complaints.old ≤ E.faults complaints.new }
 {
-    let outcome = perform(alloc, words, files, input, output);
-    // The outcome stands, whatever becomes of its line.
-    let _ = write_line(&outcome, complaints);
-    outcome
+    match decide(alloc, words, files, input) {
+        Ok(bytes) => match write_all(output, &bytes) {
+            Ok(()) => {
+                complain(Outcome::Done, complaints);
+                Outcome::Done
+            }
+            Err(Failed) => {
+                complain(Outcome::WriteFault, complaints);
+                Outcome::WriteFault
+            }
+        },
+        Err(outcome) => {
+            complain(outcome, complaints);
+            outcome
+        }
+    }
 }

@@ -2,7 +2,7 @@
 ghost use Rattle.std.specs.Prelude.{◌≡◌, IfErr};
 ghost use Rattle.transcode_core.specs.TruthValues as truths;
 ghost use Rattle.transcode_core.specs.Private.Requests.{root_seen};
-ghost use Rattle.transcode_core.specs.Order.{Found};
+ghost use Rattle.transcode_core.specs.Steps.{Valued};
 ghost use Rattle.transcode_core.specs.Causes.{Answers, Never, IsOfInput};
 
 use crate::outcome::Outcome;
@@ -58,7 +58,7 @@ fn truth_in(root: Root<'_>, label: &ItemLabel, kids: &[Tree<ItemLabel>]) -> Opti
 
 /// The truth value in the document, whose root has this name.
 pub fn read_truth(root: Root<'_>, items: &Items) -> Result<bool, Outcome>
-    ensures due { Answers (λ value. value) (Found (truths.truth_in (root_seen root.entry) items.now) Outcome.NotYet) Never result }
+    ensures due { Answers (λ value. value) (Valued (root_seen root.entry) items.now) Never result }
     ensures stage { IfErr result IsOfInput }
 {
     let tree = items.tree().root();

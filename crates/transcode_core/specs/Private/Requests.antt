@@ -1,5 +1,8 @@
--- What the code reads of the words.
+-- What the code reads of the words, and the set that it opens.
+use Rattle.std.specs.Prelude.{ℕ}
 use Rattle.xa_base.specs.declared.texts.Name.{Name}
+use Rattle.schema_parts.specs.SetParts.{SetParts, parts_of}
+use Rattle.transcode_core.specs.declared.linking.Opened.{Opened}
 use Rattle.transcode_core.specs.declared.words.Root.{Root}
 use Rattle.transcode_core.specs.declared.words.Request.{Request}
 use Rattle.transcode_core.specs.declared.words.Request.TheVariants as request
@@ -14,3 +17,6 @@ seen (request.Check root files) = Check (root_seen root) files.now
 seen (request.ToPer root files) = ToPer (root_seen root) files.now
 seen (request.ToXml root files) = ToXml (root_seen root) files.now
 seen (request.Trial lines) = Trial lines
+
+abbrev pub opened_seen : Opened → SetParts × ℕ
+opened_seen opened = (parts_of opened.set, opened.root)

@@ -1,15 +1,19 @@
-use Rattle.std.proofs.Common.{inr}
-use Rattle.transcode_core.specs.Private.Requests.{root_seen}
+use Rattle.std.proofs.Common.{inl, inr}
+use Rattle.transcode_core.specs.Private.Requests.{root_seen, opened_seen}
 use Rattle.transcode_core.proofs.Deciding.{goes_on, stops}
 use Rattle.transcode_core.proofs.top.to_per.Goals as goal
 
 pub returns-in-Ok-clause-due : goal.returns-in-Ok-clause-due
 returns-in-Ok-clause-due g c =
     goes_on (g.F.Library.entries c.args.files.now) (g.S.Source.left c.args.input.now) (g.F.Library.faults c.args.files.now) (g.F.Library.faults c.open_files.new.files) (g.F.Library.is_sure c.args.files.now)
-    (g.S.Source.faults c.args.input.now) (g.S.Source.faults c.encode_input.new.input) (root_seen c.args.root) c.args.names.now (root_seen c.in-Ok.root) c.encode_input.result c.in-Ok.ensures.due c.encode_input.ensures.due
+    (g.S.Source.faults c.args.input.now) (g.S.Source.faults c.encode_taken.new.input) (root_seen c.args.root) c.args.names.now (opened_seen c.in-Ok.opened) c.encode_taken.result c.in-Ok.ensures.due c.encode_taken.ensures.due
 
 pub returns-in-Ok-clause-untouched : goal.returns-in-Ok-clause-untouched
-returns-in-Ok-clause-untouched g c = inr ((root_seen c.in-Ok.root, c.in-Ok.ensures.due), c.encode_input.ensures.stage)
+returns-in-Ok-clause-untouched g c =
+    elim c.encode_taken.ensures.untouched [
+      | inl same ↦ inl same
+      | inr (taken, stage) ↦ inr ((opened_seen c.in-Ok.opened, c.in-Ok.ensures.due, taken), stage)
+    ]
 
 pub returns-in-Err-clause-due : goal.returns-in-Err-clause-due
 returns-in-Err-clause-due g c =

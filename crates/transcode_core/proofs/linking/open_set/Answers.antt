@@ -1,0 +1,13 @@
+use Rattle.std.proofs.Common.{ℕ}
+use Rattle.schema_parts.specs.SetParts.{parts_of}
+use Rattle.transcode_core.specs.Order.{Give}
+use Rattle.transcode_core.specs.Private.Requests.{root_seen, opened_seen}
+use Rattle.transcode_core.specs.Steps.{Rooted}
+use Rattle.transcode_core.specs.Causes.{NoMemory}
+use Rattle.transcode_core.proofs.Joined.{refused}
+use Rattle.transcode_core.proofs.linking.open_set.Goals as goal
+
+pub returns-in-Err : goal.returns-in-Err
+returns-in-Err c =
+    let parts = parts_of c.args.set in
+    refused (Rooted (root_seen c.args.root) parts) (λ (n : ℕ). Give (parts, n)) NoMemory NoMemory opened_seen c.in-Err.outcome c.in-Err.ensures (λ h. h)
