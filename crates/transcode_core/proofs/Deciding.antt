@@ -6,10 +6,10 @@ use Rattle.xa_base.specs.Faults.{HasRisen}
 use Rattle.xa_base.specs.declared.texts.Name.{Name}
 use Rattle.transcode_core.specs.declared.outcome.Outcome.{Outcome}
 use Rattle.transcode_core.specs.declared.outcome.Outcome.TheVariants.{LoadFault, ReadFault, OutOfMemory}
-use Rattle.transcode_core.specs.Words.{Asked, ToPer}
+use Rattle.transcode_core.specs.Words.{Asked, Check, ToPer}
 use Rattle.schema_parts.specs.SetParts.{SetParts}
-use Rattle.transcode_core.specs.Due.{Requested, Opened, Encoded, Answered, Due}
-use Rattle.transcode_core.specs.Causes.{Answers, IsRefusal, SomeLoad, TakenRead, Fails, Reaches, files_of, ReachesFile, reads_input, ReadsInput, ReachesInput, Answering, Deciding}
+use Rattle.transcode_core.specs.Due.{Requested, Opened, Checked, Encoded, Answered, Due}
+use Rattle.transcode_core.specs.Causes.{Answers, IsRefusal, SomeLoad, OneRead, TakenRead, Fails, Reaches, files_of, ReachesFile, reads_input, ReadsInput, ReachesInput, Answering, Deciding}
 
 -- the words ask for one thing
 pub same_request : (words : List (List ℕ)) (a b : Asked) → Requested words (Ok a) → Requested words (Ok b) → a ≡ b
@@ -33,6 +33,21 @@ module _ (entries : Option (List (List ℕ × List ℕ))) (left : Option (List �
       → (Answered entries left (ToPer root names) (Err o) × IsRefusal o) ⊎ Answering loads loads_now sure entries reads reads_now (ToPer root names) o
   stops o (inl (due, own)) = inl (inl due, own)
   stops o (inr cause) = inr (inl cause)
+
+module _ (entries : Option (List (List ℕ × List ℕ))) (left : Option (List ℕ)) (loads loads_now : ℕ) (sure : Bool) (reads reads_now : ℕ) (root : Name) (names : List (List ℕ)) where
+  -- the same of `check`
+  pub checks_on : (opened : SetParts × ℕ) (v : Result (Vec ℕ Global) Outcome) → Opened entries root names (Ok opened)
+      → Answers (λ (b : Vec ℕ Global). b.items) (Checked opened left) (OneRead reads reads_now) v
+      → Answers (λ (b : Vec ℕ Global). b.items) (Answered entries left (Check root names)) (Answering loads loads_now sure entries reads reads_now (Check root names)) v
+  checks_on opened (Ok v) is due = (opened, is, due)
+  checks_on opened (Err o) is (inl (due, own)) = inl (inr (opened, is, due), own)
+  checks_on opened (Err o) is (inr (inl memory)) = inr (inl (inl memory))
+  checks_on opened (Err o) is (inr (inr (read, rose))) = inr (inr (read, rose, (opened, is)))
+
+  pub checks_no_more : (o : Outcome) → (Opened entries root names (Err o) × IsRefusal o) ⊎ SomeLoad loads loads_now sure entries names o
+      → (Answered entries left (Check root names) (Err o) × IsRefusal o) ⊎ Answering loads loads_now sure entries reads reads_now (Check root names) o
+  checks_no_more o (inl (due, own)) = inl (inl due, own)
+  checks_no_more o (inr cause) = inr (inl cause)
 
 module _ (words : List (List ℕ)) (entries : Option (List (List ℕ × List ℕ))) (left : Option (List ℕ)) (loads loads_now : ℕ) (sure : Bool) (reads reads_now : ℕ) where
   -- a refusal is due

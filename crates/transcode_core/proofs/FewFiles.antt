@@ -60,7 +60,7 @@ few_asked : (words : List (List ℕ)) → AreFew (asked words)
 few_asked [] = tt
 few_asked (command ∷ words) =
     split (bytes_eq command (codes "show")) _ _ (unless (are_files words) (Some (Show words)) (λ e. few_of words e))
-    (split (bytes_eq command (codes "check")) _ _ (few_rooted Check (λ name files few. omega arith) (rooted_parts words) (few_parts words))
+    (split (bytes_eq command (codes "check")) _ _ (few_rooted Check (λ name files few. few) (rooted_parts words) (few_parts words))
     (split (bytes_eq command (codes "to-per")) _ _ (few_rooted ToPer (λ name files few. few) (rooted_parts words) (few_parts words))
     (split (bytes_eq command (codes "to-xml")) _ _ (few_rooted ToXml (λ name files few. omega arith) (rooted_parts words) (few_parts words))
     (split (bytes_eq command (codes "trial")) _ _ (few_counted words) tt))))

@@ -9,12 +9,12 @@ use Rattle.doc_text.specs.declared.error.DocWhy.{DocWhy}
 use Rattle.doc_text.proofs.OneTree.{one_tree, tree_or_fault, one_fault}
 use Rattle.doc_text.proofs.PieceLaws.{PieceLaws}
 use Rattle.transcode_core.specs.declared.outcome.Outcome.{Outcome}
-use Rattle.transcode_core.specs.declared.outcome.Outcome.TheVariants.{Done, SchemaFault, LinkFault, OutOfMemory, NotYet}
+use Rattle.transcode_core.specs.declared.outcome.Outcome.TheVariants.{Done, SchemaFault, LinkFault, Invalid, OutOfMemory, NotYet}
 use Rattle.transcode_core.specs.Order.{Give, Found, Refuse, Test, Then}
 use Rattle.schema_faults.specs.Faults.{first_fault, reasons}
 use Rattle.schema_faults.specs.declared.faults.DocumentFault.{DocumentFault}
-use Rattle.transcode_core.specs.Steps.{Loaded, Read, Faultless, Linked, Printed, Schema, Schemas, Input}
-use Rattle.transcode_core.specs.Due.{Requested, SetIn, Opened, ItemsIn, Encoded, Answered, Due}
+use Rattle.transcode_core.specs.Steps.{Loaded, Read, Faultless, Linked, Printed, Schema, Schemas, Input, AreLinked, Judged}
+use Rattle.transcode_core.specs.Due.{Requested, SetIn, Opened, ItemsIn, Checked, Encoded, Answered, Due}
 use Rattle.transcode_core.specs.Words.{Asked, Show, Check, ToPer, ToXml, Trial}
 use Rattle.transcode_core.specs.Causes.{IsRefusal, reads_input, ReadsInput, IsTold, Deciding}
 use Rattle.schema_read.specs.Raw.{raw_of}
@@ -22,6 +22,12 @@ use Rattle.schema_parts.specs.SetParts.{SetParts, NamedSpace, named_spaces, part
 use Rattle.link_set.specs.Sets.{set_of}
 use Rattle.simple_types.specs.Seen.{space_of}
 use Rattle.schema_parts.specs.Components.{Set}
+use Rattle.schema_parts.specs.Linked.{IsLinked}
+use Rattle.plain_items.specs.Plain.{Plain}
+use Rattle.validity.specs.declared.why.InvalidWhy.{InvalidWhy}
+use Rattle.validity.specs.Laws.{AtMostOne}
+use Rattle.validity.specs.Valid.{Valid}
+use Rattle.validity.specs.Faults.{FirstFault}
 use Rattle.schema_parts.specs.declared.components.SimpleDef.{SimpleDef}
 use Rattle.map_694.proofs.Once.{one-map}
 use Rattle.map_694.proofs.SameSets.{AreSame, map-same}
@@ -181,6 +187,24 @@ Opened-single laws entries root files =
 pub ItemsIn-single : PieceLaws → (left : List ℕ) → IsSingle (ItemsIn (Some left))
 ItemsIn-single laws left = Then-single _ _ (Input-single left) (λ bytes. Read-single laws _ bytes)
 
+module _ (valid : AtMostOne) where
+  judged_once : (s : Set) → IsLinked s → (parts : SetParts) → parts_of s ≡ parts → (n : ℕ) (items : tree.Rose ItemLabel) → IsSingle (Judged parts n items)
+  judged_once s linked parts refl n items (Ok x) (Ok y) p q = ap (λ z. Ok z) ((valid s linked n items).1.0 x y p.1 q.1)
+  judged_once s linked parts refl n items (Ok x) (Err o) p (own, (at, why, fault, is)) = absurd ((valid s linked n items).0 x at why p.1 fault)
+  judged_once s linked parts refl n items (Err o) (Ok y) (own, (at, why, fault, is)) q = absurd ((valid s linked n items).0 y at why q.1 fault)
+  judged_once s linked parts refl n items (Err o) (Err m) (own, (a, v, fault, is)) (also, (b, w, other, was)) =
+      let e : (a ≡ b) × (v ≡ w) = (valid s linked n items).1.1 a b v w fault other in
+      ap (λ z. Err z) (is ∙ (ap (λ k. Invalid k v) e.0 ∙ (ap (λ r. Invalid b r) e.1 ∙ sym was)))
+
+  pub Judged-single : (parts : SetParts) (n : ℕ) (items : tree.Rose ItemLabel) → IsSingle (Judged parts n items)
+  Judged-single parts n items (Ok x) w ((s, linked, of_s), is) also = judged_once s linked parts of_s n items (Ok x) w ((s, linked, of_s), is) also
+  Judged-single parts n items (Err o) w ((s, linked, of_s), is) also = judged_once s linked parts of_s n items (Err o) w ((s, linked, of_s), is) also
+
+  pub Checked-single : PieceLaws → (opened : SetParts × ℕ) (left : List ℕ) → IsSingle (Checked opened (Some left))
+  Checked-single laws opened left =
+      Then-single _ _ (ItemsIn-single laws left) (λ items.
+      Then-single _ _ (Judged-single opened.0 opened.1 items) (λ _. Give-single []))
+
 pub Encoded-single : PieceLaws → (root : Name) (opened : SetParts × ℕ) (left : List ℕ) → IsSingle (Encoded root opened (Some left))
 Encoded-single laws root opened left =
     Then-single _ _ (Test-single _ _) (λ _.
@@ -188,38 +212,39 @@ Encoded-single laws root opened left =
     Then-single _ _ (Found-single _ _) (λ value. Give-single _)))
 
 -- where what the command reads is told
-pub Answered-single : PieceLaws → (entries : List (List ℕ × List ℕ)) (left : Option (List ℕ)) (request : Asked) → (reads_input request ≡ true → IsTold left)
+pub Answered-single : AtMostOne → PieceLaws → (entries : List (List ℕ × List ℕ)) (left : Option (List ℕ)) (request : Asked) → (reads_input request ≡ true → IsTold left)
     → IsSingle (Answered (Some entries) left request)
-Answered-single laws entries left (Show files) told = Then-single _ _ (SetIn-single laws entries files) (λ parts. Printed-single parts)
-Answered-single laws entries left (Check root files) told = Refuse-single NotYet
-Answered-single laws entries (Some left) (ToPer root files) told = Then-single _ _ (Opened-single laws entries root files) (λ opened. Encoded-single laws root opened left)
-Answered-single laws entries None (ToPer root files) told = absurd (told refl)
-Answered-single laws entries left (ToXml root files) told = Refuse-single NotYet
-Answered-single laws entries left (Trial lines) told = Refuse-single NotYet
+Answered-single valid laws entries left (Show files) told = Then-single _ _ (SetIn-single laws entries files) (λ parts. Printed-single parts)
+Answered-single valid laws entries (Some left) (Check root files) told = Then-single _ _ (Opened-single laws entries root files) (λ opened. Checked-single valid laws opened left)
+Answered-single valid laws entries None (Check root files) told = absurd (told refl)
+Answered-single valid laws entries (Some left) (ToPer root files) told = Then-single _ _ (Opened-single laws entries root files) (λ opened. Encoded-single laws root opened left)
+Answered-single valid laws entries None (ToPer root files) told = absurd (told refl)
+Answered-single valid laws entries left (ToXml root files) told = Refuse-single NotYet
+Answered-single valid laws entries left (Trial lines) told = Refuse-single NotYet
 
 -- at most one outcome or result is due
-pub Due-single : PieceLaws → (words : List (List ℕ)) (entries : List (List ℕ × List ℕ)) (left : Option (List ℕ)) → (ReadsInput words → IsTold left)
+pub Due-single : AtMostOne → PieceLaws → (words : List (List ℕ)) (entries : List (List ℕ × List ℕ)) (left : Option (List ℕ)) → (ReadsInput words → IsTold left)
     → IsSingle (Due words (Some entries) left)
-Due-single laws words entries left told =
-    Then-with _ _ (Found-single _ _) (λ request asks. Answered-single laws entries left request (λ reads. told (request, asks, reads)))
+Due-single valid laws words entries left told =
+    Then-with _ _ (Found-single _ _) (λ request asks. Answered-single valid laws entries left request (λ reads. told (request, asks, reads)))
 
 -- where Done is due and nothing rose, only memory may be missing
-completed : PieceLaws → (words : List (List ℕ)) (entries : List (List ℕ × List ℕ)) (left : Option (List ℕ)) (bytes : List ℕ) (loads loads_now reads reads_now : ℕ) (sure : Bool) (o : Outcome)
+completed : AtMostOne → PieceLaws → (words : List (List ℕ)) (entries : List (List ℕ × List ℕ)) (left : Option (List ℕ)) (bytes : List ℕ) (loads loads_now reads reads_now : ℕ) (sure : Bool) (o : Outcome)
     → (ReadsInput words → IsTold left) → Due words (Some entries) left (Ok bytes) → (HasRisen loads loads_now → ⊥) → (HasRisen reads reads_now → ⊥)
     → (Due words (Some entries) left (Err o) × IsRefusal o) ⊎ Deciding loads loads_now sure (Some entries) reads reads_now words o
     → (o ≡ Done) ⊎ (o ≡ OutOfMemory)
-completed laws words entries left bytes loads loads_now reads reads_now sure o told due no_load no_read (inl (refused, own)) =
-    let e = Due-single laws words entries left told (Err o) (Ok bytes) refused due in cc
-completed laws words entries left bytes loads loads_now reads reads_now sure o told due no_load no_read (inr (request, asks, inl (inl memory))) = inr memory
-completed laws words entries left bytes loads loads_now reads reads_now sure o told due no_load no_read (inr (request, asks, inl (inr (k, name, load, named, fails)))) = absurd (no_load fails.rose)
-completed laws words entries left bytes loads loads_now reads reads_now sure o told due no_load no_read (inr (request, asks, inr (read, rose, comes))) = absurd (no_read rose)
+completed valid laws words entries left bytes loads loads_now reads reads_now sure o told due no_load no_read (inl (refused, own)) =
+    let e = Due-single valid laws words entries left told (Err o) (Ok bytes) refused due in cc
+completed valid laws words entries left bytes loads loads_now reads reads_now sure o told due no_load no_read (inr (request, asks, inl (inl memory))) = inr memory
+completed valid laws words entries left bytes loads loads_now reads reads_now sure o told due no_load no_read (inr (request, asks, inl (inr (k, name, load, named, fails)))) = absurd (no_load fails.rose)
+completed valid laws words entries left bytes loads loads_now reads reads_now sure o told due no_load no_read (inr (request, asks, inr (read, rose, comes))) = absurd (no_read rose)
 
 -- the same, of files that are told
-pub completed_told : PieceLaws → (words : List (List ℕ)) (known : Option (List (List ℕ × List ℕ))) (left : Option (List ℕ)) (entries : List (List ℕ × List ℕ)) (bytes : List ℕ)
+pub completed_told : AtMostOne → PieceLaws → (words : List (List ℕ)) (known : Option (List (List ℕ × List ℕ))) (left : Option (List ℕ)) (entries : List (List ℕ × List ℕ)) (bytes : List ℕ)
     (loads loads_now reads reads_now : ℕ) (sure : Bool) (o : Outcome) → known ≡ Some entries → (ReadsInput words → IsTold left)
     → Due words known left (Ok bytes) → (HasRisen loads loads_now → ⊥) → (HasRisen reads reads_now → ⊥)
     → (Due words known left (Err o) × IsRefusal o) ⊎ Deciding loads loads_now sure known reads reads_now words o
     → (o ≡ Done) ⊎ (o ≡ OutOfMemory)
-completed_told laws words known left entries bytes loads loads_now reads reads_now sure o files told due no_load no_read answer =
-    completed laws words entries left bytes loads loads_now reads reads_now sure o told (subst (λ e. Due words e left (Ok bytes)) files due) no_load no_read
+completed_told valid laws words known left entries bytes loads loads_now reads reads_now sure o files told due no_load no_read answer =
+    completed valid laws words entries left bytes loads loads_now reads reads_now sure o told (subst (λ e. Due words e left (Ok bytes)) files due) no_load no_read
     (subst (λ e. (Due words e left (Err o) × IsRefusal o) ⊎ Deciding loads loads_now sure e reads reads_now words o) files answer)

@@ -58,7 +58,7 @@ SomeLoad before now is_sure entries names o =
 -- the files that are loaded
 abbrev pub files_of : Asked → List (List ℕ)
 files_of (Show files) = files
-files_of (Check root files) = []
+files_of (Check root files) = files
 files_of (ToPer root files) = files
 files_of (ToXml root files) = []
 files_of (Trial lines) = []
@@ -78,7 +78,7 @@ TakenRead opened before now o = (o ≡ OutOfMemory) ⊎ ((o ≡ ReadFault) × Ha
 -- the command reads the input
 abbrev pub reads_input : Asked → Bool
 reads_input (Show files) = false
-reads_input (Check root files) = false
+reads_input (Check root files) = true
 reads_input (ToPer root files) = true
 reads_input (ToXml root files) = false
 reads_input (Trial lines) = false
@@ -94,7 +94,7 @@ IsTold (Some left) = Unit {0}
 -- it does, and the files and the root pass
 abbrev pub ComesToInput : Option (List (List ℕ × List ℕ)) → Asked → Type 0
 ComesToInput entries (Show files) = ⊥
-ComesToInput entries (Check root files) = ⊥
+ComesToInput entries (Check root files) = (opened : SetParts × ℕ) × Opened entries root files (Ok opened)
 ComesToInput entries (ToPer root files) = (opened : SetParts × ℕ) × Opened entries root files (Ok opened) × Taken opened.0 opened.1 (Ok tt)
 ComesToInput entries (ToXml root files) = ⊥
 ComesToInput entries (Trial lines) = ⊥

@@ -8,8 +8,10 @@ use Rattle.facet_rules.specs.declared.refusals.FacetWhy.{FacetWhy}
 use Rattle.facet_rules.specs.declared.refusals.FacetWhy.TheVariants as facet
 use Rattle.link_names.specs.declared.faults.LinkWhy.{LinkWhy}
 use Rattle.link_names.specs.declared.faults.LinkWhy.TheVariants as link
+use Rattle.validity.specs.declared.why.InvalidWhy.{InvalidWhy}
+use Rattle.validity.specs.declared.why.InvalidWhy.TheVariants as invalid
 use Rattle.transcode_core.specs.declared.outcome.Outcome.{Outcome}
-use Rattle.transcode_core.specs.declared.outcome.Outcome.TheVariants.{Done, Usage, SchemaSyntax, SchemaFault, LinkFault, UnknownRoot, DocSyntax, TooLong, LoadFault, ReadFault, WriteFault, OutOfMemory, NotYet}
+use Rattle.transcode_core.specs.declared.outcome.Outcome.TheVariants.{Done, Usage, SchemaSyntax, SchemaFault, LinkFault, UnknownRoot, DocSyntax, Invalid, TooLong, LoadFault, ReadFault, WriteFault, OutOfMemory, NotYet}
 
 -- the name of a reason against a text
 abbrev pub reason_name : DocWhy → List ℕ
@@ -102,6 +104,22 @@ link_reason link.DuplicateUse = codes "DuplicateUse"
 link_reason link.TypesDiffer = codes "TypesDiffer"
 link_reason link.NotClear = codes "NotClear"
 
+-- the name of a reason against a document
+abbrev pub invalid_reason : InvalidWhy → List ℕ
+invalid_reason invalid.WrongRoot = codes "WrongRoot"
+invalid_reason invalid.XsiType = codes "XsiType"
+invalid_reason invalid.BadNil = codes "BadNil"
+invalid_reason invalid.UnknownAttribute = codes "UnknownAttribute"
+invalid_reason invalid.BadAttribute = codes "BadAttribute"
+invalid_reason invalid.TooWide = codes "TooWide"
+invalid_reason invalid.MissingAttribute = codes "MissingAttribute"
+invalid_reason invalid.NilWithContent = codes "NilWithContent"
+invalid_reason invalid.TextNotAllowed = codes "TextNotAllowed"
+invalid_reason invalid.ElementNotAllowed = codes "ElementNotAllowed"
+invalid_reason invalid.BadText = codes "BadText"
+invalid_reason invalid.UnexpectedElement = codes "UnexpectedElement"
+invalid_reason invalid.MissingElement = codes "MissingElement"
+
 -- the file of that number, or the input
 abbrev pub place : ℕ → List ℕ
 place zero = codes "input"
@@ -115,6 +133,7 @@ line (SchemaFault k at reason) = codes "file " ++ decimal k ++ codes ", byte " +
 line (LinkFault k at reason) = codes "file " ++ decimal k ++ codes ", byte " ++ decimal at ++ codes ": link: " ++ link_reason reason ++ codes "\n"
 line UnknownRoot = codes "unknown root\n"
 line (DocSyntax at reason) = codes "input, byte " ++ decimal at ++ codes ": syntax: " ++ reason_name reason ++ codes "\n"
+line (Invalid at reason) = codes "input, byte " ++ decimal at ++ codes ": invalid: " ++ invalid_reason reason ++ codes "\n"
 line (TooLong k) = place k ++ codes ": too long\n"
 line (LoadFault k) = codes "file " ++ decimal k ++ codes ": load failed\n"
 line ReadFault = codes "input: read failed\n"

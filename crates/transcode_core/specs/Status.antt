@@ -1,7 +1,7 @@
 -- The exit status of an outcome.
 use Rattle.std.specs.Prelude.{ℕ}
 use Rattle.transcode_core.specs.declared.outcome.Outcome.{Outcome}
-use Rattle.transcode_core.specs.declared.outcome.Outcome.TheVariants.{Done, Usage, SchemaSyntax, SchemaFault, LinkFault, UnknownRoot, DocSyntax, TooLong, LoadFault, ReadFault, WriteFault, OutOfMemory, NotYet}
+use Rattle.transcode_core.specs.declared.outcome.Outcome.TheVariants.{Done, Usage, SchemaSyntax, SchemaFault, LinkFault, UnknownRoot, DocSyntax, Invalid, TooLong, LoadFault, ReadFault, WriteFault, OutOfMemory, NotYet}
 
 abbrev pub status : Outcome → ℕ
 status Done = 0
@@ -11,6 +11,7 @@ status (SchemaFault _ _ _) = 4
 status (LinkFault _ _ _) = 5
 status UnknownRoot = 6
 status (DocSyntax _ _) = 7
+status (Invalid _ _) = 8
 status (TooLong _) = 11
 status (LoadFault _) = 20
 status ReadFault = 21

@@ -14,6 +14,11 @@ use Rattle.schema_parts.specs.Raw.{Document}
 use Rattle.simple_types.specs.Space.{Space}
 use Rattle.link_cycles.specs.SimpleTypes.{simple_types}
 use Rattle.schema_parts.specs.Components.{Set}
+use Rattle.schema_parts.specs.Linked.{IsLinked}
+use Rattle.plain_items.specs.Plain.{Plain}
+use Rattle.validity.specs.declared.why.InvalidWhy.{InvalidWhy}
+use Rattle.validity.specs.Valid.{Valid}
+use Rattle.validity.specs.Faults.{FirstFault}
 use Rattle.link_set.specs.Sets.{SetParts, parts_of, set_of}
 use Rattle.asn_types.specs.declared.modules.Assignment.{Assignment}
 use Rattle.map_assignments.specs.Mapped.{IsMapOf}
@@ -24,7 +29,7 @@ use Rattle.schema_link.specs.Passes.{passes, IsShownBy, ArePassed}
 use Rattle.schema_read.specs.Raw.{raw_of}
 use Rattle.link_simple.specs.Making.{IsMaking}
 use Rattle.transcode_core.specs.declared.outcome.Outcome.{Outcome}
-use Rattle.transcode_core.specs.declared.outcome.Outcome.TheVariants.{SchemaSyntax, SchemaFault, LinkFault, UnknownRoot, DocSyntax, TooLong, LoadFault, NotYet}
+use Rattle.transcode_core.specs.declared.outcome.Outcome.TheVariants.{SchemaSyntax, SchemaFault, LinkFault, UnknownRoot, DocSyntax, Invalid, TooLong, LoadFault, NotYet}
 use Rattle.transcode_core.specs.Booleans.{is_boolean}
 use Rattle.transcode_core.specs.TruthValues.{truth_in}
 use Rattle.transcode_core.specs.Order.{Give, Found, Test, Then}
@@ -102,6 +107,15 @@ IsMore (Some left) = 16777216 < length left
 abbrev pub Input : Option (List ℕ) → Result (List ℕ) Outcome → Type 0
 Input left (Ok bytes) = IsAll left bytes × (length bytes ≤ 16777216)
 Input left (Err o) = IsMore left × (o ≡ TooLong 0)
+
+-- these are the parts of a set that is linked
+abbrev pub AreLinked : SetParts → Type 0
+AreLinked parts = (s : Set) × IsLinked s × (parts_of s ≡ parts)
+
+-- the treated items of a document that is valid against the global element with this number, or its first fault
+abbrev pub Judged : SetParts → ℕ → Rose ItemLabel → Result (Rose Plain) Outcome → Type 0
+Judged parts n items (Ok treated) = AreLinked parts × Valid parts n items treated
+Judged parts n items (Err o) = AreLinked parts × ((at : ℕ) × (why : InvalidWhy) × FirstFault parts n items at why × (o ≡ Invalid at why))
 
 -- the truth value in a document whose root has this name
 abbrev pub Valued : Name → Rose ItemLabel → Result Bool Outcome → Type 0

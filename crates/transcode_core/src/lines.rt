@@ -15,6 +15,7 @@ use facet_rules::FacetWhy;
 use itoa::Buffer;
 use schema_link::LinkWhy;
 use schema_rules::SchemaWhy;
+use validity::InvalidWhy;
 use xa_base::{Failed, Sink, write_all};
 
 // The room for a line. The longest, that of the usage, has 99 bytes.
@@ -203,6 +204,27 @@ fn link_reason(why: LinkWhy) -> &'static [u8]
     }
 }
 
+// The name of a reason against a document.
+fn invalid_reason(why: InvalidWhy) -> &'static [u8]
+    ensures { result.now ≡ lines.invalid_reason why }
+{
+    match why {
+        InvalidWhy::WrongRoot => b"WrongRoot",
+        InvalidWhy::XsiType => b"XsiType",
+        InvalidWhy::BadNil => b"BadNil",
+        InvalidWhy::UnknownAttribute => b"UnknownAttribute",
+        InvalidWhy::BadAttribute => b"BadAttribute",
+        InvalidWhy::TooWide => b"TooWide",
+        InvalidWhy::MissingAttribute => b"MissingAttribute",
+        InvalidWhy::NilWithContent => b"NilWithContent",
+        InvalidWhy::TextNotAllowed => b"TextNotAllowed",
+        InvalidWhy::ElementNotAllowed => b"ElementNotAllowed",
+        InvalidWhy::BadText => b"BadText",
+        InvalidWhy::UnexpectedElement => b"UnexpectedElement",
+        InvalidWhy::MissingElement => b"MissingElement",
+    }
+}
+
 fn parts_of(outcome: Outcome) -> Parts
     ensures { spelled result ≡ lines.line outcome }
 {
@@ -246,6 +268,15 @@ fn parts_of(outcome: Outcome) -> Parts
             at: Some(at),
             tail: b": syntax: ",
             reason: reason_name(why),
+            end: b"\n",
+        },
+        Outcome::Invalid { at, why } => Parts {
+            head: b"input, byte ",
+            file: None,
+            middle: b"",
+            at: Some(at),
+            tail: b": invalid: ",
+            reason: invalid_reason(why),
             end: b"\n",
         },
         Outcome::TooLong { file: 0 } => plain(b"input: too long\n"),

@@ -1,5 +1,5 @@
 //! The schema files as one set, and the root in it.
-ghost use Rattle.std.specs.Prelude.{◌≡◌, ◌≤◌, length, IfOk, IfErr, map};
+ghost use Rattle.std.specs.Prelude.{◌≡◌, ◌<◌, ◌≤◌, length, IfOk, IfErr, map};
 ghost use Rattle.schema_parts.specs.Documents.{doc_of};
 ghost use Rattle.schema_parts.specs.SetParts.{parts_of};
 ghost use Rattle.transcode_core.specs.Private.Requests.{root_seen, opened_seen};
@@ -20,6 +20,7 @@ use xa_base::{Name, Text};
 pub struct Opened {
     pub set: SchemaSet,
     pub root: u32,
+    ghost global: { root < set.globals },
 }
 
 /// The documents as one set.

@@ -5,6 +5,7 @@ ghost use Rattle.transcode_core.specs.Status.{status};
 use doc_text::DocWhy;
 use schema_link::LinkWhy;
 use schema_rules::SchemaWhy;
+use validity::InvalidWhy;
 
 /// What a call of the program ends with. Files are numbered from 1 in the order of the words; number 0 is the input.
 #[derive(Clone, Copy, Debug, PartialEq, Eq)]
@@ -23,6 +24,8 @@ pub enum Outcome {
     UnknownRoot,
     /// The first fault of the text of the input, at this byte.
     DocSyntax { at: u64, why: DocWhy },
+    /// The document in the input isn't valid: its first fault, at this byte.
+    Invalid { at: u64, why: InvalidWhy },
     /// The file has more than 16,777,216 bytes.
     TooLong { file: u32 },
     /// The file could not be loaded.
@@ -50,6 +53,7 @@ impl Outcome {
             Outcome::LinkFault { .. } => 5,
             Outcome::UnknownRoot => 6,
             Outcome::DocSyntax { .. } => 7,
+            Outcome::Invalid { .. } => 8,
             Outcome::TooLong { .. } => 11,
             Outcome::LoadFault { .. } => 20,
             Outcome::ReadFault => 21,

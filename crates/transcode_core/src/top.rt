@@ -1,5 +1,5 @@
 //! The top call.
-ghost use Rattle.std.specs.Prelude.{◌≡◌, ◌⊎◌, ℕ, ◌≤◌, true, List, length, OnOk, IfOk, IfErr, Ok, Err, Some};
+ghost use Rattle.std.specs.Prelude.{◌≡◌, ◌⊎◌, ℕ, ◌≤◌, true, List, [], length, OnOk, IfOk, IfErr, Ok, Err, Some};
 ghost use Rattle.std.specs.Io.KnownBytes.{Appends, IsAtEnd};
 ghost use Rattle.xa_base.specs.Faults.{HasRisen};
 ghost use Rattle.xa_base.specs.Bytes.{AppendsFront};
@@ -7,10 +7,10 @@ ghost use Rattle.schema_parts.specs.SetParts.{parts_of};
 ghost use Rattle.transcode_core.specs.Lines.{line};
 ghost use Rattle.transcode_core.specs.Private.Requests.{root_seen, seen, opened_seen};
 ghost use Rattle.transcode_core.specs.Words as command;
-ghost use Rattle.transcode_core.specs.Steps.{Printed, Taken, encoded};
+ghost use Rattle.transcode_core.specs.Steps.{Printed, Taken, Judged, encoded};
 ghost use Rattle.transcode_core.specs.Order.{Give, Then};
 ghost use Rattle.transcode_core.specs.Due as due;
-ghost use Rattle.transcode_core.specs.Due.{Requested, SetIn, ItemsIn, Encoding, Encoded, Answered, Due};
+ghost use Rattle.transcode_core.specs.Due.{Requested, SetIn, ItemsIn, Checked, Encoding, Encoded, Answered, Due};
 ghost use Rattle.transcode_core.specs.Causes.{Answers, Never, NoMemory, SomeLoad, OneRead, TakenRead, files_of, ReachesFile, reads_input, ReadsInput, IsTold, ComesToInput, ReachesInput, IsOfInput, Answering, Deciding, Fails, IsRefusal, WritesNothing};
 
 use crate::booleans::check_taken;
@@ -27,6 +27,8 @@ use module_print::print_module;
 use schema_parts::SchemaSet;
 use std::alloc::Global;
 use std::sync::ledger::Ledger;
+use validity::at_most_one;
+use validity_check::{CheckError, check_items};
 use xa_base::{Failed, Library, Sink, Source, Steps, Text, write_all};
 
 // What the words ask for.
@@ -110,6 +112,67 @@ fn show<F: Library>(alloc: Global, files: &mut F, names: &[Text]) -> Result<Vec<
     }
 }
 
+// Whether the document is valid for the root: it has no bytes to write.
+fn judge<L: Ledger>(
+    alloc: Global,
+    opened: &Opened,
+    items: &Items,
+    steps: &mut Steps<L>,
+) -> Result<Vec<u8>, Outcome>
+    ensures due { Answers (λ bytes. bytes.items) (Then (Judged (parts_of opened.now.set) opened.now.root items.now) (λ _. Give [])) NoMemory result }
+    ensures stage { IfErr result IsOfInput }
+{
+    // What each linked set keeps is known once one of its readers was called.
+    let _ = opened.set.element_count();
+    match check_items(alloc, &opened.set, opened.root, items, steps) {
+        Ok(()) => Ok(Vec::new(alloc)),
+        Err(CheckError::Invalid { at, why }) => Err(Outcome::Invalid { at, why }),
+        Err(CheckError::Memory) => Err(Outcome::OutOfMemory),
+    }
+}
+
+// Whether the document in the input is.
+fn check_input<S: Source, L: Ledger>(
+    alloc: Global,
+    opened: &Opened,
+    input: &mut S,
+    steps: &mut Steps<L>,
+) -> Result<Vec<u8>, Outcome>
+    ensures due { Answers (λ bytes. bytes.items) (Checked (opened_seen opened.now) (S.left input.old)) (OneRead (S.faults input.old) (S.faults input.new)) result }
+    ensures end { OnOk result (IsAtEnd (S.left input.new)) }
+    ensures stage { IfErr result IsOfInput }
+    ensures later { S.faults input.old ≤ S.faults input.new }
+{
+    match read_items(alloc, input) {
+        Ok(items) => judge(alloc, opened, &items, steps),
+        Err(outcome) => Err(outcome),
+    }
+}
+
+// What `check` answers for this root and these files.
+fn check<F: Library, S: Source, L: Ledger>(
+    alloc: Global,
+    root: Root<'_>,
+    names: &[Text],
+    files: &mut F,
+    input: &mut S,
+    steps: &mut Steps<L>,
+) -> Result<Vec<u8>, Outcome>
+    requires { length names.now ≤ 64 }
+    ensures due { Answers (λ bytes. bytes.items) (Answered (F.entries files.old) (S.left input.old) (command.Check (root_seen root.entry) names.now))
+        (Answering (F.faults files.old) (F.faults files.new) (F.is_sure files.old) (F.entries files.old) (S.faults input.old) (S.faults input.new) (command.Check (root_seen root.entry) names.now)) result }
+    ensures end { OnOk result (IsAtEnd (S.left input.new)) }
+    ensures untouched { (S.left input.new ≡ S.left input.old) ⊎ (ComesToInput (F.entries files.old) (command.Check (root_seen root.entry) names.now) × IfErr result IsOfInput) }
+    ensures files { (F.entries files.new ≡ F.entries files.old) × (F.is_sure files.new ≡ F.is_sure files.old) }
+    ensures loads { F.faults files.old ≤ F.faults files.new }
+    ensures reads { S.faults input.old ≤ S.faults input.new }
+{
+    match open_files(alloc, files, root, names) {
+        Ok(opened) => check_input(alloc, &opened, input, steps),
+        Err(outcome) => Err(outcome),
+    }
+}
+
 // The encoding of a truth value.
 fn encode(alloc: Global, value: bool) -> Result<Vec<u8>, Outcome>
     ensures due { Answers (λ bytes. bytes.items) (Give (encoded value)) NoMemory result }
@@ -189,11 +252,12 @@ fn to_per<F: Library, S: Source>(
 }
 
 // What the command answers.
-fn answer<F: Library, S: Source>(
+fn answer<F: Library, S: Source, L: Ledger>(
     alloc: Global,
     request: Request<'_>,
     files: &mut F,
     input: &mut S,
+    steps: &mut Steps<L>,
 ) -> Result<Vec<u8>, Outcome>
     requires { length (files_of (seen request)) ≤ 64 }
     ensures due { Answers (λ bytes. bytes.items) (Answered (F.entries files.old) (S.left input.old) (seen request.entry))
@@ -207,18 +271,20 @@ fn answer<F: Library, S: Source>(
     match request {
         Request::Show { files: names } => show(alloc, files, names),
         Request::ToPer { root, files: names } => to_per(alloc, root, names, files, input),
-        Request::Check { .. } | Request::ToXml { .. } | Request::Trial { .. } => {
+        Request::Check { root, files: names } => check(alloc, root, names, files, input, steps),
+        Request::ToXml { .. } | Request::Trial { .. } => {
             Err(Outcome::NotYet)
         }
     }
 }
 
 // All that comes before writing: the whole result, or the refusal.
-fn decide<F: Library, S: Source>(
+fn decide<F: Library, S: Source, L: Ledger>(
     alloc: Global,
     words: &[Text],
     files: &mut F,
     input: &mut S,
+    steps: &mut Steps<L>,
 ) -> Result<Vec<u8>, Outcome>
     ensures due { Answers (λ bytes. bytes.items) (Due words.now (F.entries files.old) (S.left input.old))
         (Deciding (F.faults files.old) (F.faults files.new) (F.is_sure files.old) (F.entries files.old) (S.faults input.old) (S.faults input.new) words.now) result }
@@ -229,7 +295,7 @@ fn decide<F: Library, S: Source>(
     ensures reads { S.faults input.old ≤ S.faults input.new }
 {
     match requested(words) {
-        Ok(request) => answer(alloc, request, files, input),
+        Ok(request) => answer(alloc, request, files, input, steps),
         Err(outcome) => Err(outcome),
     }
 }
@@ -243,14 +309,15 @@ fn complain<E: Sink>(outcome: Outcome, complaints: &mut E)
     let _ = write_line(&outcome, complaints);
 }
 
-/// Does what the words ask for. `show FILE...` and `to-per ROOT FILE...` load the schema files in turn and end at the
+/// Does what the words ask for. `show FILE...`, `check ROOT FILE...` and `to-per ROOT FILE...` load the schema files in turn and end at the
 /// first that can't be loaded, has over 16,777,216 bytes, or has a fault in its text or as a schema document. Then the
 /// files are linked into one set, or the answer is the first fault of linking. `show` writes the module that the set maps
-/// to and leaves the input alone. `to-per` looks for the root in the set, and takes one whose type is boolean: the input,
-/// of as many bytes at most, is read as a document with the element ROOT as its root, and its encoding is written. The
-/// other commands, and roots and documents of `to-per` beyond that, are `NotYet`. The whole result is made before writing
+/// to and leaves the input alone. `check` looks for the root in the set and reads the input, of as many bytes at most, as a
+/// document, which is valid against that element or has a first fault; nothing is written. `to-per` takes a root whose type
+/// is boolean, and writes the encoding of the document in the input. The other commands, and roots and documents of
+/// `to-per` beyond that, are `NotYet`. The whole result is made before writing
 /// begins. Complaints receive the line of the outcome. A fault outside is one that raises the count of its object.
-/// Nothing is counted in the steps yet.
+/// The steps are those of `check` through content models.
 pub fn run<F: Library, S: Source, K: Sink, E: Sink, L: Ledger>(
     alloc: Global,
     words: &[Text],
@@ -258,7 +325,7 @@ pub fn run<F: Library, S: Source, K: Sink, E: Sink, L: Ledger>(
     input: &mut S,
     output: &mut K,
     complaints: &mut E,
-    _steps: &mut Steps<L>,
+    steps: &mut Steps<L>,
 ) -> Outcome
     // A refusal is the first in the order of the steps.
     ensures refused { IsRefusal result → Due words.now (F.entries files.old) (S.left input.old) (Err result) }
@@ -287,7 +354,9 @@ pub fn run<F: Library, S: Source, K: Sink, E: Sink, L: Ledger>(
         ⊎ (HasRisen (E.faults complaints.old) (E.faults complaints.new) × AppendsFront (E.written complaints.old) (E.written complaints.new) (line result)) }
     ensures complaints { E.faults complaints.old ≤ E.faults complaints.new }
 {
-    match decide(alloc, words, files, input) {
+    // What is due is one thing, since documents are valid in one way.
+    at_most_one();
+    match decide(alloc, words, files, input, steps) {
         Ok(bytes) => match write_all(output, &bytes) {
             Ok(()) => {
                 complain(Outcome::Done, complaints);

@@ -15,7 +15,7 @@ returns-in-Err-clause-read g c =
 
 pub returns-in-Err-clause-complete : goal.returns-in-Err-clause-complete
 returns-in-Err-clause-complete g c entries bytes files told due no_load no_read no_write =
-    completed_told laws c.args.words.now (g.F.Library.entries c.args.files.now) (g.S.Source.left c.args.input.now) entries bytes (g.F.Library.faults c.args.files.now) (g.F.Library.faults c.decide.new.files)
+    completed_told c.at_most_one.ensures laws c.args.words.now (g.F.Library.entries c.args.files.now) (g.S.Source.left c.args.input.now) entries bytes (g.F.Library.faults c.args.files.now) (g.F.Library.faults c.decide.new.files)
     (g.S.Source.faults c.args.input.now) (g.S.Source.faults c.decide.new.input) (g.F.Library.is_sure c.args.files.now) c.in-Err.outcome files told due no_load no_read c.in-Err.ensures.due
 
 pub returns-in-Err-clause-load : goal.returns-in-Err-clause-load

@@ -1,0 +1,24 @@
+use Rattle.std.proofs.Common.{ℕ, [], inl}
+use Rattle.std.specs.Prelude.{Vec}
+use Rattle.std.specs.declared.alloc.Global.{Global}
+use Rattle.schema_parts.specs.SetParts.{parts_of}
+use Rattle.transcode_core.specs.Order.{Give, Then}
+use Rattle.transcode_core.specs.Steps.{Judged}
+use Rattle.transcode_core.specs.Due.{ItemsIn}
+use Rattle.transcode_core.specs.Causes.{NoMemory, OneRead}
+use Rattle.transcode_core.proofs.Joined.{passed, refused}
+use Rattle.transcode_core.proofs.top.check_input.Goals as goal
+
+pub returns-in-Ok-clause-due : goal.returns-in-Ok-clause-due
+returns-in-Ok-clause-due g c =
+    let opened = c.args.opened.now in
+    passed (ItemsIn (g.S.Source.left c.args.input.now)) (λ items. Then (Judged (parts_of opened.set) opened.root items) (λ _. Give [])) NoMemory
+    (OneRead (g.S.Source.faults c.args.input.now) (g.S.Source.faults c.read_items.new.input)) (λ (bytes : Vec ℕ Global). bytes.items) c.in-Ok.items c.judge.result
+    c.in-Ok.ensures.due c.judge.ensures.due (λ o h. inl h)
+
+pub returns-in-Err-clause-due : goal.returns-in-Err-clause-due
+returns-in-Err-clause-due g c =
+    let opened = c.args.opened.now in
+    let cause = OneRead (g.S.Source.faults c.args.input.now) (g.S.Source.faults c.read_items.new.input) in
+    refused (ItemsIn (g.S.Source.left c.args.input.now)) (λ items. Then (Judged (parts_of opened.set) opened.root items) (λ _. Give [])) cause cause
+    (λ (bytes : Vec ℕ Global). bytes.items) c.in-Err.outcome c.in-Err.ensures.due (λ h. h)
