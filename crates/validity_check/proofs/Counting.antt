@@ -1,0 +1,36 @@
+-- How many elements there are in the first kids.
+use Rattle.std.proofs.Common.{◌≡◌, ℕ, zero, suc, ◌+◌, ◌≤◌, List, [], ◌∷◌, Option, Some, None, refl, sym, ◌∙◌, ap, subst, arith}
+use Rattle.xa_base.specs.declared.texts.Name.{Name}
+use Rattle.label_tree.specs.Rose.{Rose, node, Roses, roses_of, label_of, kids_of}
+use Rattle.label_tree.specs.Rose as rose
+use Rattle.doc_text.specs.declared.label.ItemLabel.{ItemLabel}
+use Rattle.doc_text.specs.declared.label.ItemLabel.TheVariants.{Element, Text}
+use Rattle.validity.specs.Faults.{front}
+use Rattle.validity.proofs.Reading.{kid_at, roses_of-list_of}
+use Rattle.validity_check.specs.Counts.{element_count, elements_in}
+
+pub none_yet : (ts : Roses ItemLabel) → elements_in (front 0 ts) ≡ 0
+none_yet ts = refl
+
+pub one_more : (ts : Roses ItemLabel) (i : ℕ) (t : Rose ItemLabel) → kid_at ts i ≡ Some t → elements_in (front (suc i) ts) ≡ elements_in (front i ts) + element_count t
+one_more rose.none i t e = absurd (cc)
+one_more (rose.more u ts) zero t e = let same : u ≡ t = cc in let k = ap element_count same in omega (arith, k)
+one_more (rose.more u ts) (suc i) t e = omega (arith, one_more ts i t e)
+
+pub fewer : (ts : Roses ItemLabel) (i : ℕ) → elements_in (front i ts) ≤ elements_in ts
+fewer rose.none zero = omega arith
+fewer rose.none (suc i) = omega arith
+fewer (rose.more t ts) zero = omega arith
+fewer (rose.more t ts) (suc i) = omega (arith, fewer ts i)
+
+pub up_to : (ts : Roses ItemLabel) (i : ℕ) (t : Rose ItemLabel) → kid_at ts i ≡ Some t → elements_in (front i ts) + element_count t ≤ elements_in ts
+up_to ts i t e = omega (arith, one_more ts i t e, fewer ts (suc i))
+
+pub text_counts : (t : Rose ItemLabel) (words : List ℕ) (at : ℕ) → label_of t ≡ Text words at → element_count t ≡ 0
+text_counts (node (Element n xs declares c) ts) words at e = absurd (cc)
+text_counts (node (Text others c) ts) words at e = refl
+
+pub element_counts : (t : Rose ItemLabel) (n : Name) (xs : List (Name × List ℕ)) (declares : List (List ℕ × List ℕ)) (at : ℕ) → label_of t ≡ Element n xs declares at
+    → element_count t ≡ suc (elements_in (roses_of (kids_of t)))
+element_counts (node (Element n xs declares c) ts) m ys binds at e = ap (λ s. suc (elements_in s)) (sym (roses_of-list_of ts))
+element_counts (node (Text others c) ts) m ys binds at e = absurd (cc)

@@ -1,0 +1,96 @@
+-- The rules of a start tag.
+use Rattle.std.proofs.Common.{◌≡◌, ℕ, zero, suc, ◌<◌, inl, inr, List, [], ◌∷◌, Option, Some, None, Bool, true, false, map, length, get_or, refl, sym, ◌∙◌, ap, subst}
+use Rattle.std.specs.Prelude.{All, not, bytes_eq, ◌||◌, ◌&&◌, if◌then◌else◌, filter}
+use Rattle.std.specs.List.{list_any}
+use Rattle.std.proofs.lemmas.List.Elements.{All-nil, All-cons, All-head, All-tail}
+use Rattle.xa_base.specs.declared.texts.Name.{Name}
+use Rattle.xa_base.specs.Names.{name_eq}
+use Rattle.xa_base.specs.Limits.{is_namespace, is_name_part, is_xmlns}
+use Rattle.xa_base.specs.Namespaces.{xmlns_space, xsi_space}
+use Rattle.xa_base.proofs.NameLaws.{name_eq-Decides}
+use Rattle.label_tree.specs.Rose.{Rose, label_of, roses_of, kids_of}
+use Rattle.doc_text.specs.declared.label.ItemLabel.{ItemLabel}
+use Rattle.doc_text.specs.declared.label.ItemLabel.TheVariants.{Element}
+use Rattle.schema_parts.specs.declared.components.AttributeUse.{AttributeUse}
+use Rattle.schema_parts.specs.Components.{Set}
+use Rattle.schema_parts.specs.Declarable.{kept_spaces, is_declarable, is_declarable_attribute}
+use Rattle.schema_parts.specs.Linked.{IsUse}
+use Rattle.schema_parts.specs.SetParts.{SetParts}
+use Rattle.schema_parts.proofs.Truths.{both}
+use Rattle.validity.specs.Asked.{Asked, Attribute, attribute_in}
+use Rattle.validity.specs.Attributes.{is_special, text_of, left, nil_of, xsi_type, Stands, IsMissing, AllRight, AllStand, OneMissing, FirstWrong}
+use Rattle.validity.specs.Faults.{IsBad, FaultBy}
+use Rattle.validity.specs.declared.why.InvalidWhy.{InvalidWhy}
+use Rattle.validity.specs.declared.why.InvalidWhy.TheVariants.{XsiType, BadNil, MissingAttribute}
+use Rattle.validity.proofs.Reading.{type_fault, nil_fault, wrong_fault, missing_fault}
+use Rattle.validity.proofs.Treated.{both_false}
+use Rattle.validity_check.specs.Answers.{TagFault}
+
+-- ---- the attributes that are declared aren't those of XML Schema for documents
+
+not_true : (b : Bool) → not b ≡ true → b ≡ false
+not_true true e = absurd (cc)
+not_true false e = refl
+
+neither : (p : List ℕ → Bool) (a b : List ℕ) → list_any p (a ∷ b ∷ []) ≡ false → p b ≡ false
+neither p a b e = let rest = both_false (p a) (p b || false) e in (both_false (p b) false rest.1).0
+
+other_space : (n : Name) → is_declarable n ≡ true → bytes_eq n.space xsi_space ≡ false
+other_space n h =
+    let last = both (is_namespace n.space && is_name_part n.local) (not (list_any (bytes_eq n.space) kept_spaces)) h in
+    neither (bytes_eq n.space) xmlns_space xsi_space (not_true (list_any (bytes_eq n.space) kept_spaces) last.1)
+
+plain_name : (n : Name) → is_declarable_attribute n ≡ true → is_special n ≡ false
+plain_name n h = let other = other_space n (both (is_declarable n) (not (is_xmlns n)) h).0 in rw other refl
+
+left_special : (x : Name × List ℕ) (xs : List (Name × List ℕ)) → is_special x.0 ≡ true → left (x ∷ xs) ≡ left xs
+left_special x xs e = rw e refl
+
+left_plain : (x : Name × List ℕ) (xs : List (Name × List ℕ)) → is_special x.0 ≡ false → left (x ∷ xs) ≡ x ∷ left xs
+left_plain x xs e = rw e refl
+
+-- a text that is left stands where it stood
+text_left : (n : Name) → is_special n ≡ false → (xs : List (Name × List ℕ)) → text_of (left xs) n ≡ text_of xs n
+text_left n plain [] = refl
+text_left n plain (x ∷ xs) = by (is_special x.0) refl (text_left n plain xs)
+  where
+    other : (is : Bool) → name_eq x.0 n ≡ is → is_special x.0 ≡ true → is ≡ false
+    other false e s = refl
+    other true e s = absurd (let same : x.0 ≡ n = (name_eq-Decides x.0 n).0 e in let d = ap is_special same in cc (d, s, plain))
+
+    past : is_special x.0 ≡ true → text_of xs n ≡ text_of (x ∷ xs) n
+    past s = let e : name_eq x.0 n ≡ false = other (name_eq x.0 n) refl s in rw e refl
+
+    by : (special : Bool) → is_special x.0 ≡ special → text_of (left xs) n ≡ text_of xs n → text_of (left (x ∷ xs)) n ≡ text_of (x ∷ xs) n
+    by true e h = ap (λ ys. text_of ys n) (left_special x xs e) ∙ h ∙ past e
+    by false e h = ap (λ ys. text_of ys n) (left_plain x xs e) ∙ ap (λ o. if name_eq x.0 n then Some x.1 else o) h
+
+module _ (s : Set) (p : SetParts) (xs : List (Name × List ℕ)) where
+  abbrev IsPlain : Attribute → Type 0
+  IsPlain a = is_special a.name ≡ false
+
+  uses_plain : (us : List AttributeUse) → All (IsUse s) us → All IsPlain (map (attribute_in p) us)
+  uses_plain [] h = All-nil IsPlain
+  uses_plain (u ∷ us) h = All-cons IsPlain (attribute_in p u) (map (attribute_in p) us) (plain_name u.name (All-head (IsUse s) u us h).0) (uses_plain us (All-tail (IsUse s) u us h))
+
+  pub one_missing_left : (us : List AttributeUse) → All (IsUse s) us → OneMissing (map (attribute_in p) us) xs → OneMissing (map (attribute_in p) us) (left xs)
+  one_missing_left us h (k, a, lt, at, m) =
+      let plain : is_special a.name ≡ false = subst IsPlain at (uses_plain us h k a lt) in
+      (k, a, lt, at, (m.0, text_left a.name plain xs ∙ m.1))
+
+  pub all_stand_left : (us : List AttributeUse) → All (IsUse s) us → AllStand (map (attribute_in p) us) xs → AllStand (map (attribute_in p) us) (left xs)
+  all_stand_left us h stand = λ k d lt required none.
+      let a = get_or (map (attribute_in p) us) k d in
+      stand k d lt required (sym (text_left a.name (uses_plain us h k d lt) xs) ∙ none)
+
+-- ---- the fault of a start tag is one of its element
+
+module _ (asks : ℕ → Asked) (d : ℕ) (n : Name) (xs : List (Name × List ℕ)) (declares : List (List ℕ × List ℕ)) (place : ℕ) (t : Rose ItemLabel) (is : label_of t ≡ Element n xs declares place) where
+  moved : (at : ℕ) (why reason : InvalidWhy) → at ≡ place → why ≡ reason → FaultBy asks d t place reason → FaultBy asks d t at why
+  moved at why reason e f h = subst (λ b. FaultBy asks d t b why) (sym e) (subst (λ r. FaultBy asks d t place r) (sym f) h)
+
+  pub tag_fault : (at : ℕ) (why : InvalidWhy) → TagFault (asks d) xs place at why → FaultBy asks d t at why
+  tag_fault at why (inl (e, f, h)) = moved at why XsiType e f (type_fault asks d n xs declares place t is h)
+  tag_fault at why (inr (plain, inl (e, f, h))) = moved at why BadNil e f (nil_fault asks d n xs declares place t is plain h)
+  tag_fault at why (inr (plain, inr (good, inl (e, h)))) = moved at why why e refl (wrong_fault asks d n xs declares place t is plain good why h)
+  tag_fault at why (inr (plain, inr (good, inr (right, (e, f, h))))) = moved at why MissingAttribute e f (missing_fault asks d n xs declares place t is plain good right h)

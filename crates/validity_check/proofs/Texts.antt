@@ -1,0 +1,23 @@
+-- The text of an element.
+use Rattle.std.proofs.Common.{◌≡◌, ℕ, inl, inr, List, [], ◌∷◌, ◌++◌, Option, Some, None, true, length, get_or, refl, sym, ◌∙◌, ap, subst, append-nil}
+use Rattle.std.specs.Prelude.{Ok, Err}
+use Rattle.label_tree.specs.Rose.{Rose, node, Roses, roses_of, label_of}
+use Rattle.label_tree.specs.Rose as rose
+use Rattle.simple_types.specs.declared.labels.ValueLabel.{ValueLabel}
+use Rattle.simple_types.specs.Space.{Space}
+use Rattle.simple_values.specs.Reading.{Reading, reads, spelled, Accepts}
+use Rattle.doc_text.specs.declared.label.ItemLabel.{ItemLabel}
+use Rattle.doc_text.specs.declared.label.ItemLabel.TheVariants.{Element, Text}
+use Rattle.plain_items.specs.Plain.{Plain}
+use Rattle.validity.specs.Valid.{only_text, text_kids, Spells}
+use Rattle.validity.specs.declared.why.InvalidWhy.{InvalidWhy}
+use Rattle.validity_check.specs.declared.error.CheckError.{CheckError}
+use Rattle.validity_check.specs.declared.error.CheckError.TheVariants.{Invalid, Memory}
+use Rattle.validity_check.specs.Answers.{Tells, IsSpelled}
+
+pub tells_of : (F G : ℕ → InvalidWhy → Type 0) (e : CheckError) → ((at : ℕ) (why : InvalidWhy) → F at why → G at why) → Tells F e → Tells G e
+tells_of F G (Invalid at why) f h = f at why h
+tells_of F G Memory f h = tt
+
+pub text_spelled : (space : Space) (ts : Roses ItemLabel) (words : List ℕ) (value : Rose ValueLabel) → only_text ts ≡ Some words → Accepts space words value → IsSpelled space ts
+text_spelled space ts words value e h = (text_kids (spelled space value), (words, e, subst (λ r. Spells space r (text_kids (spelled space value))) (sym h) refl))

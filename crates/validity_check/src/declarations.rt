@@ -1,0 +1,79 @@
+//! What a set of schemas declares of an element.
+ghost use Rattle.std.specs.Prelude.{◌≡◌, ◌<◌, length, slice_get};
+ghost use Rattle.schema_parts.specs.Linked.{IsLinked};
+ghost use Rattle.schema_parts.specs.SetParts.{parts_of};
+ghost use Rattle.validity.specs.Asked.{asked_by_complex, asked_at};
+ghost use Rattle.validity_check.specs.Told.{told, IsFitting};
+
+use content_models::Particle;
+use schema_parts::{AttributeUse, Content, SchemaSet, TypeOf};
+use simple_types::Simple;
+
+/// What may stand in an element.
+#[derive(Clone, Copy)]
+pub enum Inside<'a> {
+    Nothing,
+    /// A text of the simple type, and no child element.
+    Simple(&'a Simple),
+    /// Child elements by the content model of the complex type with this number, and whether texts may stand between them.
+    Children {
+        mixed: bool,
+        complex: u32,
+        model: &'a Particle,
+    },
+}
+
+/// What is declared of an element: whether it may be nil, its attributes in the order of their names, and its content.
+#[derive(Clone, Copy)]
+pub struct Declared<'a> {
+    pub nillable: bool,
+    pub uses: &'a [AttributeUse],
+    pub inside: Inside<'a>,
+}
+
+// What is declared of an element with this complex type.
+fn of_complex<'a>(set: &'a SchemaSet, complex: u32, nillable: bool) -> Declared<'a>
+    requires linked { IsLinked set.now }
+    requires complex { complex < length set.now.complexes }
+    ensures asked { told (parts_of set.now) result ≡ asked_by_complex (parts_of set.now) nillable (slice_get set.now.complexes complex) }
+    ensures fits { IsFitting set.now result }
+{
+    let found = set.complex(complex);
+    let inside = match &found.content {
+        Content::Empty => Inside::Nothing,
+        Content::Simple(simple) => Inside::Simple(&set.simple(*simple).space),
+        Content::ElementOnly(model) => Inside::Children {
+            mixed: false,
+            complex,
+            model,
+        },
+        Content::Mixed(model) => Inside::Children {
+            mixed: true,
+            complex,
+            model,
+        },
+    };
+    Declared {
+        nillable,
+        uses: found.uses.items(),
+        inside,
+    }
+}
+
+/// What the declaration with this number asks of an element.
+pub fn declared_of<'a>(set: &'a SchemaSet, decl: u32) -> Declared<'a>
+    requires linked { IsLinked set.now }
+    requires decl { decl < length set.now.elements }
+    ensures asked { told (parts_of set.now) result ≡ asked_at (parts_of set.now) decl }
+    ensures fits { IsFitting set.now result }
+{
+    let element = set.element(decl);
+    match element.kind {
+        TypeOf::Simple(simple) => Declared {
+            nillable: element.nillable,
+            uses: &[],
+            inside: Inside::Simple(&set.simple(simple).space),
+        },
+        TypeOf::Complex(complex) => of_complex(set, complex, element.nillable),
+    }
+}

@@ -1,0 +1,24 @@
+//! Why a document isn't found valid.
+use thiserror::Error;
+use validity::InvalidWhy;
+use xa_base::Memory;
+
+/// Why a document isn't found valid.
+#[derive(Clone, Copy, Debug, PartialEq, Eq, Error)]
+pub enum CheckError {
+    /// The first fault: its place in bytes from 0, and its reason.
+    #[error("byte {at}: {why}")]
+    Invalid { at: u64, why: InvalidWhy },
+    #[error("out of memory")]
+    Memory,
+}
+
+impl From<Memory> for CheckError {
+    ghost use Rattle.validity_check.specs.declared.error.CheckError.{CheckError};
+
+    ghost from_gives = { λ memory error. error ≡ CheckError.Memory };
+
+    fn from(_: Memory) -> CheckError {
+        CheckError::Memory
+    }
+}

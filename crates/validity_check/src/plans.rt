@@ -1,0 +1,80 @@
+//! The plans of a set's content models.
+ghost use Rattle.std.specs.Prelude.{◌≡◌, Some, IfOk};
+ghost use Rattle.content_models.specs.Seen.{seen};
+ghost use Rattle.schema_parts.specs.Linked.{IsLinked};
+ghost use Rattle.validity_check.specs.Told.{model_at};
+
+use content_match::{Plan, compile};
+use content_models::Particle;
+use schema_parts::SchemaSet;
+use std::alloc::Global;
+use std::marker::Model;
+use std::rc::Rc;
+use xa_base::Memory;
+
+/// The plans of a set's content models, each compiled when it is first wanted; seen as the set.
+#[derive(Drop)]
+pub struct Plans<'a> {
+    alloc: Global,
+    set: &'a SchemaSet,
+    // For each complex type, the plan of its content model.
+    kept: Vec<Option<Rc<Plan>>>,
+}
+
+impl<'a> Model for Plans<'a> {
+    ghost use Rattle.std.specs.Coded.{codes};
+    ghost use Rattle.simple_types.specs.contracts.simples.Simple as simple;
+    ghost use Rattle.schema_parts.specs.contracts.components.ComplexDef as complex;
+    ghost use Rattle.schema_parts.specs.Components.{Set};
+    ghost use Rattle.validity_check.specs.Kept.{ArePlans};
+
+    ghost Value = { Set };
+
+    ghost coded = { Prim.hlevel (codes, simple.the_row.coded, complex.the_row.coded) };
+
+    ghost view = { λ a. a.set.now };
+
+    ghost invariant = { λ a. ArePlans a.set.now a.kept.items };
+}
+
+impl<'a> Plans<'a> {
+    /// No plan is compiled yet.
+    pub fn new(alloc: Global, set: &'a SchemaSet) -> Result<Plans<'a>, Memory>
+        ensures { IfOk result (λ plans. plans ≡ set.now) }
+    {
+        let count = set.complex_count() as usize;
+        let mut kept = Vec::new(alloc);
+        'complexes: while kept.len() < count {
+            kept.push(None)?;
+        }
+        Ok(Plans { alloc, set, kept })
+    }
+
+    /// The set.
+    pub fn set(&self) -> &'a SchemaSet
+        ensures { result.now ≡ self.now }
+    {
+        self.set
+    }
+
+    pub fn alloc(&self) -> Global {
+        self.alloc
+    }
+
+    /// The plan of the content model of a complex type.
+    pub fn plan(&mut self, complex: u32, model: &Particle) -> Result<Rc<Plan>, Memory>
+        requires linked { IsLinked self.old }
+        requires model { model_at self.old complex ≡ Some model.now }
+        ensures same { self.new ≡ self.old }
+        ensures plan { IfOk result (λ plan. plan.value ≡ seen model.now) }
+    {
+        let place = complex as usize;
+        if let Some(Some(plan)) = self.kept.get(place) {
+            return Ok(plan.clone()?);
+        }
+        let plan = compile(self.alloc, model)?;
+        let plan = Rc::new(self.alloc, plan)?;
+        self.kept[place] = Some(plan.clone()?);
+        Ok(plan)
+    }
+}

@@ -1,0 +1,111 @@
+//! The rules of a start tag, in the order of their faults.
+ghost use Rattle.std.specs.Prelude.{◌≡◌, Some, None, All, MatchOption, MatchResult, IfOk};
+ghost use Rattle.xa_base.specs.WhiteSpace.{treated};
+ghost use Rattle.simple_values.specs.Lexical.{boolean_of};
+ghost use Rattle.schema_parts.specs.Linked.{IsUse, IsLinked};
+ghost use Rattle.schema_parts.specs.SetParts.{parts_of};
+ghost use Rattle.validity.specs.Attributes as rule;
+ghost use Rattle.validity_check.specs.Told.{told};
+ghost use Rattle.validity_check.specs.Answers.{Tells, TagFault, IsGoodTag};
+
+use crate::declarations::Declared;
+use crate::error::CheckError;
+use attribute_faults::{first_wrong, lacks_required};
+use schema_parts::SchemaSet;
+use simple_types::{Simple, ValueLabel};
+use simple_values::{SimpleError, accept};
+use std::alloc::Global;
+use validity::InvalidWhy;
+use xa_base::{Memory, Name, Text, WhiteSpace, XSI_SPACE};
+
+const TYPE: &[u8] = b"type";
+
+const NIL: &[u8] = b"nil";
+
+/// The text of the attribute of XML Schema for documents with this local name, if it stands (XML Schema Part 1, section
+/// 2.6).
+pub fn special<'a>(attributes: &'a [(Name, Text)], local: &[u8]) -> Option<&'a Text>
+    ensures { MatchOption result
+        (rule.text_of attributes.now (rule.xsi local.now) ≡ None)
+        (λ text. rule.text_of attributes.now (rule.xsi local.now) ≡ Some text.now) }
+{
+    for found in attributes {
+        if found.0.space.bytes() == XSI_SPACE.as_bytes() && found.0.local.bytes() == local {
+            return Some(&found.1);
+        }
+    }
+    None
+}
+
+// The truth value that the text writes.
+fn truth(alloc: Global, text: &Text) -> Result<Option<bool>, Memory>
+    ensures { IfOk result (λ written. boolean_of (treated WhiteSpace.Collapse text.now) ≡ written) }
+{
+    match accept(alloc, &Simple::Bool, text) {
+        Ok(value) => match value.label() {
+            ValueLabel::Bool(b) => Ok(Some(*b)),
+            _ => Ok(None),
+        },
+        Err(SimpleError::BadText) => Ok(None),
+        Err(SimpleError::TooWide) => Ok(None),
+        Err(SimpleError::Memory) => Err(Memory),
+    }
+}
+
+/// Whether the element is nil. `None` where `xsi:nil` may not stand, or has a text that is no truth value.
+pub fn nil_of(
+    alloc: Global,
+    nillable: bool,
+    attributes: &[(Name, Text)],
+) -> Result<Option<bool>, Memory>
+    ensures { IfOk result (λ nil. rule.nil_of nillable attributes.now ≡ rule.nil_from nil) }
+{
+    match special(attributes, NIL) {
+        None => Ok(Some(false)),
+        Some(text) => {
+            if nillable {
+                truth(alloc, text)
+            } else {
+                Ok(None)
+            }
+        }
+    }
+}
+
+/// Whether an element that is declared so is nil; or the first fault of its start tag, which stands at this place.
+pub fn check_tag(
+    alloc: Global,
+    set: &SchemaSet,
+    declared: &Declared,
+    attributes: &[(Name, Text)],
+    at: u64,
+) -> Result<bool, CheckError>
+    requires linked { IsLinked set.now }
+    requires uses { All (IsUse set.now) declared.now.uses.now }
+    ensures { MatchResult result
+        (λ nil. IsGoodTag (told (parts_of set.now) declared.now) attributes.now nil)
+        (Tells (TagFault (told (parts_of set.now) declared.now) attributes.now at)) }
+{
+    if special(attributes, TYPE).is_some() {
+        return Err(CheckError::Invalid {
+            at,
+            why: InvalidWhy::XsiType,
+        });
+    }
+    let Some(nil) = nil_of(alloc, declared.nillable, attributes)? else {
+        return Err(CheckError::Invalid {
+            at,
+            why: InvalidWhy::BadNil,
+        });
+    };
+    if let Some(why) = first_wrong(alloc, set, declared.uses, attributes)? {
+        return Err(CheckError::Invalid { at, why });
+    }
+    if lacks_required(declared.uses, attributes) {
+        return Err(CheckError::Invalid {
+            at,
+            why: InvalidWhy::MissingAttribute,
+        });
+    }
+    Ok(nil)
+}
