@@ -5,6 +5,7 @@ mod bounds;
 mod laws;
 mod marks;
 mod modules;
+mod names;
 mod parts;
 mod places;
 mod resolving;

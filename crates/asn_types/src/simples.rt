@@ -8,6 +8,7 @@ ghost use Rattle.asn_types.specs.declared.types.TypeLabel.{TypeLabel};
 ghost use Rattle.asn_types.specs.Modules.{IsForm, AreWellFormed, AllWellFormed};
 ghost use Rattle.asn_types.specs.Refs.{IsOf, resolve};
 ghost use Rattle.asn_types.specs.Simples.{IsPlain, ArePlain, MapToEach};
+ghost use Rattle.asn_types.specs.Spaces.{space_at, spaces_at, first_space};
 ghost use Rattle.asn_types.specs.Private.Telling.{Finds, IsLeaf, IsFormOfWords, is_list};
 
 use crate::modules::Module;
@@ -251,6 +252,82 @@ pub(crate) fn simple_at(
         Form::SequenceOf { part, min, max } => list_at(alloc, module, node, part, *min, *max),
         Form::Choice { parts } => union_at(alloc, module, node, parts.items()),
         _ => leaf_at(alloc, module, label),
+    }
+}
+
+// The simple type that is mapped to a type without parts, where there is one.
+#[tactic(auto, unfolding(simple_types::specs::Seen::space_of))]
+fn made_leaf(alloc: Global, label: &TypeLabel) -> Result<Simple, Memory>
+    requires { IsLeaf label.now.form }
+    ensures { IfOk result (λ simple. (ts : Roses TypeLabel) → space_of simple ≡ space_at (node label.now ts)) }
+{
+    match &label.form {
+        Form::Int { lo, hi } => Ok(Simple::Whole { lo: *lo, hi: *hi }),
+        Form::Numbers { numbers } => {
+            let numbers = numbers.copy(alloc)?;
+            Ok(Simple::Numbers(numbers))
+        }
+        Form::Words { words, .. } => {
+            let space = label.marks.white_space();
+            let words = words.copy(alloc)?;
+            Ok(Simple::Words { space, words })
+        }
+        Form::Utf8 { min, max, class } => Ok(Simple::Chars {
+            space: label.marks.white_space(),
+            min: *min,
+            max: *max,
+            class: *class,
+        }),
+        _ => Ok(Simple::Bool),
+    }
+}
+
+// The simple types that are mapped to these types, where there are such.
+#[cycle(making)]
+fn made_members(alloc: Global, kids: &[Tree<TypeLabel>]) -> Result<Vec<Simple>, Memory>
+    ensures { IfOk result (λ members. spaces_in members.items ≡ spaces_at (roses_of kids.now)) }
+{
+    let mut members = Vec::with_capacity(alloc, kids.len())?;
+    'kids: for kid in kids {
+        let member = made_simple(alloc, kid)?;
+        members.push(member)?;
+    }
+    Ok(members)
+}
+
+// The simple type that is mapped to the first of these types, where there is one.
+#[cycle(making)]
+fn made_item(alloc: Global, kids: &[Tree<TypeLabel>]) -> Result<Simple, Memory>
+    ensures { IfOk result (λ item. space_of item ≡ first_space (roses_of kids.now)) }
+{
+    match kids {
+        [kid, ..] => made_simple(alloc, kid),
+        [] => Ok(Simple::Bool),
+    }
+}
+
+// The simple type that is mapped to the type, where there is one. That is not tested, and the numbers and words of an
+// ENUMERATED are shared: the time grows with the types that the simple type is made of alone.
+#[cycle(making)]
+pub(crate) fn made_simple(alloc: Global, node: &Tree<TypeLabel>) -> Result<Simple, Memory>
+    ensures { IfOk result (λ simple. space_of simple ≡ space_at node.now) }
+{
+    let label = node.label();
+    match &label.form {
+        Form::SequenceOf { min, max, .. } => {
+            let item = made_item(alloc, node.kids())?;
+            let item = Box::new(alloc, item)?;
+            Ok(Simple::List {
+                item,
+                min: *min,
+                max: *max,
+            })
+        }
+        Form::Choice { .. } => {
+            let members = made_members(alloc, node.kids())?;
+            Ok(Simple::Union(SimpleList::of(members)))
+        }
+        _ => made_leaf(alloc, label),
     }
 }
 
