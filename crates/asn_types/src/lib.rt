@@ -22,6 +22,6 @@ pub use parts::{int_bounds, role, size_bounds};
 pub use resolving::{follow_reference, resolve};
 pub use roles::Role;
 pub use rules::own;
-pub use simples::simple_of;
+pub use simples::{simple_at, simple_of};
 pub use types::{Component, Components, Form, TypeLabel};
 pub use values::is_value;

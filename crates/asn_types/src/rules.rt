@@ -11,7 +11,7 @@ use crate::modules::Module;
 use crate::places::{ComponentPlace, Places, find_places};
 use crate::resolving::resolve;
 use crate::roles::Role;
-use crate::simples::made_simple;
+use crate::simples::simple_at;
 use crate::types::{Form, TypeLabel};
 use label_tree::Tree;
 use simple_types::ValueLabel;
@@ -44,7 +44,7 @@ fn is_spelled(
     requires { IsSimple node.now }
     ensures { IfOk result (λ b. IsTrue b ↔ rule.IsSpelled node.now value.now) }
 {
-    let simple = made_simple(alloc, node)?;
+    let simple = simple_at(alloc, node)?;
     holds(alloc, &simple, value)
 }
 

@@ -171,7 +171,7 @@ fn members_at(
 {
     let mut members = Vec::with_capacity(alloc, kids.len())?;
     'kids: for kid in kids {
-        let Some(member) = simple_at(alloc, module, kid)? else {
+        let Some(member) = find_simple(alloc, module, kid)? else {
             return Ok(None);
         };
         if is_union(&member) {
@@ -227,7 +227,7 @@ fn list_at(
     let Some(kid) = node.kids().first() else {
         return Ok(None);
     };
-    let Some(item) = simple_at(alloc, module, kid)? else {
+    let Some(item) = find_simple(alloc, module, kid)? else {
         return Ok(None);
     };
     if has_list(&item) {
@@ -239,7 +239,7 @@ fn list_at(
 
 // The simple type that is mapped to the type, which is no reference.
 #[cycle(simples)]
-pub(crate) fn simple_at(
+fn find_simple(
     alloc: Global,
     module: &Module,
     node: &Tree<TypeLabel>,
@@ -289,7 +289,7 @@ fn made_members(alloc: Global, kids: &[Tree<TypeLabel>]) -> Result<Vec<Simple>, 
 {
     let mut members = Vec::with_capacity(alloc, kids.len())?;
     'kids: for kid in kids {
-        let member = made_simple(alloc, kid)?;
+        let member = simple_at(alloc, kid)?;
         members.push(member)?;
     }
     Ok(members)
@@ -301,15 +301,15 @@ fn made_item(alloc: Global, kids: &[Tree<TypeLabel>]) -> Result<Simple, Memory>
     ensures { IfOk result (λ item. space_of item ≡ first_space (roses_of kids.now)) }
 {
     match kids {
-        [kid, ..] => made_simple(alloc, kid),
+        [kid, ..] => simple_at(alloc, kid),
         [] => Ok(Simple::Bool),
     }
 }
 
-// The simple type that is mapped to the type, where there is one. That is not tested, and the numbers and words of an
-// ENUMERATED are shared: the time grows with the types that the simple type is made of alone.
+/// The simple type that is mapped to the type, where there is one: whether there is one isn't tested. The numbers and
+/// words of an ENUMERATED are shared, so the time grows with the number of types that the simple type is made of alone.
 #[cycle(making)]
-pub(crate) fn made_simple(alloc: Global, node: &Tree<TypeLabel>) -> Result<Simple, Memory>
+pub fn simple_at(alloc: Global, node: &Tree<TypeLabel>) -> Result<Simple, Memory>
     ensures { IfOk result (λ simple. space_of simple ≡ space_at node.now) }
 {
     let label = node.label();
@@ -343,5 +343,5 @@ pub fn simple_of(
 {
     // What each module keeps is known once one of its readers was called.
     let _ = module.count();
-    simple_at(alloc, module, resolve(module, node))
+    find_simple(alloc, module, resolve(module, node))
 }

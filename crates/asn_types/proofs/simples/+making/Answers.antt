@@ -9,8 +9,8 @@ use Rattle.asn_types.specs.Spaces.{spaces_at, first_space}
 use Rattle.asn_types.proofs.Making.{members-more, list-space_at, union-space_at}
 use Rattle.asn_types.proofs.simples.+making.Goals as goal
 
-pub made_members-made_simple-requires : goal.made_members-made_simple-requires
-made_members-made_simple-requires t c =
+pub made_members-simple_at-requires : goal.made_members-simple_at-requires
+made_members-simple_at-requires t c =
     let d = c.decreases in
     let k = kid-count-le c.args.kids.now c.kids.kid-index c.kid-item.result c.kids-test.true c.kid-item.is in
     (omega (arith, d, k), tt)

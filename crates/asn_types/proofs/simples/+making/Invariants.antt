@@ -4,8 +4,8 @@ use Rattle.simple_types.specs.Seen.{spaces_in}
 use Rattle.asn_types.specs.Spaces.{spaces_at}
 use Rattle.asn_types.proofs.simples.+making.Given as goal
 
-abbrev pub decreases-made_simple : goal.decreases-made_simple
-decreases-made_simple l = 2 * node_count l.node.now
+abbrev pub decreases-simple_at : goal.decreases-simple_at
+decreases-simple_at l = 2 * node_count l.node.now
 
 abbrev pub decreases-made_item : goal.decreases-made_item
 decreases-made_item l = 2 * count_all (roses_of l.kids.now) + 1
