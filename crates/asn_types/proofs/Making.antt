@@ -1,11 +1,12 @@
 -- The simple type that is mapped to a type, from those of its parts.
-use Rattle.std.proofs.Common.{◌≡◌, ℕ, Option, List, [], ◌∷◌, ◌++◌, refl, sym, ◌∙◌, ap}
+use Rattle.std.proofs.Common.{◌≡◌, ℕ, ◌<◌, Option, List, [], ◌∷◌, ◌++◌, length, refl, sym, ◌∙◌, ap, arith}
 use Rattle.label_tree.specs.Rose.{Rose, node, label_of, kids_of, roses_of}
 use Rattle.label_tree.proofs.Roses.{roses_of-list_of}
 use Rattle.simple_types.specs.declared.simples.Simple.{Simple}
+use Rattle.simple_types.specs.declared.simples.Simple.TheVariants.{Bool}
 use Rattle.simple_types.specs.Joining.{joined}
 use Rattle.simple_types.specs.Seen.{space_of, spaces_in}
-use Rattle.simple_types.specs.Space.{none, more, ListOf, UnionOf}
+use Rattle.simple_types.specs.Space.{none, more, Booleans, ListOf, UnionOf}
 use Rattle.simple_types.proofs.Copies.{spaces-append}
 use Rattle.asn_types.specs.declared.types.Component.{Component}
 use Rattle.asn_types.specs.declared.types.Form.TheVariants as form
@@ -31,3 +32,12 @@ list-space_at (node l ts) part least most e = rw e (ap (λ us. ListOf (first_spa
 
 pub union-space_at : (t : Rose TypeLabel) (parts : List Component) → (label_of t).form ≡ form.Choice parts → space_at t ≡ UnionOf (spaces_at (roses_of (kids_of t)))
 union-space_at (node l ts) parts e = rw e (ap (λ us. UnionOf (spaces_at us)) (sym (roses_of-list_of ts)))
+
+pub bool_space : space_of Bool ≡ Booleans
+unfolding space_of
+bool_space = refl
+
+-- where there is no item
+pub first-empty : (ts : List (Rose TypeLabel)) → length ts < 1 → first_space (roses_of ts) ≡ Booleans
+first-empty [] none-left = refl
+first-empty (t ∷ ts) none-left = absurd (omega arith)
