@@ -1,5 +1,5 @@
-use Rattle.std.proofs.Common.{sym, ap, ◌∙◌, arith, [], ◌∷◌, ◌++◌, ◌+◌, take}
-use Rattle.label_tree.specs.Rose.{roses_of, kids_of}
+use Rattle.std.proofs.Common.{sym, ap, ◌∙◌, arith, take}
+use Rattle.label_tree.specs.Rose.{roses_of}
 use Rattle.label_tree.proofs.Roses.{node_count-kids}
 use Rattle.label_tree.proofs.Kids.{kid-count-le, take-more_kid}
 use Rattle.simple_types.specs.Space.{ListOf, UnionOf}
