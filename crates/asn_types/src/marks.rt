@@ -146,7 +146,6 @@ pub struct Marks {
 impl Model for Marks {
     ghost use Rattle.std.specs.Prelude.{◌≡◌, List};
     ghost use Rattle.asn_types.specs.declared.marks.Instruction.{Instruction};
-
     ghost use Rattle.asn_types.specs.Marks.{white_space_of};
 
     ghost Value = { List Instruction };

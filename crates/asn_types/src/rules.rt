@@ -178,12 +178,8 @@ pub(crate) fn own_at(
     let label = node.label();
     match &label.form {
         Form::Utf8 { .. } => Ok(is_text_of(label, value.label())),
-        Form::SequenceOf { .. } if label.marks.has_list() => {
-            is_spelled(alloc, node, value)
-        }
-        Form::Choice { .. } if label.marks.has_use_union() => {
-            is_spelled(alloc, node, value)
-        }
+        Form::SequenceOf { .. } if label.marks.has_list() => is_spelled(alloc, node, value),
+        Form::Choice { .. } if label.marks.has_use_union() => is_spelled(alloc, node, value),
         Form::Sequence { .. } if label.marks.has_embed_values() => {
             has_texts(alloc, module, node, value)
         }
