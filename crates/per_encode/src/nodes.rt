@@ -80,6 +80,7 @@ fn put_fragments(
 }
 
 // The items of a SEQUENCE OF behind their count (clause 20).
+#[tactic(auto, unfolding(per_fields::specs::Fields::list_bits))]
 #[cycle(encoding)]
 fn put_list(
     sink: &mut BitSink,
@@ -115,45 +116,55 @@ fn put_content(
     requires { KidsFit module.now node.now value.now }
     ensures { OnOk result (sink.new ≡ sink.old ++ resolved_bits module.now node.now value.now (length sink.old)) }
 {
-    let types = node.kids();
-    let values = value.kids();
+    let label = value.label();
     match &node.label().form {
-        Form::Bool => match value.label() {
+        Form::Bool => match label {
             ValueLabel::Bool(b) => sink.put_bits(u64::from(*b), 1),
             _ => unreachable!(),
         },
-        Form::Int { lo, hi } => match value.label() {
+        Form::Int { lo, hi } => match label {
             ValueLabel::Int(number) => put_whole(sink, *lo, *hi, *number),
             _ => unreachable!(),
         },
-        Form::Numbers { numbers } => match value.label() {
+        Form::Numbers { numbers } => match label {
             ValueLabel::Enum(i) => put_index(sink, numbers.items().len(), *i),
             _ => unreachable!(),
         },
-        Form::Words { words, .. } => match value.label() {
+        Form::Words { words, .. } => match label {
             ValueLabel::Enum(i) => put_index(sink, words.items().len(), *i),
             _ => unreachable!(),
         },
-        Form::Utf8 { .. } => match value.label() {
+        Form::Utf8 { .. } => match label {
             ValueLabel::Utf8(text) => put_text(sink, text.bytes()),
             _ => unreachable!(),
         },
-        Form::Sequence { parts } => match value.label() {
+        Form::Sequence { parts } => match label {
             ValueLabel::Sequence { present } => {
-                put_flags(sink, parts.items(), present.items())?;
-                put_parts(sink, module, types, present.items(), values)
+                let components = parts.items();
+                let present = present.items();
+                let types = node.kids();
+                let values = value.kids();
+                put_flags(sink, components, present)?;
+                put_parts(sink, module, types, present, values)
             }
             _ => unreachable!(),
         },
-        Form::Choice { parts } => match value.label() {
+        Form::Choice { parts } => match label {
             ValueLabel::Choice(i) => {
-                put_index(sink, parts.items().len(), *i)?;
-                put_node(sink, module, &types[*i as usize], &values[0])
+                let alternatives = parts.items();
+                put_index(sink, alternatives.len(), *i)?;
+                let alternative = node.kid(*i as usize);
+                let inner = value.kid(0);
+                put_node(sink, module, alternative, inner)
             }
             _ => unreachable!(),
         },
-        Form::SequenceOf { min, max, .. } => match value.label() {
-            ValueLabel::SequenceOf => put_list(sink, module, &types[0], *min, *max, values),
+        Form::SequenceOf { min, max, .. } => match label {
+            ValueLabel::SequenceOf => {
+                let item = node.kid(0);
+                let items = value.kids();
+                put_list(sink, module, item, *min, *max, items)
+            }
             _ => unreachable!(),
         },
         Form::Ref { .. } => unreachable!(),

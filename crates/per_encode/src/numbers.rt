@@ -55,11 +55,12 @@ fn put_large(sink: &mut BitSink, top: u128, number: u128) -> Result<(), Memory>
 {
     let most = octets_behind(top);
     let behind = octets_behind(number);
-    sink.put_bits(u64::from(behind), width(u128::from(most)))?;
+    sink.put_bits(behind as u64, width(most as u128))?;
     put_aligned(sink, number, 8 * (behind + 1))
 }
 
 /// A number of `0..=top`.
+#[tactic(auto, unfolding(per_fields::specs::Fields::number_bits))]
 pub(crate) fn put_number(sink: &mut BitSink, top: u128, number: u128) -> Result<(), Memory>
     requires { number ≤ top }
     ensures { OnOk result (sink.new ≡ sink.old ++ number_bits top number (length sink.old)) }

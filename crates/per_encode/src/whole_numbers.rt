@@ -1,5 +1,5 @@
 //! Values of INTEGER (X.691, clause 13).
-ghost use Rattle.std.specs.Prelude.{◌≡◌, ◌<◌, ◌≤◌, ◌≤ℤ◌, ◌+◌, ◌-◌, ◌*◌, ◌^◌, ◌++◌, OnOk, length, true};
+ghost use Rattle.std.specs.Prelude.{◌≡◌, ◌<◌, ◌≤◌, ◌+◌, ◌-◌, ◌*◌, ◌^◌, ◌++◌, OnOk, length, int_le, true};
 ghost use Rattle.simple_values.specs.Lexical.{is_from, is_to};
 ghost use Rattle.per_fields.specs.Widths.{distance, magnitude, complement, more_signed};
 ghost use Rattle.per_fields.specs.Fields.{from_bits, signed_bits, whole_bits};
@@ -11,7 +11,7 @@ use xa_base::Memory;
 
 // How far a number is above a lower one.
 fn distance(from: i128, to: i128) -> u128
-    requires { from ≤ℤ to }
+    requires { int_le from to ≡ true }
     ensures { result ≡ distance from to }
 {
     to.abs_diff(from)
@@ -29,17 +29,18 @@ fn magnitude(number: i128) -> u128
     }
 }
 
-// A number in two's complement of so many bits.
+// A number in two's complement of so many bits, which hold it with its sign.
 fn complement(width: u32, number: i128) -> u128
     requires some { 0 < width }
     requires few { width ≤ 128 }
-    requires fits { magnitude number < 2 ^ width }
+    requires fits { magnitude number < 2 ^ (width - 1) }
     ensures complement { result ≡ complement width number }
     ensures below { result < 2 ^ width }
 {
     let magnitude = magnitude(number);
     if number < 0 {
-        (u128::MAX >> (128 - width)) - magnitude
+        let half = 1u128 << (width - 1);
+        (half - 1) + (half - magnitude)
     } else {
         magnitude
     }
@@ -47,7 +48,7 @@ fn complement(width: u32, number: i128) -> u128
 
 // A number from a least one, without a greatest: the length of its octets, and these (clause 11.7).
 fn put_from(sink: &mut BitSink, least: i128, number: i128) -> Result<(), Memory>
-    requires { least ≤ℤ number }
+    requires { int_le least number ≡ true }
     ensures { OnOk result (sink.new ≡ sink.old ++ from_bits least number (length sink.old)) }
 {
     let distance = distance(least, number);
@@ -61,7 +62,7 @@ fn put_from(sink: &mut BitSink, least: i128, number: i128) -> Result<(), Memory>
 fn signed_octets_behind(number: i128) -> u32
     ensures octets { result ≡ more_signed number }
     ensures few { result ≤ 15 }
-    ensures fits { magnitude number < 2 ^ (8 * (result + 1)) }
+    ensures fits { magnitude number < 2 ^ (8 * (result + 1) - 1) }
 {
     width(magnitude(number)) / 8
 }
@@ -78,6 +79,7 @@ fn put_signed(sink: &mut BitSink, number: i128) -> Result<(), Memory>
 }
 
 /// A number of an INTEGER within these bounds.
+#[tactic(auto, unfolding(per_fields::specs::Fields::whole_bits))]
 pub(crate) fn put_whole(
     sink: &mut BitSink,
     least: Option<i128>,
