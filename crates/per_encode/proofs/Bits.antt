@@ -93,6 +93,11 @@ padded bs octets is = sym (length-octet_bits octets) ∙ ap length is ∙ length
 pub finished : (bs : List Bool) (octets : List ℕ) → octet_bits octets ≡ bs ++ padding (length bs) → 0 < length octets → octet_bits octets ≡ completed bs
 finished bs octets is some = is ∙ sym (completed-some bs (omega (arith, padded bs octets is, some)))
 
-pub finished_empty : (bs : List Bool) (octets : List ℕ) → octet_bits octets ≡ bs ++ padding (length bs) → length octets ≡ 0 → octet_bits (0 ∷ []) ≡ completed bs
+pub finished_empty : (bs : List Bool) (octets : List ℕ) → octet_bits octets ≡ bs ++ padding (length bs) → length octets ≡ 0 → octet_bits (octets ++ 0 ∷ []) ≡ completed bs
 unfolding octet
-finished_empty bs octets is nothing = append-nil (bits 8 0) ∙ sym (completed-none bs (omega (arith, padded bs octets is, nothing)))
+finished_empty bs [] is nothing = append-nil (bits 8 0) ∙ sym (completed-none bs (omega (arith, padded bs [] is)))
+finished_empty bs (x ∷ xs) is nothing = absurd (omega (arith, nothing))
+
+pub some_left : (n : ℕ) (octets : List ℕ) → n ≡ length octets → (n ≡ 0 → ⊥) → 0 < length octets
+some_left n [] is some = absurd (some is)
+some_left n (x ∷ xs) is some = omega arith

@@ -31,11 +31,8 @@ pub fn encode(alloc: Global, module: &Module, t: u32, value: &Value) -> Result<V
     ensures { IfOk result (λ octets. octet_bits octets.items ≡ complete module.now t value.now) }
 {
     let mut sink = BitSink::new(alloc);
-    put_node(
-        &mut sink,
-        module,
-        module.assignment(t).body.root(),
-        value.root(),
-    )?;
+    let body = module.assignment(t).body.root();
+    let root = value.root();
+    put_node(&mut sink, module, body, root)?;
     whole_octets(sink)
 }

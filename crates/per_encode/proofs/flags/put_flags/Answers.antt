@@ -1,4 +1,5 @@
 use Rattle.std.proofs.Common.{◌≡◌, ◌++◌, ◌+◌, ◌*◌, ◌<◌, ◌≤◌, ◌^◌, ◌∷◌, length, drop, get_or, false, sym, ap, ◌∙◌, subst, arith}
+use Rattle.asn_types.specs.declared.types.Component.{Component}
 use Rattle.bit_cursor.specs.Bits.{bits, bit}
 use Rattle.per_fields.specs.Encoding.{flag_bits}
 use Rattle.per_encode.proofs.Bits.{none_held, flag_there, no_flag, flag_held, byte_bit, fits_more}
@@ -20,12 +21,13 @@ parts-preserved c =
     let part = c.index-parts-i.result in
     let sink = c.parts.sink in
     let inside : i < length present = omega (arith, c.requires, c.parts-test.true) in
+    let same = ap (λ (p : Component). p.optional) c.index-parts-i.is in
     let rest = flag_bits (drop (i + 1) parts) (drop (i + 1) present) in
     let flag = get_or present i false in
     let old = c.args.sink.now ++ flag_bits parts present in
     elim c.if-parts-i.branch [
       | then-parts-i w ↦ (
-          let left = flag_there parts present i part c.parts-test.true c.index-parts-i.is inside w.if-parts-i.true in
+          let left = flag_there parts present i part c.parts-test.true c.index-parts-i.is inside (same ∙ w.if-parts-i.true) in
           let now : (sink ++ bits c.parts.count c.parts.held) ++ (flag ∷ rest) ≡ old = sym (ap (λ fs. (sink ++ bits c.parts.count c.parts.held) ++ fs) left) ∙ c.parts.invariant.whole in
           let added : w.from.result ≡ bit flag = w.from.ensures ∙ byte_bit flag in
           elim w.if-count-eq64.branch [
@@ -53,7 +55,7 @@ parts-preserved c =
                 })
           ])
       | else-parts-i w ↦ (
-          let left = no_flag parts present i part c.parts-test.true c.index-parts-i.is inside w.if-parts-i.false in
+          let left = no_flag parts present i part c.parts-test.true c.index-parts-i.is inside (same ∙ w.if-parts-i.false) in
           record {
             few = omega (arith, w.count-is, c.parts.invariant.few);
             fits = subst (λ n. c.if-parts-i.held < 2 ^ n) (sym w.count-is) (subst (λ h. h < 2 ^ c.parts.count) (sym w.held-is) c.parts.invariant.fits);

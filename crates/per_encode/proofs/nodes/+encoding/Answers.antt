@@ -185,8 +185,7 @@ put_content-put_list-requires t c =
       rw c.kids-items.ensures (omega (arith, d, n)),
       (
         rw c.kids-items.ensures (leb-true least (length (kids_of v)) size.0),
-        rw c.kids-items.ensures size.1,
-        rw c.kids-items.ensures (list_item M u v part least most c.kid-item.result.now l c.kid-item.ensures),
+        (rw c.kids-items.ensures size.1, rw c.kids-items.ensures (list_item M u v part least most c.kid-item.result.now l c.kid-item.ensures)),
       ),
     )
 
