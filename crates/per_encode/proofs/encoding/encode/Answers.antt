@@ -1,4 +1,4 @@
-use Rattle.std.proofs.Common.{◌≡◌, ◌++◌, length, ◌∙◌, sym, ap}
+use Rattle.std.proofs.Common.{◌≡◌, ◌++◌, length, ◌∙◌, ap}
 use Rattle.bit_cursor.specs.Bits.{octet_bits}
 use Rattle.asn_types.proofs.Counting.{if_ok}
 use Rattle.per_fields.specs.Encoding.{per, completed, complete}

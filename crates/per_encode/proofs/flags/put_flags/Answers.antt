@@ -1,4 +1,4 @@
-use Rattle.std.proofs.Common.{◌≡◌, ◌++◌, ◌+◌, ◌*◌, ◌<◌, ◌≤◌, ◌^◌, ◌∷◌, length, drop, get_or, false, sym, ap, ◌∙◌, subst, arith}
+use Rattle.std.proofs.Common.{◌≡◌, ◌++◌, ◌+◌, ◌*◌, ◌<◌, ◌^◌, ◌∷◌, length, drop, get_or, false, sym, ap, ◌∙◌, subst, arith}
 use Rattle.asn_types.specs.declared.types.Component.{Component}
 use Rattle.bit_cursor.specs.Bits.{bits, bit}
 use Rattle.per_fields.specs.Encoding.{flag_bits}
@@ -41,7 +41,7 @@ parts-preserved c =
                   few = omega (arith, count_is);
                   fits = subst (λ n. c.if-parts-i.held < 2 ^ n) (sym count_is) (subst (λ h. h < 2 ^ 1) (sym held_is) (fits_more 0 0 flag (omega arith)));
                   whole = ap (λ s. (s ++ bits c.if-parts-i.count c.if-parts-i.held) ++ rest) (w.sink-is ∙ u.sink-is)
-                  ∙ ap (λ n. (u.put_bits.new.self ++ bits n c.if-parts-i.held) ++ rest) count_is ∙ ap (λ h. (u.put_bits.new.self ++ bits 1 h) ++ rest) held_is ∙ held;
+                      ∙ ap (λ n. (u.put_bits.new.self ++ bits n c.if-parts-i.held) ++ rest) count_is ∙ ap (λ h. (u.put_bits.new.self ++ bits 1 h) ++ rest) held_is ∙ held;
                 })
             | else-count-eq64 u ↦ (
                 let held = flag_held sink old rest c.parts.count c.parts.held flag now in
@@ -51,7 +51,7 @@ parts-preserved c =
                   few = omega (arith, count_is, u.if-count-eq64.false, c.parts.invariant.few);
                   fits = subst (λ n. c.if-parts-i.held < 2 ^ n) (sym count_is) (subst (λ h. h < 2 ^ (c.parts.count + 1)) (sym held_is) (fits_more c.parts.held c.parts.count flag c.parts.invariant.fits));
                   whole = ap (λ s. (s ++ bits c.if-parts-i.count c.if-parts-i.held) ++ rest) (w.sink-is ∙ u.sink-is)
-                  ∙ ap (λ n. (sink ++ bits n c.if-parts-i.held) ++ rest) count_is ∙ ap (λ h. (sink ++ bits (c.parts.count + 1) h) ++ rest) held_is ∙ held;
+                      ∙ ap (λ n. (sink ++ bits n c.if-parts-i.held) ++ rest) count_is ∙ ap (λ h. (sink ++ bits (c.parts.count + 1) h) ++ rest) held_is ∙ held;
                 })
           ])
       | else-parts-i w ↦ (
@@ -60,6 +60,6 @@ parts-preserved c =
             few = omega (arith, w.count-is, c.parts.invariant.few);
             fits = subst (λ n. c.if-parts-i.held < 2 ^ n) (sym w.count-is) (subst (λ h. h < 2 ^ c.parts.count) (sym w.held-is) c.parts.invariant.fits);
             whole = ap (λ s. (s ++ bits c.if-parts-i.count c.if-parts-i.held) ++ rest) w.sink-is ∙ ap (λ n. (sink ++ bits n c.if-parts-i.held) ++ rest) w.count-is
-            ∙ ap (λ h. (sink ++ bits c.parts.count h) ++ rest) w.held-is ∙ sym (ap (λ fs. (sink ++ bits c.parts.count c.parts.held) ++ fs) left) ∙ c.parts.invariant.whole;
+                ∙ ap (λ h. (sink ++ bits c.parts.count h) ++ rest) w.held-is ∙ sym (ap (λ fs. (sink ++ bits c.parts.count c.parts.held) ++ fs) left) ∙ c.parts.invariant.whole;
           })
     ]

@@ -1,4 +1,4 @@
-use Rattle.std.proofs.Common.{rules, ◌≡◌, ◌++◌, ◌+◌, ◌-◌, ◌*◌, ◌∷◌, [], length, map, take, drop, leb, refl, sym, ap, ◌∙◌, subst, arith, FitsSigned}
+use Rattle.std.proofs.Common.{rules, ◌≡◌, ◌++◌, ◌+◌, ◌-◌, ◌*◌, ◌∷◌, length, map, drop, leb, sym, ap, ◌∙◌, subst, arith, FitsSigned}
 use Rattle.std.specs.Int.{w128}
 use Rattle.std.proofs.lemmas.Int.{to_z-of_z}
 use Rattle.std.proofs.lemmas.Bool.{leb-true}
@@ -11,7 +11,7 @@ use Rattle.simple_types.specs.declared.labels.ValueLabel.TheVariants as value
 use Rattle.simple_values.specs.Lexical.{is_at_most}
 use Rattle.asn_types.specs.declared.types.Form.TheVariants as form
 use Rattle.asn_types.proofs.Counting.{drop-past}
-use Rattle.per_fields.specs.Fields.{in_turn, Units, Last, number_bits, whole_bits, counted_bits, list_bits}
+use Rattle.per_fields.specs.Fields.{in_turn, number_bits, whole_bits, counted_bits, list_bits}
 use Rattle.per_fields.specs.Encoding.{octet_writer, flag_bits, per}
 use Rattle.per_encode.specs.Private.Kids.{FitsSomewhere, AllFit, KidsFit, chosen, writers, resolved_bits}
 use Rattle.per_encode.proofs.Puts.{on_ok, then_written, turn_taken, nothing_left, fragment_put, last_put}
@@ -43,7 +43,7 @@ put_items-items-preserved t c =
     record {
       fit = (first_fits (FitsSomewhere M node) (drop i vs) (drop (i + 1) vs) v next c.items.invariant.fit).1;
       whole = turn_taken (c.args.sink.now ++ in_turn (map (per M node) vs) (length c.args.sink.now)) sink c.put_node.new.sink (per M node v) (map (per M node) (drop (i + 1) vs))
-      (sym (ap (λ xs. sink ++ in_turn (map (per M node) xs) (length sink)) next) ∙ c.items.invariant.whole) c.in_ok-put_node.ensures;
+          (sym (ap (λ xs. sink ++ in_turn (map (per M node) xs) (length sink)) next) ∙ c.items.invariant.whole) c.in_ok-put_node.ensures;
     }
 
 pub put_items-returns : goal.put_items-returns
@@ -77,7 +77,7 @@ put_fragments-fragments-preserved t c =
     record {
       inside = omega (arith, c.min-units.ensures, c.fragments-test.true);
       whole = fragment_put f vs c.fragments.at c.min-units.result old c.fragments.sink c.put_units.new.sink c.put_items.new.sink c.fragments-test.true (omega (arith, c.min-units.ensures))
-      c.in_ok-put_units.ensures c.in_ok-put_items.ensures c.fragments.invariant.whole;
+          c.in_ok-put_units.ensures c.in_ok-put_items.ensures c.fragments.invariant.whole;
     }
 
 pub put_fragments-put_items-requires-2 : goal.put_fragments-put_items-requires-2
@@ -128,8 +128,7 @@ put_content-put_parts-requires t c =
     let is : Is M u v (form.Sequence parts) (value.Sequence flags) = (ap (λ l. l.form) (sym c.label.ensures) ∙ c.in-Sequence.is, sym c.label-label.ensures ∙ c.in-Sequence-label.is) in
     let s = sequence_here M u v parts flags is c.requires in
     let d = c.decreases in
-    let n = node_count-kids v in
-    (
+    let n = node_count-kids v in (
       rw c.kids-values.ensures (omega (arith, d, n)),
       (rw (c.items-present.ensures, c.kids-types.ensures) s.typed, rw (c.items-present.ensures, c.kids-types.ensures, c.kids-values.ensures) s.fit),
     )
@@ -180,8 +179,7 @@ put_content-put_list-requires t c =
     let l = list_here M u v part least most is c.requires in
     let size = both (leb least (length (kids_of v))) (is_at_most (length (kids_of v)) most) l.size in
     let d = c.decreases in
-    let n = node_count-kids v in
-    (
+    let n = node_count-kids v in (
       rw c.kids-items.ensures (omega (arith, d, n)),
       (
         rw c.kids-items.ensures (leb-true least (length (kids_of v)) size.0),
@@ -344,7 +342,7 @@ put_parts-parts-preserved t c =
           record {
             fit = subst (λ j. AllFit M rest (drop j vs)) (sym b.next-is) others;
             whole = subst (λ s. s ++ in_turn (writers M rest (drop next' vs)) (length s) ≡ old) (sym b.sink-is)
-            (subst (λ j. new ++ in_turn (writers M rest (drop j vs)) (length new) ≡ old) (sym b.next-is) put);
+                (subst (λ j. new ++ in_turn (writers M rest (drop j vs)) (length new) ≡ old) (sym b.next-is) put);
           })
       | put_parts-else-present-i b ↦ (
           let here = left_absent ts flags i c.parts-test.true c.requires.types b.if-present-i.false in
@@ -353,7 +351,7 @@ put_parts-parts-preserved t c =
           record {
             fit = subst (λ j. AllFit M rest (drop j vs)) (sym b.next-is) fit;
             whole = subst (λ s. s ++ in_turn (writers M rest (drop next' vs)) (length s) ≡ old) (sym b.sink-is)
-            (subst (λ j. sink ++ in_turn (writers M rest (drop j vs)) (length sink) ≡ old) (sym b.next-is) put);
+                (subst (λ j. sink ++ in_turn (writers M rest (drop j vs)) (length sink) ≡ old) (sym b.next-is) put);
           })
     ]
 

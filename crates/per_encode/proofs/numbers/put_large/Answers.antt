@@ -1,4 +1,4 @@
-use Rattle.std.proofs.Common.{◌≡◌, ◌+◌, ◌*◌, ◌++◌, length, sym, ap, ◌∙◌, arith}
+use Rattle.std.proofs.Common.{◌+◌, ◌*◌, ◌++◌, length, ap, ◌∙◌, arith}
 use Rattle.bit_cursor.specs.Bits.{bits, padding}
 use Rattle.per_fields.specs.Widths.{width_of, more_of}
 use Rattle.per_fields.proofs.WidthLaws.{width_le}

@@ -1,4 +1,4 @@
-use Rattle.std.proofs.Common.{◌<◌, arith}
+use Rattle.std.proofs.Common.{arith}
 use Rattle.per_encode.proofs.Puts.{on_ok}
 use Rattle.per_encode.proofs.Bits.{wide_put}
 use Rattle.per_encode.proofs.numbers.put_wide.Goals as goal

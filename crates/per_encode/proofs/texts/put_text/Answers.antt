@@ -1,5 +1,4 @@
-use Rattle.std.proofs.Common.{◌≡◌, ◌++◌, ◌+◌, ◌-◌, ◌*◌, length, map, take, drop, sym, ap, ◌∙◌, arith}
-use Rattle.bit_cursor.specs.Bits.{octet_bits}
+use Rattle.std.proofs.Common.{◌++◌, ◌+◌, ◌-◌, ◌*◌, length, map, take, drop, sym, ap, ◌∙◌, arith}
 use Rattle.per_fields.specs.Fields.{Last, Units, counted_bits}
 use Rattle.per_fields.specs.Encoding.{octet_writer}
 use Rattle.per_fields.proofs.Fragments.{run_octets}
@@ -20,7 +19,7 @@ fragments-preserved c =
     record {
       inside = omega (arith, c.min-units.ensures, c.fragments-test.true);
       whole = fragment_put octet_writer text at k old c.fragments.sink mid c.put_octets.new.self c.fragments-test.true (omega (arith, c.min-units.ensures)) c.in_ok-put_units.ensures
-      (c.in_ok-put_octets.ensures.ok ∙ ap (λ bs. mid ++ bs) (sym (run_octets xs (length mid)))) c.fragments.invariant.whole;
+          (c.in_ok-put_octets.ensures.ok ∙ ap (λ bs. mid ++ bs) (sym (run_octets xs (length mid)))) c.fragments.invariant.whole;
     }
 
 pub put_octets-requires-2 : goal.put_octets-requires-2
