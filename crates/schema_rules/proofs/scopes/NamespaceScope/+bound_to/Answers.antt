@@ -1,7 +1,7 @@
 use Rattle.std.proofs.Common.{◌∙◌}
 use Rattle.schema_rules.specs.Scopes.{bindings_in}
 use Rattle.schema_rules.proofs.Scoped.{found_inside, found_outside}
-use Rattle.schema_rules.proofs.scopes.NamespaceScope.+space_of.Goals as goal
+use Rattle.schema_rules.proofs.scopes.NamespaceScope.+bound_to.Goals as goal
 
 pub returns-in-Some : goal.returns-in-Some
 returns-in-Some t c =
@@ -9,4 +9,4 @@ returns-in-Some t c =
 
 pub returns-in-None : goal.returns-in-None
 returns-in-None t c =
-    rw c.in-Element.is (c.space_of-in-None.ensures ∙ found_outside c.args.prefix.now c.in-Element.declared (bindings_in c.in-Element.outer.now) c.in-None.ensures)
+    rw c.in-Element.is (c.bound_to-in-None.ensures ∙ found_outside c.args.prefix.now c.in-Element.declared (bindings_in c.in-Element.outer.now) c.in-None.ensures)

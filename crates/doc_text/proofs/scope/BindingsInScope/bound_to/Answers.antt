@@ -2,7 +2,7 @@ use Rattle.std.proofs.Common.{rules, arith, Some, ◌≡◌, ◌<◌, ap, sym, �
 use Rattle.xa_base.specs.Entries.{beside}
 use Rattle.doc_text.specs.declared.scope.Binding.{Binding}
 use Rattle.doc_text.proofs.InScope.{place_in, found_within, found_space, not_found}
-use Rattle.doc_text.proofs.scope.BindingsInScope.space_of.Goals as goal
+use Rattle.doc_text.proofs.scope.BindingsInScope.bound_to.Goals as goal
 
 pub returns-in_err-place : goal.returns-in_err-place
 returns-in_err-place c = rw c.from_residual.ensures (not_found c.args.prefix.now c.self.inside.bindings.items c.self.inside.innermost c.self.invariant (search rules) ∙ ap (λ xs. beside c.args.prefix.now (reverse xs)) c.self.view_is)

@@ -1,6 +1,6 @@
 use Rattle.std.proofs.Common.{rules}
-use Rattle.doc_text.proofs.Spelling.{spelled, unspelled, ascii_spelled}
-use Rattle.doc_text.proofs.names.spells_ncname.Goals as goal
+use Rattle.doc_pieces.proofs.Spelled.{spelled, unspelled, ascii_spelled}
+use Rattle.doc_pieces.proofs.qnames.spells_ncname.Goals as goal
 
 pub returns-in-Ok : goal.returns-in-Ok
 returns-in-Ok c = spelled c.args.bytes.now _ (search rules) (search rules)
