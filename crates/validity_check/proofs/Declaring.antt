@@ -42,6 +42,12 @@ module _ (s : Set) where
     pub complex_kept : (n : ℕ) (c : ComplexDef) → slice_get s.complexes n ≡ Some c → IsComplexType s c
     complex_kept n c h = all_at (IsComplexType s) s.complexes n c h linked.complexes
 
+    pub content_kept : (n : ℕ) (c : ComplexDef) → slice_get s.complexes n ≡ Some c → IsContent s c.content
+    content_kept n c h = (complex_kept n c h).content
+
+    pub content_model : (n : ℕ) (c : ComplexDef) → slice_get s.complexes n ≡ Some c → model_at s n ≡ model_of c.content
+    content_model n c h = rw h refl
+
     model_in_content : (c : Content) (m : Rose ParticleLabel) → model_of c ≡ Some m → IsContent s c → IsModel s m
     model_in_content content.Empty m e h = absurd (cc)
     model_in_content (content.Simple n) m e h = absurd (cc)
@@ -55,3 +61,12 @@ module _ (s : Set) where
         go : (o : Option ComplexDef) → slice_get s.complexes n ≡ o → elim o as (λ _. Option (Rose ParticleLabel)) [ None ↦ None | Some c ↦ model_of c.content ] ≡ Some m → IsModel s m
         go None q e = absurd (cc)
         go (Some c) q e = model_in_content c.content m e (complex_kept n c q).content
+
+pub content_simple : (s : Set) (c : Content) (n : ℕ) → c ≡ content.Simple n → IsContent s c → n < length s.simples
+content_simple s c n e h = subst (λ x. IsContent s x) e h
+
+pub content_element_only : (s : Set) (c : Content) (m : Rose ParticleLabel) → c ≡ content.ElementOnly m → IsContent s c → IsModel s m
+content_element_only s c m e h = subst (λ x. IsContent s x) e h
+
+pub content_mixed : (s : Set) (c : Content) (m : Rose ParticleLabel) → c ≡ content.Mixed m → IsContent s c → IsModel s m
+content_mixed s c m e h = subst (λ x. IsContent s x) e h

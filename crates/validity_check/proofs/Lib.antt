@@ -5,4 +5,5 @@ pub mod Declaring
 pub mod Keeping
 pub mod Tagging
 pub mod Texts
+pub mod Truths
 pub mod Walking

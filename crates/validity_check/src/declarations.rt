@@ -1,9 +1,10 @@
 //! What a set of schemas declares of an element.
 ghost use Rattle.std.specs.Prelude.{◌≡◌, ◌<◌, length, slice_get};
-ghost use Rattle.schema_parts.specs.Linked.{IsLinked};
+ghost use Rattle.schema_parts.specs.Components.{model_of};
+ghost use Rattle.schema_parts.specs.Linked.{IsContent, IsLinked};
 ghost use Rattle.schema_parts.specs.SetParts.{parts_of};
-ghost use Rattle.validity.specs.Asked.{asked_by_complex, asked_at};
-ghost use Rattle.validity_check.specs.Told.{told, IsFitting};
+ghost use Rattle.validity.specs.Asked.{inside_of, asked_by_complex, asked_at};
+ghost use Rattle.validity_check.specs.Told.{inside_told, told, model_at, IsFittingInside, IsFitting};
 
 use content_models::Particle;
 use schema_parts::{AttributeUse, Content, SchemaSet, TypeOf};
@@ -31,15 +32,15 @@ pub struct Declared<'a> {
     pub inside: Inside<'a>,
 }
 
-// What is declared of an element with this complex type.
-fn of_complex<'a>(set: &'a SchemaSet, complex: u32, nillable: bool) -> Declared<'a>
+// What may stand in an element whose complex type has this content and this number.
+fn inside_of<'a>(set: &'a SchemaSet, complex: u32, content: &'a Content) -> Inside<'a>
     requires linked { IsLinked set.now }
-    requires complex { complex < length set.now.complexes }
-    ensures asked { told (parts_of set.now) result ≡ asked_by_complex (parts_of set.now) nillable (slice_get set.now.complexes complex) }
-    ensures fits { IsFitting set.now result }
+    requires content { IsContent set.now content.now }
+    requires model { model_at set.now complex ≡ model_of content.now }
+    ensures told { inside_told result ≡ inside_of (parts_of set.now) content.now }
+    ensures fits { IsFittingInside set.now result }
 {
-    let found = set.complex(complex);
-    let inside = match &found.content {
+    match content {
         Content::Empty => Inside::Nothing,
         Content::Simple(simple) => Inside::Simple(&set.simple(*simple).space),
         Content::ElementOnly(model) => Inside::Children {
@@ -52,11 +53,21 @@ fn of_complex<'a>(set: &'a SchemaSet, complex: u32, nillable: bool) -> Declared<
             complex,
             model,
         },
-    };
+    }
+}
+
+// What is declared of an element with this complex type.
+fn of_complex<'a>(set: &'a SchemaSet, complex: u32, nillable: bool) -> Declared<'a>
+    requires linked { IsLinked set.now }
+    requires complex { complex < length set.now.complexes }
+    ensures asked { told (parts_of set.now) result ≡ asked_by_complex (parts_of set.now) nillable (slice_get set.now.complexes complex) }
+    ensures fits { IsFitting set.now result }
+{
+    let found = set.complex(complex);
     Declared {
         nillable,
         uses: found.uses.items(),
-        inside,
+        inside: inside_of(set, complex, &found.content),
     }
 }
 

@@ -53,6 +53,7 @@ fn check_text(
 // The kids follow the content model of the matcher, which has taken no name, and each is valid. The element stands at
 // this place.
 #[cycle(checking)]
+#[tactic(none)]
 fn check_kids<L: Ledger>(
     plans: &mut Plans,
     mut matcher: Matcher,
@@ -68,8 +69,8 @@ fn check_kids<L: Ledger>(
     requires few { count_all (roses_of kids.now) < 2 ^ 31 }
     ensures same { plans.new ≡ plans.old }
     ensures judged { MatchResult result
-        (λ _. AreValidKids (asked_at (parts_of plans.old)) mixed matcher.particle (roses_of kids.now))
-        (Tells (KidsFault (asked_at (parts_of plans.old)) mixed matcher.particle (roses_of kids.now) at)) }
+        (λ _. AreValidKids (asked_at (parts_of plans.old)) mixed matcher.entry.particle (roses_of kids.now))
+        (Tells (KidsFault (asked_at (parts_of plans.old)) mixed matcher.entry.particle (roses_of kids.now) at)) }
     ensures most { steps.new ≤ steps.old + (144 * elements_in (roses_of kids.now) + 72) }
     ensures least { IfOk result (λ _. steps.old + elements_in (roses_of kids.now) ≤ steps.new) }
 {
@@ -105,6 +106,7 @@ fn check_kids<L: Ledger>(
 
 // The kids are what may stand in an element at this place.
 #[cycle(checking)]
+#[tactic(none)]
 fn check_inside<L: Ledger>(
     plans: &mut Plans,
     inside: Inside,
@@ -118,8 +120,8 @@ fn check_inside<L: Ledger>(
     requires few { count_all (roses_of kids.now) < 2 ^ 31 }
     ensures same { plans.new ≡ plans.old }
     ensures judged { MatchResult result
-        (λ _. IsValidInside (asked_at (parts_of plans.old)) (inside_told inside) (roses_of kids.now))
-        (Tells (InsideFault (asked_at (parts_of plans.old)) (inside_told inside) (roses_of kids.now) at)) }
+        (λ _. IsValidInside (asked_at (parts_of plans.old)) (inside_told inside.entry) (roses_of kids.now))
+        (Tells (InsideFault (asked_at (parts_of plans.old)) (inside_told inside.entry) (roses_of kids.now) at)) }
     ensures most { steps.new ≤ steps.old + (144 * elements_in (roses_of kids.now) + 72) }
     ensures least { IfOk result (λ _. steps.old + elements_in (roses_of kids.now) ≤ steps.new) }
 {
@@ -140,6 +142,7 @@ fn check_inside<L: Ledger>(
 
 /// The element is valid under the declaration with this number.
 #[cycle(checking)]
+#[tactic(none)]
 pub(crate) fn check_element<L: Ledger>(
     plans: &mut Plans,
     decl: u32,

@@ -1,4 +1,6 @@
 //! Why a document isn't found valid.
+ghost use Rattle.std.specs.Prelude.{◌≡◌};
+
 use thiserror::Error;
 use validity::InvalidWhy;
 use xa_base::Memory;
