@@ -63,3 +63,7 @@ model_below s n m e = go s.complexes n e
     go [] n e = absurd (cc)
     go (c ∷ cs) zero e = omega arith
     go (c ∷ cs) (suc n) e = omega (arith, go cs n e)
+
+-- what is kept for a complex type is the plan of its content model
+pub plan_is : (s : Set) (n : ℕ) (plan : KeptPlan) (m : Rose ParticleLabel) → IsPlanAt s n (Some plan) → model_at s n ≡ Some m → plan.value ≡ seen m
+plan_is s n plan m h f = let same : h.0 ≡ m = cc (h.1, f) in h.2 ∙ ap seen same
