@@ -1,5 +1,6 @@
 use Rattle.std.proofs.Common.{◌≡◌, ℕ, ◌≤◌, true, false, refl, sym, ◌∙◌, ap, subst, arith, add-one}
 use Rattle.std.specs.Prelude.{MatchResult}
+use Rattle.std.proofs.lemmas.Result.{err_from_is_err_and}
 use Rattle.label_tree.specs.Rose.{roses_of, label_of, kids_of, count_all}
 use Rattle.doc_text.specs.Sound.{is_text, are_sound}
 use Rattle.content_match.specs.Taking.{levels}
@@ -221,3 +222,19 @@ check_element-returns-else-nil-clause-most g t c =
     let same = ap (λ ks. elements_in (roses_of ks)) c.kids-kids.ensures in
     let m = c.check_inside.ensures.most in
     omega (arith, n, same, m)
+
+pub check_kids-returns-in_err-check_kid-clause-judged :
+    goal.check_kids-returns-in_err-check_kid-clause-judged
+check_kids-returns-in_err-check_kid-clause-judged g t c =
+    let p = err_from_is_err_and c.from_residual.result c.from_residual.ensures.1 in
+    rw (p.1, p.2)
+    (c.in_err-check_kid.ensures.judged c.args.plan.now c.args.kids.now c.args.at c.loop-kid.kid-index c.loop-kid-test.true c.kid-item.is c.loop-kid.invariant.walked)
+
+pub check_kids-returns-in_err-check_kid-clause-most :
+    goal.check_kids-returns-in_err-check_kid-clause-most
+check_kids-returns-in_err-check_kid-clause-most g t c =
+    let here = kid_here c.args.kids.now c.loop-kid.kid-index c.kid-item.result c.loop-kid-test.true c.kid-item.is in
+    let all = up_to (roses_of c.args.kids.now) c.loop-kid.kid-index c.kid-item.result here in
+    let so_far = c.loop-kid.invariant.most in
+    let m = c.in_err-check_kid.ensures.most in
+    omega (arith, all, so_far, m)
