@@ -27,7 +27,11 @@ fn check_name(label: &ItemLabel, name: &Name) -> Result<(), CheckError>
             at: *at,
             why: InvalidWhy::WrongRoot,
         }),
-        ItemLabel::Element { name: found, at, .. } => {
+        ItemLabel::Element {
+            name: found,
+            at,
+            ..
+        } => {
             if *found == *name {
                 Ok(())
             } else {

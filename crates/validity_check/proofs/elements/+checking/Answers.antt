@@ -226,7 +226,7 @@ check_element-returns-else-nil-clause-most g t c =
 pub check_kids-returns-in_err-check_kid-clause-judged :
     goal.check_kids-returns-in_err-check_kid-clause-judged
 check_kids-returns-in_err-check_kid-clause-judged g t c =
-    let p = err_from_is_err_and c.from_residual.result c.from_residual.ensures.1 in
+    let p = err_from_is_err_and c.from_residual-in_err-check_kid.result c.from_residual-in_err-check_kid.ensures.1 in
     rw (p.1, p.2)
     (c.in_err-check_kid.ensures.judged c.args.plan.now c.args.kids.now c.args.at c.loop-kid.kid-index c.loop-kid-test.true c.kid-item.is c.loop-kid.invariant.walked)
 
