@@ -1,7 +1,7 @@
 -- How many elements there are in the first kids.
-use Rattle.std.proofs.Common.{◌≡◌, ℕ, zero, suc, ◌+◌, ◌≤◌, List, [], ◌∷◌, Option, Some, None, refl, sym, ◌∙◌, ap, subst, arith}
+use Rattle.std.proofs.Common.{◌≡◌, ℕ, zero, suc, ◌+◌, ◌≤◌, length, List, [], ◌∷◌, Option, Some, None, refl, sym, ◌∙◌, ap, subst, arith}
 use Rattle.xa_base.specs.declared.texts.Name.{Name}
-use Rattle.label_tree.specs.Rose.{Rose, node, Roses, roses_of, label_of, kids_of}
+use Rattle.label_tree.specs.Rose.{Rose, node, Roses, roses_of, label_of, kids_of, node_count, count_all}
 use Rattle.label_tree.specs.Rose as rose
 use Rattle.doc_text.specs.declared.label.ItemLabel.{ItemLabel}
 use Rattle.doc_text.specs.declared.label.ItemLabel.TheVariants.{Element, Text}
@@ -34,3 +34,7 @@ pub element_counts : (t : Rose ItemLabel) (n : Name) (xs : List (Name × List �
     → element_count t ≡ suc (elements_in (roses_of (kids_of t)))
 element_counts (node (Element n xs declares c) ts) m ys binds at e = ap (λ s. suc (elements_in s)) (sym (roses_of-list_of ts))
 element_counts (node (Text others c) ts) m ys binds at e = absurd (cc)
+
+pub at_least_length : {L : Type 0} (ts : List (Rose L)) → length ts ≤ count_all (roses_of ts)
+at_least_length [] = omega arith
+at_least_length (node l ks ∷ ts) = omega (arith, at_least_length ts)

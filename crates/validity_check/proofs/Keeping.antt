@@ -1,5 +1,6 @@
 -- Plans that are kept.
-use Rattle.std.proofs.Common.{◌≡◌, ◌⊎◌, inl, inr, ℕ, zero, suc, ◌<◌, ◌≤◌, List, [], ◌∷◌, ◌++◌, Option, Some, None, length, refl, sym, ◌∙◌, ap, subst, arith}
+use Rattle.std.proofs.Common.{◌≡◌, ◌⊎◌, inl, inr, ℕ, zero, suc, ◌<◌, ◌≤◌, List, [], ◌∷◌, ◌++◌, Option, Some, None, true, ltb, length, get_or, refl, sym, ◌∙◌, ap, subst, arith}
+use Rattle.std.proofs.lemmas.Bool.{ltb-true, lt-ltb}
 use Rattle.std.specs.Prelude.{slice_get}
 use Rattle.std.proofs.Math.ListN.{set}
 use Rattle.label_tree.specs.Rose.{Rose}
@@ -29,9 +30,6 @@ none_at s n (Some plan) e = absurd (cc)
 pub none_kept : (s : Set) (kept : List (Option KeptPlan)) → length kept ≡ length s.complexes → AreNone kept → ArePlans s kept
 none_kept s kept e h = record { count = e; plans = λ n o q. none_at s n o (h n o q) }
 
-pub kept_plan : (s : Set) (kept : List (Option KeptPlan)) → ArePlans s kept → (n : ℕ) (plan : KeptPlan) (m : Rose ParticleLabel) → slice_get kept n ≡ Some (Some plan) → model_at s n ≡ Some m → plan.value ≡ seen m
-kept_plan s kept k n plan m e f = let h = k.plans n (Some plan) e in let same : h.0 ≡ m = cc (h.1, f) in h.2 ∙ ap seen same
-
 set_length : {A : Type 0} (xs : List A) (n : ℕ) (v : A) → length (set xs n v) ≡ length xs
 set_length [] n v = refl
 set_length (x ∷ xs) zero v = refl
@@ -54,6 +52,12 @@ more_kept s kept k n plan model e f = record {
   count = set_length kept n (Some plan) ∙ k.count;
   plans = λ m o q. elim (set_cases kept n m (Some plan) o q) [ inl h ↦ plan_there s m n o plan model h.0 h.1 e f | inr h ↦ k.plans m o h ];
 }
+
+-- an element that a look-up finds
+pub found_at : {A : Type 0} (xs : List A) (i : ℕ) (x : A) → true ≡ ltb i (length xs) → x ≡ get_or xs i x → slice_get xs i ≡ Some x
+found_at [] i x within is = absurd (let below = ltb-true i 0 (sym within) in omega arith)
+found_at (y ∷ ys) zero x within is = ap (λ z. Some z) (sym is)
+found_at (y ∷ ys) (suc i) x within is = found_at ys i x (let below = ltb-true (suc i) (suc (length ys)) (sym within) in sym (lt-ltb i (length ys) (omega arith))) is
 
 -- a content model has a number below the count of complex types
 pub model_below : (s : Set) (n : ℕ) (m : Rose ParticleLabel) → model_at s n ≡ Some m → n < length s.complexes

@@ -1,4 +1,5 @@
 pub mod Leaves
+pub mod Levels
 pub mod Counting
 pub mod Shape
 pub mod Declaring
@@ -7,3 +8,4 @@ pub mod Tagging
 pub mod Texts
 pub mod Truths
 pub mod Walking
+pub mod Rooting

@@ -21,23 +21,9 @@ kid_sound (rose.more (node l ks) ts) (suc i) t h e =
 pub kids_sound : (t : Rose ItemLabel) → is_sound t ≡ true → are_sound (roses_of (kids_of t)) ≡ true
 kids_sound (node l ts) h = ap are_sound (roses_of-list_of ts) ∙ (both (is_sound_label l) (are_sound ts) h).1
 
-pub named_element : (t : Rose ItemLabel) (n : Name) (xs : List (Name × List ℕ)) (declares : List (List ℕ × List ℕ)) (at : ℕ) → label_of t ≡ Element n xs declares at → is_element t ≡ true
-named_element (node l ts) n xs declares at e = ap (λ l. not (is_text l)) e
-
-pub no_text : (t : Rose ItemLabel) (words : List ℕ) (at : ℕ) → label_of t ≡ Text words at → is_element t ≡ true → ⊥
-no_text (node l ts) words at e h = let f = ap (λ l. not (is_text l)) e in cc
-
 not_true : (b : Bool) → not b ≡ true → b ≡ false
 not_true true e = absurd (cc)
 not_true false e = refl
 
--- behind a text stands no text
-pub next_element : (t u : Rose ItemLabel) (ts : Roses ItemLabel) (words others : List ℕ) (at place : ℕ) → are_sound (rose.more t (rose.more u ts)) ≡ true
-    → label_of t ≡ Text words at → label_of u ≡ Text others place → ⊥
-next_element (node l ks) (node m js) ts words others at place h e f =
-    let g = (both (is_sound (node l ks)) (not (is_text l && is_text m)) (both (is_sound (node l ks) && not (is_text l && is_text m)) (are_sound (rose.more (node m js) ts)) h).0).1 in
-    let a : is_text l ≡ true = ap is_text e in
-    let b : is_text m ≡ true = ap is_text f in
-    let c : (is_text l && is_text m) ≡ true = rw (a, b) refl in
-    let d = not_true (is_text l && is_text m) g in
-    cc
+pub element_label : (t : Rose ItemLabel) → is_element t ≡ true → is_text (label_of t) ≡ false
+element_label (node l ts) h = not_true (is_text l) h

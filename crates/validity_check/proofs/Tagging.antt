@@ -1,6 +1,6 @@
 -- The rules of a start tag.
 use Rattle.std.proofs.Common.{◌≡◌, ℕ, zero, suc, ◌<◌, inl, inr, List, [], ◌∷◌, Option, Some, None, Bool, true, false, map, length, get_or, refl, sym, ◌∙◌, ap, subst}
-use Rattle.std.specs.Prelude.{All, not, bytes_eq, ◌||◌, ◌&&◌, if◌then◌else◌, filter}
+use Rattle.std.specs.Prelude.{Result, Ok, Err, MatchResult, All, not, bytes_eq, ◌||◌, ◌&&◌, if◌then◌else◌, filter}
 use Rattle.std.specs.List.{list_any}
 use Rattle.std.proofs.lemmas.List.Elements.{All-nil, All-cons, All-head, All-tail}
 use Rattle.xa_base.specs.declared.texts.Name.{Name}
@@ -8,23 +8,28 @@ use Rattle.xa_base.specs.Names.{name_eq}
 use Rattle.xa_base.specs.Limits.{is_namespace, is_name_part, is_xmlns}
 use Rattle.xa_base.specs.Namespaces.{xmlns_space, xsi_space}
 use Rattle.xa_base.proofs.NameLaws.{name_eq-Decides}
-use Rattle.label_tree.specs.Rose.{Rose, label_of, roses_of, kids_of}
+use Rattle.label_tree.specs.Rose.{Rose, Roses, none, label_of, roses_of, kids_of}
+use Rattle.plain_items.specs.Plain.{Plain}
 use Rattle.doc_text.specs.declared.label.ItemLabel.{ItemLabel}
 use Rattle.doc_text.specs.declared.label.ItemLabel.TheVariants.{Element}
 use Rattle.schema_parts.specs.declared.components.AttributeUse.{AttributeUse}
 use Rattle.schema_parts.specs.Components.{Set}
 use Rattle.schema_parts.specs.Declarable.{kept_spaces, is_declarable, is_declarable_attribute}
 use Rattle.schema_parts.specs.Linked.{IsUse}
-use Rattle.schema_parts.specs.SetParts.{SetParts}
+use Rattle.schema_parts.specs.SetParts.{SetParts, parts_of}
 use Rattle.schema_parts.proofs.Truths.{both}
-use Rattle.validity.specs.Asked.{Asked, Attribute, attribute_in}
-use Rattle.validity.specs.Attributes.{is_special, text_of, left, nil_of, xsi_type, Stands, IsMissing, AllRight, AllStand, OneMissing, FirstWrong}
-use Rattle.validity.specs.Faults.{IsBad, FaultBy}
+use Rattle.validity.specs.Asked.{Asked, Attribute, attribute_in, Inside, nothing, simple, children, asked_at}
+use Rattle.validity.specs.Valid.{treated_element}
+use Rattle.validity.specs.Attributes.{is_special, text_of, left, nil_of, nil_from, Stands, IsMissing, AllRight, AllStand, OneMissing}
+use Rattle.validity.specs.Faults.{IsBad, FirstKid, FaultBy}
 use Rattle.validity.specs.declared.why.InvalidWhy.{InvalidWhy}
-use Rattle.validity.specs.declared.why.InvalidWhy.TheVariants.{XsiType, BadNil, MissingAttribute}
-use Rattle.validity.proofs.Reading.{type_fault, nil_fault, wrong_fault, missing_fault}
+use Rattle.validity.specs.declared.why.InvalidWhy.TheVariants.{XsiType, BadNil, MissingAttribute, NilWithContent}
+use Rattle.validity.proofs.Reading.{type_fault, nil_fault, wrong_fault, missing_fault, inner_fault, all_kept}
 use Rattle.validity.proofs.Treated.{both_false}
-use Rattle.validity_check.specs.Answers.{TagFault}
+use Rattle.validity.proofs.Unique.{ContentValid, ContentFault, NilValid, NilFault}
+use Rattle.validity_check.specs.declared.error.CheckError.{CheckError}
+use Rattle.validity_check.specs.declared.error.CheckError.TheVariants.{Invalid, Memory}
+use Rattle.validity_check.specs.Answers.{Tells, TagFault, IsGoodTag, IsValidInside, InsideFault, IsValidBy}
 
 -- ---- the attributes that are declared aren't those of XML Schema for documents
 
@@ -94,3 +99,65 @@ module _ (asks : ℕ → Asked) (d : ℕ) (n : Name) (xs : List (Name × List �
   tag_fault at why (inr (plain, inl (e, f, h))) = moved at why BadNil e f (nil_fault asks d n xs declares place t is plain h)
   tag_fault at why (inr (plain, inr (good, inl (e, h)))) = moved at why why e refl (wrong_fault asks d n xs declares place t is plain good why h)
   tag_fault at why (inr (plain, inr (good, inr (right, (e, f, h))))) = moved at why MissingAttribute e f (missing_fault asks d n xs declares place t is plain good right h)
+
+-- ---- an element behind its start tag
+
+module _ (s : Set) (d : ℕ) (a : Asked) (ys : List (Name × List ℕ)) (n : Name) (xs : List (Name × List ℕ)) (declares : List (List ℕ × List ℕ)) (place : ℕ) (t : Rose ItemLabel)
+    (is : label_of t ≡ Element n xs declares place) (asks : a ≡ asked_at (parts_of s) d) (same : ys ≡ xs)
+  where
+    pub tag_refused : (e : CheckError) → Tells (TagFault a ys place) e → Tells (FaultBy (asked_at (parts_of s)) d t) e
+    tag_refused (Invalid at why) h =
+        tag_fault (asked_at (parts_of s)) d n xs declares place t is at why (subst (λ b. TagFault b xs place at why) asks (subst (λ zs. TagFault a zs place at why) same h))
+    tag_refused Memory h = tt
+
+    module _ (nil : Bool) (good : IsGoodTag a ys nil) (kids : List (Rose ItemLabel)) (are : kids ≡ kids_of t) where
+      well : IsGoodTag (asked_at (parts_of s) d) xs nil
+      well = subst (λ b. IsGoodTag b xs nil) asks (subst (λ zs. IsGoodTag a zs nil) same good)
+
+      not_bad : IsBad (nil_of (asked_at (parts_of s) d).nillable xs) → ⊥
+      not_bad h = go nil (subst IsBad well.nil_is h)
+        where
+          go : (b : Bool) → IsBad (nil_from (Some b)) → ⊥
+          go true h = h
+          go false h = h
+
+      kept_inside : (vs : Roses Plain) → NilValid (asked_at (parts_of s)) (nil_from (Some nil)) (asked_at (parts_of s) d).inside (roses_of kids) vs → IsValidBy s d t
+      kept_inside vs h =
+          let here = subst (λ ks. NilValid (asked_at (parts_of s)) (nil_from (Some nil)) (asked_at (parts_of s) d).inside (roses_of ks) vs) are h in
+          let there = subst (λ k. NilValid (asked_at (parts_of s)) k (asked_at (parts_of s) d).inside (roses_of (kids_of t)) vs) (sym well.nil_is) here in
+          (treated_element (asked_at (parts_of s) d) n xs vs, all_kept (asked_at (parts_of s)) d n xs declares place t is well.plain not_bad well.right well.stand vs there)
+
+      refused_inside : (at : ℕ) (why : InvalidWhy) → NilFault (asked_at (parts_of s)) (nil_from (Some nil)) (asked_at (parts_of s) d).inside (roses_of kids) place at why
+          → FaultBy (asked_at (parts_of s)) d t at why
+      refused_inside at why h =
+          let here = subst (λ ks. NilFault (asked_at (parts_of s)) (nil_from (Some nil)) (asked_at (parts_of s) d).inside (roses_of ks) place at why) are h in
+          let there = subst (λ k. NilFault (asked_at (parts_of s)) k (asked_at (parts_of s) d).inside (roses_of (kids_of t)) place at why) (sym well.nil_is) here in
+          inner_fault (asked_at (parts_of s)) d n xs declares place t is well.plain not_bad well.right well.stand at why there
+
+    pub nil_judged : {X : Type 0} → IsGoodTag a ys true → (kids : List (Rose ItemLabel)) → kids ≡ kids_of t → (r : Result X CheckError)
+        → MatchResult r (λ _. roses_of kids ≡ none) (Tells (FirstKid (roses_of kids) (λ _. NilWithContent)))
+        → MatchResult r (λ _. IsValidBy s d t) (Tells (FaultBy (asked_at (parts_of s)) d t))
+    nil_judged good kids are (Ok x) h = kept_inside true good kids are none (h, refl)
+    nil_judged good kids are (Err (Invalid at why)) h = refused_inside true good kids are at why h
+    nil_judged good kids are (Err Memory) h = tt
+
+    content_judged : (c : Inside) (ts : Roses ItemLabel) → IsValidInside (asked_at (parts_of s)) c ts → (vs : Roses Plain) × ContentValid (asked_at (parts_of s)) c ts vs
+    content_judged nothing ts h = (none, (h, refl))
+    content_judged (simple space) ts h = h
+    content_judged (children mixed p) ts h = h
+
+    content_refused : (c : Inside) (ts : Roses ItemLabel) (at : ℕ) (why : InvalidWhy) → InsideFault (asked_at (parts_of s)) c ts place at why → ContentFault (asked_at (parts_of s)) c ts place at why
+    content_refused nothing ts at why h = h
+    content_refused (simple space) ts at why h = h
+    content_refused (children mixed p) ts at why h = h
+
+    pub inside_judged : {X : Type 0} → IsGoodTag a ys false → (kids : List (Rose ItemLabel)) → kids ≡ kids_of t → (r : Result X CheckError)
+        → MatchResult r (λ _. IsValidInside (asked_at (parts_of s)) a.inside (roses_of kids)) (Tells (InsideFault (asked_at (parts_of s)) a.inside (roses_of kids) place))
+        → MatchResult r (λ _. IsValidBy s d t) (Tells (FaultBy (asked_at (parts_of s)) d t))
+    inside_judged good kids are (Ok x) h =
+        let v = content_judged (asked_at (parts_of s) d).inside (roses_of kids) (subst (λ b. IsValidInside (asked_at (parts_of s)) b.inside (roses_of kids)) asks h) in
+        kept_inside false good kids are v.0 v.1
+    inside_judged good kids are (Err (Invalid at why)) h =
+        refused_inside false good kids are at why
+        (content_refused (asked_at (parts_of s) d).inside (roses_of kids) at why (subst (λ b. InsideFault (asked_at (parts_of s)) b.inside (roses_of kids) place at why) asks h))
+    inside_judged good kids are (Err Memory) h = tt

@@ -1,6 +1,6 @@
 -- The text of an element.
 use Rattle.std.proofs.Common.{◌≡◌, ℕ, inl, inr, List, [], ◌∷◌, ◌++◌, Option, Some, None, true, length, get_or, refl, sym, ◌∙◌, ap, subst, append-nil}
-use Rattle.std.specs.Prelude.{Ok, Err}
+use Rattle.std.specs.Prelude.{Result, Ok, Err, MatchResult}
 use Rattle.label_tree.specs.Rose.{Rose, node, Roses, roses_of, label_of}
 use Rattle.label_tree.specs.Rose as rose
 use Rattle.simple_types.specs.declared.labels.ValueLabel.{ValueLabel}
@@ -14,6 +14,11 @@ use Rattle.validity.specs.declared.why.InvalidWhy.{InvalidWhy}
 use Rattle.validity_check.specs.declared.error.CheckError.{CheckError}
 use Rattle.validity_check.specs.declared.error.CheckError.TheVariants.{Invalid, Memory}
 use Rattle.validity_check.specs.Answers.{Tells, IsSpelled}
+
+-- an answer says what follows from what it says
+pub judged_as : {X Y : Type 0} (r : Result X Y) (P Q : X → Type 0) (F G : Y → Type 0) → ((x : X) → P x → Q x) → ((y : Y) → F y → G y) → MatchResult r P F → MatchResult r Q G
+judged_as (Ok x) P Q F G f g h = f x h
+judged_as (Err y) P Q F G f g h = g y h
 
 pub tells_of : (F G : ℕ → InvalidWhy → Type 0) (e : CheckError) → ((at : ℕ) (why : InvalidWhy) → F at why → G at why) → Tells F e → Tells G e
 tells_of F G (Invalid at why) f h = f at why h

