@@ -18,7 +18,7 @@ use Rattle.schema_read.specs.Particles as parts
 use Rattle.schema_read.specs.Particles.{Makes, made_some}
 use Rattle.schema_read.proofs.Bases.{not_false}
 use Rattle.schema_read.proofs.Making.{makes_as, makes_some, particle_inside, same_particle, same_complex, its_particle, its_complex_type, kind_passed, group_passed, held_within, declared_in_place}
-use Rattle.schema_read.proofs.complex_types.+complex_types.Goals as goal
+use Rattle.schema_read.proofs.reader.Reader.+complex_types.Goals as goal
 
 pub particles_among-particle_at-requires : goal.particles_among-particle_at-requires
 particles_among-particle_at-requires t c =
@@ -52,8 +52,8 @@ complex_type-complex_of-requires t c =
 
 pub particle_at-returns : goal.particle_at-returns
 particle_at-returns t c =
-    let s = said c.args.setting in
-    let outer = bindings_in c.args.scope.now in
+    let s = said c.args.self.setting in
+    let outer = bindings_in c.args.self.scope.now in
     let before = c.args.locals.now.items in
     let after = c.particle_of.new.locals.items in
     let tree = c.args.tree.now in
@@ -75,8 +75,8 @@ particle_at-returns t c =
 
 pub complex_type-returns : goal.complex_type-returns
 complex_type-returns t c =
-    let s = said c.args.setting in
-    let outer = bindings_in c.args.scope.now in
+    let s = said c.args.self.setting in
+    let outer = bindings_in c.args.self.scope.now in
     let before = c.args.locals.now.items in
     let after = c.complex_of.new.locals.items in
     let tree = c.args.tree.now in
@@ -105,15 +105,15 @@ declare_own-put_own-requires t c =
 pub declare_own-returns : goal.declare_own-returns
 declare_own-returns t c =
     let counted : c.len-number.result ≡ length c.args.locals.now.items = omega (arith, c.len-number.ensures, c.args.locals.now.ok.0) in
-    declared_in_place (said c.args.setting) (bindings_in c.args.scope.now) c.args.own.now c.args.at (roses_of c.args.kids.now)
+    declared_in_place (said c.args.self.setting) (bindings_in c.args.self.scope.now) c.args.own.now c.args.at (roses_of c.args.kids.now)
     c.args.locals.now.items c.hold.new.locals.items c.element_of.new.locals.items c.put_own.new.locals.items (Reference no_name c.args.at)
-    c.in_ok-name.name (local_name c.args.setting.target.now c.args.setting.elements_qualified c.args.own.now) (seen.element_of c.in_ok-element.element) c.len-number.result
+    c.in_ok-name.name (local_name c.args.self.setting.target.now c.args.self.setting.elements_qualified c.args.own.now) (seen.element_of c.in_ok-element.element) c.len-number.result
     c.in_ok-hold.ensures c.in_ok-name.ensures c.in_ok-element.ensures counted c.put_own.ensures
 
 pub inner_kind-loop-kid-preserved : goal.inner_kind-loop-kid-preserved
 inner_kind-loop-kid-preserved t c =
-    let s = said c.args.setting in
-    let scope = bindings_in c.args.scope.now in
+    let s = said c.args.self.setting in
+    let scope = bindings_in c.args.self.scope.now in
     let before = c.args.locals.now.items in
     kind_passed s scope c.args.kids.now c.loop-kid.kid-index c.kid-item.result c.loop-kid-test.true c.kid-item.is
     before c.loop-kid.locals.items c.complex_type.new.locals.items (parts.inner_kind s scope (length before) (roses_of c.args.kids.now))
@@ -121,8 +121,8 @@ inner_kind-loop-kid-preserved t c =
 
 pub group_among-loop-kid-preserved : goal.group_among-loop-kid-preserved
 group_among-loop-kid-preserved t c =
-    let s = said c.args.setting in
-    let scope = bindings_in c.args.scope.now in
+    let s = said c.args.self.setting in
+    let scope = bindings_in c.args.self.scope.now in
     let before = c.args.locals.now.items in
     group_passed s scope c.args.kids.now c.loop-kid.kid-index c.kid-item.result c.loop-kid-test.true c.kid-item.is
     before c.loop-kid.locals.items c.particle_at.new.locals.items (parts.group_among s scope (length before) (roses_of c.args.kids.now))

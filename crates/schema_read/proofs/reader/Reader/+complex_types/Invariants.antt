@@ -4,7 +4,7 @@ use Rattle.schema_rules.specs.Scopes.{bindings_in}
 use Rattle.schema_read.specs.Settings.{said}
 use Rattle.schema_read.specs.Particles.{particles_among, group_among, inner_kind}
 use Rattle.schema_read.proofs.Making.{Ahead, RestAhead}
-use Rattle.schema_read.proofs.complex_types.+complex_types.Given as goal
+use Rattle.schema_read.proofs.reader.Reader.+complex_types.Given as goal
 
 abbrev pub decreases-particle_at : goal.decreases-particle_at
 decreases-particle_at l = 9 * node_count l.tree.now
@@ -40,18 +40,18 @@ decreases-complex_of l = 9 * count_all (roses_of l.kids.now) + 8
 abbrev pub invariant-particles_among-loop-kid : goal.invariant-particles_among-loop-kid
 invariant-particles_among-loop-kid l =
     Ahead l.initial.locals.items l.locals.items l.particles.items
-    (particles_among (said l.setting) (bindings_in l.scope) (length l.locals.items) (roses_of (drop l.kid-index l.kids)))
-    (particles_among (said l.setting) (bindings_in l.scope) (length l.initial.locals.items) (roses_of l.kids))
+    (particles_among (said l.self.setting) (bindings_in l.self.scope.now) (length l.locals.items) (roses_of (drop l.kid-index l.kids)))
+    (particles_among (said l.self.setting) (bindings_in l.self.scope.now) (length l.initial.locals.items) (roses_of l.kids))
 
 -- the first of those that are left
 abbrev pub invariant-inner_kind-loop-kid : goal.invariant-inner_kind-loop-kid
 invariant-inner_kind-loop-kid l =
     RestAhead l.initial.locals.items l.locals.items
-    (inner_kind (said l.setting) (bindings_in l.scope) (length l.locals.items) (roses_of (drop l.kid-index l.kids)))
-    (inner_kind (said l.setting) (bindings_in l.scope) (length l.initial.locals.items) (roses_of l.kids))
+    (inner_kind (said l.self.setting) (bindings_in l.self.scope.now) (length l.locals.items) (roses_of (drop l.kid-index l.kids)))
+    (inner_kind (said l.self.setting) (bindings_in l.self.scope.now) (length l.initial.locals.items) (roses_of l.kids))
 
 abbrev pub invariant-group_among-loop-kid : goal.invariant-group_among-loop-kid
 invariant-group_among-loop-kid l =
     RestAhead l.initial.locals.items l.locals.items
-    (group_among (said l.setting) (bindings_in l.scope) (length l.locals.items) (roses_of (drop l.kid-index l.kids)))
-    (group_among (said l.setting) (bindings_in l.scope) (length l.initial.locals.items) (roses_of l.kids))
+    (group_among (said l.self.setting) (bindings_in l.self.scope.now) (length l.locals.items) (roses_of (drop l.kid-index l.kids)))
+    (group_among (said l.self.setting) (bindings_in l.self.scope.now) (length l.initial.locals.items) (roses_of l.kids))
