@@ -22,11 +22,7 @@ then_written old mid new a w p q =
     let l : length mid ≡ length old + length a = ap length p ∙ length-append old a in
     then_put old mid new a (w (length mid)) p q ∙ ap (λ n. old ++ (a ++ w n)) l
 
--- behind padding an octet begins
-pub padded_length : (old mid : List Bool) → mid ≡ old ++ padding (length old) → length mid % 8 ≡ 0
-padded_length old mid e = omega (arith, ap length e, length-append old (padding (length old)), length-replicate (gap (length old)) false)
-
--- and behind a length too
+-- behind a length an octet begins
 piece_whole : (h : Piece) → length (piece_bits h) % 8 ≡ 0
 piece_whole (Units k) = omega (arith, length-bits 8 (192 + k))
 piece_whole (Last n) = by (ltb n 128)
