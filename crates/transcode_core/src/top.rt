@@ -272,9 +272,7 @@ fn answer<F: Library, S: Source, L: Ledger>(
         Request::Show { files: names } => show(alloc, files, names),
         Request::ToPer { root, files: names } => to_per(alloc, root, names, files, input),
         Request::Check { root, files: names } => check(alloc, root, names, files, input, steps),
-        Request::ToXml { .. } | Request::Trial { .. } => {
-            Err(Outcome::NotYet)
-        }
+        Request::ToXml { .. } | Request::Trial { .. } => { Err(Outcome::NotYet) }
     }
 }
 
