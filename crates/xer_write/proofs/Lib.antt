@@ -1,0 +1,4 @@
+mod Gaining
+mod Giving
+mod Limits
+mod Spellings

@@ -1,2 +1,3 @@
 pub mod Unplaced
 pub mod Laws
+pub mod Private

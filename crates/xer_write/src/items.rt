@@ -4,8 +4,12 @@ ghost use Rattle.plain_items.specs.Plain.{plain_of};
 ghost use Rattle.xer_items.specs.Items.{Xer};
 ghost use Rattle.xer_write.specs.Unplaced.{AreDocumentItems};
 
+use crate::contents::Contents;
+use crate::gathering::gather;
+use crate::names::xml_name;
 use asn_types::Module;
 use doc_text::Items;
+use label_tree::Whole;
 use simple_types::Value;
 use std::alloc::Global;
 use xa_base::Memory;
@@ -14,18 +18,23 @@ use xa_base::Memory;
 /// which stands what the value gives by the roles of its parts (X.693, EXTENDED-XER). All items have the place 0, and
 /// none binds a prefix.
 ///
-/// It asks that these items may be those of a document. Those of a value of the map of a linked set may.
+/// It asks that these may be the items of a document. Those of a value of the map of a linked set may.
 ///
 /// Each node of the value is visited once, and texts are shared with the value and the module. The stack grows with
 /// the depth of the value alone.
 pub fn items_of(
-    _alloc: Global,
-    _module: &Module,
-    _t: u32,
-    _value: &Value,
+    alloc: Global,
+    module: &Module,
+    t: u32,
+    value: &Value,
 ) -> Result<Items, Memory>
-    requires { IsSomeAnd (Xer _module.now _t _value.now) AreDocumentItems }
-    ensures { IfOk result (λ items. Xer _module.now _t _value.now ≡ Some (plain_of items)) }
+    requires { IsSomeAnd (Xer module.now t value.now) AreDocumentItems }
+    ensures { IfOk result (λ items. Xer module.now t value.now ≡ Some (plain_of items)) }
 {
-    Err(Memory)
+    let assignment = module.assignment(t);
+    let mut inner = Contents::new(alloc);
+    gather(alloc, module, assignment.body.root(), value.root(), &mut inner)?;
+    let name = xml_name(alloc, &assignment.reference, &assignment.marks)?;
+    let root = inner.into_element(alloc, name)?;
+    Ok(Items::of(Whole::of(root)))
 }

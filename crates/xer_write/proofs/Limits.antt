@@ -1,0 +1,232 @@
+-- The items of a value keep the limits of documents: texts have no kids, elements stand within 64 levels, and there are few nodes.
+use Rattle.std.proofs.Common.{◌≡◌, ℕ, zero, suc, ◌+◌, ◌*◌, ◌≤◌, max, Bool, true, false, Option, Some, None, List, [], ◌∷◌, length, refl, sym, ◌∙◌, ap, subst, arith}
+use Rattle.std.specs.Prelude.{map, slice_get, ◌&&◌}
+use Rattle.std.proofs.lemmas.List.{length-map}
+use Rattle.xa_base.specs.declared.texts.Name.{Name}
+use Rattle.label_tree.specs.Rose.{Rose, node, Roses, none, more, label_of, kids_of, list_of, length_all, node_count, count_all, Allowed, AllowedAll}
+use Rattle.label_tree.proofs.Roses.{length-list_of}
+use Rattle.simple_types.specs.declared.labels.ValueLabel.{ValueLabel}
+use Rattle.simple_types.specs.declared.labels.ValueLabel.TheVariants as value
+use Rattle.simple_values.specs.Reading.{spelled, spelled_text}
+use Rattle.doc_text.specs.Labels.{MayHave}
+use Rattle.doc_text.specs.Sound.{is_sound, levels_all}
+use Rattle.plain_items.specs.Plain.{Plain, element, text}
+use Rattle.plain_items.specs.Mixing.{text_before, interleaved}
+use Rattle.asn_types.specs.declared.modules.Assignment.{Assignment}
+use Rattle.asn_types.specs.declared.roles.Role.{Role}
+use Rattle.asn_types.specs.declared.roles.Role.TheVariants.{Attribute, Element, Group, Content, Embed, Item, Alternative}
+use Rattle.asn_types.specs.declared.types.Component.{Component}
+use Rattle.asn_types.specs.declared.types.TypeLabel.{TypeLabel}
+use Rattle.asn_types.specs.Marks.{has_embed_values, has_use_nil}
+use Rattle.asn_types.specs.Refs.{resolve}
+use Rattle.asn_types.specs.Spaces.{space_at}
+use Rattle.asn_types.specs.Values.{ComponentPlace, places, is_last_absent, below, FitsAt, FitEach}
+use Rattle.xer_items.specs.Spelling.{is_textual}
+use Rattle.xer_items.specs.Names.{xml_name}
+use Rattle.xer_items.specs.Items.{Given, given, nothing, joined, element_of, texts_of, with_texts, with_nil, completed, placed, inside, gathered, root_of}
+use Rattle.xer_write.specs.Unplaced.{unplaced, all_unplaced, AreDocumentItems}
+use Rattle.xer_write.specs.Laws.{ItemsKeepLimits}
+
+-- ---- how many items
+
+abbrev size : Roses Plain → ℕ
+size k = count_all (all_unplaced k)
+
+size-joined : (a b : Roses Plain) → size (joined a b) ≡ size a + size b
+size-joined none b = refl
+size-joined (more item items) b = omega (arith, size-joined items b)
+
+size-before : (words : List ℕ) (items : Roses Plain) → size (text_before words items) ≤ size items + 1
+size-before [] items = omega arith
+size-before (b ∷ bs) items = omega arith
+
+size-interleaved : (texts : List (List ℕ)) (items : Roses Plain) → size (interleaved texts items) ≤ size items + length texts
+size-interleaved [] items = omega arith
+size-interleaved (words ∷ texts) none = omega (arith, size-before words none)
+size-interleaved (words ∷ texts) (more item items) = omega (arith, size-before words (more item (interleaved texts items)), size-interleaved texts items)
+
+size-texts : (b : Bool) (texts : List (List ℕ)) (g : Given) → size (with_texts b texts g).kids ≤ size g.kids + length texts
+size-texts true texts g = size-interleaved texts g.kids
+size-texts false texts g = omega arith
+
+nil-kids : (b : Bool) (g : Given) → (with_nil b g).kids ≡ g.kids
+nil-kids true g = refl
+nil-kids false g = refl
+
+-- how many kids the first has
+abbrev first_kids : Roses ValueLabel → ℕ
+first_kids none = 0
+first_kids (more (node l us) vs) = length_all us
+
+length-count : (vs : Roses ValueLabel) → length_all vs ≤ count_all vs
+length-count none = omega arith
+length-count (more (node l us) vs) = omega (arith, length-count vs)
+
+first-count : (vs : Roses ValueLabel) → first_kids vs + length_all vs ≤ count_all vs
+first-count none = omega arith
+first-count (more (node l us) vs) = omega (arith, length-count us, length-count vs)
+
+text-count : (v : ValueLabel) (vs : Roses ValueLabel) → length (texts_of v vs) ≤ first_kids vs
+text-count (value.Bool b) vs = omega arith
+text-count (value.Int z) vs = omega arith
+text-count (value.Enum i) vs = omega arith
+text-count (value.Utf8 words) vs = omega arith
+text-count (value.Sequence []) vs = omega arith
+text-count (value.Sequence (false ∷ flags)) vs = omega arith
+text-count (value.Sequence (true ∷ flags)) none = omega arith
+text-count (value.Sequence (true ∷ flags)) (more (node l us) vs) =
+    omega (arith, length-map (list_of us) (λ (u : Rose ValueLabel). spelled_text (label_of u)), length-list_of us)
+text-count (value.Choice i) vs = omega arith
+text-count value.SequenceOf vs = omega arith
+
+module _ (M : List Assignment) where
+  size-placed : (p : ComponentPlace) (v : Rose ValueLabel) (g : Given) → size (placed M p v g).kids ≤ size g.kids + 1
+  size-placed p v g = by p.role
+    where
+      by : (r : Role) → size (placed M (record { role = r; part = p.part; type = p.type }) v g).kids ≤ size g.kids + 1
+      by Attribute = omega arith
+      by Element = omega arith
+      by Group = omega arith
+      by Content = omega arith
+      by Embed = omega arith
+      by Item = omega arith
+      by Alternative = omega arith
+
+  textual-size : (b : Bool) (words : List ℕ) (other : Given) (n : ℕ) → 1 ≤ n → size other.kids ≤ n
+      → size (elim b as (λ _. Given) [ true ↦ given [] (text_before words none) | false ↦ other ]).kids ≤ n
+  textual-size true words other n one h = omega (arith, one, size-before words none)
+  textual-size false words other n one h = h
+
+  completed-size : (l : TypeLabel) (v : ValueLabel) (vs : Roses ValueLabel) (g : Given) → size (completed l v vs g).kids ≤ size g.kids + first_kids vs
+  completed-size l v vs g =
+      let same = ap size (nil-kids (has_use_nil l.marks && is_last_absent v) (with_texts (has_embed_values l.marks) (texts_of v vs) g)) in
+      omega (arith, same, size-texts (has_embed_values l.marks) (texts_of v vs) g, text-count v vs)
+
+  mutual
+    inside-size : (t : Rose TypeLabel) (v : Rose ValueLabel) → size (inside M t v).kids + length (kids_of v) + 2 ≤ 3 * node_count v
+    unfolding inside
+    inside-size t (node v vs) =
+        let found = resolve M t in
+        let kids = elim (places found v (length_all vs)) as (λ _. Given) [ None ↦ nothing | Some ps ↦ gathered M ps vs ] in
+        let parts = parts-size (places found v (length_all vs)) vs in
+        let whole = completed-size (label_of found) v vs kids in
+        let most = textual-size (is_textual (label_of found)) (spelled (space_at found) (node v vs)) (completed (label_of found) v vs kids) (3 * count_all vs + 1 - length_all vs)
+        (omega (arith, length-count vs)) (omega (arith, parts, whole, length-count vs)) in
+        omega (arith, most, length-count vs, length-list_of vs)
+
+    parts-size : (found : Option (List ComponentPlace)) (vs : Roses ValueLabel)
+        → size (elim found as (λ _. Given) [ None ↦ nothing | Some ps ↦ gathered M ps vs ]).kids + first_kids vs + length_all vs ≤ 3 * count_all vs
+    parts-size None vs = omega (arith, first-count vs)
+    parts-size (Some ps) vs = gathered-size ps vs
+
+    gathered-size : (ps : List ComponentPlace) (vs : Roses ValueLabel) → size (gathered M ps vs).kids + first_kids vs + length_all vs ≤ 3 * count_all vs
+    unfolding gathered
+    gathered-size ps none = omega arith
+    gathered-size [] (more (node l us) vs) = omega (arith, first-count (more (node l us) vs))
+    gathered-size (p ∷ ps) (more (node l us) vs) =
+        let v = node l us in
+        let one = size-placed p v (inside M p.type v) in
+        let here = inside-size p.type v in
+        let rest = gathered-size ps vs in
+        let sum = size-joined (placed M p v (inside M p.type v)).kids (gathered M ps vs).kids in
+        let kids = length-list_of us in
+        omega (arith, one, here, rest, sum, kids)
+
+-- ---- which kids and how many levels
+
+record Within (depth : ℕ) (k : Roses Plain) : Type 0 where
+  allowed : AllowedAll MayHave (all_unplaced k)
+  levels : levels_all (all_unplaced k) + depth ≤ 64
+
+within-none : (depth : ℕ) → depth ≤ 64 → Within depth none
+within-none depth deep = record { allowed = tt; levels = omega (arith, deep) }
+
+within-joined : (depth : ℕ) (a b : Roses Plain) → Within depth a → Within depth b → Within depth (joined a b)
+within-joined depth none b h k = k
+within-joined depth (more item items) b h k =
+    let rest = within-joined depth items b (record { allowed = h.allowed.1; levels = omega (arith, h.levels) }) k in
+    record { allowed = (h.allowed.0, rest.allowed); levels = omega (arith, h.levels, rest.levels) }
+
+within-before : (depth : ℕ) (words : List ℕ) (items : Roses Plain) → Within depth items → Within depth (text_before words items)
+within-before depth [] items h = h
+within-before depth (b ∷ bs) items h = record { allowed = ((refl, tt), h.allowed); levels = omega (arith, h.levels) }
+
+within-interleaved : (depth : ℕ) (texts : List (List ℕ)) (items : Roses Plain) → depth ≤ 64 → Within depth items → Within depth (interleaved texts items)
+within-interleaved depth [] items deep h = h
+within-interleaved depth (words ∷ texts) none deep h = within-before depth words none h
+within-interleaved depth (words ∷ texts) (more item items) deep h =
+    let rest = within-interleaved depth texts items deep (record { allowed = h.allowed.1; levels = omega (arith, h.levels) }) in
+    within-before depth words (more item (interleaved texts items)) (record { allowed = (h.allowed.0, rest.allowed); levels = omega (arith, h.levels, rest.levels) })
+
+within-texts : (depth : ℕ) (b : Bool) (texts : List (List ℕ)) (g : Given) → depth ≤ 64 → Within depth g.kids → Within depth (with_texts b texts g).kids
+within-texts depth true texts g deep h = within-interleaved depth texts g.kids deep h
+within-texts depth false texts g deep h = h
+
+within-completed : (depth : ℕ) (l : TypeLabel) (v : ValueLabel) (vs : Roses ValueLabel) (g : Given) → depth ≤ 64 → Within depth g.kids → Within depth (completed l v vs g).kids
+within-completed depth l v vs g deep h =
+    subst (Within depth) (sym (nil-kids (has_use_nil l.marks && is_last_absent v) (with_texts (has_embed_values l.marks) (texts_of v vs) g)))
+    (within-texts depth (has_embed_values l.marks) (texts_of v vs) g deep h)
+
+within-textual : (depth : ℕ) (b : Bool) (words : List ℕ) (other : Given) → depth ≤ 64 → Within depth other.kids
+    → Within depth (elim b as (λ _. Given) [ true ↦ given [] (text_before words none) | false ↦ other ]).kids
+within-textual depth true words other deep h = within-before depth words none (within-none depth deep)
+within-textual depth false words other deep h = h
+
+within-element : (depth : ℕ) (name : Name) (g : Given) → Within (suc depth) g.kids → Within depth (more (element_of name g) none)
+within-element depth name g h = record { allowed = ((tt, h.allowed), tt); levels = omega (arith, h.levels) }
+
+module _ (M : List Assignment) where
+  within-placed : (depth : ℕ) (r : Role) (c : Component) (t : Rose TypeLabel) (v : Rose ValueLabel) (g : Given) → depth ≤ 64 → Within (below r depth) g.kids
+      → Within depth (placed M (record { role = r; part = c; type = t }) v g).kids
+  within-placed depth Attribute c t v g deep h = within-none depth deep
+  within-placed depth Element c t v g deep h = within-element depth (xml_name c.identifier c.marks) g h
+  within-placed depth Group c t v g deep h = h
+  within-placed depth Content c t v g deep h = h
+  within-placed depth Embed c t v g deep h = within-none depth deep
+  within-placed depth Item c t v g deep h = within-none depth deep
+  within-placed depth Alternative c t v g deep h = within-none depth deep
+
+  mutual
+    pub inside-within : (depth : ℕ) (t : Rose TypeLabel) (v : Rose ValueLabel) → FitsAt M depth t v → Within depth (inside M t v).kids
+    unfolding inside FitsAt
+    inside-within depth t (node v vs) fits =
+        let found = resolve M t in
+        let kids = elim (places found v (length_all vs)) as (λ _. Given) [ None ↦ nothing | Some ps ↦ gathered M ps vs ] in
+        within-textual depth (is_textual (label_of found)) (spelled (space_at found) (node v vs)) (completed (label_of found) v vs kids) fits.0
+        (within-completed depth (label_of found) v vs kids fits.0 (parts-within depth (places found v (length_all vs)) vs fits.0 fits.1))
+
+    parts-within : (depth : ℕ) (found : Option (List ComponentPlace)) (vs : Roses ValueLabel) → depth ≤ 64 → elim found as (λ _. Type 0) [ None ↦ ⊥ | Some ps ↦ FitEach M depth ps vs ]
+        → Within depth (elim found as (λ _. Given) [ None ↦ nothing | Some ps ↦ gathered M ps vs ]).kids
+    parts-within depth None vs deep fits = absurd fits
+    parts-within depth (Some ps) vs deep fits = gathered-within depth ps vs deep fits
+
+    gathered-within : (depth : ℕ) (ps : List ComponentPlace) (vs : Roses ValueLabel) → depth ≤ 64 → FitEach M depth ps vs → Within depth (gathered M ps vs).kids
+    unfolding gathered FitEach
+    gathered-within depth ps none deep fits = within-none depth deep
+    gathered-within depth [] (more v vs) deep fits = absurd fits
+    gathered-within depth (p ∷ ps) (more v vs) deep fits =
+        within-joined depth (placed M p v (inside M p.type v)).kids (gathered M ps vs).kids
+        (within-placed depth p.role p.part p.type v (inside M p.type v) deep (inside-within (below p.role depth) p.type v fits.0))
+        (gathered-within depth ps vs deep fits.1)
+
+-- ---- the root
+
+pub items-keep-limits : ItemsKeepLimits
+items-keep-limits M t v b value is sound = by (slice_get M t) value.0 is
+  where
+    by : (o : Option Assignment) → elim o as (λ _. Type 0) [ None ↦ ⊥ | Some a ↦ FitsAt M 1 a.body v ]
+        → elim o as (λ _. Option (Rose Plain)) [ None ↦ None | Some a ↦ Some (root_of M a v) ] ≡ Some b → AreDocumentItems b
+    by None fits is = absurd fits
+    by (Some a) fits is =
+        let same : root_of M a v ≡ b = cc in
+        let within = inside-within M 1 a.body v fits in
+        let size = inside-size M a.body v in
+        let few = value.1 in
+        subst (λ x. is_sound (unplaced x) ≡ true → AreDocumentItems x) same
+        (λ whole. record {
+          allowed = (tt, within.allowed);
+          element = refl;
+          sound = whole;
+          shallow = omega (arith, within.levels);
+          few = omega (arith, size, few);
+        }) sound
