@@ -10,21 +10,22 @@ use Rattle.plain_items.specs.Plain.{Plain, element, text}
 use Rattle.plain_items.specs.Mixing.{text_before, interleaved}
 use Rattle.xer_items.specs.Items.{Given, given, nothing, joined, both, element_of, with_nil, nil_name}
 use Rattle.xer_write.specs.declared.contents.Contents.{Contents}
-use Rattle.xer_write.specs.Unplaced.{unplaced_label, unplaced, all_unplaced}
-use Rattle.xer_write.specs.Private.Gaining.{items_in, Has, Gains, text_item, text_item_of, text_at, with_texts_before}
+use Rattle.xer_write.specs.Private.Unplaced.{unplaced_label, unplaced, all_unplaced}
+use Rattle.xer_write.specs.Private.Gaining.{items_in, IsUtf8Contents, Has, Gains, text_item, text_item_of, text_at, with_texts_before}
 
 pub items_in-joined : (a b : Roses Plain) → items_in (joined a b) ≡ items_in a ++ items_in b
 items_in-joined none b = refl
 items_in-joined (more item items) b = ap (λ s. unplaced item ∷ s) (items_in-joined items b)
 
 pub gains-nothing : (c : Contents) → Gains c c nothing
-gains-nothing c = record { attributes = sym (append-nil c.attributes.items); kids = sym (append-nil c.kids.items) }
+gains-nothing c = record { attributes = sym (append-nil c.attributes.items); kids = sym (append-nil c.kids.items); utf8 = λ u. u }
 
 pub gains-both : (a b c : Contents) (g h : Given) → Gains a b g → Gains b c h → Gains a c (both g h)
 gains-both a b c g h one other = record {
   attributes = other.attributes ∙ ap (λ s. s ++ h.attributes) one.attributes ∙ append_assoc a.attributes.items g.attributes h.attributes;
   kids = other.kids ∙ ap (λ s. s ++ items_in h.kids) one.kids ∙ append_assoc a.kids.items (items_in g.kids) (items_in h.kids)
       ∙ ap (λ s. a.kids.items ++ s) (sym (items_in-joined g.kids h.kids));
+  utf8 = λ u. other.utf8 (one.utf8 u);
 }
 
 -- what was gained where nothing stood
@@ -32,6 +33,7 @@ pub has-gained : (old new : Contents) (g : Given) → Has old nothing → Gains 
 has-gained old new g empty gains = record {
   attributes = gains.attributes ∙ ap (λ s. s ++ g.attributes) empty.attributes;
   kids = gains.kids ∙ ap (λ s. s ++ items_in g.kids) empty.kids;
+  utf8 = gains.utf8 empty.utf8;
 }
 
 -- the element of what was given

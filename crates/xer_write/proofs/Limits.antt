@@ -1,6 +1,13 @@
--- The items of a value keep the limits of documents: texts have no kids, elements stand within 64 levels, and there are few nodes.
+-- The items of a value keep what the items of a document keep: texts have no kids, elements stand within 64 levels, and
+-- there are few nodes.
 use Rattle.std.proofs.Common.{◌≡◌, ℕ, zero, suc, ◌+◌, ◌*◌, ◌≤◌, max, Bool, true, false, Option, Some, None, List, [], ◌∷◌, length, refl, sym, ◌∙◌, ap, subst, arith}
-use Rattle.std.specs.Prelude.{map, slice_get, ◌&&◌}
+use Rattle.std.specs.Prelude.{map, slice_get, ◌&&◌, not, IsSomeAnd, IsUtf8}
+use Rattle.std.specs.Option.{option_map}
+use Rattle.std.proofs.lemmas.Str.{is_utf8-from_IsUtf8}
+use Rattle.std.specs.List.{list_all}
+use Rattle.std.specs.Str.{chars, is_utf8}
+use Rattle.xa_base.specs.Characters.{is_xml_char}
+use Rattle.xa_base.specs.Limits.{is_empty, is_xmlns, has_xml_chars}
 use Rattle.std.proofs.lemmas.List.{length-map}
 use Rattle.xa_base.specs.declared.texts.Name.{Name}
 use Rattle.label_tree.specs.Rose.{Rose, node, Roses, none, more, label_of, kids_of, list_of, length_all, node_count, count_all, Allowed, AllowedAll}
@@ -9,8 +16,9 @@ use Rattle.simple_types.specs.declared.labels.ValueLabel.{ValueLabel}
 use Rattle.simple_types.specs.declared.labels.ValueLabel.TheVariants as value
 use Rattle.simple_values.specs.Reading.{spelled, spelled_text}
 use Rattle.doc_text.specs.Labels.{MayHave}
-use Rattle.doc_text.specs.Sound.{is_sound, levels_all}
-use Rattle.plain_items.specs.Plain.{Plain, element, text}
+use Rattle.doc_text.specs.Sound.{AreItems, is_sound_name, has_name, is_sound_attribute, are_sound_attributes, is_sound_label, is_sound, are_sound, levels_all}
+use Rattle.doc_text.specs.Sound as document
+use Rattle.plain_items.specs.Plain.{Plain, element, text, plain_of, plain_all}
 use Rattle.plain_items.specs.Mixing.{text_before, interleaved}
 use Rattle.asn_types.specs.declared.modules.Assignment.{Assignment}
 use Rattle.asn_types.specs.declared.roles.Role.{Role}
@@ -20,12 +28,12 @@ use Rattle.asn_types.specs.declared.types.TypeLabel.{TypeLabel}
 use Rattle.asn_types.specs.Marks.{has_embed_values, has_use_nil}
 use Rattle.asn_types.specs.Refs.{resolve}
 use Rattle.asn_types.specs.Spaces.{space_at}
-use Rattle.asn_types.specs.Values.{ComponentPlace, places, is_last_absent, below, FitsAt, FitEach}
+use Rattle.asn_types.specs.Values.{ComponentPlace, places, is_last_absent, below, FitsAt, FitEach, In}
 use Rattle.xer_items.specs.Spelling.{is_textual}
 use Rattle.xer_items.specs.Names.{xml_name}
-use Rattle.xer_items.specs.Items.{Given, given, nothing, joined, element_of, texts_of, with_texts, with_nil, completed, placed, inside, gathered, root_of}
-use Rattle.xer_write.specs.Unplaced.{unplaced, all_unplaced, AreDocumentItems}
-use Rattle.xer_write.specs.Laws.{ItemsKeepLimits}
+use Rattle.xer_items.specs.Items.{Given, given, nothing, joined, element_of, texts_of, with_texts, with_nil, completed, placed, inside, gathered, root_of, Xer}
+use Rattle.xer_write.specs.Sound.{HasCharacters, AreSoundAttributes, IsSoundLabel, is_text, begins_with_text, IsSound, AreSound}
+use Rattle.xer_write.specs.Private.Unplaced.{unplaced_label, unplaced, all_unplaced, AreUtf8, LabelIsUtf8, ItemIsUtf8, ItemsAreUtf8}
 
 -- ---- how many items
 
@@ -209,24 +217,74 @@ module _ (M : List Assignment) where
         (within-placed depth p.role p.part p.type v (inside M p.type v) deep (inside-within (below p.role depth) p.type v fits.0))
         (gathered-within depth ps vs deep fits.1)
 
+-- ---- soundness, with the UTF-8 that the code knows
+
+both : (a b : Bool) → a ≡ true → b ≡ true → (a && b) ≡ true
+both true b e f = f
+both false b e f = absurd (cc)
+
+negated : (a : Bool) → a ≡ false → not a ≡ true
+negated true e = absurd (cc)
+negated false e = refl
+
+characters : (words : List ℕ) → IsUtf8 words → HasCharacters words → has_xml_chars words ≡ true
+characters words u h = both (is_utf8 words) (list_all is_xml_char (chars words)) (is_utf8-from_IsUtf8 words u) (h u)
+
+sound-attributes : (xs : List (Name × List ℕ)) → AreUtf8 xs → AreSoundAttributes xs → are_sound_attributes xs ≡ true
+sound-attributes [] u h = refl
+sound-attributes (x ∷ xs) u h =
+    both (is_sound_attribute x) (not (has_name x.0 xs) && are_sound_attributes xs)
+    (both (is_sound_name x.0) (not (is_xmlns x.0) && has_xml_chars x.1) h.0.0 (both (not (is_xmlns x.0)) (has_xml_chars x.1) (negated (is_xmlns x.0) h.0.1) (characters x.1 u.0 h.0.2)))
+    (both (not (has_name x.0 xs)) (are_sound_attributes xs) (negated (has_name x.0 xs) h.1) (sound-attributes xs u.1 h.2))
+
+sound-label : (l : Plain) → LabelIsUtf8 (unplaced_label l) → IsSoundLabel l → is_sound_label (unplaced_label l) ≡ true
+sound-label (element name xs) u h = both (is_sound_name name) (are_sound_attributes xs && true) h.0 (both (are_sound_attributes xs) true (sound-attributes xs u h.1) refl)
+sound-label (text words) u h = both (not (is_empty words)) (has_xml_chars words) (negated (is_empty words) h.0) (characters words u h.1)
+
+same-text : (l : Plain) → is_text l ≡ document.is_text (unplaced_label l)
+same-text (element name xs) = refl
+same-text (text words) = refl
+
+same-beginning : (items : Roses Plain) → begins_with_text items ≡ document.begins_with_text (all_unplaced items)
+same-beginning none = refl
+same-beginning (more (node l ks) items) = same-text l
+
+mutual
+  sound-item : (b : Rose Plain) → ItemIsUtf8 (unplaced b) → IsSound b → is_sound (unplaced b) ≡ true
+  sound-item (node l items) u h = both (is_sound_label (unplaced_label l)) (are_sound (all_unplaced items)) (sound-label l u.0 h.0) (sound-items items u.1 h.1)
+
+  sound-items : (items : Roses Plain) → ItemsAreUtf8 (all_unplaced items) → AreSound items → are_sound (all_unplaced items) ≡ true
+  sound-items none u h = refl
+  sound-items (more (node l ks) items) u h =
+      let apart : (document.is_text (unplaced_label l) && document.begins_with_text (all_unplaced items)) ≡ false =
+      sym (ap (λ b. b && begins_with_text items) (same-text l) ∙ ap (λ b. document.is_text (unplaced_label l) && b) (same-beginning items)) ∙ h.1 in
+      both (is_sound (unplaced (node l ks))) (not (document.is_text (unplaced_label l) && document.begins_with_text (all_unplaced items)) && are_sound (all_unplaced items))
+      (sound-item (node l ks) u.0 h.0)
+      (both (not (document.is_text (unplaced_label l) && document.begins_with_text (all_unplaced items))) (are_sound (all_unplaced items)) (negated _ apart) (sound-items items u.1 h.2))
+
 -- ---- the root
 
-pub items-keep-limits : ItemsKeepLimits
-items-keep-limits M t v b value is sound = by (slice_get M t) value.0 is
-  where
-    by : (o : Option Assignment) → elim o as (λ _. Type 0) [ None ↦ ⊥ | Some a ↦ FitsAt M 1 a.body v ]
-        → elim o as (λ _. Option (Rose Plain)) [ None ↦ None | Some a ↦ Some (root_of M a v) ] ≡ Some b → AreDocumentItems b
-    by None fits is = absurd fits
-    by (Some a) fits is =
-        let same : root_of M a v ≡ b = cc in
-        let within = inside-within M 1 a.body v fits in
-        let size = inside-size M a.body v in
-        let few = value.1 in
-        subst (λ x. is_sound (unplaced x) ≡ true → AreDocumentItems x) same
-        (λ whole. record {
-          allowed = (tt, within.allowed);
-          element = refl;
-          sound = whole;
-          shallow = omega (arith, within.levels);
-          few = omega (arith, size, few);
-        }) sound
+pub root-items : (M : List Assignment) (t : ℕ) (a : Assignment) (v : Rose ValueLabel) → slice_get M t ≡ Some a → In M t v → IsSomeAnd (Xer M t v) IsSound → ItemIsUtf8 (unplaced (root_of M a v))
+    → AreItems (unplaced (root_of M a v))
+root-items M t a v at value sound utf8 =
+    let fits : FitsAt M 1 a.body v = subst (λ o. elim o as (λ _. Type 0) [ None ↦ ⊥ | Some a ↦ FitsAt M 1 a.body v ]) at value.0 in
+    let whole : IsSound (root_of M a v) = subst (λ o. IsSomeAnd (option_map (λ (x : Assignment). root_of M x v) o) IsSound) at sound in
+    let within = inside-within M 1 a.body v fits in
+    let size = inside-size M a.body v in
+    let few = value.1 in
+    record {
+      allowed = (tt, within.allowed);
+      element = refl;
+      sound = sound-item (root_of M a v) utf8 whole;
+      shallow = omega (arith, within.levels);
+      few = omega (arith, size, few);
+    }
+
+mutual
+  pub plain-unplaced : (b : Rose Plain) → plain_of (unplaced b) ≡ b
+  plain-unplaced (node (element name xs) items) = ap (λ s. node (element name xs) s) (plain-all items)
+  plain-unplaced (node (text words) items) = ap (λ s. node (text words) s) (plain-all items)
+
+  plain-all : (items : Roses Plain) → plain_all (all_unplaced items) ≡ items
+  plain-all none = refl
+  plain-all (more item items) = ap (λ s. more s (plain_all (all_unplaced items))) (plain-unplaced item) ∙ ap (λ s. more item s) (plain-all items)

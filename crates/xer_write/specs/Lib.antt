@@ -1,3 +1,2 @@
-pub mod Unplaced
-pub mod Laws
+pub mod Sound
 pub mod Private

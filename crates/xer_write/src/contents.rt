@@ -1,9 +1,9 @@
 //! What stands in an element, as it is gathered.
 ghost use Rattle.std.specs.Prelude.{◌≡◌, ◌∷◌, [], ◌++◌, IfOk, OnOk, codes, map};
-ghost use Rattle.label_tree.specs.Rose.{none, more};
+ghost use Rattle.label_tree.specs.Rose.{none, more, roses_of};
 ghost use Rattle.plain_items.specs.Mixing.{text_before, interleaved};
 ghost use Rattle.xer_items.specs.Items.{Given, given, nothing, nil_name, element_of};
-ghost use Rattle.xer_write.specs.Unplaced.{unplaced};
+ghost use Rattle.xer_write.specs.Private.Unplaced.{unplaced, ItemIsUtf8, ItemsAreUtf8};
 ghost use Rattle.xer_write.specs.Private.Gaining.{Has, Gains, text_of, text_at};
 
 use crate::spelling::text_of;
@@ -34,6 +34,8 @@ impl Contents {
     pub(crate) fn add_attribute(&mut self, name: Name, text: Text) -> Result<(), Memory>
         ensures { OnOk result (Gains self.old self.new (given ((name, text) ∷ []) none)) }
     {
+        // A text is UTF-8, as is known once it was read.
+        let _ = text.as_str();
         self.attributes.push((name, text))?;
         Ok(())
     }
@@ -74,7 +76,7 @@ impl Contents {
 
     /// The element of this name in which this stands.
     pub(crate) fn into_element(self, alloc: Global, name: Name) -> Result<Tree<ItemLabel>, Memory>
-        ensures { IfOk result (λ tree. (g : Given) → Has self g → tree ≡ unplaced (element_of name g)) }
+        ensures { IfOk result (λ tree. (g : Given) → Has self g → (tree ≡ unplaced (element_of name g)) × ItemIsUtf8 tree) }
     {
         let Contents { attributes, kids } = self;
         let attributes = Attributes::of(attributes)?;
@@ -97,6 +99,7 @@ impl Contents {
     ) -> Result<(), Memory>
         ensures attributes { OnOk result (self.new.attributes.items ≡ self.old.attributes.items) }
         ensures kids { OnOk result (self.new.kids.items ≡ self.old.kids.items ++ text_at (map text_of texts.now) i) }
+        ensures utf8 { OnOk result (ItemsAreUtf8 (roses_of self.old.kids.items) → ItemsAreUtf8 (roses_of self.new.kids.items)) }
     {
         match texts.get(i) {
             Some(value) => {

@@ -2,7 +2,8 @@
 ghost use Rattle.std.specs.Prelude.{◌≡◌, IfOk, IsSomeAnd, Some};
 ghost use Rattle.plain_items.specs.Plain.{plain_of};
 ghost use Rattle.xer_items.specs.Items.{Xer};
-ghost use Rattle.xer_write.specs.Unplaced.{AreDocumentItems};
+ghost use Rattle.asn_types.specs.Values.{In};
+ghost use Rattle.xer_write.specs.Sound.{IsSound};
 
 use crate::contents::Contents;
 use crate::gathering::gather;
@@ -18,7 +19,8 @@ use xa_base::Memory;
 /// which stands what the value gives by the roles of its parts (X.693, EXTENDED-XER). All items have the place 0, and
 /// none binds a prefix.
 ///
-/// It asks that these may be the items of a document. Those of a value of the map of a linked set may.
+/// It asks that they are sound: names are those of XML, no two attributes of an element have one, texts have the
+/// characters of XML alone, and no two are neighbours. The items of a value of the map of a linked set are.
 ///
 /// Each node of the value is visited once, and texts are shared with the value and the module. The stack grows with
 /// the depth of the value alone.
@@ -28,7 +30,8 @@ pub fn items_of(
     t: u32,
     value: &Value,
 ) -> Result<Items, Memory>
-    requires { IsSomeAnd (Xer module.now t value.now) AreDocumentItems }
+    requires value { In module.now t value.now }
+    requires sound { IsSomeAnd (Xer module.now t value.now) IsSound }
     ensures { IfOk result (λ items. Xer module.now t value.now ≡ Some (plain_of items)) }
 {
     let assignment = module.assignment(t);

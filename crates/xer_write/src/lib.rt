@@ -4,9 +4,7 @@
 mod contents;
 mod gathering;
 mod items;
-mod laws;
 mod names;
 mod spelling;
 
 pub use items::items_of;
-pub use laws::items_keep_limits;

@@ -1,7 +1,7 @@
 -- What the code has of what stands in an element.
 use Rattle.std.specs.Prelude.{◌≡◌, ℕ, List, [], ◌∷◌, ◌++◌, Option, Some, None, slice_get, map}
 use Rattle.xa_base.specs.declared.texts.Name.{Name}
-use Rattle.label_tree.specs.Rose.{Rose, Roses, none, list_of, label_of}
+use Rattle.label_tree.specs.Rose.{Rose, Roses, none, roses_of, list_of, label_of}
 use Rattle.simple_types.specs.declared.labels.ValueLabel.{ValueLabel}
 use Rattle.simple_values.specs.Reading.{spelled_text}
 use Rattle.doc_text.specs.declared.label.ItemLabel.{ItemLabel}
@@ -9,20 +9,26 @@ use Rattle.plain_items.specs.Plain.{Plain}
 use Rattle.plain_items.specs.Mixing.{text_before}
 use Rattle.xer_items.specs.Items.{Given}
 use Rattle.xer_write.specs.declared.contents.Contents.{Contents}
-use Rattle.xer_write.specs.Unplaced.{all_unplaced}
+use Rattle.xer_write.specs.Private.Unplaced.{all_unplaced, AreUtf8, ItemsAreUtf8}
 
 abbrev pub items_in : Roses Plain → List (Rose ItemLabel)
 items_in items = list_of (all_unplaced items)
+
+pub record IsUtf8Contents (c : Contents) : Type 0 where
+  pub attributes : AreUtf8 c.attributes.items
+  pub kids : ItemsAreUtf8 (roses_of c.kids.items)
 
 -- just what was given
 pub record Has (c : Contents) (g : Given) : Type 0 where
   pub attributes : c.attributes.items ≡ g.attributes
   pub kids : c.kids.items ≡ items_in g.kids
+  pub utf8 : IsUtf8Contents c
 
 -- what was given stands behind what was there
 pub record Gains (old new : Contents) (g : Given) : Type 0 where
   pub attributes : new.attributes.items ≡ old.attributes.items ++ g.attributes
   pub kids : new.kids.items ≡ old.kids.items ++ items_in g.kids
+  pub utf8 : IsUtf8Contents old → IsUtf8Contents new
 
 abbrev pub text_of : Rose ValueLabel → List ℕ
 text_of v = spelled_text (label_of v)
