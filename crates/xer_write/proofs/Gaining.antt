@@ -1,16 +1,17 @@
 -- What stands in an element, one thing after another.
-use Rattle.std.proofs.Common.{◌≡◌, ℕ, zero, suc, Bool, true, false, List, [], ◌∷◌, ◌++◌, length, Some, None, refl, sym, ◌∙◌, ap, append_assoc, arith}
-use Rattle.std.specs.Prelude.{slice_get, map}
+use Rattle.std.proofs.Common.{◌≡◌, ℕ, zero, suc, Bool, true, false, List, [], ◌∷◌, ◌++◌, length, Some, None, refl, sym, ◌∙◌, ap, subst, append_assoc, arith}
+use Rattle.std.specs.Prelude.{◌==◌, slice_get, map}
 use Rattle.std.proofs.lemmas.List.{append-nil}
 use Rattle.xa_base.specs.declared.texts.Name.{Name}
 use Rattle.label_tree.specs.Rose.{Rose, node, Roses, none, more, list_of, roses_of}
 use Rattle.label_tree.proofs.Roses.{roses_of-list_of}
 use Rattle.doc_text.specs.declared.label.ItemLabel.{ItemLabel}
+use Rattle.doc_text.specs.declared.label.ItemLabel.TheVariants.{Element, Text}
 use Rattle.plain_items.specs.Plain.{Plain, element, text}
 use Rattle.plain_items.specs.Mixing.{text_before, interleaved}
 use Rattle.xer_items.specs.Items.{Given, given, nothing, joined, both, element_of, with_nil, nil_name}
 use Rattle.xer_write.specs.declared.contents.Contents.{Contents}
-use Rattle.xer_write.specs.Private.Unplaced.{unplaced_label, unplaced, all_unplaced}
+use Rattle.xer_write.specs.Private.Unplaced.{unplaced_label, unplaced, all_unplaced, AreUtf8, ItemIsUtf8, ItemsAreUtf8}
 use Rattle.xer_write.specs.Private.Gaining.{items_in, IsUtf8Contents, Has, Gains, text_item, text_item_of, text_at, with_texts_before}
 
 pub items_in-joined : (a b : Roses Plain) → items_in (joined a b) ≡ items_in a ++ items_in b
@@ -54,6 +55,10 @@ pub text_item-before : (words : List ℕ) (items : Roses Plain) → items_in (te
 text_item-before [] items = refl
 text_item-before (b ∷ bs) items = refl
 
+pub text_item-some : (words : List ℕ) → (length words == 0) ≡ false → text_item words ≡ node (Text words 0) none ∷ []
+text_item-some [] e = absurd (cc)
+text_item-some (b ∷ bs) e = refl
+
 -- the texts before the kids, and the one behind
 pub interleaved-is : (texts : List (List ℕ)) (items : Roses Plain) → items_in (interleaved texts items) ≡ with_texts_before texts (items_in items) ++ text_at texts (length (items_in items))
 interleaved-is [] none = refl
@@ -85,3 +90,16 @@ pub text_at-past : {X : Type 0} (f : X → List ℕ) (xs : List X) (i : ℕ) →
 text_at-past f [] i past = refl
 text_at-past f (y ∷ ys) zero past = absurd (cc)
 text_at-past f (y ∷ ys) (suc i) past = text_at-past f ys i past
+
+-- ---- UTF-8
+
+pub are_utf8-append : (a b : List (Name × List ℕ)) → AreUtf8 a → AreUtf8 b → AreUtf8 (a ++ b)
+are_utf8-append [] b u w = w
+are_utf8-append (x ∷ a) b u w = (u.0, are_utf8-append a b u.1 w)
+
+pub items_utf8-append : (a b : List (Rose ItemLabel)) → ItemsAreUtf8 (roses_of a) → ItemsAreUtf8 (roses_of b) → ItemsAreUtf8 (roses_of (a ++ b))
+items_utf8-append [] b u w = w
+items_utf8-append (x ∷ a) b u w = (u.0, items_utf8-append a b u.1 w)
+
+pub items_utf8-pushed : (old new : List (Rose ItemLabel)) (x : Rose ItemLabel) → new ≡ old ++ x ∷ [] → ItemIsUtf8 x → ItemsAreUtf8 (roses_of old) → ItemsAreUtf8 (roses_of new)
+items_utf8-pushed old new x is u w = subst (λ s. ItemsAreUtf8 (roses_of s)) (sym is) (items_utf8-append old (x ∷ []) w (u, tt))

@@ -1,5 +1,5 @@
 -- What values give, as the code finds it.
-use Rattle.std.proofs.Common.{◌≡◌, ℕ, zero, suc, ◌+◌, ◌-◌, ◌<◌, ◌≤◌, Bool, true, false, cond, Option, Some, None, List, [], ◌∷◌, length, get_or, drop, refl, sym, ◌∙◌, ap, subst, arith}
+use Rattle.std.proofs.Common.{◌≡◌, ℕ, zero, suc, ◌+◌, ◌-◌, ◌<◌, ◌≤◌, ◌^◌, Bool, true, false, cond, Option, Some, None, List, [], ◌∷◌, length, get_or, drop, refl, sym, ◌∙◌, ap, subst, arith}
 use Rattle.std.specs.Prelude.{◌||◌, ◌&&◌, replicate, slice_get, nat_le}
 use Rattle.std.specs.Option.{is_some}
 use Rattle.label_tree.specs.Rose.{Rose, node, Roses, none, more, roses_of, list_of, label_of, kids_of, length_all, Allowed, AllowedAll}
@@ -18,19 +18,38 @@ use Rattle.asn_types.specs.declared.types.Component.{Component}
 use Rattle.asn_types.specs.declared.types.Form.{Form}
 use Rattle.asn_types.specs.declared.types.Form.TheVariants as form
 use Rattle.asn_types.specs.declared.types.TypeLabel.{TypeLabel}
-use Rattle.asn_types.specs.Modules.{IsModule}
+use Rattle.asn_types.specs.Marks.{has_list, has_use_union}
+use Rattle.asn_types.specs.Modules.{IsForm, IsModule}
 use Rattle.asn_types.specs.Parts.{MayHave, parts_of}
 use Rattle.asn_types.specs.Refs.{IsOf, resolve}
 use Rattle.asn_types.specs.Spaces.{space_at}
 use Rattle.asn_types.specs.Values.{ComponentPlace, place_of, put_first, present_from, place_at, alone, repeated, places_in, places}
-use Rattle.asn_types.proofs.Chaining.{parts-of-module, have-parts}
+use Rattle.asn_types.proofs.Chaining.{well-formed, parts-of-module, have-parts, resolved-of-module}
+use Rattle.asn_types.proofs.Inside.{body-of}
 use Rattle.asn_types.proofs.Counting.{replicate-drop, drop-past}
 use Rattle.plain_items.specs.Mixing.{text_before}
+use Rattle.xa_base.specs.declared.texts.Name.{Name}
+use Rattle.xer_items.specs.Names.{xml_name}
 use Rattle.xer_items.specs.Spelling.{is_leaf, is_textual}
-use Rattle.xer_items.specs.Items.{Given, given, nothing, both, completed, placed, inside, gathered}
-use Rattle.xer_write.specs.Private.Giving.{may_be_present, place_gives, places_give, parts_give, type_gives}
+use Rattle.xer_items.specs.Items.{Given, given, nothing, both, element_of, completed, placed, inside, gathered}
+use Rattle.xer_write.specs.Private.Giving.{IsTypeIn, may_be_present, place_gives, places_give, parts_give, type_gives}
 
 -- ---- the types of a module have as many kids as parts
+
+pub found-in : (M : List Assignment) (t : Rose TypeLabel) → IsTypeIn M t → IsTypeIn M (resolve M t)
+found-in M t h = (h.0, resolved-of-module M t h.1)
+
+pub kid-in : (M : List Assignment) (t : Rose TypeLabel) (i : ℕ) (kid : Rose TypeLabel) → slice_get (kids_of t) i ≡ Some kid → IsTypeIn M t → IsTypeIn M kid
+kid-in M (node l ts) i kid got h = (h.0, parts-of-module M l ts i kid h.1 got)
+
+pub have-kids : (M : List Assignment) (t : Rose TypeLabel) → IsTypeIn M t → length (kids_of t) ≡ length (parts_of (label_of t).form)
+have-kids M t h = have-parts M t h.0 h.1
+
+pub few-parts : (M : List Assignment) (t : Rose TypeLabel) (parts : List Component) → IsTypeIn M t → (label_of t).form ≡ form.Sequence parts → length parts < 2 ^ 32
+few-parts M (node l ts) parts h f = subst (IsForm M) f (well-formed M (node l ts) h.0 h.1).0.form
+
+pub body-in : (M : List Assignment) (n : ℕ) (a : Assignment) → IsModule M → slice_get M n ≡ Some a → IsTypeIn M a.body
+body-in M n a is at = (is, body-of M n a at)
 
 module _ (M : List Assignment) (is : IsModule M) where
   mutual
@@ -43,31 +62,31 @@ module _ (M : List Assignment) (is : IsModule M) where
     each-allowed (more t ts) f = (allowed-of t (f 0 t refl), each-allowed ts (λ i kid got. f (suc i) kid got))
 
 no_sequence : (l : TypeLabel) (ts : List (Rose TypeLabel)) (parts : List Component) (v : ValueLabel) (n : ℕ) → ((present : List Bool) → v ≡ value.Sequence present → ⊥) → places_in l ts (form.Sequence parts) v n ≡ None
-no_sequence l ts parts (value.Bool b) n no = refl
-no_sequence l ts parts (value.Int z) n no = refl
-no_sequence l ts parts (value.Enum i) n no = refl
-no_sequence l ts parts (value.Utf8 text) n no = refl
-no_sequence l ts parts (value.Sequence present) n no = absurd (no present refl)
-no_sequence l ts parts (value.Choice i) n no = refl
-no_sequence l ts parts value.SequenceOf n no = refl
+no_sequence l ts parts (value.Bool b) n differs = refl
+no_sequence l ts parts (value.Int z) n differs = refl
+no_sequence l ts parts (value.Enum i) n differs = refl
+no_sequence l ts parts (value.Utf8 text) n differs = refl
+no_sequence l ts parts (value.Sequence present) n differs = absurd (differs present refl)
+no_sequence l ts parts (value.Choice i) n differs = refl
+no_sequence l ts parts value.SequenceOf n differs = refl
 
 no_choice : (l : TypeLabel) (ts : List (Rose TypeLabel)) (parts : List Component) (v : ValueLabel) (n : ℕ) → ((i : ℕ) → v ≡ value.Choice i → ⊥) → places_in l ts (form.Choice parts) v n ≡ None
-no_choice l ts parts (value.Bool b) n no = refl
-no_choice l ts parts (value.Int z) n no = refl
-no_choice l ts parts (value.Enum i) n no = refl
-no_choice l ts parts (value.Utf8 text) n no = refl
-no_choice l ts parts (value.Sequence present) n no = refl
-no_choice l ts parts (value.Choice i) n no = absurd (no i refl)
-no_choice l ts parts value.SequenceOf n no = refl
+no_choice l ts parts (value.Bool b) n differs = refl
+no_choice l ts parts (value.Int z) n differs = refl
+no_choice l ts parts (value.Enum i) n differs = refl
+no_choice l ts parts (value.Utf8 text) n differs = refl
+no_choice l ts parts (value.Sequence present) n differs = refl
+no_choice l ts parts (value.Choice i) n differs = absurd (differs i refl)
+no_choice l ts parts value.SequenceOf n differs = refl
 
 no_items : (l : TypeLabel) (ts : List (Rose TypeLabel)) (part : Component) (least : ℕ) (most : Option ℕ) (v : ValueLabel) (n : ℕ) → (v ≡ value.SequenceOf → ⊥) → places_in l ts (form.SequenceOf part least most) v n ≡ None
-no_items l ts part least most (value.Bool b) n no = refl
-no_items l ts part least most (value.Int z) n no = refl
-no_items l ts part least most (value.Enum i) n no = refl
-no_items l ts part least most (value.Utf8 text) n no = refl
-no_items l ts part least most (value.Sequence present) n no = refl
-no_items l ts part least most (value.Choice i) n no = refl
-no_items l ts part least most value.SequenceOf n no = absurd (no refl)
+no_items l ts part least most (value.Bool b) n differs = refl
+no_items l ts part least most (value.Int z) n differs = refl
+no_items l ts part least most (value.Enum i) n differs = refl
+no_items l ts part least most (value.Utf8 text) n differs = refl
+no_items l ts part least most (value.Sequence present) n differs = refl
+no_items l ts part least most (value.Choice i) n differs = refl
+no_items l ts part least most value.SequenceOf n differs = absurd (differs refl)
 
 no_reference : (l : TypeLabel) (ts : List (Rose TypeLabel)) (to : ℕ) (v : ValueLabel) (n : ℕ) → places_in l ts (form.Ref to) v n ≡ None
 no_reference l ts to (value.Bool b) n = refl
@@ -78,9 +97,12 @@ no_reference l ts to (value.Sequence present) n = refl
 no_reference l ts to (value.Choice i) n = refl
 no_reference l ts to value.SequenceOf n = refl
 
-no_leaf : (b c : Bool) → (b || c) ≡ false → b ≡ false
-no_leaf true c e = absurd (cc)
-no_leaf false c e = refl
+no_leaf : (a b c : Bool) → (a || b || c) ≡ false → a ≡ false
+no_leaf true true true e = absurd (cc)
+no_leaf true true false e = absurd (cc)
+no_leaf true false true e = absurd (cc)
+no_leaf true false false e = absurd (cc)
+no_leaf false b c e = refl
 
 no_form : (l : TypeLabel) (ts : List (Rose TypeLabel)) (f : Form) (v : ValueLabel) (n : ℕ) → is_leaf f ≡ false → ((parts : List Component) → f ≡ form.Sequence parts → ⊥) → ((parts : List Component) → f ≡ form.Choice parts → ⊥)
     → ((part : Component) (least : ℕ) (most : Option ℕ) → f ≡ form.SequenceOf part least most → ⊥) → places_in l ts f v n ≡ None
@@ -179,28 +201,28 @@ module _ (M : List Assignment) where
   -- a value of another form gives nothing
   pub sequence-other : (t : Rose TypeLabel) (v : Rose ValueLabel) (parts : List Component) → (label_of t).form ≡ form.Sequence parts → ((present : List Bool) → label_of v ≡ value.Sequence present → ⊥)
       → parts_give M t v ≡ nothing
-  sequence-other t v parts f no =
+  sequence-other t v parts f differs =
       ap (λ x. places_give M (places_in (label_of t) (kids_of t) x (label_of v) (length (kids_of v))) (kids_of v)) f
-      ∙ ap (λ o. places_give M o (kids_of v)) (no_sequence (label_of t) (kids_of t) parts (label_of v) (length (kids_of v)) no)
+      ∙ ap (λ o. places_give M o (kids_of v)) (no_sequence (label_of t) (kids_of t) parts (label_of v) (length (kids_of v)) differs)
 
   pub choice-other : (t : Rose TypeLabel) (v : Rose ValueLabel) (parts : List Component) → (label_of t).form ≡ form.Choice parts → ((i : ℕ) → label_of v ≡ value.Choice i → ⊥)
       → parts_give M t v ≡ nothing
-  choice-other t v parts f no =
+  choice-other t v parts f differs =
       ap (λ x. places_give M (places_in (label_of t) (kids_of t) x (label_of v) (length (kids_of v))) (kids_of v)) f
-      ∙ ap (λ o. places_give M o (kids_of v)) (no_choice (label_of t) (kids_of t) parts (label_of v) (length (kids_of v)) no)
+      ∙ ap (λ o. places_give M o (kids_of v)) (no_choice (label_of t) (kids_of t) parts (label_of v) (length (kids_of v)) differs)
 
   pub items-other : (t : Rose TypeLabel) (v : Rose ValueLabel) (part : Component) (least : ℕ) (most : Option ℕ) → (label_of t).form ≡ form.SequenceOf part least most → (label_of v ≡ value.SequenceOf → ⊥)
       → parts_give M t v ≡ nothing
-  items-other t v part least most f no =
+  items-other t v part least most f differs =
       ap (λ x. places_give M (places_in (label_of t) (kids_of t) x (label_of v) (length (kids_of v))) (kids_of v)) f
-      ∙ ap (λ o. places_give M o (kids_of v)) (no_items (label_of t) (kids_of t) part least most (label_of v) (length (kids_of v)) no)
+      ∙ ap (λ o. places_give M o (kids_of v)) (no_items (label_of t) (kids_of t) part least most (label_of v) (length (kids_of v)) differs)
 
   -- nor does one of a reference that is left
   pub reference-other : (t : Rose TypeLabel) (v : Rose ValueLabel) → is_textual (label_of t) ≡ false → ((parts : List Component) → (label_of t).form ≡ form.Sequence parts → ⊥)
       → ((parts : List Component) → (label_of t).form ≡ form.Choice parts → ⊥)
       → ((part : Component) (least : ℕ) (most : Option ℕ) → (label_of t).form ≡ form.SequenceOf part least most → ⊥) → parts_give M t v ≡ nothing
   reference-other t v textual a b c =
-      ap (λ o. places_give M o (kids_of v)) (no_form (label_of t) (kids_of t) (label_of t).form (label_of v) (length (kids_of v)) (no_leaf (is_leaf (label_of t).form) _ textual) a b c)
+      ap (λ o. places_give M o (kids_of v)) (no_form (label_of t) (kids_of t) (label_of t).form (label_of v) (length (kids_of v)) (no_leaf (is_leaf (label_of t).form) (has_list (label_of t).marks) (has_use_union (label_of t).marks) textual) a b c)
 
 -- ---- the components that are present
 
@@ -236,6 +258,16 @@ fit-length [] [] fit = refl
 fit-length [] (f ∷ fs) fit = absurd (cc)
 fit-length (c ∷ cs) [] fit = absurd (cc)
 fit-length (c ∷ cs) (f ∷ fs) fit = ap suc (fit-length cs fs (and-second (f || c.optional) (may_be_present cs fs) fit))
+
+and-false : (a b : Bool) → b ≡ false → (a && b) ≡ false
+and-false true b e = e
+and-false false b e = refl
+
+pub misfit : (parts : List Component) (flags : List Bool) → (length parts ≡ length flags → ⊥) → may_be_present parts flags ≡ false
+misfit [] [] differs = absurd (differs refl)
+misfit [] (f ∷ fs) differs = refl
+misfit (c ∷ cs) [] differs = refl
+misfit (c ∷ cs) (f ∷ fs) differs = and-false (f || c.optional) (may_be_present cs fs) (misfit cs fs (λ e. differs (ap suc e)))
 
 -- from the component with number i on, as a loop has it
 abbrev pub fit_from : List Component → List Bool → ℕ → Bool
@@ -313,3 +345,35 @@ module _ (M : List Assignment) (p : ComponentPlace) (vs : List (Rose ValueLabel)
 
   pub items-end : (i : ℕ) → length vs ≤ i → items_from M p vs i ≡ nothing
   items-end i past = ap (λ ws. gathered M (replicate (length vs - i) p) (roses_of ws)) (drop-past i vs past) ∙ gathered-none M (replicate (length vs - i) p)
+
+-- ---- a value at a place, by its role
+
+module _ (M : List Assignment) (p : ComponentPlace) (v : Rose ValueLabel) where
+  by_role : (r : Role) → p.role ≡ r → place_gives M p v ≡ placed M (record { role = r; part = p.part; type = p.type }) v (inside M p.type v)
+  by_role r e = ap (λ x. placed M (record { role = x; part = p.part; type = p.type }) v (inside M p.type v)) e
+
+  pub at-attribute : p.role ≡ Attribute → (name : Name) (text : List ℕ) → name ≡ xml_name p.part.identifier p.part.marks → text ≡ spelled (space_at (resolve M p.type)) v
+      → given ((name, text) ∷ []) none ≡ place_gives M p v
+  at-attribute e name text n s =
+      ap (λ x. given ((x, text) ∷ []) none) n ∙ ap (λ x. given ((xml_name p.part.identifier p.part.marks, x) ∷ []) none) s ∙ sym (by_role Attribute e)
+
+  pub at-element : p.role ≡ Element → (name : Name) → name ≡ xml_name p.part.identifier p.part.marks → given [] (more (element_of name (inside M p.type v)) none) ≡ place_gives M p v
+  at-element e name n = ap (λ x. given [] (more (element_of x (inside M p.type v)) none)) n ∙ sym (by_role Element e)
+
+  pub at-group : p.role ≡ Group → inside M p.type v ≡ place_gives M p v
+  at-group e = sym (by_role Group e)
+
+  pub at-content : p.role ≡ Content → inside M p.type v ≡ place_gives M p v
+  at-content e = sym (by_role Content e)
+
+  pub at-other : (p.role ≡ Attribute → ⊥) → (p.role ≡ Element → ⊥) → (p.role ≡ Group → ⊥) → (p.role ≡ Content → ⊥) → nothing ≡ place_gives M p v
+  at-other a b c d = by p.role refl
+    where
+      by : (r : Role) → p.role ≡ r → nothing ≡ place_gives M p v
+      by Attribute e = absurd (a e)
+      by Element e = absurd (b e)
+      by Group e = absurd (c e)
+      by Content e = absurd (d e)
+      by Embed e = sym (by_role Embed e)
+      by Item e = sym (by_role Item e)
+      by Alternative e = sym (by_role Alternative e)

@@ -1,6 +1,6 @@
 -- The items of a value keep what the items of a document keep: texts have no kids, elements stand within 64 levels, and
 -- there are few nodes.
-use Rattle.std.proofs.Common.{◌≡◌, ℕ, zero, suc, ◌+◌, ◌*◌, ◌≤◌, max, Bool, true, false, Option, Some, None, List, [], ◌∷◌, length, refl, sym, ◌∙◌, ap, subst, arith}
+use Rattle.std.proofs.Common.{◌≡◌, ℕ, zero, suc, ◌+◌, ◌-◌, ◌*◌, ◌≤◌, max, Bool, true, false, Option, Some, None, List, [], ◌∷◌, length, refl, sym, ◌∙◌, ap, subst, arith}
 use Rattle.std.specs.Prelude.{map, slice_get, ◌&&◌, not, IsSomeAnd, IsUtf8}
 use Rattle.std.specs.Option.{option_map}
 use Rattle.std.proofs.lemmas.Str.{is_utf8-from_IsUtf8}
@@ -41,7 +41,7 @@ abbrev size : Roses Plain → ℕ
 size k = count_all (all_unplaced k)
 
 size-joined : (a b : Roses Plain) → size (joined a b) ≡ size a + size b
-size-joined none b = refl
+size-joined none b = omega arith
 size-joined (more item items) b = omega (arith, size-joined items b)
 
 size-before : (words : List ℕ) (items : Roses Plain) → size (text_before words items) ≤ size items + 1
@@ -111,8 +111,8 @@ module _ (M : List Assignment) where
       omega (arith, same, size-texts (has_embed_values l.marks) (texts_of v vs) g, text-count v vs)
 
   mutual
+    unfolding inside gathered
     inside-size : (t : Rose TypeLabel) (v : Rose ValueLabel) → size (inside M t v).kids + length (kids_of v) + 2 ≤ 3 * node_count v
-    unfolding inside
     inside-size t (node v vs) =
         let found = resolve M t in
         let kids = elim (places found v (length_all vs)) as (λ _. Given) [ None ↦ nothing | Some ps ↦ gathered M ps vs ] in
@@ -128,7 +128,6 @@ module _ (M : List Assignment) where
     parts-size (Some ps) vs = gathered-size ps vs
 
     gathered-size : (ps : List ComponentPlace) (vs : Roses ValueLabel) → size (gathered M ps vs).kids + first_kids vs + length_all vs ≤ 3 * count_all vs
-    unfolding gathered
     gathered-size ps none = omega arith
     gathered-size [] (more (node l us) vs) = omega (arith, first-count (more (node l us) vs))
     gathered-size (p ∷ ps) (more (node l us) vs) =
@@ -142,9 +141,9 @@ module _ (M : List Assignment) where
 
 -- ---- which kids and how many levels
 
-record Within (depth : ℕ) (k : Roses Plain) : Type 0 where
-  allowed : AllowedAll MayHave (all_unplaced k)
-  levels : levels_all (all_unplaced k) + depth ≤ 64
+pub record Within (depth : ℕ) (k : Roses Plain) : Type 0 where
+  pub allowed : AllowedAll MayHave (all_unplaced k)
+  pub levels : levels_all (all_unplaced k) + depth ≤ 64
 
 within-none : (depth : ℕ) → depth ≤ 64 → Within depth none
 within-none depth deep = record { allowed = tt; levels = omega (arith, deep) }
@@ -195,8 +194,8 @@ module _ (M : List Assignment) where
   within-placed depth Alternative c t v g deep h = within-none depth deep
 
   mutual
+    unfolding inside gathered FitsAt FitEach
     pub inside-within : (depth : ℕ) (t : Rose TypeLabel) (v : Rose ValueLabel) → FitsAt M depth t v → Within depth (inside M t v).kids
-    unfolding inside FitsAt
     inside-within depth t (node v vs) fits =
         let found = resolve M t in
         let kids = elim (places found v (length_all vs)) as (λ _. Given) [ None ↦ nothing | Some ps ↦ gathered M ps vs ] in
@@ -209,7 +208,6 @@ module _ (M : List Assignment) where
     parts-within depth (Some ps) vs deep fits = gathered-within depth ps vs deep fits
 
     gathered-within : (depth : ℕ) (ps : List ComponentPlace) (vs : Roses ValueLabel) → depth ≤ 64 → FitEach M depth ps vs → Within depth (gathered M ps vs).kids
-    unfolding gathered FitEach
     gathered-within depth ps none deep fits = within-none depth deep
     gathered-within depth [] (more v vs) deep fits = absurd fits
     gathered-within depth (p ∷ ps) (more v vs) deep fits =
@@ -219,27 +217,33 @@ module _ (M : List Assignment) where
 
 -- ---- soundness, with the UTF-8 that the code knows
 
-both : (a b : Bool) → a ≡ true → b ≡ true → (a && b) ≡ true
-both true b e f = f
-both false b e f = absurd (cc)
+and_both : (a b : Bool) → a ≡ true → b ≡ true → (a && b) ≡ true
+and_both true b e f = f
+and_both false b e f = absurd (cc)
 
 negated : (a : Bool) → a ≡ false → not a ≡ true
 negated true e = absurd (cc)
 negated false e = refl
 
 characters : (words : List ℕ) → IsUtf8 words → HasCharacters words → has_xml_chars words ≡ true
-characters words u h = both (is_utf8 words) (list_all is_xml_char (chars words)) (is_utf8-from_IsUtf8 words u) (h u)
+characters words u h = and_both (is_utf8 words) (list_all is_xml_char (chars words)) (is_utf8-from_IsUtf8 words u) (h u)
+
+three : (a b c : Bool) → a ≡ true → b ≡ true → c ≡ true → (a && b && c) ≡ true
+three true true true e f g = refl
+three false b c e f g = absurd (cc)
+three true false c e f g = absurd (cc)
+three true true false e f g = absurd (cc)
 
 sound-attributes : (xs : List (Name × List ℕ)) → AreUtf8 xs → AreSoundAttributes xs → are_sound_attributes xs ≡ true
 sound-attributes [] u h = refl
 sound-attributes (x ∷ xs) u h =
-    both (is_sound_attribute x) (not (has_name x.0 xs) && are_sound_attributes xs)
-    (both (is_sound_name x.0) (not (is_xmlns x.0) && has_xml_chars x.1) h.0.0 (both (not (is_xmlns x.0)) (has_xml_chars x.1) (negated (is_xmlns x.0) h.0.1) (characters x.1 u.0 h.0.2)))
-    (both (not (has_name x.0 xs)) (are_sound_attributes xs) (negated (has_name x.0 xs) h.1) (sound-attributes xs u.1 h.2))
+    three (is_sound_attribute x) (not (has_name x.0 xs)) (are_sound_attributes xs)
+    (three (is_sound_name x.0) (not (is_xmlns x.0)) (has_xml_chars x.1) h.0.0 (negated (is_xmlns x.0) h.0.1) (characters x.1 u.0 h.0.2))
+    (negated (has_name x.0 xs) h.1) (sound-attributes xs u.1 h.2)
 
 sound-label : (l : Plain) → LabelIsUtf8 (unplaced_label l) → IsSoundLabel l → is_sound_label (unplaced_label l) ≡ true
-sound-label (element name xs) u h = both (is_sound_name name) (are_sound_attributes xs && true) h.0 (both (are_sound_attributes xs) true (sound-attributes xs u h.1) refl)
-sound-label (text words) u h = both (not (is_empty words)) (has_xml_chars words) (negated (is_empty words) h.0) (characters words u h.1)
+sound-label (element name xs) u h = three (is_sound_name name) (are_sound_attributes xs) true h.0 (sound-attributes xs u h.1) refl
+sound-label (text words) u h = and_both (not (is_empty words)) (has_xml_chars words) (negated (is_empty words) h.0) (characters words u h.1)
 
 same-text : (l : Plain) → is_text l ≡ document.is_text (unplaced_label l)
 same-text (element name xs) = refl
@@ -251,16 +255,15 @@ same-beginning (more (node l ks) items) = same-text l
 
 mutual
   sound-item : (b : Rose Plain) → ItemIsUtf8 (unplaced b) → IsSound b → is_sound (unplaced b) ≡ true
-  sound-item (node l items) u h = both (is_sound_label (unplaced_label l)) (are_sound (all_unplaced items)) (sound-label l u.0 h.0) (sound-items items u.1 h.1)
+  sound-item (node l items) u h = and_both (is_sound_label (unplaced_label l)) (are_sound (all_unplaced items)) (sound-label l u.0 h.0) (sound-items items u.1 h.1)
 
   sound-items : (items : Roses Plain) → ItemsAreUtf8 (all_unplaced items) → AreSound items → are_sound (all_unplaced items) ≡ true
   sound-items none u h = refl
   sound-items (more (node l ks) items) u h =
       let apart : (document.is_text (unplaced_label l) && document.begins_with_text (all_unplaced items)) ≡ false =
       sym (ap (λ b. b && begins_with_text items) (same-text l) ∙ ap (λ b. document.is_text (unplaced_label l) && b) (same-beginning items)) ∙ h.1 in
-      both (is_sound (unplaced (node l ks))) (not (document.is_text (unplaced_label l) && document.begins_with_text (all_unplaced items)) && are_sound (all_unplaced items))
-      (sound-item (node l ks) u.0 h.0)
-      (both (not (document.is_text (unplaced_label l) && document.begins_with_text (all_unplaced items))) (are_sound (all_unplaced items)) (negated _ apart) (sound-items items u.1 h.2))
+      three (is_sound (unplaced (node l ks))) (not (document.is_text (unplaced_label l) && document.begins_with_text (all_unplaced items))) (are_sound (all_unplaced items))
+      (sound-item (node l ks) u.0 h.0) (negated (document.is_text (unplaced_label l) && document.begins_with_text (all_unplaced items)) apart) (sound-items items u.1 h.2)
 
 -- ---- the root
 

@@ -1,9 +1,9 @@
 -- How values are spelled by their types.
-use Rattle.std.proofs.Common.{◌≡◌, ℕ, zero, suc, Option, Some, None, List, [], ◌∷◌, refl, sym, ◌∙◌, ap}
+use Rattle.std.proofs.Common.{◌≡◌, ℕ, zero, suc, ◌+◌, ◌<◌, ◌≤◌, Option, Some, None, List, [], ◌∷◌, length, refl, sym, ◌∙◌, ap, subst, arith}
 use Rattle.std.specs.Prelude.{slice_get, map}
 use Rattle.std.specs.List.{join_with_byte}
-use Rattle.label_tree.specs.Rose.{Rose, node, Roses, none, more, roses_of, list_of, label_of, kids_of}
-use Rattle.label_tree.proofs.Roses.{roses_of-list_of}
+use Rattle.label_tree.specs.Rose.{Rose, node, Roses, none, more, roses_of, list_of, label_of, kids_of, node_count, count_all, Allowed, AllowedAll}
+use Rattle.label_tree.proofs.Roses.{roses_of-list_of, allowed-label}
 use Rattle.simple_types.specs.declared.labels.ValueLabel.{ValueLabel}
 use Rattle.simple_types.specs.Space.{Space, Booleans, Wholes, Numbers, Words, Characters, ListOf, UnionOf}
 use Rattle.simple_values.specs.Reading.{spelled, spelled_by, spelled_boolean, spelled_whole, spelled_number, spelled_word, spelled_text, choice_at, spelled_choice}
@@ -12,6 +12,7 @@ use Rattle.asn_types.specs.declared.types.Form.{Form}
 use Rattle.asn_types.specs.declared.types.Form.TheVariants as form
 use Rattle.asn_types.specs.declared.types.TypeLabel.{TypeLabel}
 use Rattle.asn_types.specs.Marks.{white_space_of}
+use Rattle.asn_types.specs.Parts.{MayHave, parts_of}
 use Rattle.asn_types.specs.Spaces.{space_at, spaces_at, first_space}
 
 -- by the form of the type
@@ -94,3 +95,18 @@ unfolding spelled spelled_by
 by-none [] i v past = refl
 by-none (m ∷ ms) zero v past = absurd (cc)
 by-none (m ∷ ms) (suc i) v past = by-none ms i v past
+
+-- ---- kids of a type
+
+pub has-item : (t : Rose TypeLabel) (part : Component) (least : ℕ) (most : Option ℕ) → (label_of t).form ≡ form.SequenceOf part least most → Allowed MayHave t → 0 < length (kids_of t)
+has-item t part least most is allowed = let e : length (kids_of t) ≡ 1 = allowed-label MayHave t allowed ∙ ap (λ f. length (parts_of f)) is in omega (arith, e)
+
+pub member-count : (ts : List (Rose TypeLabel)) (i : ℕ) (t : Rose TypeLabel) → slice_get ts i ≡ Some t → node_count t ≤ count_all (roses_of ts)
+member-count [] i t got = absurd (cc)
+member-count (u ∷ us) zero t got = let same : u ≡ t = cc in let e = ap node_count same in omega (arith, e)
+member-count (u ∷ us) (suc i) t got = omega (arith, member-count us i t got)
+
+pub member-allowed : (ts : List (Rose TypeLabel)) (i : ℕ) (t : Rose TypeLabel) → slice_get ts i ≡ Some t → AllowedAll MayHave (roses_of ts) → Allowed MayHave t
+member-allowed [] i t got h = absurd (cc)
+member-allowed (u ∷ us) zero t got h = let same : u ≡ t = cc in subst (Allowed MayHave) same h.0
+member-allowed (u ∷ us) (suc i) t got h = member-allowed us i t got h.1

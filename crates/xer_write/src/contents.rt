@@ -1,10 +1,10 @@
 //! What stands in an element, as it is gathered.
 ghost use Rattle.std.specs.Prelude.{◌≡◌, ◌∷◌, [], ◌++◌, IfOk, OnOk, codes, map};
-ghost use Rattle.label_tree.specs.Rose.{none, more, roses_of};
+ghost use Rattle.label_tree.specs.Rose.{none, more};
 ghost use Rattle.plain_items.specs.Mixing.{text_before, interleaved};
 ghost use Rattle.xer_items.specs.Items.{Given, given, nothing, nil_name, element_of};
-ghost use Rattle.xer_write.specs.Private.Unplaced.{unplaced, ItemIsUtf8, ItemsAreUtf8};
-ghost use Rattle.xer_write.specs.Private.Gaining.{Has, Gains, text_of, text_at};
+ghost use Rattle.xer_write.specs.Private.Unplaced.{unplaced, ItemIsUtf8};
+ghost use Rattle.xer_write.specs.Private.Gaining.{IsUtf8Contents, Has, Gains, text_of, text_at};
 
 use crate::spelling::text_of;
 use doc_text::{Attributes, Bindings, ItemLabel};
@@ -54,10 +54,11 @@ impl Contents {
     pub(crate) fn add_text(&mut self, alloc: Global, text: Text) -> Result<(), Memory>
         ensures { OnOk result (Gains self.old self.new (given [] (text_before text none))) }
     {
-        if !text.as_str().is_empty() {
-            let label = ItemLabel::Text { text, at: 0 };
-            self.kids.push(Tree::leaf(alloc, label))?;
+        if text.as_str().is_empty() {
+            return Ok(());
         }
+        let label = ItemLabel::Text { text, at: 0 };
+        self.kids.push(Tree::leaf(alloc, label))?;
         Ok(())
     }
 
@@ -99,7 +100,7 @@ impl Contents {
     ) -> Result<(), Memory>
         ensures attributes { OnOk result (self.new.attributes.items ≡ self.old.attributes.items) }
         ensures kids { OnOk result (self.new.kids.items ≡ self.old.kids.items ++ text_at (map text_of texts.now) i) }
-        ensures utf8 { OnOk result (ItemsAreUtf8 (roses_of self.old.kids.items) → ItemsAreUtf8 (roses_of self.new.kids.items)) }
+        ensures utf8 { OnOk result (IsUtf8Contents self.old → IsUtf8Contents self.new) }
     {
         match texts.get(i) {
             Some(value) => {
@@ -119,10 +120,11 @@ impl Contents {
     ) -> Result<(), Memory>
         ensures { OnOk result ((g : Given) → Has inner g → Gains self.old self.new (given g.attributes (interleaved (map text_of texts.now) g.kids))) }
     {
-        let Contents { attributes, kids } = inner;
-        'attributes: for attribute in attributes {
-            self.attributes.push(attribute)?;
-        }
+        let Contents {
+            mut attributes,
+            kids,
+        } = inner;
+        self.attributes.append(&mut attributes)?;
         let mut count: usize = 0;
         'kids: for kid in kids {
             self.add_text_at(alloc, texts, count)?;

@@ -3,13 +3,12 @@ ghost use Rattle.std.specs.Prelude.{◌≡◌, ◌&&◌, true, false, OnOk, leng
 ghost use Rattle.label_tree.specs.Rose.{label_of, kids_of, roses_of};
 ghost use Rattle.asn_types.specs.Marks.{has_use_nil};
 ghost use Rattle.asn_types.specs.Parts.{parts_of};
-ghost use Rattle.asn_types.specs.Refs.{IsOf};
 ghost use Rattle.asn_types.specs.Values as rule;
 ghost use Rattle.asn_types.specs.declared.types.Form.TheVariants as form;
 ghost use Rattle.xer_items.specs.Items.{nothing, with_nil, inside, gathered, texts_of};
 ghost use Rattle.xer_items.specs.Spelling.{is_textual};
 ghost use Rattle.xer_write.specs.Private.Gaining.{Gains, text_of};
-ghost use Rattle.xer_write.specs.Private.Giving.{may_be_present, place_seen, place_gives, places_give, parts_give, type_gives};
+ghost use Rattle.xer_write.specs.Private.Giving.{IsTypeIn, may_be_present, place_seen, place_gives, places_give, parts_give, type_gives};
 
 use crate::contents::Contents;
 use crate::names::xml_name;
@@ -91,6 +90,7 @@ fn add_nil_if(
 
 // Adds what the value at a place gives.
 #[cycle(gathering)]
+#[tactic(none)]
 fn gather_at(
     alloc: Global,
     module: &Module,
@@ -98,7 +98,7 @@ fn gather_at(
     value: &Tree<ValueLabel>,
     out: &mut Contents,
 ) -> Result<(), Memory>
-    requires { IsOf module.now place.now.node.now }
+    requires { IsTypeIn module.now place.now.node.now }
     ensures { OnOk result (Gains out.old out.new (place_gives module.now (place_seen place.now) value.now)) }
 {
     match place.role {
@@ -121,6 +121,7 @@ fn gather_at(
 
 // Adds what the components of a SEQUENCE give that are present.
 #[cycle(gathering)]
+#[tactic(none)]
 fn gather_present(
     alloc: Global,
     module: &Module,
@@ -130,7 +131,7 @@ fn gather_present(
     values: &[Tree<ValueLabel>],
     out: &mut Contents,
 ) -> Result<(), Memory>
-    requires node { IsOf module.now node.now }
+    requires node { IsTypeIn module.now node.now }
     requires parts { parts.now ≡ parts_of (label_of node.now).form }
     requires present { may_be_present parts.now present.now ≡ true }
     ensures { OnOk result (Gains out.old out.new (places_give module.now (rule.present_from (label_of node.now) 0 parts.now (kids_of node.now) present.now) values.now)) }
@@ -155,6 +156,7 @@ fn gather_present(
 
 // Adds what the value of a SEQUENCE gives.
 #[cycle(gathering)]
+#[tactic(none)]
 fn gather_sequence(
     alloc: Global,
     module: &Module,
@@ -163,7 +165,7 @@ fn gather_sequence(
     value: &Tree<ValueLabel>,
     out: &mut Contents,
 ) -> Result<(), Memory>
-    requires node { IsOf module.now node.now }
+    requires node { IsTypeIn module.now node.now }
     requires form { (label_of node.now).form ≡ form.Sequence parts.now }
     ensures { OnOk result (Gains out.old out.new (parts_give module.now node.now value.now)) }
 {
@@ -182,6 +184,7 @@ fn gather_sequence(
 
 // Adds what the chosen value of a CHOICE gives.
 #[cycle(gathering)]
+#[tactic(none)]
 fn gather_choice(
     alloc: Global,
     module: &Module,
@@ -190,7 +193,7 @@ fn gather_choice(
     value: &Tree<ValueLabel>,
     out: &mut Contents,
 ) -> Result<(), Memory>
-    requires node { IsOf module.now node.now }
+    requires node { IsTypeIn module.now node.now }
     requires form { (label_of node.now).form ≡ form.Choice parts.now }
     ensures { OnOk result (Gains out.old out.new (parts_give module.now node.now value.now)) }
 {
@@ -213,6 +216,7 @@ fn gather_choice(
 
 // Adds what the items of a SEQUENCE OF give, which all stand at one place.
 #[cycle(gathering)]
+#[tactic(none)]
 fn gather_items(
     alloc: Global,
     module: &Module,
@@ -220,7 +224,7 @@ fn gather_items(
     values: &[Tree<ValueLabel>],
     out: &mut Contents,
 ) -> Result<(), Memory>
-    requires { IsOf module.now place.now.node.now }
+    requires { IsTypeIn module.now place.now.node.now }
     ensures { OnOk result (Gains out.old out.new (gathered module.now (replicate (length values.now) (place_seen place.now)) (roses_of values.now))) }
 {
     'values: for value in values {
@@ -231,6 +235,7 @@ fn gather_items(
 
 // Adds what the value of a SEQUENCE OF gives.
 #[cycle(gathering)]
+#[tactic(none)]
 fn gather_sequence_of(
     alloc: Global,
     module: &Module,
@@ -241,7 +246,7 @@ fn gather_sequence_of(
     value: &Tree<ValueLabel>,
     out: &mut Contents,
 ) -> Result<(), Memory>
-    requires node { IsOf module.now node.now }
+    requires node { IsTypeIn module.now node.now }
     requires form { (label_of node.now).form ≡ form.SequenceOf part.now min max }
     ensures { OnOk result (Gains out.old out.new (parts_give module.now node.now value.now)) }
 {
@@ -262,6 +267,7 @@ fn gather_sequence_of(
 
 // Adds what the kids of a value give, whose type is no reference. It is nothing where the value isn't of the type.
 #[cycle(gathering)]
+#[tactic(none)]
 fn gather_kids(
     alloc: Global,
     module: &Module,
@@ -269,7 +275,7 @@ fn gather_kids(
     value: &Tree<ValueLabel>,
     out: &mut Contents,
 ) -> Result<(), Memory>
-    requires node { IsOf module.now node.now }
+    requires node { IsTypeIn module.now node.now }
     requires parts { is_textual (label_of node.now) ≡ false }
     ensures { OnOk result (Gains out.old out.new (parts_give module.now node.now value.now)) }
 {
@@ -287,6 +293,7 @@ fn gather_kids(
 
 // Adds what a value gives whose type is no reference and no text, by the instructions on the type.
 #[cycle(gathering)]
+#[tactic(none)]
 fn gather_parts(
     alloc: Global,
     module: &Module,
@@ -294,7 +301,7 @@ fn gather_parts(
     value: &Tree<ValueLabel>,
     out: &mut Contents,
 ) -> Result<(), Memory>
-    requires node { IsOf module.now node.now }
+    requires node { IsTypeIn module.now node.now }
     requires parts { is_textual (label_of node.now) ≡ false }
     ensures { OnOk result (Gains out.old out.new (type_gives module.now node.now value.now)) }
 {
@@ -310,6 +317,7 @@ fn gather_parts(
 
 /// Adds what a value of the type gives to the element that it stands in.
 #[cycle(gathering)]
+#[tactic(none)]
 pub(crate) fn gather(
     alloc: Global,
     module: &Module,
@@ -317,7 +325,7 @@ pub(crate) fn gather(
     value: &Tree<ValueLabel>,
     out: &mut Contents,
 ) -> Result<(), Memory>
-    requires { IsOf module.now node.now }
+    requires { IsTypeIn module.now node.now }
     ensures { OnOk result (Gains out.old out.new (inside module.now node.now value.now)) }
 {
     let found = resolve(module, node);

@@ -5,6 +5,8 @@ use Rattle.simple_types.specs.declared.labels.ValueLabel.{ValueLabel}
 use Rattle.asn_types.specs.declared.types.Component.{Component}
 use Rattle.asn_types.specs.declared.types.TypeLabel.{TypeLabel}
 use Rattle.asn_types.specs.declared.modules.Assignment.{Assignment}
+use Rattle.asn_types.specs.Modules.{IsModule}
+use Rattle.asn_types.specs.Refs.{IsOf}
 use Rattle.asn_types.specs.Values.{ComponentPlace, places}
 use Rattle.xer_items.specs.Items.{Given, nothing, completed, placed, inside, gathered}
 use Rattle.xer_write.specs.declared.gathering.Place.{Place}
@@ -17,6 +19,10 @@ may_be_present _ _ = false
 
 abbrev pub place_seen : Place → ComponentPlace
 place_seen place = record { role = place.role; part = place.part.now; type = place.node.now }
+
+-- the type stands in the module
+abbrev pub IsTypeIn : List Assignment → Rose TypeLabel → Type 0
+IsTypeIn M t = IsModule M × IsOf M t
 
 module _ (M : List Assignment) where
   -- a value at a place

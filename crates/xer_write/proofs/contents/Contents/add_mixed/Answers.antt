@@ -1,0 +1,7 @@
+use Rattle.xer_write.proofs.contents.Contents.add_mixed.Goals as goal
+
+pub kids-preserved : goal.kids-preserved
+kids-preserved c = ?
+
+pub returns : goal.returns
+returns c = ?
