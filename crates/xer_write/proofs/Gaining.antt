@@ -1,6 +1,6 @@
 -- What stands in an element, one thing after another.
 use Rattle.std.proofs.Common.{◌≡◌, ℕ, zero, suc, Bool, true, false, List, [], ◌∷◌, ◌++◌, length, Some, None, refl, sym, ◌∙◌, ap, subst, append_assoc, arith}
-use Rattle.std.specs.Prelude.{◌==◌, slice_get, map}
+use Rattle.std.specs.Prelude.{◌==◌, slice_get, map, Result, Ok, Err, OnOk}
 use Rattle.std.proofs.lemmas.List.{append-nil}
 use Rattle.xa_base.specs.declared.texts.Name.{Name}
 use Rattle.label_tree.specs.Rose.{Rose, node, Roses, none, more, list_of, roses_of}
@@ -103,3 +103,35 @@ items_utf8-append (x ∷ a) b u w = (u.0, items_utf8-append a b u.1 w)
 
 pub items_utf8-pushed : (old new : List (Rose ItemLabel)) (x : Rose ItemLabel) → new ≡ old ++ x ∷ [] → ItemIsUtf8 x → ItemsAreUtf8 (roses_of old) → ItemsAreUtf8 (roses_of new)
 items_utf8-pushed old new x is u w = subst (λ s. ItemsAreUtf8 (roses_of s)) (sym is) (items_utf8-append old (x ∷ []) w (u, tt))
+
+pub items_utf8-front : (a b : List (Rose ItemLabel)) → ItemsAreUtf8 (roses_of (a ++ b)) → ItemsAreUtf8 (roses_of a) × ItemsAreUtf8 (roses_of b)
+items_utf8-front [] b u = (tt, u)
+items_utf8-front (x ∷ a) b u = let rest = items_utf8-front a b u.1 in ((u.0, rest.0), rest.1)
+
+-- ---- mixed content, one more kid and the last text
+
+pub mixed-step : (old : List (Rose ItemLabel)) (texts : List (List ℕ)) (items : List (Rose ItemLabel)) (item : Rose ItemLabel) (n : ℕ) → n ≡ length items
+    → ((old ++ with_texts_before texts items) ++ text_at texts n) ++ item ∷ [] ≡ old ++ with_texts_before texts (items ++ item ∷ [])
+mixed-step old texts items item n e =
+    ap (λ k. ((old ++ with_texts_before texts items) ++ text_at texts k) ++ item ∷ []) e
+    ∙ ap (λ s. s ++ item ∷ []) (append_assoc old (with_texts_before texts items) (text_at texts (length items)))
+    ∙ append_assoc old (with_texts_before texts items ++ text_at texts (length items)) (item ∷ [])
+    ∙ ap (λ s. old ++ s) (sym (texts_before-push texts items item))
+
+pub mixed-end : (old : List (Rose ItemLabel)) (texts : List (List ℕ)) (items : List (Rose ItemLabel)) (k : Roses Plain) (n : ℕ) → n ≡ length items → items ≡ items_in k
+    → (old ++ with_texts_before texts items) ++ text_at texts n ≡ old ++ items_in (interleaved texts k)
+mixed-end old texts items k n e same =
+    ap (λ j. (old ++ with_texts_before texts items) ++ text_at texts j) e
+    ∙ append_assoc old (with_texts_before texts items) (text_at texts (length items))
+    ∙ ap (λ s. old ++ with_texts_before texts s ++ text_at texts (length s)) same
+    ∙ ap (λ s. old ++ s) (sym (interleaved-is texts k))
+
+-- ---- what is known where all went well
+
+pub on_ok : {A E : Type 0} (r : Result A E) (P Q : Type 0) → (P → Q) → OnOk r P → OnOk r Q
+on_ok (Ok a) P Q f h = f h
+on_ok (Err e) P Q f h = tt
+
+pub on_ok-three : {A E : Type 0} (r : Result A E) (P Q S T : Type 0) → (P → Q → S → T) → OnOk r P → OnOk r Q → OnOk r S → OnOk r T
+on_ok-three (Ok a) P Q S T f p q s = f p q s
+on_ok-three (Err e) P Q S T f p q s = tt

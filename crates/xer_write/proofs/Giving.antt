@@ -46,7 +46,7 @@ pub have-kids : (M : List Assignment) (t : Rose TypeLabel) → IsTypeIn M t → 
 have-kids M t h = have-parts M t h.0 h.1
 
 pub few-parts : (M : List Assignment) (t : Rose TypeLabel) (parts : List Component) → IsTypeIn M t → (label_of t).form ≡ form.Sequence parts → length parts < 2 ^ 32
-few-parts M (node l ts) parts h f = subst (IsForm M) f (well-formed M (node l ts) h.0 h.1).0.form
+few-parts M (node l ts) parts h f = let it : IsForm M (form.Sequence parts) = subst (IsForm M) f (well-formed M (node l ts) h.0 h.1).0.form in it
 
 pub body-in : (M : List Assignment) (n : ℕ) (a : Assignment) → IsModule M → slice_get M n ≡ Some a → IsTypeIn M a.body
 body-in M n a is at = (is, body-of M n a at)

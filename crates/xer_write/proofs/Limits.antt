@@ -15,6 +15,7 @@ use Rattle.label_tree.proofs.Roses.{length-list_of}
 use Rattle.simple_types.specs.declared.labels.ValueLabel.{ValueLabel}
 use Rattle.simple_types.specs.declared.labels.ValueLabel.TheVariants as value
 use Rattle.simple_values.specs.Reading.{spelled, spelled_text}
+use Rattle.doc_text.specs.declared.label.ItemLabel.{ItemLabel}
 use Rattle.doc_text.specs.Labels.{MayHave}
 use Rattle.doc_text.specs.Sound.{AreItems, is_sound_name, has_name, is_sound_attribute, are_sound_attributes, is_sound_label, is_sound, are_sound, levels_all}
 use Rattle.doc_text.specs.Sound as document
@@ -32,6 +33,9 @@ use Rattle.asn_types.specs.Values.{ComponentPlace, places, is_last_absent, below
 use Rattle.xer_items.specs.Spelling.{is_textual}
 use Rattle.xer_items.specs.Names.{xml_name}
 use Rattle.xer_items.specs.Items.{Given, given, nothing, joined, element_of, texts_of, with_texts, with_nil, completed, placed, inside, gathered, root_of, Xer}
+use Rattle.xer_write.specs.declared.contents.Contents.{Contents}
+use Rattle.xer_write.specs.Private.Gaining.{Has, Gains}
+use Rattle.xer_write.proofs.Gaining.{has-gained}
 use Rattle.xer_write.specs.Sound.{HasCharacters, AreSoundAttributes, IsSoundLabel, is_text, begins_with_text, IsSound, AreSound}
 use Rattle.xer_write.specs.Private.Unplaced.{unplaced_label, unplaced, all_unplaced, AreUtf8, LabelIsUtf8, ItemIsUtf8, ItemsAreUtf8}
 
@@ -116,16 +120,15 @@ module _ (M : List Assignment) where
     inside-size t (node v vs) =
         let found = resolve M t in
         let kids = elim (places found v (length_all vs)) as (λ _. Given) [ None ↦ nothing | Some ps ↦ gathered M ps vs ] in
-        let parts = parts-size (places found v (length_all vs)) vs in
+        let parts : size kids.kids + first_kids vs + length_all vs ≤ 3 * count_all vs =
+        elim (places found v (length_all vs)) as (λ (o : Option (List ComponentPlace)). size (elim o as (λ _. Given) [ None ↦ nothing | Some ps ↦ gathered M ps vs ]).kids + first_kids vs + length_all vs ≤ 3 * count_all vs) [
+          | None ↦ omega (arith, first-count vs)
+          | Some ps ↦ gathered-size ps vs
+        ] in
         let whole = completed-size (label_of found) v vs kids in
         let most = textual-size (is_textual (label_of found)) (spelled (space_at found) (node v vs)) (completed (label_of found) v vs kids) (3 * count_all vs + 1 - length_all vs)
         (omega (arith, length-count vs)) (omega (arith, parts, whole, length-count vs)) in
         omega (arith, most, length-count vs, length-list_of vs)
-
-    parts-size : (found : Option (List ComponentPlace)) (vs : Roses ValueLabel)
-        → size (elim found as (λ _. Given) [ None ↦ nothing | Some ps ↦ gathered M ps vs ]).kids + first_kids vs + length_all vs ≤ 3 * count_all vs
-    parts-size None vs = omega (arith, first-count vs)
-    parts-size (Some ps) vs = gathered-size ps vs
 
     gathered-size : (ps : List ComponentPlace) (vs : Roses ValueLabel) → size (gathered M ps vs).kids + first_kids vs + length_all vs ≤ 3 * count_all vs
     gathered-size ps none = omega arith
@@ -199,13 +202,14 @@ module _ (M : List Assignment) where
     inside-within depth t (node v vs) fits =
         let found = resolve M t in
         let kids = elim (places found v (length_all vs)) as (λ _. Given) [ None ↦ nothing | Some ps ↦ gathered M ps vs ] in
+        let parts : elim (places found v (length_all vs)) as (λ _. Type 0) [ None ↦ ⊥ | Some ps ↦ FitEach M depth ps vs ] → Within depth kids.kids =
+        elim (places found v (length_all vs)) as (λ (o : Option (List ComponentPlace)). elim o as (λ _. Type 0) [ None ↦ ⊥ | Some ps ↦ FitEach M depth ps vs ]
+        → Within depth (elim o as (λ _. Given) [ None ↦ nothing | Some ps ↦ gathered M ps vs ]).kids) [
+          | None ↦ (λ f. absurd f)
+          | Some ps ↦ (λ f. gathered-within depth ps vs fits.0 f)
+        ] in
         within-textual depth (is_textual (label_of found)) (spelled (space_at found) (node v vs)) (completed (label_of found) v vs kids) fits.0
-        (within-completed depth (label_of found) v vs kids fits.0 (parts-within depth (places found v (length_all vs)) vs fits.0 fits.1))
-
-    parts-within : (depth : ℕ) (found : Option (List ComponentPlace)) (vs : Roses ValueLabel) → depth ≤ 64 → elim found as (λ _. Type 0) [ None ↦ ⊥ | Some ps ↦ FitEach M depth ps vs ]
-        → Within depth (elim found as (λ _. Given) [ None ↦ nothing | Some ps ↦ gathered M ps vs ]).kids
-    parts-within depth None vs deep fits = absurd fits
-    parts-within depth (Some ps) vs deep fits = gathered-within depth ps vs deep fits
+        (within-completed depth (label_of found) v vs kids fits.0 (parts fits.1))
 
     gathered-within : (depth : ℕ) (ps : List ComponentPlace) (vs : Roses ValueLabel) → depth ≤ 64 → FitEach M depth ps vs → Within depth (gathered M ps vs).kids
     gathered-within depth ps none deep fits = within-none depth deep
@@ -291,3 +295,13 @@ mutual
   plain-all : (items : Roses Plain) → plain_all (all_unplaced items) ≡ items
   plain-all none = refl
   plain-all (more item items) = ap (λ s. more s (plain_all (all_unplaced items))) (plain-unplaced item) ∙ ap (λ s. more item s) (plain-all items)
+
+-- as the code makes it
+pub root-made : (M : List Assignment) (a : Assignment) (v : Rose ValueLabel) (X Y : Contents) (u : Rose TypeLabel) (w : Rose ValueLabel) (name : Name) (root : Rose ItemLabel)
+    → u ≡ a.body → w ≡ v → Has X nothing → Gains X Y (inside M u w) → name ≡ xml_name a.reference a.marks
+    → ((g : Given) → Has Y g → (root ≡ unplaced (element_of name g)) × ItemIsUtf8 root) → (root ≡ unplaced (root_of M a v)) × ItemIsUtf8 (unplaced (root_of M a v))
+root-made M a v X Y u w name root eu ew empty gains en made =
+    let there : Gains X Y (inside M a.body v) = subst (λ z. Gains X Y (inside M z v)) eu (subst (λ z. Gains X Y (inside M u z)) ew gains) in
+    let it = made (inside M a.body v) (has-gained X Y (inside M a.body v) empty there) in
+    let whole : root ≡ unplaced (root_of M a v) = it.0 ∙ ap (λ n. unplaced (element_of n (inside M a.body v))) en in
+    (whole, subst ItemIsUtf8 whole it.1)

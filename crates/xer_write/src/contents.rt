@@ -1,10 +1,10 @@
 //! What stands in an element, as it is gathered.
-ghost use Rattle.std.specs.Prelude.{◌≡◌, ◌∷◌, [], ◌++◌, IfOk, OnOk, codes, map};
-ghost use Rattle.label_tree.specs.Rose.{none, more};
+ghost use Rattle.std.specs.Prelude.{◌≡◌, ◌∷◌, [], ◌++◌, IfOk, OnOk, codes, length, map};
+ghost use Rattle.label_tree.specs.Rose.{none, more, roses_of};
 ghost use Rattle.plain_items.specs.Mixing.{text_before, interleaved};
 ghost use Rattle.xer_items.specs.Items.{Given, given, nothing, nil_name, element_of};
-ghost use Rattle.xer_write.specs.Private.Unplaced.{unplaced, ItemIsUtf8};
-ghost use Rattle.xer_write.specs.Private.Gaining.{IsUtf8Contents, Has, Gains, text_of, text_at};
+ghost use Rattle.xer_write.specs.Private.Unplaced.{unplaced, ItemIsUtf8, ItemsAreUtf8};
+ghost use Rattle.xer_write.specs.Private.Gaining.{IsUtf8Contents, Has, Gains, text_of, text_at, with_texts_before};
 
 use crate::spelling::text_of;
 use doc_text::{Attributes, Bindings, ItemLabel};
@@ -111,6 +111,27 @@ impl Contents {
         }
     }
 
+    // Adds these kids, each with the text of its number before it, and tells how many they are.
+    fn add_kids(
+        &mut self,
+        alloc: Global,
+        texts: &[Tree<ValueLabel>],
+        kids: Vec<Tree<ItemLabel>>,
+    ) -> Result<usize, Memory>
+        ensures attributes { OnOk result (self.new.attributes.items ≡ self.old.attributes.items) }
+        ensures kids { OnOk result (self.new.kids.items ≡ self.old.kids.items ++ with_texts_before (map text_of texts.now) kids.items) }
+        ensures count { IfOk result (λ count. count ≡ length kids.items) }
+        ensures utf8 { OnOk result (IsUtf8Contents self.old → ItemsAreUtf8 (roses_of kids.items) → IsUtf8Contents self.new) }
+    {
+        let mut count: usize = 0;
+        'kids: for kid in kids {
+            self.add_text_at(alloc, texts, count)?;
+            self.kids.push(kid)?;
+            count += 1;
+        }
+        Ok(count)
+    }
+
     /// Adds what stands in a mixed element: the texts before, between and behind its kids.
     pub(crate) fn add_mixed(
         &mut self,
@@ -125,12 +146,7 @@ impl Contents {
             kids,
         } = inner;
         self.attributes.append(&mut attributes)?;
-        let mut count: usize = 0;
-        'kids: for kid in kids {
-            self.add_text_at(alloc, texts, count)?;
-            self.kids.push(kid)?;
-            count += 1;
-        }
+        let count = self.add_kids(alloc, texts, kids)?;
         self.add_text_at(alloc, texts, count)
     }
 }

@@ -2,7 +2,6 @@
 ghost use Rattle.std.specs.Prelude.{◌≡◌, ◌&&◌, true, false, OnOk, length, map, replicate};
 ghost use Rattle.label_tree.specs.Rose.{label_of, kids_of, roses_of};
 ghost use Rattle.asn_types.specs.Marks.{has_use_nil};
-ghost use Rattle.asn_types.specs.Parts.{parts_of};
 ghost use Rattle.asn_types.specs.Values as rule;
 ghost use Rattle.asn_types.specs.declared.types.Form.TheVariants as form;
 ghost use Rattle.xer_items.specs.Items.{nothing, with_nil, inside, gathered, texts_of};
@@ -90,7 +89,6 @@ fn add_nil_if(
 
 // Adds what the value at a place gives.
 #[cycle(gathering)]
-#[tactic(none)]
 fn gather_at(
     alloc: Global,
     module: &Module,
@@ -121,7 +119,6 @@ fn gather_at(
 
 // Adds what the components of a SEQUENCE give that are present.
 #[cycle(gathering)]
-#[tactic(none)]
 fn gather_present(
     alloc: Global,
     module: &Module,
@@ -132,7 +129,7 @@ fn gather_present(
     out: &mut Contents,
 ) -> Result<(), Memory>
     requires node { IsTypeIn module.now node.now }
-    requires parts { parts.now ≡ parts_of (label_of node.now).form }
+    requires form { (label_of node.now).form ≡ form.Sequence parts.now }
     requires present { may_be_present parts.now present.now ≡ true }
     ensures { OnOk result (Gains out.old out.new (places_give module.now (rule.present_from (label_of node.now) 0 parts.now (kids_of node.now) present.now) values.now)) }
 {
@@ -156,7 +153,6 @@ fn gather_present(
 
 // Adds what the value of a SEQUENCE gives.
 #[cycle(gathering)]
-#[tactic(none)]
 fn gather_sequence(
     alloc: Global,
     module: &Module,
@@ -184,7 +180,6 @@ fn gather_sequence(
 
 // Adds what the chosen value of a CHOICE gives.
 #[cycle(gathering)]
-#[tactic(none)]
 fn gather_choice(
     alloc: Global,
     module: &Module,
@@ -216,7 +211,6 @@ fn gather_choice(
 
 // Adds what the items of a SEQUENCE OF give, which all stand at one place.
 #[cycle(gathering)]
-#[tactic(none)]
 fn gather_items(
     alloc: Global,
     module: &Module,
@@ -235,7 +229,6 @@ fn gather_items(
 
 // Adds what the value of a SEQUENCE OF gives.
 #[cycle(gathering)]
-#[tactic(none)]
 fn gather_sequence_of(
     alloc: Global,
     module: &Module,
@@ -267,7 +260,6 @@ fn gather_sequence_of(
 
 // Adds what the kids of a value give, whose type is no reference. It is nothing where the value isn't of the type.
 #[cycle(gathering)]
-#[tactic(none)]
 fn gather_kids(
     alloc: Global,
     module: &Module,
@@ -293,7 +285,6 @@ fn gather_kids(
 
 // Adds what a value gives whose type is no reference and no text, by the instructions on the type.
 #[cycle(gathering)]
-#[tactic(none)]
 fn gather_parts(
     alloc: Global,
     module: &Module,
@@ -317,7 +308,6 @@ fn gather_parts(
 
 /// Adds what a value of the type gives to the element that it stands in.
 #[cycle(gathering)]
-#[tactic(none)]
 pub(crate) fn gather(
     alloc: Global,
     module: &Module,

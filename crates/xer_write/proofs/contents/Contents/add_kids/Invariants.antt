@@ -3,7 +3,7 @@ use Rattle.std.specs.Prelude.{map}
 use Rattle.label_tree.specs.Rose.{roses_of}
 use Rattle.xer_write.specs.Private.Unplaced.{ItemsAreUtf8}
 use Rattle.xer_write.specs.Private.Gaining.{IsUtf8Contents, text_of, with_texts_before}
-use Rattle.xer_write.proofs.contents.Contents.add_mixed.Given as goal
+use Rattle.xer_write.proofs.contents.Contents.add_kids.Given as goal
 
 abbrev pub invariant-kids : goal.invariant-kids
 invariant-kids l = record {
