@@ -123,7 +123,7 @@ pub mixed-end : (old : List (Rose ItemLabel)) (texts : List (List ℕ)) (items :
 mixed-end old texts items k n e same =
     ap (λ j. (old ++ with_texts_before texts items) ++ text_at texts j) e
     ∙ append_assoc old (with_texts_before texts items) (text_at texts (length items))
-    ∙ ap (λ s. old ++ with_texts_before texts s ++ text_at texts (length s)) same
+    ∙ ap (λ s. old ++ (with_texts_before texts s ++ text_at texts (length s))) same
     ∙ ap (λ s. old ++ s) (sym (interleaved-is texts k))
 
 -- ---- what is known where all went well

@@ -70,6 +70,9 @@ abbrev first_kids : Roses ValueLabel → ℕ
 first_kids none = 0
 first_kids (more (node l us) vs) = length_all us
 
+first-is : (v : Rose ValueLabel) (vs : Roses ValueLabel) → first_kids (more v vs) ≡ length (kids_of v)
+first-is (node l us) vs = sym (length-list_of us)
+
 length-count : (vs : Roses ValueLabel) → length_all vs ≤ count_all vs
 length-count none = omega arith
 length-count (more (node l us) vs) = omega (arith, length-count vs)
@@ -132,14 +135,13 @@ module _ (M : List Assignment) where
 
     gathered-size : (ps : List ComponentPlace) (vs : Roses ValueLabel) → size (gathered M ps vs).kids + first_kids vs + length_all vs ≤ 3 * count_all vs
     gathered-size ps none = omega arith
-    gathered-size [] (more (node l us) vs) = omega (arith, first-count (more (node l us) vs))
-    gathered-size (p ∷ ps) (more (node l us) vs) =
-        let v = node l us in
+    gathered-size [] (more v vs) = omega (arith, first-count (more v vs))
+    gathered-size (p ∷ ps) (more v vs) =
         let one = size-placed p v (inside M p.type v) in
         let here = inside-size p.type v in
         let rest = gathered-size ps vs in
         let sum = size-joined (placed M p v (inside M p.type v)).kids (gathered M ps vs).kids in
-        let kids = length-list_of us in
+        let kids = first-is v vs in
         omega (arith, one, here, rest, sum, kids)
 
 -- ---- which kids and how many levels
