@@ -1,18 +1,18 @@
 -- What stands in an element, one thing after another.
-use Rattle.std.proofs.Common.{◌≡◌, ℕ, zero, suc, Bool, true, false, List, [], ◌∷◌, ◌++◌, length, Some, None, refl, sym, ◌∙◌, ap, subst, append_assoc, arith}
+use Rattle.std.proofs.Common.{◌≡◌, ℕ, zero, suc, Bool, true, false, List, [], ◌∷◌, ◌++◌, length, Some, None, refl, sym, ◌∙◌, ap, subst, append_assoc}
 use Rattle.std.specs.Prelude.{◌==◌, slice_get, map, Result, Ok, Err, OnOk}
 use Rattle.std.proofs.lemmas.List.{append-nil}
 use Rattle.xa_base.specs.declared.texts.Name.{Name}
-use Rattle.label_tree.specs.Rose.{Rose, node, Roses, none, more, list_of, roses_of}
+use Rattle.label_tree.specs.Rose.{Rose, node, Roses, none, more, roses_of}
 use Rattle.label_tree.proofs.Roses.{roses_of-list_of}
 use Rattle.doc_text.specs.declared.label.ItemLabel.{ItemLabel}
-use Rattle.doc_text.specs.declared.label.ItemLabel.TheVariants.{Element, Text}
+use Rattle.doc_text.specs.declared.label.ItemLabel.TheVariants.{Text}
 use Rattle.plain_items.specs.Plain.{Plain, element, text}
 use Rattle.plain_items.specs.Mixing.{text_before, interleaved}
-use Rattle.xer_items.specs.Items.{Given, given, nothing, joined, both, element_of, with_nil, nil_name}
+use Rattle.xer_items.specs.Items.{Given, given, nothing, joined, both, element_of, with_nil}
 use Rattle.xer_write.specs.declared.contents.Contents.{Contents}
 use Rattle.xer_write.specs.Private.Unplaced.{unplaced_label, unplaced, all_unplaced, AreUtf8, ItemIsUtf8, ItemsAreUtf8}
-use Rattle.xer_write.specs.Private.Gaining.{items_in, IsUtf8Contents, Has, Gains, text_item, text_item_of, text_at, with_texts_before}
+use Rattle.xer_write.specs.Private.Gaining.{items_in, Has, Gains, text_item, text_at, with_texts_before}
 
 pub items_in-joined : (a b : Roses Plain) → items_in (joined a b) ≡ items_in a ++ items_in b
 items_in-joined none b = refl

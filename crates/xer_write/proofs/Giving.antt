@@ -1,5 +1,5 @@
 -- What values give, as the code finds it.
-use Rattle.std.proofs.Common.{◌≡◌, ℕ, zero, suc, ◌+◌, ◌-◌, ◌<◌, ◌≤◌, ◌^◌, Bool, true, false, cond, Option, Some, None, List, [], ◌∷◌, length, get_or, drop, refl, sym, ◌∙◌, ap, subst, arith}
+use Rattle.std.proofs.Common.{◌≡◌, ℕ, suc, ◌+◌, ◌-◌, ◌<◌, ◌≤◌, ◌^◌, Bool, true, false, cond, Option, Some, None, List, [], ◌∷◌, length, get_or, drop, refl, sym, ◌∙◌, ap, subst, arith}
 use Rattle.std.specs.Prelude.{◌||◌, ◌&&◌, replicate, slice_get, nat_le}
 use Rattle.std.specs.Option.{is_some}
 use Rattle.label_tree.specs.Rose.{Rose, node, Roses, none, more, roses_of, list_of, label_of, kids_of, length_all, Allowed, AllowedAll}
@@ -29,7 +29,7 @@ use Rattle.asn_types.proofs.Inside.{body-of}
 use Rattle.asn_types.proofs.Counting.{replicate-drop, drop-past}
 use Rattle.plain_items.specs.Mixing.{text_before}
 use Rattle.xa_base.specs.declared.texts.Name.{Name}
-use Rattle.xer_items.specs.Names.{xml_name}
+use Rattle.asn_types.specs.Names.{name_of_part}
 use Rattle.xer_items.specs.Spelling.{is_leaf, is_textual}
 use Rattle.xer_items.specs.Items.{Given, given, nothing, both, element_of, completed, placed, inside, gathered}
 use Rattle.xer_write.specs.Private.Giving.{IsTypeIn, may_be_present, place_gives, places_give, parts_give, type_gives}
@@ -352,12 +352,12 @@ module _ (M : List Assignment) (p : ComponentPlace) (v : Rose ValueLabel) where
   by_role : (r : Role) → p.role ≡ r → place_gives M p v ≡ placed M (record { role = r; part = p.part; type = p.type }) v (inside M p.type v)
   by_role r e = ap (λ x. placed M (record { role = x; part = p.part; type = p.type }) v (inside M p.type v)) e
 
-  pub at-attribute : p.role ≡ Attribute → (name : Name) (text : List ℕ) → name ≡ xml_name p.part.identifier p.part.marks → text ≡ spelled (space_at (resolve M p.type)) v
+  pub at-attribute : p.role ≡ Attribute → (name : Name) (text : List ℕ) → name ≡ name_of_part p.part → text ≡ spelled (space_at (resolve M p.type)) v
       → given ((name, text) ∷ []) none ≡ place_gives M p v
   at-attribute e name text n s =
-      ap (λ x. given ((x, text) ∷ []) none) n ∙ ap (λ x. given ((xml_name p.part.identifier p.part.marks, x) ∷ []) none) s ∙ sym (by_role Attribute e)
+      ap (λ x. given ((x, text) ∷ []) none) n ∙ ap (λ x. given ((name_of_part p.part, x) ∷ []) none) s ∙ sym (by_role Attribute e)
 
-  pub at-element : p.role ≡ Element → (name : Name) → name ≡ xml_name p.part.identifier p.part.marks → given [] (more (element_of name (inside M p.type v)) none) ≡ place_gives M p v
+  pub at-element : p.role ≡ Element → (name : Name) → name ≡ name_of_part p.part → given [] (more (element_of name (inside M p.type v)) none) ≡ place_gives M p v
   at-element e name n = ap (λ x. given [] (more (element_of x (inside M p.type v)) none)) n ∙ sym (by_role Element e)
 
   pub at-group : p.role ≡ Group → inside M p.type v ≡ place_gives M p v

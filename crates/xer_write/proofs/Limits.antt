@@ -1,7 +1,7 @@
 -- The items of a value keep what the items of a document keep: texts have no kids, elements stand within 64 levels, and
 -- there are few nodes.
-use Rattle.std.proofs.Common.{◌≡◌, ℕ, zero, suc, ◌+◌, ◌-◌, ◌*◌, ◌≤◌, max, Bool, true, false, Option, Some, None, List, [], ◌∷◌, length, refl, sym, ◌∙◌, ap, subst, arith}
-use Rattle.std.specs.Prelude.{map, slice_get, ◌&&◌, not, IsSomeAnd, IsUtf8}
+use Rattle.std.proofs.Common.{◌≡◌, ℕ, suc, ◌+◌, ◌-◌, ◌*◌, ◌≤◌, Bool, true, false, Option, Some, None, List, [], ◌∷◌, length, refl, sym, ◌∙◌, ap, subst, arith}
+use Rattle.std.specs.Prelude.{slice_get, ◌&&◌, not, IsSomeAnd, IsUtf8}
 use Rattle.std.specs.Option.{option_map}
 use Rattle.std.proofs.lemmas.Str.{is_utf8-from_IsUtf8}
 use Rattle.std.specs.List.{list_all}
@@ -10,7 +10,7 @@ use Rattle.xa_base.specs.Characters.{is_xml_char}
 use Rattle.xa_base.specs.Limits.{is_empty, is_xmlns, has_xml_chars}
 use Rattle.std.proofs.lemmas.List.{length-map}
 use Rattle.xa_base.specs.declared.texts.Name.{Name}
-use Rattle.label_tree.specs.Rose.{Rose, node, Roses, none, more, label_of, kids_of, list_of, length_all, node_count, count_all, Allowed, AllowedAll}
+use Rattle.label_tree.specs.Rose.{Rose, node, Roses, none, more, label_of, kids_of, list_of, length_all, node_count, count_all, AllowedAll}
 use Rattle.label_tree.proofs.Roses.{length-list_of}
 use Rattle.simple_types.specs.declared.labels.ValueLabel.{ValueLabel}
 use Rattle.simple_types.specs.declared.labels.ValueLabel.TheVariants as value
@@ -31,7 +31,7 @@ use Rattle.asn_types.specs.Refs.{resolve}
 use Rattle.asn_types.specs.Spaces.{space_at}
 use Rattle.asn_types.specs.Values.{ComponentPlace, places, is_last_absent, below, FitsAt, FitEach, In}
 use Rattle.xer_items.specs.Spelling.{is_textual}
-use Rattle.xer_items.specs.Names.{xml_name}
+use Rattle.asn_types.specs.Names.{name_told, name_of_part}
 use Rattle.xer_items.specs.Items.{Given, given, nothing, joined, element_of, texts_of, with_texts, with_nil, completed, placed, inside, gathered, root_of, Xer}
 use Rattle.xer_write.specs.declared.contents.Contents.{Contents}
 use Rattle.xer_write.specs.Private.Gaining.{Has, Gains}
@@ -119,6 +119,7 @@ module _ (M : List Assignment) where
 
   mutual
     unfolding inside gathered
+
     inside-size : (t : Rose TypeLabel) (v : Rose ValueLabel) → size (inside M t v).kids + length (kids_of v) + 2 ≤ 3 * node_count v
     inside-size t (node v vs) =
         let found = resolve M t in
@@ -191,7 +192,7 @@ module _ (M : List Assignment) where
   within-placed : (depth : ℕ) (r : Role) (c : Component) (t : Rose TypeLabel) (v : Rose ValueLabel) (g : Given) → depth ≤ 64 → Within (below r depth) g.kids
       → Within depth (placed M (record { role = r; part = c; type = t }) v g).kids
   within-placed depth Attribute c t v g deep h = within-none depth deep
-  within-placed depth Element c t v g deep h = within-element depth (xml_name c.identifier c.marks) g h
+  within-placed depth Element c t v g deep h = within-element depth (name_of_part c) g h
   within-placed depth Group c t v g deep h = h
   within-placed depth Content c t v g deep h = h
   within-placed depth Embed c t v g deep h = within-none depth deep
@@ -200,6 +201,7 @@ module _ (M : List Assignment) where
 
   mutual
     unfolding inside gathered FitsAt FitEach
+
     pub inside-within : (depth : ℕ) (t : Rose TypeLabel) (v : Rose ValueLabel) → FitsAt M depth t v → Within depth (inside M t v).kids
     inside-within depth t (node v vs) fits =
         let found = resolve M t in
@@ -300,7 +302,7 @@ mutual
 
 -- as the code makes it
 pub root-made : (M : List Assignment) (a : Assignment) (v : Rose ValueLabel) (X Y : Contents) (u : Rose TypeLabel) (w : Rose ValueLabel) (name : Name) (root : Rose ItemLabel)
-    → u ≡ a.body → w ≡ v → Has X nothing → Gains X Y (inside M u w) → name ≡ xml_name a.reference a.marks
+    → u ≡ a.body → w ≡ v → Has X nothing → Gains X Y (inside M u w) → name ≡ name_told a.reference a.marks
     → ((g : Given) → Has Y g → (root ≡ unplaced (element_of name g)) × ItemIsUtf8 root) → (root ≡ unplaced (root_of M a v)) × ItemIsUtf8 (unplaced (root_of M a v))
 root-made M a v X Y u w name root eu ew empty gains en made =
     let there : Gains X Y (inside M a.body v) = subst (λ z. Gains X Y (inside M z v)) eu (subst (λ z. Gains X Y (inside M u z)) ew gains) in

@@ -101,6 +101,10 @@ module _ (M : List Assignment) where
   give-empty found [] past = give-none M found
   give-empty found (x ∷ xs) past = absurd (cc)
 
+  pub give-short : (found : Option (List ComponentPlace)) (vs : List (Rose ValueLabel)) → length vs ≡ 0 → places_give M found vs ≡ nothing
+  give-short found [] short = give-none M found
+  give-short found (x ∷ xs) short = absurd (omega (arith, short))
+
   pub give-missing : (found : Option (List ComponentPlace)) (vs : List (Rose ValueLabel)) → is_some found ≡ false → places_give M found vs ≡ nothing
   give-missing None vs e = refl
   give-missing (Some ps) vs e = absurd (cc)

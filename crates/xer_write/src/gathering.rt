@@ -10,7 +10,6 @@ ghost use Rattle.xer_write.specs.Private.Gaining.{Gains, text_of};
 ghost use Rattle.xer_write.specs.Private.Giving.{IsTypeIn, may_be_present, place_seen, place_gives, places_give, parts_give, type_gives};
 
 use crate::contents::Contents;
-use crate::names::xml_name;
 use crate::spelling::{is_textual, spelling};
 use asn_types::{Component, Form, Module, Role, TypeLabel, resolve, role};
 use label_tree::Tree;
@@ -101,14 +100,14 @@ fn gather_at(
 {
     match place.role {
         Role::Attribute => {
-            let name = xml_name(alloc, &place.part.identifier, &place.part.marks)?;
+            let attribute = place.part.name(alloc)?;
             let text = spelling(alloc, resolve(module, place.node), value)?;
-            out.add_attribute(name, text)
+            out.add_attribute(attribute, text)
         }
         Role::Element => {
             let mut inner = Contents::new(alloc);
             gather(alloc, module, place.node, value, &mut inner)?;
-            let name = xml_name(alloc, &place.part.identifier, &place.part.marks)?;
+            let name = place.part.name(alloc)?;
             out.add_element(alloc, name, inner)
         }
         Role::Group => gather(alloc, module, place.node, value, out),

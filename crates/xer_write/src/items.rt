@@ -7,7 +7,6 @@ ghost use Rattle.xer_write.specs.Sound.{IsSound};
 
 use crate::contents::Contents;
 use crate::gathering::gather;
-use crate::names::xml_name;
 use asn_types::Module;
 use doc_text::Items;
 use label_tree::Whole;
@@ -24,20 +23,21 @@ use xa_base::Memory;
 ///
 /// Each node of the value is visited once, and texts are shared with the value and the module. The stack grows with
 /// the depth of the value alone.
-pub fn items_of(
-    alloc: Global,
-    module: &Module,
-    t: u32,
-    value: &Value,
-) -> Result<Items, Memory>
+pub fn items_of(alloc: Global, module: &Module, t: u32, value: &Value) -> Result<Items, Memory>
     requires value { In module.now t value.now }
     requires sound { IsSomeAnd (Xer module.now t value.now) IsSound }
     ensures { IfOk result (λ items. Xer module.now t value.now ≡ Some (plain_of items)) }
 {
     let assignment = module.assignment(t);
     let mut inner = Contents::new(alloc);
-    gather(alloc, module, assignment.body.root(), value.root(), &mut inner)?;
-    let name = xml_name(alloc, &assignment.reference, &assignment.marks)?;
+    gather(
+        alloc,
+        module,
+        assignment.body.root(),
+        value.root(),
+        &mut inner,
+    )?;
+    let name = assignment.name(alloc)?;
     let root = inner.into_element(alloc, name)?;
     Ok(Items::of(Whole::of(root)))
 }

@@ -4,7 +4,6 @@
 mod contents;
 mod gathering;
 mod items;
-mod names;
 mod spelling;
 
 pub use items::items_of;

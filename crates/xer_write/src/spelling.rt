@@ -1,5 +1,5 @@
 //! The canonical spelling of values, by their types.
-ghost use Rattle.std.specs.Prelude.{◌≡◌, ◌++◌, [], IfOk, OnOk, MatchOption, Some, None, map, string_bytes, slice_get};
+ghost use Rattle.std.specs.Prelude.{◌≡◌, ◌++◌, [], IfOk, OnOk, MatchOption, Some, None, map, string_bytes};
 ghost use Rattle.label_tree.specs.Rose.{label_of, kids_of, roses_of, Allowed, AllowedAll};
 ghost use Rattle.std.specs.List.{join_with_byte};
 ghost use Rattle.simple_types.specs.Space.{UnionOf};

@@ -1,6 +1,5 @@
 -- What the code has of what stands in an element.
-use Rattle.std.specs.Prelude.{◌≡◌, ℕ, List, [], ◌∷◌, ◌++◌, Option, Some, None, slice_get, map}
-use Rattle.xa_base.specs.declared.texts.Name.{Name}
+use Rattle.std.specs.Prelude.{◌≡◌, ℕ, List, [], ◌∷◌, ◌++◌, Option, Some, None, slice_get}
 use Rattle.label_tree.specs.Rose.{Rose, Roses, none, roses_of, list_of, label_of}
 use Rattle.simple_types.specs.declared.labels.ValueLabel.{ValueLabel}
 use Rattle.simple_values.specs.Reading.{spelled_text}

@@ -19,8 +19,8 @@ use Rattle.xer_items.specs.Spelling.{is_textual}
 use Rattle.xer_write.specs.Private.Gaining.{Gains}
 use Rattle.xer_write.specs.Private.Giving.{IsTypeIn, may_be_present, place_seen, place_gives, places_give, parts_give, type_gives}
 use Rattle.xer_write.proofs.Gaining.{gains-nothing, gains-both, has-gained, on_ok}
-use Rattle.xer_write.proofs.Giving.{found-in, kid-in, have-kids, few-parts, allowed-of, give-none, inside-text, inside-parts, sequence-give, sequence-other, choice-other, items-other, reference-other, present-some, fit-length, fit-step, give-present, found-absent, give-end, found_from, items_from, items-step, items-end, at-attribute, at-element, at-group, at-content, at-other}
-use Rattle.xer_write.proofs.Parts.{nil-then, with-embed, without-embed, some-at, slice-at, kid-count, flag-at, role-is, give-missing, choice-made, choice-missed, choice-empty, items-made, items-missed, too-few, too-many}
+use Rattle.xer_write.proofs.Giving.{found-in, kid-in, have-kids, few-parts, allowed-of, inside-text, inside-parts, sequence-give, sequence-other, choice-other, items-other, reference-other, present-some, fit-length, fit-step, give-present, found-absent, give-end, found_from, items_from, items-step, items-end, at-attribute, at-element, at-group, at-content, at-other}
+use Rattle.xer_write.proofs.Parts.{nil-then, with-embed, without-embed, some-at, slice-at, kid-count, flag-at, role-is, give-short, give-missing, choice-made, choice-missed, choice-empty, items-made, items-missed, too-few, too-many}
 use Rattle.xer_write.proofs.gathering.+gathering.Goals as goal
 use Rattle.xer_write.proofs.gathering.+gathering.Goals.{gather_present-then-present-i+in-Some+in_ok-gather_at, gather_present-else-present-i, gather_sequence_of-then-values-min-via-then-values-min, gather_sequence_of-then-values-min-via-else-values-min+then-not-is_at_most}
 
@@ -35,11 +35,13 @@ gather-spelling-requires t c =
 pub gather-gather_parts-requires : goal.gather-gather_parts-requires
 gather-gather_parts-requires t c =
     let m = c.args.module.now in
-    let d = c.decreases in
-    (omega (arith, d), (
-      subst (IsTypeIn m) (sym c.resolve-found.ensures) (found-in m c.args.node.now c.requires),
-      ap is_textual (sym c.label.ensures) ∙ sym c.is_textual.ensures ∙ c.if-is_textual.false,
-    ))
+    let d = c.decreases in (
+      omega (arith, d),
+      (
+        subst (IsTypeIn m) (sym c.resolve-found.ensures) (found-in m c.args.node.now c.requires),
+        ap is_textual (sym c.label.ensures) ∙ sym c.is_textual.ensures ∙ c.if-is_textual.false,
+      ),
+    )
 
 pub gather-returns-in_ok-text : goal.gather-returns-in_ok-text
 gather-returns-in_ok-text t c =
@@ -84,7 +86,7 @@ gather_at-returns-in_ok-text-in-Attribute t c =
     let p = place_seen c.args.place.now in
     let v = c.args.value.now in
     let text = c.in_ok-text-in-Attribute.ensures ∙ ap (λ x. spelled (space_at x) v) c.resolve.ensures in
-    let same = at-attribute m p v c.in-Attribute.is c.in_ok-name-in-Attribute.name c.in_ok-text-in-Attribute.text c.in_ok-name-in-Attribute.ensures text in
+    let same = at-attribute m p v c.in-Attribute.is c.in_ok-attribute-in-Attribute.attribute c.in_ok-text-in-Attribute.text c.in_ok-attribute-in-Attribute.ensures text in
     subst (λ g. OnOk c.add_attribute.result (Gains c.args.out.now c.add_attribute.new.self g)) same c.add_attribute.ensures
 
 pub gather_at-returns-in_ok-name-in-Element : goal.gather_at-returns-in_ok-name-in-Element
@@ -263,7 +265,7 @@ gather_present-returns-in_default t c =
     let m = c.args.module.now in
     let o = c.parts.out in
     let found = found_from (label_of c.args.node.now) c.args.parts.now (kids_of c.args.node.now) c.args.present.now c.parts.i in
-    let none_left : places_give m found c.parts.left.now ≡ nothing = ap (places_give m found) c.in_default.ensures.cases ∙ give-none m found in
+    let none_left : places_give m found c.parts.left.now ≡ nothing = give-short m found c.parts.left.now c.in_default.ensures.cases in
     c.parts.invariant.gains o (subst (Gains o o) (sym none_left) (gains-nothing o))
 
 pub gather_present-overflow_cast-i : goal.gather_present-overflow_cast-i
@@ -325,9 +327,9 @@ gather_present-parts-preserved t c =
             fit = fit-step m l parts ts flags same i part kid c.parts-test.true w.index-parts-i.is w.kid.ensures true flag so_far.fit;
             small = omega (arith, count, less, small);
             gains = λ new h.
-            let rest : Gains after new (places_give m (found (i + 1)) others) =
-            subst (λ o. Gains o new (places_give m (found (i + 1)) others)) w.out-is (subst (λ vs. Gains c.if-present-i.out new (places_give m (found (i + 1)) vs)) now_is h) in
-            so_far.gains new (subst (Gains c.parts.out new) (sym step) (gains-both c.parts.out after new (place_gives m p v) (places_give m (found (i + 1)) others) one rest));
+                let rest : Gains after new (places_give m (found (i + 1)) others) =
+                subst (λ o. Gains o new (places_give m (found (i + 1)) others)) w.out-is (subst (λ vs. Gains c.if-present-i.out new (places_give m (found (i + 1)) vs)) now_is h) in
+                so_far.gains new (subst (Gains c.parts.out new) (sym step) (gains-both c.parts.out after new (place_gives m p v) (places_give m (found (i + 1)) others) one rest));
           }
       | gather_present-else-present-i w ↦
           let x = some-at parts i c.parts-test.true in
@@ -342,9 +344,9 @@ gather_present-parts-preserved t c =
             fit = fit-step m l parts ts flags same i x.0 k.0 c.parts-test.true x.1 got false flag so_far.fit;
             small = omega (arith, less, small);
             gains = λ new h.
-            let rest : Gains c.parts.out new (places_give m (found (i + 1)) c.parts.left.now) =
-            subst (λ o. Gains o new (places_give m (found (i + 1)) c.parts.left.now)) w.out-is (subst (λ vs. Gains c.if-present-i.out new (places_give m (found (i + 1)) vs)) now_is h) in
-            so_far.gains new (subst (λ o. Gains c.parts.out new (places_give m o c.parts.left.now)) (sym step) rest);
+                let rest : Gains c.parts.out new (places_give m (found (i + 1)) c.parts.left.now) =
+                subst (λ o. Gains o new (places_give m (found (i + 1)) c.parts.left.now)) w.out-is (subst (λ vs. Gains c.if-present-i.out new (places_give m (found (i + 1)) vs)) now_is h) in
+                so_far.gains new (subst (λ o. Gains c.parts.out new (places_give m o c.parts.left.now)) (sym step) rest);
           }
     ]
 

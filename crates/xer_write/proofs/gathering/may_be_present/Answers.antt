@@ -1,4 +1,4 @@
-use Rattle.std.proofs.Common.{◌≡◌, true, false, refl, sym, ap, ◌∙◌, arith}
+use Rattle.std.proofs.Common.{true, false, refl, sym, ap, ◌∙◌, arith}
 use Rattle.asn_types.specs.declared.types.Component.{Component}
 use Rattle.xer_write.proofs.Giving.{misfit}
 use Rattle.xer_write.proofs.Parts.{some-at, may-step}

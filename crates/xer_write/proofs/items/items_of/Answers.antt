@@ -1,11 +1,11 @@
-use Rattle.std.proofs.Common.{◌≡◌, Some, sym, ap, subst, ◌∙◌}
+use Rattle.std.proofs.Common.{Some, sym, ap, subst, ◌∙◌}
 use Rattle.std.specs.Option.{option_map}
 use Rattle.label_tree.specs.Rose.{Allowed}
 use Rattle.doc_text.specs.Labels.{MayHave}
 use Rattle.doc_text.specs.Sound.{AreItems}
 use Rattle.plain_items.specs.Plain.{plain_of}
 use Rattle.asn_types.specs.declared.modules.Assignment.{Assignment}
-use Rattle.xer_items.specs.Items.{inside, root_of}
+use Rattle.xer_items.specs.Items.{root_of}
 use Rattle.xer_write.specs.Private.Giving.{IsTypeIn}
 use Rattle.xer_write.proofs.Giving.{body-in}
 use Rattle.xer_write.proofs.Limits.{root-items, root-made, plain-unplaced}

@@ -1,9 +1,9 @@
-use Rattle.std.proofs.Common.{◌≡◌, ◌+◌, ◌++◌, [], ◌∷◌, drop, sym, ap, subst, ◌∙◌, arith, append_assoc}
-use Rattle.std.specs.Prelude.{string_bytes, map, slice_get, Some}
+use Rattle.std.proofs.Common.{◌≡◌, ◌+◌, ◌++◌, [], drop, sym, ap, subst, ◌∙◌, arith, append_assoc}
+use Rattle.std.specs.Prelude.{string_bytes, map}
 use Rattle.std.specs.List.{join_with_byte}
 use Rattle.std.proofs.Math.ListN.{drop_of_length-le}
 use Rattle.std.proofs.lemmas.List.{append-nil}
-use Rattle.label_tree.specs.Rose.{roses_of, label_of, kids_of, Allowed, AllowedAll}
+use Rattle.label_tree.specs.Rose.{roses_of, AllowedAll}
 use Rattle.label_tree.proofs.Roses.{node_count-kids, allowed-kids}
 use Rattle.label_tree.proofs.Kids.{node_count-got, allowed-got}
 use Rattle.simple_values.specs.Reading.{spelled}

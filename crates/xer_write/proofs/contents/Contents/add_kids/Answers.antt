@@ -17,7 +17,7 @@ kids-preserved c =
           ∙ mixed-step c.args.self.now.kids.items texts c.kids.yielded kid c.kids.count so_far.count;
       count = let l = length_push c.kids.yielded kid in omega (arith, l, so_far.count);
       utf8 = λ u w.
-      let parts = items_utf8-front c.kids.yielded (kid ∷ []) w in
-      let before = c.in_ok-add_text_at.ensures.utf8 (so_far.utf8 u parts.0) in
-      record { attributes = before.attributes; kids = items_utf8-pushed c.add_text_at.new.self.kids.items c.push.new.self.items kid pushed parts.1.0 before.kids };
+          let parts = items_utf8-front c.kids.yielded (kid ∷ []) w in
+          let before = c.in_ok-add_text_at.ensures.utf8 (so_far.utf8 u parts.0) in
+          record { attributes = before.attributes; kids = items_utf8-pushed c.add_text_at.new.self.kids.items c.push.new.self.items kid pushed parts.1.0 before.kids };
     }
