@@ -1,0 +1,5 @@
+mod Gaining
+mod Giving
+mod Limits
+mod Parts
+mod Spellings

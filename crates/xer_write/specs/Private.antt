@@ -1,0 +1,3 @@
+pub mod Unplaced
+pub mod Gaining
+pub mod Giving

@@ -1,0 +1,42 @@
+-- What values give, as the code finds it.
+use Rattle.std.specs.Prelude.{Bool, true, false, ◌&&◌, ◌||◌, length, List, [], ◌∷◌, Option, None, Some}
+use Rattle.label_tree.specs.Rose.{Rose, label_of, kids_of, roses_of}
+use Rattle.simple_types.specs.declared.labels.ValueLabel.{ValueLabel}
+use Rattle.asn_types.specs.declared.types.Component.{Component}
+use Rattle.asn_types.specs.declared.types.TypeLabel.{TypeLabel}
+use Rattle.asn_types.specs.declared.modules.Assignment.{Assignment}
+use Rattle.asn_types.specs.Modules.{IsModule}
+use Rattle.asn_types.specs.Refs.{IsOf}
+use Rattle.asn_types.specs.Values.{ComponentPlace, places}
+use Rattle.xer_items.specs.Items.{Given, nothing, completed, placed, inside, gathered}
+use Rattle.xer_write.specs.declared.gathering.Place.{Place}
+
+-- a flag for each component, where each that is absent is optional
+abbrev pub may_be_present : List Component → List Bool → Bool
+may_be_present [] [] = true
+may_be_present (part ∷ parts) (flag ∷ flags) = (flag || part.optional) && may_be_present parts flags
+may_be_present _ _ = false
+
+abbrev pub place_seen : Place → ComponentPlace
+place_seen place = record { role = place.role; part = place.part.now; type = place.node.now }
+
+-- the type stands in the module
+abbrev pub IsTypeIn : List Assignment → Rose TypeLabel → Type 0
+IsTypeIn M t = IsModule M × IsOf M t
+
+module _ (M : List Assignment) where
+  -- a value at a place
+  abbrev pub place_gives : ComponentPlace → Rose ValueLabel → Given
+  place_gives p v = placed M p v (inside M p.type v)
+
+  -- values at places, if there are any
+  abbrev pub places_give : Option (List ComponentPlace) → List (Rose ValueLabel) → Given
+  places_give found vs = elim found [ None ↦ nothing | Some ps ↦ gathered M ps (roses_of vs) ]
+
+  -- the parts of a value whose type is found
+  abbrev pub parts_give : Rose TypeLabel → Rose ValueLabel → Given
+  parts_give t v = places_give (places t (label_of v) (length (kids_of v))) (kids_of v)
+
+  -- and with the instructions on the type
+  abbrev pub type_gives : Rose TypeLabel → Rose ValueLabel → Given
+  type_gives t v = completed (label_of t) (label_of v) (roses_of (kids_of v)) (parts_give t v)

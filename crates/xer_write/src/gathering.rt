@@ -1,0 +1,327 @@
+//! What a value gives to the element that it stands in.
+ghost use Rattle.std.specs.Prelude.{◌≡◌, ◌&&◌, true, false, OnOk, length, map, replicate};
+ghost use Rattle.label_tree.specs.Rose.{label_of, kids_of, roses_of};
+ghost use Rattle.asn_types.specs.Marks.{has_use_nil};
+ghost use Rattle.asn_types.specs.Values as rule;
+ghost use Rattle.asn_types.specs.declared.types.Form.TheVariants as form;
+ghost use Rattle.xer_items.specs.Items.{nothing, with_nil, inside, gathered, texts_of};
+ghost use Rattle.xer_items.specs.Spelling.{is_textual};
+ghost use Rattle.xer_write.specs.Private.Gaining.{Gains, text_of};
+ghost use Rattle.xer_write.specs.Private.Giving.{IsTypeIn, may_be_present, place_seen, place_gives, places_give, parts_give, type_gives};
+
+use crate::contents::Contents;
+use crate::spelling::{is_textual, spelling};
+use asn_types::{Component, Form, Module, Role, TypeLabel, resolve, role};
+use label_tree::Tree;
+use simple_types::ValueLabel;
+use simple_values::is_at_most;
+use std::alloc::Global;
+use xa_base::Memory;
+
+/// Where a kid of a value stands: the part, its role, and its type.
+#[derive(Drop)]
+struct Place<'a> {
+    role: Role,
+    part: &'a Component,
+    node: &'a Tree<TypeLabel>,
+}
+
+// Whether the last part of a SEQUENCE is absent.
+fn is_last_absent(label: &ValueLabel) -> bool
+    ensures { result ≡ rule.is_last_absent label.now }
+{
+    match label {
+        ValueLabel::Sequence { present } => match present.items().last() {
+            Some(flag) => !*flag,
+            None => false,
+        },
+        _ => false,
+    }
+}
+
+// The texts of the first part, where it is present.
+fn texts_of(value: &Tree<ValueLabel>) -> &[Tree<ValueLabel>]
+    ensures { map text_of result.now ≡ texts_of (label_of value.now) (roses_of (kids_of value.now)) }
+{
+    match value.label() {
+        ValueLabel::Sequence { present } => match present.items() {
+            [true, ..] => match value.kids() {
+                [first, ..] => first.kids(),
+                [] => &[],
+            },
+            _ => &[],
+        },
+        _ => &[],
+    }
+}
+
+// Whether there is a flag for each component, and each that is absent is optional.
+fn may_be_present(parts: &[Component], present: &[bool]) -> bool
+    ensures { result ≡ may_be_present parts.now present.now }
+{
+    if parts.len() != present.len() {
+        return false;
+    }
+    'parts: for i in 0..parts.len() {
+        if !present[i] && !parts[i].optional {
+            return false;
+        }
+    }
+    true
+}
+
+// Adds `xsi:nil` where the content is absent of a type with USE-NIL.
+fn add_nil_if(
+    alloc: Global,
+    label: &TypeLabel,
+    value: &ValueLabel,
+    out: &mut Contents,
+) -> Result<(), Memory>
+    ensures { OnOk result (Gains out.old out.new (with_nil (has_use_nil label.now.marks && rule.is_last_absent value.now) nothing)) }
+{
+    if label.marks.has_use_nil() && is_last_absent(value) {
+        out.add_nil(alloc)
+    } else {
+        Ok(())
+    }
+}
+
+// Adds what the value at a place gives.
+#[cycle(gathering)]
+fn gather_at(
+    alloc: Global,
+    module: &Module,
+    place: &Place,
+    value: &Tree<ValueLabel>,
+    out: &mut Contents,
+) -> Result<(), Memory>
+    requires { IsTypeIn module.now place.now.node.now }
+    ensures { OnOk result (Gains out.old out.new (place_gives module.now (place_seen place.now) value.now)) }
+{
+    match place.role {
+        Role::Attribute => {
+            let attribute = place.part.name(alloc)?;
+            let text = spelling(alloc, resolve(module, place.node), value)?;
+            out.add_attribute(attribute, text)
+        }
+        Role::Element => {
+            let mut inner = Contents::new(alloc);
+            gather(alloc, module, place.node, value, &mut inner)?;
+            let name = place.part.name(alloc)?;
+            out.add_element(alloc, name, inner)
+        }
+        Role::Group => gather(alloc, module, place.node, value, out),
+        Role::Content => gather(alloc, module, place.node, value, out),
+        _ => Ok(()),
+    }
+}
+
+// Adds what the components of a SEQUENCE give that are present.
+#[cycle(gathering)]
+fn gather_present(
+    alloc: Global,
+    module: &Module,
+    node: &Tree<TypeLabel>,
+    parts: &[Component],
+    present: &[bool],
+    values: &[Tree<ValueLabel>],
+    out: &mut Contents,
+) -> Result<(), Memory>
+    requires node { IsTypeIn module.now node.now }
+    requires form { (label_of node.now).form ≡ form.Sequence parts.now }
+    requires present { may_be_present parts.now present.now ≡ true }
+    ensures { OnOk result (Gains out.old out.new (places_give module.now (rule.present_from (label_of node.now) 0 parts.now (kids_of node.now) present.now) values.now)) }
+{
+    let mut left = values;
+    'parts: for i in 0..parts.len() {
+        if present[i] {
+            let Some((value, others)) = left.split_first() else {
+                return Ok(());
+            };
+            let place = Place {
+                role: role(node.label(), i as u32),
+                part: &parts[i],
+                node: node.kid(i),
+            };
+            gather_at(alloc, module, &place, value, out)?;
+            left = others;
+        }
+    }
+    Ok(())
+}
+
+// Adds what the value of a SEQUENCE gives.
+#[cycle(gathering)]
+fn gather_sequence(
+    alloc: Global,
+    module: &Module,
+    node: &Tree<TypeLabel>,
+    parts: &[Component],
+    value: &Tree<ValueLabel>,
+    out: &mut Contents,
+) -> Result<(), Memory>
+    requires node { IsTypeIn module.now node.now }
+    requires form { (label_of node.now).form ≡ form.Sequence parts.now }
+    ensures { OnOk result (Gains out.old out.new (parts_give module.now node.now value.now)) }
+{
+    match value.label() {
+        ValueLabel::Sequence { present } => {
+            let present = present.items();
+            if may_be_present(parts, present) {
+                gather_present(alloc, module, node, parts, present, value.kids(), out)
+            } else {
+                Ok(())
+            }
+        }
+        _ => Ok(()),
+    }
+}
+
+// Adds what the chosen value of a CHOICE gives.
+#[cycle(gathering)]
+fn gather_choice(
+    alloc: Global,
+    module: &Module,
+    node: &Tree<TypeLabel>,
+    parts: &[Component],
+    value: &Tree<ValueLabel>,
+    out: &mut Contents,
+) -> Result<(), Memory>
+    requires node { IsTypeIn module.now node.now }
+    requires form { (label_of node.now).form ≡ form.Choice parts.now }
+    ensures { OnOk result (Gains out.old out.new (parts_give module.now node.now value.now)) }
+{
+    let ValueLabel::Choice(i) = value.label() else {
+        return Ok(());
+    };
+    let Some(part) = parts.get(*i as usize) else {
+        return Ok(());
+    };
+    let Some(chosen) = value.kids().first() else {
+        return Ok(());
+    };
+    let place = Place {
+        role: role(node.label(), *i),
+        part,
+        node: node.kid(*i as usize),
+    };
+    gather_at(alloc, module, &place, chosen, out)
+}
+
+// Adds what the items of a SEQUENCE OF give, which all stand at one place.
+#[cycle(gathering)]
+fn gather_items(
+    alloc: Global,
+    module: &Module,
+    place: &Place,
+    values: &[Tree<ValueLabel>],
+    out: &mut Contents,
+) -> Result<(), Memory>
+    requires { IsTypeIn module.now place.now.node.now }
+    ensures { OnOk result (Gains out.old out.new (gathered module.now (replicate (length values.now) (place_seen place.now)) (roses_of values.now))) }
+{
+    'values: for value in values {
+        gather_at(alloc, module, place, value, out)?;
+    }
+    Ok(())
+}
+
+// Adds what the value of a SEQUENCE OF gives.
+#[cycle(gathering)]
+fn gather_sequence_of(
+    alloc: Global,
+    module: &Module,
+    node: &Tree<TypeLabel>,
+    part: &Component,
+    min: u32,
+    max: Option<u32>,
+    value: &Tree<ValueLabel>,
+    out: &mut Contents,
+) -> Result<(), Memory>
+    requires node { IsTypeIn module.now node.now }
+    requires form { (label_of node.now).form ≡ form.SequenceOf part.now min max }
+    ensures { OnOk result (Gains out.old out.new (parts_give module.now node.now value.now)) }
+{
+    let ValueLabel::SequenceOf = value.label() else {
+        return Ok(());
+    };
+    let values = value.kids();
+    if values.len() < min as usize || !is_at_most(values.len(), max) {
+        return Ok(());
+    }
+    let place = Place {
+        role: role(node.label(), 0),
+        part,
+        node: node.kid(0),
+    };
+    gather_items(alloc, module, &place, values, out)
+}
+
+// Adds what the kids of a value give, whose type is no reference. It is nothing where the value isn't of the type.
+#[cycle(gathering)]
+fn gather_kids(
+    alloc: Global,
+    module: &Module,
+    node: &Tree<TypeLabel>,
+    value: &Tree<ValueLabel>,
+    out: &mut Contents,
+) -> Result<(), Memory>
+    requires node { IsTypeIn module.now node.now }
+    requires parts { is_textual (label_of node.now) ≡ false }
+    ensures { OnOk result (Gains out.old out.new (parts_give module.now node.now value.now)) }
+{
+    match &node.label().form {
+        Form::Sequence { parts } => {
+            gather_sequence(alloc, module, node, parts.items(), value, out)
+        }
+        Form::Choice { parts } => gather_choice(alloc, module, node, parts.items(), value, out),
+        Form::SequenceOf { part, min, max } => {
+            gather_sequence_of(alloc, module, node, part, *min, *max, value, out)
+        }
+        _ => Ok(()),
+    }
+}
+
+// Adds what a value gives whose type is no reference and no text, by the instructions on the type.
+#[cycle(gathering)]
+fn gather_parts(
+    alloc: Global,
+    module: &Module,
+    node: &Tree<TypeLabel>,
+    value: &Tree<ValueLabel>,
+    out: &mut Contents,
+) -> Result<(), Memory>
+    requires node { IsTypeIn module.now node.now }
+    requires parts { is_textual (label_of node.now) ≡ false }
+    ensures { OnOk result (Gains out.old out.new (type_gives module.now node.now value.now)) }
+{
+    add_nil_if(alloc, node.label(), value.label(), out)?;
+    if node.label().marks.has_embed_values() {
+        let mut inner = Contents::new(alloc);
+        gather_kids(alloc, module, node, value, &mut inner)?;
+        out.add_mixed(alloc, texts_of(value), inner)
+    } else {
+        gather_kids(alloc, module, node, value, out)
+    }
+}
+
+/// Adds what a value of the type gives to the element that it stands in.
+#[cycle(gathering)]
+pub(crate) fn gather(
+    alloc: Global,
+    module: &Module,
+    node: &Tree<TypeLabel>,
+    value: &Tree<ValueLabel>,
+    out: &mut Contents,
+) -> Result<(), Memory>
+    requires { IsTypeIn module.now node.now }
+    ensures { OnOk result (Gains out.old out.new (inside module.now node.now value.now)) }
+{
+    let found = resolve(module, node);
+    if is_textual(found.label()) {
+        let text = spelling(alloc, found, value)?;
+        out.add_text(alloc, text)
+    } else {
+        gather_parts(alloc, module, found, value, out)
+    }
+}
