@@ -18,7 +18,7 @@ use Rattle.content_models.specs.Seen.{seen}
 use Rattle.doc_text.specs.declared.label.ItemLabel.{ItemLabel}
 use Rattle.doc_text.specs.declared.label.ItemLabel.TheVariants.{Element, Text}
 use Rattle.doc_text.specs.Sound.{is_sound_name, are_sound_attributes, is_sound_binding, is_sound_label, is_sound, are_sound, levels, levels_all}
-use Rattle.plain_items.specs.Plain.{Plain}
+use Rattle.plain_items.specs.Plain.{Plain, element}
 use Rattle.plain_items.specs.Mixing.{text_before, interleaved, child_elements, texts_between}
 use Rattle.plain_items.proofs.Mixing.{takes_apart}
 use Rattle.asn_types.specs.declared.modules.Assignment.{Assignment}
@@ -46,7 +46,7 @@ use Rattle.validity.proofs.Treated.{declared_each}
 use Rattle.validity.proofs.Unique.{ContentValid, NilValid}
 use Rattle.value_exists.proofs.Texts.{left-encoded, text-given, attributes-given}
 use Rattle.value_exists.proofs.Filling.{Gift, item_of, items_of, RestGiven, TextsGiven, complex-fills}
-use Rattle.value_exists.proofs.Kids.{only-utf8, between-xml, elements-alone, texts-given, AllExist, kids-given, kids-xml}
+use Rattle.value_exists.proofs.Kids.{IsXml, only-utf8, between-xml, elements-alone, texts-given, AllExist, kids-given, kids-xml}
 
 nil-nillable : (nillable : Bool) (o : Option (List ℕ)) → nil_by nillable o ≡ is_nil → nillable ≡ true
 nil-nillable true o e = refl
@@ -111,7 +111,7 @@ module _ (s : Set) (linked : IsLinked s) (M : List Assignment) (E : ℕ → Rose
       by not_nil e vs eb k =
           let one = read-text space ks vs (attributes-sound name xs declares at ks sound).1 k.0 k.1 k.2 in
           let t = f one.text one.encoded one.value one.read in
-          (one.value, t.0, ap (element_of name) (t.1 ∙ ap (λ z. given [] z) (sym one.kids)) ∙ sym (eb ∙ ap (λ n. node (Rattle.plain_items.specs.Plain.element name (with_nil n [])) vs) e))
+          (one.value, t.0, ap (element_of name) (t.1 ∙ ap (λ z. given [] z) (sym one.kids)) ∙ sym (eb ∙ ap (λ n. node (element name (with_nil n [])) vs) e))
 
   -- ---- complex types
 
@@ -128,7 +128,7 @@ module _ (s : Set) (linked : IsLinked s) (M : List Assignment) (E : ℕ → Rose
 
     no-texts : (mixed : Bool) → TextsGiven M E depth small s linked mixed 0 []
     no-texts false = tt
-    no-texts true = let t = texts-given M depth small [] (All-nil _) in (t.0, t.1, t.2, refl)
+    no-texts true = let t = texts-given M depth small [] (All-nil IsXml) in (t.0, t.1, t.2, refl)
 
     nothing-put : (mixed : Bool) (xs : List (Name × List ℕ)) → with_texts mixed [] (given xs rose.none) ≡ given xs rose.none
     nothing-put true xs = refl

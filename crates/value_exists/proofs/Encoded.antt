@@ -26,6 +26,7 @@ use Rattle.simple_values.proofs.Decimals.{short}
 use Rattle.simple_values.proofs.OwnSpellings.{which, settles_so}
 use Rattle.simple_values.proofs.Readings.{reads-ListOf, reads-UnionOf}
 use Rattle.simple_values.proofs.Spellings.{spelled-ListOf}
+use Rattle.simple_values.proofs.WholeNumbers.{and-first, and-second}
 
 -- ---- a byte of ASCII between two texts
 
@@ -125,12 +126,8 @@ treated_utf8 Collapse text u = join_utf8 (words_of text) (words_utf8 text u)
 
 all_low : (cs : List ℕ) → list_all (λ c. nat_lt c 128) cs ≡ true → IsAscii cs
 all_low [] e = IsAscii-nil
-all_low (c ∷ cs) e = by (nat_lt c 128) (list_all (λ d. nat_lt d 128) cs) refl refl e
-  where
-    by : (a b : Bool) → nat_lt c 128 ≡ a → list_all (λ d. nat_lt d 128) cs ≡ b → (a && b) ≡ true → IsAscii (c ∷ cs)
-    by true true low rest k = IsAscii-cons c cs (ltb-true c 128 low) (all_low cs rest)
-    by true false low rest k = absurd (cc)
-    by false b low rest k = absurd (cc)
+all_low (c ∷ cs) e =
+    IsAscii-cons c cs (ltb-true c 128 (and-first (nat_lt c 128) (list_all (λ d. nat_lt d 128) cs) e)) (all_low cs (and-second (nat_lt c 128) (list_all (λ d. nat_lt d 128) cs) e))
 
 boolean_utf8 : (b : Bool) → IsUtf8 (boolean_text b)
 boolean_utf8 true = IsUtf8-from_ascii (boolean_text true) (all_low (boolean_text true) refl)

@@ -1,5 +1,6 @@
 -- Values for texts, attributes and contents make a value of a complex type, nil or not, that has their items.
 use Rattle.std.proofs.Common.{◌≡◌, ℕ, suc, ◌+◌, ◌≤◌, ◌&&◌, ◌⊎◌, inl, inr, Bool, true, false, not, Option, Some, None, List, [], ◌∷◌, ◌++◌, length, map, append-nil, true≢false, refl, sym, ap, subst, ◌∙◌}
+use Rattle.std.specs.Prelude.{All}
 use Rattle.std.proofs.lemmas.List.{length-map}
 use Rattle.xa_base.specs.declared.texts.Name.{Name}
 use Rattle.label_tree.specs.Rose.{Rose, node, Roses, list_of, roses_of, label_of, kids_of, length_all}
@@ -33,7 +34,7 @@ use Rattle.map_laws.specs.Standing.{Behind, AreTexts, WithTexts, WithAttributes,
 use Rattle.map_laws.proofs.Values.{present_children, PartsFit, sequence-value, sequence-children}
 use Rattle.map_laws.proofs.Complexes.{fits-found}
 use Rattle.map_laws.proofs.Counts.{count-at}
-use Rattle.map_laws.proofs.Giving.{parts-fit-each, sequence-fits, sequence-gives, AreFit, MakesParts, top-made}
+use Rattle.map_laws.proofs.Giving.{parts-fit-each, sequence-fits, sequence-gives, IsGiven, top-made}
 use Rattle.map_laws.proofs.Nillables.{last_absent, last-at}
 use Rattle.xer_items.specs.Spelling.{spelling}
 use Rattle.xer_items.specs.Items.{Given, given, nothing, joined, both, with_nil, with_texts, texts_of, placed, inside}
@@ -86,19 +87,23 @@ ends-last nil (b ∷ bs) h = last-at b bs ∙ by b bs h
     by b [] k = k
     by b (c ∷ cs) k = by c cs k
 
-module _ (M : List Assignment) (E : ℕ → Rose TypeLabel → Type 0) (depth : ℕ) (small : depth ≤ 64) (s : Set) (linked : IsLinked s) where
+module _ (M : List Assignment) (E : ℕ → Rose TypeLabel → Type 0) (depth : ℕ) (small : depth ≤ 64) where
   -- for each type at the leaf's declaration there is a value that gives the item
-  abbrev pub AreGiven : List Gift → Type 0
-  AreGiven gs = AreFit Gift (Rose Plain) leaf_of item_of (tell M) M E depth small gs
+  abbrev pub IsMade : Gift → Type 0
+  IsMade g = IsGiven Gift (Rose Plain) leaf_of item_of (tell M) M E depth small g
 
+  abbrev pub AreMade : List Gift → Type 0
+  AreMade gs = All IsMade gs
+
+module _ (M : List Assignment) (E : ℕ → Rose TypeLabel → Type 0) (depth : ℕ) (small : depth ≤ 64) (s : Set) (linked : IsLinked s) where
   told-roses : (xs : List Child) → told M xs ≡ roses_of (map (tell M) xs)
   told-roses [] = refl
   told-roses (x ∷ xs) = ap (λ z. rose.more (tell M x) z) (told-roses xs)
 
   -- the kids of child elements, which are so many, at the leaves of a list of the content model
-  record ChildrenGiven (p : Rose ParticleLabel) (k : Roses Plain) (n : ℕ) : Type 0 where
+  pub record ChildrenGiven (p : Rose ParticleLabel) (k : Roses Plain) (n : ℕ) : Type 0 where
     pub gifts : List Gift
-    pub fit : AreGiven gifts
+    pub fit : AreMade M E depth small gifts
     pub leaves : Lang (seen p) 0 [] (map leaf_of gifts)
     pub kids : k ≡ items_of gifts
     pub count : n ≡ length gifts

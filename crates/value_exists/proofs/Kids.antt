@@ -40,7 +40,7 @@ use Rattle.validity.specs.Asked.{Asked}
 use Rattle.validity.specs.Valid.{put_before, only_text, Between, ValidBy, KidsValid}
 use Rattle.one_value.proofs.Mixed.{text_in}
 use Rattle.value_exists.proofs.Accepted.{accepted-fits}
-use Rattle.value_exists.proofs.Filling.{Gift, leaf_of, item_of, items_of, AreGiven}
+use Rattle.value_exists.proofs.Filling.{Gift, leaf_of, item_of, items_of, IsMade, AreMade}
 
 -- ---- what is sound of the first of some items
 
@@ -78,7 +78,7 @@ only-utf8 (rose.more (node (Text one at) ks) ts) sound words e =
 
 -- ---- texts between child elements are of XML characters
 
-abbrev IsXml : List ℕ → Type 0
+abbrev pub IsXml : List ℕ → Type 0
 IsXml words = has_xml_chars words ≡ true
 
 nothing-xml : IsXml []
@@ -160,12 +160,12 @@ module _ (asks : ℕ → Asked) (M : List Assignment) (E : ℕ → Rose TypeLabe
   -- the child elements stand at these leaves
   pub record KidsGiven (w : List Leaf) (us : Roses Plain) : Type 0 where
     pub gifts : List Gift
-    pub fit : AreGiven M E depth small gifts
+    pub fit : AreMade M E depth small gifts
     pub leaves : map leaf_of gifts ≡ w
     pub items : child_elements us ≡ items_of gifts
 
   no-gifts : (w : List Leaf) (us : Roses Plain) → w ≡ [] → us ≡ rose.none → KidsGiven w us
-  no-gifts w us e f = record { gifts = []; fit = All-nil _; leaves = sym e; items = ap child_elements f }
+  no-gifts w us e f = record { gifts = []; fit = All-nil (IsMade M E depth small); leaves = sym e; items = ap child_elements f }
 
   behind-text : (mixed blank : Bool) (words : List ℕ) (w : List Leaf) (vs us : Roses Plain) → Between mixed blank words vs us → KidsGiven w vs → KidsGiven w us
   behind-text true blank words w vs us h rest = record { gifts = rest.gifts; fit = rest.fit; leaves = rest.leaves; items = ap child_elements h ∙ rest.items }
@@ -184,10 +184,10 @@ module _ (asks : ℕ → Asked) (M : List Assignment) (E : ℕ → Rose TypeLabe
       let parts = first-sound (Element name xs declares at) ks ts sound in
       let rest = kids-given high f ts parts.others (omega (arith, within)) mixed v vs h in
       let one = f name xs declares at ks parts.own (omega (arith, within)) l.decl b val in
-      let here = record { leaf = l; item = b } in
+      let here : Gift = record { leaf = l; item = b } in
       record {
         gifts = here ∷ rest.gifts;
-        fit = All-cons _ here rest.gifts (λ u e. subst (λ n. (x : Rose ValueLabel) × FitsAt M (suc depth) u x × (element_of n (inside M u x) ≡ b)) (sym nm) (one u e)) rest.fit;
+        fit = All-cons (IsMade M E depth small) here rest.gifts (λ u e. subst (λ n. (x : Rose ValueLabel) × FitsAt M (suc depth) u x × (element_of n (inside M u x) ≡ b)) (sym nm) (one u e)) rest.fit;
         leaves = ap (λ z. l ∷ z) rest.leaves ∙ sym ew;
         items = ap child_elements eu ∙ element-kept l.decl name xs declares at ks b vs val ∙ ap (λ z. rose.more b z) rest.items;
       }
