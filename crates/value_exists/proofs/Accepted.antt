@@ -2,7 +2,7 @@
 use Rattle.std.proofs.Common.{◌≡◌, ℕ, zero, suc, ◌+◌, ◌-◌, ◌<◌, ◌≤◌, nat_lt, nat_le, ◌&&◌, ◌||◌, ◌==◌, Bool, true, false, Option, Some, None, List, [], ◌∷◌, ◌++◌, length, replicate, All, Ok, Err, inl, inr, refl, sym, ap, subst, ◌∙◌, arith}
 use Rattle.std.specs.Prelude.{ℤ, IsUtf8, slice_get, position, bytes_eq, MatchBool, if◌then◌else◌}
 use Rattle.std.specs.Ordering.{int_eq}
-use Rattle.std.proofs.lemmas.Bool.Decides.{nat_tests}
+use Rattle.std.proofs.lemmas.Bool.Decides.{Decides-ltb}
 use Rattle.std.proofs.lemmas.List.Elements.{All-head, All-tail}
 use Rattle.std.proofs.lemmas.List.Quantifiers.{position-Some}
 use Rattle.label_tree.specs.Rose.{Rose, node, Roses, list_of, roses_of, label_of, length_all}
@@ -93,7 +93,7 @@ within-bounds least greatest z v bits h = by (is_from least z && is_to greatest 
     by false e = absurd (let f = rw (bits, e) at h in cc)
 
 below-length : (i n : ℕ) → i < n → nat_lt i n ≡ true
-below-length i n h = grind (arith, nat_tests)
+below-length i n h = (Decides-ltb i n).1 h
 
 record IsItem {X : Type 0} (xs : List X) (v : Rose ValueLabel) : Type 0 where
   pub number : ℕ

@@ -114,9 +114,11 @@ module _ (s : Set) (M : List Assignment) (linked : IsLinked s) (is_map : IsMapOf
   content-has zero depth small enough d e is u has =
       content-by zero depth small (λ name xs declares at ks sound within k b valid t c. absurd (omega (arith, within))) d e is u has
   content-has (suc high) depth small enough d e is u has =
+      let deeper : suc depth ≤ 64 = omega (arith, enough) in
+      let enough_below : suc depth + high ≤ 64 = omega (arith, enough) in
       content-by (suc high) depth small
       (λ name xs declares at ks sound within k b valid t c.
-          declared-has high (suc depth) (omega (arith, enough)) (λ n y g z q. content-has high (suc depth) (omega (arith, enough)) (omega (arith, enough)) n y g z q) k t c name xs declares at ks sound (omega (arith, within)) b valid)
+          declared-has high (suc depth) deeper (λ n y g z q. content-has high (suc depth) deeper enough_below n y g z q) k t c name xs declares at ks sound (omega (arith, within)) b valid)
       d e is u has
 
 -- ---- the root

@@ -1,8 +1,9 @@
 -- The treated kids of a valid element: texts in UTF-8, and child elements at the leaves of a list of the content model.
-use Rattle.std.proofs.Common.{◌≡◌, ℕ, zero, suc, ◌+◌, ◌≤◌, max, ◌&&◌, Bool, true, false, not, Option, Some, None, List, [], ◌∷◌, ◌++◌, length, map, refl, sym, ap, subst, ◌∙◌, arith}
-use Rattle.std.specs.Prelude.{All, Ok, IsUtf8, nat_le}
+use Rattle.std.proofs.Common.{◌≡◌, ℕ, zero, suc, ◌+◌, ◌≤◌, max, ◌&&◌, Bool, true, false, not, Option, Some, None, List, [], ◌∷◌, ◌++◌, length, map, inl, inr, refl, sym, ap, subst, ◌∙◌, arith}
+use Rattle.std.specs.Prelude.{All, Ok, Err, IsUtf8, nat_le, if◌then◌else◌}
 use Rattle.std.specs.List.{list_all}
 use Rattle.std.specs.Str.{chars, is_utf8}
+use Rattle.std.proofs.lemmas.Bool.Decides.{leb_tells}
 use Rattle.std.proofs.lemmas.List.Elements.{All-nil, All-cons, All-head, All-tail}
 use Rattle.std.proofs.lemmas.Str.{IsUtf8-nil, IsUtf8-append, IsUtf8-from_is_utf8, is_utf8-from_IsUtf8, chars-nil}
 use Rattle.xa_base.specs.declared.texts.Name.{Name}
@@ -18,7 +19,7 @@ use Rattle.simple_types.specs.declared.labels.ValueLabel.{ValueLabel}
 use Rattle.simple_types.specs.declared.labels.ValueLabel.TheVariants as value
 use Rattle.simple_types.specs.Space.{Characters}
 use Rattle.simple_values.specs.Lexical.{in_class, is_at_most}
-use Rattle.simple_values.specs.Reading.{leaf, read_characters, has_characters, reads}
+use Rattle.simple_values.specs.Reading.{Bad, Reading, has_characters, reads}
 use Rattle.content_models.specs.Language.{Leaf}
 use Rattle.doc_text.specs.declared.label.ItemLabel.{ItemLabel}
 use Rattle.doc_text.specs.declared.label.ItemLabel.TheVariants.{Element, Text}
@@ -82,7 +83,10 @@ abbrev pub IsXml : List ℕ → Type 0
 IsXml words = has_xml_chars words ≡ true
 
 nothing-xml : IsXml []
-nothing-xml = let bytes : is_utf8 [] ≡ true = is_utf8-from_IsUtf8 [] IsUtf8-nil in let chars_are : list_all is_xml_char (chars []) ≡ true = ap (list_all is_xml_char) chars-nil in rw (bytes, chars_are) refl
+nothing-xml =
+    let bytes : is_utf8 [] ≡ true = is_utf8-from_IsUtf8 [] IsUtf8-nil in
+    let chars_are : list_all is_xml_char (chars []) ≡ true = ap (list_all is_xml_char) chars-nil in
+    ap (λ b. b && list_all is_xml_char (chars [])) bytes ∙ chars_are
 
 abbrev TextsXml : Roses Plain → Type 0
 TextsXml rose.none = Unit {0}
@@ -104,6 +108,9 @@ elements-alone (rose.more (node (text words) ks) us) h = absurd h.0
 
 -- ---- a value for texts
 
+zero-below : (n : ℕ) → nat_le 0 n ≡ true
+zero-below n = elim (leb_tells 0 n) [ inl x ↦ x.0 | inr x ↦ absurd (omega (arith, x.1)) ]
+
 module _ (M : List Assignment) (depth : ℕ) (small : depth ≤ 64) where
   abbrev text_type : Rose TypeLabel
   text_type = node (type_label (form.Utf8 0 None Any) []) rose.none
@@ -111,13 +118,20 @@ module _ (M : List Assignment) (depth : ℕ) (small : depth ≤ 64) where
   abbrev text_value : List ℕ → Rose ValueLabel
   text_value words = node (value.Utf8 words) rose.none
 
+  abbrev answer : List ℕ → Bool → Reading
+  answer words b = if b then Ok (text_value words) else Err Bad
+
+  within-all : (a b : Bool) → a ≡ true → b ≡ true → (a && b && true && true) ≡ true
+  within-all true true e f = refl
+  within-all true false e f = absurd (cc)
+  within-all false b e f = absurd (cc)
+
   text-read : (words : List ℕ) → IsXml words → reads (Characters Preserve 0 None Any) words ≡ Ok (text_value words)
   unfolding reads treated in_class
   text-read words e =
       let xml : list_all is_xml_char (chars words) ≡ true = (both (is_utf8 words) (list_all is_xml_char (chars words)) e).1 in
-      let least : nat_le 0 (length (chars words)) ≡ true = refl in
-      let has : has_characters 0 None Any words ≡ true = rw (xml, least) refl in
-      rw has refl
+      let has : has_characters 0 None Any words ≡ true = within-all (list_all is_xml_char (chars words)) (nat_le 0 (length (chars words))) xml (zero-below (length (chars words))) in
+      ap (answer words) has
 
   text-fits : (words : List ℕ) → IsXml words → FitsAt M depth text_type (text_value words)
   text-fits words e = accepted-fits M depth small (Characters Preserve 0 None Any) tt words (text_value words) (xml-utf8 words e) (text-read words e) text_type refl
@@ -140,7 +154,7 @@ module _ (M : List Assignment) (depth : ℕ) (small : depth ≤ 64) where
   texts-given texts h = (
     texts_value texts,
     λ u are. subst (λ x. FitsAt M depth x (texts_value texts)) (sym are.type)
-        (list-fits M depth small are.item text_type 0 None (roses_of (map text_value texts)) refl refl (texts-fit u are texts h)),
+        (list-fits M depth small are.item text_type 0 None (roses_of (map text_value texts)) (zero-below (length_all (roses_of (map text_value texts)))) refl (texts-fit u are texts h)),
     texts-in texts,
   )
 

@@ -100,7 +100,7 @@ module _ (s : Set) (linked : IsLinked s) (M : List Assignment) (depth : ℕ) (sm
       by (Some t) q k =
           let space = space_of t.space in
           let sound : Sound space = (all-at IsSimpleDefinition s.simples n t q linked.simples).1 in
-          let asked : space_at (parts_of s) n ≡ space = ap (λ o. elim o as (λ _. Space) [ None ↦ Booleans | Some x ↦ x.space ]) (found-in s linked M s.simples n t q) in
+          let asked : space_at (parts_of s) n ≡ space = ap (λ o. elim o as (λ _. Space) [ None ↦ Booleans | Some x ↦ x.space ]) (found-in s.simples n t q) in
           subst (λ z. FitsAt M depth u v × (inside M u v ≡ given [] (text_before (spelled z v) rose.none)) × (spelling M u v ≡ spelled z v)) (sym asked)
           (accepted-text space sound text encoded v (subst (λ z. reads z text ≡ Ok v) asked e) u k)
 
