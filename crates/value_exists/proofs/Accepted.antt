@@ -36,7 +36,7 @@ use Rattle.asn_types.specs.Refs.{target}
 use Rattle.asn_types.specs.Roles.{role_of}
 use Rattle.asn_types.specs.Simples.{counting, white_space_marks, MapsTo}
 use Rattle.asn_types.specs.Values.{ComponentPlace, place_of, place_at, alone, repeated, none_if, places_in, places, below, FitsAt, FitEach, IsTextOf, IsSpelled, HasTextCount, OwnAt}
-use Rattle.map_assignments.specs.Naming.{type_label, list_item, IsSimpleType, AreMembers}
+use Rattle.map_assignments.specs.Naming.{type_label, text_marks, list_item, IsSimpleType, AreMembers}
 use Rattle.map_assignments.proofs.Simples.{simple-maps}
 use Rattle.map_694.proofs.Resolving.{follow-none}
 use Rattle.value_exists.proofs.Encoded.{words_utf8, treated_utf8, accepted_utf8, taken_utf8}
@@ -237,7 +237,7 @@ module _ (M : List Assignment) (depth : ℕ) (small : depth ≤ 64) where
   unfolding reads
   words-fit how words sound text v u e t is =
       let known = item-within (λ w. bytes_eq w (treated how text)) words [] v e in
-      leaf-fits (Words how words) sound (form.Words is.identifiers words) _ t is.type is refl (value.Enum known.number) v known.is (ap none_if known.within) tt (holds_again (Words how words) sound text v e)
+      leaf-fits (Words how words) sound (form.Words is.identifiers words) (white_space_marks how ++ text_marks 0 is.identifiers words) t is.type is refl (value.Enum known.number) v known.is (ap none_if known.within) tt (holds_again (Words how words) sound text v e)
 
   characters-fit : (how : WhiteSpace) (least : ℕ) (most : Option ℕ) (class : Class) → Sound (Characters how least most class) → Fitting (Characters how least most class)
   unfolding reads
