@@ -68,7 +68,7 @@ one_more x bs b u = subst IsUtf8 (sym (append_assoc x (b ∷ []) bs)) u
 
 spaced_utf8 : (bs x : List ℕ) → IsUtf8 (x ++ bs) → IsUtf8 (x ++ map spaced bs)
 spaced_utf8 [] x u = u
-spaced_utf8 (b ∷ bs) x u = by (is_white_space b) refl (spaced_utf8 bs [] ) (spaced_utf8 bs (x ++ b ∷ []) (one_more x bs b u))
+spaced_utf8 (b ∷ bs) x u = by (is_white_space b) refl (spaced_utf8 bs []) (spaced_utf8 bs (x ++ b ∷ []) (one_more x bs b u))
   where
     by : (w : Bool) → is_white_space b ≡ w → (IsUtf8 bs → IsUtf8 (map spaced bs)) → IsUtf8 ((x ++ b ∷ []) ++ map spaced bs) → IsUtf8 (x ++ map spaced (b ∷ bs))
     by true e alone further =

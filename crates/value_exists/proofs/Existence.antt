@@ -118,7 +118,7 @@ module _ (s : Set) (M : List Assignment) (linked : IsLinked s) (is_map : IsMapOf
       let enough_below : suc depth + high ≤ 64 = omega (arith, enough) in
       content-by (suc high) depth small
       (λ name xs declares at ks sound within k b valid t c.
-          declared-has high (suc depth) deeper (λ n y g z q. content-has high (suc depth) deeper enough_below n y g z q) k t c name xs declares at ks sound (omega (arith, within)) b valid)
+      declared-has high (suc depth) deeper (λ n y g z q. content-has high (suc depth) deeper enough_below n y g z q) k t c name xs declares at ks sound (omega (arith, within)) b valid)
       d e is u has
 
 -- ---- the root
@@ -139,8 +139,7 @@ values-of-items s M linked narrow is_map d below (node (Element name xs declares
         let shallow = are.shallow in
         let found = content-has s M linked is_map 63 1 (omega arith) (omega arith) d x g a.body root.content name xs declares at ks are.sound (omega (arith, shallow)) b valid.1 in
         let named : x.name ≡ name = let wanted : Some x.name ≡ Some name = sym (ap (option_map (λ (e : ElementDecl). e.name)) g) ∙ valid.0 in cc in
-        let told : xml_name a.reference a.marks ≡ name = name-same a.reference a.marks ∙ root.name ∙ named in
-        (
+        let told : xml_name a.reference a.marks ≡ name = name-same a.reference a.marks ∙ root.name ∙ named in (
           found.0,
           at-root found.0 (slice_get M (root_at s M is_map d)) a root.at found.1,
           ap (option_map (λ (y : Assignment). root_of M y found.0)) root.at ∙ ap (λ n. Some (element_of n (inside M a.body found.0))) told ∙ ap (λ z. Some z) found.2,
