@@ -1,17 +1,12 @@
 #!/usr/bin/env bash
 # Measures how long the program takes to read documents, beside `xmllint --noout`, in the same run: both get the file by
-# its name, and take turns. Needs the program (`make run`), awk, GNU time and xmllint. Of seven runs each it gives the
-# least wall time and the least processor time in seconds and the most memory in kilobytes that a run took (the resident
-# set that getrusage tells), and our parts of the peer's. What takes more than ten seconds is stopped.
+# its name. bench/measure.sh says what is needed and what the columns are.
 #
 # The program reads a schema file whole before it says anything else of it, and none of these documents is a schema, so
 # `show FILE` reads the document, refuses it, and does no more.
 set -eu
 cd "$(dirname "$0")/.."
-program=${PROGRAM:-bin/ruvkhiska}
-runs=${RUNS:-7}
-work=$(mktemp -d)
-trap 'rm -rf "$work"' EXIT
+. bench/measure.sh
 
 # An order of 100,000 lines, 4.28 MB.
 awk 'BEGIN {
@@ -56,37 +51,11 @@ awk 'BEGIN {
 # One text of 16 MB that references cut.
 awk 'BEGIN { printf "<r>"; for (i = 0; i < 2700000; i++) printf "x&lt;y"; printf "</r>" }' > "$work/references"
 
-TIMEFORMAT='%3R %3U %3S'
+ours() { run /dev/null "$program" show "$file"; }
+peer() { run /dev/null xmllint --huge --noout "$file"; }
 
-# One run of a command: wall and processor seconds, and kilobytes.
-run() {
-    { time /usr/bin/time -f '%M' -o "$work/memory" timeout 10 "$@" > /dev/null 2>&1 || true; } 2> "$work/time"
-    read -r wall user system < "$work/time"
-    awk -v wall="$wall" -v user="$user" -v system_="$system" -v kilobytes="$(tail -n 1 "$work/memory")" \
-        'BEGIN { print wall, user + system_, kilobytes }'
-}
-
-# Of lines of runs: the least times and the most memory.
-best() {
-    awk 'NR == 1 || $1 < wall { wall = $1 } NR == 1 || $2 < processor { processor = $2 } $3 > most { most = $3 }
-        END { printf "%.3f %.3f %d", wall, processor, most }'
-}
-
-printf '%-12s %10s %8s %8s %9s %9s %8s %9s %8s %6s %6s\n' \
-    document bytes 'ours: s' 'cpu s' kB 'xmllint:' 'cpu s' kB 'ratio: s' cpu kB
+headings
 for document in ${DOCUMENTS:-order elements attributes namespaces levels prefixes references}; do
     file=$work/$document
-    : > "$work/ours"
-    : > "$work/peer"
-    for _ in $(seq "$runs"); do
-        run "$program" show "$file" >> "$work/ours"
-        run xmllint --huge --noout "$file" >> "$work/peer"
-    done
-    ours=$(best < "$work/ours")
-    peer=$(best < "$work/peer")
-    ratios=$(awk -v ours="$ours" -v peer="$peer" 'BEGIN {
-        split(ours, a); split(peer, b)
-        for (i = 1; i <= 3; i++) printf "%.2f ", (b[i] > 0) ? a[i] / b[i] : 0
-    }')
-    printf '%-12s %10d %8s %8s %9s %9s %8s %9s %8s %6s %6s\n' "$document" "$(stat -c %s "$file")" $ours $peer $ratios
+    compare "$document" "$file"
 done

@@ -9,6 +9,7 @@ use Rattle.asn_types.specs.declared.types.TypeLabel.{TypeLabel}
 use Rattle.asn_types.specs.declared.modules.Assignment.{Assignment}
 use Rattle.asn_types.specs.Marks.{has_embed_values, has_list, has_use_union}
 use Rattle.asn_types.specs.Modules.{AreWellFormed, IsSequenceOf, HasTexts}
+use Rattle.asn_types.specs.Simples.{IsSimple}
 use Rattle.asn_types.specs.Values as rule
 use Rattle.asn_types.specs.Values.{IsTextOf, IsSpelled, OwnAt}
 
@@ -16,7 +17,18 @@ not_true : (b : Bool) → (b ≡ true → ⊥) → b ≡ false
 not_true true h = absurd (h refl)
 not_true false h = refl
 
+second-true : (a b : Bool) → b ≡ true → (a || b) ≡ true
+second-true true b h = refl
+second-true false b h = h
+
 module _ (M : List Assignment) where
+  -- a type with LIST or USE-UNION stands for a simple type
+  pub list-simple : (t : Rose TypeLabel) → AreWellFormed M t → has_list (label_of t).marks ≡ true → IsSimple t
+  list-simple (node l ts) h marked = h.0.simple (ap (λ b. b || has_use_union l.marks) marked)
+
+  pub union-simple : (t : Rose TypeLabel) → AreWellFormed M t → has_use_union (label_of t).marks ≡ true → IsSimple t
+  union-simple (node l ts) h marked = h.0.simple (second-true (has_list l.marks) (has_use_union l.marks) marked)
+
   -- a node that is judged by its spelling alone
   spelled-own : (l : TypeLabel) (t : Rose TypeLabel) (v : Rose ValueLabel) → IsTextOf l.form l.marks (label_of v) → (has_list l.marks || has_use_union l.marks) ≡ true → has_embed_values l.marks ≡ false
       → IsSpelled t v ↔ OwnAt M l t v

@@ -4,6 +4,7 @@ pub mod Counting
 pub mod Following
 pub mod Inside
 mod Judging
+mod Making
 pub mod Placed
 mod Rows
 mod SeenBounds

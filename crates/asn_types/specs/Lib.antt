@@ -2,6 +2,7 @@ pub mod Bounds
 pub mod Laws
 pub mod Marks
 pub mod Modules
+pub mod Names
 pub mod Parts
 pub mod Refs
 pub mod Roles

@@ -139,22 +139,43 @@ impl Sought {
 #[derive(Drop)]
 pub struct Marks {
     entries: Vec<Instruction>,
+    // What the first WHITESPACE says: an ENUMERATED may have many TEXT, and each of its values asks.
+    white_space: WhiteSpace,
 }
 
 impl Model for Marks {
-    ghost use Rattle.std.specs.Prelude.{List};
+    ghost use Rattle.std.specs.Prelude.{◌≡◌, List};
     ghost use Rattle.asn_types.specs.declared.marks.Instruction.{Instruction};
+    ghost use Rattle.asn_types.specs.Marks.{white_space_of};
 
     ghost Value = { List Instruction };
 
     ghost view = { λ a. a.entries.items };
+
+    ghost invariant = { λ a. a.white_space ≡ white_space_of a.entries.items };
+}
+
+// What the first WHITESPACE says, and to preserve where there is none.
+fn first_white_space(marks: &[Instruction]) -> WhiteSpace
+    ensures { result ≡ marked.white_space_of marks.now }
+{
+    'marks: for mark in marks {
+        if let Instruction::WhiteSpace(how) = mark {
+            return *how;
+        }
+    }
+    WhiteSpace::Preserve
 }
 
 impl Marks {
     pub fn of(entries: Vec<Instruction>) -> Marks
         ensures { result ≡ entries.items }
     {
-        Marks { entries }
+        let white_space = first_white_space(&entries);
+        Marks {
+            entries,
+            white_space,
+        }
     }
 
     pub fn items(&self) -> &[Instruction]
@@ -224,16 +245,12 @@ impl Marks {
         self.has(Sought::UseUnion)
     }
 
-    /// What the first WHITESPACE says, and to preserve where there is none.
+    /// What the first WHITESPACE says, and to preserve where there is none. It is found when the instructions are put
+    /// together, so asking takes no time.
     pub fn white_space(&self) -> WhiteSpace
         ensures { result ≡ marked.white_space_of self.now }
     {
-        'marks: for mark in self.items() {
-            if let Instruction::WhiteSpace(how) = mark {
-                return *how;
-            }
-        }
-        WhiteSpace::Preserve
+        self.white_space
     }
 
     /// What stands among them but for NAME and TEXT.

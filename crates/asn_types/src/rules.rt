@@ -4,6 +4,7 @@ ghost use Rattle.label_tree.specs.Rose.{label_of, kids_of, roses_of};
 ghost use Rattle.asn_types.specs.Modules.{AreWellFormed};
 ghost use Rattle.asn_types.specs.Private.Placing.{place_seen};
 ghost use Rattle.asn_types.specs.Refs.{IsOf};
+ghost use Rattle.asn_types.specs.Simples.{IsSimple};
 ghost use Rattle.asn_types.specs.Values as rule;
 
 use crate::modules::Module;
@@ -37,17 +38,14 @@ fn is_text_of(label: &TypeLabel, value: &ValueLabel) -> bool
 // Whether a value is the one that its own spelling gives.
 fn is_spelled(
     alloc: Global,
-    module: &Module,
     node: &Tree<TypeLabel>,
     value: &Tree<ValueLabel>,
 ) -> Result<bool, Memory>
-    requires { AreWellFormed module.now node.now }
+    requires { IsSimple node.now }
     ensures { IfOk result (λ b. IsTrue b ↔ rule.IsSpelled node.now value.now) }
 {
-    match simple_at(alloc, module, node)? {
-        Some(simple) => holds(alloc, &simple, value),
-        None => Ok(false),
-    }
+    let simple = simple_at(alloc, node)?;
+    holds(alloc, &simple, value)
 }
 
 // How many child elements a part gives; 2^64 - 1 stands for that number and every greater one.
@@ -180,12 +178,8 @@ pub(crate) fn own_at(
     let label = node.label();
     match &label.form {
         Form::Utf8 { .. } => Ok(is_text_of(label, value.label())),
-        Form::SequenceOf { .. } if label.marks.has_list() => {
-            is_spelled(alloc, module, node, value)
-        }
-        Form::Choice { .. } if label.marks.has_use_union() => {
-            is_spelled(alloc, module, node, value)
-        }
+        Form::SequenceOf { .. } if label.marks.has_list() => is_spelled(alloc, node, value),
+        Form::Choice { .. } if label.marks.has_use_union() => is_spelled(alloc, node, value),
         Form::Sequence { .. } if label.marks.has_embed_values() => {
             has_texts(alloc, module, node, value)
         }
@@ -197,7 +191,9 @@ pub(crate) fn own_at(
 /// is, and it is within its size and class. A value of a LIST or USE-UNION type is the one that its own spelling gives.
 /// A value of an EMBED-VALUES type has one text more than child elements, and none where its content is absent.
 ///
-/// The time grows with the value, and for LIST and USE-UNION with the simple type besides.
+/// The time grows with the value, and for LIST and USE-UNION with the number of types that the simple type is made of; how
+/// many numbers and words an ENUMERATED has hardly counts. For EMBED-VALUES the groups of the value are gone through, and
+/// no child element.
 pub fn own(
     alloc: Global,
     module: &Module,

@@ -8,6 +8,7 @@ ghost use Rattle.asn_types.specs.declared.types.TypeLabel.{TypeLabel};
 ghost use Rattle.asn_types.specs.Modules.{IsForm, AreWellFormed, AllWellFormed};
 ghost use Rattle.asn_types.specs.Refs.{IsOf, resolve};
 ghost use Rattle.asn_types.specs.Simples.{IsPlain, ArePlain, MapToEach};
+ghost use Rattle.asn_types.specs.Spaces.{space_at, spaces_at, first_space};
 ghost use Rattle.asn_types.specs.Private.Telling.{Finds, IsLeaf, IsFormOfWords, is_list};
 
 use crate::modules::Module;
@@ -170,7 +171,7 @@ fn members_at(
 {
     let mut members = Vec::with_capacity(alloc, kids.len())?;
     'kids: for kid in kids {
-        let Some(member) = simple_at(alloc, module, kid)? else {
+        let Some(member) = find_simple(alloc, module, kid)? else {
             return Ok(None);
         };
         if is_union(&member) {
@@ -226,7 +227,7 @@ fn list_at(
     let Some(kid) = node.kids().first() else {
         return Ok(None);
     };
-    let Some(item) = simple_at(alloc, module, kid)? else {
+    let Some(item) = find_simple(alloc, module, kid)? else {
         return Ok(None);
     };
     if has_list(&item) {
@@ -238,7 +239,7 @@ fn list_at(
 
 // The simple type that is mapped to the type, which is no reference.
 #[cycle(simples)]
-pub(crate) fn simple_at(
+fn find_simple(
     alloc: Global,
     module: &Module,
     node: &Tree<TypeLabel>,
@@ -254,6 +255,82 @@ pub(crate) fn simple_at(
     }
 }
 
+// The simple type that is mapped to a type without parts, where there is one.
+#[tactic(auto, unfolding(simple_types::specs::Seen::space_of))]
+fn made_leaf(alloc: Global, label: &TypeLabel) -> Result<Simple, Memory>
+    requires { IsLeaf label.now.form }
+    ensures { IfOk result (λ simple. (ts : Roses TypeLabel) → space_of simple ≡ space_at (node label.now ts)) }
+{
+    match &label.form {
+        Form::Int { lo, hi } => Ok(Simple::Whole { lo: *lo, hi: *hi }),
+        Form::Numbers { numbers } => {
+            let numbers = numbers.copy(alloc)?;
+            Ok(Simple::Numbers(numbers))
+        }
+        Form::Words { words, .. } => {
+            let space = label.marks.white_space();
+            let words = words.copy(alloc)?;
+            Ok(Simple::Words { space, words })
+        }
+        Form::Utf8 { min, max, class } => Ok(Simple::Chars {
+            space: label.marks.white_space(),
+            min: *min,
+            max: *max,
+            class: *class,
+        }),
+        _ => Ok(Simple::Bool),
+    }
+}
+
+// The simple types that are mapped to these types, where there are such.
+#[cycle(making)]
+fn made_members(alloc: Global, kids: &[Tree<TypeLabel>]) -> Result<Vec<Simple>, Memory>
+    ensures { IfOk result (λ members. spaces_in members.items ≡ spaces_at (roses_of kids.now)) }
+{
+    let mut members = Vec::with_capacity(alloc, kids.len())?;
+    'kids: for kid in kids {
+        let member = simple_at(alloc, kid)?;
+        members.push(member)?;
+    }
+    Ok(members)
+}
+
+// The simple type that is mapped to the first of these types, where there is one.
+#[cycle(making)]
+fn made_item(alloc: Global, kids: &[Tree<TypeLabel>]) -> Result<Simple, Memory>
+    ensures { IfOk result (λ item. space_of item ≡ first_space (roses_of kids.now)) }
+{
+    match kids {
+        [kid, ..] => simple_at(alloc, kid),
+        [] => Ok(Simple::Bool),
+    }
+}
+
+/// The simple type that is mapped to the type, where there is one: whether there is one isn't tested. The numbers and
+/// words of an ENUMERATED are shared, so the time grows with the number of types that the simple type is made of alone.
+#[cycle(making)]
+pub fn simple_at(alloc: Global, node: &Tree<TypeLabel>) -> Result<Simple, Memory>
+    ensures { IfOk result (λ simple. space_of simple ≡ space_at node.now) }
+{
+    let label = node.label();
+    match &label.form {
+        Form::SequenceOf { min, max, .. } => {
+            let item = made_item(alloc, node.kids())?;
+            let item = Box::new(alloc, item)?;
+            Ok(Simple::List {
+                item,
+                min: *min,
+                max: *max,
+            })
+        }
+        Form::Choice { .. } => {
+            let members = made_members(alloc, node.kids())?;
+            Ok(Simple::Union(SimpleList::of(members)))
+        }
+        _ => made_leaf(alloc, label),
+    }
+}
+
 /// The simple type that is mapped to the type, or to that to which it refers. Identifiers, NAME and TEXT count for
 /// nothing in this. None where there is no such simple type.
 pub fn simple_of(
@@ -266,5 +343,5 @@ pub fn simple_of(
 {
     // What each module keeps is known once one of its readers was called.
     let _ = module.count();
-    simple_at(alloc, module, resolve(module, node))
+    find_simple(alloc, module, resolve(module, node))
 }

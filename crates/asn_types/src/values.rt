@@ -132,7 +132,9 @@ fn fits_at(
 /// number, index and size is within bounds, each node keeps its rules as `own` says, at most 64 elements stand in one
 /// another, and it has at most 1,048,576 nodes.
 ///
-/// The time grows with the value, and at a node of a LIST or USE-UNION type with that simple type besides.
+/// The time grows with the value: each node is visited once, and once more where child elements are counted for the
+/// element that it stands in. At a node of a LIST or USE-UNION type it grows with the number of types that the simple type
+/// is made of besides.
 pub fn is_value(alloc: Global, module: &Module, t: u32, value: &Value) -> Result<bool, Memory>
     requires { t < length module.now }
     ensures { IfOk result (λ b. IsTrue b ↔ rule.In module.now t value.now) }

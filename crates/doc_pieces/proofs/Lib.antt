@@ -23,3 +23,4 @@ pub mod Facts
 pub mod Fine
 pub mod PlainLaws
 pub mod AsciiNames
+pub mod Spelled

@@ -2,3 +2,4 @@ pub mod Pieces
 pub mod Reading
 pub mod Found
 pub mod Reasons
+pub mod QNames

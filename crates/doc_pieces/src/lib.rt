@@ -4,6 +4,7 @@
 mod found;
 mod markup;
 mod piece;
+mod qnames;
 mod reason;
 mod reference;
 mod tag;
@@ -12,5 +13,6 @@ mod value;
 
 pub use found::{Attribute, Element, Found, Value};
 pub use piece::read_piece;
+pub use qnames::{is_qname, local_of, prefix_of};
 pub use reason::{NoneWhy, plain_run, why_none};
-pub use text::{is_ascii_ncname, text_of};
+pub use text::is_ascii_ncname;

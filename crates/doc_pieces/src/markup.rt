@@ -6,12 +6,10 @@ ghost use Rattle.doc_pieces.specs.Reading.{Gives, comment_at, cdata_at, instruct
 ghost use Rattle.doc_pieces.specs.Found.{seen};
 
 use crate::found::Found;
-use crate::text::{
-    equals, is_apart, is_text, name, quoted, skip_blank, space, strip, text_of, until,
-};
+use crate::text::{equals, is_apart, is_text, name, quoted, skip_blank, space, strip, until};
 use crate::value::with_line_ends;
 use std::alloc::Global;
-use xa_base::{Memory, is_ncname_text};
+use xa_base::{Memory, is_ncname_text, utf8_text};
 
 /// The comment at the front, behind its `<!--`.
 #[tactic(auto, unfolding(crate::specs::Reading::comment_at))]
@@ -49,7 +47,7 @@ fn is_target(target: &[u8]) -> bool
     requires { IsUtf8 target.now }
     ensures { result ≡ reading.is_target target.now }
 {
-    is_ncname_text(text_of(target)) && !target.eq_ignore_ascii_case(b"xml")
+    is_ncname_text(utf8_text(target)) && !target.eq_ignore_ascii_case(b"xml")
 }
 
 // The instruction at the front, behind its target.

@@ -9,9 +9,9 @@ use crate::found::Found;
 use crate::markup::{cdata, comment, question};
 use crate::reference::reference;
 use crate::tag::{end_tag, tag};
-use crate::text::{strip, text_of};
+use crate::text::strip;
 use std::alloc::Global;
-use xa_base::{Memory, is_xml_char};
+use xa_base::{Memory, is_xml_char, utf8_text};
 
 // The first character, and what is behind it.
 #[tactic(auto, unfolding(crate::specs::Reading::char_at))]
@@ -19,7 +19,7 @@ fn first_char(bytes: &[u8]) -> Option<(char, &[u8])>
     requires { IsUtf8 bytes.now }
     ensures { Gives (λ x. (x.0, x.1.now)) result (char_at bytes.now) }
 {
-    let mut chars = text_of(bytes).chars();
+    let mut chars = utf8_text(bytes).chars();
     let c = chars.next()?;
     Some((c, chars.as_str().as_bytes()))
 }

@@ -8,15 +8,7 @@ ghost use Rattle.doc_pieces.specs.Pieces.{behind, has_byte, is_quote, version_na
 ghost use Rattle.doc_pieces.specs.Reading as reading;
 ghost use Rattle.doc_pieces.specs.Reading.{Gives, past_blank, space_at, equals_at, upto_at, quoted_at, name_at};
 
-use xa_base::{is_name_text, is_white_space, is_xml_char};
-
-/// The text that these bytes spell.
-pub fn text_of(bytes: &[u8]) -> &str
-    requires { IsUtf8 bytes.now }
-    ensures { result.now ≡ bytes.now }
-{
-    unsafe { str::from_utf8_unchecked(bytes) }
-}
+use xa_base::{is_name_text, is_white_space, is_xml_char, utf8_text};
 
 // What is behind this front.
 pub fn strip<'a>(front: &[u8], bytes: &'a [u8]) -> Option<&'a [u8]>
@@ -107,7 +99,7 @@ pub fn is_text(bytes: &[u8]) -> bool
     requires { IsUtf8 bytes.now }
     ensures { result ≡ reading.is_text bytes.now }
 {
-    text_of(bytes).chars().all(|c| is_xml_char(c))
+    utf8_text(bytes).chars().all(|c| is_xml_char(c))
 }
 
 #[tactic(auto, unfolding(crate::specs::Reading::is_name_byte))]
@@ -206,7 +198,7 @@ fn is_name(bytes: &[u8]) -> bool
     if is_ascii_name(bytes) {
         return true;
     }
-    is_name_text(text_of(bytes))
+    is_name_text(utf8_text(bytes))
 }
 
 // How many bytes there are before the first with which no Name of ASCII characters goes on.

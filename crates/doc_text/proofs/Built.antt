@@ -17,13 +17,15 @@ use Rattle.doc_text.specs.declared.tags.Head.{Head}
 use Rattle.doc_text.specs.declared.error.DocWhy.{DocWhy}
 use Rattle.doc_text.specs.declared.error.DocWhy.TheVariants as why
 use Rattle.doc_text.specs.Namespaces.{bindings_of, attributes_of, element_name}
-use Rattle.doc_text.specs.Contexts.{Context, Open, is_nil, is_innermost, is_outside, brackets_after, scope, tag_scope, start_reason, reason, first_true, end_tests}
+use Rattle.doc_text.specs.Contexts.{Context, Open, is_innermost, is_outside, brackets_after, scope, tag_scope, start_reason, reason, end_tests}
+use Rattle.xa_base.specs.Limits.{is_empty}
+use Rattle.xa_base.specs.Entries.{first_true}
 use Rattle.doc_text.specs.Private.States.{Above, State, open_of, context, kids_of_state, entering, element_of, opened, emptied, closed, passed, added}
 use Rattle.doc_text.specs.Private.Entering.{Enters}
 use Rattle.doc_text.specs.Private.Building.{above_of, state, IsNamed, AreNamed, Scoped, Takes, Flushed, Shuts}
 use Rattle.doc_text.proofs.Entered.{inside_is}
 use Rattle.doc_text.proofs.OpenNames.{named_tag, ends_named}
-use Rattle.doc_text.proofs.Telling.{some_innermost, innermost_is, is_nil-map, context-added}
+use Rattle.doc_text.proofs.Telling.{some_innermost, innermost_is, is_empty-map, context-added}
 
 abbrev pub aboves : List Frame → List Above
 aboves fs = map above_of (reverse fs)
@@ -31,12 +33,12 @@ aboves fs = map above_of (reverse fs)
 pub above-push : (fs : List Frame) (f : Frame) → aboves (fs ++ f ∷ []) ≡ above_of f ∷ aboves fs
 above-push fs f = rw (reverse-append fs (f ∷ [])) refl
 
-pub is_nil-len : {A : Type 0} (xs : List A) → is_nil xs ≡ nat_eq (length xs) 0
-is_nil-len [] = refl
-is_nil-len (x ∷ xs) = elim (eqb_tells (length (x ∷ xs)) 0) [ inl e ↦ absurd (omega (arith, e.1)) | inr e ↦ sym e.0 ]
+pub is_empty-len : {A : Type 0} (xs : List A) → is_empty xs ≡ nat_eq (length xs) 0
+is_empty-len [] = refl
+is_empty-len (x ∷ xs) = elim (eqb_tells (length (x ∷ xs)) 0) [ inl e ↦ absurd (omega (arith, e.1)) | inr e ↦ sym e.0 ]
 
-pub is_nil-aboves : (fs : List Frame) → is_nil (aboves fs) ≡ nat_eq (length fs) 0
-is_nil-aboves fs = is_nil-len (aboves fs) ∙ ap (λ (n : ℕ). nat_eq n 0) (length-map (reverse fs) above_of ∙ length-reverse fs)
+pub is_empty-aboves : (fs : List Frame) → is_empty (aboves fs) ≡ nat_eq (length fs) 0
+is_empty-aboves fs = is_empty-len (aboves fs) ∙ ap (λ (n : ℕ). nat_eq n 0) (length-map (reverse fs) above_of ∙ length-reverse fs)
 
 abbrev mk : List Above → List (Rose ItemLabel) → List ℕ → ℕ → Bool → Bool → ℕ → State
 mk above kids text text_at ended first brackets = record { above = above; kids = kids; text = text; text_at = text_at; ended = ended; first = first; brackets = brackets }
@@ -143,7 +145,7 @@ empty_takes old mid new head tag at all count scoped enters m all_is scope_is co
     let element : node (Element head.name head.attributes head.declares at) (roses_of []) ≡ element_of (entering tag (scope (context s)) at []) [] = ap (λ (a : Above). element_of a []) (entering_is old tag head tag.name at [] [] scoped enters refl refl) in
     let steps : state new ≡ emptied tag at s = same_state _ _ _ _ _ _ _ _ _ _ _ _ _ _ (ap aboves (opens ∙ m.opens))
     (kids ∙ ap (λ (ks : List (Rose ItemLabel)). ks ++ node (Element head.name head.attributes head.declares at) (roses_of []) ∷ []) m.kids ∙ ap (λ (e : Rose ItemLabel). kids_of_state s ++ e ∷ []) element)
-    (text ∙ m.text) (place ∙ m.place) (ends ∙ ap (λ (fs : List Frame). nat_eq (length fs) 0) m.opens ∙ sym (is_nil-aboves old.open.items)) first brackets in
+    (text ∙ m.text) (place ∙ m.place) (ends ∙ ap (λ (fs : List Frame). nat_eq (length fs) 0) m.opens ∙ sym (is_empty-aboves old.open.items)) first brackets in
     let back : reverse new.scope ≡ reverse old.scope = ap reverse (scope_is ∙ ap (λ (n : ℕ). take (length all - n) all) (count_is ∙ ap length enters.declares_are)) ∙ popped all (bindings_of tag.attributes) (reverse old.scope) (ap reverse all_is ∙ inside_is old.scope (bindings_of tag.attributes)) in
     record {
       none = sym (empty_stops old tag (length old.open.items) scoped refl) ∙ enters.none;
@@ -162,7 +164,7 @@ pub shuts : (old new : Builder) (f : Frame) (count : ℕ) → string_bytes old.t
 shuts old new f count empty opens scope_is count_is kids text place ends first brackets =
     let above : aboves old.open.items ≡ above_of f ∷ aboves new.open.items = ap aboves opens ∙ above-push new.open.items f in
     let element : node (Element f.name f.attributes f.declares f.at) (roses_of old.kids.items) ≡ element_of (above_of f) (kids_of_state (state old)) = ap (λ (ks : List (Rose ItemLabel)). element_of (above_of f) ks) (sym (closing_kids old empty)) in
-    let steps : state new ≡ closed (above_of f ∷ aboves new.open.items) (state old) = same_state _ _ _ _ _ _ _ _ _ _ _ _ _ _ refl (kids ∙ ap (λ (e : Rose ItemLabel). f.before.items ++ e ∷ []) element) (text ∙ empty) place (ends ∙ sym (is_nil-aboves new.open.items)) first brackets in
+    let steps : state new ≡ closed (above_of f ∷ aboves new.open.items) (state old) = same_state _ _ _ _ _ _ _ _ _ _ _ _ _ _ refl (kids ∙ ap (λ (e : Rose ItemLabel). f.before.items ++ e ∷ []) element) (text ∙ empty) place (ends ∙ sym (is_empty-aboves new.open.items)) first brackets in
     let flat = flat_map (λ (e : Open). e.declares) (map open_of (aboves new.open.items)) in
     record {
       steps = steps ∙ ap (λ (a : List Above). closed a (state old)) (sym above);
@@ -179,7 +181,7 @@ shuts_nothing old new empty none opens kids text place ends first brackets =
     let above : aboves old.open.items ≡ [] = ap aboves none in
     record {
       steps = same_state _ _ _ _ _ _ _ _ _ _ _ _ _ _ (ap aboves opens) (kids ∙ sym (closing_kids old empty)) (text ∙ empty) place ends first brackets ∙ ap (λ (a : List Above). closed a (state old)) (sym above);
-      scoped = λ scoped some. absurd (let yes : is_nil (aboves old.open.items) ≡ true = ap is_nil above in cc);
+      scoped = λ scoped some. absurd (let yes : is_empty (aboves old.open.items) ≡ true = ap is_empty above in cc);
     }
 
 closed-same : (a : List Above) (s t : State) → kids_of_state s ≡ kids_of_state t → s.text_at ≡ t.text_at → closed a s ≡ closed a t
@@ -198,15 +200,15 @@ end_takes old mid new written at scoped none flushed shut =
       scope_is = ap reverse flushed.same_scope ∙ scoped.scope_is ∙ ap (λ (a : List Above). flat_map (λ (e : Open). e.declares) (map open_of a) ++ (xml_prefix, xml_space) ∷ []) (sym above);
       named = subst (λ (a : List Above). AreNamed (map open_of a)) (sym above) scoped.named;
     } in
-    let some : is_nil (aboves old.open.items) ≡ false = not_true _ (some_innermost written (aboves old.open.items) (innermost_is written (context (state old)) none)) in
+    let some : is_empty (aboves old.open.items) ≡ false = not_true _ (some_innermost written (aboves old.open.items) (innermost_is written (context (state old)) none)) in
     record {
       none = none;
       steps = shut.steps ∙ closed-same (aboves mid.open.items) (state mid) (state old) kids flushed.same_place ∙ ap (λ (a : List Above). closed a (state old)) above;
-      scoped = shut.scoped mid_scoped (ap is_nil above ∙ some);
+      scoped = shut.scoped mid_scoped (ap is_empty above ∙ some);
     }
 
 pub outside_is : (b : Builder) (result : Bool) → result ≡ nat_eq (length b.open.items) 0 → result ≡ is_outside (context (state b))
-outside_is b result e = e ∙ sym (is_nil-map open_of (aboves b.open.items) ∙ is_nil-aboves b.open.items)
+outside_is b result e = e ∙ sym (is_empty-map open_of (aboves b.open.items) ∙ is_empty-aboves b.open.items)
 
 rescoped : (old new : Builder) (s : State) → Scoped old → state new ≡ s → new.scope ≡ old.scope → (context s).elements ≡ (context (state old)).elements → Scoped new
 rescoped old new s scoped steps same kept = record {

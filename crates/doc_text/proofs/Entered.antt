@@ -2,14 +2,14 @@
 use Rattle.std.proofs.Common.{◌≡◌, ℕ, Bool, true, false, List, [], ◌∷◌, ◌++◌, Some, None, refl, sym, ap, ◌∙◌}
 use Rattle.std.specs.Prelude.{◌||◌, reverse, nat_le}
 use Rattle.std.proofs.lemmas.List.{reverse-append, reverse-reverse}
-use Rattle.xa_base.specs.Entries.{beside}
+use Rattle.xa_base.specs.Entries.{beside, first_true}
 use Rattle.doc_pieces.specs.Pieces.{Tag}
 use Rattle.doc_text.specs.declared.error.DocWhy.{DocWhy}
 use Rattle.doc_text.specs.declared.error.DocWhy.TheVariants as why
 use Rattle.doc_text.specs.Namespaces.{bindings_of, attributes_of, element_name, written_twice, expanded_twice, is_unbound, or_absent}
 use Rattle.doc_text.specs.declared.tags.Head.{Head}
 use Rattle.doc_text.specs.Private.Entering.{Enters, IsPlain}
-use Rattle.doc_text.specs.Contexts.{has_bad_name, has_long_name, has_reserved, has_unbound, has_duplicate, tag_scope, first_true, start_reason}
+use Rattle.doc_text.specs.Contexts.{has_bad_name, has_long_name, has_reserved, has_unbound, has_duplicate, tag_scope, start_reason}
 
 abbrev pub name_tests : Tag → List (Bool × DocWhy)
 name_tests tag = (has_bad_name tag, why.BadName) ∷ (has_long_name tag, why.LongName) ∷ (has_reserved tag, why.ReservedPrefix) ∷ []

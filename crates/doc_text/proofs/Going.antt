@@ -12,10 +12,12 @@ use Rattle.doc_text.specs.declared.label.ItemLabel.{ItemLabel}
 use Rattle.doc_text.specs.declared.error.DocWhy.{DocWhy}
 use Rattle.doc_text.specs.declared.error.DocWhy.TheVariants as why
 use Rattle.doc_text.specs.Sound.{AreItems}
-use Rattle.doc_text.specs.Contexts.{is_nil, scope, start_tests, first_true, reason, brackets_after}
+use Rattle.doc_text.specs.Contexts.{scope, start_tests, reason, brackets_after}
+use Rattle.xa_base.specs.Limits.{is_empty}
+use Rattle.xa_base.specs.Entries.{first_true}
 use Rattle.doc_text.specs.Documents.{why_of, mark_len, DocOf, BrokenAt}
 use Rattle.doc_text.specs.Private.States.{Above, State, nothing, context, open_of, entering, kids_of_state, opened, emptied, closed, added, step}
-use Rattle.doc_text.proofs.Telling.{passed, Passed, is_nil-map, some_innermost, innermost_is}
+use Rattle.doc_text.proofs.Telling.{passed, Passed, is_empty-map, some_innermost, innermost_is}
 use Rattle.doc_text.proofs.Keeping.{IsFine, Root, Good, good_start, good_passed, good_opened, good_emptied, good_closed, good_written, root_allowed, items_of}
 use Rattle.doc_text.proofs.Soundness.{tag_sound, scope_sound}
 use Rattle.doc_text.proofs.PieceLaws.{PieceLaws, Fine}
@@ -28,14 +30,14 @@ over a b e = grind (arith, nat_tests)
 depth_is : (above : List Above) → nat_le 64 (length (map open_of above)) ≡ false → length above < 64
 depth_is above e = omega (arith, over 64 (length (map open_of above)) e, length-map above open_of)
 
-inside_is : (w : DocWhy) (s : State) → first_true ((is_nil (map open_of s.above), w) ∷ []) ≡ None → is_nil s.above ≡ false
-inside_is w s e = sym (is_nil-map open_of s.above) ∙ (passed ((is_nil (map open_of s.above), w) ∷ []) e).0
+inside_is : (w : DocWhy) (s : State) → first_true ((is_empty (map open_of s.above), w) ∷ []) ≡ None → is_empty s.above ≡ false
+inside_is w s e = sym (is_empty-map open_of s.above) ∙ (passed ((is_empty (map open_of s.above), w) ∷ []) e).0
 
-good_added : (s : State) (text : List ℕ) (n at later : ℕ) → Good s at → at < later → IsFine text → (b : Bool) → is_nil s.above ≡ b → Good (added text at n s) later
+good_added : (s : State) (text : List ℕ) (n at later : ℕ) → Good s at → at < later → IsFine text → (b : Bool) → is_empty s.above ≡ b → Good (added text at n s) later
 good_added s text n at later good lt fine true e = rw e (good_passed s false n at later good (omega arith))
 good_added s text n at later good lt fine false e = rw e (good_written s text _ n at later good lt e fine)
 
-good_end : (s : State) (at later : ℕ) (above : List Above) → Good s at → at < later → s.above ≡ above → (is_nil above ≡ true → ⊥) → Good (closed above s) later
+good_end : (s : State) (at later : ℕ) (above : List Above) → Good s at → at < later → s.above ≡ above → (is_empty above ≡ true → ⊥) → Good (closed above s) later
 good_end s at later [] good lt e some = absurd (some refl)
 good_end s at later (a ∷ above) good lt e some = good_closed s a above s.text_at at later good lt e
 
@@ -59,7 +61,7 @@ good_step Comment s at later good lt e fine = good_passed s false 0 at later goo
 good_step Instruction s at later good lt e fine = good_passed s false 0 at later good (omega arith)
 good_step (CData text) s at later good lt e fine = good_added s text 0 at later good lt fine false (inside_is why.TextOutside s e)
 good_step (Reference code) s at later good lt e fine = good_added s (encode_utf8 code) 0 at later good lt fine false (inside_is why.TextOutside s e)
-good_step (Character code) s at later good lt e fine = good_added s (encode_utf8 code) (brackets_after code s.brackets) at later good lt fine (is_nil s.above) refl
+good_step (Character code) s at later good lt e fine = good_added s (encode_utf8 code) (brackets_after code s.brackets) at later good lt fine (is_empty s.above) refl
 
 -- a reader stands before this rest, in this state, and all is well so far
 pub record Stands (bytes rest : List ℕ) (s : State) : Type 0 where

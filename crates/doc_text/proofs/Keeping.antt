@@ -4,14 +4,13 @@ use Rattle.std.specs.Prelude.{◌&&◌, not, IsUtf8, max}
 use Rattle.std.specs.Str.{chars}
 use Rattle.std.specs.List.{list_all}
 use Rattle.std.proofs.lemmas.Str.{chars-append, IsUtf8-append, IsUtf8-nil, chars-nil, is_utf8-from_IsUtf8}
-use Rattle.xa_base.specs.Limits.{has_xml_chars}
+use Rattle.xa_base.specs.Limits.{has_xml_chars, is_empty}
 use Rattle.label_tree.specs.Rose.{Rose, node, Roses, none, more, roses_of, Allowed, AllowedAll, node_count, count_all}
 use Rattle.xa_base.specs.Characters.{is_xml_char}
 use Rattle.doc_text.specs.declared.label.ItemLabel.{ItemLabel}
 use Rattle.doc_text.specs.declared.label.ItemLabel.TheVariants.{Element, Text}
 use Rattle.doc_text.specs.Labels.{MayHave}
 use Rattle.doc_text.specs.Sound.{is_sound_label, is_text, begins_with_text, is_sound, are_sound, is_element, levels, levels_all, AreItems}
-use Rattle.doc_text.specs.Contexts.{is_nil}
 use Rattle.doc_text.specs.Private.States.{Above, State, nothing, with_text, kids_of_state, element_of}
 
 -- ---- booleans
@@ -220,25 +219,25 @@ good_opened s a text_at at later good lt going room before_is label = record {
   few = omega (arith, good.few, count-text s.kids s.text s.text_at, ap (λ (ks : List (Rose ItemLabel)). count_all (roses_of ks)) before_is);
 }
 
-is_nil_is : {A : Type 0} (xs : List A) → is_nil xs ≡ true → xs ≡ []
-is_nil_is [] e = refl
-is_nil_is (x ∷ xs) e = absurd cc
+is_empty_is : {A : Type 0} (xs : List A) → is_empty xs ≡ true → xs ≡ []
+is_empty_is [] e = refl
+is_empty_is (x ∷ xs) e = absurd cc
 
 pub good_emptied : (s : State) (a : Above) (text_at at later : ℕ) → Good s at → at < later → s.ended ≡ false → length s.above < 64 → is_sound_label (Element a.name a.attributes a.declares a.at) ≡ true
-    → Good (record { above = s.above; kids = kids_of_state s ++ element_of a [] ∷ []; text = []; text_at = text_at; ended = is_nil s.above; first = false; brackets = 0 }) later
+    → Good (record { above = s.above; kids = kids_of_state s ++ element_of a [] ∷ []; text = []; text_at = text_at; ended = is_empty s.above; first = false; brackets = 0 }) later
 good_emptied s a text_at at later good lt going room label = record {
   frames = good.frames;
   kids = kids-push (length s.above) (kids_of_state s) (element_of a []) (kids_text s at good) (tt, tt) (rw label refl) (omega (arith, room)) (and_false_r (ends_with_text (kids_of_state s)) false refl);
   apart = ends-push (kids_of_state s) (element_of a []);
   fine = nothing_fine;
   no_text = λ e. refl;
-  one = λ e. (let empty : s.above ≡ [] = is_nil_is s.above e in record { root = element_of a []; above = empty; kids = ap (λ (ks : List (Rose ItemLabel)). ks ++ element_of a [] ∷ []) (no_kids_text s at good going empty); element = refl });
-  before = λ e f. absurd (let yes : is_nil s.above ≡ true = ap is_nil e in cc);
+  one = λ e. (let empty : s.above ≡ [] = is_empty_is s.above e in record { root = element_of a []; above = empty; kids = ap (λ (ks : List (Rose ItemLabel)). ks ++ element_of a [] ∷ []) (no_kids_text s at good going empty); element = refl });
+  before = λ e f. absurd (let yes : is_empty s.above ≡ true = ap is_empty e in cc);
   few = omega (arith, good.few, count-text s.kids s.text s.text_at, count-push (kids_of_state s) (element_of a []));
 }
 
 pub good_closed : (s : State) (a : Above) (above : List Above) (text_at at later : ℕ) → Good s at → at < later → s.above ≡ a ∷ above
-    → Good (record { above = above; kids = a.before ++ element_of a (kids_of_state s) ∷ []; text = []; text_at = text_at; ended = is_nil above; first = false; brackets = 0 }) later
+    → Good (record { above = above; kids = a.before ++ element_of a (kids_of_state s) ∷ []; text = []; text_at = text_at; ended = is_empty above; first = false; brackets = 0 }) later
 good_closed s a above text_at at later good lt is =
     let frames : Frames (a ∷ above) = subst Frames is good.frames in
     let kids : Kids (length (a ∷ above)) (kids_of_state s) = subst (λ (x : List Above). Kids (length x) (kids_of_state s)) is (kids_text s at good) in
@@ -249,8 +248,8 @@ good_closed s a above text_at at later good lt is =
       apart = ends-push a.before element;
       fine = nothing_fine;
       no_text = λ e. refl;
-      one = λ e. (let empty : above ≡ [] = is_nil_is above e in record { root = element; above = empty; kids = ap (λ (ks : List (Rose ItemLabel)). ks ++ element ∷ []) (frames.1 empty); element = refl });
-      before = λ e f. absurd (let yes : is_nil above ≡ true = ap is_nil e in cc);
+      one = λ e. (let empty : above ≡ [] = is_empty_is above e in record { root = element; above = empty; kids = ap (λ (ks : List (Rose ItemLabel)). ks ++ element ∷ []) (frames.1 empty); element = refl });
+      before = λ e f. absurd (let yes : is_empty above ≡ true = ap is_empty e in cc);
       few = omega (arith, good.few, ap count_above is, count-text s.kids s.text s.text_at, count-push a.before element);
     }
 
@@ -259,16 +258,16 @@ count_more [] [] = omega arith
 count_more [] (b ∷ bs) = omega arith
 count_more (a ∷ aa) b = omega arith
 
-pub good_written : (s : State) (text : List ℕ) (text_at n at later : ℕ) → Good s at → at < later → is_nil s.above ≡ false → IsFine text
+pub good_written : (s : State) (text : List ℕ) (text_at n at later : ℕ) → Good s at → at < later → is_empty s.above ≡ false → IsFine text
     → Good (record { above = s.above; kids = s.kids; text = s.text ++ text; text_at = text_at; ended = s.ended; first = false; brackets = n }) later
 good_written s text text_at n at later good lt inside fine = record {
   frames = good.frames;
   kids = good.kids;
   apart = good.apart;
   fine = fine-append s.text text good.fine fine;
-  no_text = λ e. absurd (let yes : is_nil s.above ≡ true = ap is_nil e in cc);
-  one = λ e. absurd (let yes : is_nil s.above ≡ true = ap is_nil (good.one e).above in cc);
-  before = λ e f. absurd (let yes : is_nil s.above ≡ true = ap is_nil e in cc);
+  no_text = λ e. absurd (let yes : is_empty s.above ≡ true = ap is_empty e in cc);
+  one = λ e. absurd (let yes : is_empty s.above ≡ true = ap is_empty (good.one e).above in cc);
+  before = λ e f. absurd (let yes : is_empty s.above ≡ true = ap is_empty e in cc);
   few = omega (arith, good.few, count_more s.text text);
 }
 

@@ -11,12 +11,13 @@ use Rattle.doc_text.specs.declared.error.DocWhy.{DocWhy}
 use Rattle.doc_text.specs.declared.error.DocWhy.TheVariants as why
 use Rattle.doc_text.specs.declared.error.DocError.{DocError}
 use Rattle.doc_text.specs.declared.error.DocError.TheVariants as errors
-use Rattle.doc_text.specs.Contexts.{is_nil, is_outside, reason}
+use Rattle.doc_text.specs.Contexts.{is_outside, reason}
+use Rattle.xa_base.specs.Limits.{is_empty}
 use Rattle.doc_text.specs.Documents.{why_of, BrokenAt, Refuses}
 use Rattle.doc_text.specs.Private.States.{State, context, open_of, added}
 use Rattle.doc_text.specs.Private.Entering.{Stopped}
 use Rattle.doc_text.specs.Private.Building.{state, Takes}
-use Rattle.doc_text.proofs.Telling.{is_nil-map}
+use Rattle.doc_text.proofs.Telling.{is_empty-map}
 use Rattle.doc_text.proofs.Known.{laws}
 use Rattle.doc_text.proofs.Reaching.{place_of, stops, stops_where_none, is_unfinished}
 use Rattle.doc_text.proofs.PlainRuns.{run_on}
@@ -46,7 +47,7 @@ pub takes_plain : (bytes rest text behind : List ℕ) (old new : Builder) (n at 
     → state new ≡ added text at 0 (state old) → Stands bytes behind (state new)
 takes_plain bytes rest text behind old new n at stands at_is more within inside run text_is behind_is steps =
     let s = state old in
-    let here : is_nil s.above ≡ false = sym (is_nil-map open_of s.above) ∙ inside in
+    let here : is_empty s.above ≡ false = sym (is_empty-map open_of s.above) ∙ inside in
     subst (λ (r : List ℕ). Stands bytes r (state new)) (sym behind_is) (subst (Stands bytes (drop n rest)) (ap (λ (t : List ℕ). added t at 0 s) (sym text_is) ∙ sym steps) (run_on n bytes rest s at more within run here stands at_is))
 
 at_end : (bytes rest : List ℕ) (s : State) → Stands bytes rest s → length rest ≡ 0 → Stands bytes [] s

@@ -1,36 +1,19 @@
 -- Tests of names on bytes.
 use Rattle.std.proofs.Common.{◌≡◌, ℕ, ◌≤◌, Bool, true, false, cond, List, [], ◌∷◌, ◌+◌, length, take, drop, refl, sym, arith}
-use Rattle.std.specs.Prelude.{◌&&◌, IsUtf8, not, nat_le, ◌==◌}
+use Rattle.std.specs.Prelude.{◌&&◌, not, nat_le, ◌==◌}
 use Rattle.std.specs.List.{list_all}
-use Rattle.std.specs.Str.{chars, is_utf8}
 use Rattle.std.proofs.lemmas.Bool.Decides.{nat_tests}
 use Rattle.std.proofs.lemmas.List.{length-take, length-drop}
-use Rattle.std.proofs.lemmas.Str.{IsUtf8-from_is_utf8, is_utf8-from_IsUtf8, IsUtf8-from_ascii, chars-IsAscii}
-use Rattle.xa_base.specs.Characters.{is_ncname}
-use Rattle.xa_base.specs.Limits.{is_short_part, spells_ncname}
+use Rattle.xa_base.specs.Limits.{is_short_part}
 use Rattle.doc_pieces.specs.Reading.{is_ascii_ncname}
-use Rattle.doc_pieces.proofs.AsciiNames.{ascii, named, ncname_named, ncname_colons}
+use Rattle.doc_pieces.proofs.AsciiNames.{ncname_colons}
+use Rattle.doc_pieces.proofs.Spelled.{ascii_spelled}
 use Rattle.doc_pieces.proofs.Tools.{and_true}
-use Rattle.doc_text.specs.Namespaces.{colon_at, has_colon, prefix_of, local_of, is_qname, is_long}
+use Rattle.doc_text.specs.Namespaces.{is_long}
+use Rattle.doc_pieces.specs.QNames.{colon_at, has_colon, prefix_of, local_of, is_qname}
 use Rattle.doc_text.specs.Private.Entering.{IsPlain}
 
-pub spelled : (bytes : List ℕ) (b : Bool) → IsUtf8 bytes → b ≡ is_ncname (chars bytes) → b ≡ spells_ncname bytes
-spelled bytes b utf8 e = rw (is_utf8-from_IsUtf8 bytes utf8) e
-
-by_test : (bytes : List ℕ) (b : Bool) → is_utf8 bytes ≡ b → ¬ IsUtf8 bytes → false ≡ (b && is_ncname (chars bytes))
-by_test bytes true e bad = absurd (bad (IsUtf8-from_is_utf8 bytes e))
-by_test bytes false e bad = refl
-
-pub unspelled : (bytes : List ℕ) → ¬ IsUtf8 bytes → false ≡ spells_ncname bytes
-unspelled bytes bad = by_test bytes (is_utf8 bytes) refl bad
-
 -- ---- names of ASCII characters without a colon
-
-pub ascii_spelled : (bytes : List ℕ) → is_ascii_ncname bytes ≡ true → true ≡ spells_ncname bytes
-ascii_spelled bytes e =
-    let is = ncname_named bytes e in
-    let a = ascii bytes is in
-    rw (is_utf8-from_IsUtf8 bytes (IsUtf8-from_ascii bytes a), chars-IsAscii bytes a, named bytes is, ncname_colons bytes e) refl
 
 colons_behind : (bs : List ℕ) → list_all (λ b. not (b == 0x3A)) bs ≡ true → colon_at bs ≡ length bs
 colons_behind [] e = refl

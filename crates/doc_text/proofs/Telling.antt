@@ -9,7 +9,8 @@ use Rattle.doc_text.specs.declared.label.ItemLabel.{ItemLabel}
 use Rattle.doc_text.specs.declared.label.ItemLabel.TheVariants.{Text}
 use Rattle.doc_text.specs.declared.error.DocWhy.{DocWhy}
 use Rattle.doc_text.specs.declared.error.DocWhy.TheVariants as why
-use Rattle.doc_text.specs.Contexts.{Context, is_nil, scope, inner, is_innermost, first_true, reason, after, brackets_after, end_tests}
+use Rattle.doc_text.specs.Contexts.{Context, scope, inner, is_innermost, reason, after, brackets_after, end_tests}
+use Rattle.xa_base.specs.Entries.{first_true}
 use Rattle.doc_text.specs.Tokens.{Token, Opens, Closes, Words, tokens, tokens_all, join}
 use Rattle.doc_text.specs.Documents.{told, opening}
 use Rattle.doc_text.specs.Private.States.{Above, State, context, open_of, with_text, kids_of_state, entering, element_of, closed, added, step}
@@ -82,9 +83,9 @@ innermost_is written c e = not_false (is_innermost written c.elements) (passed (
 
 -- ---- contexts
 
-pub is_nil-map : {A B : Type 0} (f : A → B) (xs : List A) → is_nil (map f xs) ≡ is_nil xs
-is_nil-map f [] = refl
-is_nil-map f (x ∷ xs) = refl
+pub is_empty-map : {A B : Type 0} (f : A → B) (xs : List A) → is_empty (map f xs) ≡ is_empty xs
+is_empty-map f [] = refl
+is_empty-map f (x ∷ xs) = refl
 
 abbrev pub context_by : List Above → Bool → Bool → ℕ → Context
 context_by above ended first brackets = record { elements = map open_of above; ended = ended; first = first; brackets = brackets }
@@ -92,9 +93,9 @@ context_by above ended first brackets = record { elements = map open_of above; e
 context-ended : (above : List Above) (a b f : Bool) (n : ℕ) → a ≡ b → context_by above a f n ≡ context_by above b f n
 context-ended above a b f n e = rw e refl
 
-context-closed : (above : List Above) (s : State) → context (closed above s) ≡ record { elements = inner (map open_of above); ended = is_nil (inner (map open_of above)); first = false; brackets = 0 }
+context-closed : (above : List Above) (s : State) → context (closed above s) ≡ record { elements = inner (map open_of above); ended = is_empty (inner (map open_of above)); first = false; brackets = 0 }
 context-closed [] s = refl
-context-closed (a ∷ above) s = context-ended above (is_nil above) (is_nil (map open_of above)) false 0 (sym (is_nil-map open_of above))
+context-closed (a ∷ above) s = context-ended above (is_empty above) (is_empty (map open_of above)) false 0 (sym (is_empty-map open_of above))
 
 pub context-added : (text : List ℕ) (at n : ℕ) (s : State) (above : List Above) → above ≡ s.above → context (added text at n s) ≡ context_by s.above s.ended false n
 context-added text at n s [] e = rw (← e) refl
@@ -103,7 +104,7 @@ context-added text at n s (a ∷ above) e = rw (← e) refl
 pub context-step : (p : Piece) (at : ℕ) (s : State) → context (step p at s) ≡ after p (context s)
 context-step Declaration at s = refl
 context-step (Start tag) at s = refl
-context-step (Empty tag) at s = context-ended s.above (is_nil s.above) (is_nil (map open_of s.above)) false 0 (sym (is_nil-map open_of s.above))
+context-step (Empty tag) at s = context-ended s.above (is_empty s.above) (is_empty (map open_of s.above)) false 0 (sym (is_empty-map open_of s.above))
 context-step (End written) at s = context-closed s.above s
 context-step Comment at s = refl
 context-step Instruction at s = refl
@@ -120,7 +121,7 @@ tells_empty s tag at ts =
     let kids = kids_of_state s in
     ap (outer s.above) (ap (λ (r : List Token). r ++ ts) (all-push kids e) ∙ append_assoc (all kids) (o ∷ Closes ∷ []) ts ∙ flush s.kids s.text s.text_at o (Closes ∷ ts) tt)
 
-tells_end : (s : State) (above : List Above) (ts : List Token) → (is_nil above ≡ true → ⊥) → so_far (closed above s) ts ≡ outer above (all s.kids ++ join s.text s.text_at (Closes ∷ ts))
+tells_end : (s : State) (above : List Above) (ts : List Token) → (is_empty above ≡ true → ⊥) → so_far (closed above s) ts ≡ outer above (all s.kids ++ join s.text s.text_at (Closes ∷ ts))
 tells_end s [] ts h = absurd (h refl)
 tells_end s (a ∷ above) ts h =
     let kids = kids_of_state s in
@@ -128,24 +129,24 @@ tells_end s (a ∷ above) ts h =
     let two : (all kids ++ Closes ∷ []) ++ ts ≡ all s.kids ++ join s.text s.text_at (Closes ∷ ts) = append_assoc (all kids) (Closes ∷ []) ts ∙ flush s.kids s.text s.text_at Closes ts tt in
     ap (outer above) (one ∙ ap (λ (r : List Token). all a.before ++ start_of a ∷ r) two)
 
-tells_added : (text : List ℕ) (at n : ℕ) (s : State) (above : List Above) (ts : List Token) → above ≡ s.above → is_nil above ≡ false → so_far (added text at n s) ts ≡ so_far s (join text at ts)
+tells_added : (text : List ℕ) (at n : ℕ) (s : State) (above : List Above) (ts : List Token) → above ≡ s.above → is_empty above ≡ false → so_far (added text at n s) ts ≡ so_far s (join text at ts)
 tells_added text at n s [] ts e h = absurd cc
 tells_added text at n s (a ∷ above) ts e h =
-    let inside : is_nil s.above ≡ false = rw (← e) refl in
+    let inside : is_empty s.above ≡ false = rw (← e) refl in
     let empty : (xs : List ℕ) → xs ≡ [] → cond (is_empty xs) at s.text_at ≡ at = λ xs g. rw g refl in
     let full : (xs : List ℕ) → xs ≢ [] → cond (is_empty xs) at s.text_at ≡ s.text_at = λ xs. elim xs as (λ (v : List ℕ). v ≢ [] → cond (is_empty v) at s.text_at ≡ s.text_at) [ [] ↦ (λ g. absurd (g refl)) | (y ∷ ys) ↦ (λ g. refl) ] in
     rw inside (ap (λ (r : List Token). outer s.above (all s.kids ++ r)) (join-join s.text text _ s.text_at at ts (empty s.text) (full s.text)))
 
-not_outside : (w : DocWhy) (above : List Above) (later : List (Bool × DocWhy)) → first_true ((is_nil (map open_of above), w) ∷ later) ≡ None → is_nil above ≡ false
-not_outside w above later e = sym (is_nil-map open_of above) ∙ (passes (is_nil (map open_of above)) w later e).0
+not_outside : (w : DocWhy) (above : List Above) (later : List (Bool × DocWhy)) → first_true ((is_empty (map open_of above), w) ∷ later) ≡ None → is_empty above ≡ false
+not_outside w above later e = sym (is_empty-map open_of above) ∙ (passes (is_empty (map open_of above)) w later e).0
 
 tells_char : (code at n : ℕ) (s : State) (above : List Above) (ts : List Token) → above ≡ s.above → so_far (added (encode_utf8 code) at n s) ts ≡ so_far s (told (Character code) (context s) at ts)
 tells_char code at n s [] ts e = rw (← e) refl
 tells_char code at n s (a ∷ above) ts e =
-    let inside : is_nil (map open_of s.above) ≡ false = rw (← e) refl in
+    let inside : is_empty (map open_of s.above) ≡ false = rw (← e) refl in
     tells_added (encode_utf8 code) at n s (a ∷ above) ts e refl ∙ (let same : join (encode_utf8 code) at ts ≡ told (Character code) (context s) at ts = rw inside refl in ap (so_far s) same)
 
-pub some_innermost : (written : List ℕ) (above : List Above) → is_innermost written (map open_of above) ≡ true → is_nil above ≡ true → ⊥
+pub some_innermost : (written : List ℕ) (above : List Above) → is_innermost written (map open_of above) ≡ true → is_empty above ≡ true → ⊥
 some_innermost written [] e h = absurd cc
 some_innermost written (a ∷ above) e h = absurd cc
 

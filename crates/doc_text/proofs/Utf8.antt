@@ -10,8 +10,10 @@ use Rattle.xa_base.specs.Namespaces.{xmlns_prefix}
 use Rattle.doc_pieces.specs.Pieces.{Tag, Piece, Declaration, Start, Empty, End, Comment, Instruction, CData, Reference, Character}
 use Rattle.doc_pieces.specs.declared.found.Attribute.{Attribute}
 use Rattle.doc_pieces.specs.Found.{attribute_of, bytes_of}
-use Rattle.doc_text.specs.Namespaces.{local_of, is_qname, bound_prefix}
-use Rattle.doc_text.specs.Contexts.{has_bad_name, first_true}
+use Rattle.doc_text.specs.Namespaces.{bound_prefix}
+use Rattle.doc_pieces.specs.QNames.{local_of, is_qname}
+use Rattle.doc_text.specs.Contexts.{has_bad_name}
+use Rattle.xa_base.specs.Entries.{first_true}
 use Rattle.doc_text.specs.Private.Entering.{have_utf8, are_named}
 use Rattle.doc_text.specs.Private.Building.{GivesUtf8}
 use Rattle.doc_text.proofs.Keeping.{and_parts, and_both}

@@ -1,13 +1,15 @@
 -- Where a piece of a document stands, and the reasons that may stand against it.
 use Rattle.std.specs.Prelude.{◌==◌, ◌+◌, ℕ, Bool, true, false, ◌&&◌, ◌||◌, not, nat_le, min, List, [], ◌∷◌, ◌++◌, length, map, bytes_eq, Option, Some, None, if◌then◌else◌}
 use Rattle.std.specs.List.{list_any, flat_map}
-use Rattle.xa_base.specs.Limits.{is_short_space}
+use Rattle.xa_base.specs.Entries.{first_true}
+use Rattle.xa_base.specs.Limits.{is_short_space, is_empty}
 use Rattle.xa_base.specs.Namespaces.{xml_prefix, xml_space}
 use Rattle.xa_base.specs.WhiteSpace.{is_white_space}
 use Rattle.doc_pieces.specs.Pieces.{Tag, Piece, Declaration, Start, Empty, End, Comment, Instruction, CData, Reference, Character}
 use Rattle.doc_text.specs.declared.error.DocWhy.{DocWhy}
 use Rattle.doc_text.specs.declared.error.DocWhy.TheVariants as why
-use Rattle.doc_text.specs.Namespaces.{prefix_of, is_qname, is_long, bindings_of, plain_of, is_reserved, is_unbound, attributes_of, written_twice, expanded_twice}
+use Rattle.doc_text.specs.Namespaces.{is_long, bindings_of, plain_of, is_reserved, is_unbound, attributes_of, written_twice, expanded_twice}
+use Rattle.doc_pieces.specs.QNames.{prefix_of, is_qname}
 
 -- an element that is open: its name as written, and what it binds, each a prefix with a namespace
 pub record Open : Type 0 where
@@ -27,12 +29,8 @@ pub record Context : Type 0 where
 abbrev pub start : Context
 start = record { elements = []; ended = false; first = true; brackets = 0 }
 
-abbrev pub is_nil : {A : Type 0} → List A → Bool
-is_nil [] = true
-is_nil (x ∷ xs) = false
-
 abbrev pub is_outside : Context → Bool
-is_outside c = is_nil c.elements
+is_outside c = is_empty c.elements
 
 -- ---- bindings in scope, the innermost first (Namespaces in XML 1.0, section 6.1)
 
@@ -99,10 +97,6 @@ tests (CData text) c = (is_outside c, why.TextOutside) ∷ []
 tests (Reference code) c = (is_outside c, why.TextOutside) ∷ []
 tests (Character code) c = (code == 0x3E && nat_le 2 c.brackets, why.NoPiece) ∷ (is_outside c && not (is_white_space code), why.TextOutside) ∷ []
 
-abbrev pub first_true : List (Bool × DocWhy) → Option DocWhy
-first_true [] = None
-first_true (test ∷ more) = if test.0 then Some test.1 else first_true more
-
 -- the first reason against a start or empty tag
 unfoldable pub start_reason : Tag → List (List ℕ × List ℕ) → Bool → ℕ → Option DocWhy
 start_reason tag outer ended depth = first_true (start_tests tag outer ended depth)
@@ -127,7 +121,7 @@ abbrev pub after : Piece → Context → Context
 after Declaration c = record { elements = c.elements; ended = c.ended; first = false; brackets = 0 }
 after (Start tag) c = record { elements = entered tag ∷ c.elements; ended = c.ended; first = false; brackets = 0 }
 after (Empty tag) c = record { elements = c.elements; ended = is_outside c; first = false; brackets = 0 }
-after (End written) c = record { elements = inner c.elements; ended = is_nil (inner c.elements); first = false; brackets = 0 }
+after (End written) c = record { elements = inner c.elements; ended = is_empty (inner c.elements); first = false; brackets = 0 }
 after Comment c = record { elements = c.elements; ended = c.ended; first = false; brackets = 0 }
 after Instruction c = record { elements = c.elements; ended = c.ended; first = false; brackets = 0 }
 after (CData text) c = record { elements = c.elements; ended = c.ended; first = false; brackets = 0 }

@@ -1,4 +1,4 @@
--- Names as written, and what they stand for, by Namespaces in XML 1.0.
+-- What names stand for, by Namespaces in XML 1.0.
 use Rattle.std.specs.Prelude.{◌==◌, ◌+◌, ℕ, Bool, true, false, ◌&&◌, ◌||◌, not, nat_le, List, [], ◌∷◌, length, take, drop, map, filter, bytes_eq, Option, Some, None, if◌then◌else◌}
 use Rattle.std.specs.List.{prefix_len, list_any}
 use Rattle.std.specs.Option.{is_some}
@@ -6,28 +6,8 @@ use Rattle.xa_base.specs.declared.texts.Name.{Name}
 use Rattle.xa_base.specs.Entries.{beside}
 use Rattle.xa_base.specs.Limits.{is_empty, spells_ncname, is_short_part}
 use Rattle.xa_base.specs.Namespaces.{xml_prefix, xmlns_prefix, xml_space, xmlns_space}
+use Rattle.doc_pieces.specs.QNames.{prefix_of, local_of}
 use Rattle.doc_text.specs.Sound.{has_name}
-
--- ---- names as written
-
--- the number of bytes before the first colon
-abbrev pub colon_at : List ℕ → ℕ
-colon_at written = prefix_len (λ b. not (b == 0x3A)) written
-
-abbrev pub has_colon : List ℕ → Bool
-has_colon written = not (nat_le (length written) (colon_at written))
-
--- what stands before the first colon, nothing where there is none
-unfoldable pub prefix_of : List ℕ → List ℕ
-prefix_of written = if has_colon written then take (colon_at written) written else []
-
--- what stands behind the first colon, all where there is none
-unfoldable pub local_of : List ℕ → List ℕ
-local_of written = if has_colon written then drop (colon_at written + 1) written else written
-
--- production [7] QName: an NCName, or two NCNames joined by a colon
-unfoldable pub is_qname : List ℕ → Bool
-is_qname written = (not (has_colon written) || spells_ncname (prefix_of written)) && spells_ncname (local_of written)
 
 -- its prefix or its local name is over 255 bytes
 unfoldable pub is_long : List ℕ → Bool

@@ -5,7 +5,8 @@ ghost use Rattle.doc_pieces.specs.Pieces as pieces;
 ghost use Rattle.doc_pieces.specs.Found.{seen, tag_seen, bytes_of};
 ghost use Rattle.std.specs.List.{prefix_len};
 ghost use Rattle.doc_pieces.specs.Reasons.{IsPlainRun, is_plain_byte};
-ghost use Rattle.doc_text.specs.Contexts.{is_outside, is_innermost, first_true, end_tests, reason, scope, brackets_after};
+ghost use Rattle.doc_text.specs.Contexts.{is_outside, is_innermost, end_tests, reason, scope, brackets_after};
+ghost use Rattle.xa_base.specs.Entries.{first_true};
 ghost use Rattle.doc_text.specs.Private.States.{context, nothing, added, passed};
 ghost use Rattle.doc_text.specs.Private.Entering.{Stopped, have_utf8};
 ghost use Rattle.doc_text.specs.declared.error.DocWhy.TheVariants as why;
@@ -13,15 +14,15 @@ ghost use Rattle.doc_text.specs.Private.Building.{state, Scoped, Takes, Begins, 
 
 use crate::error::{DocError, DocWhy};
 use crate::label::{Absent, Attributes, Bindings, ItemLabel};
-use crate::names::{is_long, is_qname, prefix_of};
+use crate::names::is_long;
 use crate::scope::BindingsInScope;
 use crate::short_lists::push;
 use crate::tags::{enter, is_unbound, value_of};
-use doc_pieces::{Element, Found, plain_run, text_of};
+use doc_pieces::{Element, Found, is_qname, plain_run, prefix_of};
 use label_tree::Tree;
 use std::alloc::Global;
 use std::mem;
-use xa_base::{Memory, Name, Text};
+use xa_base::{Memory, Name, Text, utf8_text};
 
 // For how many kids there is room where an element has a first one and doesn't end behind it.
 const FEW: usize = 2;
@@ -353,7 +354,7 @@ impl<'a> Builder<'a> {
         if let Some(why) = self.text_reason() {
             return Err(DocError::Syntax { at, why });
         }
-        self.add(text_of(text), at, 0)?;
+        self.add(utf8_text(text), at, 0)?;
         Ok(())
     }
 

@@ -1,70 +1,10 @@
-//! Names as written.
-ghost use Rattle.std.specs.Prelude.{◌≡◌, ◌≤◌, length, IsTrue};
-ghost use Rattle.xa_base.specs.Limits.{spells_ncname};
+//! What stands against names as written, and what they bind.
+ghost use Rattle.std.specs.Prelude.{◌≡◌, IsTrue};
 ghost use Rattle.doc_text.specs.Private.Entering.{IsPlain};
 ghost use Rattle.doc_text.specs.Namespaces as names;
 
-use doc_pieces::is_ascii_ncname;
-use xa_base::{XML_SPACE, XMLNS_SPACE, is_ncname_text, is_short_part};
-
-fn colon_at(written: &[u8]) -> usize
-    ensures value { result ≡ names.colon_at written.now }
-    ensures within { result ≤ length written.now }
-{
-    written.iter().take_while(|byte| **byte != b':').count()
-}
-
-// What stands before the first colon, nothing where there is none.
-#[tactic(auto, unfolding(crate::specs::Namespaces::prefix_of))]
-pub(crate) fn prefix_of(written: &[u8]) -> &[u8]
-    ensures { result.now ≡ names.prefix_of written.now }
-{
-    let at = colon_at(written);
-    if at < written.len() {
-        &written[..at]
-    } else {
-        b""
-    }
-}
-
-// What stands behind the first colon, all where there is none.
-#[tactic(auto, unfolding(crate::specs::Namespaces::local_of))]
-pub(crate) fn local_of(written: &[u8]) -> &[u8]
-    ensures { result.now ≡ names.local_of written.now }
-{
-    let at = colon_at(written);
-    if at < written.len() {
-        &written[at + 1..]
-    } else {
-        written
-    }
-}
-
-// Most names are ASCII alone, and these aren't decoded.
-fn spells_ncname(bytes: &[u8]) -> bool
-    ensures { result ≡ spells_ncname bytes.now }
-{
-    if is_ascii_ncname(bytes) {
-        return true;
-    }
-    match simdutf8::basic::from_utf8(bytes) {
-        Ok(text) => is_ncname_text(text),
-        Err(_) => false,
-    }
-}
-
-#[tactic(auto, unfolding(crate::specs::Namespaces::is_qname, crate::specs::Namespaces::prefix_of, crate::specs::Namespaces::local_of))]
-pub(crate) fn is_qname(written: &[u8]) -> bool
-    ensures { result ≡ names.is_qname written.now }
-{
-    let at = colon_at(written);
-    if at < written.len() {
-        spells_ncname(&written[..at]) && spells_ncname(&written[at + 1..])
-    } else {
-        spells_ncname(written)
-    }
-}
-
+use doc_pieces::{is_ascii_ncname, local_of, prefix_of};
+use xa_base::{XML_SPACE, XMLNS_SPACE, is_short_part};
 // Whether it is of ASCII characters, and there is nothing against it, and no prefix: as most names.
 pub(crate) fn is_plain(written: &[u8]) -> bool
     ensures { IsTrue result → IsPlain written.now }

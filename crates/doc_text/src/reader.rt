@@ -10,9 +10,10 @@ use crate::builder::Builder;
 use crate::error::{DocError, DocWhy};
 use crate::items::Items;
 use crate::label::ItemLabel;
-use doc_pieces::{NoneWhy, read_piece, text_of, why_none};
+use doc_pieces::{NoneWhy, read_piece, why_none};
 use label_tree::{Tree, Whole};
 use std::alloc::Global;
+use xa_base::utf8_text;
 
 const MARK: &[u8] = b"\xEF\xBB\xBF";
 
@@ -62,7 +63,7 @@ fn read_utf8(alloc: Global, bytes: &[u8]) -> Result<Items, DocError>
         let plain = builder.plain_len(rest);
         if plain > 0 {
             let (text, behind) = rest.split_at(plain);
-            builder.add(text_of(text), at, 0)?;
+            builder.add(utf8_text(text), at, 0)?;
             rest = behind;
             continue;
         }

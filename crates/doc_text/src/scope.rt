@@ -1,5 +1,5 @@
 //! The namespaces that are bound where a reader stands.
-ghost use Rattle.std.specs.Prelude.{◌≡◌, ◌≤◌, ◌∷◌, ◌++◌, ◌-◌, [], take, length, reverse, IfOk, IsUtf8, OnOk};
+ghost use Rattle.std.specs.Prelude.{◌≡◌, ◌≤◌, ◌∷◌, ◌++◌, ◌-◌, [], take, length, reverse, IfOk, OnOk};
 ghost use Rattle.std.specs.Option.{option_map};
 ghost use Rattle.xa_base.specs.Entries.{beside};
 ghost use Rattle.xa_base.specs.Namespaces.{xml_prefix, xml_space};
@@ -37,14 +37,6 @@ impl<'a> Model for BindingsInScope<'a> {
     ghost view = { λ a. map bound a.bindings.items };
 
     ghost invariant = { λ a. Indexed a.bindings.items a.innermost };
-}
-
-// A text of these bytes, which are copied.
-pub(crate) fn text_of(alloc: Global, bytes: &[u8]) -> Result<Text, Memory>
-    requires { IsUtf8 bytes.now }
-    ensures { IfOk result (λ text. text ≡ bytes.now) }
-{
-    Text::from_str(alloc, doc_pieces::text_of(bytes))
 }
 
 impl<'a> BindingsInScope<'a> {
@@ -120,7 +112,7 @@ impl<'a> BindingsInScope<'a> {
     }
 
     // The namespace of a prefix.
-    pub(crate) fn space_of(&self, prefix: &[u8]) -> Option<&Text>
+    pub(crate) fn bound_to(&self, prefix: &[u8]) -> Option<&Text>
         ensures { option_map (λ space. space.now) result ≡ beside prefix.now (reverse self.now) }
     {
         let bindings = self.bindings.as_slice();

@@ -2,8 +2,10 @@
 ghost use Rattle.std.specs.List.{list_any};
 ghost use Rattle.std.specs.Option.{option_map};
 ghost use Rattle.std.specs.Prelude.{not, true, nat_le, ◌||◌, length, ◌&&◌, ◌≡◌, ◌∷◌, ◌++◌, [], map, reverse, IfOk, OnOk, IfErr};
+ghost use Rattle.xa_base.specs.Entries.{first_true};
 ghost use Rattle.xa_base.specs.Limits.{is_short_space};
 ghost use Rattle.doc_pieces.specs.Found.{tag_seen, attribute_of, bytes_of};
+ghost use Rattle.doc_pieces.specs.QNames.{is_qname, prefix_of};
 ghost use Rattle.doc_text.specs.Namespaces as names;
 ghost use Rattle.doc_text.specs.Contexts as contexts;
 ghost use Rattle.doc_text.specs.Private.Entering.{Enters, Stopped, IsPlain, have_utf8, are_named};
@@ -12,12 +14,10 @@ ghost use Rattle.doc_text.specs.declared.error.DocWhy.TheVariants as why;
 use crate::duplicates::{expanded_twice, written_twice};
 use crate::error::{DocError, DocWhy};
 use crate::label::{Absent, Attributes, Bindings};
-use crate::names::{
-    binds, bound_prefix, is_long, is_plain, is_qname, is_reserved, local_of, prefix_of,
-};
-use crate::scope::{BindingsInScope, text_of};
+use crate::names::{binds, bound_prefix, is_long, is_plain, is_reserved};
+use crate::scope::BindingsInScope;
 use crate::short_lists::push;
-use doc_pieces::{Attribute, Element, Value};
+use doc_pieces::{Attribute, Element, Value, is_qname, local_of, prefix_of};
 use std::alloc::Global;
 use xa_base::{Memory, Name, Text, is_short_space};
 
@@ -38,7 +38,7 @@ fn either(a: bool, b: bool) -> bool
 }
 
 fn is_any_bad(attributes: &[Attribute<'_>]) -> bool
-    ensures { result ≡ list_any (λ a. not (names.is_qname a.name.now)) attributes.now }
+    ensures { result ≡ list_any (λ a. not (is_qname a.name.now)) attributes.now }
 {
     attributes.iter().any(|a| !is_qname(a.name))
 }
@@ -91,11 +91,11 @@ fn has_reserved(tag: &Element<'_>) -> bool
 pub(crate) fn is_unbound(scope: &BindingsInScope<'_>, prefix: &[u8]) -> bool
     ensures { result ≡ names.is_unbound (reverse scope.now) prefix.now }
 {
-    !prefix.is_empty() && (prefix == b"xmlns".as_slice() || scope.space_of(prefix).is_none())
+    !prefix.is_empty() && (prefix == b"xmlns".as_slice() || scope.bound_to(prefix).is_none())
 }
 
 fn is_any_unbound(scope: &BindingsInScope<'_>, attributes: &[Attribute<'_>]) -> bool
-    ensures { result ≡ list_any (λ a. not (names.binds a.name.now) && names.is_unbound (reverse scope.now) (names.prefix_of a.name.now)) attributes.now }
+    ensures { result ≡ list_any (λ a. not (names.binds a.name.now) && names.is_unbound (reverse scope.now) (prefix_of a.name.now)) attributes.now }
 {
     attributes
         .iter()
@@ -123,11 +123,11 @@ fn copy_space(alloc: Global, space: Option<&Text>) -> Result<Text, Memory>
 // The expanded name of an element.
 #[tactic(auto, unfolding(crate::specs::Namespaces::element_name))]
 fn element_name(alloc: Global, scope: &BindingsInScope<'_>, written: &[u8]) -> Result<Name, Memory>
-    requires { names.is_qname written.now ≡ true }
+    requires { is_qname written.now ≡ true }
     ensures { IfOk result (λ name. name ≡ names.element_name (reverse scope.now) written.now) }
 {
-    let space = copy_space(alloc, scope.space_of(prefix_of(written)))?;
-    let local = text_of(alloc, local_of(written))?;
+    let space = copy_space(alloc, scope.bound_to(prefix_of(written)))?;
+    let local = Text::from_utf8(alloc, local_of(written))?;
     Ok(Name { space, local })
 }
 
@@ -137,7 +137,7 @@ fn attribute_space<'s>(scope: &'s BindingsInScope<'_>, prefix: &[u8]) -> Option<
     if prefix.is_empty() {
         None
     } else {
-        scope.space_of(prefix)
+        scope.bound_to(prefix)
     }
 }
 
@@ -148,11 +148,11 @@ fn attribute_name(
     scope: &BindingsInScope<'_>,
     written: &[u8],
 ) -> Result<Name, Memory>
-    requires { names.is_qname written.now ≡ true }
+    requires { is_qname written.now ≡ true }
     ensures { IfOk result (λ name. name ≡ names.attribute_name (reverse scope.now) written.now) }
 {
     let space = copy_space(alloc, attribute_space(scope, prefix_of(written)))?;
-    let local = text_of(alloc, local_of(written))?;
+    let local = Text::from_utf8(alloc, local_of(written))?;
     Ok(Name { space, local })
 }
 
@@ -173,7 +173,7 @@ fn read_attributes(
             continue;
         }
         let name = attribute_name(alloc, scope, attribute.name)?;
-        let value = text_of(alloc, value_of(&attribute.value))?;
+        let value = Text::from_utf8(alloc, value_of(&attribute.value))?;
         all.push((name, value))?;
     }
     all.shrink_to_fit();
@@ -192,8 +192,8 @@ fn read_bindings(alloc: Global, attributes: &[Attribute<'_>]) -> Result<Vec<(Tex
         if !binds(attribute.name) {
             continue;
         }
-        let prefix = text_of(alloc, bound_prefix(attribute.name))?;
-        let space = text_of(alloc, value_of(&attribute.value))?;
+        let prefix = Text::from_utf8(alloc, bound_prefix(attribute.name))?;
+        let space = Text::from_utf8(alloc, value_of(&attribute.value))?;
         push(&mut all, 1, (prefix, space))?;
     }
     all.shrink_to_fit();
@@ -216,7 +216,7 @@ fn declare<'a>(
         if !binds(attribute.name) {
             continue;
         }
-        let space = text_of(alloc, value_of(&attribute.value))?;
+        let space = Text::from_utf8(alloc, value_of(&attribute.value))?;
         scope.push(bound_prefix(attribute.name), space)?;
     }
     Ok(())
@@ -258,7 +258,7 @@ pub(crate) struct Head {
 
 // What speaks against the names and the bindings of a tag.
 fn first_of_names(tag: &Element<'_>) -> Option<DocWhy>
-    ensures { result ≡ contexts.first_true ((contexts.has_bad_name (tag_seen tag.now), why.BadName) ∷ (contexts.has_long_name (tag_seen tag.now), why.LongName) ∷ (contexts.has_reserved (tag_seen tag.now), why.ReservedPrefix) ∷ []) }
+    ensures { result ≡ first_true ((contexts.has_bad_name (tag_seen tag.now), why.BadName) ∷ (contexts.has_long_name (tag_seen tag.now), why.LongName) ∷ (contexts.has_reserved (tag_seen tag.now), why.ReservedPrefix) ∷ []) }
 {
     if has_bad_name(tag) {
         Some(DocWhy::BadName)
@@ -273,7 +273,7 @@ fn first_of_names(tag: &Element<'_>) -> Option<DocWhy>
 
 // What speaks against the place of a tag.
 fn first_of_place(ended: bool, depth: usize) -> Option<DocWhy>
-    ensures { result ≡ contexts.first_true ((ended, why.ExtraRoot) ∷ (nat_le 64 depth, why.TooDeep) ∷ []) }
+    ensures { result ≡ first_true ((ended, why.ExtraRoot) ∷ (nat_le 64 depth, why.TooDeep) ∷ []) }
 {
     if ended {
         Some(DocWhy::ExtraRoot)
@@ -324,8 +324,8 @@ fn enter_plain(
     if let Some(why) = first_of_place(ended, depth) {
         return Err(DocError::Syntax { at, why });
     }
-    let space = copy_space(alloc, scope.space_of(b""))?;
-    let local = text_of(alloc, tag.name)?;
+    let space = copy_space(alloc, scope.bound_to(b""))?;
+    let local = Text::from_utf8(alloc, tag.name)?;
     Ok(head_of(
         absent,
         Name { space, local },

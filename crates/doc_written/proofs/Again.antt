@@ -9,7 +9,7 @@ use Rattle.std.proofs.lemmas.Str.{IsUtf8-append, encodes-chars, length-encode, l
 use Rattle.xa_base.specs.Characters.{is_xml_char}
 use Rattle.xa_base.specs.Limits.{is_empty}
 use Rattle.doc_pieces.specs.Pieces.{Piece, Reference, Character, IsText, PieceForm}
-use Rattle.doc_text.specs.Contexts.{Open, Context, is_nil, reason, brackets_after, after}
+use Rattle.doc_text.specs.Contexts.{Open, Context, reason, brackets_after, after}
 use Rattle.doc_text.specs.Tokens.{Token, Opens, Closes, Words, join}
 use Rattle.doc_text.specs.Documents.{told, Whole}
 use Rattle.doc_written.specs.Written.{text_escape}
@@ -39,7 +39,7 @@ within es n = record { elements = es; ended = false; first = false; brackets = n
 
 -- behind an element within these
 abbrev pub behind : List Open → Context
-behind es = record { elements = es; ended = is_nil es; first = false; brackets = 0 }
+behind es = record { elements = es; ended = is_empty es; first = false; brackets = 0 }
 
 abbrev pub ReadsWithin : List Open → ℕ → List ℕ → List Token → Type 0
 ReadsWithin es at bytes ts = (n : ℕ) → Reads (within es n) at bytes ts
@@ -52,24 +52,24 @@ NoWords (Opens name attributes binds at ∷ ts) = Unit {0}
 NoWords (Closes ∷ ts) = Unit {0}
 NoWords (Words text at ∷ ts) = ⊥
 
-reference_free : (c n : ℕ) (es : List Open) → is_nil es ≡ false → reason (Reference c) (within es n) ≡ None
+reference_free : (c n : ℕ) (es : List Open) → is_empty es ≡ false → reason (Reference c) (within es n) ≡ None
 unfolding reason
 reference_free c n es inside = rw inside refl
 
-literal_free : (c n : ℕ) (es : List Open) → is_nil es ≡ false → eqb c 62 ≡ false → reason (Character c) (within es n) ≡ None
+literal_free : (c n : ℕ) (es : List Open) → is_empty es ≡ false → eqb c 62 ≡ false → reason (Character c) (within es n) ≡ None
 unfolding reason
 literal_free c n es inside other = rw (other, inside) refl
 
 reference_tells : (c n at : ℕ) (es : List Open) (ts : List Token) → told (Reference c) (within es n) at ts ≡ join (encode_utf8 c) at ts
 reference_tells c n at es ts = refl
 
-literal_tells : (c n at : ℕ) (es : List Open) (ts : List Token) → is_nil es ≡ false → told (Character c) (within es n) at ts ≡ join (encode_utf8 c) at ts
+literal_tells : (c n at : ℕ) (es : List Open) (ts : List Token) → is_empty es ≡ false → told (Character c) (within es n) at ts ≡ join (encode_utf8 c) at ts
 literal_tells c n at es ts inside = rw inside refl
 
 pub not_return : (b : ℕ) (bytes : List ℕ) → get_or bytes 0 0 ≡ b → (b ≡ 13 → ⊥) → bytes ≡ 13 ∷ [] → ⊥
 not_return b bytes is other e = other (sym is ∙ ap (λ (l : List ℕ). get_or l 0 0) e)
 
-module _ (es : List Open) (inside : is_nil es ≡ false) (c at : ℕ) (front rest : List ℕ) (ts : List Token) (next : ReadsWithin es (at + length front) rest ts) where
+module _ (es : List Open) (inside : is_empty es ≡ false) (c at : ℕ) (front rest : List ℕ) (ts : List Token) (next : ReadsWithin es (at + length front) rest ts) where
   one_char : IsMentioned c front ⊎ IsLiteral c front → ReadsWithin es at (front ++ rest) (join (encode_utf8 c) at ts)
   one_char (inl m) n = one_more (Reference c) (within es n) at front rest ts (m.inner, m.reference, m.written_is) (not_return 38 front (ap (λ (l : List ℕ). get_or l 0 0) m.written_is) (λ e. omega (arith, e))) m.text.utf8 (reference_free c n es inside) (next 0)
   one_char (inr l) n =
@@ -81,7 +81,7 @@ abbrev joined : List ℕ → ℕ → List Token → List Token
 joined [] at ts = ts
 joined (c ∷ cs) at ts = join (encode_utf8 c) at (joined cs (at + length (flat_map text_escape (encode_utf8 c))) ts)
 
-letters : (cs : List ℕ) → list_all is_xml_char cs ≡ true → (es : List Open) → is_nil es ≡ false → (at : ℕ) (rest : List ℕ) (ts : List Token)
+letters : (cs : List ℕ) → list_all is_xml_char cs ≡ true → (es : List Open) → is_empty es ≡ false → (at : ℕ) (rest : List ℕ) (ts : List Token)
     → ReadsWithin es (at + length (flat_map text_escape (encode_utf8_all cs))) rest ts → ReadsWithin es at (flat_map text_escape (encode_utf8_all cs) ++ rest) (joined cs at ts)
 letters [] e es inside at rest ts next = λ n. reads_at (within es n) (at + 0) at rest ts (omega arith) (next n)
 letters (c ∷ cs) e es inside at rest ts next =
@@ -119,7 +119,7 @@ some_chars [] text is some = absurd (true≢false (ap is_empty is ∙ some))
 some_chars (c ∷ cs) text is some = (c, cs, refl)
 
 -- a text is read as one
-pub text_again : (text : List ℕ) → IsText text → is_empty text ≡ false → (es : List Open) → is_nil es ≡ false → (at : ℕ) (rest : List ℕ) (ts : List Token) → NoWords ts
+pub text_again : (text : List ℕ) → IsText text → is_empty text ≡ false → (es : List Open) → is_empty es ≡ false → (at : ℕ) (rest : List ℕ) (ts : List Token) → NoWords ts
     → ReadsWithin es (at + length (flat_map text_escape text)) rest ts → ReadsWithin es at (flat_map text_escape text ++ rest) (Words text at ∷ ts)
 text_again text fine some es inside at rest ts no_words next =
     let cs = chars text in

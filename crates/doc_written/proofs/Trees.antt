@@ -9,15 +9,16 @@ use Rattle.std.proofs.lemmas.Str.{IsUtf8-append, IsUtf8-nil}
 use Rattle.xa_base.specs.declared.texts.Name.{Name}
 use Rattle.xa_base.specs.Limits.{is_empty, has_xml_chars, is_name_part, is_xmlns}
 use Rattle.xa_base.specs.Namespaces.{xml_prefix, xml_space}
-use Rattle.xa_base.specs.Entries.{beside}
+use Rattle.xa_base.specs.Entries.{beside, first_true}
 use Rattle.label_tree.specs.Rose.{Rose, node, Roses, none, more, Allowed, AllowedAll}
 use Rattle.doc_pieces.specs.Pieces.{Tag, Start, Empty, End, PieceForm}
 use Rattle.doc_text.specs.declared.label.ItemLabel.{ItemLabel}
 use Rattle.doc_text.specs.declared.label.ItemLabel.TheVariants.{Element, Text}
 use Rattle.doc_text.specs.Labels.{MayHave}
 use Rattle.doc_text.specs.Sound.{is_sound_name, is_sound_space, has_name, is_sound_attribute, are_sound_attributes, is_sound_binding, is_sound_label, is_text, begins_with_text, is_sound, are_sound, levels, levels_all}
-use Rattle.doc_text.specs.Namespaces.{prefix_of, is_unbound, bindings_of, expanded_twice}
-use Rattle.doc_text.specs.Contexts.{Open, is_nil, scope, end_tests, start_tests, first_true, reason, entered}
+use Rattle.doc_text.specs.Namespaces.{is_unbound, bindings_of, expanded_twice}
+use Rattle.doc_pieces.specs.QNames.{prefix_of}
+use Rattle.doc_text.specs.Contexts.{Open, scope, end_tests, start_tests, reason, entered}
 use Rattle.doc_text.specs.Tokens.{Token, Opens, Closes, tokens, tokens_all}
 use Rattle.doc_text.specs.Documents.{opening}
 use Rattle.doc_written.specs.Spaces.{attribute_spaces, label_spaces, spaces, all_spaces, prefix_for}
@@ -101,12 +102,12 @@ KidsRead es at bytes rest kids ts = (again : Roses ItemLabel) × AllSameItems ki
 
 abbrev KidsReads : List (List ℕ × List ℕ) → List (List ℕ × List ℕ) → Roses ItemLabel → Type 0
 KidsReads table outer kids =
-    (es : List Open) → is_nil es ≡ false → scope_of es ≡ outer → length es + levels_all kids ≤ 64 → (at : ℕ) (rest : List ℕ) (ts : List Token) → NoWords ts
+    (es : List Open) → is_empty es ≡ false → scope_of es ≡ outer → length es + levels_all kids ≤ 64 → (at : ℕ) (rest : List ℕ) (ts : List Token) → NoWords ts
     → ReadsWithin es (at + length (all_spelled table kids)) rest ts → KidsRead es at (all_spelled table kids) rest kids ts
 
 abbrev NodeReads : List (List ℕ × List ℕ) → List (List ℕ × List ℕ) → Rose ItemLabel → Type 0
 NodeReads table outer t =
-    (es : List Open) → is_nil es ≡ false → scope_of es ≡ outer → length es + levels t ≤ 64 → (at : ℕ) (rest : List ℕ) (ts : List Token) → (is_text_node t ≡ true → NoWords ts)
+    (es : List Open) → is_empty es ≡ false → scope_of es ≡ outer → length es + levels t ≤ 64 → (at : ℕ) (rest : List ℕ) (ts : List Token) → (is_text_node t ≡ true → NoWords ts)
     → ReadsWithin es (at + length (spelled table [] t)) rest ts → NodeRead es at (spelled table [] t) rest t ts
 
 -- ---- elements

@@ -168,7 +168,8 @@ fn enumerated_numbers(alloc: Global, now: &Simple, facets: &[Facet]) -> Result<S
 {
     let mut items = number_items(alloc, now, facets)?;
     sort_numbers(&mut items)?;
-    Ok(Simple::Numbers(NumberList::of(items)))
+    let numbers = NumberList::of(items)?;
+    Ok(Simple::Numbers(numbers))
 }
 
 #[tactic(auto, unfolding(simple_types::specs::Seen::space_of))]
@@ -187,10 +188,8 @@ fn enumerated_words(
 {
     let mut words = word_items(alloc, space, now, facets)?;
     sort_words(&mut words)?;
-    Ok(Simple::Words {
-        space,
-        words: TextList::of(words),
-    })
+    let words = TextList::of(words)?;
+    Ok(Simple::Words { space, words })
 }
 
 fn has_enumeration(facets: &[Facet]) -> bool

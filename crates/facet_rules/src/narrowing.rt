@@ -62,7 +62,7 @@ fn kept_numbers(alloc: Global, asked: Constraints, numbers: &[i128]) -> Result<N
             kept.push(*n)?;
         }
     }
-    Ok(NumberList::of(kept))
+    NumberList::of(kept)
 }
 
 fn kept_words(
@@ -80,7 +80,7 @@ fn kept_words(
             kept.push(copied)?;
         }
     }
-    Ok(TextList::of(kept))
+    TextList::of(kept)
 }
 
 #[tactic(auto, unfolding(simple_types::specs::Seen::space_of))]

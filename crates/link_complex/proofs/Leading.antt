@@ -3,29 +3,14 @@ use Rattle.std.proofs.Common.{◌≡◌, arith, Bool, true, false, ◌⊎◌, in
 use Rattle.std.specs.Prelude.{cond}
 use Rattle.std.proofs.lemmas.Bool.{cases_order, cases_lt, cases_Bool}
 use Rattle.xa_base.specs.declared.texts.Name.{Name}
+use Rattle.xa_base.proofs.Lists.{in_parts, in_front, in_end}
 use Rattle.link_names.specs.declared.places.Place.{Place}
 use Rattle.link_names.specs.Order.{is_before}
 use Rattle.link_names.specs.Private.Tables.{lesser, stands_before}
 use Rattle.link_names.proofs.Firsts.{Before, before_true, true_before, before_false}
-use Rattle.link_complex.specs.ElementTypes.{TypeIdentity, TypedParticle, HasParticle, IsOther}
+use Rattle.link_complex.specs.ElementTypes.{TypeIdentity, TypedParticle, IsOther}
+use Rattle.xa_base.specs.Lists.{HasItem}
 use Rattle.link_complex.specs.Private.Leading.{Leader, leading, joined, has_other}
-
--- one more at the end
-
-pub in_parts : (ps : List TypedParticle) (p q : TypedParticle) → HasParticle (ps ++ p ∷ []) q → HasParticle ps q ⊎ (p ≡ q)
-in_parts [] p q (inl e) = inr e
-in_parts [] p q (inr h) = absurd h
-in_parts (x ∷ ps) p q (inl e) = inl (inl e)
-in_parts (x ∷ ps) p q (inr h) = elim (in_parts ps p q h) [ inl k ↦ inl (inr k) | inr e ↦ inr e ]
-
-pub in_front : (ps : List TypedParticle) (p q : TypedParticle) → HasParticle ps q → HasParticle (ps ++ p ∷ []) q
-in_front [] p q h = absurd h
-in_front (x ∷ ps) p q (inl e) = inl e
-in_front (x ∷ ps) p q (inr h) = inr (in_front ps p q h)
-
-pub in_end : (ps : List TypedParticle) (p : TypedParticle) → HasParticle (ps ++ p ∷ []) p
-in_end [] p = inl refl
-in_end (x ∷ ps) p = inr (in_end ps p)
 
 -- the order of places
 
@@ -60,19 +45,19 @@ short a b c x n = elim (cases_Bool (is_before a c)) [
 -- what a leader tells of the particles of a name
 
 abbrev pub OtherTold : List TypedParticle → Name → Option TypeIdentity → Option Place → Type 0
-OtherTold ps a k None = (q : TypedParticle) → HasParticle ps q → q.name ≡ a → q.kind ≡ k
+OtherTold ps a k None = (q : TypedParticle) → HasItem ps q → q.name ≡ a → q.kind ≡ k
 OtherTold ps a k (Some s) =
-    ((q : TypedParticle) × HasParticle ps q × (q.name ≡ a) × (q.place ≡ s) × (q.kind ≡ k → ⊥))
-    × ((q : TypedParticle) → HasParticle ps q → q.name ≡ a → Before q.place s → q.kind ≡ k)
+    ((q : TypedParticle) × HasItem ps q × (q.name ≡ a) × (q.place ≡ s) × (q.kind ≡ k → ⊥))
+    × ((q : TypedParticle) → HasItem ps q → q.name ≡ a → Before q.place s → q.kind ≡ k)
 
 pub record Leads (ps : List TypedParticle) (a : Name) (l : Leader) : Type 0 where
-  pub here : (q : TypedParticle) × HasParticle ps q × (q.name ≡ a) × (q.place ≡ l.place) × (q.kind ≡ l.kind)
-  pub least : (q : TypedParticle) → HasParticle ps q → q.name ≡ a → Before q.place l.place → ⊥
+  pub here : (q : TypedParticle) × HasItem ps q × (q.name ≡ a) × (q.place ≡ l.place) × (q.kind ≡ l.kind)
+  pub least : (q : TypedParticle) → HasItem ps q → q.name ≡ a → Before q.place l.place → ⊥
   pub other : OtherTold ps a l.kind l.other
 
 -- none has the name, or one leads
 abbrev pub Told : List TypedParticle → Name → Option Leader → Type 0
-Told ps a None = (q : TypedParticle) → HasParticle ps q → q.name ≡ a → ⊥
+Told ps a None = (q : TypedParticle) → HasItem ps q → q.name ≡ a → ⊥
 Told ps a (Some l) = Leads ps a l
 
 -- the first of a name

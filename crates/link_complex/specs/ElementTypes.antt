@@ -3,6 +3,7 @@
 use Rattle.std.specs.Prelude.{◌≡◌, ℕ, true, List, [], ◌∷◌, map, Option, Some, None, slice_get, ◌⊎◌, if◌then◌else◌}
 use Rattle.std.specs.List.{flat_map}
 use Rattle.xa_base.specs.declared.texts.Name.{Name}
+use Rattle.xa_base.specs.Lists.{HasItem}
 use Rattle.xa_base.specs.Names.{name_eq}
 use Rattle.simple_types.specs.declared.simples.Builtin.{Builtin}
 use Rattle.content_models.specs.declared.particles.ParticleLabel.{ParticleLabel}
@@ -84,14 +85,10 @@ of_part types other = []
 abbrev pub typed_particles : (ℕ → Option TypeIdentity) → ComplexDefinition → List TypedParticle
 typed_particles types c = flat_map (λ p. of_part types p.what) (in_content c.place.file c.body.at c.body.content)
 
-abbrev pub HasParticle : List TypedParticle → TypedParticle → Type 0
-HasParticle [] p = ⊥
-HasParticle (q ∷ qs) p = (q ≡ p) ⊎ HasParticle qs p
-
 -- one of the same name stands before it and has another type
 abbrev pub IsOther : List TypedParticle → TypedParticle → Type 0
 IsOther ps p =
-    (q : TypedParticle) × HasParticle ps q × (q.name ≡ p.name) × (is_before q.place p.place ≡ true) × (q.kind ≡ p.kind → ⊥)
+    (q : TypedParticle) × HasItem ps q × (q.name ≡ p.name) × (is_before q.place p.place ≡ true) × (q.kind ≡ p.kind → ⊥)
 
 abbrev pub IsOtherAt : List TypedParticle → TypedParticle → LinkingFault → Type 0
 IsOtherAt ps p f = (f ≡ fault TypesDiffer p.place) × IsOther ps p

@@ -13,7 +13,8 @@ use Rattle.link_names.specs.declared.places.Place.{Place}
 use Rattle.link_names.proofs.Placing.{name_test, cut}
 use Rattle.schema_parts.specs.Seen.{base_of, bases_in}
 use Rattle.schema_parts.specs.declared.simple_definitions.RawBase.{RawBase}
-use Rattle.link_cycles.specs.Cycles.{SimpleNumbers, is_named, stands_at, number_from, part_of, parts_of_bases}
+use Rattle.std.specs.List.{position_from}
+use Rattle.link_cycles.specs.Cycles.{SimpleNumbers, is_named, stands_at, part_of, parts_of_bases}
 use Rattle.link_cycles.specs.Seen.{definition_of, definitions_of}
 use Rattle.link_cycles.specs.Tables.{named_in, placed_in, names}
 use Rattle.link_cycles.specs.SimpleTypes.{SimpleDefinition}
@@ -46,22 +47,22 @@ same_name d a = by_name d.name
 -- one more, before the others
 module _ (ds : List SimpleType) (i : ℕ) (d : SimpleType) (lt : 0 < i) (le : i ≤ length ds) (is : d ≡ get_or ds (i - 1) d) where
   from_here : (passes : SimpleDefinition → Bool)
-      → number_from (i - 1) passes (definitions_of (drop (i - 1) ds)) ≡ cond (passes (definition_of d)) (Some (i - 1)) (number_from i passes (definitions_of (drop i ds)))
+      → position_from passes (i - 1) (definitions_of (drop (i - 1) ds)) ≡ cond (passes (definition_of d)) (Some (i - 1)) (position_from passes i (definitions_of (drop i ds)))
   from_here passes =
-      let same : suc (i - 1) ≡ i = omega arith in
-      ap (λ xs. number_from (i - 1) passes (definitions_of xs)) (cut ds i d lt le is)
-      ∙ ap (λ n. cond (passes (definition_of d)) (Some (i - 1)) (number_from n passes (definitions_of (drop i ds)))) same
+      let same : i - 1 + 1 ≡ i = omega arith in
+      ap (λ xs. position_from passes (i - 1) (definitions_of xs)) (cut ds i d lt le is)
+      ∙ ap (λ n. cond (passes (definition_of d)) (Some (i - 1)) (position_from passes n (definitions_of (drop i ds)))) same
 
-  pub one_named : (old new : BTreeMap (Bor Name) ℕ) → ((a : Name) → named_in old a ≡ number_from i (is_named a) (definitions_of (drop i ds)))
+  pub one_named : (old new : BTreeMap (Bor Name) ℕ) → ((a : Name) → named_in old a ≡ position_from (is_named a) i (definitions_of (drop i ds)))
       → ((a : Name) → named_in new a ≡ cond (names d.name a) (Some (i - 1)) (named_in old a))
-      → (a : Name) → named_in new a ≡ number_from (i - 1) (is_named a) (definitions_of (drop (i - 1) ds))
+      → (a : Name) → named_in new a ≡ position_from (is_named a) (i - 1) (definitions_of (drop (i - 1) ds))
   one_named old new so_far up a =
       up a ∙ ap (λ o. cond (names d.name a) (Some (i - 1)) o) (so_far a)
-      ∙ ap (λ b. cond b (Some (i - 1)) (number_from i (is_named a) (definitions_of (drop i ds)))) (same_name d a) ∙ sym (from_here (is_named a))
+      ∙ ap (λ b. cond b (Some (i - 1)) (position_from (is_named a) i (definitions_of (drop i ds)))) (same_name d a) ∙ sym (from_here (is_named a))
 
-  pub one_placed : (old new : BTreeMap (ℕ × ℕ) ℕ) → ((p : Place) → placed_in old p ≡ number_from i (stands_at p) (definitions_of (drop i ds)))
+  pub one_placed : (old new : BTreeMap (ℕ × ℕ) ℕ) → ((p : Place) → placed_in old p ≡ position_from (stands_at p) i (definitions_of (drop i ds)))
       → tree.Updates (λ (x y : ℕ × ℕ). ordering_then (nat_cmp x.0 y.0) (nat_cmp x.1 y.1)) old new (d.place.file, d.place.at) (Some (i - 1))
-      → (p : Place) → placed_in new p ≡ number_from (i - 1) (stands_at p) (definitions_of (drop (i - 1) ds))
+      → (p : Place) → placed_in new p ≡ position_from (stands_at p) (i - 1) (definitions_of (drop (i - 1) ds))
   one_placed old new so_far up p =
       put_placed old new (d.place.file, d.place.at) (i - 1) up p ∙ ap (λ o. cond (stands_at p (definition_of d)) (Some (i - 1)) o) (so_far p) ∙ sym (from_here (stands_at p))
 

@@ -5,25 +5,12 @@ use Rattle.std.specs.Global.{Global}
 use Rattle.std.proofs.Math.ListN.{set, replicate, length-append, length-set}
 use Rattle.std.proofs.lemmas.List.{take_more}
 use Rattle.std.proofs.lemmas.Bool.{cases_lt, true≢false}
-use Rattle.link_cycles.specs.Graphs.{rows_of, row, IsIn, IsEdge, Leads, IsOnCycle}
+use Rattle.xa_base.proofs.Lists.{in_parts, in_front, in_end}
+use Rattle.link_cycles.specs.Graphs.{rows_of, row, IsEdge, Leads, IsOnCycle}
+use Rattle.xa_base.specs.Lists.{HasItem}
 use Rattle.link_cycles.specs.Private.Searching.{mark, unseen, Opened}
 
 -- lists of nodes
-
-pub in_parts : (ns : List ℕ) (n m : ℕ) → IsIn (ns ++ n ∷ []) m → IsIn ns m ⊎ (n ≡ m)
-in_parts [] n m (inl e) = inr e
-in_parts [] n m (inr h) = absurd h
-in_parts (x ∷ ns) n m (inl e) = inl (inl e)
-in_parts (x ∷ ns) n m (inr h) = elim (in_parts ns n m h) [ inl k ↦ inl (inr k) | inr e ↦ inr e ]
-
-pub in_front : (ns : List ℕ) (n m : ℕ) → IsIn ns m → IsIn (ns ++ n ∷ []) m
-in_front [] n m h = absurd h
-in_front (x ∷ ns) n m (inl e) = inl e
-in_front (x ∷ ns) n m (inr h) = inr (in_front ns n m h)
-
-pub in_end : (ns : List ℕ) (n : ℕ) → IsIn (ns ++ n ∷ []) n
-in_end [] n = inl refl
-in_end (x ∷ ns) n = inr (in_end ns n)
 
 pub one_longer : (ns : List ℕ) (i n : ℕ) → i < length ns → n ≡ get_or ns i n → take (i + 1) ns ≡ take i ns ++ n ∷ []
 one_longer ns i n lt is = take_more ns i n lt ∙ ap (λ x. take i ns ++ x ∷ []) (sym is)
@@ -115,7 +102,7 @@ module _ (s : List Bool) (o : List ℕ) (m : List Bool) (p ns : List ℕ) (n : �
     kept = λ k e. set_kept m n k (h.kept k e);
     found = λ k e. elim (set_parts m n k e) [
       | inl f ↦ elim (h.found k f) [ inl g ↦ inl g | inr g ↦ inr (in_front ns n k g.0, in_front p n k g.1) ]
-      | inr same ↦ inr (subst (IsIn (ns ++ n ∷ [])) same (in_end ns n), subst (IsIn (p ++ n ∷ [])) same (in_end p n))
+      | inr same ↦ inr (subst (HasItem (ns ++ n ∷ [])) same (in_end ns n), subst (HasItem (p ++ n ∷ [])) same (in_end p n))
     ];
     all = λ k i below. elim (in_parts ns n k i) [
       | inl f ↦ set_kept m n k (h.all k f below)
@@ -143,9 +130,9 @@ one_step_more g a (r ∷ rs) b c h e = (h.0, one_step_more g r rs b c h.1 e)
 pub record Searched (g : List (List ℕ)) (size node : ℕ) (seen : List Bool) (open_ : List ℕ) : Type 0 where
   pub long : length seen ≡ size
   pub reached : (n : ℕ) → mark seen n ≡ true → (rs : List ℕ) × Leads g node rs n
-  pub opened : (n : ℕ) → IsIn open_ n → mark seen n ≡ true
+  pub opened : (n : ℕ) → HasItem open_ n → mark seen n ≡ true
   pub start : (n : ℕ) → IsEdge g node n → n < size → mark seen n ≡ true
-  pub closed : (n : ℕ) → mark seen n ≡ true → IsIn open_ n ⊎ ((m : ℕ) → IsEdge g n m → m < size → mark seen m ≡ true)
+  pub closed : (n : ℕ) → mark seen n ≡ true → HasItem open_ n ⊎ ((m : ℕ) → IsEdge g n m → m < size → mark seen m ≡ true)
 
 pub searched_first : (g : List (List ℕ)) (size node : ℕ) (s m : List Bool) (p : List ℕ) → length s ≡ size → ((n : ℕ) → mark s n ≡ true → ⊥)
     → Opened s [] m p (row g node) → Searched g size node m p
@@ -191,8 +178,8 @@ module _ (g : List (Vec ℕ Global)) (node : ℕ) (s : List Bool) (f : Searched 
       ]
     where
       nowhere : (ts : List ℕ) → Leads (rows_of g) r ts b → row (rows_of g) r ≡ [] → ⊥
-      nowhere [] l e = subst (λ x. IsIn x b) e l
-      nowhere (t ∷ ts) l e = subst (λ x. IsIn x t) e l.0
+      nowhere [] l e = subst (λ x. HasItem x b) e l
+      nowhere (t ∷ ts) l e = subst (λ x. HasItem x t) e l.0
 
   pub all_seen : node < length g → IsOnCycle (rows_of g) node → mark s node ≡ true
   all_seen lt h = follows node h.0 node f.start lt h.1
@@ -218,7 +205,7 @@ search_ends g node s w b f none lt is =
 
 pub is_node : (g : List (List ℕ)) (size node : ℕ) (s : List Bool) (w rest : List ℕ) (at : ℕ) → Searched g size node s w → w ≡ rest ++ at ∷ [] → at < size
 is_node g size node s w rest at f is =
-    let lt = marked_below s at (f.opened at (subst (λ ns. IsIn ns at) (sym is) (in_end rest at))) in
+    let lt = marked_below s at (f.opened at (subst (λ ns. HasItem ns at) (sym is) (in_end rest at))) in
     let long = f.long in
     omega (arith, lt, long)
 

@@ -1,6 +1,7 @@
 -- Simple types that are made of themselves (XML Schema Part 1, sections 3.14.3 and 3.14.6): by a base, an item or a
 -- member, that of a base, an item or a member, and so on.
-use Rattle.std.specs.Prelude.{◌≡◌, ◌<◌, ℕ, suc, Bool, false, ◌&&◌, nat_eq, List, [], ◌∷◌, ◌++◌, map, Option, Some, None, if◌then◌else◌, slice_get}
+use Rattle.std.specs.Prelude.{◌≡◌, ◌<◌, ℕ, Bool, false, ◌&&◌, nat_eq, List, [], ◌∷◌, ◌++◌, map, Option, Some, None, slice_get}
+use Rattle.std.specs.List.{position_from}
 use Rattle.xa_base.specs.declared.texts.Name.{Name}
 use Rattle.xa_base.specs.Names.{name_eq}
 use Rattle.schema_parts.specs.declared.simple_definitions.RawRef.{RawRef}
@@ -19,18 +20,13 @@ is_named a d = elim d.name [ None ↦ false | Some b ↦ name_eq b a ]
 abbrev pub stands_at : Place → SimpleDefinition → Bool
 stands_at p d = nat_eq d.place.file p.file && nat_eq d.place.at p.at
 
--- the number of the first that passes the test, where that of the first of all is n
-abbrev pub number_from : ℕ → (SimpleDefinition → Bool) → List SimpleDefinition → Option ℕ
-number_from n passes [] = None
-number_from n passes (d ∷ ds) = if passes d then Some n else number_from (suc n) passes ds
-
 -- the numbers of simple types, by their names and by the places where they were written
 pub record SimpleNumbers : Type 0 where
   pub named : Name → Option ℕ
   pub placed : Place → Option ℕ
 
 abbrev pub numbers_in : List SimpleDefinition → SimpleNumbers
-numbers_in ds = record { named = λ a. number_from 0 (is_named a) ds; placed = λ p. number_from 0 (stands_at p) ds }
+numbers_in ds = record { named = λ a. position_from (is_named a) 0 ds; placed = λ p. position_from (stands_at p) 0 ds }
 
 abbrev pub one_of : Option ℕ → List ℕ
 one_of None = []

@@ -1,6 +1,7 @@
 -- Graphs: of each node, the nodes that an edge leads to.
 use Rattle.std.specs.Prelude.{◌≡◌, ℕ, zero, suc, ◌⊎◌, List, [], ◌∷◌, map, Vec}
 use Rattle.std.specs.Global.{Global}
+use Rattle.xa_base.specs.Lists.{HasItem}
 
 abbrev pub rows_of : List (Vec ℕ Global) → List (List ℕ)
 rows_of g = map (λ (v : Vec ℕ Global). v.items) g
@@ -11,12 +12,8 @@ row [] n = []
 row (r ∷ rs) zero = r
 row (r ∷ rs) (suc n) = row rs n
 
-abbrev pub IsIn : List ℕ → ℕ → Type 0
-IsIn [] n = ⊥
-IsIn (m ∷ ms) n = (m ≡ n) ⊎ IsIn ms n
-
 abbrev pub IsEdge : List (List ℕ) → ℕ → ℕ → Type 0
-IsEdge g a b = IsIn (row g a) b
+IsEdge g a b = HasItem (row g a) b
 
 -- a walk from the one by these to the other
 abbrev pub Leads : List (List ℕ) → ℕ → List ℕ → ℕ → Type 0

@@ -1,6 +1,7 @@
 //! Which nodes of a graph a walk leads back to.
 ghost use Rattle.std.specs.Prelude.{◌≡◌, ◌<◌, ◌≤◌, ◌↔◌, IsTrue, ℕ, Bool, List, [], ◌∷◌, ◌++◌, length, IfOk, OnOk, true, slice_index};
-ghost use Rattle.link_cycles.specs.Graphs.{rows_of, IsIn, IsEdge, IsOnCycle};
+ghost use Rattle.link_cycles.specs.Graphs.{rows_of, IsEdge, IsOnCycle};
+ghost use Rattle.xa_base.specs.Lists.{HasItem};
 ghost use Rattle.link_cycles.specs.Private.Searching.{Opened};
 
 use std::alloc::Global;
@@ -56,7 +57,7 @@ fn rank_of(ranks: &[usize], node: usize) -> usize
 
 // Whether none of the nodes has a greater rank.
 fn none_above(nodes: &[usize], ranks: &[usize], rank: usize) -> bool
-    ensures { result ≡ true → (b : ℕ) → IsIn nodes.now b → slice_index ranks.now b ≤ rank }
+    ensures { result ≡ true → (b : ℕ) → HasItem nodes.now b → slice_index ranks.now b ≤ rank }
 {
     'nodes: for node in nodes {
         if rank < rank_of(ranks, *node) {

@@ -4,7 +4,8 @@ ghost use Rattle.xa_base.specs.declared.texts.Name.{Name as NameOf};
 ghost use Rattle.link_names.specs.declared.places.Place.{Place as PlaceOf};
 ghost use Rattle.link_names.specs.Order.{place};
 ghost use Rattle.schema_parts.specs.Seen.{base_of, how_of, bases_in};
-ghost use Rattle.link_cycles.specs.Cycles.{is_named, stands_at, number_from, named_part, part_of, parts_of, parts_of_bases, parts_in, one_of, edges, numbers_in};
+ghost use Rattle.std.specs.List.{position_from};
+ghost use Rattle.link_cycles.specs.Cycles.{is_named, stands_at, named_part, part_of, parts_of, parts_of_bases, parts_in, one_of, edges, numbers_in};
 ghost use Rattle.link_cycles.specs.Graphs.{rows_of};
 ghost use Rattle.link_cycles.specs.Seen.{definition_of, definitions_of};
 ghost use Rattle.link_cycles.specs.Tables.{named_in, placed_in, told_by, names};
@@ -43,7 +44,7 @@ fn named<'a>(
     alloc: Global,
     definitions: &[SimpleType<'a>],
 ) -> Result<BTreeMap<&'a Name, usize>, Memory>
-    ensures { IfOk result (λ table. (a : NameOf) → named_in table a ≡ number_from 0 (is_named a) (definitions_of definitions.now)) }
+    ensures { IfOk result (λ table. (a : NameOf) → named_in table a ≡ position_from (is_named a) 0 (definitions_of definitions.now)) }
 {
     let mut table = BTreeMap::new(alloc);
     let mut i = definitions.len();
@@ -59,7 +60,7 @@ fn placed(
     alloc: Global,
     definitions: &[SimpleType<'_>],
 ) -> Result<BTreeMap<(u32, u64), usize>, Memory>
-    ensures { IfOk result (λ table. (p : PlaceOf) → placed_in table p ≡ number_from 0 (stands_at p) (definitions_of definitions.now)) }
+    ensures { IfOk result (λ table. (p : PlaceOf) → placed_in table p ≡ position_from (stands_at p) 0 (definitions_of definitions.now)) }
 {
     let mut table = BTreeMap::new(alloc);
     let mut i = definitions.len();

@@ -2,9 +2,11 @@
 use Rattle.std.proofs.Common.{◌≡◌, ◌<◌, ◌≤◌, append-nil, subst, arith, Bool, true, false, ◌⊎◌, inl, inr, List, [], ◌∷◌, ◌++◌, Option, Some, None, refl, sym, ◌∙◌}
 use Rattle.std.specs.Prelude.{◌&&◌, ◌||◌, not, nat_eq, nat_lt, cond}
 use Rattle.std.proofs.lemmas.Bool.{ltb-true, lt-ltb, eqb-true, eq-eqb, cases_order, cases_lt, or_cases, and_parts, and_from, cases_Bool, true≢false}
+use Rattle.xa_base.proofs.Lists.{has_left, has_right}
 use Rattle.link_names.specs.declared.places.Place.{Place}
 use Rattle.link_names.specs.declared.faults.LinkingFault.{LinkingFault}
-use Rattle.link_names.specs.Order.{is_before, rank_of, precedes, HasFault, NonePrecedes, IsFirst, IsFirstOf, IsFirstSuch, OneHas, earlier, first_of}
+use Rattle.link_names.specs.Order.{is_before, rank_of, precedes, NonePrecedes, IsFirst, IsFirstOf, IsFirstSuch, OneHas, earlier, first_of}
+use Rattle.xa_base.specs.Lists.{HasItem}
 
 -- by files, places and reasons
 abbrev pub Earlier : LinkingFault → LinkingFault → Type 0
@@ -110,15 +112,6 @@ all_passed_on : (fs : List LinkingFault) (f g : LinkingFault) → precedes g f �
 all_passed_on [] f g p n = tt
 all_passed_on (h ∷ fs) f g p n = (passed_on f g h p n.0, all_passed_on fs f g p n.1)
 
-pub has_left : (fs gs : List LinkingFault) (f : LinkingFault) → HasFault fs f → HasFault (fs ++ gs) f
-has_left [] gs f h = absurd h
-has_left (g ∷ fs) gs f (inl e) = inl e
-has_left (g ∷ fs) gs f (inr h) = inr (has_left fs gs f h)
-
-pub has_right : (fs gs : List LinkingFault) (f : LinkingFault) → HasFault gs f → HasFault (fs ++ gs) f
-has_right [] gs f h = h
-has_right (g ∷ fs) gs f h = inr (has_right fs gs f h)
-
 none_joined : (fs gs : List LinkingFault) (f : LinkingFault) → NonePrecedes fs f → NonePrecedes gs f → NonePrecedes (fs ++ gs) f
 none_joined [] gs f n m = m
 none_joined (g ∷ fs) gs f n m = (n.0, none_joined fs gs f n.1 m)
@@ -197,13 +190,13 @@ first_joined fs gs (Some f) (Some g) a b =
     ]
 
 -- the first of a list is the first of those that it has
-none_of : (fs : List LinkingFault) (f g : LinkingFault) → NonePrecedes fs f → HasFault fs g → precedes g f ≡ false
+none_of : (fs : List LinkingFault) (f g : LinkingFault) → NonePrecedes fs f → HasItem fs g → precedes g f ≡ false
 none_of [] f g n h = absurd h
 none_of (x ∷ fs) f g n (inl e) = subst (λ y. precedes y f ≡ false) e n.0
 none_of (x ∷ fs) f g n (inr h) = none_of fs f g n.1 h
 
-pub first_such : (fs : List LinkingFault) (o : Option LinkingFault) → IsFirstOf fs o → IsFirstSuch (HasFault fs) o
-first_such fs None e = λ f h. subst (λ xs. HasFault xs f) e h
+pub first_such : (fs : List LinkingFault) (o : Option LinkingFault) → IsFirstOf fs o → IsFirstSuch (HasItem fs) o
+first_such fs None e = λ f h. subst (λ xs. HasItem xs f) e h
 first_such fs (Some f) a = (a.0, λ g h. none_of fs f g a.1 h)
 
 -- the first of two kinds

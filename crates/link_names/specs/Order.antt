@@ -1,5 +1,6 @@
 -- The order of faults: by files and places, and at one place by their reasons.
 use Rattle.std.specs.Prelude.{◌≡◌, ℕ, Bool, false, ◌&&◌, ◌||◌, not, nat_eq, nat_lt, ◌⊎◌, List, [], ◌∷◌, Option, Some, None, MatchOption, if◌then◌else◌}
+use Rattle.xa_base.specs.Lists.{HasItem}
 use Rattle.facet_rules.specs.declared.refusals.FacetWhy.{FacetWhy}
 use Rattle.facet_rules.specs.declared.refusals.FacetWhy.TheVariants as facet
 use Rattle.link_names.specs.declared.places.Place.{Place}
@@ -40,18 +41,13 @@ fault w p = record { place = p; why = w }
 abbrev pub precedes : LinkingFault → LinkingFault → Bool
 precedes f g = is_before f.place g.place || (not (is_before g.place f.place) && nat_lt (rank_of f.why) (rank_of g.why))
 
--- it is one of the faults
-abbrev pub HasFault : List LinkingFault → LinkingFault → Type 0
-HasFault [] f = ⊥
-HasFault (g ∷ gs) f = (g ≡ f) ⊎ HasFault gs f
-
 abbrev pub NonePrecedes : List LinkingFault → LinkingFault → Type 0
 NonePrecedes [] f = Unit {0}
 NonePrecedes (g ∷ gs) f = (precedes g f ≡ false) × NonePrecedes gs f
 
 -- one of the faults, which none precedes
 abbrev pub IsFirst : List LinkingFault → LinkingFault → Type 0
-IsFirst fs f = HasFault fs f × NonePrecedes fs f
+IsFirst fs f = HasItem fs f × NonePrecedes fs f
 
 -- the first of them, or none where there is none
 abbrev pub IsFirstOf : List LinkingFault → Option LinkingFault → Type 0

@@ -14,7 +14,8 @@ use Rattle.link_names.proofs.Placing.{cut}
 use Rattle.link_cycles.specs.Tables.{named_in, placed_in, names}
 use Rattle.link_cycles.proofs.Numbering.{put_placed}
 use Rattle.link_set.specs.Builtins.{rank, is_builtin}
-use Rattle.link_set.specs.Numbering.{ComponentNumbers, number_from, number_named, number_placed, builtin_numbers, is_called, has_name, stands_at}
+use Rattle.std.specs.List.{position_from}
+use Rattle.link_set.specs.Numbering.{ComponentNumbers, number_named, number_placed, builtin_numbers, is_called, has_name, stands_at}
 use Rattle.link_set.specs.Private.Told.{entry_of, entries_of, ranked_in}
 use Rattle.link_set.specs.Private.Seen.{told_attribute, attributes_of}
 use Rattle.link_set.specs.Sets.{attribute, attributes, type_of_attribute}
@@ -22,10 +23,10 @@ use Rattle.link_set.specs.declared.numbers.NamedPlace.{NamedPlace}
 use Rattle.link_set.specs.declared.written.WrittenAttribute.{WrittenAttribute}
 
 number_here : {A : Type 0} (passes : A → Bool) (first i : ℕ) (x : A) (xs : List A) → 0 < i
-    → number_from (first + (i - 1)) passes (x ∷ xs) ≡ cond (passes x) (Some (first + (i - 1))) (number_from (first + i) passes xs)
+    → position_from passes (first + (i - 1)) (x ∷ xs) ≡ cond (passes x) (Some (first + (i - 1))) (position_from passes (first + i) xs)
 number_here passes first i x xs lt =
-    let next : suc (first + (i - 1)) ≡ first + i = omega arith in
-    ap (λ n. cond (passes x) (Some (first + (i - 1))) (number_from n passes xs)) next
+    let next : first + (i - 1) + 1 ≡ first + i = omega arith in
+    ap (λ n. cond (passes x) (Some (first + (i - 1))) (position_from passes n xs)) next
 
 same_name : (o : Option (Bor Name)) (a : Name) → names o a ≡ is_called (option_map (λ (b : Bor Name). b.now) o) a
 same_name None a = refl

@@ -1,6 +1,7 @@
 -- The numbers of the components of several documents. Each kind is numbered from 0, in its order: the global elements and
 -- then the local ones, the simple types and then the built-in ones that are used, the complex types.
-use Rattle.std.specs.Prelude.{ℕ, suc, Bool, false, ◌&&◌, nat_eq, List, [], ◌∷◌, length, map, Option, Some, None, if◌then◌else◌}
+use Rattle.std.specs.Prelude.{ℕ, Bool, false, ◌&&◌, nat_eq, List, [], ◌∷◌, length, map, Option, Some, None}
+use Rattle.std.specs.List.{position_from}
 use Rattle.xa_base.specs.declared.texts.Name.{Name}
 use Rattle.xa_base.specs.Names.{name_eq}
 use Rattle.simple_types.specs.declared.simples.Builtin.{Builtin}
@@ -38,16 +39,13 @@ has_name a e = is_called e.name a
 abbrev pub stands_at : Place → NamedPlace → Bool
 stands_at p e = nat_eq e.place.file p.file && nat_eq e.place.at p.at
 
--- the number of the first that passes the test, where that of the first of all is n
-abbrev pub number_from : {A : Type 0} → ℕ → (A → Bool) → List A → Option ℕ
-number_from n passes [] = None
-number_from n passes (x ∷ xs) = if passes x then Some n else number_from (suc n) passes xs
+-- a number is the place in a list whose first has the number n
 
 abbrev pub number_named : ℕ → List NamedPlace → Name → Option ℕ
-number_named n es a = number_from n (has_name a) es
+number_named n es a = position_from (has_name a) n es
 
 abbrev pub number_placed : ℕ → List NamedPlace → Place → Option ℕ
-number_placed n es p = number_from n (stands_at p) es
+number_placed n es p = position_from (stands_at p) n es
 
 -- the numbers of one kind of types, by their names and by their places
 pub record TypeNumbers : Type 0 where
@@ -66,7 +64,7 @@ pub record ComponentNumbers : Type 0 where
   pub complexes : TypeNumbers
 
 abbrev pub builtin_numbers : ℕ → List Builtin → Builtin → Option ℕ
-builtin_numbers n used which = number_from n (is_builtin which) used
+builtin_numbers n used which = position_from (is_builtin which) n used
 
 abbrev pub numbers_in : Lists → ComponentNumbers
 numbers_in ls =

@@ -28,7 +28,8 @@ use Rattle.link_names.specs.declared.faults.LinkWhy.TheVariants as why
 use Rattle.link_names.specs.Order.{IsFirstSuch}
 use Rattle.link_cycles.specs.Cycles as cycles
 use Rattle.link_cycles.specs.Cycles.{numbers_in, parts_in, edges, IsCircular}
-use Rattle.link_cycles.specs.Graphs.{IsIn, IsEdge, Leads, IsOnCycle}
+use Rattle.link_cycles.specs.Graphs.{IsEdge, Leads, IsOnCycle}
+use Rattle.xa_base.specs.Lists.{HasItem}
 use Rattle.link_cycles.specs.Private.Searching.{mark, unseen}
 use Rattle.link_cycles.specs.SimpleTypes.{SimpleDefinition, simple_types}
 use Rattle.link_cycles.proofs.Walks.{one_step_more, set_parts, set_less, unmarked}
@@ -185,11 +186,11 @@ module _ (ds : List SimpleDefinition) (acyclic : (n : ℕ) → IsOnCycle (edges 
         let at = some_at ds n lt in
         let is_row = row_of (parts_in (numbers_in ds)) ds n at.0 at.1 in
         let fewer = set_less marks n (omega (arith, long, lt)) free in
-        let same_part : (c : ℕ) → IsIn (parts_in (numbers_in ds) at.0) c → entry_at (times ds k) c ≡ entry_at (times ds (suc k)) c = λ c is_part.
+        let same_part : (c : ℕ) → HasItem (parts_in (numbers_in ds) at.0) c → entry_at (times ds k) c ≡ entry_at (times ds (suc k)) c = λ c is_part.
         elim (cases_lt c (length ds)) [
           | inl within ↦
               stays k (set marks n true) (length-set marks n true ∙ long) (omega (arith, fewer, few)) c
-              (reaches_on marks n reach c (subst (λ xs. IsIn xs c) (sym is_row) is_part)) within
+              (reaches_on marks n reach c (subst (λ xs. HasItem xs c) (sym is_row) is_part)) within
           | inr past ↦
               let long_a = times_length ds k in
               let long_b = times_length ds (suc k) in

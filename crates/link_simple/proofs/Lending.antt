@@ -12,7 +12,7 @@ use Rattle.facet_rules.specs.Making.{AreEachSound, lent_spaces}
 use Rattle.facet_rules.proofs.Counting.{cut, lent_more}
 use Rattle.link_simple.specs.declared.parts.Part.{Part}
 use Rattle.link_simple.specs.Making.{entry_at, with_space}
-use Rattle.link_simple.specs.Private.Parts.{entries_of, seen, seen_all, behind}
+use Rattle.link_simple.specs.Private.Parts.{entries_of, seen, seen_all, with_front}
 
 pub entry_read : (entries : List (Option Simple)) (n : ℕ) (o : Option Simple) → n < length entries → o ≡ get_or entries n o → entry_at (entries_of entries) n ≡ option_map space_of o
 entry_read [] n o lt is = absurd (omega (arith, lt))
@@ -28,15 +28,15 @@ joined_part : (ps : List Part) (p : Part) (rest : Spaces) → joined (seen_all p
 joined_part [] p rest = refl
 joined_part (q ∷ ps) p rest = ap (more (seen q)) (joined_part ps p rest)
 
-pub part_behind : (ps : List Part) (p : Part) (rest : Option Spaces) → behind (seen_all ps) (with_space (Some (seen p)) rest) ≡ behind (seen_all (ps ++ p ∷ [])) rest
+pub part_behind : (ps : List Part) (p : Part) (rest : Option Spaces) → with_front (seen_all ps) (with_space (Some (seen p)) rest) ≡ with_front (seen_all (ps ++ p ∷ [])) rest
 part_behind ps p None = refl
 part_behind ps p (Some rest) = ap Some (joined_part ps p rest)
 
-pub part_missing : (front : Spaces) (rest : Option Spaces) → behind front (with_space None rest) ≡ None
+pub part_missing : (front : Spaces) (rest : Option Spaces) → with_front front (with_space None rest) ≡ None
 part_missing front None = refl
 part_missing front (Some rest) = refl
 
-pub all_behind : (ps : List Part) → behind (seen_all ps) (Some none) ≡ Some (seen_all ps)
+pub all_behind : (ps : List Part) → with_front (seen_all ps) (Some none) ≡ Some (seen_all ps)
 all_behind ps = ap Some (sym (joined-none (seen_all ps)))
 
 pub part_sound : (ps : List Part) (p : Part) → AreEachSound (seen_all ps) → Sound (seen p) → AreEachSound (seen_all (ps ++ p ∷ []))

@@ -21,7 +21,8 @@ use Rattle.link_names.specs.declared.faults.LinkWhy.TheVariants as why
 use Rattle.link_names.specs.Order.{place}
 use Rattle.link_cycles.specs.Cycles as cycles
 use Rattle.link_cycles.specs.Cycles.{one_of, part_of, parts_of_bases, parts_of, parts_in}
-use Rattle.link_cycles.specs.Graphs.{IsIn}
+use Rattle.xa_base.specs.Lists.{HasItem}
+use Rattle.xa_base.proofs.Lists.{has_left, has_right}
 use Rattle.link_cycles.specs.SimpleTypes.{SimpleDefinition}
 use Rattle.link_simple.specs.Making.{entry_at, space_at, part_space, with_space, part_spaces, IsRestriction, IsList, IsUnion, IsLeft, IsEntry}
 use Rattle.link_simple.proofs.Ascending.{one_ascending}
@@ -128,18 +129,9 @@ once ns made file (ListOf item) r q h k = list_once (part_space ns made file ite
 once ns made file (UnionOf members) r q h k = union_once (part_spaces ns made file members) r q h k
 
 -- entries that agree where the parts are
-in_left : (xs ys : List ℕ) (n : ℕ) → IsIn xs n → IsIn (xs ++ ys) n
-in_left [] ys n h = absurd h
-in_left (x ∷ xs) ys n (inl e) = inl e
-in_left (x ∷ xs) ys n (inr h) = inr (in_left xs ys n h)
-
-in_right : (xs ys : List ℕ) (n : ℕ) → IsIn ys n → IsIn (xs ++ ys) n
-in_right [] ys n h = h
-in_right (x ∷ xs) ys n h = inr (in_right xs ys n h)
-
 module _ (ns : cycles.SimpleNumbers) (a b : List (Option Space)) (file : ℕ) where
   abbrev pub Agree : List ℕ → Type 0
-  Agree parts = (n : ℕ) → IsIn parts n → entry_at a n ≡ entry_at b n
+  Agree parts = (n : ℕ) → HasItem parts n → entry_at a n ≡ entry_at b n
 
   same_number : (o : Option ℕ) → Agree (one_of o) → space_at a o ≡ space_at b o
   same_number None same = refl
@@ -153,8 +145,8 @@ module _ (ns : cycles.SimpleNumbers) (a b : List (Option Space)) (file : ℕ) wh
   same_parts : (ps : Bases) → Agree (parts_of_bases ns file ps) → part_spaces ns a file ps ≡ part_spaces ns b file ps
   same_parts none same = refl
   same_parts (more p ps) same =
-      let first = same_part p (λ n h. same n (in_left (part_of ns file p) (parts_of_bases ns file ps) n h)) in
-      let rest = same_parts ps (λ n h. same n (in_right (part_of ns file p) (parts_of_bases ns file ps) n h)) in
+      let first = same_part p (λ n h. same n (has_left (part_of ns file p) (parts_of_bases ns file ps) n h)) in
+      let rest = same_parts ps (λ n h. same n (has_right (part_of ns file p) (parts_of_bases ns file ps) n h)) in
       ap (λ o. with_space o (part_spaces ns a file ps)) first ∙ ap (with_space (part_space ns b file p)) rest
 
   pub same_left : (how : How) → Agree (parts_of ns file how) → (r : Result Space LinkWhy) → IsLeft ns a file how r → IsLeft ns b file how r
@@ -166,8 +158,8 @@ abbrev space_left : Result Space LinkWhy → Option Space
 space_left (Ok s) = Some s
 space_left (Err w) = None
 
-module _ (ns : cycles.SimpleNumbers) (a b : List (Option Space)) (d : SimpleDefinition) (same : (n : ℕ) → IsIn (parts_in ns d) n → entry_at a n ≡ entry_at b n) where
-  back : (n : ℕ) → IsIn (parts_in ns d) n → entry_at b n ≡ entry_at a n
+module _ (ns : cycles.SimpleNumbers) (a b : List (Option Space)) (d : SimpleDefinition) (same : (n : ℕ) → HasItem (parts_in ns d) n → entry_at a n ≡ entry_at b n) where
+  back : (n : ℕ) → HasItem (parts_in ns d) n → entry_at b n ≡ entry_at a n
   back n h = sym (same n h)
 
   pub same_entry : (e f : Option Space) → IsEntry ns a d e → IsEntry ns b d f → e ≡ f

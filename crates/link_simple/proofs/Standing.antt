@@ -15,7 +15,8 @@ use Rattle.link_names.specs.declared.faults.LinkWhy.{LinkWhy}
 use Rattle.link_names.specs.Order.{fault, precedes, first_of, IsFirstSuch}
 use Rattle.link_names.proofs.Firsts.{precedes_itself, such_joined}
 use Rattle.link_cycles.specs.Cycles.{numbers_in, parts_in, edges}
-use Rattle.link_cycles.specs.Graphs.{IsIn, IsEdge}
+use Rattle.link_cycles.specs.Graphs.{IsEdge}
+use Rattle.xa_base.specs.Lists.{HasItem}
 use Rattle.link_cycles.specs.Private.Searching.{mark}
 use Rattle.link_cycles.specs.SimpleTypes.{SimpleDefinition}
 use Rattle.link_cycles.proofs.Walks.{set_parts, set_here, set_kept, unmarked}
@@ -126,14 +127,14 @@ module _
   other : (m : ℕ) → mark done m ≡ true → entry_at made m ≡ entry_at (set made n o) m
   other m e = sym (set_entry_other made n m o (λ same. true≢false (sym e ∙ ap (mark done) (sym same) ∙ free)))
 
-  edge_of : (k : ℕ) (e : SimpleDefinition) → slice_get ds k ≡ Some e → (m : ℕ) → IsIn (parts_in (numbers_in ds) e) m → IsEdge (edges ds) k m
-  edge_of k e is_k m p = subst (λ xs. IsIn xs m) (sym (row_of (parts_in (numbers_in ds)) ds k e is_k)) p
+  edge_of : (k : ℕ) (e : SimpleDefinition) → slice_get ds k ≡ Some e → (m : ℕ) → HasItem (parts_in (numbers_in ds) e) m → IsEdge (edges ds) k m
+  edge_of k e is_k m p = subst (λ xs. HasItem xs m) (sym (row_of (parts_in (numbers_in ds)) ds k e is_k)) p
 
-  agree_old : (k : ℕ) (e : SimpleDefinition) → mark done k ≡ true → slice_get ds k ≡ Some e → (m : ℕ) → IsIn (parts_in (numbers_in ds) e) m
+  agree_old : (k : ℕ) (e : SimpleDefinition) → mark done k ≡ true → slice_get ds k ≡ Some e → (m : ℕ) → HasItem (parts_in (numbers_in ds) e) m
       → entry_at made m ≡ entry_at (set made n o) m
   agree_old k e marked is_k m p = other m (h.closed k m marked (edge_of k e is_k m p))
 
-  agree_here : (m : ℕ) → IsIn (parts_in (numbers_in ds) d) m → entry_at made m ≡ entry_at (set made n o) m
+  agree_here : (m : ℕ) → HasItem (parts_in (numbers_in ds) d) m → entry_at made m ≡ entry_at (set made n o) m
   agree_here m p = other m (ready m (edge_of n d is m p))
 
   same_definition : (k : ℕ) (e : SimpleDefinition) → n ≡ k → slice_get ds k ≡ Some e → d ≡ e
@@ -160,7 +161,7 @@ module _
   only_now others making k marked = elim (set_parts done n k marked) [
     | inl old ↦ h.only others making k old ∙ other k old
     | inr same ↦
-        let agree : (m : ℕ) → IsIn (parts_in (numbers_in ds) d) m → entry_at made m ≡ entry_at others m = λ m p. sym (h.only others making m (ready m (edge_of n d is m p))) in
+        let agree : (m : ℕ) → HasItem (parts_in (numbers_in ds) d) m → entry_at made m ≡ entry_at others m = λ m p. sym (h.only others making m (ready m (edge_of n d is m p))) in
         subst (λ x. entry_at others x ≡ entry_at (set made n o) x) same
         (sym (same_entry (numbers_in ds) made others d agree o (entry_at others n) fits (making.1 n d is)) ∙ sym here)
   ]

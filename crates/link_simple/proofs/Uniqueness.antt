@@ -9,7 +9,8 @@ use Rattle.schema_parts.specs.Raw.{Document}
 use Rattle.link_names.specs.declared.faults.LinkWhy.TheVariants.{CircularType}
 use Rattle.link_names.specs.Order.{fault, IsFirstSuch}
 use Rattle.link_cycles.specs.Cycles.{numbers_in, parts_in, edges, IsCircular}
-use Rattle.link_cycles.specs.Graphs.{row, IsIn, IsEdge, Leads, IsOnCycle}
+use Rattle.link_cycles.specs.Graphs.{row, IsEdge, Leads, IsOnCycle}
+use Rattle.xa_base.specs.Lists.{HasItem}
 use Rattle.link_cycles.specs.Private.Searching.{mark, unseen}
 use Rattle.link_cycles.specs.SimpleTypes.{SimpleDefinition, simple_types}
 use Rattle.link_cycles.proofs.Walks.{one_step_more, set_parts, set_less, unmarked}
@@ -30,7 +31,7 @@ some_at [] n lt = absurd (omega (arith, lt))
 some_at (x ∷ ds) zero lt = (x, refl)
 some_at (x ∷ ds) (suc n) lt = some_at ds n (omega (arith, lt))
 
-row_within : (g : List (List ℕ)) (n m : ℕ) → IsIn (row g n) m → n < length g
+row_within : (g : List (List ℕ)) (n m : ℕ) → HasItem (row g n) m → n < length g
 row_within [] n m h = absurd h
 row_within (r ∷ g) zero m h = omega arith
 row_within (r ∷ g) (suc n) m h = let lt = row_within g n m h in omega (arith, lt)
@@ -77,11 +78,11 @@ module _ (ds : List SimpleDefinition) (acyclic : (n : ℕ) → IsOnCycle (edges 
         let at = some_at ds n lt in
         let is_row = row_of (parts_in (numbers_in ds)) ds n at.0 at.1 in
         let fewer = set_less marks n (omega (arith, long, lt)) free in
-        let same_part : (c : ℕ) → IsIn (parts_in (numbers_in ds) at.0) c → entry_at a c ≡ entry_at b c = λ c is_part.
+        let same_part : (c : ℕ) → HasItem (parts_in (numbers_in ds) at.0) c → entry_at a c ≡ entry_at b c = λ c is_part.
         elim (cases_lt c (length ds)) [
           | inl within ↦
               same_at k (set marks n true) (length-set marks n true ∙ long) (omega (arith, fewer, few)) c
-              (reaches_on marks n reach c (subst (λ xs. IsIn xs c) (sym is_row) is_part)) within
+              (reaches_on marks n reach c (subst (λ xs. HasItem xs c) (sym is_row) is_part)) within
           | inr past ↦ let long_a = fits_a.0 in let long_b = fits_b.0 in beyond a c (omega (arith, long_a, past)) ∙ sym (beyond b c (omega (arith, long_b, past)))
         ] in
         same_entry (numbers_in ds) a b at.0 same_part (entry_at a n) (entry_at b n) (fits_a.1 n at.0 at.1) (fits_b.1 n at.0 at.1)

@@ -2,7 +2,8 @@
 ghost use Rattle.std.specs.Prelude.{◌≡◌, ◌<◌, ◌∷◌, [], ℕ, List, set, replicate, None, length, map, true, false, IfOk, OnOk};
 ghost use Rattle.link_names.specs.Order.{first_of};
 ghost use Rattle.link_cycles.specs.Cycles.{numbers_in, edges};
-ghost use Rattle.link_cycles.specs.Graphs.{rows_of, IsIn, IsEdge};
+ghost use Rattle.link_cycles.specs.Graphs.{rows_of, IsEdge};
+ghost use Rattle.xa_base.specs.Lists.{HasItem};
 ghost use Rattle.link_cycles.specs.Private.Searching.{mark};
 ghost use Rattle.link_cycles.specs.SimpleTypes.{SimpleDefinition};
 ghost use Rattle.link_cycles.specs.Seen.{definitions_of};
@@ -52,7 +53,7 @@ fn fault_in(left: &Left, body: Place) -> Option<LinkingFault>
 }
 
 fn are_done(nodes: &[usize], done: &[bool]) -> bool
-    ensures { result ≡ true → (n : ℕ) → IsIn nodes.now n → mark done.now n ≡ true }
+    ensures { result ≡ true → (n : ℕ) → HasItem nodes.now n → mark done.now n ≡ true }
 {
     'nodes: for node in nodes {
         if *node >= done.len() {

@@ -71,9 +71,8 @@ pub(crate) fn words_type(
 {
     let identifiers = identifiers_of(alloc, words.items())?;
     let marks = word_marks(alloc, space, &identifiers, words.items())?;
-    let form = Form::Words {
-        identifiers: TextList::of(identifiers),
-        words: words.copy(alloc)?,
-    };
+    let identifiers = TextList::of(identifiers)?;
+    let words = words.copy(alloc)?;
+    let form = Form::Words { identifiers, words };
     Ok(Tree::leaf(alloc, TypeLabel { form, marks }))
 }

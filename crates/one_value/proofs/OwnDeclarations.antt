@@ -38,7 +38,7 @@ use Rattle.map_laws.specs.Statements.{IsTypeAt}
 use Rattle.map_laws.proofs.Leading.{types-lead}
 use Rattle.map_laws.proofs.Roots.{roots-lead}
 use Rattle.xer_items.specs.Spelling.{spelling}
-use Rattle.xer_items.specs.Names.{xml_name}
+use Rattle.asn_types.specs.Names.{name_told}
 use Rattle.xer_items.specs.Items.{Given, given, element_of, inside, root_of, Xer}
 use Rattle.xer_items.proofs.Holding.{fitting_holds}
 use Rattle.xer_items.proofs.Texts.{texts_of_values}
@@ -50,7 +50,6 @@ use Rattle.validity.specs.Valid.{HasName}
 use Rattle.validity.proofs.Again.{IsFair}
 use Rattle.validity.proofs.Fair.{fair_at}
 use Rattle.one_value.specs.Statements.{AreSmall, root_at, IsItsOwn, ItemsOfValues}
-use Rattle.one_value.proofs.Groups.{name-same}
 use Rattle.one_value.proofs.Simples.{text-inside, text-spelled}
 use Rattle.one_value.proofs.Walking.{sorted-apart}
 use Rattle.one_value.proofs.OwnComplexes.{given-is-own}
@@ -150,8 +149,8 @@ items-of-values s M linked small is_map d below v fits = by (slice_get s.element
         let root = roots-lead s M linked is_map d x below g in
         let a = root.assignment in
         let here = at-root (slice_get M (root_at s M is_map d)) a root.at fits in
-        let name = xml_name a.reference a.marks in
-        let told : name ≡ x.name = name-same a.reference a.marks ∙ root.name in
+        let name = name_told a.reference a.marks in
+        let told : name ≡ x.name = root.name in
         let at : name_at (parts_of s) d ≡ Some name = ap (option_map (λ (e : ElementDecl). e.name)) g ∙ ap (λ n. Some n) (sym told) in (
           root_of M a v,
           ap (option_map (λ (y : Assignment). root_of M y v)) root.at,

@@ -2,6 +2,7 @@
 use Rattle.std.specs.Prelude.{ℕ, Bool, true, false, ◌||◌, ◌&&◌, not, nat_le, List, [], ◌∷◌, codes, Option, Some, None, unwrap_or, if◌then◌else◌}
 use Rattle.std.specs.List.{list_any, list_all}
 use Rattle.std.specs.Option.{option_or}
+use Rattle.xa_base.specs.Entries.{first_true}
 use Rattle.xa_base.specs.WhiteSpace.{is_blank, words_of}
 use Rattle.label_tree.specs.Rose.{Rose, label_of}
 use Rattle.doc_text.specs.declared.label.ItemLabel.{ItemLabel}
@@ -18,10 +19,6 @@ use Rattle.schema_rules.specs.declared.roles.ElementRole.{ElementRole}
 use Rattle.schema_rules.specs.declared.roles.ElementRole.TheVariants.{GlobalElement, LocalElement, GlobalAttribute, LocalAttribute, Choice}
 use Rattle.schema_rules.specs.declared.why.SchemaWhy.{SchemaWhy}
 use Rattle.schema_rules.specs.declared.why.SchemaWhy.TheVariants as why
-
-abbrev pub first_true : List (Bool × SchemaWhy) → Option SchemaWhy
-first_true [] = None
-first_true (test ∷ more) = if test.0 then Some test.1 else first_true more
 
 abbrev pub is_element : ElementRole → Bool
 is_element GlobalElement = true

@@ -2,6 +2,7 @@
 ghost use Rattle.std.specs.Prelude.{◌≡◌, IfOk};
 ghost use Rattle.std.specs.List.{list_all, list_any};
 ghost use Rattle.label_tree.specs.Rose.{label_of};
+ghost use Rattle.xa_base.specs.Entries.{first_true};
 ghost use Rattle.xa_base.specs.WhiteSpace.{words_of};
 ghost use Rattle.schema_rules.specs.Scopes.{bindings_in};
 ghost use Rattle.schema_faults.specs.Reasons as reason;
@@ -56,7 +57,7 @@ fn early_reason(
     own: &[(Text, Text)],
     kids: &[Tree<ItemLabel>],
 ) -> Option<SchemaWhy>
-    ensures { result ≡ reason.first_true (reason.early_tests role (bindings_in scope.now) level own.now kids.now) }
+    ensures { result ≡ first_true (reason.early_tests role (bindings_in scope.now) level own.now kids.now) }
 {
     if has_unknown(role, own) {
         Some(SchemaWhy::UnknownAttribute)
@@ -72,7 +73,7 @@ fn early_reason(
 }
 
 fn left_out_attribute(role: ElementRole, own: &[(Text, Text)]) -> Option<SchemaWhy>
-    ensures { result ≡ reason.first_true (reason.left_out_attributes role own.now) }
+    ensures { result ≡ first_true (reason.left_out_attributes role own.now) }
 {
     if has_attribute("substitutionGroup", own) {
         Some(SchemaWhy::SubstitutionGroup)

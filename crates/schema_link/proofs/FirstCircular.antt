@@ -6,7 +6,8 @@ use Rattle.std.proofs.lemmas.Bool.{cases_Bool, cases_lt, cases_eq, true≢false}
 use Rattle.link_names.specs.declared.faults.LinkWhy.TheVariants.{CircularType}
 use Rattle.link_names.specs.Order.{fault, earlier}
 use Rattle.link_cycles.specs.Cycles.{edges, IsCircularBelow, IsCircularOf}
-use Rattle.link_cycles.specs.Graphs.{row, IsIn, IsEdge, Leads, IsOnCycle}
+use Rattle.link_cycles.specs.Graphs.{row, IsEdge, Leads, IsOnCycle}
+use Rattle.xa_base.specs.Lists.{HasItem}
 use Rattle.link_cycles.specs.Private.Searching.{mark, unseen}
 use Rattle.link_cycles.specs.SimpleTypes.{SimpleDefinition}
 use Rattle.link_cycles.proofs.First.{next_step, at_end, none_below}
@@ -14,7 +15,7 @@ use Rattle.link_cycles.proofs.Walks.{set_parts, set_less, unmarked}
 use Rattle.link_simple.proofs.Uniqueness.{some_at, unseen_most}
 use Rattle.schema_link.proofs.Firsts.{SomeFirst}
 
-row_within : (g : List (List ℕ)) (n m : ℕ) → IsIn (row g n) m → n < length g
+row_within : (g : List (List ℕ)) (n m : ℕ) → HasItem (row g n) m → n < length g
 row_within [] n m h = absurd h
 row_within (r ∷ g) zero m h = omega arith
 row_within (r ∷ g) (suc n) m h = let lt = row_within g n m h in omega (arith, lt)
@@ -63,10 +64,10 @@ module _ (g : List (List ℕ)) (b : ℕ) where
 
   -- over the edges of a node
   abbrev Onward : List ℕ → Type 0
-  Onward ns = (r : ℕ) × IsIn ns r × ((r ≡ b) ⊎ Walk r)
+  Onward ns = (r : ℕ) × HasItem ns r × ((r ≡ b) ⊎ Walk r)
 
   abbrev NowhereOn : List Bool → List ℕ → Type 0
-  NowhereOn marks ns = (r : ℕ) → IsIn ns r → (r ≡ b → ⊥) × NoWay marks r
+  NowhereOn marks ns = (r : ℕ) → HasItem ns r → (r ≡ b → ⊥) × NoWay marks r
 
   over : (marks : List Bool) → ((r : ℕ) → Walk r ⊎ NoWay marks r) → (ns : List ℕ) → Onward ns ⊎ NowhereOn marks ns
   over marks each [] = inr (λ r h. absurd h)

@@ -22,7 +22,8 @@ use Rattle.link_names.specs.declared.faults.LinkWhy.TheVariants.{NotClear, Types
 use Rattle.link_names.specs.Order.{place, fault, is_before}
 use Rattle.link_complex.specs.ComplexTypes.{ComplexDefinition, complex_types, of_document, model_of}
 use Rattle.link_complex.specs.Content.{BreaksIn, IsUnclearType, IsUnclear}
-use Rattle.link_complex.specs.ElementTypes.{TypeIdentity, BuiltIn, ByName, InPlace, TypedParticle, typed_particles, typed_elements, type_named, type_at, HasParticle, IsOtherAt, HasOtherOf, DiffersIn, Differs}
+use Rattle.link_complex.specs.ElementTypes.{TypeIdentity, BuiltIn, ByName, InPlace, TypedParticle, typed_particles, typed_elements, type_named, type_at, IsOtherAt, HasOtherOf, DiffersIn, Differs}
+use Rattle.xa_base.specs.Lists.{HasItem}
 use Rattle.link_complex.proofs.Clearing.{some_answered, none_answered}
 use Rattle.schema_link.proofs.Firsts.{SomeFirst, some_of_none, some_of_one, some_of_all}
 
@@ -137,7 +138,7 @@ same_kind (Some k) (Some l) = told_of (λ (x : TypeIdentity). Some x) k l (λ e.
 -- whether one of another type stands before a particle
 
 abbrev IsOtherOf : List TypedParticle → TypedParticle → Type 0
-IsOtherOf qs p = (q : TypedParticle) × HasParticle qs q × (q.name ≡ p.name) × (is_before q.place p.place ≡ true) × (q.kind ≡ p.kind → ⊥)
+IsOtherOf qs p = (q : TypedParticle) × HasItem qs q × (q.name ≡ p.name) × (is_before q.place p.place ≡ true) × (q.kind ≡ p.kind → ⊥)
 
 abbrev OtherOne : TypedParticle → TypedParticle → Type 0
 OtherOne q p = (q.name ≡ p.name) × (is_before q.place p.place ≡ true) × (q.kind ≡ p.kind → ⊥)

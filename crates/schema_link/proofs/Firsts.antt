@@ -1,7 +1,8 @@
 -- Where it can be told of each whether it has a fault, there is a first fault or none.
 use Rattle.std.proofs.Common.{◌≡◌, false, ◌⊎◌, inl, inr, List, [], ◌∷◌, Option, Some, None, refl, subst}
 use Rattle.link_names.specs.declared.faults.LinkingFault.{LinkingFault}
-use Rattle.link_names.specs.Order.{precedes, HasFault, IsFirstSuch, OneHas, first_of}
+use Rattle.link_names.specs.Order.{precedes, IsFirstSuch, OneHas, first_of}
+use Rattle.xa_base.specs.Lists.{HasItem}
 use Rattle.link_names.proofs.Firsts.{precedes_itself, such_joined}
 
 abbrev pub SomeFirst : (LinkingFault → Type 0) → Type 0
@@ -23,10 +24,10 @@ some_of_all has each [] = some_of_none (OneHas has []) (λ f h. h)
 some_of_all has each (x ∷ xs) =
     some_of_both (has x) (OneHas has xs) (OneHas has (x ∷ xs)) (λ f h. h) (λ f h. inl h) (λ f h. inr h) (each x) (some_of_all has each xs)
 
-pub some_of_list : (fs : List LinkingFault) → SomeFirst (HasFault fs)
-some_of_list [] = some_of_none (HasFault []) (λ f h. h)
+pub some_of_list : (fs : List LinkingFault) → SomeFirst (HasItem fs)
+some_of_list [] = some_of_none (HasItem []) (λ f h. h)
 some_of_list (g ∷ gs) =
-    some_of_both (λ f. g ≡ f) (HasFault gs) (HasFault (g ∷ gs)) (λ f h. h) (λ f h. inl h) (λ f h. inr h) (some_of_one (λ f. g ≡ f) g refl (λ f e. e)) (some_of_list gs)
+    some_of_both (λ f. g ≡ f) (HasItem gs) (HasItem (g ∷ gs)) (λ f h. h) (λ f h. inl h) (λ f h. inr h) (some_of_one (λ f. g ≡ f) g refl (λ f e. e)) (some_of_list gs)
 
 pub some_of_same : (P Q : LinkingFault → Type 0) → ((f : LinkingFault) → P f → Q f) → ((f : LinkingFault) → Q f → P f) → SomeFirst P → SomeFirst Q
 some_of_same P Q to from a = by a.0 a.1

@@ -2,7 +2,8 @@
 use Rattle.std.proofs.Common.{◌≡◌, ◌⊎◌, inl, inr, List, [], ◌∷◌, Option, Some, None}
 use Rattle.schema_parts.specs.Raw.{Document}
 use Rattle.link_names.specs.declared.faults.LinkingFault.{LinkingFault}
-use Rattle.link_names.specs.Order.{HasFault, IsFirstSuch}
+use Rattle.link_names.specs.Order.{IsFirstSuch}
+use Rattle.xa_base.specs.Lists.{HasItem}
 use Rattle.link_names.specs.Limits.{beyond_limit}
 use Rattle.link_names.specs.Globals.{duplicates}
 use Rattle.link_names.specs.Resolution.{unresolved}
@@ -50,7 +51,7 @@ go_on docs p ps first behind = pass docs p ps first.0 first.1 behind
 content : (docs : List Document) → Answer docs (Comparing ∷ Clearing ∷ [])
 content docs =
     go_on docs Comparing (Clearing ∷ [])
-    (some_of_both (HasFault (double_uses docs)) (Differs docs) (IsFault docs Comparing) (λ f h. h) (λ f h. inl h) (λ f h. inr h) (some_of_list (double_uses docs)) (some_differing docs))
+    (some_of_both (HasItem (double_uses docs)) (Differs docs) (IsFault docs Comparing) (λ f h. h) (λ f h. inl h) (λ f h. inr h) (some_of_list (double_uses docs)) (some_differing docs))
     (λ _. go_on docs Clearing [] (some_unclear docs) (λ _. inl tt))
 
 pub some_answer : (docs : List Document) → Answer docs passes

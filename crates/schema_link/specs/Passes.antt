@@ -3,7 +3,8 @@
 use Rattle.std.specs.Prelude.{◌⊎◌, List, [], ◌∷◌, Some, None}
 use Rattle.schema_parts.specs.Raw.{Document}
 use Rattle.link_names.specs.declared.faults.LinkingFault.{LinkingFault}
-use Rattle.link_names.specs.Order.{HasFault, IsFirstSuch}
+use Rattle.link_names.specs.Order.{IsFirstSuch}
+use Rattle.xa_base.specs.Lists.{HasItem}
 use Rattle.link_names.specs.Limits.{beyond_limit}
 use Rattle.link_names.specs.Globals.{duplicates}
 use Rattle.link_names.specs.Resolution.{unresolved}
@@ -17,12 +18,12 @@ pub data Pass : Type 0 where
   Counting Naming Resolving Ordering Making Comparing Clearing : Pass
 
 abbrev pub IsFault : List Document → Pass → LinkingFault → Type 0
-IsFault docs Counting f = HasFault (beyond_limit docs) f
-IsFault docs Naming f = HasFault (duplicates docs) f
-IsFault docs Resolving f = HasFault (unresolved docs) f
+IsFault docs Counting f = HasItem (beyond_limit docs) f
+IsFault docs Naming f = HasItem (duplicates docs) f
+IsFault docs Resolving f = HasItem (unresolved docs) f
 IsFault docs Ordering f = IsCircular docs f
 IsFault docs Making f = IsNotMade docs f
-IsFault docs Comparing f = HasFault (double_uses docs) f ⊎ Differs docs f
+IsFault docs Comparing f = HasItem (double_uses docs) f ⊎ Differs docs f
 IsFault docs Clearing f = IsUnclear docs f
 
 -- the first fault of the first of the passes that has one

@@ -13,3 +13,4 @@ pub mod Inward
 pub mod Chains
 pub mod Linked
 pub mod SetParts
+pub mod TypedUses

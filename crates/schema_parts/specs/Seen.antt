@@ -8,7 +8,7 @@ use Rattle.schema_parts.specs.declared.simple_definitions.RawBases.{RawBases}
 use Rattle.schema_parts.specs.declared.simple_definitions.RawHow as how
 use Rattle.schema_parts.specs.declared.simple_definitions.RawHow.{RawHow, Row_of-RawBase, end_of-RawBase, more_of-RawBase}
 use Rattle.schema_parts.specs.declared.simple_definitions.RawSimple.{RawSimple}
-use Rattle.schema_parts.specs.declared.declarations.RawUse.{RawUse}
+use Rattle.schema_parts.specs.declared.attribute_uses.RawUse.{RawUse}
 use Rattle.schema_parts.specs.declared.declarations.RawUses.{RawUses}
 use Rattle.schema_parts.specs.declared.declarations.RawComplex.{RawComplex}
 use Rattle.schema_parts.specs.declared.declarations.RawKind.{RawKind}

@@ -3,20 +3,10 @@
 ghost use Rattle.std.specs.Prelude.{◌≡◌};
 ghost use Rattle.schema_parts.specs.Seen.{uses_of, uses_in};
 
+use crate::attribute_uses::RawUse;
 use crate::simple_definitions::{RawBase, RawRef, RawSimple};
 use content_models::Particle;
 use xa_base::Name;
-
-/// An attribute of a complex type: a declaration of its own, or a reference to a global one, whose type is the other's.
-#[derive(Drop)]
-pub struct RawUse {
-    pub name: Name,
-    pub reference: bool,
-    /// `None` for a reference.
-    pub kind: Option<RawBase>,
-    pub required: bool,
-    pub at: u64,
-}
 
 /// The attributes of a complex type, in the order written.
 #[derive(Drop)]

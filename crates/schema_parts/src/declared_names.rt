@@ -5,7 +5,8 @@ ghost use Rattle.schema_parts.specs.Seen.{element_of, kind_of, use_of, attribute
 ghost use Rattle.schema_parts.specs.Declarable as rule;
 ghost use Rattle.schema_parts.specs.DeclaredNames as names;
 
-use crate::declarations::{RawAttribute, RawElement, RawKind, RawLocal, RawType, RawUse};
+use crate::attribute_uses::RawUse;
+use crate::declarations::{RawAttribute, RawElement, RawKind, RawLocal, RawType};
 use xa_base::{Name, XMLNS_SPACE, XSI_SPACE, is_name_part, is_namespace, is_xmlns};
 
 // Whether no declared name has the namespace.

@@ -3,7 +3,8 @@ ghost use Rattle.std.specs.Prelude.{◌≡◌, count_by, map};
 ghost use Rattle.schema_parts.specs.Seen.{base_of, how_of, bases_in, element_of, kind_of, use_of, attribute_of, type_of, local_of};
 ghost use Rattle.schema_parts.specs.Varieties as rule;
 
-use crate::declarations::{RawAttribute, RawElement, RawKind, RawLocal, RawType, RawUse};
+use crate::attribute_uses::RawUse;
+use crate::declarations::{RawAttribute, RawElement, RawKind, RawLocal, RawType};
 use crate::simple_definitions::{RawBase, RawHow};
 use simple_types::{Facet, Facets};
 

@@ -7,7 +7,6 @@ use Rattle.doc_text.specs.declared.label.ItemLabel.TheVariants.{Element}
 use Rattle.xa_base.specs.declared.texts.Name.{Name}
 use Rattle.schema_rules.specs.Elements.{is_schema_name}
 use Rattle.schema_rules.specs.Attributes.{own_attributes}
-use Rattle.schema_parts.specs.declared.declarations.RawLocal.{RawLocal}
 use Rattle.schema_parts.specs.Seen.{element_of, attribute_of, type_of, local_of}
 use Rattle.schema_read.specs.declared.globals.Globals.{Globals}
 use Rattle.schema_read.specs.Settings.{Settings}
@@ -16,33 +15,33 @@ use Rattle.schema_read.proofs.Making.{length_after}
 use Rattle.schema_read.proofs.Simple.{if_true}
 
 -- what is added so far, and the parts of the rest, are all
-pub record PartsAhead (so_far : Globals) (before now : List RawLocal) (rest all : Parts) : Type 0 where
+pub record PartsAhead (so_far : Globals) (rest all : Parts) : Type 0 where
   pub elements_are : map element_of so_far.elements.items ++ rest.elements ≡ all.elements
   pub attributes_are : map attribute_of so_far.attributes.items ++ rest.attributes ≡ all.attributes
   pub types_are : map type_of so_far.types.items ++ rest.types ≡ all.types
-  pub locals_are : map local_of now ++ rest.locals ≡ map local_of before ++ all.locals
+  pub locals_are : map local_of so_far.locals.items ++ rest.locals ≡ all.locals
 
-module _ (said : Settings) (scope : List (List ℕ × List ℕ)) (kids : List (Rose ItemLabel)) (i : ℕ) (before now : List RawLocal) (all : Parts) (so_far : Globals)
-    (h : PartsAhead so_far before now (parts_among said scope (length now) (drop i kids)) all) where
-  pub all_parts : length kids ≤ i → Are so_far before now all
+module _ (said : Settings) (scope : List (List ℕ × List ℕ)) (kids : List (Rose ItemLabel)) (i : ℕ) (all : Parts) (so_far : Globals)
+    (h : PartsAhead so_far (parts_among said scope (length so_far.locals.items) (drop i kids)) all) where
+  pub all_parts : length kids ≤ i → Are so_far all
   all_parts end =
-      let none : parts_among said scope (length now) (drop i kids) ≡ no_parts = ap (parts_among said scope (length now)) (drop_all i kids end) in
+      let none : parts_among said scope (length so_far.locals.items) (drop i kids) ≡ no_parts = ap (parts_among said scope (length so_far.locals.items)) (drop_all i kids end) in
       record {
         elements_are = sym (append-nil (map element_of so_far.elements.items)) ∙ (ap (λ (p : Parts). map element_of so_far.elements.items ++ p.elements) (sym none) ∙ h.elements_are);
         attributes_are = sym (append-nil (map attribute_of so_far.attributes.items)) ∙ (ap (λ (p : Parts). map attribute_of so_far.attributes.items ++ p.attributes) (sym none) ∙ h.attributes_are);
         types_are = sym (append-nil (map type_of so_far.types.items)) ∙ (ap (λ (p : Parts). map type_of so_far.types.items ++ p.types) (sym none) ∙ h.types_are);
-        locals_are = sym (append-nil (map local_of now)) ∙ (ap (λ (p : Parts). map local_of now ++ p.locals) (sym none) ∙ h.locals_are);
+        locals_are = sym (append-nil (map local_of so_far.locals.items)) ∙ (ap (λ (p : Parts). map local_of so_far.locals.items ++ p.locals) (sym none) ∙ h.locals_are);
       }
 
-  module _ (kid : Rose ItemLabel) (at : i < length kids) (here : kid ≡ get_or kids i kid) (after : List RawLocal) (more : Globals)
-      (added : Adds so_far more now after (parts_by said scope (length now) (label_of kid) kid)) where
-    pub more_parts : PartsAhead more before after (parts_among said scope (length after) (drop (i + 1) kids)) all
+  module _ (kid : Rose ItemLabel) (at : i < length kids) (here : kid ≡ get_or kids i kid) (more : Globals)
+      (added : Adds so_far more (parts_by said scope (length so_far.locals.items) (label_of kid) kid)) where
+    pub more_parts : PartsAhead more (parts_among said scope (length more.locals.items) (drop (i + 1) kids)) all
     more_parts =
-        let p : Parts = parts_by said scope (length now) (label_of kid) kid in
-        let r : Parts = parts_among said scope (length now + length p.locals) (drop (i + 1) kids) in
-        let cut : and_parts p r ≡ parts_among said scope (length now) (drop i kids) =
-        ap (λ k. parts_among said scope (length now) (k ∷ drop (i + 1) kids)) here ∙ ap (parts_among said scope (length now)) (sym (drop_more kids i kid at)) in
-        let on : parts_among said scope (length after) (drop (i + 1) kids) ≡ r = ap (λ n. parts_among said scope n (drop (i + 1) kids)) (length_after now after p.locals added.locals_are) in
+        let p : Parts = parts_by said scope (length so_far.locals.items) (label_of kid) kid in
+        let r : Parts = parts_among said scope (length so_far.locals.items + length p.locals) (drop (i + 1) kids) in
+        let cut : and_parts p r ≡ parts_among said scope (length so_far.locals.items) (drop i kids) =
+        ap (λ k. parts_among said scope (length so_far.locals.items) (k ∷ drop (i + 1) kids)) here ∙ ap (parts_among said scope (length so_far.locals.items)) (sym (drop_more kids i kid at)) in
+        let on : parts_among said scope (length more.locals.items) (drop (i + 1) kids) ≡ r = ap (λ n. parts_among said scope n (drop (i + 1) kids)) (length_after so_far.locals.items more.locals.items p.locals added.locals_are) in
         record {
           elements_are =
               ap (λ (q : Parts). map element_of more.elements.items ++ q.elements) on
@@ -60,10 +59,10 @@ module _ (said : Settings) (scope : List (List ℕ × List ℕ)) (kids : List (R
               ∙ (append_assoc (map type_of so_far.types.items) p.types r.types
               ∙ (ap (λ (q : Parts). map type_of so_far.types.items ++ q.types) cut ∙ h.types_are)));
           locals_are =
-              ap (λ (q : Parts). map local_of after ++ q.locals) on
+              ap (λ (q : Parts). map local_of more.locals.items ++ q.locals) on
               ∙ (ap (λ l. l ++ r.locals) added.locals_are
-              ∙ (append_assoc (map local_of now) p.locals r.locals
-              ∙ (ap (λ (q : Parts). map local_of now ++ q.locals) cut ∙ h.locals_are)));
+              ∙ (append_assoc (map local_of so_far.locals.items) p.locals r.locals
+              ∙ (ap (λ (q : Parts). map local_of so_far.locals.items ++ q.locals) cut ∙ h.locals_are)));
         }
 
 -- an element by its label

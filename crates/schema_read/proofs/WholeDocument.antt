@@ -11,7 +11,6 @@ use Rattle.schema_parts.specs.Raw.{Simple, Complex, Local, Attribute, TypeDefini
 use Rattle.schema_parts.specs.Coherent.{model_in_kind, models_in_elements, models_in_types, models_in_locals, leaves_of_models, numbered, ModelsStand, Nested, IsCoherent}
 use Rattle.schema_parts.specs.Parts.{parts_of}
 use Rattle.schema_parts.specs.Seen.{attribute_of, type_of, local_of}
-use Rattle.schema_parts.specs.declared.declarations.RawLocal.{RawLocal}
 use Rattle.schema_read.specs.declared.globals.Globals.{Globals}
 use Rattle.schema_rules.specs.Elements.{is_schema_name}
 use Rattle.schema_rules.specs.Attributes.{own_attributes}
@@ -134,14 +133,14 @@ module _ (said : Settings) (outer : List (List ℕ × List ℕ)) where
       }
 
 -- the document of these parts
-pub same_document : (file : ℕ) (target : List ℕ) (globals : Globals) (locals : List RawLocal) (counted : List ℕ) (p : Parts) → Are globals [] locals p
-    → parts_of file target globals.elements.items globals.attributes.items globals.types.items locals counted ≡ document_with file target counted p
-same_document file target globals locals counted p are =
+pub same_document : (file : ℕ) (target : List ℕ) (globals : Globals) (counted : List ℕ) (p : Parts) → Are globals p
+    → parts_of file target globals.elements.items globals.attributes.items globals.types.items globals.locals.items counted ≡ document_with file target counted p
+same_document file target globals counted p are =
     let whole : List raw.Element → List Attribute → List TypeDefinition → List Local → Document = λ elements attributes types declared.
     record { file = file; target = target; elements = elements; attributes = attributes; types = types; locals = declared; counted = counted } in
     let attributes = map attribute_of globals.attributes.items in
     let types = map type_of globals.types.items in
-    let declared = map local_of locals in
+    let declared = map local_of globals.locals.items in
     ap (λ x. whole x attributes types declared) are.elements_are
     ∙ (ap (λ x. whole p.elements x types declared) are.attributes_are
     ∙ (ap (λ x. whole p.elements p.attributes x declared) are.types_are

@@ -7,7 +7,6 @@ use Rattle.doc_text.specs.declared.label.ItemLabel.{ItemLabel}
 use Rattle.doc_text.specs.declared.label.ItemLabel.TheVariants as label
 use Rattle.schema_parts.specs.Raw.{Simple, Complex, Element, Local, Attribute, TypeDefinition, SimpleType, ComplexType, Document}
 use Rattle.schema_parts.specs.Seen.{element_of, attribute_of, type_of, local_of}
-use Rattle.schema_parts.specs.declared.declarations.RawLocal.{RawLocal}
 use Rattle.schema_rules.specs.Elements.{is_schema_name}
 use Rattle.schema_rules.specs.Attributes.{own_attributes}
 use Rattle.schema_read.specs.declared.globals.Globals.{Globals}
@@ -110,15 +109,15 @@ raw_of file root = raw_by file (label_of root) (kids_of root)
 -- ---- what the code has of it
 
 -- the parts behind those of before
-pub record Adds (before after : Globals) (declared declared_now : List RawLocal) (parts : Parts) : Type 0 where
+pub record Adds (before after : Globals) (parts : Parts) : Type 0 where
   pub elements_are : map element_of after.elements.items ≡ map element_of before.elements.items ++ parts.elements
   pub attributes_are : map attribute_of after.attributes.items ≡ map attribute_of before.attributes.items ++ parts.attributes
   pub types_are : map type_of after.types.items ≡ map type_of before.types.items ++ parts.types
-  pub locals_are : map local_of declared_now ≡ map local_of declared ++ parts.locals
+  pub locals_are : map local_of after.locals.items ≡ map local_of before.locals.items ++ parts.locals
 
 -- these parts and no others
-pub record Are (all : Globals) (declared declared_now : List RawLocal) (parts : Parts) : Type 0 where
+pub record Are (all : Globals) (parts : Parts) : Type 0 where
   pub elements_are : map element_of all.elements.items ≡ parts.elements
   pub attributes_are : map attribute_of all.attributes.items ≡ parts.attributes
   pub types_are : map type_of all.types.items ≡ parts.types
-  pub locals_are : map local_of declared_now ≡ map local_of declared ++ parts.locals
+  pub locals_are : map local_of all.locals.items ≡ parts.locals

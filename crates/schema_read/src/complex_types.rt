@@ -9,10 +9,11 @@ ghost use Rattle.schema_read.specs.Settings.{said};
 ghost use Rattle.schema_read.specs.Particles as parts;
 ghost use Rattle.schema_read.specs.Particles.{Makes, made, made_some};
 
-use crate::contents::{complex_by, complex_with, is_named, is_true, simple_content};
-use crate::declarations::{Setting, local_name};
+use crate::contents::{complex_with, is_named, is_true, simple_content};
+use crate::declarations::local_name;
 use crate::names::{no_name, referred, type_ref};
 use crate::particles::{element_name, element_with, group_of, leaf_of, push_particle, put_own};
+use crate::reader::Reader;
 use crate::simple_definitions::simple_type;
 use content_models::ParticleLabel;
 use doc_text::ItemLabel;
@@ -21,91 +22,6 @@ use schema_parts::{RawComplex, RawElement, RawKind, RawLocal, RawRef};
 use schema_rules::{ChildSet, NamespaceScope, is_in, never_occurs, own_attributes, value_of};
 use std::alloc::Global;
 use xa_base::{Memory, Name, Text};
-
-// The particle that the element is, unless it may not occur. What it declares is added to the local declarations.
-#[cycle(complex_types)]
-fn particle_at<'a, 'b>(
-    alloc: Global,
-    setting: Setting<'_>,
-    tree: &'a Tree<ItemLabel>,
-    scope: &'b NamespaceScope<'a, 'b>,
-    locals: &mut Vec<RawLocal>,
-) -> Result<Option<Tree<ParticleLabel>>, Memory>
-    ensures { IfOk result (λ found. Makes locals.old.items locals.new.items found (parts.particle_at (said setting.entry) (bindings_in scope.now) (length locals.old.items) tree.now)) }
-{
-    let ItemLabel::Element {
-        name,
-        attributes,
-        declares,
-        at,
-    } = tree.label()
-    else {
-        return Ok(None);
-    };
-    if !is_in(ChildSet::Particles, tree.label()) {
-        return Ok(None);
-    }
-    let own = own_attributes(alloc, attributes.items())?;
-    if never_occurs(&own) {
-        return Ok(None);
-    }
-    let inside = NamespaceScope::inside(alloc, declares, scope)?;
-    let particle = particle_of(
-        alloc,
-        setting,
-        name.local.as_str(),
-        *at,
-        &own,
-        tree.kids(),
-        &inside,
-        locals,
-    )?;
-    Ok(Some(particle))
-}
-
-#[cycle(complex_types)]
-fn particle_of<'a, 'b>(
-    alloc: Global,
-    setting: Setting<'_>,
-    name: &str,
-    at: u64,
-    own: &[(Text, Text)],
-    kids: &'a [Tree<ItemLabel>],
-    scope: &'b NamespaceScope<'a, 'b>,
-    locals: &mut Vec<RawLocal>,
-) -> Result<Tree<ParticleLabel>, Memory>
-    ensures { IfOk result (λ particle. Makes locals.old.items locals.new.items particle (parts.particle_by (said setting.entry) (length locals.old.items) name.now at (bindings_in scope.now) own.now
-        (parts.inner_kind (said setting.entry) (bindings_in scope.now) (length locals.old.items + 1) (roses_of kids.now))
-        (parts.particles_among (said setting.entry) (bindings_in scope.now) (length locals.old.items) (roses_of kids.now)))) }
-{
-    if name == "element" {
-        let named = element_name(alloc, setting, scope, own)?;
-        let decl = declare(alloc, setting, at, own, kids, scope, locals)?;
-        Ok(leaf_of(alloc, setting.file, at, decl, named, own))
-    } else {
-        let particles = particles_among(alloc, setting, kids, scope, locals)?;
-        Ok(group_of(setting.file, at, name, own, particles))
-    }
-}
-
-// The particles among these, in their order, without those that may not occur.
-#[cycle(complex_types)]
-fn particles_among<'a, 'b>(
-    alloc: Global,
-    setting: Setting<'_>,
-    kids: &'a [Tree<ItemLabel>],
-    scope: &'b NamespaceScope<'a, 'b>,
-    locals: &mut Vec<RawLocal>,
-) -> Result<Vec<Tree<ParticleLabel>>, Memory>
-    ensures { IfOk result (λ particles. Makes locals.old.items locals.new.items particles.items (parts.particles_among (said setting.entry) (bindings_in scope.now) (length locals.old.items) (roses_of kids.now))) }
-{
-    let mut particles = Vec::new(alloc);
-    for kid in kids {
-        let found = particle_at(alloc, setting, kid, scope, locals)?;
-        push_particle(&mut particles, found)?;
-    }
-    Ok(particles)
-}
 
 fn next_number(locals: &[RawLocal]) -> Result<u32, Memory>
     ensures { IfOk result (λ number. number ≡ length locals.now) }
@@ -131,33 +47,6 @@ fn refer(
     Ok(())
 }
 
-// Adds a local declaration before those that stand in it, and tells its number.
-#[cycle(complex_types)]
-fn declare<'a, 'b>(
-    alloc: Global,
-    setting: Setting<'_>,
-    at: u64,
-    own: &[(Text, Text)],
-    kids: &'a [Tree<ItemLabel>],
-    scope: &'b NamespaceScope<'a, 'b>,
-    locals: &mut Vec<RawLocal>,
-) -> Result<u32, Memory>
-    ensures { IfOk result (λ decl. Makes locals.old.items locals.new.items decl (made (length locals.old.items) (parts.declared (said setting.entry) at (bindings_in scope.now) own.now
-        (parts.inner_kind (said setting.entry) (bindings_in scope.now) (length locals.old.items + 1) (roses_of kids.now))))) }
-{
-    let decl = next_number(locals)?;
-    match value_of("ref", own) {
-        Some(reference) => {
-            refer(alloc, scope, reference.as_str(), at, locals)?;
-            Ok(decl)
-        }
-        None => {
-            declare_own(alloc, setting, at, own, kids, scope, locals)?;
-            Ok(decl)
-        }
-    }
-}
-
 // A place for a local declaration, which stands before those in it.
 fn hold(alloc: Global, at: u64, locals: &mut Vec<RawLocal>) -> Result<(), Memory>
     ensures { OnOk result (map seen.local_of locals.new.items ≡ map seen.local_of locals.old.items ++ parts.reference_to names.no_name at) }
@@ -169,146 +58,246 @@ fn hold(alloc: Global, at: u64, locals: &mut Vec<RawLocal>) -> Result<(), Memory
     Ok(())
 }
 
-#[cycle(complex_types)]
-fn declare_own<'a, 'b>(
-    alloc: Global,
-    setting: Setting<'_>,
-    at: u64,
-    own: &[(Text, Text)],
-    kids: &'a [Tree<ItemLabel>],
-    scope: &'b NamespaceScope<'a, 'b>,
-    locals: &mut Vec<RawLocal>,
-) -> Result<(), Memory>
-    ensures { OnOk result (map seen.local_of locals.new.items ≡ map seen.local_of locals.old.items ++ parts.declared_with (parts.element_by
-        (attributes.local_name setting.entry.target.now setting.entry.elements_qualified own.now) own.now at (parts.kind_by (bindings_in scope.now) own.now
-        (parts.inner_kind (said setting.entry) (bindings_in scope.now) (length locals.old.items + 1) (roses_of kids.now))))) }
-{
-    let number = locals.len();
-    hold(alloc, at, locals)?;
-    let name = local_name(alloc, setting.target, setting.elements_qualified, own)?;
-    let element = element_of(alloc, setting, name, at, own, kids, scope, locals)?;
-    put_own(locals, number, element);
-    Ok(())
-}
-
-/// The element that is declared by this name.
-#[cycle(complex_types)]
-pub(crate) fn element_of<'a, 'b>(
-    alloc: Global,
-    setting: Setting<'_>,
-    name: Name,
-    at: u64,
-    own: &[(Text, Text)],
-    kids: &'a [Tree<ItemLabel>],
-    scope: &'b NamespaceScope<'a, 'b>,
-    locals: &mut Vec<RawLocal>,
-) -> Result<RawElement, Memory>
-    ensures { IfOk result (λ element. Makes locals.old.items locals.new.items (seen.element_of element) (parts.element_by name own.now at (parts.kind_by (bindings_in scope.now) own.now
-        (parts.inner_kind (said setting.entry) (bindings_in scope.now) (length locals.old.items) (roses_of kids.now))))) }
-{
-    match value_of("type", own) {
-        Some(value) => {
-            let reference = type_ref(alloc, scope, value.as_str())?;
-            Ok(element_with(name, own, at, RawKind::Named(reference)))
+impl<'s, 'a, 'b> Reader<'s, 'a, 'b> {
+    // The particle that the element is, unless it may not occur. What it declares is added to the local declarations.
+    #[cycle(complex_types)]
+    fn particle_at(
+        self,
+        tree: &'a Tree<ItemLabel>,
+        locals: &mut Vec<RawLocal>,
+    ) -> Result<Option<Tree<ParticleLabel>>, Memory>
+        ensures { IfOk result (λ found. Makes locals.old.items locals.new.items found (parts.particle_at (said self.entry.setting) (bindings_in self.entry.scope.now) (length locals.old.items) tree.now)) }
+    {
+        let ItemLabel::Element {
+            name,
+            attributes,
+            declares,
+            at,
+        } = tree.label()
+        else {
+            return Ok(None);
+        };
+        if !is_in(ChildSet::Particles, tree.label()) {
+            return Ok(None);
         }
-        None => {
-            let kind = inner_kind(alloc, setting, kids, scope, locals)?;
-            Ok(element_with(name, own, at, kind))
+        let own = own_attributes(self.alloc, attributes.items())?;
+        if never_occurs(&own) {
+            return Ok(None);
         }
+        let inside = NamespaceScope::inside(self.alloc, declares, self.scope)?;
+        let reader = Reader {
+            alloc: self.alloc,
+            setting: self.setting,
+            scope: &inside,
+        };
+        let particle = reader.particle_of(name.local.as_str(), *at, &own, tree.kids(), locals)?;
+        Ok(Some(particle))
     }
-}
 
-// The first particle among these that may occur.
-#[cycle(complex_types)]
-fn group_among<'a, 'b>(
-    alloc: Global,
-    setting: Setting<'_>,
-    kids: &'a [Tree<ItemLabel>],
-    scope: &'b NamespaceScope<'a, 'b>,
-    locals: &mut Vec<RawLocal>,
-) -> Result<Option<Tree<ParticleLabel>>, Memory>
-    ensures { IfOk result (λ found. Makes locals.old.items locals.new.items found (parts.group_among (said setting.entry) (bindings_in scope.now) (length locals.old.items) (roses_of kids.now))) }
-{
-    for kid in kids {
-        let found = particle_at(alloc, setting, kid, scope, locals)?;
-        if let Some(particle) = found {
-            return Ok(Some(particle));
+    #[cycle(complex_types)]
+    fn particle_of(
+        self,
+        name: &str,
+        at: u64,
+        own: &[(Text, Text)],
+        kids: &'a [Tree<ItemLabel>],
+        locals: &mut Vec<RawLocal>,
+    ) -> Result<Tree<ParticleLabel>, Memory>
+        ensures { IfOk result (λ particle. Makes locals.old.items locals.new.items particle (parts.particle_by (said self.entry.setting) (length locals.old.items) name.now at (bindings_in self.entry.scope.now) own.now
+            (parts.inner_kind (said self.entry.setting) (bindings_in self.entry.scope.now) (length locals.old.items + 1) (roses_of kids.now))
+            (parts.particles_among (said self.entry.setting) (bindings_in self.entry.scope.now) (length locals.old.items) (roses_of kids.now)))) }
+    {
+        if name == "element" {
+            let named = element_name(self.alloc, self.setting, self.scope, own)?;
+            let decl = self.declare(at, own, kids, locals)?;
+            Ok(leaf_of(self.alloc, self.setting.file, at, decl, named, own))
+        } else {
+            let particles = self.particles_among(kids, locals)?;
+            Ok(group_of(self.setting.file, at, name, own, particles))
         }
     }
-    Ok(None)
-}
 
-// The first type among these.
-#[cycle(complex_types)]
-fn inner_kind<'a, 'b>(
-    alloc: Global,
-    setting: Setting<'_>,
-    kids: &'a [Tree<ItemLabel>],
-    scope: &'b NamespaceScope<'a, 'b>,
-    locals: &mut Vec<RawLocal>,
-) -> Result<RawKind, Memory>
-    ensures { IfOk result (λ kind. Makes locals.old.items locals.new.items (seen.kind_of kind) (parts.inner_kind (said setting.entry) (bindings_in scope.now) (length locals.old.items) (roses_of kids.now))) }
-{
-    for kid in kids {
-        let simple = simple_type(alloc, kid, scope)?;
-        if let Some(body) = simple {
-            return Ok(RawKind::Simple(body));
+    // The particles among these, in their order, without those that may not occur.
+    #[cycle(complex_types)]
+    fn particles_among(
+        self,
+        kids: &'a [Tree<ItemLabel>],
+        locals: &mut Vec<RawLocal>,
+    ) -> Result<Vec<Tree<ParticleLabel>>, Memory>
+        ensures { IfOk result (λ particles. Makes locals.old.items locals.new.items particles.items (parts.particles_among (said self.entry.setting) (bindings_in self.entry.scope.now) (length locals.old.items) (roses_of kids.now))) }
+    {
+        let mut particles = Vec::new(self.alloc);
+        for kid in kids {
+            let found = self.particle_at(kid, locals)?;
+            push_particle(&mut particles, found)?;
         }
-        let complex = complex_type(alloc, setting, kid, scope, locals)?;
-        if let Some(body) = complex {
-            return Ok(RawKind::Complex(body));
+        Ok(particles)
+    }
+
+    // Adds a local declaration before those that stand in it, and tells its number.
+    #[cycle(complex_types)]
+    fn declare(
+        self,
+        at: u64,
+        own: &[(Text, Text)],
+        kids: &'a [Tree<ItemLabel>],
+        locals: &mut Vec<RawLocal>,
+    ) -> Result<u32, Memory>
+        ensures { IfOk result (λ decl. Makes locals.old.items locals.new.items decl (made (length locals.old.items) (parts.declared (said self.entry.setting) at (bindings_in self.entry.scope.now) own.now
+            (parts.inner_kind (said self.entry.setting) (bindings_in self.entry.scope.now) (length locals.old.items + 1) (roses_of kids.now))))) }
+    {
+        let decl = next_number(locals)?;
+        match value_of("ref", own) {
+            Some(reference) => {
+                refer(self.alloc, self.scope, reference.as_str(), at, locals)?;
+                Ok(decl)
+            }
+            None => {
+                self.declare_own(at, own, kids, locals)?;
+                Ok(decl)
+            }
         }
     }
-    Ok(RawKind::Named(RawRef::Other(no_name(alloc))))
-}
 
-/// The complex type that the element defines.
-#[cycle(complex_types)]
-pub(crate) fn complex_type<'a, 'b>(
-    alloc: Global,
-    setting: Setting<'_>,
-    tree: &'a Tree<ItemLabel>,
-    scope: &'b NamespaceScope<'a, 'b>,
-    locals: &mut Vec<RawLocal>,
-) -> Result<Option<RawComplex>, Memory>
-    ensures { IfOk result (λ found. Makes locals.old.items locals.new.items (option_map seen.complex_of found) (parts.complex_type (said setting.entry) (bindings_in scope.now) (length locals.old.items) tree.now)) }
-{
-    let ItemLabel::Element {
-        attributes,
-        declares,
-        at,
-        ..
-    } = tree.label()
-    else {
-        return Ok(None);
-    };
-    if !is_named("complexType", tree.label()) {
-        return Ok(None);
+    #[cycle(complex_types)]
+    fn declare_own(
+        self,
+        at: u64,
+        own: &[(Text, Text)],
+        kids: &'a [Tree<ItemLabel>],
+        locals: &mut Vec<RawLocal>,
+    ) -> Result<(), Memory>
+        ensures { OnOk result (map seen.local_of locals.new.items ≡ map seen.local_of locals.old.items ++ parts.declared_with (parts.element_by
+            (attributes.local_name self.entry.setting.target.now self.entry.setting.elements_qualified own.now) own.now at (parts.kind_by (bindings_in self.entry.scope.now) own.now
+            (parts.inner_kind (said self.entry.setting) (bindings_in self.entry.scope.now) (length locals.old.items + 1) (roses_of kids.now))))) }
+    {
+        let number = locals.len();
+        hold(self.alloc, at, locals)?;
+        let name = local_name(
+            self.alloc,
+            self.setting.target,
+            self.setting.elements_qualified,
+            own,
+        )?;
+        let element = self.element_of(name, at, own, kids, locals)?;
+        put_own(locals, number, element);
+        Ok(())
     }
-    let inside = NamespaceScope::inside(alloc, declares, scope)?;
-    let own = own_attributes(alloc, attributes.items())?;
-    let mixed = is_true("mixed", &own);
-    let body = complex_of(alloc, setting, *at, mixed, tree.kids(), &inside, locals)?;
-    Ok(Some(body))
-}
 
-#[cycle(complex_types)]
-fn complex_of<'a, 'b>(
-    alloc: Global,
-    setting: Setting<'_>,
-    at: u64,
-    mixed: bool,
-    kids: &'a [Tree<ItemLabel>],
-    scope: &'b NamespaceScope<'a, 'b>,
-    locals: &mut Vec<RawLocal>,
-) -> Result<RawComplex, Memory>
-    ensures { IfOk result (λ body. Makes locals.old.items locals.new.items (seen.complex_of body) (parts.complex_of (said setting.entry) at mixed (bindings_in scope.now) kids.now
-        (parts.group_among (said setting.entry) (bindings_in scope.now) (length locals.old.items) (roses_of kids.now)))) }
-{
-    let simple = simple_content(alloc, setting, kids, scope)?;
-    if let Some(found) = simple {
-        return Ok(complex_with(at, found));
+    /// The element that is declared by this name.
+    #[cycle(complex_types)]
+    pub(crate) fn element_of(
+        self,
+        name: Name,
+        at: u64,
+        own: &[(Text, Text)],
+        kids: &'a [Tree<ItemLabel>],
+        locals: &mut Vec<RawLocal>,
+    ) -> Result<RawElement, Memory>
+        ensures { IfOk result (λ element. Makes locals.old.items locals.new.items (seen.element_of element) (parts.element_by name own.now at (parts.kind_by (bindings_in self.entry.scope.now) own.now
+            (parts.inner_kind (said self.entry.setting) (bindings_in self.entry.scope.now) (length locals.old.items) (roses_of kids.now))))) }
+    {
+        match value_of("type", own) {
+            Some(value) => {
+                let reference = type_ref(self.alloc, self.scope, value.as_str())?;
+                Ok(element_with(name, own, at, RawKind::Named(reference)))
+            }
+            None => {
+                let kind = self.inner_kind(kids, locals)?;
+                Ok(element_with(name, own, at, kind))
+            }
+        }
     }
-    let group = group_among(alloc, setting, kids, scope, locals)?;
-    complex_by(alloc, setting, at, mixed, kids, scope, group)
+
+    // The first particle among these that may occur.
+    #[cycle(complex_types)]
+    fn group_among(
+        self,
+        kids: &'a [Tree<ItemLabel>],
+        locals: &mut Vec<RawLocal>,
+    ) -> Result<Option<Tree<ParticleLabel>>, Memory>
+        ensures { IfOk result (λ found. Makes locals.old.items locals.new.items found (parts.group_among (said self.entry.setting) (bindings_in self.entry.scope.now) (length locals.old.items) (roses_of kids.now))) }
+    {
+        for kid in kids {
+            let found = self.particle_at(kid, locals)?;
+            if let Some(particle) = found {
+                return Ok(Some(particle));
+            }
+        }
+        Ok(None)
+    }
+
+    // The first type among these.
+    #[cycle(complex_types)]
+    fn inner_kind(
+        self,
+        kids: &'a [Tree<ItemLabel>],
+        locals: &mut Vec<RawLocal>,
+    ) -> Result<RawKind, Memory>
+        ensures { IfOk result (λ kind. Makes locals.old.items locals.new.items (seen.kind_of kind) (parts.inner_kind (said self.entry.setting) (bindings_in self.entry.scope.now) (length locals.old.items) (roses_of kids.now))) }
+    {
+        for kid in kids {
+            let simple = simple_type(self.alloc, kid, self.scope)?;
+            if let Some(body) = simple {
+                return Ok(RawKind::Simple(body));
+            }
+            let complex = self.complex_type(kid, locals)?;
+            if let Some(body) = complex {
+                return Ok(RawKind::Complex(body));
+            }
+        }
+        Ok(RawKind::Named(RawRef::Other(no_name(self.alloc))))
+    }
+
+    /// The complex type that the element defines.
+    #[cycle(complex_types)]
+    pub(crate) fn complex_type(
+        self,
+        tree: &'a Tree<ItemLabel>,
+        locals: &mut Vec<RawLocal>,
+    ) -> Result<Option<RawComplex>, Memory>
+        ensures { IfOk result (λ found. Makes locals.old.items locals.new.items (option_map seen.complex_of found) (parts.complex_type (said self.entry.setting) (bindings_in self.entry.scope.now) (length locals.old.items) tree.now)) }
+    {
+        let ItemLabel::Element {
+            attributes,
+            declares,
+            at,
+            ..
+        } = tree.label()
+        else {
+            return Ok(None);
+        };
+        if !is_named("complexType", tree.label()) {
+            return Ok(None);
+        }
+        let inside = NamespaceScope::inside(self.alloc, declares, self.scope)?;
+        let own = own_attributes(self.alloc, attributes.items())?;
+        let mixed = is_true("mixed", &own);
+        let reader = Reader {
+            alloc: self.alloc,
+            setting: self.setting,
+            scope: &inside,
+        };
+        let body = reader.complex_of(*at, mixed, tree.kids(), locals)?;
+        Ok(Some(body))
+    }
+
+    #[cycle(complex_types)]
+    fn complex_of(
+        self,
+        at: u64,
+        mixed: bool,
+        kids: &'a [Tree<ItemLabel>],
+        locals: &mut Vec<RawLocal>,
+    ) -> Result<RawComplex, Memory>
+        ensures { IfOk result (λ body. Makes locals.old.items locals.new.items (seen.complex_of body) (parts.complex_of (said self.entry.setting) at mixed (bindings_in self.entry.scope.now) kids.now
+            (parts.group_among (said self.entry.setting) (bindings_in self.entry.scope.now) (length locals.old.items) (roses_of kids.now)))) }
+    {
+        let simple = simple_content(self.alloc, self.setting, kids, self.scope)?;
+        if let Some(found) = simple {
+            return Ok(complex_with(at, found));
+        }
+        let group = self.group_among(kids, locals)?;
+        self.complex_by(at, mixed, kids, group)
+    }
 }

@@ -9,6 +9,7 @@ ghost use Rattle.schema_read.specs.Contents as contents;
 
 use crate::declarations::{Setting, uses_among};
 use crate::names::{no_name, type_ref};
+use crate::reader::Reader;
 use content_models::{ParticleKind, ParticleLabel};
 use doc_text::ItemLabel;
 use label_tree::{Tree, Whole};
@@ -265,20 +266,20 @@ pub(crate) fn complex_with(at: u64, found: (RawContent, RawUses)) -> RawComplex
     RawComplex { at, uses, content }
 }
 
-/// A complex type whose content is by the group, if there is one.
-pub(crate) fn complex_by<'a, 'b>(
-    alloc: Global,
-    setting: Setting<'_>,
-    at: u64,
-    mixed: bool,
-    kids: &'a [Tree<ItemLabel>],
-    scope: &'b NamespaceScope<'a, 'b>,
-    group: Option<Tree<ParticleLabel>>,
-) -> Result<RawComplex, Memory>
-    ensures { IfOk result (λ body. complex_of body ≡ contents.complex_by (said setting.entry) at mixed (bindings_in scope.now) kids.now group) }
-{
-    let uses = uses_among(alloc, setting, kids, scope)?;
-    let empty_at = empty_place(at, kids)?;
-    let content = content_of(alloc, setting.file, mixed, empty_at, group)?;
-    Ok(RawComplex { at, uses, content })
+impl<'s, 'a, 'b> Reader<'s, 'a, 'b> {
+    /// A complex type whose content is by the group, if there is one.
+    pub(crate) fn complex_by(
+        self,
+        at: u64,
+        mixed: bool,
+        kids: &'a [Tree<ItemLabel>],
+        group: Option<Tree<ParticleLabel>>,
+    ) -> Result<RawComplex, Memory>
+        ensures { IfOk result (λ body. complex_of body ≡ contents.complex_by (said self.entry.setting) at mixed (bindings_in self.entry.scope.now) kids.now group) }
+    {
+        let uses = uses_among(self.alloc, self.setting, kids, self.scope)?;
+        let empty_at = empty_place(at, kids)?;
+        let content = content_of(self.alloc, self.setting.file, mixed, empty_at, group)?;
+        Ok(RawComplex { at, uses, content })
+    }
 }

@@ -13,12 +13,13 @@ ghost use Rattle.schema_read.specs.Settings.{said};
 
 use crate::declarations::{Setting, is_qualified};
 use crate::error::SchemaError;
-use crate::globals::{Globals, globals_among};
+use crate::globals::Globals;
 use crate::names::value_or_empty;
+use crate::reader::Reader;
 use doc_text::{ItemLabel, Items};
 use label_tree::Tree;
 use schema_faults::{DocumentFault, first_fault};
-use schema_parts::{RawDoc, RawLocal, all_fit, all_named, all_varied, ascend};
+use schema_parts::{RawDoc, all_fit, all_named, all_varied, ascend};
 use schema_places::{all_ascend, all_inward, are_counted, are_short};
 use schema_rules::{NamespaceScope, is_counted, is_looked_into, own_attributes};
 use std::alloc::Global;
@@ -73,21 +74,21 @@ fn sealed(
     file: u32,
     target: Text,
     globals: Globals,
-    locals: Vec<RawLocal>,
     counted: Vec<u64>,
 ) -> Result<RawDoc, Memory>
-    requires { IsCoherent (parts_of file target globals.elements.items globals.attributes.items globals.types.items locals.items counted.items) }
-    ensures { IfOk result (λ doc. doc_of doc ≡ parts_of file target globals.elements.items globals.attributes.items globals.types.items locals.items counted.items) }
+    requires { IsCoherent (parts_of file target globals.elements.items globals.attributes.items globals.types.items globals.locals.items counted.items) }
+    ensures { IfOk result (λ doc. doc_of doc ≡ parts_of file target globals.elements.items globals.attributes.items globals.types.items globals.locals.items counted.items) }
 {
     let Globals {
         elements,
         attributes,
         types,
+        locals,
     } = globals;
     if u32::try_from(locals.len()).is_err() {
         return Err(Memory);
     }
-    // A document in which one of these tests fails has a fault.
+    // That these tests hold of each document without a fault isn't proved.
     if !all_fit(&elements, &types, &locals) {
         return Err(Memory);
     }
@@ -117,18 +118,15 @@ fn sealed(
 
 // All that the children of `schema` declare.
 fn described_by<'a, 'b>(
-    alloc: Global,
-    setting: Setting<'_>,
+    reader: Reader<'_, 'a, 'b>,
     kids: &'a [Tree<ItemLabel>],
-    scope: &'b NamespaceScope<'a, 'b>,
 ) -> Result<RawDoc, Memory>
-    ensures { IfOk result (λ doc. doc_of doc ≡ document_with setting.entry.file setting.entry.target.now (counted_among (roses_of kids.now)) (parts_among (said setting.entry) (bindings_in scope.now) 0 kids.now)) }
+    ensures { IfOk result (λ doc. doc_of doc ≡ document_with reader.entry.setting.file reader.entry.setting.target.now (counted_among (roses_of kids.now)) (parts_among (said reader.entry.setting) (bindings_in reader.entry.scope.now) 0 kids.now)) }
 {
-    let mut locals = Vec::new(alloc);
-    let globals = globals_among(alloc, setting, kids, scope, &mut locals)?;
-    let counted = counted_places(alloc, kids)?;
-    let target = setting.target.copy(alloc)?;
-    sealed(alloc, setting.file, target, globals, locals, counted)
+    let globals = reader.globals_among(kids)?;
+    let counted = counted_places(reader.alloc, kids)?;
+    let target = reader.setting.target.copy(reader.alloc)?;
+    sealed(reader.alloc, reader.setting.file, target, globals, counted)
 }
 
 // The components of a document with these attributes of `schema` and these children of it.
@@ -148,7 +146,12 @@ fn described<'a, 'b>(
         elements_qualified: is_qualified("elementFormDefault", own, false),
         attributes_qualified: is_qualified("attributeFormDefault", own, false),
     };
-    described_by(alloc, setting, kids, scope)
+    let reader = Reader {
+        alloc,
+        setting,
+        scope,
+    };
+    described_by(reader, kids)
 }
 
 // The components of a document without a fault.
@@ -169,7 +172,9 @@ fn components(alloc: Global, root: &Tree<ItemLabel>, file: u32) -> Result<RawDoc
     described(alloc, file, &own, root.kids(), &scope)
 }
 
-/// The components of a schema document, which is file number `file` of its set, or its first fault.
+/// The components of a schema document, which is file number `file` of its set, or its first fault. What is made is
+/// tested before it is handed out; where a document without a fault failed a test, the answer would be `Memory`. That none
+/// fails isn't proved.
 ///
 /// The time grows with the size of the document, and for each element and each reference with the logarithm of the
 /// number of bindings of the elements that are open.

@@ -1,5 +1,5 @@
 //! The global declarations of a document.
-ghost use Rattle.std.specs.Prelude.{[], IfOk, OnOk, length};
+ghost use Rattle.std.specs.Prelude.{IfOk, OnOk, length};
 ghost use Rattle.label_tree.specs.Rose.{roses_of, label_of, kids_of};
 ghost use Rattle.schema_rules.specs.Scopes.{bindings_in};
 ghost use Rattle.schema_read.specs.Attributes as attributes;
@@ -10,191 +10,151 @@ ghost use Rattle.schema_read.specs.Settings.{said};
 ghost use Rattle.schema_read.specs.Raw as raw;
 ghost use Rattle.schema_read.specs.Raw.{Adds, Are};
 
-use crate::complex_types::{complex_type, element_of};
-use crate::declarations::{Setting, global_attribute};
+use crate::declarations::global_attribute;
 use crate::names::declared_name;
+use crate::reader::Reader;
 use crate::simple_definitions::simple_type;
 use doc_text::ItemLabel;
 use label_tree::Tree;
 use schema_parts::{RawAttribute, RawElement, RawLocal, RawType};
 use schema_rules::{NamespaceScope, is_schema_name, own_attributes};
-use std::alloc::Global;
 use xa_base::{Memory, Text};
 
-/// What a document declares, as far as it is read, but for the local declarations.
+/// What a document declares, as far as it is read.
 #[derive(Drop)]
 pub(crate) struct Globals {
     pub elements: Vec<RawElement>,
     pub attributes: Vec<RawAttribute>,
     pub types: Vec<RawType>,
+    pub locals: Vec<RawLocal>,
 }
 
-// Adds a global element.
-fn add_element<'a, 'b>(
-    alloc: Global,
-    setting: Setting<'_>,
-    at: u64,
-    own: &[(Text, Text)],
-    kids: &'a [Tree<ItemLabel>],
-    scope: &'b NamespaceScope<'a, 'b>,
-    globals: &mut Globals,
-    locals: &mut Vec<RawLocal>,
-) -> Result<(), Memory>
-    ensures { OnOk result (Adds globals.old globals.new locals.old.items locals.new.items (raw.element_parts
-        (raw.global_element (said setting.entry) (length locals.old.items) at (bindings_in scope.now) own.now kids.now))) }
-{
-    let name = declared_name(alloc, setting.target, own)?;
-    let element = element_of(alloc, setting, name, at, own, kids, scope, locals)?;
-    globals.elements.push(element)?;
-    Ok(())
-}
-
-fn add_attribute<'a, 'b>(
-    alloc: Global,
-    setting: Setting<'_>,
-    tree: &'a Tree<ItemLabel>,
-    scope: &'b NamespaceScope<'a, 'b>,
-    globals: &mut Globals,
-) -> Result<(), Memory>
-    ensures { OnOk result (Adds globals.old globals.new [] [] (raw.attribute_parts
-        (attributes.global_attribute (said setting.entry).target (bindings_in scope.now) (label_of tree.now) (kids_of tree.now)))) }
-{
-    let found = global_attribute(alloc, setting.target, tree, scope)?;
-    if let Some(attribute) = found {
-        globals.attributes.push(attribute)?;
+impl<'s, 'a, 'b> Reader<'s, 'a, 'b> {
+    // Adds a global element.
+    fn add_element(
+        self,
+        at: u64,
+        own: &[(Text, Text)],
+        kids: &'a [Tree<ItemLabel>],
+        globals: &mut Globals,
+    ) -> Result<(), Memory>
+        ensures { OnOk result (Adds globals.old globals.new (raw.element_parts
+            (raw.global_element (said self.entry.setting) (length globals.old.locals.items) at (bindings_in self.entry.scope.now) own.now kids.now))) }
+    {
+        let name = declared_name(self.alloc, self.setting.target, own)?;
+        let element = self.element_of(name, at, own, kids, &mut globals.locals)?;
+        globals.elements.push(element)?;
+        Ok(())
     }
-    Ok(())
-}
 
-fn add_simple_type<'a, 'b>(
-    alloc: Global,
-    setting: Setting<'_>,
-    own: &[(Text, Text)],
-    tree: &'a Tree<ItemLabel>,
-    scope: &'b NamespaceScope<'a, 'b>,
-    globals: &mut Globals,
-) -> Result<(), Memory>
-    ensures { OnOk result (Adds globals.old globals.new [] [] (raw.simple_type_parts
-        (declared_name (said setting.entry).target own.now) (simple.simple_type (bindings_in scope.now) tree.now))) }
-{
-    let name = declared_name(alloc, setting.target, own)?;
-    let found = simple_type(alloc, tree, scope)?;
-    if let Some(body) = found {
-        globals.types.push(RawType::Simple { name, body })?;
+    fn add_attribute(self, tree: &'a Tree<ItemLabel>, globals: &mut Globals) -> Result<(), Memory>
+        ensures { OnOk result (Adds globals.old globals.new (raw.attribute_parts
+            (attributes.global_attribute (said self.entry.setting).target (bindings_in self.entry.scope.now) (label_of tree.now) (kids_of tree.now)))) }
+    {
+        let found = global_attribute(self.alloc, self.setting.target, tree, self.scope)?;
+        if let Some(attribute) = found {
+            globals.attributes.push(attribute)?;
+        }
+        Ok(())
     }
-    Ok(())
-}
 
-fn add_complex_type<'a, 'b>(
-    alloc: Global,
-    setting: Setting<'_>,
-    own: &[(Text, Text)],
-    tree: &'a Tree<ItemLabel>,
-    scope: &'b NamespaceScope<'a, 'b>,
-    globals: &mut Globals,
-    locals: &mut Vec<RawLocal>,
-) -> Result<(), Memory>
-    ensures { OnOk result (Adds globals.old globals.new locals.old.items locals.new.items (raw.complex_type_parts
-        (declared_name (said setting.entry).target own.now) (parts.complex_type (said setting.entry) (bindings_in scope.now) (length locals.old.items) tree.now))) }
-{
-    let name = declared_name(alloc, setting.target, own)?;
-    let found = complex_type(alloc, setting, tree, scope, locals)?;
-    if let Some(body) = found {
-        globals.types.push(RawType::Complex { name, body })?;
+    fn add_simple_type(
+        self,
+        own: &[(Text, Text)],
+        tree: &'a Tree<ItemLabel>,
+        globals: &mut Globals,
+    ) -> Result<(), Memory>
+        ensures { OnOk result (Adds globals.old globals.new (raw.simple_type_parts
+            (declared_name (said self.entry.setting).target own.now) (simple.simple_type (bindings_in self.entry.scope.now) tree.now))) }
+    {
+        let name = declared_name(self.alloc, self.setting.target, own)?;
+        let found = simple_type(self.alloc, tree, self.scope)?;
+        if let Some(body) = found {
+            globals.types.push(RawType::Simple { name, body })?;
+        }
+        Ok(())
     }
-    Ok(())
-}
 
-// Adds what a child of `schema` with this name and these attributes declares. `scope` is that around it.
-fn add_named<'a, 'b>(
-    alloc: Global,
-    setting: Setting<'_>,
-    name: &str,
-    own: &[(Text, Text)],
-    inside: &'b NamespaceScope<'a, 'b>,
-    at: u64,
-    tree: &'a Tree<ItemLabel>,
-    scope: &'b NamespaceScope<'a, 'b>,
-    globals: &mut Globals,
-    locals: &mut Vec<RawLocal>,
-) -> Result<(), Memory>
-    ensures { OnOk result (Adds globals.old globals.new locals.old.items locals.new.items (raw.parts_named (said setting.entry) (bindings_in scope.now) (length locals.old.items)
-        name.now own.now (bindings_in inside.now) at tree.now)) }
-{
-    match name {
-        "element" => add_element(
-            alloc,
-            setting,
+    fn add_complex_type(
+        self,
+        own: &[(Text, Text)],
+        tree: &'a Tree<ItemLabel>,
+        globals: &mut Globals,
+    ) -> Result<(), Memory>
+        ensures { OnOk result (Adds globals.old globals.new (raw.complex_type_parts
+            (declared_name (said self.entry.setting).target own.now) (parts.complex_type (said self.entry.setting) (bindings_in self.entry.scope.now) (length globals.old.locals.items) tree.now))) }
+    {
+        let name = declared_name(self.alloc, self.setting.target, own)?;
+        let found = self.complex_type(tree, &mut globals.locals)?;
+        if let Some(body) = found {
+            globals.types.push(RawType::Complex { name, body })?;
+        }
+        Ok(())
+    }
+
+    // Adds what a child of `schema` with this name and these attributes declares. `inside` is the scope in it.
+    fn add_named(
+        self,
+        inside: &'b NamespaceScope<'a, 'b>,
+        name: &str,
+        own: &[(Text, Text)],
+        at: u64,
+        tree: &'a Tree<ItemLabel>,
+        globals: &mut Globals,
+    ) -> Result<(), Memory>
+        ensures { OnOk result (Adds globals.old globals.new (raw.parts_named (said self.entry.setting) (bindings_in self.entry.scope.now) (length globals.old.locals.items)
+            name.now own.now (bindings_in inside.now) at tree.now)) }
+    {
+        match name {
+            "element" => {
+                let reader = Reader {
+                    alloc: self.alloc,
+                    setting: self.setting,
+                    scope: inside,
+                };
+                reader.add_element(at, own, tree.kids(), globals)
+            }
+            "attribute" => self.add_attribute(tree, globals),
+            "simpleType" => self.add_simple_type(own, tree, globals),
+            "complexType" => self.add_complex_type(own, tree, globals),
+            _ => Ok(()),
+        }
+    }
+
+    // Adds what a child of `schema` declares.
+    fn add(self, tree: &'a Tree<ItemLabel>, globals: &mut Globals) -> Result<(), Memory>
+        ensures { OnOk result (Adds globals.old globals.new (raw.parts_by (said self.entry.setting) (bindings_in self.entry.scope.now) (length globals.old.locals.items) (label_of tree.now) tree.now)) }
+    {
+        let ItemLabel::Element {
+            name,
+            attributes,
+            declares,
             at,
-            own,
-            tree.kids(),
-            inside,
-            globals,
-            locals,
-        ),
-        "attribute" => add_attribute(alloc, setting, tree, scope, globals),
-        "simpleType" => add_simple_type(alloc, setting, own, tree, scope, globals),
-        "complexType" => add_complex_type(alloc, setting, own, tree, scope, globals, locals),
-        _ => Ok(()),
+        } = tree.label()
+        else {
+            return Ok(());
+        };
+        if !is_schema_name(name) {
+            return Ok(());
+        }
+        let own = own_attributes(self.alloc, attributes.items())?;
+        let inside = NamespaceScope::inside(self.alloc, declares, self.scope)?;
+        self.add_named(&inside, name.local.as_str(), &own, *at, tree, globals)
     }
-}
 
-// Adds what a child of `schema` declares.
-fn add<'a, 'b>(
-    alloc: Global,
-    setting: Setting<'_>,
-    tree: &'a Tree<ItemLabel>,
-    scope: &'b NamespaceScope<'a, 'b>,
-    globals: &mut Globals,
-    locals: &mut Vec<RawLocal>,
-) -> Result<(), Memory>
-    ensures { OnOk result (Adds globals.old globals.new locals.old.items locals.new.items (raw.parts_by (said setting.entry) (bindings_in scope.now) (length locals.old.items) (label_of tree.now) tree.now)) }
-{
-    let ItemLabel::Element {
-        name,
-        attributes,
-        declares,
-        at,
-    } = tree.label()
-    else {
-        return Ok(());
-    };
-    if !is_schema_name(name) {
-        return Ok(());
+    /// What the children of `schema` declare, in their order.
+    pub(crate) fn globals_among(self, kids: &'a [Tree<ItemLabel>]) -> Result<Globals, Memory>
+        ensures { IfOk result (λ globals. Are globals (raw.parts_among (said self.entry.setting) (bindings_in self.entry.scope.now) 0 kids.now)) }
+    {
+        let mut globals = Globals {
+            elements: Vec::new(self.alloc),
+            attributes: Vec::new(self.alloc),
+            types: Vec::new(self.alloc),
+            locals: Vec::new(self.alloc),
+        };
+        for kid in kids {
+            self.add(kid, &mut globals)?;
+        }
+        Ok(globals)
     }
-    let own = own_attributes(alloc, attributes.items())?;
-    let inside = NamespaceScope::inside(alloc, declares, scope)?;
-    add_named(
-        alloc,
-        setting,
-        name.local.as_str(),
-        &own,
-        &inside,
-        *at,
-        tree,
-        scope,
-        globals,
-        locals,
-    )
-}
-
-/// What the children of `schema` declare, in their order.
-pub(crate) fn globals_among<'a, 'b>(
-    alloc: Global,
-    setting: Setting<'_>,
-    kids: &'a [Tree<ItemLabel>],
-    scope: &'b NamespaceScope<'a, 'b>,
-    locals: &mut Vec<RawLocal>,
-) -> Result<Globals, Memory>
-    ensures { IfOk result (λ globals. Are globals locals.old.items locals.new.items (raw.parts_among (said setting.entry) (bindings_in scope.now) (length locals.old.items) kids.now)) }
-{
-    let mut globals = Globals {
-        elements: Vec::new(alloc),
-        attributes: Vec::new(alloc),
-        types: Vec::new(alloc),
-    };
-    for kid in kids {
-        add(alloc, setting, kid, scope, &mut globals, locals)?;
-    }
-    Ok(globals)
 }

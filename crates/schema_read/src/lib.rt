@@ -10,6 +10,7 @@ mod globals;
 mod laws;
 mod names;
 mod particles;
+mod reader;
 mod simple_definitions;
 
 pub use documents::read_schema;

@@ -9,13 +9,6 @@ use schema_rules::{NamespaceScope, Resolved, TypeName, resolve, type_of, value_o
 use std::alloc::Global;
 use xa_base::{Memory, Name, Text};
 
-fn text_of(alloc: Global, text: &str) -> Result<Text, Memory>
-    ensures { IfOk result (λ made. made ≡ text.now) }
-{
-    let copied = String::from_str(alloc, text)?;
-    Text::from_string(copied)
-}
-
 pub(crate) fn empty_text(alloc: Global) -> Text
     ensures { result ≡ [] }
 {
@@ -44,7 +37,7 @@ fn name_of(alloc: Global, found: Resolved<'_, '_>) -> Result<Name, Memory>
     ensures { IfOk result (λ name. name ≡ name_seen found.entry) }
 {
     let space = bytes_text(alloc, found.space)?;
-    let local = text_of(alloc, found.local)?;
+    let local = Text::from_str(alloc, found.local)?;
     Ok(Name { space, local })
 }
 

@@ -38,8 +38,8 @@ abbrev pub unbounded : List ℕ
 unbounded = codes "unbounded"
 
 -- a name that is declared: an NCName within the limit
-abbrev pub is_name : List ℕ → Bool
-is_name text = is_ncname (chars text) && is_short_part text
+abbrev pub is_declared_name : List ℕ → Bool
+is_declared_name text = is_ncname (chars text) && is_short_part text
 
 -- a namespace that names of documents may have, but for those that are taken
 abbrev pub is_target : List ℕ → Bool
@@ -53,7 +53,7 @@ has_form scope Qualification value = is_some (beside value qualifications)
 has_form scope Prescription value = has_name value prescriptions
 has_form scope Digits value = is_numeral value
 has_form scope DigitsOrUnbounded value = is_numeral value || bytes_eq value unbounded
-has_form scope NcName value = is_name value
+has_form scope NcName value = is_declared_name value
 has_form scope Reference value = is_some (resolved scope value)
 has_form scope TypeName value = is_some (type_name scope value)
 has_form scope TypeNames value = list_all (λ word. is_some (type_name scope word)) (words_of value)
@@ -73,10 +73,10 @@ has_malformed scope own = list_any (λ a. not (is_well_formed scope a.0 a.1)) ow
 abbrev pub is_named : List ℕ → List (List ℕ × List ℕ) → Bool
 is_named name own = elim (beside (codes "name") own) [ None ↦ false | Some value ↦ bytes_eq value name ]
 
-abbrev pub is_xmlns : ElementRole → List (List ℕ × List ℕ) → Bool
-is_xmlns GlobalAttribute own = is_named (codes "xmlns") own
-is_xmlns LocalAttribute own = is_named (codes "xmlns") own
-is_xmlns role own = false
+abbrev pub declares_xmlns : ElementRole → List (List ℕ × List ℕ) → Bool
+declares_xmlns GlobalAttribute own = is_named (codes "xmlns") own
+declares_xmlns LocalAttribute own = is_named (codes "xmlns") own
+declares_xmlns role own = false
 
 abbrev pub digits_of : List ℕ → List (List ℕ × List ℕ) → List ℕ
 digits_of name own = elim (beside name own) [ None ↦ codes "1" | Some value ↦ value ]
@@ -86,7 +86,7 @@ abbrev pub is_crossed : List (List ℕ × List ℕ) → Bool
 is_crossed own = is_over (digits_of (codes "minOccurs") own) (digits_of (codes "maxOccurs") own)
 
 abbrev pub has_bad_value : ElementRole → List (List ℕ × List ℕ) → List (List ℕ × List ℕ) → Bool
-has_bad_value role scope own = has_malformed scope own || is_xmlns role own || is_crossed own
+has_bad_value role scope own = has_malformed scope own || declares_xmlns role own || is_crossed own
 
 -- ---- occurrences
 

@@ -36,7 +36,7 @@ fn unprefixed<'s, 't>(scope: &NamespaceScope<'s, '_>, text: &'t str) -> Option<R
     if !is_ncname_text(text) {
         return None;
     }
-    match scope.space_of(b"") {
+    match scope.bound_to(b"") {
         Some(space) => Some(Resolved { space, local: text }),
         None => Some(Resolved {
             space: b"",
@@ -55,7 +55,7 @@ fn prefixed<'s, 't>(
     if !is_ncname_text(prefix) || !is_ncname_text(local) {
         return None;
     }
-    match scope.space_of(prefix.as_bytes()) {
+    match scope.bound_to(prefix.as_bytes()) {
         Some(space) => Some(Resolved { space, local }),
         None => None,
     }

@@ -55,7 +55,7 @@ impl<'a> Declared<'a> {
         Ok(Declared { bindings, spaces })
     }
 
-    fn space_of(&self, prefix: &[u8]) -> Option<&'a [u8]>
+    fn bound_to(&self, prefix: &[u8]) -> Option<&'a [u8]>
         ensures { option_map (λ space. space.now) result ≡ beside prefix.now self.now }
     {
         self.spaces.get(prefix).copied()
@@ -99,14 +99,14 @@ impl<'a, 'b> NamespaceScope<'a, 'b> {
 
     /// The namespace that the prefix is bound to. The time grows with the number of open elements, and for each of them
     /// with the logarithm of the number of its bindings.
-    pub fn space_of(&self, prefix: &[u8]) -> Option<&'a [u8]>
+    pub fn bound_to(&self, prefix: &[u8]) -> Option<&'a [u8]>
         ensures { option_map (λ space. space.now) result ≡ beside prefix.now (bindings_in self.now) }
     {
         match self {
             NamespaceScope::Document => outside(prefix),
-            NamespaceScope::Element(declared, outer) => match declared.space_of(prefix) {
+            NamespaceScope::Element(declared, outer) => match declared.bound_to(prefix) {
                 Some(space) => Some(space),
-                None => outer.space_of(prefix),
+                None => outer.bound_to(prefix),
             },
         }
     }

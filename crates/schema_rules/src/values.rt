@@ -90,8 +90,8 @@ fn is_prescription(text: &str) -> bool
     matches!(text, "optional" | "required" | "prohibited")
 }
 
-fn is_name(text: &Text) -> bool
-    ensures { result ≡ table.is_name text.now }
+fn is_declared_name(text: &Text) -> bool
+    ensures { result ≡ table.is_declared_name text.now }
 {
     is_ncname(text) && is_short_part(text.bytes())
 }
@@ -132,7 +132,7 @@ fn has_form(scope: &NamespaceScope<'_, '_>, form: ValueForm, value: &Text) -> bo
         ValueForm::DigitsOrUnbounded => {
             is_numeral(value.bytes()) || value.bytes() == b"unbounded".as_slice()
         }
-        ValueForm::NcName => is_name(value),
+        ValueForm::NcName => is_declared_name(value),
         ValueForm::Reference => resolve(scope, value.as_str()).is_some(),
         ValueForm::TypeName => type_of(scope, value.as_str()).is_some(),
         ValueForm::TypeNames => are_type_names(scope, value.as_str()),
@@ -158,8 +158,8 @@ fn has_malformed(scope: &NamespaceScope<'_, '_>, own: &[(Text, Text)]) -> bool
 }
 
 // Whether this declares an attribute of the name `xmlns`.
-fn is_xmlns(role: ElementRole, own: &[(Text, Text)]) -> bool
-    ensures { result ≡ table.is_xmlns role own.now }
+fn declares_xmlns(role: ElementRole, own: &[(Text, Text)]) -> bool
+    ensures { result ≡ table.declares_xmlns role own.now }
 {
     match role {
         ElementRole::GlobalAttribute | ElementRole::LocalAttribute => match value_of("name", own) {
@@ -195,7 +195,7 @@ pub fn has_bad_value(
 ) -> bool
     ensures { result ≡ table.has_bad_value role (bindings_in scope.now) own.now }
 {
-    has_malformed(scope, own) || is_xmlns(role, own) || is_crossed(own)
+    has_malformed(scope, own) || declares_xmlns(role, own) || is_crossed(own)
 }
 
 // The number of occurrences that the text is, below 2^32.

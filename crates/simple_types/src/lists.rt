@@ -3,6 +3,7 @@ ghost use Rattle.std.specs.Prelude.{◌≡◌, IfOk};
 
 use std::alloc::Global;
 use std::marker::Model;
+use std::rc::RcSlice;
 use xa_base::{Memory, Text};
 
 /// Truth values.
@@ -41,95 +42,80 @@ impl Flags {
     }
 }
 
-/// Whole numbers.
+/// Whole numbers. A copy shares them.
 #[derive(Drop)]
 pub struct NumberList {
-    entries: Vec<i128>,
+    entries: RcSlice<i128>,
 }
 
 impl Model for NumberList {
     ghost use Rattle.std.specs.Prelude.{List, ℤ};
+    ghost use Rattle.std.specs.Rc.{rc_slice_items};
 
     ghost Value = { List ℤ };
 
-    ghost view = { λ a. a.entries.items };
+    ghost view = { λ a. rc_slice_items a.entries };
 }
 
 impl NumberList {
-    pub fn of(entries: Vec<i128>) -> NumberList
-        ensures { result ≡ entries.items }
+    /// The list of these numbers.
+    pub fn of(entries: Vec<i128>) -> Result<NumberList, Memory>
+        ensures { IfOk result (λ numbers. numbers ≡ entries.items) }
     {
-        NumberList { entries }
+        let entries = RcSlice::from_vec(entries)?;
+        Ok(NumberList { entries })
     }
 
     pub fn items(&self) -> &[i128]
         ensures { result.now ≡ self.now }
     {
-        &self.entries
+        self.entries.as_slice()
     }
 
-    /// The numbers themselves.
-    pub fn into_items(self) -> Vec<i128>
-        ensures { result.items ≡ self }
-    {
-        let NumberList { entries } = self;
-        entries
-    }
-
-    /// Equal numbers.
-    pub fn copy(&self, alloc: Global) -> Result<NumberList, Memory>
+    /// Equal numbers. It takes no memory, and no longer for many numbers than for few.
+    pub fn copy(&self, _alloc: Global) -> Result<NumberList, Memory>
         ensures { IfOk result (λ numbers. numbers ≡ self.now) }
     {
-        let entries = Vec::from_slice(alloc, self.items())?;
+        let entries = self.entries.clone()?;
         Ok(NumberList { entries })
     }
 }
 
-/// Texts.
+/// Texts. A copy shares them.
 #[derive(Drop)]
 pub struct TextList {
-    entries: Vec<Text>,
+    entries: RcSlice<Text>,
 }
 
 impl Model for TextList {
     ghost use Rattle.std.specs.Prelude.{List, ℕ};
+    ghost use Rattle.std.specs.Rc.{rc_slice_items};
 
     ghost Value = { List (List ℕ) };
 
-    ghost view = { λ a. a.entries.items };
+    ghost view = { λ a. rc_slice_items a.entries };
 }
 
 impl TextList {
-    pub fn of(entries: Vec<Text>) -> TextList
-        ensures { result ≡ entries.items }
+    /// The list of these texts.
+    pub fn of(entries: Vec<Text>) -> Result<TextList, Memory>
+        ensures { IfOk result (λ texts. texts ≡ entries.items) }
     {
-        TextList { entries }
+        let entries = RcSlice::from_vec(entries)?;
+        Ok(TextList { entries })
     }
 
     pub fn items(&self) -> &[Text]
         ensures { result.now ≡ self.now }
     {
-        &self.entries
+        self.entries.as_slice()
     }
 
-    /// The texts themselves.
-    pub fn into_items(self) -> Vec<Text>
-        ensures { result.items ≡ self }
-    {
-        let TextList { entries } = self;
-        entries
-    }
-
-    /// Equal texts.
-    pub fn copy(&self, alloc: Global) -> Result<TextList, Memory>
+    /// Equal texts. It takes no memory, and no longer for many texts than for few.
+    pub fn copy(&self, _alloc: Global) -> Result<TextList, Memory>
         ensures { IfOk result (λ texts. texts ≡ self.now) }
     {
-        let entries = self.items();
-        let mut copies = Vec::with_capacity(alloc, entries.len())?;
-        'texts: for text in entries {
-            let copied = text.copy(alloc)?;
-            copies.push_reserved(copied);
-        }
-        Ok(TextList::of(copies))
+        let entries = self.entries.clone()?;
+        Ok(TextList { entries })
     }
 }

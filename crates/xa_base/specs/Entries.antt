@@ -1,4 +1,4 @@
--- Names with what stands beside each; a library is such a list, of names with contents.
+-- Names with what stands beside each, and tests likewise; a library is such a list, of names with contents.
 use Rattle.std.specs.Prelude.{◌≡◌, ℕ, Bool, true, false, ◌<◌, ⊤, List, [], ◌∷◌, length, bytes_eq, Option, Some, None, Result, Ok, Err, if◌then◌else◌}
 use Rattle.xa_base.specs.declared.libraries.LoadError.{LoadError}
 use Rattle.xa_base.specs.declared.libraries.LoadError.TheVariants.{Failed, TooLong, Memory}
@@ -7,6 +7,11 @@ use Rattle.xa_base.specs.declared.libraries.LoadError.TheVariants.{Failed, TooLo
 abbrev pub beside : {A : Type 0} → List ℕ → List (List ℕ × A) → Option A
 beside name [] = None
 beside name (entry ∷ entries) = if bytes_eq entry.0 name then Some entry.1 else beside name entries
+
+-- what stands beside the first test that holds
+abbrev pub first_true : {A : Type 0} → List (Bool × A) → Option A
+first_true [] = None
+first_true (test ∷ more) = if test.0 then Some test.1 else first_true more
 
 -- where the entries are told, these are the contents of the first entry of the name
 abbrev pub HasEntry : Option (List (List ℕ × List ℕ)) → List ℕ → List ℕ → Type 0

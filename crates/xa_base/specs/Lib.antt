@@ -9,3 +9,4 @@ pub mod Texts
 pub mod Namespaces
 pub mod Digits
 pub mod Limits
+pub mod Lists

@@ -6,9 +6,9 @@ use Rattle.xa_base.specs.Characters.{is_xml_char, is_ncname}
 use Rattle.xa_base.specs.Namespaces.{xmlns_prefix}
 use Rattle.xa_base.specs.declared.texts.Name.{Name}
 
-abbrev pub is_empty : List ℕ → Bool
+abbrev pub is_empty : {A : Type 0} → List A → Bool
 is_empty [] = true
-is_empty (b ∷ bs) = false
+is_empty (x ∷ xs) = false
 
 -- UTF-8 of the characters of XML 1.0, production [2] Char
 abbrev pub has_xml_chars : List ℕ → Bool

@@ -42,6 +42,14 @@ pub enum TextError {
     Memory,
 }
 
+/// The text that these bytes spell. They aren't tested, since they are known to be UTF-8.
+pub fn utf8_text(bytes: &[u8]) -> &str
+    requires { IsUtf8 bytes.now }
+    ensures { result.now ≡ bytes.now }
+{
+    unsafe { str::from_utf8_unchecked(bytes) }
+}
+
 // How many bytes a text has at most that lies in its value: with the length and the tag of `Kept` that is 24 bytes,
 // as many as a `String` takes.
 const ROOM: usize = 22;
@@ -147,6 +155,14 @@ impl Text {
         Ok(Text {
             kept: Kept::There(long),
         })
+    }
+
+    /// A text of these bytes, which are copied. They aren't tested, since they are known to be UTF-8.
+    pub fn from_utf8(alloc: Global, bytes: &[u8]) -> Result<Text, Memory>
+        requires { IsUtf8 bytes.now }
+        ensures { IfOk result (λ made. made ≡ bytes.now) }
+    {
+        Text::from_str(alloc, utf8_text(bytes))
     }
 
     /// The text of the string.

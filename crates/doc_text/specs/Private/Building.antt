@@ -5,8 +5,10 @@ use Rattle.doc_pieces.specs.Pieces.{Piece, Declaration, Start, Empty, End, Comme
 use Rattle.doc_text.specs.declared.builder.Frame.{Frame}
 use Rattle.doc_text.specs.declared.builder.Builder.{Builder}
 use Rattle.std.specs.List.{flat_map}
-use Rattle.doc_text.specs.Namespaces.{is_qname, is_long, is_unbound, prefix_of}
-use Rattle.doc_text.specs.Contexts.{Open, is_nil, scope, reason}
+use Rattle.doc_text.specs.Namespaces.{is_long, is_unbound}
+use Rattle.doc_pieces.specs.QNames.{prefix_of, is_qname}
+use Rattle.doc_text.specs.Contexts.{Open, scope, reason}
+use Rattle.xa_base.specs.Limits.{is_empty}
 use Rattle.doc_text.specs.Private.Entering.{have_utf8}
 use Rattle.doc_text.specs.Private.States.{Above, State, nothing, context, kids_of_state, closed, step}
 
@@ -63,7 +65,7 @@ pub record Flushed (old new : Builder) : Type 0 where
 -- the innermost element has ended
 pub record Shuts (old new : Builder) : Type 0 where
   pub steps : state new ≡ closed (state old).above (state old)
-  pub scoped : Scoped old → is_nil (state old).above ≡ false → Scoped new
+  pub scoped : Scoped old → is_empty (state old).above ≡ false → Scoped new
 
 -- what a piece gives to texts and values is UTF-8
 abbrev pub GivesUtf8 : Piece → Type 0

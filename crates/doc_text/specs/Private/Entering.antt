@@ -7,7 +7,8 @@ use Rattle.doc_text.specs.declared.tags.Head.{Head}
 use Rattle.doc_text.specs.declared.error.DocWhy.{DocWhy}
 use Rattle.doc_text.specs.declared.error.DocError.{DocError}
 use Rattle.doc_text.specs.declared.error.DocError.TheVariants as errors
-use Rattle.doc_text.specs.Namespaces.{is_qname, is_long, prefix_of, local_of, bindings_of, attributes_of, element_name}
+use Rattle.doc_text.specs.Namespaces.{is_long, bindings_of, attributes_of, element_name}
+use Rattle.doc_pieces.specs.QNames.{prefix_of, local_of, is_qname}
 use Rattle.doc_text.specs.Contexts.{tag_scope, start_reason}
 
 -- nothing speaks against the name, which has no prefix

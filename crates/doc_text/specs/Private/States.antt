@@ -7,7 +7,7 @@ use Rattle.doc_pieces.specs.Pieces.{Tag, Piece, Declaration, Start, Empty, End, 
 use Rattle.doc_text.specs.declared.label.ItemLabel.{ItemLabel}
 use Rattle.doc_text.specs.declared.label.ItemLabel.TheVariants.{Element, Text}
 use Rattle.doc_text.specs.Namespaces.{bindings_of, attributes_of, element_name}
-use Rattle.doc_text.specs.Contexts.{Context, Open, is_nil, scope, tag_scope, brackets_after}
+use Rattle.doc_text.specs.Contexts.{Context, Open, scope, tag_scope, brackets_after}
 
 -- an element that is open, with what stands before it beside it
 pub record Above : Type 0 where
@@ -81,7 +81,7 @@ emptied tag at s = record {
   kids = kids_of_state s ++ element_of (entering tag (scope (context s)) at []) [] ∷ [];
   text = [];
   text_at = s.text_at;
-  ended = is_nil s.above;
+  ended = is_empty s.above;
   first = false;
   brackets = 0;
 }
@@ -93,7 +93,7 @@ closed (a ∷ above) s = record {
   kids = a.before ++ element_of a (kids_of_state s) ∷ [];
   text = [];
   text_at = s.text_at;
-  ended = is_nil above;
+  ended = is_empty above;
   first = false;
   brackets = 0;
 }
@@ -118,7 +118,7 @@ abbrev pub left_out : ℕ → State → State
 left_out brackets s = record { above = s.above; kids = s.kids; text = s.text; text_at = s.text_at; ended = s.ended; first = false; brackets = brackets }
 
 abbrev pub added : List ℕ → ℕ → ℕ → State → State
-added text at brackets s = if is_nil s.above then left_out brackets s else written_on text at brackets s
+added text at brackets s = if is_empty s.above then left_out brackets s else written_on text at brackets s
 
 abbrev pub step : Piece → ℕ → State → State
 step Declaration at s = passed s

@@ -28,6 +28,6 @@ seen_all [] = none
 seen_all (p ∷ ps) = more (seen p) (seen_all ps)
 
 -- some members and those behind them, if each is there
-abbrev pub behind : Spaces → Option Spaces → Option Spaces
-behind front None = None
-behind front (Some rest) = Some (joined front rest)
+abbrev pub with_front : Spaces → Option Spaces → Option Spaces
+with_front front None = None
+with_front front (Some rest) = Some (joined front rest)

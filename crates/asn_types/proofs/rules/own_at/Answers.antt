@@ -4,7 +4,7 @@ use Rattle.label_tree.specs.Rose.{label_of}
 use Rattle.asn_types.specs.Marks.{has_list, has_use_union}
 use Rattle.asn_types.specs.Values.{IsSpelled, OwnAt}
 use Rattle.asn_types.proofs.Counting.{if_ok}
-use Rattle.asn_types.proofs.Judging.{list-own, union-own}
+use Rattle.asn_types.proofs.Judging.{list-own, union-own, list-simple, union-simple}
 use Rattle.asn_types.proofs.rules.own_at.Goals as goal
 
 pub returns-in-SequenceOf : goal.returns-in-SequenceOf
@@ -26,3 +26,13 @@ returns-in-Choice c =
     let marked = ap (λ l. has_use_union l.marks) (sym c.label-label.ensures) ∙ sym c.has_use_union.ensures ∙ c.if-has_use_union.true in
     let same = union-own m t v c.in-Choice.parts c.requires form marked in
     if_ok (λ b. IsTrue b ↔ IsSpelled t v) (λ b. IsTrue b ↔ OwnAt m (label_of t) t v) c.is_spelled-in-Choice.result (λ b is. ((λ yes. same.0 (is.0 yes)), (λ own. is.1 (same.1 own)))) c.is_spelled-in-Choice.ensures
+
+pub is_spelled-requires : goal.is_spelled-requires
+is_spelled-requires c =
+    let marked = ap (λ l. has_list l.marks) (sym c.label-label.ensures) ∙ sym c.has_list.ensures ∙ c.if-has_list.true in
+    list-simple c.args.module.now c.args.node.now c.requires marked
+
+pub is_spelled-requires-in-Choice : goal.is_spelled-requires-in-Choice
+is_spelled-requires-in-Choice c =
+    let marked = ap (λ l. has_use_union l.marks) (sym c.label-label.ensures) ∙ sym c.has_use_union.ensures ∙ c.if-has_use_union.true in
+    union-simple c.args.module.now c.args.node.now c.requires marked

@@ -39,8 +39,8 @@ list_at-returns t c =
     let is = list_space c.in_ok-item-2.item c.args.min c.args.max ∙ ap (λ s. ListOf (space_of s) c.args.min c.args.max) c.in_ok-item-2.ensures.ok in
     subst (λ s. Sound s × MapsTo s node) (sym is) ((found.0, sym c.has_list.ensures ∙ c.if-has_list.false, form), maps)
 
-pub members_at-simple_at-requires : goal.members_at-simple_at-requires
-members_at-simple_at-requires t c =
+pub members_at-find_simple-requires : goal.members_at-find_simple-requires
+members_at-find_simple-requires t c =
     let d = c.decreases in
     let k = kid-count-le c.args.kids.now c.kids.kid-index c.kid-item.result c.kids-test.true c.kid-item.is in
     (omega (arith, d, k), kid-well_formed c.args.module.now c.args.kids.now c.kids.kid-index c.kid-item.result c.kids-test.true c.kid-item.is c.requires)

@@ -5,8 +5,8 @@ use Rattle.simple_types.specs.Sound.{AreSound}
 use Rattle.asn_types.specs.Simples.{MapToEach}
 use Rattle.asn_types.proofs.simples.+simples.Given as goal
 
-abbrev pub decreases-simple_at : goal.decreases-simple_at
-decreases-simple_at l = 4 * node_count l.node.now + 2
+abbrev pub decreases-find_simple : goal.decreases-find_simple
+decreases-find_simple l = 4 * node_count l.node.now + 2
 
 abbrev pub decreases-list_at : goal.decreases-list_at
 decreases-list_at l = 4 * node_count l.node.now + 1

@@ -46,8 +46,8 @@ pieces-preserved c =
       scoped = c.in-Ok.ensures.ok.scoped;
     }
 
-pub text_of-requires : goal.text_of-requires
-text_of-requires c =
+pub utf8_text-requires : goal.utf8_text-requires
+utf8_text-requires c =
     let run : IsPlainRun (take c.plain_len-plain.result c.pieces.rest.now) = search rules in
     let same : c.split_at.result.0.now ≡ take c.plain_len-plain.result c.pieces.rest.now = search rules in
     rw same run.utf8
@@ -59,8 +59,8 @@ take-requires-clause-utf8 c =
 
 pub pieces-preserved-then-plain-gt0 : goal.pieces-preserved-then-plain-gt0
 pieces-preserved-then-plain-gt0 c = record {
-  stands = takes_plain c.args.bytes.now c.pieces.rest.now c.text_of.result.now c.split_at.result.1.now c.pieces.builder c.add.new.self c.plain_len-plain.result _ c.pieces.invariant.stands refl (search rules) (search rules) (search rules) (search rules) (search rules) (search rules) (search rules);
-  scoped = add_scoped c.pieces.builder c.add.new.self c.text_of.result.now _ 0 c.pieces.invariant.scoped c.in_ok-add.ensures.state c.in_ok-add.ensures.scope;
+  stands = takes_plain c.args.bytes.now c.pieces.rest.now c.utf8_text.result.now c.split_at.result.1.now c.pieces.builder c.add.new.self c.plain_len-plain.result _ c.pieces.invariant.stands refl (search rules) (search rules) (search rules) (search rules) (search rules) (search rules) (search rules);
+  scoped = add_scoped c.pieces.builder c.add.new.self c.utf8_text.result.now _ 0 c.pieces.invariant.scoped c.in_ok-add.ensures.state c.in_ok-add.ensures.scope;
 }
 
 pub seal-requires : goal.seal-requires

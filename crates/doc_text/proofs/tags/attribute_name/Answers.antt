@@ -1,5 +1,5 @@
 use Rattle.doc_text.proofs.Utf8.{local_utf8}
 use Rattle.doc_text.proofs.tags.attribute_name.Goals as goal
 
-pub text_of-requires : goal.text_of-requires
-text_of-requires c = rw c.local_of.ensures (local_utf8 c.args.written.now c.requires)
+pub from_utf8-requires : goal.from_utf8-requires
+from_utf8-requires c = rw c.local_of.ensures (local_utf8 c.args.written.now c.requires)

@@ -8,8 +8,8 @@ use Rattle.doc_text.proofs.tags.enter_plain.Goals as goal
 pub returns-in-Some-clause-err : goal.returns-in-Some-clause-err
 returns-in-Some-clause-err c = (refl, plain_reason (tag_seen c.args.tag.now) (reverse c.args.scope.now) c.args.ended c.args.depth c.requires.attributes c.requires.name ∙ (search rules))
 
-pub text_of-requires : goal.text_of-requires
-text_of-requires c = subst IsUtf8 c.requires.name.whole (local_utf8 c.args.tag.now.name.now c.requires.name.qname)
+pub from_utf8-requires : goal.from_utf8-requires
+from_utf8-requires c = subst IsUtf8 c.requires.name.whole (local_utf8 c.args.tag.now.name.now c.requires.name.qname)
 
 pub returns-clause-ok : goal.returns-clause-ok
 returns-clause-ok c = plain_enters (tag_seen c.args.tag.now) (reverse c.args.scope.now) c.args.ended c.args.depth _ c.requires.attributes c.requires.name (search rules)

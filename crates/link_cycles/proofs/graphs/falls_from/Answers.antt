@@ -1,5 +1,6 @@
 use Rattle.std.proofs.Common.{◌≡◌, arith, sym, ◌∙◌, subst}
-use Rattle.link_cycles.specs.Graphs.{rows_of, row, IsIn}
+use Rattle.link_cycles.specs.Graphs.{rows_of, row}
+use Rattle.xa_base.specs.Lists.{HasItem}
 use Rattle.link_cycles.proofs.Walks.{row_is}
 use Rattle.link_cycles.proofs.graphs.falls_from.Goals as goal
 
@@ -7,7 +8,7 @@ pub returns : goal.returns
 returns c = λ e b edge.
     let g = c.args.graph.now in
     let here : row (rows_of g) c.args.node ≡ c.deref.result.now = row_is g c.args.node c.index-graph-node.result c.requires c.index-graph-node.is ∙ sym c.deref.ensures.value in
-    let told = c.none_above.ensures e b (subst (λ ns. IsIn ns b) here edge) in
+    let told = c.none_above.ensures e b (subst (λ ns. HasItem ns b) here edge) in
     let rank = c.rank_of-rank.ensures in
     let some_rank = c.if-rank-eq0.false in
     omega (arith, told, rank, some_rank)

@@ -1,7 +1,7 @@
 use Rattle.std.proofs.Common.{◌≤◌, arith, take, get_or, inl, inr, subst}
 use Rattle.std.proofs.lemmas.List.{take_more}
-use Rattle.link_cycles.specs.Graphs.{IsIn}
-use Rattle.link_cycles.proofs.Walks.{in_parts}
+use Rattle.xa_base.specs.Lists.{HasItem}
+use Rattle.xa_base.proofs.Lists.{in_parts}
 use Rattle.link_cycles.proofs.graphs.none_above.Goals as goal
 
 pub nodes-preserved : goal.nodes-preserved
@@ -9,7 +9,7 @@ nodes-preserved c = λ b h.
     let ns = c.args.nodes.now in
     let i = c.nodes.node-index in
     let n = get_or ns i 0 in
-    elim (in_parts (take i ns) n b (subst (λ ms. IsIn ms b) (take_more ns i 0 c.nodes-test.true) h)) [
+    elim (in_parts (take i ns) n b (subst (λ ms. HasItem ms b) (take_more ns i 0 c.nodes-test.true) h)) [
       | inl k ↦ c.nodes.invariant b k
       | inr same ↦
           let told = c.rank_of.ensures in

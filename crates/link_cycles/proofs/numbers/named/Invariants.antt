@@ -1,13 +1,14 @@
 use Rattle.std.proofs.Common.{◌≡◌, ◌≤◌, length, drop}
 use Rattle.xa_base.specs.declared.texts.Name.{Name}
-use Rattle.link_cycles.specs.Cycles.{is_named, number_from}
+use Rattle.std.specs.List.{position_from}
+use Rattle.link_cycles.specs.Cycles.{is_named}
 use Rattle.link_cycles.specs.Seen.{definitions_of}
 use Rattle.link_cycles.specs.Tables.{named_in}
 use Rattle.link_cycles.proofs.numbers.named.Given as goal
 
 -- the table has those from this number on
 abbrev pub invariant-last_first : goal.invariant-last_first
-invariant-last_first l = (l.i ≤ length l.definitions) × ((a : Name) → named_in l.table a ≡ number_from l.i (is_named a) (definitions_of (drop l.i l.definitions)))
+invariant-last_first l = (l.i ≤ length l.definitions) × ((a : Name) → named_in l.table a ≡ position_from (is_named a) l.i (definitions_of (drop l.i l.definitions)))
 
 abbrev pub decreases-last_first : goal.decreases-last_first
 decreases-last_first l = l.i

@@ -6,7 +6,7 @@ use Rattle.simple_types.specs.Sound.{Sound}
 use Rattle.facet_rules.specs.Making.{AreEachSound}
 use Rattle.link_cycles.specs.Tables.{told_by}
 use Rattle.link_simple.specs.Making.{part_space, part_spaces, with_space}
-use Rattle.link_simple.specs.Private.Parts.{entries_of, seen, seen_all, behind}
+use Rattle.link_simple.specs.Private.Parts.{entries_of, seen, seen_all, with_front}
 use Rattle.facet_rules.proofs.Counting.{cut, past_end}
 use Rattle.link_simple.proofs.Lending.{part_behind, part_missing, all_behind, part_sound}
 use Rattle.link_simple.proofs.parts.parts_of.Goals as goal
@@ -23,9 +23,9 @@ bases-preserved c =
     let rest = part_spaces ns made file (bases_in (drop (i + 1) bs)) in
     let one : Some (seen p) ≡ part_space ns made file (base_of c.base-item.result) = sym (ap (option_map seen) c.in-Some.is) ∙ c.in_ok-part.ensures.space in
     let pushed = c.in_ok-push-in-Some.ensures.items in (
-      c.bases.invariant.0 ∙ ap (λ xs. behind (seen_all ps) (part_spaces ns made file (bases_in xs))) (cut bs i c.base-item.result c.bases-test.true c.base-item.is)
-          ∙ ap (λ o. behind (seen_all ps) (with_space o rest)) (sym one) ∙ part_behind ps p rest
-          ∙ ap (λ qs. behind (seen_all qs) rest) (sym pushed),
+      c.bases.invariant.0 ∙ ap (λ xs. with_front (seen_all ps) (part_spaces ns made file (bases_in xs))) (cut bs i c.base-item.result c.bases-test.true c.base-item.is)
+          ∙ ap (λ o. with_front (seen_all ps) (with_space o rest)) (sym one) ∙ part_behind ps p rest
+          ∙ ap (λ qs. with_front (seen_all qs) rest) (sym pushed),
       subst (λ qs. AreEachSound (seen_all qs)) (sym pushed)
           (part_sound ps p c.bases.invariant.1 (subst (λ o. IfSome o (λ q. Sound (seen q))) c.in-Some.is c.in_ok-part.ensures.sound)),
     )
@@ -41,8 +41,8 @@ returns-in-None-clause-spaces c =
     let rest = part_spaces ns made file (bases_in (drop (i + 1) bs)) in
     let none = sym (ap (option_map seen) c.in-None.is) ∙ c.in_ok-part.ensures.space in
     sym
-    (c.bases.invariant.0 ∙ ap (λ xs. behind (seen_all ps) (part_spaces ns made file (bases_in xs))) (cut bs i c.base-item.result c.bases-test.true c.base-item.is)
-    ∙ ap (λ o. behind (seen_all ps) (with_space o rest)) (sym none) ∙ part_missing (seen_all ps) rest)
+    (c.bases.invariant.0 ∙ ap (λ xs. with_front (seen_all ps) (part_spaces ns made file (bases_in xs))) (cut bs i c.base-item.result c.bases-test.true c.base-item.is)
+    ∙ ap (λ o. with_front (seen_all ps) (with_space o rest)) (sym none) ∙ part_missing (seen_all ps) rest)
 
 pub returns-clause-spaces : goal.returns-clause-spaces
 returns-clause-spaces c =
@@ -51,5 +51,5 @@ returns-clause-spaces c =
     let ps = c.bases.found.items in
     sym
     (c.bases.invariant.0
-    ∙ ap (λ xs. behind (seen_all ps) (part_spaces ns made c.args.file (bases_in xs))) (past_end c.args.bases.now c.bases.base-index c.bases-test.false)
+    ∙ ap (λ xs. with_front (seen_all ps) (part_spaces ns made c.args.file (bases_in xs))) (past_end c.args.bases.now c.bases.base-index c.bases-test.false)
     ∙ all_behind ps)

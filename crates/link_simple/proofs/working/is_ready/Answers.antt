@@ -1,5 +1,5 @@
 use Rattle.std.proofs.Common.{◌<◌, false, arith, length, sym, ◌∙◌, subst}
-use Rattle.link_cycles.specs.Graphs.{IsIn}
+use Rattle.xa_base.specs.Lists.{HasItem}
 use Rattle.link_cycles.proofs.Walks.{row_is}
 use Rattle.link_simple.proofs.Standing.{mark_read}
 use Rattle.link_simple.proofs.working.is_ready.Goals as goal
@@ -16,5 +16,5 @@ returns c =
       within,
       λ m edge.
           c.are_done.ensures e m
-          (subst (λ xs. IsIn xs m) (row_is g c.args.n c.index-graph-n.result node c.index-graph-n.is ∙ sym c.deref.ensures.value) edge),
+          (subst (λ xs. HasItem xs m) (row_is g c.args.n c.index-graph-n.result node c.index-graph-n.is ∙ sym c.deref.ensures.value) edge),
     )

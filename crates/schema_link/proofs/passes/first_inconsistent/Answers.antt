@@ -1,7 +1,7 @@
 use Rattle.std.proofs.Common.{map}
 use Rattle.schema_parts.specs.Documents.{doc_of}
 use Rattle.std.proofs.Common.{inl, inr}
-use Rattle.link_names.specs.Order.{HasFault}
+use Rattle.xa_base.specs.Lists.{HasItem}
 use Rattle.link_names.proofs.Firsts.{first_such, such_joined}
 use Rattle.link_complex.specs.Uses.{double_uses}
 use Rattle.link_complex.specs.ElementTypes.{Differs}
@@ -13,5 +13,5 @@ returns c =
     let docs = map doc_of c.args.docs.now in
     let double = c.in_ok-double.double in
     rw c.first_of.ensures
-    (such_joined (HasFault (double_uses docs)) (Differs docs) (IsFault docs Comparing) (λ f r. r) (λ f p. inl p) (λ f q. inr q) double c.in_ok-other.other
+    (such_joined (HasItem (double_uses docs)) (Differs docs) (IsFault docs Comparing) (λ f r. r) (λ f p. inl p) (λ f q. inr q) double c.in_ok-other.other
     (first_such (double_uses docs) double c.in_ok-double.ensures) c.in_ok-other.ensures)

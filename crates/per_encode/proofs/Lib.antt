@@ -1,0 +1,3 @@
+pub mod Puts
+pub mod Kids
+pub mod Bits

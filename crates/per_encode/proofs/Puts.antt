@@ -1,0 +1,111 @@
+-- What was put, one behind the other, and in fragments.
+use Rattle.std.proofs.Common.{◌≡◌, ℕ, ◌+◌, ◌-◌, ◌*◌, ◌%◌, ◌<◌, ◌≤◌, Bool, true, false, cond, ltb, List, [], ◌∷◌, ◌++◌, length, refl, sym, ap, ◌∙◌, arith, append_assoc, take, drop, Result, Ok, Err, map}
+use Rattle.std.specs.Prelude.{OnOk, ℤ}
+use Rattle.std.proofs.lemmas.List.{length-append, length-drop, drop-drop, length-replicate, append-nil, take_rest}
+use Rattle.bit_cursor.specs.Bits.{bits, gap, padding}
+use Rattle.bit_cursor.proofs.BitLemmas.{length-bits}
+use Rattle.per_fields.specs.Fields.{Writer, Piece, Last, Units, length_bits, counted_bits, in_turn, then_bits, units_of, large_bits, from_bits, signed_bits}
+use Rattle.per_fields.specs.Widths.{width_of, more_of, distance, more_signed, complement}
+use Rattle.per_fields.specs.Private.Heads.{head_bits, piece_bits}
+use Rattle.per_fields.proofs.Fragments.{map-length, map-take, map-drop}
+use Rattle.per_fields.proofs.FragmentSteps.{counted-last, counted-more}
+
+pub on_ok : {A E : Type 0} (r : Result A E) {P Q : Type 0} → (P → Q) → OnOk r P → OnOk r Q
+on_ok (Ok x) f h = f h
+on_ok (Err e) f h = tt
+
+pub then_put : (old mid new a b : List Bool) → mid ≡ old ++ a → new ≡ mid ++ b → new ≡ old ++ (a ++ b)
+then_put old mid new a b p q = q ∙ ap (λ m. m ++ b) p ∙ append_assoc old a b
+
+pub then_written : (old mid new a : List Bool) (w : Writer) → mid ≡ old ++ a → new ≡ mid ++ w (length mid) → new ≡ old ++ then_bits a w (length old)
+then_written old mid new a w p q =
+    let l : length mid ≡ length old + length a = ap length p ∙ length-append old a in
+    then_put old mid new a (w (length mid)) p q ∙ ap (λ n. old ++ (a ++ w n)) l
+
+-- behind padding an octet begins
+pub padded_length : (old mid : List Bool) → mid ≡ old ++ padding (length old) → length mid % 8 ≡ 0
+padded_length old mid e = omega (arith, ap length e, length-append old (padding (length old)), length-replicate (gap (length old)) false)
+
+-- and behind a length too
+piece_whole : (h : Piece) → length (piece_bits h) % 8 ≡ 0
+piece_whole (Units k) = omega (arith, length-bits 8 (192 + k))
+piece_whole (Last n) = by (ltb n 128)
+  where
+    by : (b : Bool) → length (cond b (bits 8 n) (bits 16 (32768 + n))) % 8 ≡ 0
+    by true = omega (arith, length-bits 8 n)
+    by false = omega (arith, length-bits 16 (32768 + n))
+
+pub head_whole : (old mid : List Bool) (h : Piece) → mid ≡ old ++ head_bits h (length old) → length mid % 8 ≡ 0
+head_whole old mid h e =
+    omega (arith, ap length e, length-append old (padding (length old) ++ piece_bits h), length-append (padding (length old)) (piece_bits h), length-replicate (gap (length old)) false, piece_whole h)
+
+-- the first of what is left was put
+pub turn_taken : (old sink new : List Bool) (w : Writer) (ws : List Writer) → sink ++ in_turn (w ∷ ws) (length sink) ≡ old → new ≡ sink ++ w (length sink) → new ++ in_turn ws (length new) ≡ old
+unfolding in_turn
+turn_taken old sink new w ws so_far put = then_written sink new (new ++ in_turn ws (length new)) (w (length sink)) (in_turn ws) put refl ∙ so_far
+
+-- nothing is left
+pub nothing_left : (sink : List Bool) (p : ℕ) → sink ++ in_turn [] p ≡ sink
+unfolding in_turn
+nothing_left sink p = append-nil sink
+
+-- a fragment was put: what is left behind it makes the whole
+pub fragment_put : {A : Type 0} (f : A → Writer) (xs : List A) (at k : ℕ) (old sink mid new : List Bool) → 16384 ≤ length xs - at → units_of (length xs - at) ≡ k
+    → mid ≡ sink ++ head_bits (Units k) (length sink) → new ≡ mid ++ in_turn (map f (take (at + k * 16384 - at) (drop at xs))) (length mid)
+    → sink ++ counted_bits (map f (drop at xs)) (length sink) ≡ old → new ++ counted_bits (map f (drop (at + k * 16384) xs)) (length new) ≡ old
+fragment_put f xs at k old sink mid new long is head items so_far =
+    let ys = drop at xs in
+    let ws = map f ys in
+    let p = length sink in
+    let m : length ws ≡ length xs - at = map-length f ys ∙ length-drop at xs in
+    let z : at + k * 16384 - at ≡ k * 16384 = omega arith in
+    let us = take (k * 16384) ws in
+    let rest = map f (drop (at + k * 16384) xs) in
+    let whole = new ++ counted_bits rest (length new) in
+    let first : new ≡ mid ++ in_turn us (length mid) =
+    items ∙ ap (λ j. mid ++ in_turn (map f (take j ys)) (length mid)) z ∙ ap (λ vs. mid ++ in_turn vs (length mid)) (sym (map-take f (k * 16384) ys)) in
+    let d : rest ≡ drop (k * 16384) ws = ap (map f) (sym (drop-drop (k * 16384) at xs)) ∙ sym (map-drop f (k * 16384) ys) in
+    let behind : whole ≡ mid ++ then_bits (in_turn us (length mid)) (counted_bits rest) (length mid) = then_written mid new whole (in_turn us (length mid)) (counted_bits rest) first refl in
+    then_written sink mid whole (head_bits (Units k) p) (λ r. then_bits (in_turn us r) (counted_bits rest) r) head behind
+    ∙ ap (λ vs. sink ++ then_bits (head_bits (Units k) p) (λ r. then_bits (in_turn us r) (counted_bits vs) r) p) d
+    ∙ ap (λ bs. sink ++ bs) (sym (counted-more ws p k (omega (arith, long, m)) (ap units_of m ∙ is))) ∙ so_far
+
+-- the last length and what stands behind it were put
+pub last_put : {A : Type 0} (f : A → Writer) (xs : List A) (at : ℕ) (old sink mid new : List Bool) → length xs - at < 16384
+    → sink ++ counted_bits (map f (drop at xs)) (length sink) ≡ old → mid ≡ sink ++ head_bits (Last (length xs - at)) (length sink)
+    → new ≡ mid ++ in_turn (map f (take (length xs - at) (drop at xs))) (length mid) → new ≡ old
+last_put f xs at old sink mid new short so_far head put =
+    let items : new ≡ mid ++ in_turn (map f (drop at xs)) (length mid) = put ∙ ap (λ ys. mid ++ in_turn (map f ys) (length mid)) (take_rest xs at) in
+    let ws = map f (drop at xs) in
+    let p = length sink in
+    let m : length ws ≡ length xs - at = map-length f (drop at xs) ∙ length-drop at xs in
+    then_written sink mid new (head_bits (Last (length xs - at)) p) (in_turn ws) head items
+    ∙ ap (λ n. sink ++ then_bits (head_bits (Last n) p) (in_turn ws) p) (sym m)
+    ∙ ap (λ bs. sink ++ bs) (sym (counted-last ws p (omega (arith, short, m)))) ∙ so_far
+
+-- octets behind their length
+pub counted_put : (old a b new head octets : List Bool) → a ≡ old ++ padding (length old) → b ≡ a ++ head → new ≡ b ++ octets → new ≡ old ++ (padding (length old) ++ (head ++ octets))
+counted_put old a b new head octets e f g = then_put old a new (padding (length old)) (head ++ octets) e (then_put a b new head octets f g)
+
+-- a number behind its octet count
+pub large_put : (top x : ℕ) (old mid new : List Bool) → mid ≡ old ++ bits (width_of (more_of top)) (more_of x)
+    → new ≡ mid ++ (padding (length mid) ++ bits (8 * (more_of x + 1)) x) → new ≡ old ++ large_bits top x (length old)
+unfolding large_bits
+large_put top x old mid new p q = then_written old mid new (bits (width_of (more_of top)) (more_of x)) (λ r. then_bits (padding r) (λ s. bits (8 * (more_of x + 1)) x) r) p q
+
+-- a number from a least one, and one with its sign
+pub from_put : (least z : ℤ) (x behind : ℕ) (old a b new : List Bool) → x ≡ distance least z → behind ≡ more_of x → a ≡ old ++ padding (length old) → b ≡ a ++ length_bits (behind + 1)
+    → new ≡ b ++ bits (8 * (behind + 1)) x → new ≡ old ++ from_bits least z (length old)
+unfolding from_bits
+from_put least z x behind old a b new is octets e f g =
+    counted_put old a b new (length_bits (behind + 1)) (bits (8 * (behind + 1)) x) e f g
+    ∙ ap (λ k. old ++ (padding (length old) ++ (length_bits (k + 1) ++ bits (8 * (k + 1)) x))) octets
+    ∙ ap (λ y. old ++ (padding (length old) ++ (length_bits (more_of y + 1) ++ bits (8 * (more_of y + 1)) y))) is
+
+pub signed_put : (z : ℤ) (behind x : ℕ) (old a b new : List Bool) → behind ≡ more_signed z → x ≡ complement (8 * (behind + 1)) z → a ≡ old ++ padding (length old)
+    → b ≡ a ++ length_bits (behind + 1) → new ≡ b ++ bits (8 * (behind + 1)) x → new ≡ old ++ signed_bits z (length old)
+unfolding signed_bits
+signed_put z behind x old a b new octets is e f g =
+    counted_put old a b new (length_bits (behind + 1)) (bits (8 * (behind + 1)) x) e f g
+    ∙ ap (λ y. old ++ (padding (length old) ++ (length_bits (behind + 1) ++ bits (8 * (behind + 1)) y))) is
+    ∙ ap (λ k. old ++ (padding (length old) ++ (length_bits (k + 1) ++ bits (8 * (k + 1)) (complement (8 * (k + 1)) z)))) octets

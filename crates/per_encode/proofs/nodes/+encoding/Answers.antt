@@ -1,0 +1,366 @@
+use Rattle.std.proofs.Common.{rules, ◌≡◌, ◌++◌, ◌+◌, ◌-◌, ◌*◌, ◌∷◌, length, map, drop, leb, sym, ap, ◌∙◌, subst, arith, FitsSigned}
+use Rattle.std.specs.Int.{w128}
+use Rattle.std.proofs.lemmas.Int.{to_z-of_z}
+use Rattle.std.proofs.lemmas.Bool.{leb-true}
+use Rattle.std.proofs.lemmas.Option.{slice_get_within}
+use Rattle.bit_cursor.specs.Bits.{bits}
+use Rattle.label_tree.specs.Rose.{kids_of}
+use Rattle.label_tree.proofs.Roses.{node_count-kids}
+use Rattle.label_tree.proofs.Kids.{kid-count-le, count_all-take-le, count_all-drop-le, node_count-got}
+use Rattle.simple_types.specs.declared.labels.ValueLabel.TheVariants as value
+use Rattle.simple_values.specs.Lexical.{is_at_most}
+use Rattle.asn_types.specs.declared.types.Form.TheVariants as form
+use Rattle.asn_types.proofs.Counting.{drop-past}
+use Rattle.per_fields.specs.Fields.{in_turn, number_bits, whole_bits, counted_bits, list_bits}
+use Rattle.per_fields.specs.Encoding.{octet_writer, flag_bits, per}
+use Rattle.per_encode.specs.Private.Kids.{FitsSomewhere, AllFit, KidsFit, chosen, writers, resolved_bits}
+use Rattle.per_encode.proofs.Puts.{on_ok, then_written, turn_taken, nothing_left, fragment_put, last_put}
+use Rattle.per_encode.proofs.Bits.{one_bit}
+use Rattle.per_encode.proofs.Kids.{left_first, first_fits, left_present, left_absent, kid_left, kid_first, none_left, kids_fit, per-resolved, all_of-take, all_of-drop, both, Is, bool-bits, int-bits, number-bits, word-bits, text-bits, sequence_here, sequence-bits, choice_here, choice_kid, choice-bits, list_here, list_item, list-bits}
+use Rattle.per_encode.proofs.nodes.+encoding.Goals as goal
+use Rattle.per_encode.proofs.nodes.+encoding.Goals.{put_parts-then-present-i+in_ok-put_node, put_parts-else-present-i}
+
+pub put_items-put_node-requires : goal.put_items-put_node-requires
+put_items-put_node-requires t c =
+    let M = c.args.module.now in
+    let node = c.args.node.now in
+    let vs = c.args.values.now in
+    let i = c.items.value-index in
+    let v = c.value-item.result in
+    let d = c.decreases in
+    let k = kid-count-le vs i v c.items-test.true c.value-item.is in
+    (omega (arith, d, k), (first_fits (FitsSomewhere M node) (drop i vs) (drop (i + 1) vs) v (left_first vs i v c.items-test.true c.value-item.is) c.items.invariant.fit).0)
+
+pub put_items-items-preserved : goal.put_items-items-preserved
+put_items-items-preserved t c =
+    let M = c.args.module.now in
+    let node = c.args.node.now in
+    let vs = c.args.values.now in
+    let i = c.items.value-index in
+    let v = c.value-item.result in
+    let sink = c.items.sink in
+    let next = left_first vs i v c.items-test.true c.value-item.is in
+    record {
+      fit = (first_fits (FitsSomewhere M node) (drop i vs) (drop (i + 1) vs) v next c.items.invariant.fit).1;
+      whole = turn_taken (c.args.sink.now ++ in_turn (map (per M node) vs) (length c.args.sink.now)) sink c.put_node.new.sink (per M node v) (map (per M node) (drop (i + 1) vs))
+          (sym (ap (λ xs. sink ++ in_turn (map (per M node) xs) (length sink)) next) ∙ c.items.invariant.whole) c.in_ok-put_node.ensures;
+    }
+
+pub put_items-returns : goal.put_items-returns
+put_items-returns t c =
+    let M = c.args.module.now in
+    let node = c.args.node.now in
+    let vs = c.args.values.now in
+    let i = c.items.value-index in
+    let sink = c.items.sink in
+    sym (nothing_left sink (length sink)) ∙ sym (ap (λ xs. sink ++ in_turn (map (per M node) xs) (length sink)) (drop-past i vs c.items-test.false)) ∙ c.items.invariant.whole
+
+pub put_node-put_content-requires : goal.put_node-put_content-requires
+put_node-put_content-requires t c =
+    let d = c.decreases in
+    (omega (arith, d), subst (λ u. KidsFit c.args.module.now u c.args.value.now) (sym c.resolve.ensures) (kids_fit c.args.module.now c.args.node.now c.args.value.now c.requires))
+
+pub put_fragments-put_items-requires : goal.put_fragments-put_items-requires
+put_fragments-put_items-requires t c =
+    let P = FitsSomewhere c.args.module.now c.args.node.now in
+    let vs = c.args.values.now in
+    let at = c.fragments.at in
+    let n = at + c.min-units.result * 16384 - at in
+    let d = c.decreases in
+    (omega (arith, d, count_all-take-le (drop at vs) n, count_all-drop-le vs at), all_of-take P (drop at vs) n (all_of-drop P vs at c.requires))
+
+pub put_fragments-fragments-preserved : goal.put_fragments-fragments-preserved
+put_fragments-fragments-preserved t c =
+    let f = per c.args.module.now c.args.node.now in
+    let vs = c.args.values.now in
+    let old = c.args.sink.now ++ counted_bits (map f vs) (length c.args.sink.now) in
+    record {
+      inside = omega (arith, c.min-units.ensures, c.fragments-test.true);
+      whole = fragment_put f vs c.fragments.at c.min-units.result old c.fragments.sink c.put_units.new.sink c.put_items.new.sink c.fragments-test.true (omega (arith, c.min-units.ensures))
+          c.in_ok-put_units.ensures c.in_ok-put_items.ensures c.fragments.invariant.whole;
+    }
+
+pub put_fragments-put_items-requires-2 : goal.put_fragments-put_items-requires-2
+put_fragments-put_items-requires-2 t c =
+    let P = FitsSomewhere c.args.module.now c.args.node.now in
+    let vs = c.args.values.now in
+    let at = c.fragments.at in
+    let n = length vs - at in
+    let d = c.decreases in
+    (omega (arith, d, count_all-take-le (drop at vs) n, count_all-drop-le vs at), all_of-take P (drop at vs) n (all_of-drop P vs at c.requires))
+
+pub put_fragments-returns : goal.put_fragments-returns
+put_fragments-returns t c =
+    let f = per c.args.module.now c.args.node.now in
+    let vs = c.args.values.now in
+    let old = c.args.sink.now ++ counted_bits (map f vs) (length c.args.sink.now) in
+    on_ok c.put_items-2.result
+    (λ e. last_put f vs c.fragments.at old c.fragments.sink c.put_last_length.new.sink c.put_items-2.new.sink (omega (arith, c.fragments-test.false)) c.fragments.invariant.whole
+    c.in_ok-put_last_length.ensures e)
+    c.put_items-2.ensures
+
+pub put_node-returns : goal.put_node-returns
+put_node-returns t c =
+    let M = c.args.module.now in
+    let v = c.args.value.now in
+    let sink = c.args.sink.now in
+    on_ok c.put_content.result
+    (λ e. e ∙ ap (λ u. sink ++ resolved_bits M u v (length sink)) c.resolve.ensures ∙ ap (λ bs. sink ++ bs) (sym (per-resolved M c.args.node.now v (length sink))))
+    c.put_content.ensures
+
+pub put_content-put_flags-requires : goal.put_content-put_flags-requires
+put_content-put_flags-requires t c =
+    let M = c.args.module.now in
+    let u = c.args.node.now in
+    let v = c.args.value.now in
+    let parts = c.in-Sequence.parts in
+    let flags = c.in-Sequence-label.present in
+    let is : Is M u v (form.Sequence parts) (value.Sequence flags) = (ap (λ l. l.form) (sym c.label.ensures) ∙ c.in-Sequence.is, sym c.label-label.ensures ∙ c.in-Sequence-label.is) in
+    ap length c.items-components.ensures ∙ (sequence_here M u v parts flags is c.requires).counted ∙ sym (ap length c.items-present.ensures)
+
+pub put_content-put_parts-requires : goal.put_content-put_parts-requires
+put_content-put_parts-requires t c =
+    let M = c.args.module.now in
+    let u = c.args.node.now in
+    let v = c.args.value.now in
+    let parts = c.in-Sequence.parts in
+    let flags = c.in-Sequence-label.present in
+    let is : Is M u v (form.Sequence parts) (value.Sequence flags) = (ap (λ l. l.form) (sym c.label.ensures) ∙ c.in-Sequence.is, sym c.label-label.ensures ∙ c.in-Sequence-label.is) in
+    let s = sequence_here M u v parts flags is c.requires in
+    let d = c.decreases in
+    let n = node_count-kids v in (
+      rw c.kids-values.ensures (omega (arith, d, n)),
+      (rw (c.items-present.ensures, c.kids-types.ensures) s.typed, rw (c.items-present.ensures, c.kids-types.ensures, c.kids-values.ensures) s.fit),
+    )
+
+pub put_content-put_index-requires-in-Choice-label : goal.put_content-put_index-requires-in-Choice-label
+put_content-put_index-requires-in-Choice-label t c =
+    let M = c.args.module.now in
+    let u = c.args.node.now in
+    let v = c.args.value.now in
+    let parts = c.in-Choice.parts in
+    let i = c.in-Choice-label.i in
+    let is : Is M u v (form.Choice parts) (value.Choice i) = (ap (λ l. l.form) (sym c.label.ensures) ∙ c.in-Choice.is, sym c.label-label.ensures ∙ c.in-Choice-label.is) in
+    let h = choice_here M u v parts i is c.requires in
+    rw c.items-alternatives.ensures (slice_get_within parts i h.part h.part_is)
+
+pub put_content-kid-alternative-requires : goal.put_content-kid-alternative-requires
+put_content-kid-alternative-requires t c =
+    let M = c.args.module.now in
+    let u = c.args.node.now in
+    let v = c.args.value.now in
+    let parts = c.in-Choice.parts in
+    let i = c.in-Choice-label.i in
+    let is : Is M u v (form.Choice parts) (value.Choice i) = (ap (λ l. l.form) (sym c.label.ensures) ∙ c.in-Choice.is, sym c.label-label.ensures ∙ c.in-Choice-label.is) in
+    let h = choice_here M u v parts i is c.requires in
+    slice_get_within (kids_of u) i h.type h.type_is
+
+pub put_content-put_node-requires : goal.put_content-put_node-requires
+put_content-put_node-requires t c =
+    let M = c.args.module.now in
+    let u = c.args.node.now in
+    let v = c.args.value.now in
+    let parts = c.in-Choice.parts in
+    let i = c.in-Choice-label.i in
+    let is : Is M u v (form.Choice parts) (value.Choice i) = (ap (λ l. l.form) (sym c.label.ensures) ∙ c.in-Choice.is, sym c.label-label.ensures ∙ c.in-Choice-label.is) in
+    let d = c.decreases in
+    let n = node_count-got v 0 c.kid-inner.result.now c.kid-inner.ensures in
+    (omega (arith, d, n), (choice_kid M u v parts i c.kid-alternative.result.now c.kid-inner.result.now (choice_here M u v parts i is c.requires) c.kid-alternative.ensures c.kid-inner.ensures).0)
+
+pub put_content-put_list-requires : goal.put_content-put_list-requires
+put_content-put_list-requires t c =
+    let M = c.args.module.now in
+    let u = c.args.node.now in
+    let v = c.args.value.now in
+    let part = c.in-SequenceOf.part in
+    let least = c.in-SequenceOf.min in
+    let most = c.in-SequenceOf.max in
+    let is : Is M u v (form.SequenceOf part least most) value.SequenceOf = (ap (λ l. l.form) (sym c.label.ensures) ∙ c.in-SequenceOf.is, sym c.label-label.ensures ∙ c.in-SequenceOf-label.is) in
+    let l = list_here M u v part least most is c.requires in
+    let size = both (leb least (length (kids_of v))) (is_at_most (length (kids_of v)) most) l.size in
+    let d = c.decreases in
+    let n = node_count-kids v in (
+      rw c.kids-items.ensures (omega (arith, d, n)),
+      (
+        rw c.kids-items.ensures (leb-true least (length (kids_of v)) size.0),
+        (rw c.kids-items.ensures size.1, rw c.kids-items.ensures (list_item M u v part least most c.kid-item.result.now l c.kid-item.ensures)),
+      ),
+    )
+
+pub put_content-returns-in-Bool-label : goal.put_content-returns-in-Bool-label
+put_content-returns-in-Bool-label t c =
+    let M = c.args.module.now in
+    let u = c.args.node.now in
+    let v = c.args.value.now in
+    let b = c.in-Bool-label.b in
+    let is : Is M u v form.Bool (value.Bool b) = (ap (λ l. l.form) (sym c.label.ensures) ∙ c.in-Bool.is, sym c.label-label.ensures ∙ c.in-Bool-label.is) in
+    let sink = c.args.sink.now in
+    let p = length sink in
+    on_ok c.put_bits.result (λ e. e ∙ ap (λ bs. sink ++ bs) (ap (bits 1) c.from.ensures ∙ one_bit b ∙ sym (bool-bits M u v b is p))) c.put_bits.ensures.ok
+
+pub put_content-returns-in-Int-label : goal.put_content-returns-in-Int-label
+put_content-returns-in-Int-label t c =
+    let M = c.args.module.now in
+    let u = c.args.node.now in
+    let v = c.args.value.now in
+    let z = c.in-Int-label.number in
+    let is : Is M u v (form.Int c.in-Int.lo c.in-Int.hi) (value.Int z) = (ap (λ l. l.form) (sym c.label.ensures) ∙ c.in-Int.is, sym c.label-label.ensures ∙ c.in-Int-label.is) in
+    let f : FitsSigned w128 z = search rules in
+    let sink = c.args.sink.now in
+    let p = length sink in
+    on_ok c.put_whole.result (λ e. subst (λ n. c.put_whole.new.sink ≡ sink ++ whole_bits c.in-Int.lo c.in-Int.hi n p) (to_z-of_z w128 z f) e ∙ ap (λ bs. sink ++ bs) (sym (int-bits M u v c.in-Int.lo c.in-Int.hi z is p))) c.put_whole.ensures
+
+pub put_content-returns-in-Enum : goal.put_content-returns-in-Enum
+put_content-returns-in-Enum t c =
+    let M = c.args.module.now in
+    let u = c.args.node.now in
+    let v = c.args.value.now in
+    let i = c.in-Enum.i in
+    let is : Is M u v (form.Numbers c.in-Numbers.numbers) (value.Enum i) = (ap (λ l. l.form) (sym c.label.ensures) ∙ c.in-Numbers.is, sym c.label-label.ensures ∙ c.in-Enum.is) in
+    let sink = c.args.sink.now in
+    let p = length sink in
+    on_ok c.put_index.result (λ e. e ∙ ap (λ xs. sink ++ number_bits (length xs - 1) i p) c.items.ensures ∙ ap (λ bs. sink ++ bs) (sym (number-bits M u v c.in-Numbers.numbers i is p))) c.put_index.ensures
+
+pub put_content-returns-in-Enum-label : goal.put_content-returns-in-Enum-label
+put_content-returns-in-Enum-label t c =
+    let M = c.args.module.now in
+    let u = c.args.node.now in
+    let v = c.args.value.now in
+    let i = c.in-Enum-label.i in
+    let is : Is M u v (form.Words c.in-Words.identifiers c.in-Words.words) (value.Enum i) = (ap (λ l. l.form) (sym c.label.ensures) ∙ c.in-Words.is, sym c.label-label.ensures ∙ c.in-Enum-label.is) in
+    let sink = c.args.sink.now in
+    let p = length sink in
+    on_ok c.put_index-in-Enum-label.result (λ e. e ∙ ap (λ xs. sink ++ number_bits (length xs - 1) i p) c.items-in-Enum-label.ensures ∙ ap (λ bs. sink ++ bs) (sym (word-bits M u v c.in-Words.identifiers c.in-Words.words i is p))) c.put_index-in-Enum-label.ensures
+
+pub put_content-returns-in-Utf8-label : goal.put_content-returns-in-Utf8-label
+put_content-returns-in-Utf8-label t c =
+    let M = c.args.module.now in
+    let u = c.args.node.now in
+    let v = c.args.value.now in
+    let text = c.in-Utf8-label.text in
+    let is : Is M u v (form.Utf8 c.in-Utf8.min c.in-Utf8.max c.in-Utf8.class) (value.Utf8 text) = (ap (λ l. l.form) (sym c.label.ensures) ∙ c.in-Utf8.is, sym c.label-label.ensures ∙ c.in-Utf8-label.is) in
+    let sink = c.args.sink.now in
+    let p = length sink in
+    on_ok c.put_text.result (λ e. e ∙ ap (λ xs. sink ++ counted_bits (map octet_writer xs) p) c.bytes.ensures.bytes ∙ ap (λ bs. sink ++ bs) (sym (text-bits M u v c.in-Utf8.min c.in-Utf8.max c.in-Utf8.class text is p))) c.put_text.ensures
+
+pub put_content-returns-in_ok-put_flags-in-Sequence-label : goal.put_content-returns-in_ok-put_flags-in-Sequence-label
+put_content-returns-in_ok-put_flags-in-Sequence-label t c =
+    let M = c.args.module.now in
+    let u = c.args.node.now in
+    let v = c.args.value.now in
+    let parts = c.in-Sequence.parts in
+    let flags = c.in-Sequence-label.present in
+    let is : Is M u v (form.Sequence parts) (value.Sequence flags) = (ap (λ l. l.form) (sym c.label.ensures) ∙ c.in-Sequence.is, sym c.label-label.ensures ∙ c.in-Sequence-label.is) in
+    let mid = c.put_flags.new.sink in
+    let put : mid ≡ c.args.sink.now ++ flag_bits parts flags =
+    c.in_ok-put_flags-in-Sequence-label.ensures ∙ ap (λ cs. c.args.sink.now ++ flag_bits cs c.items-present.result.now) c.items-components.ensures
+    ∙ ap (λ fs. c.args.sink.now ++ flag_bits parts fs) c.items-present.ensures in
+    let kept : chosen c.kids-types.result.now c.items-present.result.now ≡ chosen (kids_of u) flags =
+    ap (λ ts. chosen ts c.items-present.result.now) c.kids-types.ensures ∙ ap (λ fs. chosen (kids_of u) fs) c.items-present.ensures in
+    let sink = c.args.sink.now in
+    let p = length sink in
+    on_ok c.put_parts.result (λ e. then_written sink mid c.put_parts.new.sink (flag_bits parts flags) (in_turn (writers M (chosen (kids_of u) flags) (kids_of v))) put
+    (e ∙ ap (λ ts. mid ++ in_turn (writers M ts c.kids-values.result.now) (length mid)) kept ∙ ap (λ vs. mid ++ in_turn (writers M (chosen (kids_of u) flags) vs) (length mid)) c.kids-values.ensures)
+    ∙ ap (λ bs. sink ++ bs) (sym (sequence-bits M u v parts flags is c.requires p))) c.put_parts.ensures
+
+pub put_content-returns-in_ok-put_index-in-Choice-label : goal.put_content-returns-in_ok-put_index-in-Choice-label
+put_content-returns-in_ok-put_index-in-Choice-label t c =
+    let M = c.args.module.now in
+    let u = c.args.node.now in
+    let v = c.args.value.now in
+    let parts = c.in-Choice.parts in
+    let i = c.in-Choice-label.i in
+    let is : Is M u v (form.Choice parts) (value.Choice i) = (ap (λ l. l.form) (sym c.label.ensures) ∙ c.in-Choice.is, sym c.label-label.ensures ∙ c.in-Choice-label.is) in
+    let mid = c.put_index-in-Choice-label.new.sink in
+    let a = c.kid-alternative.result.now in
+    let w = c.kid-inner.result.now in
+    let n = number_bits (length parts - 1) i (length c.args.sink.now) in
+    let put : mid ≡ c.args.sink.now ++ n = c.in_ok-put_index-in-Choice-label.ensures ∙ ap (λ cs. c.args.sink.now ++ number_bits (length cs - 1) i (length c.args.sink.now)) c.items-alternatives.ensures in
+    let sink = c.args.sink.now in
+    let p = length sink in
+    on_ok c.put_node.result (λ e. then_written sink mid c.put_node.new.sink n (per M a w) put e ∙ ap (λ bs. sink ++ bs) (sym (choice-bits M u v parts i a w is c.requires c.kid-alternative.ensures c.kid-inner.ensures p))) c.put_node.ensures
+
+pub put_content-returns-in-SequenceOf-label : goal.put_content-returns-in-SequenceOf-label
+put_content-returns-in-SequenceOf-label t c =
+    let M = c.args.module.now in
+    let u = c.args.node.now in
+    let v = c.args.value.now in
+    let part = c.in-SequenceOf.part in
+    let least = c.in-SequenceOf.min in
+    let most = c.in-SequenceOf.max in
+    let is : Is M u v (form.SequenceOf part least most) value.SequenceOf = (ap (λ l. l.form) (sym c.label.ensures) ∙ c.in-SequenceOf.is, sym c.label-label.ensures ∙ c.in-SequenceOf-label.is) in
+    let item = c.kid-item.result.now in
+    let sink = c.args.sink.now in
+    let p = length sink in
+    on_ok c.put_list.result (λ e. e ∙ ap (λ vs. sink ++ list_bits least most (map (per M item) vs) p) c.kids-items.ensures ∙ ap (λ bs. sink ++ bs) (sym (list-bits M u v part least most item is c.requires c.kid-item.ensures p))) c.put_list.ensures
+
+pub put_parts-put_node-requires : goal.put_parts-put_node-requires
+put_parts-put_node-requires t c =
+    let M = c.args.module.now in
+    let ts = c.args.types.now in
+    let flags = c.args.present.now in
+    let vs = c.args.values.now in
+    let i = c.parts.i in
+    let next = c.parts.next in
+    let a = c.index-types-i.result in
+    let w = c.index-values-next.result in
+    let rest = chosen (drop (i + 1) ts) (drop (i + 1) flags) in
+    let here = left_present ts flags i c.parts-test.true a (omega (arith, c.parts-test.true, c.requires.types)) c.index-types-i.is c.if-present-i.true in
+    let fit = subst (λ us. AllFit M us (drop next vs)) here c.parts.invariant.fit in
+    let within = kid_left M a rest vs next fit in
+    let first = left_first vs next w within c.index-values-next.is in
+    let d = c.decreases in
+    let k = kid-count-le vs next w within c.index-values-next.is in
+    (omega (arith, d, k), (kid_first M a rest (drop next vs) (drop (next + 1) vs) w first fit).0)
+
+pub put_parts-parts-preserved : goal.put_parts-parts-preserved
+put_parts-parts-preserved t c =
+    let M = c.args.module.now in
+    let ts = c.args.types.now in
+    let flags = c.args.present.now in
+    let vs = c.args.values.now in
+    let i = c.parts.i in
+    let next = c.parts.next in
+    let sink = c.parts.sink in
+    let rest = chosen (drop (i + 1) ts) (drop (i + 1) flags) in
+    let old = c.args.sink.now ++ in_turn (writers M (chosen ts flags) vs) (length c.args.sink.now) in
+    let sink' = c.if-present-i.sink in
+    let next' = c.if-present-i.next in
+    elim c.if-present-i.branch [
+      | put_parts-then-present-i+in_ok-put_node b ↦ (
+          let a = b.index-types-i.result in
+          let w = b.index-values-next.result in
+          let here = left_present ts flags i c.parts-test.true a (omega (arith, c.parts-test.true, c.requires.types)) b.index-types-i.is b.if-present-i.true in
+          let fit = subst (λ us. AllFit M us (drop next vs)) here c.parts.invariant.fit in
+          let within = kid_left M a rest vs next fit in
+          let first = left_first vs next w within b.index-values-next.is in
+          let others = (kid_first M a rest (drop next vs) (drop (next + 1) vs) w first fit).1 in
+          let now : sink ++ in_turn (per M a w ∷ writers M rest (drop (next + 1) vs)) (length sink) ≡ old =
+          sym (ap (λ us. sink ++ in_turn (writers M us (drop next vs)) (length sink)) here ∙ ap (λ ws. sink ++ in_turn (writers M (a ∷ rest) ws) (length sink)) first) ∙ c.parts.invariant.whole in
+          let new = b.put_node.new.sink in
+          let put = turn_taken old sink new (per M a w) (writers M rest (drop (next + 1) vs)) now b.in_ok-put_node.ensures in
+          record {
+            fit = subst (λ j. AllFit M rest (drop j vs)) (sym b.next-is) others;
+            whole = subst (λ s. s ++ in_turn (writers M rest (drop next' vs)) (length s) ≡ old) (sym b.sink-is)
+                (subst (λ j. new ++ in_turn (writers M rest (drop j vs)) (length new) ≡ old) (sym b.next-is) put);
+          })
+      | put_parts-else-present-i b ↦ (
+          let here = left_absent ts flags i c.parts-test.true c.requires.types b.if-present-i.false in
+          let fit = subst (λ us. AllFit M us (drop next vs)) here c.parts.invariant.fit in
+          let put : sink ++ in_turn (writers M rest (drop next vs)) (length sink) ≡ old = sym (ap (λ us. sink ++ in_turn (writers M us (drop next vs)) (length sink)) here) ∙ c.parts.invariant.whole in
+          record {
+            fit = subst (λ j. AllFit M rest (drop j vs)) (sym b.next-is) fit;
+            whole = subst (λ s. s ++ in_turn (writers M rest (drop next' vs)) (length s) ≡ old) (sym b.sink-is)
+                (subst (λ j. sink ++ in_turn (writers M rest (drop j vs)) (length sink) ≡ old) (sym b.next-is) put);
+          })
+    ]
+
+pub put_parts-returns : goal.put_parts-returns
+put_parts-returns t c =
+    let M = c.args.module.now in
+    let ts = c.args.types.now in
+    let flags = c.args.present.now in
+    let vs = c.args.values.now in
+    let sink = c.parts.sink in
+    let none = none_left M ts flags c.parts.i (drop c.parts.next vs) c.parts-test.false in
+    sym (nothing_left sink (length sink)) ∙ sym (ap (λ ws. sink ++ in_turn ws (length sink)) none) ∙ c.parts.invariant.whole

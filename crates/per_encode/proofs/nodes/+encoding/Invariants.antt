@@ -1,0 +1,51 @@
+use Rattle.std.proofs.Common.{◌≡◌, ◌+◌, ◌-◌, ◌*◌, ◌≤◌, ◌++◌, length, drop, map}
+use Rattle.label_tree.specs.Rose.{node_count, count_all, roses_of}
+use Rattle.per_fields.specs.Codec.{AllOf}
+use Rattle.per_fields.specs.Fields.{in_turn, counted_bits}
+use Rattle.per_fields.specs.Encoding.{per}
+use Rattle.per_encode.specs.Private.Kids.{FitsSomewhere, AllFit, chosen, writers}
+use Rattle.per_encode.proofs.nodes.+encoding.Given as goal
+
+abbrev pub decreases-put_node : goal.decreases-put_node
+decreases-put_node l = 6 * node_count l.value.now + 5
+
+abbrev pub decreases-put_content : goal.decreases-put_content
+decreases-put_content l = 6 * node_count l.value.now + 4
+
+abbrev pub decreases-put_list : goal.decreases-put_list
+decreases-put_list l = 6 * count_all (roses_of l.values.now) + 9
+
+abbrev pub decreases-put_fragments : goal.decreases-put_fragments
+decreases-put_fragments l = 6 * count_all (roses_of l.values.now) + 8
+
+abbrev pub decreases-put_items : goal.decreases-put_items
+decreases-put_items l = 6 * count_all (roses_of l.values.now) + 7
+
+abbrev pub decreases-put_parts : goal.decreases-put_parts
+decreases-put_parts l = 6 * count_all (roses_of l.values.now) + 7
+
+abbrev pub invariant-put_parts-parts : goal.invariant-put_parts-parts
+invariant-put_parts-parts l =
+    let M = l.«module» in
+    record {
+      fit : AllFit M (chosen (drop l.i l.types) (drop l.i l.present)) (drop l.next l.values);
+      whole : l.sink ++ in_turn (writers M (chosen (drop l.i l.types) (drop l.i l.present)) (drop l.next l.values)) (length l.sink)
+          ≡ l.fn.sink ++ in_turn (writers M (chosen l.types l.present) l.values) (length l.fn.sink);
+    }
+
+abbrev pub invariant-put_items-items : goal.invariant-put_items-items
+invariant-put_items-items l = record {
+  fit : AllOf (FitsSomewhere l.«module» l.node) (drop l.value-index l.values);
+  whole : l.sink ++ in_turn (map (per l.«module» l.node) (drop l.value-index l.values)) (length l.sink)
+      ≡ l.fn.sink ++ in_turn (map (per l.«module» l.node) l.values) (length l.fn.sink);
+}
+
+abbrev pub invariant-put_fragments-fragments : goal.invariant-put_fragments-fragments
+invariant-put_fragments-fragments l = record {
+  inside : l.at ≤ length l.values;
+  whole : l.sink ++ counted_bits (map (per l.«module» l.node) (drop l.at l.values)) (length l.sink)
+      ≡ l.fn.sink ++ counted_bits (map (per l.«module» l.node) l.values) (length l.fn.sink);
+}
+
+abbrev pub decreases-put_fragments-fragments : goal.decreases-put_fragments-fragments
+decreases-put_fragments-fragments l = length l.values - l.at

@@ -1,0 +1,38 @@
+//! The complete encoding of a value.
+ghost use Rattle.std.specs.Prelude.{◌≡◌, IfOk};
+ghost use Rattle.bit_cursor.specs.Bits.{octet_bits};
+ghost use Rattle.asn_types.specs.Values.{In};
+ghost use Rattle.per_fields.specs.Encoding.{completed, complete};
+
+use crate::nodes::put_node;
+use asn_types::Module;
+use bit_cursor::BitSink;
+use simple_types::Value;
+use std::alloc::Global;
+use xa_base::Memory;
+
+// Whole octets: one zero octet where there are no bits (clause 11.1.3).
+fn whole_octets(sink: BitSink) -> Result<Vec<u8>, Memory>
+    ensures { IfOk result (λ octets. octet_bits octets.items ≡ completed sink) }
+{
+    let mut octets = sink.finish();
+    if octets.is_empty() {
+        octets.push(0)?;
+    }
+    Ok(octets)
+}
+
+/// The complete encoding of a value of the type of the assignment with this number (X.691, clause 11.1): whole octets, and
+/// one zero octet where the value has no bits.
+///
+/// It goes through the value once, and the time is linear in the value and its octets.
+pub fn encode(alloc: Global, module: &Module, t: u32, value: &Value) -> Result<Vec<u8>, Memory>
+    requires { In module.now t value.now }
+    ensures { IfOk result (λ octets. octet_bits octets.items ≡ complete module.now t value.now) }
+{
+    let mut sink = BitSink::new(alloc);
+    let body = module.assignment(t).body.root();
+    let root = value.root();
+    put_node(&mut sink, module, body, root)?;
+    whole_octets(sink)
+}

@@ -1,0 +1,40 @@
+//! General lengths and the heads of fragments (X.691, clause 11.9).
+ghost use Rattle.std.specs.Prelude.{◌≡◌, ◌<◌, ◌≤◌, ◌++◌, OnOk, length};
+ghost use Rattle.per_fields.specs.Fields.{Last, Units, length_bits};
+ghost use Rattle.per_fields.specs.Private.Heads.{head_bits};
+
+use bit_cursor::BitSink;
+use xa_base::Memory;
+
+/// The octets or items of one unit of a fragment.
+pub(crate) const UNIT: usize = 16_384;
+
+/// A length of up to 127 in one octet, and a greater one in two.
+pub(crate) fn put_length(sink: &mut BitSink, n: usize) -> Result<(), Memory>
+    requires { n < 16384 }
+    ensures { OnOk result (sink.new ≡ sink.old ++ length_bits n) }
+{
+    if n < 128 {
+        sink.put_bits(n as u64, 8)
+    } else {
+        sink.put_bits(32_768 + n as u64, 16)
+    }
+}
+
+/// The last length, behind its padding.
+pub(crate) fn put_last_length(sink: &mut BitSink, n: usize) -> Result<(), Memory>
+    requires { n < 16384 }
+    ensures { OnOk result (sink.new ≡ sink.old ++ head_bits (Last n) (length sink.old)) }
+{
+    sink.align()?;
+    put_length(sink, n)
+}
+
+/// The head of a fragment of so many units, behind its padding.
+pub(crate) fn put_units(sink: &mut BitSink, units: usize) -> Result<(), Memory>
+    requires { units ≤ 4 }
+    ensures { OnOk result (sink.new ≡ sink.old ++ head_bits (Units units) (length sink.old)) }
+{
+    sink.align()?;
+    sink.put_bits(192 + units as u64, 8)
+}

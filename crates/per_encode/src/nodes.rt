@@ -1,0 +1,186 @@
+//! The nodes of a value.
+ghost use Rattle.std.specs.Prelude.{◌≡◌, ◌≤◌, ◌++◌, OnOk, map, length, true};
+ghost use Rattle.simple_values.specs.Lexical.{is_at_most};
+ghost use Rattle.per_fields.specs.Codec.{AllOf};
+ghost use Rattle.per_fields.specs.Fields.{in_turn, counted_bits, list_bits};
+ghost use Rattle.per_fields.specs.Encoding.{per};
+ghost use Rattle.per_encode.specs.Private.Kids.{FitsSomewhere, AllFit, chosen, writers, KidsFit, resolved_bits};
+
+use crate::flags::put_flags;
+use crate::lengths::{UNIT, put_last_length, put_units};
+use crate::numbers::{put_index, put_number};
+use crate::texts::put_text;
+use crate::whole_numbers::put_whole;
+use asn_types::{Form, Module, TypeLabel, resolve};
+use bit_cursor::BitSink;
+use label_tree::Tree;
+use simple_types::ValueLabel;
+use xa_base::Memory;
+
+// The components of a SEQUENCE that are present.
+#[cycle(encoding)]
+fn put_parts(
+    sink: &mut BitSink,
+    module: &Module,
+    types: &[Tree<TypeLabel>],
+    present: &[bool],
+    values: &[Tree<ValueLabel>],
+) -> Result<(), Memory>
+    requires types { length present.now ≤ length types.now }
+    requires fit { AllFit module.now (chosen types.now present.now) values.now }
+    ensures { OnOk result (sink.new ≡ sink.old ++ in_turn (writers module.now (chosen types.now present.now) values.now) (length sink.old)) }
+{
+    let mut next: usize = 0;
+    'parts: for i in 0..present.len() {
+        if present[i] {
+            put_node(sink, module, &types[i], &values[next])?;
+            next += 1;
+        }
+    }
+    Ok(())
+}
+
+// Items, one behind the other.
+#[cycle(encoding)]
+fn put_items(
+    sink: &mut BitSink,
+    module: &Module,
+    node: &Tree<TypeLabel>,
+    values: &[Tree<ValueLabel>],
+) -> Result<(), Memory>
+    requires { AllOf (FitsSomewhere module.now node.now) values.now }
+    ensures { OnOk result (sink.new ≡ sink.old ++ in_turn (map (per module.now node.now) values.now) (length sink.old)) }
+{
+    'items: for value in values {
+        put_node(sink, module, node, value)?;
+    }
+    Ok(())
+}
+
+// Items behind general lengths, in fragments (clause 11.9).
+#[cycle(encoding)]
+fn put_fragments(
+    sink: &mut BitSink,
+    module: &Module,
+    node: &Tree<TypeLabel>,
+    values: &[Tree<ValueLabel>],
+) -> Result<(), Memory>
+    requires { AllOf (FitsSomewhere module.now node.now) values.now }
+    ensures { OnOk result (sink.new ≡ sink.old ++ counted_bits (map (per module.now node.now) values.now) (length sink.old)) }
+{
+    let mut at: usize = 0;
+    'fragments: while UNIT <= values.len() - at {
+        let units = ((values.len() - at) / UNIT).min(4);
+        put_units(sink, units)?;
+        put_items(sink, module, node, &values[at..at + units * UNIT])?;
+        at += units * UNIT;
+    }
+    put_last_length(sink, values.len() - at)?;
+    put_items(sink, module, node, &values[at..])
+}
+
+// The items of a SEQUENCE OF behind their count (clause 20).
+#[tactic(auto, unfolding(per_fields::specs::Fields::list_bits))]
+#[cycle(encoding)]
+fn put_list(
+    sink: &mut BitSink,
+    module: &Module,
+    node: &Tree<TypeLabel>,
+    min: u32,
+    max: Option<u32>,
+    values: &[Tree<ValueLabel>],
+) -> Result<(), Memory>
+    requires least { min ≤ length values.now }
+    requires most { is_at_most (length values.now) max ≡ true }
+    requires fit { AllOf (FitsSomewhere module.now node.now) values.now }
+    ensures { OnOk result (sink.new ≡ sink.old ++ list_bits min max (map (per module.now node.now) values.now) (length sink.old)) }
+{
+    match max {
+        Some(max) if max < 65_536 => {
+            let count = values.len() - min as usize;
+            put_number(sink, u128::from(max - min), count as u128)?;
+            put_items(sink, module, node, values)
+        }
+        _ => put_fragments(sink, module, node, values),
+    }
+}
+
+// A value of a type that is no reference.
+#[cycle(encoding)]
+fn put_content(
+    sink: &mut BitSink,
+    module: &Module,
+    node: &Tree<TypeLabel>,
+    value: &Tree<ValueLabel>,
+) -> Result<(), Memory>
+    requires { KidsFit module.now node.now value.now }
+    ensures { OnOk result (sink.new ≡ sink.old ++ resolved_bits module.now node.now value.now (length sink.old)) }
+{
+    let label = value.label();
+    match &node.label().form {
+        Form::Bool => match label {
+            ValueLabel::Bool(b) => sink.put_bits(u64::from(*b), 1),
+            _ => unreachable!(),
+        },
+        Form::Int { lo, hi } => match label {
+            ValueLabel::Int(number) => put_whole(sink, *lo, *hi, *number),
+            _ => unreachable!(),
+        },
+        Form::Numbers { numbers } => match label {
+            ValueLabel::Enum(i) => put_index(sink, numbers.items().len(), *i),
+            _ => unreachable!(),
+        },
+        Form::Words { words, .. } => match label {
+            ValueLabel::Enum(i) => put_index(sink, words.items().len(), *i),
+            _ => unreachable!(),
+        },
+        Form::Utf8 { .. } => match label {
+            ValueLabel::Utf8(text) => put_text(sink, text.bytes()),
+            _ => unreachable!(),
+        },
+        Form::Sequence { parts } => match label {
+            ValueLabel::Sequence { present } => {
+                let components = parts.items();
+                let present = present.items();
+                let types = node.kids();
+                let values = value.kids();
+                put_flags(sink, components, present)?;
+                put_parts(sink, module, types, present, values)
+            }
+            _ => unreachable!(),
+        },
+        Form::Choice { parts } => match label {
+            ValueLabel::Choice(i) => {
+                let alternatives = parts.items();
+                put_index(sink, alternatives.len(), *i)?;
+                let alternative = node.kid(*i as usize);
+                let inner = value.kid(0);
+                put_node(sink, module, alternative, inner)
+            }
+            _ => unreachable!(),
+        },
+        Form::SequenceOf { min, max, .. } => match label {
+            ValueLabel::SequenceOf => {
+                let item = node.kid(0);
+                let items = value.kids();
+                put_list(sink, module, item, *min, *max, items)
+            }
+            _ => unreachable!(),
+        },
+        Form::Ref { .. } => unreachable!(),
+    }
+}
+
+/// The bits of a value of the type, or of that to which it refers.
+#[cycle(encoding)]
+pub(crate) fn put_node(
+    sink: &mut BitSink,
+    module: &Module,
+    node: &Tree<TypeLabel>,
+    value: &Tree<ValueLabel>,
+) -> Result<(), Memory>
+    requires { FitsSomewhere module.now node.now value.now }
+    ensures { OnOk result (sink.new ≡ sink.old ++ per module.now node.now value.now (length sink.old)) }
+{
+    put_content(sink, module, resolve(module, node), value)
+}

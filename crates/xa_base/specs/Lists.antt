@@ -1,0 +1,7 @@
+-- What stands in a list.
+use Rattle.std.specs.Prelude.{◌≡◌, ◌⊎◌, List, [], ◌∷◌}
+
+-- one of the items is this
+abbrev pub HasItem : {A : Type 0} → List A → A → Type 0
+HasItem [] x = ⊥
+HasItem (y ∷ ys) x = (y ≡ x) ⊎ HasItem ys x
