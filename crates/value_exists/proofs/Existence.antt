@@ -14,6 +14,7 @@ use Rattle.plain_items.specs.Plain.{Plain}
 use Rattle.asn_types.specs.declared.modules.Assignment.{Assignment}
 use Rattle.asn_types.specs.declared.types.TypeLabel.{TypeLabel}
 use Rattle.asn_types.specs.declared.types.Form.TheVariants as form
+use Rattle.asn_types.specs.Names.{name_told}
 use Rattle.asn_types.specs.Refs.{resolve}
 use Rattle.asn_types.specs.Values.{FitsAt, Fits}
 use Rattle.schema_parts.specs.declared.components.ElementDecl.{ElementDecl}
@@ -34,14 +35,12 @@ use Rattle.map_laws.specs.Standing.{IsSimpleOf, HasNillable, HasComplex, HasCont
 use Rattle.map_laws.specs.Statements.{IsTypeAt}
 use Rattle.map_laws.proofs.Leading.{types-lead}
 use Rattle.map_laws.proofs.Roots.{roots-lead}
-use Rattle.xer_items.specs.Names.{xml_name}
 use Rattle.xer_items.specs.Items.{element_of, inside, root_of, Xer}
 use Rattle.validity.specs.Asked.{Asked, asked, space_at, asked_by, asked_by_type, asked_by_complex, asked_at, name_at}
 use Rattle.validity.specs.Asked as ask
 use Rattle.validity.specs.Valid.{ValidBy, HasName, Valid}
 use Rattle.validity.proofs.Fair.{fair_at}
 use Rattle.one_value.specs.Statements.{root_at, ValuesOfItems}
-use Rattle.one_value.proofs.Groups.{name-same}
 use Rattle.one_value.proofs.Declarations.{none-at, below-of}
 use Rattle.value_exists.proofs.Texts.{accepted-text, text-given}
 use Rattle.value_exists.proofs.Kids.{AllExist}
@@ -139,7 +138,7 @@ values-of-items s M linked narrow is_map d below (node (Element name xs declares
         let shallow = are.shallow in
         let found = content-has s M linked is_map 63 1 (omega arith) (omega arith) d x g a.body root.content name xs declares at ks are.sound (omega (arith, shallow)) b valid.1 in
         let named : x.name ≡ name = let wanted : Some x.name ≡ Some name = sym (ap (option_map (λ (e : ElementDecl). e.name)) g) ∙ valid.0 in cc in
-        let told : xml_name a.reference a.marks ≡ name = name-same a.reference a.marks ∙ root.name ∙ named in (
+        let told : name_told a.reference a.marks ≡ name = root.name ∙ named in (
           found.0,
           at-root found.0 (slice_get M (root_at s M is_map d)) a root.at found.1,
           ap (option_map (λ (y : Assignment). root_of M y found.0)) root.at ∙ ap (λ n. Some (element_of n (inside M a.body found.0))) told ∙ ap (λ z. Some z) found.2,
