@@ -1,0 +1,7 @@
+pub mod Encoded
+pub mod Accepted
+pub mod Texts
+pub mod Filling
+pub mod Kids
+pub mod Elements
+pub mod Existence
