@@ -188,17 +188,19 @@ pub ItemsIn-single : PieceLaws → (left : List ℕ) → IsSingle (ItemsIn (Some
 ItemsIn-single laws left = Then-single _ _ (Input-single left) (λ bytes. Read-single laws _ bytes)
 
 module _ (valid : AtMostOne) where
-  judged_once : (s : Set) → IsLinked s → (parts : SetParts) → parts_of s ≡ parts → (n : ℕ) (items : tree.Rose ItemLabel) → IsSingle (Judged parts n items)
-  judged_once s linked parts refl n items (Ok x) (Ok y) p q = ap (λ z. Ok z) ((valid s linked n items).1.0 x y p.1 q.1)
-  judged_once s linked parts refl n items (Ok x) (Err o) p (own, (at, why, fault, is)) = absurd ((valid s linked n items).0 x at why p.1 fault)
-  judged_once s linked parts refl n items (Err o) (Ok y) (own, (at, why, fault, is)) q = absurd ((valid s linked n items).0 y at why q.1 fault)
-  judged_once s linked parts refl n items (Err o) (Err m) (own, (a, v, fault, is)) (also, (b, w, other, was)) =
-      let e : (a ≡ b) × (v ≡ w) = (valid s linked n items).1.1 a b v w fault other in
+  judged_once : (s : Set) → IsLinked s → (n : ℕ) (items : tree.Rose ItemLabel) → IsSingle (Judged (parts_of s) n items)
+  judged_once s linked n items (Ok x) (Ok y) p q = ap (λ z. Ok z) ((valid s linked n items).1 x y p.1 q.1)
+  judged_once s linked n items (Ok x) (Err o) p (own, (at, why, fault, is)) = absurd ((valid s linked n items).0 x at why p.1 fault)
+  judged_once s linked n items (Err o) (Ok y) (own, (at, why, fault, is)) q = absurd ((valid s linked n items).0 y at why q.1 fault)
+  judged_once s linked n items (Err o) (Err m) (own, (a, v, fault, is)) (also, (b, w, other, was)) =
+      let e : (a ≡ b) × (v ≡ w) = (valid s linked n items).2 a b v w fault other in
       ap (λ z. Err z) (is ∙ (ap (λ k. Invalid k v) e.0 ∙ (ap (λ r. Invalid b r) e.1 ∙ sym was)))
 
   pub Judged-single : (parts : SetParts) (n : ℕ) (items : tree.Rose ItemLabel) → IsSingle (Judged parts n items)
-  Judged-single parts n items (Ok x) w ((s, linked, of_s), is) also = judged_once s linked parts of_s n items (Ok x) w ((s, linked, of_s), is) also
-  Judged-single parts n items (Err o) w ((s, linked, of_s), is) also = judged_once s linked parts of_s n items (Err o) w ((s, linked, of_s), is) also
+  Judged-single parts n items (Ok x) w ((s, linked, of_s), is) also =
+      subst (λ p. IsSingle (Judged p n items)) of_s (judged_once s linked n items) (Ok x) w ((s, linked, of_s), is) also
+  Judged-single parts n items (Err o) w ((s, linked, of_s), is) also =
+      subst (λ p. IsSingle (Judged p n items)) of_s (judged_once s linked n items) (Err o) w ((s, linked, of_s), is) also
 
   pub Checked-single : PieceLaws → (opened : SetParts × ℕ) (left : List ℕ) → IsSingle (Checked opened (Some left))
   Checked-single laws opened left =

@@ -6,6 +6,7 @@ mod files;
 mod laws;
 mod lines;
 mod linking;
+mod opened;
 mod outcome;
 mod schemas;
 mod top;

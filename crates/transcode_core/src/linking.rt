@@ -1,5 +1,5 @@
 //! The schema files as one set, and the root in it.
-ghost use Rattle.std.specs.Prelude.{◌≡◌, ◌<◌, ◌≤◌, length, IfOk, IfErr, map};
+ghost use Rattle.std.specs.Prelude.{◌≡◌, ◌≤◌, length, IfOk, IfErr, map};
 ghost use Rattle.schema_parts.specs.Documents.{doc_of};
 ghost use Rattle.schema_parts.specs.SetParts.{parts_of};
 ghost use Rattle.transcode_core.specs.Private.Requests.{root_seen, opened_seen};
@@ -8,20 +8,13 @@ ghost use Rattle.transcode_core.specs.Order.{Give, Then};
 ghost use Rattle.schema_link.specs.Sets.{AreNumbered};
 ghost use Rattle.transcode_core.specs.Causes.{Answers, NoMemory};
 
+use crate::opened::Opened;
 use crate::outcome::Outcome;
 use crate::words::Root;
 use schema_link::{LinkError, link};
 use schema_parts::{RawDoc, SchemaSet, find_root};
 use std::alloc::Global;
 use xa_base::{Name, Text};
-
-/// A linked set, and the number of a global element in it.
-#[derive(Drop)]
-pub struct Opened {
-    pub set: SchemaSet,
-    pub root: u32,
-    ghost global: { root < set.globals },
-}
 
 /// The documents as one set.
 pub fn link_files(alloc: Global, documents: &[RawDoc]) -> Result<SchemaSet, Outcome>

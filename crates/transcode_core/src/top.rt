@@ -16,7 +16,8 @@ ghost use Rattle.transcode_core.specs.Causes.{Answers, Never, NoMemory, SomeLoad
 use crate::booleans::check_taken;
 use crate::files::{read_input, read_input_items};
 use crate::lines::write_line;
-use crate::linking::{Opened, link_files, open_set};
+use crate::linking::{link_files, open_set};
+use crate::opened::Opened;
 use crate::outcome::Outcome;
 use crate::schemas::load_schemas;
 use crate::truth_values::read_truth;

@@ -2,7 +2,7 @@
 use Rattle.std.specs.Prelude.{ℕ}
 use Rattle.xa_base.specs.declared.texts.Name.{Name}
 use Rattle.schema_parts.specs.SetParts.{SetParts, parts_of}
-use Rattle.transcode_core.specs.declared.linking.Opened.{Opened}
+use Rattle.transcode_core.specs.declared.opened.Opened.{Opened}
 use Rattle.transcode_core.specs.declared.words.Root.{Root}
 use Rattle.transcode_core.specs.declared.words.Request.{Request}
 use Rattle.transcode_core.specs.declared.words.Request.TheVariants as request
