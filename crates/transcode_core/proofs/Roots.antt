@@ -1,5 +1,5 @@
 -- The root among the global elements.
-use Rattle.std.proofs.Common.{◌≡◌, ℕ, zero, suc, Bool, true, false, List, [], ◌∷◌, map, refl, sym, ap, ◌∙◌, subst, Option, Some, None}
+use Rattle.std.proofs.Common.{◌≡◌, ◌<◌, ℕ, zero, suc, take, arith, Bool, true, false, List, [], ◌∷◌, map, refl, sym, ap, ◌∙◌, subst, Option, Some, None}
 use Rattle.std.specs.Prelude.{slice_get, IsSomeAnd, ◌||◌, if◌then◌else◌}
 use Rattle.std.specs.Option.{option_map}
 use Rattle.std.specs.List.{list_any, IsDistinct, AllByRecursion}
@@ -47,3 +47,19 @@ number-some name (e ∷ es) zero apart h = just_here (name_eq e.name name) (numb
 number-some name (e ∷ es) (suc n) apart h =
     not_here (name_eq e.name name) (number_named name es) (other_name e es n name apart.0 h)
     ∙ ap (option_map (λ m. suc m)) (number-some name es n apart.1 h)
+
+one_more : (here : Bool) (later : Option ℕ) (k n : ℕ) → ((m : ℕ) → later ≡ Some m → m < k) → behind here later ≡ Some n → n < suc k
+one_more true later k n each e = let same : 0 ≡ n = cc in omega (arith, same)
+one_more false None k n each e = absurd (cc)
+one_more false (Some m) k n each e =
+    let same : suc m ≡ n = cc in
+    let below : m < k = each m refl in
+    omega (arith, same, below)
+
+-- a number that is found among the first k is less than k
+pub number-within : (name : Name) (k : ℕ) (es : List ElementDecl) (n : ℕ) → number_named name (take k es) ≡ Some n → n < k
+number-within name zero [] n e = absurd (cc)
+number-within name zero (d ∷ ds) n e = absurd (cc)
+number-within name (suc k) [] n e = absurd (cc)
+number-within name (suc k) (d ∷ ds) n e =
+    one_more (name_eq d.name name) (number_named name (take k ds)) k n (λ m found. number-within name k ds m found) e

@@ -5,9 +5,13 @@ use Rattle.transcode_core.specs.Private.Requests.{root_seen, opened_seen}
 use Rattle.transcode_core.specs.Steps.{Rooted}
 use Rattle.transcode_core.specs.Causes.{NoMemory}
 use Rattle.transcode_core.proofs.Joined.{refused}
+use Rattle.transcode_core.proofs.Roots.{number-within}
 use Rattle.transcode_core.proofs.linking.open_set.Goals as goal
 
 pub returns-in-Err : goal.returns-in-Err
 returns-in-Err c =
     let parts = parts_of c.args.set in
     refused (Rooted (root_seen c.args.root) parts) (λ (n : ℕ). Give (parts, n)) NoMemory NoMemory opened_seen c.in-Err.outcome c.in-Err.ensures (λ h. h)
+
+pub invariant_of-result : goal.invariant_of-result
+invariant_of-result c = record { global = number-within (root_seen c.args.root) c.args.set.globals c.args.set.elements c.in-Ok.root c.in-Ok.ensures }

@@ -1,24 +1,14 @@
-use Rattle.transcode_core.proofs.Deciding.{refusal_due, load_failed, read_failed}
+use Rattle.transcode_core.proofs.Deciding.{load_failed}
 use Rattle.doc_text.proofs.Known.{laws}
 use Rattle.transcode_core.proofs.Single.{completed_told}
 use Rattle.transcode_core.proofs.top.run.Goals as goal
 
-pub returns-in-Err-clause-refused : goal.returns-in-Err-clause-refused
-returns-in-Err-clause-refused g c =
-    refusal_due c.args.words.now (g.F.Library.entries c.args.files.now) (g.S.Source.left c.args.input.now) (g.F.Library.faults c.args.files.now) (g.F.Library.faults c.decide.new.files) (g.F.Library.is_sure c.args.files.now)
-    (g.S.Source.faults c.args.input.now) (g.S.Source.faults c.decide.new.input) c.in-Err.outcome c.in-Err.ensures.due
-
-pub returns-in-Err-clause-read : goal.returns-in-Err-clause-read
-returns-in-Err-clause-read g c =
-    read_failed c.args.words.now (g.F.Library.entries c.args.files.now) (g.S.Source.left c.args.input.now) (g.F.Library.faults c.args.files.now) (g.F.Library.faults c.decide.new.files) (g.F.Library.is_sure c.args.files.now)
-    (g.S.Source.faults c.args.input.now) (g.S.Source.faults c.decide.new.input) c.in-Err.outcome c.in-Err.ensures.due
-
-pub returns-in-Err-clause-complete : goal.returns-in-Err-clause-complete
-returns-in-Err-clause-complete g c entries bytes files told due no_load no_read no_write =
+pub returns-clause-complete : goal.returns-clause-complete
+returns-clause-complete g c entries bytes files told due no_load no_read no_write =
     completed_told c.at_most_one.ensures laws c.args.words.now (g.F.Library.entries c.args.files.now) (g.S.Source.left c.args.input.now) entries bytes (g.F.Library.faults c.args.files.now) (g.F.Library.faults c.decide.new.files)
     (g.S.Source.faults c.args.input.now) (g.S.Source.faults c.decide.new.input) (g.F.Library.is_sure c.args.files.now) c.in-Err.outcome files told due no_load no_read c.in-Err.ensures.due
 
-pub returns-in-Err-clause-load : goal.returns-in-Err-clause-load
-returns-in-Err-clause-load g c =
+pub returns-clause-load : goal.returns-clause-load
+returns-clause-load g c =
     load_failed c.args.words.now (g.F.Library.entries c.args.files.now) (g.S.Source.left c.args.input.now) (g.F.Library.faults c.args.files.now) (g.F.Library.faults c.decide.new.files) (g.F.Library.is_sure c.args.files.now)
     (g.S.Source.faults c.args.input.now) (g.S.Source.faults c.decide.new.input) c.in-Err.outcome c.in-Err.ensures.due
