@@ -1,0 +1,8 @@
+//! Values from canonical aligned PER (X.691), read from a source of octets, each octet when it is needed.
+#![tactic(auto)]
+
+mod decoding;
+mod errors;
+
+pub use decoding::decode;
+pub use errors::DecodeError;
