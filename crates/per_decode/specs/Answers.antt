@@ -36,12 +36,12 @@ module _ (M : List Assignment) (t limit : ℕ) (left : List ℕ) where
 
   -- how a first fault is answered: octets that end at the limit may go on behind it
   abbrev pub fault_of : Stop → DecodeError
-  fault_of stop = if is_short stop.why && nat_le limit (length left) then TooLong else Bad stop
+  fault_of stop = if is_short stop.why && nat_le limit (length left) then TooLong else Bad stop.bit stop.why
 
   -- what each answer says of the octets, of which so many were taken
   abbrev pub Says : Decoded → ℕ → Type 0
   Says (Ok v) count = Begins M t within v × (8 * count ≡ length (complete M t v))
-  Says (Err (Bad stop)) count = Stops M t within stop × (stop.why ≡ Short → length left < limit)
+  Says (Err (Bad bit why)) count = (stop : Stop) × Stops M t within stop × (stop.bit ≡ bit) × (stop.why ≡ why) × (why ≡ Short → length left < limit)
   Says (Err TooLong) count = (stop : Stop) × Stops M t within stop × (stop.why ≡ Short) × (limit ≤ length left)
   Says (Err Failed) count = (v : Rose ValueLabel) (n : ℕ) → n ≤ count → In M t v → octet_bits (take n left) ≡ complete M t v → ⊥
   Says (Err Memory) count = Unit {0}

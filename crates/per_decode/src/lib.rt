@@ -3,6 +3,8 @@
 
 mod decoding;
 mod errors;
+mod faults;
+mod run;
 
 pub use decoding::decode;
 pub use errors::DecodeError;
