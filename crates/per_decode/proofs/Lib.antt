@@ -1,1 +1,11 @@
 pub mod Standing
+pub mod Octets
+pub mod Ends
+pub mod EndNodes
+pub mod Types
+pub mod Fitting
+pub mod Loop
+pub mod Turns
+pub mod Bodies
+pub mod Final
+pub mod Joining

@@ -4,7 +4,12 @@
 mod decoding;
 mod errors;
 mod faults;
+mod leaves;
+mod lengths;
+mod nodes;
+mod numbers;
 mod run;
+mod wholes;
 
 pub use decoding::decode;
 pub use errors::DecodeError;

@@ -2,8 +2,10 @@
 ghost use Rattle.std.specs.Prelude.{◌≡◌, ℕ, ◌<◌, ◌≤◌, ◌+◌, ◌-◌, ◌*◌, ◌^◌, List, [], Bool, false, IsTrue};
 ghost use Rattle.per_decode.specs.Private.Standing.{IsAt};
 
-use crate::faults::Fault;
+use crate::faults::{Fault, stopped};
 use bit_cursor::{BitSource, CursorError};
+use per_fields::Why;
+use std::alloc::Global;
 use std::marker::{Brand, PhantomData};
 use xa_base::Source;
 
@@ -40,6 +42,7 @@ impl<'a, S: Source, K: Origin> Run<'a, S, K> {
     ghost use Rattle.bit_cursor.specs.Cursors.{IsInStep};
     ghost use Rattle.xa_base.specs.Faults.{HasRisen};
     ghost use Rattle.per_fields.specs.Reading.{bits_at, align_at, octets_at};
+    ghost use Rattle.per_decode.specs.Private.Standing.{GoesOn};
     ghost use Rattle.per_decode.specs.Private.Giving.{Gives, spot};
 
     /// The next bit.
@@ -54,9 +57,9 @@ impl<'a, S: Source, K: Origin> Run<'a, S, K> {
         requires few { n ≤ 64 }
         requires in_step { IsInStep self.old.bits.position self.old.bits.taken }
         ensures same_reference { self.new.bits.source.ghost_name ≡ self.old.bits.source.ghost_name }
-        ensures in_step { OnOk result (IsInStep self.new.bits.position self.new.bits.taken) }
-        ensures moved { OnOk result (self.new.bits.position ≡ self.old.bits.position + n) }
+        ensures on { OnOk result (GoesOn self.old.bits.position self.new.bits.position self.new.bits.taken) }
         ensures nodes { self.new.nodes ≡ self.old.nodes }
+        ensures moved { OnOk result (self.new.bits.position ≡ self.old.bits.position + n) }
         ensures below { IfOk result (λ x. x < 2 ^ n) }
         ensures gives { IsTrue K.told → Gives K.limit K.whole (λ x. x) result (spot self.new.bits.position self.new.nodes) self.new.bits.taken
             (bits_at begin n) (spot self.old.bits.position self.old.nodes) }
@@ -68,6 +71,49 @@ impl<'a, S: Source, K: Origin> Run<'a, S, K> {
             Err(CursorError::Short) => Err(Fault::Short { bit: begin }),
             Err(CursorError::TooLong) => Err(Fault::TooLong { bit: begin }),
             Err(CursorError::Memory) => unreachable!(),
+            Err(CursorError::Padding) => unreachable!(),
+        }
+    }
+
+    /// The padding up to the next octet.
+    pub(crate) fn align(&mut self) -> Result<(), Fault>
+        requires in_step { IsInStep self.old.bits.position self.old.bits.taken }
+        ensures same_reference { self.new.bits.source.ghost_name ≡ self.old.bits.source.ghost_name }
+        ensures on { OnOk result (GoesOn self.old.bits.position self.new.bits.position self.new.bits.taken) }
+        ensures nodes { self.new.nodes ≡ self.old.nodes }
+        ensures aligned { OnOk result (self.new.bits.position % 8 ≡ 0) }
+        ensures gives { IsTrue K.told → Gives K.limit K.whole (λ x. 0) result (spot self.new.bits.position self.new.nodes) self.new.bits.taken
+            (align_at) (spot self.old.bits.position self.old.nodes) }
+        ensures failed { IsErrOf result Fault.Failed → HasRisen K.faults (S.faults self.new.bits.source.now) }
+    {
+        let begin = self.position();
+        match self.bits.align() {
+            Ok(()) => Ok(()),
+            Err(_) => Err(stopped(begin, Why::Padding, begin + (8 - begin % 8) % 8)),
+        }
+    }
+
+    /// The next `n` octets, where reading is aligned.
+    pub(crate) fn take_octets(&mut self, alloc: Global, n: u32) -> Result<Vec<u8>, Fault>
+        requires few { n ≤ 65536 }
+        requires in_step { IsInStep self.old.bits.position self.old.bits.taken }
+        requires aligned { self.old.bits.position % 8 ≡ 0 }
+        ensures same_reference { self.new.bits.source.ghost_name ≡ self.old.bits.source.ghost_name }
+        ensures on { OnOk result (GoesOn self.old.bits.position self.new.bits.position self.new.bits.taken) }
+        ensures nodes { self.new.nodes ≡ self.old.nodes }
+        ensures moved { OnOk result (self.new.bits.position ≡ self.old.bits.position + 8 * n) }
+        ensures count { IfOk result (λ octets. length octets.items ≡ n) }
+        ensures gives { IsTrue K.told → Gives K.limit K.whole (λ octets. octets.items) result (spot self.new.bits.position self.new.nodes) self.new.bits.taken
+            (octets_at n) (spot self.old.bits.position self.old.nodes) }
+        ensures failed { IsErrOf result Fault.Failed → HasRisen K.faults (S.faults self.new.bits.source.now) }
+    {
+        let begin = self.position();
+        match self.bits.take_octets(alloc, n) {
+            Ok(octets) => Ok(octets),
+            Err(CursorError::Failed) => Err(Fault::Failed),
+            Err(CursorError::Short) => Err(Fault::Short { bit: begin }),
+            Err(CursorError::TooLong) => Err(Fault::TooLong { bit: begin }),
+            Err(CursorError::Memory) => Err(Fault::Memory),
             Err(CursorError::Padding) => unreachable!(),
         }
     }

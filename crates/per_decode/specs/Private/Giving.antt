@@ -1,10 +1,11 @@
 -- Reading a source of bits, beside reading the bits that it began with.
-use Rattle.std.specs.Prelude.{◌≡◌, ℕ, ◌+◌, ◌*◌, ◌<◌, ◌≤◌, Bool, List, length, take, Result, Ok, Err}
+use Rattle.std.specs.Prelude.{◌≡◌, ℕ, ◌+◌, ◌*◌, ◌<◌, ◌≤◌, Bool, false, Option, Some, List, length, take, drop, Result, Ok, Err, OnOk}
 use Rattle.bit_cursor.specs.Bits.{octet_bits}
 use Rattle.per_fields.specs.declared.stops.Spot.{Spot}
 use Rattle.per_fields.specs.declared.stops.Stop.{Stop}
 use Rattle.per_fields.specs.declared.stops.Why.TheVariants as reasons
 use Rattle.per_fields.specs.Reading.{Reader, stop_at}
+use Rattle.per_decode.specs.Answers.{is_short}
 use Rattle.per_decode.specs.declared.faults.Fault.{Fault}
 use Rattle.per_decode.specs.declared.faults.Fault.TheVariants.{Stopped, Short, TooLong, Failed, Memory}
 
@@ -32,9 +33,19 @@ module _ (limit : ℕ) (whole : List ℕ) where
   FailsAt Failed taken read = (8 * taken ≤ end_of read + 7) × (IsRead read → 8 * taken < end_of read)
   FailsAt (Short bit) taken read = (read ≡ Err (stop_at bit reasons.Short (8 * taken))) × (length whole < limit)
   FailsAt (TooLong bit) taken read = (read ≡ Err (stop_at bit reasons.Short (8 * taken))) × (limit ≤ length whole)
-  FailsAt (Stopped stop) taken read = (read ≡ Err stop) × (8 * taken ≤ stop.end + 7)
+  FailsAt (Stopped stop) taken read = (read ≡ Err stop) × (8 * taken ≤ stop.end + 7) × (is_short stop.why ≡ false)
 
   -- the value that is read, and the spot behind it, or a fault
   abbrev pub Gives : {A B : Type 0} → (A → B) → Result A Fault → Spot → ℕ → Reader B → Spot → Type 0
   Gives view (Ok x) new taken read old = read (input limit whole) old ≡ Ok (view x, new)
   Gives view (Err fault) new taken read old = FailsAt fault taken (read (input limit whole) old)
+
+  -- what a reader from the first octet on gave, and how many octets were taken
+  pub record Ended {A B : Type 0} (view : A → B) (result : Result A Fault) (new : Option (List ℕ)) (read : Reader B) : Type 0 where
+    pub taken : ℕ
+    pub inside : taken ≤ length whole
+    pub limited : taken ≤ limit
+    pub rest : new ≡ Some (drop taken whole)
+    pub end : Spot
+    pub octets : OnOk result (end.at ≡ 8 * taken)
+    pub gives : Gives view result end taken read (spot 0 0)

@@ -1,5 +1,5 @@
 -- What it is for a source of bits to stand at a position of the octets that it began with.
-use Rattle.std.specs.Prelude.{◌≡◌, ℕ, ◌≤◌, Option, Some, List, length, take, drop}
+use Rattle.std.specs.Prelude.{◌≡◌, ℕ, ◌*◌, ◌≤◌, Option, Some, List, length, take, drop}
 use Rattle.bit_cursor.specs.Bits.{octet_bits}
 use Rattle.bit_cursor.specs.Cursors.{IsInStep, ahead}
 
@@ -9,3 +9,7 @@ pub record IsAt (whole : List ℕ) (limit position taken held : ℕ) (left : Opt
   pub inside : taken ≤ length whole
   pub rest : left ≡ Some (drop taken whole)
   pub bits : IsInStep position taken → ahead position taken held limit (drop taken whole) ≡ drop position (octet_bits (take limit whole))
+
+-- reading goes on from one position to another, and then stands in step
+abbrev pub GoesOn : ℕ → ℕ → ℕ → Type 0
+GoesOn from to taken = (from ≤ to) × IsInStep to taken
