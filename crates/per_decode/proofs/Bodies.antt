@@ -112,11 +112,11 @@ module _ (M : List Assignment) (known : IsKnown M) (depth : ℕ) (t : Rose TypeL
       body-own own = body-is ∙ ap (λ b. stop_if (not b) (stop_at begin why.NotAValue r.at) (Ok (v, r))) (own_owns M (resolve M t) v own)
 
       pub body-not : (Own M t v → ⊥) → body_at M depth begin (resolve M t) X s ≡ Err (stop_at begin why.NotAValue r.at)
-      body-not no = body-is ∙ by (owns M (resolve M t) v) (λ e. no (owns_own M (resolve M t) v wfr e))
+      body-not wrong = body-is ∙ by (owns M (resolve M t) v) (λ e. wrong (owns_own M (resolve M t) v wfr e))
         where
-          by : (b : Bool) → (b ≡ true → ⊥) → stop_if (not b) (stop_at begin why.NotAValue r.at) (Ok (v, r)) ≡ Err (stop_at begin why.NotAValue r.at)
-          by true no = absurd (no refl)
-          by false no = refl
+          by : (b : Bool) → (b ≡ true → ⊥) → stop_if {A = Rose ValueLabel × Spot} (not b) (stop_at begin why.NotAValue r.at) (Ok (v, r)) ≡ Err (stop_at begin why.NotAValue r.at)
+          by true k = absurd (k refl)
+          by false k = refl
 
       pub body-end : r.at ≤ end_of (body_at M depth begin (resolve M t) X s)
       body-end = by (owns M (resolve M t) v) body-is

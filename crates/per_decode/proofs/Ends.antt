@@ -92,7 +92,7 @@ sits-number top X s h = search (rules, sits_if, sits_ok, sits-within, sits-align
 
 -- a field that goes on behind its first bits, from where it begins
 pub sits-length_from : (before begin x : ℕ) (X : List Bool) (s : Spot) → s.at ≤ length X → Sits X s.at (length_from before begin x X s)
-unfolding length_from
+unfolding length_from bits_at
 sits-length_from before begin x X s h = search (rules, sits_then, sits_if, sits_ok, sits_err, sits-bits)
 
 pub sits-length_here : (before : ℕ) (X : List Bool) (s : Spot) → s.at ≤ length X → Sits X s.at (length_here before X s)

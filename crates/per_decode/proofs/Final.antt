@@ -34,6 +34,7 @@ use Rattle.per_decode.specs.declared.faults.Fault.TheVariants as fault
 use Rattle.per_decode.specs.Answers.{within, Takes, Says, fault_of, IsDue, Answers, Decoded, is_short}
 use Rattle.per_decode.specs.Private.Giving.{spot, input, end_of, IsRead, FailsAt, Gives, Ended}
 use Rattle.per_decode.specs.Private.Bodies.{IsKnown, complete_at}
+use Rattle.per_decode.proofs.Origins.{is_told, contents}
 
 -- the last padding
 takes-last : (X found : List Bool) (s : Spot) (z : ℕ × Spot) → Taken X 0 s.at found → last_at X s ≡ Ok z → Taken X 0 z.1.at (completed found)
@@ -197,7 +198,7 @@ module _ (M : List Assignment) (known : IsKnown M) (t : ℕ) (a : Assignment) (a
       }
 
     short_no : (w : Why) → is_short w ≡ false → w ≡ why.Short → length left < limit
-    short_no w no is = let e : true ≡ false = sym (ap is_short is) ∙ no in absurd cc
+    short_no w other is = let e : true ≡ false = sym (ap is_short is) ∙ other in absurd cc
 
     -- each answer of the code is that of the definitions
     pub answers : (new : Option (List ℕ)) (r : Result (Rose ValueLabel) Fault) → Ended limit left (λ v. v) r new (complete_at M a.body) → Answers M t limit left new (answer_of r)
@@ -210,3 +211,9 @@ module _ (M : List Assignment) (known : IsKnown M) (t : ℕ) (a : Assignment) (a
         long_answers new h.taken h.inside h.limited h.rest (stop_at bit why.Short (8 * h.taken)) h.gives.0 (omega arith) refl (ap (λ b. cond b error.TooLong (error.Bad bit why.Short)) (le-leb limit (length left) h.gives.1)) h.gives.1
     answers new (Err fault.Failed) h = failed_answers new h.taken h.inside h.limited h.rest h.gives.0 h.gives.1
     answers new (Err fault.Memory) h = memory_answers new h.taken h.inside h.limited h.rest h.gives
+
+  pub answers_told : (limit : ℕ) (left : List ℕ) (old new : Option (List ℕ)) (r : Result (Rose ValueLabel) Fault) → old ≡ Some left → (is_told old ≡ true → Ended limit (contents old) (λ v. v) r new (complete_at M a.body)) → Answers M t limit left new (answer_of r)
+  answers_told limit left old new r is h =
+      let told : is_told old ≡ true = ap is_told is in
+      let same : contents old ≡ left = ap contents is in
+      answers limit left new r (subst (λ ys. Ended limit ys (λ v. v) r new (complete_at M a.body)) same (h told))

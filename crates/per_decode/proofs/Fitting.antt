@@ -3,6 +3,7 @@ use Rattle.std.proofs.Common.{◌≡◌, ℕ, zero, suc, ◌+◌, ◌-◌, ◌*�
 use Rattle.std.specs.Prelude.{slice_get, replicate, ℤ, ◌&&◌}
 use Rattle.std.proofs.lemmas.Bool.{lt-ltb, le-leb}
 use Rattle.std.specs.List.{sum_by}
+use Rattle.std.proofs.lemmas.List.Sums.{sum_by-cons}
 use Rattle.label_tree.specs.Rose.{Rose, node, Roses, none, more, list_of, roses_of, label_of, kids_of, length_all, node_count, count_all, Allowed, AllowedAll}
 use Rattle.simple_types.specs.declared.labels.ValueLabel.{ValueLabel}
 use Rattle.simple_types.specs.declared.labels.ValueLabel.TheVariants as value
@@ -124,12 +125,12 @@ present-count l i (part ∷ parts) (t ∷ ts) (true ∷ flags) ps e = by (presen
   where
     by : (o : Option (List ComponentPlace)) → ((qs : List ComponentPlace) → o ≡ Some qs → length qs ≡ count_set flags) → put_first (place_of l i part t) o ≡ Some ps → length ps ≡ count_set (true ∷ flags)
     by None further k = none_some ps k
-    by (Some qs) further k = let same : place_of l i part t ∷ qs ≡ ps = same_some (place_of l i part t ∷ qs) ps k in omega (arith, ap length same, further qs refl)
-present-count l i (part ∷ parts) (t ∷ ts) (false ∷ flags) ps e = by part.optional e
+    by (Some qs) further k = let same : place_of l i part t ∷ qs ≡ ps = same_some (place_of l i part t ∷ qs) ps k in omega (arith, ap length same, further qs refl, sum_by-cons flag_count true flags)
+present-count l i (part ∷ parts) (t ∷ ts) (false ∷ flags) ps e = by part.optional e (present-count l (i + 1) parts ts flags ps)
   where
-    by : (b : Bool) → cond b (present_from l (i + 1) parts ts flags) None ≡ Some ps → length ps ≡ count_set (false ∷ flags)
-    by true k = omega (arith, present-count l (i + 1) parts ts flags ps k)
-    by false k = none_some ps k
+    by : (b : Bool) → cond b (present_from l (i + 1) parts ts flags) None ≡ Some ps → (present_from l (i + 1) parts ts flags ≡ Some ps → length ps ≡ count_set flags) → length ps ≡ count_set (false ∷ flags)
+    by true k further = omega (arith, further k, sum_by-cons flag_count false flags)
+    by false k further = none_some ps k
 
 alone-count : (o : Option ComponentPlace) (ps : List ComponentPlace) → alone o ≡ Some ps → length ps ≡ 1
 alone-count None ps e = none_some ps e

@@ -9,3 +9,8 @@ pub mod Turns
 pub mod Bodies
 pub mod Final
 pub mod Joining
+pub mod Presence
+pub mod Signs
+pub mod Origins
+pub mod NumberReads
+pub mod Texts

@@ -39,7 +39,7 @@ all_octets : (xs : List ℕ) → ((k : ℕ) → get_or xs k 0 < 256) → AllOf (
 all_octets [] h = tt
 all_octets (x ∷ xs) h = (h 0, all_octets xs (λ k. h (suc k)))
 
-nothing_weighs : (xs : List ℕ) → total_of (λ x. 0) xs ≡ 0
+pub nothing_weighs : (xs : List ℕ) → total_of (λ x. 0) xs ≡ 0
 nothing_weighs [] = refl
 nothing_weighs (x ∷ xs) = omega (arith, nothing_weighs xs)
 

@@ -91,6 +91,10 @@ pub padding_held : {A E : Type 0} (r : Result A E) (n h : ℕ) → h < 2 ^ n →
 padding_held (Ok x) n h fits iff = (none_held n h fits (λ k. absurd (cc (iff.1 k))), tt)
 padding_held (Err x) n h fits iff = (tt, some_held n h (iff.0 refl))
 
+-- a position is inside the bits that may be read
+pub stands_inside : (p t h l limit : ℕ) (whole : List ℕ) (old : Option (List ℕ)) → l ≡ limit → p ≤ 8 * t → t ≤ l → IsAt whole limit p t h old → p ≤ length (input limit whole)
+stands_inside p t h l limit whole old same far within at = omega (arith, length-input limit whole, at.inside, same, far, within)
+
 -- A CALL FOR BITS, from a source that stands at a position
 module _ (b n p t h l nodes limit : ℕ) (whole : List ℕ) (old : Option (List ℕ)) (same : l ≡ limit) (step : IsInStep p t) (far : p ≤ 8 * t) (within : t ≤ l) (at : IsAt whole limit p t h old) where
   inside : p ≤ length (input limit whole)

@@ -7,7 +7,8 @@ use Rattle.per_fields.specs.Fields.{Piece, Last, Units, unit, length_from, lengt
 use Rattle.per_fields.proofs.Codecs.{bind_ok, stop_ok, ok_is}
 use Rattle.per_decode.specs.declared.faults.Fault.{Fault}
 use Rattle.per_decode.specs.declared.faults.Fault.TheVariants as fault
-use Rattle.per_decode.specs.Private.Giving.{end_of, FailsAt}
+use Rattle.std.specs.Prelude.{IfOk, IfErr}
+use Rattle.per_decode.specs.Private.Giving.{end_of, FailsAt, Shows}
 use Rattle.per_decode.proofs.Ends.{Sits, SteadyReader, Steady, sits_then, sits-bits, sits-align, sits-length_from, sits-length_here, sits-count, sits-fragments, fails_first}
 use Rattle.per_decode.proofs.Loop.{with_front}
 
@@ -126,6 +127,12 @@ module _ {A : Type 0} (least : ℕ) (most : Option ℕ) (items : ℕ → Reader 
       pub turn_last : count_at least most before total X s ≡ Ok (Last k, r) → with_front front (left_at before total X s) ≡ with_front front (items k X r)
       turn_last e = ap (with_front front) (left-step before total X s inside ∙ ap (λ c. c >>= behind left_at total X) e)
 
+      -- the last items, which fail
+      pub last_fail : (limit : ℕ) (whole : List ℕ) (e : Fault) (taken : ℕ) → count_at least most before total X s ≡ Ok (Last k, r) → FailsAt limit whole e taken (items k X r) → FailsAt limit whole e taken (with_front front (left_at before total X s))
+      last_fail limit whole e taken is h =
+          let c = count-later least most before total X s (Last k, r) inside is in
+          subst (FailsAt limit whole e taken) (sym (turn_last is)) (fails_first limit whole e taken X (items k X r) (λ b. Ok (front ++ b.0, b.1)) (one k X r c.1).inside (λ b l. record { later = omega arith; inside = l }) h)
+
       pub turn_more : (a : List A) (q : Spot) → count_at least most before total X s ≡ Ok (Units k, r) → items (k * unit) X r ≡ Ok (a, q)
           → with_front front (left_at before total X s) ≡ with_front (front ++ a) (left_at k (total + k * unit) X q)
       turn_more a q e f =
@@ -147,3 +154,9 @@ module _ {A : Type 0} (least : ℕ) (most : Option ℕ) (items : ℕ → Reader 
   turn_full front before total X s limit whole taken inside step =
       let k = sits_then X s.at (left_at before total X s) (λ b. Ok (front ++ b.0, b.1)) (sits-left before total X s inside) (λ b l. record { later = omega arith; inside = l }) in
       omega (arith, k.later, step)
+
+-- octets or items put behind others, where memory may be missing
+pub joined_shows : {A B : Type 0} (limit : ℕ) (whole : List ℕ) (view : A → List B) (r : Result A Fault) (front got : List B) (new : Spot) (taken : ℕ) (found : Result (List B × Spot) Stop)
+    → found ≡ Ok (front ++ got, new) → 8 * taken ≤ new.at + 7 → IfOk r (λ all. view all ≡ front ++ got) → IfErr r (λ e. e ≡ fault.Memory) → Shows limit whole view r new taken found
+joined_shows limit whole view (Ok all) front got new taken found is step ok err = is ∙ ap (λ bs. Ok (bs, new)) (sym ok)
+joined_shows {B = B} limit whole view (Err e) front got new taken found is step ok err = subst (λ f. FailsAt limit whole f taken found) (sym err) (omega (arith, step, ap (end_of {B = List B}) is))

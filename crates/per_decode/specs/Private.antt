@@ -1,4 +1,4 @@
 pub mod Standing
 pub mod Giving
-pub mod Pieces
 pub mod Bodies
+pub mod Pieces

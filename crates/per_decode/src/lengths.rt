@@ -57,6 +57,7 @@ impl<'a, S: Source, K: Origin> Run<'a, S, K> {
         requires in_step { IsInStep self.old.bits.position self.old.bits.taken }
         ensures same_reference { self.new.bits.source.ghost_name ≡ self.old.bits.source.ghost_name }
         ensures on { OnOk result (GoesOn self.old.bits.position self.new.bits.position self.new.bits.taken) }
+        ensures aligned { OnOk result (self.new.bits.position % 8 ≡ self.old.bits.position % 8) }
         ensures nodes { self.new.nodes ≡ self.old.nodes }
         ensures piece { IfOk result (λ piece. IsPiece piece) }
         ensures gives { IsTrue K.told → Gives K.limit K.whole (piece_of) result (spot self.new.bits.position self.new.nodes) self.new.bits.taken
@@ -90,7 +91,9 @@ impl<'a, S: Source, K: Origin> Run<'a, S, K> {
         requires in_step { IsInStep self.old.bits.position self.old.bits.taken }
         ensures same_reference { self.new.bits.source.ghost_name ≡ self.old.bits.source.ghost_name }
         ensures on { OnOk result (GoesOn self.old.bits.position self.new.bits.position self.new.bits.taken) }
+        ensures aligned { OnOk result (self.new.bits.position % 8 ≡ self.old.bits.position % 8) }
         ensures nodes { self.new.nodes ≡ self.old.nodes }
+        ensures further { OnOk result (self.old.bits.position < self.new.bits.position) }
         ensures piece { IfOk result (λ piece. IsPiece piece) }
         ensures gives { IsTrue K.told → Gives K.limit K.whole (piece_of) result (spot self.new.bits.position self.new.nodes) self.new.bits.taken
             (length_here before) (spot self.old.bits.position self.old.nodes) }
@@ -108,7 +111,9 @@ impl<'a, S: Source, K: Origin> Run<'a, S, K> {
         requires in_step { IsInStep self.old.bits.position self.old.bits.taken }
         ensures same_reference { self.new.bits.source.ghost_name ≡ self.old.bits.source.ghost_name }
         ensures on { OnOk result (GoesOn self.old.bits.position self.new.bits.position self.new.bits.taken) }
+        ensures aligned { OnOk result (self.new.bits.position % 8 ≡ self.old.bits.position % 8) }
         ensures nodes { self.new.nodes ≡ self.old.nodes }
+        ensures further { OnOk result (self.old.bits.position < self.new.bits.position) }
         ensures piece { IfOk result (λ piece. IsPiece piece × (is_out least most total (piece_of piece) ≡ false)) }
         ensures gives { IsTrue K.told → Gives K.limit K.whole (piece_of) result (spot self.new.bits.position self.new.nodes) self.new.bits.taken
             (count_here least most before total) (spot self.old.bits.position self.old.nodes) }
@@ -129,7 +134,9 @@ impl<'a, S: Source, K: Origin> Run<'a, S, K> {
         requires in_step { IsInStep self.old.bits.position self.old.bits.taken }
         ensures same_reference { self.new.bits.source.ghost_name ≡ self.old.bits.source.ghost_name }
         ensures on { OnOk result (GoesOn self.old.bits.position self.new.bits.position self.new.bits.taken) }
+        ensures aligned { OnOk result (self.new.bits.position % 8 ≡ 0) }
         ensures nodes { self.new.nodes ≡ self.old.nodes }
+        ensures further { OnOk result (self.old.bits.position < self.new.bits.position) }
         ensures piece { IfOk result (λ piece. IsPiece piece × (is_out least most total (piece_of piece) ≡ false)) }
         ensures gives { IsTrue K.told → Gives K.limit K.whole (piece_of) result (spot self.new.bits.position self.new.nodes) self.new.bits.taken
             (count_at least most before total) (spot self.old.bits.position self.old.nodes) }
@@ -145,6 +152,7 @@ impl<'a, S: Source, K: Origin> Run<'a, S, K> {
         requires in_step { IsInStep self.old.bits.position self.old.bits.taken }
         ensures same_reference { self.new.bits.source.ghost_name ≡ self.old.bits.source.ghost_name }
         ensures on { OnOk result (GoesOn self.old.bits.position self.new.bits.position self.new.bits.taken) }
+        ensures aligned { OnOk result (self.new.bits.position % 8 ≡ self.old.bits.position % 8) }
         ensures nodes { self.new.nodes ≡ self.old.nodes }
         ensures few { IfOk result (λ more. more ≤ 15) }
         ensures gives { IsTrue K.told → Gives K.limit K.whole (λ x. x) result (spot self.new.bits.position self.new.nodes) self.new.bits.taken
@@ -166,6 +174,7 @@ impl<'a, S: Source, K: Origin> Run<'a, S, K> {
         requires in_step { IsInStep self.old.bits.position self.old.bits.taken }
         ensures same_reference { self.new.bits.source.ghost_name ≡ self.old.bits.source.ghost_name }
         ensures on { OnOk result (GoesOn self.old.bits.position self.new.bits.position self.new.bits.taken) }
+        ensures aligned { OnOk result (self.new.bits.position % 8 ≡ 0) }
         ensures nodes { self.new.nodes ≡ self.old.nodes }
         ensures few { IfOk result (λ more. more ≤ 15) }
         ensures gives { IsTrue K.told → Gives K.limit K.whole (λ x. x) result (spot self.new.bits.position self.new.nodes) self.new.bits.taken
@@ -189,10 +198,12 @@ impl<'a, S: Source, K: Origin> Run<'a, S, K> {
         let mut text = Vec::new(alloc);
         let mut before = MOST_UNITS;
         'fragments: loop {
-            match self.count(0, None, before, text.len())? {
+            let total = text.as_slice().len();
+            let piece = self.count(0, None, before, total)?;
+            match piece {
                 Piece::Last(n) => {
-                    let octets = self.take_octets(alloc, n)?;
-                    return joined(text, octets);
+                    let last = self.take_octets(alloc, n)?;
+                    return joined(text, last);
                 }
                 Piece::Units(k) => {
                     let octets = self.take_octets(alloc, k * UNIT)?;

@@ -6,7 +6,6 @@ mod errors;
 mod faults;
 mod leaves;
 mod lengths;
-mod nodes;
 mod numbers;
 mod run;
 mod wholes;

@@ -11,7 +11,8 @@ use xa_base::Source;
 
 /// The least number of bits that hold a number; none for 0.
 pub(crate) fn width_of(x: u128) -> u32
-    ensures { result ≡ width_of x }
+    ensures same { result ≡ width_of x }
+    ensures few { result ≤ 128 }
 {
     u128::BITS - x.leading_zeros()
 }

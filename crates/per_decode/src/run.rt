@@ -1,5 +1,5 @@
 //! Bits and octets of a source, beside what the call began with.
-ghost use Rattle.std.specs.Prelude.{◌≡◌, ℕ, ◌<◌, ◌≤◌, ◌+◌, ◌-◌, ◌*◌, ◌^◌, List, [], Bool, false, IsTrue};
+ghost use Rattle.std.specs.Prelude.{◌≡◌, ℕ, ◌<◌, ◌≤◌, ◌+◌, ◌-◌, ◌*◌, ◌^◌, List, [], Bool, false, IsTrue, slice_index};
 ghost use Rattle.per_decode.specs.Private.Standing.{IsAt};
 
 use crate::faults::{Fault, stopped};
@@ -24,6 +24,11 @@ impl Origin for Brand {
     ghost limit = { 0 };
     ghost faults = { 0 };
 }
+
+// Octets are below 256: their type says so, and here it becomes a fact.
+fn see_octets(octets: &[u8])
+    ensures { (k : ℕ) → slice_index octets.now k < 256 }
+{}
 
 /// Reading from a source, since the origin, with the nodes that were begun.
 #[derive(Drop)]
@@ -109,7 +114,10 @@ impl<'a, S: Source, K: Origin> Run<'a, S, K> {
     {
         let begin = self.position();
         match self.bits.take_octets(alloc, n) {
-            Ok(octets) => Ok(octets),
+            Ok(octets) => {
+                see_octets(&octets);
+                Ok(octets)
+            }
             Err(CursorError::Failed) => Err(Fault::Failed),
             Err(CursorError::Short) => Err(Fault::Short { bit: begin }),
             Err(CursorError::TooLong) => Err(Fault::TooLong { bit: begin }),

@@ -36,9 +36,13 @@ module _ (limit : ℕ) (whole : List ℕ) where
   FailsAt (Stopped stop) taken read = (read ≡ Err stop) × (8 * taken ≤ stop.end + 7) × (is_short stop.why ≡ false)
 
   -- the value that is read, and the spot behind it, or a fault
+  abbrev pub Shows : {A B : Type 0} → (A → B) → Result A Fault → Spot → ℕ → Result (B × Spot) Stop → Type 0
+  Shows view (Ok x) new taken found = found ≡ Ok (view x, new)
+  Shows view (Err fault) new taken found = FailsAt fault taken found
+
+  -- a reader shows this from a spot on
   abbrev pub Gives : {A B : Type 0} → (A → B) → Result A Fault → Spot → ℕ → Reader B → Spot → Type 0
-  Gives view (Ok x) new taken read old = read (input limit whole) old ≡ Ok (view x, new)
-  Gives view (Err fault) new taken read old = FailsAt fault taken (read (input limit whole) old)
+  Gives view result new taken read old = Shows view result new taken (read (input limit whole) old)
 
   -- what a reader from the first octet on gave, and how many octets were taken
   pub record Ended {A B : Type 0} (view : A → B) (result : Result A Fault) (new : Option (List ℕ)) (read : Reader B) : Type 0 where

@@ -1,6 +1,11 @@
 use Rattle.std.proofs.Common.{◌<◌, ◌≤◌, ◌+◌, ◌*◌, arith, refl, get_or}
+use Rattle.bit_cursor.specs.Bits.{bits}
 use Rattle.per_decode.proofs.Joining.{below_more, fits_more, same_more}
 use Rattle.per_decode.proofs.numbers.number_of.Goals as goal
+
+pub loop-octet-init : goal.loop-octet-init
+unfolding bits
+loop-octet-init c = record { below = omega arith; same = refl }
 
 pub overflow_mul-number : goal.overflow_mul-number
 overflow_mul-number c = omega (arith, fits_more c.loop-octet.octet-index c.loop-octet.number 0 c.loop-octet.invariant.below (omega arith) (omega arith))
