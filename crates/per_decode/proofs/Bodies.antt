@@ -90,7 +90,7 @@ module _ (M : List Assignment) (known : IsKnown M) (depth : ℕ) (t : Rose TypeL
         → FailsAt limit whole e taken (text_told_at begin X s) → FailsAt limit whole e taken (body_at M depth begin (resolve M t) X s)
     text_fails limit whole e taken least most class is inside h =
         let k = fails_first limit whole e taken X (text_told_at begin X s) (λ v. stop_if (not (owns M (resolve M t) v.0)) (stop_at begin why.NotAValue v.1.at) (Ok v)) (sits-told inside).inside (λ v i.
-            sits_if X v.1.at (not (owns M (resolve M t) v.0)) _ _ (sits_err X v.1.at (stop_at begin why.NotAValue v.1.at) (omega arith) i) (sits_ok X v.1.at v (omega arith) i)) h in
+        sits_if X v.1.at (not (owns M (resolve M t) v.0)) _ _ (sits_err X v.1.at (stop_at begin why.NotAValue v.1.at) (omega arith) i) (sits_ok X v.1.at v (omega arith) i)) h in
         subst (FailsAt limit whole e taken) (sym (owned_told (fields_at M depth (resolve M t) X s) ∙ ap (λ r. (r >>= λ v. stop_if (is_no_text (label_of v.0)) (stop_at begin why.NotUtf8 v.1.at) (Ok v)) >>= λ v. stop_if (not (owns M (resolve M t) v.0)) (stop_at begin why.NotAValue v.1.at) (Ok v)) (text-is least most class is))) k
 
     -- what a text gives: its fields, which are UTF-8

@@ -109,9 +109,9 @@ sits-count least most before total X s h = search (rules, sits_then, sits-align,
 
 sits-octet_count_by : (X : List Bool) (p : ℕ) (n : Piece × Spot) → p ≤ n.1.at → n.1.at ≤ length X
     → Sits X n.1.at (elim n.0 as (λ _. Result (ℕ × Spot) Stop) [
-        | Last k ↦ stop_if (eqb k 0) (stop_at p why.Range n.1.at) (stop_if (ltb 16 k) (stop_at p why.TooWide n.1.at) (Ok (k - 1, n.1)))
-        | Units k ↦ Err (stop_at p why.TooWide n.1.at)
-      ])
+      | Last k ↦ stop_if (eqb k 0) (stop_at p why.Range n.1.at) (stop_if (ltb 16 k) (stop_at p why.TooWide n.1.at) (Ok (k - 1, n.1)))
+      | Units k ↦ Err (stop_at p why.TooWide n.1.at)
+    ])
 sits-octet_count_by X p (Last k, r) h i = search (rules, sits_if, sits_ok, sits_err)
 sits-octet_count_by X p (Units k, r) h i = record { later = omega arith; inside = i }
 
@@ -123,9 +123,9 @@ sits-octet_count_here X s h =
   where
     by : (r : Result (Piece × Spot) Stop) → Sits X s.at r
         → Sits X s.at (r >>= λ n. elim n.0 as (λ _. Result (ℕ × Spot) Stop) [
-            | Last k ↦ stop_if (eqb k 0) (stop_at s.at why.Range n.1.at) (stop_if (ltb 16 k) (stop_at s.at why.TooWide n.1.at) (Ok (k - 1, n.1)))
-            | Units k ↦ Err (stop_at s.at why.TooWide n.1.at)
-          ])
+          | Last k ↦ stop_if (eqb k 0) (stop_at s.at why.Range n.1.at) (stop_if (ltb 16 k) (stop_at s.at why.TooWide n.1.at) (Ok (k - 1, n.1)))
+          | Units k ↦ Err (stop_at s.at why.TooWide n.1.at)
+        ])
     by (Ok n) a = let i = sits-octet_count_by X s.at n a.later a.inside in record { later = omega (arith, a.later, i.later); inside = i.inside }
     by (Err e) a = record { later = a.later; inside = a.inside }
 
@@ -170,13 +170,13 @@ module _ {A : Type 0} (least : ℕ) (most : Option ℕ) (items : ℕ → Reader 
       by : (n : Piece) (r : Spot) → r.at ≤ length X
           → ((k total : ℕ) (X : List Bool) (s : Spot) → s.at ≤ length X → Sits X s.at (fragments_at least most items turns k total X s))
           → Sits X r.at (elim n as (λ _. Result (List A × Spot) Stop) [
-              | Last k ↦ items k X r
-              | Units k ↦ items (k * unit) X r >>= λ a. fragments_at least most items turns k (total + k * unit) X a.1 >>= λ b. Ok (a.0 ++ b.0, b.1)
-            ])
+            | Last k ↦ items k X r
+            | Units k ↦ items (k * unit) X r >>= λ a. fragments_at least most items turns k (total + k * unit) X a.1 >>= λ b. Ok (a.0 ++ b.0, b.1)
+          ])
       by (Last k) r i further = one k X r i
       by (Units k) r i further =
           sits_then X r.at (items (k * unit) X r) _ (one (k * unit) X r i) (λ a j.
-            sits_then X a.1.at (fragments_at least most items turns k (total + k * unit) X a.1) _ (further k (total + k * unit) X a.1 j) (λ b l. record { later = omega arith; inside = l }))
+          sits_then X a.1.at (fragments_at least most items turns k (total + k * unit) X a.1) _ (further k (total + k * unit) X a.1 j) (λ b l. record { later = omega arith; inside = l }))
 
   pub sits-counted : (X : List Bool) (s : Spot) → s.at ≤ length X → Sits X s.at (counted_at least most items X s)
   sits-counted X s h = sits-fragments (suc (length X)) 4 0 X s h
@@ -200,4 +200,4 @@ unfolding each_at
 sits-each read one [] X s h = record { later = omega arith; inside = h }
 sits-each read one (a ∷ as') X s h =
     sits_then X s.at (read a X s) _ (one a X s h) (λ b i.
-      sits_then X b.1.at (each_at read as' X b.1) _ (sits-each read one as' X b.1 i) (λ bs j. record { later = omega arith; inside = j }))
+    sits_then X b.1.at (each_at read as' X b.1) _ (sits-each read one as' X b.1 i) (λ bs j. record { later = omega arith; inside = j }))

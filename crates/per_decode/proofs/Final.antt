@@ -90,9 +90,11 @@ module _ (M : List Assignment) (known : IsKnown M) (t : ℕ) (a : Assignment) (a
       let same : (one.0.0, two.0.1) ≡ (v, r) = ok_is (one.0.0, two.0.1) (v, r) two.2 in
       let taken : Taken X 0 r.at (complete_of M a.body v) = subst (λ (y : Rose ValueLabel × Spot). Taken X 0 y.1.at (complete_of M a.body y.0)) same l in
       let fits : FitsAt M 1 a.body v = subst (λ (y : Rose ValueLabel × Spot). FitsAt M 1 a.body y.0) same k.1 in
-      let few : node_count v ≤ 1048576 = subst (λ (y : Rose ValueLabel × Spot). node_count y.0 ≤ 1048576) same (omega (arith, k.0.nodes, k.0.few (omega arith))) in
-      (record { rest = drop r.at X; is = taken.parts ∙ ap (λ m. m ++ drop r.at X) (sym (complete_is v)); value = in_module v fits few },
-        omega (arith, taken.end, ap length (complete_is v)), taken.inside)
+      let few : node_count v ≤ 1048576 = subst (λ (y : Rose ValueLabel × Spot). node_count y.0 ≤ 1048576) same (omega (arith, k.0.nodes, k.0.few (omega arith))) in (
+        record { rest = drop r.at X; is = taken.parts ∙ ap (λ m. m ++ drop r.at X) (sym (complete_is v)); value = in_module v fits few },
+        omega (arith, taken.end, ap length (complete_is v)),
+        taken.inside,
+      )
 
   -- the answer that is told
   abbrev pub answer_of : Result (Rose ValueLabel) Fault → Decoded
@@ -166,9 +168,9 @@ module _ (M : List Assignment) (known : IsKnown M) (t : ℕ) (a : Assignment) (a
         count = taken;
         takes = up_to h;
         says = λ v n few is e.
-          let g = read_is v (front_begins v n few is e) in
-          let r : IsRead read = subst IsRead (sym g.1) tt in
-          omega (arith, less r, ap end_of g.1, g.2, sym (ap length e), length-octet_bits (take n left), length-take n left, few);
+            let g = read_is v (front_begins v n few is e) in
+            let r : IsRead read = subst IsRead (sym g.1) tt in
+            omega (arith, less r, ap end_of g.1, g.2, sym (ap length e), length-octet_bits (take n left), length-take n left, few);
         value = λ v b. inr (inl refl);
         stop = λ stop k. inr (inl refl);
       }

@@ -95,19 +95,19 @@ module _ (M : List Assignment) (depth : ℕ) where
     fit-choice parts i part kid v e is_part is_kid h =
         let p = place_of (label_of t) i part kid in
         with_kids (value.Choice i) (p ∷ []) (v ∷ [])
-          (ap (λ f. places_in (label_of t) (kids_of t) f (value.Choice i) 1) e ∙ ap (λ o. alone (place_at (label_of t) i o (slice_get (kids_of t) i))) is_part ∙ ap (λ o. alone (place_at (label_of t) i (Some part) o)) is_kid)
-          (each-push [] p [] v (fit_none M depth) h)
+        (ap (λ f. places_in (label_of t) (kids_of t) f (value.Choice i) 1) e ∙ ap (λ o. alone (place_at (label_of t) i o (slice_get (kids_of t) i))) is_part ∙ ap (λ o. alone (place_at (label_of t) i (Some part) o)) is_kid)
+        (each-push [] p [] v (fit_none M depth) h)
 
     pub fit-list : (part : Component) (least : ℕ) (most : Option ℕ) (kid : Rose TypeLabel) (vs : List (Rose ValueLabel)) → (label_of t).form ≡ form.SequenceOf part least most → slice_get (kids_of t) 0 ≡ Some kid
         → least ≤ length vs → is_at_most (length vs) most ≡ true → FitAll M (below (place_of (label_of t) 0 part kid).role depth) kid vs → FitKids M depth t (node value.SequenceOf (roses_of vs))
     fit-list part least most kid vs e is_kid low high h =
         let p = place_of (label_of t) 0 part kid in
         with_kids value.SequenceOf (replicate (length vs) p) vs
-          (ap (λ f. places_in (label_of t) (kids_of t) f value.SequenceOf (length vs)) e
-          ∙ ap (λ b. cond (b && is_at_most (length vs) most) (repeated (length vs) (place_at (label_of t) 0 (Some part) (slice_get (kids_of t) 0))) None) (le-leb least (length vs) low)
-          ∙ ap (λ b. cond b (repeated (length vs) (place_at (label_of t) 0 (Some part) (slice_get (kids_of t) 0))) None) high
-          ∙ ap (λ o. repeated (length vs) (place_at (label_of t) 0 (Some part) o)) is_kid)
-          (all-each p vs h)
+        (ap (λ f. places_in (label_of t) (kids_of t) f value.SequenceOf (length vs)) e
+        ∙ ap (λ b. cond (b && is_at_most (length vs) most) (repeated (length vs) (place_at (label_of t) 0 (Some part) (slice_get (kids_of t) 0))) None) (le-leb least (length vs) low)
+        ∙ ap (λ b. cond b (repeated (length vs) (place_at (label_of t) 0 (Some part) (slice_get (kids_of t) 0))) None) high
+        ∙ ap (λ o. repeated (length vs) (place_at (label_of t) 0 (Some part) o)) is_kid)
+        (all-each p vs h)
 
 -- A VALUE THAT FITS HAS THE KIDS THAT ITS LABELS ALLOW
 same_some : {A : Type 0} (a b : A) → Some a ≡ Some b → a ≡ b
@@ -161,6 +161,7 @@ module _ (M : List Assignment) where
 
   mutual
     unfolding FitsAt FitEach
+
     pub fits-allowed : (depth : ℕ) (t : Rose TypeLabel) (v : Rose ValueLabel) → FitsAt M depth t v → Allowed MayHave v
     fits-allowed depth t (node l vs) h = by (places (resolve M t) l (length_all vs)) refl h.1 (λ ps k. each-allowed depth ps vs k)
       where

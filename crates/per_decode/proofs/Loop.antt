@@ -49,7 +49,7 @@ module _ {A B : Type 0} (read : A → Reader B) (front : List B) (X : List Bool)
     unfolding each_at
     each_fails one limit whole e taken inside h =
         let k = fails_first limit whole e taken X (read a X s) (λ b. each_at read others X b.1 >>= λ bs. Ok (b.0 ∷ bs.0, bs.1)) (one a X s inside).inside
-          (λ b j. sits_then X b.1.at (each_at read others X b.1) (λ bs. Ok (b.0 ∷ bs.0, bs.1)) (sits-each read one others X b.1 j) (λ bs j. record { later = omega arith; inside = j })) h in
+        (λ b j. sits_then X b.1.at (each_at read others X b.1) (λ bs. Ok (b.0 ∷ bs.0, bs.1)) (sits-each read one others X b.1 j) (λ bs j. record { later = omega arith; inside = j })) h in
         let l = fails_first limit whole e taken X (each_at read (a ∷ others) X s) (λ x. Ok (front ++ x.0, x.1)) (sits-each read one (a ∷ others) X s inside).inside (λ x j. record { later = omega arith; inside = j }) k in
         subst (λ bs. FailsAt limit whole e taken (with_front front (each_at read bs X s))) (sym is) l
 

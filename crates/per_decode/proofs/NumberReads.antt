@@ -37,4 +37,4 @@ as_octets n X s = by (ltb (length X) (s.at + 8 * n))
 pub number_fails : (limit : ℕ) (whole : List ℕ) (e : Fault) (taken n : ℕ) (X : List Bool) (s : Spot) → s.at ≤ length X → FailsAt limit whole e taken (octets_at n X s) → FailsAt limit whole e taken (bits_at s.at (8 * n) X s)
 number_fails limit whole e taken n X s inside h =
     subst (FailsAt limit whole e taken) (sym (as_octets n X s))
-      (fails_first limit whole e taken X (octets_at n X s) (λ o. Ok (number (take (8 * n) (drop s.at X)), o.1)) (sits-octets n X s inside).inside (λ o i. record { later = omega arith; inside = i }) h)
+    (fails_first limit whole e taken X (octets_at n X s) (λ o. Ok (number (take (8 * n) (drop s.at X)), o.1)) (sits-octets n X s inside).inside (λ o i. record { later = omega arith; inside = i }) h)

@@ -70,9 +70,9 @@ module _ (n p t h l nodes limit : ℕ) (whole : List ℕ) (old : Option (List �
       let m = limit - t - n in
       let e : limit - t ≡ n + m = omega (arith, room, el, same, behind) in
       let parts : octet_bits (take (limit - t) D) ≡ octet_bits xs ++ octet_bits (take m (drop n D)) =
-          ap (λ j. octet_bits (take j D)) e ∙ ap octet_bits (take-add n m D) ∙ octet_bits-append (take n D) (take m (drop n D)) ∙ ap (λ ys. octet_bits ys ++ octet_bits (take m (drop n D))) (sym is) in
+      ap (λ j. octet_bits (take j D)) e ∙ ap octet_bits (take-add n m D) ∙ octet_bits-append (take n D) (take m (drop n D)) ∙ ap (λ ys. octet_bits ys ++ octet_bits (take m (drop n D))) (sym is) in
       let here : drop p (input limit whole) ≡ in_turn (map octet_writer xs) p ++ octet_bits (take m (drop n D)) =
-          ap (λ j. drop j (input limit whole)) begins ∙ octets-behind t limit whole (omega (arith, within, same)) at.inside ∙ parts ∙ ap (λ bs. bs ++ octet_bits (take m (drop n D))) (sym (run_octets xs p)) in
+      ap (λ j. drop j (input limit whole)) begins ∙ octets-behind t limit whole (omega (arith, within, same)) at.inside ∙ parts ∙ ap (λ bs. bs ++ octet_bits (take m (drop n D))) (sym (run_octets xs p)) in
       let stands : Stands (input limit whole) p (in_turn (map octet_writer xs) p) (octet_bits (take m (drop n D))) = record { inside = omega (arith, length-input limit whole, at.inside, within, same, begins); is = here } in
       let long : length (in_turn (map octet_writer xs) p) ≡ 8 * n = ap length (run_octets xs p) ∙ length-octet_bits xs ∙ ap (λ j. 8 * j) count in
       (octets_codec n).again (input limit whole) (octet_bits (take m (drop n D))) (spot p nodes) xs (count, all_octets xs small) (omega (arith, nothing_weighs xs, few)) stands
@@ -109,8 +109,8 @@ module _ (n p t h l nodes limit : ℕ) (whole : List ℕ) (old : Option (List �
         inside = k.0;
         rest = k.1;
         bits = λ s.
-          let e : t' ≡ t = omega (arith, stays, step, s) in
-          rw (stays, eh, e) (at.bits step);
+            let e : t' ≡ t = omega (arith, stays, step, s) in
+            rw (stays, eh, e) (at.bits step);
       }
 
 -- behind whole octets

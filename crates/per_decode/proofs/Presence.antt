@@ -17,7 +17,7 @@ present-push (p ∷ parts) [] part flag h k = absurd h
 present-push (p ∷ parts) (f ∷ flags) part flag h k = (h.0, present-push parts flags part flag h.1 k)
 
 pub present_more : (parts : List Component) (i : ℕ) (flags : List Bool) (part : Component) (flag : Bool) → i < length parts → part ≡ get_or parts i part → Present (take i parts) flags → (part.optional ≡ false → flag ≡ true) → Present (take (i + 1) parts) (flags ++ flag ∷ [])
-present_more parts i flags part flag lt is h k = subst (λ ps. Present ps (flags ++ flag ∷ [])) (sym (take_more parts i part lt) ) (present-push (take i parts) flags (get_or parts i part) flag h (subst (λ p. p.optional ≡ false → flag ≡ true) is k))
+present_more parts i flags part flag lt is h k = subst (λ ps. Present ps (flags ++ flag ∷ [])) (sym (take_more parts i part lt)) (present-push (take i parts) flags (get_or parts i part) flag h (subst (λ p. p.optional ≡ false → flag ≡ true) is k))
 
 pub present_all : (parts : List Component) (i : ℕ) (flags : List Bool) → length parts ≤ i → Present (take i parts) flags → Present parts flags
 present_all parts i flags le h = subst (λ ps. Present ps flags) (take_all i parts le) h

@@ -59,8 +59,8 @@ at_after (Ok x) whole limit n p p' t t' h h' l l' old new el el' step le far mov
     let k = later whole t t' old new le at.inside at.rest took in
     let e : drop (t' - t) (drop t whole) ≡ drop t' whole = drop-drop (t' - t) t whole ∙ ap (λ m. drop m whole) (omega arith) in
     let here : drop p (input limit whole) ≡ bits n x ++ ahead p' t' h' limit (drop t' whole) =
-        sym (at.bits step) ∙ ap (λ m. ahead p t h m (drop t whole)) (sym el) ∙ taken (drop t whole) at.rest
-        ∙ ap (λ m. bits n x ++ ahead p' t' h' m (drop (t' - t) (drop t whole))) (el' ∙ el) ∙ ap (λ xs. bits n x ++ ahead p' t' h' limit xs) e in
+    sym (at.bits step) ∙ ap (λ m. ahead p t h m (drop t whole)) (sym el) ∙ taken (drop t whole) at.rest
+    ∙ ap (λ m. bits n x ++ ahead p' t' h' m (drop (t' - t) (drop t whole))) (el' ∙ el) ∙ ap (λ xs. bits n x ++ ahead p' t' h' limit xs) e in
     record { inside = k.0; rest = k.1; bits = λ s. stands n x p (input limit whole) _ here ∙ ap (λ m. drop m (input limit whole)) (sym moved.0) }
 at_after (Err f) whole limit n p p' t t' h h' l l' old new el el' step le far moved stays taken took at =
     let k = later whole t t' old new le at.inside at.rest took in
@@ -68,8 +68,8 @@ at_after (Err f) whole limit n p p' t t' h h' l l' old new el el' step le far mo
       inside = k.0;
       rest = k.1;
       bits = λ s.
-        let same : t' ≡ t = omega (arith, stays.0) in
-        rw (stays.0, stays.1, same) (at.bits step);
+          let same : t' ≡ t = omega (arith, stays.0) in
+          rw (stays.0, stays.1, same) (at.bits step);
     }
 
 -- no octet is left: so many there were
@@ -105,7 +105,7 @@ module _ (b n p t h l nodes limit : ℕ) (whole : List ℕ) (old : Option (List 
       → bits_at b n (input limit whole) (spot p nodes) ≡ Ok (x, spot p' nodes)
   taken_bits x p' t' h' l' moved lt came =
       let here : drop p (input limit whole) ≡ bits n x ++ ahead p' t' h' l' (drop (t' - t) (drop t whole)) =
-          sym (at.bits step) ∙ ap (λ m. ahead p t h m (drop t whole)) (sym same) ∙ came (drop t whole) at.rest in
+      sym (at.bits step) ∙ ap (λ m. ahead p t h m (drop t whole)) (sym same) ∙ came (drop t whole) at.rest in
       reads_bits b n x (input limit whole) _ (spot p nodes) inside here lt ∙ ap (λ r. Ok (x, r)) (same_spot _ _ _ _ (sym moved) (omega arith))
 
   pub failed_bits : (t' l' : ℕ) (new : Option (List ℕ)) → l' ≡ l → t ≤ t' → t' ≤ l' → LosesFirst old new (t' - t) → 8 * t' < p + n
@@ -132,7 +132,7 @@ module _ (b n p t h l nodes limit : ℕ) (whole : List ℕ) (old : Option (List 
   padding_ok p' zero_held moved =
       let g : gap p ≡ 8 * t - p = omega (arith, step, far) in
       let r : bits_at p (8 * t - p) (input limit whole) (spot p nodes) ≡ Ok (0, record { at = p + (8 * t - p); nodes = nodes + 0 }) =
-          reads_bits p (8 * t - p) 0 (input limit whole) _ (spot p nodes) inside (sym (at.bits step) ∙ ap (λ m. bits (8 * t - p) m ++ octet_bits (take (limit - t) (drop t whole))) zero_held) (pow_pos (8 * t - p)) in
+      reads_bits p (8 * t - p) 0 (input limit whole) _ (spot p nodes) inside (sym (at.bits step) ∙ ap (λ m. bits (8 * t - p) m ++ octet_bits (take (limit - t) (drop t whole))) zero_held) (pow_pos (8 * t - p)) in
       rw g (rw r (ap (λ s. Ok (0, s)) (same_spot _ _ _ _ (omega (arith, moved, far)) (omega arith))))
 
   pub padding_err : 0 < h → h < 2 ^ (8 * t - p) → align_at (input limit whole) (spot p nodes) ≡ Err (stop_at p Padding (p + gap p))
@@ -140,7 +140,7 @@ module _ (b n p t h l nodes limit : ℕ) (whole : List ℕ) (old : Option (List 
   padding_err some fits =
       let g : gap p ≡ 8 * t - p = omega (arith, step, far) in
       let r : bits_at p (8 * t - p) (input limit whole) (spot p nodes) ≡ Ok (h, record { at = p + (8 * t - p); nodes = nodes + 0 }) =
-          reads_bits p (8 * t - p) h (input limit whole) _ (spot p nodes) inside (sym (at.bits step)) fits in
+      reads_bits p (8 * t - p) h (input limit whole) _ (spot p nodes) inside (sym (at.bits step)) fits in
       let ne : eqb h 0 ≡ false = ne_eqb h 0 (omega arith) in
       rw g (rw r (rw ne refl))
 

@@ -32,8 +32,8 @@ module _ (begin : ℕ) (X : List Bool) (s : Spot) where
   pub told_fails : (limit : ℕ) (whole : List ℕ) (e : Fault) (taken : ℕ) → s.at ≤ length X → FailsAt limit whole e taken (counted_at 0 None octets_at X s) → FailsAt limit whole e taken (text_told_at begin X s)
   told_fails limit whole e taken inside h =
       subst (FailsAt limit whole e taken) (sym told-is)
-        (fails_first limit whole e taken X (counted_at 0 None octets_at X s) judged (sits-text_octets X s inside).inside
-          (λ x i. sits_if X x.1.at (not (is_utf8 x.0)) _ _ (sits_err X x.1.at (stop_at begin NotUtf8 x.1.at) (omega arith) i) (sits_ok X x.1.at (node (value.Utf8 x.0) none, x.1) (omega arith) i)) h)
+      (fails_first limit whole e taken X (counted_at 0 None octets_at X s) judged (sits-text_octets X s inside).inside
+      (λ x i. sits_if X x.1.at (not (is_utf8 x.0)) _ _ (sits_err X x.1.at (stop_at begin NotUtf8 x.1.at) (omega arith) i) (sits_ok X x.1.at (node (value.Utf8 x.0) none, x.1) (omega arith) i)) h)
 
   module _ (octets : List ℕ) (r : Spot) (read : counted_at 0 None octets_at X s ≡ Ok (octets, r)) where
     pub told_text : IsUtf8 octets → text_told_at begin X s ≡ Ok (node (value.Utf8 octets) none, r)

@@ -144,10 +144,10 @@ module _ {A : Type 0} (least : ℕ) (most : Option ℕ) (items : ℕ → Reader 
       items_fail limit whole e taken is h =
           let c = count-later least most before total X s (Units k, r) inside is in
           let f = fails_first limit whole e taken X (items (k * unit) X r) (λ y. joined y.0 (left_at k (total + k * unit) X y.1)) (one (k * unit) X r c.1).inside
-              (λ a j. sits_then X a.1.at (left_at k (total + k * unit) X a.1) (λ b. Ok (a.0 ++ b.0, b.1)) (sits-left k (total + k * unit) X a.1 j) (λ b l. record { later = omega arith; inside = l })) h in
+          (λ a j. sits_then X a.1.at (left_at k (total + k * unit) X a.1) (λ b. Ok (a.0 ++ b.0, b.1)) (sits-left k (total + k * unit) X a.1 j) (λ b l. record { later = omega arith; inside = l })) h in
           let same : left_at before total X s ≡ (items (k * unit) X r >>= λ y. joined y.0 (left_at k (total + k * unit) X y.1)) = left-step before total X s inside ∙ ap (λ c. c >>= behind left_at total X) is in
           fails_first limit whole e taken X (left_at before total X s) (λ b. Ok (front ++ b.0, b.1)) (sits-left before total X s inside).inside (λ b l. record { later = omega arith; inside = l })
-            (subst (FailsAt limit whole e taken) (sym same) f)
+          (subst (FailsAt limit whole e taken) (sym same) f)
 
   -- want of memory where so much is still to be read
   pub turn_full : (front : List A) (before total : ℕ) (X : List Bool) (s : Spot) (limit : ℕ) (whole : List ℕ) (taken : ℕ) → s.at ≤ length X → 8 * taken ≤ s.at + 7 → FailsAt limit whole fault.Memory taken (with_front front (left_at before total X s))

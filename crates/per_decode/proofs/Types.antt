@@ -78,5 +78,5 @@ module _ (M : List Assignment) where
       let here = subst (λ w. EachKid (NeedsFewer M depth u) (label_of w) 0 (parts_of (label_of w).form) (kids_of w)) (fields-resolved u has) all in
       let at = kid-each (NeedsFewer M depth u) (label_of u) 0 i i (parts_of (label_of u).form) (kids_of u) (omega arith) here in
       let found = subst (λ o. IfPlace (NeedsFewer M depth u) (place_at (label_of u) i (Some part) o)) is_kid
-          (subst (λ o. IfPlace (NeedsFewer M depth u) (place_at (label_of u) i o (slice_get (kids_of u) i))) is_part at) in
+      (subst (λ o. IfPlace (NeedsFewer M depth u) (place_at (label_of u) i o (slice_get (kids_of u) i))) is_part at) in
       found.1

@@ -106,7 +106,13 @@ impl<'a, S: Source, K: Origin> Run<'a, S, K> {
 
     // A length where reading is aligned, of a count within these bounds.
     #[tactic(auto, unfolding(per_fields::specs::Fields::count_here))]
-    fn count_here(&mut self, least: u32, most: Option<u32>, before: u32, total: usize) -> Result<Piece, Fault>
+    fn count_here(
+        &mut self,
+        least: u32,
+        most: Option<u32>,
+        before: u32,
+        total: usize,
+    ) -> Result<Piece, Fault>
         requires few { total < 2 ^ 63 }
         requires in_step { IsInStep self.old.bits.position self.old.bits.taken }
         ensures same_reference { self.new.bits.source.ghost_name ≡ self.old.bits.source.ghost_name }
@@ -129,7 +135,13 @@ impl<'a, S: Source, K: Origin> Run<'a, S, K> {
 
     /// A length of a count within these bounds, behind a fragment of so many units and so many octets or items in all.
     #[tactic(auto, unfolding(per_fields::specs::Fields::count_at))]
-    pub(crate) fn count(&mut self, least: u32, most: Option<u32>, before: u32, total: usize) -> Result<Piece, Fault>
+    pub(crate) fn count(
+        &mut self,
+        least: u32,
+        most: Option<u32>,
+        before: u32,
+        total: usize,
+    ) -> Result<Piece, Fault>
         requires few { total < 2 ^ 63 }
         requires in_step { IsInStep self.old.bits.position self.old.bits.taken }
         ensures same_reference { self.new.bits.source.ghost_name ≡ self.old.bits.source.ghost_name }

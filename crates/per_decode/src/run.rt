@@ -13,15 +13,21 @@ use xa_base::Source;
 /// and the count of faults.
 pub(crate) trait Origin {
     ghost told: { Bool };
+
     ghost whole: { List ℕ };
+
     ghost limit: { ℕ };
+
     ghost faults: { ℕ };
 }
 
 impl Origin for Brand {
     ghost told = { false };
+
     ghost whole = { [] };
+
     ghost limit = { 0 };
+
     ghost faults = { 0 };
 }
 

@@ -162,7 +162,12 @@ impl<'a, S: Source, K: Origin> Run<'a, S, K> {
 
     /// A whole number within bounds.
     #[tactic(auto, unfolding(per_fields::specs::Fields::whole_at))]
-    pub(crate) fn whole(&mut self, alloc: Global, lo: Option<i128>, hi: Option<i128>) -> Result<i128, Fault>
+    pub(crate) fn whole(
+        &mut self,
+        alloc: Global,
+        lo: Option<i128>,
+        hi: Option<i128>,
+    ) -> Result<i128, Fault>
         requires bounds { AreBounds lo hi }
         requires in_step { IsInStep self.old.bits.position self.old.bits.taken }
         ensures same_reference { self.new.bits.source.ghost_name ≡ self.old.bits.source.ghost_name }

@@ -18,7 +18,7 @@ returns-in_err-there-clause-gives g c = λ told.
     let run = c.loop-part.run in
     let i = stands_inside run.bits.position run.bits.taken run.bits.held run.bits.limit g.K.Origin.limit g.K.Origin.whole _ run.limited run.bits.behind run.bits.within (run.here told) in
     let k = each_fails flag_at c.loop-part.present.items X (spot run.bits.position run.nodes) c.part-item.result _ _ (here_split c.args.parts.now c.loop-part.part-index c.part-item.result c.loop-part-test.true c.part-item.is)
-        sits-flag g.K.Origin.limit g.K.Origin.whole c.in_err-there.field-0.0 c.presence_bit.new.run.bits.taken i (c.in_err-there.ensures.gives told) in
+    sits-flag g.K.Origin.limit g.K.Origin.whole c.in_err-there.field-0.0 c.presence_bit.new.run.bits.taken i (c.in_err-there.ensures.gives told) in
     rw (p.1, p.2) (subst (FailsAt g.K.Origin.limit g.K.Origin.whole c.in_err-there.field-0.0 c.presence_bit.new.run.bits.taken) (c.loop-part.invariant.so_far told) k)
 
 pub returns-in_err-push-clause-gives : goal.returns-in_err-push-clause-gives
@@ -29,7 +29,7 @@ returns-in_err-push-clause-gives g c = λ told.
     let run = c.presence_bit.new.run in
     let i = stands_inside run.bits.position run.bits.taken run.bits.held run.bits.limit g.K.Origin.limit g.K.Origin.whole _ run.limited run.bits.behind run.bits.within (run.here told) in
     let k = each_full flag_at c.loop-part.present.items X (spot old.bits.position old.nodes) c.part-item.result _ _ (here_split c.args.parts.now c.loop-part.part-index c.part-item.result c.loop-part-test.true c.part-item.is)
-        sits-flag g.K.Origin.limit g.K.Origin.whole c.in_ok-there.there (spot run.bits.position run.nodes) run.bits.taken (c.in_ok-there.ensures.gives told) i (omega (arith, c.in_ok-there.ensures.on.1)) in
+    sits-flag g.K.Origin.limit g.K.Origin.whole c.in_ok-there.there (spot run.bits.position run.nodes) run.bits.taken (c.in_ok-there.ensures.gives told) i (omega (arith, c.in_ok-there.ensures.on.1)) in
     rw (p.1, p.2) (subst (FailsAt g.K.Origin.limit g.K.Origin.whole Memory run.bits.taken) (c.loop-part.invariant.so_far told) k)
 
 pub loop-part-preserved : goal.loop-part-preserved
@@ -44,7 +44,7 @@ loop-part-preserved g c =
       present = rw c.in_ok-push.ensures.items (present_more c.args.parts.now c.loop-part.part-index c.loop-part.present.items c.part-item.result c.in_ok-there.there c.loop-part-test.true c.part-item.is c.loop-part.invariant.present c.in_ok-there.ensures.there);
       so_far = λ told. rw c.in_ok-push.ensures.items (
           sym (each_more flag_at c.loop-part.present.items (input g.K.Origin.limit g.K.Origin.whole) (spot old.bits.position old.nodes) c.part-item.result _ _ (here_split c.args.parts.now c.loop-part.part-index c.part-item.result c.loop-part-test.true c.part-item.is)
-            c.in_ok-there.there (spot run.bits.position run.nodes) (c.in_ok-there.ensures.gives told)) ∙ c.loop-part.invariant.so_far told);
+          c.in_ok-there.there (spot run.bits.position run.nodes) (c.in_ok-there.ensures.gives told)) ∙ c.loop-part.invariant.so_far told);
     }
 
 pub returns-clause-gives : goal.returns-clause-gives

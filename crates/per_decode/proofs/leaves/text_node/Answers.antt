@@ -27,7 +27,7 @@ returns-in-Err-NotUtf8-clause-gives g c = λ told.
     let n = rw c.in-Err-NotUtf8.field-0-is at c.in-Err-NotUtf8.ensures.not_utf8 refl in
     let w = rw c.deref.ensures.value at n in
     rw (c.stopped.ensures, c.position.ensures)
-      (told_wrong c.args.begin (input g.K.Origin.limit g.K.Origin.whole) (spot old.bits.position old.nodes) c.in_ok-octets.octets.items _ (c.in_ok-octets.ensures.gives told) w, omega (arith, c.in_ok-octets.ensures.on.1), refl)
+    (told_wrong c.args.begin (input g.K.Origin.limit g.K.Origin.whole) (spot old.bits.position old.nodes) c.in_ok-octets.octets.items _ (c.in_ok-octets.ensures.gives told) w, omega (arith, c.in_ok-octets.ensures.on.1), refl)
 
 pub returns-clause-gives : goal.returns-clause-gives
 returns-clause-gives g c = λ told.

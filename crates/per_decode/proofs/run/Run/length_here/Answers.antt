@@ -12,4 +12,4 @@ returns-in_err-x-clause-gives g c = λ told.
     let old = c.args.self.now in
     let i = stands_inside old.bits.position old.bits.taken old.bits.held old.bits.limit g.K.Origin.limit g.K.Origin.whole _ old.limited old.bits.behind old.bits.within (old.here told) in
     rw (p.1, p.2) (rw c.position-begin.ensures at (fails_first _ _ c.in_err-x.field-0.0 c.take_bits.new.self.bits.taken _ _ _ (sits-bits c.position-begin.result 8 _ _ i).inside
-      (λ x j. sits-length_from c.args.before c.position-begin.result x.0 _ x.1 j) (c.in_err-x.ensures.gives told)))
+    (λ x j. sits-length_from c.args.before c.position-begin.result x.0 _ x.1 j) (c.in_err-x.ensures.gives told)))

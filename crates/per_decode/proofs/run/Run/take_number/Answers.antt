@@ -17,4 +17,4 @@ returns-clause-gives g c = λ told.
     let old = c.args.self.now in
     let i = stands_inside old.bits.position old.bits.taken old.bits.held old.bits.limit g.K.Origin.limit g.K.Origin.whole _ old.limited old.bits.behind old.bits.within (old.here told) in
     number_read c.args.octets (input g.K.Origin.limit g.K.Origin.whole) (spot old.bits.position old.nodes) c.in_ok-octets.octets.items _ c.number_of.result i (c.in_ok-octets.ensures.gives told)
-      (rw c.deref.ensures.value at c.number_of.ensures.below) (rw c.deref.ensures.value at c.number_of.ensures.same)
+    (rw c.deref.ensures.value at c.number_of.ensures.below) (rw c.deref.ensures.value at c.number_of.ensures.same)

@@ -11,7 +11,7 @@ returns-in-Ok-clause-gives g c = λ told.
     let new = c.take_octets.new.self in
     let e = c.take_octets.ensures in
     taken_octets c.args.n old.bits.position old.bits.taken old.bits.held old.bits.limit old.nodes g.K.Origin.limit g.K.Origin.whole _ old.limited c.requires.in_step old.bits.behind c.requires.aligned old.bits.within (old.here told)
-      c.in-Ok.octets.items new.position new.taken new.limit _ e.limit new.within c.in-Ok.ensures.moved.0 c.in-Ok.ensures.moved.1 c.in-Ok.ensures.count (λ k. rw c.deref.ensures.value at (c.see_octets.ensures k)) old.few c.in-Ok.ensures.octets e.took
+    c.in-Ok.octets.items new.position new.taken new.limit _ e.limit new.within c.in-Ok.ensures.moved.0 c.in-Ok.ensures.moved.1 c.in-Ok.ensures.count (λ k. rw c.deref.ensures.value at (c.see_octets.ensures k)) old.few c.in-Ok.ensures.octets e.took
 
 pub returns-in-Err-Failed-clause-gives : goal.returns-in-Err-Failed-clause-gives
 returns-in-Err-Failed-clause-gives g c = λ told.
@@ -19,7 +19,7 @@ returns-in-Err-Failed-clause-gives g c = λ told.
     let new = c.take_octets.new.self in
     let e = c.take_octets.ensures in
     failed_octets c.args.n old.bits.position old.bits.taken old.bits.held old.bits.limit old.nodes g.K.Origin.limit g.K.Origin.whole _ old.limited c.requires.in_step old.bits.behind c.requires.aligned old.bits.within (old.here told)
-      new.taken new.limit _ e.limit e.most.0 new.within e.took (elim c.in-Err-Failed.ensures.missing [ inl m ↦ absurd (cc m) | inr lt ↦ lt ])
+    new.taken new.limit _ e.limit e.most.0 new.within e.took (elim c.in-Err-Failed.ensures.missing [ inl m ↦ absurd (cc m) | inr lt ↦ lt ])
 
 pub returns-in-Err-Short-clause-gives : goal.returns-in-Err-Short-clause-gives
 returns-in-Err-Short-clause-gives g c = λ told.
@@ -28,7 +28,7 @@ returns-in-Err-Short-clause-gives g c = λ told.
     let e = c.take_octets.ensures in
     let s = rw c.in-Err-Short.field-0-is at c.in-Err-Short.ensures.short refl in
     rw c.position-begin.ensures (short_octets c.args.n old.bits.position old.bits.taken old.bits.held old.bits.limit old.nodes g.K.Origin.limit g.K.Origin.whole _ old.limited c.requires.in_step old.bits.behind c.requires.aligned old.bits.within (old.here told)
-      new.taken _ e.most.0 e.took (elim c.in-Err-Short.ensures.missing [ inl m ↦ absurd (cc m) | inr lt ↦ lt ]) s.0 s.1)
+    new.taken _ e.most.0 e.took (elim c.in-Err-Short.ensures.missing [ inl m ↦ absurd (cc m) | inr lt ↦ lt ]) s.0 s.1)
 
 pub returns-in-Err-TooLong-clause-gives : goal.returns-in-Err-TooLong-clause-gives
 returns-in-Err-TooLong-clause-gives g c = λ told.
@@ -37,7 +37,7 @@ returns-in-Err-TooLong-clause-gives g c = λ told.
     let e = c.take_octets.ensures in
     let s = rw c.in-Err-TooLong.field-0-is at c.in-Err-TooLong.ensures.too_long refl in
     rw c.position-begin.ensures (long_octets c.args.n old.bits.position old.bits.taken old.bits.held old.bits.limit old.nodes g.K.Origin.limit g.K.Origin.whole _ old.limited c.requires.in_step old.bits.behind c.requires.aligned old.bits.within (old.here told)
-      new.taken _ e.most.0 e.took (elim c.in-Err-TooLong.ensures.missing [ inl m ↦ absurd (cc m) | inr lt ↦ lt ]) s)
+    new.taken _ e.most.0 e.took (elim c.in-Err-TooLong.ensures.missing [ inl m ↦ absurd (cc m) | inr lt ↦ lt ]) s)
 
 pub invariant_of-self : goal.invariant_of-self
 invariant_of-self g c =

@@ -17,7 +17,7 @@ returns-in_err-piece-clause-gives g c = λ told.
     let old = c.fragments.self in
     let i = stands_inside old.bits.position old.bits.taken old.bits.held old.bits.limit g.K.Origin.limit g.K.Origin.whole _ old.limited old.bits.behind old.bits.within (old.here told) in
     let k = turn_fails 0 None octets_at sits-octets c.fragments.text.items c.fragments.before (length c.fragments.text.items) (input g.K.Origin.limit g.K.Origin.whole) (spot old.bits.position old.nodes) i
-        g.K.Origin.limit g.K.Origin.whole c.in_err-piece.field-0.0 c.count.new.self.bits.taken (rw c.as_slice-total.ensures.value at (c.in_err-piece.ensures.gives told)) in
+    g.K.Origin.limit g.K.Origin.whole c.in_err-piece.field-0.0 c.count.new.self.bits.taken (rw c.as_slice-total.ensures.value at (c.in_err-piece.ensures.gives told)) in
     rw (p.1, p.2) (subst (FailsAt g.K.Origin.limit g.K.Origin.whole c.in_err-piece.field-0.0 c.count.new.self.bits.taken) (c.fragments.invariant.so_far told) k)
 
 pub returns-in_err-last-in-Last-clause-gives : goal.returns-in_err-last-in-Last-clause-gives
@@ -43,7 +43,7 @@ returns-in-Last-clause-gives g c = λ told.
     let i = stands_inside old.bits.position old.bits.taken old.bits.held old.bits.limit g.K.Origin.limit g.K.Origin.whole _ old.limited old.bits.behind old.bits.within (old.here told) in
     let e = turn_last 0 None octets_at sits-octets c.fragments.text.items c.fragments.before (length c.fragments.text.items) (input g.K.Origin.limit g.K.Origin.whole) (spot old.bits.position old.nodes) i c.in-Last.n _ (rw (c.as_slice-total.ensures.value, c.in-Last.is) at (c.in_ok-piece.ensures.gives told)) in
     joined_shows g.K.Origin.limit g.K.Origin.whole (λ o. o.items) c.joined.result c.fragments.text.items c.in_ok-last-in-Last.last.items (spot new.bits.position new.nodes) new.bits.taken _
-      (sym (c.fragments.invariant.so_far told) ∙ e ∙ ap (with_front c.fragments.text.items) (c.in_ok-last-in-Last.ensures.gives told)) (omega (arith, c.in_ok-last-in-Last.ensures.on.1)) c.joined.ensures.ok c.joined.ensures.memory
+    (sym (c.fragments.invariant.so_far told) ∙ e ∙ ap (with_front c.fragments.text.items) (c.in_ok-last-in-Last.ensures.gives told)) (omega (arith, c.in_ok-last-in-Last.ensures.on.1)) c.joined.ensures.ok c.joined.ensures.memory
 
 pub returns-in_err-text-in-Units-clause-gives : goal.returns-in_err-text-in-Units-clause-gives
 returns-in_err-text-in-Units-clause-gives g c = λ told.
@@ -54,7 +54,7 @@ returns-in_err-text-in-Units-clause-gives g c = λ told.
     let j = stands_inside new.bits.position new.bits.taken new.bits.held new.bits.limit g.K.Origin.limit g.K.Origin.whole _ new.limited new.bits.behind new.bits.within (new.here told) in
     let got = c.in_ok-octets-in-Units.octets.items in
     let full = turn_full 0 None octets_at sits-octets (c.fragments.text.items ++ got) c.in-Units.k (length c.fragments.text.items + c.in-Units.k * 16384) (input g.K.Origin.limit g.K.Origin.whole) (spot new.bits.position new.nodes)
-        g.K.Origin.limit g.K.Origin.whole new.bits.taken j (omega (arith, c.in_ok-octets-in-Units.ensures.on.1)) in
+    g.K.Origin.limit g.K.Origin.whole new.bits.taken j (omega (arith, c.in_ok-octets-in-Units.ensures.on.1)) in
     let e = turn_more 0 None octets_at sits-octets c.fragments.text.items c.fragments.before (length c.fragments.text.items) (input g.K.Origin.limit g.K.Origin.whole) (spot old.bits.position old.nodes) i c.in-Units.k _ got (spot new.bits.position new.nodes) (rw (c.as_slice-total.ensures.value, c.in-Units.is) at (c.in_ok-piece.ensures.gives told)) (c.in_ok-octets-in-Units.ensures.gives told) in
     rw (p.1, p.2, c.in_err-text-in-Units.ensures.memory) (subst (FailsAt g.K.Origin.limit g.K.Origin.whole Memory new.bits.taken) (sym e ∙ c.fragments.invariant.so_far told) full)
 
@@ -72,8 +72,8 @@ fragments-preserved g c =
       nodes = c.take_octets-in-Units.ensures.nodes ∙ c.count.ensures.nodes ∙ c.fragments.invariant.nodes;
       same = c.take_octets-in-Units.ensures.same_reference ∙ c.count.ensures.same_reference ∙ c.fragments.invariant.same;
       so_far = λ told.
-        let i = stands_inside old.bits.position old.bits.taken old.bits.held old.bits.limit g.K.Origin.limit g.K.Origin.whole _ old.limited old.bits.behind old.bits.within (old.here told) in
-        let e = turn_more 0 None octets_at sits-octets c.fragments.text.items c.fragments.before (length c.fragments.text.items) (input g.K.Origin.limit g.K.Origin.whole) (spot old.bits.position old.nodes) i c.in-Units.k _ got (spot new.bits.position new.nodes) (rw (c.as_slice-total.ensures.value, c.in-Units.is) at (c.in_ok-piece.ensures.gives told)) (c.in_ok-octets-in-Units.ensures.gives told) in
-        rw c.in_ok-text-in-Units.ensures.ok (subst (λ n. with_front (front ++ got) (fragments_at 0 None octets_at (suc (length X)) c.in-Units.k n X (spot new.bits.position new.nodes)) ≡ counted_at 0 None octets_at X (spot c.args.self.now.bits.position c.args.self.now.nodes))
+          let i = stands_inside old.bits.position old.bits.taken old.bits.held old.bits.limit g.K.Origin.limit g.K.Origin.whole _ old.limited old.bits.behind old.bits.within (old.here told) in
+          let e = turn_more 0 None octets_at sits-octets c.fragments.text.items c.fragments.before (length c.fragments.text.items) (input g.K.Origin.limit g.K.Origin.whole) (spot old.bits.position old.nodes) i c.in-Units.k _ got (spot new.bits.position new.nodes) (rw (c.as_slice-total.ensures.value, c.in-Units.is) at (c.in_ok-piece.ensures.gives told)) (c.in_ok-octets-in-Units.ensures.gives told) in
+          rw c.in_ok-text-in-Units.ensures.ok (subst (λ n. with_front (front ++ got) (fragments_at 0 None octets_at (suc (length X)) c.in-Units.k n X (spot new.bits.position new.nodes)) ≡ counted_at 0 None octets_at X (spot c.args.self.now.bits.position c.args.self.now.nodes))
           long (sym e ∙ c.fragments.invariant.so_far told));
     }
