@@ -1,0 +1,175 @@
+-- Values that are read fit their types.
+use Rattle.std.proofs.Common.{◌≡◌, ℕ, zero, suc, ◌+◌, ◌-◌, ◌*◌, ◌<◌, ◌≤◌, Bool, true, false, cond, ltb, leb, List, [], ◌∷◌, ◌++◌, length, refl, sym, ap, ◌∙◌, subst, arith, Option, Some, None, inl, inr}
+use Rattle.std.specs.Prelude.{slice_get, replicate, ℤ, ◌&&◌}
+use Rattle.std.proofs.lemmas.Bool.{lt-ltb, le-leb}
+use Rattle.std.specs.List.{sum_by}
+use Rattle.std.proofs.lemmas.List.Sums.{sum_by-cons}
+use Rattle.label_tree.specs.Rose.{Rose, node, Roses, none, more, list_of, roses_of, label_of, kids_of, length_all, node_count, count_all, Allowed, AllowedAll}
+use Rattle.simple_types.specs.declared.labels.ValueLabel.{ValueLabel}
+use Rattle.simple_types.specs.declared.labels.ValueLabel.TheVariants as value
+use Rattle.simple_types.specs.Labels.{MayHave, count_set, flag_count}
+use Rattle.simple_values.specs.Lexical.{is_128_bits, is_from, is_to, is_at_most}
+use Rattle.asn_types.specs.declared.modules.Assignment.{Assignment}
+use Rattle.asn_types.specs.declared.types.Component.{Component}
+use Rattle.asn_types.specs.declared.types.Form.{Form}
+use Rattle.asn_types.specs.declared.types.Form.TheVariants as form
+use Rattle.asn_types.specs.declared.types.TypeLabel.{TypeLabel}
+use Rattle.asn_types.specs.Refs.{resolve}
+use Rattle.asn_types.specs.Values.{ComponentPlace, place_of, put_first, present_from, place_at, alone, repeated, none_if, places_in, places, below, FitsAt, FitEach}
+use Rattle.asn_types.specs.Private.Placing.{FitPlaces, FitKids}
+use Rattle.asn_types.proofs.Counting.{fit_none, fit_each-length}
+use Rattle.per_decode.specs.Private.Bodies.{FitAll, FitSome}
+
+pub roses-list : (vs : Roses ValueLabel) → roses_of (list_of vs) ≡ vs
+roses-list none = refl
+roses-list (more v vs) = ap (λ us. more v us) (roses-list vs)
+
+pub list-roses : (vs : List (Rose ValueLabel)) → list_of (roses_of vs) ≡ vs
+list-roses [] = refl
+list-roses (v ∷ vs) = ap (λ us. v ∷ us) (list-roses vs)
+
+-- one more
+pub count-push : (vs : List (Rose ValueLabel)) (v : Rose ValueLabel) → count_all (roses_of (vs ++ v ∷ [])) ≡ count_all (roses_of vs) + node_count v
+count-push [] v = omega arith
+count-push (w ∷ vs) v = omega (arith, count-push vs v)
+
+pub many-count : (vs : List (Rose ValueLabel)) → length vs ≤ count_all (roses_of vs)
+many-count [] = omega arith
+many-count (node l ws ∷ vs) = omega (arith, many-count vs)
+
+module _ (M : List Assignment) (depth : ℕ) where
+  pub each-push : (ps : List ComponentPlace) (p : ComponentPlace) (vs : List (Rose ValueLabel)) (v : Rose ValueLabel) → FitEach M depth ps (roses_of vs) → FitsAt M (below p.role depth) p.type v
+      → FitEach M depth (ps ++ p ∷ []) (roses_of (vs ++ v ∷ []))
+  unfolding FitEach
+  each-push [] p [] v h k = (k, tt)
+  each-push [] p (w ∷ vs) v h k = absurd h
+  each-push (q ∷ ps) p [] v h k = absurd h
+  each-push (q ∷ ps) p (w ∷ vs) v h k = (h.0, each-push ps p vs v h.1 k)
+
+  pub all-push : (t : Rose TypeLabel) (vs : List (Rose ValueLabel)) (v : Rose ValueLabel) → FitAll M depth t vs → FitsAt M depth t v → FitAll M depth t (vs ++ v ∷ [])
+  all-push t [] v h k = (k, tt)
+  all-push t (w ∷ vs) v h k = (h.0, all-push t vs v h.1 k)
+
+  -- values of the type of a place
+  pub all-each : (p : ComponentPlace) (vs : List (Rose ValueLabel)) → FitAll M (below p.role depth) p.type vs → FitEach M depth (replicate (length vs) p) (roses_of vs)
+  unfolding FitEach
+  all-each p [] h = tt
+  all-each p (v ∷ vs) h = (h.0, all-each p vs h.1)
+
+  -- LEAVES
+  module _ (t : Rose TypeLabel) where
+    by_places : (l : ValueLabel) → places t l 0 ≡ Some [] → FitKids M depth t (node l none)
+    by_places l e = subst (λ o. FitPlaces M depth o none) (sym e) (fit_none M depth)
+
+    pub fit-bool : (b : Bool) → (label_of t).form ≡ form.Bool → FitKids M depth t (node (value.Bool b) none)
+    fit-bool b e = by_places (value.Bool b) (ap (λ f. places_in (label_of t) (kids_of t) f (value.Bool b) 0) e)
+
+    pub fit-int : (lo hi : Option ℤ) (z : ℤ) → (label_of t).form ≡ form.Int lo hi → is_128_bits z ≡ true → is_from lo z ≡ true → is_to hi z ≡ true → FitKids M depth t (node (value.Int z) none)
+    fit-int lo hi z e wide from to =
+        by_places (value.Int z) (ap (λ f. places_in (label_of t) (kids_of t) f (value.Int z) 0) e ∙ ap (λ b. none_if (b && is_from lo z && is_to hi z)) wide ∙ ap (λ b. none_if (b && is_to hi z)) from ∙ ap none_if to)
+
+    pub fit-numbers : (numbers : List ℤ) (i : ℕ) → (label_of t).form ≡ form.Numbers numbers → i < length numbers → FitKids M depth t (node (value.Enum i) none)
+    fit-numbers numbers i e lt = by_places (value.Enum i) (ap (λ f. places_in (label_of t) (kids_of t) f (value.Enum i) 0) e ∙ ap none_if (lt-ltb i (length numbers) lt))
+
+    pub fit-words : (identifiers words : List (List ℕ)) (i : ℕ) → (label_of t).form ≡ form.Words identifiers words → i < length words → FitKids M depth t (node (value.Enum i) none)
+    fit-words identifiers words i e lt = by_places (value.Enum i) (ap (λ f. places_in (label_of t) (kids_of t) f (value.Enum i) 0) e ∙ ap none_if (lt-ltb i (length words) lt))
+
+    pub fit-text : (least : ℕ) (most : Option ℕ) (class : _) (text : List ℕ) → (label_of t).form ≡ form.Utf8 least most class → FitKids M depth t (node (value.Utf8 text) none)
+    fit-text least most class text e = by_places (value.Utf8 text) (ap (λ f. places_in (label_of t) (kids_of t) f (value.Utf8 text) 0) e)
+
+    -- NODES WITH KIDS
+    with_kids : (l : ValueLabel) (ps : List ComponentPlace) (vs : List (Rose ValueLabel)) → places t l (length vs) ≡ Some ps → FitEach M depth ps (roses_of vs) → FitKids M depth t (node l (roses_of vs))
+    with_kids l ps vs e h =
+        subst (λ us. FitPlaces M depth (places t l (length us)) (roses_of us)) (sym (list-roses vs)) (subst (λ o. FitPlaces M depth o (roses_of vs)) (sym e) h)
+
+    pub fit-sequence : (parts : List Component) (present : List Bool) (vs : List (Rose ValueLabel)) → (label_of t).form ≡ form.Sequence parts → FitSome M depth (present_from (label_of t) 0 parts (kids_of t) present) (roses_of vs)
+        → FitKids M depth t (node (value.Sequence present) (roses_of vs))
+    fit-sequence parts present vs e h = by (present_from (label_of t) 0 parts (kids_of t) present) refl h
+      where
+        by : (o : Option (List ComponentPlace)) → present_from (label_of t) 0 parts (kids_of t) present ≡ o → FitSome M depth o (roses_of vs) → FitKids M depth t (node (value.Sequence present) (roses_of vs))
+        by None is h = absurd h
+        by (Some ps) is h = with_kids (value.Sequence present) ps vs (ap (λ f. places_in (label_of t) (kids_of t) f (value.Sequence present) (length vs)) e ∙ is) h
+
+    pub fit-choice : (parts : List Component) (i : ℕ) (part : Component) (kid : Rose TypeLabel) (v : Rose ValueLabel) → (label_of t).form ≡ form.Choice parts
+        → slice_get parts i ≡ Some part → slice_get (kids_of t) i ≡ Some kid → FitsAt M (below (place_of (label_of t) i part kid).role depth) kid v → FitKids M depth t (node (value.Choice i) (roses_of (v ∷ [])))
+    fit-choice parts i part kid v e is_part is_kid h =
+        let p = place_of (label_of t) i part kid in
+        with_kids (value.Choice i) (p ∷ []) (v ∷ [])
+        (ap (λ f. places_in (label_of t) (kids_of t) f (value.Choice i) 1) e ∙ ap (λ o. alone (place_at (label_of t) i o (slice_get (kids_of t) i))) is_part ∙ ap (λ o. alone (place_at (label_of t) i (Some part) o)) is_kid)
+        (each-push [] p [] v (fit_none M depth) h)
+
+    pub fit-list : (part : Component) (least : ℕ) (most : Option ℕ) (kid : Rose TypeLabel) (vs : List (Rose ValueLabel)) → (label_of t).form ≡ form.SequenceOf part least most → slice_get (kids_of t) 0 ≡ Some kid
+        → least ≤ length vs → is_at_most (length vs) most ≡ true → FitAll M (below (place_of (label_of t) 0 part kid).role depth) kid vs → FitKids M depth t (node value.SequenceOf (roses_of vs))
+    fit-list part least most kid vs e is_kid low high h =
+        let p = place_of (label_of t) 0 part kid in
+        with_kids value.SequenceOf (replicate (length vs) p) vs
+        (ap (λ f. places_in (label_of t) (kids_of t) f value.SequenceOf (length vs)) e
+        ∙ ap (λ b. cond (b && is_at_most (length vs) most) (repeated (length vs) (place_at (label_of t) 0 (Some part) (slice_get (kids_of t) 0))) None) (le-leb least (length vs) low)
+        ∙ ap (λ b. cond b (repeated (length vs) (place_at (label_of t) 0 (Some part) (slice_get (kids_of t) 0))) None) high
+        ∙ ap (λ o. repeated (length vs) (place_at (label_of t) 0 (Some part) o)) is_kid)
+        (all-each p vs h)
+
+-- A VALUE THAT FITS HAS THE KIDS THAT ITS LABELS ALLOW
+same_some : {A : Type 0} (a b : A) → Some a ≡ Some b → a ≡ b
+same_some a b e = cc
+
+none_some : {A : Type 0} {X : Type 0} (a : A) → None ≡ Some a → X
+none_some a e = absurd cc
+
+present-count : (l : TypeLabel) (i : ℕ) (parts : List Component) (ts : List (Rose TypeLabel)) (flags : List Bool) (ps : List ComponentPlace) → present_from l i parts ts flags ≡ Some ps → length ps ≡ count_set flags
+present-count l i [] ts [] ps e = ap length (sym (same_some [] ps e))
+present-count l i [] ts (f ∷ flags) ps e = none_some ps e
+present-count l i (part ∷ parts) [] flags ps e = none_some ps e
+present-count l i (part ∷ parts) (t ∷ ts) [] ps e = none_some ps e
+present-count l i (part ∷ parts) (t ∷ ts) (true ∷ flags) ps e = by (present_from l (i + 1) parts ts flags) (present-count l (i + 1) parts ts flags) e
+  where
+    by : (o : Option (List ComponentPlace)) → ((qs : List ComponentPlace) → o ≡ Some qs → length qs ≡ count_set flags) → put_first (place_of l i part t) o ≡ Some ps → length ps ≡ count_set (true ∷ flags)
+    by None further k = none_some ps k
+    by (Some qs) further k = let same : place_of l i part t ∷ qs ≡ ps = same_some (place_of l i part t ∷ qs) ps k in omega (arith, ap length same, further qs refl, sum_by-cons flag_count true flags)
+present-count l i (part ∷ parts) (t ∷ ts) (false ∷ flags) ps e = by part.optional e (present-count l (i + 1) parts ts flags ps)
+  where
+    by : (b : Bool) → cond b (present_from l (i + 1) parts ts flags) None ≡ Some ps → (present_from l (i + 1) parts ts flags ≡ Some ps → length ps ≡ count_set flags) → length ps ≡ count_set (false ∷ flags)
+    by true k further = omega (arith, further k, sum_by-cons flag_count false flags)
+    by false k further = none_some ps k
+
+alone-count : (o : Option ComponentPlace) (ps : List ComponentPlace) → alone o ≡ Some ps → length ps ≡ 1
+alone-count None ps e = none_some ps e
+alone-count (Some p) ps e = ap length (sym (same_some (p ∷ []) ps e))
+
+none_if-count : (b : Bool) (ps : List ComponentPlace) → none_if b ≡ Some ps → length ps ≡ 0
+none_if-count true ps e = ap length (sym (same_some [] ps e))
+none_if-count false ps e = none_some ps e
+
+may : (l : TypeLabel) (ts : List (Rose TypeLabel)) (f : Form) (v : ValueLabel) (n : ℕ) (ps : List ComponentPlace) → places_in l ts f v n ≡ Some ps → length ps ≡ n → MayHave v n
+may l ts form.Bool (value.Bool b) n ps e k = sym k ∙ ap length (sym (same_some [] ps e))
+may l ts (form.Int least greatest) (value.Int z) n ps e k = sym k ∙ none_if-count _ ps e
+may l ts (form.Numbers numbers) (value.Enum i) n ps e k = sym k ∙ none_if-count _ ps e
+may l ts (form.Words identifiers words) (value.Enum i) n ps e k = sym k ∙ none_if-count _ ps e
+may l ts (form.Utf8 least most class) (value.Utf8 text) n ps e k = sym k ∙ ap length (sym (same_some [] ps e))
+may l ts (form.Sequence parts) (value.Sequence present) n ps e k = sym k ∙ present-count l 0 parts ts present ps e
+may l ts (form.Choice parts) (value.Choice i) n ps e k = sym k ∙ alone-count _ ps e
+may l ts (form.SequenceOf part least most) value.SequenceOf n ps e k = tt
+may l ts f v n ps e k = none_some ps e
+
+module _ (M : List Assignment) where
+  each-length : (depth : ℕ) (ps : List ComponentPlace) (vs : Roses ValueLabel) → FitEach M depth ps vs → length ps ≡ length_all vs
+  unfolding FitEach
+  each-length depth [] none h = refl
+  each-length depth [] (more v vs) h = absurd h
+  each-length depth (p ∷ ps) none h = absurd h
+  each-length depth (p ∷ ps) (more v vs) h = ap suc (each-length depth ps vs h.1)
+
+  mutual
+    unfolding FitsAt FitEach
+
+    pub fits-allowed : (depth : ℕ) (t : Rose TypeLabel) (v : Rose ValueLabel) → FitsAt M depth t v → Allowed MayHave v
+    fits-allowed depth t (node l vs) h = by (places (resolve M t) l (length_all vs)) refl h.1 (λ ps k. each-allowed depth ps vs k)
+      where
+        by : (o : Option (List ComponentPlace)) → places (resolve M t) l (length_all vs) ≡ o → FitPlaces M depth o vs → ((ps : List ComponentPlace) → FitEach M depth ps vs → AllowedAll MayHave vs) → Allowed MayHave (node l vs)
+        by None is k further = absurd k
+        by (Some ps) is k further = (may (label_of (resolve M t)) (kids_of (resolve M t)) (label_of (resolve M t)).form l (length_all vs) ps is (each-length depth ps vs k), further ps k)
+
+    each-allowed : (depth : ℕ) (ps : List ComponentPlace) (vs : Roses ValueLabel) → FitEach M depth ps vs → AllowedAll MayHave vs
+    each-allowed depth ps none h = tt
+    each-allowed depth [] (more v vs) h = absurd h
+    each-allowed depth (p ∷ ps) (more v vs) h = (fits-allowed (below p.role depth) p.type v h.0, each-allowed depth ps vs h.1)

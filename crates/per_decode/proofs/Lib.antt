@@ -1,0 +1,16 @@
+pub mod Standing
+pub mod Octets
+pub mod Ends
+pub mod EndNodes
+pub mod Types
+pub mod Fitting
+pub mod Loop
+pub mod Turns
+pub mod Bodies
+pub mod Final
+pub mod Joining
+pub mod Presence
+pub mod Signs
+pub mod Origins
+pub mod NumberReads
+pub mod Texts

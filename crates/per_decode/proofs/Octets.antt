@@ -1,0 +1,119 @@
+-- Octets of a source that stands where an octet begins.
+use Rattle.std.proofs.Common.{◌≡◌, ℕ, zero, suc, ◌+◌, ◌-◌, ◌*◌, ◌/◌, ◌%◌, ◌<◌, ◌≤◌, min, Bool, List, [], ◌∷◌, ◌++◌, length, get_or, map, refl, sym, ap, ◌∙◌, subst, arith, append_assoc, take, drop, Option, Some, None, Result, Ok, Err, inl, inr}
+use Rattle.std.proofs.lemmas.Bool.{cases_lt, le-ltb, lt-ltb}
+use Rattle.std.proofs.lemmas.List.{length-append, length-take-le, length-drop, drop_at, drop-drop, take-append-drop}
+use Rattle.std.proofs.Math.Seq.{take-add}
+use Rattle.std.specs.Prelude.{OnOk, OnErr, IfOk}
+use Rattle.std.specs.Io.KnownBytes.{IsAtEnd}
+use Rattle.bit_cursor.specs.Bits.{bits, octet_bits}
+use Rattle.bit_cursor.specs.Cursors.{IsInStep, LosesFirst, ahead}
+use Rattle.bit_cursor.proofs.BitLemmas.{length-octet_bits, octet_bits-append}
+use Rattle.per_fields.specs.declared.stops.Spot.{Spot}
+use Rattle.per_fields.specs.declared.stops.Why.TheVariants.{Short}
+use Rattle.per_fields.specs.Codec.{AllOf, Stands, total_of}
+use Rattle.per_fields.specs.Encoding.{octet_writer}
+use Rattle.per_fields.specs.Fields.{in_turn}
+use Rattle.per_fields.specs.Reading.{octets_at, stop_at, moved}
+use Rattle.per_fields.proofs.Fragments.{octets_codec, run_octets}
+use Rattle.per_decode.specs.Private.Standing.{IsAt}
+use Rattle.per_decode.specs.Private.Giving.{input, spot, end_of, IsRead}
+use Rattle.per_decode.proofs.Standing.{length-input, later, at-end, same_spot}
+
+pub octets-behind : (t limit : ℕ) (whole : List ℕ) → t ≤ limit → t ≤ length whole → drop (8 * t) (input limit whole) ≡ octet_bits (take (limit - t) (drop t whole))
+octets-behind t limit whole room inside =
+    let e : t + (limit - t) ≡ limit = omega arith in
+    let front = take t whole in
+    let rest = take (limit - t) (drop t whole) in
+    let parts : input limit whole ≡ octet_bits front ++ octet_bits rest = ap (λ n. octet_bits (take n whole)) (sym e) ∙ ap octet_bits (take-add t (limit - t) whole) ∙ octet_bits-append front rest in
+    let long : length (octet_bits front) ≡ 8 * t = length-octet_bits front ∙ ap (λ n. 8 * n) (length-take-le t whole inside) in
+    ap (drop (8 * t)) parts ∙ drop_at (octet_bits front) (octet_bits rest) (8 * t) long
+
+-- where an octet begins, whatever is held
+pub at_octet : (whole : List ℕ) (limit t h : ℕ) (left : Option (List ℕ)) → t ≤ limit → t ≤ length whole → left ≡ Some (drop t whole) → IsAt whole limit (8 * t) t h left
+unfolding bits
+at_octet whole limit t h left room inside is =
+    let z : 8 * t - 8 * t ≡ 0 = omega arith in
+    record { inside = inside; rest = is; bits = λ s. rw z (sym (octets-behind t limit whole room inside)) }
+
+all_octets : (xs : List ℕ) → ((k : ℕ) → get_or xs k 0 < 256) → AllOf (λ x. x < 256) xs
+all_octets [] h = tt
+all_octets (x ∷ xs) h = (h 0, all_octets xs (λ k. h (suc k)))
+
+pub nothing_weighs : (xs : List ℕ) → total_of (λ x. 0) xs ≡ 0
+nothing_weighs [] = refl
+nothing_weighs (x ∷ xs) = omega (arith, nothing_weighs xs)
+
+pub fails_octets : (n taken : ℕ) (X : List Bool) (s : Spot) → 8 * taken ≤ length X → 8 * taken < s.at + 8 * n → (8 * taken ≤ end_of (octets_at n X s) + 7) × (IsRead (octets_at n X s) → 8 * taken < end_of (octets_at n X s))
+unfolding octets_at
+fails_octets n taken X s h k =
+    elim (cases_lt (length X) (s.at + 8 * n)) [
+      | inl lt ↦ rw (lt-ltb (length X) (s.at + 8 * n) lt) (omega arith, λ r. absurd r)
+      | inr le ↦ rw (le-ltb (length X) (s.at + 8 * n) le) (omega arith, λ r. k)
+    ]
+
+reads_short : (n : ℕ) (X : List Bool) (s : Spot) (e : ℕ) → length X ≡ e → e < s.at + 8 * n → octets_at n X s ≡ Err (stop_at s.at Short e)
+unfolding octets_at
+reads_short n X s e long h = rw long (rw (lt-ltb e (s.at + 8 * n) h) refl)
+
+-- A CALL FOR OCTETS, from a source that stands where one begins
+module _ (n p t h l nodes limit : ℕ) (whole : List ℕ) (old : Option (List ℕ)) (same : l ≡ limit) (step : IsInStep p t) (far : p ≤ 8 * t) (aligned : p % 8 ≡ 0) (within : t ≤ l) (at : IsAt whole limit p t h old) where
+  begins : p ≡ 8 * t
+  begins = omega (arith, step, far, aligned)
+
+  pub taken_octets : (xs : List ℕ) (p' t' l' : ℕ) (new : Option (List ℕ)) → l' ≡ l → t' ≤ l' → p' ≡ p + 8 * n → t' ≡ t + n → length xs ≡ n → ((k : ℕ) → get_or xs k 0 < 256) → nodes ≤ 1048576
+      → ((left : List ℕ) → old ≡ Some left → xs ≡ take n left) → LosesFirst old new (t' - t)
+      → octets_at n (input limit whole) (spot p nodes) ≡ Ok (xs, spot p' nodes)
+  taken_octets xs p' t' l' new el room moved behind count small few came took =
+      let k = later whole t t' old new (omega arith) at.inside at.rest took in
+      let D = drop t whole in
+      let is : xs ≡ take n D = came D at.rest in
+      let m = limit - t - n in
+      let e : limit - t ≡ n + m = omega (arith, room, el, same, behind) in
+      let parts : octet_bits (take (limit - t) D) ≡ octet_bits xs ++ octet_bits (take m (drop n D)) =
+      ap (λ j. octet_bits (take j D)) e ∙ ap octet_bits (take-add n m D) ∙ octet_bits-append (take n D) (take m (drop n D)) ∙ ap (λ ys. octet_bits ys ++ octet_bits (take m (drop n D))) (sym is) in
+      let here : drop p (input limit whole) ≡ in_turn (map octet_writer xs) p ++ octet_bits (take m (drop n D)) =
+      ap (λ j. drop j (input limit whole)) begins ∙ octets-behind t limit whole (omega (arith, within, same)) at.inside ∙ parts ∙ ap (λ bs. bs ++ octet_bits (take m (drop n D))) (sym (run_octets xs p)) in
+      let stands : Stands (input limit whole) p (in_turn (map octet_writer xs) p) (octet_bits (take m (drop n D))) = record { inside = omega (arith, length-input limit whole, at.inside, within, same, begins); is = here } in
+      let long : length (in_turn (map octet_writer xs) p) ≡ 8 * n = ap length (run_octets xs p) ∙ length-octet_bits xs ∙ ap (λ j. 8 * j) count in
+      (octets_codec n).again (input limit whole) (octet_bits (take m (drop n D))) (spot p nodes) xs (count, all_octets xs small) (omega (arith, nothing_weighs xs, few)) stands
+      ∙ ap (λ r. Ok (xs, r)) (same_spot _ _ _ _ (omega (arith, long, moved)) (omega (arith, nothing_weighs xs)))
+
+  pub failed_octets : (t' l' : ℕ) (new : Option (List ℕ)) → l' ≡ l → t ≤ t' → t' ≤ l' → LosesFirst old new (t' - t) → t' < t + n
+      → (8 * t' ≤ end_of (octets_at n (input limit whole) (spot p nodes)) + 7) × (IsRead (octets_at n (input limit whole) (spot p nodes)) → 8 * t' < end_of (octets_at n (input limit whole) (spot p nodes)))
+  failed_octets t' l' new el le room took missing =
+      let k = later whole t t' old new le at.inside at.rest took in
+      fails_octets n t' (input limit whole) (spot p nodes) (omega (arith, length-input limit whole, k.0, same, el, room)) (omega (arith, missing, begins))
+
+  pub short_octets : (t' : ℕ) (new : Option (List ℕ)) → t ≤ t' → LosesFirst old new (t' - t) → t' < t + n → t' < l → IsAtEnd new
+      → (octets_at n (input limit whole) (spot p nodes) ≡ Err (stop_at p Short (8 * t'))) × (length whole < limit)
+  short_octets t' new le took missing room end =
+      let k = later whole t t' old new le at.inside at.rest took in
+      let e : length whole ≡ t' = at-end whole t' new k.0 k.1 end in
+      (reads_short n (input limit whole) (spot p nodes) (8 * t') (omega (arith, length-input limit whole, e, same, room)) (omega (arith, missing, begins)), omega (arith, e, same, room))
+
+  pub long_octets : (t' : ℕ) (new : Option (List ℕ)) → t ≤ t' → LosesFirst old new (t' - t) → t' < t + n → t' ≡ l
+      → (octets_at n (input limit whole) (spot p nodes) ≡ Err (stop_at p Short (8 * t'))) × (limit ≤ length whole)
+  long_octets t' new le took missing room =
+      let k = later whole t t' old new le at.inside at.rest took in
+      (reads_short n (input limit whole) (spot p nodes) (8 * t') (omega (arith, length-input limit whole, k.0, same, room)) (omega (arith, missing, begins)), omega (arith, k.0, same, room))
+
+  pub at_behind : {A E : Type 0} (r : Result A E) (p' t' h' l' : ℕ) (new : Option (List ℕ)) → l' ≡ l → t ≤ t' → t' ≤ l' → h' ≡ h → OnOk r ((p' ≡ p + 8 * n) × (t' ≡ t + n)) → OnErr r (p' ≡ p) → LosesFirst old new (t' - t)
+      → IsAt whole limit p' t' h' new
+  at_behind (Ok x) p' t' h' l' new el le room eh moved stays took =
+      let k = later whole t t' old new le at.inside at.rest took in
+      let e : p' ≡ 8 * t' = omega (arith, moved.0, moved.1, begins) in
+      rw e (at_octet whole limit t' h' new (omega (arith, room, el, same)) k.0 k.1)
+  at_behind (Err x) p' t' h' l' new el le room eh moved stays took =
+      let k = later whole t t' old new le at.inside at.rest took in
+      record {
+        inside = k.0;
+        rest = k.1;
+        bits = λ s.
+            let e : t' ≡ t = omega (arith, stays, step, s) in
+            rw (stays, eh, e) (at.bits step);
+      }
+
+-- behind whole octets
+pub whole_octets_taken : {A E : Type 0} (r : Result A E) (from p t : ℕ) → OnOk r ((from ≤ p) × IsInStep p t) → OnOk r (p % 8 ≡ 0) → OnOk r (p ≡ 8 * t)
+whole_octets_taken (Ok x) from p t on whole = omega (arith, on.1, whole)
+whole_octets_taken (Err e) from p t on whole = tt

@@ -1,0 +1,55 @@
+use Rattle.std.proofs.Common.{arith, rules, refl, ◌≡◌, ◌+◌, ◌*◌, ◌≤◌, sym, ap, ◌∙◌, subst, take, drop}
+use Rattle.std.proofs.lemmas.List.{drop_all}
+use Rattle.std.proofs.lemmas.Result.{err_from_is_err_and}
+use Rattle.per_fields.specs.Laws.{Present}
+use Rattle.per_fields.specs.Nodes.{flag_at}
+use Rattle.per_decode.specs.declared.faults.Fault.TheVariants.{Memory}
+use Rattle.per_decode.specs.Private.Giving.{input, spot, FailsAt}
+use Rattle.per_decode.proofs.EndNodes.{sits-flag}
+use Rattle.per_decode.proofs.Loop.{here_split, each_more, each_done, each_fails, each_full}
+use Rattle.per_decode.proofs.Presence.{present_more, present_all}
+use Rattle.per_decode.proofs.Standing.{stands_inside}
+use Rattle.per_decode.proofs.leaves.presence.Goals as goal
+
+pub returns-in_err-there-clause-gives : goal.returns-in_err-there-clause-gives
+returns-in_err-there-clause-gives g c = λ told.
+    let p = err_from_is_err_and c.from_residual.result c.from_residual.ensures.1 in
+    let X = input g.K.Origin.limit g.K.Origin.whole in
+    let run = c.loop-part.run in
+    let i = stands_inside run.bits.position run.bits.taken run.bits.held run.bits.limit g.K.Origin.limit g.K.Origin.whole _ run.limited run.bits.behind run.bits.within (run.here told) in
+    let k = each_fails flag_at c.loop-part.present.items X (spot run.bits.position run.nodes) c.part-item.result _ _ (here_split c.args.parts.now c.loop-part.part-index c.part-item.result c.loop-part-test.true c.part-item.is)
+    sits-flag g.K.Origin.limit g.K.Origin.whole c.in_err-there.field-0.0 c.presence_bit.new.run.bits.taken i (c.in_err-there.ensures.gives told) in
+    rw (p.1, p.2) (subst (FailsAt g.K.Origin.limit g.K.Origin.whole c.in_err-there.field-0.0 c.presence_bit.new.run.bits.taken) (c.loop-part.invariant.so_far told) k)
+
+pub returns-in_err-push-clause-gives : goal.returns-in_err-push-clause-gives
+returns-in_err-push-clause-gives g c = λ told.
+    let p = err_from_is_err_and c.from_residual-in_err-push.result c.from_residual-in_err-push.ensures.1 in
+    let X = input g.K.Origin.limit g.K.Origin.whole in
+    let old = c.loop-part.run in
+    let run = c.presence_bit.new.run in
+    let i = stands_inside run.bits.position run.bits.taken run.bits.held run.bits.limit g.K.Origin.limit g.K.Origin.whole _ run.limited run.bits.behind run.bits.within (run.here told) in
+    let k = each_full flag_at c.loop-part.present.items X (spot old.bits.position old.nodes) c.part-item.result _ _ (here_split c.args.parts.now c.loop-part.part-index c.part-item.result c.loop-part-test.true c.part-item.is)
+    sits-flag g.K.Origin.limit g.K.Origin.whole c.in_ok-there.there (spot run.bits.position run.nodes) run.bits.taken (c.in_ok-there.ensures.gives told) i (omega (arith, c.in_ok-there.ensures.on.1)) in
+    rw (p.1, p.2) (subst (FailsAt g.K.Origin.limit g.K.Origin.whole Memory run.bits.taken) (c.loop-part.invariant.so_far told) k)
+
+pub loop-part-preserved : goal.loop-part-preserved
+loop-part-preserved g c =
+    let old = c.loop-part.run in
+    let run = c.presence_bit.new.run in
+    record {
+      in_step = c.in_ok-there.ensures.on.1;
+      on = omega (arith, c.in_ok-there.ensures.on.0, c.loop-part.invariant.on);
+      nodes = c.presence_bit.ensures.nodes ∙ c.loop-part.invariant.nodes;
+      same = c.presence_bit.ensures.same_reference ∙ c.loop-part.invariant.same;
+      present = rw c.in_ok-push.ensures.items (present_more c.args.parts.now c.loop-part.part-index c.loop-part.present.items c.part-item.result c.in_ok-there.there c.loop-part-test.true c.part-item.is c.loop-part.invariant.present c.in_ok-there.ensures.there);
+      so_far = λ told. rw c.in_ok-push.ensures.items (
+          sym (each_more flag_at c.loop-part.present.items (input g.K.Origin.limit g.K.Origin.whole) (spot old.bits.position old.nodes) c.part-item.result _ _ (here_split c.args.parts.now c.loop-part.part-index c.part-item.result c.loop-part-test.true c.part-item.is)
+          c.in_ok-there.there (spot run.bits.position run.nodes) (c.in_ok-there.ensures.gives told)) ∙ c.loop-part.invariant.so_far told);
+    }
+
+pub returns-clause-gives : goal.returns-clause-gives
+returns-clause-gives g c = λ told.
+    sym (c.loop-part.invariant.so_far told) ∙ each_done flag_at c.loop-part.present.items (input g.K.Origin.limit g.K.Origin.whole) (spot c.loop-part.run.bits.position c.loop-part.run.nodes) _ (drop_all c.loop-part.part-index c.args.parts.now c.loop-part-test.false)
+
+pub returns-clause-present : goal.returns-clause-present
+returns-clause-present g c = present_all c.args.parts.now c.loop-part.part-index c.loop-part.present.items c.loop-part-test.false c.loop-part.invariant.present

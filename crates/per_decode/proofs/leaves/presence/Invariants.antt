@@ -1,0 +1,19 @@
+use Rattle.std.proofs.Common.{◌≡◌, ◌≤◌, take, drop, IsTrue}
+use Rattle.bit_cursor.specs.Cursors.{IsInStep}
+use Rattle.per_fields.specs.Laws.{Present}
+use Rattle.per_fields.specs.Reading.{each_at}
+use Rattle.per_fields.specs.Nodes.{flag_at}
+use Rattle.per_decode.specs.Private.Giving.{input, spot}
+use Rattle.per_decode.proofs.Loop.{with_front}
+use Rattle.per_decode.proofs.leaves.presence.Given as goal
+
+abbrev pub invariant-loop-part : goal.invariant-loop-part
+invariant-loop-part g l = record {
+  in_step : IsInStep l.run.bits.position l.run.bits.taken;
+  on : l.fn.run.bits.position ≤ l.run.bits.position;
+  nodes : l.run.nodes ≡ l.fn.run.nodes;
+  same : l.run.bits.source.ghost_name ≡ l.fn.run.bits.source.ghost_name;
+  present : Present (take l.part-index l.parts) l.present.items;
+  so_far : IsTrue g.K.Origin.told → with_front l.present.items (each_at flag_at (drop l.part-index l.parts) (input g.K.Origin.limit g.K.Origin.whole) (spot l.run.bits.position l.run.nodes))
+      ≡ each_at flag_at l.parts (input g.K.Origin.limit g.K.Origin.whole) (spot l.fn.run.bits.position l.fn.run.nodes);
+}

@@ -1,0 +1,35 @@
+use Rattle.std.proofs.Common.{arith, rules, refl, ◌≡◌, ◌≤◌, ◌*◌, ◌+◌, sym, ap, ◌∙◌, Ok}
+use Rattle.std.proofs.lemmas.Result.{err_from_is_err_and}
+use Rattle.label_tree.specs.Rose.{node, none}
+use Rattle.per_decode.specs.Private.Giving.{input, spot}
+use Rattle.per_decode.proofs.Texts.{told_fails, told_text, told_wrong, told_end}
+use Rattle.per_decode.proofs.Standing.{stands_inside}
+use Rattle.per_decode.proofs.leaves.text_node.Goals as goal
+
+pub returns-in_err-octets-clause-gives : goal.returns-in_err-octets-clause-gives
+returns-in_err-octets-clause-gives g c = λ told.
+    let p = err_from_is_err_and c.from_residual.result c.from_residual.ensures.1 in
+    let old = c.args.run.now in
+    let i = stands_inside old.bits.position old.bits.taken old.bits.held old.bits.limit g.K.Origin.limit g.K.Origin.whole _ old.limited old.bits.behind old.bits.within (old.here told) in
+    rw (p.1, p.2) (told_fails c.args.begin (input g.K.Origin.limit g.K.Origin.whole) (spot old.bits.position old.nodes) g.K.Origin.limit g.K.Origin.whole c.in_err-octets.field-0.0 c.text.new.self.bits.taken i (c.in_err-octets.ensures.gives told))
+
+pub returns-in-Ok-clause-gives : goal.returns-in-Ok-clause-gives
+returns-in-Ok-clause-gives g c = λ told.
+    let old = c.args.run.now in
+    let k = c.in-Ok.ensures.ok in
+    let u = rw c.deref.ensures.value at k.1 in
+    let t = k.0 ∙ c.deref.ensures.value in
+    rw (c.leaf.ensures, t) (told_text c.args.begin (input g.K.Origin.limit g.K.Origin.whole) (spot old.bits.position old.nodes) c.in_ok-octets.octets.items _ (c.in_ok-octets.ensures.gives told) u)
+
+pub returns-in-Err-NotUtf8-clause-gives : goal.returns-in-Err-NotUtf8-clause-gives
+returns-in-Err-NotUtf8-clause-gives g c = λ told.
+    let old = c.args.run.now in
+    let n = rw c.in-Err-NotUtf8.field-0-is at c.in-Err-NotUtf8.ensures.not_utf8 refl in
+    let w = rw c.deref.ensures.value at n in
+    rw (c.stopped.ensures, c.position.ensures)
+    (told_wrong c.args.begin (input g.K.Origin.limit g.K.Origin.whole) (spot old.bits.position old.nodes) c.in_ok-octets.octets.items _ (c.in_ok-octets.ensures.gives told) w, omega (arith, c.in_ok-octets.ensures.on.1), refl)
+
+pub returns-clause-gives : goal.returns-clause-gives
+returns-clause-gives g c = λ told.
+    let old = c.args.run.now in
+    omega (arith, c.in_ok-octets.ensures.on.1, told_end c.args.begin (input g.K.Origin.limit g.K.Origin.whole) (spot old.bits.position old.nodes) c.in_ok-octets.octets.items _ (c.in_ok-octets.ensures.gives told))

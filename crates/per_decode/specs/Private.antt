@@ -1,0 +1,4 @@
+pub mod Standing
+pub mod Giving
+pub mod Bodies
+pub mod Pieces

@@ -1,0 +1,85 @@
+-- Parts of the reading of a node, as the code has them.
+use Rattle.std.specs.Prelude.{◌≡◌, ℕ, suc, Bool, true, false, not, Option, Some, None, List, [], ◌∷◌, ◌++◌, slice_get, length, replicate, Ok}
+use Rattle.std.specs.Str.{is_utf8}
+use Rattle.label_tree.specs.Rose.{Rose, Roses, roses_of, label_of, kids_of}
+use Rattle.simple_types.specs.declared.labels.ValueLabel.{ValueLabel}
+use Rattle.asn_types.specs.declared.modules.Assignment.{Assignment}
+use Rattle.asn_types.specs.declared.roles.Role.{Role}
+use Rattle.asn_types.specs.declared.types.Component.{Component}
+use Rattle.asn_types.specs.declared.types.Form.{Form}
+use Rattle.asn_types.specs.declared.types.Form.TheVariants as form
+use Rattle.asn_types.specs.declared.types.TypeLabel.{TypeLabel}
+use Rattle.asn_types.specs.Bounds.{IsBounded}
+use Rattle.asn_types.specs.Modules.{IsModule}
+use Rattle.asn_types.specs.Values as values
+use Rattle.asn_types.specs.Values.{ComponentPlace, FitEach, FitsAt, place_at}
+use Rattle.per_fields.specs.declared.stops.Why.TheVariants.{NotUtf8}
+use Rattle.per_fields.specs.Reading.{◌>>=◌, Reader, stop_at, stop_if, each_at}
+use Rattle.per_fields.specs.Nodes.{text_at, content_at, owned_at, is_no_text, node_read, nothing_at, last_at}
+
+abbrev pub below : Role → ℕ → ℕ
+below role depth = values.below role depth
+
+-- what is known of each module
+abbrev pub IsKnown : List Assignment → Type 0
+IsKnown M = IsModule M × IsBounded M
+
+-- neither a text nor a reference
+abbrev pub HasFields : Form → Type 0
+HasFields (form.Utf8 least most class) = ⊥
+HasFields (form.Ref to) = ⊥
+HasFields _ = Unit {0}
+
+-- a text of a node that begins at a bit, where its octets are UTF-8
+abbrev pub text_told_at : ℕ → Reader (Rose ValueLabel)
+text_told_at begin X s = do
+  v ← text_at X s
+  stop_if (is_no_text (label_of v.0)) (stop_at begin NotUtf8 v.1.at) (Ok v)
+
+module _ (M : List Assignment) (depth : ℕ) where
+  -- a kid of a node, where so many elements stand in one another down to the node
+  abbrev pub kid_at : ComponentPlace → Reader (Rose ValueLabel)
+  kid_at p = node_read M (values.below p.role depth) p.type
+
+  abbrev pub fields_at : Rose TypeLabel → Reader (Rose ValueLabel)
+  fields_at t X s = content_at kid_at (label_of t) (kids_of t) (label_of t).form X s
+
+  -- the fields of a node that begins at a bit, and its rules
+  abbrev pub body_at : ℕ → Rose TypeLabel → Reader (Rose ValueLabel)
+  body_at begin t X s = fields_at t X s >>= λ v. owned_at M begin t v
+
+  -- the kids at these places
+  abbrev pub kids_read : Option (List ComponentPlace) → Reader (List (Rose ValueLabel))
+  kids_read None X s = nothing_at X s
+  kids_read (Some ps) X s = each_at kid_at ps X s
+
+  abbrev pub FitSome : Option (List ComponentPlace) → Roses ValueLabel → Type 0
+  FitSome None vs = ⊥
+  FitSome (Some ps) vs = FitEach M depth ps vs
+
+  -- so many nodes of a type
+  abbrev pub node_of : Rose TypeLabel → ℕ → Reader (Rose ValueLabel)
+  node_of t i X s = node_read M depth t X s
+
+  abbrev pub many_at : ℕ → Rose TypeLabel → Reader (List (Rose ValueLabel))
+  many_at n t X s = each_at (node_of t) (replicate n 0) X s
+
+  -- behind these
+  abbrev pub more_at : ℕ → Rose TypeLabel → List (Rose ValueLabel) → Reader (List (Rose ValueLabel))
+  more_at n t front X s = many_at n t X s >>= λ vs. Ok (front ++ vs.0, vs.1)
+
+  -- values of a type
+  abbrev pub FitAll : Rose TypeLabel → List (Rose ValueLabel) → Type 0
+  FitAll t [] = Unit {0}
+  FitAll t (v ∷ vs) = FitsAt M depth t v × FitAll t vs
+
+-- the place of the items
+abbrev pub item_place : Rose TypeLabel → Component → Option ComponentPlace
+item_place t part = place_at (label_of t) 0 (Some part) (slice_get (kids_of t) 0)
+
+-- a node and the end of its encoding
+abbrev pub complete_at : List Assignment → Rose TypeLabel → Reader (Rose ValueLabel)
+complete_at M t X s = do
+  v ← node_read M 1 t X s
+  z ← last_at X v.1
+  Ok (v.0, z.1)

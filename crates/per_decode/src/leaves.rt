@@ -1,0 +1,153 @@
+//! The fields of nodes without kids.
+ghost use Rattle.std.specs.Prelude.{◌≡◌, ℕ, ◌<◌, ◌≤◌, ◌+◌, ◌-◌, ◌*◌, ◌^◌, ℤ, Bool, true, false, List, IsUtf8, IfOk, OnOk, IsErrOf, IsTrue};
+ghost use Rattle.label_tree.specs.Rose.{node, none};
+ghost use Rattle.bit_cursor.specs.Cursors.{IsInStep};
+ghost use Rattle.xa_base.specs.Faults.{HasRisen};
+ghost use Rattle.simple_types.specs.Sound.{AreBounds};
+ghost use Rattle.simple_types.specs.declared.labels.ValueLabel.TheVariants as value;
+ghost use Rattle.simple_values.specs.Lexical.{is_128_bits, is_from, is_to};
+ghost use Rattle.per_fields.specs.Laws.{Present};
+ghost use Rattle.per_fields.specs.Reading.{each_at};
+ghost use Rattle.per_fields.specs.Nodes.{flag_at, bool_at, int_at, enum_at};
+ghost use Rattle.per_decode.specs.Private.Standing.{GoesOn};
+ghost use Rattle.per_decode.specs.Private.Giving.{Gives, spot};
+ghost use Rattle.per_decode.specs.Private.Bodies.{text_told_at};
+
+use crate::faults::{Fault, stopped};
+use crate::run::{Origin, Run};
+use asn_types::Component;
+use label_tree::Tree;
+use per_fields::Why;
+use simple_types::ValueLabel;
+use std::alloc::Global;
+use xa_base::{Source, Text, TextError};
+
+/// A BOOLEAN.
+#[tactic(auto, unfolding(per_fields::specs::Nodes::bool_at))]
+pub(crate) fn boolean<S: Source, K: Origin>(
+    alloc: Global,
+    run: &mut Run<S, K>,
+) -> Result<Tree<ValueLabel>, Fault>
+    requires in_step { IsInStep run.old.bits.position run.old.bits.taken }
+    ensures same_reference { run.new.bits.source.ghost_name ≡ run.old.bits.source.ghost_name }
+    ensures on { OnOk result (GoesOn run.old.bits.position run.new.bits.position run.new.bits.taken) }
+    ensures nodes { run.new.nodes ≡ run.old.nodes }
+    ensures leaf { IfOk result (λ v. (b : Bool) × (v ≡ node (value.Bool b) none)) }
+    ensures gives { IsTrue K.told → Gives K.limit K.whole (λ x. x) result (spot run.new.bits.position run.new.nodes) run.new.bits.taken
+        (bool_at) (spot run.old.bits.position run.old.nodes) }
+    ensures failed { IsErrOf result Fault.Failed → HasRisen K.faults (S.faults run.new.bits.source.now) }
+{
+    let begin = run.position();
+    let bit = run.take_bits(begin, 1)?;
+    Ok(Tree::leaf(alloc, ValueLabel::Bool(bit == 1)))
+}
+
+/// An INTEGER.
+#[tactic(auto, unfolding(per_fields::specs::Nodes::int_at))]
+pub(crate) fn integer<S: Source, K: Origin>(
+    alloc: Global,
+    run: &mut Run<S, K>,
+    lo: Option<i128>,
+    hi: Option<i128>,
+) -> Result<Tree<ValueLabel>, Fault>
+    requires bounds { AreBounds lo hi }
+    requires in_step { IsInStep run.old.bits.position run.old.bits.taken }
+    ensures same_reference { run.new.bits.source.ghost_name ≡ run.old.bits.source.ghost_name }
+    ensures on { OnOk result (GoesOn run.old.bits.position run.new.bits.position run.new.bits.taken) }
+    ensures nodes { run.new.nodes ≡ run.old.nodes }
+    ensures leaf { IfOk result (λ v. (z : ℤ) × (v ≡ node (value.Int z) none) × (is_128_bits z ≡ true) × (is_from lo z ≡ true) × (is_to hi z ≡ true)) }
+    ensures gives { IsTrue K.told → Gives K.limit K.whole (λ x. x) result (spot run.new.bits.position run.new.nodes) run.new.bits.taken
+        (int_at lo hi) (spot run.old.bits.position run.old.nodes) }
+    ensures failed { IsErrOf result Fault.Failed → HasRisen K.faults (S.faults run.new.bits.source.now) }
+{
+    let z = run.whole(alloc, lo, hi)?;
+    Ok(Tree::leaf(alloc, ValueLabel::Int(z)))
+}
+
+/// One of so many items of an ENUMERATED.
+#[tactic(auto, unfolding(per_fields::specs::Nodes::enum_at))]
+pub(crate) fn enumerated<S: Source, K: Origin>(
+    alloc: Global,
+    run: &mut Run<S, K>,
+    items: usize,
+) -> Result<Tree<ValueLabel>, Fault>
+    requires some { 1 ≤ items }
+    requires few { items < 2 ^ 32 }
+    requires in_step { IsInStep run.old.bits.position run.old.bits.taken }
+    ensures same_reference { run.new.bits.source.ghost_name ≡ run.old.bits.source.ghost_name }
+    ensures on { OnOk result (GoesOn run.old.bits.position run.new.bits.position run.new.bits.taken) }
+    ensures nodes { run.new.nodes ≡ run.old.nodes }
+    ensures leaf { IfOk result (λ v. (i : ℕ) × (v ≡ node (value.Enum i) none) × (i < items)) }
+    ensures gives { IsTrue K.told → Gives K.limit K.whole (λ x. x) result (spot run.new.bits.position run.new.nodes) run.new.bits.taken
+        (enum_at items) (spot run.old.bits.position run.old.nodes) }
+    ensures failed { IsErrOf result Fault.Failed → HasRisen K.faults (S.faults run.new.bits.source.now) }
+{
+    let item = run.number(alloc, (items - 1) as u128)?;
+    Ok(Tree::leaf(alloc, ValueLabel::Enum(item as u32)))
+}
+
+/// The text of a node that begins at a bit.
+pub(crate) fn text_node<S: Source, K: Origin>(
+    alloc: Global,
+    run: &mut Run<S, K>,
+    begin: u64,
+) -> Result<Tree<ValueLabel>, Fault>
+    requires in_step { IsInStep run.old.bits.position run.old.bits.taken }
+    ensures same_reference { run.new.bits.source.ghost_name ≡ run.old.bits.source.ghost_name }
+    ensures on { OnOk result (GoesOn run.old.bits.position run.new.bits.position run.new.bits.taken) }
+    ensures nodes { run.new.nodes ≡ run.old.nodes }
+    ensures leaf { IfOk result (λ v. (text : List ℕ) × (v ≡ node (value.Utf8 text) none) × IsUtf8 text) }
+    ensures gives { IsTrue K.told → Gives K.limit K.whole (λ x. x) result (spot run.new.bits.position run.new.nodes) run.new.bits.taken
+        (text_told_at begin) (spot run.old.bits.position run.old.nodes) }
+    ensures failed { IsErrOf result Fault.Failed → HasRisen K.faults (S.faults run.new.bits.source.now) }
+{
+    let octets = run.text(alloc)?;
+    match Text::of(alloc, &octets) {
+        Ok(text) => Ok(Tree::leaf(alloc, ValueLabel::Utf8(text))),
+        Err(TextError::NotUtf8) => Err(stopped(begin, Why::NotUtf8, run.position())),
+        Err(TextError::Memory) => Err(Fault::Memory),
+    }
+}
+
+// Whether a component is there.
+#[tactic(auto, unfolding(per_fields::specs::Nodes::flag_at))]
+fn presence_bit<S: Source, K: Origin>(run: &mut Run<S, K>, part: &Component) -> Result<bool, Fault>
+    requires in_step { IsInStep run.old.bits.position run.old.bits.taken }
+    ensures same_reference { run.new.bits.source.ghost_name ≡ run.old.bits.source.ghost_name }
+    ensures on { OnOk result (GoesOn run.old.bits.position run.new.bits.position run.new.bits.taken) }
+    ensures nodes { run.new.nodes ≡ run.old.nodes }
+    ensures there { IfOk result (λ flag. part.now.optional ≡ false → flag ≡ true) }
+    ensures gives { IsTrue K.told → Gives K.limit K.whole (λ x. x) result (spot run.new.bits.position run.new.nodes) run.new.bits.taken
+        (flag_at part.now) (spot run.old.bits.position run.old.nodes) }
+    ensures failed { IsErrOf result Fault.Failed → HasRisen K.faults (S.faults run.new.bits.source.now) }
+{
+    if part.optional {
+        let begin = run.position();
+        let bit = run.take_bits(begin, 1)?;
+        return Ok(bit == 1);
+    }
+    Ok(true)
+}
+
+/// Which components are there.
+pub(crate) fn presence<S: Source, K: Origin>(
+    alloc: Global,
+    run: &mut Run<S, K>,
+    parts: &[Component],
+) -> Result<Vec<bool>, Fault>
+    requires in_step { IsInStep run.old.bits.position run.old.bits.taken }
+    ensures same_reference { run.new.bits.source.ghost_name ≡ run.old.bits.source.ghost_name }
+    ensures on { OnOk result (GoesOn run.old.bits.position run.new.bits.position run.new.bits.taken) }
+    ensures nodes { run.new.nodes ≡ run.old.nodes }
+    ensures present { IfOk result (λ flags. Present parts.now flags.items) }
+    ensures gives { IsTrue K.told → Gives K.limit K.whole (λ flags. flags.items) result (spot run.new.bits.position run.new.nodes) run.new.bits.taken
+        (each_at flag_at parts.now) (spot run.old.bits.position run.old.nodes) }
+    ensures failed { IsErrOf result Fault.Failed → HasRisen K.faults (S.faults run.new.bits.source.now) }
+{
+    let mut present = Vec::new(alloc);
+    for part in parts {
+        let there = presence_bit(run, part)?;
+        present.push(there)?;
+    }
+    Ok(present)
+}

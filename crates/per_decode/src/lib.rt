@@ -1,0 +1,14 @@
+//! Values from canonical aligned PER (X.691), read from a source of octets, each octet when it is needed.
+#![tactic(auto)]
+
+mod decoding;
+mod errors;
+mod faults;
+mod leaves;
+mod lengths;
+mod numbers;
+mod run;
+mod wholes;
+
+pub use decoding::decode;
+pub use errors::DecodeError;

@@ -1,0 +1,134 @@
+//! Bits and octets of a source, beside what the call began with.
+ghost use Rattle.std.specs.Prelude.{◌≡◌, ℕ, ◌<◌, ◌≤◌, ◌+◌, ◌-◌, ◌*◌, ◌^◌, List, [], Bool, false, IsTrue, slice_index};
+ghost use Rattle.per_decode.specs.Private.Standing.{IsAt};
+
+use crate::faults::{Fault, stopped};
+use bit_cursor::{BitSource, CursorError};
+use per_fields::Why;
+use std::alloc::Global;
+use std::marker::{Brand, PhantomData};
+use xa_base::Source;
+
+/// What a call began with: the octets that were left and whether the source tells them, how many of them may be taken,
+/// and the count of faults.
+pub(crate) trait Origin {
+    ghost told: { Bool };
+
+    ghost whole: { List ℕ };
+
+    ghost limit: { ℕ };
+
+    ghost faults: { ℕ };
+}
+
+impl Origin for Brand {
+    ghost told = { false };
+
+    ghost whole = { [] };
+
+    ghost limit = { 0 };
+
+    ghost faults = { 0 };
+}
+
+// Octets are below 256: their type says so, and here it becomes a fact.
+fn see_octets(octets: &[u8])
+    ensures { (k : ℕ) → slice_index octets.now k < 256 }
+{}
+
+/// Reading from a source, since the origin, with the nodes that were begun.
+#[derive(Drop)]
+pub(crate) struct Run<'a, S: Source, K: Origin> {
+    pub(crate) bits: BitSource<'a, S>,
+    pub(crate) nodes: u32,
+    pub(crate) origin: PhantomData<K>,
+    ghost limited: { bits.limit ≡ K.limit },
+    ghost few: { nodes ≤ 1048576 },
+    ghost later: { K.faults ≤ S.faults bits.source.now },
+    ghost here: { IsTrue K.told → IsAt K.whole K.limit bits.position bits.taken bits.held (S.left bits.source.now) },
+}
+
+impl<'a, S: Source, K: Origin> Run<'a, S, K> {
+    ghost use Rattle.std.specs.Prelude.{◌++◌, ◌%◌, IfOk, OnOk, OnErr, Err, IsErrOf, length};
+    ghost use Rattle.bit_cursor.specs.Cursors.{IsInStep};
+    ghost use Rattle.xa_base.specs.Faults.{HasRisen};
+    ghost use Rattle.per_fields.specs.Reading.{bits_at, align_at, octets_at};
+    ghost use Rattle.per_decode.specs.Private.Standing.{GoesOn};
+    ghost use Rattle.per_decode.specs.Private.Giving.{Gives, spot};
+
+    /// The next bit.
+    pub(crate) fn position(&self) -> u64
+        ensures { result ≡ self.now.bits.position }
+    {
+        self.bits.position()
+    }
+
+    /// The next `n` bits, of a field that begins at a bit.
+    pub(crate) fn take_bits(&mut self, begin: u64, n: u32) -> Result<u64, Fault>
+        requires few { n ≤ 64 }
+        requires in_step { IsInStep self.old.bits.position self.old.bits.taken }
+        ensures same_reference { self.new.bits.source.ghost_name ≡ self.old.bits.source.ghost_name }
+        ensures on { OnOk result (GoesOn self.old.bits.position self.new.bits.position self.new.bits.taken) }
+        ensures nodes { self.new.nodes ≡ self.old.nodes }
+        ensures moved { OnOk result (self.new.bits.position ≡ self.old.bits.position + n) }
+        ensures below { IfOk result (λ x. x < 2 ^ n) }
+        ensures gives { IsTrue K.told → Gives K.limit K.whole (λ x. x) result (spot self.new.bits.position self.new.nodes) self.new.bits.taken
+            (bits_at begin n) (spot self.old.bits.position self.old.nodes) }
+        ensures failed { IsErrOf result Fault.Failed → HasRisen K.faults (S.faults self.new.bits.source.now) }
+    {
+        match self.bits.take_bits(n) {
+            Ok(x) => Ok(x),
+            Err(CursorError::Failed) => Err(Fault::Failed),
+            Err(CursorError::Short) => Err(Fault::Short { bit: begin }),
+            Err(CursorError::TooLong) => Err(Fault::TooLong { bit: begin }),
+            Err(CursorError::Memory) => unreachable!(),
+            Err(CursorError::Padding) => unreachable!(),
+        }
+    }
+
+    /// The padding up to the next octet.
+    pub(crate) fn align(&mut self) -> Result<(), Fault>
+        requires in_step { IsInStep self.old.bits.position self.old.bits.taken }
+        ensures same_reference { self.new.bits.source.ghost_name ≡ self.old.bits.source.ghost_name }
+        ensures on { OnOk result (GoesOn self.old.bits.position self.new.bits.position self.new.bits.taken) }
+        ensures nodes { self.new.nodes ≡ self.old.nodes }
+        ensures aligned { OnOk result (self.new.bits.position % 8 ≡ 0) }
+        ensures gives { IsTrue K.told → Gives K.limit K.whole (λ x. 0) result (spot self.new.bits.position self.new.nodes) self.new.bits.taken
+            (align_at) (spot self.old.bits.position self.old.nodes) }
+        ensures failed { IsErrOf result Fault.Failed → HasRisen K.faults (S.faults self.new.bits.source.now) }
+    {
+        let begin = self.position();
+        match self.bits.align() {
+            Ok(()) => Ok(()),
+            Err(_) => Err(stopped(begin, Why::Padding, begin + (8 - begin % 8) % 8)),
+        }
+    }
+
+    /// The next `n` octets, where reading is aligned.
+    pub(crate) fn take_octets(&mut self, alloc: Global, n: u32) -> Result<Vec<u8>, Fault>
+        requires few { n ≤ 65536 }
+        requires in_step { IsInStep self.old.bits.position self.old.bits.taken }
+        requires aligned { self.old.bits.position % 8 ≡ 0 }
+        ensures same_reference { self.new.bits.source.ghost_name ≡ self.old.bits.source.ghost_name }
+        ensures on { OnOk result (GoesOn self.old.bits.position self.new.bits.position self.new.bits.taken) }
+        ensures nodes { self.new.nodes ≡ self.old.nodes }
+        ensures moved { OnOk result (self.new.bits.position ≡ self.old.bits.position + 8 * n) }
+        ensures count { IfOk result (λ octets. length octets.items ≡ n) }
+        ensures gives { IsTrue K.told → Gives K.limit K.whole (λ octets. octets.items) result (spot self.new.bits.position self.new.nodes) self.new.bits.taken
+            (octets_at n) (spot self.old.bits.position self.old.nodes) }
+        ensures failed { IsErrOf result Fault.Failed → HasRisen K.faults (S.faults self.new.bits.source.now) }
+    {
+        let begin = self.position();
+        match self.bits.take_octets(alloc, n) {
+            Ok(octets) => {
+                see_octets(&octets);
+                Ok(octets)
+            }
+            Err(CursorError::Failed) => Err(Fault::Failed),
+            Err(CursorError::Short) => Err(Fault::Short { bit: begin }),
+            Err(CursorError::TooLong) => Err(Fault::TooLong { bit: begin }),
+            Err(CursorError::Memory) => Err(Fault::Memory),
+            Err(CursorError::Padding) => unreachable!(),
+        }
+    }
+}
