@@ -7,6 +7,7 @@ use Rattle.std.specs.Cmp.Lexicographic.{slice_cmp}
 use Rattle.label_tree.specs.Rose.{Rose, node, Roses, none, more, Allowed}
 use Rattle.simple_types.specs.declared.simples.Class.TheVariants.{Any}
 use Rattle.simple_types.specs.Sound.{IsCounted, AreBounds, AreSizes}
+use Rattle.xa_base.specs.Limits.{is_empty}
 use Rattle.asn_types.specs.declared.types.Component.{Component}
 use Rattle.asn_types.specs.declared.types.Form.{Form}
 use Rattle.asn_types.specs.declared.types.Form.TheVariants as form
@@ -16,7 +17,6 @@ use Rattle.asn_types.specs.Marks.{has_attribute, has_use_nil, has_embed_values, 
 use Rattle.asn_types.specs.Parts.{parts_of, MayHave}
 use Rattle.asn_types.specs.Simples.{IsSimple}
 use Rattle.asn_types.specs.Refs.{resolve, ChainsWithin}
-use Rattle.asn_types.specs.Roles.{is_empty_text}
 
 -- no bounds are crossed, numbers and words ascend, no ENUMERATED and no CHOICE is empty, references are of the module
 abbrev pub IsForm : List Assignment → Form → Type 0
@@ -86,7 +86,7 @@ abbrev mutual
 
 -- The part of a SEQUENCE OF has no identifier exactly where it is the item of a LIST or one of the texts of EMBED-VALUES.
 abbrev pub IsItemNamed : Bool → Form → Type 0
-IsItemNamed nameless (form.SequenceOf part least most) = is_empty_text part.identifier ≡ nameless
+IsItemNamed nameless (form.SequenceOf part least most) = is_empty part.identifier ≡ nameless
 IsItemNamed nameless _ = Unit {0}
 
 abbrev mutual

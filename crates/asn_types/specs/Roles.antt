@@ -1,5 +1,6 @@
 -- What a part of a type stands for in a document, by the encoding instructions of X.693.
 use Rattle.std.specs.Prelude.{ℕ, ◌+◌, ◌==◌, ◌&&◌, Bool, true, false, ℤ, Option, Some, None, List, [], ◌∷◌, length, if◌then◌else◌}
+use Rattle.xa_base.specs.Limits.{is_empty}
 use Rattle.asn_types.specs.declared.roles.Role.{Role}
 use Rattle.asn_types.specs.declared.roles.Role.TheVariants.{Attribute, Element, Group, Content, Embed, Item, Alternative}
 use Rattle.asn_types.specs.declared.types.Component.{Component}
@@ -17,13 +18,9 @@ is_content l i = has_use_nil l.marks && (i + 1 == length (parts_of l.form))
 abbrev pub is_embed : TypeLabel → ℕ → Bool
 is_embed l i = (i == 0) && has_embed_values l.marks
 
-abbrev pub is_empty_text : List ℕ → Bool
-is_empty_text [] = true
-is_empty_text (b ∷ bs) = false
-
 -- the part of a SEQUENCE OF, where it has no identifier
 abbrev pub is_item : Form → Component → Bool
-is_item (form.SequenceOf part least most) component = is_empty_text component.identifier
+is_item (form.SequenceOf part least most) component = is_empty component.identifier
 is_item _ component = false
 
 -- the role of the part with number i

@@ -1,6 +1,6 @@
 //! What stands at a node of a document's items.
 ghost use Rattle.std.specs.Prelude.{◌≡◌, IfOk};
-ghost use Rattle.doc_text.specs.Labels.{MayHave};
+ghost use Rattle.doc_text.specs.Labels.{MayHave, item_place};
 
 use label_tree::Shape;
 use std::alloc::Global;
@@ -151,6 +151,17 @@ pub enum ItemLabel {
         text: Text,
         at: u64,
     },
+}
+
+impl ItemLabel {
+    /// The byte of the document at which the element or the text begins, from 0.
+    pub fn place(&self) -> u64
+        ensures { result ≡ item_place self.now }
+    {
+        match self {
+            ItemLabel::Element { at, .. } | ItemLabel::Text { at, .. } => *at,
+        }
+    }
 }
 
 impl Shape for ItemLabel {

@@ -8,6 +8,7 @@ use Rattle.label_tree.specs.Rose.{Rose, Roses}
 use Rattle.name_map.specs.declared.conversion.NameKind.{NameKind}
 use Rattle.name_map.specs.declared.conversion.NameKind.TheVariants.{Identifier}
 use Rattle.name_map.specs.Conversion.{converted, begun, letter_x, cased, joined}
+use Rattle.xa_base.specs.Limits.{is_empty}
 use Rattle.asn_types.specs.declared.roles.Role.{Role}
 use Rattle.asn_types.specs.declared.roles.Role.TheVariants.{Attribute, Element, Group, Content, Embed, Item, Alternative}
 use Rattle.asn_types.specs.declared.types.Component.{Component}
@@ -16,7 +17,7 @@ use Rattle.asn_types.specs.declared.types.TypeLabel.{TypeLabel}
 use Rattle.asn_types.specs.declared.modules.Assignment.{Assignment}
 use Rattle.asn_types.specs.Marks.{has_attribute, has_untagged, has_use_nil, has_use_union}
 use Rattle.asn_types.specs.Parts.{parts_of}
-use Rattle.asn_types.specs.Roles.{role_of, is_content, is_embed, is_item, is_empty_text}
+use Rattle.asn_types.specs.Roles.{role_of, is_content, is_embed, is_item}
 use Rattle.asn_types.specs.Refs.{body_at, is_element, NearRefs, NearRefsOf, ChainsWithin}
 use Rattle.schema_parts.specs.Components.{Set}
 use Rattle.map_subjects.specs.declared.subjects.Subject.{Subject}
@@ -91,19 +92,19 @@ choice-roles parts ps = roles-from (type_label (form.Choice parts) []) 0 ps refl
 
 -- ---- identifiers aren't empty
 
-digit-filled : (b : Bool) (xs ys : List ℕ) (c d : ℕ) → is_empty_text (if b then c ∷ xs else (d ∷ ys)) ≡ false
+digit-filled : (b : Bool) (xs ys : List ℕ) (c d : ℕ) → is_empty (if b then c ∷ xs else (d ∷ ys)) ≡ false
 digit-filled true xs ys c d = refl
 digit-filled false xs ys c d = refl
 
-begun-filled : (kind : NameKind) (cs : List ℕ) → is_empty_text (begun kind cs) ≡ false
+begun-filled : (kind : NameKind) (cs : List ℕ) → is_empty (begun kind cs) ≡ false
 begun-filled kind [] = refl
 begun-filled kind (c ∷ cs) = digit-filled (is_ascii_digit c) (c ∷ cs) cs (letter_x kind) (cased kind c)
 
-identifier-filled : (text : List ℕ) → is_empty_text (identifier_of text) ≡ false
+identifier-filled : (text : List ℕ) → is_empty (identifier_of text) ≡ false
 unfolding converted
 identifier-filled text = begun-filled Identifier (joined (chars text))
 
-element-filled : (l : Label) → is_element_label l ≡ true → is_empty_text (wanted l) ≡ false
+element-filled : (l : Label) → is_element_label l ≡ true → is_empty (wanted l) ≡ false
 element-filled (attribute name) e = absurd cc
 element-filled (element name) e = identifier-filled name.local
 element-filled (group k) e = absurd cc

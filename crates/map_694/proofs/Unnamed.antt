@@ -10,10 +10,10 @@ use Rattle.simple_types.specs.Seen.{space_of}
 use Rattle.content_models.specs.Particle as model
 use Rattle.content_models.specs.Particle.{Particle, occurs, Term, Particles}
 use Rattle.content_models.specs.Seen.{seen}
+use Rattle.xa_base.specs.Limits.{is_empty}
 use Rattle.asn_types.specs.declared.types.Component.{Component}
 use Rattle.asn_types.specs.declared.types.TypeLabel.{TypeLabel}
 use Rattle.asn_types.specs.Modules.{AreItemsNamed, AllItemsNamed}
-use Rattle.asn_types.specs.Roles.{is_empty_text}
 use Rattle.schema_parts.specs.declared.components.ElementDecl.{ElementDecl}
 use Rattle.schema_parts.specs.declared.components.TypeOf.{TypeOf}
 use Rattle.schema_parts.specs.declared.components.TypeOf.TheVariants as kind
@@ -40,23 +40,23 @@ abbrev is_item_label : Label → Bool
 is_item_label item = true
 is_item_label _ = false
 
-begun-some : (k : NameKind) (cs : List ℕ) → is_empty_text (begun k cs) ≡ false
+begun-some : (k : NameKind) (cs : List ℕ) → is_empty (begun k cs) ≡ false
 begun-some k [] = refl
 begun-some k (c ∷ cs) = by (is_ascii_digit c)
   where
-    by : (b : Bool) → is_empty_text (if b then letter_x k ∷ c ∷ cs else cased k c ∷ cs) ≡ false
+    by : (b : Bool) → is_empty (if b then letter_x k ∷ c ∷ cs else cased k c ∷ cs) ≡ false
     by true = refl
     by false = refl
 
-identifier-some : (text : List ℕ) → is_empty_text (identifier_of text) ≡ false
+identifier-some : (text : List ℕ) → is_empty (identifier_of text) ≡ false
 unfolding converted
 identifier-some text = begun-some Identifier (joined (chars text))
 
-longer-some : (a b : List ℕ) → is_empty_text a ≡ false → is_empty_text (a ++ b) ≡ false
+longer-some : (a b : List ℕ) → is_empty a ≡ false → is_empty (a ++ b) ≡ false
 longer-some [] b e = absurd cc
 longer-some (x ∷ xs) b e = refl
 
-label-nameless : (l : Label) → is_empty_text (wanted l) ≡ is_item_label l
+label-nameless : (l : Label) → is_empty (wanted l) ≡ is_item_label l
 label-nameless (attribute name) = identifier-some name.local
 label-nameless (element name) = identifier-some name.local
 label-nameless (group a_sequence) = refl

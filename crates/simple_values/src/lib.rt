@@ -13,6 +13,6 @@ pub use accepting::accept;
 pub use classes::{char_count, has_characters, is_at_most};
 pub use holding::holds;
 pub use laws::{accepted_holds, chain_ends, one_reading, one_spelling, spelled_in_xml_characters};
-pub use numbers::{Whole, collapsed_number, only_word};
+pub use numbers::{Whole, boolean_of, collapsed_number, only_word};
 pub use reading::{SimpleError, is_within, place_of, place_of_word};
 pub use spelling::spell;

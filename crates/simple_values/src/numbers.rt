@@ -72,7 +72,8 @@ pub fn collapsed_number(text: &str) -> Option<Whole>
     }
 }
 
-fn boolean_of(word: &str) -> Option<bool>
+/// The truth value that the word writes (XML Schema Part 2, section 3.2.2.1).
+pub fn boolean_of(word: &str) -> Option<bool>
     ensures { result ≡ lexical.boolean_of word.now }
 {
     if word == "true" || word == "1" {
