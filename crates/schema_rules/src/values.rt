@@ -13,6 +13,7 @@ use crate::numbers::{is_over, is_zero, small_number};
 use crate::references::{resolve, type_of};
 use crate::roles::ElementRole;
 use crate::scopes::NamespaceScope;
+use simple_values::boolean_of;
 use xa_base::{
     SCHEMA_SPACE, Text, XMLNS_SPACE, XSI_SPACE, first_word, is_ncname, is_numeral, is_short_part,
     is_short_space,
@@ -58,17 +59,6 @@ fn form_of(name: &str) -> Option<ValueForm>
         "use" => Some(ValueForm::Prescription),
         "minOccurs" => Some(ValueForm::Digits),
         "maxOccurs" => Some(ValueForm::DigitsOrUnbounded),
-        _ => None,
-    }
-}
-
-/// The truth value that the text spells.
-pub fn truth_of(text: &str) -> Option<bool>
-    ensures { result ≡ beside text.now table.truth_values }
-{
-    match text {
-        "true" | "1" => Some(true),
-        "false" | "0" => Some(false),
         _ => None,
     }
 }
@@ -125,7 +115,7 @@ fn has_form(scope: &NamespaceScope<'_, '_>, form: ValueForm, value: &Text) -> bo
     ensures { result ≡ table.has_form (bindings_in scope.now) form value.now }
 {
     match form {
-        ValueForm::Truth => truth_of(value.as_str()).is_some(),
+        ValueForm::Truth => boolean_of(value.as_str()).is_some(),
         ValueForm::Qualification => qualification_of(value.as_str()).is_some(),
         ValueForm::Prescription => is_prescription(value.as_str()),
         ValueForm::Digits => is_numeral(value.bytes()),
