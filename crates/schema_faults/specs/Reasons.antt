@@ -2,13 +2,12 @@
 use Rattle.std.specs.Prelude.{ℕ, Bool, true, false, ◌||◌, ◌&&◌, not, nat_le, List, [], ◌∷◌, codes, Option, Some, None, unwrap_or, if◌then◌else◌}
 use Rattle.std.specs.List.{list_any, list_all}
 use Rattle.std.specs.Option.{option_or}
-use Rattle.xa_base.specs.Entries.{first_true}
+use Rattle.xa_base.specs.Entries.{beside, first_true}
 use Rattle.xa_base.specs.WhiteSpace.{is_blank, words_of}
 use Rattle.label_tree.specs.Rose.{Rose, label_of}
 use Rattle.simple_values.specs.Lexical.{boolean_of}
 use Rattle.doc_text.specs.declared.label.ItemLabel.{ItemLabel}
 use Rattle.doc_text.specs.declared.label.ItemLabel.TheVariants.{Element, Text}
-use Rattle.schema_rules.specs.Elements.{beside}
 use Rattle.schema_rules.specs.Attributes.{has, has_unknown, own_attributes}
 use Rattle.schema_rules.specs.Values.{has_bad_value, never_occurs}
 use Rattle.schema_rules.specs.References.{TypeName, Known, LeftOut, Elsewhere, type_name}

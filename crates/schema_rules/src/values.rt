@@ -1,9 +1,9 @@
 //! The values of attributes of schema documents.
-ghost use Rattle.std.specs.Prelude.{◌≡◌, ◌||◌, ◌&&◌, not, option_map};
+ghost use Rattle.std.specs.Prelude.{◌≡◌, ◌||◌, ◌&&◌, not, bytes_eq, option_map};
 ghost use Rattle.std.specs.List.{list_any, list_all};
 ghost use Rattle.std.specs.Option.{is_some};
+ghost use Rattle.xa_base.specs.Entries.{beside};
 ghost use Rattle.xa_base.specs.WhiteSpace.{words_of};
-ghost use Rattle.schema_rules.specs.Elements.{beside, has_name};
 ghost use Rattle.schema_rules.specs.References.{type_name};
 ghost use Rattle.schema_rules.specs.Scopes.{bindings_in};
 ghost use Rattle.schema_rules.specs.Values as table;
@@ -75,7 +75,7 @@ pub fn qualification_of(text: &str) -> Option<bool>
 }
 
 fn is_prescription(text: &str) -> bool
-    ensures { result ≡ has_name text.now table.prescriptions }
+    ensures { result ≡ list_any (bytes_eq text.now) table.prescriptions }
 {
     matches!(text, "optional" | "required" | "prohibited")
 }
