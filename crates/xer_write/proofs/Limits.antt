@@ -292,15 +292,6 @@ root-items M t a v at value sound utf8 =
       few = omega (arith, size, few);
     }
 
-mutual
-  pub plain-unplaced : (b : Rose Plain) → plain_of (unplaced b) ≡ b
-  plain-unplaced (node (element name xs) items) = ap (λ s. node (element name xs) s) (plain-all items)
-  plain-unplaced (node (text words) items) = ap (λ s. node (text words) s) (plain-all items)
-
-  plain-all : (items : Roses Plain) → plain_all (all_unplaced items) ≡ items
-  plain-all none = refl
-  plain-all (more item items) = ap (λ s. more s (plain_all (all_unplaced items))) (plain-unplaced item) ∙ ap (λ s. more item s) (plain-all items)
-
 -- as the code makes it
 pub root-made : (M : List Assignment) (a : Assignment) (v : Rose ValueLabel) (X Y : Contents) (u : Rose TypeLabel) (w : Rose ValueLabel) (name : Name) (root : Rose ItemLabel)
     → u ≡ a.body → w ≡ v → Has X nothing → Gains X Y (inside M u w) → name ≡ name_told a.reference a.marks
