@@ -7,3 +7,7 @@ pub mod Roots
 pub mod Single
 pub mod Loading
 pub mod FewFiles
+pub mod Octets
+pub mod Again
+pub mod Trials
+pub mod Received

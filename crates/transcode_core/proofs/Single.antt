@@ -54,7 +54,7 @@ use Rattle.schema_link.proofs.OneSet.{one_list}
 abbrev pub IsSingle : {A : Type 0} → (Result A Outcome → Type 0) → Type 0
 IsSingle {A} step = (v w : Result A Outcome) → step v → step w → v ≡ w
 
-ok_inj : {A : Type 0} (a b : A) → (let v : Result A Outcome = Ok a in let w : Result A Outcome = Ok b in v ≡ w) → a ≡ b
+pub ok_inj : {A : Type 0} (a b : A) → (let v : Result A Outcome = Ok a in let w : Result A Outcome = Ok b in v ≡ w) → a ≡ b
 ok_inj a b e = cc
 
 pub Give-single : {A : Type 0} (a : A) → IsSingle (Give a)
@@ -228,7 +228,7 @@ Typed-single opened (Ok a) (Err o) due none = absurd none
 Typed-single opened (Ok a) (Ok b) p q =
     ap (λ z. Ok z) (type_of a.assignments b.assignments a.number b.number (num_inj opened.0 opened.1 a b p q) (same_number opened.0 opened.1 a b p q))
 
-some_inj : {A : Type 0} (x y : A) → Some x ≡ Some y → x ≡ y
+pub some_inj : {A : Type 0} (x y : A) → Some x ≡ Some y → x ≡ y
 some_inj x y e = cc
 
 module _ (one : OneValue) (parts : SetParts) (n : ℕ) (type : RootType) where
@@ -257,7 +257,7 @@ Encoding-single type v (Ok x) (Ok y) p q = ap (λ z. Ok z) (same_octets x y p.1 
 pub Written-single : (type : RootType) (v : Rose ValueLabel) → IsSingle (Written type v)
 Written-single type v (Err o) w none also = absurd none
 Written-single type v (Ok x) (Err o) due none = absurd none
-Written-single type v (Ok x) (Ok y) (a, of_a, is) (b, of_b, was) = ap (λ z. Ok z) (is ∙ (ap (λ z. written (unplaced z)) (some_inj a b (sym of_a ∙ of_b)) ∙ sym was))
+Written-single type v (Ok x) (Ok y) (a, of_a, is, reads) (b, of_b, was, also) = ap (λ z. Ok z) (is ∙ (ap (λ z. written (unplaced z)) (some_inj a b (sym of_a ∙ of_b)) ∙ sym was))
 
 module _ (laws : OctetLaws) (parts : SetParts) (n : ℕ) (type : RootType) where
   pub Decoded-single : IsRootType parts n type → (octets : List ℕ) → IsSingle (Decoded type (Some octets))

@@ -1,14 +1,20 @@
 -- Answers of the outside, each with its cause.
-use Rattle.std.specs.Prelude.{◌≡◌, ◌⊎◌, ℕ, suc, ◌+◌, Bool, true, false, IsTrue, List, [], ◌∷◌, ◌++◌, length, Option, Some, None, Result, Ok, Err}
+use Rattle.std.specs.Prelude.{◌≡◌, ◌⊎◌, ℕ, suc, ◌+◌, ◌*◌, ◌≤◌, drop, Bool, true, false, IsTrue, List, [], ◌∷◌, ◌++◌, length, Option, Some, None, Result, Ok, Err}
 use Rattle.xa_base.specs.Faults.{HasRisen}
 use Rattle.xa_base.specs.Entries.{Lacks}
 use Rattle.transcode_core.specs.declared.outcome.Outcome.{Outcome}
 use Rattle.transcode_core.specs.declared.outcome.Outcome.TheVariants.{Done, Usage, SchemaSyntax, SchemaFault, LinkFault, UnknownRoot, TooLong, LoadFault, ReadFault, WriteFault, OutOfMemory}
 use Rattle.schema_parts.specs.Raw.{Document}
 use Rattle.schema_parts.specs.SetParts.{SetParts}
-use Rattle.transcode_core.specs.Steps.{Schemas}
+use Rattle.per_fields.specs.declared.stops.Stop.{Stop}
+use Rattle.per_fields.specs.Laws.{Stops}
+use Rattle.transcode_core.specs.Steps.{Schemas, RootType, Typed, readable}
 use Rattle.transcode_core.specs.Words.{Asked, Show, Check, ToPer, ToXml, Trial}
-use Rattle.transcode_core.specs.Due.{Requested, Opened}
+use Rattle.transcode_core.specs.Due.{Requested, Opened, ItemsIn}
+use Rattle.transcode_core.specs.Trial.{trial_document}
+use Rattle.label_tree.specs.Rose.{Rose}
+use Rattle.doc_text.specs.declared.label.ItemLabel.{ItemLabel}
+use Rattle.validity_check.specs.Counts.{element_count}
 
 -- an outcome that refuses the words, a file or the input
 abbrev pub IsRefusal : Outcome → Type 0
@@ -95,6 +101,24 @@ ComesToInput entries (ToPer root files) = (opened : SetParts × ℕ) × Opened e
 ComesToInput entries (ToXml root files) = (opened : SetParts × ℕ) × Opened entries root files (Ok opened)
 ComesToInput entries (Trial lines) = ⊥
 
+-- of octets that have a first fault, none was taken behind the end of its field
+abbrev pub TakesItsField : RootType → Option (List ℕ) → Option (List ℕ) → Type 0
+TakesItsField type old new = (left : List ℕ) → old ≡ Some left → (stop : Stop) → Stops type.assignments type.number (readable left) stop
+    → (count : ℕ) × (new ≡ Some (drop count left)) × (8 * count ≤ stop.end + 7)
+
+-- what a command that comes to the input takes of it
+abbrev pub TakesInput : Option (List (List ℕ × List ℕ)) → Asked → Option (List ℕ) → Option (List ℕ) → Type 0
+TakesInput entries (Show files) old new = ⊥
+TakesInput entries (Check root files) old new = (opened : SetParts × ℕ) × Opened entries root files (Ok opened)
+TakesInput entries (ToPer root files) old new = (opened : SetParts × ℕ) × Opened entries root files (Ok opened)
+TakesInput entries (ToXml root files) old new =
+    (opened : SetParts × ℕ) × Opened entries root files (Ok opened) × ((type : RootType) × Typed opened (Ok type) × TakesItsField type old new)
+TakesInput entries (Trial lines) old new = ⊥
+
+-- the same of the words
+abbrev pub TakesOfWords : List (List ℕ) → Option (List (List ℕ × List ℕ)) → Option (List ℕ) → Option (List ℕ) → Type 0
+TakesOfWords words entries old new = (request : Asked) × Requested words (Ok request) × TakesInput entries request old new
+
 -- the order passes to the input
 abbrev pub ReachesInput : List (List ℕ) → Option (List (List ℕ × List ℕ)) → Type 0
 ReachesInput words entries = (request : Asked) × Requested words (Ok request) × ComesToInput entries request
@@ -119,6 +143,21 @@ Answering loads loads_now is_sure entries reads reads_now request o =
 abbrev pub Deciding : ℕ → ℕ → Bool → Option (List (List ℕ × List ℕ)) → ℕ → ℕ → List (List ℕ) → Outcome → Type 0
 Deciding loads loads_now is_sure entries reads reads_now words o =
     (request : Asked) × Requested words (Ok request) × Answering loads loads_now is_sure entries reads reads_now request o
+
+-- the document that a command reads
+abbrev pub ReadsItems : Option (List ℕ) → Asked → Rose ItemLabel → Type 0
+ReadsItems left (Show files) items = ⊥
+ReadsItems left (Check root files) items = ItemsIn left (Ok items)
+ReadsItems left (ToPer root files) items = ItemsIn left (Ok items)
+ReadsItems left (ToXml root files) items = ⊥
+ReadsItems left (Trial lines) items = ItemsIn (Some (trial_document lines)) (Ok items)
+
+abbrev pub ReadsOfWords : List (List ℕ) → Option (List ℕ) → Rose ItemLabel → Type 0
+ReadsOfWords words left items = (request : Asked) × Requested words (Ok request) × ReadsItems left request items
+
+-- no step through content models was taken, or at most 144 for each element of such a document
+abbrev pub StepsUpTo : (Rose ItemLabel → Type 0) → ℕ → ℕ → Type 0
+StepsUpTo Reads old new = (new ≡ old) ⊎ ((items : Rose ItemLabel) × Reads items × (new ≤ old + 144 * element_count items))
 
 -- an outcome that leaves the output as it was
 abbrev pub WritesNothing : Outcome → Type 0

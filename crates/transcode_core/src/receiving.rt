@@ -7,7 +7,7 @@ ghost use Rattle.schema_parts.specs.Components.{Set};
 ghost use Rattle.transcode_core.specs.Private.Requests.{type_seen};
 ghost use Rattle.transcode_core.specs.Steps.{IsTypeOf, Decoded, Written};
 ghost use Rattle.transcode_core.specs.Order.{Then};
-ghost use Rattle.transcode_core.specs.Causes.{Answers, NoMemory, OneRead, IsOfInput};
+ghost use Rattle.transcode_core.specs.Causes.{Answers, NoMemory, OneRead, TakesItsField, IsOfInput};
 
 use crate::opened::RootModule;
 use crate::outcome::Outcome;
@@ -36,12 +36,17 @@ fn ends<S: Source>(input: &mut S) -> Result<bool, Failed>
 }
 
 // The value of which the input is the encoding.
-fn decode_input<S: Source>(alloc: Global, typed: &RootModule, input: &mut S) -> Result<Value, Outcome>
+fn decode_input<S: Source>(
+    alloc: Global,
+    typed: &RootModule,
+    input: &mut S,
+) -> Result<Value, Outcome>
     requires { (set : Set) × (n : ℕ) × IsTypeOf set n (type_seen typed.now) }
     ensures due { Answers (λ value. value) (Decoded (type_seen typed.now) (S.left input.old)) (OneRead (S.faults input.old) (S.faults input.new)) result }
     ensures kept { IfOk result (λ value. In typed.now.module typed.now.number value) }
     ensures end { OnOk result (IsAtEnd (S.left input.new)) }
     ensures stage { IfErr result IsOfInput }
+    ensures taken { TakesItsField (type_seen typed.now) (S.left input.old) (S.left input.new) }
     ensures later { S.faults input.old ≤ S.faults input.new }
 {
     match decode(alloc, &typed.module, typed.number, input, LIMIT) {
@@ -75,12 +80,17 @@ fn write_value(alloc: Global, typed: &RootModule, value: &Value) -> Result<Vec<u
 }
 
 /// The document of the value of which the input is the encoding.
-pub fn write_input<S: Source>(alloc: Global, typed: &RootModule, input: &mut S) -> Result<Vec<u8>, Outcome>
+pub fn write_input<S: Source>(
+    alloc: Global,
+    typed: &RootModule,
+    input: &mut S,
+) -> Result<Vec<u8>, Outcome>
     requires { (set : Set) × (n : ℕ) × IsTypeOf set n (type_seen typed.now) }
     ensures due { Answers (λ text. text.items)
         (Then (Decoded (type_seen typed.now) (S.left input.old)) (λ value. Written (type_seen typed.now) value)) (OneRead (S.faults input.old) (S.faults input.new)) result }
     ensures end { OnOk result (IsAtEnd (S.left input.new)) }
     ensures stage { IfErr result IsOfInput }
+    ensures taken { TakesItsField (type_seen typed.now) (S.left input.old) (S.left input.new) }
     ensures later { S.faults input.old ≤ S.faults input.new }
 {
     match decode_input(alloc, typed, input) {

@@ -1,5 +1,6 @@
 //! From the items of a document to the encoding of its value.
-ghost use Rattle.std.specs.Prelude.{◌≡◌, ◌<◌, All, IfOk, IfErr};
+ghost use Rattle.std.specs.Prelude.{◌≡◌, ◌+◌, ◌*◌, ◌<◌, ◌≤◌, All, IfOk, IfErr};
+ghost use Rattle.validity_check.specs.Counts.{element_count};
 ghost use Rattle.schema_parts.specs.SetParts.{parts_of};
 ghost use Rattle.asn_types.specs.Values.{In};
 ghost use Rattle.transcode_core.specs.Private.Requests.{opened_seen, type_seen};
@@ -29,8 +30,17 @@ fn value_of<L: Ledger>(
     ensures due { Answers (λ value. value) (ValueIn (opened_seen opened.now) (type_seen typed.now) items.now) NoMemory result }
     ensures kept { IfOk result (λ value. In typed.now.module typed.now.number value) }
     ensures stage { IfErr result IsOfInput }
+    ensures most { steps.new ≤ steps.old + 144 * element_count items.now }
 {
-    match read_value(alloc, &opened.set, &typed.module, opened.root, typed.number, items, steps) {
+    match read_value(
+        alloc,
+        &opened.set,
+        &typed.module,
+        opened.root,
+        typed.number,
+        items,
+        steps,
+    ) {
         Ok(value) => Ok(value),
         Err(ReadError::Invalid { at, why }) => Err(Outcome::Invalid { at, why }),
         Err(ReadError::TooManyNodes { count }) => Err(Outcome::TooManyNodes { count }),
@@ -78,6 +88,7 @@ pub fn encode_items<L: Ledger>(
     ensures due { Answers (λ octets. octets.items)
         (Then (ValueIn (opened_seen opened.now) (type_seen typed.now) items.now) (λ value. Encoding (type_seen typed.now) value)) NoMemory result }
     ensures stage { IfErr result IsOfInput }
+    ensures most { steps.new ≤ steps.old + 144 * element_count items.now }
 {
     match value_of(alloc, opened, typed, items, steps) {
         Ok(value) => encode_value(alloc, typed, &value),

@@ -1,39 +1,40 @@
 //! The top call.
-ghost use Rattle.std.specs.Prelude.{◌≡◌, ◌⊎◌, ℕ, ◌≤◌, true, List, [], length, OnOk, IfOk, IfErr, Ok, Err, Some};
+ghost use Rattle.std.specs.Prelude.{◌≡◌, ◌⊎◌, ℕ, ◌+◌, ◌*◌, ◌≤◌, true, List, [], ◌∷◌, length, OnOk, IfOk, IfErr, Ok, Err, Some};
 ghost use Rattle.std.specs.Io.KnownBytes.{Appends, IsAtEnd};
 ghost use Rattle.xa_base.specs.Faults.{HasRisen};
 ghost use Rattle.xa_base.specs.Bytes.{AppendsFront};
 ghost use Rattle.schema_parts.specs.SetParts.{parts_of};
+ghost use Rattle.validity_check.specs.Counts.{element_count};
 ghost use Rattle.transcode_core.specs.Lines.{line};
 ghost use Rattle.transcode_core.specs.Private.Requests.{root_seen, seen, opened_seen, type_seen};
 ghost use Rattle.transcode_core.specs.Words as command;
 ghost use Rattle.transcode_core.specs.Trial as trial;
 ghost use Rattle.transcode_core.specs.Trial.{trial_name, trial_schema, trial_root};
-ghost use Rattle.transcode_core.specs.Steps.{Printed, Judged, IsTypeOf, ValueIn, Encoding};
+ghost use Rattle.transcode_core.specs.Steps.{Printed, Judged, RootType, IsTypeOf, Typed, ValueIn, Encoding};
 ghost use Rattle.transcode_core.specs.Order.{Give, Then};
 ghost use Rattle.transcode_core.specs.Due as due;
 ghost use Rattle.transcode_core.specs.Due.{Requested, SetIn, ItemsIn, Checked, Encoded, Documented, Sent, Tried, Answered, Due};
-ghost use Rattle.transcode_core.specs.Causes.{Answers, Never, NoMemory, SomeLoad, OneRead, files_of, ReachesFile, reads_input, ReadsInput, IsTold, ComesToInput, ReachesInput, IsOfInput, Answering, Deciding, Fails, IsRefusal, WritesNothing};
+ghost use Rattle.transcode_core.specs.Causes.{Answers, Never, NoMemory, SomeLoad, OneRead, files_of, ReachesFile, reads_input, ReadsInput, IsTold, TakesItsField, TakesInput, TakesOfWords, ReadsItems, ReadsOfWords, StepsUpTo, ReachesInput, IsOfInput, Answering, Deciding, Fails, IsRefusal, WritesNothing};
 
 use crate::files::{read_input, read_input_items};
 use crate::lines::write_line;
 use crate::linking::{link_files, open_set};
 use crate::opened::{Opened, RootModule};
 use crate::outcome::Outcome;
+use crate::receiving::write_input;
 use crate::schemas::load_schemas;
 use crate::sending::encode_items;
-use crate::receiving::write_input;
-use crate::typing::map_root;
 use crate::trial::{self, schema_files, schema_name, summary, trial_document};
+use crate::typing::map_root;
 use crate::words::{Request, Root, read_words};
 use doc_text::Items;
 use map_694::map_set;
 use module_print::print_module;
+use one_value::one_value;
+use per_fields::first_stop;
 use schema_parts::SchemaSet;
 use std::alloc::Global;
 use std::sync::ledger::Ledger;
-use one_value::one_value;
-use per_fields::first_stop;
 use validity::at_most_one;
 use validity_check::{CheckError, check_items};
 use xa_base::{Failed, Library, Sink, Source, Steps, SureSource, Text, write_all};
@@ -128,6 +129,7 @@ fn judge<L: Ledger>(
 ) -> Result<Vec<u8>, Outcome>
     ensures due { Answers (λ bytes. bytes.items) (Then (Judged (parts_of opened.now.set) opened.now.root items.now) (λ _. Give [])) NoMemory result }
     ensures stage { IfErr result IsOfInput }
+    ensures most { steps.new ≤ steps.old + 144 * element_count items.now }
 {
     // What each linked set keeps is known once one of its readers was called.
     let _ = opened.set.element_count();
@@ -149,6 +151,7 @@ fn check_input<S: Source, L: Ledger>(
     ensures end { OnOk result (IsAtEnd (S.left input.new)) }
     ensures stage { IfErr result IsOfInput }
     ensures later { S.faults input.old ≤ S.faults input.new }
+    ensures few { StepsUpTo (λ items. ItemsIn (S.left input.old) (Ok items)) steps.old steps.new }
 {
     match read_items(alloc, input) {
         Ok(items) => judge(alloc, opened, &items, steps),
@@ -169,10 +172,11 @@ fn check<F: Library, S: Source, L: Ledger>(
     ensures due { Answers (λ bytes. bytes.items) (Answered (F.entries files.old) (S.left input.old) (command.Check (root_seen root.entry) names.now))
         (Answering (F.faults files.old) (F.faults files.new) (F.is_sure files.old) (F.entries files.old) (S.faults input.old) (S.faults input.new) (command.Check (root_seen root.entry) names.now)) result }
     ensures end { OnOk result (IsAtEnd (S.left input.new)) }
-    ensures untouched { (S.left input.new ≡ S.left input.old) ⊎ (ComesToInput (F.entries files.old) (command.Check (root_seen root.entry) names.now) × IfErr result IsOfInput) }
+    ensures untouched { (S.left input.new ≡ S.left input.old) ⊎ (TakesInput (F.entries files.old) (command.Check (root_seen root.entry) names.now) (S.left input.old) (S.left input.new) × IfErr result IsOfInput) }
     ensures files { (F.entries files.new ≡ F.entries files.old) × (F.is_sure files.new ≡ F.is_sure files.old) }
     ensures loads { F.faults files.old ≤ F.faults files.new }
     ensures reads { S.faults input.old ≤ S.faults input.new }
+    ensures few { StepsUpTo (λ items. ItemsIn (S.left input.old) (Ok items)) steps.old steps.new }
 {
     match open_files(alloc, files, root, names) {
         Ok(opened) => check_input(alloc, &opened, input, steps),
@@ -195,6 +199,7 @@ fn encode_input<S: Source, L: Ledger>(
     ensures end { OnOk result (IsAtEnd (S.left input.new)) }
     ensures stage { IfErr result IsOfInput }
     ensures later { S.faults input.old ≤ S.faults input.new }
+    ensures few { StepsUpTo (λ items. ItemsIn (S.left input.old) (Ok items)) steps.old steps.new }
 {
     match read_items(alloc, input) {
         Ok(items) => encode_items(alloc, opened, typed, &items, steps),
@@ -213,6 +218,7 @@ fn send<S: Source, L: Ledger>(
     ensures end { OnOk result (IsAtEnd (S.left input.new)) }
     ensures stage { IfErr result IsOfInput }
     ensures later { S.faults input.old ≤ S.faults input.new }
+    ensures few { StepsUpTo (λ items. ItemsIn (S.left input.old) (Ok items)) steps.old steps.new }
 {
     match map_root(alloc, opened) {
         Ok(typed) => encode_input(alloc, opened, &typed, input, steps),
@@ -233,10 +239,11 @@ fn to_per<F: Library, S: Source, L: Ledger>(
     ensures due { Answers (λ bytes. bytes.items) (Answered (F.entries files.old) (S.left input.old) (command.ToPer (root_seen root.entry) names.now))
         (Answering (F.faults files.old) (F.faults files.new) (F.is_sure files.old) (F.entries files.old) (S.faults input.old) (S.faults input.new) (command.ToPer (root_seen root.entry) names.now)) result }
     ensures end { OnOk result (IsAtEnd (S.left input.new)) }
-    ensures untouched { (S.left input.new ≡ S.left input.old) ⊎ (ComesToInput (F.entries files.old) (command.ToPer (root_seen root.entry) names.now) × IfErr result IsOfInput) }
+    ensures untouched { (S.left input.new ≡ S.left input.old) ⊎ (TakesInput (F.entries files.old) (command.ToPer (root_seen root.entry) names.now) (S.left input.old) (S.left input.new) × IfErr result IsOfInput) }
     ensures files { (F.entries files.new ≡ F.entries files.old) × (F.is_sure files.new ≡ F.is_sure files.old) }
     ensures loads { F.faults files.old ≤ F.faults files.new }
     ensures reads { S.faults input.old ≤ S.faults input.new }
+    ensures few { StepsUpTo (λ items. ItemsIn (S.left input.old) (Ok items)) steps.old steps.new }
 {
     match open_files(alloc, files, root, names) {
         Ok(opened) => send(alloc, &opened, input, steps),
@@ -249,6 +256,7 @@ fn receive<S: Source>(alloc: Global, opened: &Opened, input: &mut S) -> Result<V
     ensures due { Answers (λ bytes. bytes.items) (Documented (opened_seen opened.now) (S.left input.old)) (OneRead (S.faults input.old) (S.faults input.new)) result }
     ensures end { OnOk result (IsAtEnd (S.left input.new)) }
     ensures stage { IfErr result IsOfInput }
+    ensures taken { (S.left input.new ≡ S.left input.old) ⊎ ((type : RootType) × Typed (opened_seen opened.now) (Ok type) × TakesItsField type (S.left input.old) (S.left input.new)) }
     ensures later { S.faults input.old ≤ S.faults input.new }
 {
     match map_root(alloc, opened) {
@@ -269,7 +277,7 @@ fn to_xml<F: Library, S: Source>(
     ensures due { Answers (λ bytes. bytes.items) (Answered (F.entries files.old) (S.left input.old) (command.ToXml (root_seen root.entry) names.now))
         (Answering (F.faults files.old) (F.faults files.new) (F.is_sure files.old) (F.entries files.old) (S.faults input.old) (S.faults input.new) (command.ToXml (root_seen root.entry) names.now)) result }
     ensures end { OnOk result (IsAtEnd (S.left input.new)) }
-    ensures untouched { (S.left input.new ≡ S.left input.old) ⊎ (ComesToInput (F.entries files.old) (command.ToXml (root_seen root.entry) names.now) × IfErr result IsOfInput) }
+    ensures untouched { (S.left input.new ≡ S.left input.old) ⊎ (TakesInput (F.entries files.old) (command.ToXml (root_seen root.entry) names.now) (S.left input.old) (S.left input.new) × IfErr result IsOfInput) }
     ensures files { (F.entries files.new ≡ F.entries files.old) × (F.is_sure files.new ≡ F.is_sure files.old) }
     ensures loads { F.faults files.old ≤ F.faults files.new }
     ensures reads { S.faults input.old ≤ S.faults input.new }
@@ -286,7 +294,8 @@ fn encode_trial<L: Ledger>(
     document: Vec<u8>,
     steps: &mut Steps<L>,
 ) -> Result<Vec<u8>, Outcome>
-    ensures { Answers (λ bytes. bytes.items) (Sent (Some ((trial_name, trial_schema) ∷ [])) trial_root (trial_name ∷ []) (Some document.items)) NoMemory result }
+    ensures due { Answers (λ bytes. bytes.items) (Sent (Some ((trial_name, trial_schema) ∷ [])) trial_root (trial_name ∷ []) (Some document.items)) NoMemory result }
+    ensures few { StepsUpTo (λ items. ItemsIn (Some document.items) (Ok items)) steps.old steps.new }
 {
     let (Ok(name), Ok(mut files)) = (schema_name(alloc), schema_files(alloc)) else {
         return Err(Outcome::OutOfMemory);
@@ -307,7 +316,8 @@ fn tell(alloc: Global, lines: u32, length: u64, octets: &[u8]) -> Result<Vec<u8>
 
 // What `trial` answers for so many lines.
 fn try_out<L: Ledger>(alloc: Global, lines: u32, steps: &mut Steps<L>) -> Result<Vec<u8>, Outcome>
-    ensures { Answers (λ bytes. bytes.items) (Tried lines) NoMemory result }
+    ensures due { Answers (λ bytes. bytes.items) (Tried lines) NoMemory result }
+    ensures few { StepsUpTo (λ items. ItemsIn (Some (trial.trial_document lines)) (Ok items)) steps.old steps.new }
 {
     let Ok(document) = trial_document(alloc, lines) else {
         return Err(Outcome::OutOfMemory);
@@ -331,10 +341,11 @@ fn answer<F: Library, S: Source, L: Ledger>(
     ensures due { Answers (λ bytes. bytes.items) (Answered (F.entries files.old) (S.left input.old) (seen request.entry))
         (Answering (F.faults files.old) (F.faults files.new) (F.is_sure files.old) (F.entries files.old) (S.faults input.old) (S.faults input.new) (seen request.entry)) result }
     ensures end { reads_input (seen request.entry) ≡ true → OnOk result (IsAtEnd (S.left input.new)) }
-    ensures untouched { (S.left input.new ≡ S.left input.old) ⊎ (ComesToInput (F.entries files.old) (seen request.entry) × IfErr result IsOfInput) }
+    ensures untouched { (S.left input.new ≡ S.left input.old) ⊎ (TakesInput (F.entries files.old) (seen request.entry) (S.left input.old) (S.left input.new) × IfErr result IsOfInput) }
     ensures files { (F.entries files.new ≡ F.entries files.old) × (F.is_sure files.new ≡ F.is_sure files.old) }
     ensures loads { F.faults files.old ≤ F.faults files.new }
     ensures reads { S.faults input.old ≤ S.faults input.new }
+    ensures few { StepsUpTo (ReadsItems (S.left input.old) (seen request.entry)) steps.old steps.new }
 {
     match request {
         Request::Show { files: names } => show(alloc, files, names),
@@ -356,10 +367,11 @@ fn decide<F: Library, S: Source, L: Ledger>(
     ensures due { Answers (λ bytes. bytes.items) (Due words.now (F.entries files.old) (S.left input.old))
         (Deciding (F.faults files.old) (F.faults files.new) (F.is_sure files.old) (F.entries files.old) (S.faults input.old) (S.faults input.new) words.now) result }
     ensures end { ReadsInput words.now → OnOk result (IsAtEnd (S.left input.new)) }
-    ensures untouched { (S.left input.new ≡ S.left input.old) ⊎ (ReachesInput words.now (F.entries files.old) × IfErr result IsOfInput) }
+    ensures untouched { (S.left input.new ≡ S.left input.old) ⊎ (TakesOfWords words.now (F.entries files.old) (S.left input.old) (S.left input.new) × IfErr result IsOfInput) }
     ensures files { (F.entries files.new ≡ F.entries files.old) × (F.is_sure files.new ≡ F.is_sure files.old) }
     ensures loads { F.faults files.old ≤ F.faults files.new }
     ensures reads { S.faults input.old ≤ S.faults input.new }
+    ensures few { StepsUpTo (ReadsOfWords words.now (S.left input.old)) steps.old steps.new }
 {
     match requested(words) {
         Ok(request) => answer(alloc, request, files, input, steps),
@@ -376,15 +388,19 @@ fn complain<E: Sink>(outcome: Outcome, complaints: &mut E)
     let _ = write_line(&outcome, complaints);
 }
 
-/// Does what the words ask for. `show FILE...`, `check ROOT FILE...` and `to-per ROOT FILE...` load the schema files in turn and end at the
-/// first that can't be loaded, has over 16,777,216 bytes, or has a fault in its text or as a schema document. Then the
-/// files are linked into one set, or the answer is the first fault of linking. `show` writes the module that the set maps
-/// to and leaves the input alone. `check` looks for the root in the set and reads the input, of as many bytes at most, as a
-/// document, which is valid against that element or has a first fault; nothing is written. `to-per` takes a root whose type
-/// is boolean, and writes the encoding of the document in the input. The other commands, and roots and documents of
-/// `to-per` beyond that, are `NotYet`. The whole result is made before writing
-/// begins. Complaints receive the line of the outcome. A fault outside is one that raises the count of its object.
-/// The steps are those of `check` through content models.
+/// Does what the words ask for. `show FILE...`, `check ROOT FILE...`, `to-per ROOT FILE...` and `to-xml ROOT FILE...` load
+/// the schema files in turn and end at the first that can't be loaded, has over 16,777,216 bytes, or has a fault in its
+/// text or as a schema document. Then the files are linked into one set, or the answer is the first fault of linking.
+/// `show` writes the module that the set maps to and leaves the input alone. The others look for the root in the set.
+///
+/// `check` and `to-per` read the input, of as many bytes at most, as a document, which is valid against that element or has
+/// a first fault. `check` writes nothing. `to-per` writes the complete encoding, in canonical aligned PER, of the one value
+/// whose items by EXTENDED-XER are the document's treated items, unless it has too many nodes. `to-xml` takes the complete
+/// encoding of a value and nothing else, octet by octet as they come, and writes a document with the items of that value.
+/// `trial N` does what `to-per` does with an order of N lines, over a file and an input of its own, and writes one line.
+///
+/// The whole result is made before writing begins. Complaints receive the line of the outcome. A fault outside is one that
+/// raises the count of its object.
 pub fn run<F: Library, S: Source, K: Sink, E: Sink, L: Ledger>(
     alloc: Global,
     words: &[Text],
@@ -406,7 +422,7 @@ pub fn run<F: Library, S: Source, K: Sink, E: Sink, L: Ledger>(
         × ((bytes : List ℕ) × Due words.now (F.entries files.old) (S.left input.old) (Ok bytes) × AppendsFront (K.written output.old) (K.written output.new) bytes) }
     ensures kept { WritesNothing result → K.written output.new ≡ K.written output.old }
     ensures end { result ≡ Outcome.Done → ReadsInput words.now → IsAtEnd (S.left input.new) }
-    ensures untouched { (S.left input.new ≡ S.left input.old) ⊎ (ReachesInput words.now (F.entries files.old) × IsOfInput result) }
+    ensures untouched { (S.left input.new ≡ S.left input.old) ⊎ (TakesOfWords words.now (F.entries files.old) (S.left input.old) (S.left input.new) × IsOfInput result) }
     ensures files { (F.entries files.new ≡ F.entries files.old) × (F.is_sure files.new ≡ F.is_sure files.old) }
     // Where Done is due and no count rose, it is Done, or memory is missing. The input need not be told where the words
     // don't ask for it.
@@ -420,6 +436,8 @@ pub fn run<F: Library, S: Source, K: Sink, E: Sink, L: Ledger>(
     ensures complaint { Appends (E.written complaints.old) (E.written complaints.new) (line result)
         ⊎ (HasRisen (E.faults complaints.old) (E.faults complaints.new) × AppendsFront (E.written complaints.old) (E.written complaints.new) (line result)) }
     ensures complaints { E.faults complaints.old ≤ E.faults complaints.new }
+    // At most 144 steps through content models for each element of the document that is read.
+    ensures few { StepsUpTo (ReadsOfWords words.now (S.left input.old)) steps.old steps.new }
 {
     // What is due is one thing: documents are valid in one way, and have one value, and octets are of one.
     at_most_one();

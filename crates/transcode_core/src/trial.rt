@@ -17,7 +17,8 @@ pub const ROOT: Root<'static> = Root {
 };
 
 // The schema of an order, by which the trial document is valid.
-const SCHEMA: &[u8] = b"<xs:schema xmlns:xs=\"http://www.w3.org/2001/XMLSchema\" xmlns=\"urn:po\" targetNamespace=\"urn:po\" elementFormDefault=\"qualified\">
+const SCHEMA: &[u8] =
+    b"<xs:schema xmlns:xs=\"http://www.w3.org/2001/XMLSchema\" xmlns=\"urn:po\" targetNamespace=\"urn:po\" elementFormDefault=\"qualified\">
 <xs:element name=\"order\" type=\"Order\"/>
 <xs:complexType name=\"Order\"><xs:sequence><xs:element name=\"line\" type=\"Line\" maxOccurs=\"unbounded\"/><xs:element name=\"note\" type=\"xs:string\" minOccurs=\"0\"/></xs:sequence><xs:attribute name=\"id\" type=\"xs:unsignedShort\" use=\"required\"/></xs:complexType>
 <xs:complexType name=\"Line\"><xs:sequence><xs:element name=\"sku\" type=\"xs:token\"/><xs:element name=\"qty\" type=\"Qty\"/></xs:sequence></xs:complexType>

@@ -1,4 +1,4 @@
-use Rattle.std.proofs.Common.{ℕ, [], inl}
+use Rattle.std.proofs.Common.{ℕ, [], inl, inr}
 use Rattle.std.specs.Prelude.{Vec}
 use Rattle.std.specs.declared.alloc.Global.{Global}
 use Rattle.schema_parts.specs.SetParts.{parts_of}
@@ -22,3 +22,6 @@ returns-in-Err-clause-due g c =
     let cause = OneRead (g.S.Source.faults c.args.input.now) (g.S.Source.faults c.read_items.new.input) in
     refused (ItemsIn (g.S.Source.left c.args.input.now)) (λ items. Then (Judged (parts_of opened.set) opened.root items) (λ _. Give [])) cause cause
     (λ (bytes : Vec ℕ Global). bytes.items) c.in-Err.outcome c.in-Err.ensures.due (λ h. h)
+
+pub returns-in-Ok-clause-few : goal.returns-in-Ok-clause-few
+returns-in-Ok-clause-few g c = inr (c.in-Ok.items, c.in-Ok.ensures.due, c.judge.ensures.most)

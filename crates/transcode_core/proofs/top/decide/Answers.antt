@@ -28,7 +28,7 @@ pub returns-in-Ok-clause-untouched : goal.returns-in-Ok-clause-untouched
 returns-in-Ok-clause-untouched g c =
     elim c.answer.ensures.untouched [
       | inl same ↦ inl same
-      | inr (comes, stage) ↦ inr ((seen c.in-Ok.request, c.in-Ok.ensures.due, comes), stage)
+      | inr (takes, stage) ↦ inr ((seen c.in-Ok.request, c.in-Ok.ensures.due, takes), stage)
     ]
 
 pub returns-in-Err-clause-due : goal.returns-in-Err-clause-due
@@ -39,3 +39,10 @@ returns-in-Err-clause-due g c =
     let reads = g.S.Source.faults c.args.input.now in
     refused (Requested c.args.words.now) (λ request. Answered entries (g.S.Source.left c.args.input.now) request) Never
     (Deciding loads loads sure entries reads reads c.args.words.now) (λ (bytes : Vec ℕ Global). bytes.items) c.in-Err.outcome c.in-Err.ensures.due (λ h. absurd h)
+
+pub returns-in-Ok-clause-few : goal.returns-in-Ok-clause-few
+returns-in-Ok-clause-few g c =
+    elim c.answer.ensures.few [
+      | inl none ↦ inl none
+      | inr (items, reads, few) ↦ inr (items, (seen c.in-Ok.request, c.in-Ok.ensures.due, reads), few)
+    ]

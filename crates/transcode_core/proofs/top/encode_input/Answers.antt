@@ -1,4 +1,4 @@
-use Rattle.std.proofs.Common.{ℕ, inl}
+use Rattle.std.proofs.Common.{ℕ, inl, inr}
 use Rattle.std.specs.Prelude.{Vec}
 use Rattle.std.specs.declared.alloc.Global.{Global}
 use Rattle.transcode_core.specs.Order.{Then}
@@ -24,3 +24,6 @@ returns-in-Err-clause-due g c =
     let cause = OneRead (g.S.Source.faults c.args.input.now) (g.S.Source.faults c.read_items.new.input) in
     refused (ItemsIn (g.S.Source.left c.args.input.now)) (λ items. Then (ValueIn opened type items) (λ value. Encoding type value)) cause cause
     (λ (bytes : Vec ℕ Global). bytes.items) c.in-Err.outcome c.in-Err.ensures.due (λ h. h)
+
+pub returns-in-Ok-clause-few : goal.returns-in-Ok-clause-few
+returns-in-Ok-clause-few g c = inr (c.in-Ok.items, c.in-Ok.ensures.due, c.encode_items.ensures.most)

@@ -1,4 +1,4 @@
-use Rattle.std.proofs.Common.{ℕ, inl}
+use Rattle.std.proofs.Common.{ℕ, inl, inr}
 use Rattle.std.specs.Prelude.{Vec}
 use Rattle.std.specs.declared.alloc.Global.{Global}
 use Rattle.transcode_core.specs.Order.{Then}
@@ -23,3 +23,6 @@ returns-in-Err-clause-due g c =
     let left = g.S.Source.left c.args.input.now in
     refused (Typed (opened_seen c.args.opened.now)) (λ (type : RootType). Then (Decoded type left) (λ value. Written type value)) NoMemory
     (OneRead (g.S.Source.faults c.args.input.now) (g.S.Source.faults c.args.input.now)) (λ (bytes : Vec ℕ Global). bytes.items) c.in-Err.outcome c.in-Err.ensures.due (λ h. inl h)
+
+pub returns-in-Ok-clause-taken : goal.returns-in-Ok-clause-taken
+returns-in-Ok-clause-taken g c = inr (type_seen c.in-Ok.typed, c.in-Ok.ensures.due, c.write_input.ensures.taken)

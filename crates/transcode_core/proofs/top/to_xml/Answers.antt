@@ -11,7 +11,11 @@ returns-in-Ok-clause-due g c =
     (opened_seen c.in-Ok.opened) c.receive.result c.in-Ok.ensures.due c.receive.ensures.due
 
 pub returns-in-Ok-clause-untouched : goal.returns-in-Ok-clause-untouched
-returns-in-Ok-clause-untouched g c = inr ((opened_seen c.in-Ok.opened, c.in-Ok.ensures.due), c.receive.ensures.stage)
+returns-in-Ok-clause-untouched g c =
+    elim c.receive.ensures.taken [
+      | inl same ↦ inl same
+      | inr (type, typed, taken) ↦ inr ((opened_seen c.in-Ok.opened, c.in-Ok.ensures.due, (type, typed, taken)), c.receive.ensures.stage)
+    ]
 
 pub returns-in-Err-clause-due : goal.returns-in-Err-clause-due
 returns-in-Err-clause-due g c =

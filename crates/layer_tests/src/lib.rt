@@ -1,0 +1,15 @@
+//! Tests of what no row of transcode_rows shows: what is taken of a source, what becomes of each part of an encoding and of
+//! each bit that is turned, and long texts. Octets are worked out from X.691, and never copied from the program.
+#![tactic(auto)]
+
+#[cfg(test)]
+mod damaged;
+#[cfg(test)]
+mod fragments;
+mod opened;
+mod schemas;
+#[cfg(test)]
+mod taken;
+
+pub use opened::{Unopened, opened};
+pub use schemas::{ORDER, SORTS, TRUTHS};

@@ -1,0 +1,45 @@
+//! What is taken of a source.
+use crate::opened::opened;
+use crate::schemas::ORDER;
+use per_decode::{DecodeError, decode};
+use per_fields::Why;
+use std::test::Fail;
+use xa_base::SureSource;
+
+const OCTETS: &[u8] = b"\x00\x00\x07\x01\x02\x41\x31\x04\xFF";
+
+#[test]
+fn an_encoding_is_taken_and_nothing_behind_it(rt: HostRuntime) -> Result<(), Fail> {
+    let (module, t) = opened(rt.alloc(), ORDER, "order")?;
+    for piece in [1, 3, 8] {
+        let given = Vec::from_slice(rt.alloc(), OCTETS)?;
+        let mut source = SureSource::new(given, vec![in rt.alloc(); piece; 16]?);
+        assert!(rt; decode(rt.alloc(), &module, t, &mut source, 8).is_ok());
+        assert_eq!(rt; source.left(), b"\xFF".as_slice());
+    }
+    Ok(())
+}
+
+#[test]
+fn no_more_is_taken_than_may_be(rt: HostRuntime) -> Result<(), Fail> {
+    let (module, t) = opened(rt.alloc(), ORDER, "order")?;
+    for piece in [1, 3, 8] {
+        let given = Vec::from_slice(rt.alloc(), OCTETS)?;
+        let mut source = SureSource::new(given, vec![in rt.alloc(); piece; 16]?);
+        let answer = decode(rt.alloc(), &module, t, &mut source, 7);
+        assert!(rt; matches!(answer, Err(DecodeError::TooLong)));
+        assert_eq!(rt; source.left(), b"\x04\xFF".as_slice());
+    }
+    Ok(())
+}
+
+#[test]
+fn nothing_is_taken_behind_a_field_with_a_fault(rt: HostRuntime) -> Result<(), Fail> {
+    let (module, t) = opened(rt.alloc(), ORDER, "order")?;
+    let given = Vec::from_slice(rt.alloc(), b"\x00\x00\x07\x80\x01\x02\x41")?;
+    let mut source = SureSource::new(given, Vec::new(rt.alloc()));
+    let answer = decode(rt.alloc(), &module, t, &mut source, 100);
+    assert!(rt; matches!(answer, Err(DecodeError::Bad { bit: 24, why: Why::NotShortest })));
+    assert_eq!(rt; source.left(), b"\x02\x41".as_slice());
+    Ok(())
+}

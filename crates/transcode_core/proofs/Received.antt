@@ -1,0 +1,110 @@
+-- What decoding answers, and the octet behind it, say of all octets that are left.
+use Rattle.std.proofs.Common.{◌≡◌, ◌×◌, ◌⊎◌, ℕ, zero, ◌+◌, ◌*◌, ◌-◌, ◌<◌, ◌≤◌, Bool, true, false, cond, List, [], ◌∷◌, ◌++◌, length, take, drop, refl, sym, ap, ◌∙◌, subst, inl, inr, arith, Option, Some, None, Result, Ok, Err}
+use Rattle.std.specs.Prelude.{nat_le, ◌&&◌}
+use Rattle.std.specs.Io.KnownBytes.{IsAtEnd}
+use Rattle.std.proofs.lemmas.List.{take_all, length-drop, length-append, append-nil}
+use Rattle.std.proofs.lemmas.Bool.{le-leb, lt-leb}
+use Rattle.label_tree.specs.Rose.{Rose}
+use Rattle.simple_types.specs.declared.labels.ValueLabel.{ValueLabel}
+use Rattle.asn_types.specs.Values.{In}
+use Rattle.bit_cursor.specs.Bits.{octet_bits}
+use Rattle.bit_cursor.proofs.BitLemmas.{length-octet_bits}
+use Rattle.per_fields.specs.declared.stops.Stop.{Stop}
+use Rattle.per_fields.specs.declared.stops.Why.{Why}
+use Rattle.per_fields.specs.declared.stops.Why.TheVariants as why
+use Rattle.per_fields.specs.Encoding.{complete}
+use Rattle.per_fields.specs.Laws.{Begins, Stops}
+use Rattle.per_decode.specs.declared.decoded.Decoded.{Decoded}
+use Rattle.per_decode.specs.declared.errors.DecodeError.TheVariants as error
+use Rattle.per_decode.specs.Answers as decoding
+use Rattle.per_decode.specs.Answers.{Answer, Answers, is_short}
+use Rattle.transcode_core.specs.declared.outcome.Outcome.{Outcome}
+use Rattle.transcode_core.specs.declared.outcome.Outcome.TheVariants.{PerFault, Trailing, TooLong}
+use Rattle.transcode_core.specs.Steps as step
+use Rattle.transcode_core.specs.Steps.{RootType, IsNoEncoding, readable, fault_in}
+use Rattle.transcode_core.specs.Causes.{TakesItsField}
+
+short_is : (w : Why) → is_short w ≡ true → w ≡ why.Short
+short_is why.TooDeep e = cc
+short_is why.TooMany e = cc
+short_is why.Short e = refl
+short_is why.Padding e = cc
+short_is why.NotShortest e = cc
+short_is why.Range e = cc
+short_is why.TooWide e = cc
+short_is why.NotUtf8 e = cc
+short_is why.NotAValue e = cc
+
+no_bits : (a b : List Bool) → length (a ++ b) ≡ length a → b ≡ []
+no_bits a [] e = refl
+no_bits a (x ∷ b) e = absurd (omega (arith, e, length-append a (x ∷ b)))
+
+module _ (type : RootType) where
+  abbrev Says : Option (List ℕ) → Option (List ℕ) → Answer → Type 0
+  Says old new answer = (left : List ℕ) → old ≡ Some left → Answers type.assignments type.number 16777216 left new answer
+
+  behind : (new : Option (List ℕ)) (rest : List ℕ) → new ≡ Some rest → IsAtEnd new → rest ≡ []
+  behind new rest e is = subst IsAtEnd e is
+
+  -- nothing is left behind the value
+  ended : (left : List ℕ) (new : Option (List ℕ)) (found : Decoded) → Answers type.assignments type.number 16777216 left new (Ok found) → IsAtEnd new
+      → (length left ≤ 16777216) × In type.assignments type.number found.value × (octet_bits left ≡ complete type.assignments type.number found.value)
+  ended left new found a is =
+      let nothing : length (drop a.count left) ≡ 0 = ap length (behind new (drop a.count left) a.takes.rest is) in
+      let all : length left ≡ a.count = omega (arith, nothing, length-drop a.count left, a.takes.inside) in
+      let few : length left ≤ 16777216 = omega (arith, all, a.takes.limited) in
+      let whole : octet_bits left ≡ complete type.assignments type.number found.value ++ a.says.0.rest = ap octet_bits (sym (take_all 16777216 left few)) ∙ a.says.0.is in
+      let none : a.says.0.rest ≡ [] = no_bits (complete type.assignments type.number found.value) a.says.0.rest
+      (omega (arith, ap length whole, length-octet_bits left, all, a.says.1.0)) in
+      (few, a.says.0.value, whole ∙ ap (λ bs. complete type.assignments type.number found.value ++ bs) none ∙ append-nil (complete type.assignments type.number found.value))
+
+  pub all_ended : (old new : Option (List ℕ)) (found : Decoded) → In type.assignments type.number found.value → Says old new (Ok found) → IsAtEnd new → step.Decoded type old (Ok found.value)
+  all_ended None new found is_in says is = is_in
+  all_ended (Some left) new found is_in says is = ended left new found (says left refl) is
+
+  -- more is left
+  pub goes_on : (old new : Option (List ℕ)) (found : Decoded) → Says old new (Ok found) → ((left : List ℕ) → new ≡ Some left → 0 < length left)
+      → step.Decoded type old (Err (Trailing found.octets))
+  goes_on None new found says more = tt
+  goes_on (Some left) new found says more =
+      let a = says left refl in
+      let some = more (drop a.count left) a.takes.rest in
+      inr (found.value, found.octets, a.says.0, omega (arith, a.says.1.0, a.says.1.1), omega (arith, some, length-drop a.count left, a.says.1.1), refl)
+
+  told : (left : List ℕ) (stop : Stop) (b : Bool) → is_short stop.why ≡ b → (stop.why ≡ why.Short → length left < 16777216) → fault_in left stop ≡ PerFault stop.bit stop.why
+  told left stop false e short = rw e refl
+  told left stop true e short =
+      let less = short (short_is stop.why e) in
+      let no : nat_le 16777216 (length left) ≡ false = lt-leb 16777216 (length left) less in
+      rw (e, no) refl
+
+  -- a first fault
+  pub stops_at : (old new : Option (List ℕ)) (bit : ℕ) (w : Why) → Says old new (Err (error.Bad bit w)) → step.Decoded type old (Err (PerFault bit w))
+  stops_at None new bit w says = tt
+  stops_at (Some left) new bit w says =
+      let a = says left refl in
+      let stop = a.says.0 in
+      let same = told left stop (is_short stop.why) refl (λ e. a.says.2.2.2 (sym a.says.2.2.1 ∙ e)) in
+      inl (stop, a.says.1, sym (same ∙ ap (λ b. PerFault b stop.why) a.says.2.0 ∙ ap (λ r. PerFault bit r) a.says.2.1))
+
+  pub too_long : (old new : Option (List ℕ)) → Says old new (Err error.TooLong) → step.Decoded type old (Err (TooLong 0))
+  too_long None new says = tt
+  too_long (Some left) new says =
+      let a = says left refl in
+      let stop = a.says.0 in
+      let yes : nat_le 16777216 (length left) ≡ true = le-leb 16777216 (length left) a.says.2.1 in
+      let e : is_short stop.why ≡ true = ap is_short a.says.2.0 in
+      inl (stop, a.says.1, sym (rw (e, yes) refl))
+
+  -- what was taken of octets with a first fault
+  pub takes : (old new : Option (List ℕ)) (answer : Answer) → Says old new answer → TakesItsField type old new
+  takes old new answer says left is stop stops = let a = says left is in (a.count, a.takes.rest, a.takes.stop stop stops)
+
+  -- octets of which a value was read have none
+  pub no_fault : (old new later : Option (List ℕ)) (found : Decoded) → Says old new (Ok found) → TakesItsField type old later
+  no_fault old new later found says left is stop stops = let a = says left is in
+      elim (a.stop stop stops) [
+        | inl e ↦ cc
+        | inr (inl e) ↦ cc
+        | inr (inr e) ↦ cc
+      ]
