@@ -52,10 +52,13 @@ module _ (M : List Assignment) (known : IsKnown M) (depth : ℕ) (t : Rose TypeL
     node-many shallow many = node-is ∙ ap (λ b. enter_by b (ltb s.nodes 1048576) s (λ r. body_at M depth s.at (resolve M t) X r)) (le-leb depth 64 shallow)
         ∙ ap (λ b. enter_by true b s (λ r. body_at M depth s.at (resolve M t) X r)) (le-ltb s.nodes 1048576 many)
 
-    pub node-goes : depth ≤ 64 → s.nodes < 1048576 → node_read M depth t X s ≡ body_at M depth s.at (resolve M t) X (moved s 0 1)
+    pub node-goes : depth ≤ 64 → s.nodes < 1048576 → node_read M depth t X s ≡ body_at M depth s.at (resolve M t) X (spot s.at (s.nodes + 1))
     unfolding entered_at
-    node-goes shallow few = node-is ∙ ap (λ b. enter_by b (ltb s.nodes 1048576) s (λ r. body_at M depth s.at (resolve M t) X r)) (le-leb depth 64 shallow)
+    node-goes shallow few =
+        let e : s.at + 0 ≡ s.at = omega arith in
+        node-is ∙ ap (λ b. enter_by b (ltb s.nodes 1048576) s (λ r. body_at M depth s.at (resolve M t) X r)) (le-leb depth 64 shallow)
         ∙ ap (λ b. enter_by true b s (λ r. body_at M depth s.at (resolve M t) X r)) (lt-ltb s.nodes 1048576 few)
+        ∙ ap (λ p. body_at M depth s.at (resolve M t) X (spot p (s.nodes + 1))) e
 
   -- ITS FIELDS AND RULES
   sits-fields : SteadyReader (fields_at M depth (resolve M t))

@@ -1,6 +1,6 @@
 -- Values that are read fit their types.
-use Rattle.std.proofs.Common.{◌≡◌, ℕ, zero, suc, ◌+◌, ◌-◌, ◌*◌, ◌<◌, ◌≤◌, Bool, true, false, cond, ltb, leb, List, [], ◌∷◌, ◌++◌, length, refl, sym, ap, ◌∙◌, subst, arith, Option, Some, None, inl, inr}
-use Rattle.std.specs.Prelude.{slice_get, replicate, ℤ, ◌&&◌}
+use Rattle.std.proofs.Common.{◌≡◌, ℕ, zero, suc, ◌+◌, ◌-◌, ◌*◌, ◌<◌, ◌≤◌, Bool, true, false, cond, ltb, leb, List, [], ◌∷◌, ◌++◌, length, refl, sym, ap, ◌∙◌, subst, arith, Option, Some, None, Result, Ok, Err, inl, inr}
+use Rattle.std.specs.Prelude.{slice_get, replicate, ℤ, ◌&&◌, IfOk}
 use Rattle.std.proofs.lemmas.Bool.{lt-ltb, le-leb}
 use Rattle.std.specs.List.{sum_by}
 use Rattle.std.proofs.lemmas.List.Sums.{sum_by-cons}
@@ -15,9 +15,11 @@ use Rattle.asn_types.specs.declared.types.Form.{Form}
 use Rattle.asn_types.specs.declared.types.Form.TheVariants as form
 use Rattle.asn_types.specs.declared.types.TypeLabel.{TypeLabel}
 use Rattle.asn_types.specs.Refs.{resolve}
-use Rattle.asn_types.specs.Values.{ComponentPlace, place_of, put_first, present_from, place_at, alone, repeated, none_if, places_in, places, below, FitsAt, FitEach}
+use Rattle.asn_types.specs.Values.{ComponentPlace, place_of, put_first, present_from, place_at, alone, repeated, none_if, places_in, places, below, FitsAt, FitEach, Own}
 use Rattle.asn_types.specs.Private.Placing.{FitPlaces, FitKids}
-use Rattle.asn_types.proofs.Counting.{fit_none, fit_each-length}
+use Rattle.asn_types.proofs.Counting.{fit_none, fit_each-length, fits-from_kids}
+use Rattle.per_fields.specs.Nodes.{is_no_text}
+use Rattle.per_decode.specs.declared.faults.Fault.{Fault}
 use Rattle.per_decode.specs.Private.Bodies.{FitAll, FitSome}
 
 pub roses-list : (vs : Roses ValueLabel) → roses_of (list_of vs) ≡ vs
@@ -108,6 +110,20 @@ module _ (M : List Assignment) (depth : ℕ) where
         ∙ ap (λ b. cond b (repeated (length vs) (place_at (label_of t) 0 (Some part) (slice_get (kids_of t) 0))) None) high
         ∙ ap (λ o. repeated (length vs) (place_at (label_of t) 0 (Some part) o)) is_kid)
         (all-each p vs h)
+
+  -- A VALUE THAT KEEPS THE RULES OF ITS NODE, with the kids that it had
+  pub own_fits : (t : Rose TypeLabel) (v : Rose ValueLabel) (answer : Result (Rose ValueLabel) Fault) → depth ≤ 64 → FitKids M depth (resolve M t) v → IfOk answer (λ w. (w ≡ v) × Own M t v) → IfOk answer (λ w. FitsAt M depth t w)
+  own_fits t v (Ok w) deep kids h = subst (FitsAt M depth t) (sym h.0) (fits-from_kids M depth t v deep kids h.1)
+  own_fits t v (Err e) deep kids h = tt
+
+pub own_counts : (O : Type 0) (a b : ℕ) (v : Rose ValueLabel) (answer : Result (Rose ValueLabel) Fault) → a + 1 ≡ b + node_count v → IfOk answer (λ w. (w ≡ v) × O) → IfOk answer (λ w. a + 1 ≡ b + node_count w)
+own_counts O a b v (Ok w) e h = subst (λ u. a + 1 ≡ b + node_count u) (sym h.0) e
+own_counts O a b v (Err f) e h = tt
+
+-- what is said of a leaf with some label
+pub leaf_counts : {A : Type 0} (Q : A → Type 0) (l : A → ValueLabel) (a b : ℕ) (answer : Result (Rose ValueLabel) Fault) → a ≡ b → IfOk answer (λ v. (x : A) × (v ≡ node (l x) none) × Q x) → IfOk answer (λ v. a + 1 ≡ b + node_count v)
+leaf_counts Q l a b (Ok v) e h = omega (arith, e, ap node_count h.1)
+leaf_counts Q l a b (Err f) e h = tt
 
 -- A VALUE THAT FITS HAS THE KIDS THAT ITS LABELS ALLOW
 same_some : {A : Type 0} (a b : A) → Some a ≡ Some b → a ≡ b

@@ -31,7 +31,7 @@ regroup front b (Err f) = refl
 pub here_split : {A : Type 0} (xs : List A) (i : ℕ) (a : A) → i < length xs → a ≡ get_or xs i a → drop i xs ≡ a ∷ drop (i + 1) xs
 here_split xs i a at here = drop_more xs i a at ∙ ap (λ y. y ∷ drop (i + 1) xs) (sym here)
 
-end-front : {B : Type 0} (front : List B) (r : Result (List B × Spot) Stop) → end_of (with_front front r) ≡ end_of r
+pub end-front : {B : Type 0} (front : List B) (r : Result (List B × Spot) Stop) → end_of (with_front front r) ≡ end_of r
 end-front front (Ok x) = refl
 end-front front (Err s) = refl
 
