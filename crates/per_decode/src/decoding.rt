@@ -1,5 +1,5 @@
 //! A value from a source of octets.
-ghost use Rattle.std.specs.Prelude.{◌≡◌, ℕ, ◌+◌, ◌%◌, ◌^◌, ◌<◌, ◌≤◌, List, Some, IfOk, OnOk, IsErrOf, IsTrue, length};
+ghost use Rattle.std.specs.Prelude.{◌≡◌, ℕ, ◌+◌, ◌*◌, ◌%◌, ◌^◌, ◌<◌, ◌≤◌, List, Some, IfOk, OnOk, IsErrOf, IsTrue, length};
 ghost use Rattle.bit_cursor.specs.Cursors.{IsInStep};
 ghost use Rattle.xa_base.specs.Faults.{Counts, HasRisen};
 ghost use Rattle.label_tree.specs.Rose.{node_count};
@@ -47,28 +47,28 @@ fn last<S: Source, K: Origin>(run: &mut Run<S, K>) -> Result<(), Fault>
     run.align()
 }
 
-// A value and the end of its encoding.
+// A value and the end of its encoding, and how many octets this has.
 fn complete<S: Source, K: Origin>(
     alloc: Global,
     module: &Module,
     run: &mut Run<S, K>,
     body: &Tree<TypeLabel>,
-) -> Result<Tree<ValueLabel>, Fault>
+) -> Result<(Tree<ValueLabel>, u64), Fault>
     requires known { IsKnown module.now }
     requires of { IsOf module.now body.now }
     requires in_step { IsInStep run.old.bits.position run.old.bits.taken }
     ensures same_reference { run.new.bits.source.ghost_name ≡ run.old.bits.source.ghost_name }
     ensures on { OnOk result (GoesOn run.old.bits.position run.new.bits.position run.new.bits.taken) }
-    ensures count { IfOk result (λ v. run.new.nodes ≡ run.old.nodes + node_count v) }
-    ensures fits { IfOk result (λ v. FitsAt module.now 1 body.now v) }
-    ensures whole { OnOk result (run.new.bits.position % 8 ≡ 0) }
-    ensures gives { IsTrue K.told → Gives K.limit K.whole (λ x. x) result (spot run.new.bits.position run.new.nodes) run.new.bits.taken
+    ensures count { IfOk result (λ found. run.new.nodes ≡ run.old.nodes + node_count found.0) }
+    ensures fits { IfOk result (λ found. FitsAt module.now 1 body.now found.0) }
+    ensures octets { IfOk result (λ found. (run.new.bits.position ≡ 8 * run.new.bits.taken) × (found.1 ≡ run.new.bits.taken)) }
+    ensures gives { IsTrue K.told → Gives K.limit K.whole (λ found. found.0) result (spot run.new.bits.position run.new.nodes) run.new.bits.taken
         (complete_at module.now body.now) (spot run.old.bits.position run.old.nodes) }
     ensures failed { IsErrOf result Fault.Failed → HasRisen K.faults (S.faults run.new.bits.source.now) }
 {
     let value = node(alloc, module, run, 1, body)?;
     last(run)?;
-    Ok(value)
+    Ok((value, run.position() / 8))
 }
 
 // Decoding from what a source has left: the value, and how many octets were taken.
@@ -94,10 +94,7 @@ fn decode_from<S: Source, K: Origin>(
         nodes: 0,
         origin: PhantomData,
     };
-    match complete(alloc, module, &mut run, body) {
-        Ok(value) => Ok((value, run.position() / 8)),
-        Err(fault) => Err(fault),
-    }
+    complete(alloc, module, &mut run, body)
 }
 
 /// The value of the type of the assignment with this number, by the complete encoding (X.691, canonical aligned PER)

@@ -27,20 +27,20 @@ returns-in-Ok-clause-answer g c = λ left is.
 
 pub returns-in-Err-Stopped-clause-answer : goal.returns-in-Err-Stopped-clause-answer
 returns-in-Err-Stopped-clause-answer g c = λ left is. (answers_told c.args.module.now (c.count.ensures.module, c.count.ensures.bounded) c.args.t c.assignment.result.now c.assignment.ensures.assignment c.requires.assigned
-    c.args.limit left _ _ (Err (fault.Stopped c.in-Err-Stopped.stop)) is (rw c.root-body.ensures.root at c.in-Err-Stopped.ensures.told))
+    c.args.limit left _ _ (Err (fault.Stopped c.in-Err-Stopped.stop)) is (rw (c.root-body.ensures.root, c.in-Err-Stopped.field-0-is) at c.in-Err-Stopped.ensures.told))
 
 pub returns-in-Err-Short-clause-answer : goal.returns-in-Err-Short-clause-answer
 returns-in-Err-Short-clause-answer g c = λ left is. (answers_told c.args.module.now (c.count.ensures.module, c.count.ensures.bounded) c.args.t c.assignment.result.now c.assignment.ensures.assignment c.requires.assigned
-    c.args.limit left _ _ (Err (fault.Short c.in-Err-Short.bit)) is (rw c.root-body.ensures.root at c.in-Err-Short.ensures.told))
+    c.args.limit left _ _ (Err (fault.Short c.in-Err-Short.bit)) is (rw (c.root-body.ensures.root, c.in-Err-Short.field-0-is) at c.in-Err-Short.ensures.told))
 
 pub returns-in-Err-TooLong-clause-answer : goal.returns-in-Err-TooLong-clause-answer
 returns-in-Err-TooLong-clause-answer g c = λ left is. (answers_told c.args.module.now (c.count.ensures.module, c.count.ensures.bounded) c.args.t c.assignment.result.now c.assignment.ensures.assignment c.requires.assigned
-    c.args.limit left _ _ (Err (fault.TooLong c.in-Err-TooLong.bit)) is (rw c.root-body.ensures.root at c.in-Err-TooLong.ensures.told))
+    c.args.limit left _ _ (Err (fault.TooLong c.in-Err-TooLong.field-0-0)) is (rw (c.root-body.ensures.root, c.in-Err-TooLong.field-0-is) at c.in-Err-TooLong.ensures.told))
 
 pub returns-in-Err-Failed-clause-answer : goal.returns-in-Err-Failed-clause-answer
 returns-in-Err-Failed-clause-answer g c = λ left is. (answers_told c.args.module.now (c.count.ensures.module, c.count.ensures.bounded) c.args.t c.assignment.result.now c.assignment.ensures.assignment c.requires.assigned
-    c.args.limit left _ _ (Err fault.Failed) is (rw c.root-body.ensures.root at c.in-Err-Failed.ensures.told))
+    c.args.limit left _ _ (Err fault.Failed) is (rw (c.root-body.ensures.root, c.in-Err-Failed.field-0-is) at c.in-Err-Failed.ensures.told))
 
 pub returns-in-Err-Memory-clause-answer : goal.returns-in-Err-Memory-clause-answer
 returns-in-Err-Memory-clause-answer g c = λ left is. (answers_told c.args.module.now (c.count.ensures.module, c.count.ensures.bounded) c.args.t c.assignment.result.now c.assignment.ensures.assignment c.requires.assigned
-    c.args.limit left _ _ (Err fault.Memory) is (rw c.root-body.ensures.root at c.in-Err-Memory.ensures.told))
+    c.args.limit left _ _ (Err fault.Memory) is (rw (c.root-body.ensures.root, c.in-Err-Memory.field-0-is) at c.in-Err-Memory.ensures.told))

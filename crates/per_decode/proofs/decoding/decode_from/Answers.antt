@@ -16,30 +16,16 @@ invariant_of-run g c =
       here = λ told. rw (s.0, s.1, c.new.ensures.source) (at_octet g.K.Origin.whole g.K.Origin.limit 0 b.held _ (omega arith) (omega arith) (c.requires.left told));
     }
 
-pub returns-in-Ok-clause-told : goal.returns-in-Ok-clause-told
-returns-in-Ok-clause-told g c = λ told.
+pub returns-clause-told : goal.returns-clause-told
+returns-clause-told g c = λ told.
     let run = c.complete.new.run in
     let e : c.source-1.given.0 ≡ run.bits.source.now = search rules in
-    let end : run.bits.position ≡ 8 * run.bits.taken = omega (arith, c.in-Ok.ensures.on.1, c.in-Ok.ensures.whole) in
     rw e (record {
       taken = run.bits.taken;
       inside = (run.here told).inside;
       limited = omega (arith, run.bits.within, run.limited);
       rest = (run.here told).rest;
       end = spot run.bits.position run.nodes;
-      octets = (end, omega (arith, c.position.ensures, end));
-      gives = rw (c.new.ensures.start.0) at (c.in-Ok.ensures.gives told);
+      octets = c.complete.ensures.octets;
+      gives = rw (c.new.ensures.start.0) at (c.complete.ensures.gives told);
     })
-
-pub returns-in-Err-clause-told : goal.returns-in-Err-clause-told
-returns-in-Err-clause-told g c = λ told.
-    let run = c.complete.new.run in
-    record {
-      taken = run.bits.taken;
-      inside = (run.here told).inside;
-      limited = omega (arith, run.bits.within, run.limited);
-      rest = (run.here told).rest;
-      end = spot run.bits.position run.nodes;
-      octets = tt;
-      gives = rw (c.new.ensures.start.0) at (c.in-Err.ensures.gives told);
-    }
