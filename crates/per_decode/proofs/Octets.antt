@@ -112,8 +112,3 @@ module _ (n p t h l nodes limit : ℕ) (whole : List ℕ) (old : Option (List �
             let e : t' ≡ t = omega (arith, stays, step, s) in
             rw (stays, eh, e) (at.bits step);
       }
-
--- behind whole octets
-pub whole_octets_taken : {A E : Type 0} (r : Result A E) (from p t : ℕ) → OnOk r ((from ≤ p) × IsInStep p t) → OnOk r (p % 8 ≡ 0) → OnOk r (p ≡ 8 * t)
-whole_octets_taken (Ok x) from p t on whole = omega (arith, on.1, whole)
-whole_octets_taken (Err e) from p t on whole = tt

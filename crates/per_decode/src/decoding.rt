@@ -86,6 +86,7 @@ fn decode_from<S: Source, K: Origin>(
     requires left { IsTrue K.told → S.left source.old ≡ Some K.whole }
     requires faults { S.faults source.old ≡ K.faults }
     ensures fits { IfOk result (λ found. FitsAt module.now 1 body.now found.0 × (node_count found.0 ≤ 1048576)) }
+    ensures limited { IfOk result (λ found. found.1 ≤ limit) }
     ensures told { IsTrue K.told → Ended K.limit K.whole (λ found. found.0) (λ found. found.1) result (S.left source.new) (complete_at module.now body.now) }
     ensures cause { Counts K.faults (S.faults source.new) (IsErrOf result Fault.Failed) }
 {
@@ -115,6 +116,7 @@ pub fn decode<S: Source>(
     requires assigned { t < length module.now }
     requires small { limit ≤ 2 ^ 32 }
     ensures value { IfOk result (λ found. In module.now t found.value) }
+    ensures limited { IfOk result (λ found. found.octets ≤ limit) }
     ensures answer { (left : List ℕ) → S.left source.old ≡ Some left → Answers module.now t limit left (S.left source.new) result }
     ensures cause { Counts (S.faults source.old) (S.faults source.new) (IsErrOf result DecodeError.Failed) }
 {
