@@ -1,24 +1,21 @@
 -- A node, by what comes before its fields, its fields, and its rules.
-use Rattle.std.proofs.Common.{◌≡◌, ℕ, zero, suc, ◌+◌, ◌-◌, ◌*◌, ◌<◌, ◌≤◌, Bool, true, false, not, cond, ltb, leb, List, [], ◌∷◌, ◌++◌, length, refl, sym, ap, ◌∙◌, subst, arith, Option, Some, None, Result, Ok, Err, inl, inr, ◌⊎◌}
-use Rattle.std.specs.Prelude.{replicate, slice_get, ℤ, IfOk, IfErr, OnOk}
+use Rattle.std.proofs.Common.{◌≡◌, ℕ, ◌+◌, ◌*◌, ◌<◌, ◌≤◌, Bool, true, false, not, ltb, List, length, refl, sym, ap, ◌∙◌, subst, arith, Option, Result, Ok, Err, inl, inr, ◌⊎◌}
+use Rattle.std.specs.Prelude.{IfOk, IfErr}
 use Rattle.std.proofs.lemmas.Bool.{lt-ltb, le-ltb, lt-leb, le-leb}
-use Rattle.label_tree.specs.Rose.{Rose, node, none, label_of, kids_of, height}
+use Rattle.label_tree.specs.Rose.{Rose, label_of, kids_of}
 use Rattle.simple_types.specs.declared.labels.ValueLabel.{ValueLabel}
 use Rattle.asn_types.specs.declared.modules.Assignment.{Assignment}
-use Rattle.asn_types.specs.declared.types.Component.{Component}
-use Rattle.asn_types.specs.declared.types.Form.{Form}
 use Rattle.asn_types.specs.declared.types.Form.TheVariants as form
 use Rattle.asn_types.specs.declared.types.TypeLabel.{TypeLabel}
-use Rattle.asn_types.specs.Modules.{IsModule, AreWellFormed}
+use Rattle.asn_types.specs.Modules.{AreWellFormed}
 use Rattle.asn_types.specs.Refs.{resolve, IsOf}
-use Rattle.asn_types.specs.Values.{ComponentPlace, below, place_at, Own, OwnAt}
+use Rattle.asn_types.specs.Values.{below, Own}
 use Rattle.asn_types.proofs.Chaining.{well-formed, resolved-of-module}
 use Rattle.per_fields.specs.declared.stops.Spot.{Spot}
 use Rattle.per_fields.specs.declared.stops.Stop.{Stop}
 use Rattle.per_fields.specs.declared.stops.Why.TheVariants as why
-use Rattle.per_fields.specs.Reading.{◌>>=◌, Reader, stop_at, stop_if, moved, each_at}
-use Rattle.per_fields.specs.Levels.{tallest}
-use Rattle.per_fields.specs.Nodes.{bool_at, int_at, enum_at, text_at, sequence_at, choice_at, items_at, content_at, is_no_text, entered_at, enter_by, owned_at, node_read}
+use Rattle.per_fields.specs.Reading.{◌>>=◌, stop_at, stop_if}
+use Rattle.per_fields.specs.Nodes.{text_at, content_at, is_no_text, entered_at, enter_by, owned_at, node_read}
 use Rattle.per_fields.specs.Owning.{owns}
 use Rattle.per_fields.proofs.Owns.{owns_own, own_owns}
 use Rattle.per_fields.proofs.Unfolding.{node_recursion}

@@ -1,8 +1,8 @@
 -- What was read of the octets that a source began with, as the definitions of encodings and first stops have it.
-use Rattle.std.proofs.Common.{◌≡◌, ℕ, zero, suc, ◌+◌, ◌-◌, ◌*◌, ◌/◌, ◌%◌, ◌<◌, ◌≤◌, min, Bool, true, false, cond, not, eqb, ltb, leb, List, [], ◌∷◌, ◌++◌, length, refl, sym, ap, ◌∙◌, subst, arith, append_assoc, take, drop, Option, Some, None, Result, Ok, Err, inl, inr, ◌⊎◌}
-use Rattle.std.specs.Prelude.{slice_get, OnOk, ◌&&◌}
+use Rattle.std.proofs.Common.{◌≡◌, ℕ, ◌+◌, ◌-◌, ◌*◌, ◌/◌, ◌<◌, ◌≤◌, Bool, true, false, cond, not, eqb, leb, List, [], ◌++◌, length, refl, sym, ap, ◌∙◌, subst, arith, take, drop, Option, Some, None, Result, Ok, Err, inl, inr}
+use Rattle.std.specs.Prelude.{slice_get, ◌&&◌}
 use Rattle.std.specs.Option.{option_map}
-use Rattle.std.proofs.lemmas.List.{length-take, drop_at}
+use Rattle.std.proofs.lemmas.List.{length-take}
 use Rattle.std.proofs.Math.Seq.{take-add}
 use Rattle.std.proofs.lemmas.Bool.{cases_lt, ne_eqb, eq-eqb, eqb-true, not-false, le-leb, lt-leb}
 use Rattle.bit_cursor.specs.Bits.{bits, octet_bits, padding}
@@ -18,7 +18,7 @@ use Rattle.per_fields.specs.declared.stops.Stop.{Stop}
 use Rattle.per_fields.specs.declared.stops.Why.{Why}
 use Rattle.per_fields.specs.declared.stops.Why.TheVariants as why
 use Rattle.per_fields.specs.Reading.{◌>>=◌, stop_at, stop_if, bits_at}
-use Rattle.per_fields.specs.Codec.{most_nodes, Taken, Codec}
+use Rattle.per_fields.specs.Codec.{Taken, Codec}
 use Rattle.per_fields.specs.Encoding.{per, completed, complete_of, complete}
 use Rattle.per_fields.specs.Levels.{levels_needed}
 use Rattle.per_fields.specs.Nodes.{node_at, start, last_by, last_at, whole_of}
@@ -27,13 +27,11 @@ use Rattle.per_fields.proofs.Codecs.{bind_ok, stop_ok, ok_is, taken-then, align_
 use Rattle.per_fields.proofs.Levels.{body-tall}
 use Rattle.per_fields.proofs.Recursion.{body-bounded, node_codec}
 use Rattle.per_fields.proofs.Law.{not_both, one_value, whole_octets}
-use Rattle.per_decode.specs.declared.decoded.Decoded.{Decoded}
-use Rattle.per_decode.specs.declared.errors.DecodeError.{DecodeError}
 use Rattle.per_decode.specs.declared.errors.DecodeError.TheVariants as error
 use Rattle.per_decode.specs.declared.faults.Fault.{Fault}
 use Rattle.per_decode.specs.declared.faults.Fault.TheVariants as fault
-use Rattle.per_decode.specs.Answers.{within, Takes, Says, fault_of, IsDue, Answers, Answer, is_short}
-use Rattle.per_decode.specs.Private.Giving.{spot, input, end_of, IsRead, FailsAt, Gives, Ended}
+use Rattle.per_decode.specs.Answers.{Takes, fault_of, Answers, Answer, is_short}
+use Rattle.per_decode.specs.Private.Giving.{spot, input, end_of, IsRead, Ended}
 use Rattle.per_decode.specs.Private.Bodies.{IsKnown, complete_at}
 use Rattle.per_decode.proofs.Origins.{is_told, contents}
 

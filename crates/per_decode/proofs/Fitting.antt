@@ -1,8 +1,7 @@
 -- Values that are read fit their types.
-use Rattle.std.proofs.Common.{◌≡◌, ℕ, zero, suc, ◌+◌, ◌-◌, ◌*◌, ◌<◌, ◌≤◌, Bool, true, false, cond, ltb, leb, List, [], ◌∷◌, ◌++◌, length, refl, sym, ap, ◌∙◌, subst, arith, Option, Some, None, Result, Ok, Err, inl, inr}
+use Rattle.std.proofs.Common.{◌≡◌, ℕ, suc, ◌+◌, ◌<◌, ◌≤◌, Bool, true, false, cond, List, [], ◌∷◌, ◌++◌, length, refl, sym, ap, ◌∙◌, subst, arith, Option, Some, None, Result, Ok, Err}
 use Rattle.std.specs.Prelude.{slice_get, replicate, ℤ, ◌&&◌, IfOk}
 use Rattle.std.proofs.lemmas.Bool.{lt-ltb, le-leb}
-use Rattle.std.specs.List.{sum_by}
 use Rattle.std.proofs.lemmas.List.Sums.{sum_by-cons}
 use Rattle.label_tree.specs.Rose.{Rose, node, Roses, none, more, list_of, roses_of, label_of, kids_of, length_all, node_count, count_all, Allowed, AllowedAll}
 use Rattle.simple_types.specs.declared.labels.ValueLabel.{ValueLabel}
@@ -17,14 +16,9 @@ use Rattle.asn_types.specs.declared.types.TypeLabel.{TypeLabel}
 use Rattle.asn_types.specs.Refs.{resolve}
 use Rattle.asn_types.specs.Values.{ComponentPlace, place_of, put_first, present_from, place_at, alone, repeated, none_if, places_in, places, below, FitsAt, FitEach, Own}
 use Rattle.asn_types.specs.Private.Placing.{FitPlaces, FitKids}
-use Rattle.asn_types.proofs.Counting.{fit_none, fit_each-length, fits-from_kids}
-use Rattle.per_fields.specs.Nodes.{is_no_text}
+use Rattle.asn_types.proofs.Counting.{fit_none, fits-from_kids}
 use Rattle.per_decode.specs.declared.faults.Fault.{Fault}
 use Rattle.per_decode.specs.Private.Bodies.{FitAll, FitSome}
-
-pub roses-list : (vs : Roses ValueLabel) → roses_of (list_of vs) ≡ vs
-roses-list none = refl
-roses-list (more v vs) = ap (λ us. more v us) (roses-list vs)
 
 pub list-roses : (vs : List (Rose ValueLabel)) → list_of (roses_of vs) ≡ vs
 list-roses [] = refl
@@ -34,10 +28,6 @@ list-roses (v ∷ vs) = ap (λ us. v ∷ us) (list-roses vs)
 pub count-push : (vs : List (Rose ValueLabel)) (v : Rose ValueLabel) → count_all (roses_of (vs ++ v ∷ [])) ≡ count_all (roses_of vs) + node_count v
 count-push [] v = omega arith
 count-push (w ∷ vs) v = omega (arith, count-push vs v)
-
-pub many-count : (vs : List (Rose ValueLabel)) → length vs ≤ count_all (roses_of vs)
-many-count [] = omega arith
-many-count (node l ws ∷ vs) = omega (arith, many-count vs)
 
 module _ (M : List Assignment) (depth : ℕ) where
   pub each-push : (ps : List ComponentPlace) (p : ComponentPlace) (vs : List (Rose ValueLabel)) (v : Rose ValueLabel) → FitEach M depth ps (roses_of vs) → FitsAt M (below p.role depth) p.type v
@@ -119,11 +109,6 @@ module _ (M : List Assignment) (depth : ℕ) where
 pub own_counts : (O : Type 0) (a b : ℕ) (v : Rose ValueLabel) (answer : Result (Rose ValueLabel) Fault) → a + 1 ≡ b + node_count v → IfOk answer (λ w. (w ≡ v) × O) → IfOk answer (λ w. a + 1 ≡ b + node_count w)
 own_counts O a b v (Ok w) e h = subst (λ u. a + 1 ≡ b + node_count u) (sym h.0) e
 own_counts O a b v (Err f) e h = tt
-
--- what is said of a leaf with some label
-pub leaf_counts : {A : Type 0} (Q : A → Type 0) (l : A → ValueLabel) (a b : ℕ) (answer : Result (Rose ValueLabel) Fault) → a ≡ b → IfOk answer (λ v. (x : A) × (v ≡ node (l x) none) × Q x) → IfOk answer (λ v. a + 1 ≡ b + node_count v)
-leaf_counts Q l a b (Ok v) e h = omega (arith, e, ap node_count h.1)
-leaf_counts Q l a b (Err f) e h = tt
 
 -- A VALUE THAT FITS HAS THE KIDS THAT ITS LABELS ALLOW
 same_some : {A : Type 0} (a b : A) → Some a ≡ Some b → a ≡ b

@@ -1,5 +1,5 @@
 -- The fields of a node, by the form of its type.
-use Rattle.std.proofs.Common.{◌≡◌, ℕ, zero, suc, ◌+◌, ◌-◌, ◌*◌, ◌<◌, ◌≤◌, Bool, true, false, List, [], ◌∷◌, ◌++◌, length, refl, sym, ap, ◌∙◌, subst, arith, Option, Some, None, Result, Ok, Err}
+use Rattle.std.proofs.Common.{◌≡◌, ℕ, zero, suc, ◌-◌, ◌≤◌, Bool, List, [], ◌∷◌, length, refl, sym, ap, ◌∙◌, subst, arith, Option, Some, None, Result, Ok, Err}
 use Rattle.std.specs.Prelude.{replicate, slice_get, ℤ}
 use Rattle.label_tree.specs.Rose.{Rose, node, roses_of, label_of, kids_of}
 use Rattle.simple_types.specs.declared.labels.ValueLabel.{ValueLabel}
@@ -12,14 +12,12 @@ use Rattle.asn_types.specs.Values.{ComponentPlace, below, place_of, place_at, pr
 use Rattle.per_fields.specs.declared.stops.Spot.{Spot}
 use Rattle.per_fields.specs.declared.stops.Stop.{Stop}
 use Rattle.per_fields.specs.Reading.{◌>>=◌, Reader, each_at}
-use Rattle.per_fields.specs.Fields.{number_at, list_at, sized_at, counted_at, fragments_at}
-use Rattle.per_fields.specs.Nodes.{flag_at, bool_at, int_at, enum_at, sequence_at, choice_at, items_at, content_at, kids_at, node_read, nothing_at}
-use Rattle.per_fields.specs.Nodes as nodes
+use Rattle.per_fields.specs.Fields.{number_at, list_at}
+use Rattle.per_fields.specs.Nodes.{flag_at, bool_at, int_at, enum_at, sequence_at, choice_at, items_at, content_at, kids_at}
 use Rattle.per_decode.specs.declared.faults.Fault.{Fault}
-use Rattle.per_decode.specs.declared.faults.Fault.TheVariants as fault
-use Rattle.per_decode.specs.Private.Giving.{spot, end_of, FailsAt, Shows}
-use Rattle.per_decode.specs.Private.Bodies.{kid_at, fields_at, kids_read, many_at, node_of, item_place}
-use Rattle.per_decode.proofs.Ends.{Sits, SteadyReader, sits_then, sits-each, sits-list, fails_first, sits-number}
+use Rattle.per_decode.specs.Private.Giving.{FailsAt, Shows}
+use Rattle.per_decode.specs.Private.Bodies.{kid_at, fields_at, kids_read, many_at, item_place}
+use Rattle.per_decode.proofs.Ends.{Sits, SteadyReader, sits-each, fails_first, sits-number}
 use Rattle.per_decode.proofs.EndNodes.{sits-node, sits-kids, sits-flags}
 
 -- what a reading shows, another does that is equal to it
@@ -77,7 +75,7 @@ module _ (M : List Assignment) (depth : ℕ) where
     unfolding sequence_at
     sequence_fails limit whole e taken inside h =
         fails_first limit whole e taken X (each_at flag_at parts X s) (λ f. kids_at (kid_at M depth) (value.Sequence f.0) (present_from l 0 parts ts f.0) X f.1) (sits-flags parts X s inside).inside
-          (λ f i. sits-kids (kid_at M depth) steady-kid (value.Sequence f.0) (present_from l 0 parts ts f.0) X f.1 i) h
+        (λ f i. sits-kids (kid_at M depth) steady-kid (value.Sequence f.0) (present_from l 0 parts ts f.0) X f.1 i) h
 
     module _ (flags : List Bool) (r : Spot) (present : each_at flag_at parts X s ≡ Ok (flags, r)) where
       sequence_is : sequence_at (kid_at M depth) l ts parts X s ≡ (kids_read M depth (present_from l 0 parts ts flags) X r >>= λ vs. Ok (node (value.Sequence flags) (roses_of vs.0), vs.1))
@@ -94,7 +92,7 @@ module _ (M : List Assignment) (depth : ℕ) where
       pub components_fail : (limit : ℕ) (whole : List ℕ) (e : Fault) (taken : ℕ) → r.at ≤ length X → FailsAt limit whole e taken (kids_read M depth (present_from l 0 parts ts flags) X r) → FailsAt limit whole e taken (sequence_at (kid_at M depth) l ts parts X s)
       components_fail limit whole e taken inside h =
           subst (FailsAt limit whole e taken) (sym sequence_is)
-            (fails_first limit whole e taken X (kids_read M depth (present_from l 0 parts ts flags) X r) (λ vs. Ok (node (value.Sequence flags) (roses_of vs.0), vs.1)) (sits-read (present_from l 0 parts ts flags) inside).inside (λ vs i. record { later = omega arith; inside = i }) h)
+          (fails_first limit whole e taken X (kids_read M depth (present_from l 0 parts ts flags) X r) (λ vs. Ok (node (value.Sequence flags) (roses_of vs.0), vs.1)) (sits-read (present_from l 0 parts ts flags) inside).inside (λ vs i. record { later = omega arith; inside = i }) h)
 
   -- A CHOICE
   module _ (l : TypeLabel) (ts : List (Rose TypeLabel)) (parts : List Component) (X : List Bool) (s : Spot) where
@@ -102,7 +100,7 @@ module _ (M : List Assignment) (depth : ℕ) where
     unfolding choice_at
     choice_fails limit whole e taken inside h =
         fails_first limit whole e taken X (number_at (length parts - 1) X s) (λ i. kids_at (kid_at M depth) (value.Choice i.0) (alone (place_at l i.0 (slice_get parts i.0) (slice_get ts i.0))) X i.1) (sits-number (length parts - 1) X s inside).inside
-          (λ i j. sits-kids (kid_at M depth) steady-kid (value.Choice i.0) (alone (place_at l i.0 (slice_get parts i.0) (slice_get ts i.0))) X i.1 j) h
+        (λ i j. sits-kids (kid_at M depth) steady-kid (value.Choice i.0) (alone (place_at l i.0 (slice_get parts i.0) (slice_get ts i.0))) X i.1 j) h
 
     module _ (i : ℕ) (r : Spot) (part : Component) (kid : Rose TypeLabel) (index : number_at (length parts - 1) X s ≡ Ok (i, r)) (is_part : slice_get parts i ≡ Some part) (is_kid : slice_get ts i ≡ Some kid) where
       one_kid : (k : Result (Rose ValueLabel × Spot) Stop) → kid_at M depth (place_of l i part kid) X r ≡ k → (each_at (kid_at M depth) (place_of l i part kid ∷ []) X r >>= put_kids (value.Choice i)) ≡ (k >>= put_kid (value.Choice i))
@@ -125,7 +123,7 @@ module _ (M : List Assignment) (depth : ℕ) where
       pub alternative_fails : (limit : ℕ) (whole : List ℕ) (e : Fault) (taken : ℕ) → r.at ≤ length X → FailsAt limit whole e taken (kid_at M depth (place_of l i part kid) X r) → FailsAt limit whole e taken (choice_at (kid_at M depth) l ts parts X s)
       alternative_fails limit whole e taken inside h =
           subst (FailsAt limit whole e taken) (sym choice_is)
-            (fails_first limit whole e taken X (kid_at M depth (place_of l i part kid) X r) (λ v. Ok (node (value.Choice i) (roses_of (v.0 ∷ [])), v.1)) (steady-kid (place_of l i part kid) X r inside).inside (λ v j. record { later = omega arith; inside = j }) h)
+          (fails_first limit whole e taken X (kid_at M depth (place_of l i part kid) X r) (λ v. Ok (node (value.Choice i) (roses_of (v.0 ∷ [])), v.1)) (steady-kid (place_of l i part kid) X r inside).inside (λ v j. record { later = omega arith; inside = j }) h)
 
   -- THE ITEMS OF A SEQUENCE OF: one place again and again is one type again and again
   module _ (p : ComponentPlace) where

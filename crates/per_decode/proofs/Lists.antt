@@ -1,44 +1,31 @@
 -- The items of a SEQUENCE OF, by their count.
-use Rattle.std.proofs.Common.{◌≡◌, ℕ, zero, suc, ◌+◌, ◌-◌, ◌*◌, ◌<◌, ◌≤◌, Bool, true, false, not, cond, ltb, leb, List, [], ◌∷◌, ◌++◌, length, refl, sym, ap, ◌∙◌, subst, arith, Option, Some, None, Result, Ok, Err}
-use Rattle.std.specs.Prelude.{replicate, ◌||◌}
-use Rattle.std.proofs.lemmas.Bool.{lt-ltb, le-ltb, le-leb, not-false, ltb-false}
+use Rattle.std.proofs.Common.{◌≡◌, ℕ, ◌+◌, ◌-◌, ◌<◌, ◌≤◌, Bool, true, false, List, [], ◌++◌, length, refl, sym, ap, ◌∙◌, subst, arith, Option, Some, None, Result, Ok, Err}
+use Rattle.std.specs.Prelude.{replicate}
+use Rattle.std.proofs.lemmas.Bool.{lt-ltb, le-ltb}
 use Rattle.label_tree.specs.Rose.{Rose, node, roses_of}
 use Rattle.simple_types.specs.declared.labels.ValueLabel.{ValueLabel}
 use Rattle.simple_types.specs.declared.labels.ValueLabel.TheVariants as value
-use Rattle.simple_values.specs.Lexical.{is_at_most}
 use Rattle.asn_types.specs.declared.modules.Assignment.{Assignment}
 use Rattle.asn_types.specs.declared.types.TypeLabel.{TypeLabel}
 use Rattle.asn_types.specs.Values.{ComponentPlace, below}
 use Rattle.per_fields.specs.declared.stops.Spot.{Spot}
 use Rattle.per_fields.specs.declared.stops.Stop.{Stop}
-use Rattle.per_fields.specs.Reading.{◌>>=◌, Reader, each_at}
-use Rattle.per_fields.specs.Fields.{Last, number_at, sized_at, counted_at, list_at, is_out}
+use Rattle.per_fields.specs.Reading.{◌>>=◌}
+use Rattle.per_fields.specs.Fields.{number_at, sized_at, counted_at, list_at}
 use Rattle.per_fields.specs.Nodes.{items_at}
 use Rattle.per_decode.specs.declared.faults.Fault.{Fault}
-use Rattle.per_decode.specs.Private.Giving.{end_of, FailsAt}
+use Rattle.per_decode.specs.Private.Giving.{FailsAt}
 use Rattle.per_decode.specs.Private.Bodies.{kid_at, node_of, many_at, more_at}
-use Rattle.per_decode.proofs.Ends.{Sits, SteadyReader, sits-each, sits-list, fails_first, sits-number}
+use Rattle.per_decode.proofs.Ends.{SteadyReader, sits-each, sits-list, fails_first, sits-number}
 use Rattle.per_decode.proofs.EndNodes.{sits-node}
 use Rattle.per_decode.proofs.Forms.{items_are}
 
--- a last length that is within the bounds
-or_false : (a b : Bool) → (a || b) ≡ false → (a ≡ false) × (b ≡ false)
-or_false true b e = absurd cc
-or_false false b e = (refl, e)
-
-pub last_size : (least : ℕ) (most : Option ℕ) (total n : ℕ) → is_out least most total (Last n) ≡ false → (least ≤ total + n) × (is_at_most (total + n) most ≡ true)
-last_size least most total n e =
-    let k = or_false (not (is_at_most (total + n) most)) (ltb (total + n) least) e in
-    (ltb-false (total + n) least k.1, not-false (is_at_most (total + n) most) k.0)
-
+-- nothing in front
 front_none : {B : Type 0} (r : Result (List B × Spot) Stop) → r ≡ (r >>= λ x. Ok ([] ++ x.0, x.1))
 front_none (Ok x) = refl
 front_none (Err f) = refl
 
 module _ (M : List Assignment) (depth : ℕ) (t : Rose TypeLabel) where
-  abbrev pub items_of : ℕ → Reader (List (Rose ValueLabel))
-  items_of n X s = many_at M depth n t X s
-
   pub steady-items : (n : ℕ) → SteadyReader (λ X s. many_at M depth n t X s)
   steady-items n X s h = sits-each (node_of M depth t) (λ i. sits-node M depth t) (replicate n 0) X s h
 

@@ -1,8 +1,7 @@
 -- Reading one after the other, as a loop does.
-use Rattle.std.proofs.Common.{◌≡◌, ℕ, zero, suc, ◌+◌, ◌-◌, ◌*◌, ◌<◌, ◌≤◌, Bool, true, false, cond, List, [], ◌∷◌, ◌++◌, length, get_or, drop, refl, sym, ap, ◌∙◌, subst, arith, append_assoc, Option, Some, None, Result, Ok, Err}
-use Rattle.std.specs.Prelude.{replicate, slice_get}
-use Rattle.std.proofs.lemmas.List.{append-nil, drop_more, drop_all}
-use Rattle.label_tree.specs.Rose.{Rose, roses_of, kids_of, label_of}
+use Rattle.std.proofs.Common.{◌≡◌, ℕ, ◌+◌, ◌*◌, ◌<◌, ◌≤◌, Bool, true, false, cond, List, [], ◌∷◌, ◌++◌, length, get_or, drop, refl, sym, ap, ◌∙◌, subst, arith, append_assoc, Option, Some, None, Result, Ok, Err}
+use Rattle.std.proofs.lemmas.List.{append-nil, drop_more}
+use Rattle.label_tree.specs.Rose.{Rose, roses_of}
 use Rattle.simple_types.specs.declared.labels.ValueLabel.{ValueLabel}
 use Rattle.asn_types.specs.declared.modules.Assignment.{Assignment}
 use Rattle.asn_types.specs.declared.types.Component.{Component}
@@ -16,7 +15,7 @@ use Rattle.per_decode.specs.declared.faults.Fault.{Fault}
 use Rattle.per_decode.specs.declared.faults.Fault.TheVariants as fault
 use Rattle.per_decode.specs.Private.Giving.{end_of, FailsAt}
 use Rattle.per_decode.specs.Private.Bodies.{kid_at, kids_read, FitSome}
-use Rattle.per_decode.proofs.Ends.{Sits, SteadyReader, sits_then, sits-each, fails_first}
+use Rattle.per_decode.proofs.Ends.{SteadyReader, sits_then, sits-each, fails_first}
 use Rattle.per_decode.proofs.Fitting.{each-push}
 
 -- what was read before, and what is still read

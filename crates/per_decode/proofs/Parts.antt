@@ -1,5 +1,5 @@
 -- The parts of a type of a module, as reading finds them.
-use Rattle.std.proofs.Common.{Bool, false, get_or, ◌-◌, ◌≡◌, ℕ, zero, suc, ◌+◌, ◌<◌, ◌≤◌, ◌^◌, List, [], ◌∷◌, length, drop, refl, sym, ap, ◌∙◌, subst, arith, Option, Some, None}
+use Rattle.std.proofs.Common.{Bool, false, get_or, ◌-◌, ◌≡◌, ℕ, zero, suc, ◌+◌, ◌<◌, ◌≤◌, ◌^◌, List, [], ◌∷◌, length, drop, refl, sym, ap, ◌∙◌, subst, arith, Option, Some}
 use Rattle.std.specs.Prelude.{slice_get, replicate, IfSome, ℤ}
 use Rattle.std.proofs.lemmas.List.{drop_more}
 use Rattle.label_tree.specs.Rose.{Rose, node, label_of, kids_of}

@@ -1,15 +1,15 @@
 -- Fragments one by one, as a loop reads them.
-use Rattle.std.proofs.Common.{◌≡◌, ℕ, zero, suc, ◌+◌, ◌-◌, ◌*◌, ◌<◌, ◌≤◌, Bool, List, [], ◌∷◌, ◌++◌, length, refl, sym, ap, ◌∙◌, subst, arith, append_assoc, Option, Result, Ok, Err}
+use Rattle.std.proofs.Common.{◌≡◌, ℕ, zero, suc, ◌+◌, ◌*◌, ◌<◌, ◌≤◌, Bool, List, ◌++◌, length, refl, sym, ap, ◌∙◌, subst, arith, append_assoc, Option, Result, Ok, Err}
 use Rattle.per_fields.specs.declared.stops.Spot.{Spot}
 use Rattle.per_fields.specs.declared.stops.Stop.{Stop}
 use Rattle.per_fields.specs.Reading.{◌>>=◌, Reader, bits_at, align_at}
-use Rattle.per_fields.specs.Fields.{Piece, Last, Units, unit, length_from, length_here, is_out, count_here, count_at, fragments_at, counted_at}
+use Rattle.per_fields.specs.Fields.{Piece, Last, Units, unit, length_from, length_here, count_here, count_at, fragments_at}
 use Rattle.per_fields.proofs.Codecs.{bind_ok, stop_ok, ok_is}
 use Rattle.per_decode.specs.declared.faults.Fault.{Fault}
 use Rattle.per_decode.specs.declared.faults.Fault.TheVariants as fault
 use Rattle.std.specs.Prelude.{IfOk, IfErr}
 use Rattle.per_decode.specs.Private.Giving.{end_of, FailsAt, Shows}
-use Rattle.per_decode.proofs.Ends.{Sits, SteadyReader, Steady, sits_then, sits-bits, sits-align, sits-length_from, sits-length_here, sits-count, sits-fragments, fails_first}
+use Rattle.per_decode.proofs.Ends.{Sits, SteadyReader, Steady, sits_then, sits-bits, sits-align, sits-length_from, sits-count, sits-fragments, fails_first}
 use Rattle.per_decode.proofs.Loop.{with_front, end-front}
 
 -- where something was read, reading stands there

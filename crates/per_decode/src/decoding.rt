@@ -124,9 +124,18 @@ pub fn decode<S: Source>(
     let _ = module.count();
     let body = module.assignment(t).body.root();
     match decode_from::<S, Brand>(alloc, module, body, source, limit) {
-        Ok(found) => Ok(Decoded { octets: found.1, value: Whole::of(found.0) }),
-        Err(Fault::Stopped(stop)) => Err(DecodeError::Bad { bit: stop.bit, why: stop.why }),
-        Err(Fault::Short { bit }) => Err(DecodeError::Bad { bit, why: Why::Short }),
+        Ok(found) => Ok(Decoded {
+            octets: found.1,
+            value: Whole::of(found.0),
+        }),
+        Err(Fault::Stopped(stop)) => Err(DecodeError::Bad {
+            bit: stop.bit,
+            why: stop.why,
+        }),
+        Err(Fault::Short { bit }) => Err(DecodeError::Bad {
+            bit,
+            why: Why::Short,
+        }),
         Err(Fault::TooLong { .. }) => Err(DecodeError::TooLong),
         Err(Fault::Failed) => Err(DecodeError::Failed),
         Err(Fault::Memory) => Err(DecodeError::Memory),

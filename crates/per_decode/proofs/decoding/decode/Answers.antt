@@ -1,4 +1,4 @@
-use Rattle.std.proofs.Common.{rules, arith, sym, ap, ◌∙◌, ◌≡◌, refl, subst, Ok, Err}
+use Rattle.std.proofs.Common.{sym, subst, Ok, Err}
 use Rattle.asn_types.specs.Values.{In}
 use Rattle.asn_types.proofs.Inside.{body-of}
 use Rattle.per_decode.specs.Answers.{Answers}
@@ -16,14 +16,14 @@ decode_from-requires-clause-of g c = rw c.root-body.ensures.root (body-of c.args
 pub returns-in-Ok-clause-value : goal.returns-in-Ok-clause-value
 returns-in-Ok-clause-value g c =
     subst (λ v. In c.args.module.now c.args.t v) (sym c.of.ensures)
-      (in_module c.args.module.now (c.count.ensures.module, c.count.ensures.bounded) c.args.t c.assignment.result.now c.assignment.ensures.assignment c.requires.assigned c.in-Ok.found.0
-        (rw c.root-body.ensures.root at c.in-Ok.ensures.fits.0) c.in-Ok.ensures.fits.1)
+    (in_module c.args.module.now (c.count.ensures.module, c.count.ensures.bounded) c.args.t c.assignment.result.now c.assignment.ensures.assignment c.requires.assigned c.in-Ok.found.0
+    (rw c.root-body.ensures.root at c.in-Ok.ensures.fits.0) c.in-Ok.ensures.fits.1)
 
 pub returns-in-Ok-clause-answer : goal.returns-in-Ok-clause-answer
 returns-in-Ok-clause-answer g c = λ left is.
     subst (λ v. Answers c.args.module.now c.args.t c.args.limit left (g.S.Source.left c.decode_from.new.source) (Ok (record { value = v; octets = c.in-Ok.found.1 }))) (sym c.of.ensures)
-      (answers_told c.args.module.now (c.count.ensures.module, c.count.ensures.bounded) c.args.t c.assignment.result.now c.assignment.ensures.assignment c.requires.assigned
-        c.args.limit left _ _ (Ok c.in-Ok.found) is (rw c.root-body.ensures.root at c.in-Ok.ensures.told))
+    (answers_told c.args.module.now (c.count.ensures.module, c.count.ensures.bounded) c.args.t c.assignment.result.now c.assignment.ensures.assignment c.requires.assigned
+    c.args.limit left _ _ (Ok c.in-Ok.found) is (rw c.root-body.ensures.root at c.in-Ok.ensures.told))
 
 pub returns-in-Err-Stopped-clause-answer : goal.returns-in-Err-Stopped-clause-answer
 returns-in-Err-Stopped-clause-answer g c = λ left is. (answers_told c.args.module.now (c.count.ensures.module, c.count.ensures.bounded) c.args.t c.assignment.result.now c.assignment.ensures.assignment c.requires.assigned

@@ -1,4 +1,3 @@
-use Rattle.std.proofs.Common.{Option, Some, None, List, [], ℕ, Bool, true, false}
 use Rattle.per_decode.proofs.Origins.{is_told, contents}
 use Rattle.per_decode.proofs.decoding.decode.Given as goal
 

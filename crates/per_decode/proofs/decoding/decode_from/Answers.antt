@@ -1,6 +1,4 @@
-use Rattle.std.proofs.Common.{rules, arith, sym, ap, ◌∙◌, ◌≡◌, ◌≤◌, ◌*◌, ◌%◌, length, refl, drop, Result, Ok, Err}
-use Rattle.std.specs.Prelude.{OnOk}
-use Rattle.bit_cursor.specs.Cursors.{IsInStep}
+use Rattle.std.proofs.Common.{rules, arith, ◌∙◌, ◌≡◌}
 use Rattle.per_decode.proofs.Octets.{at_octet}
 use Rattle.per_decode.specs.Private.Giving.{spot}
 use Rattle.per_decode.proofs.decoding.decode_from.Goals as goal
