@@ -1,24 +1,21 @@
 -- A node, by what comes before its fields, its fields, and its rules.
-use Rattle.std.proofs.Common.{◌≡◌, ℕ, zero, suc, ◌+◌, ◌-◌, ◌*◌, ◌<◌, ◌≤◌, Bool, true, false, not, cond, ltb, leb, List, [], ◌∷◌, ◌++◌, length, refl, sym, ap, ◌∙◌, subst, arith, Option, Some, None, Result, Ok, Err, inl, inr, ◌⊎◌}
-use Rattle.std.specs.Prelude.{replicate, slice_get, ℤ, IfOk, IfErr, OnOk}
+use Rattle.std.proofs.Common.{◌≡◌, ℕ, ◌+◌, ◌*◌, ◌<◌, ◌≤◌, Bool, true, false, not, ltb, List, length, refl, sym, ap, ◌∙◌, subst, arith, Option, Result, Ok, Err, inl, inr, ◌⊎◌}
+use Rattle.std.specs.Prelude.{IfOk, IfErr}
 use Rattle.std.proofs.lemmas.Bool.{lt-ltb, le-ltb, lt-leb, le-leb}
-use Rattle.label_tree.specs.Rose.{Rose, node, none, label_of, kids_of, height}
+use Rattle.label_tree.specs.Rose.{Rose, label_of, kids_of}
 use Rattle.simple_types.specs.declared.labels.ValueLabel.{ValueLabel}
 use Rattle.asn_types.specs.declared.modules.Assignment.{Assignment}
-use Rattle.asn_types.specs.declared.types.Component.{Component}
-use Rattle.asn_types.specs.declared.types.Form.{Form}
 use Rattle.asn_types.specs.declared.types.Form.TheVariants as form
 use Rattle.asn_types.specs.declared.types.TypeLabel.{TypeLabel}
-use Rattle.asn_types.specs.Modules.{IsModule, AreWellFormed}
+use Rattle.asn_types.specs.Modules.{AreWellFormed}
 use Rattle.asn_types.specs.Refs.{resolve, IsOf}
-use Rattle.asn_types.specs.Values.{ComponentPlace, below, place_at, Own, OwnAt}
+use Rattle.asn_types.specs.Values.{below, Own}
 use Rattle.asn_types.proofs.Chaining.{well-formed, resolved-of-module}
 use Rattle.per_fields.specs.declared.stops.Spot.{Spot}
 use Rattle.per_fields.specs.declared.stops.Stop.{Stop}
 use Rattle.per_fields.specs.declared.stops.Why.TheVariants as why
-use Rattle.per_fields.specs.Reading.{◌>>=◌, Reader, stop_at, stop_if, moved, each_at}
-use Rattle.per_fields.specs.Levels.{tallest}
-use Rattle.per_fields.specs.Nodes.{bool_at, int_at, enum_at, text_at, sequence_at, choice_at, items_at, content_at, is_no_text, entered_at, enter_by, owned_at, node_read}
+use Rattle.per_fields.specs.Reading.{◌>>=◌, stop_at, stop_if}
+use Rattle.per_fields.specs.Nodes.{text_at, content_at, is_no_text, entered_at, enter_by, owned_at, node_read}
 use Rattle.per_fields.specs.Owning.{owns}
 use Rattle.per_fields.proofs.Owns.{owns_own, own_owns}
 use Rattle.per_fields.proofs.Unfolding.{node_recursion}
@@ -52,10 +49,13 @@ module _ (M : List Assignment) (known : IsKnown M) (depth : ℕ) (t : Rose TypeL
     node-many shallow many = node-is ∙ ap (λ b. enter_by b (ltb s.nodes 1048576) s (λ r. body_at M depth s.at (resolve M t) X r)) (le-leb depth 64 shallow)
         ∙ ap (λ b. enter_by true b s (λ r. body_at M depth s.at (resolve M t) X r)) (le-ltb s.nodes 1048576 many)
 
-    pub node-goes : depth ≤ 64 → s.nodes < 1048576 → node_read M depth t X s ≡ body_at M depth s.at (resolve M t) X (moved s 0 1)
+    pub node-goes : depth ≤ 64 → s.nodes < 1048576 → node_read M depth t X s ≡ body_at M depth s.at (resolve M t) X (spot s.at (s.nodes + 1))
     unfolding entered_at
-    node-goes shallow few = node-is ∙ ap (λ b. enter_by b (ltb s.nodes 1048576) s (λ r. body_at M depth s.at (resolve M t) X r)) (le-leb depth 64 shallow)
+    node-goes shallow few =
+        let e : s.at + 0 ≡ s.at = omega arith in
+        node-is ∙ ap (λ b. enter_by b (ltb s.nodes 1048576) s (λ r. body_at M depth s.at (resolve M t) X r)) (le-leb depth 64 shallow)
         ∙ ap (λ b. enter_by true b s (λ r. body_at M depth s.at (resolve M t) X r)) (lt-ltb s.nodes 1048576 few)
+        ∙ ap (λ p. body_at M depth s.at (resolve M t) X (spot p (s.nodes + 1))) e
 
   -- ITS FIELDS AND RULES
   sits-fields : SteadyReader (fields_at M depth (resolve M t))

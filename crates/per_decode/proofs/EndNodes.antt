@@ -1,5 +1,5 @@
 -- Reading nodes goes on, and ends in the bits.
-use Rattle.std.proofs.Common.{◌≡◌, ℕ, zero, suc, ◌+◌, ◌-◌, ◌*◌, ◌<◌, ◌≤◌, Bool, true, false, not, cond, eqb, ltb, leb, List, [], ◌∷◌, ◌++◌, length, refl, sym, ap, ◌∙◌, subst, arith, rules, Option, Some, None, Result, Ok, Err, inl, inr}
+use Rattle.std.proofs.Common.{◌≡◌, ℕ, zero, suc, ◌-◌, ◌≤◌, Bool, true, false, eqb, ltb, leb, List, length, arith, rules, Option, Some, None, Result, Ok, Err}
 use Rattle.std.specs.Prelude.{ℤ, replicate, slice_get}
 use Rattle.label_tree.specs.Rose.{Rose, label_of, kids_of}
 use Rattle.simple_types.specs.declared.labels.ValueLabel.{ValueLabel}
@@ -14,12 +14,10 @@ use Rattle.asn_types.specs.Values.{ComponentPlace, place_at, present_from, alone
 use Rattle.per_fields.specs.declared.stops.Spot.{Spot}
 use Rattle.per_fields.specs.declared.stops.Stop.{Stop}
 use Rattle.per_fields.specs.declared.stops.Why.TheVariants as why
-use Rattle.per_fields.specs.Reading.{◌>>=◌, Reader, stop_at, stop_if, moved, bits_at, align_at, octets_at, each_at}
-use Rattle.per_fields.specs.Fields.{number_at, whole_at, counted_at, list_at}
-use Rattle.per_fields.specs.Nodes.{bool_at, int_at, enum_at, text_at, flag_at, nothing_at, node_of, kids_at, sequence_at, choice_at, items_at, content_at, is_no_text, enter_by, entered_at, owned_at, node_at, node_read, last_by, last_at, most_deep}
-use Rattle.per_fields.specs.Owning.{owns}
+use Rattle.per_fields.specs.Reading.{◌>>=◌, Reader, stop_at, moved, bits_at, octets_at, each_at}
+use Rattle.per_fields.specs.Fields.{number_at, counted_at, list_at}
+use Rattle.per_fields.specs.Nodes.{bool_at, int_at, enum_at, text_at, flag_at, kids_at, sequence_at, choice_at, items_at, content_at, enter_by, entered_at, owned_at, node_at, node_read, last_by, last_at}
 use Rattle.per_fields.specs.Levels.{levels_needed}
-use Rattle.per_decode.specs.Private.Giving.{end_of}
 use Rattle.per_decode.proofs.Ends.{Sits, SteadyReader, sits_then, sits_if, sits_ok, sits_err, sits-bits, sits-align, sits-octets, sits-number, sits-whole, sits-counted, sits-list, sits-each}
 
 pub sits-bool : SteadyReader bool_at

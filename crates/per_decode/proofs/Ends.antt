@@ -1,16 +1,15 @@
 -- Reading goes on, and ends in the bits; and what a fault on the way says of the whole.
-use Rattle.std.proofs.Common.{◌≡◌, ℕ, zero, suc, ◌+◌, ◌-◌, ◌*◌, ◌<◌, ◌≤◌, ◌^◌, Bool, true, false, cond, ltb, eqb, List, [], ◌∷◌, ◌++◌, length, refl, sym, ap, ◌∙◌, subst, arith, rules, take, drop, Option, Some, None, Result, Ok, Err, inl, inr}
-use Rattle.std.specs.Prelude.{ℤ, nat_lt}
+use Rattle.std.proofs.Common.{◌≡◌, ℕ, zero, suc, ◌+◌, ◌-◌, ◌*◌, ◌≤◌, Bool, true, false, cond, ltb, eqb, List, [], ◌∷◌, ◌++◌, length, ap, arith, rules, Option, Some, None, Result, Ok, Err, inl, inr}
+use Rattle.std.specs.Prelude.{ℤ}
 use Rattle.std.proofs.lemmas.Bool.{cases_lt, le-ltb, lt-ltb}
-use Rattle.bit_cursor.specs.Bits.{gap}
 use Rattle.per_fields.specs.declared.stops.Spot.{Spot}
 use Rattle.per_fields.specs.declared.stops.Stop.{Stop}
 use Rattle.per_fields.specs.declared.stops.Why.TheVariants as why
-use Rattle.per_fields.specs.Reading.{◌>>=◌, Reader, stop_at, stop_if, moved, bits_at, align_at, octets_at, each_at}
-use Rattle.per_fields.specs.Fields.{Piece, Last, Units, unit, within_at, aligned_at, large_octets_at, large_at, number_at, length_from, length_here, is_out, count_here, count_at, fragments_at, counted_at, octet_count_here, octet_count_at, from_octets_at, from_at, signed_octets_at, signed_at, ranged_at, whole_at, sized_at, list_at}
+use Rattle.per_fields.specs.Reading.{◌>>=◌, Reader, stop_at, stop_if, bits_at, align_at, octets_at, each_at}
+use Rattle.per_fields.specs.Fields.{Piece, Last, Units, unit, within_at, aligned_at, large_octets_at, large_at, number_at, length_from, length_here, count_here, count_at, fragments_at, counted_at, octet_count_here, octet_count_at, from_octets_at, from_at, signed_octets_at, signed_at, ranged_at, whole_at, sized_at, list_at}
 use Rattle.per_decode.specs.declared.faults.Fault.{Fault}
 use Rattle.per_decode.specs.declared.faults.Fault.TheVariants as fault
-use Rattle.per_decode.specs.Private.Giving.{end_of, IsRead, FailsAt}
+use Rattle.per_decode.specs.Private.Giving.{end_of, FailsAt}
 
 pub record Sits {B : Type 0} (X : List Bool) (p : ℕ) (r : Result (B × Spot) Stop) : Type 0 where
   pub later : p ≤ end_of r

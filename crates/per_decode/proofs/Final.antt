@@ -1,8 +1,8 @@
 -- What was read of the octets that a source began with, as the definitions of encodings and first stops have it.
-use Rattle.std.proofs.Common.{◌≡◌, ℕ, zero, suc, ◌+◌, ◌-◌, ◌*◌, ◌%◌, ◌<◌, ◌≤◌, min, Bool, true, false, cond, not, eqb, ltb, leb, List, [], ◌∷◌, ◌++◌, length, refl, sym, ap, ◌∙◌, subst, arith, append_assoc, take, drop, Option, Some, None, Result, Ok, Err, inl, inr, ◌⊎◌}
-use Rattle.std.specs.Prelude.{slice_get, OnOk, ◌&&◌}
+use Rattle.std.proofs.Common.{◌≡◌, ℕ, ◌+◌, ◌-◌, ◌*◌, ◌/◌, ◌<◌, ◌≤◌, Bool, true, false, cond, not, eqb, leb, List, [], ◌++◌, length, refl, sym, ap, ◌∙◌, subst, arith, take, drop, Option, Some, None, Result, Ok, Err, inl, inr}
+use Rattle.std.specs.Prelude.{slice_get, ◌&&◌}
 use Rattle.std.specs.Option.{option_map}
-use Rattle.std.proofs.lemmas.List.{length-take, drop_at}
+use Rattle.std.proofs.lemmas.List.{length-take}
 use Rattle.std.proofs.Math.Seq.{take-add}
 use Rattle.std.proofs.lemmas.Bool.{cases_lt, ne_eqb, eq-eqb, eqb-true, not-false, le-leb, lt-leb}
 use Rattle.bit_cursor.specs.Bits.{bits, octet_bits, padding}
@@ -18,7 +18,7 @@ use Rattle.per_fields.specs.declared.stops.Stop.{Stop}
 use Rattle.per_fields.specs.declared.stops.Why.{Why}
 use Rattle.per_fields.specs.declared.stops.Why.TheVariants as why
 use Rattle.per_fields.specs.Reading.{◌>>=◌, stop_at, stop_if, bits_at}
-use Rattle.per_fields.specs.Codec.{most_nodes, Taken, Codec}
+use Rattle.per_fields.specs.Codec.{Taken, Codec}
 use Rattle.per_fields.specs.Encoding.{per, completed, complete_of, complete}
 use Rattle.per_fields.specs.Levels.{levels_needed}
 use Rattle.per_fields.specs.Nodes.{node_at, start, last_by, last_at, whole_of}
@@ -27,12 +27,11 @@ use Rattle.per_fields.proofs.Codecs.{bind_ok, stop_ok, ok_is, taken-then, align_
 use Rattle.per_fields.proofs.Levels.{body-tall}
 use Rattle.per_fields.proofs.Recursion.{body-bounded, node_codec}
 use Rattle.per_fields.proofs.Law.{not_both, one_value, whole_octets}
-use Rattle.per_decode.specs.declared.errors.DecodeError.{DecodeError}
 use Rattle.per_decode.specs.declared.errors.DecodeError.TheVariants as error
 use Rattle.per_decode.specs.declared.faults.Fault.{Fault}
 use Rattle.per_decode.specs.declared.faults.Fault.TheVariants as fault
-use Rattle.per_decode.specs.Answers.{within, Takes, Says, fault_of, IsDue, Answers, Decoded, is_short}
-use Rattle.per_decode.specs.Private.Giving.{spot, input, end_of, IsRead, FailsAt, Gives, Ended}
+use Rattle.per_decode.specs.Answers.{Takes, fault_of, Answers, Answer, is_short}
+use Rattle.per_decode.specs.Private.Giving.{spot, input, end_of, IsRead, Ended}
 use Rattle.per_decode.specs.Private.Bodies.{IsKnown, complete_at}
 use Rattle.per_decode.proofs.Origins.{is_told, contents}
 
@@ -97,8 +96,8 @@ module _ (M : List Assignment) (known : IsKnown M) (t : ℕ) (a : Assignment) (a
       )
 
   -- the answer that is told
-  abbrev pub answer_of : Result (Rose ValueLabel) Fault → Decoded
-  answer_of (Ok v) = Ok v
+  abbrev pub answer_of : Result (Rose ValueLabel × ℕ) Fault → Answer
+  answer_of (Ok found) = Ok (record { value = found.0; octets = found.1 })
   answer_of (Err (fault.Stopped stop)) = Err (error.Bad stop.bit stop.why)
   answer_of (Err (fault.Short bit)) = Err (error.Bad bit why.Short)
   answer_of (Err (fault.TooLong bit)) = Err error.TooLong
@@ -142,14 +141,22 @@ module _ (M : List Assignment) (known : IsKnown M) (t : ℕ) (a : Assignment) (a
         stop = λ stop k. omega (arith, h, ap end_of (stops-to stop k));
       }
 
-      ok_answers : (v : Rose ValueLabel) (r : Spot) → read ≡ Ok (v, r) → r.at ≡ 8 * taken → Answers M t limit left new (Ok v)
+      -- how many octets a value is told with
+      abbrev told_with : Rose ValueLabel → ℕ → Answer
+      told_with v n = Ok (record { value = v; octets = n })
+
+      told_octets : (v : Rose ValueLabel) → 8 * taken ≡ length (complete M t v) → told_with v taken ≡ told_with v (length (complete M t v) / 8)
+      told_octets v long = let e : taken ≡ length (complete M t v) / 8 = omega (arith, long) in ap (told_with v) e
+
+      ok_answers : (v : Rose ValueLabel) (r : Spot) → read ≡ Ok (v, r) → r.at ≡ 8 * taken → Answers M t limit left new (Ok (record { value = v; octets = taken }))
       ok_answers v r e end =
           let g = begins (input limit left) v r e in
+          let long : 8 * taken ≡ length (complete M t v) = sym end ∙ g.1 in
           record {
             count = taken;
             takes = up_to (omega (arith, ap end_of e, end));
-            says = (g.0, sym end ∙ g.1);
-            value = λ w b. inl (ap (λ u. Ok u) (one_value M t (take limit left) known.0 known.1 assigned v w g.0 b).0);
+            says = (g.0, long, refl);
+            value = λ w b. inl (told_octets v long ∙ ap (λ (u : Rose ValueLabel). told_with u (length (complete M t u) / 8)) (one_value M t (take limit left) known.0 known.1 assigned v w g.0 b).0);
             stop = λ stop k. absurd (not_both_here v stop g.0 k);
           }
 
@@ -203,8 +210,9 @@ module _ (M : List Assignment) (known : IsKnown M) (t : ℕ) (a : Assignment) (a
     short_no w other is = let e : true ≡ false = sym (ap is_short is) ∙ other in absurd cc
 
     -- each answer of the code is that of the definitions
-    pub answers : (new : Option (List ℕ)) (r : Result (Rose ValueLabel) Fault) → Ended limit left (λ v. v) r new (complete_at M a.body) → Answers M t limit left new (answer_of r)
-    answers new (Ok v) h = ok_answers new h.taken h.inside h.limited h.rest v h.end h.gives h.octets
+    pub answers : (new : Option (List ℕ)) (r : Result (Rose ValueLabel × ℕ) Fault) → Ended limit left (λ found. found.0) (λ found. found.1) r new (complete_at M a.body) → Answers M t limit left new (answer_of r)
+    answers new (Ok found) h =
+        subst (λ n. Answers M t limit left new (Ok (record { value = found.0; octets = n }))) (sym h.octets.1) (ok_answers new h.taken h.inside h.limited h.rest found.0 h.end h.gives h.octets.0)
     answers new (Err (fault.Stopped s)) h =
         bad_answers new h.taken h.inside h.limited h.rest s h.gives.0 h.gives.1 (ap (λ b. cond (b && leb limit (length left)) error.TooLong (error.Bad s.bit s.why)) h.gives.2) (short_no s.why h.gives.2)
     answers new (Err (fault.Short bit)) h =
@@ -214,8 +222,9 @@ module _ (M : List Assignment) (known : IsKnown M) (t : ℕ) (a : Assignment) (a
     answers new (Err fault.Failed) h = failed_answers new h.taken h.inside h.limited h.rest h.gives.0 h.gives.1
     answers new (Err fault.Memory) h = memory_answers new h.taken h.inside h.limited h.rest h.gives
 
-  pub answers_told : (limit : ℕ) (left : List ℕ) (old new : Option (List ℕ)) (r : Result (Rose ValueLabel) Fault) → old ≡ Some left → (is_told old ≡ true → Ended limit (contents old) (λ v. v) r new (complete_at M a.body)) → Answers M t limit left new (answer_of r)
+  pub answers_told : (limit : ℕ) (left : List ℕ) (old new : Option (List ℕ)) (r : Result (Rose ValueLabel × ℕ) Fault) → old ≡ Some left → (is_told old ≡ true → Ended limit (contents old) (λ found. found.0) (λ found. found.1) r new (complete_at M a.body))
+      → Answers M t limit left new (answer_of r)
   answers_told limit left old new r is h =
       let told : is_told old ≡ true = ap is_told is in
       let same : contents old ≡ left = ap contents is in
-      answers limit left new r (subst (λ ys. Ended limit ys (λ v. v) r new (complete_at M a.body)) same (h told))
+      answers limit left new r (subst (λ ys. Ended limit ys (λ found. found.0) (λ found. found.1) r new (complete_at M a.body)) same (h told))

@@ -1,8 +1,7 @@
 -- Values that are read fit their types.
-use Rattle.std.proofs.Common.{◌≡◌, ℕ, zero, suc, ◌+◌, ◌-◌, ◌*◌, ◌<◌, ◌≤◌, Bool, true, false, cond, ltb, leb, List, [], ◌∷◌, ◌++◌, length, refl, sym, ap, ◌∙◌, subst, arith, Option, Some, None, inl, inr}
-use Rattle.std.specs.Prelude.{slice_get, replicate, ℤ, ◌&&◌}
+use Rattle.std.proofs.Common.{◌≡◌, ℕ, suc, ◌+◌, ◌<◌, ◌≤◌, Bool, true, false, cond, List, [], ◌∷◌, ◌++◌, length, refl, sym, ap, ◌∙◌, subst, arith, Option, Some, None, Result, Ok, Err}
+use Rattle.std.specs.Prelude.{slice_get, replicate, ℤ, ◌&&◌, IfOk}
 use Rattle.std.proofs.lemmas.Bool.{lt-ltb, le-leb}
-use Rattle.std.specs.List.{sum_by}
 use Rattle.std.proofs.lemmas.List.Sums.{sum_by-cons}
 use Rattle.label_tree.specs.Rose.{Rose, node, Roses, none, more, list_of, roses_of, label_of, kids_of, length_all, node_count, count_all, Allowed, AllowedAll}
 use Rattle.simple_types.specs.declared.labels.ValueLabel.{ValueLabel}
@@ -15,14 +14,11 @@ use Rattle.asn_types.specs.declared.types.Form.{Form}
 use Rattle.asn_types.specs.declared.types.Form.TheVariants as form
 use Rattle.asn_types.specs.declared.types.TypeLabel.{TypeLabel}
 use Rattle.asn_types.specs.Refs.{resolve}
-use Rattle.asn_types.specs.Values.{ComponentPlace, place_of, put_first, present_from, place_at, alone, repeated, none_if, places_in, places, below, FitsAt, FitEach}
+use Rattle.asn_types.specs.Values.{ComponentPlace, place_of, put_first, present_from, place_at, alone, repeated, none_if, places_in, places, below, FitsAt, FitEach, Own}
 use Rattle.asn_types.specs.Private.Placing.{FitPlaces, FitKids}
-use Rattle.asn_types.proofs.Counting.{fit_none, fit_each-length}
+use Rattle.asn_types.proofs.Counting.{fit_none, fits-from_kids}
+use Rattle.per_decode.specs.declared.faults.Fault.{Fault}
 use Rattle.per_decode.specs.Private.Bodies.{FitAll, FitSome}
-
-pub roses-list : (vs : Roses ValueLabel) → roses_of (list_of vs) ≡ vs
-roses-list none = refl
-roses-list (more v vs) = ap (λ us. more v us) (roses-list vs)
 
 pub list-roses : (vs : List (Rose ValueLabel)) → list_of (roses_of vs) ≡ vs
 list-roses [] = refl
@@ -32,10 +28,6 @@ list-roses (v ∷ vs) = ap (λ us. v ∷ us) (list-roses vs)
 pub count-push : (vs : List (Rose ValueLabel)) (v : Rose ValueLabel) → count_all (roses_of (vs ++ v ∷ [])) ≡ count_all (roses_of vs) + node_count v
 count-push [] v = omega arith
 count-push (w ∷ vs) v = omega (arith, count-push vs v)
-
-pub many-count : (vs : List (Rose ValueLabel)) → length vs ≤ count_all (roses_of vs)
-many-count [] = omega arith
-many-count (node l ws ∷ vs) = omega (arith, many-count vs)
 
 module _ (M : List Assignment) (depth : ℕ) where
   pub each-push : (ps : List ComponentPlace) (p : ComponentPlace) (vs : List (Rose ValueLabel)) (v : Rose ValueLabel) → FitEach M depth ps (roses_of vs) → FitsAt M (below p.role depth) p.type v
@@ -108,6 +100,15 @@ module _ (M : List Assignment) (depth : ℕ) where
         ∙ ap (λ b. cond b (repeated (length vs) (place_at (label_of t) 0 (Some part) (slice_get (kids_of t) 0))) None) high
         ∙ ap (λ o. repeated (length vs) (place_at (label_of t) 0 (Some part) o)) is_kid)
         (all-each p vs h)
+
+  -- A VALUE THAT KEEPS THE RULES OF ITS NODE, with the kids that it had
+  pub own_fits : (t : Rose TypeLabel) (v : Rose ValueLabel) (answer : Result (Rose ValueLabel) Fault) → depth ≤ 64 → FitKids M depth (resolve M t) v → IfOk answer (λ w. (w ≡ v) × Own M t v) → IfOk answer (λ w. FitsAt M depth t w)
+  own_fits t v (Ok w) deep kids h = subst (FitsAt M depth t) (sym h.0) (fits-from_kids M depth t v deep kids h.1)
+  own_fits t v (Err e) deep kids h = tt
+
+pub own_counts : (O : Type 0) (a b : ℕ) (v : Rose ValueLabel) (answer : Result (Rose ValueLabel) Fault) → a + 1 ≡ b + node_count v → IfOk answer (λ w. (w ≡ v) × O) → IfOk answer (λ w. a + 1 ≡ b + node_count w)
+own_counts O a b v (Ok w) e h = subst (λ u. a + 1 ≡ b + node_count u) (sym h.0) e
+own_counts O a b v (Err f) e h = tt
 
 -- A VALUE THAT FITS HAS THE KIDS THAT ITS LABELS ALLOW
 same_some : {A : Type 0} (a b : A) → Some a ≡ Some b → a ≡ b

@@ -1,5 +1,5 @@
 -- Octets put together to one number.
-use Rattle.std.proofs.Common.{◌≡◌, ℕ, ◌+◌, ◌*◌, ◌<◌, ◌≤◌, ◌^◌, List, [], ◌++◌, length, get_or, refl, sym, ap, ◌∙◌, subst, arith, take}
+use Rattle.std.proofs.Common.{◌≡◌, ℕ, ◌+◌, ◌*◌, ◌<◌, ◌^◌, List, ◌++◌, length, get_or, sym, ap, ◌∙◌, arith, take}
 use Rattle.bit_cursor.specs.Bits.{bits, octet_bits}
 use Rattle.bit_cursor.proofs.BitLemmas.{gather_below, gather_more}
 use Rattle.per_fields.proofs.WidthLaws.{pow_le}

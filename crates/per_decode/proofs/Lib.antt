@@ -14,3 +14,6 @@ pub mod Signs
 pub mod Origins
 pub mod NumberReads
 pub mod Texts
+pub mod Parts
+pub mod Forms
+pub mod Lists

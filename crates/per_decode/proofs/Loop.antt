@@ -1,8 +1,7 @@
 -- Reading one after the other, as a loop does.
-use Rattle.std.proofs.Common.{◌≡◌, ℕ, zero, suc, ◌+◌, ◌-◌, ◌*◌, ◌<◌, ◌≤◌, Bool, true, false, cond, List, [], ◌∷◌, ◌++◌, length, get_or, drop, refl, sym, ap, ◌∙◌, subst, arith, append_assoc, Option, Some, None, Result, Ok, Err}
-use Rattle.std.specs.Prelude.{replicate, slice_get}
-use Rattle.std.proofs.lemmas.List.{append-nil, drop_more, drop_all}
-use Rattle.label_tree.specs.Rose.{Rose, roses_of, kids_of, label_of}
+use Rattle.std.proofs.Common.{◌≡◌, ℕ, ◌+◌, ◌*◌, ◌<◌, ◌≤◌, Bool, true, false, cond, List, [], ◌∷◌, ◌++◌, length, get_or, drop, refl, sym, ap, ◌∙◌, subst, arith, append_assoc, Option, Some, None, Result, Ok, Err}
+use Rattle.std.proofs.lemmas.List.{append-nil, drop_more}
+use Rattle.label_tree.specs.Rose.{Rose, roses_of}
 use Rattle.simple_types.specs.declared.labels.ValueLabel.{ValueLabel}
 use Rattle.asn_types.specs.declared.modules.Assignment.{Assignment}
 use Rattle.asn_types.specs.declared.types.Component.{Component}
@@ -16,7 +15,7 @@ use Rattle.per_decode.specs.declared.faults.Fault.{Fault}
 use Rattle.per_decode.specs.declared.faults.Fault.TheVariants as fault
 use Rattle.per_decode.specs.Private.Giving.{end_of, FailsAt}
 use Rattle.per_decode.specs.Private.Bodies.{kid_at, kids_read, FitSome}
-use Rattle.per_decode.proofs.Ends.{Sits, SteadyReader, sits_then, sits-each, fails_first}
+use Rattle.per_decode.proofs.Ends.{SteadyReader, sits_then, sits-each, fails_first}
 use Rattle.per_decode.proofs.Fitting.{each-push}
 
 -- what was read before, and what is still read
@@ -31,7 +30,7 @@ regroup front b (Err f) = refl
 pub here_split : {A : Type 0} (xs : List A) (i : ℕ) (a : A) → i < length xs → a ≡ get_or xs i a → drop i xs ≡ a ∷ drop (i + 1) xs
 here_split xs i a at here = drop_more xs i a at ∙ ap (λ y. y ∷ drop (i + 1) xs) (sym here)
 
-end-front : {B : Type 0} (front : List B) (r : Result (List B × Spot) Stop) → end_of (with_front front r) ≡ end_of r
+pub end-front : {B : Type 0} (front : List B) (r : Result (List B × Spot) Stop) → end_of (with_front front r) ≡ end_of r
 end-front front (Ok x) = refl
 end-front front (Err s) = refl
 

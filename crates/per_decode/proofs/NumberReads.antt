@@ -1,16 +1,15 @@
 -- Octets read as one number.
-use Rattle.std.proofs.Common.{◌≡◌, ℕ, ◌+◌, ◌-◌, ◌*◌, ◌<◌, ◌≤◌, ◌^◌, Bool, true, false, ltb, List, ◌++◌, length, map, refl, sym, ap, ◌∙◌, subst, arith, take, drop, Result, Ok, Err}
+use Rattle.std.proofs.Common.{◌≡◌, ℕ, ◌+◌, ◌*◌, ◌<◌, ◌≤◌, ◌^◌, Bool, true, false, ltb, List, ◌++◌, length, map, refl, sym, ap, ◌∙◌, subst, arith, take, drop, Ok}
 use Rattle.bit_cursor.specs.Bits.{bits, number, octet_bits}
 use Rattle.bit_cursor.proofs.BitLemmas.{length-octet_bits}
 use Rattle.per_fields.specs.declared.stops.Spot.{Spot}
-use Rattle.per_fields.specs.declared.stops.Stop.{Stop}
 use Rattle.per_fields.specs.declared.stops.Why.TheVariants.{Short}
 use Rattle.per_fields.specs.Reading.{◌>>=◌, bits_at, octets_at, octets_from, stop_at, stop_if, moved}
 use Rattle.per_fields.specs.Encoding.{octet_writer}
 use Rattle.per_fields.specs.Fields.{in_turn}
 use Rattle.per_fields.proofs.Fragments.{octets_codec, run_octets}
 use Rattle.per_decode.specs.declared.faults.Fault.{Fault}
-use Rattle.per_decode.specs.Private.Giving.{spot, FailsAt}
+use Rattle.per_decode.specs.Private.Giving.{FailsAt}
 use Rattle.per_decode.proofs.Standing.{reads_bits, same_spot}
 use Rattle.per_decode.proofs.Octets.{nothing_weighs}
 use Rattle.per_decode.proofs.Ends.{sits-octets, fails_first}

@@ -1,12 +1,12 @@
 -- Octets of a source that stands where an octet begins.
-use Rattle.std.proofs.Common.{◌≡◌, ℕ, zero, suc, ◌+◌, ◌-◌, ◌*◌, ◌/◌, ◌%◌, ◌<◌, ◌≤◌, min, Bool, List, [], ◌∷◌, ◌++◌, length, get_or, map, refl, sym, ap, ◌∙◌, subst, arith, append_assoc, take, drop, Option, Some, None, Result, Ok, Err, inl, inr}
+use Rattle.std.proofs.Common.{◌≡◌, ℕ, suc, ◌+◌, ◌-◌, ◌*◌, ◌%◌, ◌<◌, ◌≤◌, Bool, List, [], ◌∷◌, ◌++◌, length, get_or, map, refl, sym, ap, ◌∙◌, arith, take, drop, Option, Some, Result, Ok, Err, inl, inr}
 use Rattle.std.proofs.lemmas.Bool.{cases_lt, le-ltb, lt-ltb}
-use Rattle.std.proofs.lemmas.List.{length-append, length-take-le, length-drop, drop_at, drop-drop, take-append-drop}
+use Rattle.std.proofs.lemmas.List.{length-take-le, drop_at}
 use Rattle.std.proofs.Math.Seq.{take-add}
-use Rattle.std.specs.Prelude.{OnOk, OnErr, IfOk}
+use Rattle.std.specs.Prelude.{OnOk, OnErr}
 use Rattle.std.specs.Io.KnownBytes.{IsAtEnd}
 use Rattle.bit_cursor.specs.Bits.{bits, octet_bits}
-use Rattle.bit_cursor.specs.Cursors.{IsInStep, LosesFirst, ahead}
+use Rattle.bit_cursor.specs.Cursors.{IsInStep, LosesFirst}
 use Rattle.bit_cursor.proofs.BitLemmas.{length-octet_bits, octet_bits-append}
 use Rattle.per_fields.specs.declared.stops.Spot.{Spot}
 use Rattle.per_fields.specs.declared.stops.Why.TheVariants.{Short}
@@ -112,8 +112,3 @@ module _ (n p t h l nodes limit : ℕ) (whole : List ℕ) (old : Option (List �
             let e : t' ≡ t = omega (arith, stays, step, s) in
             rw (stays, eh, e) (at.bits step);
       }
-
--- behind whole octets
-pub whole_octets_taken : {A E : Type 0} (r : Result A E) (from p t : ℕ) → OnOk r ((from ≤ p) × IsInStep p t) → OnOk r (p % 8 ≡ 0) → OnOk r (p ≡ 8 * t)
-whole_octets_taken (Ok x) from p t on whole = omega (arith, on.1, whole)
-whole_octets_taken (Err e) from p t on whole = tt

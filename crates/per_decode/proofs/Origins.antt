@@ -1,5 +1,5 @@
 -- What a call begins with.
-use Rattle.std.proofs.Common.{◌≡◌, ℕ, Bool, true, false, List, [], Option, Some, None, refl, ap}
+use Rattle.std.proofs.Common.{ℕ, Bool, true, false, List, [], Option, Some, None}
 
 abbrev pub is_told : Option (List ℕ) → Bool
 is_told None = false
@@ -8,7 +8,3 @@ is_told (Some left) = true
 abbrev pub contents : Option (List ℕ) → List ℕ
 contents None = []
 contents (Some left) = left
-
-pub told_left : (o : Option (List ℕ)) → is_told o ≡ true → o ≡ Some (contents o)
-told_left None e = absurd cc
-told_left (Some left) e = refl

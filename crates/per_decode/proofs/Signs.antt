@@ -1,25 +1,18 @@
 -- Numbers with their sign.
-use Rattle.std.proofs.Common.{◌≡◌, ℕ, zero, suc, ◌+◌, ◌-◌, ◌*◌, ◌/◌, ◌%◌, ◌<◌, ◌≤◌, ◌^◌, Bool, true, false, ltb, refl, sym, ap, ◌∙◌, subst, arith, inl, inr}
-use Rattle.std.specs.Prelude.{ℤ, pos, negsuc, ◌-ℤ◌, ◌+ℤ◌, unsigned_abs, int_le}
+use Rattle.std.proofs.Common.{◌≡◌, ℕ, suc, ◌+◌, ◌-◌, ◌*◌, ◌%◌, ◌<◌, ◌≤◌, ◌^◌, Bool, true, false, refl, sym, ap, ◌∙◌, subst, arith}
+use Rattle.std.specs.Prelude.{ℤ, pos, negsuc, ◌-ℤ◌, unsigned_abs, int_le}
 use Rattle.std.proofs.lemmas.Int.{ints}
-use Rattle.std.proofs.lemmas.Bool.{leb-true, cases_lt, lt-ltb, le-ltb}
+use Rattle.std.proofs.lemmas.Bool.{leb-true, lt-ltb, le-ltb}
 use Rattle.std.proofs.Common.{T, to_z, of_z}
 use Rattle.std.specs.Int.{w128}
 use Rattle.per_fields.proofs.WidthLaws.{pow_le}
-use Rattle.per_fields.specs.Widths.{distance, raised, raised_by, signed_of, signed_by}
+use Rattle.per_fields.specs.Widths.{distance, signed_of, signed_by}
 
 pub distance-abs : (a b : ℤ) → int_le a b ≡ true → unsigned_abs (b -ℤ a) ≡ distance a b
 distance-abs (pos a) (pos b) h = let k : a ≤ b = leb-true a b h in let e : pos b -ℤ pos a ≡ pos (b - a) = omega (arith, ints, k) in ap unsigned_abs e
 distance-abs (negsuc a) (pos b) h = omega arith
 distance-abs (negsuc a) (negsuc b) h = let k : b ≤ a = leb-true b a h in let e : negsuc b -ℤ negsuc a ≡ pos (a - b) = omega (arith, ints, k) in ap unsigned_abs e
 distance-abs (pos a) (negsuc b) h = absurd cc
-
-pub raised-sum : (z : ℤ) (x : ℕ) → raised z x ≡ z +ℤ pos x
-raised-sum (pos a) x = omega (arith, ints)
-raised-sum (negsuc a) x = elim (cases_lt a x) [
-  | inl lt ↦ (let e : pos (x - suc a) ≡ negsuc a +ℤ pos x = omega (arith, ints, lt) in ap (λ b. raised_by b a x) (lt-ltb a x lt) ∙ e)
-  | inr le ↦ (let e : negsuc (a - x) ≡ negsuc a +ℤ pos x = omega (arith, ints, le) in ap (λ b. raised_by b a x) (le-ltb a x le) ∙ e)
-]
 
 pub signed-low : (width x : ℕ) → x < 2 ^ (width - 1) → signed_of width x ≡ pos x
 signed-low width x h = ap (λ b. signed_by b width x) (lt-ltb x (2 ^ (width - 1)) h)

@@ -1,5 +1,5 @@
 -- What a source of bits has ahead, as bits of the octets that it began with.
-use Rattle.std.proofs.Common.{◌≡◌, ℕ, ◌+◌, ◌-◌, ◌*◌, ◌<◌, ◌≤◌, ◌^◌, min, Bool, List, [], ◌∷◌, ◌++◌, length, eqb, false, map, refl, sym, ap, ◌∙◌, subst, arith, take, drop, Option, Some, None, Result, Ok, Err, inl, inr}
+use Rattle.std.proofs.Common.{◌≡◌, ℕ, ◌+◌, ◌-◌, ◌*◌, ◌<◌, ◌≤◌, ◌^◌, min, Bool, List, ◌++◌, length, eqb, false, refl, sym, ap, ◌∙◌, arith, take, drop, Option, Some, None, Result, Ok, Err, inl, inr}
 use Rattle.std.proofs.lemmas.Bool.{cases_lt, le-ltb, lt-ltb, ne_eqb}
 use Rattle.std.proofs.lemmas.Nat.{pow_pos}
 use Rattle.std.proofs.lemmas.List.{length-append, length-take, length-drop, take_at, drop_at, drop-drop}
@@ -12,7 +12,7 @@ use Rattle.bit_cursor.specs.Cursors.{IsInStep, LosesFirst, ahead}
 use Rattle.bit_cursor.proofs.BitLemmas.{length-octet_bits, length-bits, number-bits}
 use Rattle.per_fields.specs.declared.stops.Spot.{Spot}
 use Rattle.per_fields.specs.declared.stops.Why.TheVariants.{Short, Padding}
-use Rattle.per_fields.specs.Reading.{bits_at, align_at, octets_at, stop_at, moved}
+use Rattle.per_fields.specs.Reading.{bits_at, align_at, stop_at, moved}
 use Rattle.per_decode.specs.Private.Standing.{IsAt}
 use Rattle.per_decode.specs.Private.Giving.{input, spot, end_of, IsRead}
 

@@ -1,16 +1,16 @@
 -- Fragments one by one, as a loop reads them.
-use Rattle.std.proofs.Common.{◌≡◌, ℕ, zero, suc, ◌+◌, ◌-◌, ◌*◌, ◌<◌, ◌≤◌, Bool, List, [], ◌∷◌, ◌++◌, length, refl, sym, ap, ◌∙◌, subst, arith, append_assoc, Option, Result, Ok, Err}
+use Rattle.std.proofs.Common.{◌≡◌, ℕ, zero, suc, ◌+◌, ◌*◌, ◌<◌, ◌≤◌, Bool, List, ◌++◌, length, refl, sym, ap, ◌∙◌, subst, arith, append_assoc, Option, Result, Ok, Err}
 use Rattle.per_fields.specs.declared.stops.Spot.{Spot}
 use Rattle.per_fields.specs.declared.stops.Stop.{Stop}
 use Rattle.per_fields.specs.Reading.{◌>>=◌, Reader, bits_at, align_at}
-use Rattle.per_fields.specs.Fields.{Piece, Last, Units, unit, length_from, length_here, is_out, count_here, count_at, fragments_at, counted_at}
+use Rattle.per_fields.specs.Fields.{Piece, Last, Units, unit, length_from, length_here, count_here, count_at, fragments_at}
 use Rattle.per_fields.proofs.Codecs.{bind_ok, stop_ok, ok_is}
 use Rattle.per_decode.specs.declared.faults.Fault.{Fault}
 use Rattle.per_decode.specs.declared.faults.Fault.TheVariants as fault
 use Rattle.std.specs.Prelude.{IfOk, IfErr}
 use Rattle.per_decode.specs.Private.Giving.{end_of, FailsAt, Shows}
-use Rattle.per_decode.proofs.Ends.{Sits, SteadyReader, Steady, sits_then, sits-bits, sits-align, sits-length_from, sits-length_here, sits-count, sits-fragments, fails_first}
-use Rattle.per_decode.proofs.Loop.{with_front}
+use Rattle.per_decode.proofs.Ends.{Sits, SteadyReader, Steady, sits_then, sits-bits, sits-align, sits-length_from, sits-count, sits-fragments, fails_first}
+use Rattle.per_decode.proofs.Loop.{with_front, end-front}
 
 -- where something was read, reading stands there
 at_ok : {A : Type 0} (X : List Bool) (p : ℕ) (r : Result (A × Spot) Stop) (x : A × Spot) → Sits X p r → r ≡ Ok x → (p ≤ x.1.at) × (x.1.at ≤ length X)
@@ -148,6 +148,27 @@ module _ {A : Type 0} (least : ℕ) (most : Option ℕ) (items : ℕ → Reader 
           let same : left_at before total X s ≡ (items (k * unit) X r >>= λ y. joined y.0 (left_at k (total + k * unit) X y.1)) = left-step before total X s inside ∙ ap (λ c. c >>= behind left_at total X) is in
           fails_first limit whole e taken X (left_at before total X s) (λ b. Ok (front ++ b.0, b.1)) (sits-left before total X s inside).inside (λ b l. record { later = omega arith; inside = l })
           (subst (FailsAt limit whole e taken) (sym same) f)
+
+      -- the same, where the items of a fragment are read behind those before it
+      front_more : (i : Result (List A × Spot) Stop) → with_front front (i >>= λ y. joined y.0 (left_at k (total + k * unit) X y.1)) ≡ (with_front front i >>= λ z. joined z.0 (left_at k (total + k * unit) X z.1))
+      front_more (Ok y) = front_then front y.0 (left_at k (total + k * unit) X y.1)
+      front_more (Err f) = refl
+
+      turn_is : count_at least most before total X s ≡ Ok (Units k, r) → with_front front (left_at before total X s) ≡ (with_front front (items (k * unit) X r) >>= λ z. joined z.0 (left_at k (total + k * unit) X z.1))
+      turn_is e = ap (with_front front) (left-step before total X s inside ∙ ap (λ c. c >>= behind left_at total X) e) ∙ front_more (items (k * unit) X r)
+
+      pub turn_on : (all : List A) (q : Spot) → count_at least most before total X s ≡ Ok (Units k, r) → with_front front (items (k * unit) X r) ≡ Ok (all, q)
+          → with_front front (left_at before total X s) ≡ with_front all (left_at k (total + k * unit) X q)
+      turn_on all q e f = turn_is e ∙ ap (λ z. z >>= λ z. joined z.0 (left_at k (total + k * unit) X z.1)) f
+
+      pub turn_off : (limit : ℕ) (whole : List ℕ) (e : Fault) (taken : ℕ) → count_at least most before total X s ≡ Ok (Units k, r) → FailsAt limit whole e taken (with_front front (items (k * unit) X r))
+          → FailsAt limit whole e taken (with_front front (left_at before total X s))
+      turn_off limit whole e taken is h =
+          let c = count-later least most before total X s (Units k, r) inside is in
+          let i = one (k * unit) X r c.1 in
+          subst (FailsAt limit whole e taken) (sym (turn_is is))
+          (fails_first limit whole e taken X (with_front front (items (k * unit) X r)) (λ z. joined z.0 (left_at k (total + k * unit) X z.1)) (omega (arith, i.inside, end-front front (items (k * unit) X r)))
+          (λ z j. sits_then X z.1.at (left_at k (total + k * unit) X z.1) (λ b. Ok (z.0 ++ b.0, b.1)) (sits-left k (total + k * unit) X z.1 j) (λ b l. record { later = omega arith; inside = l })) h)
 
   -- want of memory where so much is still to be read
   pub turn_full : (front : List A) (before total : ℕ) (X : List Bool) (s : Spot) (limit : ℕ) (whole : List ℕ) (taken : ℕ) → s.at ≤ length X → 8 * taken ≤ s.at + 7 → FailsAt limit whole fault.Memory taken (with_front front (left_at before total X s))

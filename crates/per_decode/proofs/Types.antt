@@ -1,20 +1,19 @@
 -- Types of a module, as reading goes down them.
-use Rattle.std.proofs.Common.{◌≡◌, ℕ, zero, suc, ◌+◌, ◌-◌, ◌*◌, ◌<◌, ◌≤◌, max, Bool, List, [], ◌∷◌, length, get_or, refl, sym, ap, ◌∙◌, subst, arith, Option, Some, None, inl, inr, ◌⊎◌}
-use Rattle.std.specs.Prelude.{slice_get, option_and_then, All}
+use Rattle.std.proofs.Common.{◌≡◌, ℕ, suc, ◌+◌, ◌-◌, ◌*◌, ◌<◌, ◌≤◌, List, [], ◌∷◌, refl, ap, subst, arith, Option, Some, None, inl, inr}
+use Rattle.std.specs.Prelude.{slice_get, option_and_then}
 use Rattle.label_tree.specs.Rose.{Rose, node, Roses, none, more, label_of, kids_of, height, depth_all}
 use Rattle.asn_types.specs.declared.modules.Assignment.{Assignment}
 use Rattle.asn_types.specs.declared.types.Component.{Component}
 use Rattle.asn_types.specs.declared.types.Form.{Form}
 use Rattle.asn_types.specs.declared.types.Form.TheVariants as form
 use Rattle.asn_types.specs.declared.types.TypeLabel.{TypeLabel}
-use Rattle.asn_types.specs.Modules.{IsModule, AreWellFormed}
 use Rattle.asn_types.specs.Parts.{parts_of}
-use Rattle.asn_types.specs.Refs.{target, body_at, next, resolve, StandsIn, StandsInSome, IsOf}
+use Rattle.asn_types.specs.Refs.{target, body_at, resolve, StandsIn, StandsInSome, IsOf}
 use Rattle.asn_types.specs.Roles.{role_of}
 use Rattle.asn_types.specs.Values.{below, place_at}
-use Rattle.asn_types.proofs.Chaining.{well-formed, has-four, resolved-of-module, no-reference, have-parts}
+use Rattle.asn_types.proofs.Chaining.{well-formed, has-four, no-reference}
 use Rattle.asn_types.proofs.Following.{follow-stops}
-use Rattle.per_fields.specs.Levels.{tallest, levels_needed, levels_from}
+use Rattle.per_fields.specs.Levels.{tallest, levels_needed}
 use Rattle.per_fields.proofs.Levels.{kid-each, kids-need, levels-follow, NeedsFewer, IfPlace, EachKid}
 use Rattle.per_decode.specs.Private.Bodies.{IsKnown, HasFields}
 

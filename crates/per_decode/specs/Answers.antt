@@ -1,5 +1,5 @@
 -- What decoding answers of the octets that a source has left (X.691), and how many of them it takes.
-use Rattle.std.specs.Prelude.{◌≡◌, ℕ, ◌+◌, ◌*◌, ◌<◌, ◌≤◌, ◌⊎◌, ◌&&◌, Bool, true, false, nat_le, Option, Some, List, length, take, drop, Result, Ok, Err, if◌then◌else◌}
+use Rattle.std.specs.Prelude.{◌≡◌, ℕ, ◌+◌, ◌*◌, ◌/◌, ◌<◌, ◌≤◌, ◌⊎◌, ◌&&◌, Bool, true, false, nat_le, Option, Some, List, length, take, drop, Result, Ok, Err, if◌then◌else◌}
 use Rattle.label_tree.specs.Rose.{Rose}
 use Rattle.bit_cursor.specs.Bits.{octet_bits}
 use Rattle.simple_types.specs.declared.labels.ValueLabel.{ValueLabel}
@@ -10,11 +10,12 @@ use Rattle.per_fields.specs.declared.stops.Why.{Why}
 use Rattle.per_fields.specs.declared.stops.Why.TheVariants.{Short}
 use Rattle.per_fields.specs.Encoding.{complete}
 use Rattle.per_fields.specs.Laws.{Begins, Stops}
+use Rattle.per_decode.specs.declared.decoded.Decoded.{Decoded}
 use Rattle.per_decode.specs.declared.errors.DecodeError.{DecodeError}
 use Rattle.per_decode.specs.declared.errors.DecodeError.TheVariants.{Bad, Failed, TooLong, Memory}
 
-abbrev pub Decoded : Type 0
-Decoded = Result (Rose ValueLabel) DecodeError
+abbrev pub Answer : Type 0
+Answer = Result Decoded DecodeError
 
 abbrev pub is_short : Why → Bool
 is_short Short = true
@@ -38,21 +39,26 @@ module _ (M : List Assignment) (t limit : ℕ) (left : List ℕ) where
   abbrev pub fault_of : Stop → DecodeError
   fault_of stop = if is_short stop.why && nat_le limit (length left) then TooLong else Bad stop.bit stop.why
 
-  -- what each answer says of the octets, of which so many were taken
-  abbrev pub Says : Decoded → ℕ → Type 0
-  Says (Ok v) count = Begins M t within v × (8 * count ≡ length (complete M t v))
+  -- the value, and the octets of its complete encoding
+  abbrev pub with_octets : Rose ValueLabel → Decoded
+  with_octets v = record { value = v; octets = length (complete M t v) / 8 }
+
+  -- What each answer says of the octets, of which so many were taken. A value is told with how many these are, so that the
+  -- place of the first octet behind its encoding is known.
+  abbrev pub Says : Answer → ℕ → Type 0
+  Says (Ok found) count = Begins M t within found.value × (8 * count ≡ length (complete M t found.value)) × (found.octets ≡ count)
   Says (Err (Bad bit why)) count = (stop : Stop) × Stops M t within stop × (stop.bit ≡ bit) × (stop.why ≡ why) × (why ≡ Short → length left < limit)
   Says (Err TooLong) count = (stop : Stop) × Stops M t within stop × (stop.why ≡ Short) × (limit ≤ length left)
   Says (Err Failed) count = (v : Rose ValueLabel) (n : ℕ) → n ≤ count → In M t v → octet_bits (take n left) ≡ complete M t v → ⊥
   Says (Err Memory) count = Unit {0}
 
   -- this answer, unless the source fails or memory is missing
-  abbrev pub IsDue : Decoded → Decoded → Type 0
+  abbrev pub IsDue : Answer → Answer → Type 0
   IsDue due answer = (answer ≡ due) ⊎ (answer ≡ Err Failed) ⊎ (answer ≡ Err Memory)
 
-  pub record Answers (new : Option (List ℕ)) (answer : Decoded) : Type 0 where
+  pub record Answers (new : Option (List ℕ)) (answer : Answer) : Type 0 where
     pub count : ℕ
     pub takes : Takes new count
     pub says : Says answer count
-    pub value : (v : Rose ValueLabel) → Begins M t within v → IsDue (Ok v) answer
+    pub value : (v : Rose ValueLabel) → Begins M t within v → IsDue (Ok (with_octets v)) answer
     pub stop : (stop : Stop) → Stops M t within stop → IsDue (Err (fault_of stop)) answer

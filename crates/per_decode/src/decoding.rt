@@ -1,18 +1,106 @@
 //! A value from a source of octets.
-ghost use Rattle.std.specs.Prelude.{◌≡◌, ℕ, ◌^◌, ◌<◌, ◌≤◌, List, Some, IfOk, IsErrOf, length};
-ghost use Rattle.xa_base.specs.Faults.{Counts};
-ghost use Rattle.asn_types.specs.Values.{In};
+ghost use Rattle.std.specs.Prelude.{◌≡◌, ℕ, ◌+◌, ◌*◌, ◌%◌, ◌^◌, ◌<◌, ◌≤◌, List, Some, IfOk, OnOk, IsErrOf, IsTrue, length};
+ghost use Rattle.bit_cursor.specs.Cursors.{IsInStep};
+ghost use Rattle.xa_base.specs.Faults.{Counts, HasRisen};
+ghost use Rattle.label_tree.specs.Rose.{node_count};
+ghost use Rattle.asn_types.specs.Refs.{IsOf};
+ghost use Rattle.asn_types.specs.Values.{FitsAt, In};
+ghost use Rattle.per_fields.specs.Nodes.{last_at};
 ghost use Rattle.per_decode.specs.Answers.{Answers};
+ghost use Rattle.per_decode.specs.Private.Standing.{GoesOn};
+ghost use Rattle.per_decode.specs.Private.Giving.{Gives, Ended, spot};
+ghost use Rattle.per_decode.specs.Private.Bodies.{IsKnown, complete_at};
 
+use crate::decoded::Decoded;
 use crate::errors::DecodeError;
-use asn_types::Module;
-use simple_types::Value;
+use crate::faults::{Fault, stopped};
+use crate::nodes::node;
+use crate::run::{Origin, Run};
+use asn_types::{Module, TypeLabel};
+use bit_cursor::BitSource;
+use label_tree::{Tree, Whole};
+use per_fields::Why;
+use simple_types::ValueLabel;
 use std::alloc::Global;
+use std::marker::{Brand, PhantomData};
 use xa_base::Source;
 
+// What pads the last octet, or stands for no bits.
+#[tactic(auto, unfolding(per_fields::specs::Nodes::last_at))]
+fn last<S: Source, K: Origin>(run: &mut Run<S, K>) -> Result<(), Fault>
+    requires in_step { IsInStep run.old.bits.position run.old.bits.taken }
+    ensures same_reference { run.new.bits.source.ghost_name ≡ run.old.bits.source.ghost_name }
+    ensures on { OnOk result (GoesOn run.old.bits.position run.new.bits.position run.new.bits.taken) }
+    ensures nodes { run.new.nodes ≡ run.old.nodes }
+    ensures whole { OnOk result (run.new.bits.position % 8 ≡ 0) }
+    ensures gives { IsTrue K.told → Gives K.limit K.whole (λ x. 0) result (spot run.new.bits.position run.new.nodes) run.new.bits.taken
+        (last_at) (spot run.old.bits.position run.old.nodes) }
+    ensures failed { IsErrOf result Fault.Failed → HasRisen K.faults (S.faults run.new.bits.source.now) }
+{
+    if run.position() == 0 {
+        let octet = run.take_bits(0, 8)?;
+        if octet != 0 {
+            return Err(stopped(0, Why::Padding, run.position()));
+        }
+        return Ok(());
+    }
+    run.align()
+}
+
+// A value and the end of its encoding, and how many octets this has.
+fn complete<S: Source, K: Origin>(
+    alloc: Global,
+    module: &Module,
+    run: &mut Run<S, K>,
+    body: &Tree<TypeLabel>,
+) -> Result<(Tree<ValueLabel>, u64), Fault>
+    requires known { IsKnown module.now }
+    requires of { IsOf module.now body.now }
+    requires in_step { IsInStep run.old.bits.position run.old.bits.taken }
+    ensures same_reference { run.new.bits.source.ghost_name ≡ run.old.bits.source.ghost_name }
+    ensures on { OnOk result (GoesOn run.old.bits.position run.new.bits.position run.new.bits.taken) }
+    ensures count { IfOk result (λ found. run.new.nodes ≡ run.old.nodes + node_count found.0) }
+    ensures fits { IfOk result (λ found. FitsAt module.now 1 body.now found.0) }
+    ensures octets { IfOk result (λ found. (run.new.bits.position ≡ 8 * run.new.bits.taken) × (found.1 ≡ run.new.bits.taken)) }
+    ensures gives { IsTrue K.told → Gives K.limit K.whole (λ found. found.0) result (spot run.new.bits.position run.new.nodes) run.new.bits.taken
+        (complete_at module.now body.now) (spot run.old.bits.position run.old.nodes) }
+    ensures failed { IsErrOf result Fault.Failed → HasRisen K.faults (S.faults run.new.bits.source.now) }
+{
+    let value = node(alloc, module, run, 1, body)?;
+    last(run)?;
+    Ok((value, run.position() / 8))
+}
+
+// Decoding from what a source has left: the value, and how many octets were taken.
+fn decode_from<S: Source, K: Origin>(
+    alloc: Global,
+    module: &Module,
+    body: &Tree<TypeLabel>,
+    source: &mut S,
+    limit: u64,
+) -> Result<(Tree<ValueLabel>, u64), Fault>
+    requires known { IsKnown module.now }
+    requires of { IsOf module.now body.now }
+    requires small { limit ≤ 2 ^ 32 }
+    requires limit { limit ≡ K.limit }
+    requires left { IsTrue K.told → S.left source.old ≡ Some K.whole }
+    requires faults { S.faults source.old ≡ K.faults }
+    ensures fits { IfOk result (λ found. FitsAt module.now 1 body.now found.0 × (node_count found.0 ≤ 1048576)) }
+    ensures limited { IfOk result (λ found. found.1 ≤ limit) }
+    ensures told { IsTrue K.told → Ended K.limit K.whole (λ found. found.0) (λ found. found.1) result (S.left source.new) (complete_at module.now body.now) }
+    ensures cause { Counts K.faults (S.faults source.new) (IsErrOf result Fault.Failed) }
+{
+    let mut run: Run<S, K> = Run {
+        bits: BitSource::new(source, limit),
+        nodes: 0,
+        origin: PhantomData,
+    };
+    complete(alloc, module, &mut run, body)
+}
+
 /// The value of the type of the assignment with this number, by the complete encoding (X.691, canonical aligned PER)
-/// with which the octets left in the source begin. At most `limit` of them are taken, and none before a bit of it is
-/// needed, so what stands behind the encoding is left in the source.
+/// with which the octets left in the source begin, and how many octets that encoding has. At most `limit` of them are
+/// taken, and none before a bit of it is needed, so what stands behind the encoding is left in the source.
 ///
 /// # Errors
 ///
@@ -24,12 +112,32 @@ pub fn decode<S: Source>(
     t: u32,
     source: &mut S,
     limit: u64,
-) -> Result<Value, DecodeError>
+) -> Result<Decoded, DecodeError>
     requires assigned { t < length module.now }
     requires small { limit ≤ 2 ^ 32 }
-    ensures value { IfOk result (λ v. In module.now t v) }
+    ensures value { IfOk result (λ found. In module.now t found.value) }
+    ensures limited { IfOk result (λ found. found.octets ≤ limit) }
     ensures answer { (left : List ℕ) → S.left source.old ≡ Some left → Answers module.now t limit left (S.left source.new) result }
     ensures cause { Counts (S.faults source.old) (S.faults source.new) (IsErrOf result DecodeError.Failed) }
 {
-    Err(DecodeError::Memory)
+    // What each module keeps is known once one of its readers was called.
+    let _ = module.count();
+    let body = module.assignment(t).body.root();
+    match decode_from::<S, Brand>(alloc, module, body, source, limit) {
+        Ok(found) => Ok(Decoded {
+            octets: found.1,
+            value: Whole::of(found.0),
+        }),
+        Err(Fault::Stopped(stop)) => Err(DecodeError::Bad {
+            bit: stop.bit,
+            why: stop.why,
+        }),
+        Err(Fault::Short { bit }) => Err(DecodeError::Bad {
+            bit,
+            why: Why::Short,
+        }),
+        Err(Fault::TooLong { .. }) => Err(DecodeError::TooLong),
+        Err(Fault::Failed) => Err(DecodeError::Failed),
+        Err(Fault::Memory) => Err(DecodeError::Memory),
+    }
 }

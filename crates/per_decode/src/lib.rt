@@ -1,14 +1,17 @@
 //! Values from canonical aligned PER (X.691), read from a source of octets, each octet when it is needed.
 #![tactic(auto)]
 
+mod decoded;
 mod decoding;
 mod errors;
 mod faults;
 mod leaves;
 mod lengths;
+mod nodes;
 mod numbers;
 mod run;
 mod wholes;
 
+pub use decoded::Decoded;
 pub use decoding::decode;
 pub use errors::DecodeError;

@@ -1,7 +1,6 @@
 -- Parts of the reading of a node, as the code has them.
-use Rattle.std.specs.Prelude.{◌≡◌, ℕ, suc, Bool, true, false, not, Option, Some, None, List, [], ◌∷◌, ◌++◌, slice_get, length, replicate, Ok}
-use Rattle.std.specs.Str.{is_utf8}
-use Rattle.label_tree.specs.Rose.{Rose, Roses, roses_of, label_of, kids_of}
+use Rattle.std.specs.Prelude.{ℕ, Option, Some, None, List, [], ◌∷◌, ◌++◌, slice_get, replicate, Ok}
+use Rattle.label_tree.specs.Rose.{Rose, Roses, label_of, kids_of}
 use Rattle.simple_types.specs.declared.labels.ValueLabel.{ValueLabel}
 use Rattle.asn_types.specs.declared.modules.Assignment.{Assignment}
 use Rattle.asn_types.specs.declared.roles.Role.{Role}

@@ -1,5 +1,5 @@
 -- Reading a source of bits, beside reading the bits that it began with.
-use Rattle.std.specs.Prelude.{◌≡◌, ℕ, ◌+◌, ◌*◌, ◌<◌, ◌≤◌, Bool, false, Option, Some, List, length, take, drop, Result, Ok, Err, OnOk}
+use Rattle.std.specs.Prelude.{◌≡◌, ℕ, ◌+◌, ◌*◌, ◌<◌, ◌≤◌, Bool, false, Option, Some, List, length, take, drop, Result, Ok, Err, IfOk}
 use Rattle.bit_cursor.specs.Bits.{octet_bits}
 use Rattle.per_fields.specs.declared.stops.Spot.{Spot}
 use Rattle.per_fields.specs.declared.stops.Stop.{Stop}
@@ -44,12 +44,12 @@ module _ (limit : ℕ) (whole : List ℕ) where
   abbrev pub Gives : {A B : Type 0} → (A → B) → Result A Fault → Spot → ℕ → Reader B → Spot → Type 0
   Gives view result new taken read old = Shows view result new taken (read (input limit whole) old)
 
-  -- what a reader from the first octet on gave, and how many octets were taken
-  pub record Ended {A B : Type 0} (view : A → B) (result : Result A Fault) (new : Option (List ℕ)) (read : Reader B) : Type 0 where
+  -- what a reader from the first octet on gave, and how many octets were taken, as what it gave tells too
+  pub record Ended {A B : Type 0} (view : A → B) (octets_of : A → ℕ) (result : Result A Fault) (new : Option (List ℕ)) (read : Reader B) : Type 0 where
     pub taken : ℕ
     pub inside : taken ≤ length whole
     pub limited : taken ≤ limit
     pub rest : new ≡ Some (drop taken whole)
     pub end : Spot
-    pub octets : OnOk result (end.at ≡ 8 * taken)
+    pub octets : IfOk result (λ x. (end.at ≡ 8 * taken) × (octets_of x ≡ taken))
     pub gives : Gives view result end taken read (spot 0 0)

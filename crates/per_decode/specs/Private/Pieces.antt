@@ -1,5 +1,5 @@
 -- What a length tells, as the definitions have it.
-use Rattle.std.specs.Prelude.{ℕ, ◌<◌, ◌≤◌}
+use Rattle.std.specs.Prelude.{◌<◌, ◌≤◌}
 use Rattle.per_fields.specs.Fields as fields
 use Rattle.per_decode.specs.declared.lengths.Piece.{Piece}
 use Rattle.per_decode.specs.declared.lengths.Piece.TheVariants.{Last, Units}

@@ -1,5 +1,5 @@
 -- What it is for a source of bits to stand at a position of the octets that it began with.
-use Rattle.std.specs.Prelude.{◌≡◌, ℕ, ◌*◌, ◌≤◌, Option, Some, List, length, take, drop}
+use Rattle.std.specs.Prelude.{◌≡◌, ℕ, ◌≤◌, Option, Some, List, length, take, drop}
 use Rattle.bit_cursor.specs.Bits.{octet_bits}
 use Rattle.bit_cursor.specs.Cursors.{IsInStep, ahead}
 

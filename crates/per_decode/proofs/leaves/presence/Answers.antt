@@ -1,7 +1,6 @@
-use Rattle.std.proofs.Common.{arith, rules, refl, ◌≡◌, ◌+◌, ◌*◌, ◌≤◌, sym, ap, ◌∙◌, subst, take, drop}
+use Rattle.std.proofs.Common.{arith, sym, ◌∙◌, subst}
 use Rattle.std.proofs.lemmas.List.{drop_all}
 use Rattle.std.proofs.lemmas.Result.{err_from_is_err_and}
-use Rattle.per_fields.specs.Laws.{Present}
 use Rattle.per_fields.specs.Nodes.{flag_at}
 use Rattle.per_decode.specs.declared.faults.Fault.TheVariants.{Memory}
 use Rattle.per_decode.specs.Private.Giving.{input, spot, FailsAt}

@@ -1,6 +1,5 @@
-use Rattle.std.proofs.Common.{arith, rules, refl, ◌≡◌, ◌≤◌, ◌*◌, ◌+◌, sym, ap, ◌∙◌, Ok}
+use Rattle.std.proofs.Common.{arith, refl, ◌∙◌}
 use Rattle.std.proofs.lemmas.Result.{err_from_is_err_and}
-use Rattle.label_tree.specs.Rose.{node, none}
 use Rattle.per_decode.specs.Private.Giving.{input, spot}
 use Rattle.per_decode.proofs.Texts.{told_fails, told_text, told_wrong, told_end}
 use Rattle.per_decode.proofs.Standing.{stands_inside}

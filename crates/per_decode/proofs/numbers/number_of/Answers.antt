@@ -1,4 +1,4 @@
-use Rattle.std.proofs.Common.{◌<◌, ◌≤◌, ◌+◌, ◌*◌, arith, refl, get_or}
+use Rattle.std.proofs.Common.{◌<◌, arith, refl, get_or}
 use Rattle.bit_cursor.specs.Bits.{bits}
 use Rattle.per_decode.proofs.Joining.{below_more, fits_more, same_more}
 use Rattle.per_decode.proofs.numbers.number_of.Goals as goal

@@ -1,4 +1,4 @@
-use Rattle.std.proofs.Common.{arith, rules, ◌≡◌, ◌<◌, ◌≤◌, ◌*◌, ◌+◌, ◌-◌, ◌^◌, ◌%◌, sym}
+use Rattle.std.proofs.Common.{arith, ◌<◌, ◌^◌}
 use Rattle.std.proofs.lemmas.Int.{ints}
 use Rattle.per_decode.proofs.Signs.{half_is, half_top, two_halves, low_is, high_is}
 use Rattle.per_decode.proofs.wholes.signed_of.Goals as goal

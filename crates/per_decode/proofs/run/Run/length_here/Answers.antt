@@ -1,4 +1,3 @@
-use Rattle.std.proofs.Common.{arith, ◌≡◌, ◌≤◌}
 use Rattle.std.proofs.lemmas.Result.{err_from_is_err_and}
 use Rattle.per_fields.specs.Fields.{length_here}
 use Rattle.per_decode.proofs.Ends.{fails_first, sits-bits, sits-length_from}

@@ -1,7 +1,5 @@
-use Rattle.std.proofs.Common.{rules, arith, ◌≡◌, ℕ, ◌+◌, ◌-◌, ◌*◌, ◌<◌, ◌≤◌, ◌^◌, refl, sym, ap, ◌∙◌}
-use Rattle.std.proofs.lemmas.Result.{err_from_is_err_and}
+use Rattle.std.proofs.Common.{arith, ◌<◌, ◌^◌}
 use Rattle.per_fields.proofs.WidthLaws.{width_le}
-use Rattle.per_decode.proofs.Standing.{stands_inside}
 use Rattle.per_decode.proofs.run.Run.number.Goals as goal
 
 pub within-requires-clause-few : goal.within-requires-clause-few

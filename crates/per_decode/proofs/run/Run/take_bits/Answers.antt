@@ -1,4 +1,4 @@
-use Rattle.std.proofs.Common.{rules, arith, ◌≡◌, ℕ, ◌<◌, ◌≤◌, ◌+◌, ◌-◌, ◌*◌, ◌^◌, refl, ap, ◌∙◌, sym, min}
+use Rattle.std.proofs.Common.{arith, refl, ◌∙◌}
 use Rattle.per_decode.proofs.Standing.{taken_bits, failed_bits, short_bits, long_bits, at_after}
 use Rattle.per_decode.proofs.run.Run.take_bits.Goals as goal
 

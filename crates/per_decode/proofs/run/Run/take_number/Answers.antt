@@ -1,4 +1,3 @@
-use Rattle.std.proofs.Common.{rules, arith, ◌≡◌, ℕ, ◌+◌, ◌-◌, ◌*◌, ◌<◌, ◌≤◌, ◌^◌, refl, sym, ap, ◌∙◌}
 use Rattle.std.proofs.lemmas.Result.{err_from_is_err_and}
 use Rattle.per_decode.proofs.NumberReads.{number_read, number_fails}
 use Rattle.per_decode.specs.Private.Giving.{input, spot}

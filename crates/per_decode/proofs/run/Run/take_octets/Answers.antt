@@ -1,4 +1,4 @@
-use Rattle.std.proofs.Common.{rules, arith, ◌≡◌, ℕ, ◌<◌, ◌≤◌, ◌+◌, ◌-◌, ◌*◌, refl, ap, ◌∙◌, sym, inl, inr}
+use Rattle.std.proofs.Common.{arith, refl, ◌∙◌, inl, inr}
 use Rattle.per_decode.proofs.Octets.{taken_octets, failed_octets, short_octets, long_octets, at_behind}
 use Rattle.per_decode.specs.Private.Giving.{input, spot}
 use Rattle.per_decode.proofs.Ends.{sits-octets}

@@ -1,0 +1,659 @@
+use Rattle.std.proofs.Common.{rules, arith, refl, sym, ap, ◌∙◌, subst, ◌≡◌, suc, ◌+◌, ◌*◌, ◌∷◌, [], length, true, false, Some, Ok, IsTrue}
+use Rattle.std.specs.Prelude.{slice_get}
+use Rattle.std.proofs.lemmas.List.{length-append, drop_all}
+use Rattle.std.proofs.lemmas.Result.{err_from_is_err_and, IfOk-weaker}
+use Rattle.label_tree.specs.Rose.{Rose, node, label_of, kids_of, roses_of}
+use Rattle.simple_types.specs.declared.labels.ValueLabel.TheVariants as value
+use Rattle.asn_types.specs.declared.types.TypeLabel.{TypeLabel}
+use Rattle.asn_types.specs.Parts.{parts_of}
+use Rattle.asn_types.specs.Private.Placing.{FitKids}
+use Rattle.asn_types.specs.Refs.{resolve}
+use Rattle.asn_types.specs.Values.{place_of, place_at, below, FitsAt}
+use Rattle.asn_types.proofs.Chaining.{resolved-of-module}
+use Rattle.asn_types.proofs.Counting.{replicate-drop}
+use Rattle.per_fields.specs.Fields.{fragments_at, counted_at, list_at}
+use Rattle.per_fields.specs.Nodes.{node_read, items_at}
+use Rattle.per_decode.specs.declared.faults.Fault.TheVariants.{Memory}
+use Rattle.per_decode.specs.Private.Giving.{input, spot, end_of, FailsAt}
+use Rattle.per_decode.specs.Private.Bodies.{HasFields, fields_at, kid_at, node_of, many_at, FitAll}
+use Rattle.per_decode.proofs.Bodies.{node-deep, node-many, node-goes, fields_fail, text_fails, text_read, body_gives}
+use Rattle.per_decode.proofs.EndNodes.{sits-node}
+use Rattle.per_decode.proofs.Fitting.{count-push, all-push, own_fits, own_counts, fit-bool, fit-int, fit-numbers, fit-words, fit-text, fit-sequence, fit-choice, fit-list}
+use Rattle.per_decode.proofs.Forms.{shows_as, fields-bool, fields-int, fields-numbers, fields-words, fields-sequence, fields-choice, fields-list, sequence_fails, sequence_reads, components_fail, choice_fails, choice_reads, alternative_fails}
+use Rattle.per_decode.proofs.Lists.{steady-items, list-none, list-large, count_fails, count_told, list_fails, list_reads}
+use Rattle.per_decode.proofs.Loop.{with_front, each_more, each_fails, each_full, each_done, through_none, through_skip, through_more, through_fails, through_full, through_end, through_fit}
+use Rattle.per_decode.proofs.Parts.{kids-parts, bounds_ordered, numbers_counted, words_counted, components_few, alternatives_counted, sizes_ordered, got, got_split, flag_split, copies-none, part_there, kid_here}
+use Rattle.per_decode.proofs.Presence.{present-length, places_there}
+use Rattle.per_decode.proofs.Standing.{stands_inside}
+use Rattle.per_decode.proofs.Turns.{turn_fails, turn_last, turn_on, turn_off}
+use Rattle.per_decode.proofs.Types.{resolved-levels, resolved-fields}
+use Rattle.per_decode.proofs.nodes.+nodes.Goals as goal
+
+-- A NODE, before its fields
+
+pub node-returns-then-depth-gt-MOST_DEEP-clause-gives : goal.node-returns-then-depth-gt-MOST_DEEP-clause-gives
+node-returns-then-depth-gt-MOST_DEEP-clause-gives g t c = λ told.
+    let run = c.args.run.now in
+    rw (c.stopped.ensures, c.position-begin.ensures)
+    (node-deep c.args.module.now c.requires.known c.args.depth c.args.node.now c.requires.of (input g.K.Origin.limit g.K.Origin.whole) (spot run.bits.position run.nodes) c.if-depth-gt-MOST_DEEP.true, omega (arith, c.requires.in_step), refl)
+
+pub node-returns-then-run-ge-MOST_NODES-clause-gives : goal.node-returns-then-run-ge-MOST_NODES-clause-gives
+node-returns-then-run-ge-MOST_NODES-clause-gives g t c = λ told.
+    let run = c.args.run.now in
+    rw (c.stopped-then-run-ge-MOST_NODES.ensures, c.position-begin.ensures)
+    (node-many c.args.module.now c.requires.known c.args.depth c.args.node.now c.requires.of (input g.K.Origin.limit g.K.Origin.whole) (spot run.bits.position run.nodes) c.if-depth-gt-MOST_DEEP.false c.if-run-ge-MOST_NODES.true, omega (arith, c.requires.in_step), refl)
+
+pub node-returns-clause-gives : goal.node-returns-clause-gives
+node-returns-clause-gives g t c = λ told.
+    let run = c.args.run.now in
+    let goes = node-goes c.args.module.now c.requires.known c.args.depth c.args.node.now c.requires.of (input g.K.Origin.limit g.K.Origin.whole) (spot run.bits.position run.nodes) c.if-depth-gt-MOST_DEEP.false c.if-run-ge-MOST_NODES.false in
+    shows_as g.K.Origin.limit g.K.Origin.whole (λ x. x) c.body.result _ _ _ _ goes (rw c.position-begin.ensures at (c.body.ensures.gives told))
+
+-- ITS FIELDS AND ITS RULES
+
+pub body-fields-requires : goal.body-fields-requires
+body-fields-requires g t c =
+    let M = c.args.module.now in
+    let d = c.decreases in
+    let e = resolved-levels M c.requires.known c.args.depth c.args.node.now c.requires.of in
+    let no = c.in_default.not-Utf8 in
+    let form_is : c.label.result.now.form ≡ (label_of (resolve c.args.module.now c.args.node.now)).form = ap (λ (l : TypeLabel). l.form) c.label.ensures ∙ ap (λ (u : Rose TypeLabel). (label_of u).form) c.resolve-found.ensures in
+    let has = resolved-fields M c.requires.known c.args.node.now c.requires.of (λ least most class is. no least most class (form_is ∙ is)) in
+    rw c.resolve-found.ensures (λ κs h. (omega (arith, d, e), (h.0, (h.1, (c.requires.depth, (c.requires.known, (resolved-of-module M c.args.node.now c.requires.of, (has, c.requires.in_step))))))))
+
+pub body-returns-in_err-value-in-Utf8-clause-gives : goal.body-returns-in_err-value-in-Utf8-clause-gives
+body-returns-in_err-value-in-Utf8-clause-gives g t c = λ told.
+    let p = err_from_is_err_and c.from_residual.result c.from_residual.ensures.1 in
+    let is = ap (λ (u : Rose TypeLabel). (label_of u).form) (sym c.resolve-found.ensures) ∙ ap (λ (l : TypeLabel). l.form) (sym c.label.ensures) ∙ c.in-Utf8.is in
+    let old = c.args.run.now in
+    let i = stands_inside old.bits.position old.bits.taken old.bits.held old.bits.limit g.K.Origin.limit g.K.Origin.whole _ old.limited old.bits.behind old.bits.within (old.here told) in
+    rw (p.1, p.2) (text_fails c.args.module.now c.requires.known c.args.depth c.args.node.now c.requires.of c.args.begin (input g.K.Origin.limit g.K.Origin.whole) (spot old.bits.position old.nodes) g.K.Origin.limit g.K.Origin.whole c.in_err-value-in-Utf8.field-0.0 c.text_node.new.run.bits.taken _ _ _ is i (c.in_err-value-in-Utf8.ensures.gives told))
+
+pub body-returns-in_err-value-in_default : goal.body-returns-in_err-value-in_default
+body-returns-in_err-value-in_default g t c =
+    record {
+      same_reference = search rules;
+      on = search rules;
+      count = search rules;
+      fits = search rules;
+      gives = λ told.
+          let p = err_from_is_err_and c.from_residual-in_err-value-in_default.result c.from_residual-in_err-value-in_default.ensures.1 in
+          let old = c.args.run.now in
+          let i = stands_inside old.bits.position old.bits.taken old.bits.held old.bits.limit g.K.Origin.limit g.K.Origin.whole _ old.limited old.bits.behind old.bits.within (old.here told) in
+          rw (p.1, p.2) (fields_fail c.args.module.now c.requires.known c.args.depth c.args.node.now c.requires.of c.args.begin (input g.K.Origin.limit g.K.Origin.whole) (spot old.bits.position old.nodes) g.K.Origin.limit g.K.Origin.whole c.in_err-value-in_default.field-0.0 c.fields.new.run.bits.taken i (rw c.resolve-found.ensures at (c.in_err-value-in_default.ensures.gives told)));
+      failed = search rules;
+    }
+
+pub body-returns-in_ok-value-in-Utf8-clause-fits : goal.body-returns-in_ok-value-in-Utf8-clause-fits
+body-returns-in_ok-value-in-Utf8-clause-fits g t c =
+    let is = ap (λ (u : Rose TypeLabel). (label_of u).form) (sym c.resolve-found.ensures) ∙ ap (λ (l : TypeLabel). l.form) (sym c.label.ensures) ∙ c.in-Utf8.is in
+    let M = c.args.module.now in
+    let v = c.in_ok-value-in-Utf8.value in
+    let leaf = c.in_ok-value-in-Utf8.ensures.leaf in
+    own_fits M c.args.depth c.args.node.now v c.owned.result c.requires.depth (subst (FitKids M c.args.depth (resolve c.args.module.now c.args.node.now)) (sym leaf.1) (fit-text M c.args.depth (resolve c.args.module.now c.args.node.now) _ _ _ leaf.0 is)) c.owned.ensures.ok
+
+pub body-returns-in_ok-value-in-Utf8-clause-gives : goal.body-returns-in_ok-value-in-Utf8-clause-gives
+body-returns-in_ok-value-in-Utf8-clause-gives g t c = λ told.
+    let is = ap (λ (u : Rose TypeLabel). (label_of u).form) (sym c.resolve-found.ensures) ∙ ap (λ (l : TypeLabel). l.form) (sym c.label.ensures) ∙ c.in-Utf8.is in
+    let old = c.args.run.now in
+    let new = c.text_node.new.run in
+    let v = c.in_ok-value-in-Utf8.value in
+    let read = text_read c.args.module.now c.requires.known c.args.depth c.args.node.now c.requires.of c.args.begin (input g.K.Origin.limit g.K.Origin.whole) (spot old.bits.position old.nodes) _ _ _ is v (spot new.bits.position new.nodes) (c.in_ok-value-in-Utf8.ensures.gives told) in
+    body_gives c.args.module.now c.requires.known c.args.depth c.args.node.now c.requires.of c.args.begin (spot old.bits.position old.nodes) v (spot new.bits.position new.nodes) g.K.Origin.limit g.K.Origin.whole new.bits.taken c.owned.result read.0 read.1 (omega (arith, c.in_ok-value-in-Utf8.ensures.on.1)) c.owned.ensures.ok (rw c.position.ensures at c.owned.ensures.err)
+
+pub body-returns-in_ok-value-in_default : goal.body-returns-in_ok-value-in_default
+body-returns-in_ok-value-in_default g t c =
+    let M = c.args.module.now in
+    let v = c.in_ok-value-in_default.value in
+    record {
+      same_reference = search rules;
+      on = search rules;
+      count = own_counts _ _ _ v c.owned-in_default.result c.in_ok-value-in_default.ensures.count c.owned-in_default.ensures.ok;
+      fits = own_fits M c.args.depth c.args.node.now v c.owned-in_default.result c.requires.depth (subst (λ u. FitKids M c.args.depth u v) c.resolve-found.ensures c.in_ok-value-in_default.ensures.fits) c.owned-in_default.ensures.ok;
+      gives = λ told.
+          let old = c.args.run.now in
+          let new = c.fields.new.run in
+          body_gives c.args.module.now c.requires.known c.args.depth c.args.node.now c.requires.of c.args.begin (spot old.bits.position old.nodes) v (spot new.bits.position new.nodes) g.K.Origin.limit g.K.Origin.whole new.bits.taken c.owned-in_default.result (subst (λ u. fields_at M c.args.depth u (input g.K.Origin.limit g.K.Origin.whole) (spot old.bits.position old.nodes) ≡ Ok (v, (spot new.bits.position new.nodes))) c.resolve-found.ensures (c.in_ok-value-in_default.ensures.gives told)) c.in_ok-value-in_default.ensures.text
+          (omega (arith, c.in_ok-value-in_default.ensures.on.1)) c.owned-in_default.ensures.ok (rw c.position-in_default.ensures at c.owned-in_default.ensures.err);
+      failed = search rules;
+    }
+
+-- FIELDS, by the form of the type
+
+pub fields-integer-requires-clause-bounds : goal.fields-integer-requires-clause-bounds
+fields-integer-requires-clause-bounds g t c =
+    let e = ap (λ l. l.form) (sym c.label.ensures) ∙ c.in-Int.is in
+    bounds_ordered c.args.module.now c.requires.known c.args.found.now c.requires.of _ _ e
+
+pub fields-enumerated-requires-clause-some : goal.fields-enumerated-requires-clause-some
+fields-enumerated-requires-clause-some g t c =
+    let e = ap (λ l. l.form) (sym c.label.ensures) ∙ c.in-Numbers.is in
+    let n = numbers_counted c.args.module.now c.requires.known c.args.found.now c.requires.of _ e in
+    rw c.items.ensures (omega (arith, n.0))
+
+pub fields-enumerated-requires-clause-few : goal.fields-enumerated-requires-clause-few
+fields-enumerated-requires-clause-few g t c =
+    let e = ap (λ l. l.form) (sym c.label.ensures) ∙ c.in-Numbers.is in
+    let n = numbers_counted c.args.module.now c.requires.known c.args.found.now c.requires.of _ e in
+    rw c.items.ensures (omega (arith, n.1))
+
+pub fields-enumerated-requires-in-Words-clause-some : goal.fields-enumerated-requires-in-Words-clause-some
+fields-enumerated-requires-in-Words-clause-some g t c =
+    let e = ap (λ l. l.form) (sym c.label.ensures) ∙ c.in-Words.is in
+    let n = words_counted c.args.module.now c.requires.known c.args.found.now c.requires.of _ _ e in
+    rw c.items-in-Words.ensures (omega (arith, n.0))
+
+pub fields-enumerated-requires-in-Words-clause-few : goal.fields-enumerated-requires-in-Words-clause-few
+fields-enumerated-requires-in-Words-clause-few g t c =
+    let e = ap (λ l. l.form) (sym c.label.ensures) ∙ c.in-Words.is in
+    let n = words_counted c.args.module.now c.requires.known c.args.found.now c.requires.of _ _ e in
+    rw c.items-in-Words.ensures (omega (arith, n.1))
+
+pub fields-returns-in-Bool-clause-fits : goal.fields-returns-in-Bool-clause-fits
+fields-returns-in-Bool-clause-fits g t c =
+    let e = ap (λ l. l.form) (sym c.label.ensures) ∙ c.in-Bool.is in
+    IfOk-weaker c.boolean.result _ (FitKids c.args.module.now c.args.depth c.args.found.now) (λ v h. subst (FitKids c.args.module.now c.args.depth c.args.found.now) (sym h.1) (fit-bool c.args.module.now c.args.depth c.args.found.now h.0 e)) c.boolean.ensures.leaf
+
+pub fields-returns-in-Bool-clause-gives : goal.fields-returns-in-Bool-clause-gives
+fields-returns-in-Bool-clause-gives g t c = λ told.
+    let e = ap (λ l. l.form) (sym c.label.ensures) ∙ c.in-Bool.is in
+    let old = c.args.run.now in
+    shows_as g.K.Origin.limit g.K.Origin.whole (λ x. x) c.boolean.result _ _ _ _ (fields-bool c.args.module.now c.args.depth c.args.found.now (input g.K.Origin.limit g.K.Origin.whole) (spot old.bits.position old.nodes) e) (c.boolean.ensures.gives told)
+
+pub fields-returns-in-Int-clause-fits : goal.fields-returns-in-Int-clause-fits
+fields-returns-in-Int-clause-fits g t c =
+    let e = ap (λ l. l.form) (sym c.label.ensures) ∙ c.in-Int.is in
+    IfOk-weaker c.integer.result _ (FitKids c.args.module.now c.args.depth c.args.found.now) (λ v h. subst (FitKids c.args.module.now c.args.depth c.args.found.now) (sym h.1) (fit-int c.args.module.now c.args.depth c.args.found.now _ _ h.0 e h.2 h.3 h.4)) c.integer.ensures.leaf
+
+pub fields-returns-in-Int-clause-gives : goal.fields-returns-in-Int-clause-gives
+fields-returns-in-Int-clause-gives g t c = λ told.
+    let e = ap (λ l. l.form) (sym c.label.ensures) ∙ c.in-Int.is in
+    let old = c.args.run.now in
+    shows_as g.K.Origin.limit g.K.Origin.whole (λ x. x) c.integer.result _ _ _ _ (fields-int c.args.module.now c.args.depth c.args.found.now (input g.K.Origin.limit g.K.Origin.whole) (spot old.bits.position old.nodes) _ _ e) (c.integer.ensures.gives told)
+
+pub fields-returns-in-Numbers-clause-fits : goal.fields-returns-in-Numbers-clause-fits
+fields-returns-in-Numbers-clause-fits g t c =
+    let e = ap (λ l. l.form) (sym c.label.ensures) ∙ c.in-Numbers.is in
+    IfOk-weaker c.enumerated.result _ (FitKids c.args.module.now c.args.depth c.args.found.now) (λ v h. subst (FitKids c.args.module.now c.args.depth c.args.found.now) (sym h.1) (fit-numbers c.args.module.now c.args.depth c.args.found.now _ h.0 e (rw c.items.ensures at h.2))) c.enumerated.ensures.leaf
+
+pub fields-returns-in-Numbers-clause-gives : goal.fields-returns-in-Numbers-clause-gives
+fields-returns-in-Numbers-clause-gives g t c = λ told.
+    let e = ap (λ l. l.form) (sym c.label.ensures) ∙ c.in-Numbers.is in
+    let old = c.args.run.now in
+    shows_as g.K.Origin.limit g.K.Origin.whole (λ x. x) c.enumerated.result _ _ _ _ (fields-numbers c.args.module.now c.args.depth c.args.found.now (input g.K.Origin.limit g.K.Origin.whole) (spot old.bits.position old.nodes) _ e) (rw c.items.ensures at (c.enumerated.ensures.gives told))
+
+pub fields-returns-in-Words-clause-fits : goal.fields-returns-in-Words-clause-fits
+fields-returns-in-Words-clause-fits g t c =
+    let e = ap (λ l. l.form) (sym c.label.ensures) ∙ c.in-Words.is in
+    IfOk-weaker c.enumerated-in-Words.result _ (FitKids c.args.module.now c.args.depth c.args.found.now) (λ v h. subst (FitKids c.args.module.now c.args.depth c.args.found.now) (sym h.1) (fit-words c.args.module.now c.args.depth c.args.found.now _ _ h.0 e (rw c.items-in-Words.ensures at h.2))) c.enumerated-in-Words.ensures.leaf
+
+pub fields-returns-in-Words-clause-gives : goal.fields-returns-in-Words-clause-gives
+fields-returns-in-Words-clause-gives g t c = λ told.
+    let e = ap (λ l. l.form) (sym c.label.ensures) ∙ c.in-Words.is in
+    let old = c.args.run.now in
+    shows_as g.K.Origin.limit g.K.Origin.whole (λ x. x) c.enumerated-in-Words.result _ _ _ _ (fields-words c.args.module.now c.args.depth c.args.found.now (input g.K.Origin.limit g.K.Origin.whole) (spot old.bits.position old.nodes) _ _ e) (rw c.items-in-Words.ensures at (c.enumerated-in-Words.ensures.gives told))
+
+pub fields-returns-in-Sequence-clause-gives : goal.fields-returns-in-Sequence-clause-gives
+fields-returns-in-Sequence-clause-gives g t c = λ told.
+    let e = ap (λ l. l.form) (sym c.label.ensures) ∙ c.in-Sequence.is in
+    let old = c.args.run.now in
+    shows_as g.K.Origin.limit g.K.Origin.whole (λ x. x) c.sequence.result _ _ _ _ (fields-sequence c.args.module.now c.args.depth c.args.found.now (input g.K.Origin.limit g.K.Origin.whole) (spot old.bits.position old.nodes) _ e) (rw c.items-in-Sequence.ensures at (c.sequence.ensures.gives told))
+
+pub fields-returns-in-Choice-clause-gives : goal.fields-returns-in-Choice-clause-gives
+fields-returns-in-Choice-clause-gives g t c = λ told.
+    let e = ap (λ l. l.form) (sym c.label.ensures) ∙ c.in-Choice.is in
+    let old = c.args.run.now in
+    shows_as g.K.Origin.limit g.K.Origin.whole (λ x. x) c.choice.result _ _ _ _ (fields-choice c.args.module.now c.args.depth c.args.found.now (input g.K.Origin.limit g.K.Origin.whole) (spot old.bits.position old.nodes) _ e) (rw c.items-in-Choice.ensures at (c.choice.ensures.gives told))
+
+pub fields-returns-in-SequenceOf-clause-gives : goal.fields-returns-in-SequenceOf-clause-gives
+fields-returns-in-SequenceOf-clause-gives g t c = λ told.
+    let e = ap (λ l. l.form) (sym c.label.ensures) ∙ c.in-SequenceOf.is in
+    let old = c.args.run.now in
+    shows_as g.K.Origin.limit g.K.Origin.whole (λ x. x) c.sequence_of.result _ _ _ _ (fields-list c.args.module.now c.args.depth c.args.found.now (input g.K.Origin.limit g.K.Origin.whole) (spot old.bits.position old.nodes) _ _ _ e) (c.sequence_of.ensures.gives told)
+
+-- A SEQUENCE
+
+pub sequence-returns-in_err-present-clause-gives : goal.sequence-returns-in_err-present-clause-gives
+sequence-returns-in_err-present-clause-gives g t c = λ told.
+    let p = err_from_is_err_and c.from_residual.result c.from_residual.ensures.1 in
+    let old = c.args.run.now in
+    let i = stands_inside old.bits.position old.bits.taken old.bits.held old.bits.limit g.K.Origin.limit g.K.Origin.whole _ old.limited old.bits.behind old.bits.within (old.here told) in
+    rw (p.1, p.2) (sequence_fails c.args.module.now c.args.depth (label_of c.args.found.now) (kids_of c.args.found.now) c.args.parts.now (input g.K.Origin.limit g.K.Origin.whole) (spot old.bits.position old.nodes) g.K.Origin.limit g.K.Origin.whole c.in_err-present.field-0.0 c.presence.new.run.bits.taken i (c.in_err-present.ensures.gives told))
+
+pub sequence-returns-in_err-values-clause-gives : goal.sequence-returns-in_err-values-clause-gives
+sequence-returns-in_err-values-clause-gives g t c = λ told.
+    let p = err_from_is_err_and c.from_residual-in_err-values.result c.from_residual-in_err-values.ensures.1 in
+    let old = c.args.run.now in
+    let mid = c.presence.new.run in
+    let i = stands_inside mid.bits.position mid.bits.taken mid.bits.held mid.bits.limit g.K.Origin.limit g.K.Origin.whole _ mid.limited mid.bits.behind mid.bits.within (mid.here told) in
+    rw (p.1, p.2) (components_fail c.args.module.now c.args.depth (label_of c.args.found.now) (kids_of c.args.found.now) c.args.parts.now (input g.K.Origin.limit g.K.Origin.whole) (spot old.bits.position old.nodes) c.in_ok-present.present.items (spot mid.bits.position mid.nodes) (c.in_ok-present.ensures.gives told) g.K.Origin.limit g.K.Origin.whole c.in_err-values.field-0.0 c.components.new.run.bits.taken i (rw c.deref.ensures.value at (c.in_err-values.ensures.gives told)))
+
+pub sequence-returns-clause-fits : goal.sequence-returns-clause-fits
+sequence-returns-clause-fits g t c =
+    rw (c.join.ensures, c.of-present.ensures) (fit-sequence c.args.module.now c.args.depth c.args.found.now c.args.parts.now c.in_ok-present.present.items c.in_ok-values.values.items c.requires.form (rw c.deref.ensures.value at c.in_ok-values.ensures.fits))
+
+pub sequence-returns-clause-gives : goal.sequence-returns-clause-gives
+sequence-returns-clause-gives g t c = λ told.
+    let old = c.args.run.now in
+    let mid = c.presence.new.run in
+    let new = c.components.new.run in
+    rw (c.join.ensures, c.of-present.ensures) (sequence_reads c.args.module.now c.args.depth (label_of c.args.found.now) (kids_of c.args.found.now) c.args.parts.now (input g.K.Origin.limit g.K.Origin.whole) (spot old.bits.position old.nodes) c.in_ok-present.present.items (spot mid.bits.position mid.nodes) (c.in_ok-present.ensures.gives told) c.in_ok-values.values.items (spot new.bits.position new.nodes) (rw c.deref.ensures.value at (c.in_ok-values.ensures.gives told)))
+
+-- ITS COMPONENTS
+
+pub components-parts-init : goal.components-parts-init
+components-parts-init g t c =
+    let parts = c.args.parts.now in
+    let as_many = kids-parts c.args.module.now c.requires.known c.args.found.now c.requires.of ∙ ap (λ f. length (parts_of f)) c.requires.form in
+    record {
+      in_step = c.requires.in_step;
+      on = omega arith;
+      same = refl;
+      count = rw c.new-values.ensures.items (omega arith);
+      through = rw c.new-values.ensures.items (through_none c.args.module.now c.args.depth (label_of c.args.found.now) parts (kids_of c.args.found.now) c.args.present.now (IsTrue g.K.Origin.told) (input g.K.Origin.limit g.K.Origin.whole) _ (places_there (label_of c.args.found.now) 0 parts (kids_of c.args.found.now) c.args.present.now as_many c.requires.present));
+    }
+
+pub components-bounds-present-i : goal.components-bounds-present-i
+components-bounds-present-i g t c =
+    omega (arith, present-length c.args.parts.now c.args.present.now c.requires.present, c.parts-test.true)
+
+pub components-kid-kid-requires : goal.components-kid-kid-requires
+components-kid-kid-requires g t c =
+    let parts = c.args.parts.now in
+    let as_many = kids-parts c.args.module.now c.requires.known c.args.found.now c.requires.of ∙ ap (λ f. length (parts_of f)) c.requires.form in
+    omega (arith, as_many, c.parts-test.true)
+
+pub components-overflow_cast-i : goal.components-overflow_cast-i
+components-overflow_cast-i g t c =
+    omega (arith, components_few c.args.module.now c.requires.known c.args.found.now c.requires.of c.args.parts.now c.requires.form, c.parts-test.true)
+
+pub components-node-requires : goal.components-node-requires
+components-node-requires g t c =
+    let u = c.args.found.now in
+    let parts = c.args.parts.now in
+    let i = c.parts.i in
+    let kid = c.kid-kid.result.now in
+    let there = part_there c.args.module.now c.requires.known c.args.found.now c.requires.of i kid c.kid-kid.ensures in
+    let k = kid_here c.args.module.now c.requires.known c.args.found.now c.requires.of c.args.depth i c.below-inner.result there.0 kid c.role.result (subst HasFields (sym c.requires.form) tt) c.requires.depth there.1 c.kid-kid.ensures (rw c.label.ensures at c.role.ensures) c.below-inner.ensures.same in
+    let d = c.decreases in
+    (λ κs h. (omega (arith, d, k.fewer), (h.0, (h.1, (c.below-inner.ensures.few, (c.requires.known, (k.of_module, c.parts.invariant.in_step)))))))
+
+pub components-returns-in_err-value-clause-gives : goal.components-returns-in_err-value-clause-gives
+components-returns-in_err-value-clause-gives g t c = λ told.
+    let p = err_from_is_err_and c.from_residual.result c.from_residual.ensures.1 in
+    let u = c.args.found.now in
+    let parts = c.args.parts.now in
+    let i = c.parts.i in
+    let kid = c.kid-kid.result.now in
+    let there = part_there c.args.module.now c.requires.known c.args.found.now c.requires.of i kid c.kid-kid.ensures in
+    let k = kid_here c.args.module.now c.requires.known c.args.found.now c.requires.of c.args.depth i c.below-inner.result there.0 kid c.role.result (subst HasFields (sym c.requires.form) tt) c.requires.depth there.1 c.kid-kid.ensures (rw c.label.ensures at c.role.ensures) c.below-inner.ensures.same in
+    let flags = c.args.present.now in
+    let is_part = got_split parts i there.0 (subst (λ f. slice_get (parts_of f) i ≡ Some there.0) c.requires.form there.1) in
+    let is_kid = got_split (kids_of u) i kid c.kid-kid.ensures in
+    let is_flag = flag_split flags i true (omega (arith, present-length parts flags c.requires.present, c.parts-test.true)) c.if-not-present-i.false in
+    let old = c.parts.run in
+    let new = c.node.new.run in
+    let j = stands_inside old.bits.position old.bits.taken old.bits.held old.bits.limit g.K.Origin.limit g.K.Origin.whole _ old.limited old.bits.behind old.bits.within (old.here told) in
+    rw (p.1, p.2) (through_fails c.args.module.now c.args.depth (label_of u) parts (kids_of u) flags (IsTrue g.K.Origin.told) (input g.K.Origin.limit g.K.Origin.whole) (spot c.args.run.now.bits.position c.args.run.now.nodes) i c.parts.values.items (spot old.bits.position old.nodes) there.0 kid is_part is_kid is_flag (λ p. sits-node c.args.module.now (below p.role c.args.depth) p.type) told g.K.Origin.limit g.K.Origin.whole c.in_err-value.field-0.0 new.bits.taken j (subst (λ n. FailsAt g.K.Origin.limit g.K.Origin.whole c.in_err-value.field-0.0 new.bits.taken (node_read c.args.module.now n kid (input g.K.Origin.limit g.K.Origin.whole) (spot old.bits.position old.nodes))) k.inner_is (c.in_err-value.ensures.gives told)) c.parts.invariant.through)
+
+pub components-returns-in_err-push-clause-gives : goal.components-returns-in_err-push-clause-gives
+components-returns-in_err-push-clause-gives g t c = λ told.
+    let p = err_from_is_err_and c.from_residual-in_err-push.result c.from_residual-in_err-push.ensures.1 in
+    let u = c.args.found.now in
+    let parts = c.args.parts.now in
+    let i = c.parts.i in
+    let kid = c.kid-kid.result.now in
+    let there = part_there c.args.module.now c.requires.known c.args.found.now c.requires.of i kid c.kid-kid.ensures in
+    let k = kid_here c.args.module.now c.requires.known c.args.found.now c.requires.of c.args.depth i c.below-inner.result there.0 kid c.role.result (subst HasFields (sym c.requires.form) tt) c.requires.depth there.1 c.kid-kid.ensures (rw c.label.ensures at c.role.ensures) c.below-inner.ensures.same in
+    let flags = c.args.present.now in
+    let is_part = got_split parts i there.0 (subst (λ f. slice_get (parts_of f) i ≡ Some there.0) c.requires.form there.1) in
+    let is_kid = got_split (kids_of u) i kid c.kid-kid.ensures in
+    let is_flag = flag_split flags i true (omega (arith, present-length parts flags c.requires.present, c.parts-test.true)) c.if-not-present-i.false in
+    let old = c.parts.run in
+    let new = c.node.new.run in
+    let j = stands_inside new.bits.position new.bits.taken new.bits.held new.bits.limit g.K.Origin.limit g.K.Origin.whole _ new.limited new.bits.behind new.bits.within (new.here told) in
+    rw (p.1, p.2) (through_full c.args.module.now c.args.depth (label_of u) parts (kids_of u) flags (IsTrue g.K.Origin.told) (input g.K.Origin.limit g.K.Origin.whole) (spot c.args.run.now.bits.position c.args.run.now.nodes) i c.parts.values.items (spot old.bits.position old.nodes) there.0 kid is_part is_kid is_flag (λ p. sits-node c.args.module.now (below p.role c.args.depth) p.type) told g.K.Origin.limit g.K.Origin.whole c.in_ok-value.value (spot new.bits.position new.nodes) new.bits.taken (subst (λ n. node_read c.args.module.now n kid (input g.K.Origin.limit g.K.Origin.whole) (spot old.bits.position old.nodes) ≡ Ok (c.in_ok-value.value, (spot new.bits.position new.nodes))) k.inner_is (c.in_ok-value.ensures.gives told)) j (omega (arith, c.in_ok-value.ensures.on.1)) c.parts.invariant.through)
+
+pub components-parts-preserved-then-not-present-i : goal.components-parts-preserved-then-not-present-i
+components-parts-preserved-then-not-present-i g t c =
+    let parts = c.args.parts.now in
+    let as_many = kids-parts c.args.module.now c.requires.known c.args.found.now c.requires.of ∙ ap (λ f. length (parts_of f)) c.requires.form in
+    let u = c.args.found.now in
+    let flags = c.args.present.now in
+    let i = c.parts.i in
+    let old = c.parts.run in
+    let kid = got (kids_of u) i (omega (arith, as_many, c.parts-test.true)) in
+    let there = part_there c.args.module.now c.requires.known c.args.found.now c.requires.of i kid.0 kid.1 in
+    let is_part = got_split parts i there.0 (subst (λ f. slice_get (parts_of f) i ≡ Some there.0) c.requires.form there.1) in
+    let is_kid = got_split (kids_of u) i kid.0 kid.1 in
+    let is_flag = flag_split flags i false (omega (arith, present-length parts flags c.requires.present, c.parts-test.true)) c.if-not-present-i.true in
+    record {
+      in_step = c.parts.invariant.in_step;
+      on = c.parts.invariant.on;
+      same = c.parts.invariant.same;
+      count = c.parts.invariant.count;
+      through = through_skip c.args.module.now c.args.depth (label_of u) parts (kids_of u) flags (IsTrue g.K.Origin.told) (input g.K.Origin.limit g.K.Origin.whole) (spot c.args.run.now.bits.position c.args.run.now.nodes) i c.parts.values.items (spot old.bits.position old.nodes) there.0 kid.0 is_part is_kid is_flag c.parts.invariant.through;
+    }
+
+pub components-parts-preserved : goal.components-parts-preserved
+components-parts-preserved g t c =
+    let u = c.args.found.now in
+    let parts = c.args.parts.now in
+    let i = c.parts.i in
+    let kid = c.kid-kid.result.now in
+    let there = part_there c.args.module.now c.requires.known c.args.found.now c.requires.of i kid c.kid-kid.ensures in
+    let k = kid_here c.args.module.now c.requires.known c.args.found.now c.requires.of c.args.depth i c.below-inner.result there.0 kid c.role.result (subst HasFields (sym c.requires.form) tt) c.requires.depth there.1 c.kid-kid.ensures (rw c.label.ensures at c.role.ensures) c.below-inner.ensures.same in
+    let flags = c.args.present.now in
+    let is_part = got_split parts i there.0 (subst (λ f. slice_get (parts_of f) i ≡ Some there.0) c.requires.form there.1) in
+    let is_kid = got_split (kids_of u) i kid c.kid-kid.ensures in
+    let is_flag = flag_split flags i true (omega (arith, present-length parts flags c.requires.present, c.parts-test.true)) c.if-not-present-i.false in
+    let old = c.parts.run in
+    let new = c.node.new.run in
+    record {
+      in_step = c.in_ok-value.ensures.on.1;
+      on = omega (arith, c.in_ok-value.ensures.on.0, c.parts.invariant.on);
+      same = c.node.ensures.same_reference ∙ c.parts.invariant.same;
+      count = rw c.in_ok-push.ensures.items (omega (arith, c.in_ok-value.ensures.count, c.parts.invariant.count, count-push c.parts.values.items c.in_ok-value.value));
+      through = rw c.in_ok-push.ensures.items (through_more c.args.module.now c.args.depth (label_of u) parts (kids_of u) flags (IsTrue g.K.Origin.told) (input g.K.Origin.limit g.K.Origin.whole) (spot c.args.run.now.bits.position c.args.run.now.nodes) i c.parts.values.items (spot old.bits.position old.nodes) there.0 kid is_part is_kid is_flag c.in_ok-value.value (spot new.bits.position new.nodes)
+          (subst (λ n. FitsAt c.args.module.now n kid c.in_ok-value.value) k.inner_is c.in_ok-value.ensures.fits) (λ told. (subst (λ n. node_read c.args.module.now n kid (input g.K.Origin.limit g.K.Origin.whole) (spot old.bits.position old.nodes) ≡ Ok (c.in_ok-value.value, (spot new.bits.position new.nodes))) k.inner_is (c.in_ok-value.ensures.gives told))) c.parts.invariant.through);
+    }
+
+pub components-returns-clause-gives : goal.components-returns-clause-gives
+components-returns-clause-gives g t c = λ told.
+    let u = c.args.found.now in
+    let parts = c.args.parts.now in
+    let flags = c.args.present.now in
+    through_end c.args.module.now c.args.depth (label_of u) parts (kids_of u) flags (IsTrue g.K.Origin.told) (input g.K.Origin.limit g.K.Origin.whole) (spot c.args.run.now.bits.position c.args.run.now.nodes) c.parts.i c.parts.values.items (spot c.parts.run.bits.position c.parts.run.nodes) (drop_all c.parts.i parts c.parts-test.false) c.parts.invariant.through told
+
+pub components-returns-clause-fits : goal.components-returns-clause-fits
+components-returns-clause-fits g t c =
+    let u = c.args.found.now in
+    let parts = c.args.parts.now in
+    let flags = c.args.present.now in
+    through_fit c.args.module.now c.args.depth (label_of u) parts (kids_of u) flags (IsTrue g.K.Origin.told) (input g.K.Origin.limit g.K.Origin.whole) (spot c.args.run.now.bits.position c.args.run.now.nodes) c.parts.i c.parts.values.items (spot c.parts.run.bits.position c.parts.run.nodes) (drop_all c.parts.i parts c.parts-test.false) c.parts.invariant.through
+
+-- A CHOICE
+
+pub choice-overflow_sub-parts : goal.choice-overflow_sub-parts
+choice-overflow_sub-parts g t c =
+    let counted = alternatives_counted c.args.module.now c.requires.known c.args.found.now c.requires.of c.args.parts.now c.requires.form in
+    omega (arith, counted.0)
+
+pub choice-overflow_cast-index : goal.choice-overflow_cast-index
+choice-overflow_cast-index g t c =
+    let counted = alternatives_counted c.args.module.now c.requires.known c.args.found.now c.requires.of c.args.parts.now c.requires.form in
+    omega (arith, counted.1, c.in_ok-index.ensures.top)
+
+pub choice-kid-kid-requires : goal.choice-kid-kid-requires
+choice-kid-kid-requires g t c =
+    let parts = c.args.parts.now in
+    let as_many = kids-parts c.args.module.now c.requires.known c.args.found.now c.requires.of ∙ ap (λ f. length (parts_of f)) c.requires.form in
+    let counted = alternatives_counted c.args.module.now c.requires.known c.args.found.now c.requires.of c.args.parts.now c.requires.form in
+    omega (arith, as_many, counted.0, c.in_ok-index.ensures.top)
+
+pub choice-role-requires : goal.choice-role-requires
+choice-role-requires g t c =
+    let counted = alternatives_counted c.args.module.now c.requires.known c.args.found.now c.requires.of c.args.parts.now c.requires.form in
+    rw (c.label.ensures, c.requires.form) (omega (arith, counted.0, c.in_ok-index.ensures.top))
+
+pub choice-node-requires : goal.choice-node-requires
+choice-node-requires g t c =
+    let u = c.args.found.now in
+    let parts = c.args.parts.now in
+    let i = c.in_ok-index.field-0 in
+    let kid = c.kid-kid.result.now in
+    let there = part_there c.args.module.now c.requires.known c.args.found.now c.requires.of i kid c.kid-kid.ensures in
+    let k = kid_here c.args.module.now c.requires.known c.args.found.now c.requires.of c.args.depth i c.below-inner.result there.0 kid c.role.result (subst HasFields (sym c.requires.form) tt) c.requires.depth there.1 c.kid-kid.ensures (rw c.label.ensures at c.role.ensures) c.below-inner.ensures.same in
+    let is_part = subst (λ f. slice_get (parts_of f) i ≡ Some there.0) c.requires.form there.1 in
+    let old = c.args.run.now in
+    let mid = c.number.new.self in
+    let d = c.decreases in
+    (λ κs h. (omega (arith, d, k.fewer), (h.0, (h.1, (c.below-inner.ensures.few, (c.requires.known, (k.of_module, c.in_ok-index.ensures.on.1)))))))
+
+pub choice-returns-in_err-index-clause-gives : goal.choice-returns-in_err-index-clause-gives
+choice-returns-in_err-index-clause-gives g t c = λ told.
+    let p = err_from_is_err_and c.from_residual.result c.from_residual.ensures.1 in
+    let old = c.args.run.now in
+    let j = stands_inside old.bits.position old.bits.taken old.bits.held old.bits.limit g.K.Origin.limit g.K.Origin.whole _ old.limited old.bits.behind old.bits.within (old.here told) in
+    rw (p.1, p.2) (choice_fails c.args.module.now c.args.depth (label_of c.args.found.now) (kids_of c.args.found.now) c.args.parts.now (input g.K.Origin.limit g.K.Origin.whole) (spot old.bits.position old.nodes) g.K.Origin.limit g.K.Origin.whole c.in_err-index.field-0.0 c.number.new.self.bits.taken j (c.in_err-index.ensures.gives told))
+
+pub choice-returns-in_err-value-clause-gives : goal.choice-returns-in_err-value-clause-gives
+choice-returns-in_err-value-clause-gives g t c = λ told.
+    let p = err_from_is_err_and c.from_residual-in_err-value.result c.from_residual-in_err-value.ensures.1 in
+    let u = c.args.found.now in
+    let parts = c.args.parts.now in
+    let i = c.in_ok-index.field-0 in
+    let kid = c.kid-kid.result.now in
+    let there = part_there c.args.module.now c.requires.known c.args.found.now c.requires.of i kid c.kid-kid.ensures in
+    let k = kid_here c.args.module.now c.requires.known c.args.found.now c.requires.of c.args.depth i c.below-inner.result there.0 kid c.role.result (subst HasFields (sym c.requires.form) tt) c.requires.depth there.1 c.kid-kid.ensures (rw c.label.ensures at c.role.ensures) c.below-inner.ensures.same in
+    let is_part = subst (λ f. slice_get (parts_of f) i ≡ Some there.0) c.requires.form there.1 in
+    let old = c.args.run.now in
+    let mid = c.number.new.self in
+    let new = c.node.new.run in
+    let j = stands_inside mid.bits.position mid.bits.taken mid.bits.held mid.bits.limit g.K.Origin.limit g.K.Origin.whole _ mid.limited mid.bits.behind mid.bits.within (mid.here told) in
+    rw (p.1, p.2) (alternative_fails c.args.module.now c.args.depth (label_of c.args.found.now) (kids_of c.args.found.now) c.args.parts.now (input g.K.Origin.limit g.K.Origin.whole) (spot old.bits.position old.nodes) i (spot mid.bits.position mid.nodes) there.0 kid (c.in_ok-index.ensures.gives told) is_part c.kid-kid.ensures g.K.Origin.limit g.K.Origin.whole c.in_err-value.field-0.0 new.bits.taken j (subst (λ n. FailsAt g.K.Origin.limit g.K.Origin.whole c.in_err-value.field-0.0 new.bits.taken (node_read c.args.module.now n kid (input g.K.Origin.limit g.K.Origin.whole) (spot mid.bits.position mid.nodes))) k.inner_is (c.in_err-value.ensures.gives told)))
+
+pub choice-returns-in_err-push-clause-gives : goal.choice-returns-in_err-push-clause-gives
+choice-returns-in_err-push-clause-gives g t c = λ told.
+    let p = err_from_is_err_and c.from_residual-in_err-push.result c.from_residual-in_err-push.ensures.1 in
+    let u = c.args.found.now in
+    let parts = c.args.parts.now in
+    let i = c.in_ok-index.field-0 in
+    let kid = c.kid-kid.result.now in
+    let there = part_there c.args.module.now c.requires.known c.args.found.now c.requires.of i kid c.kid-kid.ensures in
+    let k = kid_here c.args.module.now c.requires.known c.args.found.now c.requires.of c.args.depth i c.below-inner.result there.0 kid c.role.result (subst HasFields (sym c.requires.form) tt) c.requires.depth there.1 c.kid-kid.ensures (rw c.label.ensures at c.role.ensures) c.below-inner.ensures.same in
+    let is_part = subst (λ f. slice_get (parts_of f) i ≡ Some there.0) c.requires.form there.1 in
+    let old = c.args.run.now in
+    let mid = c.number.new.self in
+    let new = c.node.new.run in
+    let reads = choice_reads c.args.module.now c.args.depth (label_of c.args.found.now) (kids_of c.args.found.now) c.args.parts.now (input g.K.Origin.limit g.K.Origin.whole) (spot old.bits.position old.nodes) i (spot mid.bits.position mid.nodes) there.0 kid (c.in_ok-index.ensures.gives told) is_part c.kid-kid.ensures c.in_ok-value.value (spot new.bits.position new.nodes) (subst (λ n. node_read c.args.module.now n kid (input g.K.Origin.limit g.K.Origin.whole) (spot mid.bits.position mid.nodes) ≡ Ok (c.in_ok-value.value, (spot new.bits.position new.nodes))) k.inner_is (c.in_ok-value.ensures.gives told)) in
+    rw (p.1, p.2) (omega (arith, ap end_of reads, c.in_ok-value.ensures.on.1))
+
+pub choice-returns-clause-fits : goal.choice-returns-clause-fits
+choice-returns-clause-fits g t c =
+    let u = c.args.found.now in
+    let parts = c.args.parts.now in
+    let i = c.in_ok-index.field-0 in
+    let kid = c.kid-kid.result.now in
+    let there = part_there c.args.module.now c.requires.known c.args.found.now c.requires.of i kid c.kid-kid.ensures in
+    let k = kid_here c.args.module.now c.requires.known c.args.found.now c.requires.of c.args.depth i c.below-inner.result there.0 kid c.role.result (subst HasFields (sym c.requires.form) tt) c.requires.depth there.1 c.kid-kid.ensures (rw c.label.ensures at c.role.ensures) c.below-inner.ensures.same in
+    let is_part = subst (λ f. slice_get (parts_of f) i ≡ Some there.0) c.requires.form there.1 in
+    let old = c.args.run.now in
+    let mid = c.number.new.self in
+    let new = c.node.new.run in
+    rw (c.join.ensures, c.in_ok-push.ensures.items, c.new-values.ensures.items) (fit-choice c.args.module.now c.args.depth c.args.found.now parts i there.0 kid c.in_ok-value.value c.requires.form is_part c.kid-kid.ensures (subst (λ n. FitsAt c.args.module.now n kid c.in_ok-value.value) k.inner_is c.in_ok-value.ensures.fits))
+
+pub choice-returns-clause-gives : goal.choice-returns-clause-gives
+choice-returns-clause-gives g t c = λ told.
+    let u = c.args.found.now in
+    let parts = c.args.parts.now in
+    let i = c.in_ok-index.field-0 in
+    let kid = c.kid-kid.result.now in
+    let there = part_there c.args.module.now c.requires.known c.args.found.now c.requires.of i kid c.kid-kid.ensures in
+    let k = kid_here c.args.module.now c.requires.known c.args.found.now c.requires.of c.args.depth i c.below-inner.result there.0 kid c.role.result (subst HasFields (sym c.requires.form) tt) c.requires.depth there.1 c.kid-kid.ensures (rw c.label.ensures at c.role.ensures) c.below-inner.ensures.same in
+    let is_part = subst (λ f. slice_get (parts_of f) i ≡ Some there.0) c.requires.form there.1 in
+    let old = c.args.run.now in
+    let mid = c.number.new.self in
+    let new = c.node.new.run in
+    rw (c.join.ensures, c.in_ok-push.ensures.items, c.new-values.ensures.items) (choice_reads c.args.module.now c.args.depth (label_of c.args.found.now) (kids_of c.args.found.now) c.args.parts.now (input g.K.Origin.limit g.K.Origin.whole) (spot old.bits.position old.nodes) i (spot mid.bits.position mid.nodes) there.0 kid (c.in_ok-index.ensures.gives told) is_part c.kid-kid.ensures c.in_ok-value.value (spot new.bits.position new.nodes) (subst (λ n. node_read c.args.module.now n kid (input g.K.Origin.limit g.K.Origin.whole) (spot mid.bits.position mid.nodes) ≡ Ok (c.in_ok-value.value, (spot new.bits.position new.nodes))) k.inner_is (c.in_ok-value.ensures.gives told)))
+
+-- A SEQUENCE OF
+
+pub sequence_of-kid-item-requires : goal.sequence_of-kid-item-requires
+sequence_of-kid-item-requires g t c =
+    let as_many = kids-parts c.args.module.now c.requires.known c.args.found.now c.requires.of ∙ ap (λ f. length (parts_of f)) c.requires.form in
+    omega (arith, as_many)
+
+pub sequence_of-list-requires : goal.sequence_of-list-requires
+sequence_of-list-requires g t c =
+    let u = c.args.found.now in
+    let part = c.args.part.now in
+    let item = c.kid-item.result.now in
+    let is_part : slice_get (parts_of (label_of u).form) 0 ≡ Some part = ap (λ f. slice_get (parts_of f) 0) c.requires.form in
+    let k = kid_here c.args.module.now c.requires.known c.args.found.now c.requires.of c.args.depth 0 c.below-inner.result part item c.role.result (subst HasFields (sym c.requires.form) tt) c.requires.depth is_part c.kid-item.ensures (rw c.label.ensures at c.role.ensures) c.below-inner.ensures.same in
+    let place = place_of (label_of u) 0 part item in
+    let is_place : place_at (label_of u) 0 (Some part) (slice_get (kids_of u) 0) ≡ Some place = ap (λ o. place_at (label_of u) 0 (Some part) o) c.kid-item.ensures in
+    let old = c.args.run.now in
+    let d = c.decreases in
+    (λ κs h. (omega (arith, d, k.fewer), (h.0, (h.1, (c.below-inner.ensures.few, (c.requires.known, (k.of_module, (sizes_ordered c.args.module.now c.requires.known c.args.found.now c.requires.of part _ _ c.requires.form, c.requires.in_step))))))))
+
+pub sequence_of-returns-in_err-values-clause-gives : goal.sequence_of-returns-in_err-values-clause-gives
+sequence_of-returns-in_err-values-clause-gives g t c = λ told.
+    let p = err_from_is_err_and c.from_residual.result c.from_residual.ensures.1 in
+    let u = c.args.found.now in
+    let part = c.args.part.now in
+    let item = c.kid-item.result.now in
+    let is_part : slice_get (parts_of (label_of u).form) 0 ≡ Some part = ap (λ f. slice_get (parts_of f) 0) c.requires.form in
+    let k = kid_here c.args.module.now c.requires.known c.args.found.now c.requires.of c.args.depth 0 c.below-inner.result part item c.role.result (subst HasFields (sym c.requires.form) tt) c.requires.depth is_part c.kid-item.ensures (rw c.label.ensures at c.role.ensures) c.below-inner.ensures.same in
+    let place = place_of (label_of u) 0 part item in
+    let is_place : place_at (label_of u) 0 (Some part) (slice_get (kids_of u) 0) ≡ Some place = ap (λ o. place_at (label_of u) 0 (Some part) o) c.kid-item.ensures in
+    let old = c.args.run.now in
+    let new = c.list.new.run in
+    let j = stands_inside old.bits.position old.bits.taken old.bits.held old.bits.limit g.K.Origin.limit g.K.Origin.whole _ old.limited old.bits.behind old.bits.within (old.here told) in
+    let h = subst (λ n. FailsAt g.K.Origin.limit g.K.Origin.whole c.in_err-values.field-0.0 new.bits.taken (list_at c.args.min c.args.max (λ m. many_at c.args.module.now n m item) (input g.K.Origin.limit g.K.Origin.whole) (spot old.bits.position old.nodes))) k.inner_is (c.in_err-values.ensures.gives told) in
+    rw (p.1, p.2) (subst (λ o. FailsAt g.K.Origin.limit g.K.Origin.whole c.in_err-values.field-0.0 new.bits.taken (items_at (kid_at c.args.module.now c.args.depth) c.args.min c.args.max o (input g.K.Origin.limit g.K.Origin.whole) (spot old.bits.position old.nodes))) (sym is_place)
+    (list_fails c.args.module.now c.args.depth place c.args.min c.args.max (input g.K.Origin.limit g.K.Origin.whole) (spot old.bits.position old.nodes) g.K.Origin.limit g.K.Origin.whole c.in_err-values.field-0.0 new.bits.taken j h))
+
+pub sequence_of-returns-clause-fits : goal.sequence_of-returns-clause-fits
+sequence_of-returns-clause-fits g t c =
+    let u = c.args.found.now in
+    let part = c.args.part.now in
+    let item = c.kid-item.result.now in
+    let is_part : slice_get (parts_of (label_of u).form) 0 ≡ Some part = ap (λ f. slice_get (parts_of f) 0) c.requires.form in
+    let k = kid_here c.args.module.now c.requires.known c.args.found.now c.requires.of c.args.depth 0 c.below-inner.result part item c.role.result (subst HasFields (sym c.requires.form) tt) c.requires.depth is_part c.kid-item.ensures (rw c.label.ensures at c.role.ensures) c.below-inner.ensures.same in
+    let place = place_of (label_of u) 0 part item in
+    let is_place : place_at (label_of u) 0 (Some part) (slice_get (kids_of u) 0) ≡ Some place = ap (λ o. place_at (label_of u) 0 (Some part) o) c.kid-item.ensures in
+    let old = c.args.run.now in
+    let new = c.list.new.run in
+    rw c.join.ensures (fit-list c.args.module.now c.args.depth c.args.found.now part c.args.min c.args.max item c.in_ok-values.values.items c.requires.form c.kid-item.ensures c.in_ok-values.ensures.size.0 c.in_ok-values.ensures.size.1 (subst (λ n. FitAll c.args.module.now n item c.in_ok-values.values.items) k.inner_is c.in_ok-values.ensures.fits))
+
+pub sequence_of-returns-clause-gives : goal.sequence_of-returns-clause-gives
+sequence_of-returns-clause-gives g t c = λ told.
+    let u = c.args.found.now in
+    let part = c.args.part.now in
+    let item = c.kid-item.result.now in
+    let is_part : slice_get (parts_of (label_of u).form) 0 ≡ Some part = ap (λ f. slice_get (parts_of f) 0) c.requires.form in
+    let k = kid_here c.args.module.now c.requires.known c.args.found.now c.requires.of c.args.depth 0 c.below-inner.result part item c.role.result (subst HasFields (sym c.requires.form) tt) c.requires.depth is_part c.kid-item.ensures (rw c.label.ensures at c.role.ensures) c.below-inner.ensures.same in
+    let place = place_of (label_of u) 0 part item in
+    let is_place : place_at (label_of u) 0 (Some part) (slice_get (kids_of u) 0) ≡ Some place = ap (λ o. place_at (label_of u) 0 (Some part) o) c.kid-item.ensures in
+    let old = c.args.run.now in
+    let new = c.list.new.run in
+    let h = subst (λ n. (list_at c.args.min c.args.max (λ m. many_at c.args.module.now n m item) (input g.K.Origin.limit g.K.Origin.whole) (spot old.bits.position old.nodes)) ≡ Ok (c.in_ok-values.values.items, (spot new.bits.position new.nodes))) k.inner_is (c.in_ok-values.ensures.gives told) in
+    let e = list_reads c.args.module.now c.args.depth place c.args.min c.args.max (input g.K.Origin.limit g.K.Origin.whole) (spot old.bits.position old.nodes) c.in_ok-values.values.items (spot new.bits.position new.nodes) h in
+    rw c.join.ensures (subst (λ o. (items_at (kid_at c.args.module.now c.args.depth) c.args.min c.args.max o (input g.K.Origin.limit g.K.Origin.whole) (spot old.bits.position old.nodes)) ≡ Ok (node value.SequenceOf (roses_of c.in_ok-values.values.items), (spot new.bits.position new.nodes))) (sym is_place) e)
+
+-- THE ITEMS, by their count
+
+pub list-returns-in_err-more-in-Some-clause-gives : goal.list-returns-in_err-more-in-Some-clause-gives
+list-returns-in_err-more-in-Some-clause-gives g t c = λ told.
+    let p = err_from_is_err_and c.from_residual.result c.from_residual.ensures.1 in
+    let old = c.args.run.now in
+    let i = stands_inside old.bits.position old.bits.taken old.bits.held old.bits.limit g.K.Origin.limit g.K.Origin.whole _ old.limited old.bits.behind old.bits.within (old.here told) in
+    rw (p.1, p.2, c.in-Some.is) (count_fails c.args.module.now c.args.depth c.args.item.now c.args.min (input g.K.Origin.limit g.K.Origin.whole) (spot old.bits.position old.nodes) c.in-Some.most g.K.Origin.limit g.K.Origin.whole c.in_err-more-in-Some.field-0.0 c.number.new.self.bits.taken c.if-most-lt65536.true i (c.in_err-more-in-Some.ensures.gives told))
+
+pub list-returns-in_ok-more-in-Some-clause-gives : goal.list-returns-in_ok-more-in-Some-clause-gives
+list-returns-in_ok-more-in-Some-clause-gives g t c = λ told.
+    let old = c.args.run.now in
+    let mid = c.number.new.self in
+    rw c.in-Some.is (shows_as g.K.Origin.limit g.K.Origin.whole (λ vs. vs.items) c.items.result _ _ _ _ (count_told c.args.module.now c.args.depth c.args.item.now c.args.min (input g.K.Origin.limit g.K.Origin.whole) (spot old.bits.position old.nodes) c.in-Some.most c.in_ok-more-in-Some.field-0 (spot mid.bits.position mid.nodes) c.if-most-lt65536.true (c.in_ok-more-in-Some.ensures.gives told)) (rw c.new.ensures.items at (c.items.ensures.gives told)))
+
+pub list-returns-else-most-lt65536-clause-gives : goal.list-returns-else-most-lt65536-clause-gives
+list-returns-else-most-lt65536-clause-gives g t c = λ told.
+    let old = c.args.run.now in
+    rw c.in-Some.is (shows_as g.K.Origin.limit g.K.Origin.whole (λ vs. vs.items) c.fragments.result _ _ _ _ (list-large c.args.module.now c.args.depth c.args.item.now c.args.min (input g.K.Origin.limit g.K.Origin.whole) (spot old.bits.position old.nodes) c.in-Some.most c.if-most-lt65536.false) (c.fragments.ensures.gives told))
+
+pub list-returns-in-None-clause-gives : goal.list-returns-in-None-clause-gives
+list-returns-in-None-clause-gives g t c = λ told.
+    let old = c.args.run.now in
+    rw c.in-None.is (shows_as g.K.Origin.limit g.K.Origin.whole (λ vs. vs.items) c.fragments-in-None.result _ _ _ _ (list-none c.args.module.now c.args.depth c.args.item.now c.args.min (input g.K.Origin.limit g.K.Origin.whole) (spot old.bits.position old.nodes)) (c.fragments-in-None.ensures.gives told))
+
+-- ITEMS IN FRAGMENTS
+
+pub fragments-returns-in_err-piece-clause-gives : goal.fragments-returns-in_err-piece-clause-gives
+fragments-returns-in_err-piece-clause-gives g t c = λ told.
+    let p = err_from_is_err_and c.from_residual.result c.from_residual.ensures.1 in
+    let old = c.fragments.run in
+    let i = stands_inside old.bits.position old.bits.taken old.bits.held old.bits.limit g.K.Origin.limit g.K.Origin.whole _ old.limited old.bits.behind old.bits.within (old.here told) in
+    rw (p.1, p.2) (subst (FailsAt g.K.Origin.limit g.K.Origin.whole c.in_err-piece.field-0.0 c.count.new.self.bits.taken) (c.fragments.invariant.so_far told)
+    (turn_fails c.args.min c.args.max (λ n. many_at c.args.module.now c.args.depth n c.args.item.now) (steady-items c.args.module.now c.args.depth c.args.item.now) c.fragments.values.items c.fragments.before (length c.fragments.values.items) (input g.K.Origin.limit g.K.Origin.whole) (spot old.bits.position old.nodes) i g.K.Origin.limit g.K.Origin.whole c.in_err-piece.field-0.0 c.count.new.self.bits.taken (rw c.as_slice-total.ensures.value at (c.in_err-piece.ensures.gives told))))
+
+pub fragments-returns-in-Last-clause-gives : goal.fragments-returns-in-Last-clause-gives
+fragments-returns-in-Last-clause-gives g t c = λ told.
+    let old = c.fragments.run in
+    let mid = c.count.new.self in
+    let i = stands_inside old.bits.position old.bits.taken old.bits.held old.bits.limit g.K.Origin.limit g.K.Origin.whole _ old.limited old.bits.behind old.bits.within (old.here told) in
+    let e = turn_last c.args.min c.args.max (λ n. many_at c.args.module.now c.args.depth n c.args.item.now) (steady-items c.args.module.now c.args.depth c.args.item.now) c.fragments.values.items c.fragments.before (length c.fragments.values.items) (input g.K.Origin.limit g.K.Origin.whole) (spot old.bits.position old.nodes) i c.in-Last.n (spot mid.bits.position mid.nodes) (rw (c.as_slice-total.ensures.value, c.in-Last.is) at (c.in_ok-piece.ensures.gives told)) in
+    shows_as g.K.Origin.limit g.K.Origin.whole (λ vs. vs.items) c.items.result _ _ _ _ (sym (c.fragments.invariant.so_far told) ∙ e) (c.items.ensures.gives told)
+
+pub fragments-returns-in_err-values-in-Units-clause-gives : goal.fragments-returns-in_err-values-in-Units-clause-gives
+fragments-returns-in_err-values-in-Units-clause-gives g t c = λ told.
+    let p = err_from_is_err_and c.from_residual-in_err-values-in-Units.result c.from_residual-in_err-values-in-Units.ensures.1 in
+    let old = c.fragments.run in
+    let mid = c.count.new.self in
+    let i = stands_inside old.bits.position old.bits.taken old.bits.held old.bits.limit g.K.Origin.limit g.K.Origin.whole _ old.limited old.bits.behind old.bits.within (old.here told) in
+    rw (p.1, p.2) (subst (FailsAt g.K.Origin.limit g.K.Origin.whole c.in_err-values-in-Units.field-0.0 c.items-in-Units.new.run.bits.taken) (c.fragments.invariant.so_far told)
+    (turn_off c.args.min c.args.max (λ n. many_at c.args.module.now c.args.depth n c.args.item.now) (steady-items c.args.module.now c.args.depth c.args.item.now) c.fragments.values.items c.fragments.before (length c.fragments.values.items) (input g.K.Origin.limit g.K.Origin.whole) (spot old.bits.position old.nodes) i c.in-Units.k (spot mid.bits.position mid.nodes) g.K.Origin.limit g.K.Origin.whole c.in_err-values-in-Units.field-0.0 c.items-in-Units.new.run.bits.taken (rw (c.as_slice-total.ensures.value, c.in-Units.is) at (c.in_ok-piece.ensures.gives told)) (c.in_err-values-in-Units.ensures.gives told)))
+
+pub fragments-fragments-preserved : goal.fragments-fragments-preserved
+fragments-fragments-preserved g t c =
+    let old = c.fragments.run in
+    let mid = c.count.new.self in
+    let new = c.items-in-Units.new.run in
+    let front = c.fragments.values.items in
+    let all = c.in_ok-values-in-Units.values.items in
+    let long : length front + c.in-Units.k * 16384 ≡ length all = omega (arith, c.in_ok-values-in-Units.ensures.size) in
+    record {
+      in_step = c.in_ok-values-in-Units.ensures.on.1;
+      on = omega (arith, c.in_ok-values-in-Units.ensures.on.0, c.in_ok-piece.ensures.on.0, c.fragments.invariant.on);
+      same = c.items-in-Units.ensures.same_reference ∙ c.count.ensures.same_reference ∙ c.fragments.invariant.same;
+      count = omega (arith, c.in_ok-values-in-Units.ensures.count, c.count.ensures.nodes, c.fragments.invariant.count);
+      fit = c.in_ok-values-in-Units.ensures.fits;
+      so_far = λ told.
+          let i = stands_inside old.bits.position old.bits.taken old.bits.held old.bits.limit g.K.Origin.limit g.K.Origin.whole _ old.limited old.bits.behind old.bits.within (old.here told) in
+          let e = turn_on c.args.min c.args.max (λ n. many_at c.args.module.now c.args.depth n c.args.item.now) (steady-items c.args.module.now c.args.depth c.args.item.now) c.fragments.values.items c.fragments.before (length c.fragments.values.items) (input g.K.Origin.limit g.K.Origin.whole) (spot old.bits.position old.nodes) i c.in-Units.k (spot mid.bits.position mid.nodes) all (spot new.bits.position new.nodes) (rw (c.as_slice-total.ensures.value, c.in-Units.is) at (c.in_ok-piece.ensures.gives told)) (c.in_ok-values-in-Units.ensures.gives told) in
+          subst (λ n. with_front all (fragments_at c.args.min c.args.max (λ m. many_at c.args.module.now c.args.depth m c.args.item.now) (suc (length (input g.K.Origin.limit g.K.Origin.whole))) c.in-Units.k n (input g.K.Origin.limit g.K.Origin.whole) (spot new.bits.position new.nodes)) ≡ counted_at c.args.min c.args.max (λ m. many_at c.args.module.now c.args.depth m c.args.item.now) (input g.K.Origin.limit g.K.Origin.whole) (spot c.args.run.now.bits.position c.args.run.now.nodes))
+          long (sym e ∙ c.fragments.invariant.so_far told);
+    }
+
+-- ITEMS
+
+pub items-returns-in_err-value-clause-gives : goal.items-returns-in_err-value-clause-gives
+items-returns-in_err-value-clause-gives g t c = λ told.
+    let p = err_from_is_err_and c.from_residual.result c.from_residual.ensures.1 in
+    let old = c.items.run in
+    let i = stands_inside old.bits.position old.bits.taken old.bits.held old.bits.limit g.K.Origin.limit g.K.Origin.whole _ old.limited old.bits.behind old.bits.within (old.here told) in
+    let k = each_fails (node_of c.args.module.now c.args.depth c.args.item.now) c.items.values.items (input g.K.Origin.limit g.K.Origin.whole) (spot old.bits.position old.nodes) 0 _ _ (replicate-drop c.args.n c.items.counter 0 c.items-test.true) (λ n. sits-node c.args.module.now c.args.depth c.args.item.now) g.K.Origin.limit g.K.Origin.whole c.in_err-value.field-0.0 c.node.new.run.bits.taken i (c.in_err-value.ensures.gives told) in
+    rw (p.1, p.2) (subst (FailsAt g.K.Origin.limit g.K.Origin.whole c.in_err-value.field-0.0 c.node.new.run.bits.taken) (c.items.invariant.so_far told) k)
+
+pub items-returns-in_err-push-clause-gives : goal.items-returns-in_err-push-clause-gives
+items-returns-in_err-push-clause-gives g t c = λ told.
+    let p = err_from_is_err_and c.from_residual-in_err-push.result c.from_residual-in_err-push.ensures.1 in
+    let old = c.items.run in
+    let new = c.node.new.run in
+    let j = stands_inside new.bits.position new.bits.taken new.bits.held new.bits.limit g.K.Origin.limit g.K.Origin.whole _ new.limited new.bits.behind new.bits.within (new.here told) in
+    let k = each_full (node_of c.args.module.now c.args.depth c.args.item.now) c.items.values.items (input g.K.Origin.limit g.K.Origin.whole) (spot old.bits.position old.nodes) 0 _ _ (replicate-drop c.args.n c.items.counter 0 c.items-test.true) (λ n. sits-node c.args.module.now c.args.depth c.args.item.now) g.K.Origin.limit g.K.Origin.whole c.in_ok-value.value (spot new.bits.position new.nodes) new.bits.taken (c.in_ok-value.ensures.gives told) j (omega (arith, c.in_ok-value.ensures.on.1)) in
+    rw (p.1, p.2) (subst (FailsAt g.K.Origin.limit g.K.Origin.whole Memory new.bits.taken) (c.items.invariant.so_far told) k)
+
+pub items-items-preserved : goal.items-items-preserved
+items-items-preserved g t c =
+    let M = c.args.module.now in
+    let item = c.args.item.now in
+    let old = c.items.run in
+    let new = c.node.new.run in
+    let front = c.items.values.items in
+    let v = c.in_ok-value.value in
+    record {
+      in_step = c.in_ok-value.ensures.on.1;
+      on = omega (arith, c.in_ok-value.ensures.on.0, c.items.invariant.on);
+      same = c.node.ensures.same_reference ∙ c.items.invariant.same;
+      count = rw c.in_ok-push.ensures.items (omega (arith, c.in_ok-value.ensures.count, c.items.invariant.count, count-push front v));
+      size = rw c.in_ok-push.ensures.items (omega (arith, c.items.invariant.size, length-append front (v ∷ [])));
+      fit = rw c.in_ok-push.ensures.items (all-push M c.args.depth item front v c.items.invariant.fit c.in_ok-value.ensures.fits);
+      so_far = λ told. rw c.in_ok-push.ensures.items (
+          sym (each_more (node_of M c.args.depth item) front (input g.K.Origin.limit g.K.Origin.whole) (spot old.bits.position old.nodes) 0 _ _ (replicate-drop c.args.n c.items.counter 0 c.items-test.true) v (spot new.bits.position new.nodes) (c.in_ok-value.ensures.gives told)) ∙ c.items.invariant.so_far told);
+    }
+
+pub items-returns-clause-gives : goal.items-returns-clause-gives
+items-returns-clause-gives g t c = λ told.
+    let run = c.items.run in
+    sym (c.items.invariant.so_far told) ∙ each_done (node_of c.args.module.now c.args.depth c.args.item.now) c.items.values.items (input g.K.Origin.limit g.K.Origin.whole) (spot run.bits.position run.nodes) _ (copies-none c.args.n c.items.counter 0 c.items-test.false)

@@ -1,0 +1,74 @@
+use Rattle.std.proofs.Common.{◌≡◌, ◌≤◌, ◌*◌, ◌+◌, ◌-◌, suc, length, IsTrue}
+use Rattle.bit_cursor.specs.Cursors.{IsInStep}
+use Rattle.label_tree.specs.Rose.{label_of, kids_of, roses_of, count_all}
+use Rattle.per_fields.specs.Levels.{levels_needed}
+use Rattle.per_fields.specs.Fields.{fragments_at, counted_at}
+use Rattle.per_decode.specs.Private.Giving.{input, spot}
+use Rattle.per_decode.specs.Private.Bodies.{many_at, more_at, FitAll}
+use Rattle.per_decode.proofs.Loop.{with_front, Through}
+use Rattle.per_decode.proofs.nodes.+nodes.Given as goal
+
+abbrev pub decreases-node : goal.decreases-node
+decreases-node g l = 10 * levels_needed l.«module».now l.depth l.node.now + 9
+
+abbrev pub decreases-body : goal.decreases-body
+decreases-body g l = 10 * levels_needed l.«module».now l.depth l.node.now + 8
+
+abbrev pub decreases-fields : goal.decreases-fields
+decreases-fields g l = 10 * levels_needed l.«module».now l.depth l.found.now + 7
+
+abbrev pub decreases-sequence : goal.decreases-sequence
+decreases-sequence g l = 10 * levels_needed l.«module».now l.depth l.found.now + 6
+
+abbrev pub decreases-components : goal.decreases-components
+decreases-components g l = 10 * levels_needed l.«module».now l.depth l.found.now + 5
+
+abbrev pub decreases-choice : goal.decreases-choice
+decreases-choice g l = 10 * levels_needed l.«module».now l.depth l.found.now + 6
+
+abbrev pub decreases-sequence_of : goal.decreases-sequence_of
+decreases-sequence_of g l = 10 * levels_needed l.«module».now l.depth l.found.now + 6
+
+abbrev pub decreases-list : goal.decreases-list
+decreases-list g l = 10 * levels_needed l.«module».now l.depth l.item.now + 12
+
+abbrev pub decreases-fragments : goal.decreases-fragments
+decreases-fragments g l = 10 * levels_needed l.«module».now l.depth l.item.now + 11
+
+abbrev pub decreases-items : goal.decreases-items
+decreases-items g l = 10 * levels_needed l.«module».now l.depth l.item.now + 10
+
+abbrev pub invariant-components-parts : goal.invariant-components-parts
+invariant-components-parts g l = record {
+  in_step : IsInStep l.run.bits.position l.run.bits.taken;
+  on : l.fn.run.bits.position ≤ l.run.bits.position;
+  same : l.run.bits.source.ghost_name ≡ l.fn.run.bits.source.ghost_name;
+  count : l.run.nodes ≡ l.fn.run.nodes + count_all (roses_of l.values.items);
+  through : Through l.«module» l.depth (label_of l.found) l.parts (kids_of l.found) l.present (IsTrue g.K.Origin.told) (input g.K.Origin.limit g.K.Origin.whole) (spot l.fn.run.bits.position l.fn.run.nodes) l.i l.values.items (spot l.run.bits.position l.run.nodes);
+}
+
+abbrev pub invariant-items-items : goal.invariant-items-items
+invariant-items-items g l = record {
+  in_step : IsInStep l.run.bits.position l.run.bits.taken;
+  on : l.fn.run.bits.position ≤ l.run.bits.position;
+  same : l.run.bits.source.ghost_name ≡ l.fn.run.bits.source.ghost_name;
+  count : l.run.nodes + count_all (roses_of l.fn.values.items) ≡ l.fn.run.nodes + count_all (roses_of l.values.items);
+  size : length l.values.items ≡ length l.fn.values.items + l.counter;
+  fit : FitAll l.«module» l.depth l.item l.values.items;
+  so_far : IsTrue g.K.Origin.told → more_at l.«module» l.depth (l.n - l.counter) l.item l.values.items (input g.K.Origin.limit g.K.Origin.whole) (spot l.run.bits.position l.run.nodes)
+      ≡ more_at l.«module» l.depth l.n l.item l.fn.values.items (input g.K.Origin.limit g.K.Origin.whole) (spot l.fn.run.bits.position l.fn.run.nodes);
+}
+
+abbrev pub invariant-fragments-fragments : goal.invariant-fragments-fragments
+invariant-fragments-fragments g l = record {
+  in_step : IsInStep l.run.bits.position l.run.bits.taken;
+  on : l.fn.run.bits.position ≤ l.run.bits.position;
+  same : l.run.bits.source.ghost_name ≡ l.fn.run.bits.source.ghost_name;
+  count : l.run.nodes ≡ l.fn.run.nodes + count_all (roses_of l.values.items);
+  fit : FitAll l.«module» l.depth l.item l.values.items;
+  so_far : IsTrue g.K.Origin.told → with_front l.values.items (fragments_at l.min l.max (λ n. many_at l.«module» l.depth n l.item) (suc (length (input g.K.Origin.limit g.K.Origin.whole))) l.before (length l.values.items) (input g.K.Origin.limit g.K.Origin.whole) (spot l.run.bits.position l.run.nodes))
+      ≡ counted_at l.min l.max (λ n. many_at l.«module» l.depth n l.item) (input g.K.Origin.limit g.K.Origin.whole) (spot l.fn.run.bits.position l.fn.run.nodes);
+}
+
+abbrev pub decreases-fragments-fragments : goal.decreases-fragments-fragments
+decreases-fragments-fragments g l = 8 * g.K.Origin.limit + 8 - l.run.bits.position

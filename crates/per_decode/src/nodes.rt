@@ -1,0 +1,412 @@
+//! The nodes of a value.
+ghost use Rattle.std.specs.Prelude.{◌≡◌, ℕ, ◌<◌, ◌≤◌, ◌+◌, ◌-◌, ◌*◌, ◌^◌, IfOk, IfErr, OnOk, IsErrOf, IsTrue, length, true, false, ◌⊎◌};
+ghost use Rattle.label_tree.specs.Rose.{label_of, kids_of, roses_of, node_count, count_all};
+ghost use Rattle.bit_cursor.specs.Cursors.{IsInStep};
+ghost use Rattle.xa_base.specs.Faults.{HasRisen};
+ghost use Rattle.asn_types.specs.declared.types.Form.TheVariants as form;
+ghost use Rattle.asn_types.specs.Refs.{IsOf, resolve};
+ghost use Rattle.asn_types.specs.Values.{FitsAt, Own, present_from};
+ghost use Rattle.asn_types.specs.Private.Placing.{FitKids};
+ghost use Rattle.per_fields.specs.Laws.{Present};
+ghost use Rattle.per_fields.specs.Fields.{counted_at, list_at};
+ghost use Rattle.simple_types.specs.Sound.{AreSizes};
+ghost use Rattle.simple_values.specs.Lexical.{is_at_most};
+ghost use Rattle.per_fields.specs.Nodes.{sequence_at, choice_at, items_at, is_no_text, node_read};
+ghost use Rattle.per_decode.specs.Private.Standing.{GoesOn};
+ghost use Rattle.per_decode.specs.Private.Giving.{Gives, spot};
+ghost use Rattle.per_decode.specs.Private.Bodies as bodies;
+
+use crate::faults::{Fault, stopped};
+use crate::leaves::{boolean, enumerated, integer, presence, text_node};
+use crate::lengths::{MOST_UNITS, Piece, UNIT};
+use crate::run::{Origin, Run};
+use asn_types::{Component, Form, Module, Role, TypeLabel, own, resolve, role};
+use label_tree::Tree;
+use per_fields::Why;
+use simple_types::{Flags, ValueLabel};
+use std::alloc::Global;
+use xa_base::Source;
+
+/// How many elements may stand in one another.
+const MOST_DEEP: u32 = 64;
+
+/// How many nodes a value may have.
+const MOST_NODES: u32 = 1_048_576;
+
+fn below(role: Role, depth: u32) -> u32
+    requires { depth ≤ 64 }
+    ensures same { result ≡ bodies.below role depth }
+    ensures few { result ≤ 65 }
+{
+    match role {
+        Role::Element => depth + 1,
+        _ => depth,
+    }
+}
+
+// A value whose fields were all read, from a bit to another, where it keeps the rules of its node.
+fn owned(
+    alloc: Global,
+    module: &Module,
+    node: &Tree<TypeLabel>,
+    value: Tree<ValueLabel>,
+    begin: u64,
+    end: u64,
+) -> Result<Tree<ValueLabel>, Fault>
+    requires { IsOf module.now node.now }
+    ensures ok { IfOk result (λ v. (v ≡ value) × Own module.now node.now value) }
+    ensures err { IfErr result (λ fault. (fault ≡ Fault.Memory) ⊎ ((fault ≡ Fault.Stopped (record { bit = begin; why = Why.NotAValue; end = end })) × (Own module.now node.now value → ⊥))) }
+{
+    if own(alloc, module, node, &value)? {
+        Ok(value)
+    } else {
+        Err(stopped(begin, Why::NotAValue, end))
+    }
+}
+
+/// A node of a type, where so many elements stand in one another down to it.
+#[cycle(nodes)]
+pub(crate) fn node<S: Source, K: Origin>(
+    alloc: Global,
+    module: &Module,
+    run: &mut Run<S, K>,
+    depth: u32,
+    node: &Tree<TypeLabel>,
+) -> Result<Tree<ValueLabel>, Fault>
+    requires depth { depth ≤ 65 }
+    requires known { bodies.IsKnown module.now }
+    requires of { IsOf module.now node.now }
+    requires in_step { IsInStep run.old.bits.position run.old.bits.taken }
+    ensures same_reference { run.new.bits.source.ghost_name ≡ run.old.bits.source.ghost_name }
+    ensures on { OnOk result (GoesOn run.old.bits.position run.new.bits.position run.new.bits.taken) }
+    ensures count { IfOk result (λ v. run.new.nodes ≡ run.old.nodes + node_count v) }
+    ensures fits { IfOk result (λ v. FitsAt module.now depth node.now v) }
+    ensures gives { IsTrue K.told → Gives K.limit K.whole (λ x. x) result (spot run.new.bits.position run.new.nodes) run.new.bits.taken
+        (node_read module.now depth node.now) (spot run.old.bits.position run.old.nodes) }
+    ensures failed { IsErrOf result Fault.Failed → HasRisen K.faults (S.faults run.new.bits.source.now) }
+{
+    let begin = run.position();
+    if depth > MOST_DEEP {
+        return Err(stopped(begin, Why::TooDeep, begin));
+    }
+    if run.nodes >= MOST_NODES {
+        return Err(stopped(begin, Why::TooMany, begin));
+    }
+    run.nodes += 1;
+    body(alloc, module, run, depth, node, begin)
+}
+
+// The fields and the kids of a node that begins at a bit, and its rules.
+#[cycle(nodes)]
+fn body<S: Source, K: Origin>(
+    alloc: Global,
+    module: &Module,
+    run: &mut Run<S, K>,
+    depth: u32,
+    node: &Tree<TypeLabel>,
+    begin: u64,
+) -> Result<Tree<ValueLabel>, Fault>
+    requires depth { depth ≤ 64 }
+    requires known { bodies.IsKnown module.now }
+    requires of { IsOf module.now node.now }
+    requires in_step { IsInStep run.old.bits.position run.old.bits.taken }
+    ensures same_reference { run.new.bits.source.ghost_name ≡ run.old.bits.source.ghost_name }
+    ensures on { OnOk result (GoesOn run.old.bits.position run.new.bits.position run.new.bits.taken) }
+    ensures count { IfOk result (λ v. run.new.nodes + 1 ≡ run.old.nodes + node_count v) }
+    ensures fits { IfOk result (λ v. FitsAt module.now depth node.now v) }
+    ensures gives { IsTrue K.told → Gives K.limit K.whole (λ x. x) result (spot run.new.bits.position run.new.nodes) run.new.bits.taken
+        (bodies.body_at module.now depth begin (resolve module.now node.now)) (spot run.old.bits.position run.old.nodes) }
+    ensures failed { IsErrOf result Fault.Failed → HasRisen K.faults (S.faults run.new.bits.source.now) }
+{
+    let found = resolve(module, node);
+    match &found.label().form {
+        Form::Utf8 { .. } => {
+            let value = text_node(alloc, run, begin)?;
+            owned(alloc, module, node, value, begin, run.position())
+        }
+        _ => {
+            let value = fields(alloc, module, run, depth, found)?;
+            owned(alloc, module, node, value, begin, run.position())
+        }
+    }
+}
+
+// The fields and the kids of a node of a type that is neither a text nor a reference.
+#[cycle(nodes)]
+fn fields<S: Source, K: Origin>(
+    alloc: Global,
+    module: &Module,
+    run: &mut Run<S, K>,
+    depth: u32,
+    found: &Tree<TypeLabel>,
+) -> Result<Tree<ValueLabel>, Fault>
+    requires depth { depth ≤ 64 }
+    requires known { bodies.IsKnown module.now }
+    requires of { IsOf module.now found.now }
+    requires form { bodies.HasFields (label_of found.now).form }
+    requires in_step { IsInStep run.old.bits.position run.old.bits.taken }
+    ensures same_reference { run.new.bits.source.ghost_name ≡ run.old.bits.source.ghost_name }
+    ensures on { OnOk result (GoesOn run.old.bits.position run.new.bits.position run.new.bits.taken) }
+    ensures count { IfOk result (λ v. run.new.nodes + 1 ≡ run.old.nodes + node_count v) }
+    ensures fits { IfOk result (λ v. FitKids module.now depth found.now v) }
+    ensures text { IfOk result (λ v. is_no_text (label_of v) ≡ false) }
+    ensures gives { IsTrue K.told → Gives K.limit K.whole (λ x. x) result (spot run.new.bits.position run.new.nodes) run.new.bits.taken
+        (bodies.fields_at module.now depth found.now) (spot run.old.bits.position run.old.nodes) }
+    ensures failed { IsErrOf result Fault.Failed → HasRisen K.faults (S.faults run.new.bits.source.now) }
+{
+    match &found.label().form {
+        Form::Bool => boolean(alloc, run),
+        Form::Int { lo, hi } => integer(alloc, run, *lo, *hi),
+        Form::Numbers { numbers } => enumerated(alloc, run, numbers.items().len()),
+        Form::Words { words, .. } => enumerated(alloc, run, words.items().len()),
+        Form::Sequence { parts } => sequence(alloc, module, run, depth, found, parts.items()),
+        Form::Choice { parts } => choice(alloc, module, run, depth, found, parts.items()),
+        Form::SequenceOf { part, min, max } => {
+            sequence_of(alloc, module, run, depth, found, part, *min, *max)
+        }
+        Form::Utf8 { .. } => unreachable!(),
+        Form::Ref { .. } => unreachable!(),
+    }
+}
+
+// The fields and the kids of a SEQUENCE of these components.
+#[cycle(nodes)]
+fn sequence<S: Source, K: Origin>(
+    alloc: Global,
+    module: &Module,
+    run: &mut Run<S, K>,
+    depth: u32,
+    found: &Tree<TypeLabel>,
+    parts: &[Component],
+) -> Result<Tree<ValueLabel>, Fault>
+    requires depth { depth ≤ 64 }
+    requires known { bodies.IsKnown module.now }
+    requires of { IsOf module.now found.now }
+    requires form { (label_of found.now).form ≡ form.Sequence parts.now }
+    requires in_step { IsInStep run.old.bits.position run.old.bits.taken }
+    ensures same_reference { run.new.bits.source.ghost_name ≡ run.old.bits.source.ghost_name }
+    ensures on { OnOk result (GoesOn run.old.bits.position run.new.bits.position run.new.bits.taken) }
+    ensures count { IfOk result (λ v. run.new.nodes + 1 ≡ run.old.nodes + node_count v) }
+    ensures fits { IfOk result (λ v. FitKids module.now depth found.now v) }
+    ensures text { IfOk result (λ v. is_no_text (label_of v) ≡ false) }
+    ensures gives { IsTrue K.told → Gives K.limit K.whole (λ x. x) result (spot run.new.bits.position run.new.nodes) run.new.bits.taken
+        (sequence_at (bodies.kid_at module.now depth) (label_of found.now) (kids_of found.now) parts.now) (spot run.old.bits.position run.old.nodes) }
+    ensures failed { IsErrOf result Fault.Failed → HasRisen K.faults (S.faults run.new.bits.source.now) }
+{
+    let present = presence(alloc, run, parts)?;
+    let values = components(alloc, module, run, depth, found, parts, &present)?;
+    let present = Flags::of(present);
+    Ok(Tree::join(ValueLabel::Sequence { present }, values))
+}
+
+// The components of a SEQUENCE that are present.
+#[cycle(nodes)]
+fn components<S: Source, K: Origin>(
+    alloc: Global,
+    module: &Module,
+    run: &mut Run<S, K>,
+    depth: u32,
+    found: &Tree<TypeLabel>,
+    parts: &[Component],
+    present: &[bool],
+) -> Result<Vec<Tree<ValueLabel>>, Fault>
+    requires depth { depth ≤ 64 }
+    requires known { bodies.IsKnown module.now }
+    requires of { IsOf module.now found.now }
+    requires form { (label_of found.now).form ≡ form.Sequence parts.now }
+    requires present { Present parts.now present.now }
+    requires in_step { IsInStep run.old.bits.position run.old.bits.taken }
+    ensures same_reference { run.new.bits.source.ghost_name ≡ run.old.bits.source.ghost_name }
+    ensures on { OnOk result (GoesOn run.old.bits.position run.new.bits.position run.new.bits.taken) }
+    ensures count { IfOk result (λ vs. run.new.nodes ≡ run.old.nodes + count_all (roses_of vs.items)) }
+    ensures fits { IfOk result (λ vs. bodies.FitSome module.now depth (present_from (label_of found.now) 0 parts.now (kids_of found.now) present.now) (roses_of vs.items)) }
+    ensures gives { IsTrue K.told → Gives K.limit K.whole (λ vs. vs.items) result (spot run.new.bits.position run.new.nodes) run.new.bits.taken
+        (bodies.kids_read module.now depth (present_from (label_of found.now) 0 parts.now (kids_of found.now) present.now)) (spot run.old.bits.position run.old.nodes) }
+    ensures failed { IsErrOf result Fault.Failed → HasRisen K.faults (S.faults run.new.bits.source.now) }
+{
+    let mut values = Vec::new(alloc);
+    'parts: for i in 0..parts.len() {
+        if !present[i] {
+            continue;
+        }
+        let kid = found.kid(i);
+        let inner = below(role(found.label(), i as u32), depth);
+        let value = node(alloc, module, run, inner, kid)?;
+        values.push(value)?;
+    }
+    Ok(values)
+}
+
+// The index and the value of a CHOICE of these alternatives.
+#[cycle(nodes)]
+fn choice<S: Source, K: Origin>(
+    alloc: Global,
+    module: &Module,
+    run: &mut Run<S, K>,
+    depth: u32,
+    found: &Tree<TypeLabel>,
+    parts: &[Component],
+) -> Result<Tree<ValueLabel>, Fault>
+    requires depth { depth ≤ 64 }
+    requires known { bodies.IsKnown module.now }
+    requires of { IsOf module.now found.now }
+    requires form { (label_of found.now).form ≡ form.Choice parts.now }
+    requires in_step { IsInStep run.old.bits.position run.old.bits.taken }
+    ensures same_reference { run.new.bits.source.ghost_name ≡ run.old.bits.source.ghost_name }
+    ensures on { OnOk result (GoesOn run.old.bits.position run.new.bits.position run.new.bits.taken) }
+    ensures count { IfOk result (λ v. run.new.nodes + 1 ≡ run.old.nodes + node_count v) }
+    ensures fits { IfOk result (λ v. FitKids module.now depth found.now v) }
+    ensures text { IfOk result (λ v. is_no_text (label_of v) ≡ false) }
+    ensures gives { IsTrue K.told → Gives K.limit K.whole (λ x. x) result (spot run.new.bits.position run.new.nodes) run.new.bits.taken
+        (choice_at (bodies.kid_at module.now depth) (label_of found.now) (kids_of found.now) parts.now) (spot run.old.bits.position run.old.nodes) }
+    ensures failed { IsErrOf result Fault.Failed → HasRisen K.faults (S.faults run.new.bits.source.now) }
+{
+    let index = run.number(alloc, (parts.len() - 1) as u128)? as u32;
+    let kid = found.kid(index as usize);
+    let inner = below(role(found.label(), index), depth);
+    let value = node(alloc, module, run, inner, kid)?;
+    let mut values = Vec::new(alloc);
+    values.push(value)?;
+    Ok(Tree::join(ValueLabel::Choice(index), values))
+}
+
+// The count and the items of a SEQUENCE OF.
+#[cycle(nodes)]
+fn sequence_of<S: Source, K: Origin>(
+    alloc: Global,
+    module: &Module,
+    run: &mut Run<S, K>,
+    depth: u32,
+    found: &Tree<TypeLabel>,
+    part: &Component,
+    min: u32,
+    max: Option<u32>,
+) -> Result<Tree<ValueLabel>, Fault>
+    requires depth { depth ≤ 64 }
+    requires known { bodies.IsKnown module.now }
+    requires of { IsOf module.now found.now }
+    requires form { (label_of found.now).form ≡ form.SequenceOf part.now min max }
+    requires in_step { IsInStep run.old.bits.position run.old.bits.taken }
+    ensures same_reference { run.new.bits.source.ghost_name ≡ run.old.bits.source.ghost_name }
+    ensures on { OnOk result (GoesOn run.old.bits.position run.new.bits.position run.new.bits.taken) }
+    ensures count { IfOk result (λ v. run.new.nodes + 1 ≡ run.old.nodes + node_count v) }
+    ensures fits { IfOk result (λ v. FitKids module.now depth found.now v) }
+    ensures text { IfOk result (λ v. is_no_text (label_of v) ≡ false) }
+    ensures gives { IsTrue K.told → Gives K.limit K.whole (λ x. x) result (spot run.new.bits.position run.new.nodes) run.new.bits.taken
+        (items_at (bodies.kid_at module.now depth) min max (bodies.item_place found.now part.now)) (spot run.old.bits.position run.old.nodes) }
+    ensures failed { IsErrOf result Fault.Failed → HasRisen K.faults (S.faults run.new.bits.source.now) }
+{
+    let item = found.kid(0);
+    let inner = below(role(found.label(), 0), depth);
+    let values = list(alloc, module, run, inner, item, min, max)?;
+    Ok(Tree::join(ValueLabel::SequenceOf, values))
+}
+
+// The count and the items of a SEQUENCE OF this type, where so many elements stand in one another down to the items.
+#[cycle(nodes)]
+fn list<S: Source, K: Origin>(
+    alloc: Global,
+    module: &Module,
+    run: &mut Run<S, K>,
+    depth: u32,
+    item: &Tree<TypeLabel>,
+    min: u32,
+    max: Option<u32>,
+) -> Result<Vec<Tree<ValueLabel>>, Fault>
+    requires depth { depth ≤ 65 }
+    requires known { bodies.IsKnown module.now }
+    requires of { IsOf module.now item.now }
+    requires sizes { AreSizes min max }
+    requires in_step { IsInStep run.old.bits.position run.old.bits.taken }
+    ensures same_reference { run.new.bits.source.ghost_name ≡ run.old.bits.source.ghost_name }
+    ensures on { OnOk result (GoesOn run.old.bits.position run.new.bits.position run.new.bits.taken) }
+    ensures count { IfOk result (λ vs. run.new.nodes ≡ run.old.nodes + count_all (roses_of vs.items)) }
+    ensures fits { IfOk result (λ vs. bodies.FitAll module.now depth item.now vs.items) }
+    ensures size { IfOk result (λ vs. (min ≤ length vs.items) × (is_at_most (length vs.items) max ≡ true)) }
+    ensures gives { IsTrue K.told → Gives K.limit K.whole (λ vs. vs.items) result (spot run.new.bits.position run.new.nodes) run.new.bits.taken
+        (list_at min max (λ n. bodies.many_at module.now depth n item.now)) (spot run.old.bits.position run.old.nodes) }
+    ensures failed { IsErrOf result Fault.Failed → HasRisen K.faults (S.faults run.new.bits.source.now) }
+{
+    match max {
+        Some(most) => {
+            if most < 65_536 {
+                let more = run.number(alloc, (most - min) as u128)? as u32;
+                items(alloc, module, run, depth, item, Vec::new(alloc), min + more)
+            } else {
+                fragments(alloc, module, run, depth, item, min, max)
+            }
+        }
+        None => fragments(alloc, module, run, depth, item, min, None),
+    }
+}
+
+// Items behind general lengths, of a type where so many elements stand in one another down to them.
+#[cycle(nodes)]
+fn fragments<S: Source, K: Origin>(
+    alloc: Global,
+    module: &Module,
+    run: &mut Run<S, K>,
+    depth: u32,
+    item: &Tree<TypeLabel>,
+    min: u32,
+    max: Option<u32>,
+) -> Result<Vec<Tree<ValueLabel>>, Fault>
+    requires depth { depth ≤ 65 }
+    requires known { bodies.IsKnown module.now }
+    requires of { IsOf module.now item.now }
+    requires in_step { IsInStep run.old.bits.position run.old.bits.taken }
+    ensures same_reference { run.new.bits.source.ghost_name ≡ run.old.bits.source.ghost_name }
+    ensures on { OnOk result (GoesOn run.old.bits.position run.new.bits.position run.new.bits.taken) }
+    ensures count { IfOk result (λ vs. run.new.nodes ≡ run.old.nodes + count_all (roses_of vs.items)) }
+    ensures fits { IfOk result (λ vs. bodies.FitAll module.now depth item.now vs.items) }
+    ensures size { IfOk result (λ vs. (min ≤ length vs.items) × (is_at_most (length vs.items) max ≡ true)) }
+    ensures gives { IsTrue K.told → Gives K.limit K.whole (λ vs. vs.items) result (spot run.new.bits.position run.new.nodes) run.new.bits.taken
+        (counted_at min max (λ n. bodies.many_at module.now depth n item.now)) (spot run.old.bits.position run.old.nodes) }
+    ensures failed { IsErrOf result Fault.Failed → HasRisen K.faults (S.faults run.new.bits.source.now) }
+{
+    let mut values = Vec::new(alloc);
+    let mut before = MOST_UNITS;
+    'fragments: loop {
+        let total = values.as_slice().len();
+        let piece = run.count(min, max, before, total)?;
+        match piece {
+            Piece::Last(n) => return items(alloc, module, run, depth, item, values, n),
+            Piece::Units(k) => {
+                values = items(alloc, module, run, depth, item, values, k * UNIT)?;
+                before = k;
+            }
+        }
+    }
+}
+
+// So many items more, behind those that were read.
+#[cycle(nodes)]
+fn items<S: Source, K: Origin>(
+    alloc: Global,
+    module: &Module,
+    run: &mut Run<S, K>,
+    depth: u32,
+    item: &Tree<TypeLabel>,
+    mut values: Vec<Tree<ValueLabel>>,
+    n: u32,
+) -> Result<Vec<Tree<ValueLabel>>, Fault>
+    requires depth { depth ≤ 65 }
+    requires known { bodies.IsKnown module.now }
+    requires of { IsOf module.now item.now }
+    requires fit { bodies.FitAll module.now depth item.now values.items }
+    requires in_step { IsInStep run.old.bits.position run.old.bits.taken }
+    ensures same_reference { run.new.bits.source.ghost_name ≡ run.old.bits.source.ghost_name }
+    ensures on { OnOk result (GoesOn run.old.bits.position run.new.bits.position run.new.bits.taken) }
+    ensures count { IfOk result (λ vs. run.new.nodes + count_all (roses_of values.items) ≡ run.old.nodes + count_all (roses_of vs.items)) }
+    ensures fits { IfOk result (λ vs. bodies.FitAll module.now depth item.now vs.items) }
+    ensures size { IfOk result (λ vs. length vs.items ≡ length values.items + n) }
+    ensures gives { IsTrue K.told → Gives K.limit K.whole (λ vs. vs.items) result (spot run.new.bits.position run.new.nodes) run.new.bits.taken
+        (bodies.more_at module.now depth n item.now values.items) (spot run.old.bits.position run.old.nodes) }
+    ensures failed { IsErrOf result Fault.Failed → HasRisen K.faults (S.faults run.new.bits.source.now) }
+{
+    'items: for _ in 0..n {
+        let value = node(alloc, module, run, depth, item)?;
+        values.push(value)?;
+    }
+    Ok(values)
+}
