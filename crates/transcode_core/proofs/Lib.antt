@@ -11,3 +11,4 @@ pub mod Octets
 pub mod Again
 pub mod Trials
 pub mod Received
+pub mod Valuing
