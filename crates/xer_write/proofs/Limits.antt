@@ -37,7 +37,8 @@ use Rattle.xer_write.specs.declared.contents.Contents.{Contents}
 use Rattle.xer_write.specs.Private.Gaining.{Has, Gains}
 use Rattle.xer_write.proofs.Gaining.{has-gained}
 use Rattle.xer_items.specs.Sound.{HasCharacters, AreSoundAttributes, IsSoundLabel, is_text, begins_with_text, IsSound, AreSound}
-use Rattle.xer_write.specs.Private.Unplaced.{unplaced_label, unplaced, all_unplaced, AreUtf8, LabelIsUtf8, ItemIsUtf8, ItemsAreUtf8}
+use Rattle.plain_items.specs.Unplaced.{unplaced_label, unplaced, all_unplaced}
+use Rattle.xer_write.specs.Private.Utf8.{AreUtf8, LabelIsUtf8, ItemIsUtf8, ItemsAreUtf8}
 
 -- ---- how many items
 
