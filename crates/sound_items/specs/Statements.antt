@@ -5,7 +5,8 @@ use Rattle.simple_types.specs.declared.labels.ValueLabel.{ValueLabel}
 use Rattle.doc_text.specs.declared.label.ItemLabel.{ItemLabel}
 use Rattle.doc_text.specs.Documents.{DocOf}
 use Rattle.doc_written.specs.ReadBack.{ReadsAs}
-use Rattle.plain_items.specs.Plain.{plain_of}
+use Rattle.plain_items.specs.Plain.{Plain}
+use Rattle.plain_items.specs.Unplaced.{unplaced}
 use Rattle.schema_parts.specs.Components.{Set}
 use Rattle.schema_parts.specs.Linked.{IsLinked}
 use Rattle.schema_parts.specs.SetParts.{parts_of}
@@ -23,10 +24,11 @@ SoundItems =
     (s : Set) (M : List Assignment) → IsLinked s → AreSmall s → (is_map : IsMapOf s M) (d : ℕ) → d < s.globals
     → (v : Rose ValueLabel) → Fits M (root_at s M is_map d) v → IsSomeAnd (Xer M (root_at s M is_map d) v) IsSound
 
--- Bytes that are read as the items of such a value are a valid document, whose treated items are these.
+-- Bytes that are read as the items of such a value, which stand in no text, are a valid document, whose treated items are
+-- these.
 abbrev pub DocumentsOfValues : Type 0
 DocumentsOfValues =
     (s : Set) (M : List Assignment) → IsLinked s → AreSmall s → (is_map : IsMapOf s M) (d : ℕ) → d < s.globals
-    → (v : Rose ValueLabel) → Fits M (root_at s M is_map d) v → (a : Rose ItemLabel) → Xer M (root_at s M is_map d) v ≡ Some (plain_of a)
-    → (bytes : List ℕ) → length bytes < 2 ^ 31 → ReadsAs bytes a
-    → (again : Rose ItemLabel) × DocOf bytes again × Valid (parts_of s) d again (plain_of a)
+    → (v : Rose ValueLabel) → Fits M (root_at s M is_map d) v → (b : Rose Plain) → Xer M (root_at s M is_map d) v ≡ Some b
+    → (bytes : List ℕ) → length bytes < 2 ^ 31 → ReadsAs bytes (unplaced b)
+    → (again : Rose ItemLabel) × DocOf bytes again × Valid (parts_of s) d again b

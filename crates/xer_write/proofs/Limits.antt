@@ -19,7 +19,7 @@ use Rattle.doc_text.specs.declared.label.ItemLabel.{ItemLabel}
 use Rattle.doc_text.specs.Labels.{MayHave}
 use Rattle.doc_text.specs.Sound.{AreItems, is_sound_name, has_name, is_sound_attribute, are_sound_attributes, is_sound_label, is_sound, are_sound, levels_all}
 use Rattle.doc_text.specs.Sound as document
-use Rattle.plain_items.specs.Plain.{Plain, element, text, plain_of, plain_all}
+use Rattle.plain_items.specs.Plain.{Plain, element, text}
 use Rattle.plain_items.specs.Mixing.{text_before, interleaved}
 use Rattle.asn_types.specs.declared.modules.Assignment.{Assignment}
 use Rattle.asn_types.specs.declared.roles.Role.{Role}
@@ -291,15 +291,6 @@ root-items M t a v at value sound utf8 =
       shallow = omega (arith, within.levels);
       few = omega (arith, size, few);
     }
-
-mutual
-  pub plain-unplaced : (b : Rose Plain) → plain_of (unplaced b) ≡ b
-  plain-unplaced (node (element name xs) items) = ap (λ s. node (element name xs) s) (plain-all items)
-  plain-unplaced (node (text words) items) = ap (λ s. node (text words) s) (plain-all items)
-
-  plain-all : (items : Roses Plain) → plain_all (all_unplaced items) ≡ items
-  plain-all none = refl
-  plain-all (more item items) = ap (λ s. more s (plain_all (all_unplaced items))) (plain-unplaced item) ∙ ap (λ s. more item s) (plain-all items)
 
 -- as the code makes it
 pub root-made : (M : List Assignment) (a : Assignment) (v : Rose ValueLabel) (X Y : Contents) (u : Rose TypeLabel) (w : Rose ValueLabel) (name : Name) (root : Rose ItemLabel)
