@@ -1,15 +1,13 @@
 -- What a value of a complex type gives to its element: attributes in canonical spelling, and what its content gives.
-use Rattle.std.proofs.Common.{◌≡◌, ℕ, suc, ◌+◌, ◌&&◌, ◌⊎◌, inl, inr, Bool, true, false, Option, Some, None, List, [], ◌∷◌, ◌++◌, length, map, refl, sym, ap, subst, ◌∙◌}
+use Rattle.std.proofs.Common.{◌≡◌, ℕ, ◌+◌, ◌&&◌, ◌⊎◌, inl, inr, Bool, true, false, Option, Some, None, List, [], ◌∷◌, ◌++◌, length, map, refl, sym, ap, subst, ◌∙◌}
 use Rattle.std.specs.Prelude.{codes, All}
 use Rattle.std.proofs.lemmas.List.Elements.{All-nil}
 use Rattle.xa_base.specs.declared.texts.Name.{Name}
 use Rattle.xa_base.specs.WhiteSpace.{is_white_space, words_of, treated}
 use Rattle.label_tree.specs.Rose.{Rose, node, Roses, list_of, label_of, kids_of}
 use Rattle.label_tree.specs.Rose as rose
-use Rattle.simple_types.specs.Space.{Space}
 use Rattle.simple_types.specs.declared.labels.ValueLabel.{ValueLabel}
 use Rattle.simple_types.specs.declared.labels.ValueLabel.TheVariants as value
-use Rattle.simple_values.specs.Reading.{spelled}
 use Rattle.content_models.specs.declared.particles.ParticleLabel.{ParticleLabel}
 use Rattle.content_models.specs.Language.{Lang}
 use Rattle.content_models.specs.Seen.{seen}
@@ -47,7 +45,7 @@ use Rattle.xer_items.specs.Items as items
 use Rattle.validity.specs.Asked.{space_at}
 use Rattle.validity.specs.Attributes.{Nil, not_nil, is_nil, nil_by, with_nil}
 use Rattle.one_value.proofs.Groups.{told, present_given, sequence-inside, inside-found}
-use Rattle.one_value.proofs.Walking.{last_from, AllApart}
+use Rattle.one_value.proofs.Walking.{last_from}
 use Rattle.one_value.proofs.Attributes.{attribute-gives, rest-silent}
 use Rattle.one_value.proofs.Mixed.{text_in, IsXmlText, texts-xml, TellKids, attributes-tell, rest-tells, elements-tell}
 use Rattle.one_value.proofs.Complexes.{not-textual, nil-mark, embed-mark, last-is, texts-keep, texts-counted}

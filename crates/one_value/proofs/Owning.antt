@@ -1,64 +1,38 @@
 -- What a value of a complex type gives is valid with itself: attributes in canonical spelling, and its kids.
-use Rattle.std.proofs.Common.{◌≡◌, ℕ, suc, ◌+◌, ◌&&◌, ◌⊎◌, inl, inr, Bool, true, false, Option, Some, None, List, [], ◌∷◌, ◌++◌, length, map, refl, sym, ap, subst, ◌∙◌}
-use Rattle.std.specs.Prelude.{codes, Ok}
+use Rattle.std.proofs.Common.{◌≡◌, ℕ, suc, inl, inr, Bool, true, false, List, [], ◌∷◌, map, refl, sym, ap, subst, ◌∙◌}
+use Rattle.std.specs.Prelude.{Ok}
 use Rattle.xa_base.specs.declared.texts.Name.{Name}
-use Rattle.xa_base.specs.WhiteSpace.{is_white_space, words_of, treated}
 use Rattle.label_tree.specs.Rose.{Rose, node, Roses, list_of, label_of, kids_of}
 use Rattle.label_tree.specs.Rose as rose
 use Rattle.simple_types.specs.Space.{Space}
 use Rattle.simple_types.specs.declared.labels.ValueLabel.{ValueLabel}
-use Rattle.simple_types.specs.declared.labels.ValueLabel.TheVariants as value
 use Rattle.simple_values.specs.Reading.{reads, spelled}
 use Rattle.content_models.specs.declared.particles.ParticleLabel.{ParticleLabel}
-use Rattle.content_models.specs.Language.{Lang}
 use Rattle.content_models.specs.Seen.{seen}
 use Rattle.doc_text.specs.declared.label.ItemLabel.{ItemLabel}
 use Rattle.plain_items.specs.Plain.{Plain, plain_all}
 use Rattle.plain_items.specs.Mixing.{text_before, interleaved}
 use Rattle.asn_types.specs.declared.modules.Assignment.{Assignment}
-use Rattle.asn_types.specs.declared.roles.Role.{Role}
-use Rattle.asn_types.specs.declared.roles.Role.TheVariants as role
-use Rattle.asn_types.specs.declared.types.Component.{Component}
-use Rattle.asn_types.specs.declared.types.Form.TheVariants as form
 use Rattle.asn_types.specs.declared.types.TypeLabel.{TypeLabel}
-use Rattle.asn_types.specs.Marks.{has_embed_values}
-use Rattle.asn_types.specs.Refs.{resolve}
-use Rattle.asn_types.specs.Roles.{role_of}
-use Rattle.asn_types.specs.Values.{below, FitsAt, child_count, first_count, text_count, is_last_absent}
-use Rattle.schema_parts.specs.declared.components.AttributeUse.{AttributeUse}
+use Rattle.asn_types.specs.Values.{FitsAt}
 use Rattle.schema_parts.specs.declared.components.ComplexDef.{ComplexDef}
 use Rattle.schema_parts.specs.declared.components.Content.{Content}
 use Rattle.schema_parts.specs.declared.components.Content.TheVariants as content_
-use Rattle.schema_parts.specs.Components.{Set, model_of}
+use Rattle.schema_parts.specs.Components.{Set}
 use Rattle.schema_parts.specs.SetParts.{parts_of}
-use Rattle.map_assignments.specs.Planning.{is_mixed}
-use Rattle.map_assignments.specs.Naming.{type_label, sequence_marks}
-use Rattle.map_694.proofs.Resolving.{follow-none}
-use Rattle.map_laws.specs.Children.{Child, child_of, given_by, children}
-use Rattle.map_laws.specs.Standing.{Behind, IsOnly, IsInner, IsBase, IsSimpleOf, HasParts, HasInner, WithTexts, WithAttributes, AreContent, AreRest, HasComplex}
-use Rattle.map_laws.specs.ValueStatements.{StandAt}
-use Rattle.map_laws.proofs.Values.{present_children, PartsFit, sequence-value}
-use Rattle.map_laws.proofs.Complexes.{fits-found, children-found, complex-follows}
-use Rattle.map_laws.proofs.Counts.{children-counted}
-use Rattle.map_laws.proofs.Nillables.{nillable-follows}
-use Rattle.xer_items.specs.Spelling.{spelling}
-use Rattle.xer_items.specs.Items.{Given, given, nothing, joined, both, placed, inside, element_of, texts_of, with_texts}
-use Rattle.xer_items.specs.Items as items
+use Rattle.map_laws.specs.Children.{Child}
+use Rattle.xer_items.specs.Items.{Given, inside, element_of}
 use Rattle.validity.specs.Asked.{Asked, asked, space_at, attribute_in, inside_of}
 use Rattle.validity.specs.Asked as ask
-use Rattle.validity.specs.Attributes.{Nil, not_nil, is_nil, bad_nil, nil_by, with_nil}
+use Rattle.validity.specs.Attributes.{not_nil, is_nil, bad_nil}
 use Rattle.validity.specs.OwnForms.{IsOwnForm}
 use Rattle.validity.specs.Valid.{text_kids, Spells}
 use Rattle.validity.proofs.Unique.{NilValid}
 use Rattle.validity.proofs.Again.{text_alone, IsFair}
-use Rattle.one_value.proofs.Groups.{told, present_given, sequence-inside, inside-found}
-use Rattle.one_value.proofs.Walking.{last_from, AllApart}
-use Rattle.one_value.proofs.Attributes.{attribute-gives, rest-silent}
-use Rattle.one_value.proofs.Mixed.{text_in, TellKids, attributes-tell, rest-tells, elements-tell}
-use Rattle.one_value.proofs.Complexes.{not-textual, nil-mark, embed-mark, last-is, texts-keep, texts-counted}
+use Rattle.one_value.proofs.Groups.{told}
+use Rattle.one_value.proofs.Walking.{AllApart}
 use Rattle.one_value.proofs.Own.{elements-own, mixed-own}
 use Rattle.one_value.proofs.OwnComplexes.{given-is-own, nothing-valid, empty-valid}
-use Rattle.one_value.proofs.Spelled.{IsSpelling, AreSpelled, attributes-spelled}
 use Rattle.one_value.proofs.ComplexItems.{nil_as, TextOf, Stands, ContentGives, ComplexGives}
 
 not-bad : (b : Bool) → nil_as b ≡ bad_nil → ⊥

@@ -19,7 +19,7 @@ use Rattle.asn_types.specs.Refs.{resolve}
 use Rattle.asn_types.specs.Spaces.{space_at}
 use Rattle.asn_types.specs.Values.{ComponentPlace, places, is_last_absent}
 use Rattle.xer_items.specs.Spelling.{is_textual}
-use Rattle.xer_items.specs.Items.{Given, given, nothing, joined, texts_of, with_texts, with_nil, completed, placed, inside, gathered, root_of, Xer}
+use Rattle.xer_items.specs.Items.{Given, given, nothing, joined, texts_of, with_texts, with_nil, completed, placed, inside, gathered, root_of}
 use Rattle.xer_items.specs.Laws.{FewItems}
 
 abbrev pub size : Roses Plain → ℕ
