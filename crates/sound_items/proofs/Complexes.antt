@@ -1,5 +1,5 @@
 -- What a value of a complex type gives is sound, where its child elements are.
-use Rattle.std.proofs.Common.{◌≡◌, ℕ, suc, inl, inr, Bool, true, false, Some, None, List, [], ◌∷◌, map, refl, sym, ap, subst, ◌∙◌}
+use Rattle.std.proofs.Common.{◌≡◌, ℕ, suc, inl, inr, Bool, true, List, [], ◌∷◌, map, refl, sym, subst}
 use Rattle.std.specs.Prelude.{All}
 use Rattle.std.proofs.lemmas.List.Elements.{All-head, All-tail}
 use Rattle.xa_base.specs.declared.texts.Name.{Name}
@@ -7,11 +7,11 @@ use Rattle.label_tree.specs.Rose.{Rose, Roses}
 use Rattle.label_tree.specs.Rose as rose
 use Rattle.simple_types.specs.declared.labels.ValueLabel.{ValueLabel}
 use Rattle.content_models.specs.declared.particles.ParticleLabel.{ParticleLabel}
-use Rattle.content_models.specs.Language.{Leaf, Lang}
+use Rattle.content_models.specs.Language.{Leaf}
 use Rattle.content_models.specs.Seen.{seen}
 use Rattle.doc_text.specs.Sound.{is_sound_name}
 use Rattle.plain_items.specs.Plain.{Plain}
-use Rattle.plain_items.specs.Mixing.{text_before, interleaved, AllElements}
+use Rattle.plain_items.specs.Mixing.{text_before, AllElements}
 use Rattle.asn_types.specs.declared.modules.Assignment.{Assignment}
 use Rattle.asn_types.specs.declared.types.TypeLabel.{TypeLabel}
 use Rattle.asn_types.specs.Values.{FitsAt}
@@ -19,14 +19,13 @@ use Rattle.schema_parts.specs.declared.components.ComplexDef.{ComplexDef}
 use Rattle.schema_parts.specs.declared.components.Content.{Content}
 use Rattle.schema_parts.specs.declared.components.Content.TheVariants as content_
 use Rattle.schema_parts.specs.Components.{Set}
-use Rattle.schema_parts.specs.Linked.{IsUse, IsNamed, IsContent, IsModel, IsLinked, leaves_of_model}
+use Rattle.schema_parts.specs.Linked.{IsUse, IsNamed, IsContent, IsModel, IsLinked}
 use Rattle.map_laws.specs.Children.{Child, Placed, leaf_of, child_at}
-use Rattle.map_laws.specs.ValueStatements.{StandAt}
-use Rattle.xer_items.specs.Items.{Given, given, element_of, inside}
+use Rattle.xer_items.specs.Items.{Given, element_of, inside}
 use Rattle.xer_items.specs.Sound.{HasCharacters, IsSound, AreSound}
 use Rattle.one_value.proofs.Groups.{told}
 use Rattle.one_value.proofs.Walking.{AllApart}
-use Rattle.one_value.proofs.ComplexItems.{TextOf, Stands, ContentGives, ComplexGives}
+use Rattle.one_value.proofs.ComplexItems.{Stands, ContentGives, ComplexGives}
 use Rattle.sound_items.proofs.Leaves.{AtLeaf, lang-holds}
 use Rattle.sound_items.proofs.Spelled.{spelling-characters, with-nil-sound}
 use Rattle.sound_items.proofs.Mixed.{text-sound, texts-sound}
@@ -48,7 +47,7 @@ module _ (s : Set) (linked : IsLinked s) (M : List Assignment) (E : ℕ → Rose
   placed-sound (x ∷ xs) h k =
       let first = All-head HasType x xs h in
       let rest = placed-sound xs (All-tail HasType x xs h) (All-tail AtNamed x.leaf (map leaf_of xs) k) in
-      ((own x.leaf.decl x.leaf.name (All-head AtNamed x.leaf (map leaf_of xs) k) x.type x.value first.0 first.1, refl, rest.0), tt, rest.1)
+      ((own x.leaf.decl x.leaf.name (All-head AtNamed x.leaf (map leaf_of xs) k) x.type x.value first.0 first.1, refl, rest.0), (tt, rest.1))
 
   stand-sound : (p : Rose ParticleLabel) → IsModel s p → (nil : Bool) (ms : List Child) → Stands M E depth nil p ms → AreSound (told M ms) × AllElements (told M ms)
   stand-sound p model nil ms (inl (e, none)) = subst (λ xs. AreSound (told M xs) × AllElements (told M xs)) (sym none) (tt, tt)

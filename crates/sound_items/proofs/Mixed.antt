@@ -1,6 +1,6 @@
 -- Sound elements with texts between them: no two texts are neighbours, and none is empty.
-use Rattle.std.proofs.Common.{◌≡◌, ℕ, ◌&&◌, Bool, true, false, Some, None, List, [], ◌∷◌, refl}
-use Rattle.std.specs.Prelude.{All, IsUtf8, chars, length, nat_le}
+use Rattle.std.proofs.Common.{◌≡◌, ℕ, ◌&&◌, false, None, List, [], ◌∷◌, refl}
+use Rattle.std.specs.Prelude.{All, chars, length, nat_le}
 use Rattle.std.specs.List.{list_all}
 use Rattle.std.proofs.lemmas.List.Elements.{All-head, All-tail}
 use Rattle.label_tree.specs.Rose.{node, Roses, none, more}

@@ -1,14 +1,12 @@
 -- Canonical spellings have the characters of XML, and the attributes of a value have the names of their uses, each once.
-use Rattle.std.proofs.Common.{◌≡◌, ℕ, ◌||◌, inl, inr, Bool, true, false, Option, Some, None, List, [], ◌∷◌, map, refl, sym, ap, subst, ◌∙◌}
-use Rattle.std.specs.Prelude.{Ok, All, codes, slice_get, IsUtf8}
+use Rattle.std.proofs.Common.{◌≡◌, ℕ, ◌||◌, inl, inr, Bool, true, false, Option, Some, None, List, [], ◌∷◌, refl, sym, ap, subst, ◌∙◌}
+use Rattle.std.specs.Prelude.{All, slice_get}
 use Rattle.std.proofs.lemmas.List.Elements.{All-nil, All-cons, All-head, All-tail}
 use Rattle.xa_base.specs.declared.texts.Name.{Name}
 use Rattle.xa_base.specs.Names.{name_eq}
-use Rattle.label_tree.specs.Rose.{Rose}
 use Rattle.simple_types.specs.Space.{Space, Booleans}
 use Rattle.simple_types.specs.Sound.{Sound}
-use Rattle.simple_types.specs.declared.labels.ValueLabel.{ValueLabel}
-use Rattle.simple_values.specs.Reading.{reads, spelled}
+use Rattle.simple_values.specs.Reading.{reads}
 use Rattle.simple_values.proofs.XmlTexts.{spelled_in_xml}
 use Rattle.doc_text.specs.Sound.{has_name}
 use Rattle.schema_parts.specs.declared.components.AttributeUse.{AttributeUse}
