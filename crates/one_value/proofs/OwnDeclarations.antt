@@ -53,6 +53,7 @@ use Rattle.one_value.specs.Statements.{AreSmall, root_at, IsItsOwn, ItemsOfValue
 use Rattle.one_value.proofs.Simples.{text-inside, text-spelled}
 use Rattle.one_value.proofs.Walking.{sorted-apart}
 use Rattle.one_value.proofs.OwnComplexes.{given-is-own}
+use Rattle.one_value.proofs.ComplexItems.{complex-gives}
 use Rattle.one_value.proofs.Owning.{spelled-valid, complex-owns}
 use Rattle.one_value.proofs.Declarations.{none-at, below-of, depth-is}
 
@@ -111,15 +112,17 @@ module _ (s : Set) (M : List Assignment) (linked : IsLinked s) (small : AreSmall
       by-complex nillable None n g i h = absurd h
       by-complex nillable (Some c) n g i h =
           let ok = all-at (IsComplexType s) s.complexes n c g linked.complexes in
-          complex-owns M E depth s (text-inside s linked small M) (text-spelled s linked small M depth) nillable asks below-owns d c i (sorted-apart c.uses ok.ascending) (fair_at s linked d) u h v fits name
+          complex-owns M E depth s asks below-owns d nillable c i (sorted-apart c.uses ok.ascending) (fair_at s linked d) (inside M u v)
+          (complex-gives M E depth s (text-inside s linked small M) (text-spelled s linked small M depth) nillable c u h v fits) name
 
       by : (k : TypeOf) (nillable : Bool) → asks d ≡ asked_by_type (parts_of s) nillable k → elim k as (λ _. Type 0) [
         | kind.Simple n ↦ MatchBool nillable (HasNillable s M n (resolve M u)) (IsSimpleOf s n (resolve M u))
         | kind.Complex n ↦ IsSomeAnd (slice_get s.complexes n) (λ (c : ComplexDef). HasComplex E s M nillable c (resolve M u))
       ] → IsOwnForm asks d (element_of name (inside M u v))
       by (kind.Simple n) true i h =
-          complex-owns M E depth s (text-inside s linked small M) (text-spelled s linked small M depth) true asks below-owns d (record { name = None; uses = []; content = content_.Simple n }) i tt (fair_at s linked d)
-          u h v fits name
+          let c : ComplexDef = record { name = None; uses = []; content = content_.Simple n } in
+          complex-owns M E depth s asks below-owns d true c i tt (fair_at s linked d) (inside M u v)
+          (complex-gives M E depth s (text-inside s linked small M) (text-spelled s linked small M depth) true c u h v fits) name
       by (kind.Simple n) false i h =
           let t = text-spelled s linked small M depth n u v h fits in
           simple-owns d (space_at (parts_of s) n) i u v (spelling M u v) t.0 t.1 name

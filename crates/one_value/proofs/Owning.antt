@@ -1,98 +1,43 @@
--- What a value of a complex type gives: attributes in canonical spelling, and kids that are valid with themselves.
-use Rattle.std.proofs.Common.{◌≡◌, ℕ, suc, ◌+◌, ◌&&◌, ◌⊎◌, inl, inr, Bool, true, false, Option, Some, None, List, [], ◌∷◌, ◌++◌, length, map, refl, sym, ap, subst, ◌∙◌}
-use Rattle.std.specs.Prelude.{codes, Ok}
+-- What a value of a complex type gives is valid with itself: attributes in canonical spelling, and its kids.
+use Rattle.std.proofs.Common.{◌≡◌, ℕ, suc, inl, inr, Bool, true, false, List, [], ◌∷◌, map, refl, sym, ap, subst, ◌∙◌}
+use Rattle.std.specs.Prelude.{Ok}
 use Rattle.xa_base.specs.declared.texts.Name.{Name}
-use Rattle.xa_base.specs.WhiteSpace.{is_white_space, words_of, treated}
 use Rattle.label_tree.specs.Rose.{Rose, node, Roses, list_of, label_of, kids_of}
 use Rattle.label_tree.specs.Rose as rose
 use Rattle.simple_types.specs.Space.{Space}
 use Rattle.simple_types.specs.declared.labels.ValueLabel.{ValueLabel}
-use Rattle.simple_types.specs.declared.labels.ValueLabel.TheVariants as value
 use Rattle.simple_values.specs.Reading.{reads, spelled}
 use Rattle.content_models.specs.declared.particles.ParticleLabel.{ParticleLabel}
-use Rattle.content_models.specs.Language.{Lang}
 use Rattle.content_models.specs.Seen.{seen}
 use Rattle.doc_text.specs.declared.label.ItemLabel.{ItemLabel}
 use Rattle.plain_items.specs.Plain.{Plain, plain_all}
 use Rattle.plain_items.specs.Mixing.{text_before, interleaved}
 use Rattle.asn_types.specs.declared.modules.Assignment.{Assignment}
-use Rattle.asn_types.specs.declared.roles.Role.{Role}
-use Rattle.asn_types.specs.declared.roles.Role.TheVariants as role
-use Rattle.asn_types.specs.declared.types.Component.{Component}
-use Rattle.asn_types.specs.declared.types.Form.TheVariants as form
 use Rattle.asn_types.specs.declared.types.TypeLabel.{TypeLabel}
-use Rattle.asn_types.specs.Marks.{has_embed_values}
-use Rattle.asn_types.specs.Refs.{resolve}
-use Rattle.asn_types.specs.Roles.{role_of}
-use Rattle.asn_types.specs.Values.{below, FitsAt, child_count, first_count, text_count, is_last_absent}
-use Rattle.schema_parts.specs.declared.components.AttributeUse.{AttributeUse}
+use Rattle.asn_types.specs.Values.{FitsAt}
 use Rattle.schema_parts.specs.declared.components.ComplexDef.{ComplexDef}
 use Rattle.schema_parts.specs.declared.components.Content.{Content}
 use Rattle.schema_parts.specs.declared.components.Content.TheVariants as content_
-use Rattle.schema_parts.specs.Components.{Set, model_of}
+use Rattle.schema_parts.specs.Components.{Set}
 use Rattle.schema_parts.specs.SetParts.{parts_of}
-use Rattle.map_assignments.specs.Planning.{is_mixed}
-use Rattle.map_assignments.specs.Naming.{type_label, sequence_marks}
-use Rattle.map_694.proofs.Resolving.{follow-none}
-use Rattle.map_laws.specs.Children.{Child, child_of, given_by, children}
-use Rattle.map_laws.specs.Standing.{Behind, IsOnly, IsInner, IsBase, IsSimpleOf, HasParts, HasInner, WithTexts, WithAttributes, AreContent, AreRest, HasComplex}
-use Rattle.map_laws.specs.ValueStatements.{StandAt}
-use Rattle.map_laws.proofs.Values.{present_children, PartsFit, sequence-value}
-use Rattle.map_laws.proofs.Complexes.{fits-found, children-found, complex-follows}
-use Rattle.map_laws.proofs.Counts.{children-counted}
-use Rattle.map_laws.proofs.Nillables.{nillable-follows}
-use Rattle.xer_items.specs.Spelling.{spelling}
-use Rattle.xer_items.specs.Items.{Given, given, nothing, joined, both, placed, inside, element_of, texts_of, with_texts}
-use Rattle.xer_items.specs.Items as items
+use Rattle.map_laws.specs.Children.{Child}
+use Rattle.xer_items.specs.Items.{Given, inside, element_of}
 use Rattle.validity.specs.Asked.{Asked, asked, space_at, attribute_in, inside_of}
 use Rattle.validity.specs.Asked as ask
-use Rattle.validity.specs.Attributes.{Nil, not_nil, is_nil, bad_nil, nil_by, with_nil}
+use Rattle.validity.specs.Attributes.{not_nil, is_nil, bad_nil}
 use Rattle.validity.specs.OwnForms.{IsOwnForm}
 use Rattle.validity.specs.Valid.{text_kids, Spells}
 use Rattle.validity.proofs.Unique.{NilValid}
 use Rattle.validity.proofs.Again.{text_alone, IsFair}
-use Rattle.one_value.proofs.Groups.{told, present_given, sequence-inside, inside-found}
-use Rattle.one_value.proofs.Walking.{last_from, AllApart}
-use Rattle.one_value.proofs.Attributes.{attribute-gives, rest-silent}
-use Rattle.one_value.proofs.Mixed.{text_in, TellKids, attributes-tell, rest-tells, elements-tell}
-use Rattle.one_value.proofs.Complexes.{not-textual, nil-mark, embed-mark, last-is, texts-keep, texts-counted}
+use Rattle.one_value.proofs.Groups.{told}
+use Rattle.one_value.proofs.Walking.{AllApart}
 use Rattle.one_value.proofs.Own.{elements-own, mixed-own}
 use Rattle.one_value.proofs.OwnComplexes.{given-is-own, nothing-valid, empty-valid}
-use Rattle.one_value.proofs.Spelled.{IsSpelling, AreSpelled, attributes-spelled}
-
--- ---- nil
-
-abbrev pub nil_as : Bool → Nil
-nil_as true = is_nil
-nil_as false = not_nil
+use Rattle.one_value.proofs.ComplexItems.{nil_as, TextOf, Stands, ContentGives, ComplexGives}
 
 not-bad : (b : Bool) → nil_as b ≡ bad_nil → ⊥
 not-bad true e = cc
 not-bad false e = cc
-
-nilled : (nillable last : Bool) → (o : Option (List ℕ)) × (nil_by nillable o ≡ nil_as (nillable && last))
-unfolding treated words_of is_white_space
-nilled true true = (Some (codes "true"), refl)
-nilled true false = (None, refl)
-nilled false last = (None, refl)
-
-nil-given : (b : Bool) (g : Given) → items.with_nil b g ≡ given (with_nil (nil_as b) g.attributes) g.kids
-nil-given true g = refl
-nil-given false g = refl
-
-never-nil : (nillable b : Bool) → b ≡ false → (nillable && b) ≡ false
-never-nil true b e = e
-never-nil false b e = refl
-
--- ---- texts
-
-texts-none : (xs : List (Rose ValueLabel)) → length xs ≡ 0 → map text_in xs ≡ []
-texts-none [] e = refl
-texts-none (x ∷ xs) e = absurd (cc)
-
-joined-rest : (k : Roses Plain) → joined k rose.none ≡ k
-joined-rest rose.none = refl
-joined-rest (rose.more x k) = ap (λ z. rose.more x z) (joined-rest k)
 
 kids-text : (words : List ℕ) → text_before words rose.none ≡ text_kids words
 kids-text [] = refl
@@ -108,259 +53,56 @@ module _ (asks : ℕ → Asked) where
     subst (λ r. Spells space r (text_before words rose.none)) (sym read) (kids-text words ∙ ap text_kids (sym same)),
   )
 
-module _ (M : List Assignment) (E : ℕ → Rose TypeLabel → Type 0) (depth : ℕ) (s : Set)
-    (text_inside : (n : ℕ) (u : Rose TypeLabel) (v : Rose ValueLabel) → IsSimpleOf s n (resolve M u) → (words : List ℕ) × (inside M u v ≡ given [] (text_before words rose.none)))
-    (text_spelled : (n : ℕ) (u : Rose TypeLabel) (v : Rose ValueLabel) → IsSimpleOf s n (resolve M u) → FitsAt M depth u v
-    → (inside M u v ≡ given [] (text_before (spelling M u v) rose.none)) × IsSpelling (space_at (parts_of s)) (space_at (parts_of s) n) (spelling M u v))
-    (nillable : Bool) where
-  -- ---- kids by walking over the parts
+-- ---- kids are valid with themselves
 
-  abbrev KidsSo : (Bool → Roses Plain → Type 0) → TypeLabel → Behind → Type 0
-  KidsSo Q l R =
-      (i : ℕ) (cs : List Component) (us : List (Rose TypeLabel)) (fs : List Bool) (vs : Roses ValueLabel) → R i cs us → PartsFit M depth l i cs us fs vs → (x : Bool)
-      → Q (nillable && last_from x fs) (present_given M l i cs us fs vs).kids
+module _ (M : List Assignment) (E : ℕ → Rose TypeLabel → Type 0) (depth : ℕ) (s : Set) (asks : ℕ → Asked)
+    (own : (d : ℕ) (a : Name) (t : Rose TypeLabel) (x : Rose ValueLabel) → E d t → FitsAt M (suc depth) t x → IsOwnForm asks d (element_of a (inside M t x))) where
+  none-valid : (inner : ask.Inside) (nil : Bool) → nil ≡ true → (k : Roses Plain) → k ≡ rose.none → (us : Roses ItemLabel) → plain_all us ≡ k → NilValid asks (nil_as nil) inner us k
+  none-valid inner nil e k f us q =
+      subst (λ b. NilValid asks (nil_as b) inner us k) (sym e) (subst (NilValid asks is_nil inner us) (sym f) (nothing-valid M E depth s asks own inner us (q ∙ f)))
 
-  attributes-so : (Q : Bool → Roses Plain → Type 0) (l : TypeLabel) (R : Behind) → KidsSo Q l R → (ds : List AttributeUse) → KidsSo Q l (WithAttributes s M l R ds)
-  attributes-so Q l R f [] i cs us fs vs g h x = f i cs us fs vs g h x
-  attributes-so Q l R f (d ∷ ds) i [] us fs vs g h x = absurd g
-  attributes-so Q l R f (d ∷ ds) i (c ∷ cs) [] fs vs g h x = absurd g
-  attributes-so Q l R f (d ∷ ds) i (c ∷ cs) (u ∷ us) [] vs g h x = absurd h
-  attributes-so Q l R f (d ∷ ds) i (c ∷ cs) (u ∷ us) (true ∷ fs) rose.none g h x = absurd h
-  attributes-so Q l R f (d ∷ ds) i (c ∷ cs) (u ∷ us) (true ∷ fs) (rose.more v vs) g h x =
-      let rest = present_given M l (i + 1) cs us fs vs in
-      subst (Q (nillable && last_from false fs)) (sym (ap (λ (z : Given). joined z.kids rest.kids) (attribute-gives M depth s l i c u v d g.0)))
-      (attributes-so Q l R f ds (i + 1) cs us fs vs g.1 h.1 false)
-  attributes-so Q l R f (d ∷ ds) i (c ∷ cs) (u ∷ us) (false ∷ fs) vs g h x = attributes-so Q l R f ds (i + 1) cs us fs vs g.1 h.1 true
+  bare-valid : (nil : Bool) (k : Roses Plain) → k ≡ rose.none → (us : Roses ItemLabel) → plain_all us ≡ k → NilValid asks (nil_as nil) ask.nothing us k
+  bare-valid true k f us q = none-valid ask.nothing true refl k f us q
+  bare-valid false k f us q = subst (NilValid asks not_nil ask.nothing us) (sym f) (empty-valid M E depth s asks own us (q ∙ f))
 
-  -- one part that is there, of this role
-  one-kids : (l : TypeLabel) (i : ℕ) (c : Component) (u : Rose TypeLabel) (v : Rose ValueLabel) (fs : List Bool) (vs : Roses ValueLabel) (r : Role) → role_of l i c ≡ r
-      → (placed M (record { role = r; part = c; type = u }) v (inside M u v) ≡ inside M u v)
-      → (present_given M l i (c ∷ []) (u ∷ []) (true ∷ fs) (rose.more v vs)).kids ≡ (inside M u v).kids
-  one-kids l i c u v fs vs r e f =
-      ap (λ (z : Given). joined z.kids rose.none) (ap (λ x. placed M (record { role = x; part = c; type = u }) v (inside M u v)) e ∙ f) ∙ joined-rest (inside M u v).kids
+  text-valid : (n : ℕ) (nil : Bool) (k : Roses Plain) → TextOf s n nil k → (us : Roses ItemLabel) → plain_all us ≡ k → NilValid asks (nil_as nil) (ask.simple (space_at (parts_of s) n)) us k
+  text-valid n nil k (inl (e, f)) us q = none-valid (ask.simple (space_at (parts_of s) n)) nil e k f us q
+  text-valid n nil k (inr (e, words, is, f)) us q =
+      subst (λ b. NilValid asks (nil_as b) (ask.simple (space_at (parts_of s) n)) us k) (sym e)
+      (subst (NilValid asks not_nil (ask.simple (space_at (parts_of s) n)) us) (sym f) (spelled-valid asks (space_at (parts_of s) n) words is us (q ∙ f)))
 
-  -- the one part of what a nillable element has
-  only-so : (Q : Bool → Roses Plain → Type 0) (P : Rose TypeLabel → Type 0) → Q (nillable && true) rose.none
-      → ((u : Rose TypeLabel) (v : Rose ValueLabel) → P u → FitsAt M depth u v → Q (nillable && false) (inside M u v).kids)
-      → (l : TypeLabel) → KidsSo Q l (λ i cs us. IsOnly (IsInner P l i) cs us)
-  only-so Q P none f l i [] us fs vs g h x = absurd g
-  only-so Q P none f l i (c ∷ []) [] fs vs g h x = absurd g
-  only-so Q P none f l i (c ∷ []) (u ∷ y ∷ us) fs vs g h x = absurd g
-  only-so Q P none f l i (c ∷ d ∷ cs) us fs vs g h x = absurd g
-  only-so Q P none f l i (c ∷ []) (u ∷ []) [] vs g h x = absurd h
-  only-so Q P none f l i (c ∷ []) (u ∷ []) (true ∷ fs) rose.none g h x = absurd h
-  only-so Q P none f l i (c ∷ []) (u ∷ []) (true ∷ b ∷ fs) (rose.more v vs) g h x = absurd h.1
-  only-so Q P none f l i (c ∷ []) (u ∷ []) (false ∷ b ∷ fs) vs g h x = absurd h.1
-  only-so Q P none f l i (c ∷ []) (u ∷ []) (false ∷ []) vs g h x = none
-  only-so Q P none f l i (c ∷ []) (u ∷ []) (true ∷ []) (rose.more v vs) g h x =
-      let fits : FitsAt M depth u v = subst (λ r. FitsAt M (below r depth) u v) g.is.role h.0 in
-      subst (Q (nillable && false)) (sym (one-kids l i c u v [] vs role.Content g.is.role refl)) (f u v g.type fits)
+  elements-valid : (nil : Bool) (p : Rose ParticleLabel) (ms : List Child) → Stands M E depth nil p ms → (k : Roses Plain) → k ≡ told M ms → (us : Roses ItemLabel) → plain_all us ≡ k
+      → NilValid asks (nil_as nil) (ask.children false (seen p)) us k
+  elements-valid nil p ms (inl (e, f)) k same us q = none-valid (ask.children false (seen p)) nil e k (same ∙ ap (told M) f) us q
+  elements-valid nil p ms (inr (e, stands)) k same us q =
+      let it : NilValid asks not_nil (ask.children false (seen p)) us (told M ms) = elements-own M E depth asks own (seen p) ms stands us (q ∙ same) in
+      subst (λ b. NilValid asks (nil_as b) (ask.children false (seen p)) us k) (sym e)
+      (subst (NilValid asks not_nil (ask.children false (seen p)) us) (sym same) it)
 
-  -- ---- empty content
+  mixed-valid : (nil : Bool) (p : Rose ParticleLabel) (ms : List Child) → Stands M E depth nil p ms → (texts : List (List ℕ)) → (nil ≡ true → texts ≡ []) → (k : Roses Plain) → k ≡ told M ms
+      → (us : Roses ItemLabel) → plain_all us ≡ interleaved texts k → NilValid asks (nil_as nil) (ask.children true (seen p)) us (interleaved texts k)
+  mixed-valid nil p ms (inl (e, f)) texts gone k same us q =
+      none-valid (ask.children true (seen p)) nil e (interleaved texts k) (ap (λ ts. interleaved ts k) (gone e) ∙ same ∙ ap (told M) f) us q
+  mixed-valid nil p ms (inr (e, stands)) texts gone k same us q =
+      let here : interleaved texts k ≡ interleaved texts (told M ms) = ap (interleaved texts) same in
+      let it : NilValid asks not_nil (ask.children true (seen p)) us (interleaved texts (told M ms)) = mixed-own M E depth asks own (seen p) ms stands texts us (q ∙ here) in
+      subst (λ b. NilValid asks (nil_as b) (ask.children true (seen p)) us (interleaved texts k)) (sym e)
+      (subst (NilValid asks not_nil (ask.children true (seen p)) us) (sym here) it)
 
-  abbrev Bare : Bool → Roses Plain → Type 0
-  Bare nil k = k ≡ rose.none
+  content-valid : (x : Content) (nil : Bool) (k : Roses Plain) → ContentGives M E depth s x nil k → (ws : Roses ItemLabel) → plain_all ws ≡ k → NilValid asks (nil_as nil) (inside_of (parts_of s) x) ws k
+  content-valid content_.Empty nil k h ws q = bare-valid nil k h ws q
+  content-valid (content_.Simple n) nil k h ws q = text-valid n nil k h ws q
+  content-valid (content_.ElementOnly p) nil k (ms, stands, is) ws q = elements-valid nil p ms stands k is ws q
+  content-valid (content_.Mixed p) nil k (texts, ms, stands, gone, fit, is) ws q =
+      subst (NilValid asks (nil_as nil) (ask.children true (seen p)) ws) (sym is) (mixed-valid nil p ms stands texts gone (told M ms) refl ws (q ∙ is))
 
-  no-parts : (l : TypeLabel) (i : ℕ) (fs : List Bool) (vs : Roses ValueLabel) → (present_given M l i [] [] fs vs).kids ≡ rose.none
-  no-parts l i [] vs = refl
-  no-parts l i (b ∷ fs) vs = refl
+  -- ---- an element of a complex type
 
-  empty-content : (l : TypeLabel) → KidsSo Bare l (AreContent E s M content_.Empty l)
-  empty-content l i [] [] fs vs g h x = no-parts l i fs vs
-  empty-content l i (c ∷ cs) us fs vs g h x = absurd g
-  empty-content l i [] (u ∷ us) fs vs g h x = absurd g
-
-  empty-inner : (u : Rose TypeLabel) (v : Rose ValueLabel) → HasParts E s M content_.Empty u → FitsAt M depth u v → (inside M u v).kids ≡ rose.none
-  empty-inner u v has h =
-      let l = type_label (form.Sequence has.0) [] in
-      let a = sequence-value M depth [] has.0 has.1 v (subst (λ x. FitsAt M depth x v) has.2 h) in
-      let ea : inside M u v ≡ present_given M l 0 has.0 (list_of has.1) a.flags a.values =
-      ap (λ x. inside M x v) has.2 ∙ ap (λ x. inside M (node l has.1) x) a.is ∙ sequence-inside M depth [] has.0 has.1 a.flags a.values refl a.fit in
-      ap (λ (z : Given). z.kids) ea ∙ empty-content l 0 has.0 (list_of has.1) a.flags a.values has.3 a.fit false
-
-  empty-rest : (b : Bool) (l : TypeLabel) → KidsSo Bare l (AreRest E s M b content_.Empty l)
-  empty-rest false l i cs us fs vs g h x = empty-content l i cs us fs vs g h x
-  empty-rest true l i cs us fs vs g h x = only-so Bare (HasInner E s M content_.Empty) refl (λ u v has k. empty-inner u v has k) l i cs us fs vs g h x
-
-  -- ---- simple content
-
-  abbrev TextOf : ℕ → Bool → Roses Plain → Type 0
-  TextOf n nil k =
-      ((nil ≡ true) × (k ≡ rose.none))
-      ⊎ ((nil ≡ false) × (words : List ℕ) × IsSpelling (space_at (parts_of s)) (space_at (parts_of s) n) words × (k ≡ text_before words rose.none))
-
-  text-of : (n : ℕ) (nil : Bool) → nil ≡ false → (u : Rose TypeLabel) (v : Rose ValueLabel) → IsSimpleOf s n (resolve M u) → FitsAt M depth u v → TextOf n nil (inside M u v).kids
-  text-of n nil e u v is h = let t = text_spelled n u v is h in inr (e, spelling M u v, t.1, ap (λ (z : Given). z.kids) t.0)
-
-  base-so : (n : ℕ) → nillable ≡ false → (l : TypeLabel) → KidsSo (TextOf n) l (λ i cs us. IsOnly (IsBase s M n l i) cs us)
-  base-so n never l i [] us fs vs g h x = absurd g
-  base-so n never l i (c ∷ []) [] fs vs g h x = absurd g
-  base-so n never l i (c ∷ []) (u ∷ y ∷ us) fs vs g h x = absurd g
-  base-so n never l i (c ∷ d ∷ cs) us fs vs g h x = absurd g
-  base-so n never l i (c ∷ []) (u ∷ []) [] vs g h x = absurd h
-  base-so n never l i (c ∷ []) (u ∷ []) (false ∷ fs) vs g h x = absurd (let a = sym h.0 ∙ g.is.absent in cc)
-  base-so n never l i (c ∷ []) (u ∷ []) (true ∷ fs) rose.none g h x = absurd h
-  base-so n never l i (c ∷ []) (u ∷ []) (true ∷ fs) (rose.more v vs) g h x =
-      let fits : FitsAt M depth u v = subst (λ r. FitsAt M (below r depth) u v) g.is.role h.0 in
-      subst (TextOf n (nillable && last_from false fs)) (sym (one-kids l i c u v fs vs role.Group g.is.role refl))
-      (text-of n (nillable && last_from false fs) (ap (λ z. z && last_from false fs) never) u v g.type fits)
-
-  simple-rest : (n : ℕ) (b : Bool) → nillable ≡ b → (l : TypeLabel) → KidsSo (TextOf n) l (AreRest E s M b (content_.Simple n) l)
-  simple-rest n false is l i cs us fs vs g h x = base-so n is l i cs us fs vs g h x
-  simple-rest n true is l i cs us fs vs g h x =
-      only-so (TextOf n) (HasInner E s M (content_.Simple n)) (inl (ap (λ z. z && true) is, refl))
-      (λ u v k fits. text-of n (nillable && false) (never-nil nillable false refl) u v k fits) l i cs us fs vs g h x
-
-  -- ---- texts in front
-
-  module _ (l : TypeLabel) (R : Behind) where
-    texts-tell : (m : Bool) → TellKids M depth s l R → TellKids M depth s l (WithTexts m l R)
-    texts-tell false f i cs us fs vs g h = f i cs us fs vs g h
-    texts-tell true f i [] us fs vs g h = absurd g
-    texts-tell true f i (c ∷ cs) [] fs vs g h = absurd g
-    texts-tell true f i (c ∷ cs) (u ∷ us) [] vs g h = absurd h
-    texts-tell true f i (c ∷ cs) (u ∷ us) (true ∷ fs) rose.none g h = absurd h
-    texts-tell true f i (c ∷ cs) (u ∷ us) (true ∷ fs) (rose.more v vs) g h =
-        let rest = present_given M l (i + 1) cs us fs vs in
-        let made = present_children M l (i + 1) cs us fs vs in
-        ap (λ r. (both (placed M (record { role = r; part = c; type = u }) v (inside M u v)) rest).kids) g.0.is.role
-        ∙ f (i + 1) cs us fs vs g.1 h.1
-        ∙ sym (ap (λ r. told M (given_by r (child_of c u v) (children M u v) ++ made)) g.0.is.role)
-    texts-tell true f i (c ∷ cs) (u ∷ us) (false ∷ fs) vs g h = f (i + 1) cs us fs vs g.1 h.1
-
-    texts-spelled : (m : Bool) (ds : List AttributeUse)
-        → ((i : ℕ) (cs : List Component) (us : List (Rose TypeLabel)) (fs : List Bool) (vs : Roses ValueLabel) → R i cs us → PartsFit M depth l i cs us fs vs → AreSpelled (space_at (parts_of s)) ds (present_given M l i cs us fs vs).attributes)
-        → (i : ℕ) (cs : List Component) (us : List (Rose TypeLabel)) (fs : List Bool) (vs : Roses ValueLabel) → WithTexts m l R i cs us → PartsFit M depth l i cs us fs vs
-        → AreSpelled (space_at (parts_of s)) ds (present_given M l i cs us fs vs).attributes
-    texts-spelled false ds f i cs us fs vs g h = f i cs us fs vs g h
-    texts-spelled true ds f i [] us fs vs g h = absurd g
-    texts-spelled true ds f i (c ∷ cs) [] fs vs g h = absurd g
-    texts-spelled true ds f i (c ∷ cs) (u ∷ us) [] vs g h = absurd h
-    texts-spelled true ds f i (c ∷ cs) (u ∷ us) (true ∷ fs) rose.none g h = absurd h
-    texts-spelled true ds f i (c ∷ cs) (u ∷ us) (true ∷ fs) (rose.more v vs) g h =
-        let rest = present_given M l (i + 1) cs us fs vs in
-        subst (AreSpelled (space_at (parts_of s)) ds) (sym (ap (λ r. (both (placed M (record { role = r; part = c; type = u }) v (inside M u v)) rest).attributes) g.0.is.role)) (f (i + 1) cs us fs vs g.1 h.1)
-    texts-spelled true ds f i (c ∷ cs) (u ∷ us) (false ∷ fs) vs g h = f (i + 1) cs us fs vs g.1 h.1
-
-    -- where no text is counted there is none
-    texts-gone : (i : ℕ) (cs : List Component) (us : List (Rose TypeLabel)) (fs : List Bool) (vs : Roses ValueLabel) → WithTexts true l R i cs us → PartsFit M depth l i cs us fs vs
-        → first_count (value.Sequence fs) (list_of vs) ≡ 0 → texts_of (value.Sequence fs) vs ≡ []
-    texts-gone i [] us fs vs g h e = absurd g
-    texts-gone i (c ∷ cs) [] fs vs g h e = absurd g
-    texts-gone i (c ∷ cs) (u ∷ us) [] vs g h e = absurd h
-    texts-gone i (c ∷ cs) (u ∷ us) (true ∷ fs) rose.none g h e = absurd h
-    texts-gone i (c ∷ cs) (u ∷ us) (true ∷ fs) (rose.more v vs) g h e = texts-none (kids_of v) e
-    texts-gone i (c ∷ cs) (u ∷ us) (false ∷ fs) vs g h e = refl
-
-  -- ---- kids are valid with themselves
-
-  module _ (asks : ℕ → Asked)
-      (own : (d : ℕ) (a : Name) (t : Rose TypeLabel) (x : Rose ValueLabel) → E d t → FitsAt M (suc depth) t x → IsOwnForm asks d (element_of a (inside M t x))) where
-    none-valid : (inner : ask.Inside) (nil : Bool) → nil ≡ true → (k : Roses Plain) → k ≡ rose.none → (us : Roses ItemLabel) → plain_all us ≡ k → NilValid asks (nil_as nil) inner us k
-    none-valid inner nil e k f us q =
-        subst (λ b. NilValid asks (nil_as b) inner us k) (sym e) (subst (NilValid asks is_nil inner us) (sym f) (nothing-valid M E depth s asks own inner us (q ∙ f)))
-
-    bare-valid : (nil : Bool) (k : Roses Plain) → k ≡ rose.none → (us : Roses ItemLabel) → plain_all us ≡ k → NilValid asks (nil_as nil) ask.nothing us k
-    bare-valid true k f us q = none-valid ask.nothing true refl k f us q
-    bare-valid false k f us q = subst (NilValid asks not_nil ask.nothing us) (sym f) (empty-valid M E depth s asks own us (q ∙ f))
-
-    text-valid : (n : ℕ) (nil : Bool) (k : Roses Plain) → TextOf n nil k → (us : Roses ItemLabel) → plain_all us ≡ k → NilValid asks (nil_as nil) (ask.simple (space_at (parts_of s) n)) us k
-    text-valid n nil k (inl (e, f)) us q = none-valid (ask.simple (space_at (parts_of s) n)) nil e k f us q
-    text-valid n nil k (inr (e, words, is, f)) us q =
-        subst (λ b. NilValid asks (nil_as b) (ask.simple (space_at (parts_of s) n)) us k) (sym e)
-        (subst (NilValid asks not_nil (ask.simple (space_at (parts_of s) n)) us) (sym f) (spelled-valid asks (space_at (parts_of s) n) words is us (q ∙ f)))
-
-    -- no child element where nil, or child elements at the leaves of a list
-    abbrev Stands : Bool → Rose ParticleLabel → List Child → Type 0
-    Stands nil p ms = ((nil ≡ true) × (ms ≡ [])) ⊎ ((nil ≡ false) × StandAt M E depth (Lang (seen p) 0 []) ms)
-
-    elements-valid : (nil : Bool) (p : Rose ParticleLabel) (ms : List Child) → Stands nil p ms → (k : Roses Plain) → k ≡ told M ms → (us : Roses ItemLabel) → plain_all us ≡ k
-        → NilValid asks (nil_as nil) (ask.children false (seen p)) us k
-    elements-valid nil p ms (inl (e, f)) k same us q = none-valid (ask.children false (seen p)) nil e k (same ∙ ap (told M) f) us q
-    elements-valid nil p ms (inr (e, stands)) k same us q =
-        let it : NilValid asks not_nil (ask.children false (seen p)) us (told M ms) = elements-own M E depth asks own (seen p) ms stands us (q ∙ same) in
-        subst (λ b. NilValid asks (nil_as b) (ask.children false (seen p)) us k) (sym e)
-        (subst (NilValid asks not_nil (ask.children false (seen p)) us) (sym same) it)
-
-    mixed-valid : (nil : Bool) (p : Rose ParticleLabel) (ms : List Child) → Stands nil p ms → (texts : List (List ℕ)) → (nil ≡ true → texts ≡ []) → (k : Roses Plain) → k ≡ told M ms
-        → (us : Roses ItemLabel) → plain_all us ≡ interleaved texts k → NilValid asks (nil_as nil) (ask.children true (seen p)) us (interleaved texts k)
-    mixed-valid nil p ms (inl (e, f)) texts gone k same us q =
-        none-valid (ask.children true (seen p)) nil e (interleaved texts k) (ap (λ ts. interleaved ts k) (gone e) ∙ same ∙ ap (told M) f) us q
-    mixed-valid nil p ms (inr (e, stands)) texts gone k same us q =
-        let here : interleaved texts k ≡ interleaved texts (told M ms) = ap (interleaved texts) same in
-        let it : NilValid asks not_nil (ask.children true (seen p)) us (interleaved texts (told M ms)) = mixed-own M E depth asks own (seen p) ms stands texts us (q ∙ here) in
-        subst (λ b. NilValid asks (nil_as b) (ask.children true (seen p)) us (interleaved texts k)) (sym e)
-        (subst (NilValid asks not_nil (ask.children true (seen p)) us) (sym here) it)
-
-    content-valid : (ds : List AttributeUse) (x : Content) (l : TypeLabel) (ms : List Child) (cs : List Component) (us : List (Rose TypeLabel)) (fs : List Bool) (vs : Roses ValueLabel)
-        → WithTexts (is_mixed x) l (WithAttributes s M l (AreRest E s M nillable x l) ds) 0 cs us → PartsFit M depth l 0 cs us fs vs
-        → present_children M l 0 cs us fs vs ≡ ms → (nil : Bool) → (nillable && last_from false fs) ≡ nil
-        → ((p : Rose ParticleLabel) → model_of x ≡ Some p → Stands nil p ms)
-        → (is_mixed x ≡ true → first_count (value.Sequence fs) (list_of vs) ≡ text_count nil (length ms))
-        → (ws : Roses ItemLabel) → plain_all ws ≡ (with_texts (is_mixed x) (texts_of (value.Sequence fs) vs) (present_given M l 0 cs us fs vs)).kids
-        → NilValid asks (nil_as nil) (inside_of (parts_of s) x) ws (with_texts (is_mixed x) (texts_of (value.Sequence fs) vs) (present_given M l 0 cs us fs vs)).kids
-    content-valid ds content_.Empty l ms cs us fs vs g h made nil is stands counted ws q =
-        bare-valid nil (present_given M l 0 cs us fs vs).kids (attributes-so Bare l (AreRest E s M nillable content_.Empty l) (empty-rest nillable l) ds 0 cs us fs vs g h false) ws q
-    content-valid ds (content_.Simple n) l ms cs us fs vs g h made nil is stands counted ws q =
-        let k = (present_given M l 0 cs us fs vs).kids in
-        let it : TextOf n (nillable && last_from false fs) k = attributes-so (TextOf n) l (AreRest E s M nillable (content_.Simple n) l) (simple-rest n nillable refl l) ds 0 cs us fs vs g h false in
-        text-valid n nil k (subst (λ b. TextOf n b k) is it) ws q
-    content-valid ds (content_.ElementOnly p) l ms cs us fs vs g h made nil is stands counted ws q =
-        elements-valid nil p ms (stands p refl) (present_given M l 0 cs us fs vs).kids
-        (attributes-tell M depth s l (AreRest E s M nillable (content_.ElementOnly p) l) (elements-tell M depth s E nillable p l) ds 0 cs us fs vs g h ∙ ap (told M) made) ws q
-    content-valid ds (content_.Mixed p) l ms cs us fs vs g h made nil is stands counted ws q =
-        let R = WithAttributes s M l (AreRest E s M nillable (content_.Mixed p) l) ds in
-        mixed-valid nil p ms (stands p refl) (texts_of (value.Sequence fs) vs)
-        (λ e. texts-gone l R 0 cs us fs vs g h (counted refl ∙ ap (λ b. text_count b (length ms)) e)) (present_given M l 0 cs us fs vs).kids
-        (texts-tell l R true (attributes-tell M depth s l (AreRest E s M nillable (content_.Mixed p) l) (rest-tells M depth s E nillable p l) ds) 0 cs us fs vs g h ∙ ap (told M) made) ws q
-
-    -- ---- an element of a complex type
-
-    stands-by : (c : ComplexDef) (t : Rose TypeLabel) → HasComplex E s M nillable c (resolve M t) → (v : Rose ValueLabel) → FitsAt M depth t v → (b : Bool) → nillable ≡ b
-        → (p : Rose ParticleLabel) → model_of c.content ≡ Some p → Stands (nillable && is_last_absent (label_of v)) p (children M t v)
-    stands-by c t has v h false is p modelled =
-        inr (ap (λ z. z && is_last_absent (label_of v)) is, complex-follows M E depth s c p modelled t (resolve M t) refl (subst (λ z. HasComplex E s M z c (resolve M t)) is has) v h)
-    stands-by c t has v h true is p modelled =
-        subst (λ z. Stands (z && is_last_absent (label_of v)) p (children M t v)) (sym is)
-        (nillable-follows M E depth s c p modelled t (resolve M t) refl (subst (λ z. HasComplex E s M z c (resolve M t)) is has) v h)
-
-    pub complex-owns : (d : ℕ) (c : ComplexDef) → asks d ≡ asked nillable (map (attribute_in (parts_of s)) c.uses) (inside_of (parts_of s) c.content) → AllApart c.uses → IsFair (asks d)
-        → (t : Rose TypeLabel) → HasComplex E s M nillable c (resolve M t) → (v : Rose ValueLabel) → FitsAt M depth t v → (name : Name) → IsOwnForm asks d (element_of name (inside M t v))
-    complex-owns d c asks_is apart fair t has v h name =
-        let mixed = is_mixed c.content in
-        let marks = sequence_marks nillable mixed in
-        let l = type_label (form.Sequence has.0) marks in
-        let us = list_of has.1 in
-        let whole = node l has.1 in
-        let same : resolve M t ≡ resolve M whole = has.2 ∙ sym (follow-none M 4 whole refl) in
-        let fits = fits-found M depth t whole v same h in
-        let a = sequence-value M depth marks has.0 has.1 v fits in
-        let g = present_given M l 0 has.0 us a.flags a.values in
-        let made = present_children M l 0 has.0 us a.flags a.values in
-        let last = is_last_absent (value.Sequence a.flags) in
-        let nil = nillable && last in
-        let rest = AreRest E s M nillable c.content l in
-        let inner = inside_of (parts_of s) c.content in
-        let ends_as = λ (n m : Bool). items.with_nil (n && last) (with_texts m (texts_of (value.Sequence a.flags) a.values) g) in
-        let w = with_texts mixed (texts_of (value.Sequence a.flags) a.values) g in
-        let ev : inside M t v ≡ items.with_nil nil w =
-        inside-found M t whole v same ∙ ap (λ x. inside M whole x) a.is ∙ sequence-inside M depth marks has.0 has.1 a.flags a.values (not-textual has.0 nillable mixed) a.fit
-        ∙ ap (λ n. ends_as n (has_embed_values marks)) (nil-mark nillable mixed) ∙ ap (λ m. ends_as nillable m) (embed-mark nillable mixed) in
-        let form_is : inside M t v ≡ given (with_nil (nil_as nil) g.attributes) w.kids =
-        ev ∙ nil-given nil w ∙ ap (λ xs. given (with_nil (nil_as nil) xs) w.kids) (texts-keep mixed (texts_of (value.Sequence a.flags) a.values) g) in
-        let spelled_all = texts-spelled l (WithAttributes s M l rest c.uses) mixed c.uses
-        (λ i cs ts fs vs k fit. attributes-spelled (space_at (parts_of s)) M depth s (λ n u x is_one fits_one. (text_spelled n u x is_one fits_one).1) l rest (rest-silent M depth s E text_inside nillable c.content l) c.uses i cs ts fs vs k fit)
-        0 has.0 us a.flags a.values has.3 a.fit in
-        let counted : mixed ≡ true → first_count (value.Sequence a.flags) (list_of a.values) ≡ text_count nil (length (children M t v)) =
-        λ m. texts-counted M depth marks has.0 has.1 a.flags a.values (subst (FitsAt M depth whole) a.is fits) (embed-mark nillable mixed ∙ m)
-        ∙ ap (λ n. text_count (n && last) (child_count M whole (node (value.Sequence a.flags) a.values))) (nil-mark nillable mixed)
-        ∙ ap (text_count nil) (ap (child_count M whole) (sym a.is) ∙ children-counted M depth whole v fits ∙ ap length (sym (children-found M t whole v same))) in
-        let stands : (p : Rose ParticleLabel) → model_of c.content ≡ Some p → Stands nil p (children M t v) =
-        λ p e. subst (λ x. Stands (nillable && is_last_absent (label_of x)) p (children M t v)) a.is (stands-by c t has v h nillable refl p e) in
-        let o = nilled nillable last in
-        let fair_as : IsFair (asked nillable (map (attribute_in (parts_of s)) c.uses) inner) = subst IsFair asks_is fair in
-        subst (λ z. IsOwnForm asks d (element_of name z)) (sym form_is)
-        (given-is-own M E depth s asks own d nillable c.uses inner asks_is apart fair_as.plain fair_as.apart (nil_as nil) o.0 o.1 (not-bad nil) g.attributes spelled_all w.kids
-        (λ ws q. content-valid c.uses c.content l (children M t v) has.0 us a.flags a.values has.3 a.fit (sym (children-found M t whole v same ∙ a.gives_all)) nil
-        (ap (λ b. nillable && b) (sym (last-is a.flags))) stands counted ws q)
-        name)
+  pub complex-owns : (d : ℕ) (nillable : Bool) (c : ComplexDef) → asks d ≡ asked nillable (map (attribute_in (parts_of s)) c.uses) (inside_of (parts_of s) c.content) → AllApart c.uses → IsFair (asks d)
+      → (g : Given) → ComplexGives M E depth s nillable c g → (name : Name) → IsOwnForm asks d (element_of name g)
+  complex-owns d nillable c asks_is apart fair g gives name =
+      let inner = inside_of (parts_of s) c.content in
+      let fair_as : IsFair (asked nillable (map (attribute_in (parts_of s)) c.uses) inner) = subst IsFair asks_is fair in
+      subst (λ z. IsOwnForm asks d (element_of name z)) (sym gives.is)
+      (given-is-own M E depth s asks own d nillable c.uses inner asks_is apart fair_as.plain fair_as.apart (nil_as gives.nil) gives.from.0 gives.from.1 (not-bad gives.nil) gives.attributes gives.spelled gives.kids
+      (content-valid c.content gives.nil gives.kids gives.content) name)

@@ -19,7 +19,7 @@ use Rattle.doc_text.specs.declared.label.ItemLabel.{ItemLabel}
 use Rattle.doc_text.specs.Labels.{MayHave}
 use Rattle.doc_text.specs.Sound.{AreItems, is_sound_name, has_name, is_sound_attribute, are_sound_attributes, is_sound_label, is_sound, are_sound, levels_all}
 use Rattle.doc_text.specs.Sound as document
-use Rattle.plain_items.specs.Plain.{Plain, element, text, plain_of, plain_all}
+use Rattle.plain_items.specs.Plain.{Plain, element, text}
 use Rattle.plain_items.specs.Mixing.{text_before, interleaved}
 use Rattle.asn_types.specs.declared.modules.Assignment.{Assignment}
 use Rattle.asn_types.specs.declared.roles.Role.{Role}
@@ -36,115 +36,20 @@ use Rattle.xer_items.specs.Items.{Given, given, nothing, joined, element_of, tex
 use Rattle.xer_write.specs.declared.contents.Contents.{Contents}
 use Rattle.xer_write.specs.Private.Gaining.{Has, Gains}
 use Rattle.xer_write.proofs.Gaining.{has-gained}
-use Rattle.xer_write.specs.Sound.{HasCharacters, AreSoundAttributes, IsSoundLabel, is_text, begins_with_text, IsSound, AreSound}
+use Rattle.xer_items.proofs.Sizes.{nil-kids, inside-size}
+use Rattle.xer_items.specs.Sound.{HasCharacters, AreSoundAttributes, IsSoundLabel, is_text, begins_with_text, IsSound, AreSound}
 use Rattle.plain_items.specs.Unplaced.{unplaced_label, unplaced, all_unplaced}
 use Rattle.xer_write.specs.Private.Utf8.{AreUtf8, LabelIsUtf8, ItemIsUtf8, ItemsAreUtf8}
 
--- ---- how many items
+-- ---- how many items, which is not changed by places
 
-abbrev size : Roses Plain → ℕ
-size k = count_all (all_unplaced k)
+mutual
+  same-count : (b : Rose Plain) → node_count (unplaced b) ≡ node_count b
+  same-count (node l items) = ap suc (same-size items)
 
-size-joined : (a b : Roses Plain) → size (joined a b) ≡ size a + size b
-size-joined none b = omega arith
-size-joined (more item items) b = omega (arith, size-joined items b)
-
-size-before : (words : List ℕ) (items : Roses Plain) → size (text_before words items) ≤ size items + 1
-size-before [] items = omega arith
-size-before (b ∷ bs) items = omega arith
-
-size-interleaved : (texts : List (List ℕ)) (items : Roses Plain) → size (interleaved texts items) ≤ size items + length texts
-size-interleaved [] items = omega arith
-size-interleaved (words ∷ texts) none = omega (arith, size-before words none)
-size-interleaved (words ∷ texts) (more item items) = omega (arith, size-before words (more item (interleaved texts items)), size-interleaved texts items)
-
-size-texts : (b : Bool) (texts : List (List ℕ)) (g : Given) → size (with_texts b texts g).kids ≤ size g.kids + length texts
-size-texts true texts g = size-interleaved texts g.kids
-size-texts false texts g = omega arith
-
-nil-kids : (b : Bool) (g : Given) → (with_nil b g).kids ≡ g.kids
-nil-kids true g = refl
-nil-kids false g = refl
-
--- how many kids the first has
-abbrev first_kids : Roses ValueLabel → ℕ
-first_kids none = 0
-first_kids (more (node l us) vs) = length_all us
-
-first-is : (v : Rose ValueLabel) (vs : Roses ValueLabel) → first_kids (more v vs) ≡ length (kids_of v)
-first-is (node l us) vs = sym (length-list_of us)
-
-length-count : (vs : Roses ValueLabel) → length_all vs ≤ count_all vs
-length-count none = omega arith
-length-count (more (node l us) vs) = omega (arith, length-count vs)
-
-first-count : (vs : Roses ValueLabel) → first_kids vs + length_all vs ≤ count_all vs
-first-count none = omega arith
-first-count (more (node l us) vs) = omega (arith, length-count us, length-count vs)
-
-text-count : (v : ValueLabel) (vs : Roses ValueLabel) → length (texts_of v vs) ≤ first_kids vs
-text-count (value.Bool b) vs = omega arith
-text-count (value.Int z) vs = omega arith
-text-count (value.Enum i) vs = omega arith
-text-count (value.Utf8 words) vs = omega arith
-text-count (value.Sequence []) vs = omega arith
-text-count (value.Sequence (false ∷ flags)) vs = omega arith
-text-count (value.Sequence (true ∷ flags)) none = omega arith
-text-count (value.Sequence (true ∷ flags)) (more (node l us) vs) =
-    omega (arith, length-map (list_of us) (λ (u : Rose ValueLabel). spelled_text (label_of u)), length-list_of us)
-text-count (value.Choice i) vs = omega arith
-text-count value.SequenceOf vs = omega arith
-
-module _ (M : List Assignment) where
-  size-placed : (p : ComponentPlace) (v : Rose ValueLabel) (g : Given) → size (placed M p v g).kids ≤ size g.kids + 1
-  size-placed p v g = by p.role
-    where
-      by : (r : Role) → size (placed M (record { role = r; part = p.part; type = p.type }) v g).kids ≤ size g.kids + 1
-      by Attribute = omega arith
-      by Element = omega arith
-      by Group = omega arith
-      by Content = omega arith
-      by Embed = omega arith
-      by Item = omega arith
-      by Alternative = omega arith
-
-  textual-size : (b : Bool) (words : List ℕ) (other : Given) (n : ℕ) → 1 ≤ n → size other.kids ≤ n
-      → size (elim b as (λ _. Given) [ true ↦ given [] (text_before words none) | false ↦ other ]).kids ≤ n
-  textual-size true words other n one h = omega (arith, one, size-before words none)
-  textual-size false words other n one h = h
-
-  completed-size : (l : TypeLabel) (v : ValueLabel) (vs : Roses ValueLabel) (g : Given) → size (completed l v vs g).kids ≤ size g.kids + first_kids vs
-  completed-size l v vs g =
-      let same = ap size (nil-kids (has_use_nil l.marks && is_last_absent v) (with_texts (has_embed_values l.marks) (texts_of v vs) g)) in
-      omega (arith, same, size-texts (has_embed_values l.marks) (texts_of v vs) g, text-count v vs)
-
-  mutual
-    unfolding inside gathered
-
-    inside-size : (t : Rose TypeLabel) (v : Rose ValueLabel) → size (inside M t v).kids + length (kids_of v) + 2 ≤ 3 * node_count v
-    inside-size t (node v vs) =
-        let found = resolve M t in
-        let kids = elim (places found v (length_all vs)) as (λ _. Given) [ None ↦ nothing | Some ps ↦ gathered M ps vs ] in
-        let parts : size kids.kids + first_kids vs + length_all vs ≤ 3 * count_all vs =
-        elim (places found v (length_all vs)) as (λ (o : Option (List ComponentPlace)). size (elim o as (λ _. Given) [ None ↦ nothing | Some ps ↦ gathered M ps vs ]).kids + first_kids vs + length_all vs ≤ 3 * count_all vs) [
-          | None ↦ omega (arith, first-count vs)
-          | Some ps ↦ gathered-size ps vs
-        ] in
-        let whole = completed-size (label_of found) v vs kids in
-        let most = textual-size (is_textual (label_of found)) (spelled (space_at found) (node v vs)) (completed (label_of found) v vs kids) (3 * count_all vs + 1 - length_all vs)
-        (omega (arith, length-count vs)) (omega (arith, parts, whole, length-count vs)) in
-        omega (arith, most, length-count vs, length-list_of vs)
-
-    gathered-size : (ps : List ComponentPlace) (vs : Roses ValueLabel) → size (gathered M ps vs).kids + first_kids vs + length_all vs ≤ 3 * count_all vs
-    gathered-size ps none = omega arith
-    gathered-size [] (more v vs) = omega (arith, first-count (more v vs))
-    gathered-size (p ∷ ps) (more v vs) =
-        let one = size-placed p v (inside M p.type v) in
-        let here = inside-size p.type v in
-        let rest = gathered-size ps vs in
-        let sum = size-joined (placed M p v (inside M p.type v)).kids (gathered M ps vs).kids in
-        let kids = first-is v vs in
-        omega (arith, one, here, rest, sum, kids)
+  same-size : (k : Roses Plain) → count_all (all_unplaced k) ≡ count_all k
+  same-size none = refl
+  same-size (more item items) = omega (arith, same-count item, same-size items)
 
 -- ---- which kids and how many levels
 
@@ -283,13 +188,14 @@ root-items M t a v at value sound utf8 =
     let whole : IsSound (root_of M a v) = subst (λ o. IsSomeAnd (option_map (λ (x : Assignment). root_of M x v) o) IsSound) at sound in
     let within = inside-within M 1 a.body v fits in
     let size = inside-size M a.body v in
+    let same = same-size (inside M a.body v).kids in
     let few = value.1 in
     record {
       allowed = (tt, within.allowed);
       element = refl;
       sound = sound-item (root_of M a v) utf8 whole;
       shallow = omega (arith, within.levels);
-      few = omega (arith, size, few);
+      few = omega (arith, size, same, few);
     }
 
 -- as the code makes it

@@ -5,7 +5,7 @@ ghost use Rattle.plain_items.specs.Plain.{Plain};
 ghost use Rattle.plain_items.specs.Unplaced.{unplaced};
 ghost use Rattle.xer_items.specs.Items.{Xer};
 ghost use Rattle.asn_types.specs.Values.{In};
-ghost use Rattle.xer_write.specs.Sound.{IsSound};
+ghost use Rattle.xer_items.specs.Sound.{IsSound};
 
 use crate::contents::Contents;
 use crate::gathering::gather;

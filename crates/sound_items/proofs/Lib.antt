@@ -1,0 +1,7 @@
+pub mod Names
+pub mod Leaves
+pub mod Spelled
+pub mod Mixed
+pub mod Complexes
+pub mod Declarations
+pub mod Documents
