@@ -7,9 +7,9 @@ use Rattle.label_tree.specs.Rose.{Rose, node, Roses, none, more, roses_of}
 use Rattle.label_tree.proofs.Roses.{roses_of-list_of}
 use Rattle.doc_text.specs.declared.label.ItemLabel.{ItemLabel}
 use Rattle.doc_text.specs.declared.label.ItemLabel.TheVariants.{Text}
-use Rattle.plain_items.specs.Plain.{Plain, element, text}
+use Rattle.plain_items.specs.Plain.{Plain, element}
 use Rattle.plain_items.specs.Mixing.{text_before, interleaved}
-use Rattle.xer_items.specs.Items.{Given, given, nothing, joined, both, element_of, with_nil}
+use Rattle.xer_items.specs.Items.{Given, nothing, joined, both, element_of, with_nil}
 use Rattle.xer_write.specs.declared.contents.Contents.{Contents}
 use Rattle.plain_items.specs.Unplaced.{unplaced_label, unplaced, all_unplaced}
 use Rattle.xer_write.specs.Private.Utf8.{AreUtf8, ItemIsUtf8, ItemsAreUtf8}

@@ -1,6 +1,6 @@
 -- The items of a value keep what the items of a document keep: texts have no kids, elements stand within 64 levels, and
 -- there are few nodes.
-use Rattle.std.proofs.Common.{◌≡◌, ℕ, suc, ◌+◌, ◌-◌, ◌*◌, ◌≤◌, Bool, true, false, Option, Some, None, List, [], ◌∷◌, length, refl, sym, ◌∙◌, ap, subst, arith}
+use Rattle.std.proofs.Common.{◌≡◌, ℕ, suc, ◌+◌, ◌≤◌, Bool, true, false, Option, Some, None, List, [], ◌∷◌, refl, sym, ◌∙◌, ap, subst, arith}
 use Rattle.std.specs.Prelude.{slice_get, ◌&&◌, not, IsSomeAnd, IsUtf8}
 use Rattle.std.specs.Option.{option_map}
 use Rattle.std.proofs.lemmas.Str.{is_utf8-from_IsUtf8}
@@ -8,13 +8,10 @@ use Rattle.std.specs.List.{list_all}
 use Rattle.std.specs.Str.{chars, is_utf8}
 use Rattle.xa_base.specs.Characters.{is_xml_char}
 use Rattle.xa_base.specs.Limits.{is_empty, is_xmlns, has_xml_chars}
-use Rattle.std.proofs.lemmas.List.{length-map}
 use Rattle.xa_base.specs.declared.texts.Name.{Name}
-use Rattle.label_tree.specs.Rose.{Rose, node, Roses, none, more, label_of, kids_of, list_of, length_all, node_count, count_all, AllowedAll}
-use Rattle.label_tree.proofs.Roses.{length-list_of}
+use Rattle.label_tree.specs.Rose.{Rose, node, Roses, none, more, label_of, length_all, node_count, count_all, AllowedAll}
 use Rattle.simple_types.specs.declared.labels.ValueLabel.{ValueLabel}
-use Rattle.simple_types.specs.declared.labels.ValueLabel.TheVariants as value
-use Rattle.simple_values.specs.Reading.{spelled, spelled_text}
+use Rattle.simple_values.specs.Reading.{spelled}
 use Rattle.doc_text.specs.declared.label.ItemLabel.{ItemLabel}
 use Rattle.doc_text.specs.Labels.{MayHave}
 use Rattle.doc_text.specs.Sound.{AreItems, is_sound_name, has_name, is_sound_attribute, are_sound_attributes, is_sound_label, is_sound, are_sound, levels_all}
@@ -32,7 +29,7 @@ use Rattle.asn_types.specs.Spaces.{space_at}
 use Rattle.asn_types.specs.Values.{ComponentPlace, places, is_last_absent, below, FitsAt, FitEach, In}
 use Rattle.xer_items.specs.Spelling.{is_textual}
 use Rattle.asn_types.specs.Names.{name_told, name_of_part}
-use Rattle.xer_items.specs.Items.{Given, given, nothing, joined, element_of, texts_of, with_texts, with_nil, completed, placed, inside, gathered, root_of, Xer}
+use Rattle.xer_items.specs.Items.{Given, given, nothing, joined, element_of, texts_of, with_texts, completed, placed, inside, gathered, root_of, Xer}
 use Rattle.xer_write.specs.declared.contents.Contents.{Contents}
 use Rattle.xer_write.specs.Private.Gaining.{Has, Gains}
 use Rattle.xer_write.proofs.Gaining.{has-gained}

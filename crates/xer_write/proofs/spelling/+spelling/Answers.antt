@@ -1,4 +1,4 @@
-use Rattle.std.proofs.Common.{◌≡◌, ◌+◌, ◌++◌, [], drop, sym, ap, subst, ◌∙◌, arith, append_assoc}
+use Rattle.std.proofs.Common.{◌≡◌, ◌++◌, [], drop, sym, ap, subst, ◌∙◌, arith, append_assoc}
 use Rattle.std.specs.Prelude.{string_bytes, map}
 use Rattle.std.specs.List.{join_with_byte}
 use Rattle.std.proofs.Math.ListN.{drop_of_length-le}
@@ -8,7 +8,6 @@ use Rattle.label_tree.proofs.Roses.{node_count-kids, allowed-kids}
 use Rattle.label_tree.proofs.Kids.{node_count-got, allowed-got}
 use Rattle.simple_values.specs.Reading.{spelled}
 use Rattle.simple_values.proofs.Spellings.{found_at, missed_at, behind, join-behind}
-use Rattle.asn_types.specs.declared.types.Form.TheVariants as form
 use Rattle.asn_types.specs.Parts.{MayHave}
 use Rattle.asn_types.specs.Spaces.{space_at}
 use Rattle.xer_write.proofs.Spellings.{spelled-Bool, spelled-Int, spelled-Numbers, spelled-Words, spelled-Utf8, spelled-Sequence, spelled-Ref, spelled-SequenceOf, spelled-Choice, spelled-union, by-member, by-none, has-item, member-count, member-allowed}
