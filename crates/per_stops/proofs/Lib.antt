@@ -1,1 +1,4 @@
+mod Steps
+mod Fields
+
 mod Law
