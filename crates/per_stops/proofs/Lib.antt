@@ -1,4 +1,5 @@
 mod Steps
 mod Fields
-
+mod Fragments
+mod Parts
 mod Law

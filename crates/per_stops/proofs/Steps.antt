@@ -15,6 +15,10 @@ use Rattle.per_stops.specs.Faults.{AreBits, EndsWithin, BitsStop}
 abbrev pub Iff : Type 0 → Type 0 → Type 0
 Iff A B = (A → B) × (B → A)
 
+-- A fact gives one, and follows from another. The two are alike but for the levels of nodes that they speak of.
+abbrev pub Told : Type 0 → Type 0 → Type 0 → Type 0
+Told A P Q = (A → P) × (Q → A)
+
 -- reading is within the input and within the nodes
 abbrev pub Inside : List Bool → Spot → Type 0
 Inside X s = (s.at ≤ length X) × (s.nodes ≤ most_nodes)
@@ -69,10 +73,10 @@ module _ (X : List Bool) where
         ∙ ap (λ q. Ok (a, q)) (same_spot (s.at + length (write a s.at)) r.at (s.nodes + w a) r.nodes (sym c.taken.end) (sym c.nodes))
 
     -- what is read first stops, or what is read behind it
-    pub then_told : {B : Type 0} (f : A × Spot → Result B Stop) (First : Type 0) (Rest : A → Spot → Type 0) (s : Spot) (stop : Stop) → Inside X s → Iff (read X s ≡ Err stop) First
-        → ((a : A) (r : Spot) → V a → Inside X r → Iff (f (a, r) ≡ Err stop) (Rest a r))
-        → Iff ((read X s >>= f) ≡ Err stop) (First ⊎ ((a : A) × (r : Spot) × V a × Came X s r (write a s.at) (w a) × Rest a r))
-    then_told f First Rest s stop inside first rest = (forth, back)
+    pub then_both : {B : Type 0} (f : A × Spot → Result B Stop) (First First' : Type 0) (Rest Rest' : A → Spot → Type 0) (s : Spot) (stop : Stop) → Inside X s → Told (read X s ≡ Err stop) First First'
+        → ((a : A) (r : Spot) → V a → Inside X r → Told (f (a, r) ≡ Err stop) (Rest a r) (Rest' a r))
+        → Told ((read X s >>= f) ≡ Err stop) (First ⊎ ((a : A) × (r : Spot) × V a × Came X s r (write a s.at) (w a) × Rest a r)) (First' ⊎ ((a : A) × (r : Spot) × V a × Came X s r (write a s.at) (w a) × Rest' a r))
+    then_both f First First' Rest Rest' s stop inside first rest = (forth, back)
       where
         forth : (read X s >>= f) ≡ Err stop → First ⊎ ((a : A) × (r : Spot) × V a × Came X s r (write a s.at) (w a) × Rest a r)
         forth e = elim (bind_err (read X s) f stop e) [
@@ -82,11 +86,16 @@ module _ (X : List Bool) where
               inr (k.0.0, k.0.1, c.0, c.1, (rest k.0.0 k.0.1 c.0 (after s k.0.1 (write k.0.0 s.at) (w k.0.0) inside c.1)).0 k.2))
         ]
 
-        back : First ⊎ ((a : A) × (r : Spot) × V a × Came X s r (write a s.at) (w a) × Rest a r) → (read X s >>= f) ≡ Err stop
+        back : First' ⊎ ((a : A) × (r : Spot) × V a × Came X s r (write a s.at) (w a) × Rest' a r) → (read X s >>= f) ≡ Err stop
         back (inl h) = err_bind (read X s) f stop (first.1 h)
         back (inr k) =
             ok_bind (read X s) f (k.0, k.1) stop (goes s k.0 k.1 inside k.2 k.3)
             ((rest k.0 k.1 k.2 (after s k.1 (write k.0 s.at) (w k.0) inside k.3)).1 k.4)
+
+    pub then_told : {B : Type 0} (f : A × Spot → Result B Stop) (First : Type 0) (Rest : A → Spot → Type 0) (s : Spot) (stop : Stop) → Inside X s → Iff (read X s ≡ Err stop) First
+        → ((a : A) (r : Spot) → V a → Inside X r → Iff (f (a, r) ≡ Err stop) (Rest a r))
+        → Iff ((read X s >>= f) ≡ Err stop) (First ⊎ ((a : A) × (r : Spot) × V a × Came X s r (write a s.at) (w a) × Rest a r))
+    then_told f First Rest s stop inside first rest = then_both f First First Rest Rest s stop inside first rest
 
   -- BITS
   pub bits_end : (begin n : ℕ) (s : Spot) (stop : Stop) → Iff (bits_at begin n X s ≡ Err stop) (EndsWithin X n s begin stop)
