@@ -38,7 +38,7 @@ one_test b P why begin y r stop means = (forth, back)
     back : (w : Why) × (P × (w ≡ why)) × (stop ≡ stop_at begin w r.at) → stop_if b (stop_at begin why r.at) (with_spot y r) ≡ Err stop
     back k = err_stop b (stop_at begin why r.at) (with_spot y r) (means.1 k.1.0) ∙ ap (λ w. Err (stop_at begin w r.at)) (sym k.1.1) ∙ ap Err (sym k.2)
 
-two_tests : {B : Type 0} (b c : Bool) (P N Q : Type 0) (why worse : Why) (begin : ℕ) (y : B) (r : Spot) (stop : Stop) → Iff (b ≡ true) P → Iff (b ≡ false) N → Iff (c ≡ true) Q
+pub two_tests : {B : Type 0} (b c : Bool) (P N Q : Type 0) (why worse : Why) (begin : ℕ) (y : B) (r : Spot) (stop : Stop) → Iff (b ≡ true) P → Iff (b ≡ false) N → Iff (c ≡ true) Q
     → Iff (stop_if b (stop_at begin why r.at) (stop_if c (stop_at begin worse r.at) (with_spot y r)) ≡ Err stop)
     ((w : Why) × ((P × (w ≡ why)) ⊎ (N × Q × (w ≡ worse))) × (stop ≡ stop_at begin w r.at))
 two_tests b c P N Q why worse begin y r stop means lacks also = (forth, back)
@@ -79,11 +79,11 @@ fewer more x = (λ e. parts (ltb 0 more) (ltb x (2 ^ (8 * more))) (ltb-true 0 mo
     joined : (a b : Bool) → a ≡ true → b ≡ true → (a && b) ≡ true
     joined a b e f = rw (e, f) refl
 
-lacking : (b : Bool) (P : Type 0) → Iff (b ≡ true) P → Iff (b ≡ false) (P → ⊥)
+pub lacking : (b : Bool) (P : Type 0) → Iff (b ≡ true) P → Iff (b ≡ false) (P → ⊥)
 lacking true P means = (λ e. absurd cc, λ n. absurd (n (means.0 refl)))
 lacking false P means = (λ e p. absurd (let f = means.1 p in cc), λ n. refl)
 
-no_fact : (b : Bool) → Iff (not b ≡ true) (b ≡ false)
+pub no_fact : (b : Bool) → Iff (not b ≡ true) (b ≡ false)
 no_fact true = (λ e. absurd cc, λ e. absurd cc)
 no_fact false = (λ e. refl, λ e. refl)
 

@@ -2,4 +2,6 @@ mod Steps
 mod Fields
 mod Fragments
 mod Parts
+mod Types
+mod Nodes
 mod Law

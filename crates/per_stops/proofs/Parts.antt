@@ -31,7 +31,13 @@ use Rattle.per_stops.proofs.Steps.{Iff, Told, Inside, bind_err, err_bind, ok_bin
 use Rattle.per_stops.proofs.Fields.{map_told, number_told, whole_told, flags_told}
 use Rattle.per_stops.proofs.Fragments.{AreRead, counted, octets_read}
 
--- what stops is told in one word, and follows from another
+-- the parts of a type with this form are there
+pub record AreThere (l : TypeLabel) (ts : List (Rose TypeLabel)) (f : Form) : Type 0 where
+  pub no_reference : target f ≡ None
+  pub present : (flags : List Bool) → Present (parts_of f) flags → present_from l 0 (parts_of f) ts flags ≡ None → ⊥
+  pub part : (i : ℕ) → i < length (parts_of f) → place_at l i (slice_get (parts_of f) i) (slice_get ts i) ≡ None → ⊥
+
+-- What stops is told in one word, and follows from another.
 module _ (M : List Assignment) (X : List Bool) (depth : ℕ) (kid : ComponentPlace → Reader (Rose ValueLabel)) (Kid Kid' : ComponentPlace → Spot → Stop → Type 0) where
   -- the part is read where the bits of a value stand, and where it stops is known
   abbrev pub IsKnown : ComponentPlace → Type 0
@@ -171,12 +177,6 @@ module _ (M : List Assignment) (X : List Bool) (depth : ℕ) (kid : ComponentPla
       not_alone : (o : Option ComponentPlace) → (o ≡ None → ⊥) → alone o ≡ None → ⊥
       not_alone None h e = h refl
       not_alone (Some p) h e = absurd cc
-
-  -- the parts of a type with this form are there
-  pub record AreThere (l : TypeLabel) (ts : List (Rose TypeLabel)) (f : Form) : Type 0 where
-    pub no_reference : target f ≡ None
-    pub present : (flags : List Bool) → Present (parts_of f) flags → present_from l 0 (parts_of f) ts flags ≡ None → ⊥
-    pub part : (i : ℕ) → i < length (parts_of f) → place_at l i (slice_get (parts_of f) i) (slice_get ts i) ≡ None → ⊥
 
   enum_told : (items : ℕ) (s : Spot) (stop : Stop) → Inside X s → Iff (enum_at items X s ≡ Err stop) (NumberStops X (items - 1) s stop)
   unfolding enum_at

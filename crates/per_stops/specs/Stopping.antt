@@ -52,6 +52,14 @@ abbrev pub HasOctets : ValueLabel → Type 0
 HasOctets (value.Utf8 text) = AllOf (λ x. x < 256) text
 HasOctets _ = Unit {0}
 
+-- Before its fields: it would be the 65th of the elements that stand in one another, or one node too many. So many elements stand
+-- in one another down to the node, itself among them. A node that is none stands in one that was not too deep.
+abbrev pub EntryStops : ℕ → Spot → Stop → Type 0
+EntryStops depth s stop = ((most_deep < depth) × (stop ≡ stop_at s.at TooDeep s.at)) ⊎ ((depth ≤ most_deep) × (most_nodes ≤ s.nodes) × (stop ≡ stop_at s.at TooMany s.at))
+
+abbrev pub Enters : ℕ → Spot → Type 0
+Enters depth s = (depth ≤ most_deep) × (s.nodes < most_nodes)
+
 module _ (M : List Assignment) (X : List Bool) where
   -- the bits of a value of the type stand from one spot to another, and its nodes are not too many
   abbrev pub Stands : ℕ → Rose TypeLabel → Spot → Rose ValueLabel → Spot → Type 0
@@ -112,14 +120,6 @@ module _ (M : List Assignment) (X : List Bool) where
   RuleStops depth t s stop =
       (v : Rose ValueLabel) × (r : Spot) × PartsFit depth t v × Came X s r (per M t v s.at) (node_count v)
       × ((IsNoText (label_of v) × (stop ≡ stop_at s.at NotUtf8 r.at)) ⊎ ((IsNoText (label_of v) → ⊥) × (Own M t v → ⊥) × (stop ≡ stop_at s.at NotAValue r.at)))
-
-  -- Before its fields: it would be the 65th of the elements that stand in one another, or one node too many. So many elements stand
-  -- in one another down to the node, itself among them. A node that is none stands in one that was not too deep.
-  abbrev pub EntryStops : ℕ → Spot → Stop → Type 0
-  EntryStops depth s stop = ((most_deep < depth) × (stop ≡ stop_at s.at TooDeep s.at)) ⊎ ((depth ≤ most_deep) × (most_nodes ≤ s.nodes) × (stop ≡ stop_at s.at TooMany s.at))
-
-  abbrev pub Enters : ℕ → Spot → Type 0
-  Enters depth s = (depth ≤ most_deep) × (s.nodes < most_nodes)
 
   -- A node stops: before its fields, in them or in its parts, or behind them all. No more than so many nodes stand in one another
   -- from it down to the node that stops.
