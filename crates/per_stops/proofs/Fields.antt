@@ -1,6 +1,6 @@
 -- Each field stops where reading it stops.
-use Rattle.std.proofs.Common.{◌≡◌, ℕ, zero, suc, ◌+◌, ◌-◌, ◌*◌, ◌<◌, ◌≤◌, ◌^◌, Bool, true, false, cond, not, eqb, ltb, ◌&&◌, ◌||◌, List, [], ◌∷◌, length, refl, sym, ap, ◌∙◌, subst, arith, take, drop, Option, Some, None, Result, Ok, Err, inl, inr, ◌⊎◌, ℤ}
-use Rattle.std.proofs.lemmas.Bool.{cases_lt, lt-ltb, le-ltb, ltb-true, ltb-false, eqb-true, eqb-false, eq-eqb, ne_eqb, not-false}
+use Rattle.std.proofs.Common.{◌≡◌, ℕ, ◌+◌, ◌-◌, ◌*◌, ◌<◌, ◌≤◌, ◌^◌, Bool, true, false, cond, not, eqb, ltb, ◌&&◌, ◌||◌, List, [], ◌∷◌, length, refl, sym, ap, ◌∙◌, subst, arith, take, drop, Option, Some, None, Result, Ok, Err, inl, inr, ◌⊎◌, ℤ}
+use Rattle.std.proofs.lemmas.Bool.{cases_lt, lt-ltb, le-ltb, ltb-true, ltb-false, eqb-true, eqb-false, eq-eqb, ne_eqb}
 use Rattle.bit_cursor.specs.Bits.{bits, number, gap, padding}
 use Rattle.simple_values.specs.Lexical.{is_128_bits, is_to}
 use Rattle.asn_types.specs.declared.types.Component.{Component}
@@ -18,8 +18,8 @@ use Rattle.per_fields.proofs.Codecs.{align_field, with_spot, stop_ok, ok_is, che
 use Rattle.per_fields.proofs.WidthLaws.{width_fits}
 use Rattle.per_fields.proofs.NumberLaws.{within_field}
 use Rattle.per_fields.proofs.Fragments.{IsPiece, length_field, count_field}
-use Rattle.per_stops.specs.Faults.{IsOne, IsAbove, FitsFewer, LargeFault, AboveFault, SignedFault, UnitsFault, CountFault, IsLength, length_octets, optional_count, AreBits, EndsWithin, BitsStop, PaddingStops, AlignedStops, LargeStops, NumberStops, LengthStops, CountStops, IsCount, OctetCountStops, OctetsStop, WholeStops, FlagsStop, LastStops}
-use Rattle.per_stops.proofs.Steps.{Iff, Inside, err_is, bind_err, err_bind, ok_bind, stop_err, err_stop, err_later, none_stops, after, came, goes, then_told, bits_end, bits_then}
+use Rattle.per_stops.specs.Faults.{IsOne, IsAbove, FitsFewer, LargeFault, AboveFault, SignedFault, UnitsFault, CountFault, IsLength, length_octets, optional_count, AreBits, EndsWithin, BitsStop, PaddingStops, AlignedStops, LargeStops, NumberStops, LengthStops, CountStops, OctetCountStops, OctetsStop, WholeStops, FlagsStop, LastStops}
+use Rattle.per_stops.proofs.Steps.{Iff, Inside, err_is, bind_err, err_bind, stop_err, err_stop, err_later, none_stops, then_told, bits_end, bits_then}
 
 -- A TEST OF A NUMBER finds just the faults
 abbrev pub Finds : {B : Type 0} → (ℕ → Why → Type 0) → ℕ → (ℕ × Spot → Result B Stop) → Type 0
@@ -256,12 +256,12 @@ module _ (X : List Bool) where
               (λ e. let k = t.0 e in (k.1.0, k.2 ∙ ap (λ w. stop_at s.at w q.at) k.1.1), λ k. t.1 (NotShortest, (k.0, refl), k.1))
 
       -- a fragment of none or over 4
-      many : 192 ≤ x → Iff (ltb (x - 192) 1 || ltb 4 (x - 192) ≡ true) ((x < 193) ⊎ (196 < x))
+      many : 192 ≤ x → Iff (ltb (x - 192) 1 || ltb 4 (x - 192) ≡ true) ((x ≡ 192) ⊎ (196 < x))
       many le = or_is (ltb (x - 192) 1) (ltb 4 (x - 192)) (λ e. omega (arith, le, ltb-true (x - 192) 1 e), λ h. lt-ltb (x - 192) 1 (omega (arith, h))) (λ e. omega (arith, le, ltb-true 4 (x - 192) e), λ h. lt-ltb 4 (x - 192) (omega (arith, h)))
 
-      units_told : 192 ≤ x → Iff (units ≡ Err stop) ((w : Why) × (((before < 4) × (w ≡ NotShortest)) ⊎ ((4 ≤ before) × ((x < 193) ⊎ (196 < x)) × (w ≡ Range))) × (stop ≡ stop_at s.at w r.at))
+      units_told : 192 ≤ x → Iff (units ≡ Err stop) ((w : Why) × (((before < 4) × (w ≡ NotShortest)) ⊎ ((4 ≤ before) × ((x ≡ 192) ⊎ (196 < x)) × (w ≡ Range))) × (stop ≡ stop_at s.at w r.at))
       units_told le =
-          two_tests (ltb before 4) (ltb (x - 192) 1 || ltb 4 (x - 192)) (before < 4) (4 ≤ before) ((x < 193) ⊎ (196 < x)) NotShortest Range s.at (Units (x - 192)) r stop (above before 4) (not_above before 4) (many le)
+          two_tests (ltb before 4) (ltb (x - 192) 1 || ltb 4 (x - 192)) (before < 4) (4 ≤ before) ((x ≡ 192) ⊎ (196 < x)) NotShortest Range s.at (Units (x - 192)) r stop (above before 4) (not_above before 4) (many le)
 
       by : (small two : Bool) → Iff (small ≡ true) (x < 128) → Iff (small ≡ false) (128 ≤ x) → Iff (two ≡ true) (x < 192) → Iff (two ≡ false) (192 ≤ x)
           → Iff (cond small (with_spot (Last x) r) (cond two second units) ≡ Err stop) (Behind before s stop x r)

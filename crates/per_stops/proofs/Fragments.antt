@@ -1,8 +1,8 @@
 -- Fragments stop where reading them stops, whatever stands behind their lengths.
-use Rattle.std.proofs.Common.{◌≡◌, ℕ, zero, suc, ◌+◌, ◌*◌, ◌<◌, ◌≤◌, Bool, false, ltb, drop, List, [], ◌∷◌, ◌++◌, length, refl, sym, ap, ◌∙◌, subst, arith, Option, None, Result, Ok, Err, inl, inr, ◌⊎◌, map}
+use Rattle.std.proofs.Common.{◌≡◌, ℕ, zero, suc, ◌+◌, ◌*◌, ◌<◌, ◌≤◌, Bool, false, ltb, drop, List, [], ◌∷◌, ◌++◌, length, refl, sym, ap, ◌∙◌, arith, Option, Result, Ok, Err, inl, inr, map}
 use Rattle.std.proofs.lemmas.Bool.{lt-ltb, ltb-true}
 use Rattle.std.proofs.lemmas.List.{length-append}
-use Rattle.bit_cursor.specs.Bits.{bits, octet_bits, padding}
+use Rattle.bit_cursor.specs.Bits.{octet_bits, padding}
 use Rattle.bit_cursor.proofs.BitLemmas.{length-bits}
 use Rattle.per_fields.specs.declared.stops.Spot.{Spot}
 use Rattle.per_fields.specs.declared.stops.Stop.{Stop}
@@ -13,7 +13,7 @@ use Rattle.per_fields.specs.Codec.{Came, Field, AllOf, total_of}
 use Rattle.per_fields.specs.Encoding.{octet_writer}
 use Rattle.per_fields.proofs.Codecs.{with_spot, other_words}
 use Rattle.per_fields.proofs.Fragments.{octets_codec, run_octets}
-use Rattle.per_stops.specs.Faults.{IsLength, length_octets, CountStops, IsCount, EndsWithin}
+use Rattle.per_stops.specs.Faults.{IsLength, length_octets, IsCount}
 use Rattle.per_stops.specs.Stopping.{FragmentsStop, CountedStop, OctetsStand, OctetsEnd}
 use Rattle.per_stops.proofs.Steps.{Iff, Told, Inside, bind_err, err_bind, ok_bind, stop_err, err_stop, none_stops, after, came, goes}
 use Rattle.per_stops.proofs.Fields.{map_told, count_codec, count_told}

@@ -1,5 +1,5 @@
 -- The law: of the body of an assignment.
-use Rattle.std.proofs.Common.{◌≡◌, ℕ, zero, suc, ◌<◌, Bool, List, [], ◌∷◌, length, refl, sym, ap, ◌∙◌, subst, arith, Option, Some, None, Result, Err, inl, inr, ◌⊎◌}
+use Rattle.std.proofs.Common.{◌≡◌, ℕ, zero, suc, ◌<◌, Bool, List, [], ◌∷◌, length, refl, sym, ap, ◌∙◌, subst, arith, Option, Some, None, Result, Err, inl, inr}
 use Rattle.std.specs.Prelude.{slice_get}
 use Rattle.bit_cursor.specs.Bits.{octet_bits}
 use Rattle.label_tree.specs.Rose.{Rose}
@@ -10,7 +10,7 @@ use Rattle.asn_types.specs.Modules.{IsModule}
 use Rattle.asn_types.proofs.Inside.{body-of}
 use Rattle.per_fields.specs.declared.stops.Spot.{Spot}
 use Rattle.per_fields.specs.declared.stops.Stop.{Stop}
-use Rattle.per_fields.specs.Laws.{Begins, reading_of, Stops}
+use Rattle.per_fields.specs.Laws.{reading_of, Stops}
 use Rattle.per_fields.specs.Nodes.{whole_of}
 use Rattle.per_fields.proofs.Law as law
 use Rattle.per_stops.specs.Laws.{StopsAsRead, OneOfTwo}

@@ -1,20 +1,19 @@
 -- A node stops where reading it stops, by recursion on the levels of nodes.
-use Rattle.std.proofs.Common.{◌≡◌, ℕ, zero, suc, ◌+◌, ◌<◌, ◌≤◌, Bool, true, false, not, ltb, leb, List, [], ◌∷◌, length, refl, sym, ap, ◌∙◌, subst, arith, Option, Some, None, Result, Ok, Err, inl, inr, ◌⊎◌}
-use Rattle.std.specs.Prelude.{slice_get, IsUtf8}
+use Rattle.std.proofs.Common.{◌≡◌, ℕ, zero, suc, ◌+◌, ◌<◌, ◌≤◌, Bool, true, false, not, ltb, leb, List, refl, sym, ap, ◌∙◌, subst, arith, Result, Err, inl, inr, ◌⊎◌}
+use Rattle.std.specs.Prelude.{IsUtf8}
 use Rattle.std.specs.Str.{is_utf8}
 use Rattle.std.proofs.lemmas.Str.{IsUtf8-from_is_utf8, is_utf8-from_IsUtf8}
-use Rattle.std.proofs.lemmas.Bool.{cases_lt, lt-ltb, le-leb, ltb-true, ltb-false, leb-true, lt-leb}
+use Rattle.std.proofs.lemmas.Bool.{cases_lt, le-leb, ltb-true, ltb-false, leb-true}
 use Rattle.label_tree.specs.Rose.{Rose, node, label_of, kids_of, node_count, count_all}
 use Rattle.simple_types.specs.declared.labels.ValueLabel.{ValueLabel}
 use Rattle.simple_types.specs.declared.labels.ValueLabel.TheVariants as value
 use Rattle.asn_types.specs.declared.modules.Assignment.{Assignment}
-use Rattle.asn_types.specs.declared.types.Form.{Form}
 use Rattle.asn_types.specs.declared.types.TypeLabel.{TypeLabel}
 use Rattle.asn_types.specs.Bounds.{HasBounds, AreBounded, IsBounded}
 use Rattle.asn_types.specs.Modules.{AreWellFormed, IsModule}
 use Rattle.asn_types.specs.Parts.{parts_of}
 use Rattle.asn_types.specs.Refs.{resolve, IsOf}
-use Rattle.asn_types.specs.Values.{ComponentPlace, below, FitsAt, OwnAt, Own}
+use Rattle.asn_types.specs.Values.{ComponentPlace, below, FitsAt, Own}
 use Rattle.asn_types.proofs.Chaining.{well-formed, has-four, resolved-of-module}
 use Rattle.asn_types.proofs.Inside.{form-well_formed}
 use Rattle.per_fields.specs.declared.stops.Spot.{Spot}
@@ -24,7 +23,7 @@ use Rattle.per_fields.specs.declared.stops.Why.TheVariants.{TooDeep, TooMany, No
 use Rattle.per_fields.specs.Reading.{◌>>=◌, Reader, stop_at, moved, stop_if}
 use Rattle.per_fields.specs.Codec.{most_nodes, Taken, Came, Codec}
 use Rattle.per_fields.specs.Encoding.{per}
-use Rattle.per_fields.specs.Levels.{tallest, levels_needed}
+use Rattle.per_fields.specs.Levels.{levels_needed}
 use Rattle.per_fields.specs.Nodes.{content_at, is_no_text, owned_at, enter_by, entered_at, node_read, start, last_at, whole_of}
 use Rattle.per_fields.specs.Owning.{owns}
 use Rattle.per_fields.proofs.Codecs.{with_spot}
@@ -34,8 +33,8 @@ use Rattle.per_fields.proofs.Owns.{owns_own, own_owns}
 use Rattle.per_fields.proofs.Recursion.{node_codec}
 use Rattle.per_fields.proofs.Unfolding.{node_recursion}
 use Rattle.per_stops.specs.Faults.{LastStops}
-use Rattle.per_stops.specs.Stopping.{IsNoText, HasOctets, EntryStops, Enters, Stands, ContentStops, PartsFit, RuleStops, NodeStops, RootStops}
-use Rattle.per_stops.proofs.Steps.{Iff, Told, Inside, err_is, after, then_both, then_told}
+use Rattle.per_stops.specs.Stopping.{IsNoText, HasOctets, EntryStops, Enters, ContentStops, PartsFit, RuleStops, NodeStops, RootStops}
+use Rattle.per_stops.proofs.Steps.{Iff, Told, Inside, err_is, then_both, then_told}
 use Rattle.per_stops.proofs.Fields.{two_tests, lacking, no_fact, map_told, last_told}
 use Rattle.per_stops.proofs.Parts.{IsKnown, content_told}
 use Rattle.per_stops.proofs.Types.{of-tall, of-bounded, kids-of, are-there}
@@ -241,8 +240,10 @@ module _ (M : List Assignment) (is : IsModule M) (bounded : IsBounded M) (X : Li
   node_stopped (suc m) depth t of enough s stop inside e =
       (node_told depth t of s stop (λ p. NodeStops M X (suc m) (below p.role depth) p.type) (λ p s stop. ⊥) inside
       (λ deep. kids depth t of (IsKnown M X depth (λ p. node_read M (below p.role depth) p.type) (λ p. NodeStops M X (suc m) (below p.role depth) p.type) (λ p s stop. ⊥)) deep
-      (λ p of_p need. (read_codec (below p.role depth) p.type of_p,
-      λ r stop in_. (λ f. node_stopped m (below p.role depth) p.type of_p (λ d. omega (arith, need.1, enough deep)) r stop in_ f, λ h. absurd h))))).0 e
+      (λ p of_p need. (
+        read_codec (below p.role depth) p.type of_p,
+        λ r stop in_. (λ f. node_stopped m (below p.role depth) p.type of_p (λ d. omega (arith, need.1, enough deep)) r stop in_ f, λ h. absurd h),
+      )))).0 e
 
   node_stops : (n depth : ℕ) (t : Rose TypeLabel) → IsOf M t → (s : Spot) (stop : Stop) → Inside X s → NodeStops M X n depth t s stop → node_read M depth t X s ≡ Err stop
   unfolding NodeStops

@@ -1,5 +1,5 @@
 -- The parts of a node, and its fields before them, stop where reading them stops.
-use Rattle.std.proofs.Common.{◌≡◌, ℕ, zero, suc, ◌+◌, ◌-◌, ◌<◌, ◌≤◌, Bool, true, false, cond, eqb, ltb, List, [], ◌∷◌, length, refl, sym, ap, ◌∙◌, subst, arith, Option, Some, None, Result, Ok, Err, inl, inr, ◌⊎◌}
+use Rattle.std.proofs.Common.{◌≡◌, ℕ, ◌+◌, ◌-◌, ◌<◌, ◌≤◌, Bool, true, false, eqb, ltb, List, [], ◌∷◌, length, refl, ap, ◌∙◌, subst, arith, Option, Some, None, Result, Ok, Err, inl, inr, ◌⊎◌}
 use Rattle.std.specs.Prelude.{slice_get, replicate}
 use Rattle.label_tree.specs.Rose.{Rose, node_count}
 use Rattle.simple_types.specs.declared.labels.ValueLabel.{ValueLabel}
@@ -25,9 +25,9 @@ use Rattle.per_fields.proofs.Codecs.{bind_ok, ok_is, with_spot}
 use Rattle.per_fields.proofs.NumberLaws.{number_field}
 use Rattle.per_fields.proofs.Levels.{Each, EachKid, IfPlaces, IfPlace, present-each, kid-each, alone-each, copies-each}
 use Rattle.per_fields.proofs.NodeLaws.{KidCodec, flags_field}
-use Rattle.per_stops.specs.Faults.{NumberStops, FlagsStop, EndsWithin}
-use Rattle.per_stops.specs.Stopping.{CountedStop, OctetsStand, OctetsEnd, Stands, StandEach, PartStops, IfPartStops, ItemsCounted, ItemsNumbered, ItemsStop, ContentStops}
-use Rattle.per_stops.proofs.Steps.{Iff, Told, Inside, bind_err, err_bind, ok_bind, none_stops, after, came, goes, then_both, bits_end}
+use Rattle.per_stops.specs.Faults.{NumberStops, FlagsStop}
+use Rattle.per_stops.specs.Stopping.{OctetsStand, OctetsEnd, ValuesStand, PartStops, IfPartStops, ItemsCounted, ItemsNumbered, ItemsStop, ContentStops}
+use Rattle.per_stops.proofs.Steps.{Iff, Told, Inside, none_stops, after, came, goes, then_both, bits_end}
 use Rattle.per_stops.proofs.Fields.{map_told, number_told, whole_told, flags_told}
 use Rattle.per_stops.proofs.Fragments.{AreRead, counted, octets_read}
 
@@ -67,13 +67,13 @@ module _ (M : List Assignment) (X : List Bool) (depth : ℕ) (kid : ComponentPla
           → Told ((kid p X s >>= others) ≡ Err stop) (PartStops M X depth Kid (p ∷ ps) s stop) (PartStops M X depth Kid' (p ∷ ps) s stop)
       first rest =
           let told : Told ((kid p X s >>= others) ≡ Err stop)
-              (Kid p s stop ⊎ ((v : Rose ValueLabel) × (r : Spot) × FitsAt M (below p.role depth) p.type v × Came X s r (per M p.type v s.at) (node_count v) × PartStops M X depth Kid ps r stop))
-              (Kid' p s stop ⊎ ((v : Rose ValueLabel) × (r : Spot) × FitsAt M (below p.role depth) p.type v × Came X s r (per M p.type v s.at) (node_count v) × PartStops M X depth Kid' ps r stop)) =
+          (Kid p s stop ⊎ ((v : Rose ValueLabel) × (r : Spot) × FitsAt M (below p.role depth) p.type v × Came X s r (per M p.type v s.at) (node_count v) × PartStops M X depth Kid ps r stop))
+          (Kid' p s stop ⊎ ((v : Rose ValueLabel) × (r : Spot) × FitsAt M (below p.role depth) p.type v × Came X s r (per M p.type v s.at) (node_count v) × PartStops M X depth Kid' ps r stop)) =
           then_both X (FitsAt M (below p.role depth) p.type) node_count (per M p.type) (kid p) known.0.0 others (Kid p s stop) (Kid' p s stop)
           (λ v r. PartStops M X depth Kid ps r stop) (λ v r. PartStops M X depth Kid' ps r stop) s stop inside (known.0.1 s stop inside) (λ v r fits in_. further v r (rest r in_)) in
           (λ e. forth (told.0 e), λ h. told.1 (back h))
 
-  each_stand : (ps : List ComponentPlace) → Each IsKnown ps → (s r : Spot) (vs : List (Rose ValueLabel)) → Inside X s → each_at kid ps X s ≡ Ok (vs, r) → StandEach M X depth ps s r
+  each_stand : (ps : List ComponentPlace) → Each IsKnown ps → (s r : Spot) (vs : List (Rose ValueLabel)) → Inside X s → each_at kid ps X s ≡ Ok (vs, r) → ValuesStand M X depth ps s r
   unfolding each_at
   each_stand [] known s r vs inside e = ap (λ (y : List (Rose ValueLabel) × Spot). y.1) (ok_is ([], s) (vs, r) e)
   each_stand (p ∷ ps) known s r vs inside e =
@@ -81,9 +81,9 @@ module _ (M : List Assignment) (X : List Bool) (depth : ℕ) (kid : ComponentPla
       let c = came X (FitsAt M (below p.role depth) p.type) node_count (per M p.type) (kid p) known.0.0 s a.0.0 a.0.1 inside a.1 in
       let b = bind_ok (each_at kid ps X a.0.1) (λ bs. with_spot (a.0.0 ∷ bs.0) bs.1) (vs, r) a.2 in
       let l = each_stand ps known.1 a.0.1 b.0.1 b.0.0 (after X s a.0.1 (per M p.type a.0.0 s.at) (node_count a.0.0) inside c.1) b.1 in
-      (a.0.0, a.0.1, c, subst (λ (y : List (Rose ValueLabel) × Spot). StandEach M X depth ps a.0.1 y.1) (ok_is (a.0.0 ∷ b.0.0, b.0.1) (vs, r) b.2) l)
+      (a.0.0, a.0.1, c, subst (λ (y : List (Rose ValueLabel) × Spot). ValuesStand M X depth ps a.0.1 y.1) (ok_is (a.0.0 ∷ b.0.0, b.0.1) (vs, r) b.2) l)
 
-  each_goes : (ps : List ComponentPlace) → Each IsKnown ps → (s r : Spot) → Inside X s → StandEach M X depth ps s r → (vs : List (Rose ValueLabel)) × (each_at kid ps X s ≡ Ok (vs, r))
+  each_goes : (ps : List ComponentPlace) → Each IsKnown ps → (s r : Spot) → Inside X s → ValuesStand M X depth ps s r → (vs : List (Rose ValueLabel)) × (each_at kid ps X s ≡ Ok (vs, r))
   unfolding each_at
   each_goes [] known s r inside h = ([], ap (λ q. Ok ([], q)) h)
   each_goes (p ∷ ps) known s r inside h =
@@ -91,7 +91,7 @@ module _ (M : List Assignment) (X : List Bool) (depth : ℕ) (kid : ComponentPla
       let others = each_goes ps known.1 h.1 r (after X s h.1 (per M p.type h.0 s.at) (node_count h.0) inside h.2.1) h.3 in
       (h.0 ∷ others.0, ap (λ q. q >>= λ b. each_at kid ps X b.1 >>= λ bs. with_spot (b.0 ∷ bs.0) bs.1) one ∙ ap (λ q. q >>= λ bs. with_spot (h.0 ∷ bs.0) bs.1) others.1)
 
-  each_within : (ps : List ComponentPlace) (s r : Spot) → Inside X s → StandEach M X depth ps s r → Inside X r × (s.at ≤ r.at)
+  each_within : (ps : List ComponentPlace) (s r : Spot) → Inside X s → ValuesStand M X depth ps s r → Inside X r × (s.at ≤ r.at)
   each_within [] s r inside h = (subst (Inside X) h inside, omega (arith, ap (λ q. q.at) h))
   each_within (p ∷ ps) s r inside h =
       let k = each_within ps h.1 r (after X s h.1 (per M p.type h.0 s.at) (node_count h.0) inside h.2.1) h.3 in
@@ -99,7 +99,7 @@ module _ (M : List Assignment) (X : List Bool) (depth : ℕ) (kid : ComponentPla
 
   -- items are read where they stand
   items_read : (p : ComponentPlace) → IsKnown p
-      → AreRead X (λ n. each_at kid (replicate n p)) (λ n s r. StandEach M X depth (replicate n p) s r) (λ n s stop. PartStops M X depth Kid (replicate n p) s stop) (λ n s stop. PartStops M X depth Kid' (replicate n p) s stop)
+      → AreRead X (λ n. each_at kid (replicate n p)) (λ n s r. ValuesStand M X depth (replicate n p) s r) (λ n s stop. PartStops M X depth Kid (replicate n p) s stop) (λ n s stop. PartStops M X depth Kid' (replicate n p) s stop)
   items_read p known = record {
     stand = λ n s r vs inside e. each_stand (replicate n p) (copies-each IsKnown n p known) s r vs inside e;
     goes = λ n s r inside h. each_goes (replicate n p) (copies-each IsKnown n p known) s r inside h;
@@ -121,7 +121,7 @@ module _ (M : List Assignment) (X : List Bool) (depth : ℕ) (kid : ComponentPla
   counted_told : (p : ComponentPlace) → IsKnown p → (least : ℕ) (most : Option ℕ) (s : Spot) (stop : Stop) → Inside X s
       → Told (counted_at least most (λ n. each_at kid (replicate n p)) X s ≡ Err stop) (ItemsCounted M X depth Kid p least most s stop) (ItemsCounted M X depth Kid' p least most s stop)
   counted_told p known least most s stop inside =
-      counted X (λ n. each_at kid (replicate n p)) (λ n s r. StandEach M X depth (replicate n p) s r) (λ n s stop. PartStops M X depth Kid (replicate n p) s stop) (λ n s stop. PartStops M X depth Kid' (replicate n p) s stop)
+      counted X (λ n. each_at kid (replicate n p)) (λ n s r. ValuesStand M X depth (replicate n p) s r) (λ n s stop. PartStops M X depth Kid (replicate n p) s stop) (λ n s stop. PartStops M X depth Kid' (replicate n p) s stop)
       least most (items_read p known) s stop inside
 
   sized_told : (p : ComponentPlace) → IsKnown p → (least most : ℕ) (s : Spot) (stop : Stop) → Inside X s

@@ -1,16 +1,15 @@
 -- A step of reading that stops: in what is read first, or behind it.
-use Rattle.std.proofs.Common.{◌≡◌, ℕ, ◌+◌, ◌<◌, ◌≤◌, ◌^◌, Bool, true, false, ltb, List, length, refl, sym, ap, ◌∙◌, subst, arith, drop, take, Result, Ok, Err, inl, inr, ◌⊎◌}
+use Rattle.std.proofs.Common.{◌≡◌, ℕ, ◌+◌, ◌<◌, ◌≤◌, ◌^◌, Bool, true, false, ltb, List, length, refl, sym, ap, ◌∙◌, arith, drop, take, Result, Ok, Err, inl, inr, ◌⊎◌}
 use Rattle.std.proofs.lemmas.Bool.{lt-ltb, ltb-true}
 use Rattle.bit_cursor.specs.Bits.{bits, number}
 use Rattle.per_fields.specs.declared.stops.Spot.{Spot}
 use Rattle.per_fields.specs.declared.stops.Stop.{Stop}
-use Rattle.per_fields.specs.declared.stops.Why.{Why}
 use Rattle.per_fields.specs.declared.stops.Why.TheVariants.{Short}
 use Rattle.per_fields.specs.Reading.{◌>>=◌, Reader, stop_at, moved, stop_if, bits_at}
 use Rattle.per_fields.specs.Fields.{Writer}
-use Rattle.per_fields.specs.Codec.{most_nodes, Stands, Came, Codec}
+use Rattle.per_fields.specs.Codec.{most_nodes, Came, Codec}
 use Rattle.per_fields.proofs.Codecs.{same_spot, again-bits, takes-bits, with_spot}
-use Rattle.per_stops.specs.Faults.{AreBits, EndsWithin, BitsStop}
+use Rattle.per_stops.specs.Faults.{AreBits, EndsWithin}
 
 abbrev pub Iff : Type 0 → Type 0 → Type 0
 Iff A B = (A → B) × (B → A)

@@ -42,7 +42,7 @@ SignedFault greatest more x why =
 
 -- the first octet of a fragment, behind one of so many units: it follows one of fewer than 4, or has none or over 4
 abbrev pub UnitsFault : ℕ → ℕ → Why → Type 0
-UnitsFault before x why = (192 ≤ x) × (((before < 4) × (why ≡ NotShortest)) ⊎ ((4 ≤ before) × ((x < 193) ⊎ (196 < x)) × (why ≡ Range)))
+UnitsFault before x why = (192 ≤ x) × (((before < 4) × (why ≡ NotShortest)) ⊎ ((4 ≤ before) × ((x ≡ 192) ⊎ (196 < x)) × (why ≡ Range)))
 
 -- the length of a number: none, or over 16 octets
 abbrev pub CountFault : Piece → Why → Type 0

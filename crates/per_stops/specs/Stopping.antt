@@ -14,7 +14,7 @@ use Rattle.asn_types.specs.Refs.{resolve}
 use Rattle.asn_types.specs.Values.{ComponentPlace, place_at, alone, present_from, places, below, FitsAt, FitEach, Own}
 use Rattle.per_fields.specs.declared.stops.Spot.{Spot}
 use Rattle.per_fields.specs.declared.stops.Stop.{Stop}
-use Rattle.per_fields.specs.declared.stops.Why.TheVariants.{Short, TooDeep, TooMany, NotUtf8, NotAValue}
+use Rattle.per_fields.specs.declared.stops.Why.TheVariants.{TooDeep, TooMany, NotUtf8, NotAValue}
 use Rattle.per_fields.specs.Reading.{stop_at, moved}
 use Rattle.per_fields.specs.Codec.{most_nodes, Came, AllOf}
 use Rattle.per_fields.specs.Encoding.{flag_bits, per}
@@ -62,19 +62,19 @@ Enters depth s = (depth ≤ most_deep) × (s.nodes < most_nodes)
 
 module _ (M : List Assignment) (X : List Bool) where
   -- the bits of a value of the type stand from one spot to another, and its nodes are not too many
-  abbrev pub Stands : ℕ → Rose TypeLabel → Spot → Rose ValueLabel → Spot → Type 0
-  Stands depth t s v r = FitsAt M depth t v × Came X s r (per M t v s.at) (node_count v)
+  abbrev pub ValueStands : ℕ → Rose TypeLabel → Spot → Rose ValueLabel → Spot → Type 0
+  ValueStands depth t s v r = FitsAt M depth t v × Came X s r (per M t v s.at) (node_count v)
 
   -- those of values of these parts, one behind the other
-  abbrev pub StandEach : ℕ → List ComponentPlace → Spot → Spot → Type 0
-  StandEach depth [] s r = s ≡ r
-  StandEach depth (p ∷ ps) s r = (v : Rose ValueLabel) × (q : Spot) × Stands (below p.role depth) p.type s v q × StandEach depth ps q r
+  abbrev pub ValuesStand : ℕ → List ComponentPlace → Spot → Spot → Type 0
+  ValuesStand depth [] s r = s ≡ r
+  ValuesStand depth (p ∷ ps) s r = (v : Rose ValueLabel) × (q : Spot) × ValueStands (below p.role depth) p.type s v q × ValuesStand depth ps q r
 
   module _ (depth : ℕ) (KidStops : ComponentPlace → Spot → Stop → Type 0) where
     -- one of the parts stops, and the values of those before it stand before it
     abbrev pub PartStops : List ComponentPlace → Spot → Stop → Type 0
     PartStops [] s stop = ⊥
-    PartStops (p ∷ ps) s stop = KidStops p s stop ⊎ ((v : Rose ValueLabel) × (r : Spot) × Stands (below p.role depth) p.type s v r × PartStops ps r stop)
+    PartStops (p ∷ ps) s stop = KidStops p s stop ⊎ ((v : Rose ValueLabel) × (r : Spot) × ValueStands (below p.role depth) p.type s v r × PartStops ps r stop)
 
     abbrev pub IfPartStops : Option (List ComponentPlace) → Spot → Stop → Type 0
     IfPartStops None s stop = ⊥
@@ -82,7 +82,7 @@ module _ (M : List Assignment) (X : List Bool) where
 
     -- SEQUENCE OF (clause 20): its count stops, or one of its items
     abbrev pub ItemsCounted : ComponentPlace → ℕ → Option ℕ → Spot → Stop → Type 0
-    ItemsCounted p least most s stop = CountedStop X (λ n s r. StandEach depth (replicate n p) s r) (λ n s stop. PartStops (replicate n p) s stop) least most s stop
+    ItemsCounted p least most s stop = CountedStop X (λ n s r. ValuesStand depth (replicate n p) s r) (λ n s stop. PartStops (replicate n p) s stop) least most s stop
 
     abbrev pub ItemsNumbered : ComponentPlace → ℕ → ℕ → Spot → Stop → Type 0
     ItemsNumbered p least most s stop =
@@ -133,7 +133,7 @@ module _ (M : List Assignment) (X : List Bool) where
 
   -- the root stops, or what pads the last octet behind it
   abbrev pub RootStops : Rose TypeLabel → Stop → Type 0
-  RootStops t stop = ((levels : ℕ) × NodeStops levels 1 t start stop) ⊎ ((v : Rose ValueLabel) × (r : Spot) × Stands 1 t start v r × LastStops X r stop)
+  RootStops t stop = ((levels : ℕ) × NodeStops levels 1 t start stop) ⊎ ((v : Rose ValueLabel) × (r : Spot) × ValueStands 1 t start v r × LastStops X r stop)
 
 -- bits stop first, of the type of assignment t
 abbrev pub StopsFirst : List Assignment → ℕ → List Bool → Stop → Type 0
