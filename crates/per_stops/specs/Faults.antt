@@ -13,8 +13,9 @@ use Rattle.per_fields.specs.Reading.{stop_at}
 use Rattle.per_fields.specs.Codec.{Came}
 use Rattle.per_fields.specs.Fields.{then_bits, length_bits, Piece, Last, Units, is_out}
 
--- THE TESTS OF A FIELD: the numbers that have a fault, and why
+-- THE NUMBERS THAT HAVE A FAULT, and why
 
+-- padding that isn't all zero
 abbrev pub IsOne : ℕ → Why → Type 0
 IsOne x why = (0 < x) × (why ≡ Padding)
 
@@ -26,15 +27,15 @@ IsAbove top x why = (top < x) × (why ≡ Range)
 abbrev pub FitsFewer : ℕ → ℕ → Type 0
 FitsFewer more x = (0 < more) × (x < 2 ^ (8 * more))
 
--- a number of a large range
+-- a number of 0..top in so many octets: too many, or it is above the greatest
 abbrev pub LargeFault : ℕ → ℕ → ℕ → Why → Type 0
 LargeFault top more x why = (FitsFewer more x × (why ≡ NotShortest)) ⊎ ((FitsFewer more x → ⊥) × (top < x) × (why ≡ Range))
 
--- how far a number is above its least one
+-- how far a number is above its least one, in so many octets: too many, or the number is not of 128 bits
 abbrev pub AboveFault : ℤ → ℕ → ℕ → Why → Type 0
 AboveFault least more x why = (FitsFewer more x × (why ≡ NotShortest)) ⊎ ((FitsFewer more x → ⊥) × (is_128_bits (raised least x) ≡ false) × (why ≡ TooWide))
 
--- a number in two's complement
+-- a number in two's complement, in so many octets: too many, or it is above the greatest
 abbrev pub SignedFault : Option ℤ → ℕ → ℕ → Why → Type 0
 SignedFault greatest more x why =
     let z = signed_of (8 * (more + 1)) x in
@@ -54,10 +55,12 @@ abbrev pub IsLength : ℕ → Piece → Type 0
 IsLength before (Last n) = n < 16384
 IsLength before (Units k) = (0 < k) × (k ≤ 4) × (4 ≤ before)
 
+-- in one octet, or in two
 abbrev pub length_octets : Piece → List Bool
 length_octets (Last n) = length_bits n
 length_octets (Units k) = bits 8 (192 + k)
 
+-- how many presence bits there are
 abbrev pub optional_count : List Component → ℕ
 optional_count [] = 0
 optional_count (part ∷ parts) = elim part.optional [ true ↦ 1 + optional_count parts | false ↦ optional_count parts ]
@@ -83,13 +86,14 @@ module _ (X : List Bool) where
   abbrev pub AlignedStops : (Spot → Stop → Type 0) → Spot → Stop → Type 0
   AlignedStops Field s stop = PaddingStops s stop ⊎ ((r : Spot) × Came X s r (padding s.at) 0 × Field r stop)
 
-  -- A NUMBER OF 0..top (clause 11.5)
+  -- A NUMBER OF 0..top (clause 11.5). Of a large range its octets are counted first: one, and so many more.
   abbrev pub LargeStops : ℕ → Spot → Stop → Type 0
   LargeStops top s stop =
       BitsStop (width_of (more_of top)) (IsAbove (more_of top)) s stop
       ⊎ ((more : ℕ) × (r : Spot) × (more ≤ more_of top) × Came X s r (bits (width_of (more_of top)) more) 0
       × AlignedStops (λ q stop. BitsStop (8 * (more + 1)) (LargeFault top more) q stop) r stop)
 
+  -- by how many numbers there are; of one there are no bits, and nothing stops
   abbrev pub NumberStops : ℕ → Spot → Stop → Type 0
   NumberStops top s stop =
       ((0 < top) × (top < 255) × BitsStop (width_of top) (IsAbove top) s stop)
@@ -128,6 +132,7 @@ module _ (X : List Bool) where
       OctetCountStops s stop
       ⊎ ((more : ℕ) × (r : Spot) × (more < 16) × Came X s r (then_bits (padding s.at) (λ q. length_bits (more + 1)) s.at) 0 × BitsStop (8 * (more + 1)) (Fault more) r stop)
 
+  -- by its bounds
   abbrev pub WholeStops : Option ℤ → Option ℤ → Spot → Stop → Type 0
   WholeStops (Some least) (Some greatest) s stop = NumberStops (distance least greatest) s stop
   WholeStops (Some least) None s stop = OctetsStop (AboveFault least) s stop

@@ -40,6 +40,7 @@ module _ (X : List Bool) (Stand : ℕ → Spot → Spot → Type 0) (SomeStops :
 abbrev pub OctetsStand : List Bool → ℕ → Spot → Spot → Type 0
 OctetsStand X n s r = (text : List ℕ) × (length text ≡ n) × AllOf (λ x. x < 256) text × Came X s r (octet_bits text) 0
 
+-- they are one field, in which the input ends
 abbrev pub OctetsEnd : List Bool → ℕ → Spot → Stop → Type 0
 OctetsEnd X n s stop = EndsWithin X (8 * n) s s.at stop
 
@@ -48,6 +49,7 @@ abbrev pub IsNoText : ValueLabel → Type 0
 IsNoText (value.Utf8 text) = IsUtf8 text → ⊥
 IsNoText _ = ⊥
 
+-- what is read of a text are octets
 abbrev pub HasOctets : ValueLabel → Type 0
 HasOctets (value.Utf8 text) = AllOf (λ x. x < 256) text
 HasOctets _ = Unit {0}
@@ -57,6 +59,7 @@ HasOctets _ = Unit {0}
 abbrev pub EntryStops : ℕ → Spot → Stop → Type 0
 EntryStops depth s stop = ((most_deep < depth) × (stop ≡ stop_at s.at TooDeep s.at)) ⊎ ((depth ≤ most_deep) × (most_nodes ≤ s.nodes) × (stop ≡ stop_at s.at TooMany s.at))
 
+-- neither
 abbrev pub Enters : ℕ → Spot → Type 0
 Enters depth s = (depth ≤ most_deep) × (s.nodes < most_nodes)
 
@@ -76,19 +79,22 @@ module _ (M : List Assignment) (X : List Bool) where
     PartStops [] s stop = ⊥
     PartStops (p ∷ ps) s stop = KidStops p s stop ⊎ ((v : Rose ValueLabel) × (r : Spot) × ValueStands (below p.role depth) p.type s v r × PartStops ps r stop)
 
+    -- a type of a module has all its parts: where none are, no module's octets come
     abbrev pub IfPartStops : Option (List ComponentPlace) → Spot → Stop → Type 0
     IfPartStops None s stop = ⊥
     IfPartStops (Some ps) s stop = PartStops ps s stop
 
-    -- SEQUENCE OF (clause 20): its count stops, or one of its items
+    -- SEQUENCE OF (clause 20): its count stops, or one of its items. The count is a general length,
     abbrev pub ItemsCounted : ComponentPlace → ℕ → Option ℕ → Spot → Stop → Type 0
     ItemsCounted p least most s stop = CountedStop X (λ n s r. ValuesStand depth (replicate n p) s r) (λ n s stop. PartStops (replicate n p) s stop) least most s stop
 
+    -- or a number of its bounds,
     abbrev pub ItemsNumbered : ComponentPlace → ℕ → ℕ → Spot → Stop → Type 0
     ItemsNumbered p least most s stop =
         NumberStops X (most - least) s stop
         ⊎ ((n : ℕ) × (r : Spot) × (n ≤ most - least) × Came X s r (number_bits (most - least) n s.at) 0 × PartStops (replicate (least + n) p) r stop)
 
+    -- where the greatest is below 65,536.
     abbrev pub ItemsStop : Option ComponentPlace → ℕ → Option ℕ → Spot → Stop → Type 0
     ItemsStop None least most s stop = ⊥
     ItemsStop (Some p) least None s stop = ItemsCounted p least None s stop
@@ -111,7 +117,7 @@ module _ (M : List Assignment) (X : List Bool) where
     ContentStops l ts (form.SequenceOf part least most) s stop = ItemsStop (place_at l 0 (Some part) (slice_get ts 0)) least most s stop
     ContentStops l ts (form.Ref to) s stop = ⊥
 
-  -- all parts of a node fit
+  -- all parts of a node fit, and its number, index or size is within bounds
   abbrev pub PartsFit : ℕ → Rose TypeLabel → Rose ValueLabel → Type 0
   PartsFit depth t (node l vs) = elim (places (resolve M t) l (length_all vs)) [ None ↦ ⊥ | Some ps ↦ FitEach M depth ps vs ] × HasOctets l
 
