@@ -1,0 +1,7 @@
+mod Steps
+mod Fields
+mod Fragments
+mod Parts
+mod Types
+mod Nodes
+mod Law

@@ -1,0 +1,6 @@
+//! Where octets stop first and why (X.691), said of the bits before the fault: it is what reading gives.
+#![tactic(auto)]
+
+mod laws;
+
+pub use laws::stops_first;
