@@ -1,5 +1,5 @@
 -- Octets are the encoding of one value, or are refused once.
-use Rattle.std.proofs.Common.{◌≡◌, ◌×◌, ◌⊎◌, ℕ, zero, suc, ◌+◌, ◌*◌, ◌<◌, ◌≤◌, ◌^◌, Bool, true, false, List, [], ◌∷◌, ◌++◌, length, take, drop, All, refl, sym, ap, ◌∙◌, subst, inl, inr, arith, Option, Some, None}
+use Rattle.std.proofs.Common.{◌≡◌, ◌⊎◌, ℕ, zero, suc, ◌+◌, ◌*◌, ◌<◌, ◌≤◌, ◌^◌, Bool, true, false, List, [], ◌∷◌, ◌++◌, length, take, drop, All, refl, sym, ap, ◌∙◌, subst, inl, inr, arith, Option, Some, None}
 use Rattle.std.specs.Prelude.{nat_le, ◌&&◌}
 use Rattle.std.proofs.lemmas.List.{take_all, append-nil}
 use Rattle.std.proofs.lemmas.List.Elements.{All-head, All-tail}
@@ -25,9 +25,11 @@ pub record OctetLaws : Type 0 where
 -- ---- octets are told by their bits
 
 octet-length : (x : ℕ) → length (octet x) ≡ 8
+unfolding octet
 octet-length x = length-bits 8 x
 
 octet-same : (x y : ℕ) → x < 256 → y < 256 → octet x ≡ octet y → x ≡ y
+unfolding octet
 octet-same x y h k e = sym (number-bits 8 x h) ∙ ap number e ∙ number-bits 8 y k
 
 front_of : (a b c d : List Bool) → length a ≡ length c → a ++ b ≡ c ++ d → (a ≡ c) × (b ≡ d)
@@ -52,7 +54,7 @@ same_octets (x ∷ xs) (y ∷ ys) h k e =
 
 -- ---- what is due of octets is one thing
 
-Whole : RootType → List ℕ → Rose ValueLabel → Type 0
+abbrev pub Whole : RootType → List ℕ → Rose ValueLabel → Type 0
 Whole type octets v = (length octets ≤ 16777216) × In type.assignments type.number v × (octet_bits octets ≡ complete type.assignments type.number v)
 
 readable-whole : (octets : List ℕ) → length octets ≤ 16777216 → readable octets ≡ octet_bits octets
@@ -80,9 +82,9 @@ module _ (laws : OctetLaws) (type : RootType) {s : Set} {n : ℕ} (h : IsTypeOf 
   pub one_refusal : (o m : Outcome) → IsNoEncoding type octets o → IsNoEncoding type octets m → o ≡ m
   one_refusal o m (inl (stop, stops, is)) (inl (other, also, was)) =
       is ∙ ap (fault_in octets) (laws.one_stop type.assignments type.number (take 16777216 octets) h.is_module h.is_bounded h.within stop other stops also) ∙ sym was
-  one_refusal o m (inl (stop, stops, is)) (inr (w, at, begun, rest)) =
+  one_refusal o m (inl (stop, stops, is)) (inr (w, at, begun, long, less, was)) =
       absurd (laws.not_both type.assignments type.number (take 16777216 octets) h.is_module h.is_bounded h.within w stop begun stops)
-  one_refusal o m (inr (w, at, begun, rest)) (inl (stop, stops, is)) =
+  one_refusal o m (inr (w, at, begun, long, less, was)) (inl (stop, stops, is)) =
       absurd (laws.not_both type.assignments type.number (take 16777216 octets) h.is_module h.is_bounded h.within w stop begun stops)
   one_refusal o m (inr (v, at, begun, long, less, is)) (inr (w, place, also, length_is, fewer, was)) =
       let same : v ≡ w = (laws.one_value type.assignments type.number (take 16777216 octets) h.is_module h.is_bounded h.within v w begun also).0 in

@@ -1,5 +1,5 @@
 -- What decoding answers, and the octet behind it, say of all octets that are left.
-use Rattle.std.proofs.Common.{◌≡◌, ◌×◌, ◌⊎◌, ℕ, zero, ◌+◌, ◌*◌, ◌-◌, ◌<◌, ◌≤◌, Bool, true, false, cond, List, [], ◌∷◌, ◌++◌, length, take, drop, refl, sym, ap, ◌∙◌, subst, inl, inr, arith, Option, Some, None, Result, Ok, Err}
+use Rattle.std.proofs.Common.{◌≡◌, ◌⊎◌, ℕ, zero, ◌+◌, ◌*◌, ◌-◌, ◌<◌, ◌≤◌, Bool, true, false, cond, List, [], ◌∷◌, ◌++◌, length, take, drop, refl, sym, ap, ◌∙◌, subst, inl, inr, arith, Option, Some, None, Result, Ok, Err}
 use Rattle.std.specs.Prelude.{nat_le, ◌&&◌}
 use Rattle.std.specs.Io.KnownBytes.{IsAtEnd}
 use Rattle.std.proofs.lemmas.List.{take_all, length-drop, length-append, append-nil}
@@ -15,6 +15,7 @@ use Rattle.per_fields.specs.declared.stops.Why.TheVariants as why
 use Rattle.per_fields.specs.Encoding.{complete}
 use Rattle.per_fields.specs.Laws.{Begins, Stops}
 use Rattle.per_decode.specs.declared.decoded.Decoded.{Decoded}
+use Rattle.per_decode.specs.declared.errors.DecodeError.{DecodeError}
 use Rattle.per_decode.specs.declared.errors.DecodeError.TheVariants as error
 use Rattle.per_decode.specs.Answers as decoding
 use Rattle.per_decode.specs.Answers.{Answer, Answers, is_short}
@@ -40,8 +41,12 @@ no_bits a [] e = refl
 no_bits a (x ∷ b) e = absurd (omega (arith, e, length-append a (x ∷ b)))
 
 module _ (type : RootType) where
-  abbrev Says : Option (List ℕ) → Option (List ℕ) → Answer → Type 0
+  abbrev pub Says : Option (List ℕ) → Option (List ℕ) → Answer → Type 0
   Says old new answer = (left : List ℕ) → old ≡ Some left → Answers type.assignments type.number 16777216 left new answer
+
+  -- the same answer, by another name
+  pub renamed : (old new : Option (List ℕ)) (e f : DecodeError) → e ≡ f → Says old new (Err e) → Says old new (Err f)
+  renamed old new e f same says = subst (λ x. Says old new (Err x)) same says
 
   behind : (new : Option (List ℕ)) (rest : List ℕ) → new ≡ Some rest → IsAtEnd new → rest ≡ []
   behind new rest e is = subst IsAtEnd e is
@@ -55,7 +60,7 @@ module _ (type : RootType) where
       let few : length left ≤ 16777216 = omega (arith, all, a.takes.limited) in
       let whole : octet_bits left ≡ complete type.assignments type.number found.value ++ a.says.0.rest = ap octet_bits (sym (take_all 16777216 left few)) ∙ a.says.0.is in
       let none : a.says.0.rest ≡ [] = no_bits (complete type.assignments type.number found.value) a.says.0.rest
-      (omega (arith, ap length whole, length-octet_bits left, all, a.says.1.0)) in
+      (omega (arith, ap length whole, length-octet_bits left, all, a.says.1)) in
       (few, a.says.0.value, whole ∙ ap (λ bs. complete type.assignments type.number found.value ++ bs) none ∙ append-nil (complete type.assignments type.number found.value))
 
   pub all_ended : (old new : Option (List ℕ)) (found : Decoded) → In type.assignments type.number found.value → Says old new (Ok found) → IsAtEnd new → step.Decoded type old (Ok found.value)
@@ -69,7 +74,7 @@ module _ (type : RootType) where
   goes_on (Some left) new found says more =
       let a = says left refl in
       let some = more (drop a.count left) a.takes.rest in
-      inr (found.value, found.octets, a.says.0, omega (arith, a.says.1.0, a.says.1.1), omega (arith, some, length-drop a.count left, a.says.1.1), refl)
+      inr (found.value, found.octets, a.says.0, omega (arith, a.says.1, a.says.2), omega (arith, some, length-drop a.count left, a.says.2), refl)
 
   told : (left : List ℕ) (stop : Stop) (b : Bool) → is_short stop.why ≡ b → (stop.why ≡ why.Short → length left < 16777216) → fault_in left stop ≡ PerFault stop.bit stop.why
   told left stop false e short = rw e refl
@@ -84,16 +89,16 @@ module _ (type : RootType) where
   stops_at (Some left) new bit w says =
       let a = says left refl in
       let stop = a.says.0 in
-      let same = told left stop (is_short stop.why) refl (λ e. a.says.2.2.2 (sym a.says.2.2.1 ∙ e)) in
-      inl (stop, a.says.1, sym (same ∙ ap (λ b. PerFault b stop.why) a.says.2.0 ∙ ap (λ r. PerFault bit r) a.says.2.1))
+      let same = told left stop (is_short stop.why) refl (λ e. a.says.4 (sym a.says.3 ∙ e)) in
+      inl (stop, a.says.1, sym (same ∙ ap (λ b. PerFault b stop.why) a.says.2 ∙ ap (λ r. PerFault bit r) a.says.3))
 
   pub too_long : (old new : Option (List ℕ)) → Says old new (Err error.TooLong) → step.Decoded type old (Err (TooLong 0))
   too_long None new says = tt
   too_long (Some left) new says =
       let a = says left refl in
       let stop = a.says.0 in
-      let yes : nat_le 16777216 (length left) ≡ true = le-leb 16777216 (length left) a.says.2.1 in
-      let e : is_short stop.why ≡ true = ap is_short a.says.2.0 in
+      let yes : nat_le 16777216 (length left) ≡ true = le-leb 16777216 (length left) a.says.3 in
+      let e : is_short stop.why ≡ true = ap is_short a.says.2 in
       inl (stop, a.says.1, sym (rw (e, yes) refl))
 
   -- what was taken of octets with a first fault

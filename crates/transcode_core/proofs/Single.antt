@@ -33,7 +33,8 @@ use Rattle.asn_types.specs.Values.{Fits, In}
 use Rattle.xer_items.specs.Items.{Xer}
 use Rattle.one_value.specs.Statements.{OneValue, root_at}
 use Rattle.map_subjects.specs.declared.subjects.Subject.TheVariants as subject
-use Rattle.map_subjects.specs.Subjects.{place_in}
+use Rattle.map_subjects.specs.declared.subjects.NamedSubject.{NamedSubject}
+use Rattle.map_subjects.specs.Subjects.{AreEntries, place_in}
 use Rattle.transcode_core.specs.Trial.{trial_name, trial_schema, trial_root, trial_document}
 use Rattle.transcode_core.proofs.Octets.{OctetLaws, same_octets, one_whole, whole_or_none, one_refusal}
 use Rattle.validity.specs.declared.why.InvalidWhy.{InvalidWhy}
@@ -42,7 +43,7 @@ use Rattle.validity.specs.Valid.{Valid}
 use Rattle.validity.specs.Faults.{FirstFault}
 use Rattle.schema_parts.specs.declared.components.SimpleDef.{SimpleDef}
 use Rattle.map_694.proofs.Once.{one-map, one-entries}
-use Rattle.map_694.proofs.SameSets.{AreSame, map-same}
+use Rattle.map_694.proofs.SameSets.{AreSame, map-same, name-of-same}
 use Rattle.module_print.specs.Printed.{printed}
 use Rattle.schema_parts.specs.Raw.{Document}
 use Rattle.link_names.specs.declared.faults.LinkingFault as link
@@ -213,10 +214,19 @@ module _ (valid : AtMostOne) where
 num_inj : (parts : SetParts) (n : ℕ) (a b : RootType) → IsRootType parts n a → IsRootType parts n b → a.assignments ≡ b.assignments
 num_inj parts n a b (s, of_s, h) (t, of_t, k) = one-map t a.assignments b.assignments (map-same s t (same_parts s t (of_s ∙ sym of_t)) a.assignments h.is_map) k.is_map
 
+entries_moved : (s t : Set) → AreSame s t → (es : List NamedSubject) → AreEntries s es → AreEntries t es
+entries_moved s t same es k = record {
+  ascending = k.ascending;
+  whole = λ w name. (
+    λ has. sym (name-of-same s t same w) ∙ (k.whole w name).0 has,
+    λ named. (k.whole w name).1 (name-of-same s t same w ∙ named),
+  );
+}
+
 same_number : (parts : SetParts) (n : ℕ) (a b : RootType) → IsRootType parts n a → IsRootType parts n b → a.number ≡ b.number
 same_number parts n a b (s, of_s, h) (t, of_t, k) =
-    let moved = map-same s t (same_parts s t (of_s ∙ sym of_t)) a.assignments h.is_map in
-    let same = one-entries t h.is_map.entries k.is_map.entries moved.are_entries k.is_map.are_entries in
+    let moved = entries_moved s t (same_parts s t (of_s ∙ sym of_t)) h.is_map.entries h.is_map.are_entries in
+    let same = one-entries t h.is_map.entries k.is_map.entries moved k.is_map.are_entries in
     h.number_is ∙ ap (λ es. place_in es (subject.Element n)) same ∙ sym k.number_is
 
 type_of : (M N : List Assignment) (t u : ℕ) → M ≡ N → t ≡ u → (let a : RootType = record { assignments = M; number = t } in let b : RootType = record { assignments = N; number = u } in a ≡ b)

@@ -1,14 +1,18 @@
 -- The trial, whose only file and whose input are there.
-use Rattle.std.proofs.Common.{◌≡◌, ◌⊎◌, ℕ, List, [], ◌∷◌, ◌++◌, refl, sym, subst, inl, inr, arith, Option, Some, None, Result, Ok, Err}
+use Rattle.std.proofs.Common.{◌≡◌, ◌⊎◌, ℕ, List, [], ◌∷◌, ◌++◌, length, refl, ◌∙◌, ap, sym, subst, inl, inr, arith, Option, Some, None, Result, Ok, Err}
 use Rattle.std.specs.Prelude.{Vec, true}
 use Rattle.std.specs.declared.alloc.Global.{Global}
 use Rattle.xa_base.specs.declared.texts.Name.{Name}
 use Rattle.xa_base.specs.Entries.{beside}
 use Rattle.transcode_core.specs.declared.outcome.Outcome.{Outcome}
 use Rattle.transcode_core.specs.Words.{ToPer}
-use Rattle.transcode_core.specs.Trial.{trial_name, trial_schema, trial_root}
-use Rattle.transcode_core.specs.Due.{Answered, Sent}
-use Rattle.transcode_core.specs.Causes.{Answers, Answering, NoMemory, Reaches}
+use Rattle.label_tree.specs.Rose.{Rose}
+use Rattle.doc_text.specs.declared.label.ItemLabel.{ItemLabel}
+use Rattle.transcode_core.specs.Trial.{trial_name, trial_schema, trial_root, trial_document, summary}
+use Rattle.transcode_core.specs.Order.{Give}
+use Rattle.transcode_core.specs.Due.{ItemsIn, Answered, Sent, Tried}
+use Rattle.transcode_core.specs.Causes.{Answers, Answering, NoMemory, Reaches, IsRefusal, StepsUpTo}
+use Rattle.transcode_core.proofs.Joined.{passed, refused}
 
 abbrev pub trial_files : List (List ℕ × List ℕ)
 trial_files = (trial_name, trial_schema) ∷ []
@@ -30,5 +34,44 @@ answers loads loads_now left (Ok v) due = due
 answers loads loads_now left (Err o) (inl due) = inl due
 answers loads loads_now left (Err o) (inr (inl (inl memory))) = inr memory
 answers loads loads_now left (Err o) (inr (inl (inr (k, name, load, reaches, fails)))) =
-    absurd (is_there name (only_name [] trial_name name reaches.before reaches.after reaches.split) (fails.lacks tt))
+    absurd (is_there name (only_name [] trial_name name reaches.before reaches.after reaches.split) (fails.lacks refl))
 answers loads loads_now left (Err o) (inr (inr (read, rose, opened))) = absurd (omega (arith, rose))
+
+-- the same, as the code sees its library, its name and its input
+pub answers_seen : (entries : List (List ℕ × List ℕ)) (name document given : List ℕ) (loads loads_now : ℕ) (v : Result (Vec ℕ Global) Outcome)
+    → entries ≡ trial_files → name ≡ trial_name → given ≡ document
+    → Answers (λ (b : Vec ℕ Global). b.items) (Answered (Some entries) (Some given) (ToPer trial_root (name ∷ []))) (Answering loads loads_now true (Some entries) 0 0 (ToPer trial_root (name ∷ []))) v
+    → Answers (λ (b : Vec ℕ Global). b.items) (Sent (Some trial_files) trial_root (trial_name ∷ []) (Some document)) NoMemory v
+answers_seen entries name document given loads loads_now v e f h due =
+    let one = subst (λ es. Answers (λ (b : Vec ℕ Global). b.items) (Answered (Some es) (Some given) (ToPer trial_root (name ∷ []))) (Answering loads loads_now true (Some es) 0 0 (ToPer trial_root (name ∷ []))) v) e due in
+    let two = subst (λ n. Answers (λ (b : Vec ℕ Global). b.items) (Answered (Some trial_files) (Some given) (ToPer trial_root (n ∷ []))) (Answering loads loads_now true (Some trial_files) 0 0 (ToPer trial_root (n ∷ []))) v) f one in
+    let three = subst (λ d. Answers (λ (b : Vec ℕ Global). b.items) (Answered (Some trial_files) (Some d) (ToPer trial_root (trial_name ∷ []))) (Answering loads loads_now true (Some trial_files) 0 0 (ToPer trial_root (trial_name ∷ []))) v) h two in
+    answers loads loads_now (Some document) v three
+
+-- ---- the line of a trial
+
+-- what is due of a document over the schema of the trial
+abbrev pub SentTrial : List ℕ → Result (List ℕ) Outcome → Type 0
+SentTrial document = Sent (Some trial_files) trial_root (trial_name ∷ []) (Some document)
+
+abbrev pub Line : ℕ → List ℕ → Result (List ℕ) Outcome → Type 0
+Line lines octets = Give (summary lines (length (trial_document lines)) (length octets))
+
+pub told : (lines n : ℕ) (document octets given : List ℕ) (v : Result (Vec ℕ Global) Outcome) → document ≡ trial_document lines → n ≡ length document → given ≡ octets
+    → SentTrial document (Ok octets) → Answers (λ (b : Vec ℕ Global). b.items) (Give (summary lines n (length given))) NoMemory v
+    → Answers (λ (b : Vec ℕ Global). b.items) (Tried lines) NoMemory v
+told lines n document octets given v e m same sent line =
+    let long : n ≡ length (trial_document lines) = m ∙ ap length e in
+    let one = subst (λ k. Answers (λ (b : Vec ℕ Global). b.items) (Give (summary lines k (length given))) NoMemory v) long line in
+    let two = subst (λ xs. Answers (λ (b : Vec ℕ Global). b.items) (Line lines xs) NoMemory v) same one in
+    passed (SentTrial (trial_document lines)) (Line lines) NoMemory NoMemory (λ (b : Vec ℕ Global). b.items) octets v (subst (λ d. SentTrial d (Ok octets)) e sent) two (λ o h. h)
+
+pub refuses : (lines : ℕ) (document : List ℕ) (o : Outcome) → document ≡ trial_document lines → (SentTrial document (Err o) × IsRefusal o) ⊎ NoMemory o
+    → (Tried lines (Err o) × IsRefusal o) ⊎ NoMemory o
+refuses lines document o e refusal =
+    refused (SentTrial (trial_document lines)) (Line lines) NoMemory NoMemory (λ (b : Vec ℕ Global). b.items) o
+    (subst (λ d. (SentTrial d (Err o) × IsRefusal o) ⊎ NoMemory o) e refusal) (λ h. h)
+
+pub steps_of : (lines before now : ℕ) (document : List ℕ) → document ≡ trial_document lines
+    → StepsUpTo (λ (items : Rose ItemLabel). ItemsIn (Some document) (Ok items)) before now → StepsUpTo (λ (items : Rose ItemLabel). ItemsIn (Some (trial_document lines)) (Ok items)) before now
+steps_of lines before now document e few = subst (λ d. StepsUpTo (λ (items : Rose ItemLabel). ItemsIn (Some d) (Ok items)) before now) e few

@@ -1,5 +1,5 @@
 -- What reading a document's value answers is what is due of it.
-use Rattle.std.proofs.Common.{◌≡◌, ◌×◌, ◌⊎◌, ℕ, ◌<◌, ◌≤◌, List, refl, ap, inl, inr, Result, Ok, Err}
+use Rattle.std.proofs.Common.{◌≡◌, ◌⊎◌, ℕ, ◌<◌, ◌≤◌, List, refl, ap, inl, inr, Result, Ok, Err}
 use Rattle.label_tree.specs.Rose.{Rose, node_count}
 use Rattle.simple_types.specs.declared.labels.ValueLabel.{ValueLabel}
 use Rattle.doc_text.specs.declared.label.ItemLabel.{ItemLabel}

@@ -304,11 +304,18 @@ fn encode_trial<L: Ledger>(
     to_per(alloc, trial::ROOT, &[name], &mut files, &mut input, steps)
 }
 
-// The line that tells how long the encoding is of a trial document of this length.
-fn tell(alloc: Global, lines: u32, length: u64, octets: &[u8]) -> Result<Vec<u8>, Outcome>
-    ensures { Answers (λ bytes. bytes.items) (Give (trial.summary lines length (length octets.now))) NoMemory result }
+// How many bytes there are.
+fn length_of(bytes: &[u8]) -> u64
+    ensures { result ≡ length bytes.now }
 {
-    match summary(alloc, lines, length, octets.len() as u64) {
+    bytes.len() as u64
+}
+
+// The line that tells how long the encoding is of a trial document of this length.
+fn tell(alloc: Global, lines: u32, document: u64, octets: &[u8]) -> Result<Vec<u8>, Outcome>
+    ensures { Answers (λ bytes. bytes.items) (Give (trial.summary lines document (length octets.now))) NoMemory result }
+{
+    match summary(alloc, lines, document, octets.len() as u64) {
         Ok(line) => Ok(line),
         Err(_) => Err(Outcome::OutOfMemory),
     }
@@ -322,7 +329,7 @@ fn try_out<L: Ledger>(alloc: Global, lines: u32, steps: &mut Steps<L>) -> Result
     let Ok(document) = trial_document(alloc, lines) else {
         return Err(Outcome::OutOfMemory);
     };
-    let length = document.len() as u64;
+    let length = length_of(&document);
     match encode_trial(alloc, document, steps) {
         Ok(octets) => tell(alloc, lines, length, &octets),
         Err(outcome) => Err(outcome),

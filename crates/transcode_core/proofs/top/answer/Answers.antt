@@ -1,3 +1,10 @@
+use Rattle.std.proofs.Common.{ℕ, inl}
+use Rattle.std.specs.Prelude.{Vec}
+use Rattle.std.specs.declared.alloc.Global.{Global}
+use Rattle.transcode_core.specs.Words.{Trial}
+use Rattle.transcode_core.specs.Due.{Tried}
+use Rattle.transcode_core.specs.Causes.{NoMemory, Answering}
+use Rattle.transcode_core.proofs.Joined.{wider}
 use Rattle.transcode_core.proofs.top.answer.Goals as goal
 
 pub returns-in-ToPer-clause-due : goal.returns-in-ToPer-clause-due
@@ -5,3 +12,13 @@ returns-in-ToPer-clause-due g c = rw c.in-ToPer.is c.to_per.ensures.due
 
 pub returns-in-Check-clause-due : goal.returns-in-Check-clause-due
 returns-in-Check-clause-due g c = rw c.in-Check.is c.check.ensures.due
+
+pub returns-in-ToXml-clause-due : goal.returns-in-ToXml-clause-due
+returns-in-ToXml-clause-due g c = rw c.in-ToXml.is c.to_xml.ensures.due
+
+pub returns-in-Trial-clause-due : goal.returns-in-Trial-clause-due
+returns-in-Trial-clause-due g c =
+    rw c.in-Trial.is (wider (Tried c.in-Trial.lines) NoMemory
+    (Answering (g.F.Library.faults c.args.files.now) (g.F.Library.faults c.args.files.now) (g.F.Library.is_sure c.args.files.now) (g.F.Library.entries c.args.files.now)
+    (g.S.Source.faults c.args.input.now) (g.S.Source.faults c.args.input.now) (Trial c.in-Trial.lines))
+    (λ (bytes : Vec ℕ Global). bytes.items) c.try_out.result c.try_out.ensures.due (λ o h. inl (inl h)))

@@ -1,4 +1,4 @@
-use Rattle.transcode_core.proofs.Deciding.{load_failed}
+use Rattle.transcode_core.proofs.Deciding.{refusal_due, load_failed}
 use Rattle.doc_text.proofs.Known.{laws}
 use Rattle.transcode_core.proofs.Octets.{OctetLaws}
 use Rattle.transcode_core.proofs.Single.{Laws, completed_told}
@@ -17,4 +17,9 @@ returns-clause-complete g c entries bytes files told due no_load no_read no_writ
 pub returns-clause-load : goal.returns-clause-load
 returns-clause-load g c =
     load_failed c.args.words.now (g.F.Library.entries c.args.files.now) (g.S.Source.left c.args.input.now) (g.F.Library.faults c.args.files.now) (g.F.Library.faults c.decide.new.files) (g.F.Library.is_sure c.args.files.now)
+    (g.S.Source.faults c.args.input.now) (g.S.Source.faults c.decide.new.input) c.in-Err.outcome c.in-Err.ensures.due
+
+pub returns-clause-refused : goal.returns-clause-refused
+returns-clause-refused g c =
+    refusal_due c.args.words.now (g.F.Library.entries c.args.files.now) (g.S.Source.left c.args.input.now) (g.F.Library.faults c.args.files.now) (g.F.Library.faults c.decide.new.files) (g.F.Library.is_sure c.args.files.now)
     (g.S.Source.faults c.args.input.now) (g.S.Source.faults c.decide.new.input) c.in-Err.outcome c.in-Err.ensures.due

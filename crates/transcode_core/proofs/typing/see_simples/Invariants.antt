@@ -6,4 +6,4 @@ use Rattle.transcode_core.proofs.typing.see_simples.Given as goal
 
 -- those before this one
 abbrev pub invariant-simples : goal.invariant-simples
-invariant-simples l = All (λ (t : SimpleDef). IsSmall (space_of t.space)) (take l.n l.set.now.simples)
+invariant-simples l = All (λ (t : SimpleDef). IsSmall (space_of t.space)) (take l.n l.set.simples)
