@@ -107,8 +107,14 @@ fn read_kid<L: Ledger>(
     }
 }
 
-// The names taken are those of a list of the content model. The element stands at this place.
-fn finish<L: Ledger>(matcher: &Matcher, at: u64, steps: &mut Steps<L>) -> Result<(), CheckError>
+// The names taken are those of a list of the content model, and these are all kids of the element, which stands at this
+// place.
+fn finish<L: Ledger>(
+    matcher: &Matcher,
+    at: u64,
+    read: Kids,
+    steps: &mut Steps<L>,
+) -> Result<Kids, CheckError>
     ensures ticks { steps.new ≤ steps.old + (4 * levels matcher.now.particle + 4) }
     ensures finished { (us : List Leaf) → Took matcher.now us
         → MatchResult result
@@ -116,7 +122,7 @@ fn finish<L: Ledger>(matcher: &Matcher, at: u64, steps: &mut Steps<L>) -> Result
         (Tells (At at InvalidWhy.MissingElement (IsNamed matcher.now.particle (names us) → ⊥))) }
 {
     match matcher.finish(steps) {
-        Ok(()) => Ok(()),
+        Ok(()) => Ok(read),
         Err(_) => Err(CheckError::Invalid {
             at,
             why: InvalidWhy::MissingElement,
@@ -152,10 +158,7 @@ fn read_kids<L: Ledger>(
     for kid in kids {
         read_kid(set, plans, &mut matcher, mixed, kid, &mut read, steps)?;
     }
-    match finish(&matcher, at, steps) {
-        Ok(()) => Ok(read),
-        Err(error) => Err(error),
-    }
+    finish(&matcher, at, read, steps)
 }
 
 // The kids are what may stand in an element at this place.
@@ -337,8 +340,8 @@ fn read_filled<L: Ledger>(
     requires few { count_all (roses_of kids.now) < 2 ^ 31 }
     ensures same { plans.new ≡ set.now }
     ensures judged { MatchResult result
-        (λ _. IsValidInside (asked_at (parts_of set.now)) (inside_told declared.inside.entry) (roses_of kids.now))
-        (Tells (InsideFault (asked_at (parts_of set.now)) (inside_told declared.inside.entry) (roses_of kids.now) at)) }
+        (λ _. IsValidInside (asked_at (parts_of set.now)) (inside_told declared.entry.inside) (roses_of kids.now))
+        (Tells (InsideFault (asked_at (parts_of set.now)) (inside_told declared.entry.inside) (roses_of kids.now) at)) }
     ensures most { steps.new ≤ steps.old + (144 * elements_in (roses_of kids.now) + 72) }
 {
     match read_inside(set, plans, declared.inside, at, kids, steps) {

@@ -3,7 +3,8 @@ ghost use Rattle.std.specs.Prelude.{◌≡◌, ◌+◌, ◌*◌, ◌<◌, ◌≤
 ghost use Rattle.schema_parts.specs.SetParts.{parts_of};
 ghost use Rattle.asn_types.specs.Values.{In};
 ghost use Rattle.validity.specs.Valid.{HasName};
-ghost use Rattle.validity.specs.Faults.{At, place_of, FirstFault};
+ghost use Rattle.doc_text.specs.Labels.{item_place};
+ghost use Rattle.validity.specs.Faults.{At, FirstFault};
 ghost use Rattle.validity_check.specs.Answers.{Tells, IsValid};
 ghost use Rattle.validity_check.specs.Counts.{element_count};
 ghost use Rattle.xer_read.specs.Answers.{ReadTells};
@@ -28,7 +29,7 @@ const MOST_NODES: u64 = 1_048_576;
 fn check_root(label: &ItemLabel, name: &Name) -> Result<(), CheckError>
     ensures { MatchResult result
         (λ _. HasName (Some name.now) label.now)
-        (Tells (At (place_of label.now) InvalidWhy.WrongRoot (HasName (Some name.now) label.now → ⊥))) }
+        (Tells (At (item_place label.now) InvalidWhy.WrongRoot (HasName (Some name.now) label.now → ⊥))) }
 {
     match label {
         ItemLabel::Text { at, .. } => Err(CheckError::Invalid {

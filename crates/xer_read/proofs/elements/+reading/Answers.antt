@@ -1,7 +1,11 @@
 use Rattle.std.proofs.Common.{◌≡◌, ℕ, ◌≤◌, true, false, refl, sym, ◌∙◌, ap, subst, arith, add-one}
-use Rattle.std.specs.Prelude.{MatchResult}
+use Rattle.std.specs.Prelude.{MatchResult, Result, Ok, Err}
+use Rattle.simple_types.specs.declared.labels.ValueLabel.{ValueLabel}
+use Rattle.simple_types.specs.Seen.{space_of}
+use Rattle.validity_check.specs.declared.error.CheckError.{CheckError}
+use Rattle.validity_check.proofs.Texts.{text_spelled}
 use Rattle.std.proofs.lemmas.Result.{err_from_is_err_and}
-use Rattle.label_tree.specs.Rose.{roses_of, label_of, kids_of, count_all}
+use Rattle.label_tree.specs.Rose.{Rose, roses_of, label_of, kids_of, count_all}
 use Rattle.doc_text.specs.Sound.{is_text, are_sound}
 use Rattle.content_match.specs.Taking.{levels}
 use Rattle.content_models.specs.Seen.{seen}
@@ -10,7 +14,7 @@ use Rattle.validity.specs.Asked.{asked_at}
 use Rattle.validity.proofs.Reading.{kid_count, count-kids, kid_here}
 use Rattle.validity_check.specs.Answers.{Tells, IsValidInside, InsideFault}
 use Rattle.validity_check.specs.Counts.{elements_in}
-use Rattle.validity_check.specs.Told.{told, IsFittingInside, AreNamed}
+use Rattle.validity_check.specs.Told.{inside_told, told, IsFittingInside, AreNamed}
 use Rattle.validity_check.proofs.Counting.{one_more, up_to, fewer, text_counts, element_counts, at_least_length}
 use Rattle.validity_check.proofs.Shape.{kid_sound, kids_sound}
 use Rattle.validity_check.proofs.Leaves.{model_named}
@@ -62,17 +66,17 @@ read_kid-read_element-requires g t c κs within =
       ),
     )
 
-pub read_kid-returns-in-Ok-clause-judged : goal.read_kid-returns-in-Ok-clause-judged
-read_kid-returns-in-Ok-clause-judged g t c = λ p kids place i below here w.
+pub read_kid-returns-in-Err-read_element-clause-judged : goal.read_kid-returns-in-Err-read_element-clause-judged
+read_kid-returns-in-Err-read_element-clause-judged g t c = λ p kids place i below here w.
+    let refused : Result (Unit {0}) CheckError = Err c.in-Err-read_element.error in
     kid_judged c.args.set.now c.args.mixed p kids place i c.args.matcher.now w c.args.kid.now below here c.in-Element.name c.in-Element.attributes c.in-Element.declares c.in-Element.at
-    (sym c.label.ensures ∙ c.in-Element.is) c.step.new.self c.in-Ok.leaf c.in-Ok.ensures.particle (c.in-Ok.ensures.took w.us w.took) c.read_element.result c.read_element.ensures.judged
+    (sym c.label.ensures ∙ c.in-Element.is) c.step.new.self c.in-Ok.leaf c.in-Ok.ensures.particle (c.in-Ok.ensures.took w.us w.took) refused c.in-Err-read_element.ensures.judged
 
-pub read_kid-returns-in-Ok-clause-most : goal.read_kid-returns-in-Ok-clause-most
-read_kid-returns-in-Ok-clause-most g t c =
-    let s = c.in-Ok.ensures.ticks.1 in
-    let l = c.requires.levels in
-    let m = c.read_element.ensures.most in
-    omega (arith, s, l, m)
+pub read_kid-returns-in_ok-add_element-in-Ok-read_element-clause-judged : goal.read_kid-returns-in_ok-add_element-in-Ok-read_element-clause-judged
+read_kid-returns-in_ok-add_element-in-Ok-read_element-clause-judged g t c = λ p kids place i below here w.
+    let kept : Result (Rose ValueLabel) CheckError = Ok c.in-Ok-read_element.value in
+    kid_judged c.args.set.now c.args.mixed p kids place i c.args.matcher.now w c.args.kid.now below here c.in-Element.name c.in-Element.attributes c.in-Element.declares c.in-Element.at
+    (sym c.label.ensures ∙ c.in-Element.is) c.step.new.self c.in-Ok.leaf c.in-Ok.ensures.particle (c.in-Ok.ensures.took w.us w.took) kept c.in-Ok-read_element.ensures.judged
 
 -- ---- all kids
 
@@ -165,10 +169,17 @@ read_inside-read_kids-requires g t c κs within =
       ),
     )
 
+pub read_inside-returns-in-Ok-read_text-clause-judged : goal.read_inside-returns-in-Ok-read_text-clause-judged
+read_inside-returns-in-Ok-read_text-clause-judged g t c =
+    let read = c.in-Ok-read_text.ensures in
+    let kids = roses_of c.args.kids.now in
+    subst (λ x. IsValidInside (asked_at (parts_of c.args.set.now)) (inside_told x) kids) (sym c.in-Simple.is)
+    (text_spelled (space_of c.in-Simple.simple.now) kids read.0 c.in-Ok-read_text.value read.1 read.2)
+
 -- ---- an element
 
-pub read_element-read_inside-requires : goal.read_element-read_inside-requires
-read_element-read_inside-requires g t c κs within =
+pub read_element-read_filled-requires : goal.read_element-read_filled-requires
+read_element-read_filled-requires g t c κs within =
     let d = c.decreases in
     let k = count-kids c.args.item.now in
     let same = ap (λ ks. count_all (roses_of ks)) c.kids-kids.ensures in
@@ -181,8 +192,14 @@ read_element-read_inside-requires g t c κs within =
           (
             c.requires.plans,
             (
-              c.declared_of-declared.ensures.fits.1,
-              (subst (λ ks. are_sound (roses_of ks) ≡ true) (sym c.kids-kids.ensures) (kids_sound c.args.item.now c.requires.sound), omega (arith, k, same, few)),
+              c.requires.decl,
+              (
+                c.declared_of-declared.ensures.fits.1,
+                (
+                  c.declared_of-declared.ensures.fits.0,
+                  (subst (λ ks. are_sound (roses_of ks) ≡ true) (sym c.kids-kids.ensures) (kids_sound c.args.item.now c.requires.sound), omega (arith, k, same, few)),
+                ),
+              ),
             ),
           ),
         ),
@@ -191,20 +208,20 @@ read_element-read_inside-requires g t c κs within =
 
 pub read_element-returns-in-Err-clause-judged : goal.read_element-returns-in-Err-clause-judged
 read_element-returns-in-Err-clause-judged g t c =
-    tag_refused c.args.set.now c.args.decl (told (parts_of c.args.set.now) c.declared_of-declared.result) c.items.result.now c.in-Element.name c.in-Element.attributes c.in-Element.declares c.in-Element.at
-    c.args.item.now (sym c.label.ensures ∙ c.in-Element.is) c.declared_of-declared.ensures.asked c.items.ensures c.in-Err.error c.in-Err.ensures
+    tag_refused c.args.set.now c.args.decl (told (parts_of c.args.set.now) c.declared_of-declared.result) c.items-items.result.now c.in-Element.name c.in-Element.attributes c.in-Element.declares c.in-Element.at
+    c.args.item.now (sym c.label.ensures ∙ c.in-Element.is) c.declared_of-declared.ensures.asked c.items-items.ensures c.in-Err.error c.in-Err.ensures
 
 pub read_element-returns-then-nil-clause-judged : goal.read_element-returns-then-nil-clause-judged
 read_element-returns-then-nil-clause-judged g t c =
-    nil_judged c.args.set.now c.args.decl (told (parts_of c.args.set.now) c.declared_of-declared.result) c.items.result.now c.in-Element.name c.in-Element.attributes c.in-Element.declares c.in-Element.at
-    c.args.item.now (sym c.label.ensures ∙ c.in-Element.is) c.declared_of-declared.ensures.asked c.items.ensures
+    nil_judged c.args.set.now c.args.decl (told (parts_of c.args.set.now) c.declared_of-declared.result) c.items-items.result.now c.in-Element.name c.in-Element.attributes c.in-Element.declares c.in-Element.at
+    c.args.item.now (sym c.label.ensures ∙ c.in-Element.is) c.declared_of-declared.ensures.asked c.items-items.ensures
     (rw c.if-nil.true at c.in-Ok.ensures) c.kids-kids.result.now c.kids-kids.ensures c.read_nil.result c.read_nil.ensures
 
 pub read_element-returns-else-nil-clause-judged : goal.read_element-returns-else-nil-clause-judged
 read_element-returns-else-nil-clause-judged g t c =
-    inside_judged c.args.set.now c.args.decl (told (parts_of c.args.set.now) c.declared_of-declared.result) c.items.result.now c.in-Element.name c.in-Element.attributes c.in-Element.declares c.in-Element.at
-    c.args.item.now (sym c.label.ensures ∙ c.in-Element.is) c.declared_of-declared.ensures.asked c.items.ensures
-    (rw c.if-nil.false at c.in-Ok.ensures) c.kids-kids.result.now c.kids-kids.ensures c.read_inside.result c.read_inside.ensures.judged
+    inside_judged c.args.set.now c.args.decl (told (parts_of c.args.set.now) c.declared_of-declared.result) c.items-items.result.now c.in-Element.name c.in-Element.attributes c.in-Element.declares c.in-Element.at
+    c.args.item.now (sym c.label.ensures ∙ c.in-Element.is) c.declared_of-declared.ensures.asked c.items-items.ensures
+    (rw c.if-nil.false at c.in-Ok.ensures) c.kids-kids.result.now c.kids-kids.ensures c.read_filled.result c.read_filled.ensures.judged
 
 pub read_element-returns-in-Err-clause-most : goal.read_element-returns-in-Err-clause-most
 read_element-returns-in-Err-clause-most g t c =
@@ -220,7 +237,7 @@ pub read_element-returns-else-nil-clause-most : goal.read_element-returns-else-n
 read_element-returns-else-nil-clause-most g t c =
     let n = element_counts c.args.item.now c.in-Element.name c.in-Element.attributes c.in-Element.declares c.in-Element.at (sym c.label.ensures ∙ c.in-Element.is) in
     let same = ap (λ ks. elements_in (roses_of ks)) c.kids-kids.ensures in
-    let m = c.read_inside.ensures.most in
+    let m = c.read_filled.ensures.most in
     omega (arith, n, same, m)
 
 pub read_kids-returns-in_err-read_kid-clause-judged :

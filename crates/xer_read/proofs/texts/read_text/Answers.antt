@@ -1,6 +1,6 @@
 use Rattle.label_tree.specs.Rose.{roses_of}
 use Rattle.simple_types.specs.Seen.{space_of}
-use Rattle.xer_read.proofs.Texts.{bad-text, wide-text}
+use Rattle.xer_read.proofs.Refusing.{bad-text, wide-text}
 use Rattle.xer_read.proofs.texts.read_text.Goals as goal
 
 pub returns-in-Ok : goal.returns-in-Ok
