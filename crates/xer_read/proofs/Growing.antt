@@ -1,5 +1,5 @@
 -- Parts that are added one after another, and child elements that are taken one after another.
-use Rattle.std.proofs.Common.{◌≡◌, ℕ, zero, suc, ◌||◌, ◌&&◌, Bool, true, false, not, List, [], ◌∷◌, ◌++◌, Option, Some, None, length, refl, sym, ◌∙◌, ap, subst, append-nil, append_assoc}
+use Rattle.std.proofs.Common.{◌≡◌, ℕ, suc, ◌||◌, ◌&&◌, Bool, true, false, not, List, [], ◌∷◌, ◌++◌, Option, length, refl, sym, ◌∙◌, ap, subst, append-nil, append_assoc}
 use Rattle.std.specs.Prelude.{nat_le, Result, Ok, Err, OnOk, IfOk}
 use Rattle.label_tree.specs.Rose.{Rose, node, Roses, roses_of, label_of, kids_of}
 use Rattle.label_tree.specs.Rose as rose

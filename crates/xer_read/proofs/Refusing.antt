@@ -1,5 +1,5 @@
 -- Texts that a simple type refuses, and answers that are more exact.
-use Rattle.std.proofs.Common.{◌≡◌, ℕ, inr, List, Some, refl, sym, subst}
+use Rattle.std.proofs.Common.{◌≡◌, ℕ, ◌<◌, inr, List, Some, refl, sym, subst}
 use Rattle.std.specs.Prelude.{Result, Ok, Err, MatchResult}
 use Rattle.label_tree.specs.Rose.{Roses}
 use Rattle.simple_types.specs.Space.{Space}
@@ -21,9 +21,9 @@ pub wide-text : (space : Space) (ts : Roses ItemLabel) (words : List ℕ) (place
 wide-text space ts words place e h = inr (words, e, refl, subst (λ r. Refuses r BadText TooWide) (sym h) refl)
 
 -- what is sealed of a valid document
-pub of-valid : {X : Type 0} (r : Result X ReadError) (P : X → Type 0) (Q : Type 0) (F : ℕ → InvalidWhy → Type 0) → Q → MatchResult r P (ReadTells (λ at why. ⊥) (Unit {0}))
-    → MatchResult r (λ v. Q × P v) (ReadTells F Q)
+pub of-valid : {X : Type 0} (r : Result X ReadError) (P : X → Type 0) (Q : Type 0) (F : ℕ → InvalidWhy → Type 0) → Q → MatchResult r P (ReadTells (λ at why. ⊥) (λ count. 1048576 < count))
+    → MatchResult r (λ v. Q × P v) (ReadTells F (λ count. Q × (1048576 < count)))
 of-valid (Ok v) P Q F q h = (q, h)
 of-valid (Err (Invalid at why)) P Q F q h = absurd h
-of-valid (Err (TooManyNodes count)) P Q F q h = (q, h.1)
+of-valid (Err (TooManyNodes count)) P Q F q h = (q, h)
 of-valid (Err Memory) P Q F q h = tt

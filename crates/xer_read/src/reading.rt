@@ -7,7 +7,7 @@ ghost use Rattle.doc_text.specs.Labels.{item_place};
 ghost use Rattle.validity.specs.Faults.{At, FirstFault};
 ghost use Rattle.validity_check.specs.Answers.{Tells, IsValid};
 ghost use Rattle.validity_check.specs.Counts.{element_count};
-ghost use Rattle.xer_read.specs.Answers.{ReadTells};
+ghost use Rattle.xer_read.specs.Answers.{IsTooLarge, ReadTells};
 
 use crate::elements::read_element;
 use crate::error::ReadError;
@@ -89,7 +89,7 @@ fn sealed(
     requires { t < length module.now }
     ensures { MatchResult result
         (λ value. In module.now t value)
-        (ReadTells (λ at why. ⊥) (Unit {0})) }
+        (ReadTells (λ at why. ⊥) (λ count. 1048576 < count)) }
 {
     // Open: it is always a value.
     let Ok(value) = Whole::seal(tree) else {
@@ -125,7 +125,7 @@ pub fn read_value<L: Ledger>(
     requires t { t < length module.now }
     ensures read { MatchResult result
         (λ value. IsValid set.now root items.now × In module.now t value)
-        (ReadTells (FirstFault (parts_of set.now) root items.now) (IsValid set.now root items.now)) }
+        (ReadTells (FirstFault (parts_of set.now) root items.now) (IsTooLarge set.now root items.now)) }
     ensures most { steps.new ≤ steps.old + 144 * element_count items.now }
 {
     match read_root(alloc, set, root, items, steps) {

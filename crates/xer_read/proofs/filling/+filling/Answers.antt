@@ -4,9 +4,9 @@ use Rattle.label_tree.proofs.Roses.{node_count-kids}
 use Rattle.content_models.specs.Seen.{seen, all_seen}
 use Rattle.content_models.specs.Particle.{more, none}
 use Rattle.xer_read.specs.Private.Bounds.{is_once, is_optional}
-use Rattle.xer_read.specs.Private.Made.{Each, Several, TermMade, PartsMade, ChosenMade}
-use Rattle.xer_read.specs.Private.Growing.{term_of, Takes, Fills, Grows}
-use Rattle.xer_read.proofs.Growing.{on-ok, takes-as, takes-more, fills-one, fills-absent, fills-none, fills-more, once-made, optional-made, several-made, absent-made, later-chosen, once-chosen, several-chosen}
+use Rattle.xer_read.specs.Private.Made.{Several, TermMade, PartsMade, ChosenMade}
+use Rattle.xer_read.specs.Private.Growing.{term_of, Fills, Grows}
+use Rattle.xer_read.proofs.Growing.{on-ok, takes-as, takes-more, fills-one, fills-none, fills-more, once-made, optional-made, several-made, once-chosen, several-chosen}
 use Rattle.xer_read.proofs.filling.+filling.Goals as goal
 
 pub fill_chosen-fill_chosen-requires : goal.fill_chosen-fill_chosen-requires

@@ -1,10 +1,9 @@
-use Rattle.std.proofs.Common.{◌≡◌, [], sym, ap, subst, ◌∙◌}
-use Rattle.label_tree.specs.Rose.{label_of, kids_of, roses_of}
-use Rattle.content_models.specs.Seen.{seen, all_seen}
-use Rattle.content_models.specs.Particle.{more, none}
-use Rattle.xer_read.specs.Private.Made.{PartsMade, TopMade}
-use Rattle.xer_read.specs.Private.Growing.{Fills, FillsAll}
-use Rattle.xer_read.proofs.Growing.{on-ok, top-parted, top-whole}
+use Rattle.std.proofs.Common.{◌≡◌, [], ap, ◌∙◌}
+use Rattle.label_tree.specs.Rose.{label_of, kids_of}
+use Rattle.content_models.specs.Seen.{seen}
+use Rattle.xer_read.specs.Private.Made.{TopMade}
+use Rattle.xer_read.specs.Private.Growing.{FillsAll}
+use Rattle.xer_read.proofs.Growing.{on-ok, top-parted}
 use Rattle.xer_read.proofs.filling.fill_top.Goals as goal
 
 pub returns-then-is_parted : goal.returns-then-is_parted
