@@ -1,0 +1,14 @@
+use Rattle.std.proofs.Common.{◌≡◌, [], ap, ◌∙◌}
+use Rattle.label_tree.specs.Rose.{label_of, kids_of}
+use Rattle.content_models.specs.Seen.{seen}
+use Rattle.xer_read.specs.Private.Made.{TopMade}
+use Rattle.xer_read.specs.Private.Growing.{FillsAll}
+use Rattle.xer_read.proofs.Growing.{on-ok, top-parted}
+use Rattle.xer_read.proofs.filling.fill_top.Goals as goal
+
+pub returns-then-is_parted : goal.returns-then-is_parted
+returns-then-is_parted c =
+    on-ok c.all_placed.result (c.fill_parts.new.children.waiting.items ≡ []) (FillsAll (TopMade (seen c.args.model.now)) c.args.children.waiting.items c.args.parts.now c.fill_parts.new.parts)
+    (λ e. top-parted c.args.model.now c.label.result.now c.kids.result.now (c.label.ensures ∙ ap label_of c.root-root.ensures.root) (c.kids.ensures ∙ ap kids_of c.root-root.ensures.root)
+    c.if-is_parted.ensures c.args.children c.fill_parts.new.children c.args.parts.now c.fill_parts.new.parts e c.in_ok-fill_parts.ensures)
+    c.all_placed.ensures

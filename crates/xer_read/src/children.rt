@@ -1,0 +1,119 @@
+//! The values of child elements, in their order, with the places at which they stand in the content model.
+ghost use Rattle.std.specs.Prelude.{◌≡◌, [], ◌∷◌, ◌++◌, OnOk, IfOk, IsTrue};
+ghost use Rattle.xer_read.specs.declared.children.Child.{Child};
+ghost use Rattle.xer_read.specs.Private.Made.{IsOne};
+ghost use Rattle.xer_read.specs.Private.Growing.{Takes};
+
+use content_match::Turn;
+use label_tree::Tree;
+use simple_types::ValueLabel;
+use std::alloc::Global;
+use std::collections::VecDeque;
+use xa_base::Memory;
+
+/// A child element: the number of its declaration, its value, and where its turns begin and end.
+#[derive(Drop)]
+pub(crate) struct Child {
+    decl: u32,
+    value: Tree<ValueLabel>,
+    from: usize,
+    to: usize,
+}
+
+/// Child elements that wait for their places in a value, and the turns of all.
+#[derive(Drop)]
+pub(crate) struct Children {
+    waiting: VecDeque<Child>,
+    turns: Vec<Turn>,
+}
+
+impl Children {
+    /// None yet.
+    pub(crate) fn new(alloc: Global) -> Children
+        ensures { result.waiting.items ≡ [] }
+    {
+        Children {
+            waiting: VecDeque::new(alloc),
+            turns: Vec::new(alloc),
+        }
+    }
+
+    /// The next child element, with the turns of the particles from the top to its leaf.
+    pub(crate) fn add(
+        &mut self,
+        decl: u32,
+        turns: &[Turn],
+        value: Tree<ValueLabel>,
+    ) -> Result<(), Memory>
+        ensures { OnOk result ((g : Child) × (self.new.waiting.items ≡ self.old.waiting.items ++ g ∷ []) × (g.decl ≡ decl) × (g.value ≡ value)) }
+    {
+        let from = self.turns.len();
+        self.turns.extend_from_slice(turns)?;
+        let to = self.turns.len();
+        let child = Child {
+            decl,
+            value,
+            from,
+            to,
+        };
+        self.waiting.push_back(child)?;
+        Ok(())
+    }
+
+    // The turns of the first that waits.
+    fn next_turns(&self) -> &[Turn] {
+        match self.waiting.front() {
+            None => &[],
+            Some(child) => match self.turns.as_slice().get(child.from..child.to) {
+                None => &[],
+                Some(turns) => turns,
+            },
+        }
+    }
+
+    /// Which occurrence of the particle with this number, from 0, the first that waits stands in. The particle stands at
+    /// this level, from 0.
+    pub(crate) fn next_turn(&self, level: usize, particle: u64) -> Option<u64> {
+        let turn = self.next_turns().get(level)?;
+        if u64::from(turn.particle) == particle {
+            Some(u64::from(turn.turn))
+        } else {
+            None
+        }
+    }
+
+    /// The value of the first that waits, which has this declaration.
+    // Open: another declaration never stands there, as the turns are those of a list of the content model.
+    pub(crate) fn take(&mut self, decl: u32) -> Result<Tree<ValueLabel>, Memory>
+        ensures { IfOk result (λ value. Takes (IsOne decl value) self.old self.new) }
+    {
+        match self.waiting.pop_front() {
+            None => Err(Memory),
+            Some(child) => {
+                let Child {
+                    decl: found,
+                    value,
+                    from: _,
+                    to: _,
+                } = child;
+                if found == decl {
+                    Ok(value)
+                } else {
+                    Err(Memory)
+                }
+            }
+        }
+    }
+
+    /// How many wait.
+    pub(crate) fn count(&self) -> usize {
+        self.waiting.len()
+    }
+
+    /// Whether none waits.
+    pub(crate) fn are_placed(&self) -> bool
+        ensures { IsTrue result → self.now.waiting.items ≡ [] }
+    {
+        self.waiting.is_empty()
+    }
+}
