@@ -1,4 +1,9 @@
 //! The values of child elements, in their order, with the places at which they stand in the content model.
+ghost use Rattle.std.specs.Prelude.{◌≡◌, [], ◌∷◌, ◌++◌, OnOk, IfOk, IsTrue};
+ghost use Rattle.xer_read.specs.declared.children.Child.{Child};
+ghost use Rattle.xer_read.specs.Private.Made.{IsOne};
+ghost use Rattle.xer_read.specs.Private.Growing.{Takes};
+
 use content_match::Turn;
 use label_tree::Tree;
 use simple_types::ValueLabel;
@@ -24,7 +29,9 @@ pub(crate) struct Children {
 
 impl Children {
     /// None yet.
-    pub(crate) fn new(alloc: Global) -> Children {
+    pub(crate) fn new(alloc: Global) -> Children
+        ensures { result.waiting.items ≡ [] }
+    {
         Children {
             waiting: VecDeque::new(alloc),
             turns: Vec::new(alloc),
@@ -37,7 +44,9 @@ impl Children {
         decl: u32,
         turns: &[Turn],
         value: Tree<ValueLabel>,
-    ) -> Result<(), Memory> {
+    ) -> Result<(), Memory>
+        ensures { OnOk result ((g : Child) × (self.new.waiting.items ≡ self.old.waiting.items ++ g ∷ []) × (g.decl ≡ decl) × (g.value ≡ value)) }
+    {
         let from = self.turns.len();
         self.turns.extend_from_slice(turns)?;
         let to = self.turns.len();
@@ -75,7 +84,9 @@ impl Children {
 
     /// The value of the first that waits, which has this declaration.
     // Open: another declaration never stands there, as the turns are those of a list of the content model.
-    pub(crate) fn take(&mut self, decl: u32) -> Result<Tree<ValueLabel>, Memory> {
+    pub(crate) fn take(&mut self, decl: u32) -> Result<Tree<ValueLabel>, Memory>
+        ensures { IfOk result (λ value. Takes (IsOne decl value) self.old self.new) }
+    {
         match self.waiting.pop_front() {
             None => Err(Memory),
             Some(child) => {
@@ -85,7 +96,11 @@ impl Children {
                     from: _,
                     to: _,
                 } = child;
-                if found == decl { Ok(value) } else { Err(Memory) }
+                if found == decl {
+                    Ok(value)
+                } else {
+                    Err(Memory)
+                }
             }
         }
     }
@@ -96,7 +111,9 @@ impl Children {
     }
 
     /// Whether none waits.
-    pub(crate) fn are_placed(&self) -> bool {
+    pub(crate) fn are_placed(&self) -> bool
+        ensures { IsTrue result → self.now.waiting.items ≡ [] }
+    {
         self.waiting.is_empty()
     }
 }

@@ -50,8 +50,7 @@ impl Kids {
             None => Text::empty(),
             Some(text) => text,
         };
-        self.texts
-            .push(Tree::leaf(alloc, ValueLabel::Utf8(text)))?;
+        self.texts.push(Tree::leaf(alloc, ValueLabel::Utf8(text)))?;
         Ok(())
     }
 
@@ -71,10 +70,7 @@ impl Kids {
     }
 
     /// The value of the texts, and the child elements.
-    pub(crate) fn into_parts(
-        self,
-        alloc: Global,
-    ) -> Result<(Tree<ValueLabel>, Children), Memory> {
+    pub(crate) fn into_parts(self, alloc: Global) -> Result<(Tree<ValueLabel>, Children), Memory> {
         let mut kids = self;
         kids.close_text(alloc)?;
         let Kids {

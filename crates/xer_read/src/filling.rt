@@ -1,4 +1,13 @@
 //! The values of child elements at their places in the value of a content model.
+ghost use Rattle.std.specs.Prelude.{◌≡◌, [], OnOk, IfOk};
+ghost use Rattle.label_tree.specs.Rose.{label_of, roses_of};
+ghost use Rattle.content_models.specs.Seen.{seen, all_seen, term_seen};
+ghost use Rattle.content_models.specs.Particle.{Particles, more, none};
+ghost use Rattle.map_assignments.specs.Planning as plan;
+ghost use Rattle.map_laws.specs.Standing as standing;
+ghost use Rattle.xer_read.specs.Private.Made.{Several, TermMade, PartsMade, ChosenMade, TopMade};
+ghost use Rattle.xer_read.specs.Private.Growing.{term_of, Takes, Fills, FillsAll};
+
 use crate::children::Children;
 use crate::parts::Parts;
 use content_models::{Particle, ParticleKind, ParticleLabel};
@@ -9,7 +18,9 @@ use std::alloc::Global;
 use xa_base::Memory;
 
 // The bounds 1 and 1.
-fn is_once(label: &ParticleLabel) -> bool {
+fn is_once(label: &ParticleLabel) -> bool
+    ensures { result ≡ plan.is_once label.now.min label.now.max }
+{
     match label.max {
         None => false,
         Some(max) => label.min == 1 && max == 1,
@@ -17,7 +28,9 @@ fn is_once(label: &ParticleLabel) -> bool {
 }
 
 // The bounds 0 and 1.
-fn is_optional(label: &ParticleLabel) -> bool {
+fn is_optional(label: &ParticleLabel) -> bool
+    ensures { result ≡ plan.is_optional label.now.min label.now.max }
+{
     match label.max {
         None => false,
         Some(max) => label.min == 0 && max == 1,
@@ -93,7 +106,9 @@ fn fill_term(
     number: u64,
     level: usize,
     children: &mut Children,
-) -> Result<Tree<ValueLabel>, Memory> {
+) -> Result<Tree<ValueLabel>, Memory>
+    ensures { IfOk result (λ value. Takes (TermMade (term_of particle.now) value) children.old children.new) }
+{
     match particle.label().kind {
         ParticleKind::Element { decl, .. } => children.take(decl),
         ParticleKind::Sequence => {
@@ -126,7 +141,9 @@ fn fill_items(
     number: u64,
     level: usize,
     children: &mut Children,
-) -> Result<Tree<ValueLabel>, Memory> {
+) -> Result<Tree<ValueLabel>, Memory>
+    ensures { IfOk result (λ value. Takes (Several (TermMade (term_of particle.now)) (label_of particle.now).min (label_of particle.now).max value) children.old children.new) }
+{
     let mut values = Vec::new(alloc);
     let mut turn: u64 = 0;
     'turns: for _ in 0..children.count() {
@@ -155,22 +172,21 @@ fn fill_chosen(
     level: usize,
     place: u32,
     children: &mut Children,
-) -> Result<Tree<ValueLabel>, Memory> {
-    match particles {
-        // Open: one of them is always chosen.
-        [] => Err(Memory),
-        [first, rest @ ..] => {
-            if place == 0 {
-                if is_once(first.label()) {
-                    fill_term(alloc, first, number, level.saturating_add(1), children)
-                } else {
-                    fill_items(alloc, first, number, level, children)
-                }
-            } else {
-                let next = number.saturating_add(first.count());
-                fill_chosen(alloc, rest, next, level, place - 1, children)
-            }
-        }
+) -> Result<Tree<ValueLabel>, Memory>
+    ensures { IfOk result (λ value. Takes (ChosenMade (all_seen (roses_of particles.now)) place value) children.old children.new) }
+{
+    // Open: one of them is always chosen.
+    let Some((first, rest)) = particles.split_first() else {
+        return Err(Memory);
+    };
+    if 0 < place {
+        let next = number.saturating_add(first.count());
+        return fill_chosen(alloc, rest, next, level, place - 1, children);
+    }
+    if is_once(first.label()) {
+        fill_term(alloc, first, number, level.saturating_add(1), children)
+    } else {
+        fill_items(alloc, first, number, level, children)
     }
 }
 
@@ -183,18 +199,24 @@ fn fill_part(
     level: usize,
     children: &mut Children,
     parts: &mut Parts,
-) -> Result<(), Memory> {
+) -> Result<(), Memory>
+    ensures { OnOk result (Fills (PartsMade (more (seen particle.now) none)) children.old children.new parts.old parts.new) }
+{
     let label = particle.label();
-    let stands = children.next_turn(level, number).is_some();
-    if is_optional(label) && !stands {
-        parts.leave_out()
-    } else if is_once(label) || is_optional(label) {
-        let value = fill_term(alloc, particle, number, level.saturating_add(1), children)?;
-        parts.add(value)
-    } else {
-        let value = fill_items(alloc, particle, number, level, children)?;
-        parts.add(value)
+    let below = level.saturating_add(1);
+    if is_once(label) {
+        let value = fill_term(alloc, particle, number, below, children)?;
+        return parts.add(value);
     }
+    if is_optional(label) {
+        if children.next_turn(level, number).is_none() {
+            return parts.leave_out();
+        }
+        let value = fill_term(alloc, particle, number, below, children)?;
+        return parts.add(value);
+    }
+    let value = fill_items(alloc, particle, number, level, children)?;
+    parts.add(value)
 }
 
 // The parts for the particles of a sequence, of which the first has this number and stands at this level.
@@ -206,14 +228,38 @@ fn fill_parts(
     level: usize,
     children: &mut Children,
     parts: &mut Parts,
-) -> Result<(), Memory> {
-    match particles {
-        [] => Ok(()),
-        [first, rest @ ..] => {
+) -> Result<(), Memory>
+    ensures { OnOk result (Fills (PartsMade (all_seen (roses_of particles.now))) children.old children.new parts.old parts.new) }
+{
+    match particles.split_first() {
+        None => Ok(()),
+        Some((first, rest)) => {
             fill_part(alloc, first, number, level, children, parts)?;
             let next = number.saturating_add(first.count());
             fill_parts(alloc, rest, next, level, children, parts)
         }
+    }
+}
+
+// Whether the particles of a top particle are parts by themselves: it is a sequence that stands once.
+fn is_parted(label: &ParticleLabel) -> bool
+    ensures { (ps : Particles) → result ≡ standing.is_parted (term_seen label.now.kind ps) label.now.min label.now.max }
+{
+    match label.kind {
+        ParticleKind::Sequence => is_once(label),
+        _ => false,
+    }
+}
+
+// Each child element has found its place.
+// Open: none is ever left.
+fn all_placed(children: &Children) -> Result<(), Memory>
+    ensures { OnOk result (children.now.waiting.items ≡ []) }
+{
+    if children.are_placed() {
+        Ok(())
+    } else {
+        Err(Memory)
     }
 }
 
@@ -224,19 +270,16 @@ pub(crate) fn fill_top(
     model: &Particle,
     children: Children,
     parts: &mut Parts,
-) -> Result<(), Memory> {
-    let mut children = children;
+) -> Result<(), Memory>
+    ensures { OnOk result (FillsAll (TopMade (seen model.now)) children.waiting.items parts.old parts.new) }
+{
+    let mut waiting = children;
     let root = model.root();
-    let label = root.label();
-    if matches!(label.kind, ParticleKind::Sequence) && is_once(label) {
-        fill_parts(alloc, root.kids(), 1, 1, &mut children, parts)?;
+    if is_parted(root.label()) {
+        fill_parts(alloc, root.kids(), 1, 1, &mut waiting, parts)?;
+        all_placed(&waiting)
     } else {
-        fill_part(alloc, root, 0, 0, &mut children, parts)?;
-    }
-    // Open: none is ever left.
-    if children.are_placed() {
-        Ok(())
-    } else {
-        Err(Memory)
+        fill_part(alloc, root, 0, 0, &mut waiting, parts)?;
+        all_placed(&waiting)
     }
 }

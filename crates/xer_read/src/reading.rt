@@ -23,7 +23,9 @@ fn check_root(label: &ItemLabel, name: &Name) -> Result<(), CheckError> {
             why: InvalidWhy::WrongRoot,
         }),
         ItemLabel::Element {
-            name: found, at, ..
+            name: found,
+            at,
+            ..
         } => {
             if *found == *name {
                 Ok(())

@@ -1,12 +1,11 @@
 //! The text of an element of a simple type.
-use validity_check::CheckError;
 use doc_text::ItemLabel;
 use label_tree::Tree;
 use simple_types::{Simple, ValueLabel};
 use simple_values::{SimpleError, accept};
 use std::alloc::Global;
 use validity::InvalidWhy;
-use validity_check::only_text;
+use validity_check::{CheckError, only_text};
 use xa_base::Text;
 
 /// The value that the simple type gives to the text of an element at this place, which has these kids.

@@ -1,0 +1,66 @@
+use Rattle.std.proofs.Common.{◌≡◌, ap, arith, refl, sym, ◌∙◌}
+use Rattle.label_tree.specs.Rose.{count_all, roses_of, label_of}
+use Rattle.label_tree.proofs.Roses.{node_count-kids}
+use Rattle.content_models.specs.Seen.{seen, all_seen}
+use Rattle.content_models.specs.Particle.{more, none}
+use Rattle.map_assignments.specs.Planning.{is_once, is_optional}
+use Rattle.xer_read.specs.Private.Made.{Each, Several, TermMade, PartsMade, ChosenMade}
+use Rattle.xer_read.specs.Private.Growing.{term_of, Takes, Fills, Grows}
+use Rattle.xer_read.proofs.Growing.{on-ok, takes-as, takes-more, fills-one, fills-absent, fills-none, fills-more, once-made, optional-made, several-made, absent-made, later-chosen, once-chosen, several-chosen}
+use Rattle.xer_read.proofs.filling.+filling.Goals as goal
+
+pub fill_chosen-fill_chosen-requires : goal.fill_chosen-fill_chosen-requires
+fill_chosen-fill_chosen-requires t c =
+    let d = c.decreases in
+    let k = ap (λ us. count_all (roses_of us)) c.in-Some.ensures.cases.0 in
+    let n = node_count-kids c.in-Some.first.now in
+    (omega (arith, d, k, n), tt)
+
+pub fill_chosen-returns-then-is_once : goal.fill_chosen-returns-then-is_once
+fill_chosen-returns-then-is_once t c =
+    let zero_is : c.args.place ≡ 0 = omega arith in
+    takes-as c.fill_term.result (TermMade (term_of c.in-Some.first.now)) (ChosenMade (all_seen (roses_of c.args.particles.now)) c.args.place) c.args.children.now c.fill_term.new.children
+    (λ v gs h. once-chosen c.args.particles.now c.in-Some.first.now c.in-Some.rest.now c.in-Some.ensures.cases.0 c.args.place v gs zero_is
+    (sym (c.if-is_once.ensures ∙ ap (λ l. is_once l.min l.max) c.label.ensures)) h) c.fill_term.ensures
+
+pub fill_chosen-returns-else-is_once : goal.fill_chosen-returns-else-is_once
+fill_chosen-returns-else-is_once t c =
+    let zero_is : c.args.place ≡ 0 = omega arith in
+    takes-as c.fill_items.result (Several (TermMade (term_of c.in-Some.first.now)) (label_of c.in-Some.first.now).min (label_of c.in-Some.first.now).max) (ChosenMade (all_seen (roses_of c.args.particles.now)) c.args.place)
+    c.args.children.now c.fill_items.new.children
+    (λ v gs h. several-chosen c.args.particles.now c.in-Some.first.now c.in-Some.rest.now c.in-Some.ensures.cases.0 c.args.place v gs zero_is
+    (sym (c.if-is_once.ensures ∙ ap (λ l. is_once l.min l.max) c.label.ensures)) h) c.fill_items.ensures
+
+pub fill_items-turns-preserved : goal.fill_items-turns-preserved
+fill_items-turns-preserved t c =
+    takes-more (TermMade (term_of c.args.particle.now)) c.turns.values.items c.push.new.self.items c.in_ok-value.value c.args.children.now c.turns.children c.fill_term.new.children
+    c.in_ok-push.ensures.items c.turns.invariant c.in_ok-value.ensures
+
+pub fill_parts-fill_parts-requires : goal.fill_parts-fill_parts-requires
+fill_parts-fill_parts-requires t c =
+    let d = c.decreases in
+    let k = ap (λ us. count_all (roses_of us)) c.in-Some.ensures.cases.0 in
+    let n = node_count-kids c.in-Some.first.now in
+    (omega (arith, d, k, n), tt)
+
+pub fill_parts-fill_part-requires : goal.fill_parts-fill_part-requires
+fill_parts-fill_part-requires t c =
+    let d = c.decreases in
+    let k = ap (λ us. count_all (roses_of us)) c.in-Some.ensures.cases.0 in
+    (omega (arith, d, k), tt)
+
+pub fill_parts-returns-in-None : goal.fill_parts-returns-in-None
+fill_parts-returns-in-None t c = fills-none c.args.particles.now c.in-None.ensures.cases c.args.children.now c.args.parts.now
+
+pub fill_term-fill_parts-requires : goal.fill_term-fill_parts-requires
+fill_term-fill_parts-requires t c =
+    let d = c.decreases in
+    let k = node_count-kids c.args.particle.now in
+    (rw c.kids.ensures (omega (arith, d, k)), tt)
+
+pub fill_parts-returns-in_ok-fill_part-in-Some : goal.fill_parts-returns-in_ok-fill_part-in-Some
+fill_parts-returns-in_ok-fill_part-in-Some t c =
+    on-ok c.fill_parts.result (Fills (PartsMade (all_seen (roses_of c.in-Some.rest.now))) c.fill_part.new.children c.fill_parts.new.children c.fill_part.new.parts c.fill_parts.new.parts)
+    (Fills (PartsMade (all_seen (roses_of c.args.particles.now))) c.args.children.now c.fill_parts.new.children c.args.parts.now c.fill_parts.new.parts)
+    (fills-more c.args.particles.now c.in-Some.first.now c.in-Some.rest.now c.in-Some.ensures.cases.0 c.args.children.now c.fill_part.new.children c.fill_parts.new.children
+    c.args.parts.now c.fill_part.new.parts c.fill_parts.new.parts c.in_ok-fill_part-in-Some.ensures) c.fill_parts.ensures
