@@ -4,16 +4,12 @@
 set -eu
 cd "$(dirname "$0")/.."
 . bench/measure.sh
+. bench/orders.sh
 
 head='<xs:schema xmlns:xs="http://www.w3.org/2001/XMLSchema">'
 
 # An order of 100,000 lines, 4.28 MB.
-cp examples/order.xsd "$work/order.xsd"
-awk 'BEGIN {
-    printf "<order xmlns=\"urn:po\" id=\"7\">"
-    for (i = 0; i < 100000; i++) printf "<line><sku>S%d</sku><qty>%d</qty></line>", i, 1 + i % 100
-    printf "</order>"
-}' > "$work/order"
+order 100000 > "$work/order"
 
 # 100,000 children under 16 sequences in one another.
 {

@@ -180,9 +180,13 @@ entries-once (x ∷ xs) (y ∷ ys) up also into back =
     (λ is. let h = subst (λ w. entry_cmp y w ≡ Less) (sym (sym e ∙ is)) (above y z ys also has) in not-back y y h h)) in
     ap (λ z. z ∷ xs) e ∙ ap (λ zs. y ∷ zs) rest
 
+pub one-entries : (s : Set) (xs ys : List NamedSubject) → AreEntries s xs → AreEntries s ys → xs ≡ ys
+one-entries s xs ys h k =
+    entries-once xs ys h.ascending k.ascending
+    (λ z has. (k.whole z.subject z.name).1 ((h.whole z.subject z.name).0 has))
+    (λ z has. (h.whole z.subject z.name).1 ((k.whole z.subject z.name).0 has))
+
 pub one-map : (s : Set) (M N : List Assignment) → IsMapOf s M → IsMapOf s N → M ≡ N
 one-map s M N h k =
-    let same = entries-once h.entries k.entries h.are_entries.ascending k.are_entries.ascending
-    (λ z has. (k.are_entries.whole z.subject z.name).1 ((h.are_entries.whole z.subject z.name).0 has))
-    (λ z has. (h.are_entries.whole z.subject z.name).1 ((k.are_entries.whole z.subject z.name).0 has)) in
+    let same = one-entries s h.entries k.entries h.are_entries k.are_entries in
     mapped-once (place_in h.entries) s [] h.entries M N h.assignments (subst (λ es. AreMapped (place_in es) s [] es N) (sym same) k.assignments)

@@ -3,12 +3,13 @@ use Rattle.std.proofs.Common.{ℕ, Bool, true, false, ◌+◌, ◌≤◌, List, 
 use Rattle.std.proofs.lemmas.List.{append-nil}
 use Rattle.label_tree.specs.Rose.{Rose, node, Roses, label_of, list_of}
 use Rattle.label_tree.specs.Rose as rose
+use Rattle.doc_text.specs.Labels.{item_place}
 use Rattle.doc_text.specs.Tokens.{Token, Opens, Closes, Words, tokens, tokens_all, Ascend}
 use Rattle.doc_text.specs.declared.label.ItemLabel.{ItemLabel}
 use Rattle.doc_text.specs.declared.label.ItemLabel.TheVariants.{Element, Text}
 use Rattle.schema_rules.specs.Elements.{placement}
 use Rattle.schema_faults.specs.Limits.{level_inside}
-use Rattle.schema_faults.specs.Faults.{LookedAt, own_reason, unless_composition, placed_at, position_behind, is_schema, place_of, outside, reasons_of, reasons_at, reasons_among, reasons}
+use Rattle.schema_faults.specs.Faults.{LookedAt, own_reason, unless_composition, placed_at, position_behind, is_schema, outside, reasons_of, reasons_at, reasons_among, reasons}
 use Rattle.schema_rules.specs.declared.roles.ElementRole.{ElementRole}
 use Rattle.schema_rules.specs.declared.roles.ElementRole.TheVariants.{Schema, Composition}
 use Rattle.schema_rules.specs.declared.roles.Position.{Position}
@@ -86,7 +87,7 @@ chosen : (b : Bool) (least at : ℕ) (found other : List LookedAt) → Rising le
 chosen true least at found other h k = h
 chosen false least at found other h k = k
 
-place_within : (bound : ℕ) (t : Rose ItemLabel) (least : ℕ) → Ascend least bound (tokens t) → least ≤ place_of (label_of t)
+place_within : (bound : ℕ) (t : Rose ItemLabel) (least : ℕ) → Ascend least bound (tokens t) → least ≤ item_place (label_of t)
 place_within bound (node (Text text at) ts) least h = h.0
 place_within bound (node (Element name attributes declares at) ts) least h = h.0
 

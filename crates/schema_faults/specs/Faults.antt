@@ -3,6 +3,7 @@ use Rattle.std.specs.Prelude.{ℕ, Bool, true, false, ◌&&◌, List, [], ◌∷
 use Rattle.xa_base.specs.declared.texts.Name.{Name}
 use Rattle.xa_base.specs.Namespaces.{xml_prefix, xml_space}
 use Rattle.label_tree.specs.Rose.{Rose, node, Roses, none, more, label_of, list_of}
+use Rattle.doc_text.specs.Labels.{item_place}
 use Rattle.doc_text.specs.declared.label.ItemLabel.{ItemLabel}
 use Rattle.doc_text.specs.declared.label.ItemLabel.TheVariants.{Element, Text}
 use Rattle.schema_rules.specs.Elements.{is_schema_name, placement}
@@ -79,17 +80,13 @@ abbrev pub is_schema : ItemLabel → Bool
 is_schema (Element name attributes declares at) = is_schema_name name && bytes_eq name.local (codes "schema")
 is_schema (Text text at) = false
 
-abbrev pub place_of : ItemLabel → ℕ
-place_of (Element name attributes declares at) = at
-place_of (Text text at) = at
-
 -- outside the root `xml` alone is bound
 abbrev pub outside : List (List ℕ × List ℕ)
 outside = (xml_prefix, xml_space) ∷ []
 
 -- the whole document
 abbrev pub reasons : Rose ItemLabel → List LookedAt
-reasons root = elim (is_schema (label_of root)) [ true ↦ reasons_of Schema outside 0 root | false ↦ (place_of (label_of root), Some why.NotASchema) ∷ [] ]
+reasons root = elim (is_schema (label_of root)) [ true ↦ reasons_of Schema outside 0 root | false ↦ (item_place (label_of root), Some why.NotASchema) ∷ [] ]
 
 -- the first of them against which a reason stands
 abbrev pub first_fault : List LookedAt → Option DocumentFault

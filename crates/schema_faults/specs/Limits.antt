@@ -2,7 +2,7 @@
 use Rattle.std.specs.Prelude.{◌+◌, ℕ, Bool, false, ◌||◌, nat_le, nat_lt, List, codes, Some, None, if◌then◌else◌}
 use Rattle.label_tree.specs.Rose.{Rose}
 use Rattle.doc_text.specs.declared.label.ItemLabel.{ItemLabel}
-use Rattle.schema_rules.specs.Elements.{beside}
+use Rattle.xa_base.specs.Entries.{beside}
 use Rattle.schema_rules.specs.Digits.{is_large}
 use Rattle.schema_rules.specs.Children.{child_count}
 use Rattle.schema_rules.specs.declared.children.ChildSet.TheVariants.{TakenParticles, Attributes, Enumerations}

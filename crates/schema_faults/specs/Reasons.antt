@@ -2,14 +2,14 @@
 use Rattle.std.specs.Prelude.{ℕ, Bool, true, false, ◌||◌, ◌&&◌, not, nat_le, List, [], ◌∷◌, codes, Option, Some, None, unwrap_or, if◌then◌else◌}
 use Rattle.std.specs.List.{list_any, list_all}
 use Rattle.std.specs.Option.{option_or}
-use Rattle.xa_base.specs.Entries.{first_true}
+use Rattle.xa_base.specs.Entries.{beside, first_true}
 use Rattle.xa_base.specs.WhiteSpace.{is_blank, words_of}
 use Rattle.label_tree.specs.Rose.{Rose, label_of}
+use Rattle.simple_values.specs.Lexical.{boolean_of}
 use Rattle.doc_text.specs.declared.label.ItemLabel.{ItemLabel}
 use Rattle.doc_text.specs.declared.label.ItemLabel.TheVariants.{Element, Text}
-use Rattle.schema_rules.specs.Elements.{beside}
 use Rattle.schema_rules.specs.Attributes.{has, has_unknown, own_attributes}
-use Rattle.schema_rules.specs.Values.{truth_values, has_bad_value, never_occurs}
+use Rattle.schema_rules.specs.Values.{has_bad_value, never_occurs}
 use Rattle.schema_rules.specs.References.{TypeName, Known, LeftOut, Elsewhere, type_name}
 use Rattle.schema_rules.specs.Children.{is_in}
 use Rattle.schema_faults.specs.Requirements.{lacks_required, has_both_forms, is_untyped}
@@ -37,7 +37,7 @@ is_choice role = false
 -- ---- attributes that are left out
 
 abbrev pub is_true : List ℕ → List (List ℕ × List ℕ) → Bool
-is_true name own = elim (beside name own) [ None ↦ false | Some value ↦ unwrap_or (beside value truth_values) false ]
+is_true name own = elim (beside name own) [ None ↦ false | Some value ↦ unwrap_or (boolean_of value) false ]
 
 abbrev pub has_default : List (List ℕ × List ℕ) → Bool
 has_default own = has (codes "default") own || has (codes "fixed") own

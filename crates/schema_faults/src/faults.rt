@@ -157,15 +157,6 @@ fn is_schema(label: &ItemLabel) -> bool
     }
 }
 
-fn place_of(label: &ItemLabel) -> u64
-    ensures { result ≡ faults.place_of label.now }
-{
-    match label {
-        ItemLabel::Element { at, .. } => *at,
-        ItemLabel::Text { at, .. } => *at,
-    }
-}
-
 /// The first fault of a schema document, in the order in which it is written. `None` where it is a schema.
 ///
 /// The time grows with the size of the document, and for each element and each reference with the logarithm of the
@@ -175,7 +166,7 @@ pub fn first_fault(alloc: Global, items: &Items) -> Result<Option<DocumentFault>
 {
     let root = items.tree().root();
     if !is_schema(root.label()) {
-        return Ok(fault_if(place_of(root.label()), Some(SchemaWhy::NotASchema)));
+        return Ok(fault_if(root.label().place(), Some(SchemaWhy::NotASchema)));
     }
     let outside = NamespaceScope::Document;
     fault_of(alloc, root, ElementRole::Schema, &outside, 0)

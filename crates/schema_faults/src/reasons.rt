@@ -13,8 +13,9 @@ use doc_text::ItemLabel;
 use label_tree::Tree;
 use schema_rules::{
     ChildSet, ElementRole, NamespaceScope, SchemaWhy, TypeName, has_attribute, has_bad_value,
-    has_unknown, is_in, never_occurs, own_attributes, truth_of, type_of, value_of,
+    has_unknown, is_in, never_occurs, own_attributes, type_of, value_of,
 };
+use simple_values::boolean_of;
 use std::alloc::Global;
 use xa_base::{Memory, Text, first_word, is_blank};
 
@@ -23,7 +24,7 @@ fn is_true(name: &str, own: &[(Text, Text)]) -> bool
     ensures { result ≡ reason.is_true name.now own.now }
 {
     match value_of(name, own) {
-        Some(value) => truth_of(value.as_str()).unwrap_or(false),
+        Some(value) => boolean_of(value.as_str()).unwrap_or(false),
         None => false,
     }
 }

@@ -15,7 +15,7 @@ use Rattle.schema_parts.specs.Raw.{Simple, Complex, Kind, Local, Use, Attribute,
 use Rattle.schema_parts.specs.Raw as raw
 use Rattle.schema_parts.specs.Linked.{leaves_of_model}
 use Rattle.schema_parts.specs.Coherent.{model_in_content, model_in_kind, leaves_of_models}
-use Rattle.schema_rules.specs.Elements.{beside}
+use Rattle.xa_base.specs.Entries.{beside}
 use Rattle.schema_rules.specs.Attributes.{own_attributes}
 use Rattle.schema_faults.specs.Reasons.{is_true, occurs}
 use Rattle.schema_read.specs.Names.{type_ref, referred}

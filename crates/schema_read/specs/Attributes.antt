@@ -5,7 +5,7 @@ use Rattle.label_tree.specs.Rose.{Rose, roses_of, label_of, kids_of}
 use Rattle.doc_text.specs.declared.label.ItemLabel.{ItemLabel}
 use Rattle.doc_text.specs.declared.label.ItemLabel.TheVariants.{Element, Text}
 use Rattle.schema_parts.specs.Raw.{Base, Use, Attribute}
-use Rattle.schema_rules.specs.Elements.{beside}
+use Rattle.xa_base.specs.Entries.{beside}
 use Rattle.schema_rules.specs.Attributes.{own_attributes}
 use Rattle.schema_rules.specs.Values.{qualifications}
 use Rattle.schema_rules.specs.Children.{is_in}

@@ -14,7 +14,8 @@ use Rattle.schema_parts.specs.declared.declarations.RawContent.TheVariants as co
 use Rattle.schema_parts.specs.declared.declarations.RawUses.{RawUses}
 use Rattle.schema_parts.specs.Raw.{Use, Complex}
 use Rattle.schema_parts.specs.Seen.{uses_of}
-use Rattle.schema_rules.specs.Elements.{beside, is_schema_name}
+use Rattle.xa_base.specs.Entries.{beside}
+use Rattle.schema_rules.specs.Elements.{is_schema_name}
 use Rattle.schema_rules.specs.Attributes.{own_attributes}
 use Rattle.schema_rules.specs.Children.{is_in}
 use Rattle.schema_rules.specs.declared.children.ChildSet.TheVariants.{Particles}

@@ -3,7 +3,7 @@ use Rattle.std.specs.Prelude.{ℕ, List, [], codes, Option, Some, None}
 use Rattle.xa_base.specs.declared.texts.Name.{Name}
 use Rattle.schema_parts.specs.declared.simple_definitions.RawRef.{RawRef}
 use Rattle.schema_parts.specs.declared.simple_definitions.RawRef.TheVariants.{Builtin, Other}
-use Rattle.schema_rules.specs.Elements.{beside}
+use Rattle.xa_base.specs.Entries.{beside}
 use Rattle.schema_rules.specs.References.{TypeName, Known, LeftOut, Elsewhere, type_name, resolved}
 
 -- what stands in the place of a name that a schema has; it isn't there in a document with a fault alone

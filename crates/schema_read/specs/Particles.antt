@@ -16,7 +16,7 @@ use Rattle.schema_parts.specs.declared.declarations.RawLocal.{RawLocal}
 use Rattle.schema_parts.specs.Raw as raw
 use Rattle.schema_parts.specs.Raw.{Simple, Complex, Kind, NamedKind, SimpleKind, ComplexKind, Local, Reference, Own}
 use Rattle.schema_parts.specs.Seen.{local_of}
-use Rattle.schema_rules.specs.Elements.{beside}
+use Rattle.xa_base.specs.Entries.{beside}
 use Rattle.schema_rules.specs.Attributes.{own_attributes}
 use Rattle.schema_rules.specs.Values.{least_of, most_of}
 use Rattle.schema_faults.specs.Reasons.{is_true, occurs}

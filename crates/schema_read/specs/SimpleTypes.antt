@@ -12,7 +12,7 @@ use Rattle.schema_parts.specs.Raw.{Base, Named, Inner, Bases, none, more, How, R
 use Rattle.schema_parts.specs.declared.simple_definitions.RawRef.TheVariants.{Other}
 use Rattle.schema_parts.specs.declared.simple_definitions.RawHow.{RawHow}
 use Rattle.schema_parts.specs.Seen.{how_of}
-use Rattle.schema_rules.specs.Elements.{beside}
+use Rattle.xa_base.specs.Entries.{beside}
 use Rattle.schema_rules.specs.Attributes.{own_attributes}
 use Rattle.schema_rules.specs.Children.{is_in}
 use Rattle.schema_rules.specs.declared.children.ChildSet.TheVariants.{Varieties, SimpleTypes}

@@ -14,9 +14,8 @@ use content_models::{ParticleKind, ParticleLabel};
 use doc_text::ItemLabel;
 use label_tree::{Tree, Whole};
 use schema_parts::{RawComplex, RawContent, RawRef, RawUses};
-use schema_rules::{
-    ChildSet, NamespaceScope, is_in, is_schema_name, own_attributes, truth_of, value_of,
-};
+use schema_rules::{ChildSet, NamespaceScope, is_in, is_schema_name, own_attributes, value_of};
+use simple_values::boolean_of;
 use std::alloc::Global;
 use xa_base::{Memory, Text};
 
@@ -25,7 +24,7 @@ pub(crate) fn is_true(name: &str, own: &[(Text, Text)]) -> bool
     ensures { result ≡ is_true name.now own.now }
 {
     match value_of(name, own) {
-        Some(value) => truth_of(value.as_str()).unwrap_or(false),
+        Some(value) => boolean_of(value.as_str()).unwrap_or(false),
         None => false,
     }
 }

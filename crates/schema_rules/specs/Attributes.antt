@@ -1,12 +1,12 @@
 -- The attributes of elements of schema documents (XML Schema Part 1, section 3).
-use Rattle.std.specs.Prelude.{ℕ, Bool, ◌||◌, not, List, [], ◌∷◌, codes, if◌then◌else◌}
+use Rattle.std.specs.Prelude.{ℕ, Bool, ◌||◌, not, List, [], ◌∷◌, bytes_eq, codes, if◌then◌else◌}
 use Rattle.std.specs.List.{list_any}
 use Rattle.std.specs.Option.{is_some}
+use Rattle.xa_base.specs.Entries.{beside}
 use Rattle.xa_base.specs.WhiteSpace.{treated}
 use Rattle.xa_base.specs.declared.white_space.WhiteSpace.TheVariants.{Collapse}
 use Rattle.xa_base.specs.declared.texts.Name.{Name}
 use Rattle.xa_base.specs.Limits.{is_empty}
-use Rattle.schema_rules.specs.Elements.{beside, has_name}
 use Rattle.schema_rules.specs.declared.roles.ElementRole.{ElementRole}
 use Rattle.schema_rules.specs.declared.roles.ElementRole.TheVariants.{Schema, Composition, GlobalElement, LocalElement, GlobalAttribute, LocalAttribute, GlobalSimpleType, InnerSimpleType, Restriction, List as ListRole, Union, Facet, GlobalComplexType, InnerComplexType, SimpleContent, Extension, Sequence, Choice}
 
@@ -18,7 +18,7 @@ kept_as_written = codes "value" ∷ codes "default" ∷ codes "fixed" ∷ []
 
 -- the others are of types whose facet `whiteSpace` is `collapse`
 abbrev pub in_use : List ℕ → List ℕ → List ℕ
-in_use name value = if has_name name kept_as_written then value else treated Collapse value
+in_use name value = if list_any (bytes_eq name) kept_as_written then value else treated Collapse value
 
 -- The attributes without a namespace, each by its name with its value. Others mean nothing to a schema.
 abbrev pub own_attributes : List (Name × List ℕ) → List (List ℕ × List ℕ)
@@ -66,7 +66,7 @@ attributes_of Sequence = codes "minOccurs" ∷ codes "maxOccurs" ∷ []
 attributes_of Choice = codes "minOccurs" ∷ codes "maxOccurs" ∷ []
 
 abbrev pub is_listed : ElementRole → List ℕ → Bool
-is_listed role name = has_name name common_attributes || has_name name (attributes_of role)
+is_listed role name = list_any (bytes_eq name) common_attributes || list_any (bytes_eq name) (attributes_of role)
 
 abbrev pub has_unknown : ElementRole → List (List ℕ × List ℕ) → Bool
 has_unknown role own = list_any (λ a. not (is_listed role a.0)) own

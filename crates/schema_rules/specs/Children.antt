@@ -1,10 +1,10 @@
 -- The children that a rule counts or asks for.
-use Rattle.std.specs.Prelude.{ℕ, Bool, false, ◌&&◌, List, [], ◌∷◌, codes, count_by}
+use Rattle.std.specs.Prelude.{ℕ, Bool, false, ◌&&◌, List, [], ◌∷◌, bytes_eq, codes, count_by}
 use Rattle.std.specs.List.{list_any}
 use Rattle.label_tree.specs.Rose.{Rose, label_of}
 use Rattle.doc_text.specs.declared.label.ItemLabel.{ItemLabel}
 use Rattle.doc_text.specs.declared.label.ItemLabel.TheVariants.{Element, Text}
-use Rattle.schema_rules.specs.Elements.{has_name, is_schema_name}
+use Rattle.schema_rules.specs.Elements.{is_schema_name}
 use Rattle.schema_rules.specs.declared.children.ChildSet.{ChildSet}
 use Rattle.schema_rules.specs.declared.children.ChildSet.TheVariants.{Types, SimpleTypes, Varieties, Derivations, Particles, TakenParticles, Attributes, Enumerations}
 
@@ -20,7 +20,7 @@ names_in Attributes = codes "attribute" ∷ []
 names_in Enumerations = codes "enumeration" ∷ []
 
 abbrev pub is_in : ChildSet → ItemLabel → Bool
-is_in set (Element name attributes declares at) = is_schema_name name && has_name name.local (names_in set)
+is_in set (Element name attributes declares at) = is_schema_name name && list_any (bytes_eq name.local) (names_in set)
 is_in set (Text text at) = false
 
 abbrev pub has_child : ChildSet → List (Rose ItemLabel) → Bool

@@ -1,6 +1,8 @@
 -- The elements of schema documents and where they stand (XML Schema Part 1, section 3, and Part 2, section 4.3).
-use Rattle.std.specs.Prelude.{ℕ, Bool, true, false, ◌||◌, ◌&&◌, not, List, [], ◌∷◌, bytes_eq, codes, Option, Some, None, if◌then◌else◌}
+use Rattle.std.specs.Prelude.{ℕ, Bool, true, false, ◌&&◌, not, List, [], ◌∷◌, bytes_eq, codes, Option, Some, None, if◌then◌else◌}
+use Rattle.std.specs.List.{list_any}
 use Rattle.std.specs.Option.{option_or}
+use Rattle.xa_base.specs.Entries.{beside}
 use Rattle.xa_base.specs.Namespaces.{schema_space}
 use Rattle.xa_base.specs.declared.texts.Name.{Name}
 use Rattle.schema_rules.specs.declared.why.SchemaWhy.{SchemaWhy}
@@ -12,15 +14,6 @@ use Rattle.schema_rules.specs.declared.roles.Position.TheVariants.{Anywhere, Fir
 use Rattle.schema_rules.specs.declared.roles.Part.{Part}
 use Rattle.schema_rules.specs.declared.elements.Placement.{Placement}
 use Rattle.schema_rules.specs.declared.elements.Placement.TheVariants.{Skipped, Refused, Placed}
-
--- what stands beside a name
-abbrev pub beside : {A : Type 0} → List ℕ → List (List ℕ × A) → Option A
-beside name [] = None
-beside name (row ∷ rows) = if bytes_eq name row.0 then Some row.1 else beside name rows
-
-abbrev pub has_name : List ℕ → List (List ℕ) → Bool
-has_name name [] = false
-has_name name (n ∷ ns) = bytes_eq name n || has_name name ns
 
 -- ---- names
 
@@ -50,54 +43,47 @@ element_names =
 
 -- ---- places
 
-abbrev pub part : ElementRole → Position → Option Part
-part role position = Some (record { role = role; position = position })
+-- what a child is in its parent, and where among the children it stands
+abbrev pub part : ElementRole → Position → Part
+part role position = record { role = role; position = position }
 
--- a child of a parent: its name, what it is there, and where among the children it stands
-abbrev pub Row : Type 0
-Row = List ℕ × ElementRole × Position
-
-abbrev pub child_in : List ℕ → List Row → Option Part
-child_in name [] = None
-child_in name (row ∷ rows) = if bytes_eq name row.0 then part row.1 row.2 else child_in name rows
-
-abbrev pub schema_children : List Row
+abbrev pub schema_children : List (List ℕ × Part)
 schema_children =
-    (codes "include", Composition, Anywhere) ∷ (codes "import", Composition, Anywhere) ∷ (codes "element", GlobalElement, Anywhere)
-    ∷ (codes "attribute", GlobalAttribute, Anywhere) ∷ (codes "simpleType", GlobalSimpleType, Anywhere) ∷ (codes "complexType", GlobalComplexType, Anywhere) ∷ []
+    (codes "include", part Composition Anywhere) ∷ (codes "import", part Composition Anywhere) ∷ (codes "element", part GlobalElement Anywhere)
+    ∷ (codes "attribute", part GlobalAttribute Anywhere) ∷ (codes "simpleType", part GlobalSimpleType Anywhere) ∷ (codes "complexType", part GlobalComplexType Anywhere) ∷ []
 
-abbrev pub element_children : List Row
-element_children = (codes "simpleType", InnerSimpleType, Alone) ∷ (codes "complexType", InnerComplexType, Alone) ∷ []
+abbrev pub element_children : List (List ℕ × Part)
+element_children = (codes "simpleType", part InnerSimpleType Alone) ∷ (codes "complexType", part InnerComplexType Alone) ∷ []
 
-abbrev pub attribute_children : List Row
-attribute_children = (codes "simpleType", InnerSimpleType, Alone) ∷ []
+abbrev pub attribute_children : List (List ℕ × Part)
+attribute_children = (codes "simpleType", part InnerSimpleType Alone) ∷ []
 
-abbrev pub simple_type_children : List Row
-simple_type_children = (codes "restriction", Restriction, Alone) ∷ (codes "list", ListRole, Alone) ∷ (codes "union", Union, Alone) ∷ []
+abbrev pub simple_type_children : List (List ℕ × Part)
+simple_type_children = (codes "restriction", part Restriction Alone) ∷ (codes "list", part ListRole Alone) ∷ (codes "union", part Union Alone) ∷ []
 
-abbrev pub restriction_children : List Row
+abbrev pub restriction_children : List (List ℕ × Part)
 restriction_children =
-    (codes "simpleType", InnerSimpleType, First) ∷ (codes "length", Facet, Anywhere) ∷ (codes "minLength", Facet, Anywhere) ∷ (codes "maxLength", Facet, Anywhere)
-    ∷ (codes "minInclusive", Facet, Anywhere) ∷ (codes "maxInclusive", Facet, Anywhere) ∷ (codes "minExclusive", Facet, Anywhere)
-    ∷ (codes "maxExclusive", Facet, Anywhere) ∷ (codes "enumeration", Facet, Anywhere) ∷ (codes "whiteSpace", Facet, Anywhere) ∷ []
+    (codes "simpleType", part InnerSimpleType First) ∷ (codes "length", part Facet Anywhere) ∷ (codes "minLength", part Facet Anywhere) ∷ (codes "maxLength", part Facet Anywhere)
+    ∷ (codes "minInclusive", part Facet Anywhere) ∷ (codes "maxInclusive", part Facet Anywhere) ∷ (codes "minExclusive", part Facet Anywhere)
+    ∷ (codes "maxExclusive", part Facet Anywhere) ∷ (codes "enumeration", part Facet Anywhere) ∷ (codes "whiteSpace", part Facet Anywhere) ∷ []
 
-abbrev pub union_children : List Row
-union_children = (codes "simpleType", InnerSimpleType, Anywhere) ∷ []
+abbrev pub union_children : List (List ℕ × Part)
+union_children = (codes "simpleType", part InnerSimpleType Anywhere) ∷ []
 
-abbrev pub complex_type_children : List Row
+abbrev pub complex_type_children : List (List ℕ × Part)
 complex_type_children =
-    (codes "simpleContent", SimpleContent, Alone) ∷ (codes "sequence", Sequence, First) ∷ (codes "choice", Choice, First) ∷ (codes "attribute", LocalAttribute, Anywhere) ∷ []
+    (codes "simpleContent", part SimpleContent Alone) ∷ (codes "sequence", part Sequence First) ∷ (codes "choice", part Choice First) ∷ (codes "attribute", part LocalAttribute Anywhere) ∷ []
 
-abbrev pub simple_content_children : List Row
-simple_content_children = (codes "extension", Extension, Alone) ∷ []
+abbrev pub simple_content_children : List (List ℕ × Part)
+simple_content_children = (codes "extension", part Extension Alone) ∷ []
 
-abbrev pub extension_children : List Row
-extension_children = (codes "attribute", LocalAttribute, Anywhere) ∷ []
+abbrev pub extension_children : List (List ℕ × Part)
+extension_children = (codes "attribute", part LocalAttribute Anywhere) ∷ []
 
-abbrev pub group_children : List Row
-group_children = (codes "element", LocalElement, Anywhere) ∷ (codes "sequence", Sequence, Anywhere) ∷ (codes "choice", Choice, Anywhere) ∷ []
+abbrev pub group_children : List (List ℕ × Part)
+group_children = (codes "element", part LocalElement Anywhere) ∷ (codes "sequence", part Sequence Anywhere) ∷ (codes "choice", part Choice Anywhere) ∷ []
 
-abbrev pub children : ElementRole → List Row
+abbrev pub children : ElementRole → List (List ℕ × Part)
 children Schema = schema_children
 children Composition = []
 children GlobalElement = element_children
@@ -138,7 +124,7 @@ refused_or (Some reason) otherwise = Refused reason
 abbrev pub placement_of : ElementRole → Option Position → List ℕ → Placement
 placement_of parent before name =
     refused_or (left_out parent name)
-    (if has_name name element_names then placed before (child_in name (children parent)) else Refused why.UnknownElement)
+    (if list_any (bytes_eq name) element_names then placed before (beside name (children parent)) else Refused why.UnknownElement)
 
 abbrev pub is_schema_name : Name → Bool
 is_schema_name name = bytes_eq name.space schema_space
@@ -156,10 +142,10 @@ abbrev pub counted_names : List (List ℕ)
 counted_names = codes "element" ∷ codes "attribute" ∷ codes "simpleType" ∷ codes "complexType" ∷ codes "sequence" ∷ codes "choice" ∷ []
 
 abbrev pub is_counted : Name → Bool
-is_counted name = is_schema_name name && has_name name.local counted_names
+is_counted name = is_schema_name name && list_any (bytes_eq name.local) counted_names
 
 abbrev pub skipped_names : List (List ℕ)
 skipped_names = codes "annotation" ∷ codes "include" ∷ codes "import" ∷ []
 
 abbrev pub is_looked_into : Name → Bool
-is_looked_into name = not (has_name name.local skipped_names)
+is_looked_into name = not (list_any (bytes_eq name.local) skipped_names)

@@ -4,12 +4,11 @@ use Rattle.std.specs.List.{position_or_len, before_first, after_first}
 use Rattle.std.specs.Str.{chars}
 use Rattle.xa_base.specs.Characters.{is_ncname}
 use Rattle.xa_base.specs.declared.texts.Name.{Name}
-use Rattle.xa_base.specs.Entries as entries
+use Rattle.xa_base.specs.Entries.{beside}
 use Rattle.xa_base.specs.Namespaces.{schema_space}
 use Rattle.simple_types.specs.declared.simples.Builtin.{Builtin}
 use Rattle.simple_types.specs.declared.simples.Builtin.TheVariants as builtin
 use Rattle.doc_text.specs.Namespaces.{or_absent}
-use Rattle.schema_rules.specs.Elements.{beside}
 use Rattle.schema_rules.specs.declared.why.SchemaWhy.{SchemaWhy}
 use Rattle.schema_rules.specs.declared.why.SchemaWhy.TheVariants as why
 
@@ -27,10 +26,10 @@ in_space (Some space) local = Some (record { space = space; local = local })
 
 -- an NCName has the default namespace
 abbrev pub unprefixed : List (List ℕ × List ℕ) → List ℕ → Option Name
-unprefixed scope text = if is_ncname (chars text) then Some (record { space = or_absent (entries.beside [] scope); local = text }) else None
+unprefixed scope text = if is_ncname (chars text) then Some (record { space = or_absent (beside [] scope); local = text }) else None
 
 abbrev pub prefixed : List (List ℕ × List ℕ) → List ℕ → List ℕ → Option Name
-prefixed scope prefix local = if is_ncname (chars prefix) && is_ncname (chars local) then in_space (entries.beside prefix scope) local else None
+prefixed scope prefix local = if is_ncname (chars prefix) && is_ncname (chars local) then in_space (beside prefix scope) local else None
 
 -- the expanded name of a QName whose prefix is bound
 unfoldable pub resolved : List (List ℕ × List ℕ) → List ℕ → Option Name
@@ -76,7 +75,7 @@ left_out_type (Some reason) = Some (LeftOut reason)
 left_out_type None = None
 
 -- a name of the schema namespace is that of a datatype
-abbrev pub datatype : List ℕ → Option TypeName
+unfoldable pub datatype : List ℕ → Option TypeName
 datatype local = known_or (beside local builtins) (left_out_type (beside local left_out_datatypes))
 
 abbrev pub type_named : Option Name → Option TypeName

@@ -4,11 +4,12 @@ use Rattle.std.specs.List.{list_any, list_all}
 use Rattle.std.specs.Option.{is_some}
 use Rattle.std.specs.Str.{chars}
 use Rattle.xa_base.specs.Characters.{is_ncname}
+use Rattle.xa_base.specs.Entries.{beside}
 use Rattle.xa_base.specs.WhiteSpace.{words_of}
 use Rattle.xa_base.specs.Limits.{is_empty, is_short_space, is_short_part}
 use Rattle.xa_base.specs.Namespaces.{xmlns_space, schema_space, xsi_space}
 use Rattle.xa_base.specs.Digits.{is_numeral, number_of}
-use Rattle.schema_rules.specs.Elements.{beside, has_name}
+use Rattle.simple_values.specs.Lexical.{boolean_of}
 use Rattle.schema_rules.specs.Digits.{is_over, is_zero, small}
 use Rattle.schema_rules.specs.References.{resolved, type_name}
 use Rattle.schema_rules.specs.declared.roles.ElementRole.{ElementRole}
@@ -23,10 +24,6 @@ forms =
     ∷ (codes "form", Qualification) ∷ (codes "name", NcName) ∷ (codes "ref", Reference) ∷ (codes "type", TypeName) ∷ (codes "base", TypeName)
     ∷ (codes "itemType", TypeName) ∷ (codes "memberTypes", TypeNames) ∷ (codes "nillable", Truth) ∷ (codes "abstract", Truth) ∷ (codes "mixed", Truth)
     ∷ (codes "use", Prescription) ∷ (codes "minOccurs", Digits) ∷ (codes "maxOccurs", DigitsOrUnbounded) ∷ []
-
--- Part 2, section 3.2.2.1
-abbrev pub truth_values : List (List ℕ × Bool)
-truth_values = (codes "true", true) ∷ (codes "1", true) ∷ (codes "false", false) ∷ (codes "0", false) ∷ []
 
 abbrev pub qualifications : List (List ℕ × Bool)
 qualifications = (codes "qualified", true) ∷ (codes "unqualified", false) ∷ []
@@ -48,9 +45,9 @@ is_target space =
     && not (bytes_eq space xmlns_space)
 
 abbrev pub has_form : List (List ℕ × List ℕ) → ValueForm → List ℕ → Bool
-has_form scope Truth value = is_some (beside value truth_values)
+has_form scope Truth value = is_some (boolean_of value)
 has_form scope Qualification value = is_some (beside value qualifications)
-has_form scope Prescription value = has_name value prescriptions
+has_form scope Prescription value = list_any (bytes_eq value) prescriptions
 has_form scope Digits value = is_numeral value
 has_form scope DigitsOrUnbounded value = is_numeral value || bytes_eq value unbounded
 has_form scope NcName value = is_declared_name value

@@ -1,7 +1,7 @@
 //! The attributes of elements of schema documents.
-ghost use Rattle.std.specs.Prelude.{◌≡◌, ◌||◌, not, IfOk, option_map};
+ghost use Rattle.std.specs.Prelude.{◌≡◌, ◌||◌, not, bytes_eq, IfOk, option_map};
 ghost use Rattle.std.specs.List.{list_any};
-ghost use Rattle.schema_rules.specs.Elements.{beside, has_name};
+ghost use Rattle.xa_base.specs.Entries.{beside};
 ghost use Rattle.schema_rules.specs.Attributes as table;
 
 use crate::roles::ElementRole;
@@ -9,7 +9,7 @@ use std::alloc::Global;
 use xa_base::{Memory, Name, Text, WhiteSpace, treat};
 
 fn is_kept_as_written(name: &str) -> bool
-    ensures { result ≡ has_name name.now table.kept_as_written }
+    ensures { result ≡ list_any (bytes_eq name.now) table.kept_as_written }
 {
     matches!(name, "value" | "default" | "fixed")
 }
@@ -48,7 +48,7 @@ pub fn value_of<'a>(name: &str, own: &'a [(Text, Text)]) -> Option<&'a Text>
     ensures { option_map (λ value. value.now) result ≡ beside name.now own.now }
 {
     for (written, value) in own {
-        if name.as_bytes() == written.bytes() {
+        if written.bytes() == name.as_bytes() {
             return Some(value);
         }
     }
@@ -63,7 +63,7 @@ pub fn has_attribute(name: &str, own: &[(Text, Text)]) -> bool
 }
 
 fn is_common(name: &str) -> bool
-    ensures { result ≡ has_name name.now table.common_attributes }
+    ensures { result ≡ list_any (bytes_eq name.now) table.common_attributes }
 {
     matches!(
         name,
@@ -72,7 +72,7 @@ fn is_common(name: &str) -> bool
 }
 
 fn is_of_schema(name: &str) -> bool
-    ensures { result ≡ has_name name.now (table.attributes_of ElementRole.Schema) }
+    ensures { result ≡ list_any (bytes_eq name.now) (table.attributes_of ElementRole.Schema) }
 {
     matches!(
         name,
@@ -81,7 +81,7 @@ fn is_of_schema(name: &str) -> bool
 }
 
 fn is_of_global_element(name: &str) -> bool
-    ensures { result ≡ has_name name.now table.global_element_attributes }
+    ensures { result ≡ list_any (bytes_eq name.now) table.global_element_attributes }
 {
     matches!(
         name,
@@ -90,7 +90,7 @@ fn is_of_global_element(name: &str) -> bool
 }
 
 fn is_of_local_element(name: &str) -> bool
-    ensures { result ≡ has_name name.now table.local_element_attributes }
+    ensures { result ≡ list_any (bytes_eq name.now) table.local_element_attributes }
 {
     matches!(
         name,
@@ -107,13 +107,13 @@ fn is_of_local_element(name: &str) -> bool
 }
 
 fn is_of_global_attribute(name: &str) -> bool
-    ensures { result ≡ has_name name.now (table.attributes_of ElementRole.GlobalAttribute) }
+    ensures { result ≡ list_any (bytes_eq name.now) (table.attributes_of ElementRole.GlobalAttribute) }
 {
     matches!(name, "name" | "type" | "default" | "fixed")
 }
 
 fn is_of_local_attribute(name: &str) -> bool
-    ensures { result ≡ has_name name.now table.local_attribute_attributes }
+    ensures { result ≡ list_any (bytes_eq name.now) table.local_attribute_attributes }
 {
     matches!(
         name,
@@ -122,20 +122,20 @@ fn is_of_local_attribute(name: &str) -> bool
 }
 
 fn is_of_global_complex_type(name: &str) -> bool
-    ensures { result ≡ has_name name.now (table.attributes_of ElementRole.GlobalComplexType) }
+    ensures { result ≡ list_any (bytes_eq name.now) (table.attributes_of ElementRole.GlobalComplexType) }
 {
     matches!(name, "name" | "mixed" | "abstract")
 }
 
 fn is_of_group(name: &str) -> bool
-    ensures { result ≡ has_name name.now (table.attributes_of ElementRole.Sequence) }
+    ensures { result ≡ list_any (bytes_eq name.now) (table.attributes_of ElementRole.Sequence) }
 {
     matches!(name, "minOccurs" | "maxOccurs")
 }
 
 // Whether an element of this role has such an attribute, beside those that every element has.
 fn is_of(role: ElementRole, name: &str) -> bool
-    ensures { result ≡ has_name name.now (table.attributes_of role) }
+    ensures { result ≡ list_any (bytes_eq name.now) (table.attributes_of role) }
 {
     match role {
         ElementRole::Schema => is_of_schema(name),

@@ -1,7 +1,7 @@
 //! The children of an element that a rule counts or asks for.
-ghost use Rattle.std.specs.Prelude.{◌≡◌, count_by};
+ghost use Rattle.std.specs.Prelude.{◌≡◌, bytes_eq, count_by};
+ghost use Rattle.std.specs.List.{list_any};
 ghost use Rattle.label_tree.specs.Rose.{label_of};
-ghost use Rattle.schema_rules.specs.Elements.{has_name};
 ghost use Rattle.schema_rules.specs.Children as children;
 
 use crate::elements::is_schema_name;
@@ -31,7 +31,7 @@ pub enum ChildSet {
 }
 
 fn is_particle(name: &str) -> bool
-    ensures { result ≡ has_name name.now (children.names_in ChildSet.Particles) }
+    ensures { result ≡ list_any (bytes_eq name.now) (children.names_in ChildSet.Particles) }
 {
     matches!(
         name,
@@ -40,13 +40,13 @@ fn is_particle(name: &str) -> bool
 }
 
 fn is_variety(name: &str) -> bool
-    ensures { result ≡ has_name name.now (children.names_in ChildSet.Varieties) }
+    ensures { result ≡ list_any (bytes_eq name.now) (children.names_in ChildSet.Varieties) }
 {
     matches!(name, "restriction" | "list" | "union")
 }
 
 fn belongs(set: ChildSet, name: &str) -> bool
-    ensures { result ≡ has_name name.now (children.names_in set) }
+    ensures { result ≡ list_any (bytes_eq name.now) (children.names_in set) }
 {
     match set {
         ChildSet::Types => matches!(name, "simpleType" | "complexType"),

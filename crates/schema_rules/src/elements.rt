@@ -1,5 +1,7 @@
 //! The elements of schema documents.
-ghost use Rattle.std.specs.Prelude.{◌≡◌};
+ghost use Rattle.std.specs.Prelude.{◌≡◌, bytes_eq};
+ghost use Rattle.std.specs.List.{list_any};
+ghost use Rattle.xa_base.specs.Entries.{beside};
 ghost use Rattle.schema_rules.specs.Elements as table;
 
 use crate::roles::{ElementRole, Part, Position, child_of};
@@ -18,7 +20,7 @@ pub enum Placement {
 }
 
 fn left_out_element(name: &str) -> Option<SchemaWhy>
-    ensures { result ≡ table.beside name.now table.left_out_elements }
+    ensures { result ≡ beside name.now table.left_out_elements }
 {
     match name {
         "any" | "anyAttribute" => Some(SchemaWhy::Wildcard),
@@ -40,7 +42,7 @@ fn left_out(parent: ElementRole, name: &str) -> Option<SchemaWhy>
     ensures { result ≡ table.left_out parent name.now }
 {
     match parent {
-        ElementRole::SimpleContent if name == "restriction" => Some(
+        ElementRole::SimpleContent if "restriction" == name => Some(
             SchemaWhy::SimpleContentRestriction,
         ),
         _ => left_out_element(name),
@@ -48,7 +50,7 @@ fn left_out(parent: ElementRole, name: &str) -> Option<SchemaWhy>
 }
 
 fn is_known(name: &str) -> bool
-    ensures { result ≡ table.has_name name.now table.element_names }
+    ensures { result ≡ list_any (bytes_eq name.now) table.element_names }
 {
     matches!(
         name,

@@ -18,5 +18,5 @@ pub use numbers::{is_large, is_zero};
 pub use references::{Resolved, TypeName, resolve, type_of};
 pub use roles::{ElementRole, Part, Position};
 pub use scopes::{Declared, NamespaceScope};
-pub use values::{has_bad_value, least_of, most_of, never_occurs, qualification_of, truth_of};
+pub use values::{has_bad_value, least_of, most_of, never_occurs, qualification_of};
 pub use why::SchemaWhy;

@@ -1,6 +1,6 @@
 //! References to components by their names.
 ghost use Rattle.std.specs.Prelude.{◌≡◌, option_map};
-ghost use Rattle.schema_rules.specs.Elements.{beside};
+ghost use Rattle.xa_base.specs.Entries.{beside};
 ghost use Rattle.schema_rules.specs.References as table;
 ghost use Rattle.schema_rules.specs.Scopes.{bindings_in};
 ghost use Rattle.schema_rules.specs.Seen.{name_seen, type_seen};
@@ -135,6 +135,7 @@ fn left_out_datatype(name: &str) -> Option<SchemaWhy>
 }
 
 // A datatype by its name in the schema namespace.
+#[tactic(auto, unfolding(crate::specs::References::datatype))]
 fn datatype<'s, 't>(name: &str) -> Option<TypeName<'s, 't>>
     ensures { option_map type_seen result ≡ table.datatype name.now }
 {

@@ -1,5 +1,6 @@
 //! What elements of a schema document are.
-ghost use Rattle.std.specs.Prelude.{◌≡◌};
+ghost use Rattle.std.specs.Prelude.{◌≡◌, Some};
+ghost use Rattle.xa_base.specs.Entries.{beside};
 ghost use Rattle.schema_rules.specs.Elements as table;
 
 /// What an element of the schema namespace is, by its name and where it stands. A declaration or definition that stands
@@ -66,14 +67,14 @@ pub struct Part {
 
 impl Part {
     fn of(role: ElementRole, position: Position) -> Option<Part>
-        ensures { result ≡ table.part role position }
+        ensures { result ≡ Some (table.part role position) }
     {
         Some(Part { role, position })
     }
 }
 
 fn child_of_schema(name: &str) -> Option<Part>
-    ensures { result ≡ table.child_in name.now table.schema_children }
+    ensures { result ≡ beside name.now table.schema_children }
 {
     match name {
         "include" | "import" => Part::of(ElementRole::Composition, Position::Anywhere),
@@ -86,7 +87,7 @@ fn child_of_schema(name: &str) -> Option<Part>
 }
 
 fn child_of_element(name: &str) -> Option<Part>
-    ensures { result ≡ table.child_in name.now table.element_children }
+    ensures { result ≡ beside name.now table.element_children }
 {
     match name {
         "simpleType" => Part::of(ElementRole::InnerSimpleType, Position::Alone),
@@ -97,7 +98,7 @@ fn child_of_element(name: &str) -> Option<Part>
 
 // Also of a list.
 fn child_of_attribute(name: &str) -> Option<Part>
-    ensures { result ≡ table.child_in name.now table.attribute_children }
+    ensures { result ≡ beside name.now table.attribute_children }
 {
     match name {
         "simpleType" => Part::of(ElementRole::InnerSimpleType, Position::Alone),
@@ -106,7 +107,7 @@ fn child_of_attribute(name: &str) -> Option<Part>
 }
 
 fn child_of_simple_type(name: &str) -> Option<Part>
-    ensures { result ≡ table.child_in name.now table.simple_type_children }
+    ensures { result ≡ beside name.now table.simple_type_children }
 {
     match name {
         "restriction" => Part::of(ElementRole::Restriction, Position::Alone),
@@ -117,7 +118,7 @@ fn child_of_simple_type(name: &str) -> Option<Part>
 }
 
 fn child_of_restriction(name: &str) -> Option<Part>
-    ensures { result ≡ table.child_in name.now table.restriction_children }
+    ensures { result ≡ beside name.now table.restriction_children }
 {
     match name {
         "simpleType" => Part::of(ElementRole::InnerSimpleType, Position::First),
@@ -135,7 +136,7 @@ fn child_of_restriction(name: &str) -> Option<Part>
 }
 
 fn child_of_union(name: &str) -> Option<Part>
-    ensures { result ≡ table.child_in name.now table.union_children }
+    ensures { result ≡ beside name.now table.union_children }
 {
     match name {
         "simpleType" => Part::of(ElementRole::InnerSimpleType, Position::Anywhere),
@@ -144,7 +145,7 @@ fn child_of_union(name: &str) -> Option<Part>
 }
 
 fn child_of_complex_type(name: &str) -> Option<Part>
-    ensures { result ≡ table.child_in name.now table.complex_type_children }
+    ensures { result ≡ beside name.now table.complex_type_children }
 {
     match name {
         "simpleContent" => Part::of(ElementRole::SimpleContent, Position::Alone),
@@ -156,7 +157,7 @@ fn child_of_complex_type(name: &str) -> Option<Part>
 }
 
 fn child_of_simple_content(name: &str) -> Option<Part>
-    ensures { result ≡ table.child_in name.now table.simple_content_children }
+    ensures { result ≡ beside name.now table.simple_content_children }
 {
     match name {
         "extension" => Part::of(ElementRole::Extension, Position::Alone),
@@ -165,7 +166,7 @@ fn child_of_simple_content(name: &str) -> Option<Part>
 }
 
 fn child_of_extension(name: &str) -> Option<Part>
-    ensures { result ≡ table.child_in name.now table.extension_children }
+    ensures { result ≡ beside name.now table.extension_children }
 {
     match name {
         "attribute" => Part::of(ElementRole::LocalAttribute, Position::Anywhere),
@@ -174,7 +175,7 @@ fn child_of_extension(name: &str) -> Option<Part>
 }
 
 fn child_of_group(name: &str) -> Option<Part>
-    ensures { result ≡ table.child_in name.now table.group_children }
+    ensures { result ≡ beside name.now table.group_children }
 {
     match name {
         "element" => Part::of(ElementRole::LocalElement, Position::Anywhere),
@@ -186,7 +187,7 @@ fn child_of_group(name: &str) -> Option<Part>
 
 /// What an element of this name is in a parent of this role, if it may stand there.
 pub(crate) fn child_of(parent: ElementRole, name: &str) -> Option<Part>
-    ensures { result ≡ table.child_in name.now (table.children parent) }
+    ensures { result ≡ beside name.now (table.children parent) }
 {
     match parent {
         ElementRole::Schema => child_of_schema(name),

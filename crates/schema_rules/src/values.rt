@@ -1,9 +1,9 @@
 //! The values of attributes of schema documents.
-ghost use Rattle.std.specs.Prelude.{◌≡◌, ◌||◌, ◌&&◌, not, option_map};
+ghost use Rattle.std.specs.Prelude.{◌≡◌, ◌||◌, ◌&&◌, not, bytes_eq, option_map};
 ghost use Rattle.std.specs.List.{list_any, list_all};
 ghost use Rattle.std.specs.Option.{is_some};
+ghost use Rattle.xa_base.specs.Entries.{beside};
 ghost use Rattle.xa_base.specs.WhiteSpace.{words_of};
-ghost use Rattle.schema_rules.specs.Elements.{beside, has_name};
 ghost use Rattle.schema_rules.specs.References.{type_name};
 ghost use Rattle.schema_rules.specs.Scopes.{bindings_in};
 ghost use Rattle.schema_rules.specs.Values as table;
@@ -13,6 +13,7 @@ use crate::numbers::{is_over, is_zero, small_number};
 use crate::references::{resolve, type_of};
 use crate::roles::ElementRole;
 use crate::scopes::NamespaceScope;
+use simple_values::boolean_of;
 use xa_base::{
     SCHEMA_SPACE, Text, XMLNS_SPACE, XSI_SPACE, first_word, is_ncname, is_numeral, is_short_part,
     is_short_space,
@@ -62,17 +63,6 @@ fn form_of(name: &str) -> Option<ValueForm>
     }
 }
 
-/// The truth value that the text spells.
-pub fn truth_of(text: &str) -> Option<bool>
-    ensures { result ≡ beside text.now table.truth_values }
-{
-    match text {
-        "true" | "1" => Some(true),
-        "false" | "0" => Some(false),
-        _ => None,
-    }
-}
-
 /// Whether the text says `qualified`, if it says that or `unqualified`.
 pub fn qualification_of(text: &str) -> Option<bool>
     ensures { result ≡ beside text.now table.qualifications }
@@ -85,7 +75,7 @@ pub fn qualification_of(text: &str) -> Option<bool>
 }
 
 fn is_prescription(text: &str) -> bool
-    ensures { result ≡ has_name text.now table.prescriptions }
+    ensures { result ≡ list_any (bytes_eq text.now) table.prescriptions }
 {
     matches!(text, "optional" | "required" | "prohibited")
 }
@@ -125,7 +115,7 @@ fn has_form(scope: &NamespaceScope<'_, '_>, form: ValueForm, value: &Text) -> bo
     ensures { result ≡ table.has_form (bindings_in scope.now) form value.now }
 {
     match form {
-        ValueForm::Truth => truth_of(value.as_str()).is_some(),
+        ValueForm::Truth => boolean_of(value.as_str()).is_some(),
         ValueForm::Qualification => qualification_of(value.as_str()).is_some(),
         ValueForm::Prescription => is_prescription(value.as_str()),
         ValueForm::Digits => is_numeral(value.bytes()),

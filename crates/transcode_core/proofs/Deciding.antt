@@ -6,10 +6,11 @@ use Rattle.xa_base.specs.Faults.{HasRisen}
 use Rattle.xa_base.specs.declared.texts.Name.{Name}
 use Rattle.transcode_core.specs.declared.outcome.Outcome.{Outcome}
 use Rattle.transcode_core.specs.declared.outcome.Outcome.TheVariants.{LoadFault, ReadFault, OutOfMemory}
-use Rattle.transcode_core.specs.Words.{Asked, Check, ToPer}
+use Rattle.transcode_core.specs.Words.{Asked}
+use Rattle.transcode_core.specs.Order.{Then}
 use Rattle.schema_parts.specs.SetParts.{SetParts}
-use Rattle.transcode_core.specs.Due.{Requested, Opened, Checked, Encoded, Answered, Due}
-use Rattle.transcode_core.specs.Causes.{Answers, IsRefusal, SomeLoad, OneRead, TakenRead, Fails, Reaches, files_of, ReachesFile, reads_input, ReadsInput, ReachesInput, Answering, Deciding}
+use Rattle.transcode_core.specs.Due.{Requested, Opened, Due}
+use Rattle.transcode_core.specs.Causes.{Answers, IsRefusal, SomeLoad, OneRead, Fails, Reaches, files_of, ReachesFile, reads_input, ReadsInput, ReachesInput, Answering, Deciding}
 
 -- the words ask for one thing
 pub same_request : (words : List (List ℕ)) (a b : Asked) → Requested words (Ok a) → Requested words (Ok b) → a ≡ b
@@ -18,36 +19,27 @@ same_request words a b p q = let e : Some a ≡ Some b = sym p ∙ q in cc
 pub reads_too : (words : List (List ℕ)) (request : Asked) → Requested words (Ok request) → ReadsInput words → reads_input request ≡ true
 reads_too words request asks (other, also, reads) = subst (λ r. reads_input r ≡ true) (same_request words other request also asks) reads
 
-module _ (entries : Option (List (List ℕ × List ℕ))) (left : Option (List ℕ)) (loads loads_now : ℕ) (sure : Bool) (reads reads_now : ℕ) (root : Name) (names : List (List ℕ)) where
+-- a command that opens a set, and then reads the input
+module _ (entries : Option (List (List ℕ × List ℕ))) (loads loads_now : ℕ) (sure : Bool) (reads reads_now : ℕ) (root : Name) (names : List (List ℕ))
+    (step : SetParts × ℕ → Result (List ℕ) Outcome → Type 0) where
+  -- memory is missing, a file failed, or the input did behind the files
+  abbrev pub Cause : Outcome → Type 0
+  Cause o = SomeLoad loads loads_now sure entries names o ⊎ ((o ≡ ReadFault) × HasRisen reads reads_now × ((opened : SetParts × ℕ) × Opened entries root names (Ok opened)))
+
   -- the files and the root are sound, and the input decides
   pub goes_on : (opened : SetParts × ℕ) (v : Result (Vec ℕ Global) Outcome) → Opened entries root names (Ok opened)
-      → Answers (λ (b : Vec ℕ Global). b.items) (Encoded root opened left) (TakenRead opened reads reads_now) v
-      → Answers (λ (b : Vec ℕ Global). b.items) (Answered entries left (ToPer root names)) (Answering loads loads_now sure entries reads reads_now (ToPer root names)) v
+      → Answers (λ (b : Vec ℕ Global). b.items) (step opened) (OneRead reads reads_now) v
+      → Answers (λ (b : Vec ℕ Global). b.items) (Then (Opened entries root names) step) Cause v
   goes_on opened (Ok v) is due = (opened, is, due)
   goes_on opened (Err o) is (inl (due, own)) = inl (inr (opened, is, due), own)
   goes_on opened (Err o) is (inr (inl memory)) = inr (inl (inl memory))
-  goes_on opened (Err o) is (inr (inr (read, rose, taken))) = inr (inr (read, rose, (opened, is, taken)))
+  goes_on opened (Err o) is (inr (inr (read, rose))) = inr (inr (read, rose, (opened, is)))
 
   -- they are refused
   pub stops : (o : Outcome) → (Opened entries root names (Err o) × IsRefusal o) ⊎ SomeLoad loads loads_now sure entries names o
-      → (Answered entries left (ToPer root names) (Err o) × IsRefusal o) ⊎ Answering loads loads_now sure entries reads reads_now (ToPer root names) o
+      → (Then (Opened entries root names) step (Err o) × IsRefusal o) ⊎ Cause o
   stops o (inl (due, own)) = inl (inl due, own)
   stops o (inr cause) = inr (inl cause)
-
-module _ (entries : Option (List (List ℕ × List ℕ))) (left : Option (List ℕ)) (loads loads_now : ℕ) (sure : Bool) (reads reads_now : ℕ) (root : Name) (names : List (List ℕ)) where
-  -- the same of `check`
-  pub checks_on : (opened : SetParts × ℕ) (v : Result (Vec ℕ Global) Outcome) → Opened entries root names (Ok opened)
-      → Answers (λ (b : Vec ℕ Global). b.items) (Checked opened left) (OneRead reads reads_now) v
-      → Answers (λ (b : Vec ℕ Global). b.items) (Answered entries left (Check root names)) (Answering loads loads_now sure entries reads reads_now (Check root names)) v
-  checks_on opened (Ok v) is due = (opened, is, due)
-  checks_on opened (Err o) is (inl (due, own)) = inl (inr (opened, is, due), own)
-  checks_on opened (Err o) is (inr (inl memory)) = inr (inl (inl memory))
-  checks_on opened (Err o) is (inr (inr (read, rose))) = inr (inr (read, rose, (opened, is)))
-
-  pub checks_no_more : (o : Outcome) → (Opened entries root names (Err o) × IsRefusal o) ⊎ SomeLoad loads loads_now sure entries names o
-      → (Answered entries left (Check root names) (Err o) × IsRefusal o) ⊎ Answering loads loads_now sure entries reads reads_now (Check root names) o
-  checks_no_more o (inl (due, own)) = inl (inl due, own)
-  checks_no_more o (inr cause) = inr (inl cause)
 
 module _ (words : List (List ℕ)) (entries : Option (List (List ℕ × List ℕ))) (left : Option (List ℕ)) (loads loads_now : ℕ) (sure : Bool) (reads reads_now : ℕ) where
   -- a refusal is due

@@ -1,20 +1,21 @@
 -- Where contents are told, at most one outcome or result is due.
-use Rattle.std.proofs.Common.{◌≡◌, ◌⊎◌, ℕ, ◌+◌, Bool, true, false, List, [], ◌∷◌, length, map, refl, sym, ap, ◌∙◌, subst, inl, inr, arith, Option, Some, None, Result, Ok, Err}
+use Rattle.std.proofs.Common.{◌≡◌, ◌⊎◌, ℕ, ◌+◌, ◌<◌, Bool, true, false, List, [], ◌∷◌, length, map, refl, sym, ap, ◌∙◌, subst, inl, inr, arith, Option, Some, None, Result, Ok, Err}
 use Rattle.xa_base.specs.Faults.{HasRisen}
 use Rattle.xa_base.specs.Entries.{beside}
 use Rattle.xa_base.specs.declared.texts.Name.{Name}
 use Rattle.label_tree.specs.Rose as tree
+use Rattle.label_tree.specs.Rose.{Rose, node_count}
 use Rattle.doc_text.specs.declared.label.ItemLabel.{ItemLabel}
 use Rattle.doc_text.specs.declared.error.DocWhy.{DocWhy}
 use Rattle.doc_text.proofs.OneTree.{one_tree, tree_or_fault, one_fault}
 use Rattle.doc_text.proofs.PieceLaws.{PieceLaws}
 use Rattle.transcode_core.specs.declared.outcome.Outcome.{Outcome}
-use Rattle.transcode_core.specs.declared.outcome.Outcome.TheVariants.{Done, SchemaFault, LinkFault, Invalid, OutOfMemory, NotYet}
-use Rattle.transcode_core.specs.Order.{Give, Found, Refuse, Test, Then}
+use Rattle.transcode_core.specs.declared.outcome.Outcome.TheVariants.{Done, SchemaFault, LinkFault, Invalid, TooManyNodes, OutOfMemory}
+use Rattle.transcode_core.specs.Order.{Give, Found, Then}
 use Rattle.schema_faults.specs.Faults.{first_fault, reasons}
 use Rattle.schema_faults.specs.declared.faults.DocumentFault.{DocumentFault}
-use Rattle.transcode_core.specs.Steps.{Loaded, Read, Faultless, Linked, Printed, Schema, Schemas, Input, AreLinked, Judged}
-use Rattle.transcode_core.specs.Due.{Requested, SetIn, Opened, ItemsIn, Checked, Encoded, Answered, Due}
+use Rattle.transcode_core.specs.Steps.{Loaded, Read, Faultless, Linked, Printed, Schema, Schemas, Input, AreLinked, Judged, RootType, IsTypeOf, IsRootType, Typed, Valued, Encoding, Decoded, Written}
+use Rattle.transcode_core.specs.Due.{Requested, SetIn, Opened, ItemsIn, Checked, Encoded, Documented, Sent, Tried, Answered, Due}
 use Rattle.transcode_core.specs.Words.{Asked, Show, Check, ToPer, ToXml, Trial}
 use Rattle.transcode_core.specs.Causes.{IsRefusal, reads_input, ReadsInput, IsTold, Deciding}
 use Rattle.schema_read.specs.Raw.{raw_of}
@@ -24,12 +25,23 @@ use Rattle.simple_types.specs.Seen.{space_of}
 use Rattle.schema_parts.specs.Components.{Set}
 use Rattle.schema_parts.specs.Linked.{IsLinked}
 use Rattle.plain_items.specs.Plain.{Plain}
+use Rattle.plain_items.specs.Unplaced.{unplaced}
+use Rattle.doc_written.specs.Written.{written}
+use Rattle.simple_types.specs.declared.labels.ValueLabel.{ValueLabel}
+use Rattle.asn_types.specs.declared.modules.Assignment.{Assignment}
+use Rattle.asn_types.specs.Values.{Fits, In}
+use Rattle.xer_items.specs.Items.{Xer}
+use Rattle.one_value.specs.Statements.{OneValue, root_at}
+use Rattle.map_subjects.specs.declared.subjects.Subject.TheVariants as subject
+use Rattle.map_subjects.specs.Subjects.{place_in}
+use Rattle.transcode_core.specs.Trial.{trial_name, trial_schema, trial_root, trial_document}
+use Rattle.transcode_core.proofs.Octets.{OctetLaws, same_octets, one_whole, whole_or_none, one_refusal}
 use Rattle.validity.specs.declared.why.InvalidWhy.{InvalidWhy}
 use Rattle.validity.specs.Laws.{AtMostOne}
 use Rattle.validity.specs.Valid.{Valid}
 use Rattle.validity.specs.Faults.{FirstFault}
 use Rattle.schema_parts.specs.declared.components.SimpleDef.{SimpleDef}
-use Rattle.map_694.proofs.Once.{one-map}
+use Rattle.map_694.proofs.Once.{one-map, one-entries}
 use Rattle.map_694.proofs.SameSets.{AreSame, map-same}
 use Rattle.module_print.specs.Printed.{printed}
 use Rattle.schema_parts.specs.Raw.{Document}
@@ -76,17 +88,6 @@ Then-with first next one each (Err o) (Err n) (inr (a, p, q)) (inr (b, r, s)) =
 pub Then-single : {A B : Type 0} (first : Result A Outcome → Type 0) (next : A → Result B Outcome → Type 0)
     → IsSingle first → ((a : A) → IsSingle (next a)) → IsSingle (Then first next)
 Then-single first next one each = Then-with first next one (λ a _. each a)
-
-pub Test-single : (holds : Bool) (refusal : Outcome) → IsSingle (Test holds refusal)
-Test-single holds refusal (Ok x) (Ok y) p q = refl
-Test-single holds refusal (Ok x) (Err o) p q = let e : true ≡ false = sym p ∙ q.0 in cc
-Test-single holds refusal (Err o) (Ok y) p q = let e : true ≡ false = sym q ∙ p.0 in cc
-Test-single holds refusal (Err o) (Err n) p q = ap (λ z. Err z) (p.1 ∙ sym q.1)
-
-pub Refuse-single : {A : Type 0} (refusal : Outcome) → IsSingle {A = A} (Refuse refusal)
-Refuse-single refusal (Ok x) w p q = absurd p
-Refuse-single refusal (Err o) (Ok y) p q = absurd q
-Refuse-single refusal (Err o) (Err n) p q = ap (λ z. Err z) (p ∙ sym q)
 
 same_contents : (found : Option (List ℕ)) (x y : List ℕ) → found ≡ Some x → found ≡ Some y → x ≡ y
 same_contents found x y p q = let e : Some x ≡ Some y = sym p ∙ q in cc
@@ -207,46 +208,126 @@ module _ (valid : AtMostOne) where
       Then-single _ _ (ItemsIn-single laws left) (λ items.
       Then-single _ _ (Judged-single opened.0 opened.1 items) (λ _. Give-single []))
 
-pub Encoded-single : PieceLaws → (root : Name) (opened : SetParts × ℕ) (left : List ℕ) → IsSingle (Encoded root opened (Some left))
-Encoded-single laws root opened left =
-    Then-single _ _ (Test-single _ _) (λ _.
-    Then-single _ _ (ItemsIn-single laws left) (λ items.
-    Then-single _ _ (Found-single _ _) (λ value. Give-single _)))
+-- ---- values, their encodings and their documents
+
+num_inj : (parts : SetParts) (n : ℕ) (a b : RootType) → IsRootType parts n a → IsRootType parts n b → a.assignments ≡ b.assignments
+num_inj parts n a b (s, of_s, h) (t, of_t, k) = one-map t a.assignments b.assignments (map-same s t (same_parts s t (of_s ∙ sym of_t)) a.assignments h.is_map) k.is_map
+
+same_number : (parts : SetParts) (n : ℕ) (a b : RootType) → IsRootType parts n a → IsRootType parts n b → a.number ≡ b.number
+same_number parts n a b (s, of_s, h) (t, of_t, k) =
+    let moved = map-same s t (same_parts s t (of_s ∙ sym of_t)) a.assignments h.is_map in
+    let same = one-entries t h.is_map.entries k.is_map.entries moved.are_entries k.is_map.are_entries in
+    h.number_is ∙ ap (λ es. place_in es (subject.Element n)) same ∙ sym k.number_is
+
+type_of : (M N : List Assignment) (t u : ℕ) → M ≡ N → t ≡ u → (let a : RootType = record { assignments = M; number = t } in let b : RootType = record { assignments = N; number = u } in a ≡ b)
+type_of M N t u e f = cc
+
+pub Typed-single : (opened : SetParts × ℕ) → IsSingle (Typed opened)
+Typed-single opened (Err o) w none also = absurd none
+Typed-single opened (Ok a) (Err o) due none = absurd none
+Typed-single opened (Ok a) (Ok b) p q =
+    ap (λ z. Ok z) (type_of a.assignments b.assignments a.number b.number (num_inj opened.0 opened.1 a b p q) (same_number opened.0 opened.1 a b p q))
+
+some_inj : {A : Type 0} (x y : A) → Some x ≡ Some y → x ≡ y
+some_inj x y e = cc
+
+module _ (one : OneValue) (parts : SetParts) (n : ℕ) (type : RootType) where
+  -- two values with the same items are one
+  same_value : IsRootType parts n type → (b : Rose Plain) (v w : Rose ValueLabel) → Fits type.assignments type.number v → Fits type.assignments type.number w
+      → Xer type.assignments type.number v ≡ Some b → Xer type.assignments type.number w ≡ Some b → v ≡ w
+  same_value (s, of_s, h) b v w fits also is was =
+      let M = type.assignments in
+      one s M h.linked h.small h.is_map n h.global v w (subst (λ t. Fits M t v) h.number_is fits) (subst (λ t. Fits M t w) h.number_is also)
+      (subst (λ t. Xer M t v ≡ Xer M t w) h.number_is (is ∙ sym was))
+
+  pub Valued-single : IsRootType parts n type → (b : Rose Plain) → IsSingle (Valued type b)
+  Valued-single is b (Ok v) (Ok w) p q = ap (λ z. Ok z) (same_value is b v w p.0.0 q.0.0 p.1 q.1)
+  Valued-single is b (Ok v) (Err o) p (w, fits, items, many, e) =
+      let same = same_value is b v w p.0.0 fits p.1 items in absurd (omega (arith, p.0.1, many, ap node_count same))
+  Valued-single is b (Err o) (Ok v) (w, fits, items, many, e) p =
+      let same = same_value is b v w p.0.0 fits p.1 items in absurd (omega (arith, p.0.1, many, ap node_count same))
+  Valued-single is b (Err o) (Err m) (v, fits, items, many, e) (w, also, its, more, f) =
+      ap (λ z. Err z) (e ∙ (ap (λ x. TooManyNodes (node_count x)) (same_value is b v w fits also items its) ∙ sym f))
+
+pub Encoding-single : (type : RootType) (v : Rose ValueLabel) → IsSingle (Encoding type v)
+Encoding-single type v (Err o) w none also = absurd none
+Encoding-single type v (Ok x) (Err o) due none = absurd none
+Encoding-single type v (Ok x) (Ok y) p q = ap (λ z. Ok z) (same_octets x y p.1 q.1 (p.0 ∙ sym q.0))
+
+pub Written-single : (type : RootType) (v : Rose ValueLabel) → IsSingle (Written type v)
+Written-single type v (Err o) w none also = absurd none
+Written-single type v (Ok x) (Err o) due none = absurd none
+Written-single type v (Ok x) (Ok y) (a, of_a, is) (b, of_b, was) = ap (λ z. Ok z) (is ∙ (ap (λ z. written (unplaced z)) (some_inj a b (sym of_a ∙ of_b)) ∙ sym was))
+
+module _ (laws : OctetLaws) (parts : SetParts) (n : ℕ) (type : RootType) where
+  pub Decoded-single : IsRootType parts n type → (octets : List ℕ) → IsSingle (Decoded type (Some octets))
+  Decoded-single (s, of_s, h) octets (Ok v) (Ok w) p q = ap (λ z. Ok z) (one_whole laws type h octets v w p q)
+  Decoded-single (s, of_s, h) octets (Ok v) (Err o) p q = absurd (whole_or_none laws type h octets v o p q)
+  Decoded-single (s, of_s, h) octets (Err o) (Ok v) q p = absurd (whole_or_none laws type h octets v o p q)
+  Decoded-single (s, of_s, h) octets (Err o) (Err m) p q = ap (λ z. Err z) (one_refusal laws type h octets o m p q)
+
+-- the laws from which it follows
+pub record Laws : Type 1 where
+  pub pieces : PieceLaws
+  pub valid : AtMostOne
+  pub value : OneValue
+  pub octets : OctetLaws
+
+pub Encoded-single : Laws → (opened : SetParts × ℕ) (left : List ℕ) → IsSingle (Encoded opened (Some left))
+Encoded-single laws opened left =
+    Then-with _ _ (Typed-single opened) (λ type is.
+    Then-single _ _ (ItemsIn-single laws.pieces left) (λ items.
+    Then-single _ _ (Then-single _ _ (Judged-single laws.valid opened.0 opened.1 items) (λ treated. Valued-single laws.value opened.0 opened.1 type is treated)) (λ value.
+    Encoding-single type value)))
+
+pub Documented-single : Laws → (opened : SetParts × ℕ) (left : List ℕ) → IsSingle (Documented opened (Some left))
+Documented-single laws opened left =
+    Then-with _ _ (Typed-single opened) (λ type is.
+    Then-single _ _ (Decoded-single laws.octets opened.0 opened.1 type is left) (λ value.
+    Written-single type value))
+
+pub Sent-single : Laws → (entries : List (List ℕ × List ℕ)) (root : Name) (files : List (List ℕ)) (left : List ℕ) → IsSingle (Sent (Some entries) root files (Some left))
+Sent-single laws entries root files left = Then-single _ _ (Opened-single laws.pieces entries root files) (λ opened. Encoded-single laws opened left)
+
+pub Tried-single : Laws → (lines : ℕ) → IsSingle (Tried lines)
+Tried-single laws lines =
+    Then-single _ _ (Sent-single laws ((trial_name, trial_schema) ∷ []) trial_root (trial_name ∷ []) (trial_document lines)) (λ octets. Give-single _)
 
 -- where what the command reads is told
-pub Answered-single : AtMostOne → PieceLaws → (entries : List (List ℕ × List ℕ)) (left : Option (List ℕ)) (request : Asked) → (reads_input request ≡ true → IsTold left)
+pub Answered-single : Laws → (entries : List (List ℕ × List ℕ)) (left : Option (List ℕ)) (request : Asked) → (reads_input request ≡ true → IsTold left)
     → IsSingle (Answered (Some entries) left request)
-Answered-single valid laws entries left (Show files) told = Then-single _ _ (SetIn-single laws entries files) (λ parts. Printed-single parts)
-Answered-single valid laws entries (Some left) (Check root files) told = Then-single _ _ (Opened-single laws entries root files) (λ opened. Checked-single valid laws opened left)
-Answered-single valid laws entries None (Check root files) told = absurd (told refl)
-Answered-single valid laws entries (Some left) (ToPer root files) told = Then-single _ _ (Opened-single laws entries root files) (λ opened. Encoded-single laws root opened left)
-Answered-single valid laws entries None (ToPer root files) told = absurd (told refl)
-Answered-single valid laws entries left (ToXml root files) told = Refuse-single NotYet
-Answered-single valid laws entries left (Trial lines) told = Refuse-single NotYet
+Answered-single laws entries left (Show files) told = Then-single _ _ (SetIn-single laws.pieces entries files) (λ parts. Printed-single parts)
+Answered-single laws entries (Some left) (Check root files) told = Then-single _ _ (Opened-single laws.pieces entries root files) (λ opened. Checked-single laws.valid laws.pieces opened left)
+Answered-single laws entries None (Check root files) told = absurd (told refl)
+Answered-single laws entries (Some left) (ToPer root files) told = Sent-single laws entries root files left
+Answered-single laws entries None (ToPer root files) told = absurd (told refl)
+Answered-single laws entries (Some left) (ToXml root files) told = Then-single _ _ (Opened-single laws.pieces entries root files) (λ opened. Documented-single laws opened left)
+Answered-single laws entries None (ToXml root files) told = absurd (told refl)
+Answered-single laws entries left (Trial lines) told = Tried-single laws lines
 
 -- at most one outcome or result is due
-pub Due-single : AtMostOne → PieceLaws → (words : List (List ℕ)) (entries : List (List ℕ × List ℕ)) (left : Option (List ℕ)) → (ReadsInput words → IsTold left)
+pub Due-single : Laws → (words : List (List ℕ)) (entries : List (List ℕ × List ℕ)) (left : Option (List ℕ)) → (ReadsInput words → IsTold left)
     → IsSingle (Due words (Some entries) left)
-Due-single valid laws words entries left told =
-    Then-with _ _ (Found-single _ _) (λ request asks. Answered-single valid laws entries left request (λ reads. told (request, asks, reads)))
+Due-single laws words entries left told =
+    Then-with _ _ (Found-single _ _) (λ request asks. Answered-single laws entries left request (λ reads. told (request, asks, reads)))
 
 -- where Done is due and nothing rose, only memory may be missing
-completed : AtMostOne → PieceLaws → (words : List (List ℕ)) (entries : List (List ℕ × List ℕ)) (left : Option (List ℕ)) (bytes : List ℕ) (loads loads_now reads reads_now : ℕ) (sure : Bool) (o : Outcome)
+completed : Laws → (words : List (List ℕ)) (entries : List (List ℕ × List ℕ)) (left : Option (List ℕ)) (bytes : List ℕ) (loads loads_now reads reads_now : ℕ) (sure : Bool) (o : Outcome)
     → (ReadsInput words → IsTold left) → Due words (Some entries) left (Ok bytes) → (HasRisen loads loads_now → ⊥) → (HasRisen reads reads_now → ⊥)
     → (Due words (Some entries) left (Err o) × IsRefusal o) ⊎ Deciding loads loads_now sure (Some entries) reads reads_now words o
     → (o ≡ Done) ⊎ (o ≡ OutOfMemory)
-completed valid laws words entries left bytes loads loads_now reads reads_now sure o told due no_load no_read (inl (refused, own)) =
-    let e = Due-single valid laws words entries left told (Err o) (Ok bytes) refused due in cc
-completed valid laws words entries left bytes loads loads_now reads reads_now sure o told due no_load no_read (inr (request, asks, inl (inl memory))) = inr memory
-completed valid laws words entries left bytes loads loads_now reads reads_now sure o told due no_load no_read (inr (request, asks, inl (inr (k, name, load, named, fails)))) = absurd (no_load fails.rose)
-completed valid laws words entries left bytes loads loads_now reads reads_now sure o told due no_load no_read (inr (request, asks, inr (read, rose, comes))) = absurd (no_read rose)
+completed laws words entries left bytes loads loads_now reads reads_now sure o told due no_load no_read (inl (refused, own)) =
+    let e = Due-single laws words entries left told (Err o) (Ok bytes) refused due in cc
+completed laws words entries left bytes loads loads_now reads reads_now sure o told due no_load no_read (inr (request, asks, inl (inl memory))) = inr memory
+completed laws words entries left bytes loads loads_now reads reads_now sure o told due no_load no_read (inr (request, asks, inl (inr (k, name, load, named, fails)))) = absurd (no_load fails.rose)
+completed laws words entries left bytes loads loads_now reads reads_now sure o told due no_load no_read (inr (request, asks, inr (read, rose, comes))) = absurd (no_read rose)
 
 -- the same, of files that are told
-pub completed_told : AtMostOne → PieceLaws → (words : List (List ℕ)) (known : Option (List (List ℕ × List ℕ))) (left : Option (List ℕ)) (entries : List (List ℕ × List ℕ)) (bytes : List ℕ)
+pub completed_told : Laws → (words : List (List ℕ)) (known : Option (List (List ℕ × List ℕ))) (left : Option (List ℕ)) (entries : List (List ℕ × List ℕ)) (bytes : List ℕ)
     (loads loads_now reads reads_now : ℕ) (sure : Bool) (o : Outcome) → known ≡ Some entries → (ReadsInput words → IsTold left)
     → Due words known left (Ok bytes) → (HasRisen loads loads_now → ⊥) → (HasRisen reads reads_now → ⊥)
     → (Due words known left (Err o) × IsRefusal o) ⊎ Deciding loads loads_now sure known reads reads_now words o
     → (o ≡ Done) ⊎ (o ≡ OutOfMemory)
-completed_told valid laws words known left entries bytes loads loads_now reads reads_now sure o files told due no_load no_read answer =
-    completed valid laws words entries left bytes loads loads_now reads reads_now sure o told (subst (λ e. Due words e left (Ok bytes)) files due) no_load no_read
+completed_told laws words known left entries bytes loads loads_now reads reads_now sure o files told due no_load no_read answer =
+    completed laws words entries left bytes loads loads_now reads reads_now sure o told (subst (λ e. Due words e left (Ok bytes)) files due) no_load no_read
     (subst (λ e. (Due words e left (Err o) × IsRefusal o) ⊎ Deciding loads loads_now sure e reads reads_now words o) files answer)

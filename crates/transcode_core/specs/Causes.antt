@@ -6,7 +6,7 @@ use Rattle.transcode_core.specs.declared.outcome.Outcome.{Outcome}
 use Rattle.transcode_core.specs.declared.outcome.Outcome.TheVariants.{Done, Usage, SchemaSyntax, SchemaFault, LinkFault, UnknownRoot, TooLong, LoadFault, ReadFault, WriteFault, OutOfMemory}
 use Rattle.schema_parts.specs.Raw.{Document}
 use Rattle.schema_parts.specs.SetParts.{SetParts}
-use Rattle.transcode_core.specs.Steps.{Schemas, Taken}
+use Rattle.transcode_core.specs.Steps.{Schemas}
 use Rattle.transcode_core.specs.Words.{Asked, Show, Check, ToPer, ToXml, Trial}
 use Rattle.transcode_core.specs.Due.{Requested, Opened}
 
@@ -60,7 +60,7 @@ abbrev pub files_of : Asked → List (List ℕ)
 files_of (Show files) = files
 files_of (Check root files) = files
 files_of (ToPer root files) = files
-files_of (ToXml root files) = []
+files_of (ToXml root files) = files
 files_of (Trial lines) = []
 
 -- the words name this file, by this number, and the order passes to its load
@@ -71,16 +71,12 @@ ReachesFile words entries k name = (request : Asked) × Requested words (Ok requ
 abbrev pub OneRead : ℕ → ℕ → Outcome → Type 0
 OneRead before now o = (o ≡ OutOfMemory) ⊎ ((o ≡ ReadFault) × HasRisen before now)
 
--- memory is missing, or the input failed and this element is taken
-abbrev pub TakenRead : SetParts × ℕ → ℕ → ℕ → Outcome → Type 0
-TakenRead opened before now o = (o ≡ OutOfMemory) ⊎ ((o ≡ ReadFault) × HasRisen before now × Taken opened.0 opened.1 (Ok tt))
-
 -- the command reads the input
 abbrev pub reads_input : Asked → Bool
 reads_input (Show files) = false
 reads_input (Check root files) = true
 reads_input (ToPer root files) = true
-reads_input (ToXml root files) = false
+reads_input (ToXml root files) = true
 reads_input (Trial lines) = false
 
 abbrev pub ReadsInput : List (List ℕ) → Type 0
@@ -95,8 +91,8 @@ IsTold (Some left) = Unit {0}
 abbrev pub ComesToInput : Option (List (List ℕ × List ℕ)) → Asked → Type 0
 ComesToInput entries (Show files) = ⊥
 ComesToInput entries (Check root files) = (opened : SetParts × ℕ) × Opened entries root files (Ok opened)
-ComesToInput entries (ToPer root files) = (opened : SetParts × ℕ) × Opened entries root files (Ok opened) × Taken opened.0 opened.1 (Ok tt)
-ComesToInput entries (ToXml root files) = ⊥
+ComesToInput entries (ToPer root files) = (opened : SetParts × ℕ) × Opened entries root files (Ok opened)
+ComesToInput entries (ToXml root files) = (opened : SetParts × ℕ) × Opened entries root files (Ok opened)
 ComesToInput entries (Trial lines) = ⊥
 
 -- the order passes to the input

@@ -1,14 +1,15 @@
 -- The outcome and the bytes due: the first refusal in the order of the steps, or the bytes.
-use Rattle.std.specs.Prelude.{ℕ, List, [], Option, Result}
+use Rattle.std.specs.Prelude.{ℕ, List, [], ◌∷◌, length, Option, Some, Result}
 use Rattle.xa_base.specs.declared.texts.Name.{Name}
 use Rattle.label_tree.specs.Rose.{Rose}
 use Rattle.doc_text.specs.declared.label.ItemLabel.{ItemLabel}
 use Rattle.schema_parts.specs.SetParts.{SetParts}
 use Rattle.transcode_core.specs.declared.outcome.Outcome.{Outcome}
-use Rattle.transcode_core.specs.declared.outcome.Outcome.TheVariants.{Usage, DocSyntax, NotYet}
+use Rattle.transcode_core.specs.declared.outcome.Outcome.TheVariants.{Usage, DocSyntax}
 use Rattle.transcode_core.specs.Words.{Asked, Show, Check, ToPer, ToXml, Trial, asked}
-use Rattle.transcode_core.specs.Order.{Give, Found, Refuse, Then}
-use Rattle.transcode_core.specs.Steps.{Schemas, Linked, Printed, Rooted, Taken, Input, Read, Judged, Valued, encoded}
+use Rattle.transcode_core.specs.Order.{Give, Found, Then}
+use Rattle.transcode_core.specs.Trial.{trial_root, trial_name, trial_schema, trial_document, summary}
+use Rattle.transcode_core.specs.Steps.{Schemas, Linked, Printed, Rooted, Input, Read, Judged, Typed, ValueIn, Encoding, Decoded, Written}
 
 -- the words: what they ask for
 abbrev pub Requested : List (List ℕ) → Result Asked Outcome → Type 0
@@ -36,24 +37,38 @@ Checked opened left =
     Then (Judged opened.0 opened.1 items) (λ _.
     Give []))
 
--- the encoding of the value in the document, in which this is the root
-abbrev pub Encoding : Name → Rose ItemLabel → Result (List ℕ) Outcome → Type 0
-Encoding root items = Then (Valued root items) (λ value. Give (encoded value))
-
--- the encoding of the document in the input, in an opened set
-abbrev pub Encoded : Name → SetParts × ℕ → Option (List ℕ) → Result (List ℕ) Outcome → Type 0
-Encoded root opened left =
-    Then (Taken opened.0 opened.1) (λ _.
+-- the encoding of the one value whose items are those of the document in the input
+abbrev pub Encoded : SetParts × ℕ → Option (List ℕ) → Result (List ℕ) Outcome → Type 0
+Encoded opened left =
+    Then (Typed opened) (λ type.
     Then (ItemsIn left) (λ items.
-    Encoding root items))
+    Then (ValueIn opened type items) (λ value.
+    Encoding type value)))
 
--- the answer to what is asked for; what isn't built is `NotYet`
+-- the document of the one value of which the input is the encoding
+abbrev pub Documented : SetParts × ℕ → Option (List ℕ) → Result (List ℕ) Outcome → Type 0
+Documented opened left =
+    Then (Typed opened) (λ type.
+    Then (Decoded type left) (λ value.
+    Written type value))
+
+-- `to-per`: the files and the root, then the input
+abbrev pub Sent : Option (List (List ℕ × List ℕ)) → Name → List (List ℕ) → Option (List ℕ) → Result (List ℕ) Outcome → Type 0
+Sent entries root files left = Then (Opened entries root files) (λ opened. Encoded opened left)
+
+-- the summary of what `to-per` makes of the trial document of so many lines, whose schema is the only file
+abbrev pub Tried : ℕ → Result (List ℕ) Outcome → Type 0
+Tried lines =
+    Then (Sent (Some ((trial_name, trial_schema) ∷ [])) trial_root (trial_name ∷ []) (Some (trial_document lines))) (λ octets.
+    Give (summary lines (length (trial_document lines)) (length octets)))
+
+-- the answer to what is asked for
 abbrev pub Answered : Option (List (List ℕ × List ℕ)) → Option (List ℕ) → Asked → Result (List ℕ) Outcome → Type 0
 Answered entries left (Show files) = Then (SetIn entries files) (λ parts. Printed parts)
 Answered entries left (Check root files) = Then (Opened entries root files) (λ opened. Checked opened left)
-Answered entries left (ToPer root files) = Then (Opened entries root files) (λ opened. Encoded root opened left)
-Answered entries left (ToXml root files) = Refuse NotYet
-Answered entries left (Trial lines) = Refuse NotYet
+Answered entries left (ToPer root files) = Sent entries root files left
+Answered entries left (ToXml root files) = Then (Opened entries root files) (λ opened. Documented opened left)
+Answered entries left (Trial lines) = Tried lines
 
 -- what is due: the first refusal, or done with these bytes
 abbrev pub Due : List (List ℕ) → Option (List (List ℕ × List ℕ)) → Option (List ℕ) → Result (List ℕ) Outcome → Type 0

@@ -1,6 +1,5 @@
 pub mod Words
-pub mod TruthValues
-pub mod Booleans
+pub mod Trial
 pub mod Order
 pub mod Causes
 pub mod Steps

@@ -10,8 +10,10 @@ use Rattle.link_names.specs.declared.faults.LinkWhy.{LinkWhy}
 use Rattle.link_names.specs.declared.faults.LinkWhy.TheVariants as link
 use Rattle.validity.specs.declared.why.InvalidWhy.{InvalidWhy}
 use Rattle.validity.specs.declared.why.InvalidWhy.TheVariants as invalid
+use Rattle.per_fields.specs.declared.stops.Why.{Why}
+use Rattle.per_fields.specs.declared.stops.Why.TheVariants as per
 use Rattle.transcode_core.specs.declared.outcome.Outcome.{Outcome}
-use Rattle.transcode_core.specs.declared.outcome.Outcome.TheVariants.{Done, Usage, SchemaSyntax, SchemaFault, LinkFault, UnknownRoot, DocSyntax, Invalid, TooLong, LoadFault, ReadFault, WriteFault, OutOfMemory, NotYet}
+use Rattle.transcode_core.specs.declared.outcome.Outcome.TheVariants.{Done, Usage, SchemaSyntax, SchemaFault, LinkFault, UnknownRoot, DocSyntax, Invalid, PerFault, Trailing, TooLong, TooManyNodes, LoadFault, ReadFault, WriteFault, OutOfMemory}
 
 -- the name of a reason against a text
 abbrev pub reason_name : DocWhy → List ℕ
@@ -120,6 +122,18 @@ invalid_reason invalid.BadText = codes "BadText"
 invalid_reason invalid.UnexpectedElement = codes "UnexpectedElement"
 invalid_reason invalid.MissingElement = codes "MissingElement"
 
+-- the name of a reason against octets
+abbrev pub per_reason : Why → List ℕ
+per_reason per.TooDeep = codes "TooDeep"
+per_reason per.TooMany = codes "TooMany"
+per_reason per.Short = codes "Short"
+per_reason per.Padding = codes "Padding"
+per_reason per.NotShortest = codes "NotShortest"
+per_reason per.Range = codes "Range"
+per_reason per.TooWide = codes "TooWide"
+per_reason per.NotUtf8 = codes "NotUtf8"
+per_reason per.NotAValue = codes "NotAValue"
+
 -- the file of that number, or the input
 abbrev pub place : ℕ → List ℕ
 place zero = codes "input"
@@ -134,9 +148,11 @@ line (LinkFault k at reason) = codes "file " ++ decimal k ++ codes ", byte " ++ 
 line UnknownRoot = codes "unknown root\n"
 line (DocSyntax at reason) = codes "input, byte " ++ decimal at ++ codes ": syntax: " ++ reason_name reason ++ codes "\n"
 line (Invalid at reason) = codes "input, byte " ++ decimal at ++ codes ": invalid: " ++ invalid_reason reason ++ codes "\n"
+line (PerFault bit reason) = codes "input, bit " ++ decimal bit ++ codes ": per: " ++ per_reason reason ++ codes "\n"
+line (Trailing at) = codes "input, byte " ++ decimal at ++ codes ": trailing\n"
 line (TooLong k) = place k ++ codes ": too long\n"
+line (TooManyNodes count) = codes "value of " ++ decimal count ++ codes " nodes: too many\n"
 line (LoadFault k) = codes "file " ++ decimal k ++ codes ": load failed\n"
 line ReadFault = codes "input: read failed\n"
 line WriteFault = codes "output: write failed\n"
 line OutOfMemory = codes "out of memory\n"
-line NotYet = codes "not yet\n"

@@ -1,5 +1,5 @@
 -- Steps in an order, each of which passes with a value or refuses with an outcome.
-use Rattle.std.specs.Prelude.{◌≡◌, ◌⊎◌, Bool, true, false, Option, Some, None, Result, Ok, Err}
+use Rattle.std.specs.Prelude.{◌≡◌, ◌⊎◌, Option, Some, None, Result, Ok, Err}
 use Rattle.transcode_core.specs.declared.outcome.Outcome.{Outcome}
 
 -- this value, and no refusal
@@ -7,20 +7,10 @@ abbrev pub Give : {A : Type 0} → A → Result A Outcome → Type 0
 Give a (Ok b) = b ≡ a
 Give a (Err o) = ⊥
 
--- this refusal, and no value
-abbrev pub Refuse : {A : Type 0} → Outcome → Result A Outcome → Type 0
-Refuse refusal (Ok a) = ⊥
-Refuse refusal (Err o) = o ≡ refusal
-
 -- the value that is found, or this refusal where none is
 abbrev pub Found : {A : Type 0} → Option A → Outcome → Result A Outcome → Type 0
 Found found refusal (Ok a) = found ≡ Some a
 Found found refusal (Err o) = (found ≡ None) × (o ≡ refusal)
-
--- the test holds, or this refusal
-abbrev pub Test : Bool → Outcome → Result (Unit {0}) Outcome → Type 0
-Test holds refusal (Ok _) = holds ≡ true
-Test holds refusal (Err o) = (holds ≡ false) × (o ≡ refusal)
 
 -- the first step refuses, or it passes with a value and the next step decides
 abbrev pub Then : {A B : Type 0} → (Result A Outcome → Type 0) → (A → Result B Outcome → Type 0) → Result B Outcome → Type 0

@@ -1,7 +1,7 @@
 -- Each step with what it passes on and what it refuses.
-use Rattle.std.specs.Prelude.{◌≡◌, ◌⊎◌, ℕ, suc, Bool, ◌+◌, ◌<◌, ◌≤◌, ⊤, List, [], ◌∷◌, map, take, length, Option, Some, None, Result, Ok, Err, if◌then◌else◌}
+use Rattle.std.specs.Prelude.{◌≡◌, ◌⊎◌, ℕ, zero, suc, Bool, ◌&&◌, ◌+◌, ◌*◌, ◌<◌, ◌≤◌, ⊤, All, nat_le, List, [], ◌∷◌, map, take, length, Option, Some, None, Result, Ok, Err, if◌then◌else◌}
 use Rattle.std.specs.Option.{option_map}
-use Rattle.label_tree.specs.Rose.{Rose}
+use Rattle.label_tree.specs.Rose.{Rose, node_count}
 use Rattle.xa_base.specs.Entries.{HasEntry, HasLonger, Lacks}
 use Rattle.xa_base.specs.declared.texts.Name.{Name}
 use Rattle.xa_base.specs.Names.{name_eq}
@@ -16,11 +16,24 @@ use Rattle.link_cycles.specs.SimpleTypes.{simple_types}
 use Rattle.schema_parts.specs.Components.{Set}
 use Rattle.schema_parts.specs.Linked.{IsLinked}
 use Rattle.plain_items.specs.Plain.{Plain}
+use Rattle.plain_items.specs.Unplaced.{unplaced}
 use Rattle.validity.specs.declared.why.InvalidWhy.{InvalidWhy}
 use Rattle.validity.specs.Valid.{Valid}
 use Rattle.validity.specs.Faults.{FirstFault}
 use Rattle.link_set.specs.Sets.{SetParts, parts_of, set_of}
 use Rattle.asn_types.specs.declared.modules.Assignment.{Assignment}
+use Rattle.asn_types.specs.Modules.{IsModule}
+use Rattle.asn_types.specs.Bounds.{IsBounded}
+use Rattle.asn_types.specs.Values.{Fits, In}
+use Rattle.simple_types.specs.declared.labels.ValueLabel.{ValueLabel}
+use Rattle.one_value.specs.Statements.{AreSmall, root_at}
+use Rattle.xer_items.specs.Items.{Xer}
+use Rattle.bit_cursor.specs.Bits.{octet_bits}
+use Rattle.per_fields.specs.declared.stops.Stop.{Stop}
+use Rattle.per_fields.specs.Encoding.{complete}
+use Rattle.per_fields.specs.Laws.{Begins, Stops}
+use Rattle.per_decode.specs.Answers.{is_short}
+use Rattle.doc_written.specs.Written.{written}
 use Rattle.map_assignments.specs.Mapped.{IsMapOf}
 use Rattle.module_print.specs.Printed.{printed}
 use Rattle.schema_parts.specs.declared.components.ElementDecl.{ElementDecl}
@@ -29,10 +42,8 @@ use Rattle.schema_link.specs.Passes.{passes, IsShownBy, ArePassed}
 use Rattle.schema_read.specs.Raw.{raw_of}
 use Rattle.link_simple.specs.Making.{IsMaking}
 use Rattle.transcode_core.specs.declared.outcome.Outcome.{Outcome}
-use Rattle.transcode_core.specs.declared.outcome.Outcome.TheVariants.{SchemaSyntax, SchemaFault, LinkFault, UnknownRoot, DocSyntax, Invalid, TooLong, LoadFault, NotYet}
-use Rattle.transcode_core.specs.Booleans.{is_boolean}
-use Rattle.transcode_core.specs.TruthValues.{truth_in}
-use Rattle.transcode_core.specs.Order.{Give, Found, Test, Then}
+use Rattle.transcode_core.specs.declared.outcome.Outcome.TheVariants.{SchemaSyntax, SchemaFault, LinkFault, UnknownRoot, DocSyntax, Invalid, PerFault, Trailing, TooLong, TooManyNodes, LoadFault}
+use Rattle.transcode_core.specs.Order.{Give, Found, Then}
 
 -- the contents of file k, if they are no more than the limit
 abbrev pub Loaded : Option (List (List ℕ × List ℕ)) → ℕ → List ℕ → Result (List ℕ) Outcome → Type 0
@@ -84,10 +95,6 @@ number_named name (e ∷ es) = if name_eq e.name name then Some 0 else option_ma
 abbrev pub Rooted : Name → SetParts → Result ℕ Outcome → Type 0
 Rooted root parts = Found (number_named root (take parts.globals parts.elements)) UnknownRoot
 
--- What is taken so far: elements of the type boolean.
-abbrev pub Taken : SetParts → ℕ → Result (Unit {0}) Outcome → Type 0
-Taken parts n = Test (is_boolean parts n) NotYet
-
 -- the text of the module that the set maps to
 abbrev pub Printed : SetParts → Result (List ℕ) Outcome → Type 0
 Printed parts (Ok bytes) = (s : Set) × (parts_of s ≡ parts) × (made : List Assignment) × IsMapOf s made × (bytes ≡ printed made)
@@ -117,10 +124,78 @@ abbrev pub Judged : SetParts → ℕ → Rose ItemLabel → Result (Rose Plain) 
 Judged parts n items (Ok treated) = AreLinked parts × Valid parts n items treated
 Judged parts n items (Err o) = AreLinked parts × ((at : ℕ) × (why : InvalidWhy) × FirstFault parts n items at why × (o ≡ Invalid at why))
 
--- the truth value in a document whose root has this name
-abbrev pub Valued : Name → Rose ItemLabel → Result Bool Outcome → Type 0
-Valued root items = Found (truth_in root items) NotYet
+-- ---- values
 
--- the encoding of a truth value: one bit, padded to an octet (X.691, sections 12 and 11.1)
-abbrev pub encoded : Bool → List ℕ
-encoded value = if value then 128 ∷ [] else 0 ∷ []
+-- a module, and the number of one of its assignments
+pub record RootType : Type 0 where
+  pub assignments : List Assignment
+  pub number : ℕ
+
+-- the map of the set, and the number of the type of its global element with this number
+pub record IsTypeOf (set : Set) (n : ℕ) (type : RootType) : Type 0 where
+  pub linked : IsLinked set
+  pub small : AreSmall set
+  pub global : n < set.globals
+  pub is_map : IsMapOf set type.assignments
+  pub number_is : type.number ≡ root_at set type.assignments is_map n
+  pub is_module : IsModule type.assignments
+  pub is_bounded : IsBounded type.assignments
+  pub within : type.number < length type.assignments
+
+-- the same of the set with these parts
+abbrev pub IsRootType : SetParts → ℕ → RootType → Type 0
+IsRootType parts n type = (set : Set) × (parts_of set ≡ parts) × IsTypeOf set n type
+
+-- the type of the root in an opened set
+abbrev pub Typed : SetParts × ℕ → Result RootType Outcome → Type 0
+Typed opened (Ok type) = IsRootType opened.0 opened.1 type
+Typed opened (Err o) = ⊥
+
+-- the value whose items these are; or so many nodes that it has, which are too many
+abbrev pub Valued : RootType → Rose Plain → Result (Rose ValueLabel) Outcome → Type 0
+Valued type treated (Ok v) = In type.assignments type.number v × (Xer type.assignments type.number v ≡ Some treated)
+Valued type treated (Err o) = (v : Rose ValueLabel) × Fits type.assignments type.number v × (Xer type.assignments type.number v ≡ Some treated)
+    × (1048576 < node_count v) × (o ≡ TooManyNodes (node_count v))
+
+-- the value of a valid document
+abbrev pub ValueIn : SetParts × ℕ → RootType → Rose ItemLabel → Result (Rose ValueLabel) Outcome → Type 0
+ValueIn opened type items = Then (Judged opened.0 opened.1 items) (λ treated. Valued type treated)
+
+-- the complete encoding of a value in canonical aligned PER (X.691)
+abbrev pub Encoding : RootType → Rose ValueLabel → Result (List ℕ) Outcome → Type 0
+Encoding type v (Ok octets) = (octet_bits octets ≡ complete type.assignments type.number v) × All (λ x. x < 256) octets
+Encoding type v (Err o) = ⊥
+
+-- the bits among which an encoding is looked for: those of as many octets as an input may have
+abbrev pub readable : List ℕ → List Bool
+readable octets = octet_bits (take 16777216 octets)
+
+-- how the first fault of octets is told: those that end inside a field may go on behind the limit
+abbrev pub fault_in : List ℕ → Stop → Outcome
+fault_in octets stop = if is_short stop.why && nat_le 16777216 (length octets) then TooLong 0 else PerFault stop.bit stop.why
+
+-- the octets have a first fault, or they go on behind the encoding of a value
+abbrev pub IsNoEncoding : RootType → List ℕ → Outcome → Type 0
+IsNoEncoding type octets o =
+    ((stop : Stop) × Stops type.assignments type.number (readable octets) stop × (o ≡ fault_in octets stop))
+    ⊎ ((v : Rose ValueLabel) × (at : ℕ) × Begins type.assignments type.number (readable octets) v
+        × (8 * at ≡ length (complete type.assignments type.number v)) × (at < length octets) × (o ≡ Trailing at))
+
+-- an outcome that refuses octets
+abbrev pub IsOfOctets : Outcome → Type 0
+IsOfOctets (PerFault _ _) = Unit {0}
+IsOfOctets (Trailing _) = Unit {0}
+IsOfOctets (TooLong zero) = Unit {0}
+IsOfOctets o = ⊥
+
+-- where they are told, all octets that are left are the complete encoding of this value; or they are of none
+abbrev pub Decoded : RootType → Option (List ℕ) → Result (Rose ValueLabel) Outcome → Type 0
+Decoded type None (Ok v) = In type.assignments type.number v
+Decoded type None (Err o) = IsOfOctets o
+Decoded type (Some octets) (Ok v) = (length octets ≤ 16777216) × In type.assignments type.number v × (octet_bits octets ≡ complete type.assignments type.number v)
+Decoded type (Some octets) (Err o) = IsNoEncoding type octets o
+
+-- the text of a document with the items of the value (X.693)
+abbrev pub Written : RootType → Rose ValueLabel → Result (List ℕ) Outcome → Type 0
+Written type v (Ok text) = (items : Rose Plain) × (Xer type.assignments type.number v ≡ Some items) × (text ≡ written (unplaced items))
+Written type v (Err o) = ⊥

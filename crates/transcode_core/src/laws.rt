@@ -4,6 +4,8 @@ ghost use Rattle.transcode_core.specs.declared.outcome.Outcome.{Outcome};
 ghost use Rattle.transcode_core.specs.Causes.{ReadsInput, IsTold};
 ghost use Rattle.transcode_core.specs.Due.{Due};
 
+use one_value::one_value;
+use per_fields::first_stop;
 use validity::at_most_one;
 
 /// Of all words, over files that are told, at most one refusal or result is due, and a result with its bytes alone; where
@@ -13,4 +15,6 @@ pub fn one_answer()
         → Due words (Some entries) left v → Due words (Some entries) left w → v ≡ w }
 {
     at_most_one();
+    one_value();
+    first_stop();
 }

@@ -1,16 +1,18 @@
 //! The top call: words, files and an input to an outcome and bytes.
 #![tactic(auto)]
 
-mod booleans;
 mod files;
 mod laws;
 mod lines;
 mod linking;
 mod opened;
 mod outcome;
+mod receiving;
 mod schemas;
+mod sending;
 mod top;
-mod truth_values;
+mod trial;
+mod typing;
 mod words;
 
 pub use laws::one_answer;

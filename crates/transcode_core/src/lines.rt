@@ -13,6 +13,7 @@ use arrayvec::ArrayVec;
 use doc_text::DocWhy;
 use facet_rules::FacetWhy;
 use itoa::Buffer;
+use per_fields::Why;
 use schema_link::LinkWhy;
 use schema_rules::SchemaWhy;
 use validity::InvalidWhy;
@@ -99,6 +100,37 @@ fn of_file(file: u32, tail: &'static [u8]) -> Parts
         tail,
         reason: b"",
         end: b"",
+    }
+}
+
+fn numbered(head: &'static [u8], number: u64, tail: &'static [u8]) -> Parts
+    ensures { spelled result ≡ head.now ++ decimal number ++ tail.now }
+{
+    Parts {
+        head,
+        file: None,
+        middle: b"",
+        at: Some(number),
+        tail,
+        reason: b"",
+        end: b"",
+    }
+}
+
+// The name of a reason against octets.
+fn per_reason(why: Why) -> &'static [u8]
+    ensures { result.now ≡ lines.per_reason why }
+{
+    match why {
+        Why::TooDeep => b"TooDeep",
+        Why::TooMany => b"TooMany",
+        Why::Short => b"Short",
+        Why::Padding => b"Padding",
+        Why::NotShortest => b"NotShortest",
+        Why::Range => b"Range",
+        Why::TooWide => b"TooWide",
+        Why::NotUtf8 => b"NotUtf8",
+        Why::NotAValue => b"NotAValue",
     }
 }
 
@@ -279,13 +311,23 @@ fn parts_of(outcome: Outcome) -> Parts
             reason: invalid_reason(why),
             end: b"\n",
         },
+        Outcome::PerFault { bit, why } => Parts {
+            head: b"input, bit ",
+            file: None,
+            middle: b"",
+            at: Some(bit),
+            tail: b": per: ",
+            reason: per_reason(why),
+            end: b"\n",
+        },
+        Outcome::Trailing { at } => numbered(b"input, byte ", at, b": trailing\n"),
+        Outcome::TooManyNodes { count } => numbered(b"value of ", count, b" nodes: too many\n"),
         Outcome::TooLong { file: 0 } => plain(b"input: too long\n"),
         Outcome::TooLong { file } => of_file(file, b": too long\n"),
         Outcome::LoadFault { file } => of_file(file, b": load failed\n"),
         Outcome::ReadFault => plain(b"input: read failed\n"),
         Outcome::WriteFault => plain(b"output: write failed\n"),
         Outcome::OutOfMemory => plain(b"out of memory\n"),
-        Outcome::NotYet => plain(b"not yet\n"),
     }
 }
 

@@ -1,6 +1,7 @@
-//! A set and its root.
+//! A set with its root, and its map.
 ghost use Rattle.std.specs.Prelude.{◌<◌};
 
+use asn_types::Module;
 use schema_parts::SchemaSet;
 
 /// A linked set, and the number of a global element in it.
@@ -9,4 +10,11 @@ pub struct Opened {
     pub set: SchemaSet,
     pub root: u32,
     ghost global: { root < set.globals },
+}
+
+/// The map of a set, and the number of the assignment that is the type of a global element.
+#[derive(Drop)]
+pub struct RootModule {
+    pub module: Module,
+    pub number: u32,
 }

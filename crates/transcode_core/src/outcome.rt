@@ -3,6 +3,7 @@ ghost use Rattle.std.specs.Prelude.{◌≡◌};
 ghost use Rattle.transcode_core.specs.Status.{status};
 
 use doc_text::DocWhy;
+use per_fields::Why;
 use schema_link::LinkWhy;
 use schema_rules::SchemaWhy;
 use validity::InvalidWhy;
@@ -26,8 +27,14 @@ pub enum Outcome {
     DocSyntax { at: u64, why: DocWhy },
     /// The document in the input isn't valid: its first fault, at this byte.
     Invalid { at: u64, why: InvalidWhy },
+    /// The input is no encoding: its first fault, in the field that begins at this bit.
+    PerFault { bit: u64, why: Why },
+    /// An encoding ends before this byte of the input.
+    Trailing { at: u64 },
     /// The file has more than 16,777,216 bytes.
     TooLong { file: u32 },
+    /// The document is valid, but its value has so many nodes, more than 1,048,576.
+    TooManyNodes { count: u64 },
     /// The file could not be loaded.
     LoadFault { file: u32 },
     /// The input could not be read.
@@ -36,8 +43,6 @@ pub enum Outcome {
     WriteFault,
     /// Memory is missing.
     OutOfMemory,
-    /// What is asked for isn't built yet.
-    NotYet,
 }
 
 impl Outcome {
@@ -54,12 +59,14 @@ impl Outcome {
             Outcome::UnknownRoot => 6,
             Outcome::DocSyntax { .. } => 7,
             Outcome::Invalid { .. } => 8,
+            Outcome::PerFault { .. } => 9,
+            Outcome::Trailing { .. } => 10,
             Outcome::TooLong { .. } => 11,
+            Outcome::TooManyNodes { .. } => 12,
             Outcome::LoadFault { .. } => 20,
             Outcome::ReadFault => 21,
             Outcome::WriteFault => 22,
             Outcome::OutOfMemory => 30,
-            Outcome::NotYet => 40,
         }
     }
 }

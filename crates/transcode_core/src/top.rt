@@ -5,22 +5,26 @@ ghost use Rattle.xa_base.specs.Faults.{HasRisen};
 ghost use Rattle.xa_base.specs.Bytes.{AppendsFront};
 ghost use Rattle.schema_parts.specs.SetParts.{parts_of};
 ghost use Rattle.transcode_core.specs.Lines.{line};
-ghost use Rattle.transcode_core.specs.Private.Requests.{root_seen, seen, opened_seen};
+ghost use Rattle.transcode_core.specs.Private.Requests.{root_seen, seen, opened_seen, type_seen};
 ghost use Rattle.transcode_core.specs.Words as command;
-ghost use Rattle.transcode_core.specs.Steps.{Printed, Taken, Judged, encoded};
+ghost use Rattle.transcode_core.specs.Trial as trial;
+ghost use Rattle.transcode_core.specs.Trial.{trial_name, trial_schema, trial_root};
+ghost use Rattle.transcode_core.specs.Steps.{Printed, Judged, IsTypeOf, ValueIn, Encoding};
 ghost use Rattle.transcode_core.specs.Order.{Give, Then};
 ghost use Rattle.transcode_core.specs.Due as due;
-ghost use Rattle.transcode_core.specs.Due.{Requested, SetIn, ItemsIn, Checked, Encoding, Encoded, Answered, Due};
-ghost use Rattle.transcode_core.specs.Causes.{Answers, Never, NoMemory, SomeLoad, OneRead, TakenRead, files_of, ReachesFile, reads_input, ReadsInput, IsTold, ComesToInput, ReachesInput, IsOfInput, Answering, Deciding, Fails, IsRefusal, WritesNothing};
+ghost use Rattle.transcode_core.specs.Due.{Requested, SetIn, ItemsIn, Checked, Encoded, Documented, Sent, Tried, Answered, Due};
+ghost use Rattle.transcode_core.specs.Causes.{Answers, Never, NoMemory, SomeLoad, OneRead, files_of, ReachesFile, reads_input, ReadsInput, IsTold, ComesToInput, ReachesInput, IsOfInput, Answering, Deciding, Fails, IsRefusal, WritesNothing};
 
-use crate::booleans::check_taken;
 use crate::files::{read_input, read_input_items};
 use crate::lines::write_line;
 use crate::linking::{link_files, open_set};
-use crate::opened::Opened;
+use crate::opened::{Opened, RootModule};
 use crate::outcome::Outcome;
 use crate::schemas::load_schemas;
-use crate::truth_values::read_truth;
+use crate::sending::encode_items;
+use crate::receiving::write_input;
+use crate::typing::map_root;
+use crate::trial::{self, schema_files, schema_name, summary, trial_document};
 use crate::words::{Request, Root, read_words};
 use doc_text::Items;
 use map_694::map_set;
@@ -28,9 +32,11 @@ use module_print::print_module;
 use schema_parts::SchemaSet;
 use std::alloc::Global;
 use std::sync::ledger::Ledger;
+use one_value::one_value;
+use per_fields::first_stop;
 use validity::at_most_one;
 use validity_check::{CheckError, check_items};
-use xa_base::{Failed, Library, Sink, Source, Steps, Text, write_all};
+use xa_base::{Failed, Library, Sink, Source, Steps, SureSource, Text, write_all};
 
 // What the words ask for.
 fn requested(words: &[Text]) -> Result<Request<'_>, Outcome>
@@ -174,68 +180,54 @@ fn check<F: Library, S: Source, L: Ledger>(
     }
 }
 
-// The encoding of a truth value.
-fn encode(alloc: Global, value: bool) -> Result<Vec<u8>, Outcome>
-    ensures due { Answers (λ bytes. bytes.items) (Give (encoded value)) NoMemory result }
-    ensures stage { IfErr result IsOfInput }
-{
-    let octet = if value { 0x80 } else { 0 };
-    match vec![in alloc; octet] {
-        Ok(bytes) => Ok(bytes),
-        Err(_) => Err(Outcome::OutOfMemory),
-    }
-}
-
-// The encoding of the value in the document, in which this is the root.
-fn encode_items(alloc: Global, root: Root<'_>, items: &Items) -> Result<Vec<u8>, Outcome>
-    ensures due { Answers (λ bytes. bytes.items) (Encoding (root_seen root.entry) items.now) NoMemory result }
-    ensures stage { IfErr result IsOfInput }
-{
-    match read_truth(root, items) {
-        Ok(value) => encode(alloc, value),
-        Err(outcome) => Err(outcome),
-    }
-}
-
-// The encoding of the document in the input.
-fn encode_input<S: Source>(alloc: Global, root: Root<'_>, input: &mut S) -> Result<Vec<u8>, Outcome>
-    ensures due { Answers (λ bytes. bytes.items) (Then (ItemsIn (S.left input.old)) (λ items. Encoding (root_seen root.entry) items)) (OneRead (S.faults input.old) (S.faults input.new)) result }
+// The encoding of the value of the document in the input.
+fn encode_input<S: Source, L: Ledger>(
+    alloc: Global,
+    opened: &Opened,
+    typed: &RootModule,
+    input: &mut S,
+    steps: &mut Steps<L>,
+) -> Result<Vec<u8>, Outcome>
+    requires { IsTypeOf opened.now.set opened.now.root (type_seen typed.now) }
+    ensures due { Answers (λ bytes. bytes.items)
+        (Then (ItemsIn (S.left input.old)) (λ items. Then (ValueIn (opened_seen opened.now) (type_seen typed.now) items) (λ value. Encoding (type_seen typed.now) value)))
+        (OneRead (S.faults input.old) (S.faults input.new)) result }
     ensures end { OnOk result (IsAtEnd (S.left input.new)) }
     ensures stage { IfErr result IsOfInput }
     ensures later { S.faults input.old ≤ S.faults input.new }
 {
     match read_items(alloc, input) {
-        Ok(items) => encode_items(alloc, root, &items),
+        Ok(items) => encode_items(alloc, opened, typed, &items, steps),
         Err(outcome) => Err(outcome),
     }
 }
 
-// The same in this set, where its root is such as is taken.
-fn encode_taken<S: Source>(
+// The same in this set.
+fn send<S: Source, L: Ledger>(
     alloc: Global,
-    root: Root<'_>,
     opened: &Opened,
     input: &mut S,
+    steps: &mut Steps<L>,
 ) -> Result<Vec<u8>, Outcome>
-    ensures due { Answers (λ bytes. bytes.items) (Encoded (root_seen root.entry) (opened_seen opened.now) (S.left input.old))
-        (TakenRead (opened_seen opened.now) (S.faults input.old) (S.faults input.new)) result }
+    ensures due { Answers (λ bytes. bytes.items) (Encoded (opened_seen opened.now) (S.left input.old)) (OneRead (S.faults input.old) (S.faults input.new)) result }
     ensures end { OnOk result (IsAtEnd (S.left input.new)) }
-    ensures untouched { (S.left input.new ≡ S.left input.old) ⊎ (Taken (parts_of opened.now.set) opened.now.root (Ok tt) × IfErr result IsOfInput) }
+    ensures stage { IfErr result IsOfInput }
     ensures later { S.faults input.old ≤ S.faults input.new }
 {
-    match check_taken(&opened.set, opened.root) {
-        Ok(()) => encode_input(alloc, root, input),
+    match map_root(alloc, opened) {
+        Ok(typed) => encode_input(alloc, opened, &typed, input, steps),
         Err(outcome) => Err(outcome),
     }
 }
 
 // What `to-per` answers for this root and these files.
-fn to_per<F: Library, S: Source>(
+fn to_per<F: Library, S: Source, L: Ledger>(
     alloc: Global,
     root: Root<'_>,
     names: &[Text],
     files: &mut F,
     input: &mut S,
+    steps: &mut Steps<L>,
 ) -> Result<Vec<u8>, Outcome>
     requires { length names.now ≤ 64 }
     ensures due { Answers (λ bytes. bytes.items) (Answered (F.entries files.old) (S.left input.old) (command.ToPer (root_seen root.entry) names.now))
@@ -247,7 +239,82 @@ fn to_per<F: Library, S: Source>(
     ensures reads { S.faults input.old ≤ S.faults input.new }
 {
     match open_files(alloc, files, root, names) {
-        Ok(opened) => encode_taken(alloc, root, &opened, input),
+        Ok(opened) => send(alloc, &opened, input, steps),
+        Err(outcome) => Err(outcome),
+    }
+}
+
+// The document of the value of which the input is the encoding, in this set.
+fn receive<S: Source>(alloc: Global, opened: &Opened, input: &mut S) -> Result<Vec<u8>, Outcome>
+    ensures due { Answers (λ bytes. bytes.items) (Documented (opened_seen opened.now) (S.left input.old)) (OneRead (S.faults input.old) (S.faults input.new)) result }
+    ensures end { OnOk result (IsAtEnd (S.left input.new)) }
+    ensures stage { IfErr result IsOfInput }
+    ensures later { S.faults input.old ≤ S.faults input.new }
+{
+    match map_root(alloc, opened) {
+        Ok(typed) => write_input(alloc, &typed, input),
+        Err(outcome) => Err(outcome),
+    }
+}
+
+// What `to-xml` answers for this root and these files.
+fn to_xml<F: Library, S: Source>(
+    alloc: Global,
+    root: Root<'_>,
+    names: &[Text],
+    files: &mut F,
+    input: &mut S,
+) -> Result<Vec<u8>, Outcome>
+    requires { length names.now ≤ 64 }
+    ensures due { Answers (λ bytes. bytes.items) (Answered (F.entries files.old) (S.left input.old) (command.ToXml (root_seen root.entry) names.now))
+        (Answering (F.faults files.old) (F.faults files.new) (F.is_sure files.old) (F.entries files.old) (S.faults input.old) (S.faults input.new) (command.ToXml (root_seen root.entry) names.now)) result }
+    ensures end { OnOk result (IsAtEnd (S.left input.new)) }
+    ensures untouched { (S.left input.new ≡ S.left input.old) ⊎ (ComesToInput (F.entries files.old) (command.ToXml (root_seen root.entry) names.now) × IfErr result IsOfInput) }
+    ensures files { (F.entries files.new ≡ F.entries files.old) × (F.is_sure files.new ≡ F.is_sure files.old) }
+    ensures loads { F.faults files.old ≤ F.faults files.new }
+    ensures reads { S.faults input.old ≤ S.faults input.new }
+{
+    match open_files(alloc, files, root, names) {
+        Ok(opened) => receive(alloc, &opened, input),
+        Err(outcome) => Err(outcome),
+    }
+}
+
+// What `to-per` makes of a document over the schema of the trial.
+fn encode_trial<L: Ledger>(
+    alloc: Global,
+    document: Vec<u8>,
+    steps: &mut Steps<L>,
+) -> Result<Vec<u8>, Outcome>
+    ensures { Answers (λ bytes. bytes.items) (Sent (Some ((trial_name, trial_schema) ∷ [])) trial_root (trial_name ∷ []) (Some document.items)) NoMemory result }
+{
+    let (Ok(name), Ok(mut files)) = (schema_name(alloc), schema_files(alloc)) else {
+        return Err(Outcome::OutOfMemory);
+    };
+    let mut input = SureSource::new(document, Vec::new(alloc));
+    to_per(alloc, trial::ROOT, &[name], &mut files, &mut input, steps)
+}
+
+// The line that tells how long the encoding is of a trial document of this length.
+fn tell(alloc: Global, lines: u32, length: u64, octets: &[u8]) -> Result<Vec<u8>, Outcome>
+    ensures { Answers (λ bytes. bytes.items) (Give (trial.summary lines length (length octets.now))) NoMemory result }
+{
+    match summary(alloc, lines, length, octets.len() as u64) {
+        Ok(line) => Ok(line),
+        Err(_) => Err(Outcome::OutOfMemory),
+    }
+}
+
+// What `trial` answers for so many lines.
+fn try_out<L: Ledger>(alloc: Global, lines: u32, steps: &mut Steps<L>) -> Result<Vec<u8>, Outcome>
+    ensures { Answers (λ bytes. bytes.items) (Tried lines) NoMemory result }
+{
+    let Ok(document) = trial_document(alloc, lines) else {
+        return Err(Outcome::OutOfMemory);
+    };
+    let length = document.len() as u64;
+    match encode_trial(alloc, document, steps) {
+        Ok(octets) => tell(alloc, lines, length, &octets),
         Err(outcome) => Err(outcome),
     }
 }
@@ -271,9 +338,10 @@ fn answer<F: Library, S: Source, L: Ledger>(
 {
     match request {
         Request::Show { files: names } => show(alloc, files, names),
-        Request::ToPer { root, files: names } => to_per(alloc, root, names, files, input),
         Request::Check { root, files: names } => check(alloc, root, names, files, input, steps),
-        Request::ToXml { .. } | Request::Trial { .. } => { Err(Outcome::NotYet) }
+        Request::ToPer { root, files: names } => to_per(alloc, root, names, files, input, steps),
+        Request::ToXml { root, files: names } => to_xml(alloc, root, names, files, input),
+        Request::Trial { lines } => try_out(alloc, lines, steps),
     }
 }
 
@@ -353,8 +421,10 @@ pub fn run<F: Library, S: Source, K: Sink, E: Sink, L: Ledger>(
         ⊎ (HasRisen (E.faults complaints.old) (E.faults complaints.new) × AppendsFront (E.written complaints.old) (E.written complaints.new) (line result)) }
     ensures complaints { E.faults complaints.old ≤ E.faults complaints.new }
 {
-    // What is due is one thing, since documents are valid in one way.
+    // What is due is one thing: documents are valid in one way, and have one value, and octets are of one.
     at_most_one();
+    one_value();
+    first_stop();
     match decide(alloc, words, files, input, steps) {
         Ok(bytes) => match write_all(output, &bytes) {
             Ok(()) => {

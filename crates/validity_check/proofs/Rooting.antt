@@ -2,13 +2,14 @@
 use Rattle.std.proofs.Common.{◌≡◌, ℕ, inl, inr, Option, Some, None, refl, sym, subst}
 use Rattle.std.specs.Prelude.{Result, Ok, Err, MatchResult, slice_get}
 use Rattle.label_tree.specs.Rose.{Rose, label_of}
+use Rattle.doc_text.specs.Labels.{item_place}
 use Rattle.doc_text.specs.declared.label.ItemLabel.{ItemLabel}
 use Rattle.schema_parts.specs.declared.components.ElementDecl.{ElementDecl}
 use Rattle.schema_parts.specs.Components.{Set}
 use Rattle.schema_parts.specs.SetParts.{parts_of}
 use Rattle.validity.specs.Asked.{asked_at, name_at}
 use Rattle.validity.specs.Valid.{HasName}
-use Rattle.validity.specs.Faults.{At, place_of, FaultBy, FirstFault}
+use Rattle.validity.specs.Faults.{At, FaultBy, FirstFault}
 use Rattle.validity.specs.declared.why.InvalidWhy.TheVariants.{WrongRoot}
 use Rattle.validity_check.specs.declared.error.CheckError.{CheckError}
 use Rattle.validity_check.specs.declared.error.CheckError.TheVariants.{Invalid, Memory}
@@ -18,7 +19,7 @@ module _ (s : Set) (d : ℕ) (e : ElementDecl) (at : slice_get s.elements d ≡ 
   named : name_at (parts_of s) d ≡ Some e.name
   named = rw at refl
 
-  pub root_refused : (x : CheckError) → Tells (At (place_of (label_of t)) WrongRoot (HasName (Some e.name) (label_of t) → ⊥)) x → Tells (FirstFault (parts_of s) d t) x
+  pub root_refused : (x : CheckError) → Tells (At (item_place (label_of t)) WrongRoot (HasName (Some e.name) (label_of t) → ⊥)) x → Tells (FirstFault (parts_of s) d t) x
   root_refused (Invalid b why) h = inl (h.0, h.1, subst (λ o. HasName o (label_of t) → ⊥) (sym named) h.2)
   root_refused Memory h = tt
 

@@ -1,8 +1,9 @@
 //! Documents.
 ghost use Rattle.std.specs.Prelude.{◌≡◌, ◌+◌, ◌*◌, ◌<◌, ◌≤◌, Some, MatchResult};
+ghost use Rattle.doc_text.specs.Labels.{item_place};
 ghost use Rattle.schema_parts.specs.SetParts.{parts_of};
 ghost use Rattle.validity.specs.Valid.{HasName};
-ghost use Rattle.validity.specs.Faults.{At, place_of, FirstFault};
+ghost use Rattle.validity.specs.Faults.{At, FirstFault};
 ghost use Rattle.validity_check.specs.Answers.{Tells, IsValid};
 ghost use Rattle.validity_check.specs.Counts.{element_count};
 
@@ -20,7 +21,7 @@ use xa_base::{Name, Steps};
 fn check_name(label: &ItemLabel, name: &Name) -> Result<(), CheckError>
     ensures { MatchResult result
         (λ _. HasName (Some name.now) label.now)
-        (Tells (At (place_of label.now) InvalidWhy.WrongRoot (HasName (Some name.now) label.now → ⊥))) }
+        (Tells (At (item_place label.now) InvalidWhy.WrongRoot (HasName (Some name.now) label.now → ⊥))) }
 {
     match label {
         ItemLabel::Text { at, .. } => Err(CheckError::Invalid {

@@ -3,7 +3,7 @@ ghost use Rattle.std.specs.Prelude.{◌≡◌, true, [], Some, MatchResult};
 ghost use Rattle.label_tree.specs.Rose.{roses_of, none};
 ghost use Rattle.doc_text.specs.Sound.{are_sound};
 ghost use Rattle.validity.specs.Valid as rule;
-ghost use Rattle.validity.specs.Faults.{place_of, why_kid, FirstKid, FirstElement};
+ghost use Rattle.validity.specs.Faults.{why_kid, FirstKid, FirstElement};
 ghost use Rattle.validity_check.specs.Answers.{Tells};
 
 use crate::error::CheckError;
@@ -11,15 +11,6 @@ use doc_text::ItemLabel;
 use label_tree::Tree;
 use validity::InvalidWhy;
 use xa_base::Text;
-
-fn place_of(label: &ItemLabel) -> u64
-    ensures { result ≡ place_of label.now }
-{
-    match label {
-        ItemLabel::Element { at, .. } => *at,
-        ItemLabel::Text { at, .. } => *at,
-    }
-}
 
 fn why_kid(label: &ItemLabel) -> InvalidWhy
     ensures { result ≡ why_kid label.now }
@@ -39,7 +30,7 @@ pub fn check_empty(kids: &[Tree<ItemLabel>]) -> Result<(), CheckError>
     match kids {
         [] => Ok(()),
         [first, ..] => Err(CheckError::Invalid {
-            at: place_of(first.label()),
+            at: first.label().place(),
             why: InvalidWhy::NilWithContent,
         }),
     }
@@ -56,7 +47,7 @@ pub fn check_no_content(kids: &[Tree<ItemLabel>]) -> Result<(), CheckError>
         [first, ..] => {
             let label = first.label();
             Err(CheckError::Invalid {
-                at: place_of(label),
+                at: label.place(),
                 why: why_kid(label),
             })
         }
@@ -82,7 +73,7 @@ pub fn only_text<'a>(kids: &'a [Tree<ItemLabel>], empty: &'a Text) -> Result<&'a
                 [] => Ok(text),
                 // No two texts are neighbours.
                 [second, ..] => Err(CheckError::Invalid {
-                    at: place_of(second.label()),
+                    at: second.label().place(),
                     why: InvalidWhy::ElementNotAllowed,
                 }),
             },

@@ -1,5 +1,5 @@
 -- Parts that are added one after another, and child elements that are taken one after another.
-use Rattle.std.proofs.Common.{◌≡◌, ℕ, zero, suc, ◌||◌, ◌&&◌, Bool, true, false, not, List, [], ◌∷◌, ◌++◌, Option, Some, None, length, refl, sym, ◌∙◌, ap, subst, append-nil, append_assoc}
+use Rattle.std.proofs.Common.{◌≡◌, ℕ, suc, ◌||◌, ◌&&◌, Bool, true, false, not, List, [], ◌∷◌, ◌++◌, Option, length, refl, sym, ◌∙◌, ap, subst, append-nil, append_assoc}
 use Rattle.std.specs.Prelude.{nat_le, Result, Ok, Err, OnOk, IfOk}
 use Rattle.label_tree.specs.Rose.{Rose, node, Roses, roses_of, label_of, kids_of}
 use Rattle.label_tree.specs.Rose as rose
@@ -12,9 +12,9 @@ use Rattle.content_models.specs.Particle.{Particle, occurs, Term, element, seque
 use Rattle.xa_base.specs.declared.texts.Name.{Name}
 use Rattle.simple_types.specs.declared.labels.ValueLabel.TheVariants as value
 use Rattle.simple_values.specs.Lexical.{is_at_most}
-use Rattle.map_laws.specs.Standing.{is_parted}
+use Rattle.xer_read.specs.Private.Bounds.{is_parted}
 use Rattle.content_models.specs.Seen.{term_seen, seen, all_seen}
-use Rattle.map_assignments.specs.Planning.{is_once, is_optional}
+use Rattle.xer_read.specs.Private.Bounds.{is_once, is_optional}
 use Rattle.xer_read.specs.declared.children.Child.{Child}
 use Rattle.xer_read.specs.declared.children.Children.{Children}
 use Rattle.xer_read.specs.declared.parts.Parts.{Parts}

@@ -1,2 +1,4 @@
+pub mod Bounds
 pub mod Made
 pub mod Growing
+pub mod Reading

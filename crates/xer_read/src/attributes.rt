@@ -1,4 +1,7 @@
 //! The parts that stand for attributes.
+ghost use Rattle.std.specs.Prelude.{◌<◌, length, All};
+ghost use Rattle.schema_parts.specs.Linked.{IsUse, IsLinked};
+
 use crate::parts::Parts;
 use attribute_faults::text_of;
 use schema_parts::{AttributeUse, SchemaSet};
@@ -13,7 +16,10 @@ fn add_attribute(
     declared: &AttributeUse,
     attributes: &[(Name, Text)],
     parts: &mut Parts,
-) -> Result<(), Memory> {
+) -> Result<(), Memory>
+    requires linked { IsLinked set.now }
+    requires simple { declared.now.simple < length set.now.simples }
+{
     match text_of(attributes, &declared.name) {
         None => parts.leave_out(),
         Some(text) => match accept(alloc, &set.simple(declared.simple).space, text) {
@@ -31,12 +37,12 @@ pub(crate) fn add_attributes(
     uses: &[AttributeUse],
     attributes: &[(Name, Text)],
     parts: &mut Parts,
-) -> Result<(), Memory> {
-    match uses {
-        [] => Ok(()),
-        [first, rest @ ..] => {
-            add_attribute(alloc, set, first, attributes, parts)?;
-            add_attributes(alloc, set, rest, attributes, parts)
-        }
+) -> Result<(), Memory>
+    requires linked { IsLinked set.now }
+    requires uses { All (IsUse set.now) uses.now }
+{
+    'uses: for declared in uses {
+        add_attribute(alloc, set, declared, attributes, parts)?;
     }
+    Ok(())
 }

@@ -1,5 +1,24 @@
 //! Elements and their kids, one by one.
+ghost use Rattle.std.specs.Prelude.{◌≡◌, ◌⊎◌, ℕ, ◌+◌, ◌-◌, ◌*◌, ◌^◌, ◌<◌, ◌≤◌, true, false, List, [], length, slice_index_or, All, MatchResult};
+ghost use Rattle.label_tree.specs.Rose.{Rose, label_of, roses_of, none, node_count, count_all};
+ghost use Rattle.xa_base.specs.WhiteSpace.{is_blank};
+ghost use Rattle.doc_text.specs.declared.label.ItemLabel.{ItemLabel};
+ghost use Rattle.doc_text.specs.Sound.{is_text, is_sound, are_sound};
+ghost use Rattle.content_models.specs.Particle.{Particle};
+ghost use Rattle.content_models.specs.Language.{Leaf, names, Lang};
+ghost use Rattle.content_spots.specs.Laws.{IsNamed};
+ghost use Rattle.content_match.specs.Taking.{levels, Took};
+ghost use Rattle.schema_parts.specs.Linked.{IsUse, IsLinked};
+ghost use Rattle.schema_parts.specs.SetParts.{parts_of};
+ghost use Rattle.validity.specs.Asked.{asked_at};
+ghost use Rattle.validity.specs.Faults.{At, FirstKid, FaultBy};
+ghost use Rattle.validity_check.specs.Answers.{Tells, IsSpelled, TextFault, KidsFault, AreValidKids, IsValidInside, InsideFault, IsValidBy};
+ghost use Rattle.validity_check.specs.Counts.{element_count, elements_in};
+ghost use Rattle.validity_check.specs.Told.{inside_told, IsFittingInside, AreNamed};
+ghost use Rattle.validity_check.specs.Walked.{Walked};
+
 use crate::attributes::add_attributes;
+use crate::children::Children;
 use crate::contents::{Content, Kids};
 use crate::filling::fill_top;
 use crate::parts::Parts;
@@ -23,10 +42,14 @@ fn read_between(
     mixed: bool,
     text: &Text,
     at: u64,
-    kids: &mut Kids,
-) -> Result<(), CheckError> {
+    read: &mut Kids,
+) -> Result<(), CheckError>
+    ensures { MatchResult result
+        (λ _. (mixed ≡ true) ⊎ (is_blank text.now ≡ true))
+        (Tells (At at InvalidWhy.TextNotAllowed ((mixed ≡ false) × (is_blank text.now ≡ false)))) }
+{
     if mixed {
-        kids.add_text(alloc, text)?;
+        read.add_text(alloc, text)?;
         return Ok(());
     }
     if is_blank(text.bytes()) {
@@ -39,7 +62,7 @@ fn read_between(
     }
 }
 
-// The next kid.
+// The next kid can follow those before it, and is valid.
 #[cycle(reading)]
 fn read_kid<L: Ledger>(
     set: &SchemaSet,
@@ -47,30 +70,59 @@ fn read_kid<L: Ledger>(
     matcher: &mut Matcher,
     mixed: bool,
     kid: &Tree<ItemLabel>,
-    kids: &mut Kids,
+    read: &mut Kids,
     steps: &mut Steps<L>,
-) -> Result<(), CheckError> {
+) -> Result<(), CheckError>
+    requires linked { IsLinked set.now }
+    requires plans { plans.old ≡ set.now }
+    requires named { AreNamed set.now matcher.old.particle }
+    requires levels { levels matcher.old.particle ≤ 17 }
+    requires taken { matcher.old.taken < 2 ^ 32 - 1 }
+    requires took { (us : List Leaf) × Took matcher.old us }
+    requires sound { is_sound kid.now ≡ true }
+    requires few { node_count kid.now < 2 ^ 31 }
+    ensures same { plans.new ≡ set.now }
+    ensures judged { (p : Particle) (kids : List (Rose ItemLabel)) (place i : ℕ) → i < length kids → kid.now ≡ slice_index_or kids i kid.now → Walked set.now mixed p kids i matcher.old
+        → MatchResult result
+        (λ _. Walked set.now mixed p kids (i + 1) matcher.new)
+        (Tells (KidsFault (asked_at (parts_of set.now)) mixed p (roses_of kids) place)) }
+    ensures most { steps.new ≤ steps.old + 144 * element_count kid.now }
+{
     match kid.label() {
-        ItemLabel::Text { text, at } => read_between(plans.alloc(), mixed, text, *at, kids),
+        ItemLabel::Text { text, at } => read_between(plans.alloc(), mixed, text, *at, read),
         ItemLabel::Element { name, at, .. } => match matcher.step(name, steps) {
             Err(_) => Err(CheckError::Invalid {
                 at: *at,
                 why: InvalidWhy::UnexpectedElement,
             }),
-            Ok(leaf) => {
-                let value = read_element(set, plans, leaf.decl, kid, steps)?;
-                let alloc = plans.alloc();
-                kids.add_element(alloc, mixed, leaf.decl, matcher.turns(), value)?;
-                Ok(())
-            }
+            Ok(leaf) => match read_element(set, plans, leaf.decl, kid, steps) {
+                Err(error) => Err(error),
+                Ok(value) => {
+                    let alloc = plans.alloc();
+                    read.add_element(alloc, mixed, leaf.decl, matcher.turns(), value)?;
+                    Ok(())
+                }
+            },
         },
     }
 }
 
-// The names taken are those of a list of the content model. The element stands at this place.
-fn finish<L: Ledger>(matcher: &Matcher, at: u64, steps: &mut Steps<L>) -> Result<(), CheckError> {
+// The names taken are those of a list of the content model, and these are all kids of the element, which stands at this
+// place.
+fn finish<L: Ledger>(
+    matcher: &Matcher,
+    at: u64,
+    read: Kids,
+    steps: &mut Steps<L>,
+) -> Result<Kids, CheckError>
+    ensures ticks { steps.new ≤ steps.old + (4 * levels matcher.now.particle + 4) }
+    ensures finished { (us : List Leaf) → Took matcher.now us
+        → MatchResult result
+        (λ _. Lang matcher.now.particle 0 [] us)
+        (Tells (At at InvalidWhy.MissingElement (IsNamed matcher.now.particle (names us) → ⊥))) }
+{
     match matcher.finish(steps) {
-        Ok(()) => Ok(()),
+        Ok(()) => Ok(read),
         Err(_) => Err(CheckError::Invalid {
             at,
             why: InvalidWhy::MissingElement,
@@ -78,7 +130,7 @@ fn finish<L: Ledger>(matcher: &Matcher, at: u64, steps: &mut Steps<L>) -> Result
     }
 }
 
-// All kids, which follow the content model of the plan.
+// The kids follow the content model of the plan, and each is valid. The element stands at this place.
 #[cycle(reading)]
 fn read_kids<L: Ledger>(
     set: &SchemaSet,
@@ -86,51 +138,77 @@ fn read_kids<L: Ledger>(
     plan: &Plan,
     mixed: bool,
     at: u64,
-    items: &[Tree<ItemLabel>],
+    kids: &[Tree<ItemLabel>],
     steps: &mut Steps<L>,
-) -> Result<Kids, CheckError> {
+) -> Result<Kids, CheckError>
+    requires linked { IsLinked set.now }
+    requires plans { plans.old ≡ set.now }
+    requires named { AreNamed set.now plan.now }
+    requires levels { levels plan.now ≤ 17 }
+    requires sound { are_sound (roses_of kids.now) ≡ true }
+    requires few { count_all (roses_of kids.now) < 2 ^ 31 }
+    ensures same { plans.new ≡ set.now }
+    ensures judged { MatchResult result
+        (λ _. AreValidKids (asked_at (parts_of set.now)) mixed plan.now (roses_of kids.now))
+        (Tells (KidsFault (asked_at (parts_of set.now)) mixed plan.now (roses_of kids.now) at)) }
+    ensures most { steps.new ≤ steps.old + (144 * elements_in (roses_of kids.now) + 72) }
+{
     let mut matcher = Matcher::start(plan)?;
-    let mut kids = Kids::new(plans.alloc());
-    for kid in items {
-        read_kid(set, plans, &mut matcher, mixed, kid, &mut kids, steps)?;
+    let mut read = Kids::new(plans.alloc());
+    for kid in kids {
+        read_kid(set, plans, &mut matcher, mixed, kid, &mut read, steps)?;
     }
-    finish(&matcher, at, steps)?;
-    Ok(kids)
+    finish(&matcher, at, read, steps)
 }
 
-// What stands in an element at this place that isn't nil.
+// The kids are what may stand in an element at this place.
 #[cycle(reading)]
 fn read_inside<L: Ledger>(
     set: &SchemaSet,
     plans: &mut Plans,
     inside: Inside,
     at: u64,
-    items: &[Tree<ItemLabel>],
+    kids: &[Tree<ItemLabel>],
     steps: &mut Steps<L>,
-) -> Result<Content, CheckError> {
+) -> Result<Content, CheckError>
+    requires linked { IsLinked set.now }
+    requires plans { plans.old ≡ set.now }
+    requires inside { IsFittingInside set.now inside }
+    requires sound { are_sound (roses_of kids.now) ≡ true }
+    requires few { count_all (roses_of kids.now) < 2 ^ 31 }
+    ensures same { plans.new ≡ set.now }
+    ensures judged { MatchResult result
+        (λ _. IsValidInside (asked_at (parts_of set.now)) (inside_told inside.entry) (roses_of kids.now))
+        (Tells (InsideFault (asked_at (parts_of set.now)) (inside_told inside.entry) (roses_of kids.now) at)) }
+    ensures most { steps.new ≤ steps.old + (144 * elements_in (roses_of kids.now) + 72) }
+{
     match inside {
-        Inside::Nothing => {
-            check_no_content(items)?;
-            Ok(Content::Nothing)
-        }
-        Inside::Simple(simple) => {
-            let value = read_text(plans.alloc(), simple, at, items)?;
-            Ok(Content::Text(value))
-        }
+        Inside::Nothing => match check_no_content(kids) {
+            Ok(()) => Ok(Content::Nothing),
+            Err(error) => Err(error),
+        },
+        Inside::Simple(simple) => match read_text(plans.alloc(), simple, at, kids) {
+            Ok(value) => Ok(Content::Text(value)),
+            Err(error) => Err(error),
+        },
         Inside::Children {
             mixed,
             complex,
             model,
         } => {
             let plan = plans.plan(complex, model)?;
-            let kids = read_kids(set, plans, plan.as_ref(), mixed, at, items, steps)?;
-            Ok(Content::Kids(kids))
+            match read_kids(set, plans, plan.as_ref(), mixed, at, kids, steps) {
+                Ok(read) => Ok(Content::Kids(read)),
+                Err(error) => Err(error),
+            }
         }
     }
 }
 
 // Whether the element has a simple type and can't be nil, so that its value is that of its text.
-fn is_plain(set: &SchemaSet, decl: u32) -> bool {
+fn is_plain(set: &SchemaSet, decl: u32) -> bool
+    requires { decl < length set.now.elements }
+{
     let element = set.element(decl);
     match element.kind {
         TypeOf::Simple(_) => !element.nillable,
@@ -152,7 +230,10 @@ fn make_nil(
     set: &SchemaSet,
     declared: Declared,
     attributes: &[(Name, Text)],
-) -> Result<Tree<ValueLabel>, Memory> {
+) -> Result<Tree<ValueLabel>, Memory>
+    requires linked { IsLinked set.now }
+    requires uses { All (IsUse set.now) declared.uses.now }
+{
     let mut parts = Parts::new(alloc);
     let none = Tree::leaf(alloc, ValueLabel::SequenceOf);
     add_texts(declared.inside, none, &mut parts)?;
@@ -165,7 +246,7 @@ fn make_nil(
 fn add_content(
     alloc: Global,
     declared: Declared,
-    children: crate::children::Children,
+    children: Children,
     parts: &mut Parts,
 ) -> Result<(), Memory> {
     match declared.inside {
@@ -189,7 +270,10 @@ fn make_complex(
     declared: Declared,
     attributes: &[(Name, Text)],
     content: Content,
-) -> Result<Tree<ValueLabel>, Memory> {
+) -> Result<Tree<ValueLabel>, Memory>
+    requires linked { IsLinked set.now }
+    requires uses { All (IsUse set.now) declared.uses.now }
+{
     let mut parts = Parts::new(alloc);
     match content {
         Content::Nothing => {
@@ -220,7 +304,11 @@ fn make_value(
     declared: Declared,
     attributes: &[(Name, Text)],
     content: Content,
-) -> Result<Tree<ValueLabel>, Memory> {
+) -> Result<Tree<ValueLabel>, Memory>
+    requires linked { IsLinked set.now }
+    requires uses { All (IsUse set.now) declared.uses.now }
+    requires decl { decl < length set.now.elements }
+{
     if is_plain(set, decl) {
         match content {
             Content::Text(value) => Ok(value),
@@ -228,6 +316,64 @@ fn make_value(
         }
     } else {
         make_complex(alloc, set, declared, attributes, content)
+    }
+}
+
+// The value of an element that isn't nil.
+#[cycle(reading)]
+fn read_filled<L: Ledger>(
+    set: &SchemaSet,
+    plans: &mut Plans,
+    decl: u32,
+    declared: Declared,
+    attributes: &[(Name, Text)],
+    at: u64,
+    kids: &[Tree<ItemLabel>],
+    steps: &mut Steps<L>,
+) -> Result<Tree<ValueLabel>, CheckError>
+    requires linked { IsLinked set.now }
+    requires plans { plans.old ≡ set.now }
+    requires decl { decl < length set.now.elements }
+    requires inside { IsFittingInside set.now declared.inside }
+    requires uses { All (IsUse set.now) declared.uses.now }
+    requires sound { are_sound (roses_of kids.now) ≡ true }
+    requires few { count_all (roses_of kids.now) < 2 ^ 31 }
+    ensures same { plans.new ≡ set.now }
+    ensures judged { MatchResult result
+        (λ _. IsValidInside (asked_at (parts_of set.now)) (inside_told declared.entry.inside) (roses_of kids.now))
+        (Tells (InsideFault (asked_at (parts_of set.now)) (inside_told declared.entry.inside) (roses_of kids.now) at)) }
+    ensures most { steps.new ≤ steps.old + (144 * elements_in (roses_of kids.now) + 72) }
+{
+    match read_inside(set, plans, declared.inside, at, kids, steps) {
+        Err(error) => Err(error),
+        Ok(content) => {
+            let alloc = plans.alloc();
+            let value = make_value(alloc, set, decl, declared, attributes, content)?;
+            Ok(value)
+        }
+    }
+}
+
+// The value of an element that is nil.
+fn read_nil(
+    alloc: Global,
+    set: &SchemaSet,
+    declared: Declared,
+    attributes: &[(Name, Text)],
+    kids: &[Tree<ItemLabel>],
+) -> Result<Tree<ValueLabel>, CheckError>
+    requires linked { IsLinked set.now }
+    requires uses { All (IsUse set.now) declared.uses.now }
+    ensures { MatchResult result
+        (λ _. roses_of kids.now ≡ none)
+        (Tells (FirstKid (roses_of kids.now) (λ _. InvalidWhy.NilWithContent))) }
+{
+    match check_empty(kids) {
+        Err(error) => Err(error),
+        Ok(()) => {
+            let value = make_nil(alloc, set, declared, attributes)?;
+            Ok(value)
+        }
     }
 }
 
@@ -239,23 +385,35 @@ pub(crate) fn read_element<L: Ledger>(
     decl: u32,
     item: &Tree<ItemLabel>,
     steps: &mut Steps<L>,
-) -> Result<Tree<ValueLabel>, CheckError> {
+) -> Result<Tree<ValueLabel>, CheckError>
+    requires linked { IsLinked set.now }
+    requires plans { plans.old ≡ set.now }
+    requires decl { decl < length set.now.elements }
+    requires element { is_text (label_of item.now) ≡ false }
+    requires sound { is_sound item.now ≡ true }
+    requires few { node_count item.now < 2 ^ 31 }
+    ensures same { plans.new ≡ set.now }
+    ensures judged { MatchResult result
+        (λ _. IsValidBy set.now decl item.now)
+        (Tells (FaultBy (asked_at (parts_of set.now)) decl item.now)) }
+    ensures most { steps.new + 72 ≤ steps.old + 144 * element_count item.now }
+{
     match item.label() {
         ItemLabel::Text { .. } => unreachable!(),
         ItemLabel::Element { attributes, at, .. } => {
             let declared = declared_of(set, decl);
             let kids = item.kids();
-            let attributes = attributes.items();
-            let alloc = plans.alloc();
-            let nil = check_tag(alloc, set, &declared, attributes, *at)?;
-            if nil {
-                check_empty(kids)?;
-                let value = make_nil(alloc, set, declared, attributes)?;
-                return Ok(value);
+            let items = attributes.items();
+            match check_tag(plans.alloc(), set, &declared, items, *at) {
+                Err(error) => Err(error),
+                Ok(nil) => {
+                    if nil {
+                        read_nil(plans.alloc(), set, declared, items, kids)
+                    } else {
+                        read_filled(set, plans, decl, declared, items, *at, kids, steps)
+                    }
+                }
             }
-            let content = read_inside(set, plans, declared.inside, *at, kids, steps)?;
-            let value = make_value(alloc, set, decl, declared, attributes, content)?;
-            Ok(value)
         }
     }
 }

@@ -3,7 +3,7 @@ ghost use Rattle.std.specs.Prelude.{◌≡◌};
 
 use thiserror::Error;
 use validity::InvalidWhy;
-use validity_check::CheckError;
+use xa_base::Memory;
 
 /// Why a document gives no value.
 #[derive(Clone, Copy, Debug, PartialEq, Eq, Error)]
@@ -18,10 +18,12 @@ pub enum ReadError {
     Memory,
 }
 
-/// The same for a document that isn't found valid.
-pub(crate) fn as_read(error: CheckError) -> ReadError {
-    match error {
-        CheckError::Invalid { at, why } => ReadError::Invalid { at, why },
-        CheckError::Memory => ReadError::Memory,
+impl From<Memory> for ReadError {
+    ghost use Rattle.xer_read.specs.declared.error.ReadError.{ReadError};
+
+    ghost from_gives = { λ memory error. error ≡ ReadError.Memory };
+
+    fn from(_: Memory) -> ReadError {
+        ReadError::Memory
     }
 }

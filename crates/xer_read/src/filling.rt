@@ -3,8 +3,7 @@ ghost use Rattle.std.specs.Prelude.{◌≡◌, [], OnOk, IfOk};
 ghost use Rattle.label_tree.specs.Rose.{label_of, roses_of};
 ghost use Rattle.content_models.specs.Seen.{seen, all_seen, term_seen};
 ghost use Rattle.content_models.specs.Particle.{Particles, more, none};
-ghost use Rattle.map_assignments.specs.Planning as plan;
-ghost use Rattle.map_laws.specs.Standing as standing;
+ghost use Rattle.xer_read.specs.Private.Bounds as bounds;
 ghost use Rattle.xer_read.specs.Private.Made.{Several, TermMade, PartsMade, ChosenMade, TopMade};
 ghost use Rattle.xer_read.specs.Private.Growing.{term_of, Takes, Fills, FillsAll};
 
@@ -19,7 +18,7 @@ use xa_base::Memory;
 
 // The bounds 1 and 1.
 fn is_once(label: &ParticleLabel) -> bool
-    ensures { result ≡ plan.is_once label.now.min label.now.max }
+    ensures { result ≡ bounds.is_once label.now.min label.now.max }
 {
     match label.max {
         None => false,
@@ -29,7 +28,7 @@ fn is_once(label: &ParticleLabel) -> bool
 
 // The bounds 0 and 1.
 fn is_optional(label: &ParticleLabel) -> bool
-    ensures { result ≡ plan.is_optional label.now.min label.now.max }
+    ensures { result ≡ bounds.is_optional label.now.min label.now.max }
 {
     match label.max {
         None => false,
@@ -243,7 +242,7 @@ fn fill_parts(
 
 // Whether the particles of a top particle are parts by themselves: it is a sequence that stands once.
 fn is_parted(label: &ParticleLabel) -> bool
-    ensures { (ps : Particles) → result ≡ standing.is_parted (term_seen label.now.kind ps) label.now.min label.now.max }
+    ensures { (ps : Particles) → result ≡ bounds.is_parted (term_seen label.now.kind ps) label.now.min label.now.max }
 {
     match label.kind {
         ParticleKind::Sequence => is_once(label),

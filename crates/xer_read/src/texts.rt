@@ -1,4 +1,12 @@
 //! The text of an element of a simple type.
+ghost use Rattle.std.specs.Prelude.{◌≡◌, true, MatchResult};
+ghost use Rattle.label_tree.specs.Rose.{roses_of};
+ghost use Rattle.doc_text.specs.Sound.{are_sound};
+ghost use Rattle.simple_types.specs.Seen.{space_of};
+ghost use Rattle.simple_types.specs.Sound.{Sound};
+ghost use Rattle.validity_check.specs.Answers.{Tells, TextFault};
+ghost use Rattle.xer_read.specs.Private.Reading.{IsReadAs};
+
 use doc_text::ItemLabel;
 use label_tree::Tree;
 use simple_types::{Simple, ValueLabel};
@@ -14,7 +22,13 @@ pub(crate) fn read_text(
     simple: &Simple,
     at: u64,
     kids: &[Tree<ItemLabel>],
-) -> Result<Tree<ValueLabel>, CheckError> {
+) -> Result<Tree<ValueLabel>, CheckError>
+    requires simple { Sound (space_of simple.now) }
+    requires sound { are_sound (roses_of kids.now) ≡ true }
+    ensures { MatchResult result
+        (IsReadAs (space_of simple.now) (roses_of kids.now))
+        (Tells (TextFault (space_of simple.now) (roses_of kids.now) at)) }
+{
     let empty = Text::empty();
     let text = only_text(kids, &empty)?;
     match accept(alloc, simple, text) {

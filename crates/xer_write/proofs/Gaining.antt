@@ -11,7 +11,8 @@ use Rattle.plain_items.specs.Plain.{Plain, element, text}
 use Rattle.plain_items.specs.Mixing.{text_before, interleaved}
 use Rattle.xer_items.specs.Items.{Given, given, nothing, joined, both, element_of, with_nil}
 use Rattle.xer_write.specs.declared.contents.Contents.{Contents}
-use Rattle.xer_write.specs.Private.Unplaced.{unplaced_label, unplaced, all_unplaced, AreUtf8, ItemIsUtf8, ItemsAreUtf8}
+use Rattle.plain_items.specs.Unplaced.{unplaced_label, unplaced, all_unplaced}
+use Rattle.xer_write.specs.Private.Utf8.{AreUtf8, ItemIsUtf8, ItemsAreUtf8}
 use Rattle.xer_write.specs.Private.Gaining.{items_in, Has, Gains, text_item, text_at, with_texts_before}
 
 pub items_in-joined : (a b : Roses Plain) → items_in (joined a b) ≡ items_in a ++ items_in b

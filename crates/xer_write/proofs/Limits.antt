@@ -37,7 +37,8 @@ use Rattle.xer_write.specs.declared.contents.Contents.{Contents}
 use Rattle.xer_write.specs.Private.Gaining.{Has, Gains}
 use Rattle.xer_write.proofs.Gaining.{has-gained}
 use Rattle.xer_write.specs.Sound.{HasCharacters, AreSoundAttributes, IsSoundLabel, is_text, begins_with_text, IsSound, AreSound}
-use Rattle.xer_write.specs.Private.Unplaced.{unplaced_label, unplaced, all_unplaced, AreUtf8, LabelIsUtf8, ItemIsUtf8, ItemsAreUtf8}
+use Rattle.plain_items.specs.Unplaced.{unplaced_label, unplaced, all_unplaced}
+use Rattle.xer_write.specs.Private.Utf8.{AreUtf8, LabelIsUtf8, ItemIsUtf8, ItemsAreUtf8}
 
 -- ---- how many items
 
@@ -290,15 +291,6 @@ root-items M t a v at value sound utf8 =
       shallow = omega (arith, within.levels);
       few = omega (arith, size, few);
     }
-
-mutual
-  pub plain-unplaced : (b : Rose Plain) → plain_of (unplaced b) ≡ b
-  plain-unplaced (node (element name xs) items) = ap (λ s. node (element name xs) s) (plain-all items)
-  plain-unplaced (node (text words) items) = ap (λ s. node (text words) s) (plain-all items)
-
-  plain-all : (items : Roses Plain) → plain_all (all_unplaced items) ≡ items
-  plain-all none = refl
-  plain-all (more item items) = ap (λ s. more s (plain_all (all_unplaced items))) (plain-unplaced item) ∙ ap (λ s. more item s) (plain-all items)
 
 -- as the code makes it
 pub root-made : (M : List Assignment) (a : Assignment) (v : Rose ValueLabel) (X Y : Contents) (u : Rose TypeLabel) (w : Rose ValueLabel) (name : Name) (root : Rose ItemLabel)

@@ -1,3 +1,3 @@
-pub mod Unplaced
+pub mod Utf8
 pub mod Gaining
 pub mod Giving

@@ -3,7 +3,8 @@ ghost use Rattle.std.specs.Prelude.{◌≡◌, ◌∷◌, [], ◌++◌, IfOk, On
 ghost use Rattle.label_tree.specs.Rose.{none, more, roses_of};
 ghost use Rattle.plain_items.specs.Mixing.{text_before, interleaved};
 ghost use Rattle.xer_items.specs.Items.{Given, given, nothing, nil_name, element_of};
-ghost use Rattle.xer_write.specs.Private.Unplaced.{unplaced, ItemIsUtf8, ItemsAreUtf8};
+ghost use Rattle.plain_items.specs.Unplaced.{unplaced};
+ghost use Rattle.xer_write.specs.Private.Utf8.{ItemIsUtf8, ItemsAreUtf8};
 ghost use Rattle.xer_write.specs.Private.Gaining.{IsUtf8Contents, Has, Gains, text_of, text_at, with_texts_before};
 
 use crate::spelling::text_of;

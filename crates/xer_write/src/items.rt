@@ -1,6 +1,8 @@
 //! The items of a value.
 ghost use Rattle.std.specs.Prelude.{◌≡◌, IfOk, IsSomeAnd, Some};
-ghost use Rattle.plain_items.specs.Plain.{plain_of};
+ghost use Rattle.label_tree.specs.Rose.{Rose};
+ghost use Rattle.plain_items.specs.Plain.{Plain};
+ghost use Rattle.plain_items.specs.Unplaced.{unplaced};
 ghost use Rattle.xer_items.specs.Items.{Xer};
 ghost use Rattle.asn_types.specs.Values.{In};
 ghost use Rattle.xer_write.specs.Sound.{IsSound};
@@ -26,7 +28,7 @@ use xa_base::Memory;
 pub fn items_of(alloc: Global, module: &Module, t: u32, value: &Value) -> Result<Items, Memory>
     requires value { In module.now t value.now }
     requires sound { IsSomeAnd (Xer module.now t value.now) IsSound }
-    ensures { IfOk result (λ items. Xer module.now t value.now ≡ Some (plain_of items)) }
+    ensures { IfOk result (λ items. (b : Rose Plain) × (Xer module.now t value.now ≡ Some b) × (items ≡ unplaced b)) }
 {
     let assignment = module.assignment(t);
     let mut inner = Contents::new(alloc);

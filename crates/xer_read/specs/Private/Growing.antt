@@ -1,5 +1,5 @@
 -- What is added to the parts of a SEQUENCE, and what is taken of the child elements that wait.
-use Rattle.std.specs.Prelude.{◌≡◌, ℕ, Bool, List, ◌++◌}
+use Rattle.std.specs.Prelude.{◌≡◌, Bool, List, ◌++◌}
 use Rattle.label_tree.specs.Rose.{Rose, label_of, kids_of, roses_of}
 use Rattle.simple_types.specs.declared.labels.ValueLabel.{ValueLabel}
 use Rattle.content_models.specs.declared.particles.ParticleLabel.{ParticleLabel}

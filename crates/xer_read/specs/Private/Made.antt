@@ -7,8 +7,8 @@ use Rattle.simple_types.specs.declared.labels.ValueLabel.{ValueLabel}
 use Rattle.simple_types.specs.declared.labels.ValueLabel.TheVariants as value
 use Rattle.simple_values.specs.Lexical.{is_at_most}
 use Rattle.content_models.specs.Particle.{Particle, occurs, Term, element, sequence, choice, Particles, none, more}
-use Rattle.map_assignments.specs.Planning.{is_once, is_optional}
-use Rattle.map_laws.specs.Standing.{is_parted}
+use Rattle.xer_read.specs.Private.Bounds.{is_once, is_optional}
+use Rattle.xer_read.specs.Private.Bounds.{is_parted}
 use Rattle.xer_read.specs.declared.children.Child.{Child}
 
 -- each value in turn is made of the next child elements

@@ -8,7 +8,8 @@ use Rattle.plain_items.specs.Plain.{Plain}
 use Rattle.plain_items.specs.Mixing.{text_before}
 use Rattle.xer_items.specs.Items.{Given}
 use Rattle.xer_write.specs.declared.contents.Contents.{Contents}
-use Rattle.xer_write.specs.Private.Unplaced.{all_unplaced, AreUtf8, ItemsAreUtf8}
+use Rattle.plain_items.specs.Unplaced.{all_unplaced}
+use Rattle.xer_write.specs.Private.Utf8.{AreUtf8, ItemsAreUtf8}
 
 abbrev pub items_in : Roses Plain → List (Rose ItemLabel)
 items_in items = list_of (all_unplaced items)

@@ -1,5 +1,5 @@
 use Rattle.std.proofs.Common.{◌≡◌, drop}
-use Rattle.schema_rules.specs.Elements.{beside}
+use Rattle.xa_base.specs.Entries.{beside}
 use Rattle.schema_rules.proofs.attributes.value_of.Given as goal
 
 -- it is among those that are left

@@ -1,10 +1,11 @@
 use Rattle.std.proofs.Common.{◌≡◌, ◌<◌, ◌^◌, true, false, sym, ◌∙◌, ap, subst, arith}
 use Rattle.std.specs.Prelude.{Some, MatchResult}
 use Rattle.label_tree.specs.Rose.{label_of, node_count}
+use Rattle.doc_text.specs.Labels.{item_place}
 use Rattle.doc_text.specs.Sound.{is_text, is_sound}
 use Rattle.schema_parts.specs.SetParts.{parts_of}
 use Rattle.validity.specs.Valid.{HasName}
-use Rattle.validity.specs.Faults.{At, place_of, FirstFault}
+use Rattle.validity.specs.Faults.{At, FirstFault}
 use Rattle.validity.specs.declared.why.InvalidWhy.TheVariants.{WrongRoot}
 use Rattle.validity_check.specs.Answers.{Tells, IsValid}
 use Rattle.validity_check.proofs.Shape.{element_label}
@@ -26,7 +27,7 @@ returns-in-Err-clause-judged g c =
     let is = c.root-item.ensures.root ∙ c.tree-tree.ensures.tree in
     subst (λ x. Tells (FirstFault (parts_of c.args.set.now) c.args.root x) c.in-Err.error) is
     (root_refused c.args.set.now c.args.root c.element-declared.result.now c.element-declared.ensures c.root-item.result.now c.in-Err.error
-    (subst (λ l. Tells (At (place_of l) WrongRoot (HasName (Some c.element-declared.result.now.name) l → ⊥)) c.in-Err.error) c.label-label.ensures c.in-Err.ensures))
+    (subst (λ l. Tells (At (item_place l) WrongRoot (HasName (Some c.element-declared.result.now.name) l → ⊥)) c.in-Err.error) c.label-label.ensures c.in-Err.ensures))
 
 pub returns-clause-judged : goal.returns-clause-judged
 returns-clause-judged g c =

@@ -1,12 +1,12 @@
-use Rattle.std.proofs.Common.{◌≡◌, ap, arith, refl, sym, ◌∙◌}
+use Rattle.std.proofs.Common.{◌≡◌, true, [], ◌∷◌, ap, arith, refl, sym, ◌∙◌}
 use Rattle.label_tree.specs.Rose.{count_all, roses_of, label_of}
 use Rattle.label_tree.proofs.Roses.{node_count-kids}
 use Rattle.content_models.specs.Seen.{seen, all_seen}
 use Rattle.content_models.specs.Particle.{more, none}
-use Rattle.map_assignments.specs.Planning.{is_once, is_optional}
-use Rattle.xer_read.specs.Private.Made.{Each, Several, TermMade, PartsMade, ChosenMade}
-use Rattle.xer_read.specs.Private.Growing.{term_of, Takes, Fills, Grows}
-use Rattle.xer_read.proofs.Growing.{on-ok, takes-as, takes-more, fills-one, fills-absent, fills-none, fills-more, once-made, optional-made, several-made, absent-made, later-chosen, once-chosen, several-chosen}
+use Rattle.xer_read.specs.Private.Bounds.{is_once, is_optional}
+use Rattle.xer_read.specs.Private.Made.{Several, TermMade, PartsMade, ChosenMade}
+use Rattle.xer_read.specs.Private.Growing.{term_of, Fills, Grows}
+use Rattle.xer_read.proofs.Growing.{on-ok, takes-as, takes-more, fills-one, fills-none, fills-more, once-made, optional-made, several-made, once-chosen, several-chosen}
 use Rattle.xer_read.proofs.filling.+filling.Goals as goal
 
 pub fill_chosen-fill_chosen-requires : goal.fill_chosen-fill_chosen-requires
@@ -64,3 +64,49 @@ fill_parts-returns-in_ok-fill_part-in-Some t c =
     (Fills (PartsMade (all_seen (roses_of c.args.particles.now))) c.args.children.now c.fill_parts.new.children c.args.parts.now c.fill_parts.new.parts)
     (fills-more c.args.particles.now c.in-Some.first.now c.in-Some.rest.now c.in-Some.ensures.cases.0 c.args.children.now c.fill_part.new.children c.fill_parts.new.children
     c.args.parts.now c.fill_part.new.parts c.fill_parts.new.parts c.in_ok-fill_part-in-Some.ensures) c.fill_parts.ensures
+
+pub fill_part-returns-then-is_once : goal.fill_part-returns-then-is_once
+fill_part-returns-then-is_once t c =
+    let particle = c.args.particle.now in
+    let label = c.label-label.result.now in
+    let v = c.in_ok-value.value in
+    on-ok c.add.result (Grows c.args.parts.now c.add.new.self (true ∷ []) (v ∷ []))
+    (Fills (PartsMade (more (seen particle) none)) c.args.children.now c.fill_term.new.children c.args.parts.now c.add.new.self)
+    (λ g. fills-one (PartsMade (more (seen particle) none)) (TermMade (term_of particle) v) c.args.children.now c.fill_term.new.children c.args.parts.now c.add.new.self v
+    (λ gs h. once-made particle label.min label.max (ap (λ l. l.min) (sym c.label-label.ensures)) (ap (λ l. l.max) (sym c.label-label.ensures)) (sym c.if-is_once.ensures) v gs h)
+    c.in_ok-value.ensures g)
+    c.add.ensures
+
+pub fill_part-returns-then-is_optional : goal.fill_part-returns-then-is_optional
+fill_part-returns-then-is_optional t c =
+    let particle = c.args.particle.now in
+    let label = c.label-label.result.now in
+    let v = c.in_ok-value-2.value in
+    on-ok c.add-then-is_optional.result (Grows c.args.parts.now c.add-then-is_optional.new.self (true ∷ []) (v ∷ []))
+    (Fills (PartsMade (more (seen particle) none)) c.args.children.now c.fill_term-then-is_optional.new.children c.args.parts.now c.add-then-is_optional.new.self)
+    (λ g. fills-one (PartsMade (more (seen particle) none)) (TermMade (term_of particle) v) c.args.children.now c.fill_term-then-is_optional.new.children c.args.parts.now c.add-then-is_optional.new.self v
+    (λ gs h. optional-made particle label.min label.max (ap (λ l. l.min) (sym c.label-label.ensures)) (ap (λ l. l.max) (sym c.label-label.ensures)) (sym c.if-is_optional.ensures) v gs h)
+    c.in_ok-value-2.ensures g)
+    c.add-then-is_optional.ensures
+
+pub fill_part-returns : goal.fill_part-returns
+fill_part-returns t c =
+    let particle = c.args.particle.now in
+    let label = c.label-label.result.now in
+    let v = c.in_ok-value-3.value in
+    let least : (label_of particle).min ≡ label.min = ap (λ l. l.min) (sym c.label-label.ensures) in
+    let most : (label_of particle).max ≡ label.max = ap (λ l. l.max) (sym c.label-label.ensures) in
+    on-ok c.add-2.result (Grows c.args.parts.now c.add-2.new.self (true ∷ []) (v ∷ []))
+    (Fills (PartsMade (more (seen particle) none)) c.args.children.now c.fill_items.new.children c.args.parts.now c.add-2.new.self)
+    (λ g. fills-one (PartsMade (more (seen particle) none)) (Several (TermMade (term_of particle)) (label_of particle).min (label_of particle).max v) c.args.children.now c.fill_items.new.children
+    c.args.parts.now c.add-2.new.self v
+    (λ gs h. several-made particle (label_of particle).min (label_of particle).max refl refl
+    (sym (c.if-is_once.ensures ∙ ap (λ l. is_once l.min l.max) c.label-label.ensures)) (sym (c.if-is_optional.ensures ∙ ap (λ l. is_optional l.min l.max) c.label-label.ensures)) v gs h)
+    c.in_ok-value-3.ensures g)
+    c.add-2.ensures
+
+pub fill_term-fill_chosen-requires : goal.fill_term-fill_chosen-requires
+fill_term-fill_chosen-requires t c =
+    let d = c.decreases in
+    let k = node_count-kids c.args.particle.now in
+    (rw c.kids-in-Choice-2.ensures (omega (arith, d, k)), tt)

@@ -1,4 +1,4 @@
-use Rattle.std.proofs.Common.{◌≡◌, ◌+◌, ◌*◌, ◌++◌, List}
+use Rattle.std.proofs.Common.{◌+◌, ◌*◌}
 use Rattle.label_tree.specs.Rose.{node_count, count_all, roses_of}
 use Rattle.xer_read.specs.Private.Made.{Each, TermMade}
 use Rattle.xer_read.specs.Private.Growing.{term_of, Takes}

@@ -3,12 +3,11 @@ use Rattle.std.specs.Option.{option_map}
 use Rattle.label_tree.specs.Rose.{Allowed}
 use Rattle.doc_text.specs.Labels.{MayHave}
 use Rattle.doc_text.specs.Sound.{AreItems}
-use Rattle.plain_items.specs.Plain.{plain_of}
 use Rattle.asn_types.specs.declared.modules.Assignment.{Assignment}
 use Rattle.xer_items.specs.Items.{root_of}
 use Rattle.xer_write.specs.Private.Giving.{IsTypeIn}
 use Rattle.xer_write.proofs.Giving.{body-in}
-use Rattle.xer_write.proofs.Limits.{root-items, root-made, plain-unplaced}
+use Rattle.xer_write.proofs.Limits.{root-items, root-made}
 use Rattle.xer_write.proofs.items.items_of.Goals as goal
 
 pub gather-requires : goal.gather-requires
@@ -44,5 +43,4 @@ returns c =
     let a = c.assignment-assignment in
     let made = root-made m a.result.now v c.new-inner.result c.gather.new.out c.root.result.now c.root-2.result.now c.in_ok-name.name c.in_ok-root.root
     c.root.ensures.root c.root-2.ensures.root c.new-inner.ensures c.in_ok-gather.ensures c.in_ok-name.ensures c.in_ok-root.ensures in
-    ap (option_map (λ (x : Assignment). root_of m x v)) a.ensures.assignment
-    ∙ ap (λ b. Some b) (sym (plain-unplaced (root_of m a.result.now v)) ∙ ap plain_of (sym (c.of-2.ensures ∙ c.of.ensures ∙ made.0)))
+    (root_of m a.result.now v, ap (option_map (λ (x : Assignment). root_of m x v)) a.ensures.assignment, c.of-2.ensures ∙ c.of.ensures ∙ made.0)

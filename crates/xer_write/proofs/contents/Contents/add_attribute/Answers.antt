@@ -1,6 +1,6 @@
 use Rattle.std.proofs.Common.{[], ◌∷◌, sym, subst, IsUtf8}
 use Rattle.std.proofs.lemmas.List.{append-nil}
-use Rattle.xer_write.specs.Private.Unplaced.{AreUtf8}
+use Rattle.xer_write.specs.Private.Utf8.{AreUtf8}
 use Rattle.xer_write.proofs.Gaining.{are_utf8-append}
 use Rattle.xer_write.proofs.contents.Contents.add_attribute.Goals as goal
 

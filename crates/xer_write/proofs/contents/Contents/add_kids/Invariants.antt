@@ -1,7 +1,7 @@
 use Rattle.std.proofs.Common.{◌≡◌, ◌++◌, length}
 use Rattle.std.specs.Prelude.{map}
 use Rattle.label_tree.specs.Rose.{roses_of}
-use Rattle.xer_write.specs.Private.Unplaced.{ItemsAreUtf8}
+use Rattle.xer_write.specs.Private.Utf8.{ItemsAreUtf8}
 use Rattle.xer_write.specs.Private.Gaining.{IsUtf8Contents, text_of, with_texts_before}
 use Rattle.xer_write.proofs.contents.Contents.add_kids.Given as goal
 

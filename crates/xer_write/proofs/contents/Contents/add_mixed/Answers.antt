@@ -1,6 +1,6 @@
 use Rattle.std.proofs.Common.{◌≡◌, ◌++◌, sym, ap, subst, ◌∙◌}
 use Rattle.std.specs.Prelude.{map}
-use Rattle.xer_write.specs.Private.Unplaced.{AreUtf8}
+use Rattle.xer_write.specs.Private.Utf8.{AreUtf8}
 use Rattle.xer_write.specs.Private.Gaining.{text_of, text_at}
 use Rattle.xer_write.proofs.Gaining.{are_utf8-append, mixed-end, on_ok-three}
 use Rattle.xer_write.proofs.contents.Contents.add_mixed.Goals as goal

@@ -2,7 +2,8 @@ use Rattle.std.proofs.Common.{◌≡◌, sym, ap, subst, ◌∙◌}
 use Rattle.label_tree.specs.Rose.{node, roses_of}
 use Rattle.doc_text.specs.declared.label.ItemLabel.TheVariants.{Element}
 use Rattle.plain_items.specs.Plain.{element}
-use Rattle.xer_write.specs.Private.Unplaced.{unplaced_label, ItemIsUtf8}
+use Rattle.plain_items.specs.Unplaced.{unplaced_label}
+use Rattle.xer_write.specs.Private.Utf8.{ItemIsUtf8}
 use Rattle.xer_write.proofs.Gaining.{element-is}
 use Rattle.xer_write.proofs.contents.Contents.into_element.Goals as goal
 

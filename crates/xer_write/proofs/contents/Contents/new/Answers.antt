@@ -1,6 +1,6 @@
 use Rattle.std.proofs.Common.{sym, subst}
 use Rattle.label_tree.specs.Rose.{roses_of}
-use Rattle.xer_write.specs.Private.Unplaced.{AreUtf8, ItemsAreUtf8}
+use Rattle.xer_write.specs.Private.Utf8.{AreUtf8, ItemsAreUtf8}
 use Rattle.xer_write.proofs.contents.Contents.new.Goals as goal
 
 pub returns : goal.returns

@@ -1,0 +1,24 @@
+use Rattle.std.proofs.Common.{ℕ, inl}
+use Rattle.std.specs.Prelude.{Vec}
+use Rattle.std.specs.declared.alloc.Global.{Global}
+use Rattle.label_tree.specs.Rose.{Rose}
+use Rattle.simple_types.specs.declared.labels.ValueLabel.{ValueLabel}
+use Rattle.transcode_core.specs.Private.Requests.{type_seen}
+use Rattle.transcode_core.specs.Steps.{Decoded, Written}
+use Rattle.transcode_core.specs.Causes.{NoMemory, OneRead}
+use Rattle.transcode_core.proofs.Joined.{passed, refused}
+use Rattle.transcode_core.proofs.receiving.write_input.Goals as goal
+
+pub returns-in-Ok-clause-due : goal.returns-in-Ok-clause-due
+returns-in-Ok-clause-due g c =
+    let type = type_seen c.args.typed.now in
+    let cause = OneRead (g.S.Source.faults c.args.input.now) (g.S.Source.faults c.decode_input.new.input) in
+    passed (Decoded type (g.S.Source.left c.args.input.now)) (λ (value : Rose ValueLabel). Written type value) NoMemory cause
+    (λ (bytes : Vec ℕ Global). bytes.items) c.in-Ok.value c.write_value.result c.in-Ok.ensures.due c.write_value.ensures.due (λ o h. inl h)
+
+pub returns-in-Err-clause-due : goal.returns-in-Err-clause-due
+returns-in-Err-clause-due g c =
+    let type = type_seen c.args.typed.now in
+    let cause = OneRead (g.S.Source.faults c.args.input.now) (g.S.Source.faults c.decode_input.new.input) in
+    refused (Decoded type (g.S.Source.left c.args.input.now)) (λ (value : Rose ValueLabel). Written type value) cause cause
+    (λ (bytes : Vec ℕ Global). bytes.items) c.in-Err.outcome c.in-Err.ensures.due (λ h. h)

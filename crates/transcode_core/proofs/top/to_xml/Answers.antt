@@ -1,0 +1,20 @@
+use Rattle.std.proofs.Common.{inl, inr}
+use Rattle.transcode_core.specs.Private.Requests.{root_seen, opened_seen}
+use Rattle.transcode_core.specs.Due.{Documented}
+use Rattle.transcode_core.proofs.Deciding.{goes_on, stops}
+use Rattle.transcode_core.proofs.top.to_xml.Goals as goal
+
+pub returns-in-Ok-clause-due : goal.returns-in-Ok-clause-due
+returns-in-Ok-clause-due g c =
+    goes_on (g.F.Library.entries c.args.files.now) (g.F.Library.faults c.args.files.now) (g.F.Library.faults c.open_files.new.files) (g.F.Library.is_sure c.args.files.now)
+    (g.S.Source.faults c.args.input.now) (g.S.Source.faults c.receive.new.input) (root_seen c.args.root) c.args.names.now (λ opened. Documented opened (g.S.Source.left c.args.input.now))
+    (opened_seen c.in-Ok.opened) c.receive.result c.in-Ok.ensures.due c.receive.ensures.due
+
+pub returns-in-Ok-clause-untouched : goal.returns-in-Ok-clause-untouched
+returns-in-Ok-clause-untouched g c = inr ((opened_seen c.in-Ok.opened, c.in-Ok.ensures.due), c.receive.ensures.stage)
+
+pub returns-in-Err-clause-due : goal.returns-in-Err-clause-due
+returns-in-Err-clause-due g c =
+    stops (g.F.Library.entries c.args.files.now) (g.F.Library.faults c.args.files.now) (g.F.Library.faults c.open_files.new.files) (g.F.Library.is_sure c.args.files.now)
+    (g.S.Source.faults c.args.input.now) (g.S.Source.faults c.args.input.now) (root_seen c.args.root) c.args.names.now (λ opened. Documented opened (g.S.Source.left c.args.input.now))
+    c.in-Err.outcome c.in-Err.ensures.due

@@ -1,0 +1,90 @@
+//! From the octets of an encoding to the text of its value's document.
+ghost use Rattle.std.specs.Prelude.{◌≡◌, ◌<◌, IsTrue, IsFalse, List, [], ℕ, Some, length, IsErr, OnOk, IfOk, IfErr};
+ghost use Rattle.std.specs.Io.KnownBytes.{IsAtEnd};
+ghost use Rattle.xa_base.specs.Faults.{Counts};
+ghost use Rattle.asn_types.specs.Values.{In};
+ghost use Rattle.schema_parts.specs.Components.{Set};
+ghost use Rattle.transcode_core.specs.Private.Requests.{type_seen};
+ghost use Rattle.transcode_core.specs.Steps.{IsTypeOf, Decoded, Written};
+ghost use Rattle.transcode_core.specs.Order.{Then};
+ghost use Rattle.transcode_core.specs.Causes.{Answers, NoMemory, OneRead, IsOfInput};
+
+use crate::opened::RootModule;
+use crate::outcome::Outcome;
+use doc_write::write_document;
+use per_decode::{DecodeError, decode};
+use simple_types::Value;
+use sound_items::items_are_sound;
+use std::alloc::Global;
+use xa_base::{Failed, Source};
+use xer_write::items_of;
+
+/// The greatest length of an encoding, in octets.
+const LIMIT: u64 = 16_777_216;
+
+// Whether the source is at its end. Else one octet is taken.
+fn ends<S: Source>(input: &mut S) -> Result<bool, Failed>
+    ensures end { IfOk result (λ ended. IsTrue ended → IsAtEnd (S.left input.old) × IsAtEnd (S.left input.new)) }
+    ensures more { IfOk result (λ ended. IsFalse ended → (left : List ℕ) → S.left input.old ≡ Some left → 0 < length left) }
+    ensures cause { Counts (S.faults input.old) (S.faults input.new) (IsErr result) }
+{
+    let mut octet = [0u8; 1];
+    match input.read(&mut octet) {
+        Ok(count) => Ok(count == 0),
+        Err(Failed) => Err(Failed),
+    }
+}
+
+// The value of which the input is the encoding.
+fn decode_input<S: Source>(alloc: Global, typed: &RootModule, input: &mut S) -> Result<Value, Outcome>
+    requires { (set : Set) × (n : ℕ) × IsTypeOf set n (type_seen typed.now) }
+    ensures due { Answers (λ value. value) (Decoded (type_seen typed.now) (S.left input.old)) (OneRead (S.faults input.old) (S.faults input.new)) result }
+    ensures kept { IfOk result (λ value. In typed.now.module typed.now.number value) }
+    ensures end { OnOk result (IsAtEnd (S.left input.new)) }
+    ensures stage { IfErr result IsOfInput }
+    ensures later { S.faults input.old ≤ S.faults input.new }
+{
+    match decode(alloc, &typed.module, typed.number, input, LIMIT) {
+        Ok(decoded) => match ends(input) {
+            Ok(true) => Ok(decoded.value),
+            Ok(false) => Err(Outcome::Trailing { at: decoded.octets }),
+            Err(Failed) => Err(Outcome::ReadFault),
+        },
+        Err(DecodeError::Bad { bit, why }) => Err(Outcome::PerFault { bit, why }),
+        Err(DecodeError::TooLong) => Err(Outcome::TooLong { file: 0 }),
+        Err(DecodeError::Failed) => Err(Outcome::ReadFault),
+        Err(DecodeError::Memory) => Err(Outcome::OutOfMemory),
+    }
+}
+
+// The document of the value.
+fn write_value(alloc: Global, typed: &RootModule, value: &Value) -> Result<Vec<u8>, Outcome>
+    requires typed { (set : Set) × (n : ℕ) × IsTypeOf set n (type_seen typed.now) }
+    requires value { In typed.now.module typed.now.number value.now }
+    ensures due { Answers (λ text. text.items) (Written (type_seen typed.now) value.now) NoMemory result }
+    ensures stage { IfErr result IsOfInput }
+{
+    items_are_sound();
+    let Ok(items) = items_of(alloc, &typed.module, typed.number, value) else {
+        return Err(Outcome::OutOfMemory);
+    };
+    match write_document(alloc, &items) {
+        Ok(text) => Ok(text),
+        Err(_) => Err(Outcome::OutOfMemory),
+    }
+}
+
+/// The document of the value of which the input is the encoding.
+pub fn write_input<S: Source>(alloc: Global, typed: &RootModule, input: &mut S) -> Result<Vec<u8>, Outcome>
+    requires { (set : Set) × (n : ℕ) × IsTypeOf set n (type_seen typed.now) }
+    ensures due { Answers (λ text. text.items)
+        (Then (Decoded (type_seen typed.now) (S.left input.old)) (λ value. Written (type_seen typed.now) value)) (OneRead (S.faults input.old) (S.faults input.new)) result }
+    ensures end { OnOk result (IsAtEnd (S.left input.new)) }
+    ensures stage { IfErr result IsOfInput }
+    ensures later { S.faults input.old ≤ S.faults input.new }
+{
+    match decode_input(alloc, typed, input) {
+        Ok(value) => write_value(alloc, typed, &value),
+        Err(outcome) => Err(outcome),
+    }
+}

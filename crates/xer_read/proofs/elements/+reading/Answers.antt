@@ -1,0 +1,257 @@
+use Rattle.std.proofs.Common.{◌≡◌, ◌≤◌, true, sym, ◌∙◌, ap, subst, arith, add-one}
+use Rattle.std.specs.Prelude.{Result, Ok, Err}
+use Rattle.simple_types.specs.declared.labels.ValueLabel.{ValueLabel}
+use Rattle.simple_types.specs.Seen.{space_of}
+use Rattle.validity_check.specs.declared.error.CheckError.{CheckError}
+use Rattle.validity_check.proofs.Texts.{text_spelled}
+use Rattle.std.proofs.lemmas.Result.{err_from_is_err_and}
+use Rattle.label_tree.specs.Rose.{Rose, roses_of, count_all}
+use Rattle.doc_text.specs.Sound.{is_text, are_sound}
+use Rattle.content_match.specs.Taking.{levels}
+use Rattle.content_models.specs.Seen.{seen}
+use Rattle.schema_parts.specs.SetParts.{parts_of}
+use Rattle.validity.specs.Asked.{asked_at}
+use Rattle.validity.proofs.Reading.{kid_count, count-kids, kid_here}
+use Rattle.validity_check.specs.Answers.{IsValidInside}
+use Rattle.validity_check.specs.Counts.{elements_in}
+use Rattle.validity_check.specs.Told.{inside_told, told, IsFittingInside, AreNamed}
+use Rattle.validity_check.proofs.Counting.{one_more, up_to, fewer, element_counts, at_least_length}
+use Rattle.validity_check.proofs.Shape.{kid_sound, kids_sound}
+use Rattle.validity_check.proofs.Leaves.{model_named}
+use Rattle.validity_check.proofs.Levels.{model_levels}
+use Rattle.validity_check.proofs.Tagging.{tag_refused, nil_judged, inside_judged}
+use Rattle.validity_check.proofs.Walking.{none_walked, leaf_declared, end_judged, text_judged, name_refused, kid_judged}
+use Rattle.xer_read.proofs.elements.+reading.Goals as goal
+
+-- ---- one kid
+
+pub read_kid-step-requires : goal.read_kid-step-requires
+read_kid-step-requires g t c = c.requires.taken
+
+pub read_kid-returns-in-Text-clause-judged : goal.read_kid-returns-in-Text-clause-judged
+read_kid-returns-in-Text-clause-judged g t c = λ p kids place i below here w.
+    text_judged c.args.set.now c.args.mixed p kids place i c.args.matcher.now w c.args.kid.now below here c.in-Text.text c.in-Text.at (sym c.label.ensures ∙ c.in-Text.is)
+    c.read_between.result c.read_between.ensures
+
+pub read_kid-returns-in-Err-clause-judged : goal.read_kid-returns-in-Err-clause-judged
+read_kid-returns-in-Err-clause-judged g t c = λ p kids place i below here w.
+    name_refused c.args.set.now c.args.mixed p kids place i c.args.matcher.now w c.args.kid.now below here c.in-Element.name c.in-Element.attributes c.in-Element.declares c.in-Element.at
+    (sym c.label.ensures ∙ c.in-Element.is) (c.in-Err.ensures.took w.us w.took).0
+
+pub read_kid-returns-in-Err-clause-most : goal.read_kid-returns-in-Err-clause-most
+read_kid-returns-in-Err-clause-most g t c =
+    let n = element_counts c.args.kid.now c.in-Element.name c.in-Element.attributes c.in-Element.declares c.in-Element.at (sym c.label.ensures ∙ c.in-Element.is) in
+    let s = c.in-Err.ensures.ticks.1 in
+    let l = c.requires.levels in
+    omega (arith, n, s, l)
+
+pub read_kid-read_element-requires : goal.read_kid-read_element-requires
+read_kid-read_element-requires g t c κs within =
+    let d = c.decreases in
+    let took = c.requires.took in
+    let e = c.in-Ok.ensures in (
+      omega (arith, d),
+      (
+        within,
+        (
+          c.requires.linked,
+          (
+            c.requires.plans,
+            (
+              leaf_declared c.args.set.now c.args.matcher.now c.step.new.self took.0 c.in-Element.name c.in-Ok.leaf e.particle (e.took took.0 took.1) c.requires.named,
+              (ap is_text (sym c.label.ensures ∙ c.in-Element.is), (c.requires.sound, c.requires.few)),
+            ),
+          ),
+        ),
+      ),
+    )
+
+pub read_kid-returns-in-Err-read_element-clause-judged : goal.read_kid-returns-in-Err-read_element-clause-judged
+read_kid-returns-in-Err-read_element-clause-judged g t c = λ p kids place i below here w.
+    let refused : Result (Unit {0}) CheckError = Err c.in-Err-read_element.error in
+    kid_judged c.args.set.now c.args.mixed p kids place i c.args.matcher.now w c.args.kid.now below here c.in-Element.name c.in-Element.attributes c.in-Element.declares c.in-Element.at
+    (sym c.label.ensures ∙ c.in-Element.is) c.step.new.self c.in-Ok.leaf c.in-Ok.ensures.particle (c.in-Ok.ensures.took w.us w.took) refused c.in-Err-read_element.ensures.judged
+
+pub read_kid-returns-in_ok-add_element-in-Ok-read_element-clause-judged : goal.read_kid-returns-in_ok-add_element-in-Ok-read_element-clause-judged
+read_kid-returns-in_ok-add_element-in-Ok-read_element-clause-judged g t c = λ p kids place i below here w.
+    let kept : Result (Rose ValueLabel) CheckError = Ok c.in-Ok-read_element.value in
+    kid_judged c.args.set.now c.args.mixed p kids place i c.args.matcher.now w c.args.kid.now below here c.in-Element.name c.in-Element.attributes c.in-Element.declares c.in-Element.at
+    (sym c.label.ensures ∙ c.in-Element.is) c.step.new.self c.in-Ok.leaf c.in-Ok.ensures.particle (c.in-Ok.ensures.took w.us w.took) kept c.in-Ok-read_element.ensures.judged
+
+-- ---- all kids
+
+pub read_kids-loop-kid-init : goal.read_kids-loop-kid-init
+read_kids-loop-kid-init g t c = record {
+  plans = c.requires.plans;
+  walked = none_walked c.args.set.now c.args.mixed c.args.plan.now c.args.kids.now c.in_ok-matcher.matcher c.in_ok-matcher.ensures.plan c.in_ok-matcher.ensures.took;
+  most = omega arith;
+}
+
+pub read_kids-read_kid-requires : goal.read_kids-read_kid-requires
+read_kids-read_kid-requires g t c κs within =
+    let d = c.decreases in
+    let w = c.loop-kid.invariant.walked in
+    let below = c.loop-kid-test.true in
+    let here = kid_here c.args.kids.now c.loop-kid.kid-index c.kid-item.result below c.kid-item.is in
+    let k = kid_count c.args.kids.now c.loop-kid.kid-index c.kid-item.result below c.kid-item.is in
+    let long = at_least_length c.args.kids.now in
+    let few = c.requires.few in
+    let count = w.took.count in
+    let taken = w.few in (
+      omega (arith, d, k),
+      (
+        within,
+        (
+          c.requires.linked,
+          (
+            c.loop-kid.invariant.plans,
+            (
+              subst (λ q. AreNamed c.args.set.now q) (sym w.particle) c.requires.named,
+              (
+                subst (λ q. levels q ≤ 17) (sym w.particle) c.requires.levels,
+                (
+                  omega (arith, below, long, few, count, taken),
+                  ((w.us, w.took), (kid_sound (roses_of c.args.kids.now) c.loop-kid.kid-index c.kid-item.result c.requires.sound here, omega (arith, k, few))),
+                ),
+              ),
+            ),
+          ),
+        ),
+      ),
+    )
+
+pub read_kids-loop-kid-preserved : goal.read_kids-loop-kid-preserved
+read_kids-loop-kid-preserved g t c =
+    let below = c.loop-kid-test.true in
+    let here = kid_here c.args.kids.now c.loop-kid.kid-index c.kid-item.result below c.kid-item.is in
+    let more = one_more (roses_of c.args.kids.now) c.loop-kid.kid-index c.kid-item.result here in
+    let so_far = c.loop-kid.invariant.most in
+    let m = c.in_ok-read_kid.ensures.most in
+    record {
+      plans = c.in_ok-read_kid.ensures.same;
+      walked = c.in_ok-read_kid.ensures.judged c.args.plan.now c.args.kids.now c.args.at c.loop-kid.kid-index below c.kid-item.is c.loop-kid.invariant.walked;
+      most = rw add-one (omega (arith, more, so_far, m));
+    }
+
+pub read_kids-returns-clause-judged : goal.read_kids-returns-clause-judged
+read_kids-returns-clause-judged g t c =
+    let w = c.loop-kid.invariant.walked in
+    end_judged c.args.set.now c.args.mixed c.args.plan.now c.args.kids.now c.args.at c.loop-kid.kid-index c.loop-kid.matcher w c.loop-kid-test.false c.finish.result (c.finish.ensures.finished w.us w.took)
+
+pub read_kids-returns-clause-most : goal.read_kids-returns-clause-most
+read_kids-returns-clause-most g t c =
+    let l : levels c.loop-kid.matcher.particle ≤ 17 = subst (λ q. levels q ≤ 17) (sym c.loop-kid.invariant.walked.particle) c.requires.levels in
+    let so_far = c.loop-kid.invariant.most in
+    let all = fewer (roses_of c.args.kids.now) c.loop-kid.kid-index in
+    let s = c.finish.ensures.ticks in
+    omega (arith, l, so_far, all, s)
+
+-- ---- what stands in an element
+
+pub read_inside-read_kids-requires : goal.read_inside-read_kids-requires
+read_inside-read_kids-requires g t c κs within =
+    let d = c.decreases in
+    let fits = subst (λ x. IsFittingInside c.args.set.now x) c.in-Children.is c.requires.inside in
+    let is : c.as_ref.result.now ≡ seen c.in-Children.model.now = c.as_ref.ensures ∙ c.in_ok-plan-in-Children.ensures.plan in (
+      omega (arith, d),
+      (
+        within,
+        (
+          c.requires.linked,
+          (
+            c.in_ok-plan-in-Children.ensures.same ∙ c.requires.plans,
+            (
+              subst (λ q. AreNamed c.args.set.now q) (sym is) (model_named c.args.set.now c.in-Children.model.now fits.1),
+              (subst (λ q. levels q ≤ 17) (sym is) (model_levels c.args.set.now c.in-Children.model.now fits.1), (c.requires.sound, c.requires.few)),
+            ),
+          ),
+        ),
+      ),
+    )
+
+pub read_inside-returns-in-Ok-read_text-clause-judged : goal.read_inside-returns-in-Ok-read_text-clause-judged
+read_inside-returns-in-Ok-read_text-clause-judged g t c =
+    let read = c.in-Ok-read_text.ensures in
+    let kids = roses_of c.args.kids.now in
+    subst (λ x. IsValidInside (asked_at (parts_of c.args.set.now)) (inside_told x) kids) (sym c.in-Simple.is)
+    (text_spelled (space_of c.in-Simple.simple.now) kids read.0 c.in-Ok-read_text.value read.1 read.2)
+
+-- ---- an element
+
+pub read_element-read_filled-requires : goal.read_element-read_filled-requires
+read_element-read_filled-requires g t c κs within =
+    let d = c.decreases in
+    let k = count-kids c.args.item.now in
+    let same = ap (λ ks. count_all (roses_of ks)) c.kids-kids.ensures in
+    let few = c.requires.few in (
+      omega (arith, d, k, same),
+      (
+        within,
+        (
+          c.requires.linked,
+          (
+            c.requires.plans,
+            (
+              c.requires.decl,
+              (
+                c.declared_of-declared.ensures.fits.1,
+                (
+                  c.declared_of-declared.ensures.fits.0,
+                  (subst (λ ks. are_sound (roses_of ks) ≡ true) (sym c.kids-kids.ensures) (kids_sound c.args.item.now c.requires.sound), omega (arith, k, same, few)),
+                ),
+              ),
+            ),
+          ),
+        ),
+      ),
+    )
+
+pub read_element-returns-in-Err-clause-judged : goal.read_element-returns-in-Err-clause-judged
+read_element-returns-in-Err-clause-judged g t c =
+    tag_refused c.args.set.now c.args.decl (told (parts_of c.args.set.now) c.declared_of-declared.result) c.items-items.result.now c.in-Element.name c.in-Element.attributes c.in-Element.declares c.in-Element.at
+    c.args.item.now (sym c.label.ensures ∙ c.in-Element.is) c.declared_of-declared.ensures.asked c.items-items.ensures c.in-Err.error c.in-Err.ensures
+
+pub read_element-returns-then-nil-clause-judged : goal.read_element-returns-then-nil-clause-judged
+read_element-returns-then-nil-clause-judged g t c =
+    nil_judged c.args.set.now c.args.decl (told (parts_of c.args.set.now) c.declared_of-declared.result) c.items-items.result.now c.in-Element.name c.in-Element.attributes c.in-Element.declares c.in-Element.at
+    c.args.item.now (sym c.label.ensures ∙ c.in-Element.is) c.declared_of-declared.ensures.asked c.items-items.ensures
+    (rw c.if-nil.true at c.in-Ok.ensures) c.kids-kids.result.now c.kids-kids.ensures c.read_nil.result c.read_nil.ensures
+
+pub read_element-returns-else-nil-clause-judged : goal.read_element-returns-else-nil-clause-judged
+read_element-returns-else-nil-clause-judged g t c =
+    inside_judged c.args.set.now c.args.decl (told (parts_of c.args.set.now) c.declared_of-declared.result) c.items-items.result.now c.in-Element.name c.in-Element.attributes c.in-Element.declares c.in-Element.at
+    c.args.item.now (sym c.label.ensures ∙ c.in-Element.is) c.declared_of-declared.ensures.asked c.items-items.ensures
+    (rw c.if-nil.false at c.in-Ok.ensures) c.kids-kids.result.now c.kids-kids.ensures c.read_filled.result c.read_filled.ensures.judged
+
+pub read_element-returns-in-Err-clause-most : goal.read_element-returns-in-Err-clause-most
+read_element-returns-in-Err-clause-most g t c =
+    let n = element_counts c.args.item.now c.in-Element.name c.in-Element.attributes c.in-Element.declares c.in-Element.at (sym c.label.ensures ∙ c.in-Element.is) in
+    omega (arith, n)
+
+pub read_element-returns-then-nil-clause-most : goal.read_element-returns-then-nil-clause-most
+read_element-returns-then-nil-clause-most g t c =
+    let n = element_counts c.args.item.now c.in-Element.name c.in-Element.attributes c.in-Element.declares c.in-Element.at (sym c.label.ensures ∙ c.in-Element.is) in
+    omega (arith, n)
+
+pub read_element-returns-else-nil-clause-most : goal.read_element-returns-else-nil-clause-most
+read_element-returns-else-nil-clause-most g t c =
+    let n = element_counts c.args.item.now c.in-Element.name c.in-Element.attributes c.in-Element.declares c.in-Element.at (sym c.label.ensures ∙ c.in-Element.is) in
+    let same = ap (λ ks. elements_in (roses_of ks)) c.kids-kids.ensures in
+    let m = c.read_filled.ensures.most in
+    omega (arith, n, same, m)
+
+pub read_kids-returns-in_err-read_kid-clause-judged :
+    goal.read_kids-returns-in_err-read_kid-clause-judged
+read_kids-returns-in_err-read_kid-clause-judged g t c =
+    let p = err_from_is_err_and c.from_residual-in_err-read_kid.result c.from_residual-in_err-read_kid.ensures.1 in
+    rw (p.1, p.2)
+    (c.in_err-read_kid.ensures.judged c.args.plan.now c.args.kids.now c.args.at c.loop-kid.kid-index c.loop-kid-test.true c.kid-item.is c.loop-kid.invariant.walked)
+
+pub read_kids-returns-in_err-read_kid-clause-most :
+    goal.read_kids-returns-in_err-read_kid-clause-most
+read_kids-returns-in_err-read_kid-clause-most g t c =
+    let here = kid_here c.args.kids.now c.loop-kid.kid-index c.kid-item.result c.loop-kid-test.true c.kid-item.is in
+    let all = up_to (roses_of c.args.kids.now) c.loop-kid.kid-index c.kid-item.result here in
+    let so_far = c.loop-kid.invariant.most in
+    let m = c.in_err-read_kid.ensures.most in
+    omega (arith, all, so_far, m)
