@@ -61,25 +61,25 @@ items_of gs = roses_of (map item_of gs)
 
 -- ---- items put together
 
-joined-nothing : (k : Roses Plain) → joined k rose.none ≡ k
+pub joined-nothing : (k : Roses Plain) → joined k rose.none ≡ k
 joined-nothing rose.none = refl
 joined-nothing (rose.more x k) = ap (λ z. rose.more x z) (joined-nothing k)
 
-both-nothing : (g : Given) → both g nothing ≡ g
+pub both-nothing : (g : Given) → both g nothing ≡ g
 both-nothing g = ap (λ xs. given xs (joined g.kids rose.none)) (append-nil g.attributes) ∙ ap (λ k. given g.attributes k) (joined-nothing g.kids)
 
 -- ---- the last flag says whether the element is nil
 
-abbrev Ends : Bool → List Bool → Type 0
+abbrev pub Ends : Bool → List Bool → Type 0
 Ends nil [] = ⊥
 Ends nil (b ∷ []) = not b ≡ nil
 Ends nil (b ∷ c ∷ bs) = Ends nil (c ∷ bs)
 
-ends-more : (nil b : Bool) (flags : List Bool) → Ends nil flags → Ends nil (b ∷ flags)
+pub ends-more : (nil b : Bool) (flags : List Bool) → Ends nil flags → Ends nil (b ∷ flags)
 ends-more nil b [] h = absurd h
 ends-more nil b (c ∷ bs) h = h
 
-ends-last : (nil : Bool) (flags : List Bool) → Ends nil flags → is_last_absent (value.Sequence flags) ≡ nil
+pub ends-last : (nil : Bool) (flags : List Bool) → Ends nil flags → is_last_absent (value.Sequence flags) ≡ nil
 ends-last nil [] h = absurd h
 ends-last nil (b ∷ bs) h = last-at b bs ∙ by b bs h
   where
@@ -96,7 +96,7 @@ module _ (M : List Assignment) (E : ℕ → Rose TypeLabel → Type 0) (depth : 
   AreMade gs = All IsMade gs
 
 module _ (M : List Assignment) (E : ℕ → Rose TypeLabel → Type 0) (depth : ℕ) (small : depth ≤ 64) (s : Set) (linked : IsLinked s) where
-  told-roses : (xs : List Child) → told M xs ≡ roses_of (map (tell M) xs)
+  pub told-roses : (xs : List Child) → told M xs ≡ roses_of (map (tell M) xs)
   told-roses [] = refl
   told-roses (x ∷ xs) = ap (λ z. rose.more (tell M x) z) (told-roses xs)
 
@@ -296,7 +296,7 @@ module _ (M : List Assignment) (E : ℕ → Rose TypeLabel → Type 0) (depth : 
 
   -- ---- the rule of the node
 
-  owns : (nillable mixed nil : Bool) (cs : List Component) (us : Roses TypeLabel) (flags : List Bool) (vs : Roses ValueLabel) → (nillable ≡ true → is_last_absent (value.Sequence flags) ≡ nil) → (nillable ≡ false → nil ≡ false)
+  pub owns : (nillable mixed nil : Bool) (cs : List Component) (us : Roses TypeLabel) (flags : List Bool) (vs : Roses ValueLabel) → (nillable ≡ true → is_last_absent (value.Sequence flags) ≡ nil) → (nillable ≡ false → nil ≡ false)
       → (mixed ≡ true → first_count (value.Sequence flags) (list_of vs)
       ≡ text_count nil (child_count M (node (type_label (form.Sequence cs) (sequence_marks nillable mixed)) us) (node (value.Sequence flags) vs)))
       → OwnAt M (type_label (form.Sequence cs) (sequence_marks nillable mixed)) (node (type_label (form.Sequence cs) (sequence_marks nillable mixed)) us) (node (value.Sequence flags) vs)
@@ -307,7 +307,7 @@ module _ (M : List Assignment) (E : ℕ → Rose TypeLabel → Type 0) (depth : 
   owns false true nil cs us flags vs last plain first =
       (tt, tt, first refl ∙ ap (λ b. text_count b (child_count M (node (type_label (form.Sequence cs) (sequence_marks false true)) us) (node (value.Sequence flags) vs))) (plain refl))
 
-  nil-is : (nillable nil last : Bool) → (nillable ≡ true → last ≡ nil) → (nillable ≡ false → nil ≡ false) → (nillable && last) ≡ nil
+  pub nil-is : (nillable nil last : Bool) → (nillable ≡ true → last ≡ nil) → (nillable ≡ false → nil ≡ false) → (nillable && last) ≡ nil
   nil-is true nil last f g = f refl
   nil-is false nil last f g = sym (g refl)
 
@@ -315,7 +315,7 @@ module _ (M : List Assignment) (E : ℕ → Rose TypeLabel → Type 0) (depth : 
   plain-rest nillable false c k n h e = refl
   plain-rest nillable true c k n h e = absurd (true≢false (sym h.0 ∙ e))
 
-  texts-put : (mixed : Bool) (texts others : List (List ℕ)) (g : Given) → (mixed ≡ true → texts ≡ others) → with_texts mixed texts g ≡ with_texts mixed others g
+  pub texts-put : (mixed : Bool) (texts others : List (List ℕ)) (g : Given) → (mixed ≡ true → texts ≡ others) → with_texts mixed texts g ≡ with_texts mixed others g
   texts-put true texts others g f = ap (λ ts. with_texts true ts g) (f refl)
   texts-put false texts others g f = refl
 

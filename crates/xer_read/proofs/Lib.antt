@@ -1,2 +1,4 @@
 pub mod Growing
 pub mod Refusing
+pub mod Making
+pub mod Parting

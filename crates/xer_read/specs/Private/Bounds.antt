@@ -1,18 +1,17 @@
 -- Which form the part for a particle has, by the bounds of the particle (X.694, clauses 18 and 19).
-use Rattle.std.specs.Prelude.{ℕ, ◌==◌, ◌&&◌, Bool, false, Option, Some, None}
-use Rattle.content_models.specs.Particle.{Term, sequence}
+use Rattle.std.specs.Prelude.{ℕ, Bool, Option}
+use Rattle.content_models.specs.Particle.{Term}
+use Rattle.map_assignments.specs.Planning as planning
+use Rattle.map_laws.specs.Standing as standing
 
 -- the bounds 1 and 1
 abbrev pub is_once : ℕ → Option ℕ → Bool
-is_once least None = false
-is_once least (Some most) = (least == 1) && (most == 1)
+is_once least most = planning.is_once least most
 
 -- the bounds 0 and 1
 abbrev pub is_optional : ℕ → Option ℕ → Bool
-is_optional least None = false
-is_optional least (Some most) = (least == 0) && (most == 1)
+is_optional least most = planning.is_optional least most
 
 -- the particles of a top sequence that stands once are parts by themselves
 abbrev pub is_parted : Term → ℕ → Option ℕ → Bool
-is_parted (sequence ps) least most = is_once least most
-is_parted _ least most = false
+is_parted t least most = standing.is_parted t least most
