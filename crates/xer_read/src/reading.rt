@@ -111,7 +111,7 @@ fn sealed(
 /// the number `t`, which is that of the element in the map of the set.
 ///
 /// An error tells the first fault; or that the document is valid and its value has more than 1,048,576 nodes; or that memory
-/// is missing. Nothing else than the map of the set and the element's own assignment gives a value.
+/// is missing. That the value's items are the treated items of the document is not told yet.
 pub fn read_value<L: Ledger>(
     alloc: Global,
     set: &SchemaSet,
