@@ -10,7 +10,7 @@ use Rattle.transcode_core.specs.Words.{Asked}
 use Rattle.transcode_core.specs.Order.{Then}
 use Rattle.schema_parts.specs.SetParts.{SetParts}
 use Rattle.transcode_core.specs.Due.{Requested, Opened, Due}
-use Rattle.transcode_core.specs.Causes.{Answers, IsRefusal, SomeLoad, OneRead, Fails, Reaches, files_of, ReachesFile, reads_input, ReadsInput, ReachesInput, Answering, Deciding}
+use Rattle.transcode_core.specs.Causes.{Answers, IsRefusal, SomeLoad, OneRead, Fails, Reaches, files_of, ReachesFile, reads_input, ReadsInput, ReachesInput, Deciding}
 
 -- the words ask for one thing
 pub same_request : (words : List (List ℕ)) (a b : Asked) → Requested words (Ok a) → Requested words (Ok b) → a ≡ b

@@ -7,7 +7,7 @@ use Rattle.xa_base.specs.declared.texts.Name.{Name}
 use Rattle.transcode_core.specs.declared.outcome.Outcome.{Outcome}
 use Rattle.transcode_core.specs.declared.words.Request.{Request}
 use Rattle.transcode_core.specs.Private.Requests.{seen}
-use Rattle.transcode_core.specs.Words.{Asked, Show, Check, ToPer, ToXml, Trial, are_files, root_of, rooted_parts, rooted, count_of, counted, shown, asked}
+use Rattle.transcode_core.specs.Words.{Asked, Show, Check, ToPer, ToXml, Trial, are_files, root_of, rooted_parts, count_of, counted, asked}
 use Rattle.transcode_core.specs.Due.{Requested}
 use Rattle.transcode_core.specs.Causes.{Answers, Never, files_of}
 

@@ -1,19 +1,17 @@
 -- Octets are the encoding of one value, or are refused once.
-use Rattle.std.proofs.Common.{◌≡◌, ◌⊎◌, ℕ, zero, suc, ◌+◌, ◌*◌, ◌<◌, ◌≤◌, ◌^◌, Bool, true, false, List, [], ◌∷◌, ◌++◌, length, take, drop, All, refl, sym, ap, ◌∙◌, subst, inl, inr, arith, Option, Some, None}
-use Rattle.std.specs.Prelude.{nat_le, ◌&&◌}
+use Rattle.std.proofs.Common.{◌≡◌, ℕ, ◌*◌, ◌<◌, ◌≤◌, Bool, List, [], ◌∷◌, ◌++◌, length, take, All, refl, sym, ap, ◌∙◌, inl, inr, arith}
 use Rattle.std.proofs.lemmas.List.{take_all, append-nil}
 use Rattle.std.proofs.lemmas.List.Elements.{All-head, All-tail}
 use Rattle.label_tree.specs.Rose.{Rose}
 use Rattle.simple_types.specs.declared.labels.ValueLabel.{ValueLabel}
 use Rattle.asn_types.specs.Values.{In}
-use Rattle.bit_cursor.specs.Bits.{bits, number, octet, octet_bits}
+use Rattle.bit_cursor.specs.Bits.{number, octet, octet_bits}
 use Rattle.bit_cursor.proofs.BitLemmas.{length-bits, number-bits, length-octet_bits}
-use Rattle.per_fields.specs.declared.stops.Stop.{Stop}
 use Rattle.per_fields.specs.Encoding.{complete}
 use Rattle.per_fields.specs.Laws as law
 use Rattle.per_fields.specs.Laws.{Begins, Stops}
 use Rattle.transcode_core.specs.declared.outcome.Outcome.{Outcome}
-use Rattle.transcode_core.specs.declared.outcome.Outcome.TheVariants.{PerFault, Trailing, TooLong}
+use Rattle.transcode_core.specs.declared.outcome.Outcome.TheVariants.{Trailing}
 use Rattle.transcode_core.specs.Steps.{RootType, IsTypeOf, IsNoEncoding, readable, fault_in}
 use Rattle.schema_parts.specs.Components.{Set}
 

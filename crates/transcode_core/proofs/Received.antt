@@ -1,11 +1,9 @@
 -- What decoding answers, and the octet behind it, say of all octets that are left.
-use Rattle.std.proofs.Common.{◌≡◌, ◌⊎◌, ℕ, zero, ◌+◌, ◌*◌, ◌-◌, ◌<◌, ◌≤◌, Bool, true, false, cond, List, [], ◌∷◌, ◌++◌, length, take, drop, refl, sym, ap, ◌∙◌, subst, inl, inr, arith, Option, Some, None, Result, Ok, Err}
-use Rattle.std.specs.Prelude.{nat_le, ◌&&◌}
+use Rattle.std.proofs.Common.{◌≡◌, ℕ, ◌<◌, ◌≤◌, Bool, true, false, List, [], ◌∷◌, ◌++◌, length, drop, refl, sym, ap, ◌∙◌, subst, inl, inr, arith, Option, Some, None, Ok, Err}
+use Rattle.std.specs.Prelude.{nat_le}
 use Rattle.std.specs.Io.KnownBytes.{IsAtEnd}
 use Rattle.std.proofs.lemmas.List.{take_all, length-drop, length-append, append-nil}
 use Rattle.std.proofs.lemmas.Bool.{le-leb, lt-leb}
-use Rattle.label_tree.specs.Rose.{Rose}
-use Rattle.simple_types.specs.declared.labels.ValueLabel.{ValueLabel}
 use Rattle.asn_types.specs.Values.{In}
 use Rattle.bit_cursor.specs.Bits.{octet_bits}
 use Rattle.bit_cursor.proofs.BitLemmas.{length-octet_bits}
@@ -13,13 +11,10 @@ use Rattle.per_fields.specs.declared.stops.Stop.{Stop}
 use Rattle.per_fields.specs.declared.stops.Why.{Why}
 use Rattle.per_fields.specs.declared.stops.Why.TheVariants as why
 use Rattle.per_fields.specs.Encoding.{complete}
-use Rattle.per_fields.specs.Laws.{Begins, Stops}
 use Rattle.per_decode.specs.declared.decoded.Decoded.{Decoded}
 use Rattle.per_decode.specs.declared.errors.DecodeError.{DecodeError}
 use Rattle.per_decode.specs.declared.errors.DecodeError.TheVariants as error
-use Rattle.per_decode.specs.Answers as decoding
 use Rattle.per_decode.specs.Answers.{Answer, Answers, is_short}
-use Rattle.transcode_core.specs.declared.outcome.Outcome.{Outcome}
 use Rattle.transcode_core.specs.declared.outcome.Outcome.TheVariants.{PerFault, Trailing, TooLong}
 use Rattle.transcode_core.specs.Steps as step
 use Rattle.transcode_core.specs.Steps.{RootType, IsNoEncoding, readable, fault_in}

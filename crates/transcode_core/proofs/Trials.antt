@@ -1,8 +1,7 @@
 -- The trial, whose only file and whose input are there.
-use Rattle.std.proofs.Common.{◌≡◌, ◌⊎◌, ℕ, List, [], ◌∷◌, ◌++◌, length, refl, ◌∙◌, ap, sym, subst, inl, inr, arith, Option, Some, None, Result, Ok, Err}
+use Rattle.std.proofs.Common.{◌≡◌, ◌⊎◌, ℕ, List, [], ◌∷◌, ◌++◌, length, refl, ◌∙◌, ap, subst, inl, inr, arith, Option, Some, None, Result, Ok, Err}
 use Rattle.std.specs.Prelude.{Vec, true}
 use Rattle.std.specs.declared.alloc.Global.{Global}
-use Rattle.xa_base.specs.declared.texts.Name.{Name}
 use Rattle.xa_base.specs.Entries.{beside}
 use Rattle.transcode_core.specs.declared.outcome.Outcome.{Outcome}
 use Rattle.transcode_core.specs.Words.{ToPer}
@@ -11,7 +10,7 @@ use Rattle.doc_text.specs.declared.label.ItemLabel.{ItemLabel}
 use Rattle.transcode_core.specs.Trial.{trial_name, trial_schema, trial_root, trial_document, summary}
 use Rattle.transcode_core.specs.Order.{Give}
 use Rattle.transcode_core.specs.Due.{ItemsIn, Answered, Sent, Tried}
-use Rattle.transcode_core.specs.Causes.{Answers, Answering, NoMemory, Reaches, IsRefusal, StepsUpTo}
+use Rattle.transcode_core.specs.Causes.{Answers, Answering, NoMemory, IsRefusal, StepsUpTo}
 use Rattle.transcode_core.proofs.Joined.{passed, refused}
 
 abbrev pub trial_files : List (List ℕ × List ℕ)

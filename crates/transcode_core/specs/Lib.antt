@@ -1,4 +1,6 @@
 pub mod Words
+pub mod Booleans
+pub mod TruthValues
 pub mod Trial
 pub mod Order
 pub mod Causes

@@ -1,6 +1,7 @@
 //! The top call: words, files and an input to an outcome and bytes.
 #![tactic(auto)]
 
+mod booleans;
 mod files;
 mod laws;
 mod lines;
@@ -12,6 +13,7 @@ mod schemas;
 mod sending;
 mod top;
 mod trial;
+mod truth_values;
 mod typing;
 mod words;
 

@@ -1,5 +1,6 @@
 //! From the items of a document to the encoding of its value.
-ghost use Rattle.std.specs.Prelude.{◌≡◌, ◌+◌, ◌*◌, ◌<◌, ◌≤◌, All, IfOk, IfErr};
+ghost use Rattle.std.specs.Prelude.{◌≡◌, ◌⊎◌, ◌+◌, ◌*◌, ◌<◌, ◌≤◌, Bool, Some, None, All, IsTrue, IfOk, IfErr};
+ghost use Rattle.label_tree.specs.Rose.{node, none};
 ghost use Rattle.validity_check.specs.Counts.{element_count};
 ghost use Rattle.schema_parts.specs.SetParts.{parts_of};
 ghost use Rattle.asn_types.specs.Values.{In};
@@ -10,13 +11,55 @@ ghost use Rattle.transcode_core.specs.Causes.{Answers, NoMemory, IsOfInput};
 
 use crate::opened::{Opened, RootModule};
 use crate::outcome::Outcome;
+use crate::truth_values::truth_in;
 use doc_text::Items;
 use per_encode::encode;
-use simple_types::Value;
+use simple_types::{Value, ValueLabel};
 use std::alloc::Global;
 use std::sync::ledger::Ledger;
 use xa_base::Steps;
 use xer_read::{ReadError, read_value};
+
+// Whether the value is this truth value.
+fn is_truth(value: &Value, truth: bool) -> bool
+    ensures { IsTrue result → value.now ≡ node (ValueLabel.Bool truth) none }
+{
+    let root = value.root();
+    match (root.label(), root.kids()) {
+        (ValueLabel::Bool(found), []) => *found == truth,
+        _ => false,
+    }
+}
+
+// The value, if it is the truth value that the document is, where it is one.
+fn settled(value: Value, truth: Option<bool>) -> Result<Value, Outcome>
+    ensures same { IfOk result (λ found. found ≡ value) }
+    ensures truth { IfOk result (λ found. (b : Bool) → truth ≡ Some b → found ≡ node (ValueLabel.Bool b) none) }
+    ensures memory { IfErr result NoMemory }
+{
+    match truth {
+        None => Ok(value),
+        Some(truth) => {
+            // Open: it always is.
+            if is_truth(&value, truth) {
+                Ok(value)
+            } else {
+                Err(Outcome::OutOfMemory)
+            }
+        }
+    }
+}
+
+// A value that has too many nodes is no truth value.
+fn too_many(count: u64, truth: Option<bool>) -> Outcome
+    ensures { (truth ≡ None) × (result ≡ Outcome.TooManyNodes count) ⊎ NoMemory result }
+{
+    match truth {
+        None => Outcome::TooManyNodes { count },
+        // Open: this never comes.
+        Some(_) => Outcome::OutOfMemory,
+    }
+}
 
 // The value of the document, if it is valid.
 fn value_of<L: Ledger>(
@@ -32,6 +75,7 @@ fn value_of<L: Ledger>(
     ensures stage { IfErr result IsOfInput }
     ensures most { steps.new ≤ steps.old + 144 * element_count items.now }
 {
+    let truth = truth_in(opened, items);
     match read_value(
         alloc,
         &opened.set,
@@ -41,9 +85,9 @@ fn value_of<L: Ledger>(
         items,
         steps,
     ) {
-        Ok(value) => Ok(value),
+        Ok(value) => settled(value, truth),
         Err(ReadError::Invalid { at, why }) => Err(Outcome::Invalid { at, why }),
-        Err(ReadError::TooManyNodes { count }) => Err(Outcome::TooManyNodes { count }),
+        Err(ReadError::TooManyNodes { count }) => Err(too_many(count, truth)),
         Err(ReadError::Memory) => Err(Outcome::OutOfMemory),
     }
 }

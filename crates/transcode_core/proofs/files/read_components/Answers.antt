@@ -1,6 +1,5 @@
 use Rattle.std.proofs.Common.{refl, inl}
 use Rattle.schema_faults.specs.Shown.{Shown}
-use Rattle.schema_read.specs.Refusing.{Refuses}
 use Rattle.schema_faults.proofs.Found.{found_none, found_one}
 use Rattle.transcode_core.proofs.files.read_components.Goals as goal
 

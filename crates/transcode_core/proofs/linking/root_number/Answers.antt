@@ -1,4 +1,4 @@
-use Rattle.std.proofs.Common.{◌≡◌, Some, None, refl, inl, sym, subst, ◌∙◌, ap}
+use Rattle.std.proofs.Common.{◌≡◌, None, refl, inl, sym, ◌∙◌, ap}
 use Rattle.schema_parts.specs.Components.{global_elements}
 use Rattle.transcode_core.specs.Private.Requests.{root_seen}
 use Rattle.transcode_core.specs.Steps.{number_named}

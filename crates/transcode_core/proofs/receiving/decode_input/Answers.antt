@@ -1,4 +1,4 @@
-use Rattle.std.proofs.Common.{inl, Ok, Err}
+use Rattle.std.proofs.Common.{inl, Err}
 use Rattle.per_decode.specs.declared.errors.DecodeError.TheVariants.{Bad, TooLong}
 use Rattle.transcode_core.specs.Private.Requests.{type_seen}
 use Rattle.transcode_core.proofs.Received.{renamed, all_ended, goes_on, stops_at, too_long, takes, no_fault}
@@ -15,8 +15,11 @@ returns-in-Ok-true-clause-taken g c =
 
 pub returns-in-Ok-false-clause-due : goal.returns-in-Ok-false-clause-due
 returns-in-Ok-false-clause-due g c =
-    inl (goes_on (type_seen c.args.typed.now) (g.S.Source.left c.args.input.now) (g.S.Source.left c.decode.new.source) c.in-Ok.decoded c.in-Ok.ensures.answer
-    (c.in-Ok-false.ensures.more c.in-Ok-false.field-0-test), tt)
+    inl (
+      goes_on (type_seen c.args.typed.now) (g.S.Source.left c.args.input.now) (g.S.Source.left c.decode.new.source) c.in-Ok.decoded c.in-Ok.ensures.answer
+          (c.in-Ok-false.ensures.more c.in-Ok-false.field-0-test),
+      tt,
+    )
 
 pub returns-in-Ok-false-clause-taken : goal.returns-in-Ok-false-clause-taken
 returns-in-Ok-false-clause-taken g c =
@@ -28,8 +31,11 @@ returns-in-Err-clause-taken g c =
 
 pub returns-in-Err-Bad-clause-due : goal.returns-in-Err-Bad-clause-due
 returns-in-Err-Bad-clause-due g c =
-    inl (stops_at (type_seen c.args.typed.now) (g.S.Source.left c.args.input.now) (g.S.Source.left c.decode.new.source) c.in-Err-Bad.bit c.in-Err-Bad.why
-    (renamed (type_seen c.args.typed.now) (g.S.Source.left c.args.input.now) (g.S.Source.left c.decode.new.source) c.in-Err-Bad.field-0 (Bad c.in-Err-Bad.bit c.in-Err-Bad.why) c.in-Err-Bad.field-0-is c.in-Err-Bad.ensures.answer), tt)
+    inl (
+      stops_at (type_seen c.args.typed.now) (g.S.Source.left c.args.input.now) (g.S.Source.left c.decode.new.source) c.in-Err-Bad.bit c.in-Err-Bad.why
+          (renamed (type_seen c.args.typed.now) (g.S.Source.left c.args.input.now) (g.S.Source.left c.decode.new.source) c.in-Err-Bad.field-0 (Bad c.in-Err-Bad.bit c.in-Err-Bad.why) c.in-Err-Bad.field-0-is c.in-Err-Bad.ensures.answer),
+      tt,
+    )
 
 pub returns-in-Err-Bad-clause-taken : goal.returns-in-Err-Bad-clause-taken
 returns-in-Err-Bad-clause-taken g c =
@@ -37,8 +43,11 @@ returns-in-Err-Bad-clause-taken g c =
 
 pub returns-in-Err-TooLong-clause-due : goal.returns-in-Err-TooLong-clause-due
 returns-in-Err-TooLong-clause-due g c =
-    inl (too_long (type_seen c.args.typed.now) (g.S.Source.left c.args.input.now) (g.S.Source.left c.decode.new.source)
-    (renamed (type_seen c.args.typed.now) (g.S.Source.left c.args.input.now) (g.S.Source.left c.decode.new.source) c.in-Err-TooLong.field-0 TooLong c.in-Err-TooLong.field-0-is c.in-Err-TooLong.ensures.answer), tt)
+    inl (
+      too_long (type_seen c.args.typed.now) (g.S.Source.left c.args.input.now) (g.S.Source.left c.decode.new.source)
+          (renamed (type_seen c.args.typed.now) (g.S.Source.left c.args.input.now) (g.S.Source.left c.decode.new.source) c.in-Err-TooLong.field-0 TooLong c.in-Err-TooLong.field-0-is c.in-Err-TooLong.ensures.answer),
+      tt,
+    )
 
 pub returns-in-Err-TooLong-clause-taken : goal.returns-in-Err-TooLong-clause-taken
 returns-in-Err-TooLong-clause-taken g c =

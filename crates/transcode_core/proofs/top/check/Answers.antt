@@ -1,4 +1,4 @@
-use Rattle.std.proofs.Common.{inl, inr}
+use Rattle.std.proofs.Common.{inr}
 use Rattle.transcode_core.specs.Private.Requests.{root_seen, opened_seen}
 use Rattle.transcode_core.specs.Due.{Checked}
 use Rattle.transcode_core.proofs.Deciding.{goes_on, stops}
