@@ -1,8 +1,8 @@
 //! Encodings with their end cut off, and with a bit turned.
-use crate::opened::opened;
+use crate::opening::opened;
 use crate::schemas::{ORDER, SORTS, TRUTHS};
 use asn_types::Module;
-use per_decode::{Decoded, DecodeError, decode};
+use per_decode::{DecodeError, Decoded, decode};
 use per_encode::encode;
 use std::alloc::Global;
 use std::test::Fail;
@@ -36,7 +36,10 @@ fn no_front_of_an_encoding_is_one(rt: HostRuntime) -> Result<(), Fail> {
         let (module, t) = opened(rt.alloc(), schema, root)?;
         for length in 0..octets.len() {
             let front = Vec::from_slice(rt.alloc(), &octets[..length])?;
-            assert!(rt; read(rt.alloc(), &module, t, front).is_err(), "{length} octets of {root}");
+            assert!(rt;
+                read(rt.alloc(), &module, t, front).is_err(),
+                "{length} octets of {root}"
+            );
         }
     }
     Ok(())
@@ -54,7 +57,10 @@ fn what_is_read_of_turned_bits_is_written_as_them(rt: HostRuntime) -> Result<(),
                 if let Ok(found) = read(rt.alloc(), &module, t, given) {
                     let again = encode(rt.alloc(), &module, t, &found.value)?;
                     assert_eq!(rt; found.octets, again.len() as u64, "of {root}");
-                    assert!(rt; turned.as_slice().starts_with(again.as_slice()), "of {root}");
+                    assert!(rt;
+                        turned.as_slice().starts_with(again.as_slice()),
+                        "of {root}"
+                    );
                 }
             }
         }

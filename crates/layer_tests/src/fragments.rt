@@ -1,5 +1,5 @@
 //! Long texts and lists, in fragments (X.691, clause 11.9).
-use crate::opened::opened;
+use crate::opening::opened;
 use crate::schemas::SORTS;
 use per_decode::decode;
 use per_encode::encode;

@@ -6,10 +6,10 @@
 mod damaged;
 #[cfg(test)]
 mod fragments;
-mod opened;
+mod opening;
 mod schemas;
 #[cfg(test)]
 mod taken;
 
-pub use opened::{Unopened, opened};
+pub use opening::{Unopened, opened};
 pub use schemas::{ORDER, SORTS, TRUTHS};

@@ -1,5 +1,5 @@
 //! What is taken of a source.
-use crate::opened::opened;
+use crate::opening::opened;
 use crate::schemas::ORDER;
 use per_decode::{DecodeError, decode};
 use per_fields::Why;
@@ -39,7 +39,15 @@ fn nothing_is_taken_behind_a_field_with_a_fault(rt: HostRuntime) -> Result<(), F
     let given = Vec::from_slice(rt.alloc(), b"\x00\x00\x07\x80\x01\x02\x41")?;
     let mut source = SureSource::new(given, Vec::new(rt.alloc()));
     let answer = decode(rt.alloc(), &module, t, &mut source, 100);
-    assert!(rt; matches!(answer, Err(DecodeError::Bad { bit: 24, why: Why::NotShortest })));
+    assert!(rt;
+        matches!(
+            answer,
+            Err(DecodeError::Bad {
+                bit: 24,
+                why: Why::NotShortest
+            })
+        )
+    );
     assert_eq!(rt; source.left(), b"\x02\x41".as_slice());
     Ok(())
 }
