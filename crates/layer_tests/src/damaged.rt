@@ -1,4 +1,7 @@
 //! Encodings with their end cut off, and with a bit turned.
+ghost use Rattle.std.specs.Prelude.{◌<◌, length, IfOk};
+ghost use Rattle.asn_types.specs.Values.{In};
+
 use crate::opening::opened;
 use crate::schemas::{ORDER, SORTS, TRUTHS};
 use asn_types::Module;
@@ -23,12 +26,11 @@ const ENCODINGS: [(&str, &str, &[u8]); 10] = [
 
 fn read(alloc: Global, module: &Module, t: u32, octets: Vec<u8>) -> Result<Decoded, DecodeError>
     requires { t < length module.now }
+    ensures { IfOk result (λ found. In module.now t found.value) }
 {
     let mut source = SureSource::new(octets, Vec::new(alloc));
     decode(alloc, module, t, &mut source, 16_777_216)
 }
-
-ghost use Rattle.std.specs.Prelude.{◌<◌, length};
 
 #[test]
 fn no_front_of_an_encoding_is_one(rt: HostRuntime) -> Result<(), Fail> {

@@ -1,19 +1,31 @@
 //! What is taken of a source.
-use crate::opening::opened;
+use crate::opening::{Unopened, opened};
 use crate::schemas::ORDER;
 use per_decode::{DecodeError, decode};
 use per_fields::Why;
+use std::alloc::Global;
 use std::test::Fail;
 use xa_base::SureSource;
 
 const OCTETS: &[u8] = b"\x00\x00\x07\x01\x02\x41\x31\x04\xFF";
 
+// A source of these octets that moves at most so many at once, and at least one.
+#[tactic(auto, using(crate::proofs::Pieces::positive))]
+fn cut(alloc: Global, octets: &[u8], size: u64) -> Result<SureSource, Unopened> {
+    if size == 0 {
+        return Err(Unopened::Memory);
+    }
+    let (Ok(given), Ok(pieces)) = (Vec::from_slice(alloc, octets), vec![in alloc; size; 16]) else {
+        return Err(Unopened::Memory);
+    };
+    Ok(SureSource::new(given, pieces))
+}
+
 #[test]
 fn an_encoding_is_taken_and_nothing_behind_it(rt: HostRuntime) -> Result<(), Fail> {
     let (module, t) = opened(rt.alloc(), ORDER, "order")?;
     for piece in [1, 3, 8] {
-        let given = Vec::from_slice(rt.alloc(), OCTETS)?;
-        let mut source = SureSource::new(given, vec![in rt.alloc(); piece; 16]?);
+        let mut source = cut(rt.alloc(), OCTETS, piece)?;
         assert!(rt; decode(rt.alloc(), &module, t, &mut source, 8).is_ok());
         assert_eq!(rt; source.left(), b"\xFF".as_slice());
     }
@@ -24,8 +36,7 @@ fn an_encoding_is_taken_and_nothing_behind_it(rt: HostRuntime) -> Result<(), Fai
 fn no_more_is_taken_than_may_be(rt: HostRuntime) -> Result<(), Fail> {
     let (module, t) = opened(rt.alloc(), ORDER, "order")?;
     for piece in [1, 3, 8] {
-        let given = Vec::from_slice(rt.alloc(), OCTETS)?;
-        let mut source = SureSource::new(given, vec![in rt.alloc(); piece; 16]?);
+        let mut source = cut(rt.alloc(), OCTETS, piece)?;
         let answer = decode(rt.alloc(), &module, t, &mut source, 7);
         assert!(rt; matches!(answer, Err(DecodeError::TooLong)));
         assert_eq!(rt; source.left(), b"\x04\xFF".as_slice());
