@@ -30,7 +30,7 @@ pub fn link_files(alloc: Global, documents: &[RawDoc]) -> Result<SchemaSet, Outc
 }
 
 // The bytes of a word are a text, so memory alone may be missing.
-fn text_of(alloc: Global, bytes: &[u8]) -> Result<Text, Outcome>
+fn word_text(alloc: Global, bytes: &[u8]) -> Result<Text, Outcome>
     ensures ok { IfOk result (λ text. text ≡ bytes.now) }
     ensures err { IfErr result NoMemory }
 {
@@ -44,8 +44,8 @@ fn name_of(alloc: Global, root: Root<'_>) -> Result<Name, Outcome>
     ensures ok { IfOk result (λ name. name ≡ root_seen root.entry) }
     ensures err { IfErr result NoMemory }
 {
-    let space = text_of(alloc, root.space)?;
-    let local = text_of(alloc, root.local)?;
+    let space = word_text(alloc, root.space)?;
+    let local = word_text(alloc, root.local)?;
     Ok(Name { space, local })
 }
 

@@ -5,9 +5,9 @@ ghost use Rattle.plain_items.specs.Mixing.{text_before, interleaved};
 ghost use Rattle.xer_items.specs.Items.{Given, given, nothing, nil_name, element_of};
 ghost use Rattle.plain_items.specs.Unplaced.{unplaced};
 ghost use Rattle.xer_write.specs.Private.Utf8.{ItemIsUtf8, ItemsAreUtf8};
-ghost use Rattle.xer_write.specs.Private.Gaining.{IsUtf8Contents, Has, Gains, text_of, text_at, with_texts_before};
+ghost use Rattle.xer_write.specs.Private.Gaining.{IsUtf8Contents, Has, Gains, value_text, text_at, with_texts_before};
 
-use crate::spelling::text_of;
+use crate::spelling::value_text;
 use doc_text::{Attributes, Bindings, ItemLabel};
 use label_tree::Tree;
 use simple_types::ValueLabel;
@@ -100,12 +100,12 @@ impl Contents {
         i: usize,
     ) -> Result<(), Memory>
         ensures attributes { OnOk result (self.new.attributes.items ≡ self.old.attributes.items) }
-        ensures kids { OnOk result (self.new.kids.items ≡ self.old.kids.items ++ text_at (map text_of texts.now) i) }
+        ensures kids { OnOk result (self.new.kids.items ≡ self.old.kids.items ++ text_at (map value_text texts.now) i) }
         ensures utf8 { OnOk result (IsUtf8Contents self.old → IsUtf8Contents self.new) }
     {
         match texts.get(i) {
             Some(value) => {
-                let text = text_of(alloc, value)?;
+                let text = value_text(alloc, value)?;
                 self.add_text(alloc, text)
             }
             None => Ok(()),
@@ -120,7 +120,7 @@ impl Contents {
         kids: Vec<Tree<ItemLabel>>,
     ) -> Result<usize, Memory>
         ensures attributes { OnOk result (self.new.attributes.items ≡ self.old.attributes.items) }
-        ensures kids { OnOk result (self.new.kids.items ≡ self.old.kids.items ++ with_texts_before (map text_of texts.now) kids.items) }
+        ensures kids { OnOk result (self.new.kids.items ≡ self.old.kids.items ++ with_texts_before (map value_text texts.now) kids.items) }
         ensures count { IfOk result (λ count. count ≡ length kids.items) }
         ensures utf8 { OnOk result (IsUtf8Contents self.old → ItemsAreUtf8 (roses_of kids.items) → IsUtf8Contents self.new) }
     {
@@ -140,7 +140,7 @@ impl Contents {
         texts: &[Tree<ValueLabel>],
         inner: Contents,
     ) -> Result<(), Memory>
-        ensures { OnOk result ((g : Given) → Has inner g → Gains self.old self.new (given g.attributes (interleaved (map text_of texts.now) g.kids))) }
+        ensures { OnOk result ((g : Given) → Has inner g → Gains self.old self.new (given g.attributes (interleaved (map value_text texts.now) g.kids))) }
     {
         let Contents {
             mut attributes,

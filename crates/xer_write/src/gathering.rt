@@ -6,7 +6,7 @@ ghost use Rattle.asn_types.specs.Values as rule;
 ghost use Rattle.asn_types.specs.declared.types.Form.TheVariants as form;
 ghost use Rattle.xer_items.specs.Items.{nothing, with_nil, inside, gathered, texts_of};
 ghost use Rattle.xer_items.specs.Spelling.{is_textual};
-ghost use Rattle.xer_write.specs.Private.Gaining.{Gains, text_of};
+ghost use Rattle.xer_write.specs.Private.Gaining.{Gains, value_text};
 ghost use Rattle.xer_write.specs.Private.Giving.{IsTypeIn, may_be_present, place_seen, place_gives, places_give, parts_give, type_gives};
 
 use crate::contents::Contents;
@@ -41,7 +41,7 @@ fn is_last_absent(label: &ValueLabel) -> bool
 
 // The texts of the first part, where it is present.
 fn texts_of(value: &Tree<ValueLabel>) -> &[Tree<ValueLabel>]
-    ensures { map text_of result.now ≡ texts_of (label_of value.now) (roses_of (kids_of value.now)) }
+    ensures { map value_text result.now ≡ texts_of (label_of value.now) (roses_of (kids_of value.now)) }
 {
     match value.label() {
         ValueLabel::Sequence { present } => match present.items() {

@@ -7,7 +7,7 @@ ghost use Rattle.simple_values.specs.Reading.{spelled, spelled_boolean, spelled_
 ghost use Rattle.asn_types.specs.Parts.{MayHave};
 ghost use Rattle.asn_types.specs.Spaces.{space_at, spaces_at};
 ghost use Rattle.xer_items.specs.Spelling as textual;
-ghost use Rattle.xer_write.specs.Private.Gaining.{text_of};
+ghost use Rattle.xer_write.specs.Private.Gaining.{value_text};
 
 use asn_types::{Form, TypeLabel};
 use itoa::Buffer;
@@ -97,8 +97,8 @@ fn write_text(out: &mut String, label: &ValueLabel) -> Result<(), Memory>
 }
 
 /// The text of a UTF8String.
-pub(crate) fn text_of(alloc: Global, value: &Tree<ValueLabel>) -> Result<Text, Memory>
-    ensures { IfOk result (λ text. text ≡ text_of value.now) }
+pub(crate) fn value_text(alloc: Global, value: &Tree<ValueLabel>) -> Result<Text, Memory>
+    ensures { IfOk result (λ text. text ≡ value_text value.now) }
 {
     match value.label() {
         ValueLabel::Utf8(text) => text.copy(alloc),
@@ -197,7 +197,7 @@ pub(crate) fn spelling(
             Some(word) => word.copy(alloc),
             None => Ok(Text::empty()),
         },
-        Form::Utf8 { .. } => text_of(alloc, value),
+        Form::Utf8 { .. } => value_text(alloc, value),
         _ => {
             let mut out = String::new(alloc);
             write_spelling(&mut out, node, value)?;

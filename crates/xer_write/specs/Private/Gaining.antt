@@ -30,8 +30,8 @@ pub record Gains (old new : Contents) (g : Given) : Type 0 where
   pub kids : new.kids.items ≡ old.kids.items ++ items_in g.kids
   pub utf8 : IsUtf8Contents old → IsUtf8Contents new
 
-abbrev pub text_of : Rose ValueLabel → List ℕ
-text_of v = spelled_text (label_of v)
+abbrev pub value_text : Rose ValueLabel → List ℕ
+value_text v = spelled_text (label_of v)
 
 -- the item of a text, where it isn't empty
 abbrev pub text_item : List ℕ → List (Rose ItemLabel)

@@ -15,4 +15,4 @@ returns-in-None c =
 pub returns-in-Utf8 : goal.returns-in-Utf8
 returns-in-Utf8 c =
     let is = spelled-Utf8 c.args.node.now c.args.value.now c.in-Utf8.min c.in-Utf8.max c.in-Utf8.class (ap (λ l. l.form) (sym c.label.ensures) ∙ c.in-Utf8.is) in
-    rw is c.text_of.ensures
+    rw is c.value_text.ensures

@@ -1,13 +1,13 @@
 use Rattle.std.proofs.Common.{[], ◌∷◌, ◌++◌, ap, ◌∙◌, arith}
 use Rattle.std.specs.Prelude.{map}
 use Rattle.std.proofs.lemmas.List.{length_push}
-use Rattle.xer_write.specs.Private.Gaining.{text_of, text_at}
+use Rattle.xer_write.specs.Private.Gaining.{value_text, text_at}
 use Rattle.xer_write.proofs.Gaining.{items_utf8-front, items_utf8-pushed, mixed-step}
 use Rattle.xer_write.proofs.contents.Contents.add_kids.Goals as goal
 
 pub kids-preserved : goal.kids-preserved
 kids-preserved c =
-    let texts = map text_of c.args.texts.now in
+    let texts = map value_text c.args.texts.now in
     let kid = c.in-Some.kid in
     let pushed = c.in_ok-push.ensures.items in
     let so_far = c.kids.invariant in

@@ -1,13 +1,13 @@
 use Rattle.std.proofs.Common.{◌≡◌, ◌++◌, sym, ap, subst, ◌∙◌}
 use Rattle.std.specs.Prelude.{map}
 use Rattle.xer_write.specs.Private.Utf8.{AreUtf8}
-use Rattle.xer_write.specs.Private.Gaining.{text_of, text_at}
+use Rattle.xer_write.specs.Private.Gaining.{value_text, text_at}
 use Rattle.xer_write.proofs.Gaining.{are_utf8-append, mixed-end, on_ok-three}
 use Rattle.xer_write.proofs.contents.Contents.add_mixed.Goals as goal
 
 pub returns : goal.returns
 returns c =
-    let texts = map text_of c.args.texts.now in
+    let texts = map value_text c.args.texts.now in
     let self = c.args.self.now in
     let inner = c.args.inner in
     let appended : c.append.new.self.items ≡ self.attributes.items ++ inner.attributes.items = c.in_ok-append.ensures.items in
