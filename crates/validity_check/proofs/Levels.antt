@@ -1,6 +1,6 @@
 -- The levels of content models.
-use Rattle.std.proofs.Common.{◌≡◌, ℕ, suc, max, ◌≤◌, arith}
-use Rattle.label_tree.specs.Rose.{Rose, node, Roses, none, more, height, depth_all}
+use Rattle.std.proofs.Common.{◌≤◌, arith}
+use Rattle.label_tree.specs.Rose.{Rose}
 use Rattle.content_models.specs.declared.particles.ParticleLabel.{ParticleLabel}
 use Rattle.content_models.specs.Seen.{seen}
 use Rattle.content_match.specs.Taking.{levels}

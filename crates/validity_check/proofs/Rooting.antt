@@ -1,5 +1,5 @@
 -- The root of a document.
-use Rattle.std.proofs.Common.{◌≡◌, ℕ, inl, inr, Option, Some, None, refl, sym, subst}
+use Rattle.std.proofs.Common.{◌≡◌, ℕ, inl, inr, Some, refl, sym, subst}
 use Rattle.std.specs.Prelude.{Result, Ok, Err, MatchResult, slice_get}
 use Rattle.label_tree.specs.Rose.{Rose, label_of}
 use Rattle.doc_text.specs.Labels.{item_place}

@@ -1,11 +1,9 @@
 -- What sound items are made of.
-use Rattle.std.proofs.Common.{◌≡◌, ℕ, zero, suc, List, [], ◌∷◌, Option, Some, None, Bool, true, false, refl, sym, ◌∙◌, ap, subst, arith}
+use Rattle.std.proofs.Common.{◌≡◌, ℕ, zero, suc, Some, Bool, true, false, refl, ◌∙◌, ap, subst}
 use Rattle.std.specs.Prelude.{not, ◌&&◌}
-use Rattle.xa_base.specs.declared.texts.Name.{Name}
 use Rattle.label_tree.specs.Rose.{Rose, node, Roses, roses_of, label_of, kids_of}
 use Rattle.label_tree.specs.Rose as rose
 use Rattle.doc_text.specs.declared.label.ItemLabel.{ItemLabel}
-use Rattle.doc_text.specs.declared.label.ItemLabel.TheVariants.{Element, Text}
 use Rattle.doc_text.specs.Sound.{is_sound_label, is_text, begins_with_text, is_element, is_sound, are_sound}
 use Rattle.schema_parts.proofs.Truths.{both}
 use Rattle.validity.proofs.Reading.{kid_at, roses_of-list_of}

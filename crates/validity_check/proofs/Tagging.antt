@@ -1,6 +1,6 @@
 -- The rules of a start tag.
-use Rattle.std.proofs.Common.{◌≡◌, ℕ, zero, suc, ◌<◌, inl, inr, List, [], ◌∷◌, Option, Some, None, Bool, true, false, map, length, get_or, refl, sym, ◌∙◌, ap, subst}
-use Rattle.std.specs.Prelude.{Result, Ok, Err, MatchResult, All, not, bytes_eq, ◌||◌, ◌&&◌, if◌then◌else◌, filter}
+use Rattle.std.proofs.Common.{◌≡◌, ℕ, inl, inr, List, [], ◌∷◌, Some, Bool, true, false, map, get_or, refl, sym, ◌∙◌, ap, subst}
+use Rattle.std.specs.Prelude.{Result, Ok, Err, MatchResult, All, not, bytes_eq, ◌||◌, ◌&&◌, if◌then◌else◌}
 use Rattle.std.specs.List.{list_any}
 use Rattle.std.proofs.lemmas.List.Elements.{All-nil, All-cons, All-head, All-tail}
 use Rattle.xa_base.specs.declared.texts.Name.{Name}
@@ -20,7 +20,7 @@ use Rattle.schema_parts.specs.SetParts.{SetParts, parts_of}
 use Rattle.schema_parts.proofs.Truths.{both}
 use Rattle.validity.specs.Asked.{Asked, Attribute, attribute_in, Inside, nothing, simple, children, asked_at}
 use Rattle.validity.specs.Valid.{treated_element}
-use Rattle.validity.specs.Attributes.{is_special, text_of, left, nil_of, nil_from, Stands, IsMissing, AllRight, AllStand, OneMissing}
+use Rattle.validity.specs.Attributes.{is_special, text_of, left, nil_of, nil_from, AllStand, OneMissing}
 use Rattle.validity.specs.Faults.{IsBad, FirstKid, FaultBy}
 use Rattle.validity.specs.declared.why.InvalidWhy.{InvalidWhy}
 use Rattle.validity.specs.declared.why.InvalidWhy.TheVariants.{XsiType, BadNil, MissingAttribute, NilWithContent}
@@ -45,7 +45,7 @@ other_space n h =
     let last = both (is_namespace n.space && is_name_part n.local) (not (list_any (bytes_eq n.space) kept_spaces)) h in
     neither (bytes_eq n.space) xmlns_space xsi_space (not_true (list_any (bytes_eq n.space) kept_spaces) last.1)
 
-plain_name : (n : Name) → is_declarable_attribute n ≡ true → is_special n ≡ false
+pub plain_name : (n : Name) → is_declarable_attribute n ≡ true → is_special n ≡ false
 plain_name n h = let other = other_space n (both (is_declarable n) (not (is_xmlns n)) h).0 in rw other refl
 
 left_special : (x : Name × List ℕ) (xs : List (Name × List ℕ)) → is_special x.0 ≡ true → left (x ∷ xs) ≡ left xs
@@ -55,7 +55,7 @@ left_plain : (x : Name × List ℕ) (xs : List (Name × List ℕ)) → is_specia
 left_plain x xs e = rw e refl
 
 -- a text that is left stands where it stood
-text_left : (n : Name) → is_special n ≡ false → (xs : List (Name × List ℕ)) → text_of (left xs) n ≡ text_of xs n
+pub text_left : (n : Name) → is_special n ≡ false → (xs : List (Name × List ℕ)) → text_of (left xs) n ≡ text_of xs n
 text_left n plain [] = refl
 text_left n plain (x ∷ xs) = by (is_special x.0) refl (text_left n plain xs)
   where

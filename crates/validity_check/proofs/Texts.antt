@@ -1,14 +1,11 @@
 -- The text of an element.
-use Rattle.std.proofs.Common.{◌≡◌, ℕ, inl, inr, List, [], ◌∷◌, ◌++◌, Option, Some, None, true, length, get_or, refl, sym, ◌∙◌, ap, subst, append-nil}
+use Rattle.std.proofs.Common.{◌≡◌, ℕ, List, Some, refl, sym, subst}
 use Rattle.std.specs.Prelude.{Result, Ok, Err, MatchResult}
-use Rattle.label_tree.specs.Rose.{Rose, node, Roses, roses_of, label_of}
-use Rattle.label_tree.specs.Rose as rose
+use Rattle.label_tree.specs.Rose.{Rose, Roses}
 use Rattle.simple_types.specs.declared.labels.ValueLabel.{ValueLabel}
 use Rattle.simple_types.specs.Space.{Space}
-use Rattle.simple_values.specs.Reading.{Reading, reads, spelled, Accepts}
+use Rattle.simple_values.specs.Reading.{spelled, Accepts}
 use Rattle.doc_text.specs.declared.label.ItemLabel.{ItemLabel}
-use Rattle.doc_text.specs.declared.label.ItemLabel.TheVariants.{Element, Text}
-use Rattle.plain_items.specs.Plain.{Plain}
 use Rattle.validity.specs.Valid.{only_text, text_kids, Spells}
 use Rattle.validity.specs.declared.why.InvalidWhy.{InvalidWhy}
 use Rattle.validity_check.specs.declared.error.CheckError.{CheckError}

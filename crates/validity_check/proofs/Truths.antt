@@ -1,5 +1,5 @@
 -- Truth values as the type of truth values reads them.
-use Rattle.std.proofs.Common.{◌≡◌, ℕ, Option, Some, None, Bool, refl, sym, ◌∙◌, ap}
+use Rattle.std.proofs.Common.{◌≡◌, Option, Some, None, Bool, refl, sym, ◌∙◌, ap}
 use Rattle.std.specs.Prelude.{Ok, Err}
 use Rattle.label_tree.specs.Rose.{Rose, label_of}
 use Rattle.simple_types.specs.declared.labels.ValueLabel.{ValueLabel}

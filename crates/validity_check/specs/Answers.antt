@@ -1,5 +1,5 @@
 -- What an answer says.
-use Rattle.std.specs.Prelude.{◌≡◌, ℕ, Bool, true, false, List, [], ◌⊎◌, Option, Some, None, Result, MatchResult}
+use Rattle.std.specs.Prelude.{◌≡◌, ℕ, Bool, List, [], ◌⊎◌, Some, None}
 use Rattle.xa_base.specs.declared.texts.Name.{Name}
 use Rattle.label_tree.specs.Rose.{Rose, Roses, none}
 use Rattle.simple_types.specs.Space.{Space}
@@ -13,7 +13,7 @@ use Rattle.schema_parts.specs.SetParts.{parts_of}
 use Rattle.validity.specs.Asked.{Asked, Inside, nothing, simple, children, asked_at}
 use Rattle.validity.specs.Attributes.{nil_from, nil_of, xsi_type, text_of, left, Refuses, FirstWrong, AllRight, AllStand, OneMissing}
 use Rattle.validity.specs.Valid.{only_text, Spells, ValidBy, KidsValid, Valid}
-use Rattle.validity.specs.Faults.{Begins, Unfinished, front, Then, At, IsBad, FirstKid, why_kid, FirstElement, FaultBy, KidFault, FirstFault}
+use Rattle.validity.specs.Faults.{Begins, Unfinished, front, Then, At, IsBad, FirstKid, why_kid, FirstElement, KidFault}
 use Rattle.validity.specs.declared.why.InvalidWhy.{InvalidWhy}
 use Rattle.validity.specs.declared.why.InvalidWhy.TheVariants.{XsiType, BadNil, MissingAttribute, BadText, MissingElement}
 use Rattle.validity_check.specs.declared.error.CheckError.{CheckError}

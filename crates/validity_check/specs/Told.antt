@@ -1,5 +1,5 @@
 -- What a set declares of an element, as the rules of validity ask it.
-use Rattle.std.specs.Prelude.{◌≡◌, ℕ, ◌<◌, List, map, length, All, Option, Some, None, slice_get}
+use Rattle.std.specs.Prelude.{◌≡◌, ℕ, ◌<◌, map, length, All, Option, Some, None, slice_get}
 use Rattle.xa_base.specs.declared.texts.Name.{Name}
 use Rattle.label_tree.specs.Rose.{Rose}
 use Rattle.simple_types.specs.Seen.{space_of}

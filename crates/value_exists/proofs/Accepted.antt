@@ -1,5 +1,5 @@
 -- What a simple type accepts of a text in UTF-8 fits the type that it is mapped to.
-use Rattle.std.proofs.Common.{◌≡◌, ℕ, zero, suc, ◌+◌, ◌-◌, ◌<◌, ◌≤◌, nat_lt, nat_le, ◌&&◌, ◌||◌, ◌==◌, Bool, true, false, Option, Some, None, List, [], ◌∷◌, ◌++◌, length, replicate, All, Ok, Err, inl, inr, refl, sym, ap, subst, ◌∙◌, arith}
+use Rattle.std.proofs.Common.{◌≡◌, ℕ, zero, suc, ◌-◌, ◌<◌, ◌≤◌, nat_lt, nat_le, ◌&&◌, ◌||◌, ◌==◌, Bool, true, false, Option, Some, None, List, [], ◌∷◌, ◌++◌, length, replicate, All, Ok, Err, inl, inr, refl, sym, ap, subst, ◌∙◌, arith}
 use Rattle.std.specs.Prelude.{ℤ, IsUtf8, slice_get, position, bytes_eq, MatchBool, if◌then◌else◌}
 use Rattle.std.specs.Ordering.{int_eq}
 use Rattle.std.proofs.lemmas.Bool.Decides.{Decides-ltb}
@@ -18,14 +18,13 @@ use Rattle.simple_types.specs.declared.labels.ValueLabel.TheVariants as value
 use Rattle.simple_types.specs.Space.{Space, Spaces, none, more, Booleans, Wholes, Numbers, Words, Characters, ListOf, UnionOf, count_members}
 use Rattle.simple_types.specs.Sound.{Sound, AreSound}
 use Rattle.simple_values.specs.Lexical.{boolean_of, whole_number, is_128_bits, is_from, is_to, is_at_most}
-use Rattle.simple_values.specs.Reading.{Reading, Taking, leaf, whole_within, item_at, number_from, read_characters, has_characters, read_each, list_within, goes_on, settled, reads, taken_by, spelled, spelled_by, Holds}
-use Rattle.simple_values.proofs.Again.{is_whole, is_number, is_item, is_read, is_list, is_boolean}
+use Rattle.simple_values.specs.Reading.{Taking, leaf, whole_within, item_at, number_from, read_characters, has_characters, read_each, list_within, goes_on, settled, reads, taken_by, spelled_by, Holds}
+use Rattle.simple_values.proofs.Again.{is_whole, is_item, is_read, is_list, is_boolean}
 use Rattle.simple_values.proofs.OwnSpellings.{which, holds_again}
 use Rattle.simple_values.proofs.Readings.{reads-ListOf, reads-UnionOf, turn_refused, turn_same, turn_further, settled_from}
 use Rattle.asn_types.specs.declared.marks.Instruction.{Instruction}
 use Rattle.asn_types.specs.declared.marks.Instruction.TheVariants as mark
 use Rattle.asn_types.specs.declared.modules.Assignment.{Assignment}
-use Rattle.asn_types.specs.declared.roles.Role.{Role}
 use Rattle.asn_types.specs.declared.roles.Role.TheVariants as role
 use Rattle.asn_types.specs.declared.types.Component.{Component}
 use Rattle.asn_types.specs.declared.types.Form.{Form}
@@ -39,7 +38,7 @@ use Rattle.asn_types.specs.Values.{ComponentPlace, place_of, place_at, alone, re
 use Rattle.map_assignments.specs.Naming.{type_label, text_marks, list_item, IsSimpleType, AreMembers}
 use Rattle.map_assignments.proofs.Simples.{simple-maps}
 use Rattle.map_694.proofs.Resolving.{follow-none}
-use Rattle.value_exists.proofs.Encoded.{words_utf8, treated_utf8, accepted_utf8, taken_utf8}
+use Rattle.value_exists.proofs.Encoded.{words_utf8, treated_utf8, taken_utf8}
 
 -- ---- marks
 

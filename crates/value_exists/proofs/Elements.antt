@@ -1,25 +1,23 @@
 -- A valid element of a type has a value of it that gives the element's treated attributes and kids.
-use Rattle.std.proofs.Common.{◌≡◌, ℕ, suc, ◌+◌, ◌≤◌, ◌&&◌, Bool, true, false, Option, Some, None, List, [], ◌∷◌, length, map, refl, sym, ap, subst, ◌∙◌, arith}
-use Rattle.std.specs.Prelude.{All, Ok, Err, IsUtf8, codes}
+use Rattle.std.proofs.Common.{◌≡◌, ℕ, ◌+◌, ◌≤◌, ◌&&◌, Bool, true, false, Option, Some, None, List, [], ◌∷◌, length, map, refl, sym, ap, subst, ◌∙◌, arith}
+use Rattle.std.specs.Prelude.{Ok, Err, IsUtf8}
 use Rattle.std.specs.List.{list_all}
 use Rattle.std.proofs.lemmas.List.{length-map}
 use Rattle.std.proofs.lemmas.List.Elements.{All-nil}
 use Rattle.xa_base.specs.declared.texts.Name.{Name}
-use Rattle.xa_base.specs.Limits.{has_xml_chars}
 use Rattle.label_tree.specs.Rose.{Rose, node, Roses, roses_of, label_of, length_all}
 use Rattle.label_tree.specs.Rose as rose
 use Rattle.label_tree.proofs.Roses.{length_all-roses_of}
 use Rattle.simple_types.specs.Space.{Space}
 use Rattle.simple_types.specs.declared.labels.ValueLabel.{ValueLabel}
 use Rattle.simple_values.specs.Reading.{Reading, reads, spelled}
-use Rattle.content_models.specs.declared.particles.ParticleLabel.{ParticleLabel}
 use Rattle.content_models.specs.Language.{Lang}
 use Rattle.content_models.specs.Seen.{seen}
 use Rattle.doc_text.specs.declared.label.ItemLabel.{ItemLabel}
-use Rattle.doc_text.specs.declared.label.ItemLabel.TheVariants.{Element, Text}
-use Rattle.doc_text.specs.Sound.{is_sound_name, are_sound_attributes, is_sound_binding, is_sound_label, is_sound, are_sound, levels, levels_all}
+use Rattle.doc_text.specs.declared.label.ItemLabel.TheVariants.{Element}
+use Rattle.doc_text.specs.Sound.{is_sound_name, are_sound_attributes, is_sound_binding, is_sound, are_sound, levels_all}
 use Rattle.plain_items.specs.Plain.{Plain, element}
-use Rattle.plain_items.specs.Mixing.{text_before, interleaved, child_elements, texts_between}
+use Rattle.plain_items.specs.Mixing.{text_before, child_elements, texts_between}
 use Rattle.plain_items.proofs.Mixing.{takes_apart}
 use Rattle.asn_types.specs.declared.modules.Assignment.{Assignment}
 use Rattle.asn_types.specs.declared.types.TypeLabel.{TypeLabel}
@@ -39,21 +37,21 @@ use Rattle.xer_items.specs.Items.{Given, given, with_texts, element_of, inside}
 use Rattle.validity.specs.Asked.{Asked, Attribute, asked, space_at, attribute_in, inside_of}
 use Rattle.validity.specs.Asked as ask
 use Rattle.validity.specs.Attributes.{Nil, not_nil, is_nil, bad_nil, nil_by, nil_of, xsi_type, xsi_nil, text_of, left, AllRight, AllStand, treated_attributes, with_nil}
-use Rattle.validity.specs.Valid.{only_text, text_kids, Spells, treated_element, ValidBy, KidsValid}
+use Rattle.validity.specs.Valid.{only_text, text_kids, Spells, treated_element, ValidBy}
 use Rattle.validity.proofs.Again.{IsFair}
 use Rattle.validity.proofs.Mixed.{treated_kids}
 use Rattle.validity.proofs.Treated.{declared_each}
 use Rattle.validity.proofs.Unique.{ContentValid, NilValid}
 use Rattle.value_exists.proofs.Texts.{left-encoded, text-given, attributes-given}
-use Rattle.value_exists.proofs.Filling.{Gift, item_of, items_of, RestGiven, TextsGiven, complex-fills}
+use Rattle.value_exists.proofs.Filling.{item_of, RestGiven, TextsGiven, complex-fills}
 use Rattle.value_exists.proofs.Kids.{IsXml, only-utf8, between-xml, elements-alone, texts-given, AllExist, kids-given, kids-xml}
 
-nil-nillable : (nillable : Bool) (o : Option (List ℕ)) → nil_by nillable o ≡ is_nil → nillable ≡ true
+pub nil-nillable : (nillable : Bool) (o : Option (List ℕ)) → nil_by nillable o ≡ is_nil → nillable ≡ true
 nil-nillable true o e = refl
 nil-nillable false None e = absurd (cc)
 nil-nillable false (Some x) e = absurd (cc)
 
-kids-text : (words : List ℕ) → text_kids words ≡ text_before words rose.none
+pub kids-text : (words : List ℕ) → text_kids words ≡ text_before words rose.none
 kids-text [] = refl
 kids-text (b ∷ bs) = refl
 
@@ -73,7 +71,7 @@ read-text space ks vs sound words only h = by (reads space words) refl h
     by (Ok v) e k = record { text = words; encoded = only-utf8 ks sound words only; value = v; read = e; kids = k ∙ kids-text (spelled space v) }
 
 -- what is sound of an element
-attributes-sound : (name : Name) (xs : List (Name × List ℕ)) (declares : List (List ℕ × List ℕ)) (at : ℕ) (ks : Roses ItemLabel) → is_sound (node (Element name xs declares at) ks) ≡ true
+pub attributes-sound : (name : Name) (xs : List (Name × List ℕ)) (declares : List (List ℕ × List ℕ)) (at : ℕ) (ks : Roses ItemLabel) → is_sound (node (Element name xs declares at) ks) ≡ true
     → (are_sound_attributes xs ≡ true) × (are_sound ks ≡ true)
 attributes-sound name xs declares at ks e =
     let parts = both (is_sound_name name && are_sound_attributes xs && list_all is_sound_binding declares) (are_sound ks) e in

@@ -1,6 +1,6 @@
 -- What a simple type accepts of a text in UTF-8 is spelled in UTF-8.
-use Rattle.std.proofs.Common.{◌≡◌, ℕ, zero, suc, ◌<◌, ◌≤◌, ◌+◌, ◌^◌, Bool, true, false, ◌&&◌, List, [], ◌∷◌, ◌++◌, take, drop, length, get_or, refl, sym, ap, ◌∙◌, subst, arith, append_assoc, Option, Ok, Err, inl, inr}
-use Rattle.std.specs.Prelude.{nat_lt, ℤ, pos, negsuc, map, IsUtf8, filter, ◌==◌}
+use Rattle.std.proofs.Common.{◌≡◌, ℕ, suc, ◌<◌, ◌^◌, Bool, true, false, List, [], ◌∷◌, ◌++◌, take, drop, length, get_or, refl, sym, ap, ◌∙◌, subst, arith, append_assoc, Ok, inl, inr}
+use Rattle.std.specs.Prelude.{nat_lt, ℤ, pos, negsuc, map, IsUtf8}
 use Rattle.std.specs.List.{join_with_byte, list_all, All, slice_split, onto_first}
 use Rattle.std.specs.Str.{IsAscii, IsCharBoundary}
 use Rattle.std.specs.Fmt.{decimal, signed_decimal}
@@ -10,7 +10,7 @@ use Rattle.std.proofs.lemmas.List.{append-nil}
 use Rattle.std.proofs.lemmas.List.Elements.{All-nil, All-cons, All-head, All-tail, All-filter}
 use Rattle.std.proofs.lemmas.Str.{IsUtf8-nil, IsUtf8-append, IsUtf8-from_ascii, IsUtf8-take, IsUtf8-drop, IsCharBoundary-before_ascii, IsCharBoundary-after_ascii}
 use Rattle.std.proofs.lemmas.Str.Ascii.{IsAscii-nil, IsAscii-cons}
-use Rattle.label_tree.specs.Rose.{Rose, label_of, kids_of}
+use Rattle.label_tree.specs.Rose.{Rose, kids_of}
 use Rattle.label_tree.proofs.Roses.{kids_of-node}
 use Rattle.xa_base.specs.declared.white_space.WhiteSpace.{WhiteSpace}
 use Rattle.xa_base.specs.declared.white_space.WhiteSpace.TheVariants.{Preserve, Replace, Collapse}

@@ -1,6 +1,6 @@
 -- A valid element has a value whose items are its treated items: by induction over the levels of elements that are left.
-use Rattle.std.proofs.Common.{◌≡◌, ℕ, zero, suc, ◌+◌, ◌≤◌, ◌<◌, nat_lt, Bool, true, false, Option, Some, None, List, [], ◌∷◌, refl, sym, ap, subst, ◌∙◌, arith}
-use Rattle.std.specs.Prelude.{slice_get, IsSomeAnd, MatchBool, Ok, IsUtf8}
+use Rattle.std.proofs.Common.{◌≡◌, ℕ, zero, suc, ◌+◌, ◌≤◌, nat_lt, Bool, true, false, Option, Some, None, List, [], refl, sym, ap, subst, ◌∙◌, arith}
+use Rattle.std.specs.Prelude.{slice_get, IsSomeAnd, MatchBool}
 use Rattle.std.specs.Option.{option_map}
 use Rattle.xa_base.specs.declared.texts.Name.{Name}
 use Rattle.label_tree.specs.Rose.{Rose, node, Roses, label_of}
@@ -9,7 +9,7 @@ use Rattle.simple_types.specs.Space.{Booleans}
 use Rattle.simple_types.specs.declared.labels.ValueLabel.{ValueLabel}
 use Rattle.doc_text.specs.declared.label.ItemLabel.{ItemLabel}
 use Rattle.doc_text.specs.declared.label.ItemLabel.TheVariants.{Element, Text}
-use Rattle.doc_text.specs.Sound.{is_sound, levels, levels_all, AreItems}
+use Rattle.doc_text.specs.Sound.{is_sound, levels_all}
 use Rattle.plain_items.specs.Plain.{Plain}
 use Rattle.asn_types.specs.declared.modules.Assignment.{Assignment}
 use Rattle.asn_types.specs.declared.types.TypeLabel.{TypeLabel}
@@ -36,9 +36,8 @@ use Rattle.map_laws.specs.Statements.{IsTypeAt}
 use Rattle.map_laws.proofs.Leading.{types-lead}
 use Rattle.map_laws.proofs.Roots.{roots-lead}
 use Rattle.xer_items.specs.Items.{element_of, inside, root_of, Xer}
-use Rattle.validity.specs.Asked.{Asked, asked, space_at, asked_by, asked_by_type, asked_by_complex, asked_at, name_at}
-use Rattle.validity.specs.Asked as ask
-use Rattle.validity.specs.Valid.{ValidBy, HasName, Valid}
+use Rattle.validity.specs.Asked.{Asked, space_at, asked_by, asked_by_type, asked_by_complex, asked_at}
+use Rattle.validity.specs.Valid.{ValidBy}
 use Rattle.validity.proofs.Fair.{fair_at}
 use Rattle.one_value.specs.Statements.{root_at, ValuesOfItems}
 use Rattle.one_value.proofs.Declarations.{none-at, below-of}

@@ -1,5 +1,5 @@
 -- Values for texts, attributes and contents make a value of a complex type, nil or not, that has their items.
-use Rattle.std.proofs.Common.{◌≡◌, ℕ, suc, ◌+◌, ◌≤◌, ◌&&◌, ◌⊎◌, inl, inr, Bool, true, false, not, Option, Some, None, List, [], ◌∷◌, ◌++◌, length, map, append-nil, true≢false, refl, sym, ap, subst, ◌∙◌}
+use Rattle.std.proofs.Common.{◌≡◌, ℕ, ◌+◌, ◌≤◌, ◌&&◌, inl, inr, Bool, true, false, not, Some, None, List, [], ◌∷◌, ◌++◌, length, map, append-nil, true≢false, refl, sym, ap, subst, ◌∙◌}
 use Rattle.std.specs.Prelude.{All}
 use Rattle.std.proofs.lemmas.List.{length-map}
 use Rattle.xa_base.specs.declared.texts.Name.{Name}
@@ -13,7 +13,6 @@ use Rattle.content_models.specs.Seen.{seen}
 use Rattle.plain_items.specs.Plain.{Plain}
 use Rattle.plain_items.specs.Mixing.{text_before}
 use Rattle.asn_types.specs.declared.modules.Assignment.{Assignment}
-use Rattle.asn_types.specs.declared.roles.Role.TheVariants as role
 use Rattle.asn_types.specs.declared.types.Component.{Component}
 use Rattle.asn_types.specs.declared.types.Form.TheVariants as form
 use Rattle.asn_types.specs.declared.types.TypeLabel.{TypeLabel}
@@ -38,7 +37,7 @@ use Rattle.map_laws.proofs.Giving.{parts-fit-each, sequence-fits, sequence-gives
 use Rattle.map_laws.proofs.Nillables.{last_absent, last-at}
 use Rattle.xer_items.specs.Spelling.{spelling}
 use Rattle.xer_items.specs.Items.{Given, given, nothing, joined, both, with_nil, with_texts, texts_of, placed, inside}
-use Rattle.one_value.proofs.Groups.{tell, told, shown, gives_at, present_given, sequence-inside, inside-found, top-shows}
+use Rattle.one_value.proofs.Groups.{tell, told, present_given, sequence-inside, inside-found, top-shows}
 use Rattle.one_value.proofs.Attributes.{attribute-gives}
 use Rattle.one_value.proofs.Mixed.{text_in}
 use Rattle.one_value.proofs.Complexes.{not-textual, nil-mark, embed-mark}

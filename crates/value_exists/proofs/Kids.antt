@@ -1,5 +1,5 @@
 -- The treated kids of a valid element: texts in UTF-8, and child elements at the leaves of a list of the content model.
-use Rattle.std.proofs.Common.{◌≡◌, ℕ, zero, suc, ◌+◌, ◌≤◌, max, ◌&&◌, Bool, true, false, not, Option, Some, None, List, [], ◌∷◌, ◌++◌, length, map, inl, inr, refl, sym, ap, subst, ◌∙◌, arith}
+use Rattle.std.proofs.Common.{◌≡◌, ℕ, suc, ◌≤◌, ◌&&◌, Bool, true, false, not, Option, Some, None, List, [], ◌∷◌, ◌++◌, length, map, inl, inr, refl, sym, ap, subst, ◌∙◌, arith}
 use Rattle.std.specs.Prelude.{All, Ok, Err, IsUtf8, nat_le, if◌then◌else◌}
 use Rattle.std.specs.List.{list_all}
 use Rattle.std.specs.Str.{chars, is_utf8}
@@ -13,12 +13,11 @@ use Rattle.xa_base.specs.Limits.{is_empty, has_xml_chars}
 use Rattle.xa_base.specs.WhiteSpace.{treated, is_blank}
 use Rattle.label_tree.specs.Rose.{Rose, node, Roses, list_of, roses_of, label_of, kids_of, length_all}
 use Rattle.label_tree.specs.Rose as rose
-use Rattle.label_tree.proofs.Roses.{list_of-roses_of, length_all-roses_of}
 use Rattle.simple_types.specs.declared.simples.Class.TheVariants.{Any}
 use Rattle.simple_types.specs.declared.labels.ValueLabel.{ValueLabel}
 use Rattle.simple_types.specs.declared.labels.ValueLabel.TheVariants as value
 use Rattle.simple_types.specs.Space.{Characters}
-use Rattle.simple_values.specs.Lexical.{in_class, is_at_most}
+use Rattle.simple_values.specs.Lexical.{in_class}
 use Rattle.simple_values.specs.Reading.{Bad, Reading, has_characters, reads}
 use Rattle.content_models.specs.Language.{Leaf}
 use Rattle.doc_text.specs.declared.label.ItemLabel.{ItemLabel}
@@ -27,7 +26,6 @@ use Rattle.doc_text.specs.Sound.{is_text, begins_with_text, is_sound_label, is_s
 use Rattle.plain_items.specs.Plain.{Plain, element, text}
 use Rattle.plain_items.specs.Mixing.{child_elements, behind_first, texts_between, AllElements}
 use Rattle.asn_types.specs.declared.modules.Assignment.{Assignment}
-use Rattle.asn_types.specs.declared.types.Component.{Component}
 use Rattle.asn_types.specs.declared.types.Form.TheVariants as form
 use Rattle.asn_types.specs.declared.types.TypeLabel.{TypeLabel}
 use Rattle.asn_types.specs.Values.{below, FitsAt}
@@ -41,7 +39,7 @@ use Rattle.validity.specs.Asked.{Asked}
 use Rattle.validity.specs.Valid.{put_before, only_text, Between, ValidBy, KidsValid}
 use Rattle.one_value.proofs.Mixed.{text_in}
 use Rattle.value_exists.proofs.Accepted.{accepted-fits}
-use Rattle.value_exists.proofs.Filling.{Gift, leaf_of, item_of, items_of, IsMade, AreMade}
+use Rattle.value_exists.proofs.Filling.{Gift, leaf_of, items_of, IsMade, AreMade}
 
 -- ---- what is sound of the first of some items
 
@@ -111,12 +109,15 @@ elements-alone (rose.more (node (text words) ks) us) h = absurd h.0
 zero-below : (n : ℕ) → nat_le 0 n ≡ true
 zero-below n = elim (leb_tells 0 n) [ inl x ↦ x.0 | inr x ↦ absurd (omega (arith, x.1)) ]
 
+abbrev pub text_value : List ℕ → Rose ValueLabel
+text_value words = node (value.Utf8 words) rose.none
+
+abbrev pub texts_value : List (List ℕ) → Rose ValueLabel
+texts_value texts = node value.SequenceOf (roses_of (map text_value texts))
+
 module _ (M : List Assignment) (depth : ℕ) (small : depth ≤ 64) where
   abbrev text_type : Rose TypeLabel
   text_type = node (type_label (form.Utf8 0 None Any) []) rose.none
-
-  abbrev text_value : List ℕ → Rose ValueLabel
-  text_value words = node (value.Utf8 words) rose.none
 
   abbrev answer : List ℕ → Bool → Reading
   answer words b = if b then Ok (text_value words) else Err Bad
@@ -136,9 +137,6 @@ module _ (M : List Assignment) (depth : ℕ) (small : depth ≤ 64) where
   text-fits : (words : List ℕ) → IsXml words → FitsAt M depth text_type (text_value words)
   text-fits words e = accepted-fits M depth small (Characters Preserve 0 None Any) tt words (text_value words) (xml-utf8 words e) (text-read words e) text_type refl
 
-  abbrev texts_value : List (List ℕ) → Rose ValueLabel
-  texts_value texts = node value.SequenceOf (roses_of (map text_value texts))
-
   texts-fit : (u : Rose TypeLabel) (are : AreTexts u) (texts : List (List ℕ)) → All IsXml texts
       → ItemsFit M depth (type_label (form.SequenceOf are.item 0 None) []) are.item text_type (roses_of (map text_value texts))
   texts-fit u are [] h = tt
@@ -149,14 +147,16 @@ module _ (M : List Assignment) (depth : ℕ) (small : depth ≤ 64) where
   texts-in [] = refl
   texts-in (words ∷ texts) = ap (λ z. words ∷ z) (texts-in texts)
 
-  -- so many texts have a value of each type of texts
-  pub texts-given : (texts : List (List ℕ)) → All IsXml texts → (v : Rose ValueLabel) × ((u : Rose TypeLabel) → AreTexts u → FitsAt M depth u v) × (map text_in (kids_of v) ≡ texts)
-  texts-given texts h = (
-    texts_value texts,
+  pub texts-fitting : (texts : List (List ℕ)) → All IsXml texts → ((u : Rose TypeLabel) → AreTexts u → FitsAt M depth u (texts_value texts)) × (map text_in (kids_of (texts_value texts)) ≡ texts)
+  texts-fitting texts h = (
     λ u are. subst (λ x. FitsAt M depth x (texts_value texts)) (sym are.type)
         (list-fits M depth small are.item text_type 0 None (roses_of (map text_value texts)) (zero-below (length_all (roses_of (map text_value texts)))) refl (texts-fit u are texts h)),
     texts-in texts,
   )
+
+  -- so many texts have a value of each type of texts
+  pub texts-given : (texts : List (List ℕ)) → All IsXml texts → (v : Rose ValueLabel) × ((u : Rose TypeLabel) → AreTexts u → FitsAt M depth u v) × (map text_in (kids_of v) ≡ texts)
+  texts-given texts h = let fits = texts-fitting texts h in (texts_value texts, fits.0, fits.1)
 
 -- ---- kids
 

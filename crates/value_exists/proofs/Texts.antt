@@ -1,5 +1,5 @@
 -- Values of the simple types of a linked set: what is accepted of a text has the treated text as its items.
-use Rattle.std.proofs.Common.{◌≡◌, ℕ, zero, suc, ◌≤◌, ◌⊎◌, inl, inr, Bool, true, false, ◌&&◌, not, Option, Some, None, List, [], ◌∷◌, ◌++◌, map, refl, sym, ap, subst, ◌∙◌}
+use Rattle.std.proofs.Common.{◌≡◌, ℕ, ◌≤◌, ◌⊎◌, inl, inr, Bool, true, false, ◌&&◌, not, Option, Some, None, List, [], ◌∷◌, map, refl, sym, ap, subst, ◌∙◌}
 use Rattle.std.specs.Prelude.{All, Ok, IsUtf8, slice_get, IsSomeAnd}
 use Rattle.std.specs.List.{list_all}
 use Rattle.std.specs.Str.{chars, is_utf8}
@@ -40,14 +40,14 @@ use Rattle.xer_items.specs.Spelling.{spelling}
 use Rattle.xer_items.specs.Items.{given, inside}
 use Rattle.xer_items.proofs.Texts.{texts_of_values}
 use Rattle.validity.specs.Asked.{Attribute, space_at, attribute_in}
-use Rattle.validity.specs.Attributes.{text_of, left, is_special, declared, IsRight, Stands, AllRight, spelled_read, put_attribute, treated_text, treated_attributes}
+use Rattle.validity.specs.Attributes.{text_of, left, is_special, declared, Stands, AllRight, spelled_read, put_attribute, treated_text, treated_attributes}
 use Rattle.validity.proofs.Treated.{text_right}
 use Rattle.one_value.proofs.Simples.{found-in}
 use Rattle.value_exists.proofs.Accepted.{accepted-fits}
 
 -- ---- texts of attributes are UTF-8
 
-abbrev IsEncoded : Name × List ℕ → Type 0
+abbrev pub IsEncoded : Name × List ℕ → Type 0
 IsEncoded x = IsUtf8 x.1
 
 attribute-encoded : (x : Name × List ℕ) → is_sound_attribute x ≡ true → IsEncoded x
@@ -64,7 +64,7 @@ attributes-encoded (x ∷ xs) e =
 pub left-encoded : (xs : List (Name × List ℕ)) → are_sound_attributes xs ≡ true → All IsEncoded (left xs)
 left-encoded xs e = All-filter (λ x. not (is_special x.0)) IsEncoded xs (attributes-encoded xs e)
 
-text-encoded : (xs : List (Name × List ℕ)) (n : Name) (text : List ℕ) → All IsEncoded xs → text_of xs n ≡ Some text → IsUtf8 text
+pub text-encoded : (xs : List (Name × List ℕ)) (n : Name) (text : List ℕ) → All IsEncoded xs → text_of xs n ≡ Some text → IsUtf8 text
 text-encoded [] n text h e = absurd (cc)
 text-encoded (x ∷ xs) n text h e = by (name_eq x.0 n) refl (λ q. text-encoded xs n text (All-tail IsEncoded x xs h) q)
   where
@@ -115,7 +115,7 @@ module _ (s : Set) (linked : IsLinked s) (M : List Assignment) (depth : ℕ) (sm
   abbrev Declared : List Attribute → Attribute → Type 0
   Declared wanted a = declared wanted a.name ≡ Some a
 
-  never-true : (b : Bool) → (b ≡ true → ⊥) → b ≡ false
+  pub never-true : (b : Bool) → (b ≡ true → ⊥) → b ≡ false
   never-true true f = absurd (f refl)
   never-true false f = refl
 

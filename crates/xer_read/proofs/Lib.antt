@@ -2,3 +2,9 @@ pub mod Growing
 pub mod Refusing
 pub mod Making
 pub mod Parting
+pub mod Reaching
+pub mod Adding
+pub mod Giving
+pub mod Allowing
+pub mod Whole
+pub mod Valuing

@@ -1,5 +1,5 @@
 -- What is made of child elements at their places fits the types of a content model, and has these child elements.
-use Rattle.std.proofs.Common.{◌≡◌, ℕ, zero, suc, ◌+◌, ◌≤◌, ◌||◌, ◌&&◌, nat_le, Bool, true, false, not, Option, Some, None, List, [], ◌∷◌, ◌++◌, map, All, true≢false, refl, sym, ap, subst, ◌∙◌, arith}
+use Rattle.std.proofs.Common.{◌≡◌, ℕ, zero, suc, ◌+◌, ◌≤◌, ◌||◌, ◌&&◌, nat_le, Bool, true, false, not, Option, Some, List, [], ◌∷◌, ◌++◌, map, All, refl, sym, ap, subst, ◌∙◌, arith}
 use Rattle.std.specs.Prelude.{slice_get}
 use Rattle.std.proofs.lemmas.List.{append-nil, map-append}
 use Rattle.std.proofs.lemmas.List.Elements.{All-head, All-tail, All-cons}
@@ -23,7 +23,7 @@ use Rattle.schema_parts.specs.Linked.{leaves, leaves_of_term, all_leaves}
 use Rattle.map_assignments.specs.Naming.{type_label}
 use Rattle.map_assignments.specs.Planning.{is_once, is_optional}
 use Rattle.map_laws.specs.Children.{Child, child_of, given_by, children}
-use Rattle.map_laws.specs.Standing.{IsOnly, IsAs, StandsFor, IsPart, once, at_most_once, several, HasTerm, ArePartsOf, is_parted, IsTop, parted, whole}
+use Rattle.map_laws.specs.Standing.{IsAs, StandsFor, IsPart, once, at_most_once, several, HasTerm, ArePartsOf, IsTop, parted, whole}
 use Rattle.map_laws.proofs.Values.{gives, present_children, FitsPart, PartsFit, sequence-value, choice-value, ItemsFit, item_children, list-value}
 use Rattle.map_laws.proofs.Giving.{sequence-fits, sequence-gives, choice-fits, list-fits}
 use Rattle.map_laws.proofs.Following.{only-part}

@@ -1,10 +1,9 @@
 -- Parts that are given one by one make a value of a complex type, nil or not, that has their items.
-use Rattle.std.proofs.Common.{◌≡◌, ℕ, suc, ◌+◌, ◌≤◌, ◌&&◌, Bool, true, false, not, Option, Some, None, List, [], ◌∷◌, ◌++◌, length, map, append-nil, true≢false, refl, sym, ap, subst, ◌∙◌}
+use Rattle.std.proofs.Common.{◌≡◌, ℕ, ◌+◌, ◌≤◌, ◌&&◌, Bool, true, false, not, Some, None, List, [], ◌∷◌, ◌++◌, length, map, append-nil, true≢false, refl, sym, ap, subst, ◌∙◌}
 use Rattle.std.proofs.lemmas.List.{length-map}
 use Rattle.xa_base.specs.declared.texts.Name.{Name}
 use Rattle.label_tree.specs.Rose.{Rose, node, Roses, list_of, roses_of, label_of, kids_of, length_all}
 use Rattle.label_tree.specs.Rose as rose
-use Rattle.label_tree.proofs.Roses.{list_of-roses_of}
 use Rattle.simple_types.specs.declared.labels.ValueLabel.{ValueLabel}
 use Rattle.simple_types.specs.declared.labels.ValueLabel.TheVariants as value
 use Rattle.content_models.specs.declared.particles.ParticleLabel.{ParticleLabel}
@@ -12,13 +11,12 @@ use Rattle.content_models.specs.Seen.{seen}
 use Rattle.plain_items.specs.Plain.{Plain}
 use Rattle.plain_items.specs.Mixing.{text_before}
 use Rattle.asn_types.specs.declared.modules.Assignment.{Assignment}
-use Rattle.asn_types.specs.declared.roles.Role.TheVariants as role
 use Rattle.asn_types.specs.declared.types.Component.{Component}
 use Rattle.asn_types.specs.declared.types.Form.TheVariants as form
 use Rattle.asn_types.specs.declared.types.TypeLabel.{TypeLabel}
 use Rattle.asn_types.specs.Marks.{has_embed_values}
 use Rattle.asn_types.specs.Refs.{resolve}
-use Rattle.asn_types.specs.Values.{places, below, child_count, first_count, text_count, is_last_absent, FitsAt, FitEach, OwnAt}
+use Rattle.asn_types.specs.Values.{places, below, child_count, first_count, text_count, is_last_absent, FitsAt, FitEach}
 use Rattle.schema_parts.specs.declared.components.AttributeUse.{AttributeUse}
 use Rattle.schema_parts.specs.declared.components.ComplexDef.{ComplexDef}
 use Rattle.schema_parts.specs.declared.components.Content.{Content}
@@ -35,8 +33,8 @@ use Rattle.map_laws.proofs.Complexes.{fits-found}
 use Rattle.map_laws.proofs.Counts.{count-at}
 use Rattle.map_laws.proofs.Giving.{parts-fit-each, sequence-fits, sequence-gives}
 use Rattle.xer_items.specs.Spelling.{spelling}
-use Rattle.xer_items.specs.Items.{Given, given, nothing, both, with_nil, with_texts, texts_of, placed, inside}
-use Rattle.one_value.proofs.Groups.{tell, told, shown, present_given, sequence-inside, inside-found, top-shows}
+use Rattle.xer_items.specs.Items.{given, nothing, both, with_nil, with_texts, texts_of, placed, inside}
+use Rattle.one_value.proofs.Groups.{tell, present_given, sequence-inside, inside-found, top-shows}
 use Rattle.one_value.proofs.Attributes.{attribute-gives}
 use Rattle.one_value.proofs.Mixed.{text_in}
 use Rattle.one_value.proofs.Complexes.{not-textual, nil-mark, embed-mark}

@@ -1,16 +1,27 @@
 -- What an answer says.
-use Rattle.std.specs.Prelude.{ℕ, ◌<◌}
-use Rattle.label_tree.specs.Rose.{Rose}
+use Rattle.std.specs.Prelude.{◌≡◌, ℕ, ◌<◌, List, Some}
+use Rattle.label_tree.specs.Rose.{Rose, node_count, shown_count}
+use Rattle.simple_types.specs.declared.labels.ValueLabel.{ValueLabel}
 use Rattle.doc_text.specs.declared.label.ItemLabel.{ItemLabel}
+use Rattle.plain_items.specs.Plain.{Plain}
 use Rattle.schema_parts.specs.Components.{Set}
-use Rattle.validity_check.specs.Answers.{IsValid}
+use Rattle.schema_parts.specs.SetParts.{parts_of}
+use Rattle.asn_types.specs.declared.modules.Assignment.{Assignment}
+use Rattle.asn_types.specs.Values.{Fits}
+use Rattle.xer_items.specs.Items.{Xer}
+use Rattle.validity.specs.Valid.{Valid}
 use Rattle.validity.specs.declared.why.InvalidWhy.{InvalidWhy}
 use Rattle.xer_read.specs.declared.error.ReadError.{ReadError}
 use Rattle.xer_read.specs.declared.error.ReadError.TheVariants.{Invalid, TooManyNodes, Memory}
 
--- the document is valid, and so many nodes are more than a value may have
-abbrev pub IsTooLarge : Set → ℕ → Rose ItemLabel → ℕ → Type 0
-IsTooLarge s d items count = IsValid s d items × (1048576 < count)
+-- The document is valid, and the value is one of the type of the assignment with the number t whose items are the treated
+-- items of the document.
+abbrev pub IsValueOf : Set → ℕ → Rose ItemLabel → List Assignment → ℕ → Rose ValueLabel → Type 0
+IsValueOf s d items M t v = (b : Rose Plain) × Valid (parts_of s) d items b × Fits M t v × (Xer M t v ≡ Some b)
+
+-- such a value has more nodes than a value may have, and this is their number as it is shown
+abbrev pub IsTooLarge : Set → ℕ → Rose ItemLabel → List Assignment → ℕ → ℕ → Type 0
+IsTooLarge s d items M t count = (v : Rose ValueLabel) × IsValueOf s d items M t v × (1048576 < node_count v) × (count ≡ shown_count v)
 
 -- the fault is one of these; or the value has so many nodes that it is too large; or memory is missing
 abbrev pub ReadTells : (ℕ → InvalidWhy → Type 0) → (ℕ → Type 0) → ReadError → Type 0

@@ -1,6 +1,11 @@
 //! The parts that stand for attributes.
-ghost use Rattle.std.specs.Prelude.{◌<◌, length, All};
+ghost use Rattle.std.specs.Prelude.{◌≡◌, ◌∷◌, [], true, ◌<◌, length, map, All, OnOk};
+ghost use Rattle.schema_parts.specs.Declarable.{is_declarable_attribute};
 ghost use Rattle.schema_parts.specs.Linked.{IsUse, IsLinked};
+ghost use Rattle.schema_parts.specs.SetParts.{parts_of};
+ghost use Rattle.validity.specs.Asked.{attribute_in};
+ghost use Rattle.validity.specs.Attributes.{left};
+ghost use Rattle.xer_read.specs.Private.Contents.{Adds, AttributesMade};
 
 use crate::parts::Parts;
 use attribute_faults::text_of;
@@ -18,13 +23,14 @@ fn add_attribute(
     parts: &mut Parts,
 ) -> Result<(), Memory>
     requires linked { IsLinked set.now }
-    requires simple { declared.now.simple < length set.now.simples }
+    requires declared { IsUse set.now declared.now }
+    ensures { OnOk result (Adds (AttributesMade (attribute_in (parts_of set.now) declared.now ∷ []) (left attributes.now)) parts.old parts.new) }
 {
     match text_of(attributes, &declared.name) {
         None => parts.leave_out(),
         Some(text) => match accept(alloc, &set.simple(declared.simple).space, text) {
             Ok(value) => parts.add(value),
-            // The attributes are right, so memory is missing.
+            // Open: the attributes are right, so memory is missing.
             Err(_) => Err(Memory),
         },
     }
@@ -40,8 +46,9 @@ pub(crate) fn add_attributes(
 ) -> Result<(), Memory>
     requires linked { IsLinked set.now }
     requires uses { All (IsUse set.now) uses.now }
+    ensures { OnOk result (Adds (AttributesMade (map (attribute_in (parts_of set.now)) uses.now) (left attributes.now)) parts.old parts.new) }
 {
-    'uses: for declared in uses {
+    for declared in uses {
         add_attribute(alloc, set, declared, attributes, parts)?;
     }
     Ok(())

@@ -1,32 +1,31 @@
 //! Elements and their kids, one by one.
-ghost use Rattle.std.specs.Prelude.{◌≡◌, ◌⊎◌, ℕ, ◌+◌, ◌-◌, ◌*◌, ◌^◌, ◌<◌, ◌≤◌, true, false, List, [], length, slice_index_or, All, MatchResult};
+ghost use Rattle.std.specs.Prelude.{◌≡◌, ℕ, ◌+◌, ◌-◌, ◌*◌, ◌^◌, ◌<◌, ◌≤◌, true, false, List, [], length, slice_index_or, All, MatchResult};
 ghost use Rattle.label_tree.specs.Rose.{Rose, label_of, roses_of, none, node_count, count_all};
 ghost use Rattle.xa_base.specs.WhiteSpace.{is_blank};
 ghost use Rattle.doc_text.specs.declared.label.ItemLabel.{ItemLabel};
 ghost use Rattle.doc_text.specs.Sound.{is_text, is_sound, are_sound};
 ghost use Rattle.content_models.specs.Particle.{Particle};
 ghost use Rattle.content_models.specs.Language.{Leaf, names, Lang};
-ghost use Rattle.content_spots.specs.Laws.{IsNamed};
+ghost use Rattle.content_spots.specs.Laws as spots;
 ghost use Rattle.content_match.specs.Taking.{levels, Took};
-ghost use Rattle.schema_parts.specs.Linked.{IsUse, IsLinked};
+ghost use Rattle.schema_parts.specs.Linked.{leaves, IsNamed, IsUse, IsLinked};
 ghost use Rattle.schema_parts.specs.SetParts.{parts_of};
 ghost use Rattle.validity.specs.Asked.{asked_at};
 ghost use Rattle.validity.specs.Faults.{At, FirstKid, FaultBy};
-ghost use Rattle.validity_check.specs.Answers.{Tells, IsSpelled, TextFault, KidsFault, AreValidKids, IsValidInside, InsideFault, IsValidBy};
+ghost use Rattle.validity_check.specs.Answers.{Tells, TextFault, KidsFault, InsideFault};
 ghost use Rattle.validity_check.specs.Counts.{element_count, elements_in};
-ghost use Rattle.validity_check.specs.Told.{inside_told, IsFittingInside, AreNamed};
-ghost use Rattle.validity_check.specs.Walked.{Walked};
+ghost use Rattle.validity_check.specs.Told.{inside_told, told, IsFittingInside};
+ghost use Rattle.xer_read.specs.Private.Given.{IsRead};
+ghost use Rattle.xer_read.specs.Private.Keeping.{TextRead, Reached, KidsRead};
+ghost use Rattle.xer_read.specs.Private.Contents.{IsRightContent, IsFilled, IsNilFilled};
 
-use crate::attributes::add_attributes;
-use crate::children::Children;
-use crate::contents::{Content, Kids};
-use crate::filling::fill_top;
-use crate::parts::Parts;
+use crate::contents::{Content, Kids, Rest};
 use crate::texts::read_text;
+use crate::values::make_value;
 use content_match::{Matcher, Plan};
 use doc_text::ItemLabel;
 use label_tree::Tree;
-use schema_parts::{SchemaSet, TypeOf};
+use schema_parts::SchemaSet;
 use simple_types::ValueLabel;
 use std::alloc::Global;
 use std::sync::ledger::Ledger;
@@ -34,7 +33,7 @@ use validity::InvalidWhy;
 use validity_check::{
     CheckError, Declared, Inside, Plans, check_empty, check_no_content, check_tag, declared_of,
 };
-use xa_base::{Memory, Name, Steps, Text, is_blank};
+use xa_base::{Name, Steps, Text, is_blank};
 
 // A text at this place stands among child elements: it is kept in mixed content, and is white space elsewhere.
 fn read_between(
@@ -45,7 +44,7 @@ fn read_between(
     read: &mut Kids,
 ) -> Result<(), CheckError>
     ensures { MatchResult result
-        (λ _. (mixed ≡ true) ⊎ (is_blank text.now ≡ true))
+        (λ _. TextRead mixed text.now read.old read.new)
         (Tells (At at InvalidWhy.TextNotAllowed ((mixed ≡ false) × (is_blank text.now ≡ false)))) }
 {
     if mixed {
@@ -75,16 +74,16 @@ fn read_kid<L: Ledger>(
 ) -> Result<(), CheckError>
     requires linked { IsLinked set.now }
     requires plans { plans.old ≡ set.now }
-    requires named { AreNamed set.now matcher.old.particle }
+    requires named { All (IsNamed set.now) (leaves matcher.old.particle) }
     requires levels { levels matcher.old.particle ≤ 17 }
     requires taken { matcher.old.taken < 2 ^ 32 - 1 }
     requires took { (us : List Leaf) × Took matcher.old us }
     requires sound { is_sound kid.now ≡ true }
     requires few { node_count kid.now < 2 ^ 31 }
     ensures same { plans.new ≡ set.now }
-    ensures judged { (p : Particle) (kids : List (Rose ItemLabel)) (place i : ℕ) → i < length kids → kid.now ≡ slice_index_or kids i kid.now → Walked set.now mixed p kids i matcher.old
+    ensures judged { (p : Particle) (kids : List (Rose ItemLabel)) (place i : ℕ) → i < length kids → kid.now ≡ slice_index_or kids i kid.now → Reached set.now mixed p kids i matcher.old read.old
         → MatchResult result
-        (λ _. Walked set.now mixed p kids (i + 1) matcher.new)
+        (λ _. Reached set.now mixed p kids (i + 1) matcher.new read.new)
         (Tells (KidsFault (asked_at (parts_of set.now)) mixed p (roses_of kids) place)) }
     ensures most { steps.new ≤ steps.old + 144 * element_count kid.now }
 {
@@ -118,8 +117,8 @@ fn finish<L: Ledger>(
     ensures ticks { steps.new ≤ steps.old + (4 * levels matcher.now.particle + 4) }
     ensures finished { (us : List Leaf) → Took matcher.now us
         → MatchResult result
-        (λ _. Lang matcher.now.particle 0 [] us)
-        (Tells (At at InvalidWhy.MissingElement (IsNamed matcher.now.particle (names us) → ⊥))) }
+        (λ kept. Lang matcher.now.particle 0 [] us × (kept ≡ read))
+        (Tells (At at InvalidWhy.MissingElement (spots.IsNamed matcher.now.particle (names us) → ⊥))) }
 {
     match matcher.finish(steps) {
         Ok(()) => Ok(read),
@@ -143,13 +142,13 @@ fn read_kids<L: Ledger>(
 ) -> Result<Kids, CheckError>
     requires linked { IsLinked set.now }
     requires plans { plans.old ≡ set.now }
-    requires named { AreNamed set.now plan.now }
+    requires named { All (IsNamed set.now) (leaves plan.now) }
     requires levels { levels plan.now ≤ 17 }
     requires sound { are_sound (roses_of kids.now) ≡ true }
     requires few { count_all (roses_of kids.now) < 2 ^ 31 }
     ensures same { plans.new ≡ set.now }
     ensures judged { MatchResult result
-        (λ _. AreValidKids (asked_at (parts_of set.now)) mixed plan.now (roses_of kids.now))
+        (KidsRead set.now mixed plan.now (roses_of kids.now))
         (Tells (KidsFault (asked_at (parts_of set.now)) mixed plan.now (roses_of kids.now) at)) }
     ensures most { steps.new ≤ steps.old + (144 * elements_in (roses_of kids.now) + 72) }
 {
@@ -163,14 +162,14 @@ fn read_kids<L: Ledger>(
 
 // The kids are what may stand in an element at this place.
 #[cycle(reading)]
-fn read_inside<L: Ledger>(
+fn read_inside<'a, L: Ledger>(
     set: &SchemaSet,
     plans: &mut Plans,
-    inside: Inside,
+    inside: Inside<'a>,
     at: u64,
     kids: &[Tree<ItemLabel>],
     steps: &mut Steps<L>,
-) -> Result<Content, CheckError>
+) -> Result<Content<'a>, CheckError>
     requires linked { IsLinked set.now }
     requires plans { plans.old ≡ set.now }
     requires inside { IsFittingInside set.now inside }
@@ -178,17 +177,17 @@ fn read_inside<L: Ledger>(
     requires few { count_all (roses_of kids.now) < 2 ^ 31 }
     ensures same { plans.new ≡ set.now }
     ensures judged { MatchResult result
-        (λ _. IsValidInside (asked_at (parts_of set.now)) (inside_told inside.entry) (roses_of kids.now))
+        (IsRightContent set.now (inside_told inside.entry) (roses_of kids.now))
         (Tells (InsideFault (asked_at (parts_of set.now)) (inside_told inside.entry) (roses_of kids.now) at)) }
     ensures most { steps.new ≤ steps.old + (144 * elements_in (roses_of kids.now) + 72) }
 {
     match inside {
         Inside::Nothing => match check_no_content(kids) {
-            Ok(()) => Ok(Content::Nothing),
+            Ok(()) => Ok(Content::without_texts(plans.alloc(), Rest::Nothing)),
             Err(error) => Err(error),
         },
         Inside::Simple(simple) => match read_text(plans.alloc(), simple, at, kids) {
-            Ok(value) => Ok(Content::Text(value)),
+            Ok(value) => Ok(Content::without_texts(plans.alloc(), Rest::Text(value))),
             Err(error) => Err(error),
         },
         Inside::Children {
@@ -198,124 +197,13 @@ fn read_inside<L: Ledger>(
         } => {
             let plan = plans.plan(complex, model)?;
             match read_kids(set, plans, plan.as_ref(), mixed, at, kids, steps) {
-                Ok(read) => Ok(Content::Kids(read)),
+                Ok(read) => {
+                    let content = read.into_content(plans.alloc(), mixed, model)?;
+                    Ok(content)
+                }
                 Err(error) => Err(error),
             }
         }
-    }
-}
-
-// Whether the element has a simple type and can't be nil, so that its value is that of its text.
-fn is_plain(set: &SchemaSet, decl: u32) -> bool
-    requires { decl < length set.now.elements }
-{
-    let element = set.element(decl);
-    match element.kind {
-        TypeOf::Simple(_) => !element.nillable,
-        TypeOf::Complex(_) => false,
-    }
-}
-
-// The part with the texts of mixed content.
-fn add_texts(inside: Inside, texts: Tree<ValueLabel>, parts: &mut Parts) -> Result<(), Memory> {
-    match inside {
-        Inside::Children { mixed: true, .. } => parts.add(texts),
-        _ => Ok(()),
-    }
-}
-
-// The value of an element that is nil: its attributes alone.
-fn make_nil(
-    alloc: Global,
-    set: &SchemaSet,
-    declared: Declared,
-    attributes: &[(Name, Text)],
-) -> Result<Tree<ValueLabel>, Memory>
-    requires linked { IsLinked set.now }
-    requires uses { All (IsUse set.now) declared.uses.now }
-{
-    let mut parts = Parts::new(alloc);
-    let none = Tree::leaf(alloc, ValueLabel::SequenceOf);
-    add_texts(declared.inside, none, &mut parts)?;
-    add_attributes(alloc, set, declared.uses, attributes, &mut parts)?;
-    parts.leave_out()?;
-    Ok(parts.into_value())
-}
-
-// The parts of a content whose texts are added already.
-fn add_content(
-    alloc: Global,
-    declared: Declared,
-    children: Children,
-    parts: &mut Parts,
-) -> Result<(), Memory> {
-    match declared.inside {
-        Inside::Children { model, .. } => {
-            if declared.nillable {
-                let mut inner = Parts::new(alloc);
-                fill_top(alloc, model, children, &mut inner)?;
-                parts.add(inner.into_value())
-            } else {
-                fill_top(alloc, model, children, parts)
-            }
-        }
-        _ => Err(Memory),
-    }
-}
-
-// The value of an element whose type is complex, or which may be nil and isn't.
-fn make_complex(
-    alloc: Global,
-    set: &SchemaSet,
-    declared: Declared,
-    attributes: &[(Name, Text)],
-    content: Content,
-) -> Result<Tree<ValueLabel>, Memory>
-    requires linked { IsLinked set.now }
-    requires uses { All (IsUse set.now) declared.uses.now }
-{
-    let mut parts = Parts::new(alloc);
-    match content {
-        Content::Nothing => {
-            add_attributes(alloc, set, declared.uses, attributes, &mut parts)?;
-            if declared.nillable {
-                parts.add(Parts::new(alloc).into_value())?;
-            }
-        }
-        Content::Text(value) => {
-            add_attributes(alloc, set, declared.uses, attributes, &mut parts)?;
-            parts.add(value)?;
-        }
-        Content::Kids(kids) => {
-            let (texts, children) = kids.into_parts(alloc)?;
-            add_texts(declared.inside, texts, &mut parts)?;
-            add_attributes(alloc, set, declared.uses, attributes, &mut parts)?;
-            add_content(alloc, declared, children, &mut parts)?;
-        }
-    }
-    Ok(parts.into_value())
-}
-
-// The value of an element that isn't nil.
-fn make_value(
-    alloc: Global,
-    set: &SchemaSet,
-    decl: u32,
-    declared: Declared,
-    attributes: &[(Name, Text)],
-    content: Content,
-) -> Result<Tree<ValueLabel>, Memory>
-    requires linked { IsLinked set.now }
-    requires uses { All (IsUse set.now) declared.uses.now }
-    requires decl { decl < length set.now.elements }
-{
-    if is_plain(set, decl) {
-        match content {
-            Content::Text(value) => Ok(value),
-            _ => Err(Memory),
-        }
-    } else {
-        make_complex(alloc, set, declared, attributes, content)
     }
 }
 
@@ -340,7 +228,7 @@ fn read_filled<L: Ledger>(
     requires few { count_all (roses_of kids.now) < 2 ^ 31 }
     ensures same { plans.new ≡ set.now }
     ensures judged { MatchResult result
-        (λ _. IsValidInside (asked_at (parts_of set.now)) (inside_told declared.entry.inside) (roses_of kids.now))
+        (IsFilled set.now decl (told (parts_of set.now) declared.entry) attributes.now (roses_of kids.now))
         (Tells (InsideFault (asked_at (parts_of set.now)) (inside_told declared.entry.inside) (roses_of kids.now) at)) }
     ensures most { steps.new ≤ steps.old + (144 * elements_in (roses_of kids.now) + 72) }
 {
@@ -358,20 +246,23 @@ fn read_filled<L: Ledger>(
 fn read_nil(
     alloc: Global,
     set: &SchemaSet,
+    decl: u32,
     declared: Declared,
     attributes: &[(Name, Text)],
     kids: &[Tree<ItemLabel>],
 ) -> Result<Tree<ValueLabel>, CheckError>
     requires linked { IsLinked set.now }
     requires uses { All (IsUse set.now) declared.uses.now }
+    requires decl { decl < length set.now.elements }
     ensures { MatchResult result
-        (λ _. roses_of kids.now ≡ none)
+        (λ value. (roses_of kids.now ≡ none) × IsNilFilled set.now decl (told (parts_of set.now) declared.entry) attributes.now value)
         (Tells (FirstKid (roses_of kids.now) (λ _. InvalidWhy.NilWithContent))) }
 {
     match check_empty(kids) {
         Err(error) => Err(error),
         Ok(()) => {
-            let value = make_nil(alloc, set, declared, attributes)?;
+            let content = Content::without_texts(alloc, Rest::Nil);
+            let value = make_value(alloc, set, decl, declared, attributes, content)?;
             Ok(value)
         }
     }
@@ -394,7 +285,7 @@ pub(crate) fn read_element<L: Ledger>(
     requires few { node_count item.now < 2 ^ 31 }
     ensures same { plans.new ≡ set.now }
     ensures judged { MatchResult result
-        (λ _. IsValidBy set.now decl item.now)
+        (IsRead set.now decl item.now)
         (Tells (FaultBy (asked_at (parts_of set.now)) decl item.now)) }
     ensures most { steps.new + 72 ≤ steps.old + 144 * element_count item.now }
 {
@@ -408,7 +299,7 @@ pub(crate) fn read_element<L: Ledger>(
                 Err(error) => Err(error),
                 Ok(nil) => {
                     if nil {
-                        read_nil(plans.alloc(), set, declared, items, kids)
+                        read_nil(plans.alloc(), set, decl, declared, items, kids)
                     } else {
                         read_filled(set, plans, decl, declared, items, *at, kids, steps)
                     }

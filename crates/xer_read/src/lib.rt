@@ -15,6 +15,7 @@ mod filling;
 mod parts;
 mod reading;
 mod texts;
+mod values;
 
 pub use error::ReadError;
 pub use reading::read_value;

@@ -1,17 +1,22 @@
 //! The value of a document.
-ghost use Rattle.std.specs.Prelude.{◌≡◌, ◌+◌, ◌*◌, ◌<◌, ◌≤◌, Some, length, MatchResult};
+ghost use Rattle.std.specs.Prelude.{◌≡◌, ◌+◌, ◌*◌, ◌<◌, ◌≤◌, List, Some, MatchResult};
+ghost use Rattle.label_tree.specs.Rose.{node_count, shown_count, Allowed};
+ghost use Rattle.simple_types.specs.Labels.{MayHave};
+ghost use Rattle.schema_parts.specs.Linked.{IsLinked};
 ghost use Rattle.schema_parts.specs.SetParts.{parts_of};
-ghost use Rattle.asn_types.specs.Values.{In};
+ghost use Rattle.asn_types.specs.declared.modules.Assignment.{Assignment};
+ghost use Rattle.map_assignments.specs.Mapped.{IsMapOf};
+ghost use Rattle.one_value.specs.Statements.{root_at};
 ghost use Rattle.validity.specs.Valid.{HasName};
 ghost use Rattle.doc_text.specs.Labels.{item_place};
 ghost use Rattle.validity.specs.Faults.{At, FirstFault};
-ghost use Rattle.validity_check.specs.Answers.{Tells, IsValid};
+ghost use Rattle.validity_check.specs.Answers.{Tells};
 ghost use Rattle.validity_check.specs.Counts.{element_count};
-ghost use Rattle.xer_read.specs.Answers.{IsTooLarge, ReadTells};
+ghost use Rattle.xer_read.specs.Answers.{IsValueOf, IsTooLarge, ReadTells};
+ghost use Rattle.xer_read.specs.Private.Given.{IsRootRead};
 
 use crate::elements::read_element;
 use crate::error::ReadError;
-use asn_types::{Module, is_value};
 use doc_text::{ItemLabel, Items};
 use label_tree::{Tree, Whole};
 use schema_parts::SchemaSet;
@@ -61,9 +66,10 @@ fn read_root<L: Ledger>(
     items: &Items,
     steps: &mut Steps<L>,
 ) -> Result<Tree<ValueLabel>, CheckError>
-    requires { root < set.now.globals }
+    requires root { root < set.now.globals }
+    ensures linked { IsLinked set.now }
     ensures judged { MatchResult result
-        (λ _. IsValid set.now root items.now)
+        (IsRootRead set.now root items.now)
         (Tells (FirstFault (parts_of set.now) root items.now)) }
     ensures most { steps.new ≤ steps.old + 144 * element_count items.now }
 {
@@ -79,58 +85,43 @@ fn read_root<L: Ledger>(
     }
 }
 
-// The value, if it is one of the type of the assignment with this number.
-fn sealed(
-    alloc: Global,
-    module: &Module,
-    t: u32,
-    tree: Tree<ValueLabel>,
-) -> Result<Value, ReadError>
-    requires { t < length module.now }
+// The value, unless it has too many nodes.
+fn counted(tree: Tree<ValueLabel>) -> Result<Value, ReadError>
+    requires { Allowed MayHave tree }
     ensures { MatchResult result
-        (λ value. In module.now t value)
-        (ReadTells (λ at why. ⊥) (λ count. 1048576 < count)) }
+        (λ value. (value ≡ tree) × (node_count tree ≤ 1048576))
+        (ReadTells (λ at why. ⊥) (λ count. (1048576 < node_count tree) × (count ≡ shown_count tree))) }
 {
-    // Open: it is always a value.
-    let Ok(value) = Whole::seal(tree) else {
-        return Err(ReadError::Memory);
-    };
+    let value = Whole::of(tree);
     let count = value.count();
     if count > MOST_NODES {
-        return Err(ReadError::TooManyNodes { count });
-    }
-    // Open: it always fits the type of the root in the map of the set.
-    if is_value(alloc, module, t, &value)? {
-        Ok(value)
+        Err(ReadError::TooManyNodes { count })
     } else {
-        Err(ReadError::Memory)
+        Ok(value)
     }
 }
 
-/// The value of a document that is valid against the global element with this number: one of the type of the assignment with
-/// the number `t`, which is that of the element in the map of the set.
+/// The value of a document that is valid against the global element with this number: in each map of the set, one of the
+/// root type of the element, and its items are the treated items of the document.
 ///
-/// An error tells the first fault; or that the document is valid and its value has more than 1,048,576 nodes; or that memory
-/// is missing. That the value's items are the treated items of the document is not told yet.
+/// An error tells the first fault; or that the document is valid and its value has more than 1,048,576 nodes, where the
+/// count 2^64 - 1 stands for that number and every greater one; or that memory is missing.
 pub fn read_value<L: Ledger>(
     alloc: Global,
     set: &SchemaSet,
-    module: &Module,
     root: u32,
-    t: u32,
     items: &Items,
     steps: &mut Steps<L>,
 ) -> Result<Value, ReadError>
     requires root { root < set.now.globals }
-    requires t { t < length module.now }
-    ensures read { MatchResult result
-        (λ value. IsValid set.now root items.now × In module.now t value)
-        (ReadTells (FirstFault (parts_of set.now) root items.now) (IsTooLarge set.now root items.now)) }
+    ensures read { (M : List Assignment) → (is_map : IsMapOf set.now M) → MatchResult result
+        (λ value. IsValueOf set.now root items.now M (root_at set.now M is_map root) value × (node_count value ≤ 1048576))
+        (ReadTells (FirstFault (parts_of set.now) root items.now) (IsTooLarge set.now root items.now M (root_at set.now M is_map root))) }
     ensures most { steps.new ≤ steps.old + 144 * element_count items.now }
 {
     match read_root(alloc, set, root, items, steps) {
         Err(CheckError::Invalid { at, why }) => Err(ReadError::Invalid { at, why }),
         Err(CheckError::Memory) => Err(ReadError::Memory),
-        Ok(tree) => sealed(alloc, module, t, tree),
+        Ok(tree) => counted(tree),
     }
 }

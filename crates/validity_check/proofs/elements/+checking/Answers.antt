@@ -1,17 +1,14 @@
-use Rattle.std.proofs.Common.{◌≡◌, ℕ, ◌≤◌, true, false, refl, sym, ◌∙◌, ap, subst, arith, add-one}
-use Rattle.std.specs.Prelude.{MatchResult}
+use Rattle.std.proofs.Common.{◌≡◌, ◌≤◌, true, sym, ◌∙◌, ap, subst, arith, add-one}
 use Rattle.std.proofs.lemmas.Result.{err_from_is_err_and}
-use Rattle.label_tree.specs.Rose.{roses_of, label_of, kids_of, count_all}
+use Rattle.label_tree.specs.Rose.{roses_of, count_all}
 use Rattle.doc_text.specs.Sound.{is_text, are_sound}
 use Rattle.content_match.specs.Taking.{levels}
 use Rattle.content_models.specs.Seen.{seen}
 use Rattle.schema_parts.specs.SetParts.{parts_of}
-use Rattle.validity.specs.Asked.{asked_at}
 use Rattle.validity.proofs.Reading.{kid_count, count-kids, kid_here}
-use Rattle.validity_check.specs.Answers.{Tells, IsValidInside, InsideFault}
 use Rattle.validity_check.specs.Counts.{elements_in}
 use Rattle.validity_check.specs.Told.{told, IsFittingInside, AreNamed}
-use Rattle.validity_check.proofs.Counting.{one_more, up_to, fewer, text_counts, element_counts, at_least_length}
+use Rattle.validity_check.proofs.Counting.{one_more, up_to, fewer, element_counts, at_least_length}
 use Rattle.validity_check.proofs.Shape.{kid_sound, kids_sound}
 use Rattle.validity_check.proofs.Leaves.{model_named}
 use Rattle.validity_check.proofs.Levels.{model_levels}

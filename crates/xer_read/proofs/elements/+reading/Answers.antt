@@ -1,26 +1,27 @@
-use Rattle.std.proofs.Common.{◌≡◌, ◌≤◌, true, sym, ◌∙◌, ap, subst, arith, add-one}
-use Rattle.std.specs.Prelude.{Result, Ok, Err}
-use Rattle.simple_types.specs.declared.labels.ValueLabel.{ValueLabel}
-use Rattle.simple_types.specs.Seen.{space_of}
+use Rattle.std.proofs.Common.{◌≡◌, ◌≤◌, true, refl, sym, ◌∙◌, ap, subst, arith, add-one}
+use Rattle.std.specs.Prelude.{Result, Err, All}
 use Rattle.validity_check.specs.declared.error.CheckError.{CheckError}
-use Rattle.validity_check.proofs.Texts.{text_spelled}
 use Rattle.std.proofs.lemmas.Result.{err_from_is_err_and}
-use Rattle.label_tree.specs.Rose.{Rose, roses_of, count_all}
+use Rattle.label_tree.specs.Rose.{roses_of, count_all}
 use Rattle.doc_text.specs.Sound.{is_text, are_sound}
 use Rattle.content_match.specs.Taking.{levels}
 use Rattle.content_models.specs.Seen.{seen}
+use Rattle.schema_parts.specs.Linked.{leaves, IsNamed}
 use Rattle.schema_parts.specs.SetParts.{parts_of}
-use Rattle.validity.specs.Asked.{asked_at}
 use Rattle.validity.proofs.Reading.{kid_count, count-kids, kid_here}
-use Rattle.validity_check.specs.Answers.{IsValidInside}
 use Rattle.validity_check.specs.Counts.{elements_in}
-use Rattle.validity_check.specs.Told.{inside_told, told, IsFittingInside, AreNamed}
+use Rattle.validity_check.specs.Told.{inside_told, told, IsFittingInside}
 use Rattle.validity_check.proofs.Counting.{one_more, up_to, fewer, element_counts, at_least_length}
+use Rattle.validity_check.proofs.Leaves.{names_declared}
 use Rattle.validity_check.proofs.Shape.{kid_sound, kids_sound}
-use Rattle.validity_check.proofs.Leaves.{model_named}
 use Rattle.validity_check.proofs.Levels.{model_levels}
-use Rattle.validity_check.proofs.Tagging.{tag_refused, nil_judged, inside_judged}
-use Rattle.validity_check.proofs.Walking.{none_walked, leaf_declared, end_judged, text_judged, name_refused, kid_judged}
+use Rattle.validity_check.proofs.Tagging.{tag_refused}
+use Rattle.validity_check.proofs.Walking.{leaf_declared, name_refused, kid_judged}
+use Rattle.xer_read.proofs.Reaching.{none-reached, walked, end-read, text-judged, kid-reached}
+use Rattle.simple_types.specs.Seen.{space_of}
+use Rattle.xer_read.specs.Private.Keeping.{KidsRead}
+use Rattle.xer_read.specs.Private.Contents.{IsRightContent}
+use Rattle.xer_read.proofs.Whole.{nothing-right, text-right, children-right, nil-read, filled-read}
 use Rattle.xer_read.proofs.elements.+reading.Goals as goal
 
 -- ---- one kid
@@ -29,14 +30,14 @@ pub read_kid-step-requires : goal.read_kid-step-requires
 read_kid-step-requires g t c = c.requires.taken
 
 pub read_kid-returns-in-Text-clause-judged : goal.read_kid-returns-in-Text-clause-judged
-read_kid-returns-in-Text-clause-judged g t c = λ p kids place i below here w.
-    text_judged c.args.set.now c.args.mixed p kids place i c.args.matcher.now w c.args.kid.now below here c.in-Text.text c.in-Text.at (sym c.label.ensures ∙ c.in-Text.is)
-    c.read_between.result c.read_between.ensures
+read_kid-returns-in-Text-clause-judged g t c = λ p kids place i below here r.
+    text-judged c.args.set.now c.args.mixed p kids place i c.args.matcher.now c.args.read.now r c.args.kid.now below here c.requires.sound c.in-Text.text c.in-Text.at (sym c.label.ensures ∙ c.in-Text.is)
+    c.read_between.new.read c.read_between.result c.read_between.ensures
 
 pub read_kid-returns-in-Err-clause-judged : goal.read_kid-returns-in-Err-clause-judged
-read_kid-returns-in-Err-clause-judged g t c = λ p kids place i below here w.
-    name_refused c.args.set.now c.args.mixed p kids place i c.args.matcher.now w c.args.kid.now below here c.in-Element.name c.in-Element.attributes c.in-Element.declares c.in-Element.at
-    (sym c.label.ensures ∙ c.in-Element.is) (c.in-Err.ensures.took w.us w.took).0
+read_kid-returns-in-Err-clause-judged g t c = λ p kids place i below here r.
+    name_refused c.args.set.now c.args.mixed p kids place i c.args.matcher.now (walked c.args.set.now c.args.mixed p kids place i c.args.matcher.now c.args.read.now r) c.args.kid.now below here
+    c.in-Element.name c.in-Element.attributes c.in-Element.declares c.in-Element.at (sym c.label.ensures ∙ c.in-Element.is) (c.in-Err.ensures.took r.us r.took).0
 
 pub read_kid-returns-in-Err-clause-most : goal.read_kid-returns-in-Err-clause-most
 read_kid-returns-in-Err-clause-most g t c =
@@ -58,7 +59,7 @@ read_kid-read_element-requires g t c κs within =
           (
             c.requires.plans,
             (
-              leaf_declared c.args.set.now c.args.matcher.now c.step.new.self took.0 c.in-Element.name c.in-Ok.leaf e.particle (e.took took.0 took.1) c.requires.named,
+              leaf_declared c.args.set.now c.args.matcher.now c.step.new.self took.0 c.in-Element.name c.in-Ok.leaf e.particle (e.took took.0 took.1) (names_declared c.args.set.now c.args.matcher.now.particle c.requires.named),
               (ap is_text (sym c.label.ensures ∙ c.in-Element.is), (c.requires.sound, c.requires.few)),
             ),
           ),
@@ -67,30 +68,31 @@ read_kid-read_element-requires g t c κs within =
     )
 
 pub read_kid-returns-in-Err-read_element-clause-judged : goal.read_kid-returns-in-Err-read_element-clause-judged
-read_kid-returns-in-Err-read_element-clause-judged g t c = λ p kids place i below here w.
+read_kid-returns-in-Err-read_element-clause-judged g t c = λ p kids place i below here r.
     let refused : Result (Unit {0}) CheckError = Err c.in-Err-read_element.error in
-    kid_judged c.args.set.now c.args.mixed p kids place i c.args.matcher.now w c.args.kid.now below here c.in-Element.name c.in-Element.attributes c.in-Element.declares c.in-Element.at
-    (sym c.label.ensures ∙ c.in-Element.is) c.step.new.self c.in-Ok.leaf c.in-Ok.ensures.particle (c.in-Ok.ensures.took w.us w.took) refused c.in-Err-read_element.ensures.judged
+    kid_judged c.args.set.now c.args.mixed p kids place i c.args.matcher.now (walked c.args.set.now c.args.mixed p kids place i c.args.matcher.now c.args.read.now r) c.args.kid.now below here
+    c.in-Element.name c.in-Element.attributes c.in-Element.declares c.in-Element.at (sym c.label.ensures ∙ c.in-Element.is) c.step.new.self c.in-Ok.leaf c.in-Ok.ensures.particle (c.in-Ok.ensures.took r.us r.took)
+    refused c.in-Err-read_element.ensures.judged
 
 pub read_kid-returns-in_ok-add_element-in-Ok-read_element-clause-judged : goal.read_kid-returns-in_ok-add_element-in-Ok-read_element-clause-judged
-read_kid-returns-in_ok-add_element-in-Ok-read_element-clause-judged g t c = λ p kids place i below here w.
-    let kept : Result (Rose ValueLabel) CheckError = Ok c.in-Ok-read_element.value in
-    kid_judged c.args.set.now c.args.mixed p kids place i c.args.matcher.now w c.args.kid.now below here c.in-Element.name c.in-Element.attributes c.in-Element.declares c.in-Element.at
-    (sym c.label.ensures ∙ c.in-Element.is) c.step.new.self c.in-Ok.leaf c.in-Ok.ensures.particle (c.in-Ok.ensures.took w.us w.took) kept c.in-Ok-read_element.ensures.judged
+read_kid-returns-in_ok-add_element-in-Ok-read_element-clause-judged g t c = λ p kids place i below here r.
+    kid-reached c.args.set.now c.args.mixed p kids place i c.args.matcher.now c.args.read.now r c.args.kid.now below here c.requires.sound
+    c.in-Element.name c.in-Element.attributes c.in-Element.declares c.in-Element.at (sym c.label.ensures ∙ c.in-Element.is) c.step.new.self c.in-Ok.leaf c.in-Ok.ensures.particle (c.in-Ok.ensures.took r.us r.took)
+    c.requires.named c.in-Ok-read_element.value c.in-Ok-read_element.ensures.judged c.add_element.new.self c.in_ok-add_element-in-Ok-read_element.ensures
 
 -- ---- all kids
 
 pub read_kids-loop-kid-init : goal.read_kids-loop-kid-init
 read_kids-loop-kid-init g t c = record {
   plans = c.requires.plans;
-  walked = none_walked c.args.set.now c.args.mixed c.args.plan.now c.args.kids.now c.in_ok-matcher.matcher c.in_ok-matcher.ensures.plan c.in_ok-matcher.ensures.took;
+  reached = none-reached c.args.set.now c.args.mixed c.args.plan.now c.args.kids.now c.in_ok-matcher.matcher c.new-read.result c.in_ok-matcher.ensures.plan c.in_ok-matcher.ensures.took c.new-read.ensures.texts c.new-read.ensures.behind c.new-read.ensures.children;
   most = omega arith;
 }
 
 pub read_kids-read_kid-requires : goal.read_kids-read_kid-requires
 read_kids-read_kid-requires g t c κs within =
     let d = c.decreases in
-    let w = c.loop-kid.invariant.walked in
+    let w = c.loop-kid.invariant.reached in
     let below = c.loop-kid-test.true in
     let here = kid_here c.args.kids.now c.loop-kid.kid-index c.kid-item.result below c.kid-item.is in
     let k = kid_count c.args.kids.now c.loop-kid.kid-index c.kid-item.result below c.kid-item.is in
@@ -106,7 +108,7 @@ read_kids-read_kid-requires g t c κs within =
           (
             c.loop-kid.invariant.plans,
             (
-              subst (λ q. AreNamed c.args.set.now q) (sym w.particle) c.requires.named,
+              subst (λ q. All (IsNamed c.args.set.now) (leaves q)) (sym w.particle) c.requires.named,
               (
                 subst (λ q. levels q ≤ 17) (sym w.particle) c.requires.levels,
                 (
@@ -129,18 +131,18 @@ read_kids-loop-kid-preserved g t c =
     let m = c.in_ok-read_kid.ensures.most in
     record {
       plans = c.in_ok-read_kid.ensures.same;
-      walked = c.in_ok-read_kid.ensures.judged c.args.plan.now c.args.kids.now c.args.at c.loop-kid.kid-index below c.kid-item.is c.loop-kid.invariant.walked;
+      reached = c.in_ok-read_kid.ensures.judged c.args.plan.now c.args.kids.now c.args.at c.loop-kid.kid-index below c.kid-item.is c.loop-kid.invariant.reached;
       most = rw add-one (omega (arith, more, so_far, m));
     }
 
 pub read_kids-returns-clause-judged : goal.read_kids-returns-clause-judged
 read_kids-returns-clause-judged g t c =
-    let w = c.loop-kid.invariant.walked in
-    end_judged c.args.set.now c.args.mixed c.args.plan.now c.args.kids.now c.args.at c.loop-kid.kid-index c.loop-kid.matcher w c.loop-kid-test.false c.finish.result (c.finish.ensures.finished w.us w.took)
+    let w = c.loop-kid.invariant.reached in
+    end-read c.args.set.now c.args.mixed c.args.plan.now c.args.kids.now c.args.at c.loop-kid.kid-index c.loop-kid.matcher c.loop-kid.read w c.loop-kid-test.false c.finish.result (c.finish.ensures.finished w.us w.took)
 
 pub read_kids-returns-clause-most : goal.read_kids-returns-clause-most
 read_kids-returns-clause-most g t c =
-    let l : levels c.loop-kid.matcher.particle ≤ 17 = subst (λ q. levels q ≤ 17) (sym c.loop-kid.invariant.walked.particle) c.requires.levels in
+    let l : levels c.loop-kid.matcher.particle ≤ 17 = subst (λ q. levels q ≤ 17) (sym c.loop-kid.invariant.reached.particle) c.requires.levels in
     let so_far = c.loop-kid.invariant.most in
     let all = fewer (roses_of c.args.kids.now) c.loop-kid.kid-index in
     let s = c.finish.ensures.ticks in
@@ -161,7 +163,7 @@ read_inside-read_kids-requires g t c κs within =
           (
             c.in_ok-plan-in-Children.ensures.same ∙ c.requires.plans,
             (
-              subst (λ q. AreNamed c.args.set.now q) (sym is) (model_named c.args.set.now c.in-Children.model.now fits.1),
+              subst (λ q. All (IsNamed c.args.set.now) (leaves q)) (sym is) fits.1.named,
               (subst (λ q. levels q ≤ 17) (sym is) (model_levels c.args.set.now c.in-Children.model.now fits.1), (c.requires.sound, c.requires.few)),
             ),
           ),
@@ -169,12 +171,26 @@ read_inside-read_kids-requires g t c κs within =
       ),
     )
 
+pub read_inside-returns-in-Ok-clause-judged : goal.read_inside-returns-in-Ok-clause-judged
+read_inside-returns-in-Ok-clause-judged g t c =
+    subst (λ x. IsRightContent c.args.set.now (inside_told x) (roses_of c.args.kids.now) c.without_texts.result) (sym c.in-Nothing.is)
+    (nothing-right c.args.set.now (roses_of c.args.kids.now) c.without_texts.result c.without_texts.ensures.rest c.in-Ok.ensures)
+
 pub read_inside-returns-in-Ok-read_text-clause-judged : goal.read_inside-returns-in-Ok-read_text-clause-judged
 read_inside-returns-in-Ok-read_text-clause-judged g t c =
-    let read = c.in-Ok-read_text.ensures in
-    let kids = roses_of c.args.kids.now in
-    subst (λ x. IsValidInside (asked_at (parts_of c.args.set.now)) (inside_told x) kids) (sym c.in-Simple.is)
-    (text_spelled (space_of c.in-Simple.simple.now) kids read.0 c.in-Ok-read_text.value read.1 read.2)
+    subst (λ x. IsRightContent c.args.set.now (inside_told x) (roses_of c.args.kids.now) c.without_texts-in-Ok-read_text.result) (sym c.in-Simple.is)
+    (text-right c.args.set.now (space_of c.in-Simple.simple.now) (roses_of c.args.kids.now) c.without_texts-in-Ok-read_text.result c.in-Ok-read_text.value c.without_texts-in-Ok-read_text.ensures.rest
+    c.in-Ok-read_text.ensures)
+
+pub read_inside-returns-in-Ok-read_kids-clause-judged : goal.read_inside-returns-in-Ok-read_kids-clause-judged
+read_inside-returns-in-Ok-read_kids-clause-judged g t c =
+    let fits = subst (λ x. IsFittingInside c.args.set.now x) c.in-Children.is c.requires.inside in
+    let is : c.as_ref.result.now ≡ seen c.in-Children.model.now = c.as_ref.ensures ∙ c.in_ok-plan-in-Children.ensures.plan in
+    let content = c.in_ok-content-in-Ok-read_kids.content in
+    let all = subst (λ p. KidsRead c.args.set.now c.in-Children.mixed p (roses_of c.args.kids.now) c.in-Ok-read_kids.read) is c.in-Ok-read_kids.ensures.judged in
+    subst (λ x. IsRightContent c.args.set.now (inside_told x) (roses_of c.args.kids.now) content) (sym c.in-Children.is)
+    (children-right c.args.set.now c.in-Children.mixed (seen c.in-Children.model.now) (roses_of c.args.kids.now) c.in-Ok-read_kids.read content c.in-Children.model.now all
+    c.in_ok-content-in-Ok-read_kids.ensures refl fits.1.named)
 
 -- ---- an element
 
@@ -213,15 +229,15 @@ read_element-returns-in-Err-clause-judged g t c =
 
 pub read_element-returns-then-nil-clause-judged : goal.read_element-returns-then-nil-clause-judged
 read_element-returns-then-nil-clause-judged g t c =
-    nil_judged c.args.set.now c.args.decl (told (parts_of c.args.set.now) c.declared_of-declared.result) c.items-items.result.now c.in-Element.name c.in-Element.attributes c.in-Element.declares c.in-Element.at
-    c.args.item.now (sym c.label.ensures ∙ c.in-Element.is) c.declared_of-declared.ensures.asked c.items-items.ensures
-    (rw c.if-nil.true at c.in-Ok.ensures) c.kids-kids.result.now c.kids-kids.ensures c.read_nil.result c.read_nil.ensures
+    nil-read c.args.set.now c.requires.linked c.args.decl c.in-Element.name c.in-Element.attributes c.in-Element.declares c.in-Element.at c.args.item.now (sym c.label.ensures ∙ c.in-Element.is) c.requires.sound
+    (told (parts_of c.args.set.now) c.declared_of-declared.result) c.items-items.result.now c.declared_of-declared.ensures.asked c.items-items.ensures c.kids-kids.result.now c.kids-kids.ensures
+    (rw c.if-nil.true at c.in-Ok.ensures) c.read_nil.result c.read_nil.ensures
 
 pub read_element-returns-else-nil-clause-judged : goal.read_element-returns-else-nil-clause-judged
 read_element-returns-else-nil-clause-judged g t c =
-    inside_judged c.args.set.now c.args.decl (told (parts_of c.args.set.now) c.declared_of-declared.result) c.items-items.result.now c.in-Element.name c.in-Element.attributes c.in-Element.declares c.in-Element.at
-    c.args.item.now (sym c.label.ensures ∙ c.in-Element.is) c.declared_of-declared.ensures.asked c.items-items.ensures
-    (rw c.if-nil.false at c.in-Ok.ensures) c.kids-kids.result.now c.kids-kids.ensures c.read_filled.result c.read_filled.ensures.judged
+    filled-read c.args.set.now c.requires.linked c.args.decl c.in-Element.name c.in-Element.attributes c.in-Element.declares c.in-Element.at c.args.item.now (sym c.label.ensures ∙ c.in-Element.is) c.requires.sound
+    (told (parts_of c.args.set.now) c.declared_of-declared.result) c.items-items.result.now c.declared_of-declared.ensures.asked c.items-items.ensures c.kids-kids.result.now c.kids-kids.ensures
+    (rw c.if-nil.false at c.in-Ok.ensures) c.read_filled.result c.read_filled.ensures.judged
 
 pub read_element-returns-in-Err-clause-most : goal.read_element-returns-in-Err-clause-most
 read_element-returns-in-Err-clause-most g t c =
@@ -245,7 +261,7 @@ pub read_kids-returns-in_err-read_kid-clause-judged :
 read_kids-returns-in_err-read_kid-clause-judged g t c =
     let p = err_from_is_err_and c.from_residual-in_err-read_kid.result c.from_residual-in_err-read_kid.ensures.1 in
     rw (p.1, p.2)
-    (c.in_err-read_kid.ensures.judged c.args.plan.now c.args.kids.now c.args.at c.loop-kid.kid-index c.loop-kid-test.true c.kid-item.is c.loop-kid.invariant.walked)
+    (c.in_err-read_kid.ensures.judged c.args.plan.now c.args.kids.now c.args.at c.loop-kid.kid-index c.loop-kid-test.true c.kid-item.is c.loop-kid.invariant.reached)
 
 pub read_kids-returns-in_err-read_kid-clause-most :
     goal.read_kids-returns-in_err-read_kid-clause-most

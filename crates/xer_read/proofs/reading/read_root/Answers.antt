@@ -1,15 +1,17 @@
-use Rattle.std.proofs.Common.{◌≡◌, ◌<◌, ◌^◌, true, false, sym, ◌∙◌, subst}
+use Rattle.std.proofs.Common.{◌≡◌, ◌<◌, ◌≤◌, ◌^◌, true, false, sym, ◌∙◌, subst}
 use Rattle.std.specs.Prelude.{Some, MatchResult}
 use Rattle.label_tree.specs.Rose.{label_of, node_count}
 use Rattle.doc_text.specs.Labels.{item_place}
-use Rattle.doc_text.specs.Sound.{is_text, is_sound}
+use Rattle.doc_text.specs.Sound.{is_text, is_sound, levels}
 use Rattle.schema_parts.specs.SetParts.{parts_of}
 use Rattle.validity.specs.Valid.{HasName}
 use Rattle.validity.specs.Faults.{At, FirstFault}
 use Rattle.validity.specs.declared.why.InvalidWhy.TheVariants.{WrongRoot}
-use Rattle.validity_check.specs.Answers.{Tells, IsValid}
+use Rattle.validity_check.specs.Answers.{Tells}
 use Rattle.validity_check.proofs.Shape.{element_label}
-use Rattle.validity_check.proofs.Rooting.{root_refused, root_judged}
+use Rattle.validity_check.proofs.Rooting.{root_refused}
+use Rattle.xer_read.specs.Private.Given.{IsRootRead}
+use Rattle.xer_read.proofs.Valuing.{root-read}
 use Rattle.xer_read.proofs.reading.read_root.Goals as goal
 
 pub read_element-requires-clause-element : goal.read_element-requires-clause-element
@@ -32,6 +34,7 @@ returns-in-Err-clause-judged g c =
 pub returns-clause-judged : goal.returns-clause-judged
 returns-clause-judged g c =
     let is = c.root-item.ensures.root ∙ c.tree-tree.ensures.tree in
-    subst (λ x. MatchResult c.read_element.result (λ _. IsValid c.args.set.now c.args.root x) (Tells (FirstFault (parts_of c.args.set.now) c.args.root x))) is
-    (root_judged c.args.set.now c.args.root c.element-declared.result.now c.element-declared.ensures c.root-item.result.now
-    (subst (λ l. HasName (Some c.element-declared.result.now.name) l) c.label-label.ensures c.in-Ok.ensures) c.read_element.result c.read_element.ensures.judged)
+    subst (λ x. MatchResult c.read_element.result (IsRootRead c.args.set.now c.args.root x) (Tells (FirstFault (parts_of c.args.set.now) c.args.root x))) is
+    (root-read c.args.set.now c.args.root c.element-declared.result.now c.element-declared.ensures c.root-item.result.now
+    (subst (λ l. HasName (Some c.element-declared.result.now.name) l) c.label-label.ensures c.in-Ok.ensures) (subst (λ x. levels x ≤ 64) (sym is) c.tree-tree.ensures.items.shallow)
+    c.read_element.result c.read_element.ensures.judged)

@@ -1,11 +1,12 @@
-use Rattle.asn_types.specs.Values.{In}
 use Rattle.schema_parts.specs.SetParts.{parts_of}
 use Rattle.validity.specs.Faults.{FirstFault}
-use Rattle.validity_check.specs.Answers.{IsValid}
-use Rattle.xer_read.proofs.Refusing.{of-valid}
+use Rattle.xer_read.proofs.Valuing.{value-allowed, of-counted}
 use Rattle.xer_read.proofs.reading.read_value.Goals as goal
 
+pub counted-requires : goal.counted-requires
+counted-requires g c = value-allowed c.args.set.now c.read_root.ensures.linked c.args.root c.requires.root c.args.items.now c.in-Ok.tree c.in-Ok.ensures.judged
+
 pub returns-in-Ok-clause-read : goal.returns-in-Ok-clause-read
-returns-in-Ok-clause-read g c =
-    of-valid c.sealed.result (In c.args.module.now c.args.t) (IsValid c.args.set.now c.args.root c.args.items.now) (FirstFault (parts_of c.args.set.now) c.args.root c.args.items.now)
-    c.in-Ok.ensures.judged c.sealed.ensures
+returns-in-Ok-clause-read g c = λ M is_map.
+    of-counted c.args.set.now c.in-Ok.ensures.linked c.args.root c.requires.root c.args.items.now c.in-Ok.tree c.in-Ok.ensures.judged M is_map c.counted.result (FirstFault (parts_of c.args.set.now) c.args.root c.args.items.now)
+    c.counted.ensures

@@ -1,0 +1,366 @@
+-- What is made of an element's attributes and content gives its treated items, wherever it stands.
+use Rattle.std.proofs.Common.{◌≡◌, ℕ, suc, ◌+◌, ◌≤◌, Bool, true, false, not, Option, Some, None, List, [], ◌∷◌, length, map, true≢false, refl, sym, ap, subst, ◌∙◌, arith}
+use Rattle.std.specs.Prelude.{All, Ok, IsUtf8, slice_get, IsSomeAnd, MatchBool}
+use Rattle.std.proofs.lemmas.List.Elements.{All-nil, All-head, All-tail}
+use Rattle.xa_base.specs.declared.texts.Name.{Name}
+use Rattle.label_tree.specs.Rose.{Rose, node, Roses, roses_of, length_all}
+use Rattle.label_tree.specs.Rose as rose
+use Rattle.label_tree.proofs.Roses.{length_all-roses_of}
+use Rattle.simple_types.specs.declared.labels.ValueLabel.{ValueLabel}
+use Rattle.simple_types.specs.declared.labels.ValueLabel.TheVariants as value
+use Rattle.simple_values.specs.Reading.{reads, spelled}
+use Rattle.content_models.specs.declared.particles.ParticleLabel.{ParticleLabel}
+use Rattle.content_models.specs.Particle.{Particle}
+use Rattle.content_models.specs.Seen.{seen}
+use Rattle.doc_text.specs.declared.label.ItemLabel.{ItemLabel}
+use Rattle.doc_text.specs.Sound.{are_sound_attributes, are_sound, levels_all}
+use Rattle.plain_items.specs.Plain.{Plain}
+use Rattle.plain_items.specs.Mixing.{text_before, texts_between, AllElements}
+use Rattle.plain_items.proofs.Mixing.{puts_together}
+use Rattle.schema_parts.specs.declared.components.AttributeUse.{AttributeUse}
+use Rattle.schema_parts.specs.declared.components.ElementDecl.{ElementDecl}
+use Rattle.schema_parts.specs.declared.components.ComplexDef.{ComplexDef}
+use Rattle.schema_parts.specs.declared.components.Content as schema
+use Rattle.schema_parts.specs.declared.components.Content.TheVariants as content_
+use Rattle.schema_parts.specs.declared.components.TypeOf.{TypeOf}
+use Rattle.schema_parts.specs.declared.components.TypeOf.TheVariants as kind
+use Rattle.schema_parts.specs.Components.{Set}
+use Rattle.schema_parts.specs.Linked.{leaves, IsNamed, IsLinked}
+use Rattle.schema_parts.specs.SetParts.{parts_of}
+use Rattle.asn_types.specs.declared.modules.Assignment.{Assignment}
+use Rattle.asn_types.specs.declared.types.TypeLabel.{TypeLabel}
+use Rattle.asn_types.specs.Refs.{resolve}
+use Rattle.asn_types.specs.Values.{text_count, FitsAt}
+use Rattle.map_subjects.specs.Subjects.{place_in}
+use Rattle.map_assignments.specs.Mapped.{IsMapOf}
+use Rattle.map_assignments.specs.Planning.{is_mixed}
+use Rattle.map_laws.specs.Standing.{IsSimpleOf, HasNillable, HasComplex, HasContent}
+use Rattle.map_laws.specs.Statements.{IsTypeAt}
+use Rattle.map_laws.proofs.Leading.{types-lead}
+use Rattle.xer_items.specs.Items as items
+use Rattle.xer_items.specs.Items.{Given, given, with_texts, element_of, inside}
+use Rattle.validity.specs.Asked.{Asked, Attribute, Inside, asked, space_at, attribute_in, inside_of, asked_by, asked_by_type, asked_by_complex, asked_at}
+use Rattle.validity.specs.Asked as ask
+use Rattle.validity.specs.Attributes.{Nil, not_nil, is_nil, bad_nil, nil_by, nil_of, xsi_nil, text_of, left, Stands, AllStand, spelled_read, put_attribute, treated_text, treated_attributes, with_nil}
+use Rattle.value_exists.proofs.Texts.{IsEncoded, left-encoded, text-encoded, text-given, never-true}
+use Rattle.value_exists.proofs.Kids.{IsXml, only-utf8, between-xml, kids-xml, texts_value, texts-fitting}
+use Rattle.value_exists.proofs.Elements.{nil-nillable, kids-text}
+use Rattle.xer_read.specs.declared.children.Child.{Child}
+use Rattle.xer_read.specs.declared.contents.Content.{Content}
+use Rattle.xer_read.specs.declared.contents.Rest.{Rest}
+use Rattle.xer_read.specs.declared.contents.Rest.TheVariants as read
+use Rattle.xer_read.specs.Private.Given.{IsTypeFor, Gives}
+use Rattle.xer_read.specs.Private.Keeping.{AllKept}
+use Rattle.xer_read.specs.Private.Contents.{AreThose, IsContentBy, IsContentOf, IsNilContent, AttributesMade, TextsMade, ChildrenMade, NothingMade, RestMade, ComplexMade, is_plain_by, is_plain_at, IsMadeBy, IsMade}
+use Rattle.xer_read.proofs.Making.{named-top, AreGifts}
+use Rattle.xer_read.proofs.Parting.{ContentAs, RestAs, AttributesIn, TextsIn, complex-made}
+
+-- what is read of an element, nil or not
+abbrev pub ReadBy : Set → Nil → Inside → Roses ItemLabel → Content → Roses Plain → Type 0
+ReadBy s bad_nil inside ts content vs = ⊥
+ReadBy s is_nil inside ts content vs = IsNilContent content × (vs ≡ rose.none)
+ReadBy s not_nil inside ts content vs = IsContentOf s inside ts content vs
+
+elements-kept : (s : Set) (high : ℕ) (gs : List Child) (bs : List (Rose Plain)) → AllKept s high gs bs → AllElements (roses_of bs)
+elements-kept s high [] [] h = tt
+elements-kept s high [] (b ∷ bs) h = absurd h
+elements-kept s high (g ∷ gs) [] h = absurd h
+elements-kept s high (g ∷ gs) (b ∷ bs) h = subst (λ z. AllElements (rose.more z (roses_of bs))) (sym h.0.is) (tt, elements-kept s high gs bs h.1)
+
+made-complex : (r : Rest) (v : Rose ValueLabel) (P : Type 0) → IsMadeBy false r v P → P
+made-complex read.Nil v P h = h
+made-complex read.Nothing v P h = h
+made-complex (read.Text w) v P h = h
+made-complex (read.Children model found) v P h = h
+
+module _ (s : Set) (linked : IsLinked s) (M : List Assignment) (is_map : IsMapOf s M) (depth : ℕ) (small : depth ≤ 64) where
+  abbrev asks : ℕ → Asked
+  asks = asked_at (parts_of s)
+
+  abbrev E : ℕ → Rose TypeLabel → Type 0
+  E = IsTypeAt s (place_in is_map.entries)
+
+  abbrev N : ℕ → Name → Type 0
+  N d a = IsNamed s (d, a)
+
+  abbrev own : AttributeUse → Attribute
+  own = attribute_in (parts_of s)
+
+  -- ---- attributes
+
+  module _ (ls : List (Name × List ℕ)) (encoded : All IsEncoded ls) where
+    attributes-in : (ds : List AttributeUse) → All (Stands ls) (map own ds) → (flags : List Bool) (vs : List (Rose ValueLabel)) → AttributesMade (map own ds) ls flags vs
+        → AttributesIn M E N depth small s linked ds (treated_attributes (map own ds) ls) flags vs
+    attributes-in [] stand flags vs h = (refl, h.0, h.1)
+    attributes-in (d ∷ ds) stand [] vs h = absurd h
+    attributes-in (d ∷ ds) stand (false ∷ flags) vs (none, rest) =
+        let ys = treated_attributes (map own ds) ls in
+        let here : put_attribute d.name (treated_text (space_at (parts_of s) d.simple) (text_of ls d.name)) ys ≡ ys = ap (λ o. put_attribute d.name (treated_text (space_at (parts_of s) d.simple) o) ys) none in (
+          never-true s linked M depth small d.required (λ r. All-head (Stands ls) (own d) (map own ds) stand r none),
+          subst (λ zs. AttributesIn M E N depth small s linked ds zs flags vs) (sym here) (attributes-in ds (All-tail (Stands ls) (own d) (map own ds) stand) flags vs rest),
+        )
+    attributes-in (d ∷ ds) stand (true ∷ flags) [] h = absurd h
+    attributes-in (d ∷ ds) stand (true ∷ flags) (v ∷ vs) (words, is, accepts, rest) =
+        let ys = treated_attributes (map own ds) ls in
+        let space = space_at (parts_of s) d.simple in
+        let here : put_attribute d.name (treated_text space (text_of ls d.name)) ys ≡ (d.name, spelled space v) ∷ ys =
+        ap (λ o. put_attribute d.name (treated_text space o) ys) is ∙ ap (λ r. put_attribute d.name (spelled_read space r) ys) accepts in (
+          spelled space v,
+          ys,
+          here,
+          text-given s linked M depth small d.simple words (text-encoded ls d.name words encoded is) v accepts,
+          attributes-in ds (All-tail (Stands ls) (own d) (map own ds) stand) flags vs rest,
+        )
+
+  -- ---- child elements
+
+  one-name : (d : ℕ) (a b : Name) → N d a → N d b → a ≡ b
+  one-name d a b = by (slice_get s.elements d)
+    where
+      by : (o : Option ElementDecl) → IsSomeAnd o (λ e. e.name ≡ a) → IsSomeAnd o (λ e. e.name ≡ b) → a ≡ b
+      by None h k = absurd h
+      by (Some e) h k = sym h ∙ k
+
+  type-for : (d : ℕ) (u : Rose TypeLabel) → E d u → (a : Name) → N d a → IsTypeFor s M is_map d u
+  type-for d u h a = by (slice_get s.elements d) refl
+    where
+      by : (o : Option ElementDecl) → slice_get s.elements d ≡ o → IsSomeAnd o (λ e. e.name ≡ a) → IsSomeAnd o (λ (e : ElementDecl). HasContent E s M e (resolve M u))
+      by None g k = absurd k
+      by (Some e) g k = types-lead s M linked is_map d e u g h
+
+  gifts : (high : ℕ) → suc depth + high ≤ 65 → (gs : List Child) (bs : List (Rose Plain)) → AllKept s high gs bs → AreGifts M E N depth small gs bs
+  gifts high within [] [] h = tt
+  gifts high within [] (b ∷ bs) h = absurd h
+  gifts high within (g ∷ gs) [] h = absurd h
+  gifts high within (g ∷ gs) (b ∷ bs) h = (
+    λ u e a n.
+        let one = h.0 in
+        let gives = one.gives M is_map (suc depth) u within (type-for g.decl u e a n) in
+        (gives.0, ap (λ z. element_of a z) gives.1 ∙ ap (λ z. element_of z one.inner) (one-name g.decl a one.name n one.named) ∙ sym one.is),
+    gifts high within gs bs h.1,
+  )
+
+  -- ---- contents
+
+  -- what is read for a content gives these kids
+  record RestRead (nillable : Bool) (n : Nil) (c : schema.Content) (vs : Roses Plain) (front rest : List Bool) (first last : List (Rose ValueLabel)) : Type 0 where
+    pub nil : Bool
+    pub kids : Roses Plain
+    pub count : ℕ
+    pub texts : List (List ℕ)
+    pub rest_as : RestAs M E N depth small s linked nillable nil c rest last kids count
+    pub texts_in : TextsIn M E N depth small s linked (is_mixed c) (text_count nil count) texts front first
+    pub whole : (xs : List (Name × List ℕ)) → items.with_nil nil (with_texts (is_mixed c) texts (given xs kids)) ≡ given (with_nil n xs) vs
+
+  texts-in : (words : List (List ℕ)) → All IsXml words → (texts : Rose ValueLabel) → texts ≡ texts_value words → (wanted : ℕ) → length words ≡ wanted → (flags : List Bool) (vs : List (Rose ValueLabel))
+      → flags ≡ true ∷ [] → vs ≡ texts ∷ [] → TextsIn M E N depth small s linked true wanted words flags vs
+  texts-in words xml texts is wanted many flags vs ef ev =
+      let fits = texts-fitting M depth small words xml in
+      (texts_value words, ef, ev ∙ ap (λ t. t ∷ []) is, fits.0, fits.1, many)
+
+  nothing-put : (mixed : Bool) (xs : List (Name × List ℕ)) → with_texts mixed [] (given xs rose.none) ≡ given xs rose.none
+  nothing-put true xs = refl
+  nothing-put false xs = refl
+
+  nil-texts : (c : schema.Content) (texts : Rose ValueLabel) → texts ≡ node value.SequenceOf rose.none → (flags : List Bool) (vs : List (Rose ValueLabel)) → TextsMade (inside_of (parts_of s) c) texts flags vs
+      → TextsIn M E N depth small s linked (is_mixed c) 0 [] flags vs
+  nil-texts content_.Empty texts is flags vs h = h
+  nil-texts (content_.Simple m) texts is flags vs h = h
+  nil-texts (content_.ElementOnly p) texts is flags vs h = h
+  nil-texts (content_.Mixed p) texts is flags vs h = texts-in [] (All-nil IsXml) texts is 0 refl flags vs h.0 h.1
+
+  nil-read : (nillable : Bool) → nillable ≡ true → (c : schema.Content) (content : Content) (vs : Roses Plain) → IsNilContent content → vs ≡ rose.none
+      → (front rest : List Bool) (first last : List (Rose ValueLabel)) → TextsMade (inside_of (parts_of s) c) content.texts front first → RestMade nillable content.rest rest last
+      → RestRead nillable is_nil c vs front rest first last
+  nil-read nillable may c content vs nil e front rest first last texts others =
+      let made : RestMade nillable read.Nil rest last = subst (λ r. RestMade nillable r rest last) nil.0 others in
+      record {
+        nil = true;
+        kids = rose.none;
+        count = 0;
+        texts = [];
+        rest_as = subst (λ b. RestAs M E N depth small s linked b true c rest last rose.none 0) (sym may) (made.0, made.1, refl, refl);
+        texts_in = nil-texts c content.texts nil.1 front first texts;
+        whole = λ xs. ap (items.with_nil true) (nothing-put (is_mixed c) xs) ∙ ap (λ z. given (with_nil is_nil xs) z) (sym e);
+      }
+
+  nothing-rest : (nillable : Bool) (flags : List Bool) (vs : List (Rose ValueLabel)) → NothingMade nillable flags vs → RestAs M E N depth small s linked nillable false content_.Empty flags vs rose.none 0
+  nothing-rest false flags vs h = (h.0, h.1, refl)
+  nothing-rest true flags vs h = (node (value.Sequence []) rose.none, h.0, h.1, ([], [], refl, (refl, refl, refl)))
+
+  children-rest : (nillable : Bool) (p : Rose ParticleLabel) (gs : List Child) (bs : List (Rose Plain)) (flags : List Bool) (vs : List (Rose ValueLabel)) → All (IsNamed s) (leaves (seen p)) → AreGifts M E N depth small gs bs
+      → ChildrenMade nillable (seen p) gs flags vs
+      → RestAs M E N depth small s linked nillable false (content_.ElementOnly p) flags vs (roses_of bs) (length bs) × RestAs M E N depth small s linked nillable false (content_.Mixed p) flags vs (roses_of bs) (length bs)
+  children-rest false p gs bs flags vs named given_all h =
+      let all : ContentAs M E N depth small s linked (content_.ElementOnly p) flags vs (roses_of bs) (length bs) = (gs, bs, named-top N (seen p) named, h, given_all, refl, refl) in
+      (all, all)
+  children-rest true p gs bs flags vs named given_all (fs, ws, ef, ev, h) =
+      let all : RestAs M E N depth small s linked true false (content_.ElementOnly p) flags vs (roses_of bs) (length bs) =
+      (node (value.Sequence fs) (roses_of ws), ef, ev, (fs, ws, refl, (gs, bs, named-top N (seen p) named, h, given_all, refl, refl))) in
+      (all, all)
+
+  module _ (nillable : Bool) (ts : Roses ItemLabel) (sound : are_sound ts ≡ true) (within : suc depth + levels_all ts ≤ 65) (front rest : List Bool) (first last : List (Rose ValueLabel)) where
+    children-made : (q : Particle) (model : Rose ParticleLabel) (gs : List Child) → q ≡ seen model → ChildrenMade nillable (seen model) gs rest last → ChildrenMade nillable q gs rest last
+    children-made q model gs e h = subst (λ z. ChildrenMade nillable z gs rest last) (sym e) h
+
+    text-rest : (m : ℕ) (v : Rose ValueLabel) (vs : Roses Plain) (words : List ℕ) → IsUtf8 words → reads (space_at (parts_of s) m) words ≡ Ok v → vs ≡ text_before (spelled (space_at (parts_of s) m) v) rose.none
+        → rest ≡ true ∷ [] → last ≡ v ∷ [] → RestAs M E N depth small s linked nillable false (content_.Simple m) rest last vs 0
+    text-rest m v vs words encoded accepts is ef ev = by nillable
+      where
+        by : (b : Bool) → RestAs M E N depth small s linked b false (content_.Simple m) rest last vs 0
+        by false = (spelled (space_at (parts_of s) m) v, v, ef, ev, text-given s linked M depth small m words encoded v accepts, is)
+        by true = (v, ef, ev, (spelled (space_at (parts_of s) m) v, text-given s linked M depth small m words encoded v accepts, is))
+
+    mixed-read : (p : Rose ParticleLabel) (texts : Rose ValueLabel) (gs : List Child) (vs : Roses Plain) → AreThose s true (seen p) ts texts gs vs → front ≡ true ∷ [] → first ≡ texts ∷ []
+        → ChildrenMade nillable (seen p) gs rest last → RestRead nillable not_nil (content_.Mixed p) vs front rest first last
+    mixed-read p texts gs vs those ef ev made =
+        let around = those.mixed_is refl in
+        let bs = those.items in
+        let long = length_all-roses_of bs in
+        let many = around.many in
+        let enough : length around.words ≡ suc (length_all (roses_of bs)) = omega (arith, long, many) in
+        let together = puts_together around.words (roses_of bs) (elements-kept s (levels_all ts) gs bs those.kept) enough in
+        let between : texts_between vs ≡ around.words = ap texts_between around.is ∙ together.1 in
+        let xml : All IsXml around.words = subst (λ w. All IsXml w) between (between-xml vs (kids-xml asks M E depth small ts sound those.leaves_are vs those.valid)) in
+        record {
+          nil = false;
+          kids = roses_of bs;
+          count = length bs;
+          texts = around.words;
+          rest_as = (children-rest nillable p gs bs rest last those.named (gifts (levels_all ts) within gs bs those.kept) made).1;
+          texts_in = texts-in around.words xml texts around.texts_are (length bs + 1) (omega (arith, many)) front first ef ev;
+          whole = λ xs. ap (λ z. given xs z) (sym around.is);
+        }
+
+    plain-read : (p : Rose ParticleLabel) (texts : Rose ValueLabel) (gs : List Child) (vs : Roses Plain) → AreThose s false (seen p) ts texts gs vs → front ≡ [] → first ≡ []
+        → ChildrenMade nillable (seen p) gs rest last → RestRead nillable not_nil (content_.ElementOnly p) vs front rest first last
+    plain-read p texts gs vs those ef ev made =
+        let bs = those.items in
+        record {
+          nil = false;
+          kids = roses_of bs;
+          count = length bs;
+          texts = [];
+          rest_as = (children-rest nillable p gs bs rest last those.named (gifts (levels_all ts) within gs bs those.kept) made).0;
+          texts_in = (ef, ev);
+          whole = λ xs. ap (λ z. given xs z) (sym (those.plain_is refl));
+        }
+
+    content-read : (c : schema.Content) (texts : Rose ValueLabel) (r : Rest) (vs : Roses Plain) → IsContentBy s (inside_of (parts_of s) c) ts texts r vs → TextsMade (inside_of (parts_of s) c) texts front first
+        → RestMade nillable r rest last → RestRead nillable not_nil c vs front rest first last
+    content-read content_.Empty texts read.Nil vs h t o = absurd h
+    content-read content_.Empty texts (read.Text v) vs h t o = absurd h
+    content-read content_.Empty texts (read.Children model found) vs h t o = absurd h
+    content-read content_.Empty texts read.Nothing vs h t o = record {
+      nil = false;
+      kids = rose.none;
+      count = 0;
+      texts = [];
+      rest_as = nothing-rest nillable rest last o;
+      texts_in = t;
+      whole = λ xs. ap (λ z. given xs z) (sym h.1);
+    }
+    content-read (content_.Simple m) texts read.Nil vs h t o = absurd h
+    content-read (content_.Simple m) texts read.Nothing vs h t o = absurd h
+    content-read (content_.Simple m) texts (read.Children model found) vs h t o = absurd h
+    content-read (content_.Simple m) texts (read.Text v) vs (words, only, accepts, is) t o = record {
+      nil = false;
+      kids = vs;
+      count = 0;
+      texts = [];
+      rest_as = text-rest m v vs words (only-utf8 ts sound words only) accepts (is ∙ kids-text (spelled (space_at (parts_of s) m) v)) o.0 o.1;
+      texts_in = t;
+      whole = λ xs. refl;
+    }
+    content-read (content_.ElementOnly p) texts read.Nil vs h t o = absurd h
+    content-read (content_.ElementOnly p) texts read.Nothing vs h t o = absurd h
+    content-read (content_.ElementOnly p) texts (read.Text v) vs h t o = absurd h
+    content-read (content_.ElementOnly p) texts (read.Children model found) vs h t o =
+        plain-read p texts found.waiting.items vs h.1 t.0 t.1 (children-made (seen p) model.now found.waiting.items h.0 o)
+    content-read (content_.Mixed p) texts read.Nil vs h t o = absurd h
+    content-read (content_.Mixed p) texts read.Nothing vs h t o = absurd h
+    content-read (content_.Mixed p) texts (read.Text v) vs h t o = absurd h
+    content-read (content_.Mixed p) texts (read.Children model found) vs h t o =
+        mixed-read p texts found.waiting.items vs h.1 t.0 t.1 (children-made (seen p) model.now found.waiting.items h.0 o)
+
+    rest-read : (c : schema.Content) (n : Nil) (o : Option (List ℕ)) → nil_by nillable o ≡ n → (content : Content) (vs : Roses Plain) → ReadBy s n (inside_of (parts_of s) c) ts content vs
+        → TextsMade (inside_of (parts_of s) c) content.texts front first → RestMade nillable content.rest rest last → RestRead nillable n c vs front rest first last
+    rest-read c bad_nil o e content vs h t m = absurd h
+    rest-read c is_nil o e content vs h t m = nil-read nillable (nil-nillable nillable o e) c content vs h.0 h.1 front rest first last t m
+    rest-read c not_nil o e content vs h t m = content-read c content.texts content.rest vs h t m
+
+  -- ---- elements
+
+  module _ (xs : List (Name × List ℕ)) (sound_attributes : are_sound_attributes xs ≡ true) (ts : Roses ItemLabel) (sound : are_sound ts ≡ true) (within : suc depth + levels_all ts ≤ 65)
+      (n : Nil) (content : Content) (vs : Roses Plain) (v : Rose ValueLabel) (u : Rose TypeLabel)
+    where
+      -- the value fits, and gives the treated attributes and these kids
+      abbrev IsRight : Asked → Type 0
+      IsRight a = FitsAt M depth u v × (inside M u v ≡ given (with_nil n (treated_attributes a.attributes (left xs))) vs)
+
+      complex-right : (nillable : Bool) (c : ComplexDef) (a : Asked) → a ≡ asked nillable (map own c.uses) (inside_of (parts_of s) c.content) → HasComplex E s M nillable c (resolve M u) → AllStand a.attributes (left xs)
+          → nil_of a.nillable xs ≡ n → ReadBy s n a.inside ts content vs → ComplexMade a xs content v → IsRight a
+      complex-right nillable c a e has stand nil h made = subst IsRight (sym e) (go (subst (λ b. AllStand b.attributes (left xs)) e stand) (subst (λ b. nil_of b.nillable xs ≡ n) e nil) (subst (λ b. ReadBy s n b.inside ts content vs) e h) (subst (λ b. ComplexMade b xs content v) e made))
+        where
+          go : AllStand (map own c.uses) (left xs) → nil_of nillable xs ≡ n → ReadBy s n (inside_of (parts_of s) c.content) ts content vs
+              → ComplexMade (asked nillable (map own c.uses) (inside_of (parts_of s) c.content)) xs content v → IsRight (asked nillable (map own c.uses) (inside_of (parts_of s) c.content))
+          go stand nil h made =
+              let ys = treated_attributes (map own c.uses) (left xs) in
+              let attributes = attributes-in (left xs) (left-encoded xs sound_attributes) c.uses stand made.flags made.values made.attributes in
+              let r = rest-read nillable ts sound within made.text_flags made.rest_flags made.text_values made.rest_values c.content n (text_of xs xsi_nil) nil content vs h made.texts made.others in
+              let all = complex-made M E N depth small s linked nillable c u has r.nil r.kids r.count ys r.texts made.text_flags made.flags made.rest_flags made.text_values made.values made.rest_values r.texts_in attributes r.rest_as in
+              subst (λ w. FitsAt M depth u w × (inside M u w ≡ given (with_nil n ys) vs)) (sym made.is) (all.0, all.1 ∙ r.whole ys)
+
+      -- an element of a simple type that can't be nil
+      plain-right : (m : ℕ) (a : Asked) → a ≡ asked false [] (ask.simple (space_at (parts_of s) m)) → IsSimpleOf s m (resolve M u) → nil_of a.nillable xs ≡ n → ReadBy s n a.inside ts content vs
+          → IsMadeBy true content.rest v (ComplexMade a xs content v) → IsRight a
+      plain-right m a e has nil h made = subst IsRight (sym e) (by n refl (subst (λ b. nil_of b.nillable xs ≡ n) e nil) (subst (λ b. ReadBy s n b.inside ts content vs) e h))
+        where
+          text-right : (k : Nil) (r : Rest) → k ≡ not_nil → IsContentBy s (ask.simple (space_at (parts_of s) m)) ts content.texts r vs → IsMadeBy true r v (ComplexMade a xs content v)
+              → FitsAt M depth u v × (inside M u v ≡ given (with_nil k []) vs)
+          text-right k read.Nil q h made = absurd h
+          text-right k read.Nothing q h made = absurd h
+          text-right k (read.Children model found) q h made = absurd h
+          text-right k (read.Text w) q (words, only, accepts, is) made =
+              let space = space_at (parts_of s) m in
+              let one = text-given s linked M depth small m words (only-utf8 ts sound words only) w accepts u has in
+              subst (λ z. FitsAt M depth u z × (inside M u z ≡ given (with_nil k []) vs)) (sym made)
+              (one.0, one.1 ∙ ap (λ z. given [] z) (sym (is ∙ kids-text (spelled space w))) ∙ ap (λ z. given (with_nil z []) vs) (sym q))
+
+          by : (k : Nil) → k ≡ n → nil_of false xs ≡ n → ReadBy s n (ask.simple (space_at (parts_of s) m)) ts content vs → FitsAt M depth u v × (inside M u v ≡ given (with_nil n []) vs)
+          by bad_nil q nil h = absurd (subst (λ z. ReadBy s z (ask.simple (space_at (parts_of s) m)) ts content vs) (sym q) h)
+          by is_nil q nil h = absurd (true≢false (sym (nil-nillable false (text_of xs xsi_nil) (nil ∙ sym q))))
+          by not_nil q nil h = text-right n content.rest (sym q) (subst (λ z. ReadBy s z (ask.simple (space_at (parts_of s) m)) ts content vs) (sym q) h) made
+
+      kind-right : (d : ℕ) (k : TypeOf) (nillable : Bool) (a : Asked) → a ≡ asked_by_type (parts_of s) nillable k → (plain : Bool) → plain ≡ elim k [ kind.Simple m ↦ not nillable | kind.Complex m ↦ false ]
+          → elim k as (λ _. Type 0) [
+            | kind.Simple m ↦ MatchBool nillable (HasNillable s M m (resolve M u)) (IsSimpleOf s m (resolve M u))
+            | kind.Complex m ↦ IsSomeAnd (slice_get s.complexes m) (λ (c : ComplexDef). HasComplex E s M nillable c (resolve M u))
+          ]
+          → AllStand a.attributes (left xs) → nil_of a.nillable xs ≡ n → ReadBy s n a.inside ts content vs → IsMadeBy plain content.rest v (ComplexMade a xs content v) → IsRight a
+      kind-right d (kind.Simple m) true a e plain p has stand nil h made =
+          complex-right true (record { name = None; uses = []; content = content_.Simple m }) a e has stand nil h
+          (made-complex content.rest v (ComplexMade a xs content v) (subst (λ b. IsMadeBy b content.rest v (ComplexMade a xs content v)) p made))
+      kind-right d (kind.Simple m) false a e plain p has stand nil h made =
+          plain-right m a e has nil h (subst (λ b. IsMadeBy b content.rest v (ComplexMade a xs content v)) p made)
+      kind-right d (kind.Complex m) nillable a e plain p has stand nil h made = by (slice_get s.complexes m) e has
+        where
+          by : (o : Option ComplexDef) → a ≡ asked_by_complex (parts_of s) nillable o → IsSomeAnd o (λ (c : ComplexDef). HasComplex E s M nillable c (resolve M u)) → IsRight a
+          by None e has = absurd has
+          by (Some c) e has =
+              complex-right nillable c a e has stand nil h
+              (made-complex content.rest v (ComplexMade a xs content v) (subst (λ b. IsMadeBy b content.rest v (ComplexMade a xs content v)) p made))
+
+-- what is made of an element that was read
+pub made-gives : (s : Set) → IsLinked s → (d : ℕ) (a : Asked) → a ≡ asked_at (parts_of s) d → (xs : List (Name × List ℕ)) → are_sound_attributes xs ≡ true → AllStand a.attributes (left xs)
+    → (ts : Roses ItemLabel) → are_sound ts ≡ true → (n : Nil) → nil_of a.nillable xs ≡ n → (content : Content) (vs : Roses Plain) → ReadBy s n a.inside ts content vs
+    → (v : Rose ValueLabel) → IsMade (is_plain_at s d) a xs content v → Gives s d (suc (levels_all ts)) v (given (with_nil n (treated_attributes a.attributes (left xs))) vs)
+made-gives s linked d a asked_is xs sound_attributes stand ts sound n nil content vs h v made = λ M is_map depth u within type. by M is_map depth u within (slice_get s.elements d) refl type
+  where
+    by : (M : List Assignment) (is_map : IsMapOf s M) (depth : ℕ) (u : Rose TypeLabel) → depth + suc (levels_all ts) ≤ 65 → (o : Option ElementDecl) → slice_get s.elements d ≡ o
+        → IsSomeAnd o (λ (e : ElementDecl). HasContent (IsTypeAt s (place_in is_map.entries)) s M e (resolve M u))
+        → FitsAt M depth u v × (inside M u v ≡ given (with_nil n (treated_attributes a.attributes (left xs))) vs)
+    by M is_map depth u within None g has = absurd has
+    by M is_map depth u within (Some e) g has =
+        kind-right s linked M is_map depth (omega (arith, within)) xs sound_attributes ts sound (omega (arith, within)) n content vs v u d e.kind e.nillable a (asked_is ∙ ap (asked_by (parts_of s)) g)
+        (is_plain_at s d) (ap is_plain_by g) has stand nil h made

@@ -1,0 +1,170 @@
+-- What is read of the content of an element, and how its value is made of it.
+use Rattle.std.specs.Prelude.{◌≡◌, ℕ, suc, Bool, true, false, not, List, [], ◌∷◌, ◌++◌, length, map, All, Option, Some, None, slice_get, MatchBool}
+use Rattle.xa_base.specs.declared.texts.Name.{Name}
+use Rattle.label_tree.specs.Rose.{Rose, node, Roses, roses_of}
+use Rattle.label_tree.specs.Rose as rose
+use Rattle.simple_types.specs.declared.labels.ValueLabel.{ValueLabel}
+use Rattle.simple_types.specs.declared.labels.ValueLabel.TheVariants as value
+use Rattle.simple_values.specs.Reading.{Accepts, spelled}
+use Rattle.content_models.specs.declared.particles.ParticleLabel.{ParticleLabel}
+use Rattle.content_models.specs.Particle.{Particle}
+use Rattle.content_models.specs.Language.{Leaf, Lang}
+use Rattle.content_models.specs.Seen.{seen}
+use Rattle.doc_text.specs.declared.label.ItemLabel.{ItemLabel}
+use Rattle.doc_text.specs.Sound.{levels_all}
+use Rattle.plain_items.specs.Plain.{Plain}
+use Rattle.plain_items.specs.Mixing.{interleaved}
+use Rattle.schema_parts.specs.declared.components.ElementDecl.{ElementDecl}
+use Rattle.schema_parts.specs.declared.components.TypeOf.TheVariants as kind
+use Rattle.schema_parts.specs.Components.{Set}
+use Rattle.schema_parts.specs.Linked.{leaves, IsNamed}
+use Rattle.schema_parts.specs.SetParts.{parts_of}
+use Rattle.validity.specs.Asked.{Asked, Attribute, Inside, nothing, simple, children, asked_at}
+use Rattle.validity.specs.Attributes.{text_of, left}
+use Rattle.validity.specs.Valid.{only_text, text_kids, KidsValid}
+use Rattle.xer_read.specs.declared.children.Child.{Child}
+use Rattle.xer_read.specs.declared.contents.Content.{Content}
+use Rattle.xer_read.specs.declared.contents.Kids.{Kids}
+use Rattle.xer_read.specs.declared.contents.Rest.{Rest}
+use Rattle.xer_read.specs.declared.contents.Rest.TheVariants as rest
+use Rattle.xer_read.specs.declared.parts.Parts.{Parts}
+use Rattle.xer_read.specs.Private.Growing.{Grows}
+use Rattle.xer_read.specs.Private.Keeping.{text_value, words_of, AllKept}
+use Rattle.xer_read.specs.Private.Made.{TopMade}
+
+-- ---- what is read
+
+-- texts before, between and behind these elements
+pub record AreAround (texts : Rose ValueLabel) (bs : List (Rose Plain)) (vs : Roses Plain) : Type 0 where
+  pub words : List (List ℕ)
+  pub texts_are : texts ≡ node value.SequenceOf (roses_of (map text_value words))
+  pub many : length words ≡ suc (length bs)
+  pub is : vs ≡ interleaved words (roses_of bs)
+
+-- the child elements that are kept, and the texts, are those of the kids
+pub record AreThose (s : Set) (mixed : Bool) (p : Particle) (ts : Roses ItemLabel) (texts : Rose ValueLabel) (gs : List Child) (vs : Roses Plain) : Type 0 where
+  pub named : All (IsNamed s) (leaves p)
+  pub leaves_are : List Leaf
+  pub lang : Lang p 0 [] leaves_are
+  pub valid : KidsValid (asked_at (parts_of s)) mixed ts leaves_are vs
+  pub items : List (Rose Plain)
+  pub kept : AllKept s (levels_all ts) gs items
+  pub mixed_is : mixed ≡ true → AreAround texts items vs
+  pub plain_is : mixed ≡ false → vs ≡ roses_of items
+
+-- nothing else stands in the element
+abbrev pub IsNothing : Inside → Roses ItemLabel → Roses Plain → Type 0
+IsNothing nothing ts vs = (ts ≡ rose.none) × (vs ≡ rose.none)
+IsNothing _ ts vs = ⊥
+
+abbrev pub IsText : Inside → Roses ItemLabel → Rose ValueLabel → Roses Plain → Type 0
+IsText (simple space) ts v vs = (words : List ℕ) × (only_text ts ≡ Some words) × Accepts space words v × (vs ≡ text_kids (spelled space v))
+IsText _ ts v vs = ⊥
+
+abbrev pub AreChildren : Set → Inside → Roses ItemLabel → Rose ParticleLabel → Rose ValueLabel → List Child → Roses Plain → Type 0
+AreChildren s (children mixed p) ts model texts gs vs = (p ≡ seen model) × AreThose s mixed p ts texts gs vs
+AreChildren s _ ts model texts gs vs = ⊥
+
+abbrev pub IsContentBy : Set → Inside → Roses ItemLabel → Rose ValueLabel → Rest → Roses Plain → Type 0
+IsContentBy s inside ts texts rest.Nil vs = ⊥
+IsContentBy s inside ts texts rest.Nothing vs = IsNothing inside ts vs
+IsContentBy s inside ts texts (rest.Text v) vs = IsText inside ts v vs
+IsContentBy s inside ts texts (rest.Children model found) vs = AreChildren s inside ts model.now texts found.waiting.items vs
+
+-- the content of an element that isn't nil
+abbrev pub IsContentOf : Set → Inside → Roses ItemLabel → Content → Roses Plain → Type 0
+IsContentOf s inside ts content vs = IsContentBy s inside ts content.texts content.rest vs
+
+-- with some treated kids
+abbrev pub IsRightContent : Set → Inside → Roses ItemLabel → Content → Type 0
+IsRightContent s inside ts content = (vs : Roses Plain) × IsContentOf s inside ts content vs
+
+-- of one that is nil: it has no text
+abbrev pub IsNilContent : Content → Type 0
+IsNilContent content = (content.rest ≡ rest.Nil) × (content.texts ≡ node value.SequenceOf rose.none)
+
+abbrev pub IsRestWith : List Child → Rose ParticleLabel → Rest → Type 0
+IsRestWith gs model (rest.Children own found) = (own.now ≡ model) × (found.waiting.items ≡ gs)
+IsRestWith gs model _ = ⊥
+
+-- these kids, whose last text is closed in mixed content
+pub record IsContentWith (mixed : Bool) (read : Kids) (model : Rose ParticleLabel) (content : Content) : Type 0 where
+  pub rest_is : IsRestWith read.children.waiting.items model content.rest
+  pub texts : mixed ≡ true → content.texts ≡ node value.SequenceOf (roses_of (read.texts.items ++ text_value (words_of read.behind) ∷ []))
+
+-- ---- what is made
+
+-- parts were added of which this holds
+pub record Adds (P : List Bool → List (Rose ValueLabel) → Type 0) (before after : Parts) : Type 0 where
+  pub flags : List Bool
+  pub values : List (Rose ValueLabel)
+  pub grows : Grows before after flags values
+  pub made : P flags values
+
+-- a part for each attribute that may stand: its value, or none
+abbrev pub AttributesMade : List Attribute → List (Name × List ℕ) → List Bool → List (Rose ValueLabel) → Type 0
+AttributesMade [] xs flags vs = (flags ≡ []) × (vs ≡ [])
+AttributesMade (a ∷ wanted) xs (false ∷ flags) vs = (text_of xs a.name ≡ None) × AttributesMade wanted xs flags vs
+AttributesMade (a ∷ wanted) xs (true ∷ flags) (v ∷ vs) =
+    (words : List ℕ) × (text_of xs a.name ≡ Some words) × Accepts a.space words v × AttributesMade wanted xs flags vs
+AttributesMade _ xs _ _ = ⊥
+
+-- the part for the texts of mixed content
+abbrev pub TextsMade : Inside → Rose ValueLabel → List Bool → List (Rose ValueLabel) → Type 0
+TextsMade (children true p) texts flags vs = (flags ≡ true ∷ []) × (vs ≡ texts ∷ [])
+TextsMade _ texts flags vs = (flags ≡ []) × (vs ≡ [])
+
+-- the parts for child elements; where the element may be nil, they are those of one part
+abbrev pub ChildrenMade : Bool → Particle → List Child → List Bool → List (Rose ValueLabel) → Type 0
+ChildrenMade false p gs flags vs = TopMade p flags vs gs
+ChildrenMade true p gs flags vs =
+    (fs : List Bool) × (ws : List (Rose ValueLabel)) × (flags ≡ true ∷ []) × (vs ≡ node (value.Sequence fs) (roses_of ws) ∷ []) × TopMade p fs ws gs
+
+abbrev pub NothingMade : Bool → List Bool → List (Rose ValueLabel) → Type 0
+NothingMade false flags vs = (flags ≡ []) × (vs ≡ [])
+NothingMade true flags vs = (flags ≡ true ∷ []) × (vs ≡ node (value.Sequence []) rose.none ∷ [])
+
+-- the parts for what stands beside attributes and texts
+abbrev pub RestMade : Bool → Rest → List Bool → List (Rose ValueLabel) → Type 0
+RestMade nillable rest.Nil flags vs = (flags ≡ false ∷ []) × (vs ≡ [])
+RestMade nillable rest.Nothing flags vs = NothingMade nillable flags vs
+RestMade nillable (rest.Text v) flags vs = (flags ≡ true ∷ []) × (vs ≡ v ∷ [])
+RestMade nillable (rest.Children model found) flags vs = ChildrenMade nillable (seen model.now) found.waiting.items flags vs
+
+-- the value of a complex type: its texts, its attributes, and the rest
+pub record ComplexMade (a : Asked) (xs : List (Name × List ℕ)) (content : Content) (v : Rose ValueLabel) : Type 0 where
+  pub text_flags : List Bool
+  pub text_values : List (Rose ValueLabel)
+  pub flags : List Bool
+  pub values : List (Rose ValueLabel)
+  pub rest_flags : List Bool
+  pub rest_values : List (Rose ValueLabel)
+  pub is : v ≡ node (value.Sequence (text_flags ++ (flags ++ rest_flags))) (roses_of (text_values ++ (values ++ rest_values)))
+  pub texts : TextsMade a.inside content.texts text_flags text_values
+  pub attributes : AttributesMade a.attributes (left xs) flags values
+  pub others : RestMade a.nillable content.rest rest_flags rest_values
+
+abbrev pub is_plain_by : Option ElementDecl → Bool
+is_plain_by None = false
+is_plain_by (Some e) = elim e.kind [ kind.Simple n ↦ not e.nillable | kind.Complex n ↦ false ]
+
+-- the declaration has a simple type, and its elements are never nil
+abbrev pub is_plain_at : Set → ℕ → Bool
+is_plain_at s d = is_plain_by (slice_get s.elements d)
+
+abbrev pub IsMadeBy : Bool → Rest → Rose ValueLabel → Type 0 → Type 0
+IsMadeBy plain (rest.Text w) v complex = MatchBool plain (v ≡ w) complex
+IsMadeBy plain rest.Nil v complex = complex
+IsMadeBy plain rest.Nothing v complex = complex
+IsMadeBy plain (rest.Children model found) v complex = complex
+
+-- the value of an element: that of its text, or one of a complex type
+abbrev pub IsMade : Bool → Asked → List (Name × List ℕ) → Content → Rose ValueLabel → Type 0
+IsMade plain a xs content v = IsMadeBy plain content.rest v (ComplexMade a xs content v)
+
+-- the value of a content that is read of these kids
+abbrev pub IsFilled : Set → ℕ → Asked → List (Name × List ℕ) → Roses ItemLabel → Rose ValueLabel → Type 0
+IsFilled s d a xs ts v = (content : Content) × (vs : Roses Plain) × IsContentOf s a.inside ts content vs × IsMade (is_plain_at s d) a xs content v
+
+abbrev pub IsNilFilled : Set → ℕ → Asked → List (Name × List ℕ) → Rose ValueLabel → Type 0
+IsNilFilled s d a xs v = (content : Content) × IsNilContent content × IsMade (is_plain_at s d) a xs content v
