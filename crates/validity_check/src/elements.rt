@@ -115,7 +115,7 @@ fn check_kid<L: Ledger>(
 
 // The names taken are those of a list of the content model. The element stands at this place.
 fn finish<L: Ledger>(matcher: &Matcher, at: u64, steps: &mut Steps<L>) -> Result<(), CheckError>
-    ensures ticks { steps.new ≤ steps.old + (4 * levels matcher.now.particle + 4) }
+    ensures ticks { (steps.old ≤ steps.new) × (steps.new ≤ steps.old + (4 * levels matcher.now.particle + 4)) }
     ensures finished { (us : List Leaf) → Took matcher.now us
         → MatchResult result
         (λ _. Lang matcher.now.particle 0 [] us)

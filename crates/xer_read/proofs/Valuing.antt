@@ -1,6 +1,6 @@
 -- The value of a valid document is one of the root type, in each map of the set.
 use Rattle.std.proofs.Common.{◌≡◌, ℕ, ◌<◌, ◌≤◌, Option, Some, None, List, refl, sym, ap, subst, ◌∙◌, arith}
-use Rattle.std.specs.Prelude.{slice_get, IsSomeAnd, Result, Ok, Err, MatchResult}
+use Rattle.std.specs.Prelude.{slice_get, IsSomeAnd, Result, Ok, Err, MatchResult, IfOk}
 use Rattle.std.specs.Option.{option_map}
 use Rattle.label_tree.specs.Rose.{Rose, label_of, node_count, shown_count, Allowed}
 use Rattle.simple_types.specs.declared.labels.ValueLabel.{ValueLabel}
@@ -15,7 +15,7 @@ use Rattle.schema_parts.specs.SetParts.{parts_of}
 use Rattle.asn_types.specs.declared.modules.Assignment.{Assignment}
 use Rattle.asn_types.specs.Names.{name_told}
 use Rattle.asn_types.specs.Refs.{resolve}
-use Rattle.asn_types.specs.Values.{FitsAt}
+use Rattle.asn_types.specs.Values.{FitsAt, Fits}
 use Rattle.map_subjects.specs.Subjects.{place_in}
 use Rattle.map_assignments.specs.Mapped.{IsMapOf}
 use Rattle.map_laws.specs.Standing.{HasContent}
@@ -30,11 +30,11 @@ use Rattle.validity.specs.declared.why.InvalidWhy.{InvalidWhy}
 use Rattle.validity_check.specs.declared.error.CheckError.{CheckError}
 use Rattle.validity_check.specs.Answers.{Tells}
 use Rattle.validity_check.proofs.Rooting.{root_judged}
-use Rattle.one_value.specs.Statements.{root_at}
-use Rattle.one_value.proofs.Declarations.{none-at}
+use Rattle.one_value.specs.Statements.{AreSmall, root_at}
+use Rattle.one_value.proofs.Declarations.{none-at, one-value}
 use Rattle.xer_read.specs.declared.error.ReadError.{ReadError}
 use Rattle.xer_read.specs.declared.error.ReadError.TheVariants.{Invalid, TooManyNodes, Memory}
-use Rattle.xer_read.specs.Answers.{IsValueOf, IsTooLarge, ReadTells}
+use Rattle.xer_read.specs.Answers.{IsValueOf, IsTooLarge, IsOnlyValue, ReadTells}
 use Rattle.xer_read.specs.Private.Given.{IsElementOf, IsTypeFor, IsRead, IsRootRead}
 use Rattle.xer_read.proofs.Allowing.{fits-allowed}
 
@@ -110,6 +110,14 @@ module _ (s : Set) (linked : IsLinked s) (d : ℕ) (below : d < s.globals) (t : 
   of-counted M is_map (Err (Invalid at why)) F k = absurd k
   of-counted M is_map (Err (TooManyNodes count)) F (many, is) = (v, value-of M is_map, many, is)
   of-counted M is_map (Err Memory) F k = tt
+
+  pub only-counted : AreSmall s → (M : List Assignment) (is_map : IsMapOf s M) (r : Result (Rose ValueLabel) ReadError)
+      → MatchResult r (λ value. (value ≡ v) × (node_count v ≤ 1048576)) (ReadTells (λ at why. ⊥) (λ count. (1048576 < node_count v) × (count ≡ shown_count v)))
+      → IfOk r (λ value. IsOnlyValue M (root_at s M is_map d) value)
+  only-counted small M is_map (Ok value) (same, few) = λ w fits items.
+      let (b, valid, own, xer) = value-of M is_map in
+      one-value s M linked small is_map d below w value fits (subst (Fits M (root_at s M is_map d)) (sym same) own) items
+  only-counted small M is_map (Err e) k = tt
 
 -- a root of the name that is declared
 pub root-read : (s : Set) (d : ℕ) (e : ElementDecl) → slice_get s.elements d ≡ Some e → (t : Rose ItemLabel) → HasName (Some e.name) (label_of t) → levels t ≤ 64 → (r : Result (Rose ValueLabel) CheckError)

@@ -23,6 +23,10 @@ IsValueOf s d items M t v = (b : Rose Plain) × Valid (parts_of s) d items b × 
 abbrev pub IsTooLarge : Set → ℕ → Rose ItemLabel → List Assignment → ℕ → ℕ → Type 0
 IsTooLarge s d items M t count = (v : Rose ValueLabel) × IsValueOf s d items M t v × (1048576 < node_count v) × (count ≡ shown_count v)
 
+-- each value of the type with the items of this one is this one
+abbrev pub IsOnlyValue : List Assignment → ℕ → Rose ValueLabel → Type 0
+IsOnlyValue M t v = (w : Rose ValueLabel) → Fits M t w → Xer M t w ≡ Xer M t v → w ≡ v
+
 -- the fault is one of these; or the value has so many nodes that it is too large; or memory is missing
 abbrev pub ReadTells : (ℕ → InvalidWhy → Type 0) → (ℕ → Type 0) → ReadError → Type 0
 ReadTells Fault large (Invalid at why) = Fault at why

@@ -1,5 +1,5 @@
 //! Elements and their kids, one by one.
-ghost use Rattle.std.specs.Prelude.{◌≡◌, ℕ, ◌+◌, ◌-◌, ◌*◌, ◌^◌, ◌<◌, ◌≤◌, true, false, List, [], length, slice_index_or, All, MatchResult};
+ghost use Rattle.std.specs.Prelude.{◌≡◌, ℕ, ◌+◌, ◌-◌, ◌*◌, ◌^◌, ◌<◌, ◌≤◌, true, false, List, [], length, slice_index_or, All, MatchResult, OnOk};
 ghost use Rattle.label_tree.specs.Rose.{Rose, label_of, roses_of, none, node_count, count_all};
 ghost use Rattle.xa_base.specs.WhiteSpace.{is_blank};
 ghost use Rattle.doc_text.specs.declared.label.ItemLabel.{ItemLabel};
@@ -86,6 +86,7 @@ fn read_kid<L: Ledger>(
         (λ _. Reached set.now mixed p kids (i + 1) matcher.new read.new)
         (Tells (KidsFault (asked_at (parts_of set.now)) mixed p (roses_of kids) place)) }
     ensures most { steps.new ≤ steps.old + 144 * element_count kid.now }
+    ensures least { OnOk result (steps.old + element_count kid.now ≤ steps.new) }
 {
     match kid.label() {
         ItemLabel::Text { text, at } => read_between(plans.alloc(), mixed, text, *at, read),
@@ -114,7 +115,7 @@ fn finish<L: Ledger>(
     read: Kids,
     steps: &mut Steps<L>,
 ) -> Result<Kids, CheckError>
-    ensures ticks { steps.new ≤ steps.old + (4 * levels matcher.now.particle + 4) }
+    ensures ticks { (steps.old ≤ steps.new) × (steps.new ≤ steps.old + (4 * levels matcher.now.particle + 4)) }
     ensures finished { (us : List Leaf) → Took matcher.now us
         → MatchResult result
         (λ kept. Lang matcher.now.particle 0 [] us × (kept ≡ read))
@@ -151,6 +152,7 @@ fn read_kids<L: Ledger>(
         (KidsRead set.now mixed plan.now (roses_of kids.now))
         (Tells (KidsFault (asked_at (parts_of set.now)) mixed plan.now (roses_of kids.now) at)) }
     ensures most { steps.new ≤ steps.old + (144 * elements_in (roses_of kids.now) + 72) }
+    ensures least { OnOk result (steps.old + elements_in (roses_of kids.now) ≤ steps.new) }
 {
     let mut matcher = Matcher::start(plan)?;
     let mut read = Kids::new(plans.alloc());
@@ -180,6 +182,7 @@ fn read_inside<'a, L: Ledger>(
         (IsRightContent set.now (inside_told inside.entry) (roses_of kids.now))
         (Tells (InsideFault (asked_at (parts_of set.now)) (inside_told inside.entry) (roses_of kids.now) at)) }
     ensures most { steps.new ≤ steps.old + (144 * elements_in (roses_of kids.now) + 72) }
+    ensures least { OnOk result (steps.old + elements_in (roses_of kids.now) ≤ steps.new) }
 {
     match inside {
         Inside::Nothing => match check_no_content(kids) {
@@ -231,6 +234,7 @@ fn read_filled<L: Ledger>(
         (IsFilled set.now decl (told (parts_of set.now) declared.entry) attributes.now (roses_of kids.now))
         (Tells (InsideFault (asked_at (parts_of set.now)) (inside_told declared.entry.inside) (roses_of kids.now) at)) }
     ensures most { steps.new ≤ steps.old + (144 * elements_in (roses_of kids.now) + 72) }
+    ensures least { OnOk result (steps.old + elements_in (roses_of kids.now) ≤ steps.new) }
 {
     match read_inside(set, plans, declared.inside, at, kids, steps) {
         Err(error) => Err(error),
@@ -288,6 +292,7 @@ pub(crate) fn read_element<L: Ledger>(
         (IsRead set.now decl item.now)
         (Tells (FaultBy (asked_at (parts_of set.now)) decl item.now)) }
     ensures most { steps.new + 72 ≤ steps.old + 144 * element_count item.now }
+    ensures least { OnOk result (steps.old + element_count item.now ≤ steps.new + 1) }
 {
     match item.label() {
         ItemLabel::Text { .. } => unreachable!(),

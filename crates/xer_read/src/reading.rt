@@ -1,18 +1,18 @@
 //! The value of a document.
-ghost use Rattle.std.specs.Prelude.{◌≡◌, ◌+◌, ◌*◌, ◌<◌, ◌≤◌, List, Some, MatchResult};
+ghost use Rattle.std.specs.Prelude.{◌≡◌, ◌+◌, ◌*◌, ◌<◌, ◌≤◌, List, Some, MatchResult, OnOk, IfOk};
 ghost use Rattle.label_tree.specs.Rose.{node_count, shown_count, Allowed};
 ghost use Rattle.simple_types.specs.Labels.{MayHave};
 ghost use Rattle.schema_parts.specs.Linked.{IsLinked};
 ghost use Rattle.schema_parts.specs.SetParts.{parts_of};
 ghost use Rattle.asn_types.specs.declared.modules.Assignment.{Assignment};
 ghost use Rattle.map_assignments.specs.Mapped.{IsMapOf};
-ghost use Rattle.one_value.specs.Statements.{root_at};
+ghost use Rattle.one_value.specs.Statements.{AreSmall, root_at};
 ghost use Rattle.validity.specs.Valid.{HasName};
 ghost use Rattle.doc_text.specs.Labels.{item_place};
 ghost use Rattle.validity.specs.Faults.{At, FirstFault};
 ghost use Rattle.validity_check.specs.Answers.{Tells};
 ghost use Rattle.validity_check.specs.Counts.{element_count};
-ghost use Rattle.xer_read.specs.Answers.{IsValueOf, IsTooLarge, ReadTells};
+ghost use Rattle.xer_read.specs.Answers.{IsValueOf, IsTooLarge, IsOnlyValue, ReadTells};
 ghost use Rattle.xer_read.specs.Private.Given.{IsRootRead};
 
 use crate::elements::read_element;
@@ -72,6 +72,7 @@ fn read_root<L: Ledger>(
         (IsRootRead set.now root items.now)
         (Tells (FirstFault (parts_of set.now) root items.now)) }
     ensures most { steps.new ≤ steps.old + 144 * element_count items.now }
+    ensures least { OnOk result (steps.old + element_count items.now ≤ steps.new + 1) }
 {
     let _ = set.element_count();
     let mut plans = Plans::new(alloc, set)?;
@@ -102,7 +103,8 @@ fn counted(tree: Tree<ValueLabel>) -> Result<Value, ReadError>
 }
 
 /// The value of a document that is valid against the global element with this number: in each map of the set, one of the
-/// root type of the element, and its items are the treated items of the document.
+/// root type of the element, and its items are the treated items of the document. No other value of the type has these
+/// items.
 ///
 /// An error tells the first fault; or that the document is valid and its value has more than 1,048,576 nodes, where the
 /// count 2^64 - 1 stands for that number and every greater one; or that memory is missing.
@@ -117,7 +119,11 @@ pub fn read_value<L: Ledger>(
     ensures read { (M : List Assignment) → (is_map : IsMapOf set.now M) → MatchResult result
         (λ value. IsValueOf set.now root items.now M (root_at set.now M is_map root) value × (node_count value ≤ 1048576))
         (ReadTells (FirstFault (parts_of set.now) root items.now) (IsTooLarge set.now root items.now M (root_at set.now M is_map root))) }
+    ensures alone { AreSmall set.now → (M : List Assignment) → (is_map : IsMapOf set.now M) → IfOk result (λ value. IsOnlyValue M (root_at set.now M is_map root) value) }
     ensures most { steps.new ≤ steps.old + 144 * element_count items.now }
+    ensures least { MatchResult result
+        (λ _. steps.old + element_count items.now ≤ steps.new + 1)
+        (ReadTells (λ at why. Unit {0}) (λ count. steps.old + element_count items.now ≤ steps.new + 1)) }
 {
     match read_root(alloc, set, root, items, steps) {
         Err(CheckError::Invalid { at, why }) => Err(ReadError::Invalid { at, why }),

@@ -136,7 +136,7 @@ check_kids-returns-clause-most g t c =
     let l : levels c.loop-kid.matcher.particle ≤ 17 = subst (λ q. levels q ≤ 17) (sym c.loop-kid.invariant.walked.particle) c.requires.levels in
     let so_far = c.loop-kid.invariant.most in
     let all = fewer (roses_of c.args.kids.now) c.loop-kid.kid-index in
-    let s = c.finish.ensures.ticks in
+    let s = c.finish.ensures.ticks.1 in
     omega (arith, l, so_far, all, s)
 
 -- ---- what stands in an element

@@ -1,15 +1,15 @@
-use Rattle.std.proofs.Common.{◌≡◌, ◌≤◌, true, refl, sym, ◌∙◌, ap, subst, arith, add-one}
+use Rattle.std.proofs.Common.{◌≡◌, ◌+◌, ◌≤◌, true, refl, sym, ◌∙◌, ap, subst, arith, add-one}
 use Rattle.std.specs.Prelude.{Result, Err, All}
 use Rattle.validity_check.specs.declared.error.CheckError.{CheckError}
 use Rattle.std.proofs.lemmas.Result.{err_from_is_err_and}
-use Rattle.label_tree.specs.Rose.{roses_of, count_all}
+use Rattle.label_tree.specs.Rose.{roses_of, none, count_all}
 use Rattle.doc_text.specs.Sound.{is_text, are_sound}
 use Rattle.content_match.specs.Taking.{levels}
 use Rattle.content_models.specs.Seen.{seen}
 use Rattle.schema_parts.specs.Linked.{leaves, IsNamed}
 use Rattle.schema_parts.specs.SetParts.{parts_of}
 use Rattle.validity.proofs.Reading.{kid_count, count-kids, kid_here}
-use Rattle.validity_check.specs.Counts.{elements_in}
+use Rattle.validity_check.specs.Counts.{element_count, elements_in}
 use Rattle.validity_check.specs.Told.{inside_told, told, IsFittingInside}
 use Rattle.validity_check.proofs.Counting.{one_more, up_to, fewer, element_counts, at_least_length}
 use Rattle.validity_check.proofs.Leaves.{names_declared}
@@ -20,7 +20,12 @@ use Rattle.validity_check.proofs.Walking.{leaf_declared, name_refused, kid_judge
 use Rattle.xer_read.proofs.Reaching.{none-reached, walked, end-read, text-judged, kid-reached}
 use Rattle.simple_types.specs.Seen.{space_of}
 use Rattle.xer_read.specs.Private.Keeping.{KidsRead}
-use Rattle.xer_read.specs.Private.Contents.{IsRightContent}
+use Rattle.xer_read.specs.Private.Contents.{IsRightContent, IsNilFilled}
+use Rattle.validity.specs.Faults.{FirstKid}
+use Rattle.validity.specs.declared.why.InvalidWhy.TheVariants.{NilWithContent}
+use Rattle.validity_check.specs.Answers.{Tells}
+use Rattle.xer_read.proofs.Counting.{match-ok, always-ok, text-without, all-counted}
+use Rattle.xer_read.proofs.Growing.{on-ok}
 use Rattle.xer_read.proofs.Whole.{nothing-right, text-right, children-right, nil-read, filled-read}
 use Rattle.xer_read.proofs.elements.+reading.Goals as goal
 
@@ -87,6 +92,7 @@ read_kids-loop-kid-init g t c = record {
   plans = c.requires.plans;
   reached = none-reached c.args.set.now c.args.mixed c.args.plan.now c.args.kids.now c.in_ok-matcher.matcher c.new-read.result c.in_ok-matcher.ensures.plan c.in_ok-matcher.ensures.took c.new-read.ensures.texts c.new-read.ensures.behind c.new-read.ensures.children;
   most = omega arith;
+  least = omega arith;
 }
 
 pub read_kids-read_kid-requires : goal.read_kids-read_kid-requires
@@ -133,6 +139,10 @@ read_kids-loop-kid-preserved g t c =
       plans = c.in_ok-read_kid.ensures.same;
       reached = c.in_ok-read_kid.ensures.judged c.args.plan.now c.args.kids.now c.args.at c.loop-kid.kid-index below c.kid-item.is c.loop-kid.invariant.reached;
       most = rw add-one (omega (arith, more, so_far, m));
+      least =
+          let least = c.loop-kid.invariant.least in
+          let l = c.in_ok-read_kid.ensures.least in
+          rw add-one (omega (arith, more, least, l));
     }
 
 pub read_kids-returns-clause-judged : goal.read_kids-returns-clause-judged
@@ -145,7 +155,7 @@ read_kids-returns-clause-most g t c =
     let l : levels c.loop-kid.matcher.particle ≤ 17 = subst (λ q. levels q ≤ 17) (sym c.loop-kid.invariant.reached.particle) c.requires.levels in
     let so_far = c.loop-kid.invariant.most in
     let all = fewer (roses_of c.args.kids.now) c.loop-kid.kid-index in
-    let s = c.finish.ensures.ticks in
+    let s = c.finish.ensures.ticks.1 in
     omega (arith, l, so_far, all, s)
 
 -- ---- what stands in an element
@@ -271,3 +281,31 @@ read_kids-returns-in_err-read_kid-clause-most g t c =
     let so_far = c.loop-kid.invariant.most in
     let m = c.in_err-read_kid.ensures.most in
     omega (arith, all, so_far, m)
+
+pub read_element-returns-then-nil-clause-least : goal.read_element-returns-then-nil-clause-least
+read_element-returns-then-nil-clause-least g t c =
+    let n = element_counts c.args.item.now c.in-Element.name c.in-Element.attributes c.in-Element.declares c.in-Element.at (sym c.label.ensures ∙ c.in-Element.is) in
+    let same = ap (λ ks. elements_in (roses_of ks)) c.kids-kids.ensures in
+    match-ok c.read_nil.result
+    (λ v. (roses_of c.kids-kids.result.now ≡ none) × IsNilFilled c.args.set.now c.args.decl (told (parts_of c.args.set.now) c.declared_of-declared.result) c.items-items.result.now v)
+    (Tells (FirstKid (roses_of c.kids-kids.result.now) (λ _. NilWithContent))) (c.args.steps.now + element_count c.args.item.now ≤ c.args.steps.now + 1)
+    (λ v h. let empty = ap elements_in h.0 in omega (arith, n, same, empty)) c.read_nil.ensures
+
+pub read_element-returns-else-nil-clause-least : goal.read_element-returns-else-nil-clause-least
+read_element-returns-else-nil-clause-least g t c =
+    let n = element_counts c.args.item.now c.in-Element.name c.in-Element.attributes c.in-Element.declares c.in-Element.at (sym c.label.ensures ∙ c.in-Element.is) in
+    let same = ap (λ ks. elements_in (roses_of ks)) c.kids-kids.ensures in
+    on-ok c.read_filled.result (c.args.steps.now + elements_in (roses_of c.kids-kids.result.now) ≤ c.read_filled.new.steps) (c.args.steps.now + element_count c.args.item.now ≤ c.read_filled.new.steps + 1)
+    (λ h. omega (arith, n, same, h)) c.read_filled.ensures.least
+
+pub read_inside-returns-in-Ok-read_text-clause-least : goal.read_inside-returns-in-Ok-read_text-clause-least
+read_inside-returns-in-Ok-read_text-clause-least g t c =
+    let empty = text-without (roses_of c.args.kids.now) c.in-Ok-read_text.ensures.0 c.in-Ok-read_text.ensures.1 in
+    omega (arith, empty)
+
+pub read_kids-returns-clause-least : goal.read_kids-returns-clause-least
+read_kids-returns-clause-least g t c =
+    let so_far = c.loop-kid.invariant.least in
+    let all = all-counted c.args.kids.now c.loop-kid.kid-index c.loop-kid-test.false in
+    let s = c.finish.ensures.ticks.0 in
+    always-ok c.finish.result (c.args.steps.now + elements_in (roses_of c.args.kids.now) ≤ c.finish.new.steps) (omega (arith, so_far, all, s))

@@ -25,4 +25,5 @@ invariant-read_kids-loop-kid g l = record {
   plans : l.plans ≡ l.set;
   reached : Reached l.set l.mixed l.plan l.kids l.kid-index l.matcher l.read;
   most : l.steps ≤ l.initial.steps + 144 * elements_in (front l.kid-index (roses_of l.kids));
+  least : l.initial.steps + elements_in (front l.kid-index (roses_of l.kids)) ≤ l.steps;
 }
