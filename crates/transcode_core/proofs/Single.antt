@@ -4,34 +4,38 @@ use Rattle.xa_base.specs.Faults.{HasRisen}
 use Rattle.xa_base.specs.Entries.{beside}
 use Rattle.xa_base.specs.declared.texts.Name.{Name}
 use Rattle.label_tree.specs.Rose as tree
-use Rattle.label_tree.specs.Rose.{Rose, node_count}
+use Rattle.label_tree.specs.Rose.{Rose, node_count, shown_count}
 use Rattle.doc_text.specs.declared.label.ItemLabel.{ItemLabel}
 use Rattle.doc_text.specs.declared.error.DocWhy.{DocWhy}
 use Rattle.doc_text.proofs.OneTree.{one_tree, tree_or_fault, one_fault}
 use Rattle.doc_text.proofs.PieceLaws.{PieceLaws}
 use Rattle.transcode_core.specs.declared.outcome.Outcome.{Outcome}
-use Rattle.transcode_core.specs.declared.outcome.Outcome.TheVariants.{Done, SchemaFault, LinkFault, Invalid, OutOfMemory}
+use Rattle.transcode_core.specs.declared.outcome.Outcome.TheVariants.{Done, SchemaFault, LinkFault, Invalid, TooManyNodes, OutOfMemory}
 use Rattle.transcode_core.specs.Order.{Give, Found, Then}
 use Rattle.schema_faults.specs.Faults.{first_fault, reasons}
 use Rattle.schema_faults.specs.declared.faults.DocumentFault.{DocumentFault}
 use Rattle.transcode_core.specs.Steps.{Loaded, Read, Faultless, Linked, Printed, Schema, Schemas, Input, Judged, RootType, IsRootType, Typed, Valued, Encoding, Decoded, Written}
-use Rattle.transcode_core.specs.Due.{SetIn, Opened, ItemsIn, Checked, Encoded, Documented, Sent, Answered, Due}
+use Rattle.transcode_core.specs.Due.{SetIn, Opened, ItemsIn, Checked, Encoded, Documented, Sent, Tried, Answered, Due}
 use Rattle.transcode_core.specs.Words.{Asked, Show, Check, ToPer, ToXml, Trial}
-use Rattle.transcode_core.specs.Causes.{IsRefusal, reads_input, ReadsInput, IsTold, Settles, IsSettled, Deciding}
+use Rattle.transcode_core.specs.Causes.{IsRefusal, reads_input, ReadsInput, IsTold, Deciding}
 use Rattle.schema_read.specs.Raw.{raw_of}
 use Rattle.schema_parts.specs.SetParts.{SetParts, NamedSpace, named_spaces, parts_of}
 use Rattle.link_set.specs.Sets.{set_of}
 use Rattle.simple_types.specs.Seen.{space_of}
 use Rattle.schema_parts.specs.Components.{Set}
 use Rattle.schema_parts.specs.Linked.{IsLinked}
+use Rattle.plain_items.specs.Plain.{Plain}
 use Rattle.plain_items.specs.Unplaced.{unplaced}
 use Rattle.doc_written.specs.Written.{written}
 use Rattle.simple_types.specs.declared.labels.ValueLabel.{ValueLabel}
 use Rattle.asn_types.specs.declared.modules.Assignment.{Assignment}
+use Rattle.asn_types.specs.Values.{Fits}
+use Rattle.xer_items.specs.Items.{Xer}
+use Rattle.one_value.specs.Statements.{OneValue}
 use Rattle.map_subjects.specs.declared.subjects.Subject.TheVariants as subject
 use Rattle.map_subjects.specs.declared.subjects.NamedSubject.{NamedSubject}
 use Rattle.map_subjects.specs.Subjects.{AreEntries, place_in}
-use Rattle.transcode_core.specs.TruthValues.{truth_in}
+use Rattle.transcode_core.specs.Trial.{trial_name, trial_schema, trial_root, trial_document}
 use Rattle.transcode_core.proofs.Octets.{OctetLaws, same_octets, one_whole, whole_or_none, one_refusal}
 use Rattle.validity.specs.Laws.{AtMostOne}
 use Rattle.schema_parts.specs.declared.components.SimpleDef.{SimpleDef}
@@ -234,12 +238,23 @@ Typed-single opened (Ok a) (Ok b) p q =
 pub some_inj : {A : Type 0} (x y : A) → Some x ≡ Some y → x ≡ y
 some_inj x y e = cc
 
--- the value of a document that is a truth value
-pub Valued-single : (opened : SetParts × ℕ) (type : RootType) (items : tree.Rose ItemLabel) (b : Bool) → truth_in opened items ≡ Some b → IsSingle (Valued opened type items)
-Valued-single opened type items b e (Ok v) (Ok w) p q = ap (λ z. Ok z) (p.1 b e ∙ sym (q.1 b e))
-Valued-single opened type items b e (Ok v) (Err o) p q = let f : Some b ≡ None = sym e ∙ q.0 in cc
-Valued-single opened type items b e (Err o) (Ok v) q p = let f : Some b ≡ None = sym e ∙ q.0 in cc
-Valued-single opened type items b e (Err o) (Err m) p q = let f : Some b ≡ None = sym e ∙ p.0 in cc
+module _ (one : OneValue) (parts : SetParts) (n : ℕ) (type : RootType) where
+  -- two values with the same items are one
+  same_value : IsRootType parts n type → (b : Rose Plain) (v w : Rose ValueLabel) → Fits type.assignments type.number v → Fits type.assignments type.number w
+      → Xer type.assignments type.number v ≡ Some b → Xer type.assignments type.number w ≡ Some b → v ≡ w
+  same_value (s, of_s, h) b v w fits also is was =
+      let M = type.assignments in
+      one s M h.linked h.small h.is_map n h.global v w (subst (λ t. Fits M t v) h.number_is fits) (subst (λ t. Fits M t w) h.number_is also)
+      (subst (λ t. Xer M t v ≡ Xer M t w) h.number_is (is ∙ sym was))
+
+  pub Valued-single : IsRootType parts n type → (b : Rose Plain) → IsSingle (Valued type b)
+  Valued-single is b (Ok v) (Ok w) p q = ap (λ z. Ok z) (same_value is b v w p.0.0 q.0.0 p.1 q.1)
+  Valued-single is b (Ok v) (Err o) p (w, fits, items, many, e) =
+      let same = same_value is b v w p.0.0 fits p.1 items in absurd (omega (arith, p.0.1, many, ap node_count same))
+  Valued-single is b (Err o) (Ok v) (w, fits, items, many, e) p =
+      let same = same_value is b v w p.0.0 fits p.1 items in absurd (omega (arith, p.0.1, many, ap node_count same))
+  Valued-single is b (Err o) (Err m) (v, fits, items, many, e) (w, also, its, more, f) =
+      ap (λ z. Err z) (e ∙ (ap (λ x. TooManyNodes (shown_count x)) (same_value is b v w fits also items its) ∙ sym f))
 
 pub Encoding-single : (type : RootType) (v : Rose ValueLabel) → IsSingle (Encoding type v)
 Encoding-single type v (Err o) w none also = absurd none
@@ -262,14 +277,14 @@ module _ (laws : OctetLaws) (parts : SetParts) (n : ℕ) (type : RootType) where
 pub record Laws : Type 1 where
   pub pieces : PieceLaws
   pub valid : AtMostOne
+  pub value : OneValue
   pub octets : OctetLaws
 
-pub Encoded-single : Laws → (opened : SetParts × ℕ) (left : List ℕ) → ((items : tree.Rose ItemLabel) → ItemsIn (Some left) (Ok items) → (b : Bool) × (truth_in opened items ≡ Some b))
-    → IsSingle (Encoded opened (Some left))
-Encoded-single laws opened left settled =
+pub Encoded-single : Laws → (opened : SetParts × ℕ) (left : List ℕ) → IsSingle (Encoded opened (Some left))
+Encoded-single laws opened left =
     Then-with _ _ (Typed-single opened) (λ type is.
-    Then-with _ _ (ItemsIn-single laws.pieces left) (λ items read.
-    Then-single _ _ (Then-single _ _ (Judged-single laws.valid opened.0 opened.1 items) (λ treated. Valued-single opened type items (settled items read).0 (settled items read).1)) (λ value.
+    Then-single _ _ (ItemsIn-single laws.pieces left) (λ items.
+    Then-single _ _ (Then-single _ _ (Judged-single laws.valid opened.0 opened.1 items) (λ treated. Valued-single laws.value opened.0 opened.1 type is treated)) (λ value.
     Encoding-single type value)))
 
 pub Documented-single : Laws → (opened : SetParts × ℕ) (left : List ℕ) → IsSingle (Documented opened (Some left))
@@ -278,46 +293,48 @@ Documented-single laws opened left =
     Then-single _ _ (Decoded-single laws.octets opened.0 opened.1 type is left) (λ value.
     Written-single type value))
 
-pub Sent-single : Laws → (entries : List (List ℕ × List ℕ)) (root : Name) (files : List (List ℕ)) (left : List ℕ) → Settles (Some entries) (Some left) (ToPer root files)
-    → IsSingle (Sent (Some entries) root files (Some left))
-Sent-single laws entries root files left settled =
-    Then-with _ _ (Opened-single laws.pieces entries root files) (λ opened is. Encoded-single laws opened left (λ items read. settled opened items is read))
+pub Sent-single : Laws → (entries : List (List ℕ × List ℕ)) (root : Name) (files : List (List ℕ)) (left : List ℕ) → IsSingle (Sent (Some entries) root files (Some left))
+Sent-single laws entries root files left = Then-single _ _ (Opened-single laws.pieces entries root files) (λ opened. Encoded-single laws opened left)
+
+pub Tried-single : Laws → (lines : ℕ) → IsSingle (Tried lines)
+Tried-single laws lines =
+    Then-single _ _ (Sent-single laws ((trial_name, trial_schema) ∷ []) trial_root (trial_name ∷ []) (trial_document lines)) (λ octets. Give-single _)
 
 -- where what the command reads is told
-pub Answered-single : Laws → (entries : List (List ℕ × List ℕ)) (left : Option (List ℕ)) (request : Asked) → (reads_input request ≡ true → IsTold left) → Settles (Some entries) left request
+pub Answered-single : Laws → (entries : List (List ℕ × List ℕ)) (left : Option (List ℕ)) (request : Asked) → (reads_input request ≡ true → IsTold left)
     → IsSingle (Answered (Some entries) left request)
-Answered-single laws entries left (Show files) told settled = Then-single _ _ (SetIn-single laws.pieces entries files) (λ parts. Printed-single parts)
-Answered-single laws entries (Some left) (Check root files) told settled = Then-single _ _ (Opened-single laws.pieces entries root files) (λ opened. Checked-single laws.valid laws.pieces opened left)
-Answered-single laws entries None (Check root files) told settled = absurd (told refl)
-Answered-single laws entries (Some left) (ToPer root files) told settled = Sent-single laws entries root files left settled
-Answered-single laws entries None (ToPer root files) told settled = absurd (told refl)
-Answered-single laws entries (Some left) (ToXml root files) told settled = Then-single _ _ (Opened-single laws.pieces entries root files) (λ opened. Documented-single laws opened left)
-Answered-single laws entries None (ToXml root files) told settled = absurd (told refl)
-Answered-single laws entries left (Trial lines) told settled = absurd settled
+Answered-single laws entries left (Show files) told = Then-single _ _ (SetIn-single laws.pieces entries files) (λ parts. Printed-single parts)
+Answered-single laws entries (Some left) (Check root files) told = Then-single _ _ (Opened-single laws.pieces entries root files) (λ opened. Checked-single laws.valid laws.pieces opened left)
+Answered-single laws entries None (Check root files) told = absurd (told refl)
+Answered-single laws entries (Some left) (ToPer root files) told = Sent-single laws entries root files left
+Answered-single laws entries None (ToPer root files) told = absurd (told refl)
+Answered-single laws entries (Some left) (ToXml root files) told = Then-single _ _ (Opened-single laws.pieces entries root files) (λ opened. Documented-single laws opened left)
+Answered-single laws entries None (ToXml root files) told = absurd (told refl)
+Answered-single laws entries left (Trial lines) told = Tried-single laws lines
 
 -- at most one outcome or result is due
-pub Due-single : Laws → (words : List (List ℕ)) (entries : List (List ℕ × List ℕ)) (left : Option (List ℕ)) → (ReadsInput words → IsTold left) → IsSettled words (Some entries) left
+pub Due-single : Laws → (words : List (List ℕ)) (entries : List (List ℕ × List ℕ)) (left : Option (List ℕ)) → (ReadsInput words → IsTold left)
     → IsSingle (Due words (Some entries) left)
-Due-single laws words entries left told settled =
-    Then-with _ _ (Found-single _ _) (λ request asks. Answered-single laws entries left request (λ reads. told (request, asks, reads)) (settled request asks))
+Due-single laws words entries left told =
+    Then-with _ _ (Found-single _ _) (λ request asks. Answered-single laws entries left request (λ reads. told (request, asks, reads)))
 
 -- where Done is due and nothing rose, only memory may be missing
 completed : Laws → (words : List (List ℕ)) (entries : List (List ℕ × List ℕ)) (left : Option (List ℕ)) (bytes : List ℕ) (loads loads_now reads reads_now : ℕ) (sure : Bool) (o : Outcome)
-    → (ReadsInput words → IsTold left) → IsSettled words (Some entries) left → Due words (Some entries) left (Ok bytes) → (HasRisen loads loads_now → ⊥) → (HasRisen reads reads_now → ⊥)
+    → (ReadsInput words → IsTold left) → Due words (Some entries) left (Ok bytes) → (HasRisen loads loads_now → ⊥) → (HasRisen reads reads_now → ⊥)
     → (Due words (Some entries) left (Err o) × IsRefusal o) ⊎ Deciding loads loads_now sure (Some entries) reads reads_now words o
     → (o ≡ Done) ⊎ (o ≡ OutOfMemory)
-completed laws words entries left bytes loads loads_now reads reads_now sure o told settled due no_load no_read (inl (refused, own)) =
-    let e = Due-single laws words entries left told settled (Err o) (Ok bytes) refused due in cc
-completed laws words entries left bytes loads loads_now reads reads_now sure o told settled due no_load no_read (inr (request, asks, inl (inl memory))) = inr memory
-completed laws words entries left bytes loads loads_now reads reads_now sure o told settled due no_load no_read (inr (request, asks, inl (inr (k, name, load, named, fails)))) = absurd (no_load fails.rose)
-completed laws words entries left bytes loads loads_now reads reads_now sure o told settled due no_load no_read (inr (request, asks, inr (read, rose, comes))) = absurd (no_read rose)
+completed laws words entries left bytes loads loads_now reads reads_now sure o told due no_load no_read (inl (refused, own)) =
+    let e = Due-single laws words entries left told (Err o) (Ok bytes) refused due in cc
+completed laws words entries left bytes loads loads_now reads reads_now sure o told due no_load no_read (inr (request, asks, inl (inl memory))) = inr memory
+completed laws words entries left bytes loads loads_now reads reads_now sure o told due no_load no_read (inr (request, asks, inl (inr (k, name, load, named, fails)))) = absurd (no_load fails.rose)
+completed laws words entries left bytes loads loads_now reads reads_now sure o told due no_load no_read (inr (request, asks, inr (read, rose, comes))) = absurd (no_read rose)
 
 -- the same, of files that are told
 pub completed_told : Laws → (words : List (List ℕ)) (known : Option (List (List ℕ × List ℕ))) (left : Option (List ℕ)) (entries : List (List ℕ × List ℕ)) (bytes : List ℕ)
-    (loads loads_now reads reads_now : ℕ) (sure : Bool) (o : Outcome) → known ≡ Some entries → (ReadsInput words → IsTold left) → IsSettled words (Some entries) left
+    (loads loads_now reads reads_now : ℕ) (sure : Bool) (o : Outcome) → known ≡ Some entries → (ReadsInput words → IsTold left)
     → Due words known left (Ok bytes) → (HasRisen loads loads_now → ⊥) → (HasRisen reads reads_now → ⊥)
     → (Due words known left (Err o) × IsRefusal o) ⊎ Deciding loads loads_now sure known reads reads_now words o
     → (o ≡ Done) ⊎ (o ≡ OutOfMemory)
-completed_told laws words known left entries bytes loads loads_now reads reads_now sure o files told settled due no_load no_read answer =
-    completed laws words entries left bytes loads loads_now reads reads_now sure o told settled (subst (λ e. Due words e left (Ok bytes)) files due) no_load no_read
+completed_told laws words known left entries bytes loads loads_now reads reads_now sure o files told due no_load no_read answer =
+    completed laws words entries left bytes loads loads_now reads reads_now sure o told (subst (λ e. Due words e left (Ok bytes)) files due) no_load no_read
     (subst (λ e. (Due words e left (Err o) × IsRefusal o) ⊎ Deciding loads loads_now sure e reads reads_now words o) files answer)

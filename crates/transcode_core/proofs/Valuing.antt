@@ -1,35 +1,40 @@
 -- What reading a document's value answers is what is due of it.
-use Rattle.std.proofs.Common.{◌≡◌, ◌⊎◌, ℕ, Bool, refl, sym, subst, inl, inr, Some, None, Ok, Err}
-use Rattle.label_tree.specs.Rose.{Rose, node, none}
+use Rattle.std.proofs.Common.{◌≡◌, ℕ, ◌≤◌, refl, sym, ap, subst, inl, inr, Some, Ok, Err}
+use Rattle.label_tree.specs.Rose.{Rose, node_count}
 use Rattle.simple_types.specs.declared.labels.ValueLabel.{ValueLabel}
-use Rattle.simple_types.specs.declared.labels.ValueLabel.TheVariants as value
-use Rattle.asn_types.specs.Values.{In}
-use Rattle.validity_check.specs.Answers.{IsValid}
 use Rattle.doc_text.specs.declared.label.ItemLabel.{ItemLabel}
 use Rattle.schema_parts.specs.Components.{Set}
 use Rattle.schema_parts.specs.SetParts.{parts_of}
 use Rattle.validity.specs.declared.why.InvalidWhy.{InvalidWhy}
 use Rattle.validity.specs.Faults.{FirstFault}
-use Rattle.xer_read.specs.Answers.{IsTooLarge}
-use Rattle.transcode_core.specs.declared.outcome.Outcome.{Outcome}
+use Rattle.asn_types.specs.Values.{Fits, In}
+use Rattle.xer_items.specs.Items.{Xer}
+use Rattle.one_value.specs.Statements.{root_at}
+use Rattle.xer_read.specs.Answers.{IsValueOf, IsTooLarge}
 use Rattle.transcode_core.specs.declared.outcome.Outcome.TheVariants.{Invalid, TooManyNodes}
-use Rattle.transcode_core.specs.TruthValues.{truth_in}
-use Rattle.transcode_core.specs.Causes.{IsRefusal, NoMemory}
 use Rattle.transcode_core.specs.Steps.{RootType, IsTypeOf, AreLinked, ValueIn}
 
-module _ (s : Set) (n : ℕ) (type : RootType) (h : IsTypeOf s n type) (items : Rose ItemLabel) where
+module _ (s : Set) (n : ℕ) (type : RootType) (h : IsTypeOf s n type) where
   linked : AreLinked (parts_of s)
   linked = (s, h.linked, refl)
 
-  pub is_value : (v : Rose ValueLabel) → IsValid s n items → In type.assignments type.number v → ((b : Bool) → truth_in (parts_of s, n) items ≡ Some b → v ≡ node (value.Bool b) none)
+  -- the type of the root in the map is that of the call
+  fits : (v : Rose ValueLabel) → Fits type.assignments (root_at s type.assignments h.is_map n) v → Fits type.assignments type.number v
+  fits v = subst (λ t. Fits type.assignments t v) (sym h.number_is)
+
+  pub is_in : (items : Rose ItemLabel) (v : Rose ValueLabel) → IsValueOf s n items type.assignments (root_at s type.assignments h.is_map n) v × (node_count v ≤ 1048576)
+      → In type.assignments type.number v
+  is_in items v ((b, valid, fit, is), few) = (fits v fit, few)
+
+  pub is_value : (items : Rose ItemLabel) (v : Rose ValueLabel) → IsValueOf s n items type.assignments (root_at s type.assignments h.is_map n) v × (node_count v ≤ 1048576)
       → ValueIn (parts_of s, n) type items (Ok v)
-  is_value v (b, valid) is_in truth = (b, (linked, valid), (is_in, truth))
+  is_value items v ((b, valid, fit, is), few) =
+      (b, (linked, valid), ((fits v fit, few), subst (λ t. Xer type.assignments t v ≡ Some b) (sym h.number_is) is))
 
-  pub is_invalid : (at : ℕ) (why : InvalidWhy) → FirstFault (parts_of s) n items at why → ValueIn (parts_of s, n) type items (Err (Invalid at why))
-  is_invalid at why fault = inl (linked, (at, why, fault, refl))
+  pub is_invalid : (items : Rose ItemLabel) (at : ℕ) (why : InvalidWhy) → FirstFault (parts_of s) n items at why → ValueIn (parts_of s, n) type items (Err (Invalid at why))
+  is_invalid items at why fault = inl (linked, (at, why, fault, refl))
 
-  pub is_too_large : (count : ℕ) (o : Outcome) → IsTooLarge s n items count → (truth_in (parts_of s, n) items ≡ None) × (o ≡ TooManyNodes count) ⊎ NoMemory o
-      → (ValueIn (parts_of s, n) type items (Err o) × IsRefusal o) ⊎ NoMemory o
-  is_too_large count o ((b, valid), many) (inl (apart, is)) =
-      inl (inr (b, (linked, valid), (apart, (count, many, is))), subst IsRefusal (sym is) tt)
-  is_too_large count o large (inr memory) = inr memory
+  pub is_too_large : (items : Rose ItemLabel) (count : ℕ) → IsTooLarge s n items type.assignments (root_at s type.assignments h.is_map n) count
+      → ValueIn (parts_of s, n) type items (Err (TooManyNodes count))
+  is_too_large items count (v, (b, valid, fit, is), many, counted) =
+      inr (b, (linked, valid), (v, fits v fit, subst (λ t. Xer type.assignments t v ≡ Some b) (sym h.number_is) is, many, ap (λ k. TooManyNodes k) counted))

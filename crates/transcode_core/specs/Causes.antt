@@ -8,7 +8,6 @@ use Rattle.schema_parts.specs.Raw.{Document}
 use Rattle.schema_parts.specs.SetParts.{SetParts}
 use Rattle.per_fields.specs.declared.stops.Stop.{Stop}
 use Rattle.per_fields.specs.Laws.{Stops}
-use Rattle.transcode_core.specs.TruthValues.{truth_in}
 use Rattle.transcode_core.specs.Steps.{Schemas, RootType, Typed, readable}
 use Rattle.transcode_core.specs.Words.{Asked, Show, Check, ToPer, ToXml, Trial}
 use Rattle.transcode_core.specs.Due.{Requested, Opened, ItemsIn}
@@ -144,20 +143,6 @@ Answering loads loads_now is_sure entries reads reads_now request o =
 abbrev pub Deciding : ℕ → ℕ → Bool → Option (List (List ℕ × List ℕ)) → ℕ → ℕ → List (List ℕ) → Outcome → Type 0
 Deciding loads loads_now is_sure entries reads reads_now words o =
     (request : Asked) × Requested words (Ok request) × Answering loads loads_now is_sure entries reads reads_now request o
-
--- What this command asks for is one thing, as far as that is stated: of `to-per` where the document is a truth value, and of
--- `trial` not at all.
-abbrev pub Settles : Option (List (List ℕ × List ℕ)) → Option (List ℕ) → Asked → Type 0
-Settles entries left (Show files) = Unit {0}
-Settles entries left (Check root files) = Unit {0}
-Settles entries left (ToPer root files) =
-    (opened : SetParts × ℕ) (items : Rose ItemLabel) → Opened entries root files (Ok opened) → ItemsIn left (Ok items) → (b : Bool) × (truth_in opened items ≡ Some b)
-Settles entries left (ToXml root files) = Unit {0}
-Settles entries left (Trial lines) = ⊥
-
--- the same of the words
-abbrev pub IsSettled : List (List ℕ) → Option (List (List ℕ × List ℕ)) → Option (List ℕ) → Type 0
-IsSettled words entries left = (request : Asked) → Requested words (Ok request) → Settles entries left request
 
 -- the document that a command reads
 abbrev pub ReadsItems : Option (List ℕ) → Asked → Rose ItemLabel → Type 0

@@ -1,6 +1,4 @@
 pub mod Words
-pub mod Booleans
-pub mod TruthValues
 pub mod Trial
 pub mod Order
 pub mod Causes

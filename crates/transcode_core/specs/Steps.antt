@@ -1,7 +1,7 @@
 -- Each step with what it passes on and what it refuses.
 use Rattle.std.specs.Prelude.{◌≡◌, ◌⊎◌, ℕ, zero, suc, Bool, ◌&&◌, ◌+◌, ◌*◌, ◌<◌, ◌≤◌, ⊤, All, nat_le, List, [], ◌∷◌, map, take, length, Option, Some, None, Result, Ok, Err, if◌then◌else◌}
 use Rattle.std.specs.Option.{option_map}
-use Rattle.label_tree.specs.Rose.{Rose, node, none}
+use Rattle.label_tree.specs.Rose.{Rose, node_count, shown_count}
 use Rattle.xa_base.specs.Entries.{HasEntry, HasLonger, Lacks}
 use Rattle.xa_base.specs.declared.texts.Name.{Name}
 use Rattle.xa_base.specs.Names.{name_eq}
@@ -24,9 +24,8 @@ use Rattle.link_set.specs.Sets.{SetParts, parts_of, set_of}
 use Rattle.asn_types.specs.declared.modules.Assignment.{Assignment}
 use Rattle.asn_types.specs.Modules.{IsModule}
 use Rattle.asn_types.specs.Bounds.{IsBounded}
-use Rattle.asn_types.specs.Values.{In}
+use Rattle.asn_types.specs.Values.{Fits, In}
 use Rattle.simple_types.specs.declared.labels.ValueLabel.{ValueLabel}
-use Rattle.simple_types.specs.declared.labels.ValueLabel.TheVariants as value
 use Rattle.one_value.specs.Statements.{AreSmall, root_at}
 use Rattle.xer_items.specs.Items.{Xer}
 use Rattle.bit_cursor.specs.Bits.{octet_bits}
@@ -45,7 +44,6 @@ use Rattle.schema_read.specs.Raw.{raw_of}
 use Rattle.link_simple.specs.Making.{IsMaking}
 use Rattle.transcode_core.specs.declared.outcome.Outcome.{Outcome}
 use Rattle.transcode_core.specs.declared.outcome.Outcome.TheVariants.{SchemaSyntax, SchemaFault, LinkFault, UnknownRoot, Invalid, PerFault, Trailing, TooLong, TooManyNodes, LoadFault}
-use Rattle.transcode_core.specs.TruthValues.{truth_in}
 use Rattle.transcode_core.specs.Order.{Give, Found, Then}
 
 -- the contents of file k, if they are no more than the limit
@@ -154,16 +152,15 @@ abbrev pub Typed : SetParts × ℕ → Result RootType Outcome → Type 0
 Typed opened (Ok type) = IsRootType opened.0 opened.1 type
 Typed opened (Err o) = ⊥
 
--- A value of the type, that of the document; or so many nodes that it has, which are too many. So far this says which value it
--- is of a truth value alone: that its items are the treated items of the document is not stated yet.
-abbrev pub Valued : SetParts × ℕ → RootType → Rose ItemLabel → Result (Rose ValueLabel) Outcome → Type 0
-Valued opened type items (Ok v) =
-    In type.assignments type.number v × ((b : Bool) → truth_in opened items ≡ Some b → v ≡ node (value.Bool b) none)
-Valued opened type items (Err o) = (truth_in opened items ≡ None) × ((count : ℕ) × (1048576 < count) × (o ≡ TooManyNodes count))
+-- the value whose items these are; or so many nodes that it has, which are too many
+abbrev pub Valued : RootType → Rose Plain → Result (Rose ValueLabel) Outcome → Type 0
+Valued type treated (Ok v) = In type.assignments type.number v × (Xer type.assignments type.number v ≡ Some treated)
+Valued type treated (Err o) = (v : Rose ValueLabel) × Fits type.assignments type.number v × (Xer type.assignments type.number v ≡ Some treated)
+    × (1048576 < node_count v) × (o ≡ TooManyNodes (shown_count v))
 
 -- the value of a valid document
 abbrev pub ValueIn : SetParts × ℕ → RootType → Rose ItemLabel → Result (Rose ValueLabel) Outcome → Type 0
-ValueIn opened type items = Then (Judged opened.0 opened.1 items) (λ treated. Valued opened type items)
+ValueIn opened type items = Then (Judged opened.0 opened.1 items) (λ treated. Valued type treated)
 
 -- the complete encoding of a value in canonical aligned PER (X.691)
 abbrev pub Encoding : RootType → Rose ValueLabel → Result (List ℕ) Outcome → Type 0

@@ -1,7 +1,6 @@
 //! The top call: words, files and an input to an outcome and bytes.
 #![tactic(auto)]
 
-mod booleans;
 mod files;
 mod laws;
 mod lines;
@@ -13,7 +12,6 @@ mod schemas;
 mod sending;
 mod top;
 mod trial;
-mod truth_values;
 mod typing;
 mod words;
 

@@ -14,7 +14,7 @@ ghost use Rattle.transcode_core.specs.Steps.{Printed, Judged, RootType, IsTypeOf
 ghost use Rattle.transcode_core.specs.Order.{Give, Then};
 ghost use Rattle.transcode_core.specs.Due as due;
 ghost use Rattle.transcode_core.specs.Due.{Requested, SetIn, ItemsIn, Checked, Encoded, Documented, Sent, Tried, Answered, Due};
-ghost use Rattle.transcode_core.specs.Causes.{Answers, Never, NoMemory, SomeLoad, OneRead, files_of, ReachesFile, reads_input, ReadsInput, IsTold, IsSettled, TakesItsField, TakesInput, TakesOfWords, ReadsItems, ReadsOfWords, StepsUpTo, ReachesInput, IsOfInput, Answering, Deciding, Fails, IsRefusal, WritesNothing};
+ghost use Rattle.transcode_core.specs.Causes.{Answers, Never, NoMemory, SomeLoad, OneRead, files_of, ReachesFile, reads_input, ReadsInput, IsTold, TakesItsField, TakesInput, TakesOfWords, ReadsItems, ReadsOfWords, StepsUpTo, ReachesInput, IsOfInput, Answering, Deciding, Fails, IsRefusal, WritesNothing};
 
 use crate::files::{read_input, read_input_items};
 use crate::lines::write_line;
@@ -30,6 +30,7 @@ use crate::words::{Request, Root, read_words};
 use doc_text::Items;
 use map_694::map_set;
 use module_print::print_module;
+use one_value::one_value;
 use per_fields::first_stop;
 use schema_parts::SchemaSet;
 use std::alloc::Global;
@@ -431,8 +432,8 @@ pub fn run<F: Library, S: Source, K: Sink, E: Sink, L: Ledger>(
     ensures untouched { (S.left input.new ≡ S.left input.old) ⊎ (TakesOfWords words.now (F.entries files.old) (S.left input.old) (S.left input.new) × IsOfInput result) }
     ensures files { (F.entries files.new ≡ F.entries files.old) × (F.is_sure files.new ≡ F.is_sure files.old) }
     // Where Done is due and no count rose, it is Done, or memory is missing. The input need not be told where the words
-    // don't ask for it. What `to-per` answers is told so of documents that are a truth value, and of `trial` nothing.
-    ensures complete { (entries : List (List ℕ × List ℕ)) (bytes : List ℕ) → F.entries files.old ≡ Some entries → (ReadsInput words.now → IsTold (S.left input.old)) → IsSettled words.now (Some entries) (S.left input.old)
+    // don't ask for it.
+    ensures complete { (entries : List (List ℕ × List ℕ)) (bytes : List ℕ) → F.entries files.old ≡ Some entries → (ReadsInput words.now → IsTold (S.left input.old))
         → Due words.now (F.entries files.old) (S.left input.old) (Ok bytes) → (HasRisen (F.faults files.old) (F.faults files.new) → ⊥) → (HasRisen (S.faults input.old) (S.faults input.new) → ⊥)
         → (HasRisen (K.faults output.old) (K.faults output.new) → ⊥) → (result ≡ Outcome.Done) ⊎ (result ≡ Outcome.OutOfMemory) }
     ensures loads { F.faults files.old ≤ F.faults files.new }
@@ -445,8 +446,9 @@ pub fn run<F: Library, S: Source, K: Sink, E: Sink, L: Ledger>(
     // At most 144 steps through content models for each element of the document that is read.
     ensures few { StepsUpTo (ReadsOfWords words.now (S.left input.old)) steps.old steps.new }
 {
-    // What is due is one thing: documents are valid in one way, and octets are of one value.
+    // What is due is one thing: documents are valid in one way, and have one value, and octets are of one.
     at_most_one();
+    one_value();
     first_stop();
     match decide(alloc, words, files, input, steps) {
         Ok(bytes) => match write_all(output, &bytes) {
