@@ -47,6 +47,7 @@ __attribute__((constructor)) static void begin(void) {
     close(file);
     if (found == MAP_FAILED) _exit(99);
     asked = found;
+    *asked = 0;
 }
 
 static int refused(void) {
@@ -152,17 +153,13 @@ for schema in refused-*.xsd; do
     faults /dev/null show "$schema"
 done
 
-# Documents of features.xsd, each with its root.
+# Documents of features.xsd, each with its root: a union, a list, an element that is nil, mixed content.
 documents() {
     cat <<'END'
 u <u> 007 </u>
 v <v>1 255</v>
-c <c> Green </c>
-m <m>-5</m>
 k <k xmlns:xsi="http://www.w3.org/2001/XMLSchema-instance" xsi:nil="true"/>
-z <z><z><z/></z></z>
 p <p>Hi <b>x</b>!</p>
-q <q t="a&#10;b"/>
 END
 }
 

@@ -124,8 +124,19 @@ make_same_attribute() { { printf '<e'; repeat "$1" ' a%d=""'; printf ' a0=""/>';
 hostile same_attribute 1000000 30 0 7 'input, byte 0: syntax: DuplicateAttribute' check e "$features"
 
 # One tag that declares so many namespaces.
-make_declarations() { { printf '<e'; repeat "$1" ' xmlns:p%d="u"'; printf '/>'; } > "$input"; }
-hostile declarations 950000 30 0 0 '' check e "$features"
+make_declarations() {
+    awk -v count="$1" 'BEGIN {
+        letters = "abcdefghijklmnopqrstuvwyzABCDEFGHIJKLMNOPQRSTUVWYZ"
+        printf "<e"
+        for (i = 0; i < count; i++) {
+            name = ""
+            for (n = i + 125000; n > 0; n = int(n / 50)) name = name substr(letters, n % 50 + 1, 1)
+            printf " xmlns:%s=\"u\"", name
+        }
+        printf "/>"
+    }' < /dev/null > "$input"
+}
+hostile declarations 1000000 30 0 0 '' check e "$features"
 
 # 64 levels, each of which declares so many prefixes.
 make_levels() {
