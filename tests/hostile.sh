@@ -199,7 +199,7 @@ hostile elements 1000000 80 0 0 '' to-per r "$features"
 make_most_elements() { make_elements "$1"; }
 hostile most_elements 4194300 40 0 0 '' check r "$features"
 make_too_many() { make_elements "$1"; }
-hostile too_many 4194300 60 0 12 'value of * nodes: too many' to-per r "$features"
+hostile too_many 4194300 80 0 12 'value of * nodes: too many' to-per r "$features"
 
 # A number of 16 MB of digits, in bounds and too wide.
 make_number() { { printf '<n>'; bytes "$1" 0; printf '7</n>'; } > "$input"; }
