@@ -12,6 +12,7 @@
 set -eu
 cd "$(dirname "$0")/.."
 program=$(realpath "${PROGRAM:-bin/ruvkhiska}")
+[ -x "$program" ] || { echo "no program at $program: make run" >&2; exit 2; }
 each=${EACH:-2000}
 steps=${STEPS:-300}
 work=$(mktemp -d)
