@@ -1,0 +1,439 @@
+#!/usr/bin/env bash
+# Inputs that hang or crash other tools. Each case runs at a quarter of its size and at its whole size, three times each,
+# and is wrong where
+#
+# - the status or the complaint isn't the one that is due, or a run takes more than 60 seconds;
+# - the whole takes more than 8 times the processor time of the quarter, of both the least, and of the quarter at least
+#   0.05 s: so time grows with the size alone;
+# - the memory is over the bound that the case states, in bytes for each byte of schemas and input together, or for each
+#   of what its schema multiplies, and 16 MB for the program itself.
+#
+# It prints a line for each: the status, the processor seconds and the MB of the whole, the bytes of input, the bytes of
+# memory for each of these, the ratio of times, and ok or what is wrong. Its own status is 1 where any is wrong.
+#
+#     tests/hostile.sh [CASE..]      needs the program (`make run`), awk and GNU time; some minutes, 4 GB of memory
+#
+# PROGRAM names another program.
+set -eu
+shopt -s nullglob
+cd "$(dirname "$0")/.."
+program=$(realpath -m "${PROGRAM:-bin/ruvkhiska}")
+[ -x "$program" ] || { echo "no program at $program: make run" >&2; exit 2; }
+features=$(realpath examples/features.xsd)
+wanted=" $* "
+work=$(mktemp -d)
+trap 'rm -rf "$work"' EXIT
+schema=$work/schema.xsd
+input=$work/input
+head='<xs:schema xmlns:xs="http://www.w3.org/2001/XMLSchema">'
+end='</xs:schema>'
+own_memory=16000000
+
+# What the makers of texts use: `repeat N FORMAT` is the format N times, with the numbers from 0 in place of %d.
+repeat() {
+    awk -v count="$1" -v format="$2" 'BEGIN { for (i = 0; i < count; i++) printf format, i }' < /dev/null
+}
+
+# So many times the same byte, also a zero.
+bytes() {
+    head -c "$1" /dev/zero | tr '\0' "$2"
+}
+
+# One run over the input: its status, its processor seconds and its kilobytes.
+run() {
+    status=0
+    (
+        ulimit -c 0
+        ulimit -v 8000000
+        exec /usr/bin/time -f '%U %S %M' -o "$work/measured" timeout 60 "$program" "$@"
+    ) < "$input" > "$work/output" 2> "$work/complaint" || status=$?
+    read -r seconds kilobytes < <(tail -n 1 "$work/measured" | awk '{ print $1 + $2, $3 }')
+}
+
+# Three runs: the least seconds and the most kilobytes. A status or a complaint that isn't due is noted.
+runs() {
+    local least=
+    most=0
+    for _ in 1 2 3; do
+        run "$@"
+        least=$(awk -v new="$seconds" -v old="$least" 'BEGIN { print (old == "" || new < old) ? new : old }')
+        [ "$kilobytes" -gt "$most" ] && most=$kilobytes
+        # The complaint is a pattern.
+        # shellcheck disable=SC2053
+        if [ "$status" != "$due_status" ] || [[ $(head -c 200 "$work/complaint") != $due_complaint ]]; then
+            verdict="wrong: status $status, due $due_status: $(head -c 200 "$work/complaint")"
+        fi
+    done
+    seconds=$least
+}
+
+wrong=0
+format='%-20s %6s %8s %7s %10s %8s %6s  %s\n'
+# shellcheck disable=SC2059
+printf "$format" case status seconds MB bytes 'mem/byte' ratio ''
+
+# A case: its name, for which there is a maker of the schema and the input; its whole size; the most bytes of memory, for
+# each byte or for each of so many things at a size of 1; the status and the complaint that are due; the words.
+hostile() {
+    local name=$1 whole=$2 bound=$3 things=$4
+    due_status=$5
+    due_complaint=$6
+    shift 6
+    case $wanted in
+        '  ' | *" $name "*) ;;
+        *) return 0 ;;
+    esac
+    verdict=ok
+    : > "$input"
+    "make_$name" $((whole / 4))
+    runs "$@"
+    local quarter=$seconds
+    "make_$name" "$whole"
+    runs "$@"
+    local total figures
+    total=$(cat "$input" "$work"/*.xsd | wc -c)
+    figures=$(awk -v quarter="$quarter" -v whole="$seconds" -v kilobytes="$most" -v total="$total" -v bound="$bound" \
+        -v things=$((things * whole)) -v own="$own_memory" 'BEGIN {
+        memory = kilobytes * 1024
+        ratio = whole / (quarter > 0.05 ? quarter : 0.05)
+        most = own + bound * (things > 0 ? things : total)
+        printf "%.2f %.1f %d %.1f %.1f ", whole, memory / 1e6, total, memory / total, ratio
+        if (memory > most) printf "wrong: memory over %.1f MB", most / 1e6
+        else if (ratio > 8) printf "wrong: time"
+        else printf "ok"
+    }')
+    local -a columns
+    read -r -a columns <<< "$figures"
+    [ "$verdict" = ok ] && verdict=${columns[*]:5}
+    [ "$verdict" = ok ] || wrong=$((wrong + 1))
+    # shellcheck disable=SC2059
+    printf "$format" "$name" "$status" "${columns[@]:0:5}" "$verdict"
+    rm -f "$work"/*.xsd
+}
+
+# ---- Documents
+
+# The schema of the documents that have no schema of their own has an empty element e, a text s, a number n, an r of any
+# number of e, and a z that may have a z.
+
+# One tag of so many attributes.
+make_attributes() { { printf '<e'; repeat "$1" ' a%d=""'; printf '/>'; } > "$input"; }
+hostile attributes 1000000 30 0 8 'input, byte 0: invalid: UnknownAttribute' check e "$features"
+
+# The same, and the last as the first.
+make_same_attribute() { { printf '<e'; repeat "$1" ' a%d=""'; printf ' a0=""/>'; } > "$input"; }
+hostile same_attribute 1000000 30 0 7 'input, byte 0: syntax: DuplicateAttribute' check e "$features"
+
+# One tag that declares so many namespaces.
+make_declarations() {
+    awk -v count="$1" 'BEGIN {
+        letters = "abcdefghijklmnopqrstuvwyzABCDEFGHIJKLMNOPQRSTUVWYZ"
+        printf "<e"
+        for (i = 0; i < count; i++) {
+            name = ""
+            for (n = i + 125000; n > 0; n = int(n / 50)) name = name substr(letters, n % 50 + 1, 1)
+            printf " xmlns:%s=\"u\"", name
+        }
+        printf "/>"
+    }' < /dev/null > "$input"
+}
+hostile declarations 1000000 30 0 0 '' check e "$features"
+
+# 64 levels, each of which declares so many prefixes.
+make_levels() {
+    awk -v count="$1" 'BEGIN {
+        for (i = 0; i < 64; i++) {
+            printf "<z"
+            for (k = 0; k < count; k++) printf " xmlns:p%d=\"u%d\"", k, i
+            printf ">"
+        }
+        for (i = 0; i < 64; i++) printf "</z>"
+    }' < /dev/null > "$input"
+}
+hostile levels 2000 30 0 0 '' check z "$features"
+
+# So many prefixes, and four times as many elements that use them, in a file that is no schema.
+make_prefixes() {
+    awk -v count="$1" 'BEGIN {
+        printf "<r"
+        for (i = 0; i < count; i++) printf " xmlns:p%d=\"u%d\"", i, i
+        printf ">"
+        for (i = 0; i < 4 * count; i++) printf "<p%d:e/>", (i * 7919) % count
+        printf "</r>"
+    }' < /dev/null > "$schema"
+}
+hostile prefixes 100000 30 0 4 'file 1, byte 0: schema: NotASchema' show "$schema"
+
+# One text of 16 MB of references; one reference of 16 MB of digits, and of more than any character has.
+make_references() { { printf '<s>'; repeat "$1" '&#65;'; printf '</s>'; } > "$input"; }
+hostile references 3355000 8 0 0 '' to-per s "$features"
+make_zeros() { { printf '<s>&#'; bytes "$1" 0; printf '65;</s>'; } > "$input"; }
+hostile zeros 16700000 8 0 0 '' check s "$features"
+make_nines() { { printf '<s>&#'; bytes "$1" 9; printf ';</s>'; } > "$input"; }
+hostile nines 16700000 8 0 7 'input, byte 3: syntax: BadReference' check s "$features"
+
+# A text cut by comments; one of brackets; a CDATA section of brackets.
+make_comments() { { printf '<s>'; repeat "$1" 'a<!---->'; printf '</s>'; } > "$input"; }
+hostile comments 2000000 8 0 0 '' to-per s "$features"
+make_brackets() { { printf '<s>'; bytes "$1" ']'; printf '</s>'; } > "$input"; }
+hostile brackets 16700000 8 0 0 '' check s "$features"
+make_section() { { printf '<s><![CDATA['; bytes "$1" ']'; printf ']]></s>'; } > "$input"; }
+hostile section 16700000 8 0 0 '' check s "$features"
+
+# A tag that doesn't end, of ampersands; one that ends; nothing but the signs that begin a piece.
+make_endless() { { printf '<s a="'; bytes "$1" '&'; } > "$input"; }
+hostile endless 16700000 8 0 7 'input, byte 0: syntax: NoPiece' check s "$features"
+make_ampersands() { { printf '<s a="'; bytes "$1" '&'; printf '"/>'; } > "$input"; }
+hostile ampersands 16700000 8 0 7 'input, byte 0: syntax: BadReference' check s "$features"
+make_signs() { bytes "$1" '<' > "$input"; }
+hostile signs 16700000 8 0 7 'input, byte 0: syntax: NoPiece' check s "$features"
+
+# Tags that are opened and never closed; one name of 16 MB.
+make_opened() { repeat "$1" '<z>' > "$input"; }
+hostile opened 5590000 8 0 7 'input, byte 192: syntax: TooDeep' check z "$features"
+make_name() { { printf '<'; bytes "$1" a; printf '/>'; } > "$input"; }
+hostile name 16700000 8 0 7 'input, byte 0: syntax: LongName' check s "$features"
+
+# A million empty elements; as many as 16 MB hold, which are valid but have too many nodes for an encoding.
+make_elements() { { printf '<r>'; repeat "$1" '<e/>'; printf '</r>'; } > "$input"; }
+hostile elements 1000000 80 0 0 '' to-per r "$features"
+make_most_elements() { make_elements "$1"; }
+hostile most_elements 4194300 40 0 0 '' check r "$features"
+make_too_many() { make_elements "$1"; }
+hostile too_many 4194300 80 0 12 'value of * nodes: too many' to-per r "$features"
+
+# A number of 16 MB of digits, in bounds and too wide.
+make_number() { { printf '<n>'; bytes "$1" 0; printf '7</n>'; } > "$input"; }
+hostile number 16700000 8 0 0 '' to-per n "$features"
+make_wide() { { printf '<n>'; bytes "$1" 9; printf '</n>'; } > "$input"; }
+hostile wide 16700000 8 0 8 'input, byte 0: invalid: TooWide' to-per n "$features"
+
+# A list of so many items; one whose items are of the last of 1,000 members, each of which reads each item; elements of 400
+# attributes that may stand, of which none does.
+make_items() {
+    printf '%s<xs:simpleType name="L"><xs:list itemType="xs:token"/></xs:simpleType><xs:element name="l" type="L"/>%s' \
+        "$head" "$end" > "$schema"
+    { printf '<l>'; repeat "$1" '%d '; printf '</l>'; } > "$input"
+}
+hostile items 1000000 80 0 0 '' to-per l "$schema"
+make_members_read() {
+    {
+        printf '%s<xs:simpleType name="U"><xs:union memberTypes="' "$head"
+        repeat 999 'xs:int '
+        printf 'xs:token"/></xs:simpleType><xs:simpleType name="L"><xs:list itemType="U"/></xs:simpleType>'
+        printf '<xs:element name="l" type="L"/>%s' "$end"
+    } > "$schema"
+    { printf '<l>'; repeat "$1" 'x%d '; printf '</l>'; } > "$input"
+}
+hostile members_read 20000 600 0 0 '' to-per l "$schema"
+make_flags() {
+    {
+        printf '%s<xs:element name="r"><xs:complexType><xs:sequence>' "$head"
+        printf '<xs:element name="a" type="A" minOccurs="0" maxOccurs="unbounded"/>'
+        printf '</xs:sequence></xs:complexType></xs:element><xs:complexType name="A">'
+        repeat 400 '<xs:attribute name="a%d" type="xs:int"/>'
+        printf '</xs:complexType>%s' "$end"
+    } > "$schema"
+    { printf '<r>'; repeat "$1" '<a/>'; printf '</r>'; } > "$input"
+}
+hostile flags 200000 800 1 0 '' to-per r "$schema"
+
+# ---- Octets
+
+# A list of 2^32 items without bits, which 65,536 octets announce; texts in fragments of which the last isn't there.
+make_announced() { { bytes "$1" '\304'; printf '\0'; } > "$input"; }
+hostile announced 65536 3000 1 9 'input, bit 128: per: TooMany' to-xml r "$features"
+make_fragments() {
+    bytes 65536 a > "$work/fragment"
+    for _ in $(seq "$1"); do printf '\304'; cat "$work/fragment"; done > "$input"
+    printf '\304' >> "$input"
+}
+hostile fragments 252 8 0 9 'input, bit *: per: Short' to-xml s "$features"
+
+# 16 octets that stand for 983,040 elements with a name of 255 bytes.
+make_names_of_octets() {
+    printf '%s<xs:complexType name="E"/><xs:element name="r"><xs:complexType><xs:sequence><xs:element name="%s" type="E" minOccurs="0" maxOccurs="unbounded"/></xs:sequence></xs:complexType></xs:element>%s' \
+        "$head" "$(bytes 255 n)" "$end" > "$schema"
+    { bytes $(($1 / 65536)) '\304'; printf '\0'; } > "$input"
+}
+hostile names_of_octets 1048560 700 1 0 '' to-xml r "$schema"
+
+# ---- Schemas
+
+# So many simple types, each a restriction of the next, and of the one before.
+make_chain() {
+    {
+        printf '%s<xs:element name="e" type="t0"/>' "$head"
+        awk -v count="$1" 'BEGIN {
+            for (i = 0; i < count - 1; i++)
+                printf "<xs:simpleType name=\"t%d\"><xs:restriction base=\"t%d\"/></xs:simpleType>", i, i + 1
+            printf "<xs:simpleType name=\"t%d\"><xs:restriction base=\"xs:int\"/></xs:simpleType>", count - 1
+        }' < /dev/null
+        printf '%s' "$end"
+    } > "$schema"
+}
+hostile chain 9999 200 0 0 '' show "$schema"
+make_chain_back() {
+    {
+        printf '%s<xs:simpleType name="t0"><xs:restriction base="xs:int"/></xs:simpleType>' "$head"
+        awk -v count="$1" 'BEGIN {
+            for (i = 1; i < count; i++)
+                printf "<xs:simpleType name=\"t%d\"><xs:restriction base=\"t%d\"/></xs:simpleType>", i, i - 1
+            printf "<xs:element name=\"e\" type=\"t%d\"/>", count - 1
+        }' < /dev/null
+        printf '%s' "$end"
+    } > "$schema"
+}
+hostile chain_back 9999 200 0 0 '' show "$schema"
+
+# One union of 1,000 members, and so many unions of it: each has 1,000 members.
+make_unions() {
+    {
+        printf '%s<xs:simpleType name="u0"><xs:union memberTypes="' "$head"
+        repeat 1000 'xs:int '
+        printf '"/></xs:simpleType>'
+        awk -v count="$1" 'BEGIN {
+            for (i = 1; i < count; i++)
+                printf "<xs:simpleType name=\"u%d\"><xs:union memberTypes=\"u%d\"/></xs:simpleType>", i, i - 1
+        }' < /dev/null
+        printf '%s' "$end"
+    } > "$schema"
+}
+hostile unions 400 1200 1000 0 '' show "$schema"
+
+# So many unions of two of the one before: the tenth has over 1,000 members, and is refused.
+make_doubled() {
+    {
+        printf '%s<xs:simpleType name="u0"><xs:union memberTypes="xs:int xs:int"/></xs:simpleType>' "$head"
+        awk -v count="$1" 'BEGIN {
+            for (i = 1; i < count; i++)
+                printf "<xs:simpleType name=\"u%d\"><xs:union memberTypes=\"u%d u%d\"/></xs:simpleType>", i, i - 1, i - 1
+        }' < /dev/null
+        printf '%s' "$end"
+    } > "$schema"
+}
+hostile doubled 10000 200 0 5 'file 1, byte *: link: Limit' show "$schema"
+
+# So many types, of 10,000 words each, in as many files as they need; so many types that restrict the one that has them.
+words() {
+    printf '<xs:simpleType name="t%d"><xs:restriction base="xs:token">' "$1"
+    repeat 10000 '<xs:enumeration value="w%d"/>'
+    printf '</xs:restriction></xs:simpleType>'
+}
+make_words() {
+    words 0 > "$work/words"
+    local number
+    for file in 1 2 3 4; do
+        {
+            printf '%s' "$head"
+            for number in $(seq $((($1 / 4) * file))); do
+                [ "$number" -gt $((($1 / 4) * (file - 1))) ] && sed "s/name=\"t0\"/name=\"t$number\"/" "$work/words"
+            done
+            printf '%s' "$end"
+        } > "$work/$file.xsd"
+    done
+}
+hostile words 100 60 0 0 '' show "$work/1.xsd" "$work/2.xsd" "$work/3.xsd" "$work/4.xsd"
+make_words_again() {
+    {
+        printf '%s' "$head"
+        words 0
+        awk -v count="$1" 'BEGIN {
+            for (i = 1; i < count; i++)
+                printf "<xs:simpleType name=\"t%d\"><xs:restriction base=\"t0\"/></xs:simpleType>", i
+        }' < /dev/null
+        printf '%s' "$end"
+    } > "$schema"
+}
+hostile words_again 100 200 10000 0 '' show "$schema"
+
+# 16 groups in one another, of so many particles each: sequences of particles that may be absent, and choices.
+groups() {
+    printf '%s<xs:complexType name="E"/><xs:element name="r"><xs:complexType>' "$head"
+    awk -v count="$2" -v group="$1" -v occurs="$3" 'BEGIN {
+        for (i = 0; i < 16; i++) {
+            printf "<xs:%s>", group
+            for (k = 0; k < count - 1; k++) printf "<xs:element name=\"e%d.%d\" type=\"E\"%s/>", i, k, occurs
+        }
+        printf "<xs:element name=\"last\" type=\"E\"/>"
+        for (i = 0; i < 16; i++) printf "</xs:%s>", group
+    }' < /dev/null
+    printf '</xs:complexType></xs:element>%s' "$end"
+}
+make_sequences() { groups sequence "$1" ' minOccurs="0"' > "$schema"; }
+hostile sequences 500 200 0 0 '' show "$schema"
+make_choices() { groups choice "$1" '' > "$schema"; }
+hostile choices 500 200 0 0 '' show "$schema"
+
+# The last element of these sequences, behind all that are absent.
+make_absent() {
+    make_sequences "$1"
+    printf '<r><last/></r>' > "$input"
+}
+hostile absent 500 200 0 0 '' to-per r "$schema"
+
+# Names that are all converted to one.
+make_collisions() {
+    {
+        printf '%s' "$head"
+        awk -v count="$1" 'BEGIN {
+            for (i = 0; i < count; i++) {
+                name = "a"
+                for (n = i; n > 0; n = int(n / 3)) name = name substr("._-", n % 3 + 1, 1)
+                printf "<xs:element name=\"%s\" type=\"xs:int\"/>", name
+            }
+        }' < /dev/null
+        printf '%s' "$end"
+    } > "$schema"
+}
+hostile collisions 9000 200 0 0 '' show "$schema"
+
+# More components than a set may have; more members than a union; more words than a type; the same facet again and again.
+make_components() { { printf '%s' "$head"; repeat "$1" '<xs:element name="e%d" type="xs:int"/>'; printf '%s' "$end"; } > "$schema"; }
+hostile components 300000 60 0 5 'file 1, byte *: link: Limit' show "$schema"
+make_members() {
+    {
+        printf '%s<xs:simpleType name="t"><xs:union memberTypes="' "$head"
+        repeat "$1" 'xs:int '
+        printf '"/></xs:simpleType>%s' "$end"
+    } > "$schema"
+}
+hostile members 2000000 60 0 5 'file 1, byte 79: link: Limit' show "$schema"
+make_facets() {
+    {
+        printf '%s<xs:simpleType name="t"><xs:restriction base="xs:int">' "$head"
+        repeat "$1" "$2"
+        printf '</xs:restriction></xs:simpleType>%s' "$end"
+    } > "$schema"
+}
+make_enumerations() { make_facets "$1" '<xs:enumeration value="%d"/>'; }
+hostile enumerations 400000 60 0 4 'file 1, byte 79: schema: Limit' show "$schema"
+make_bounds() { make_facets "$1" '<xs:minInclusive value="%d"/>'; }
+hostile bounds 400000 60 0 5 'file 1, byte 79: link: Facet Misplaced' show "$schema"
+
+# What is skipped.
+make_annotations() { { printf '%s' "$head"; repeat "$1" '<xs:annotation/>'; printf '%s' "$end"; } > "$schema"; }
+hostile annotations 1000000 60 0 0 '' show "$schema"
+
+# ---- The greatest texts: a file and an input with spaces up to 16,777,216 bytes, and one more
+
+# A text and spaces behind it, in so many bytes together.
+filled() {
+    printf '%s' "$2"
+    bytes $(($1 - ${#2})) ' '
+}
+truth="$head<xs:element name=\"f\" type=\"xs:boolean\"/>$end"
+make_longest_file() { filled "$1" "$truth" > "$schema"; }
+hostile longest_file 16777216 8 0 0 '' show "$schema"
+make_longer_file() { filled 16777217 "$truth" > "$schema"; }
+hostile longer_file 16777217 8 0 11 'file 1: too long' show "$schema"
+make_longest_input() { filled "$1" '<e/>' > "$input"; }
+hostile longest_input 16777216 8 0 0 '' to-per e "$features"
+make_longer_input() { filled 16777217 '<e/>' > "$input"; }
+hostile longer_input 16777217 8 0 11 'input: too long' to-per e "$features"
+make_longer_octets() {
+    for _ in $(seq 257); do printf '\304'; bytes 65536 a; done > "$input"
+}
+hostile longer_octets 1 8 0 11 'input: too long' to-xml s "$features"
+
+[ "$wrong" = 0 ]
