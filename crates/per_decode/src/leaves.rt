@@ -14,6 +14,7 @@ ghost use Rattle.per_decode.specs.Private.Giving.{Gives, spot};
 ghost use Rattle.per_decode.specs.Private.Bodies.{text_told_at};
 
 use crate::faults::{Fault, stopped};
+use crate::room::with_room;
 use crate::run::{Origin, Run};
 use asn_types::Component;
 use label_tree::Tree;
@@ -144,7 +145,7 @@ pub(crate) fn presence<S: Source, K: Origin>(
         (each_at flag_at parts.now) (spot run.old.bits.position run.old.nodes) }
     ensures failed { IsErrOf result Fault.Failed → HasRisen K.faults (S.faults run.new.bits.source.now) }
 {
-    let mut present = Vec::new(alloc);
+    let mut present = with_room(alloc, parts.len());
     for part in parts {
         let there = presence_bit(run, part)?;
         present.push(there)?;

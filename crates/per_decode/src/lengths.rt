@@ -26,6 +26,7 @@ pub(crate) enum Piece {
 }
 
 /// With what was read before it, this length passes the most, or is the last one and stays below the least.
+#[inline(always)]
 fn is_out(least: u32, most: Option<u32>, total: usize, piece: Piece) -> bool
     requires few { total < 2 ^ 63 }
     requires piece { IsPiece piece }
@@ -52,6 +53,7 @@ impl<'a, S: Source, K: Origin> Run<'a, S, K> {
 
     // A length whose first octet is `x`, of a field that begins at a bit, behind a fragment of so many units.
     #[tactic(auto, unfolding(per_fields::specs::Fields::length_from))]
+    #[inline(always)]
     fn length_from(&mut self, before: u32, begin: u64, x: u64) -> Result<Piece, Fault>
         requires octet { x < 256 }
         requires in_step { IsInStep self.old.bits.position self.old.bits.taken }
@@ -87,6 +89,7 @@ impl<'a, S: Source, K: Origin> Run<'a, S, K> {
 
     // A length where reading is aligned.
     #[tactic(auto, unfolding(per_fields::specs::Fields::length_here))]
+    #[inline(always)]
     fn length_here(&mut self, before: u32) -> Result<Piece, Fault>
         requires in_step { IsInStep self.old.bits.position self.old.bits.taken }
         ensures same_reference { self.new.bits.source.ghost_name ≡ self.old.bits.source.ghost_name }
@@ -106,6 +109,7 @@ impl<'a, S: Source, K: Origin> Run<'a, S, K> {
 
     // A length where reading is aligned, of a count within these bounds.
     #[tactic(auto, unfolding(per_fields::specs::Fields::count_here))]
+    #[inline(always)]
     fn count_here(
         &mut self,
         least: u32,
@@ -135,6 +139,7 @@ impl<'a, S: Source, K: Origin> Run<'a, S, K> {
 
     /// A length of a count within these bounds, behind a fragment of so many units and so many octets or items in all.
     #[tactic(auto, unfolding(per_fields::specs::Fields::count_at))]
+    #[inline(always)]
     pub(crate) fn count(
         &mut self,
         least: u32,
@@ -228,6 +233,7 @@ impl<'a, S: Source, K: Origin> Run<'a, S, K> {
 }
 
 // The octets behind those of a text. The first ones are not copied.
+#[inline(always)]
 fn joined(mut text: Vec<u8>, octets: Vec<u8>) -> Result<Vec<u8>, Fault>
     ensures ok { IfOk result (λ all. all.items ≡ text.items ++ octets.items) }
     ensures memory { IfErr result (λ fault. fault ≡ Fault.Memory) }

@@ -19,6 +19,7 @@ ghost use Rattle.per_decode.specs.Private.Bodies as bodies;
 use crate::faults::{Fault, stopped};
 use crate::leaves::{boolean, enumerated, integer, presence, text_node};
 use crate::lengths::{MOST_UNITS, Piece, UNIT};
+use crate::room::with_room;
 use crate::run::{Origin, Run};
 use asn_types::{Component, Form, Module, Role, TypeLabel, own, resolve, role};
 use label_tree::Tree;
@@ -45,6 +46,7 @@ fn below(role: Role, depth: u32) -> u32
 }
 
 // A value whose fields were all read, from a bit to another, where it keeps the rules of its node.
+#[inline(always)]
 fn owned(
     alloc: Global,
     module: &Module,
@@ -224,7 +226,8 @@ fn components<S: Source, K: Origin>(
         (bodies.kids_read module.now depth (present_from (label_of found.now) 0 parts.now (kids_of found.now) present.now)) (spot run.old.bits.position run.old.nodes) }
     ensures failed { IsErrOf result Fault.Failed → HasRisen K.faults (S.faults run.new.bits.source.now) }
 {
-    let mut values = Vec::new(alloc);
+    let count = present.iter().filter(|flag| **flag).count();
+    let mut values = with_room(alloc, count);
     'parts: for i in 0..parts.len() {
         if !present[i] {
             continue;
@@ -265,7 +268,7 @@ fn choice<S: Source, K: Origin>(
     let kid = found.kid(index as usize);
     let inner = below(role(found.label(), index), depth);
     let value = node(alloc, module, run, inner, kid)?;
-    let mut values = Vec::new(alloc);
+    let mut values = with_room(alloc, 1);
     values.push(value)?;
     Ok(Tree::join(ValueLabel::Choice(index), values))
 }

@@ -70,6 +70,7 @@ impl<'a, S: Source, K: Origin> Run<'a, S, K> {
 
     /// A number of `0..=top` in `n` bits.
     #[tactic(auto, unfolding(per_fields::specs::Fields::within_at))]
+    #[inline(always)]
     pub(crate) fn within(&mut self, top: u64, n: u32) -> Result<u64, Fault>
         requires few { n ≤ 64 }
         requires in_step { IsInStep self.old.bits.position self.old.bits.taken }
@@ -151,6 +152,7 @@ impl<'a, S: Source, K: Origin> Run<'a, S, K> {
 
     /// A number of `0..=top`.
     #[tactic(auto, unfolding(per_fields::specs::Fields::number_at))]
+    #[inline(always)]
     pub(crate) fn number(&mut self, alloc: Global, top: u128) -> Result<u128, Fault>
         requires in_step { IsInStep self.old.bits.position self.old.bits.taken }
         ensures same_reference { self.new.bits.source.ghost_name ≡ self.old.bits.source.ghost_name }

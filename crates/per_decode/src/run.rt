@@ -57,6 +57,7 @@ impl<'a, S: Source, K: Origin> Run<'a, S, K> {
     ghost use Rattle.per_decode.specs.Private.Giving.{Gives, spot};
 
     /// The next bit.
+    #[inline(always)]
     pub(crate) fn position(&self) -> u64
         ensures { result ≡ self.now.bits.position }
     {
@@ -64,6 +65,7 @@ impl<'a, S: Source, K: Origin> Run<'a, S, K> {
     }
 
     /// The next `n` bits, of a field that begins at a bit.
+    #[inline(always)]
     pub(crate) fn take_bits(&mut self, begin: u64, n: u32) -> Result<u64, Fault>
         requires few { n ≤ 64 }
         requires in_step { IsInStep self.old.bits.position self.old.bits.taken }
@@ -87,6 +89,7 @@ impl<'a, S: Source, K: Origin> Run<'a, S, K> {
     }
 
     /// The padding up to the next octet.
+    #[inline(always)]
     pub(crate) fn align(&mut self) -> Result<(), Fault>
         requires in_step { IsInStep self.old.bits.position self.old.bits.taken }
         ensures same_reference { self.new.bits.source.ghost_name ≡ self.old.bits.source.ghost_name }

@@ -142,6 +142,7 @@ impl<'a, S: Source, K: Origin> Run<'a, S, K> {
 
     // A number between two.
     #[tactic(auto, unfolding(per_fields::specs::Fields::ranged_at))]
+    #[inline(always)]
     fn ranged(&mut self, alloc: Global, lo: i128, hi: i128) -> Result<i128, Fault>
         requires bounds { AreBounds (Some lo) (Some hi) }
         requires in_step { IsInStep self.old.bits.position self.old.bits.taken }
@@ -162,6 +163,7 @@ impl<'a, S: Source, K: Origin> Run<'a, S, K> {
 
     /// A whole number within bounds.
     #[tactic(auto, unfolding(per_fields::specs::Fields::whole_at))]
+    #[inline(always)]
     pub(crate) fn whole(
         &mut self,
         alloc: Global,

@@ -249,8 +249,8 @@ components-parts-init g t c =
       in_step = c.requires.in_step;
       on = omega arith;
       same = refl;
-      count = rw c.new-values.ensures.items (omega arith);
-      through = rw c.new-values.ensures.items (through_none c.args.module.now c.args.depth (label_of c.args.found.now) parts (kids_of c.args.found.now) c.args.present.now (IsTrue g.K.Origin.told) (input g.K.Origin.limit g.K.Origin.whole) _ (places_there (label_of c.args.found.now) 0 parts (kids_of c.args.found.now) c.args.present.now as_many c.requires.present));
+      count = rw c.with_room-values.ensures (omega arith);
+      through = rw c.with_room-values.ensures (through_none c.args.module.now c.args.depth (label_of c.args.found.now) parts (kids_of c.args.found.now) c.args.present.now (IsTrue g.K.Origin.told) (input g.K.Origin.limit g.K.Origin.whole) _ (places_there (label_of c.args.found.now) 0 parts (kids_of c.args.found.now) c.args.present.now as_many c.requires.present));
     }
 
 pub components-bounds-present-i : goal.components-bounds-present-i
@@ -461,7 +461,7 @@ choice-returns-clause-fits g t c =
     let old = c.args.run.now in
     let mid = c.number.new.self in
     let new = c.node.new.run in
-    rw (c.join.ensures, c.in_ok-push.ensures.items, c.new-values.ensures.items) (fit-choice c.args.module.now c.args.depth c.args.found.now parts i there.0 kid c.in_ok-value.value c.requires.form is_part c.kid-kid.ensures (subst (λ n. FitsAt c.args.module.now n kid c.in_ok-value.value) k.inner_is c.in_ok-value.ensures.fits))
+    rw (c.join.ensures, c.in_ok-push.ensures.items, c.with_room-values.ensures) (fit-choice c.args.module.now c.args.depth c.args.found.now parts i there.0 kid c.in_ok-value.value c.requires.form is_part c.kid-kid.ensures (subst (λ n. FitsAt c.args.module.now n kid c.in_ok-value.value) k.inner_is c.in_ok-value.ensures.fits))
 
 pub choice-returns-clause-gives : goal.choice-returns-clause-gives
 choice-returns-clause-gives g t c = λ told.
@@ -475,7 +475,7 @@ choice-returns-clause-gives g t c = λ told.
     let old = c.args.run.now in
     let mid = c.number.new.self in
     let new = c.node.new.run in
-    rw (c.join.ensures, c.in_ok-push.ensures.items, c.new-values.ensures.items) (choice_reads c.args.module.now c.args.depth (label_of c.args.found.now) (kids_of c.args.found.now) c.args.parts.now (input g.K.Origin.limit g.K.Origin.whole) (spot old.bits.position old.nodes) i (spot mid.bits.position mid.nodes) there.0 kid (c.in_ok-index.ensures.gives told) is_part c.kid-kid.ensures c.in_ok-value.value (spot new.bits.position new.nodes) (subst (λ n. node_read c.args.module.now n kid (input g.K.Origin.limit g.K.Origin.whole) (spot mid.bits.position mid.nodes) ≡ Ok (c.in_ok-value.value, (spot new.bits.position new.nodes))) k.inner_is (c.in_ok-value.ensures.gives told)))
+    rw (c.join.ensures, c.in_ok-push.ensures.items, c.with_room-values.ensures) (choice_reads c.args.module.now c.args.depth (label_of c.args.found.now) (kids_of c.args.found.now) c.args.parts.now (input g.K.Origin.limit g.K.Origin.whole) (spot old.bits.position old.nodes) i (spot mid.bits.position mid.nodes) there.0 kid (c.in_ok-index.ensures.gives told) is_part c.kid-kid.ensures c.in_ok-value.value (spot new.bits.position new.nodes) (subst (λ n. node_read c.args.module.now n kid (input g.K.Origin.limit g.K.Origin.whole) (spot mid.bits.position mid.nodes) ≡ Ok (c.in_ok-value.value, (spot new.bits.position new.nodes))) k.inner_is (c.in_ok-value.ensures.gives told)))
 
 -- A SEQUENCE OF
 
