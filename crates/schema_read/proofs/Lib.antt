@@ -1,9 +1,27 @@
 pub mod Adding
 pub mod Bases
 pub mod Coherence
+pub mod CountedDocument
+pub mod CountedParts
+pub mod CountedPlaces
+pub mod CountedTypes
 pub mod Counting
+pub mod Faultless
+pub mod FaultlessRoles
+pub mod FittingDocument
+pub mod FittingParts
+pub mod InwardContents
+pub mod InwardTypes
+pub mod ItemPlaces
+pub mod KeptDocument
 pub mod Leaves
 pub mod Making
+pub mod Occurrences
+pub mod PlacedDocument
+pub mod PlacedParts
+pub mod RisingPlaces
+pub mod ShortDocument
+pub mod ShortParts
 pub mod Simple
 pub mod WholeDocument
 mod NameRules
