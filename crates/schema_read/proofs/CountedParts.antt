@@ -210,7 +210,7 @@ module _ (test : ℕ → Bool) where
     here_counted outer level name attributes declares at kids schema by =
         elim by [
           | inl one ↦ by_word one.0 refl refl
-          | inr other ↦ elim other [ | inl one ↦ by_word one.0 refl refl | inr one ↦ by_word one.0 refl refl ]
+          | inr other ↦ elim other [ inl one ↦ by_word one.0 refl refl | inr one ↦ by_word one.0 refl refl ]
         ]
       where
         by_word : {w : List ℕ} → name.local ≡ w → list_any (bytes_eq w) counted_names ≡ true → looked w ≡ true
@@ -271,17 +271,17 @@ module _ (test : ℕ → Bool) where
           elim by [
             | inl one ↦ kind_counted LocalElement tt None scope level (n + 1) kids one.1.inside
             | inr other ↦ elim other [
-                | inl one ↦ absurd (both_ways (bytes_eq name.local (codes "element")) (ap (λ l. bytes_eq l (codes "element")) one.0) word)
-                | inr one ↦ absurd (both_ways (bytes_eq name.local (codes "element")) (ap (λ l. bytes_eq l (codes "element")) one.0) word)
-              ]
+              | inl one ↦ absurd (both_ways (bytes_eq name.local (codes "element")) (ap (λ l. bytes_eq l (codes "element")) one.0) word)
+              | inr one ↦ absurd (both_ways (bytes_eq name.local (codes "element")) (ap (λ l. bytes_eq l (codes "element")) one.0) word)
+            ]
           ])
           (λ word.
           elim by [
             | inl one ↦ absurd (both_ways (bytes_eq name.local (codes "element")) word (ap (λ l. bytes_eq l (codes "element")) one.0))
             | inr other ↦ elim other [
-                | inl one ↦ among_counted Sequence tt None scope (level_inside Sequence level) n kids one.1.inside
-                | inr one ↦ among_counted Choice tt None scope (level_inside Choice level) n kids one.1.inside
-              ]
+              | inl one ↦ among_counted Sequence tt None scope (level_inside Sequence level) n kids one.1.inside
+              | inr one ↦ among_counted Choice tt None scope (level_inside Choice level) n kids one.1.inside
+            ]
           ]))
           (λ is. none_counted most)
 

@@ -162,14 +162,25 @@ module _ (parent : ElementRole) (before : Option Position) (outer : List (List �
   -- ---- particles
 
   particle_named : HasParticles parent → Each (λ w. name.local ≡ w → IsParticle outer level name attributes declares kids) (names_in Particles)
-  particle_named has =
-      (λ is. let s = standing (codes "element") is refl in inl (is, as_role LocalElement s (element_role parent has s.part (there (codes "element") is s))),
-      (λ is. let s = standing (codes "sequence") is refl in inr (inl (is, as_role Sequence s (sequence_role parent has s.part (there (codes "sequence") is s)))),
-      (λ is. let s = standing (codes "choice") is refl in inr (inr (is, as_role Choice s (choice_role parent has s.part (there (codes "choice") is s)))),
-      (λ is. let s = standing (codes "any") is refl in absurd (any_absent parent has s.part (there (codes "any") is s)),
-      (λ is. let s = standing (codes "group") is refl in absurd (group_absent parent has s.part (there (codes "group") is s)),
-      (λ is. let s = standing (codes "all") is refl in absurd (all_absent parent has s.part (there (codes "all") is s)),
-      tt))))))
+  particle_named has = (
+    λ is. let s = standing (codes "element") is refl in inl (is, as_role LocalElement s (element_role parent has s.part (there (codes "element") is s))),
+    (
+      λ is. let s = standing (codes "sequence") is refl in inr (inl (is, as_role Sequence s (sequence_role parent has s.part (there (codes "sequence") is s)))),
+      (
+        λ is. let s = standing (codes "choice") is refl in inr (inr (is, as_role Choice s (choice_role parent has s.part (there (codes "choice") is s)))),
+        (
+          λ is. let s = standing (codes "any") is refl in absurd (any_absent parent has s.part (there (codes "any") is s)),
+          (
+            λ is. let s = standing (codes "group") is refl in absurd (group_absent parent has s.part (there (codes "group") is s)),
+            (
+              λ is. let s = standing (codes "all") is refl in absurd (all_absent parent has s.part (there (codes "all") is s)),
+              tt,
+            ),
+          ),
+        ),
+      ),
+    ),
+  )
 
   pub particle_cases : HasParticles parent → is_in Particles (Element name attributes declares at) ≡ true → IsParticle outer level name attributes declares kids
   particle_cases has is =

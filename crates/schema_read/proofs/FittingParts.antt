@@ -219,28 +219,28 @@ module _ (said : Settings) where
         let by : IsParticle outer level name attributes declares kids = particle_cases parent before outer level name attributes declares at kids h has parts.0 in
         let allows : allow_one (least_of own) (most_of own) ≡ true = elim by [
           | inl one ↦ may_occur LocalElement scope own one.1.passes.good stays
-          | inr other ↦ elim other [ | inl one ↦ may_occur Sequence scope own one.1.passes.good stays | inr one ↦ may_occur Choice scope own one.1.passes.good stays ]
+          | inr other ↦ elim other [ inl one ↦ may_occur Sequence scope own one.1.passes.good stays | inr one ↦ may_occur Choice scope own one.1.passes.good stays ]
         ] in
         particle_by_fits level n name.local at scope own inner particles low allows
         (λ word.
         elim by [
           | inl one ↦ kind_fits_in LocalElement tt None scope level (n + 1) kids one.1.inside
           | inr other ↦ elim other [
-              | inl one ↦ absurd (both_ways (bytes_eq name.local (codes "element")) (ap (λ l. bytes_eq l (codes "element")) one.0) word)
-              | inr one ↦ absurd (both_ways (bytes_eq name.local (codes "element")) (ap (λ l. bytes_eq l (codes "element")) one.0) word)
-            ]
+            | inl one ↦ absurd (both_ways (bytes_eq name.local (codes "element")) (ap (λ l. bytes_eq l (codes "element")) one.0) word)
+            | inr one ↦ absurd (both_ways (bytes_eq name.local (codes "element")) (ap (λ l. bytes_eq l (codes "element")) one.0) word)
+          ]
         ])
         (λ word.
         elim by [
           | inl one ↦ absurd (both_ways (bytes_eq name.local (codes "element")) word (ap (λ l. bytes_eq l (codes "element")) one.0))
           | inr other ↦ elim other [
-              | inl one ↦
-                  let lt : level < 16 = group_level level (nat_lt 500 (child_count TakenParticles (list_of kids))) own one.1.passes.few in
-                  (lt, among_fits_in Sequence tt None scope (level + 1) n kids (omega (arith, lt)) (subst (λ l. NoneAtAll (reasons_among Sequence None scope l kids)) (next_level level lt) one.1.inside))
-              | inr one ↦
-                  let lt : level < 16 = group_level level (nat_lt 500 (child_count TakenParticles (list_of kids))) own one.1.passes.few in
-                  (lt, among_fits_in Choice tt None scope (level + 1) n kids (omega (arith, lt)) (subst (λ l. NoneAtAll (reasons_among Choice None scope l kids)) (next_level level lt) one.1.inside))
-            ]
+            | inl one ↦
+                let lt : level < 16 = group_level level (nat_lt 500 (child_count TakenParticles (list_of kids))) own one.1.passes.few in
+                (lt, among_fits_in Sequence tt None scope (level + 1) n kids (omega (arith, lt)) (subst (λ l. NoneAtAll (reasons_among Sequence None scope l kids)) (next_level level lt) one.1.inside))
+            | inr one ↦
+                let lt : level < 16 = group_level level (nat_lt 500 (child_count TakenParticles (list_of kids))) own one.1.passes.few in
+                (lt, among_fits_in Choice tt None scope (level + 1) n kids (omega (arith, lt)) (subst (λ l. NoneAtAll (reasons_among Choice None scope l kids)) (next_level level lt) one.1.inside))
+          ]
         ]))
         (λ is. (tt, refl))
 

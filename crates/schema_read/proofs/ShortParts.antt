@@ -294,17 +294,17 @@ module _ (all : List Local) where
           elim by [
             | inl one ↦ kind_short LocalElement tt None scope level (n + 1) most kids deep few one.1.inside
             | inr other ↦ elim other [
-                | inl one ↦ absurd (both_ways (bytes_eq name.local (codes "element")) (ap (λ l. bytes_eq l (codes "element")) one.0) word)
-                | inr one ↦ absurd (both_ways (bytes_eq name.local (codes "element")) (ap (λ l. bytes_eq l (codes "element")) one.0) word)
-              ]
+              | inl one ↦ absurd (both_ways (bytes_eq name.local (codes "element")) (ap (λ l. bytes_eq l (codes "element")) one.0) word)
+              | inr one ↦ absurd (both_ways (bytes_eq name.local (codes "element")) (ap (λ l. bytes_eq l (codes "element")) one.0) word)
+            ]
           ])
           (λ word.
           elim by [
             | inl one ↦ absurd (both_ways (bytes_eq name.local (codes "element")) word (ap (λ l. bytes_eq l (codes "element")) one.0))
             | inr other ↦ elim other [
-                | inl one ↦ among_short Sequence tt None scope (level_inside Sequence level) n most kids low few one.1.inside
-                | inr one ↦ among_short Choice tt None scope (level_inside Choice level) n most kids low few one.1.inside
-              ]
+              | inl one ↦ among_short Sequence tt None scope (level_inside Sequence level) n most kids low few one.1.inside
+              | inr one ↦ among_short Choice tt None scope (level_inside Choice level) n most kids low few one.1.inside
+            ]
           ]))
           (λ is. no_group n most)
 

@@ -68,12 +68,7 @@ fn counted_places(alloc: Global, kids: &[Tree<ItemLabel>]) -> Result<Vec<u64>, M
     Ok(counted)
 }
 
-fn sealed(
-    file: u32,
-    target: Text,
-    globals: Globals,
-    counted: Vec<u64>,
-) -> Result<RawDoc, Memory>
+fn sealed(file: u32, target: Text, globals: Globals, counted: Vec<u64>) -> Result<RawDoc, Memory>
     requires { Keeps (parts_of file target globals.elements.items globals.attributes.items globals.types.items globals.locals.items counted.items) }
     ensures { IfOk result (λ doc. doc_of doc ≡ parts_of file target globals.elements.items globals.attributes.items globals.types.items globals.locals.items counted.items) }
 {
