@@ -1,5 +1,5 @@
 -- The limit of components counts each part of a document without a fault.
-use Rattle.std.proofs.Common.{◌≡◌, ℕ, ◌+◌, ◌≤◌, Bool, true, false, cond, List, [], ◌∷◌, ◌++◌, length, Option, Some, None, refl, ap, subst, sym, ◌∙◌, arith, count_by}
+use Rattle.std.proofs.Common.{◌≡◌, ℕ, ◌+◌, ◌≤◌, Bool, true, cond, List, [], ◌∷◌, ◌++◌, length, Option, Some, None, refl, ap, subst, sym, ◌∙◌, arith, count_by}
 use Rattle.std.specs.Prelude.{bytes_eq, codes}
 use Rattle.std.specs.List.{list_any, flat_map}
 use Rattle.std.proofs.lemmas.Bool.{and_from, cond_both}
@@ -7,7 +7,7 @@ use Rattle.std.proofs.lemmas.List.{append-nil}
 use Rattle.std.proofs.lemmas.List.Concat.{flat_map-append}
 use Rattle.std.proofs.lemmas.Slice.Eq.{bytes_eq-Decides}
 use Rattle.xa_base.specs.declared.texts.Name.{Name}
-use Rattle.label_tree.specs.Rose.{Rose, node, Roses, roses_of, list_of, label_of, kids_of}
+use Rattle.label_tree.specs.Rose.{Rose, node, roses_of, list_of, label_of}
 use Rattle.label_tree.proofs.Roses.{roses_of-list_of}
 use Rattle.doc_text.specs.declared.label.ItemLabel.{ItemLabel}
 use Rattle.doc_text.specs.declared.label.ItemLabel.TheVariants.{Element, Text}
@@ -23,15 +23,15 @@ use Rattle.schema_faults.specs.Shown.{NoneAtAll}
 use Rattle.schema_read.specs.Counted.{counted_at, counted_among}
 use Rattle.schema_read.specs.Names.{declared_name}
 use Rattle.schema_read.specs.Attributes.{global_attribute, attribute_by}
-use Rattle.schema_read.specs.SimpleTypes.{simple_type, declared_type}
+use Rattle.schema_read.specs.SimpleTypes.{simple_type}
 use Rattle.schema_read.specs.Settings.{Settings}
-use Rattle.schema_read.specs.Particles.{Made, made, element_by, kind_by, inner_kind, complex_type}
+use Rattle.schema_read.specs.Particles.{Made, made, inner_kind, complex_type}
 use Rattle.schema_read.specs.Raw.{Parts, no_parts, and_parts, element_parts, attribute_parts, simple_type_parts, complex_type_parts, global_element, parts_named, parts_by, parts_among}
 use Rattle.schema_read.proofs.Faultless.{none_parts}
 use Rattle.schema_read.proofs.FaultlessRoles.{Inside}
 use Rattle.schema_read.proofs.FaultlessRoles as roles
 use Rattle.schema_read.proofs.CountedTypes.{looked, count-append, count-more, both_counted, SimpleCounted, simple_type_counted, declared_type_counted}
-use Rattle.schema_read.proofs.CountedParts.{in_locals, locals_append, KindCounted, ComplexCounted, kind_by_counted, kind_counted, complex_counted}
+use Rattle.schema_read.proofs.CountedParts.{KindCounted, ComplexCounted, kind_by_counted, kind_counted, complex_counted}
 
 module _ (test : ℕ → Bool) where
   abbrev count : List ℕ → ℕ

@@ -1,6 +1,6 @@
 -- The limit of components counts each part that is read of a document without a fault.
-use Rattle.std.proofs.Common.{◌≡◌, ℕ, ◌+◌, ◌≤◌, Bool, true, false, cond, List, [], ◌∷◌, ◌++◌, length, Option, Some, None, inl, inr, refl, ap, subst, sym, ◌∙◌, arith, count_by}
-use Rattle.std.specs.Prelude.{◌&&◌, not, bytes_eq, codes}
+use Rattle.std.proofs.Common.{◌≡◌, ℕ, ◌+◌, ◌≤◌, Bool, true, false, cond, List, [], ◌∷◌, ◌++◌, length, Option, Some, None, inl, inr, refl, ap, subst, ◌∙◌, arith, count_by}
+use Rattle.std.specs.Prelude.{not, bytes_eq, codes}
 use Rattle.std.specs.List.{list_any, flat_map}
 use Rattle.std.proofs.lemmas.Bool.{and_parts, and_from, and_left, and_right, cond_both, both_ways, cases_Bool}
 use Rattle.std.proofs.lemmas.List.Concat.{flat_map-append}
@@ -38,7 +38,7 @@ use Rattle.schema_read.specs.Settings.{Settings}
 use Rattle.schema_read.specs.Contents.{is_named, simple_content, is_nothing, content_of_nothing, content_of, model_of, complex_by, complex_with, empty_place}
 use Rattle.schema_read.specs.Particles.{Made, made, made_some, element_name, kind_by, element_by, declared, declared_with, reference_to, leaf_of, group_of, particle_by, and_some, first_kind, first_group, complex_of, particle_at, particles_among, group_among, inner_kind, complex_type}
 use Rattle.schema_read.proofs.Faultless.{none_parts}
-use Rattle.schema_read.proofs.FaultlessRoles.{Each, one_of, HasParticles, HasTypes, Inside, IsParticle, particle_cases, IsComplex, complex_cases}
+use Rattle.schema_read.proofs.FaultlessRoles.{one_of, HasParticles, HasTypes, IsParticle, particle_cases, IsComplex, complex_cases}
 use Rattle.schema_read.proofs.CountedTypes.{looked, count-append, count-more, both_counted, SimpleCounted, simple_type_counted, UseCounted, use_at_counted, FoundCounted, simple_content_counted}
 
 -- ---- particles and attributes are other children

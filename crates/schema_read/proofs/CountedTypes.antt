@@ -1,5 +1,5 @@
 -- The limit of components counts each simple type and each attribute that is read.
-use Rattle.std.proofs.Common.{◌≡◌, ℕ, ◌+◌, ◌<◌, ◌≤◌, Bool, true, false, cond, List, [], ◌∷◌, ◌++◌, Option, Some, None, refl, ap, subst, sym, ◌∙◌, arith, count_by}
+use Rattle.std.proofs.Common.{◌≡◌, ℕ, ◌+◌, ◌≤◌, Bool, true, false, cond, List, [], ◌∷◌, ◌++◌, Option, Some, None, refl, ap, ◌∙◌, arith, count_by}
 use Rattle.std.specs.Prelude.{◌&&◌, not, bytes_eq, codes}
 use Rattle.std.specs.List.{list_any, flat_map}
 use Rattle.std.specs.Option.{option_or}
@@ -13,7 +13,7 @@ use Rattle.label_tree.proofs.Roses.{roses_of-list_of}
 use Rattle.doc_text.specs.declared.label.ItemLabel.{ItemLabel}
 use Rattle.doc_text.specs.declared.label.ItemLabel.TheVariants.{Element, Text}
 use Rattle.schema_parts.specs.declared.declarations.RawContent.{RawContent}
-use Rattle.schema_parts.specs.Raw.{Base, Named, Inner, Bases, none, more, How, Restrict, ListOf, UnionOf, Simple, Use}
+use Rattle.schema_parts.specs.Raw.{Named, Bases, none, more, How, Simple, Use}
 use Rattle.schema_parts.specs.Places.{places_in_base, places_in_how, places_in_bases, places_in_simple, places_in_use, places_in_content}
 use Rattle.xa_base.specs.Entries.{beside}
 use Rattle.xa_base.specs.WhiteSpace.{words_of}
@@ -24,7 +24,7 @@ use Rattle.schema_rules.specs.declared.children.ChildSet.{ChildSet}
 use Rattle.schema_rules.specs.declared.children.ChildSet.TheVariants.{Varieties, SimpleTypes, Attributes}
 use Rattle.schema_read.specs.Counted.{counted_here, counted_inside, counted_at, counted_among}
 use Rattle.schema_read.specs.Names.{type_ref, referred}
-use Rattle.schema_read.specs.SimpleTypes.{joined, named_in, named_members, first_or_none, base_by, restriction_of, list_of_items, union_of, made_by, placed, defined, and_inner, variety_at, variety_among, simple_type, inner_types, declared_type}
+use Rattle.schema_read.specs.SimpleTypes.{joined, named_in, named_members, first_or_none, restriction_of, list_of_items, union_of, made_by, placed, defined, and_inner, variety_at, variety_among, simple_type, inner_types, declared_type}
 use Rattle.schema_read.specs.Attributes.{local_name, has_use, use_to, own_use, use_by, use_at, and_use, uses_among}
 use Rattle.schema_read.specs.Settings.{Settings}
 use Rattle.schema_read.specs.Contents.{is_named, extended, extended_among, simple_content_at, simple_content}

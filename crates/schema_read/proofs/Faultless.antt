@@ -1,18 +1,15 @@
 -- What stands in an element of a document without a fault.
-use Rattle.std.proofs.Common.{◌≡◌, ℕ, Bool, true, false, cond, List, [], ◌∷◌, ◌++◌, Option, Some, None, inl, inr, refl, ap, sym, ◌∙◌, subst}
-use Rattle.std.specs.Prelude.{bytes_eq, codes, ◌||◌, not}
+use Rattle.std.proofs.Common.{◌≡◌, ℕ, Bool, true, false, cond, List, [], ◌∷◌, ◌++◌, Option, Some, None, refl, subst}
+use Rattle.std.specs.Prelude.{bytes_eq, codes, not}
 use Rattle.std.specs.List.{list_any}
 use Rattle.std.specs.Option.{option_or}
-use Rattle.std.proofs.lemmas.Bool.{or_cases}
-use Rattle.std.proofs.lemmas.Slice.Eq.{bytes_eq-Decides}
 use Rattle.xa_base.specs.declared.texts.Name.{Name}
 use Rattle.xa_base.specs.Entries.{beside, first_true}
-use Rattle.label_tree.specs.Rose.{Rose, node, Roses, list_of, label_of}
-use Rattle.label_tree.specs.Rose as rose
+use Rattle.label_tree.specs.Rose.{Rose, node, Roses, list_of}
 use Rattle.doc_text.specs.declared.label.ItemLabel.{ItemLabel}
-use Rattle.doc_text.specs.declared.label.ItemLabel.TheVariants.{Element, Text}
-use Rattle.schema_rules.specs.Elements.{is_schema_name, left_out, element_names, children, may_stand, placed, refused_or, placement_of, placement}
-use Rattle.schema_rules.specs.Attributes.{own_attributes, has_unknown}
+use Rattle.doc_text.specs.declared.label.ItemLabel.TheVariants.{Element}
+use Rattle.schema_rules.specs.Elements.{is_schema_name, left_out, element_names, children, may_stand, placed, refused_or, placement_of}
+use Rattle.schema_rules.specs.Attributes.{has_unknown}
 use Rattle.schema_rules.specs.Values.{has_bad_value}
 use Rattle.schema_rules.specs.declared.why.SchemaWhy.{SchemaWhy}
 use Rattle.schema_rules.specs.declared.why.SchemaWhy.TheVariants as why
@@ -24,7 +21,7 @@ use Rattle.schema_rules.specs.declared.elements.Placement.TheVariants.{Skipped, 
 use Rattle.schema_faults.specs.Requirements.{lacks_required}
 use Rattle.schema_faults.specs.Limits.{is_over_limit, level_inside}
 use Rattle.schema_faults.specs.Reasons.{early_tests, left_out_attributes, left_out_reference, untyped, late_tests, reason_against}
-use Rattle.schema_faults.specs.Faults.{LookedAt, own_reason, unless_composition, placed_at, position_behind, reasons_of, reasons_at, reasons_among}
+use Rattle.schema_faults.specs.Faults.{LookedAt, own_reason, unless_composition, placed_at, reasons_at, reasons_among}
 use Rattle.schema_faults.specs.Shown.{NoneAtAll}
 
 -- no reason stands against either

@@ -1,25 +1,25 @@
 -- The roles of the elements that are read in a document without a fault.
-use Rattle.std.proofs.Common.{◌≡◌, ℕ, Bool, true, false, cond, List, [], ◌∷◌, ◌++◌, Option, Some, None, inl, inr, refl, ap, sym, ◌∙◌, subst}
-use Rattle.std.specs.Prelude.{bytes_eq, codes, ◌||◌, ◌⊎◌}
+use Rattle.std.proofs.Common.{◌≡◌, ℕ, true, false, List, [], ◌∷◌, ◌++◌, Option, Some, None, inl, inr, refl, ap, sym, ◌∙◌, subst}
+use Rattle.std.specs.Prelude.{bytes_eq, codes, ◌⊎◌}
 use Rattle.std.specs.List.{list_any}
 use Rattle.std.proofs.lemmas.Bool.{or_cases, and_parts}
 use Rattle.std.proofs.lemmas.Slice.Eq.{bytes_eq-Decides}
 use Rattle.xa_base.specs.declared.texts.Name.{Name}
 use Rattle.xa_base.specs.Entries.{beside}
-use Rattle.label_tree.specs.Rose.{Rose, node, Roses, list_of}
+use Rattle.label_tree.specs.Rose.{node, Roses, list_of}
 use Rattle.doc_text.specs.declared.label.ItemLabel.{ItemLabel}
-use Rattle.doc_text.specs.declared.label.ItemLabel.TheVariants.{Element, Text}
+use Rattle.doc_text.specs.declared.label.ItemLabel.TheVariants.{Element}
 use Rattle.schema_rules.specs.Elements.{is_schema_name, part, children}
 use Rattle.schema_rules.specs.Attributes.{own_attributes}
 use Rattle.schema_rules.specs.Children.{names_in, is_in}
-use Rattle.schema_rules.specs.declared.children.ChildSet.TheVariants.{Particles, SimpleTypes}
+use Rattle.schema_rules.specs.declared.children.ChildSet.TheVariants.{Particles}
 use Rattle.schema_rules.specs.declared.roles.ElementRole.{ElementRole}
 use Rattle.schema_rules.specs.declared.roles.ElementRole.TheVariants.{Schema, GlobalElement, LocalElement, GlobalComplexType, InnerComplexType, Sequence, Choice}
 use Rattle.schema_rules.specs.declared.roles.Position.{Position}
 use Rattle.schema_rules.specs.declared.roles.Position.TheVariants.{Anywhere, First, Alone}
 use Rattle.schema_rules.specs.declared.roles.Part.{Part}
 use Rattle.schema_faults.specs.Limits.{level_inside}
-use Rattle.schema_faults.specs.Faults.{own_reason, unless_composition, reasons_at, reasons_among}
+use Rattle.schema_faults.specs.Faults.{unless_composition, reasons_at, reasons_among}
 use Rattle.schema_faults.specs.Shown.{NoneAtAll}
 use Rattle.schema_read.specs.Contents.{is_named}
 use Rattle.schema_read.proofs.Faultless.{Stands, stands, Passes, passes}

@@ -1,29 +1,25 @@
 -- The particles that are read of a document without a fault may occur, and stand in at most 16 levels of groups.
-use Rattle.std.proofs.Common.{◌≡◌, ℕ, suc, ◌+◌, ◌<◌, ◌≤◌, max, Bool, true, false, cond, List, [], ◌∷◌, ◌++◌, length, Option, Some, None, inl, inr, refl, ap, subst, sym, ◌∙◌, arith}
-use Rattle.std.specs.Prelude.{◌&&◌, ◌||◌, not, bytes_eq, codes, nat_le, nat_lt}
-use Rattle.std.specs.List.{list_any}
+use Rattle.std.proofs.Common.{◌≡◌, ℕ, suc, ◌+◌, ◌<◌, ◌≤◌, max, Bool, true, false, cond, List, [], ◌∷◌, ◌++◌, length, Option, Some, None, inl, inr, refl, ap, subst, arith}
+use Rattle.std.specs.Prelude.{◌||◌, not, bytes_eq, codes, nat_le, nat_lt}
 use Rattle.std.specs.Option.{option_or}
 use Rattle.std.proofs.lemmas.Bool.{and_parts, and_from, or_parts, cond_both, both_ways, cond-true, le-leb, leb-false, lt-ltb, not-true}
-use Rattle.std.proofs.lemmas.Slice.Eq.{bytes_eq-Decides}
-use Rattle.xa_base.specs.declared.texts.Name.{Name}
 use Rattle.label_tree.specs.Rose.{Rose, node, Roses, roses_of, list_of, label_of, kids_of, height, depth_all}
 use Rattle.label_tree.specs.Rose as rose
 use Rattle.doc_text.specs.declared.label.ItemLabel.{ItemLabel}
 use Rattle.doc_text.specs.declared.label.ItemLabel.TheVariants.{Element, Text}
 use Rattle.content_models.specs.declared.particles.ParticleLabel.{ParticleLabel}
 use Rattle.schema_parts.specs.declared.declarations.RawContent.{RawContent}
-use Rattle.schema_parts.specs.Raw as raw
-use Rattle.schema_parts.specs.Raw.{Use, Simple, Complex, Kind, NamedKind, SimpleKind, ComplexKind, Local, Reference, Own}
+use Rattle.schema_parts.specs.Raw.{Use, Simple, Complex, Kind, NamedKind, Local}
 use Rattle.schema_parts.specs.Bounds.{allow_one, all_allow_one, each_allows_one, fits, content_fits, kind_fits, local_fits, locals_fit}
 use Rattle.xa_base.specs.Entries.{beside}
 use Rattle.schema_rules.specs.Attributes.{own_attributes}
 use Rattle.schema_rules.specs.Values.{least_of, most_of, never_occurs}
-use Rattle.schema_rules.specs.Children.{names_in, is_in, child_count}
+use Rattle.schema_rules.specs.Children.{is_in, child_count}
 use Rattle.schema_rules.specs.declared.children.ChildSet.TheVariants.{Particles, TakenParticles}
 use Rattle.schema_rules.specs.declared.roles.ElementRole.{ElementRole}
 use Rattle.schema_rules.specs.declared.roles.ElementRole.TheVariants.{LocalElement, GlobalComplexType, InnerComplexType, Sequence, Choice}
 use Rattle.schema_rules.specs.declared.roles.Position.{Position}
-use Rattle.schema_faults.specs.Limits.{has_large, is_over_limit, is_too_large, level_inside}
+use Rattle.schema_faults.specs.Limits.{has_large}
 use Rattle.schema_faults.specs.Reasons.{is_true, occurs}
 use Rattle.schema_faults.specs.Faults.{position_behind, reasons_at, reasons_among}
 use Rattle.schema_faults.specs.Shown.{NoneAtAll}
@@ -34,7 +30,7 @@ use Rattle.schema_read.specs.Settings.{Settings}
 use Rattle.schema_read.specs.Contents.{is_named, extended, extended_among, simple_content_at, simple_content, is_nothing, content_of_nothing, content_of, model_of, complex_by, complex_with, empty_place}
 use Rattle.schema_read.specs.Particles.{Made, made, made_some, element_name, kind_by, element_by, declared, declared_with, reference_to, leaf_of, group_of, particle_by, and_some, first_kind, first_group, complex_of, particle_at, particles_among, group_among, inner_kind, complex_type}
 use Rattle.schema_read.proofs.Faultless.{none_parts}
-use Rattle.schema_read.proofs.FaultlessRoles.{HasParticles, HasTypes, Inside, IsParticle, particle_cases, IsComplex, complex_cases}
+use Rattle.schema_read.proofs.FaultlessRoles.{HasParticles, HasTypes, IsParticle, particle_cases, IsComplex, complex_cases}
 use Rattle.schema_read.proofs.Occurrences.{may_occur}
 
 pub locals_fit_append : (ls ms : List Local) → locals_fit ls ≡ true → locals_fit ms ≡ true → locals_fit (ls ++ ms) ≡ true

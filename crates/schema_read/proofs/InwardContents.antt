@@ -1,26 +1,23 @@
 -- The contents of a complex type stand behind it.
-use Rattle.std.proofs.Common.{◌≡◌, ℕ, ◌+◌, ◌<◌, ◌≤◌, Bool, true, false, cond, List, [], ◌∷◌, ◌++◌, Option, Some, None, refl, ap, subst, sym, ◌∙◌, arith}
-use Rattle.std.specs.Prelude.{nat_lt, nat_eq, ◌&&◌, codes, unwrap_or, slice_get}
+use Rattle.std.proofs.Common.{◌≡◌, ℕ, ◌+◌, ◌<◌, Bool, true, false, cond, List, [], ◌∷◌, ◌++◌, Option, Some, None, refl, ap, ◌∙◌, arith}
+use Rattle.std.specs.Prelude.{nat_lt, ◌&&◌, codes, unwrap_or}
 use Rattle.std.specs.Option.{option_or}
 use Rattle.std.proofs.lemmas.Bool.{lt-ltb, eq-eqb, and_from}
-use Rattle.label_tree.specs.Rose.{Rose, node, Roses, roses_of, list_of, label_of, kids_of}
-use Rattle.label_tree.specs.Rose as rose
-use Rattle.doc_text.specs.Labels.{item_place}
+use Rattle.label_tree.specs.Rose.{Rose, node, roses_of, list_of, label_of, kids_of}
 use Rattle.doc_text.specs.declared.label.ItemLabel.{ItemLabel}
 use Rattle.doc_text.specs.declared.label.ItemLabel.TheVariants.{Element, Text}
 use Rattle.content_models.specs.declared.particles.ParticleKind.TheVariants as particle
 use Rattle.content_models.specs.declared.particles.ParticleLabel.{ParticleLabel}
 use Rattle.schema_parts.specs.declared.declarations.RawContent.{RawContent}
-use Rattle.schema_parts.specs.Raw.{Use, Complex, Local}
+use Rattle.schema_parts.specs.Raw.{Use, Local}
 use Rattle.schema_parts.specs.Places.{local_place}
-use Rattle.schema_parts.specs.Inward.{has_place, label_declared, label_inward, model_inward, each_inward, content_inward, body_inward, uses_inward}
-use Rattle.schema_rules.specs.Attributes.{own_attributes}
+use Rattle.schema_parts.specs.Inward.{has_place, label_declared, model_inward, content_inward, uses_inward}
 use Rattle.schema_rules.specs.Children.{is_in}
 use Rattle.schema_rules.specs.declared.children.ChildSet.TheVariants.{Particles}
 use Rattle.schema_read.specs.Settings.{Settings}
 use Rattle.schema_read.specs.Attributes.{uses_among}
-use Rattle.schema_read.specs.Contents.{is_named, extended, extended_among, simple_content_at, simple_content, is_nothing, nothing, content_of_nothing, content_by, content_of, model_of, particle_place, group_place, empty_place, complex_with, complex_by}
-use Rattle.schema_read.proofs.ItemPlaces.{Spans, SpansAll, span_le, kids_span, place_span}
+use Rattle.schema_read.specs.Contents.{is_named, extended, extended_among, simple_content_at, simple_content, is_nothing, content_of_nothing, content_of, model_of, particle_place, group_place, empty_place}
+use Rattle.schema_read.proofs.ItemPlaces.{Spans, SpansAll, span_le, kids_span}
 use Rattle.schema_read.proofs.InwardTypes.{uses_among_in}
 
 -- ---- simple content

@@ -1,15 +1,14 @@
 -- The parts of a simple type, and of an attribute, stand behind what they stand in.
-use Rattle.std.proofs.Common.{◌≡◌, ℕ, ◌+◌, ◌<◌, ◌≤◌, Bool, true, false, cond, List, [], ◌∷◌, ◌++◌, Option, Some, None, refl, subst, sym, arith}
+use Rattle.std.proofs.Common.{◌≡◌, ℕ, ◌+◌, ◌<◌, Bool, true, false, cond, List, [], ◌∷◌, ◌++◌, Option, Some, None, refl, subst, sym, arith}
 use Rattle.std.specs.Prelude.{nat_lt, ◌&&◌, not, bytes_eq, codes}
 use Rattle.std.specs.Option.{option_or}
 use Rattle.std.proofs.lemmas.Bool.{lt-ltb, and_from, and_parts}
 use Rattle.label_tree.specs.Rose.{Rose, node, Roses, roses_of, list_of, label_of, kids_of}
 use Rattle.label_tree.specs.Rose as rose
 use Rattle.label_tree.proofs.Roses.{roses_of-list_of}
-use Rattle.doc_text.specs.Labels.{item_place}
 use Rattle.doc_text.specs.declared.label.ItemLabel.{ItemLabel}
 use Rattle.doc_text.specs.declared.label.ItemLabel.TheVariants.{Element, Text}
-use Rattle.schema_parts.specs.Raw.{Base, Named, Inner, Bases, none, more, How, Restrict, ListOf, UnionOf, Simple, Use}
+use Rattle.schema_parts.specs.Raw.{Named, Bases, none, more, How, Simple, Use}
 use Rattle.schema_parts.specs.Inward.{is_behind, base_inward, how_inward, bases_inward, simple_inward, use_inward, uses_inward}
 use Rattle.xa_base.specs.Entries.{beside}
 use Rattle.xa_base.specs.WhiteSpace.{words_of}
@@ -17,9 +16,9 @@ use Rattle.schema_rules.specs.Attributes.{own_attributes}
 use Rattle.schema_rules.specs.Children.{is_in}
 use Rattle.schema_rules.specs.declared.children.ChildSet.TheVariants.{Varieties, SimpleTypes, Attributes}
 use Rattle.schema_read.specs.Names.{type_ref, referred}
-use Rattle.schema_read.specs.SimpleTypes.{joined, named_in, named_members, first_or_none, base_by, restriction_of, list_of_items, union_of, made_by, placed, defined, and_inner, variety_at, variety_among, simple_type, inner_types, declared_type}
+use Rattle.schema_read.specs.SimpleTypes.{joined, named_in, named_members, first_or_none, restriction_of, list_of_items, union_of, made_by, placed, defined, and_inner, variety_at, variety_among, simple_type, inner_types, declared_type}
 use Rattle.schema_read.specs.Attributes.{local_name, has_use, use_to, own_use, use_by, use_at, and_use, uses_among}
-use Rattle.schema_read.proofs.ItemPlaces.{Spans, SpansAll, span_le, span_all_le}
+use Rattle.schema_read.proofs.ItemPlaces.{Spans, SpansAll, span_le}
 
 -- ---- what a type is made from
 

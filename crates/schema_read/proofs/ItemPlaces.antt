@@ -1,11 +1,11 @@
 -- Where the nodes of a tree of items stand: what stands in a node stands behind it, and before what is written behind the node.
-use Rattle.std.proofs.Common.{◌≡◌, ℕ, ◌+◌, ◌<◌, ◌≤◌, List, [], ◌∷◌, ◌++◌, append_assoc, subst, sym, arith}
+use Rattle.std.proofs.Common.{ℕ, ◌+◌, ◌<◌, ◌≤◌, List, [], ◌∷◌, ◌++◌, append_assoc, subst, sym, arith}
 use Rattle.std.proofs.lemmas.List.{append-nil}
 use Rattle.label_tree.specs.Rose.{Rose, node, Roses, roses_of, list_of, label_of, kids_of}
 use Rattle.label_tree.specs.Rose as rose
 use Rattle.label_tree.proofs.Roses.{roses_of-list_of}
 use Rattle.doc_text.specs.Labels.{item_place}
-use Rattle.doc_text.specs.Tokens.{Token, Opens, Closes, Words, tokens, tokens_all, Ascend}
+use Rattle.doc_text.specs.Tokens.{Token, Closes, tokens, tokens_all, Ascend}
 use Rattle.doc_text.specs.declared.label.ItemLabel.{ItemLabel}
 use Rattle.doc_text.specs.declared.label.ItemLabel.TheVariants.{Element, Text}
 

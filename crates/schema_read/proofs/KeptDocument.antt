@@ -1,6 +1,6 @@
 -- Each document that is read keeps what a document has to keep.
-use Rattle.std.proofs.Common.{◌≡◌, ℕ, ◌+◌, ◌<◌, ◌≤◌, ◌^◌, Bool, true, false, List, [], ◌∷◌, ◌++◌, length, Some, None, ap, sym, subst, arith}
-use Rattle.label_tree.specs.Rose.{Rose, node, Roses, roses_of, list_of, label_of}
+use Rattle.std.proofs.Common.{◌≡◌, ℕ, ◌+◌, ◌<◌, ◌≤◌, Bool, true, false, [], ◌∷◌, ◌++◌, Some, None, ap, sym, subst, arith}
+use Rattle.label_tree.specs.Rose.{Rose, node, roses_of, list_of, label_of}
 use Rattle.label_tree.proofs.Roses.{roses_of-list_of}
 use Rattle.doc_text.specs.Labels.{item_place}
 use Rattle.doc_text.specs.Sound.{levels, levels_all}

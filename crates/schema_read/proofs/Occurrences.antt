@@ -1,14 +1,12 @@
 -- A particle that isn't dropped, in a document without a fault, may occur.
-use Rattle.std.proofs.Common.{◌≡◌, ℕ, ◌+◌, ◌-◌, ◌*◌, ◌<◌, ◌≤◌, Bool, true, false, cond, List, [], ◌∷◌, Option, Some, None, inl, inr, refl, ap, subst, sym, ◌∙◌, arith}
-use Rattle.std.specs.Prelude.{◌&&◌, ◌||◌, not, ◌==◌, nat_le, nat_lt, codes, unwrap_or}
+use Rattle.std.proofs.Common.{◌≡◌, ℕ, ◌+◌, ◌-◌, ◌*◌, ◌≤◌, Bool, true, false, cond, List, [], ◌∷◌, Option, Some, None, inl, inr, refl, ap, subst, sym, ◌∙◌, arith}
+use Rattle.std.specs.Prelude.{◌&&◌, ◌||◌, ◌==◌, nat_le, nat_lt, codes, unwrap_or}
 use Rattle.std.specs.List.{list_all}
-use Rattle.std.proofs.lemmas.Bool.{and_from, and_parts, and_cases, or_parts, cases_Bool, le-leb, leb-true, lt-ltb, ltb-true, ltb-false, eqb-true, eqb-false, both_ways}
+use Rattle.std.proofs.lemmas.Bool.{and_from, and_parts, and_cases, or_parts, cases_Bool, le-leb, leb-true, ltb-false, eqb-true, eqb-false, both_ways}
 use Rattle.xa_base.specs.Entries.{beside}
-use Rattle.xa_base.specs.Limits.{is_empty}
 use Rattle.xa_base.specs.Digits.{is_digit, is_numeral, number_from, number_of}
-use Rattle.xa_base.specs.WhiteSpace.{has_bytes}
 use Rattle.schema_rules.specs.Digits.{is_zero, small, is_over}
-use Rattle.schema_rules.specs.Values.{digits_of, is_crossed, declares_xmlns, has_malformed, has_bad_value, occurrences, least_of, most_of, never_occurs}
+use Rattle.schema_rules.specs.Values.{digits_of, is_crossed, declares_xmlns, has_malformed, has_bad_value, least_of, most_of, never_occurs}
 use Rattle.schema_rules.specs.declared.roles.ElementRole.{ElementRole}
 use Rattle.schema_parts.specs.Bounds.{allow_one}
 

@@ -1,10 +1,10 @@
 -- What is read of a whole document stands in it.
-use Rattle.std.proofs.Common.{◌≡◌, ℕ, ◌+◌, ◌<◌, ◌≤◌, ◌^◌, Bool, true, false, cond, List, [], ◌∷◌, ◌++◌, length, map, Option, Some, None, refl, ap, subst, sym, ◌∙◌, arith}
+use Rattle.std.proofs.Common.{◌≡◌, ℕ, ◌+◌, ◌<◌, ◌≤◌, Bool, true, false, cond, List, [], ◌∷◌, ◌++◌, length, map, Option, Some, None, refl, subst, sym, arith}
 use Rattle.std.specs.Prelude.{nat_lt, ◌&&◌, bytes_eq, codes}
 use Rattle.std.proofs.lemmas.Bool.{and_from, and_parts as parts_of_and}
 use Rattle.std.proofs.lemmas.List.{map-append, length-map}
 use Rattle.xa_base.specs.declared.texts.Name.{Name}
-use Rattle.label_tree.specs.Rose.{Rose, node, Roses, roses_of, list_of, label_of, kids_of}
+use Rattle.label_tree.specs.Rose.{Rose, node, roses_of, list_of, label_of}
 use Rattle.doc_text.specs.Labels.{item_place}
 use Rattle.doc_text.specs.declared.label.ItemLabel.{ItemLabel}
 use Rattle.doc_text.specs.declared.label.ItemLabel.TheVariants.{Element, Text}
@@ -14,7 +14,7 @@ use Rattle.schema_parts.specs.Raw as raw
 use Rattle.schema_parts.specs.Raw.{Use, Simple, Complex, Kind, Local, Attribute, TypeDefinition, SimpleType, ComplexType, Document}
 use Rattle.schema_parts.specs.Bounds.{ascend}
 use Rattle.schema_parts.specs.Places.{element_place, attribute_place, type_place, local_place, all_ascend}
-use Rattle.schema_parts.specs.Inward.{is_behind, how_inward, base_inward, simple_inward, kind_inward, body_inward, definition_inward, elements_inward, attributes_inward, types_inward, locals_inward, all_inward}
+use Rattle.schema_parts.specs.Inward.{is_behind, how_inward, base_inward, kind_inward, body_inward, definition_inward, elements_inward, attributes_inward, types_inward, locals_inward, all_inward}
 use Rattle.schema_rules.specs.Elements.{is_schema_name}
 use Rattle.schema_rules.specs.Attributes.{own_attributes}
 use Rattle.schema_rules.specs.Children.{is_in}
@@ -22,15 +22,15 @@ use Rattle.schema_rules.specs.declared.children.ChildSet.TheVariants.{SimpleType
 use Rattle.schema_faults.specs.Reasons.{is_true}
 use Rattle.schema_read.specs.Names.{declared_name}
 use Rattle.schema_read.specs.Attributes.{global_attribute, attribute_by}
-use Rattle.schema_read.specs.SimpleTypes.{defined, variety_among, simple_type, declared_type}
+use Rattle.schema_read.specs.SimpleTypes.{defined, variety_among, simple_type}
 use Rattle.schema_read.specs.Settings.{Settings}
 use Rattle.schema_read.specs.Contents.{is_named, simple_content, complex_by, complex_with}
-use Rattle.schema_read.specs.Particles.{Made, made, made_some, element_by, kind_by, group_among, inner_kind, complex_of, complex_type}
-use Rattle.schema_read.specs.Raw.{Parts, no_parts, and_parts, element_parts, attribute_parts, simple_type_parts, complex_types, complex_type_parts, global_element, parts_named, parts_by, parts_among}
+use Rattle.schema_read.specs.Particles.{Made, made, made_some, group_among, inner_kind, complex_of, complex_type}
+use Rattle.schema_read.specs.Raw.{Parts, no_parts, and_parts, element_parts, attribute_parts, simple_type_parts, complex_type_parts, global_element, parts_named, parts_by, parts_among}
 use Rattle.schema_read.proofs.ItemPlaces.{Spans, SpansAll, span_le, span_all_le, kids_span}
-use Rattle.schema_read.proofs.RisingPlaces.{Rise, rise_le, rise_lower, rise_append, rise_ascend, rise_length}
+use Rattle.schema_read.proofs.RisingPlaces.{Rise, rise_lower, rise_append, rise_ascend, rise_length}
 use Rattle.schema_read.proofs.InwardTypes.{SimpleIn, simple_type_in, declared_type_in}
-use Rattle.schema_read.proofs.PlacedParts.{Stretch, stretch_left, stretch_right, stretch_whole, locals_inward_append, Sits, KindIn, BodyIn, ComplexIn, kind_by_sits, kind_sits, complex_sits}
+use Rattle.schema_read.proofs.PlacedParts.{Stretch, stretch_left, stretch_right, stretch_whole, locals_inward_append, Sits, KindIn, ComplexIn, kind_by_sits, kind_sits, complex_sits}
 
 -- ---- a type has the place of its element
 

@@ -1,11 +1,11 @@
 -- At most 21 complex types stand in one another in a document without a fault of 64 levels of elements.
-use Rattle.std.proofs.Common.{◌≡◌, ℕ, ◌+◌, ◌≤◌, max, Bool, true, false, cond, List, [], ◌∷◌, ◌++◌, length, All, Option, Some, None, refl, ap, subst, sym, arith}
+use Rattle.std.proofs.Common.{◌≡◌, ℕ, ◌+◌, ◌≤◌, cond, List, [], ◌∷◌, ◌++◌, length, All, Option, Some, None, subst, sym, arith}
 use Rattle.std.specs.Prelude.{bytes_eq, codes, IfSome}
 use Rattle.std.proofs.lemmas.Bool.{cond_both}
 use Rattle.std.proofs.lemmas.List.Elements.{All-nil, All-cons, All-append}
 use Rattle.std.proofs.lemmas.Slice.Eq.{bytes_eq-Decides}
 use Rattle.xa_base.specs.declared.texts.Name.{Name}
-use Rattle.label_tree.specs.Rose.{Rose, node, Roses, roses_of, list_of, label_of, kids_of}
+use Rattle.label_tree.specs.Rose.{Rose, node, roses_of, list_of, label_of}
 use Rattle.label_tree.proofs.Roses.{roses_of-list_of}
 use Rattle.doc_text.specs.Sound.{levels, levels_all}
 use Rattle.doc_text.specs.declared.label.ItemLabel.{ItemLabel}
@@ -23,12 +23,12 @@ use Rattle.schema_read.specs.Names.{declared_name}
 use Rattle.schema_read.specs.Attributes.{global_attribute}
 use Rattle.schema_read.specs.SimpleTypes.{simple_type}
 use Rattle.schema_read.specs.Settings.{Settings}
-use Rattle.schema_read.specs.Particles.{Made, made, kind_by, inner_kind, complex_type}
+use Rattle.schema_read.specs.Particles.{Made, kind_by, inner_kind, complex_type}
 use Rattle.schema_read.specs.Raw.{Parts, no_parts, and_parts, element_parts, attribute_parts, simple_type_parts, complex_type_parts, global_element, parts_named, parts_by, parts_among}
 use Rattle.schema_read.proofs.Faultless.{none_parts}
 use Rattle.schema_read.proofs.FaultlessRoles as roles
 use Rattle.schema_read.proofs.PlacedParts.{Stretch, stretch_left, stretch_right, stretch_whole}
-use Rattle.schema_read.proofs.ShortParts.{LocalsShort, locals_short_append, short_from, KindShort, ComplexShort, kind_by_short, kind_short, complex_short}
+use Rattle.schema_read.proofs.ShortParts.{LocalsShort, locals_short_append, short_from, KindShort, kind_by_short, kind_short, complex_short}
 
 module _ (all : List Local) where
   abbrev ElementShort : raw.Element → Type 0

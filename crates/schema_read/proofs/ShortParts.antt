@@ -1,8 +1,6 @@
 -- How many complex types stand in one another in a document without a fault, by the levels of its elements.
-use Rattle.std.proofs.Common.{◌≡◌, ℕ, zero, suc, ◌+◌, ◌*◌, ◌<◌, ◌≤◌, max, Bool, true, false, cond, List, [], ◌∷◌, ◌++◌, length, All, Option, Some, None, inl, inr, refl, ap, subst, sym, ◌∙◌, arith}
-use Rattle.std.specs.Prelude.{◌&&◌, ◌||◌, not, bytes_eq, codes, slice_get, IfSome, IsSomeAnd}
-use Rattle.std.specs.List.{list_any}
-use Rattle.std.specs.Option.{option_or}
+use Rattle.std.proofs.Common.{◌≡◌, ℕ, zero, suc, ◌+◌, ◌*◌, ◌≤◌, Bool, true, false, cond, List, [], ◌∷◌, ◌++◌, length, Option, Some, None, inl, inr, refl, ap, subst, sym, arith}
+use Rattle.std.specs.Prelude.{not, bytes_eq, codes, slice_get, IfSome, IsSomeAnd}
 use Rattle.std.proofs.lemmas.Bool.{and_parts, cond_both, both_ways}
 use Rattle.std.proofs.lemmas.Option.{slice_get_read}
 use Rattle.xa_base.specs.declared.texts.Name.{Name}
@@ -11,15 +9,14 @@ use Rattle.label_tree.specs.Rose as rose
 use Rattle.doc_text.specs.Sound.{levels, levels_all}
 use Rattle.doc_text.specs.declared.label.ItemLabel.{ItemLabel}
 use Rattle.doc_text.specs.declared.label.ItemLabel.TheVariants.{Element, Text}
-use Rattle.content_models.specs.Seen.{all_seen}
 use Rattle.content_models.specs.declared.particles.ParticleLabel.{ParticleLabel}
 use Rattle.schema_parts.specs.declared.declarations.RawContent.{RawContent}
 use Rattle.schema_parts.specs.declared.declarations.RawContent.TheVariants as content
 use Rattle.schema_parts.specs.Raw as raw
 use Rattle.schema_parts.specs.Raw.{Use, Simple, Complex, Kind, NamedKind, SimpleKind, ComplexKind, Local, Reference, Own}
-use Rattle.schema_parts.specs.Linked.{all_leaves, leaves_of_model}
+use Rattle.schema_parts.specs.Linked.{leaves_of_model}
 use Rattle.schema_parts.specs.Coherent.{model_in_content, leaves_of_models}
-use Rattle.schema_parts.specs.Chains.{leaves_of_content, complex_in_kind, complex_in_element, complex_in_local, HasComplex, IsJustIn, IsChain, BeginsShort}
+use Rattle.schema_parts.specs.Chains.{leaves_of_content, complex_in_kind, complex_in_local, HasComplex, IsJustIn, IsChain, BeginsShort}
 use Rattle.xa_base.specs.Entries.{beside}
 use Rattle.schema_rules.specs.Attributes.{own_attributes}
 use Rattle.schema_rules.specs.Values.{never_occurs}
@@ -40,7 +37,7 @@ use Rattle.schema_read.specs.Contents.{is_named, simple_content, is_nothing, con
 use Rattle.schema_read.specs.Particles.{Made, made, made_some, element_name, kind_by, element_by, declared, declared_with, reference_to, leaf_of, group_of, particle_by, and_some, first_kind, first_group, complex_of, particle_at, particles_among, group_among, inner_kind, complex_type}
 use Rattle.schema_read.proofs.Coherence.{HasNoModel, content_none}
 use Rattle.schema_read.proofs.Faultless.{none_parts}
-use Rattle.schema_read.proofs.FaultlessRoles.{HasParticles, HasGroup, HasTypes, Inside, IsParticle, particle_cases, IsGroup, group_cases, IsComplex, complex_cases}
+use Rattle.schema_read.proofs.FaultlessRoles.{HasParticles, HasGroup, HasTypes, IsParticle, particle_cases, IsGroup, group_cases, IsComplex, complex_cases}
 use Rattle.schema_read.proofs.Leaves.{leaves_of_group}
 use Rattle.schema_read.proofs.PlacedParts.{Stretch, stretch_left, stretch_right}
 
