@@ -58,10 +58,10 @@ HasTypes GlobalElement = Unit {0}
 HasTypes LocalElement = Unit {0}
 HasTypes role = ⊥
 
-none_there : (p : Part) → None ≡ Some p → ⊥
+pub none_there : (p : Part) → None ≡ Some p → ⊥
 none_there p is = cc
 
-role_there : (role : ElementRole) (position : Position) (p : Part) → Some (part role position) ≡ Some p → p.role ≡ role
+pub role_there : (role : ElementRole) (position : Position) (p : Part) → Some (part role position) ≡ Some p → p.role ≡ role
 role_there role position p is = let e : part role position ≡ p = cc in ap (λ (q : Part). q.role) (sym e)
 
 element_role : (parent : ElementRole) → HasParticles parent → (p : Part) → beside (codes "element") (children parent) ≡ Some p → p.role ≡ LocalElement
@@ -148,15 +148,15 @@ IsComplex outer level attributes declares kids = Inside GlobalComplexType outer 
 module _ (parent : ElementRole) (before : Option Position) (outer : List (List ℕ × List ℕ)) (level : ℕ) (name : Name) (attributes : List (Name × List ℕ)) (declares : List (List ℕ × List ℕ)) (at : ℕ) (kids : Roses ItemLabel)
     (h : NoneAtAll (reasons_at parent before outer level (node (Element name attributes declares at) kids))) where
   -- by the word that it has for its name
-  standing : (w : List ℕ) → name.local ≡ w → bytes_eq w (codes "annotation") ≡ false → Stands parent outer level name attributes declares kids
+  pub standing : (w : List ℕ) → name.local ≡ w → bytes_eq w (codes "annotation") ≡ false → Stands parent outer level name attributes declares kids
   standing w is other = stands parent before outer level name attributes declares at kids (ap (λ l. bytes_eq l (codes "annotation")) is ∙ other) h
 
-  as_role : (role : ElementRole) (s : Stands parent outer level name attributes declares kids) → s.part.role ≡ role → Inside role outer level attributes declares kids
+  pub as_role : (role : ElementRole) (s : Stands parent outer level name attributes declares kids) → s.part.role ≡ role → Inside role outer level attributes declares kids
   as_role role s is =
       subst (λ r. Inside r outer level attributes declares kids) is
       (record { passes = passes s.part.role (declares ++ outer) level (own_attributes attributes) (list_of kids) s.clean; inside = s.inside })
 
-  there : (w : List ℕ) → name.local ≡ w → (s : Stands parent outer level name attributes declares kids) → beside w (children parent) ≡ Some s.part
+  pub there : (w : List ℕ) → name.local ≡ w → (s : Stands parent outer level name attributes declares kids) → beside w (children parent) ≡ Some s.part
   there w is s = subst (λ l. beside l (children parent) ≡ Some s.part) is s.found
 
   -- ---- particles
