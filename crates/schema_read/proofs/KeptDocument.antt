@@ -23,6 +23,7 @@ use Rattle.schema_read.proofs.PlacedDocument.{few_locals, parts_ascend, parts_in
 use Rattle.schema_read.proofs.CountedDocument.{all_stand}
 use Rattle.schema_read.proofs.FittingDocument.{all_parts_fit}
 use Rattle.schema_read.proofs.ShortDocument.{all_are_short}
+use Rattle.schema_read.proofs.VariedDocument.{all_parts_varied}
 use Rattle.schema_read.proofs.WholeDocument.{coherent_document}
 
 no_schema : Some NotASchema ≡ None → ⊥
@@ -54,6 +55,7 @@ document_keeps file (node (Element name attributes declares at) kids) h schema s
       few = omega (arith, k, within);
       fitting = all_parts_fit said scope (list_of kids) clean;
       ascending = rise_ascend (at + 1) w.end counted (counted_rise (at + 1) w.end (roses_of (list_of kids)) spans);
+      varied = all_parts_varied said scope (list_of kids) clean;
       ordered = parts_ascend said scope (at + 1) w.end (list_of kids) positive spans;
       all_counted = all_stand said scope (list_of kids) clean;
       inward = parts_inward said scope (at + 1) w.end (list_of kids) positive spans;

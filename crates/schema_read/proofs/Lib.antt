@@ -23,6 +23,7 @@ pub mod RisingPlaces
 pub mod ShortDocument
 pub mod ShortParts
 pub mod Simple
+pub mod VariedDocument
 pub mod VariedParts
 pub mod VariedTypes
 pub mod WholeDocument

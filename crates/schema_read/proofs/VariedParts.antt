@@ -75,7 +75,7 @@ pub record Clean (scope : List (List ℕ × List ℕ)) (kids : Roses ItemLabel) 
 pub clean_list : (scope : List (List ℕ × List ℕ)) (kids : Roses ItemLabel) → Clean scope kids → Clean scope (roses_of (list_of kids))
 clean_list scope kids h = subst (Clean scope) (sym (roses_of-list_of kids)) h
 
-inner_clean : (scope : List (List ℕ × List ℕ)) (kids : Roses ItemLabel) → Clean scope kids → bases_varied (inner_types scope kids) ≡ true
+pub inner_clean : (scope : List (List ℕ × List ℕ)) (kids : Roses ItemLabel) → Clean scope kids → bases_varied (inner_types scope kids) ≡ true
 inner_clean scope kids h = inner_varied h.role h.before scope h.level kids h.none
 
 module _ (parent : ElementRole) (before : Option Position) (outer : List (List ℕ × List ℕ)) (level : ℕ) (name : Name) (attributes : List (Name × List ℕ)) (declares : List (List ℕ × List ℕ)) (at : ℕ) (kids : Roses ItemLabel)
@@ -268,17 +268,17 @@ module _ (said : Settings) where
         (elim by [
           | inl one ↦ kind_varied_in LocalElement tt None scope level (n + 1) kids one.1.inside
           | inr other ↦ elim other [
-              | inl one ↦ absurd (both_ways (bytes_eq name.local (codes "element")) (ap (λ l. bytes_eq l (codes "element")) one.0) word)
-              | inr one ↦ absurd (both_ways (bytes_eq name.local (codes "element")) (ap (λ l. bytes_eq l (codes "element")) one.0) word)
-            ]
+            | inl one ↦ absurd (both_ways (bytes_eq name.local (codes "element")) (ap (λ l. bytes_eq l (codes "element")) one.0) word)
+            | inr one ↦ absurd (both_ways (bytes_eq name.local (codes "element")) (ap (λ l. bytes_eq l (codes "element")) one.0) word)
+          ]
         ]))
         (λ word.
         elim by [
           | inl one ↦ absurd (both_ways (bytes_eq name.local (codes "element")) word (ap (λ l. bytes_eq l (codes "element")) one.0))
           | inr other ↦ elim other [
-              | inl one ↦ among_varied_in Sequence tt None scope (level_inside Sequence level) n kids one.1.inside
-              | inr one ↦ among_varied_in Choice tt None scope (level_inside Choice level) n kids one.1.inside
-            ]
+            | inl one ↦ among_varied_in Sequence tt None scope (level_inside Sequence level) n kids one.1.inside
+            | inr one ↦ among_varied_in Choice tt None scope (level_inside Choice level) n kids one.1.inside
+          ]
         ]))
         (λ is. refl)
 

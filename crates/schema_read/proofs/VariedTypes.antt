@@ -99,20 +99,34 @@ module _ (parent : ElementRole) (before : Option Position) (outer : List (List �
   variety_cases : HasVariety parent → is_in Varieties (Element name attributes declares at) ≡ true → IsVariety outer level name attributes declares kids
   variety_cases has is =
       one_of (λ w. name.local ≡ w → IsVariety outer level name attributes declares kids) name.local (names_in Varieties)
-      (and_parts (is_schema_name name) (list_any (bytes_eq name.local) (names_in Varieties)) is).1
-      (λ word.
-      let s = standing parent before outer level name attributes declares at kids h (codes "restriction") word refl in
-      inl (word, as_role parent before outer level name attributes declares at kids h Restriction s
-      (restriction_role parent has s.part (there parent before outer level name attributes declares at kids h (codes "restriction") word s))),
-      (λ word.
-      let s = standing parent before outer level name attributes declares at kids h (codes "list") word refl in
-      inr (inl (word, as_role parent before outer level name attributes declares at kids h ListRole s
-      (list_role parent has s.part (there parent before outer level name attributes declares at kids h (codes "list") word s)))),
-      (λ word.
-      let s = standing parent before outer level name attributes declares at kids h (codes "union") word refl in
-      inr (inr (word, as_role parent before outer level name attributes declares at kids h Union s
-      (union_role parent has s.part (there parent before outer level name attributes declares at kids h (codes "union") word s)))),
-      tt))) refl
+      (and_parts (is_schema_name name) (list_any (bytes_eq name.local) (names_in Varieties)) is).1 (
+        λ word.
+            let s = standing parent before outer level name attributes declares at kids h (codes "restriction") word refl in
+            inl (
+              word,
+              as_role parent before outer level name attributes declares at kids h Restriction s
+                  (restriction_role parent has s.part (there parent before outer level name attributes declares at kids h (codes "restriction") word s)),
+            ),
+        (
+          λ word.
+              let s = standing parent before outer level name attributes declares at kids h (codes "list") word refl in
+              inr (inl (
+                word,
+                as_role parent before outer level name attributes declares at kids h ListRole s
+                    (list_role parent has s.part (there parent before outer level name attributes declares at kids h (codes "list") word s)),
+              )),
+          (
+            λ word.
+                let s = standing parent before outer level name attributes declares at kids h (codes "union") word refl in
+                inr (inr (
+                  word,
+                  as_role parent before outer level name attributes declares at kids h Union s
+                      (union_role parent has s.part (there parent before outer level name attributes declares at kids h (codes "union") word s)),
+                )),
+            tt,
+          ),
+        ),
+      ) refl
 
 -- ---- enumerations
 
@@ -304,7 +318,7 @@ union_member outer level attributes declares kids u =
     elim (and_cases (not (names_members own)) (not (has_child SimpleTypes (list_of kids))) u.passes.required) [
       | inl named ↦ joined_left (named_members scope own) inner (names_one scope attributes (beside (codes "memberTypes") own) refl (not-false (names_members own) named))
       | inr there ↦ joined_right (named_members scope own) inner
-            (inner_member Union None scope (level_inside Union level) kids u.inside (not-false (has_child SimpleTypes (list_of kids)) there))
+          (inner_member Union None scope (level_inside Union level) kids u.inside (not-false (has_child SimpleTypes (list_of kids)) there))
     ]
 
 -- ---- all parts of a simple type
@@ -383,16 +397,16 @@ mutual
             (le-leb (count_by is_enumeration (facets_among (list_of kids))) 10000 (omega (arith, count, few)))
             (base_varied_by scope inner (beside (codes "base") own) (inner_varied Restriction None scope (level_inside Restriction level) kids one.1.inside)))
         | inr other ↦ elim other [
-            | inl one ↦
-                subst (λ w. HowVaried (made_by w scope own inner (list_of kids))) (sym one.0)
-                (base_varied_by scope inner (beside (codes "itemType") own) (inner_varied ListRole None scope (level_inside ListRole level) kids one.1.inside))
-            | inr one ↦
-                let members = joined (named_members scope own) inner in
-                subst (λ w. HowVaried (made_by w scope own inner (list_of kids))) (sym one.0)
-                (and_from (has_member members) (bases_varied members) (union_member outer level attributes declares kids one.1)
-                (joined_varied (named_members scope own) inner (members_varied scope (beside (codes "memberTypes") own))
-                (inner_varied Union None scope (level_inside Union level) kids one.1.inside)))
-          ]
+          | inl one ↦
+              subst (λ w. HowVaried (made_by w scope own inner (list_of kids))) (sym one.0)
+              (base_varied_by scope inner (beside (codes "itemType") own) (inner_varied ListRole None scope (level_inside ListRole level) kids one.1.inside))
+          | inr one ↦
+              let members = joined (named_members scope own) inner in
+              subst (λ w. HowVaried (made_by w scope own inner (list_of kids))) (sym one.0)
+              (and_from (has_member members) (bases_varied members) (union_member outer level attributes declares kids one.1)
+              (joined_varied (named_members scope own) inner (members_varied scope (beside (codes "memberTypes") own))
+              (inner_varied Union None scope (level_inside Union level) kids one.1.inside)))
+        ]
       ]))
       (λ is. tt)
 

@@ -2,6 +2,7 @@
 use Rattle.std.specs.Prelude.{◌≡◌, ◌<◌, ◌^◌, true, length}
 use Rattle.schema_parts.specs.Raw.{Document}
 use Rattle.schema_parts.specs.Bounds.{all_fit, ascend}
+use Rattle.schema_parts.specs.Varieties.{all_varied}
 use Rattle.schema_parts.specs.Places.{all_ascend, places_in, StandAmong}
 use Rattle.schema_parts.specs.Inward.{all_inward}
 use Rattle.schema_parts.specs.Chains.{AreShort}
@@ -11,6 +12,7 @@ pub record Keeps (d : Document) : Type 0 where
   pub few : length d.locals < 2 ^ 32
   pub fitting : all_fit d.elements d.types d.locals ≡ true
   pub ascending : ascend d.counted ≡ true
+  pub varied : all_varied d.elements d.attributes d.types d.locals ≡ true
   -- the components of each kind in the order written
   pub ordered : all_ascend d.elements d.attributes d.types d.locals ≡ true
   pub all_counted : StandAmong (places_in d.elements d.attributes d.types d.locals) d.counted

@@ -19,7 +19,7 @@ use crate::reader::Reader;
 use doc_text::{ItemLabel, Items};
 use label_tree::Tree;
 use schema_faults::{DocumentFault, first_fault};
-use schema_parts::{RawDoc, all_named, all_varied};
+use schema_parts::{RawDoc, all_named};
 use schema_rules::{NamespaceScope, is_counted, is_looked_into, own_attributes};
 use std::alloc::Global;
 use xa_base::{Memory, Name, Text};
@@ -78,11 +78,8 @@ fn sealed(file: u32, target: Text, globals: Globals, counted: Vec<u64>) -> Resul
         types,
         locals,
     } = globals;
-    // That these tests hold of each document without a fault isn't proved.
+    // That this test holds of each document without a fault isn't proved.
     if !all_named(&elements, &attributes, &types, &locals) {
-        return Err(Memory);
-    }
-    if !all_varied(&elements, &attributes, &types, &locals) {
         return Err(Memory);
     }
     Ok(RawDoc::of(file, target, elements, attributes, types, locals, counted))
@@ -147,9 +144,9 @@ fn components(alloc: Global, root: &Tree<ItemLabel>, file: u32) -> Result<RawDoc
     described(alloc, file, &own, root.kids(), &scope)
 }
 
-/// The components of a schema document, which is file number `file` of its set, or its first fault. Its declared names
-/// and its simple types are tested before they are handed out; where a document without a fault failed a test, the answer
-/// would be `Memory`. That none fails isn't proved.
+/// The components of a schema document, which is file number `file` of its set, or its first fault. The names that it
+/// declares are tested before they are handed out; where a document without a fault failed the test, the answer would be
+/// `Memory`. That none fails isn't proved.
 ///
 /// The time grows with the size of the document, and for each element and each reference with the logarithm of the
 /// number of bindings of the elements that are open.
