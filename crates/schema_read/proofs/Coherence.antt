@@ -36,7 +36,7 @@ model_in_complex (Some body) = model_in_content body.content
 
 -- ---- simple content has no content model
 
-abbrev HasNoModel : Option (RawContent × List Use) → Type 0
+abbrev pub HasNoModel : Option (RawContent × List Use) → Type 0
 HasNoModel None = Unit {0}
 HasNoModel (Some found) = model_in_content found.0 ≡ []
 
@@ -63,7 +63,7 @@ module _ (said : Settings) where
   content_at_none outer (Element name attributes declares at) kids =
       if_has_none (is_named (codes "simpleContent") (Element name attributes declares at)) (extended_among said (declares ++ outer) kids) (among_none (declares ++ outer) kids)
 
-  content_none : (scope : List (List ℕ × List ℕ)) (kids : List (Rose ItemLabel)) → HasNoModel (simple_content said scope kids)
+  pub content_none : (scope : List (List ℕ × List ℕ)) (kids : List (Rose ItemLabel)) → HasNoModel (simple_content said scope kids)
   content_none scope [] = tt
   content_none scope (t ∷ ts) =
       first_has_none (simple_content_at said scope (label_of t) (kids_of t)) (simple_content said scope ts) (content_at_none scope (label_of t) (kids_of t)) (content_none scope ts)

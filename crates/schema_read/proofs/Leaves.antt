@@ -104,6 +104,18 @@ group_leaves : (ts : List (Rose ParticleLabel)) → all_leaves (all_seen (roses_
 group_leaves [] = refl
 group_leaves (t ∷ ts) = ap (λ l. leaves_of_model t ++ l) (group_leaves ts)
 
+-- the leaves of a group are those of its particles
+pub leaves_of_group : (label : ParticleLabel) (b : Bool) (trees : List (Rose ParticleLabel)) → label.kind ≡ cond b particle.Choice particle.Sequence
+    → leaves_of_model (node label (roses_of trees)) ≡ leaves_of_models trees
+leaves_of_group label b trees is = by_kind label.kind b is ∙ group_leaves trees
+  where
+    by_kind : (kind : ParticleKind) (b : Bool) → kind ≡ cond b particle.Choice particle.Sequence
+        → leaves_of_model (node (record { kind = kind; min = label.min; max = label.max; file = label.file; at = label.at }) (roses_of trees)) ≡ all_leaves (all_seen (roses_of trees))
+    by_kind particle.Choice b is = refl
+    by_kind particle.Sequence b is = refl
+    by_kind (particle.Element decl name) true is = absurd (cc)
+    by_kind (particle.Element decl name) false is = absurd (cc)
+
 -- ---- both
 
 -- The leaves of the models, and of those in the local declarations, are the local declarations.
@@ -151,19 +163,12 @@ module _ (file n : ℕ) where
       record {
         once = λ test.
             let e : count_by test (leaves_of_models (node label (roses_of trees) ∷ [])) ≡ count_by test (leaves_of_models trees) =
-            ap (count_by test) (append-nil (leaves_of_model (node label (roses_of trees))) ∙ (leaves_by label.kind b is ∙ group_leaves trees)) in
+            ap (count_by test) (append-nil (leaves_of_model (node label (roses_of trees))) ∙ leaves_of_group label b trees is) in
             omega (arith, e, h.once test);
         stand = (((written, from_by label.kind b is), group_stands file n trees h.stand), tt);
         nested = h.nested;
       }
     where
-      leaves_by : (kind : ParticleKind) (b : Bool) → kind ≡ cond b particle.Choice particle.Sequence
-          → leaves_of_model (node (record { kind = kind; min = label.min; max = label.max; file = label.file; at = label.at }) (roses_of trees)) ≡ all_leaves (all_seen (roses_of trees))
-      leaves_by particle.Choice b is = refl
-      leaves_by particle.Sequence b is = refl
-      leaves_by (particle.Element decl name) true is = absurd (cc)
-      leaves_by (particle.Element decl name) false is = absurd (cc)
-
       from_by : (kind : ParticleKind) (b : Bool) → kind ≡ cond b particle.Choice particle.Sequence → IsFrom n kind
       from_by particle.Choice b is = tt
       from_by particle.Sequence b is = tt

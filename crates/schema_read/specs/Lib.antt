@@ -5,5 +5,6 @@ pub mod Names
 pub mod Particles
 pub mod Raw
 pub mod Refusing
+pub mod Keeping
 pub mod Settings
 pub mod SimpleTypes

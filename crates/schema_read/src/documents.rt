@@ -2,11 +2,11 @@
 ghost use Rattle.std.specs.Prelude.{◌≡◌, ◌++◌, IfErr, IfOk, OnOk};
 ghost use Rattle.label_tree.specs.Rose.{roses_of};
 ghost use Rattle.doc_text.specs.Tokens.{tokens, Ascend};
-ghost use Rattle.schema_parts.specs.Coherent.{IsCoherent};
 ghost use Rattle.schema_parts.specs.Documents.{doc_of, parts_of};
 ghost use Rattle.schema_rules.specs.Scopes.{bindings_in};
 ghost use Rattle.schema_faults.specs.Shown.{IsSchema};
 ghost use Rattle.schema_read.specs.Counted.{counted_here, counted_at, counted_among};
+ghost use Rattle.schema_read.specs.Keeping.{Keeps};
 ghost use Rattle.schema_read.specs.Raw.{document_with, document_by, parts_among, raw_of};
 ghost use Rattle.schema_read.specs.Refusing.{Refuses};
 ghost use Rattle.schema_read.specs.Settings.{said};
@@ -19,8 +19,7 @@ use crate::reader::Reader;
 use doc_text::{ItemLabel, Items};
 use label_tree::Tree;
 use schema_faults::{DocumentFault, first_fault};
-use schema_parts::{RawDoc, all_fit, all_named, all_varied, ascend};
-use schema_places::{all_ascend, all_inward, are_counted, are_short};
+use schema_parts::{RawDoc, all_named};
 use schema_rules::{NamespaceScope, is_counted, is_looked_into, own_attributes};
 use std::alloc::Global;
 use xa_base::{Memory, Name, Text};
@@ -69,14 +68,8 @@ fn counted_places(alloc: Global, kids: &[Tree<ItemLabel>]) -> Result<Vec<u64>, M
     Ok(counted)
 }
 
-fn sealed(
-    alloc: Global,
-    file: u32,
-    target: Text,
-    globals: Globals,
-    counted: Vec<u64>,
-) -> Result<RawDoc, Memory>
-    requires { IsCoherent (parts_of file target globals.elements.items globals.attributes.items globals.types.items globals.locals.items counted.items) }
+fn sealed(file: u32, target: Text, globals: Globals, counted: Vec<u64>) -> Result<RawDoc, Memory>
+    requires { Keeps (parts_of file target globals.elements.items globals.attributes.items globals.types.items globals.locals.items counted.items) }
     ensures { IfOk result (λ doc. doc_of doc ≡ parts_of file target globals.elements.items globals.attributes.items globals.types.items globals.locals.items counted.items) }
 {
     let Globals {
@@ -85,32 +78,8 @@ fn sealed(
         types,
         locals,
     } = globals;
-    if u32::try_from(locals.len()).is_err() {
-        return Err(Memory);
-    }
-    // That these tests hold of each document without a fault isn't proved.
-    if !all_fit(&elements, &types, &locals) {
-        return Err(Memory);
-    }
-    if !ascend(&counted) {
-        return Err(Memory);
-    }
+    // That this test holds of each document without a fault isn't proved.
     if !all_named(&elements, &attributes, &types, &locals) {
-        return Err(Memory);
-    }
-    if !all_varied(&elements, &attributes, &types, &locals) {
-        return Err(Memory);
-    }
-    if !all_ascend(&elements, &attributes, &types, &locals) {
-        return Err(Memory);
-    }
-    if !all_inward(&elements, &attributes, &types, &locals) {
-        return Err(Memory);
-    }
-    if !are_counted(alloc, &elements, &attributes, &types, &locals, &counted)? {
-        return Err(Memory);
-    }
-    if !are_short(alloc, &elements, &types, &locals)? {
         return Err(Memory);
     }
     Ok(RawDoc::of(file, target, elements, attributes, types, locals, counted))
@@ -121,12 +90,13 @@ fn described_by<'a, 'b>(
     reader: Reader<'_, 'a, 'b>,
     kids: &'a [Tree<ItemLabel>],
 ) -> Result<RawDoc, Memory>
+    requires { Keeps (document_with reader.setting.file reader.setting.target.now (counted_among (roses_of kids.now)) (parts_among (said reader.setting) (bindings_in reader.scope.now) 0 kids.now)) }
     ensures { IfOk result (λ doc. doc_of doc ≡ document_with reader.entry.setting.file reader.entry.setting.target.now (counted_among (roses_of kids.now)) (parts_among (said reader.entry.setting) (bindings_in reader.entry.scope.now) 0 kids.now)) }
 {
     let globals = reader.globals_among(kids)?;
     let counted = counted_places(reader.alloc, kids)?;
     let target = reader.setting.target.copy(reader.alloc)?;
-    sealed(reader.alloc, reader.setting.file, target, globals, counted)
+    sealed(reader.setting.file, target, globals, counted)
 }
 
 // The components of a document with these attributes of `schema` and these children of it.
@@ -137,6 +107,7 @@ fn described<'a, 'b>(
     kids: &'a [Tree<ItemLabel>],
     scope: &'b NamespaceScope<'a, 'b>,
 ) -> Result<RawDoc, Memory>
+    requires { Keeps (document_by file own.now (bindings_in scope.now) kids.now) }
     ensures { IfOk result (λ doc. doc_of doc ≡ document_by file own.now (bindings_in scope.now) kids.now) }
 {
     let target = value_or_empty(alloc, "targetNamespace", own)?;
@@ -156,6 +127,7 @@ fn described<'a, 'b>(
 
 // The components of a document without a fault.
 fn components(alloc: Global, root: &Tree<ItemLabel>, file: u32) -> Result<RawDoc, Memory>
+    requires { Keeps (raw_of file root.now) }
     ensures { IfOk result (λ doc. doc_of doc ≡ raw_of file root.now) }
 {
     let ItemLabel::Element {
@@ -172,9 +144,9 @@ fn components(alloc: Global, root: &Tree<ItemLabel>, file: u32) -> Result<RawDoc
     described(alloc, file, &own, root.kids(), &scope)
 }
 
-/// The components of a schema document, which is file number `file` of its set, or its first fault. What is made is
-/// tested before it is handed out; where a document without a fault failed a test, the answer would be `Memory`. That none
-/// fails isn't proved.
+/// The components of a schema document, which is file number `file` of its set, or its first fault. The names that it
+/// declares are tested before they are handed out; where a document without a fault failed the test, the answer would be
+/// `Memory`. That none fails isn't proved.
 ///
 /// The time grows with the size of the document, and for each element and each reference with the logarithm of the
 /// number of bindings of the elements that are open.

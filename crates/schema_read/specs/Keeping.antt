@@ -1,0 +1,22 @@
+-- What each document that is read keeps.
+use Rattle.std.specs.Prelude.{◌≡◌, ◌<◌, ◌^◌, true, length}
+use Rattle.schema_parts.specs.Raw.{Document}
+use Rattle.schema_parts.specs.Bounds.{all_fit, ascend}
+use Rattle.schema_parts.specs.Varieties.{all_varied}
+use Rattle.schema_parts.specs.Places.{all_ascend, places_in, StandAmong}
+use Rattle.schema_parts.specs.Inward.{all_inward}
+use Rattle.schema_parts.specs.Chains.{AreShort}
+use Rattle.schema_parts.specs.Coherent.{IsCoherent}
+
+pub record Keeps (d : Document) : Type 0 where
+  pub few : length d.locals < 2 ^ 32
+  pub fitting : all_fit d.elements d.types d.locals ≡ true
+  pub ascending : ascend d.counted ≡ true
+  pub varied : all_varied d.elements d.attributes d.types d.locals ≡ true
+  -- the components of each kind in the order written
+  pub ordered : all_ascend d.elements d.attributes d.types d.locals ≡ true
+  pub all_counted : StandAmong (places_in d.elements d.attributes d.types d.locals) d.counted
+  -- each part behind the part that it stands in
+  pub inward : all_inward d.elements d.attributes d.types d.locals ≡ true
+  pub short : AreShort d.elements d.types d.locals
+  pub coherent : IsCoherent d
