@@ -1,12 +1,12 @@
 -- Parts that are added one after another make the value of an element.
 use Rattle.std.proofs.Common.{◌≡◌, ℕ, ◌+◌, ◌<◌, Bool, true, false, List, [], ◌∷◌, ◌++◌, Option, Some, None, length, map, take, get_or, refl, sym, ◌∙◌, ap, subst}
-use Rattle.std.specs.Prelude.{slice_get}
+use Rattle.std.specs.Prelude.{Ok, Err, slice_get}
 use Rattle.std.proofs.lemmas.List.{map-append, take_more}
 use Rattle.xa_base.specs.declared.texts.Name.{Name}
 use Rattle.label_tree.specs.Rose.{Rose, node, roses_of}
 use Rattle.simple_types.specs.declared.labels.ValueLabel.{ValueLabel}
 use Rattle.simple_types.specs.declared.labels.ValueLabel.TheVariants as value
-use Rattle.simple_values.specs.Reading.{Accepts}
+use Rattle.simple_values.specs.Reading.{Refusal, reads, Accepts}
 use Rattle.content_models.specs.Particle.{Particle}
 use Rattle.simple_types.specs.Seen.{space_of}
 use Rattle.simple_types.specs.Space.{Space, Booleans}
@@ -23,7 +23,7 @@ use Rattle.xer_read.specs.declared.children.Child.{Child}
 use Rattle.xer_read.specs.declared.contents.Content.{Content}
 use Rattle.xer_read.specs.declared.parts.Parts.{Parts}
 use Rattle.xer_read.specs.Private.Growing.{Grows, FillsAll}
-use Rattle.xer_read.specs.Private.Contents.{Adds, AttributesMade, TextsMade, ChildrenMade, RestMade, ComplexMade}
+use Rattle.xer_read.specs.Private.Contents.{IsTaken, Adds, AttributesMade, TextsMade, ChildrenMade, RestMade, ComplexMade}
 use Rattle.xer_read.specs.Private.Made.{TopMade}
 use Rattle.xer_read.proofs.Growing.{grows-both, grows-none}
 
@@ -67,6 +67,15 @@ module _ (s : Set) (d : AttributeUse) (xs : List (Name × List ℕ)) (declarable
   attribute-present words e t q v accepts =
       let space : space_at (parts_of s) d.simple ≡ space_of t.space = ap (λ o. elim o as (λ _. Space) [ None ↦ Booleans | Some x ↦ x.space ]) (found-in s.simples d.simple t q) in
       (words, own-text (Some words) e, subst (λ z. Accepts z words v) (sym space) accepts, (refl, refl))
+
+  -- a text that the type takes isn't refused
+  pub never-refused : (words : List ℕ) → text_of xs d.name ≡ Some words → (t : SimpleDef) → slice_get s.simples d.simple ≡ Some t → IsTaken (left xs) (attribute_in (parts_of s) d)
+      → (why : Refusal) → reads (space_of t.space) words ≡ Err why → ⊥
+  never-refused words e t q taken why refused =
+      let space : space_at (parts_of s) d.simple ≡ space_of t.space = ap (λ o. elim o as (λ _. Space) [ None ↦ Booleans | Some x ↦ x.space ]) (found-in s.simples d.simple t q) in
+      let one = taken words (own-text (Some words) e) in
+      let accepts : reads (space_of t.space) words ≡ Ok one.0 = subst (λ z. reads z words ≡ Ok one.0) space one.1 in
+      cc
 
 -- a part that stands, and one that doesn't
 pub adds-one : (P : List Bool → List (Rose ValueLabel) → Type 0) (before after : Parts) (v : Rose ValueLabel) → P (true ∷ []) (v ∷ []) → Grows before after (true ∷ []) (v ∷ []) → Adds P before after

@@ -5,12 +5,12 @@ ghost use Rattle.schema_parts.specs.Linked.{IsUse, IsLinked};
 ghost use Rattle.schema_parts.specs.SetParts.{parts_of};
 ghost use Rattle.validity.specs.Asked.{attribute_in};
 ghost use Rattle.validity.specs.Attributes.{left};
-ghost use Rattle.xer_read.specs.Private.Contents.{Adds, AttributesMade};
+ghost use Rattle.xer_read.specs.Private.Contents.{IsTaken, AreTaken, Adds, AttributesMade};
 
 use crate::parts::Parts;
 use attribute_faults::text_of;
 use schema_parts::{AttributeUse, SchemaSet};
-use simple_values::accept;
+use simple_values::{SimpleError, accept};
 use std::alloc::Global;
 use xa_base::{Memory, Name, Text};
 
@@ -24,14 +24,16 @@ fn add_attribute(
 ) -> Result<(), Memory>
     requires linked { IsLinked set.now }
     requires declared { IsUse set.now declared.now }
+    requires taken { IsTaken (left attributes.now) (attribute_in (parts_of set.now) declared.now) }
     ensures { OnOk result (Adds (AttributesMade (attribute_in (parts_of set.now) declared.now ∷ []) (left attributes.now)) parts.old parts.new) }
 {
     match text_of(attributes, &declared.name) {
         None => parts.leave_out(),
         Some(text) => match accept(alloc, &set.simple(declared.simple).space, text) {
             Ok(value) => parts.add(value),
-            // Open: the attributes are right, so memory is missing.
-            Err(_) => Err(Memory),
+            Err(SimpleError::Memory) => Err(Memory),
+            Err(SimpleError::BadText) => unreachable!(),
+            Err(SimpleError::TooWide) => unreachable!(),
         },
     }
 }
@@ -46,6 +48,7 @@ pub(crate) fn add_attributes(
 ) -> Result<(), Memory>
     requires linked { IsLinked set.now }
     requires uses { All (IsUse set.now) uses.now }
+    requires taken { AreTaken set.now attributes.now uses.now }
     ensures { OnOk result (Adds (AttributesMade (map (attribute_in (parts_of set.now)) uses.now) (left attributes.now)) parts.old parts.new) }
 {
     for declared in uses {

@@ -73,12 +73,9 @@ impl Kids {
 
     /// A text stands behind the last child element.
     pub(crate) fn add_text(&mut self, alloc: Global, text: &Text) -> Result<(), Memory>
+        requires { self.old.behind ≡ None }
         ensures { OnOk result (TextAdded text.now self.old self.new) }
     {
-        // Open: no two texts are neighbours.
-        if self.behind.is_some() {
-            return Err(Memory);
-        }
         self.behind = Some(text.copy(alloc)?);
         Ok(())
     }

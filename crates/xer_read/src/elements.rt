@@ -1,5 +1,5 @@
 //! Elements and their kids, one by one.
-ghost use Rattle.std.specs.Prelude.{◌≡◌, ℕ, ◌+◌, ◌-◌, ◌*◌, ◌^◌, ◌<◌, ◌≤◌, true, false, List, [], length, slice_index_or, All, MatchResult, OnOk};
+ghost use Rattle.std.specs.Prelude.{◌≡◌, ◌⊎◌, Option, None, ℕ, ◌+◌, ◌-◌, ◌*◌, ◌^◌, ◌<◌, ◌≤◌, true, false, List, [], length, slice_index_or, All, MatchResult, OnOk};
 ghost use Rattle.label_tree.specs.Rose.{Rose, label_of, roses_of, none, node_count, count_all};
 ghost use Rattle.xa_base.specs.WhiteSpace.{is_blank};
 ghost use Rattle.doc_text.specs.declared.label.ItemLabel.{ItemLabel};
@@ -17,7 +17,7 @@ ghost use Rattle.validity_check.specs.Counts.{element_count, elements_in};
 ghost use Rattle.validity_check.specs.Told.{inside_told, told, IsFittingInside};
 ghost use Rattle.xer_read.specs.Private.Given.{IsRead};
 ghost use Rattle.xer_read.specs.Private.Keeping.{TextRead, Reached, KidsRead};
-ghost use Rattle.xer_read.specs.Private.Contents.{IsRightContent, IsFilled, IsNilFilled};
+ghost use Rattle.xer_read.specs.Private.Contents.{AreTaken, IsRightContent, IsFilled, IsNilFilled};
 
 use crate::contents::{Content, Kids, Rest};
 use crate::texts::read_text;
@@ -43,6 +43,7 @@ fn read_between(
     at: u64,
     read: &mut Kids,
 ) -> Result<(), CheckError>
+    requires { mixed ≡ true → read.old.behind ≡ None }
     ensures { MatchResult result
         (λ _. TextRead mixed text.now read.old read.new)
         (Tells (At at InvalidWhy.TextNotAllowed ((mixed ≡ false) × (is_blank text.now ≡ false)))) }
@@ -79,6 +80,7 @@ fn read_kid<L: Ledger>(
     requires taken { matcher.old.taken < 2 ^ 32 - 1 }
     requires took { (us : List Leaf) × Took matcher.old us }
     requires sound { is_sound kid.now ≡ true }
+    requires apart { is_text (label_of kid.now) ≡ true → mixed ≡ true → read.old.behind ≡ None }
     requires few { node_count kid.now < 2 ^ 31 }
     ensures same { plans.new ≡ set.now }
     ensures judged { (p : Particle) (kids : List (Rose ItemLabel)) (place i : ℕ) → i < length kids → kid.now ≡ slice_index_or kids i kid.now → Reached set.now mixed p kids i matcher.old read.old
@@ -87,6 +89,7 @@ fn read_kid<L: Ledger>(
         (Tells (KidsFault (asked_at (parts_of set.now)) mixed p (roses_of kids) place)) }
     ensures most { steps.new ≤ steps.old + 144 * element_count kid.now }
     ensures least { OnOk result (steps.old + element_count kid.now ≤ steps.new) }
+    ensures apart { OnOk result (mixed ≡ true → (read.new.behind ≡ None) ⊎ (is_text (label_of kid.now) ≡ true)) }
 {
     match kid.label() {
         ItemLabel::Text { text, at } => read_between(plans.alloc(), mixed, text, *at, read),
@@ -227,6 +230,7 @@ fn read_filled<L: Ledger>(
     requires decl { decl < length set.now.elements }
     requires inside { IsFittingInside set.now declared.inside }
     requires uses { All (IsUse set.now) declared.uses.now }
+    requires taken { AreTaken set.now attributes.now declared.uses.now }
     requires sound { are_sound (roses_of kids.now) ≡ true }
     requires few { count_all (roses_of kids.now) < 2 ^ 31 }
     ensures same { plans.new ≡ set.now }
@@ -257,6 +261,7 @@ fn read_nil(
 ) -> Result<Tree<ValueLabel>, CheckError>
     requires linked { IsLinked set.now }
     requires uses { All (IsUse set.now) declared.uses.now }
+    requires taken { AreTaken set.now attributes.now declared.uses.now }
     requires decl { decl < length set.now.elements }
     ensures { MatchResult result
         (λ value. (roses_of kids.now ≡ none) × IsNilFilled set.now decl (told (parts_of set.now) declared.entry) attributes.now value)

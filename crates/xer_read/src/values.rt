@@ -4,7 +4,7 @@ ghost use Rattle.content_models.specs.Seen.{seen};
 ghost use Rattle.schema_parts.specs.Linked.{IsUse, IsLinked};
 ghost use Rattle.schema_parts.specs.SetParts.{parts_of};
 ghost use Rattle.validity_check.specs.Told.{inside_told, told};
-ghost use Rattle.xer_read.specs.Private.Contents.{Adds, TextsMade, ChildrenMade, RestMade, ComplexMade, is_plain_at, IsMade};
+ghost use Rattle.xer_read.specs.Private.Contents.{AreTaken, Adds, TextsMade, ChildrenMade, RestMade, ComplexMade, is_plain_at, IsMade};
 
 use crate::attributes::add_attributes;
 use crate::children::Children;
@@ -89,6 +89,7 @@ fn make_complex(
 ) -> Result<Tree<ValueLabel>, Memory>
     requires linked { IsLinked set.now }
     requires uses { All (IsUse set.now) declared.uses.now }
+    requires taken { AreTaken set.now attributes.now declared.uses.now }
     ensures { IfOk result (λ value. ComplexMade (told (parts_of set.now) declared.entry) attributes.now content.entry value) }
 {
     let Content { texts, rest } = content;
@@ -110,6 +111,7 @@ pub(crate) fn make_value(
 ) -> Result<Tree<ValueLabel>, Memory>
     requires linked { IsLinked set.now }
     requires uses { All (IsUse set.now) declared.uses.now }
+    requires taken { AreTaken set.now attributes.now declared.uses.now }
     requires decl { decl < length set.now.elements }
     ensures { IfOk result (λ value. IsMade (is_plain_at set.now decl) (told (parts_of set.now) declared.entry) attributes.now content.entry value) }
 {

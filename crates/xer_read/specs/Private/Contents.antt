@@ -14,12 +14,13 @@ use Rattle.doc_text.specs.declared.label.ItemLabel.{ItemLabel}
 use Rattle.doc_text.specs.Sound.{levels_all}
 use Rattle.plain_items.specs.Plain.{Plain}
 use Rattle.plain_items.specs.Mixing.{interleaved}
+use Rattle.schema_parts.specs.declared.components.AttributeUse.{AttributeUse}
 use Rattle.schema_parts.specs.declared.components.ElementDecl.{ElementDecl}
 use Rattle.schema_parts.specs.declared.components.TypeOf.TheVariants as kind
 use Rattle.schema_parts.specs.Components.{Set}
 use Rattle.schema_parts.specs.Linked.{leaves, IsNamed}
 use Rattle.schema_parts.specs.SetParts.{parts_of}
-use Rattle.validity.specs.Asked.{Asked, Attribute, Inside, nothing, simple, children, asked_at}
+use Rattle.validity.specs.Asked.{Asked, Attribute, Inside, nothing, simple, children, attribute_in, asked_at}
 use Rattle.validity.specs.Attributes.{text_of, left}
 use Rattle.validity.specs.Valid.{only_text, text_kids, KidsValid}
 use Rattle.xer_read.specs.declared.children.Child.{Child}
@@ -91,6 +92,13 @@ IsRestWith gs model _ = ⊥
 pub record IsContentWith (mixed : Bool) (read : Kids) (model : Rose ParticleLabel) (content : Content) : Type 0 where
   pub rest_is : IsRestWith read.children.waiting.items model content.rest
   pub texts : mixed ≡ true → content.texts ≡ node value.SequenceOf (roses_of (read.texts.items ++ text_value (words_of read.behind) ∷ []))
+
+-- the type of the attribute takes its text, where it stands
+abbrev pub IsTaken : List (Name × List ℕ) → Attribute → Type 0
+IsTaken xs a = (words : List ℕ) → text_of xs a.name ≡ Some words → (v : Rose ValueLabel) × Accepts a.space words v
+
+abbrev pub AreTaken : Set → List (Name × List ℕ) → List AttributeUse → Type 0
+AreTaken s xs us = All (λ (u : AttributeUse). IsTaken (left xs) (attribute_in (parts_of s) u)) us
 
 -- ---- what is made
 

@@ -1,4 +1,4 @@
-use Rattle.std.proofs.Common.{◌≡◌, ◌+◌, ◌≤◌, true, refl, sym, ◌∙◌, ap, subst, arith, add-one}
+use Rattle.std.proofs.Common.{inl, ◌≡◌, ◌+◌, ◌≤◌, true, refl, sym, ◌∙◌, ap, subst, arith, add-one}
 use Rattle.std.specs.Prelude.{Result, Err, All}
 use Rattle.validity_check.specs.declared.error.CheckError.{CheckError}
 use Rattle.std.proofs.lemmas.Result.{err_from_is_err_and}
@@ -25,6 +25,7 @@ use Rattle.validity.specs.Faults.{FirstKid}
 use Rattle.validity.specs.declared.why.InvalidWhy.TheVariants.{NilWithContent}
 use Rattle.validity_check.specs.Answers.{Tells}
 use Rattle.xer_read.proofs.Counting.{match-ok, always-ok, text-without, all-counted}
+use Rattle.xer_read.proofs.Apart.{none-behind, apart-next, all-taken}
 use Rattle.xer_read.proofs.Growing.{on-ok}
 use Rattle.xer_read.proofs.Whole.{nothing-right, text-right, children-right, nil-read, filled-read}
 use Rattle.xer_read.proofs.elements.+reading.Goals as goal
@@ -91,6 +92,7 @@ pub read_kids-loop-kid-init : goal.read_kids-loop-kid-init
 read_kids-loop-kid-init g t c = record {
   plans = c.requires.plans;
   reached = none-reached c.args.set.now c.args.mixed c.args.plan.now c.args.kids.now c.in_ok-matcher.matcher c.new-read.result c.in_ok-matcher.ensures.plan c.in_ok-matcher.ensures.took c.new-read.ensures.texts c.new-read.ensures.behind c.new-read.ensures.children;
+  apart = λ is. inl c.new-read.ensures.behind;
   most = omega arith;
   least = omega arith;
 }
@@ -119,7 +121,16 @@ read_kids-read_kid-requires g t c κs within =
                 subst (λ q. levels q ≤ 17) (sym w.particle) c.requires.levels,
                 (
                   omega (arith, below, long, few, count, taken),
-                  ((w.us, w.took), (kid_sound (roses_of c.args.kids.now) c.loop-kid.kid-index c.kid-item.result c.requires.sound here, omega (arith, k, few))),
+                  (
+                    (w.us, w.took),
+                    (
+                      kid_sound (roses_of c.args.kids.now) c.loop-kid.kid-index c.kid-item.result c.requires.sound here,
+                      (
+                        none-behind c.args.mixed c.args.kids.now c.loop-kid.kid-index c.loop-kid.read c.kid-item.result c.requires.sound c.loop-kid.invariant.apart here,
+                        omega (arith, k, few),
+                      ),
+                    ),
+                  ),
                 ),
               ),
             ),
@@ -138,6 +149,7 @@ read_kids-loop-kid-preserved g t c =
     record {
       plans = c.in_ok-read_kid.ensures.same;
       reached = c.in_ok-read_kid.ensures.judged c.args.plan.now c.args.kids.now c.args.at c.loop-kid.kid-index below c.kid-item.is c.loop-kid.invariant.reached;
+      apart = apart-next c.args.mixed c.args.kids.now c.loop-kid.kid-index c.read_kid.new.read c.kid-item.result here c.in_ok-read_kid.ensures.apart;
       most = rw add-one (omega (arith, more, so_far, m));
       least =
           let least = c.loop-kid.invariant.least in
@@ -223,7 +235,11 @@ read_element-read_filled-requires g t c κs within =
                 c.declared_of-declared.ensures.fits.1,
                 (
                   c.declared_of-declared.ensures.fits.0,
-                  (subst (λ ks. are_sound (roses_of ks) ≡ true) (sym c.kids-kids.ensures) (kids_sound c.args.item.now c.requires.sound), omega (arith, k, same, few)),
+                  (
+                    all-taken c.args.set.now c.requires.linked c.args.decl (told (parts_of c.args.set.now) c.declared_of-declared.result) c.declared_of-declared.ensures.asked
+                        c.declared_of-declared.result.uses.now refl c.items-items.result.now c.in-Ok.ensures.right,
+                    (subst (λ ks. are_sound (roses_of ks) ≡ true) (sym c.kids-kids.ensures) (kids_sound c.args.item.now c.requires.sound), omega (arith, k, same, few)),
+                  ),
                 ),
               ),
             ),
@@ -309,3 +325,8 @@ read_kids-returns-clause-least g t c =
     let all = all-counted c.args.kids.now c.loop-kid.kid-index c.loop-kid-test.false in
     let s = c.finish.ensures.ticks.0 in
     always-ok c.finish.result (c.args.steps.now + elements_in (roses_of c.args.kids.now) ≤ c.finish.new.steps) (omega (arith, so_far, all, s))
+
+pub read_element-read_nil-requires-clause-taken : goal.read_element-read_nil-requires-clause-taken
+read_element-read_nil-requires-clause-taken g t c =
+    all-taken c.args.set.now c.requires.linked c.args.decl (told (parts_of c.args.set.now) c.declared_of-declared.result) c.declared_of-declared.ensures.asked c.declared_of-declared.result.uses.now refl
+    c.items-items.result.now c.in-Ok.ensures.right

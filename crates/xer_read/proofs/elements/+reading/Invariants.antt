@@ -3,6 +3,7 @@ use Rattle.label_tree.specs.Rose.{roses_of, node_count, count_all}
 use Rattle.validity.specs.Faults.{front}
 use Rattle.validity_check.specs.Counts.{elements_in}
 use Rattle.xer_read.specs.Private.Keeping.{Reached}
+use Rattle.xer_read.proofs.Apart.{IsApart}
 use Rattle.xer_read.proofs.elements.+reading.Given as goal
 
 abbrev pub decreases-read_kid : goal.decreases-read_kid
@@ -24,6 +25,7 @@ abbrev pub invariant-read_kids-loop-kid : goal.invariant-read_kids-loop-kid
 invariant-read_kids-loop-kid g l = record {
   plans : l.plans ≡ l.set;
   reached : Reached l.set l.mixed l.plan l.kids l.kid-index l.matcher l.read;
+  apart : IsApart l.mixed l.kids l.kid-index l.read;
   most : l.steps ≤ l.initial.steps + 144 * elements_in (front l.kid-index (roses_of l.kids));
   least : l.initial.steps + elements_in (front l.kid-index (roses_of l.kids)) ≤ l.steps;
 }
