@@ -188,6 +188,9 @@ sku_and_qty = (
   ),
 )
 
+abbrev id_wanted : Attribute
+id_wanted = record { name = unqualified (codes "id"); space = space.Wholes (Some (pos 0)) (Some (pos 65535)); required = true }
+
 id_right : IsRight (asked_at orders 0).attributes (id_of (codes "7"))
 unfolding orders reads treated words_of is_white_space whole_number
 id_right = (number (pos 7), refl)
@@ -197,7 +200,7 @@ ids_right = All-cons (IsRight (asked_at orders 0).attributes) (id_of (codes "7")
 
 id_stands : (bytes : List ℕ) → All (Stands (id_of bytes ∷ [])) (asked_at orders 0).attributes
 unfolding orders
-id_stands bytes = All-cons (Stands (id_of bytes ∷ [])) (record { name = unqualified (codes "id"); space = space.Wholes (Some (pos 0)) (Some (pos 65535)); required = true }) [] (λ f n. cc) (All-nil (Stands (id_of bytes ∷ [])))
+id_stands bytes = All-cons (Stands (id_of bytes ∷ [])) id_wanted [] (λ f n. cc) (All-nil (Stands (id_of bytes ∷ [])))
 
 sku_valid : (at : ℕ) → ValidBy (asked_at orders) 3 (sku_item (codes "A1") at) (sku_plain (codes "A1"))
 unfolding orders reads spelled treated words_of is_white_space chars is_xml_char in_class

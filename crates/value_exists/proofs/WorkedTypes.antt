@@ -1,5 +1,5 @@
 -- The modules of three schemas, worked out by hand: an order with its lines, elements of many types, and prices, which have simple
--- content with an attribute. With the last stands its linked set. The modules of the first two are those of `xer_items/proofs/WorkedModules`.
+-- content with an attribute. With the last stand the parts of its set. The first two are those of `xer_items/proofs/WorkedModules`.
 use Rattle.std.specs.Prelude.{ℕ, Bool, ◌^◌, ◌-◌, true, false, pos, negsuc, Some, None, List, [], ◌∷◌, codes}
 use Rattle.label_tree.specs.Rose.{Rose, node, roses_of}
 use Rattle.xa_base.specs.declared.white_space.WhiteSpace.TheVariants.{Collapse}
