@@ -5,3 +5,5 @@ pub mod Filling
 pub mod Kids
 pub mod Elements
 pub mod Existence
+mod WorkedTypes
+pub mod Worked
