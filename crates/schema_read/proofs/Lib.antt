@@ -17,6 +17,7 @@ pub mod ItemPlaces
 pub mod KeptDocument
 pub mod Leaves
 pub mod Making
+pub mod NamedDocument
 pub mod NamedParts
 pub mod Occurrences
 pub mod OwnNames

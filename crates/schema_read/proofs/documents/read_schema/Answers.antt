@@ -11,7 +11,7 @@ returns-in-Some-clause-refused c = shown c.args.items.now 16777216 c.in-Some.fie
 pub components-requires : goal.components-requires
 components-requires c =
     subst (λ t. Keeps (raw_of c.args.file t)) (sym (c.root.ensures.root ∙ c.tree.ensures.tree))
-    (document_keeps c.args.file c.args.items.now c.requires (no_fault c.args.items.now (sym c.in_ok-at.ensures ∙ c.in_default.is)) c.tree.ensures.items.shallow)
+    (document_keeps c.args.file c.args.items.now c.requires (no_fault c.args.items.now (sym c.in_ok-at.ensures ∙ c.in_default.is)) c.tree.ensures.items.sound c.tree.ensures.items.shallow)
 
 pub returns-clause-schema : goal.returns-clause-schema
 returns-clause-schema c = no_fault c.args.items.now (sym c.in_ok-at.ensures ∙ c.in_default.is)
