@@ -1,6 +1,7 @@
 //! A whole schema document.
-ghost use Rattle.std.specs.Prelude.{◌≡◌, ◌++◌, IfErr, IfOk, OnOk};
+ghost use Rattle.std.specs.Prelude.{◌≡◌, ◌++◌, true, IfErr, IfOk, OnOk};
 ghost use Rattle.label_tree.specs.Rose.{roses_of};
+ghost use Rattle.doc_text.specs.Sound.{is_element};
 ghost use Rattle.doc_text.specs.Tokens.{tokens, Ascend};
 ghost use Rattle.schema_parts.specs.Documents.{doc_of, parts_of};
 ghost use Rattle.schema_rules.specs.Scopes.{bindings_in};
@@ -123,7 +124,8 @@ fn described<'a, 'b>(
 
 // The components of a document without a fault.
 fn components(alloc: Global, root: &Tree<ItemLabel>, file: u32) -> Result<RawDoc, Memory>
-    requires { Keeps (raw_of file root.now) }
+    requires element { is_element root.now ≡ true }
+    requires keeps { Keeps (raw_of file root.now) }
     ensures { IfOk result (λ doc. doc_of doc ≡ raw_of file root.now) }
 {
     let ItemLabel::Element {
@@ -132,7 +134,7 @@ fn components(alloc: Global, root: &Tree<ItemLabel>, file: u32) -> Result<RawDoc
         ..
     } = root.label()
     else {
-        return Err(Memory);
+        unreachable!()
     };
     let own = own_attributes(alloc, attributes.items())?;
     let outside = NamespaceScope::Document;
