@@ -1,5 +1,6 @@
 pub mod Adding
 pub mod Bases
+pub mod CollapsedTexts
 pub mod Coherence
 pub mod CountedDocument
 pub mod CountedParts
@@ -16,7 +17,10 @@ pub mod ItemPlaces
 pub mod KeptDocument
 pub mod Leaves
 pub mod Making
+pub mod NamedDocument
+pub mod NamedParts
 pub mod Occurrences
+pub mod OwnNames
 pub mod PlacedDocument
 pub mod PlacedParts
 pub mod RisingPlaces

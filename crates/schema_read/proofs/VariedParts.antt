@@ -49,7 +49,7 @@ locals_varied_append (l ∷ ls) ms h g =
 
 -- ---- roles
 
-attribute_role : (parent : ElementRole) (p : Part) → beside (codes "attribute") (children parent) ≡ Some p → (p.role ≡ GlobalAttribute) ⊎ (p.role ≡ LocalAttribute)
+pub attribute_role : (parent : ElementRole) (p : Part) → beside (codes "attribute") (children parent) ≡ Some p → (p.role ≡ GlobalAttribute) ⊎ (p.role ≡ LocalAttribute)
 attribute_role Schema p is = inl (role_there GlobalAttribute Anywhere p is)
 attribute_role GlobalComplexType p is = inr (role_there LocalAttribute Anywhere p is)
 attribute_role InnerComplexType p is = inr (role_there LocalAttribute Anywhere p is)
@@ -92,22 +92,22 @@ module _ (parent : ElementRole) (before : Option Position) (outer : List (List �
             record { role = LocalAttribute; before = None; level = level_inside LocalAttribute level; none = i.inside }
       ]
 
-  in_extension : name.local ≡ codes "extension" → Clean (declares ++ outer) kids
+  pub in_extension : name.local ≡ codes "extension" → Clean (declares ++ outer) kids
   in_extension is =
       let s = standing parent before outer level name attributes declares at kids h (codes "extension") is refl in
       let i = as_role parent before outer level name attributes declares at kids h Extension s (extension_role parent s.part (there parent before outer level name attributes declares at kids h (codes "extension") is s)) in
       record { role = Extension; before = None; level = level_inside Extension level; none = i.inside }
 
-  in_content : name.local ≡ codes "simpleContent" → Clean (declares ++ outer) kids
+  pub in_content : name.local ≡ codes "simpleContent" → Clean (declares ++ outer) kids
   in_content is =
       let s = standing parent before outer level name attributes declares at kids h (codes "simpleContent") is refl in
       let i = as_role parent before outer level name attributes declares at kids h SimpleContent s (content_role parent s.part (there parent before outer level name attributes declares at kids h (codes "simpleContent") is s)) in
       record { role = SimpleContent; before = None; level = level_inside SimpleContent level; none = i.inside }
 
-word_of : (w : List ℕ) (name : Name) (attributes : List (Name × List ℕ)) (declares : List (List ℕ × List ℕ)) (at : ℕ) → is_named w (Element name attributes declares at) ≡ true → name.local ≡ w
+pub word_of : (w : List ℕ) (name : Name) (attributes : List (Name × List ℕ)) (declares : List (List ℕ × List ℕ)) (at : ℕ) → is_named w (Element name attributes declares at) ≡ true → name.local ≡ w
 word_of w name attributes declares at is = (bytes_eq-Decides name.local w).0 (and_parts (is_schema_name name) (bytes_eq name.local w) is).1
 
-attribute_word : (name : List ℕ) → list_any (bytes_eq name) (names_in Attributes) ≡ true → name ≡ codes "attribute"
+pub attribute_word : (name : List ℕ) → list_any (bytes_eq name) (names_in Attributes) ≡ true → name ≡ codes "attribute"
 attribute_word name is = one_of (λ w. w ≡ codes "attribute") name (names_in Attributes) is (refl, tt)
 
 -- ---- attributes

@@ -2,6 +2,7 @@
 use Rattle.std.specs.Prelude.{◌≡◌, ◌<◌, ◌^◌, true, length}
 use Rattle.schema_parts.specs.Raw.{Document}
 use Rattle.schema_parts.specs.Bounds.{all_fit, ascend}
+use Rattle.schema_parts.specs.DeclaredNames.{all_named}
 use Rattle.schema_parts.specs.Varieties.{all_varied}
 use Rattle.schema_parts.specs.Places.{all_ascend, places_in, StandAmong}
 use Rattle.schema_parts.specs.Inward.{all_inward}
@@ -9,6 +10,8 @@ use Rattle.schema_parts.specs.Chains.{AreShort}
 use Rattle.schema_parts.specs.Coherent.{IsCoherent}
 
 pub record Keeps (d : Document) : Type 0 where
+  -- each name that is declared may be declared
+  pub named : all_named d.elements d.attributes d.types d.locals ≡ true
   pub few : length d.locals < 2 ^ 32
   pub fitting : all_fit d.elements d.types d.locals ≡ true
   pub ascending : ascend d.counted ≡ true

@@ -1,6 +1,7 @@
 //! A whole schema document.
-ghost use Rattle.std.specs.Prelude.{◌≡◌, ◌++◌, IfErr, IfOk, OnOk};
+ghost use Rattle.std.specs.Prelude.{◌≡◌, ◌++◌, true, IfErr, IfOk, OnOk};
 ghost use Rattle.label_tree.specs.Rose.{roses_of};
+ghost use Rattle.doc_text.specs.Sound.{is_element};
 ghost use Rattle.doc_text.specs.Tokens.{tokens, Ascend};
 ghost use Rattle.schema_parts.specs.Documents.{doc_of, parts_of};
 ghost use Rattle.schema_rules.specs.Scopes.{bindings_in};
@@ -19,7 +20,7 @@ use crate::reader::Reader;
 use doc_text::{ItemLabel, Items};
 use label_tree::Tree;
 use schema_faults::{DocumentFault, first_fault};
-use schema_parts::{RawDoc, all_named};
+use schema_parts::RawDoc;
 use schema_rules::{NamespaceScope, is_counted, is_looked_into, own_attributes};
 use std::alloc::Global;
 use xa_base::{Memory, Name, Text};
@@ -68,9 +69,9 @@ fn counted_places(alloc: Global, kids: &[Tree<ItemLabel>]) -> Result<Vec<u64>, M
     Ok(counted)
 }
 
-fn sealed(file: u32, target: Text, globals: Globals, counted: Vec<u64>) -> Result<RawDoc, Memory>
+fn sealed(file: u32, target: Text, globals: Globals, counted: Vec<u64>) -> RawDoc
     requires { Keeps (parts_of file target globals.elements.items globals.attributes.items globals.types.items globals.locals.items counted.items) }
-    ensures { IfOk result (λ doc. doc_of doc ≡ parts_of file target globals.elements.items globals.attributes.items globals.types.items globals.locals.items counted.items) }
+    ensures { doc_of result ≡ parts_of file target globals.elements.items globals.attributes.items globals.types.items globals.locals.items counted.items }
 {
     let Globals {
         elements,
@@ -78,11 +79,7 @@ fn sealed(file: u32, target: Text, globals: Globals, counted: Vec<u64>) -> Resul
         types,
         locals,
     } = globals;
-    // That this test holds of each document without a fault isn't proved.
-    if !all_named(&elements, &attributes, &types, &locals) {
-        return Err(Memory);
-    }
-    Ok(RawDoc::of(file, target, elements, attributes, types, locals, counted))
+    RawDoc::of(file, target, elements, attributes, types, locals, counted)
 }
 
 // All that the children of `schema` declare.
@@ -96,7 +93,7 @@ fn described_by<'a, 'b>(
     let globals = reader.globals_among(kids)?;
     let counted = counted_places(reader.alloc, kids)?;
     let target = reader.setting.target.copy(reader.alloc)?;
-    sealed(reader.setting.file, target, globals, counted)
+    Ok(sealed(reader.setting.file, target, globals, counted))
 }
 
 // The components of a document with these attributes of `schema` and these children of it.
@@ -127,7 +124,8 @@ fn described<'a, 'b>(
 
 // The components of a document without a fault.
 fn components(alloc: Global, root: &Tree<ItemLabel>, file: u32) -> Result<RawDoc, Memory>
-    requires { Keeps (raw_of file root.now) }
+    requires element { is_element root.now ≡ true }
+    requires keeps { Keeps (raw_of file root.now) }
     ensures { IfOk result (λ doc. doc_of doc ≡ raw_of file root.now) }
 {
     let ItemLabel::Element {
@@ -136,7 +134,7 @@ fn components(alloc: Global, root: &Tree<ItemLabel>, file: u32) -> Result<RawDoc
         ..
     } = root.label()
     else {
-        return Err(Memory);
+        unreachable!()
     };
     let own = own_attributes(alloc, attributes.items())?;
     let outside = NamespaceScope::Document;
@@ -144,9 +142,7 @@ fn components(alloc: Global, root: &Tree<ItemLabel>, file: u32) -> Result<RawDoc
     described(alloc, file, &own, root.kids(), &scope)
 }
 
-/// The components of a schema document, which is file number `file` of its set, or its first fault. The names that it
-/// declares are tested before they are handed out; where a document without a fault failed the test, the answer would be
-/// `Memory`. That none fails isn't proved.
+/// The components of a schema document, which is file number `file` of its set, or its first fault.
 ///
 /// The time grows with the size of the document, and for each element and each reference with the logarithm of the
 /// number of bindings of the elements that are open.
