@@ -10,7 +10,7 @@ use Rattle.transcode_core.specs.Words.{Asked}
 use Rattle.transcode_core.specs.Order.{Then}
 use Rattle.schema_parts.specs.SetParts.{SetParts}
 use Rattle.transcode_core.specs.Due.{Requested, Opened, Due}
-use Rattle.transcode_core.specs.Causes.{Answers, IsRefusal, SomeLoad, OneRead, Fails, Reaches, files_of, ReachesFile, reads_input, ReadsInput, ReachesInput, Deciding}
+use Rattle.transcode_core.specs.Causes.{Answers, IsRefusal, SomeLoad, OneRead, Fails, Reaches, files_of, ReachesFile, reads_input, ReadsInput, reads_document, ReadsDocument, ReachesInput, Deciding}
 
 -- the words ask for one thing
 pub same_request : (words : List (List ℕ)) (a b : Asked) → Requested words (Ok a) → Requested words (Ok b) → a ≡ b
@@ -18,6 +18,9 @@ same_request words a b p q = let e : Some a ≡ Some b = sym p ∙ q in cc
 
 pub reads_too : (words : List (List ℕ)) (request : Asked) → Requested words (Ok request) → ReadsInput words → reads_input request ≡ true
 reads_too words request asks (other, also, reads) = subst (λ r. reads_input r ≡ true) (same_request words other request also asks) reads
+
+pub reads_document_too : (words : List (List ℕ)) (request : Asked) → Requested words (Ok request) → ReadsDocument words → reads_document request ≡ true
+reads_document_too words request asks (other, also, reads) = subst (λ r. reads_document r ≡ true) (same_request words other request also asks) reads
 
 -- a command that opens a set, and then reads the input
 module _ (entries : Option (List (List ℕ × List ℕ))) (loads loads_now : ℕ) (sure : Bool) (reads reads_now : ℕ) (root : Name) (names : List (List ℕ))

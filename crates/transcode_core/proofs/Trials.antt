@@ -10,7 +10,7 @@ use Rattle.doc_text.specs.declared.label.ItemLabel.{ItemLabel}
 use Rattle.transcode_core.specs.Trial.{trial_name, trial_schema, trial_root, trial_document, summary}
 use Rattle.transcode_core.specs.Order.{Give}
 use Rattle.transcode_core.specs.Due.{ItemsIn, Answered, Sent, Tried}
-use Rattle.transcode_core.specs.Causes.{Answers, Answering, NoMemory, IsRefusal, StepsUpTo}
+use Rattle.transcode_core.specs.Causes.{Answers, Answering, NoMemory, IsRefusal, StepsUpTo, StepsFrom}
 use Rattle.transcode_core.proofs.Joined.{passed, refused}
 
 abbrev pub trial_files : List (List ℕ × List ℕ)
@@ -74,3 +74,7 @@ refuses lines document o e refusal =
 pub steps_of : (lines before now : ℕ) (document : List ℕ) → document ≡ trial_document lines
     → StepsUpTo (λ (items : Rose ItemLabel). ItemsIn (Some document) (Ok items)) before now → StepsUpTo (λ (items : Rose ItemLabel). ItemsIn (Some (trial_document lines)) (Ok items)) before now
 steps_of lines before now document e few = subst (λ d. StepsUpTo (λ (items : Rose ItemLabel). ItemsIn (Some d) (Ok items)) before now) e few
+
+pub steps_from : (lines before now : ℕ) (document : List ℕ) → document ≡ trial_document lines
+    → StepsFrom (λ (items : Rose ItemLabel). ItemsIn (Some document) (Ok items)) before now → StepsFrom (λ (items : Rose ItemLabel). ItemsIn (Some (trial_document lines)) (Ok items)) before now
+steps_from lines before now document e many = subst (λ d. StepsFrom (λ (items : Rose ItemLabel). ItemsIn (Some d) (Ok items)) before now) e many

@@ -159,6 +159,21 @@ ReadsOfWords words left items = (request : Asked) × Requested words (Ok request
 abbrev pub StepsUpTo : (Rose ItemLabel → Type 0) → ℕ → ℕ → Type 0
 StepsUpTo Reads old new = (new ≡ old) ⊎ ((items : Rose ItemLabel) × Reads items × (new ≤ old + 144 * element_count items))
 
+-- at least one step was taken for each element of such a document but the root
+abbrev pub StepsFrom : (Rose ItemLabel → Type 0) → ℕ → ℕ → Type 0
+StepsFrom Reads old new = (items : Rose ItemLabel) × Reads items × (old + element_count items ≤ new + 1)
+
+-- the command looks at the elements of a document
+abbrev pub reads_document : Asked → Bool
+reads_document (Show files) = false
+reads_document (Check root files) = true
+reads_document (ToPer root files) = true
+reads_document (ToXml root files) = false
+reads_document (Trial lines) = true
+
+abbrev pub ReadsDocument : List (List ℕ) → Type 0
+ReadsDocument words = (request : Asked) × Requested words (Ok request) × (reads_document request ≡ true)
+
 -- an outcome that leaves the output as it was
 abbrev pub WritesNothing : Outcome → Type 0
 WritesNothing Done = ⊥

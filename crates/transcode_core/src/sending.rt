@@ -1,5 +1,5 @@
 //! From the items of a document to the encoding of its value.
-ghost use Rattle.std.specs.Prelude.{◌≡◌, ◌+◌, ◌*◌, ◌<◌, ◌≤◌, All, IfOk, IfErr};
+ghost use Rattle.std.specs.Prelude.{◌≡◌, ◌+◌, ◌*◌, ◌<◌, ◌≤◌, All, IfOk, OnOk, IfErr};
 ghost use Rattle.validity_check.specs.Counts.{element_count};
 ghost use Rattle.schema_parts.specs.SetParts.{parts_of};
 ghost use Rattle.asn_types.specs.Values.{In};
@@ -30,6 +30,7 @@ fn value_of<L: Ledger>(
     ensures kept { (type : RootType) → IsTypeOf opened.now.set opened.now.root type → IfOk result (λ value. In type.assignments type.number value) }
     ensures stage { IfErr result IsOfInput }
     ensures most { steps.new ≤ steps.old + 144 * element_count items.now }
+    ensures least { OnOk result (steps.old + element_count items.now ≤ steps.new + 1) }
 {
     match read_value(alloc, &opened.set, opened.root, items, steps) {
         Ok(value) => Ok(value),
@@ -80,6 +81,7 @@ pub fn encode_items<L: Ledger>(
         (Then (ValueIn (opened_seen opened.now) (type_seen typed.now) items.now) (λ value. Encoding (type_seen typed.now) value)) NoMemory result }
     ensures stage { IfErr result IsOfInput }
     ensures most { steps.new ≤ steps.old + 144 * element_count items.now }
+    ensures least { OnOk result (steps.old + element_count items.now ≤ steps.new + 1) }
 {
     match value_of(alloc, opened, items, steps) {
         Ok(value) => encode_value(alloc, typed, &value),

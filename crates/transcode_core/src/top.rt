@@ -14,7 +14,7 @@ ghost use Rattle.transcode_core.specs.Steps.{Printed, Judged, RootType, IsTypeOf
 ghost use Rattle.transcode_core.specs.Order.{Give, Then};
 ghost use Rattle.transcode_core.specs.Due as due;
 ghost use Rattle.transcode_core.specs.Due.{Requested, SetIn, ItemsIn, Checked, Encoded, Documented, Sent, Tried, Answered, Due};
-ghost use Rattle.transcode_core.specs.Causes.{Answers, Never, NoMemory, SomeLoad, OneRead, files_of, ReachesFile, reads_input, ReadsInput, IsTold, TakesItsField, TakesInput, TakesOfWords, ReadsItems, ReadsOfWords, StepsUpTo, ReachesInput, IsOfInput, Answering, Deciding, Fails, IsRefusal, WritesNothing};
+ghost use Rattle.transcode_core.specs.Causes.{Answers, Never, NoMemory, SomeLoad, OneRead, files_of, ReachesFile, reads_input, ReadsInput, IsTold, TakesItsField, TakesInput, TakesOfWords, ReadsItems, ReadsOfWords, StepsUpTo, ReachesInput, IsOfInput, Answering, Deciding, Fails, IsRefusal, WritesNothing, StepsFrom, reads_document, ReadsDocument};
 
 use crate::files::{read_input, read_input_items};
 use crate::lines::write_line;
@@ -130,6 +130,7 @@ fn judge<L: Ledger>(
     ensures due { Answers (λ bytes. bytes.items) (Then (Judged (parts_of opened.now.set) opened.now.root items.now) (λ _. Give [])) NoMemory result }
     ensures stage { IfErr result IsOfInput }
     ensures most { steps.new ≤ steps.old + 144 * element_count items.now }
+    ensures least { OnOk result (steps.old + element_count items.now ≤ steps.new + 1) }
 {
     // What each linked set keeps is known once one of its readers was called.
     let _ = opened.set.element_count();
@@ -152,6 +153,7 @@ fn check_input<S: Source, L: Ledger>(
     ensures stage { IfErr result IsOfInput }
     ensures later { S.faults input.old ≤ S.faults input.new }
     ensures few { StepsUpTo (λ items. ItemsIn (S.left input.old) (Ok items)) steps.old steps.new }
+    ensures many { OnOk result (StepsFrom (λ items. ItemsIn (S.left input.old) (Ok items)) steps.old steps.new) }
 {
     match read_items(alloc, input) {
         Ok(items) => judge(alloc, opened, &items, steps),
@@ -177,6 +179,7 @@ fn check<F: Library, S: Source, L: Ledger>(
     ensures loads { F.faults files.old ≤ F.faults files.new }
     ensures reads { S.faults input.old ≤ S.faults input.new }
     ensures few { StepsUpTo (λ items. ItemsIn (S.left input.old) (Ok items)) steps.old steps.new }
+    ensures many { OnOk result (StepsFrom (λ items. ItemsIn (S.left input.old) (Ok items)) steps.old steps.new) }
 {
     match open_files(alloc, files, root, names) {
         Ok(opened) => check_input(alloc, &opened, input, steps),
@@ -200,6 +203,7 @@ fn encode_input<S: Source, L: Ledger>(
     ensures stage { IfErr result IsOfInput }
     ensures later { S.faults input.old ≤ S.faults input.new }
     ensures few { StepsUpTo (λ items. ItemsIn (S.left input.old) (Ok items)) steps.old steps.new }
+    ensures many { OnOk result (StepsFrom (λ items. ItemsIn (S.left input.old) (Ok items)) steps.old steps.new) }
 {
     match read_items(alloc, input) {
         Ok(items) => encode_items(alloc, opened, typed, &items, steps),
@@ -219,6 +223,7 @@ fn send<S: Source, L: Ledger>(
     ensures stage { IfErr result IsOfInput }
     ensures later { S.faults input.old ≤ S.faults input.new }
     ensures few { StepsUpTo (λ items. ItemsIn (S.left input.old) (Ok items)) steps.old steps.new }
+    ensures many { OnOk result (StepsFrom (λ items. ItemsIn (S.left input.old) (Ok items)) steps.old steps.new) }
 {
     match map_root(alloc, opened) {
         Ok(typed) => encode_input(alloc, opened, &typed, input, steps),
@@ -244,6 +249,7 @@ fn to_per<F: Library, S: Source, L: Ledger>(
     ensures loads { F.faults files.old ≤ F.faults files.new }
     ensures reads { S.faults input.old ≤ S.faults input.new }
     ensures few { StepsUpTo (λ items. ItemsIn (S.left input.old) (Ok items)) steps.old steps.new }
+    ensures many { OnOk result (StepsFrom (λ items. ItemsIn (S.left input.old) (Ok items)) steps.old steps.new) }
 {
     match open_files(alloc, files, root, names) {
         Ok(opened) => send(alloc, &opened, input, steps),
@@ -296,6 +302,7 @@ fn encode_trial<L: Ledger>(
 ) -> Result<Vec<u8>, Outcome>
     ensures due { Answers (λ bytes. bytes.items) (Sent (Some ((trial_name, trial_schema) ∷ [])) trial_root (trial_name ∷ []) (Some document.items)) NoMemory result }
     ensures few { StepsUpTo (λ items. ItemsIn (Some document.items) (Ok items)) steps.old steps.new }
+    ensures many { OnOk result (StepsFrom (λ items. ItemsIn (Some document.items) (Ok items)) steps.old steps.new) }
 {
     let (Ok(name), Ok(mut files)) = (schema_name(alloc), schema_files(alloc)) else {
         return Err(Outcome::OutOfMemory);
@@ -325,6 +332,7 @@ fn tell(alloc: Global, lines: u32, document: u64, octets: &[u8]) -> Result<Vec<u
 fn try_out<L: Ledger>(alloc: Global, lines: u32, steps: &mut Steps<L>) -> Result<Vec<u8>, Outcome>
     ensures due { Answers (λ bytes. bytes.items) (Tried lines) NoMemory result }
     ensures few { StepsUpTo (λ items. ItemsIn (Some (trial.trial_document lines)) (Ok items)) steps.old steps.new }
+    ensures many { OnOk result (StepsFrom (λ items. ItemsIn (Some (trial.trial_document lines)) (Ok items)) steps.old steps.new) }
 {
     let Ok(document) = trial_document(alloc, lines) else {
         return Err(Outcome::OutOfMemory);
@@ -353,6 +361,7 @@ fn answer<F: Library, S: Source, L: Ledger>(
     ensures loads { F.faults files.old ≤ F.faults files.new }
     ensures reads { S.faults input.old ≤ S.faults input.new }
     ensures few { StepsUpTo (ReadsItems (S.left input.old) (seen request.entry)) steps.old steps.new }
+    ensures many { reads_document (seen request.entry) ≡ true → OnOk result (StepsFrom (ReadsItems (S.left input.old) (seen request.entry)) steps.old steps.new) }
 {
     match request {
         Request::Show { files: names } => show(alloc, files, names),
@@ -379,6 +388,7 @@ fn decide<F: Library, S: Source, L: Ledger>(
     ensures loads { F.faults files.old ≤ F.faults files.new }
     ensures reads { S.faults input.old ≤ S.faults input.new }
     ensures few { StepsUpTo (ReadsOfWords words.now (S.left input.old)) steps.old steps.new }
+    ensures many { ReadsDocument words.now → OnOk result (StepsFrom (ReadsOfWords words.now (S.left input.old)) steps.old steps.new) }
 {
     match requested(words) {
         Ok(request) => answer(alloc, request, files, input, steps),
@@ -445,6 +455,8 @@ pub fn run<F: Library, S: Source, K: Sink, E: Sink, L: Ledger>(
     ensures complaints { E.faults complaints.old ≤ E.faults complaints.new }
     // At most 144 steps through content models for each element of the document that is read.
     ensures few { StepsUpTo (ReadsOfWords words.now (S.left input.old)) steps.old steps.new }
+    // Done, at least one for each but the root.
+    ensures many { result ≡ Outcome.Done → ReadsDocument words.now → StepsFrom (ReadsOfWords words.now (S.left input.old)) steps.old steps.new }
 {
     // What is due is one thing: documents are valid in one way, and have one value, and octets are of one.
     at_most_one();

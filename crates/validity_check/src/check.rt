@@ -1,5 +1,5 @@
 //! Documents.
-ghost use Rattle.std.specs.Prelude.{◌≡◌, ◌+◌, ◌*◌, ◌<◌, ◌≤◌, Some, MatchResult};
+ghost use Rattle.std.specs.Prelude.{◌≡◌, ◌+◌, ◌*◌, ◌<◌, ◌≤◌, Some, MatchResult, OnOk};
 ghost use Rattle.doc_text.specs.Labels.{item_place};
 ghost use Rattle.schema_parts.specs.SetParts.{parts_of};
 ghost use Rattle.validity.specs.Valid.{HasName};
@@ -59,6 +59,7 @@ pub fn check_items<L: Ledger>(
         (λ _. IsValid set.now root items.now)
         (Tells (FirstFault (parts_of set.now) root items.now)) }
     ensures most { steps.new ≤ steps.old + 144 * element_count items.now }
+    ensures least { OnOk result (steps.old + element_count items.now ≤ steps.new + 1) }
 {
     let _ = set.element_count();
     let mut plans = Plans::new(alloc, set)?;

@@ -1,5 +1,5 @@
 //! Elements and their kids, one by one.
-ghost use Rattle.std.specs.Prelude.{◌≡◌, ◌⊎◌, ℕ, ◌+◌, ◌-◌, ◌*◌, ◌^◌, ◌<◌, ◌≤◌, true, false, List, [], length, slice_index_or, MatchResult};
+ghost use Rattle.std.specs.Prelude.{◌≡◌, ◌⊎◌, ℕ, ◌+◌, ◌-◌, ◌*◌, ◌^◌, ◌<◌, ◌≤◌, true, false, List, [], length, slice_index_or, MatchResult, OnOk};
 ghost use Rattle.label_tree.specs.Rose.{Rose, label_of, roses_of, node_count, count_all};
 ghost use Rattle.xa_base.specs.WhiteSpace.{is_blank};
 ghost use Rattle.doc_text.specs.declared.label.ItemLabel.{ItemLabel};
@@ -100,6 +100,7 @@ fn check_kid<L: Ledger>(
         (λ _. Walked set.now mixed p kids (i + 1) matcher.new)
         (Tells (KidsFault (asked_at (parts_of set.now)) mixed p (roses_of kids) place)) }
     ensures most { steps.new ≤ steps.old + 144 * element_count kid.now }
+    ensures least { OnOk result (steps.old + element_count kid.now ≤ steps.new) }
 {
     match kid.label() {
         ItemLabel::Text { text, at } => check_between(mixed, text, *at),
@@ -152,6 +153,7 @@ fn check_kids<L: Ledger>(
         (λ _. AreValidKids (asked_at (parts_of set.now)) mixed plan.now (roses_of kids.now))
         (Tells (KidsFault (asked_at (parts_of set.now)) mixed plan.now (roses_of kids.now) at)) }
     ensures most { steps.new ≤ steps.old + (144 * elements_in (roses_of kids.now) + 72) }
+    ensures least { OnOk result (steps.old + elements_in (roses_of kids.now) ≤ steps.new) }
 {
     let mut matcher = Matcher::start(plan)?;
     for kid in kids {
@@ -180,6 +182,7 @@ fn check_inside<L: Ledger>(
         (λ _. IsValidInside (asked_at (parts_of set.now)) (inside_told inside.entry) (roses_of kids.now))
         (Tells (InsideFault (asked_at (parts_of set.now)) (inside_told inside.entry) (roses_of kids.now) at)) }
     ensures most { steps.new ≤ steps.old + (144 * elements_in (roses_of kids.now) + 72) }
+    ensures least { OnOk result (steps.old + elements_in (roses_of kids.now) ≤ steps.new) }
 {
     match inside {
         Inside::Nothing => check_no_content(kids),
@@ -215,6 +218,7 @@ pub(crate) fn check_element<L: Ledger>(
         (λ _. IsValidBy set.now decl item.now)
         (Tells (FaultBy (asked_at (parts_of set.now)) decl item.now)) }
     ensures most { steps.new + 72 ≤ steps.old + 144 * element_count item.now }
+    ensures least { OnOk result (steps.old + element_count item.now ≤ steps.new + 1) }
 {
     match item.label() {
         ItemLabel::Text { .. } => unreachable!(),

@@ -8,5 +8,4 @@ pub mod Giving
 pub mod Allowing
 pub mod Whole
 pub mod Valuing
-pub mod Counting
 pub mod Apart

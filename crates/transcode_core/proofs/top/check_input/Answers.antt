@@ -1,11 +1,13 @@
-use Rattle.std.proofs.Common.{ℕ, [], inl, inr}
-use Rattle.std.specs.Prelude.{Vec}
+use Rattle.std.proofs.Common.{ℕ, ◌+◌, ◌≤◌, [], inl, inr}
+use Rattle.std.specs.Prelude.{Vec, Ok}
 use Rattle.std.specs.declared.alloc.Global.{Global}
 use Rattle.schema_parts.specs.SetParts.{parts_of}
 use Rattle.transcode_core.specs.Order.{Give, Then}
 use Rattle.transcode_core.specs.Steps.{Judged}
 use Rattle.transcode_core.specs.Due.{ItemsIn}
-use Rattle.transcode_core.specs.Causes.{NoMemory, OneRead}
+use Rattle.transcode_core.specs.Causes.{NoMemory, OneRead, StepsFrom}
+use Rattle.validity_check.specs.Counts.{element_count}
+use Rattle.validity_check.proofs.Counting.{on-ok}
 use Rattle.transcode_core.proofs.Joined.{passed, refused}
 use Rattle.transcode_core.proofs.top.check_input.Goals as goal
 
@@ -25,3 +27,8 @@ returns-in-Err-clause-due g c =
 
 pub returns-in-Ok-clause-few : goal.returns-in-Ok-clause-few
 returns-in-Ok-clause-few g c = inr (c.in-Ok.items, c.in-Ok.ensures.due, c.judge.ensures.most)
+
+pub returns-in-Ok-clause-many : goal.returns-in-Ok-clause-many
+returns-in-Ok-clause-many g c =
+    on-ok c.judge.result (c.args.steps.now + element_count c.in-Ok.items ≤ c.judge.new.steps + 1) (StepsFrom (λ items. ItemsIn (g.S.Source.left c.args.input.now) (Ok items)) c.args.steps.now c.judge.new.steps)
+    (λ h. (c.in-Ok.items, c.in-Ok.ensures.due, h)) c.judge.ensures.least

@@ -3,9 +3,10 @@ use Rattle.std.specs.Prelude.{Vec}
 use Rattle.std.specs.declared.alloc.Global.{Global}
 use Rattle.transcode_core.specs.Private.Requests.{seen}
 use Rattle.transcode_core.specs.Due.{Requested, Answered}
-use Rattle.transcode_core.specs.Causes.{Never, Answering, Deciding}
+use Rattle.transcode_core.specs.Causes.{Never, Answering, Deciding, ReadsItems, ReadsOfWords, StepsFrom}
+use Rattle.validity_check.proofs.Counting.{on-ok}
 use Rattle.transcode_core.proofs.Joined.{passed, refused}
-use Rattle.transcode_core.proofs.Deciding.{reads_too}
+use Rattle.transcode_core.proofs.Deciding.{reads_too, reads_document_too}
 use Rattle.transcode_core.proofs.top.decide.Goals as goal
 
 pub returns-in-Ok-clause-due : goal.returns-in-Ok-clause-due
@@ -46,3 +47,10 @@ returns-in-Ok-clause-few g c =
       | inl none ↦ inl none
       | inr (items, reads, few) ↦ inr (items, (seen c.in-Ok.request, c.in-Ok.ensures.due, reads), few)
     ]
+
+pub returns-in-Ok-clause-many : goal.returns-in-Ok-clause-many
+returns-in-Ok-clause-many g c = λ reads.
+    on-ok c.answer.result (StepsFrom (ReadsItems (g.S.Source.left c.args.input.now) (seen c.in-Ok.request)) c.args.steps.now c.answer.new.steps)
+    (StepsFrom (ReadsOfWords c.args.words.now (g.S.Source.left c.args.input.now)) c.args.steps.now c.answer.new.steps)
+    (λ (items, read, many). (items, (seen c.in-Ok.request, c.in-Ok.ensures.due, read), many))
+    (c.answer.ensures.many (reads_document_too c.args.words.now (seen c.in-Ok.request) c.in-Ok.ensures.due reads))

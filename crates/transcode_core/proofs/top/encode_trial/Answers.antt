@@ -1,4 +1,7 @@
-use Rattle.std.proofs.Common.{ap}
+use Rattle.std.proofs.Common.{ap, subst}
+use Rattle.std.specs.Prelude.{Ok, Some, OnOk}
+use Rattle.transcode_core.specs.Due.{ItemsIn}
+use Rattle.transcode_core.specs.Causes.{StepsFrom}
 use Rattle.transcode_core.proofs.Trials.{answers_seen}
 use Rattle.transcode_core.proofs.top.encode_trial.Goals as goal
 
@@ -6,3 +9,7 @@ pub returns-clause-due : goal.returns-clause-due
 returns-clause-due g c =
     answers_seen c.in-Ok-Ok.files.entries c.in-Ok-Ok.name c.args.document.items c.new-input.result.left c.in-Ok-Ok.files.faults c.to_per.new.files.faults c.to_per.result
     c.in-Ok-Ok.ensures'.0 c.in-Ok-Ok.ensures (ap (λ s. s.left) c.new-input.ensures) c.to_per.ensures.due
+
+pub returns-clause-many : goal.returns-clause-many
+returns-clause-many g c =
+    subst (λ x. OnOk c.to_per.result (StepsFrom (λ items. ItemsIn (Some x) (Ok items)) c.args.steps.now c.to_per.new.steps)) (ap (λ s. s.left) c.new-input.ensures) c.to_per.ensures.many

@@ -1,14 +1,18 @@
-use Rattle.std.proofs.Common.{◌≡◌, ◌≤◌, true, sym, ◌∙◌, ap, subst, arith, add-one}
+use Rattle.std.proofs.Common.{◌≡◌, ◌+◌, ◌≤◌, true, sym, ◌∙◌, ap, subst, arith, add-one}
 use Rattle.std.proofs.lemmas.Result.{err_from_is_err_and}
-use Rattle.label_tree.specs.Rose.{roses_of, count_all}
+use Rattle.label_tree.specs.Rose.{roses_of, none, count_all}
+use Rattle.simple_types.specs.Seen.{space_of}
 use Rattle.doc_text.specs.Sound.{is_text, are_sound}
 use Rattle.content_match.specs.Taking.{levels}
 use Rattle.content_models.specs.Seen.{seen}
 use Rattle.schema_parts.specs.SetParts.{parts_of}
 use Rattle.validity.proofs.Reading.{kid_count, count-kids, kid_here}
-use Rattle.validity_check.specs.Counts.{elements_in}
+use Rattle.validity.specs.Faults.{FirstKid}
+use Rattle.validity.specs.declared.why.InvalidWhy.TheVariants.{NilWithContent}
+use Rattle.validity_check.specs.Answers.{Tells, IsSpelled, TextFault}
+use Rattle.validity_check.specs.Counts.{element_count, elements_in}
 use Rattle.validity_check.specs.Told.{told, IsFittingInside, AreNamed}
-use Rattle.validity_check.proofs.Counting.{one_more, up_to, fewer, element_counts, at_least_length}
+use Rattle.validity_check.proofs.Counting.{one_more, up_to, fewer, element_counts, at_least_length, match-ok, on-ok, always-ok, text-without, all-counted}
 use Rattle.validity_check.proofs.Shape.{kid_sound, kids_sound}
 use Rattle.validity_check.proofs.Leaves.{model_named}
 use Rattle.validity_check.proofs.Levels.{model_levels}
@@ -78,6 +82,7 @@ check_kids-loop-kid-init g t c = record {
   plans = c.requires.plans;
   walked = none_walked c.args.set.now c.args.mixed c.args.plan.now c.args.kids.now c.in_ok-matcher.matcher c.in_ok-matcher.ensures.plan c.in_ok-matcher.ensures.took;
   most = omega arith;
+  least = omega arith;
 }
 
 pub check_kids-check_kid-requires : goal.check_kids-check_kid-requires
@@ -124,6 +129,10 @@ check_kids-loop-kid-preserved g t c =
       plans = c.in_ok-check_kid.ensures.same;
       walked = c.in_ok-check_kid.ensures.judged c.args.plan.now c.args.kids.now c.args.at c.loop-kid.kid-index below c.kid-item.is c.loop-kid.invariant.walked;
       most = rw add-one (omega (arith, more, so_far, m));
+      least =
+          let least = c.loop-kid.invariant.least in
+          let l = c.in_ok-check_kid.ensures.least in
+          rw add-one (omega (arith, more, least, l));
     }
 
 pub check_kids-returns-clause-judged : goal.check_kids-returns-clause-judged
@@ -235,3 +244,29 @@ check_kids-returns-in_err-check_kid-clause-most g t c =
     let so_far = c.loop-kid.invariant.most in
     let m = c.in_err-check_kid.ensures.most in
     omega (arith, all, so_far, m)
+
+pub check_element-returns-then-nil-clause-least : goal.check_element-returns-then-nil-clause-least
+check_element-returns-then-nil-clause-least g t c =
+    let n = element_counts c.args.item.now c.in-Element.name c.in-Element.attributes c.in-Element.declares c.in-Element.at (sym c.label.ensures ∙ c.in-Element.is) in
+    let same = ap (λ ks. elements_in (roses_of ks)) c.kids-kids.ensures in
+    match-ok c.check_empty.result (λ _. roses_of c.kids-kids.result.now ≡ none) (Tells (FirstKid (roses_of c.kids-kids.result.now) (λ _. NilWithContent)))
+    (c.args.steps.now + element_count c.args.item.now ≤ c.args.steps.now + 1) (λ v h. let empty = ap elements_in h in omega (arith, n, same, empty)) c.check_empty.ensures
+
+pub check_element-returns-else-nil-clause-least : goal.check_element-returns-else-nil-clause-least
+check_element-returns-else-nil-clause-least g t c =
+    let n = element_counts c.args.item.now c.in-Element.name c.in-Element.attributes c.in-Element.declares c.in-Element.at (sym c.label.ensures ∙ c.in-Element.is) in
+    let same = ap (λ ks. elements_in (roses_of ks)) c.kids-kids.ensures in
+    on-ok c.check_inside.result (c.args.steps.now + elements_in (roses_of c.kids-kids.result.now) ≤ c.check_inside.new.steps) (c.args.steps.now + element_count c.args.item.now ≤ c.check_inside.new.steps + 1)
+    (λ h. omega (arith, n, same, h)) c.check_inside.ensures.least
+
+pub check_inside-returns-in-Simple-clause-least : goal.check_inside-returns-in-Simple-clause-least
+check_inside-returns-in-Simple-clause-least g t c =
+    match-ok c.check_text.result (λ _. IsSpelled (space_of c.in-Simple.simple.now) (roses_of c.args.kids.now)) (Tells (TextFault (space_of c.in-Simple.simple.now) (roses_of c.args.kids.now) c.args.at))
+    (c.args.steps.now + elements_in (roses_of c.args.kids.now) ≤ c.args.steps.now) (λ v h. let empty = text-without (roses_of c.args.kids.now) h.1.0 h.1.1 in omega (arith, empty)) c.check_text.ensures
+
+pub check_kids-returns-clause-least : goal.check_kids-returns-clause-least
+check_kids-returns-clause-least g t c =
+    let so_far = c.loop-kid.invariant.least in
+    let all = all-counted c.args.kids.now c.loop-kid.kid-index c.loop-kid-test.false in
+    let s = c.finish.ensures.ticks.0 in
+    always-ok c.finish.result (c.args.steps.now + elements_in (roses_of c.args.kids.now) ≤ c.finish.new.steps) (omega (arith, so_far, all, s))

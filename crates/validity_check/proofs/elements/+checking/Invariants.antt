@@ -22,4 +22,5 @@ invariant-check_kids-loop-kid g l = record {
   plans : l.plans ≡ l.set;
   walked : Walked l.set l.mixed l.plan l.kids l.kid-index l.matcher;
   most : l.steps ≤ l.initial.steps + 144 * elements_in (front l.kid-index (roses_of l.kids));
+  least : l.initial.steps + elements_in (front l.kid-index (roses_of l.kids)) ≤ l.steps;
 }

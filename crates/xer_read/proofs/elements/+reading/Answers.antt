@@ -11,7 +11,7 @@ use Rattle.schema_parts.specs.SetParts.{parts_of}
 use Rattle.validity.proofs.Reading.{kid_count, count-kids, kid_here}
 use Rattle.validity_check.specs.Counts.{element_count, elements_in}
 use Rattle.validity_check.specs.Told.{inside_told, told, IsFittingInside}
-use Rattle.validity_check.proofs.Counting.{one_more, up_to, fewer, element_counts, at_least_length}
+use Rattle.validity_check.proofs.Counting.{one_more, up_to, fewer, element_counts, at_least_length, match-ok, always-ok, text-without, all-counted}
 use Rattle.validity_check.proofs.Leaves.{names_declared}
 use Rattle.validity_check.proofs.Shape.{kid_sound, kids_sound}
 use Rattle.validity_check.proofs.Levels.{model_levels}
@@ -24,7 +24,6 @@ use Rattle.xer_read.specs.Private.Contents.{IsRightContent, IsNilFilled}
 use Rattle.validity.specs.Faults.{FirstKid}
 use Rattle.validity.specs.declared.why.InvalidWhy.TheVariants.{NilWithContent}
 use Rattle.validity_check.specs.Answers.{Tells}
-use Rattle.xer_read.proofs.Counting.{match-ok, always-ok, text-without, all-counted}
 use Rattle.xer_read.proofs.Apart.{none-behind, apart-next, all-taken}
 use Rattle.xer_read.proofs.Growing.{on-ok}
 use Rattle.xer_read.proofs.Whole.{nothing-right, text-right, children-right, nil-read, filled-read}
