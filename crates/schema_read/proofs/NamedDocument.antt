@@ -1,6 +1,6 @@
 -- The names that a whole document without a fault declares.
 use Rattle.std.proofs.Common.{◌≡◌, ℕ, ◌+◌, true, false, cond, List, [], ◌∷◌, ◌++◌, length, Option, Some, None, refl, subst, sym}
-use Rattle.std.specs.Prelude.{◌&&◌, ◌||◌, not, bytes_eq, codes}
+use Rattle.std.specs.Prelude.{◌&&◌, not, bytes_eq, codes}
 use Rattle.std.proofs.lemmas.Bool.{and_from, or_parts, not-false, cond_both}
 use Rattle.std.proofs.lemmas.Bool as bool
 use Rattle.std.proofs.lemmas.Slice.Eq.{bytes_eq-Decides}
@@ -15,7 +15,7 @@ use Rattle.schema_parts.specs.Raw as raw
 use Rattle.schema_parts.specs.Raw.{Simple, Complex, Kind, Local, Attribute, TypeDefinition}
 use Rattle.schema_parts.specs.Declarable.{is_declarable, is_declarable_attribute}
 use Rattle.schema_parts.specs.DeclaredNames.{uses_named, kind_named, element_named, attribute_named, type_named, elements_named, attributes_named, types_named, locals_named, all_named}
-use Rattle.schema_rules.specs.Elements.{is_schema_name, part, children}
+use Rattle.schema_rules.specs.Elements.{is_schema_name, children}
 use Rattle.schema_rules.specs.Attributes.{own_attributes, has}
 use Rattle.schema_rules.specs.Children.{has_child}
 use Rattle.schema_rules.specs.declared.children.ChildSet.TheVariants.{Varieties}
@@ -34,8 +34,7 @@ use Rattle.schema_read.specs.Particles.{Made, made, kind_by, inner_kind, complex
 use Rattle.schema_read.specs.Raw.{Parts, no_parts, and_parts, element_parts, attribute_parts, simple_type_parts, complex_type_parts, global_element, parts_named, parts_by, parts_among}
 use Rattle.schema_read.proofs.Faultless.{none_parts}
 use Rattle.schema_read.proofs.FaultlessRoles.{Inside, role_there, standing, there, as_role}
-use Rattle.schema_read.proofs.FaultlessRoles as roles
-use Rattle.schema_read.proofs.OwnNames.{Texts, own_name, IsSpace, may_be_declared, may_be_attribute}
+use Rattle.schema_read.proofs.OwnNames.{own_name, IsSpace, may_be_declared, may_be_attribute}
 use Rattle.schema_read.proofs.NamedParts.{locals_named_append, more_sound, element_sound, KindNamed, ComplexNamed, kind_by_named, kind_named_in, complex_named_in}
 
 elements_append : (xs ys : List raw.Element) → elements_named xs ≡ true → elements_named ys ≡ true → elements_named (xs ++ ys) ≡ true

@@ -1,6 +1,6 @@
 -- The names that the parts declare that are read of a document without a fault.
-use Rattle.std.proofs.Common.{◌≡◌, ℕ, ◌+◌, Bool, true, false, cond, List, [], ◌∷◌, ◌++◌, length, Option, Some, None, inl, inr, refl, ap, subst, sym}
-use Rattle.std.specs.Prelude.{◌&&◌, ◌⊎◌, not, bytes_eq, codes}
+use Rattle.std.proofs.Common.{◌≡◌, ℕ, ◌+◌, Bool, true, false, List, [], ◌∷◌, ◌++◌, length, Option, Some, None, inl, inr, refl, ap, subst, sym}
+use Rattle.std.specs.Prelude.{◌&&◌, not, bytes_eq, codes}
 use Rattle.std.specs.List.{list_any, list_all}
 use Rattle.std.specs.Option.{option_or}
 use Rattle.std.proofs.lemmas.Bool.{and_parts, and_from, cond_both, both_ways, not-false}
@@ -17,7 +17,7 @@ use Rattle.content_models.specs.declared.particles.ParticleLabel.{ParticleLabel}
 use Rattle.schema_parts.specs.declared.declarations.RawContent.{RawContent}
 use Rattle.schema_parts.specs.Raw.{Use, Simple, Complex, Kind, NamedKind, Local}
 use Rattle.schema_parts.specs.Declarable.{is_declarable}
-use Rattle.schema_parts.specs.DeclaredNames.{use_named, uses_named, kind_named, element_named, local_named, locals_named}
+use Rattle.schema_parts.specs.DeclaredNames.{use_named, uses_named, kind_named, local_named, locals_named}
 use Rattle.schema_rules.specs.Elements.{is_schema_name}
 use Rattle.schema_rules.specs.Attributes.{own_attributes, has}
 use Rattle.schema_rules.specs.Values.{never_occurs}
@@ -38,7 +38,7 @@ use Rattle.schema_read.specs.Settings.{Settings}
 use Rattle.schema_read.specs.Contents.{is_named, extended, extended_among, simple_content_at, simple_content, complex_by, complex_with}
 use Rattle.schema_read.specs.Particles.{Made, made, made_some, element_name, kind_by, element_by, declared, declared_with, reference_to, leaf_of, group_of, particle_by, first_kind, first_group, complex_of, particle_at, particles_among, group_among, inner_kind, complex_type}
 use Rattle.schema_read.proofs.Faultless.{none_parts, Passes}
-use Rattle.schema_read.proofs.FaultlessRoles.{HasParticles, HasTypes, Inside, IsParticle, particle_cases, IsComplex, complex_cases, standing, there, as_role}
+use Rattle.schema_read.proofs.FaultlessRoles.{HasParticles, HasTypes, IsParticle, particle_cases, IsComplex, complex_cases, standing, there, as_role}
 use Rattle.schema_read.proofs.OwnNames.{Texts, own_texts, own_name, IsSpace, local_space, may_be_declared, IsAttribute, may_be_attribute, named_or_reference}
 use Rattle.schema_read.proofs.VariedParts.{Clean, attribute_role, in_extension, in_content, word_of, attribute_word}
 

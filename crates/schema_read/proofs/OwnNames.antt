@@ -1,5 +1,5 @@
 -- The names that elements of a document without a fault declare.
-use Rattle.std.proofs.Common.{◌≡◌, ℕ, Bool, true, false, cond, List, [], ◌∷◌, ◌++◌, Option, Some, None, inl, inr, refl, ap, sym, ◌∙◌, subst}
+use Rattle.std.proofs.Common.{◌≡◌, ℕ, Bool, true, false, cond, List, [], ◌∷◌, Option, Some, None, inl, inr, refl, ap, sym, ◌∙◌, subst}
 use Rattle.std.specs.Prelude.{◌&&◌, ◌||◌, not, bytes_eq, codes}
 use Rattle.std.specs.List.{list_any, list_all}
 use Rattle.std.specs.Option.{is_some}
@@ -14,15 +14,13 @@ use Rattle.xa_base.specs.Entries.{beside}
 use Rattle.xa_base.specs.Limits.{is_empty, has_xml_chars, spells_ncname, is_short_part, is_short_space, is_namespace, is_name_part, is_xmlns}
 use Rattle.xa_base.specs.Namespaces.{xmlns_space, xsi_space, schema_space, xmlns_prefix}
 use Rattle.xa_base.specs.WhiteSpace.{treated}
-use Rattle.label_tree.specs.Rose.{Rose}
-use Rattle.doc_text.specs.declared.label.ItemLabel.{ItemLabel}
 use Rattle.doc_text.specs.Sound.{is_sound_name, is_sound_attribute, has_name, are_sound_attributes}
 use Rattle.schema_parts.specs.Declarable.{kept_spaces, is_declarable, is_declarable_attribute}
 use Rattle.schema_rules.specs.Attributes.{kept_as_written, in_use, own_attributes, has}
 use Rattle.schema_rules.specs.Values.{is_declared_name, is_target, is_well_formed, has_malformed, is_named, declares_xmlns, is_crossed, has_bad_value}
 use Rattle.schema_rules.specs.declared.roles.ElementRole.{ElementRole}
 use Rattle.schema_rules.specs.declared.roles.ElementRole.TheVariants.{GlobalAttribute, LocalAttribute}
-use Rattle.schema_read.specs.Names.{value_or_empty, declared_name}
+use Rattle.schema_read.specs.Names.{value_or_empty}
 use Rattle.schema_read.specs.Attributes.{is_qualified, local_name}
 use Rattle.schema_read.proofs.CollapsedTexts.{collapsed_xml}
 

@@ -20,7 +20,7 @@ use Rattle.schema_faults.specs.Faults.{position_behind, reasons_at, reasons_amon
 use Rattle.schema_faults.specs.Shown.{NoneAtAll}
 use Rattle.schema_read.specs.Names.{declared_name}
 use Rattle.schema_read.specs.Attributes.{global_attribute, attribute_by}
-use Rattle.schema_read.specs.SimpleTypes.{simple_type, declared_type}
+use Rattle.schema_read.specs.SimpleTypes.{simple_type}
 use Rattle.schema_read.specs.Settings.{Settings}
 use Rattle.schema_read.specs.Particles.{Made, made, kind_by, inner_kind, complex_type}
 use Rattle.schema_read.specs.Raw.{Parts, no_parts, and_parts, element_parts, attribute_parts, simple_type_parts, complex_type_parts, global_element, parts_named, parts_by, parts_among}

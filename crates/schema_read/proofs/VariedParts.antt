@@ -1,5 +1,5 @@
 -- The simple types in the parts that are read of a document without a fault.
-use Rattle.std.proofs.Common.{◌≡◌, ℕ, ◌+◌, Bool, true, false, cond, List, [], ◌∷◌, ◌++◌, length, Option, Some, None, inl, inr, refl, ap, subst, sym, ◌∙◌}
+use Rattle.std.proofs.Common.{◌≡◌, ℕ, ◌+◌, Bool, true, List, [], ◌∷◌, ◌++◌, length, Option, Some, None, inl, inr, refl, ap, subst, sym}
 use Rattle.std.specs.Prelude.{◌&&◌, ◌⊎◌, not, bytes_eq, codes}
 use Rattle.std.specs.List.{list_any}
 use Rattle.std.specs.Option.{option_or}
@@ -14,8 +14,7 @@ use Rattle.doc_text.specs.declared.label.ItemLabel.{ItemLabel}
 use Rattle.doc_text.specs.declared.label.ItemLabel.TheVariants.{Element, Text}
 use Rattle.content_models.specs.declared.particles.ParticleLabel.{ParticleLabel}
 use Rattle.schema_parts.specs.declared.declarations.RawContent.{RawContent}
-use Rattle.schema_parts.specs.Raw as raw
-use Rattle.schema_parts.specs.Raw.{Use, Simple, Complex, Kind, NamedKind, SimpleKind, ComplexKind, Local, Reference, Own}
+use Rattle.schema_parts.specs.Raw.{Use, Simple, Complex, Kind, NamedKind, Local}
 use Rattle.schema_parts.specs.Varieties.{base_varied, bases_varied, use_varied, uses_varied, kind_varied, local_varied, locals_varied}
 use Rattle.schema_rules.specs.Elements.{is_schema_name, children}
 use Rattle.schema_rules.specs.Attributes.{own_attributes}
@@ -25,7 +24,7 @@ use Rattle.schema_rules.specs.declared.children.ChildSet.TheVariants.{Particles,
 use Rattle.schema_rules.specs.declared.roles.ElementRole.{ElementRole}
 use Rattle.schema_rules.specs.declared.roles.ElementRole.TheVariants.{Schema, GlobalAttribute, LocalAttribute, LocalElement, GlobalComplexType, InnerComplexType, SimpleContent, Extension, Sequence, Choice}
 use Rattle.schema_rules.specs.declared.roles.Position.{Position}
-use Rattle.schema_rules.specs.declared.roles.Position.TheVariants.{Anywhere, First, Alone}
+use Rattle.schema_rules.specs.declared.roles.Position.TheVariants.{Anywhere, Alone}
 use Rattle.schema_rules.specs.declared.roles.Part.{Part}
 use Rattle.schema_faults.specs.Limits.{level_inside}
 use Rattle.schema_faults.specs.Reasons.{is_true, occurs}
@@ -36,9 +35,9 @@ use Rattle.schema_read.specs.Attributes.{local_name, has_use, use_to, own_use, u
 use Rattle.schema_read.specs.SimpleTypes.{simple_type, inner_types, declared_type}
 use Rattle.schema_read.specs.Settings.{Settings}
 use Rattle.schema_read.specs.Contents.{is_named, extended, extended_among, simple_content_at, simple_content, complex_by, complex_with}
-use Rattle.schema_read.specs.Particles.{Made, made, made_some, element_name, kind_by, element_by, declared, declared_with, reference_to, leaf_of, group_of, particle_by, and_some, first_kind, first_group, complex_of, particle_at, particles_among, group_among, inner_kind, complex_type}
+use Rattle.schema_read.specs.Particles.{Made, made, made_some, element_name, kind_by, element_by, declared, declared_with, reference_to, leaf_of, group_of, particle_by, first_kind, first_group, complex_of, particle_at, particles_among, group_among, inner_kind, complex_type}
 use Rattle.schema_read.proofs.Faultless.{none_parts}
-use Rattle.schema_read.proofs.FaultlessRoles.{one_of, HasParticles, HasTypes, Inside, IsParticle, particle_cases, IsComplex, complex_cases, none_there, role_there, standing, there, as_role}
+use Rattle.schema_read.proofs.FaultlessRoles.{one_of, HasParticles, HasTypes, IsParticle, particle_cases, IsComplex, complex_cases, none_there, role_there, standing, there, as_role}
 use Rattle.schema_read.proofs.VariedTypes.{SimpleVaried, simple_varied, inner_varied, declared_type_varied}
 
 pub locals_varied_append : (ls ms : List Local) → locals_varied ls ≡ true → locals_varied ms ≡ true → locals_varied (ls ++ ms) ≡ true

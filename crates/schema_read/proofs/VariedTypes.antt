@@ -1,6 +1,6 @@
 -- The simple types of a document without a fault: restrictions have few enumerations, and unions have members.
-use Rattle.std.proofs.Common.{◌≡◌, ℕ, ◌+◌, ◌<◌, ◌≤◌, Bool, true, false, cond, List, [], ◌∷◌, ◌++◌, Option, Some, None, inl, inr, refl, ap, subst, sym, ◌∙◌, arith, count_by}
-use Rattle.std.specs.Prelude.{◌&&◌, ◌||◌, ◌⊎◌, not, bytes_eq, codes, nat_le, nat_lt}
+use Rattle.std.proofs.Common.{◌≡◌, ℕ, ◌+◌, ◌≤◌, Bool, true, false, cond, List, [], ◌∷◌, ◌++◌, Option, Some, None, inl, inr, refl, ap, subst, sym, ◌∙◌, arith, count_by}
+use Rattle.std.specs.Prelude.{◌||◌, ◌⊎◌, not, bytes_eq, codes, nat_lt}
 use Rattle.std.specs.List.{list_any, join_with_byte}
 use Rattle.std.specs.Option.{option_or}
 use Rattle.std.proofs.lemmas.Bool.{and_parts, and_from, and_cases, or_parts, or_cases, not-false, not-true, cond_both, le-leb, ltb-false, both_ways, cases_Bool}
@@ -17,8 +17,7 @@ use Rattle.label_tree.specs.Rose as rose
 use Rattle.doc_text.specs.declared.label.ItemLabel.{ItemLabel}
 use Rattle.doc_text.specs.declared.label.ItemLabel.TheVariants.{Element, Text}
 use Rattle.simple_types.specs.declared.facets.Facet.{Facet}
-use Rattle.simple_types.specs.declared.facets.Facet.TheVariants as facet
-use Rattle.schema_parts.specs.Raw.{Base, Named, Inner, Bases, none, more, How, Restrict, ListOf, UnionOf, Simple}
+use Rattle.schema_parts.specs.Raw.{Named, Bases, none, more, How, Simple}
 use Rattle.schema_parts.specs.Varieties.{is_enumeration, has_few_enumerations, has_member, base_varied, how_varied, bases_varied}
 use Rattle.schema_rules.specs.Elements.{is_schema_name, children}
 use Rattle.schema_rules.specs.Attributes.{in_use, own_attributes}
@@ -29,14 +28,14 @@ use Rattle.schema_rules.specs.declared.roles.ElementRole.TheVariants.{Schema, Gl
 use Rattle.schema_rules.specs.declared.roles.Position.{Position}
 use Rattle.schema_rules.specs.declared.roles.Position.TheVariants.{Anywhere, First, Alone}
 use Rattle.schema_rules.specs.declared.roles.Part.{Part}
-use Rattle.schema_faults.specs.Requirements.{names_members, lacks_required}
+use Rattle.schema_faults.specs.Requirements.{names_members}
 use Rattle.schema_faults.specs.Limits.{has_large, level_inside}
 use Rattle.schema_faults.specs.Faults.{position_behind, reasons_at, reasons_among}
 use Rattle.schema_faults.specs.Shown.{NoneAtAll}
 use Rattle.schema_read.specs.Names.{type_ref}
-use Rattle.schema_read.specs.SimpleTypes.{facet_makers, with_value, facet_of, facet_by, facet_at, and_facet, facets_among, joined, named_in, named_members, first_or_none, base_by, made_by, placed, defined, and_inner, variety_at, variety_among, simple_type, inner_types, declared_type}
-use Rattle.schema_read.proofs.Faultless.{none_parts, stands}
-use Rattle.schema_read.proofs.FaultlessRoles.{Each, one_of, Inside, none_there, role_there, standing, there, as_role}
+use Rattle.schema_read.specs.SimpleTypes.{facet_makers, with_value, facet_of, facet_at, and_facet, facets_among, joined, named_in, named_members, first_or_none, base_by, made_by, placed, defined, and_inner, variety_at, variety_among, simple_type, inner_types, declared_type}
+use Rattle.schema_read.proofs.Faultless.{none_parts}
+use Rattle.schema_read.proofs.FaultlessRoles.{one_of, Inside, none_there, role_there, standing, there, as_role}
 
 -- ---- roles
 

@@ -13,7 +13,7 @@ pub enum SchemaError {
     /// The first fault. The place is in bytes from 0.
     #[error("{why} at byte {at}")]
     Shown { at: u64, why: SchemaWhy },
-    /// Memory is missing, or what was made of a document without a fault failed a test.
+    /// Memory is missing, or a test failed that `read_schema` names.
     #[error("out of memory")]
     Memory,
 }
