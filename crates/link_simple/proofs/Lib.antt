@@ -5,3 +5,4 @@ pub mod Lending
 pub mod Once
 pub mod Standing
 pub mod Uniqueness
+pub mod Varied

@@ -5,6 +5,7 @@ ghost use Rattle.link_cycles.specs.Cycles.{numbers_in};
 ghost use Rattle.link_cycles.specs.Seen.{definitions_of};
 ghost use Rattle.link_cycles.specs.Tables.{told_by};
 ghost use Rattle.link_simple.specs.Answering.{AnswersMaking, AnswersMakingOf};
+ghost use Rattle.link_simple.specs.Private.Varied.{AreVaried};
 ghost use Rattle.link_simple.specs.Private.Working.{StandsIn};
 
 use crate::working::{Work, work_in_order};
@@ -60,7 +61,8 @@ fn work<'a>(
     definitions: &[SimpleType<'a>],
     numbers: &SimpleNumbers<'a>,
 ) -> Result<Work, Memory>
-    requires { told_by numbers.now ≡ numbers_in (definitions_of definitions.now) }
+    requires numbers { told_by numbers.now ≡ numbers_in (definitions_of definitions.now) }
+    requires varied { AreVaried (definitions_of definitions.now) }
     ensures { IfOk result (StandsIn (definitions_of definitions.now)) }
 {
     let graph = numbers.graph(alloc, definitions)?;
@@ -73,7 +75,8 @@ fn made_of<'a>(
     definitions: &[SimpleType<'a>],
     numbers: &SimpleNumbers<'a>,
 ) -> Result<Vec<Simple>, MakingError>
-    requires { told_by numbers.now ≡ numbers_in (definitions_of definitions.now) }
+    requires numbers { told_by numbers.now ≡ numbers_in (definitions_of definitions.now) }
+    requires varied { AreVaried (definitions_of definitions.now) }
     ensures { AnswersMakingOf (definitions_of definitions.now) result }
 {
     let work = work(alloc, definitions, numbers)?;
@@ -84,6 +87,7 @@ fn made_of<'a>(
 /// be made although its parts can. `Memory` is also answered where a type is made of itself, and where none has a fault and
 /// yet one refers to no simple type. The time grows with the number of parts, and as n log n with that
 /// of names and places; beside it stands what restricting by facets takes and the size of the types.
+#[tactic(auto, using(crate::proofs::Varied::are_varied))]
 pub fn made(alloc: Global, docs: &[RawDoc]) -> Result<Vec<Simple>, MakingError>
     ensures { AnswersMaking (map doc_of docs.now) result }
 {

@@ -10,6 +10,7 @@ ghost use Rattle.link_cycles.specs.Seen.{definitions_of};
 ghost use Rattle.link_cycles.specs.Tables.{told_by};
 ghost use Rattle.link_simple.specs.Answering.{made_of, AnswersMakingOf};
 ghost use Rattle.link_simple.specs.Private.Parts.{entries_of, entry_of};
+ghost use Rattle.link_simple.specs.Private.Varied.{AreVaried};
 ghost use Rattle.link_simple.specs.Private.Working.{space_left, fault_left, StandsIn};
 
 use crate::leaving::{Left, left_of};
@@ -140,6 +141,7 @@ impl Work {
     ) -> Result<(), Memory>
         requires numbers { told_by numbers.now ≡ numbers_in (definitions_of definitions.now) }
         requires graph { rows_of graph.now ≡ edges (definitions_of definitions.now) }
+        requires varied { AreVaried (definitions_of definitions.now) }
         requires stands { StandsIn (definitions_of definitions.now) self.now }
         ensures { OnOk result (StandsIn (definitions_of definitions.now) self.new) }
     {
@@ -196,6 +198,7 @@ pub(crate) fn work_in_order<'a>(
 ) -> Result<Work, Memory>
     requires numbers { told_by numbers.now ≡ numbers_in (definitions_of definitions.now) }
     requires graph { rows_of graph.now ≡ edges (definitions_of definitions.now) }
+    requires varied { AreVaried (definitions_of definitions.now) }
     ensures { IfOk result (StandsIn (definitions_of definitions.now)) }
 {
     let mut work = Work::of(alloc, definitions)?;

@@ -10,7 +10,15 @@ use Rattle.link_simple.specs.Making.{IsLeft}
 use Rattle.link_simple.specs.Private.Parts.{entries_of}
 use Rattle.link_simple.specs.Private.Working.{space_left, fault_left, Stands}
 use Rattle.link_simple.proofs.Standing.{stands_next, left_fits, left_sound, left_faults}
+use Rattle.link_simple.proofs.Varied.{varied_at}
 use Rattle.link_simple.proofs.working.Work.make.Goals as goal
+
+pub left_of-requires-clause-varied : goal.left_of-requires-clause-varied
+left_of-requires-clause-varied c =
+    let n = c.args.n in
+    let past = c.if-n-definitions.false in
+    let is = definition_at c.args.definitions.now n c.index-definitions-n.result (omega (arith, past)) c.index-definitions-n.is in
+    varied_at (definitions_of c.args.definitions.now) n (definition_of c.index-definitions-n.result) c.requires.varied is
 
 pub returns : goal.returns
 returns c =
