@@ -1,5 +1,6 @@
 pub mod Ascending
 pub mod Existence
+pub mod Finishing
 pub mod Inserting
 pub mod Lending
 pub mod Once
