@@ -1,4 +1,4 @@
-use Rattle.std.proofs.Common.{◌≡◌, arith, length}
+use Rattle.std.proofs.Common.{◌≡◌, arith}
 use Rattle.std.proofs.lemmas.List.{length-map}
 use Rattle.link_cycles.specs.Private.Searching.{unseen}
 use Rattle.link_cycles.specs.Seen.{definition_of, definitions_of}

@@ -1,8 +1,7 @@
-use Rattle.std.proofs.Common.{◌≡◌, ◌<◌, ℕ, true, length, subst}
+use Rattle.std.proofs.Common.{ℕ, subst}
 use Rattle.std.specs.Prelude.{IfSome}
 use Rattle.simple_types.specs.Sound.{Sound}
 use Rattle.link_names.specs.Order.{IsFirstSuch}
-use Rattle.link_cycles.specs.Private.Searching.{mark}
 use Rattle.link_simple.specs.Making.{entry_at, IsMaking, IsNotMadeOf}
 use Rattle.link_simple.specs.Private.Parts.{entries_of}
 use Rattle.link_simple.proofs.Standing.{is_making, first_fault, each_sound}
