@@ -3,7 +3,7 @@ use Rattle.std.proofs.Common.{◌≡◌, ℕ, zero, suc, ◌+◌, ◌<◌, ◌�
 use Rattle.std.specs.Option.{option_map}
 use Rattle.std.specs.Borrow.{Bor}
 use Rattle.simple_types.specs.declared.simples.Simple.{Simple}
-use Rattle.simple_types.specs.Seen.{space_of, spaces_in}
+use Rattle.simple_types.specs.Seen.{space_of}
 use Rattle.simple_types.specs.Sound.{Sound}
 use Rattle.simple_types.specs.Space.{Spaces, none, more}
 use Rattle.simple_types.specs.Joining.{joined}

@@ -1,7 +1,9 @@
 pub mod Ascending
 pub mod Existence
+pub mod Finishing
 pub mod Inserting
 pub mod Lending
 pub mod Once
 pub mod Standing
 pub mod Uniqueness
+pub mod Varied

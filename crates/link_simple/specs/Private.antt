@@ -1,3 +1,4 @@
 pub mod Leaving
 pub mod Parts
+pub mod Varied
 pub mod Working

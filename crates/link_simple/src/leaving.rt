@@ -1,6 +1,7 @@
 //! What is left of a simple type whose parts are made.
 ghost use Rattle.std.specs.Prelude.{◌≡◌, ◌<◌, ◌↔◌, IfOk, IsTrue, true, Some, Ok, length};
 ghost use Rattle.schema_parts.specs.Seen.{base_of, how_of, bases_in};
+ghost use Rattle.schema_parts.specs.Varieties.{has_few_enumerations, has_member, how_varied};
 ghost use Rattle.simple_types.specs.Seen.{space_of};
 ghost use Rattle.simple_types.specs.Sound.{Sound};
 ghost use Rattle.simple_types.specs.Joining.{flattened};
@@ -31,16 +32,11 @@ pub(crate) enum Left {
     PartMissing,
 }
 
-/// The most facets of a restriction that is made; no schema document has as many.
-const MOST_FACETS: usize = 0xFFFF_FFFF;
-
 fn restricted(alloc: Global, base: &Simple, facets: &[Facet]) -> Result<Left, Memory>
-    requires { Sound (space_of base.now) }
+    requires sound { Sound (space_of base.now) }
+    requires few { has_few_enumerations facets.now ≡ true }
     ensures { IfOk result (LeftBy (IsRestriction (Some (space_of base.now)) facets.now)) }
 {
-    if facets.len() >= MOST_FACETS {
-        return Err(Memory);
-    }
     match restrict(alloc, base, facets) {
         Ok(simple) => Ok(Left::Made(simple)),
         Err(error) => match error.why() {
@@ -69,7 +65,8 @@ fn restriction<'a>(
     base: &'a RawBase,
     facets: &[Facet],
 ) -> Result<Left, Memory>
-    requires { AreEntriesSound (entries_of entries.now) }
+    requires sound { AreEntriesSound (entries_of entries.now) }
+    requires few { has_few_enumerations facets.now ≡ true }
     ensures { IfOk result (LeftBy (IsRestriction (part_space (told_by numbers.now) (entries_of entries.now) file (base_of base.now)) facets.now)) }
 {
     match part_of(alloc, numbers, entries, file, base)? {
@@ -101,7 +98,8 @@ fn union_of_members<'a>(
     file: u32,
     members: &'a [RawBase],
 ) -> Result<Left, Memory>
-    requires { AreEntriesSound (entries_of entries.now) }
+    requires sound { AreEntriesSound (entries_of entries.now) }
+    requires some { has_member (bases_in members.now) ≡ true }
     ensures { IfOk result (LeftBy (IsUnion (part_spaces (told_by numbers.now) (entries_of entries.now) file (bases_in members.now)))) }
 {
     match parts_of(alloc, numbers, entries, file, members)? {
@@ -117,7 +115,8 @@ pub(crate) fn left_of<'a>(
     entries: &[Option<Simple>],
     definition: SimpleType<'a>,
 ) -> Result<Left, Memory>
-    requires { AreEntriesSound (entries_of entries.now) }
+    requires sound { AreEntriesSound (entries_of entries.now) }
+    requires varied { how_varied (how_of definition.how.now) ≡ true }
     ensures { IfOk result (LeftBy (IsLeft (told_by numbers.now) (entries_of entries.now) definition.entry.place.file (how_of definition.entry.how.now))) }
 {
     let file = definition.place.file;

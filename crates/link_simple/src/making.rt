@@ -1,11 +1,12 @@
 //! Making all simple types, or the first fault.
-ghost use Rattle.std.specs.Prelude.{◌≡◌, map, IfOk};
+ghost use Rattle.std.specs.Prelude.{◌≡◌, length, map, IfOk};
 ghost use Rattle.schema_parts.specs.Documents.{doc_of};
 ghost use Rattle.link_cycles.specs.Cycles.{numbers_in};
 ghost use Rattle.link_cycles.specs.Seen.{definitions_of};
 ghost use Rattle.link_cycles.specs.Tables.{told_by};
 ghost use Rattle.link_simple.specs.Answering.{AnswersMaking, AnswersMakingOf};
-ghost use Rattle.link_simple.specs.Private.Working.{StandsIn};
+ghost use Rattle.link_simple.specs.Private.Varied.{AreVaried};
+ghost use Rattle.link_simple.specs.Private.Working.{FinishedIn};
 
 use crate::working::{Work, work_in_order};
 use link_cycles::{SimpleNumbers, SimpleType, ranks_of, simple_types};
@@ -38,9 +39,11 @@ impl From<Memory> for MakingError {
 }
 
 // The node of each rank, from rank 1. Where no node is on a cycle, each rank is one node's.
-fn by_ranks(alloc: Global, ranks: &[usize]) -> Result<Vec<usize>, Memory> {
+fn by_ranks(alloc: Global, ranks: &[usize]) -> Result<Vec<usize>, Memory>
+    ensures { IfOk result (λ order. length order.items ≡ length ranks.now) }
+{
     let mut order = vec![in alloc; 0; ranks.len()]?;
-    for node in 0..ranks.len() {
+    'nodes: for node in 0..ranks.len() {
         let rank = ranks[node];
         if rank > 0 && rank <= order.len() {
             order[rank - 1] = node;
@@ -50,7 +53,9 @@ fn by_ranks(alloc: Global, ranks: &[usize]) -> Result<Vec<usize>, Memory> {
 }
 
 // An order of the nodes in which each stands after those that its edges lead to, if there is one.
-fn order_of(alloc: Global, graph: &[Vec<usize>]) -> Result<Vec<usize>, Memory> {
+fn order_of(alloc: Global, graph: &[Vec<usize>]) -> Result<Vec<usize>, Memory>
+    ensures { IfOk result (λ order. length order.items ≡ length graph.now) }
+{
     let ranks = ranks_of(alloc, graph)?;
     by_ranks(alloc, &ranks)
 }
@@ -60,8 +65,9 @@ fn work<'a>(
     definitions: &[SimpleType<'a>],
     numbers: &SimpleNumbers<'a>,
 ) -> Result<Work, Memory>
-    requires { told_by numbers.now ≡ numbers_in (definitions_of definitions.now) }
-    ensures { IfOk result (StandsIn (definitions_of definitions.now)) }
+    requires numbers { told_by numbers.now ≡ numbers_in (definitions_of definitions.now) }
+    requires varied { AreVaried (definitions_of definitions.now) }
+    ensures { IfOk result (FinishedIn (definitions_of definitions.now)) }
 {
     let graph = numbers.graph(alloc, definitions)?;
     let order = order_of(alloc, &graph)?;
@@ -73,7 +79,8 @@ fn made_of<'a>(
     definitions: &[SimpleType<'a>],
     numbers: &SimpleNumbers<'a>,
 ) -> Result<Vec<Simple>, MakingError>
-    requires { told_by numbers.now ≡ numbers_in (definitions_of definitions.now) }
+    requires numbers { told_by numbers.now ≡ numbers_in (definitions_of definitions.now) }
+    requires varied { AreVaried (definitions_of definitions.now) }
     ensures { AnswersMakingOf (definitions_of definitions.now) result }
 {
     let work = work(alloc, definitions, numbers)?;
@@ -84,6 +91,7 @@ fn made_of<'a>(
 /// be made although its parts can. `Memory` is also answered where a type is made of itself, and where none has a fault and
 /// yet one refers to no simple type. The time grows with the number of parts, and as n log n with that
 /// of names and places; beside it stands what restricting by facets takes and the size of the types.
+#[tactic(auto, using(crate::proofs::Varied::are_varied))]
 pub fn made(alloc: Global, docs: &[RawDoc]) -> Result<Vec<Simple>, MakingError>
     ensures { AnswersMaking (map doc_of docs.now) result }
 {

@@ -1,5 +1,5 @@
 //! Unions of parts.
-ghost use Rattle.std.specs.Prelude.{◌≡◌, IfOk, Some};
+ghost use Rattle.std.specs.Prelude.{◌≡◌, ◌<◌, IfOk, Some, length};
 ghost use Rattle.facet_rules.specs.Making.{AreEachSound, lent_spaces};
 ghost use Rattle.link_simple.specs.Making.{IsUnion};
 ghost use Rattle.link_simple.specs.Private.Parts.{seen_all};
@@ -24,15 +24,13 @@ fn lent_parts<'p>(alloc: Global, parts: &'p [Part<'_>]) -> Result<Vec<&'p Simple
     Ok(lent)
 }
 
-/// The union of the parts, if it is within the limits of one. A union has a member.
+/// The union of the parts, if it is within the limits of one.
 pub(crate) fn union(alloc: Global, parts: &[Part<'_>]) -> Result<Left, Memory>
-    requires { AreEachSound (seen_all parts.now) }
+    requires sound { AreEachSound (seen_all parts.now) }
+    requires some { 0 < length parts.now }
     ensures { IfOk result (LeftBy (IsUnion (Some (seen_all parts.now)))) }
 {
     let members = lent_parts(alloc, parts)?;
-    if members.as_slice().is_empty() {
-        return Err(Memory);
-    }
     match union_of_lent(alloc, members.as_slice()) {
         Ok(simple) => Ok(Left::Made(simple)),
         Err(UnionError::Limit) => Ok(Left::Refused(LinkWhy::Limit)),

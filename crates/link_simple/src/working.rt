@@ -1,16 +1,17 @@
 //! The making of types, one after another, each after its parts.
-ghost use Rattle.std.specs.Prelude.{◌≡◌, ◌<◌, ◌∷◌, [], ℕ, List, set, replicate, None, length, map, true, false, IfOk, OnOk};
+ghost use Rattle.std.specs.Prelude.{◌≡◌, ◌<◌, ◌+◌, ◌∷◌, [], ℕ, List, set, replicate, None, length, map, true, false, IfOk, OnOk};
 ghost use Rattle.link_names.specs.Order.{first_of};
 ghost use Rattle.link_cycles.specs.Cycles.{numbers_in, edges};
 ghost use Rattle.link_cycles.specs.Graphs.{rows_of, IsEdge};
 ghost use Rattle.xa_base.specs.Lists.{HasItem};
-ghost use Rattle.link_cycles.specs.Private.Searching.{mark};
+ghost use Rattle.link_cycles.specs.Private.Searching.{mark, unseen};
 ghost use Rattle.link_cycles.specs.SimpleTypes.{SimpleDefinition};
 ghost use Rattle.link_cycles.specs.Seen.{definitions_of};
 ghost use Rattle.link_cycles.specs.Tables.{told_by};
 ghost use Rattle.link_simple.specs.Answering.{made_of, AnswersMakingOf};
 ghost use Rattle.link_simple.specs.Private.Parts.{entries_of, entry_of};
-ghost use Rattle.link_simple.specs.Private.Working.{space_left, fault_left, StandsIn};
+ghost use Rattle.link_simple.specs.Private.Varied.{AreVaried};
+ghost use Rattle.link_simple.specs.Private.Working.{space_left, fault_left, StandsIn, FinishedIn};
 
 use crate::leaving::{Left, left_of};
 use crate::making::MakingError;
@@ -83,17 +84,6 @@ fn is_ready(graph: &[Vec<usize>], done: &[bool], n: usize) -> bool
     are_done(&graph[n], done)
 }
 
-fn are_all_done(done: &[bool]) -> bool
-    ensures { result ≡ true → (n : ℕ) → n < length done.now → mark done.now n ≡ true }
-{
-    'types: for n in 0..done.len() {
-        if !done[n] {
-            return false;
-        }
-    }
-    true
-}
-
 fn nothing_made(alloc: Global, count: usize) -> Result<Vec<Option<Simple>>, Memory>
     ensures { IfOk result (λ entries. entries.items ≡ replicate count None) }
 {
@@ -106,7 +96,8 @@ fn nothing_made(alloc: Global, count: usize) -> Result<Vec<Option<Simple>>, Memo
 
 impl Work {
     fn of(alloc: Global, definitions: &[SimpleType<'_>]) -> Result<Work, Memory>
-        ensures { IfOk result (StandsIn (definitions_of definitions.now)) }
+        ensures stands { IfOk result (StandsIn (definitions_of definitions.now)) }
+        ensures none { IfOk result (λ w. unseen w.done.items ≡ length definitions.now) }
     {
         let entries = nothing_made(alloc, definitions.len())?;
         let done = vec![in alloc; false; definitions.len()]?;
@@ -140,12 +131,11 @@ impl Work {
     ) -> Result<(), Memory>
         requires numbers { told_by numbers.now ≡ numbers_in (definitions_of definitions.now) }
         requires graph { rows_of graph.now ≡ edges (definitions_of definitions.now) }
+        requires varied { AreVaried (definitions_of definitions.now) }
         requires stands { StandsIn (definitions_of definitions.now) self.now }
-        ensures { OnOk result (StandsIn (definitions_of definitions.now) self.new) }
+        ensures stands { OnOk result (StandsIn (definitions_of definitions.now) self.new) }
+        ensures less { OnOk result (1 + unseen self.new.done.items ≡ unseen self.old.done.items) }
     {
-        if n >= definitions.len() {
-            return Err(Memory);
-        }
         if !is_ready(graph, &self.done, n) {
             return Err(Memory);
         }
@@ -155,13 +145,10 @@ impl Work {
         Ok(())
     }
 
-    /// The types, if all are done, or the first fault.
+    /// The types, or the first fault.
     pub(crate) fn end(self, alloc: Global) -> Result<Vec<Simple>, MakingError>
-        ensures { (ds : List SimpleDefinition) → StandsIn ds self → AnswersMakingOf ds result }
+        ensures { (ds : List SimpleDefinition) → FinishedIn ds self → AnswersMakingOf ds result }
     {
-        if !are_all_done(&self.done) {
-            return Err(MakingError::Memory);
-        }
         match self.found {
             Some(fault) => Err(MakingError::Shown(fault)),
             None => match all_made(alloc, self.entries) {
@@ -186,7 +173,8 @@ fn all_made(alloc: Global, entries: Vec<Option<Simple>>) -> Result<Vec<Simple>, 
     Ok(simples)
 }
 
-/// All types made, in an order in which each stands after its parts.
+/// All types made, in an order in which each stands after its parts. There are as many steps as types, and each makes one
+/// that wasn't done.
 pub(crate) fn work_in_order<'a>(
     alloc: Global,
     definitions: &[SimpleType<'a>],
@@ -196,7 +184,9 @@ pub(crate) fn work_in_order<'a>(
 ) -> Result<Work, Memory>
     requires numbers { told_by numbers.now ≡ numbers_in (definitions_of definitions.now) }
     requires graph { rows_of graph.now ≡ edges (definitions_of definitions.now) }
-    ensures { IfOk result (StandsIn (definitions_of definitions.now)) }
+    requires varied { AreVaried (definitions_of definitions.now) }
+    requires long { length order.now ≡ length graph.now }
+    ensures { IfOk result (FinishedIn (definitions_of definitions.now)) }
 {
     let mut work = Work::of(alloc, definitions)?;
     'order: for n in order {

@@ -1,5 +1,5 @@
 -- What only private contracts need: the types made so far, each after its parts.
-use Rattle.std.specs.Prelude.{◌≡◌, ℕ, Bool, true, List, length, Option, Some, None, Err, IfSome, slice_get}
+use Rattle.std.specs.Prelude.{◌≡◌, ◌<◌, ℕ, Bool, true, List, length, Option, Some, None, Err, IfSome, slice_get}
 use Rattle.simple_types.specs.Seen.{space_of}
 use Rattle.simple_types.specs.Sound.{Sound}
 use Rattle.simple_types.specs.Space.{Space}
@@ -44,3 +44,11 @@ pub record Stands (ds : List SimpleDefinition) (made : List (Option Space)) (don
 
 abbrev pub StandsIn : List SimpleDefinition → Work → Type 0
 StandsIn ds w = Stands ds (entries_of w.entries.items) w.done.items w.found
+
+-- and all are done
+pub record Finished (ds : List SimpleDefinition) (made : List (Option Space)) (done : List Bool) (found : Option LinkingFault) : Type 0 where
+  pub stands : Stands ds made done found
+  pub all : (n : ℕ) → n < length done → mark done n ≡ true
+
+abbrev pub FinishedIn : List SimpleDefinition → Work → Type 0
+FinishedIn ds w = Finished ds (entries_of w.entries.items) w.done.items w.found

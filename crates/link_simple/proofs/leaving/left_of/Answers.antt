@@ -1,7 +1,9 @@
-use Rattle.std.proofs.Common.{sym, ap, ◌∙◌, subst}
+use Rattle.std.proofs.Common.{◌≡◌, true, sym, ap, ◌∙◌, subst}
 use Rattle.std.specs.Prelude.{IfOk}
 use Rattle.schema_parts.specs.Raw.{Restrict, UnionOf}
-use Rattle.schema_parts.specs.Seen.{base_of, how_of}
+use Rattle.std.proofs.lemmas.Bool.{and_parts}
+use Rattle.schema_parts.specs.Seen.{base_of, bases_in, how_of}
+use Rattle.schema_parts.specs.Varieties.{has_few_enumerations, base_varied, has_member, bases_varied, how_varied}
 use Rattle.schema_parts.proofs.Seen.{restriction, list_of_items, union}
 use Rattle.link_cycles.specs.Tables.{told_by}
 use Rattle.link_simple.specs.Making.{IsLeft}
@@ -24,3 +26,14 @@ returns-in-Union c =
     let told = ap how_of c.in-Union.is ∙ union c.in-Union.members ∙ ap UnionOf (sym c.items-in-Union.ensures) in
     subst (λ h. IfOk c.union_of_members.result (LeftBy (IsLeft (told_by c.args.numbers.now) (entries_of c.args.entries.now) c.args.definition.place.file h))) (sym told)
     c.union_of_members.ensures
+
+pub restriction-requires-clause-few : goal.restriction-requires-clause-few
+restriction-requires-clause-few c =
+    let told = ap how_of c.in-Restrict.is ∙ restriction c.in-Restrict.base c.in-Restrict.facets ∙ ap (Restrict (base_of c.in-Restrict.base)) (sym c.items.ensures) in
+    (and_parts (has_few_enumerations c.items.result.now) (base_varied (base_of c.in-Restrict.base)) (subst (λ h. how_varied h ≡ true) told c.requires.varied)).0
+
+pub union_of_members-requires-clause-some : goal.union_of_members-requires-clause-some
+union_of_members-requires-clause-some c =
+    let told = ap how_of c.in-Union.is ∙ union c.in-Union.members ∙ ap UnionOf (sym c.items-in-Union.ensures) in
+    let bases = bases_in c.items-in-Union.result.now in
+    (and_parts (has_member bases) (bases_varied bases) (subst (λ h. how_varied h ≡ true) told c.requires.varied)).0
