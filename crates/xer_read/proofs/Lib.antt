@@ -9,3 +9,4 @@ pub mod Allowing
 pub mod Whole
 pub mod Valuing
 pub mod Apart
+pub mod Again

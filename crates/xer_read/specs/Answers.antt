@@ -1,15 +1,19 @@
 -- What an answer says.
-use Rattle.std.specs.Prelude.{◌≡◌, ℕ, ◌<◌, List, Some}
+use Rattle.std.specs.Prelude.{◌≡◌, ◌⊎◌, ℕ, ◌<◌, ◌≤◌, List, Some, Result, Ok, Err, MatchResult}
 use Rattle.label_tree.specs.Rose.{Rose, node_count, shown_count}
 use Rattle.simple_types.specs.declared.labels.ValueLabel.{ValueLabel}
 use Rattle.doc_text.specs.declared.label.ItemLabel.{ItemLabel}
-use Rattle.plain_items.specs.Plain.{Plain}
+use Rattle.plain_items.specs.Plain.{Plain, plain_of}
 use Rattle.schema_parts.specs.Components.{Set}
+use Rattle.schema_parts.specs.Linked.{IsLinked}
 use Rattle.schema_parts.specs.SetParts.{parts_of}
 use Rattle.asn_types.specs.declared.modules.Assignment.{Assignment}
-use Rattle.asn_types.specs.Values.{Fits}
+use Rattle.asn_types.specs.Values.{Fits, In}
+use Rattle.map_assignments.specs.Mapped.{IsMapOf}
+use Rattle.one_value.specs.Statements.{AreSmall, root_at}
 use Rattle.xer_items.specs.Items.{Xer}
 use Rattle.validity.specs.Valid.{Valid}
+use Rattle.validity.specs.Faults.{FirstFault}
 use Rattle.validity.specs.declared.why.InvalidWhy.{InvalidWhy}
 use Rattle.xer_read.specs.declared.error.ReadError.{ReadError}
 use Rattle.xer_read.specs.declared.error.ReadError.TheVariants.{Invalid, TooManyNodes, Memory}
@@ -32,3 +36,15 @@ abbrev pub ReadTells : (ℕ → InvalidWhy → Type 0) → (ℕ → Type 0) → 
 ReadTells Fault large (Invalid at why) = Fault at why
 ReadTells Fault large (TooManyNodes count) = large count
 ReadTells Fault large Memory = Unit {0}
+
+-- what may be answered of a document
+abbrev pub IsAnswer : Set → ℕ → Rose ItemLabel → List Assignment → ℕ → Result (Rose ValueLabel) ReadError → Type 0
+IsAnswer s d items M t r =
+    MatchResult r (λ value. IsValueOf s d items M t value × (node_count value ≤ 1048576)) (ReadTells (FirstFault (parts_of s) d items) (IsTooLarge s d items M t))
+
+-- of the items of a value, this value, or that memory is missing
+abbrev pub ReadBack : Type 0
+ReadBack =
+    (s : Set) (M : List Assignment) → IsLinked s → AreSmall s → (is_map : IsMapOf s M) (d : ℕ) → d < s.globals
+    → (v : Rose ValueLabel) → In M (root_at s M is_map d) v → (items : Rose ItemLabel) → Xer M (root_at s M is_map d) v ≡ Some (plain_of items)
+    → (r : Result (Rose ValueLabel) ReadError) → IsAnswer s d items M (root_at s M is_map d) r → (r ≡ Ok v) ⊎ (r ≡ Err Memory)

@@ -12,10 +12,12 @@ mod contents;
 mod elements;
 mod error;
 mod filling;
+mod laws;
 mod parts;
 mod reading;
 mod texts;
 mod values;
 
 pub use error::ReadError;
+pub use laws::read_back;
 pub use reading::read_value;
