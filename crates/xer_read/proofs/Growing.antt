@@ -1,9 +1,10 @@
 -- Parts that are added one after another, and child elements that are taken one after another.
-use Rattle.std.proofs.Common.{◌≡◌, ℕ, suc, ◌||◌, ◌&&◌, Bool, true, false, not, List, [], ◌∷◌, ◌++◌, Option, length, refl, sym, ◌∙◌, ap, subst, append-nil, append_assoc}
+use Rattle.std.proofs.Common.{◌≡◌, ℕ, suc, ◌<◌, ◌≤◌, arith, ◌||◌, ◌&&◌, Bool, true, false, not, List, [], ◌∷◌, ◌++◌, Option, length, refl, sym, ◌∙◌, ap, subst, append-nil, append_assoc}
 use Rattle.std.specs.Prelude.{nat_le, Result, Ok, Err, OnOk, IfOk}
-use Rattle.label_tree.specs.Rose.{Rose, node, Roses, roses_of, label_of, kids_of}
+use Rattle.label_tree.specs.Rose.{Rose, node, Roses, roses_of, label_of, kids_of, Allowed}
 use Rattle.label_tree.specs.Rose as rose
-use Rattle.label_tree.proofs.Roses.{roses_of-list_of}
+use Rattle.label_tree.proofs.Roses.{roses_of-list_of, allowed-label}
+use Rattle.content_models.specs.Kids.{KindMayHave, MayHave}
 use Rattle.simple_types.specs.declared.labels.ValueLabel.{ValueLabel}
 use Rattle.content_models.specs.declared.particles.ParticleLabel.{ParticleLabel}
 use Rattle.content_models.specs.declared.particles.ParticleKind.{ParticleKind}
@@ -31,6 +32,13 @@ pub term-by : (t : Rose ParticleLabel) (l : ParticleLabel) (kids : List (Rose Pa
     → term_of t ≡ term_seen kind (all_seen (roses_of kids))
 term-by t l kids kind e k is =
     ap (λ q. term_seen q (all_seen (roses_of (kids_of t)))) (ap (λ (m : ParticleLabel). m.kind) (sym e) ∙ is) ∙ ap (λ ks. term_seen kind (all_seen (roses_of ks))) (sym k)
+
+-- a choice has an alternative
+pub some-alternative : (t : Rose ParticleLabel) (l : ParticleLabel) (kids : List (Rose ParticleLabel)) → l ≡ label_of t → l.kind ≡ kinds.Choice → kids ≡ kids_of t → Allowed MayHave t → 0 < length kids
+some-alternative t l kids e is k h =
+    let some : 1 ≤ length (kids_of t) = subst (λ q. KindMayHave q (length (kids_of t))) (ap (λ (m : ParticleLabel). m.kind) (sym e) ∙ is) (allowed-label MayHave t h) in
+    let same = ap length k in
+    omega (arith, some, same)
 
 -- ---- one after another
 

@@ -1,6 +1,7 @@
 //! The values of child elements at their places in the value of a content model.
-ghost use Rattle.std.specs.Prelude.{◌≡◌, [], OnOk, IfOk};
-ghost use Rattle.label_tree.specs.Rose.{label_of, roses_of};
+ghost use Rattle.std.specs.Prelude.{◌≡◌, ◌<◌, [], length, OnOk, IfOk};
+ghost use Rattle.label_tree.specs.Rose.{label_of, roses_of, Allowed, AllowedAll};
+ghost use Rattle.content_models.specs.Kids.{MayHave};
 ghost use Rattle.content_models.specs.Seen.{seen, all_seen, term_seen};
 ghost use Rattle.content_models.specs.Particle.{Particles, more, none};
 ghost use Rattle.xer_read.specs.Private.Bounds as bounds;
@@ -70,14 +71,17 @@ fn one_may_be_empty(particles: &[Tree<ParticleLabel>]) -> bool {
     false
 }
 
-// The alternative in which the first child element stands that waits, or else the one that may be empty. The first
-// alternative has this number, and stands at this level.
+// The alternative in which the first child element stands that waits, or else the first that may be empty, or else the
+// first. The first has this number, and stands at this level.
 fn alternative(
     particles: &[Tree<ParticleLabel>],
     number: u64,
     level: usize,
     children: &Children,
-) -> u32 {
+) -> u32
+    requires { 0 < length particles.now }
+    ensures { result < length particles.now }
+{
     let mut place: u32 = 0;
     let mut next = number;
     'numbers: for particle in particles {
@@ -87,14 +91,14 @@ fn alternative(
         next = next.saturating_add(particle.count());
         place = place.saturating_add(1);
     }
-    place = 0;
-    'particles: for particle in particles {
-        if may_be_empty(particle) {
-            return place;
+    let mut behind: u32 = 0;
+    'particles: for other in particles {
+        if may_be_empty(other) {
+            return behind;
         }
-        place = place.saturating_add(1);
+        behind = behind.saturating_add(1);
     }
-    place
+    0
 }
 
 // One occurrence of the particle with this number, whose kids stand at this level.
@@ -106,6 +110,7 @@ fn fill_term(
     level: usize,
     children: &mut Children,
 ) -> Result<Tree<ValueLabel>, Memory>
+    requires { Allowed MayHave particle.now }
     ensures { IfOk result (λ value. Takes (TermMade (term_of particle.now) value) children.old children.new) }
 {
     match particle.label().kind {
@@ -141,6 +146,7 @@ fn fill_items(
     level: usize,
     children: &mut Children,
 ) -> Result<Tree<ValueLabel>, Memory>
+    requires { Allowed MayHave particle.now }
     ensures { IfOk result (λ value. Takes (Several (TermMade (term_of particle.now)) (label_of particle.now).min (label_of particle.now).max value) children.old children.new) }
 {
     let mut values = Vec::new(alloc);
@@ -172,11 +178,12 @@ fn fill_chosen(
     place: u32,
     children: &mut Children,
 ) -> Result<Tree<ValueLabel>, Memory>
+    requires allowed { AllowedAll MayHave (roses_of particles.now) }
+    requires place { place < length particles.now }
     ensures { IfOk result (λ value. Takes (ChosenMade (all_seen (roses_of particles.now)) place value) children.old children.new) }
 {
-    // Open: one of them is always chosen.
     let Some((first, rest)) = particles.split_first() else {
-        return Err(Memory);
+        unreachable!();
     };
     if 0 < place {
         let next = number.saturating_add(first.count());
@@ -199,6 +206,7 @@ fn fill_part(
     children: &mut Children,
     parts: &mut Parts,
 ) -> Result<(), Memory>
+    requires { Allowed MayHave particle.now }
     ensures { OnOk result (Fills (PartsMade (more (seen particle.now) none)) children.old children.new parts.old parts.new) }
 {
     let label = particle.label();
@@ -228,6 +236,7 @@ fn fill_parts(
     children: &mut Children,
     parts: &mut Parts,
 ) -> Result<(), Memory>
+    requires { AllowedAll MayHave (roses_of particles.now) }
     ensures { OnOk result (Fills (PartsMade (all_seen (roses_of particles.now))) children.old children.new parts.old parts.new) }
 {
     match particles.split_first() {

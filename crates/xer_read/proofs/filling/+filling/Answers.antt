@@ -1,12 +1,13 @@
-use Rattle.std.proofs.Common.{◌≡◌, true, [], ◌∷◌, ap, arith, refl, sym, ◌∙◌}
-use Rattle.label_tree.specs.Rose.{count_all, roses_of, label_of}
-use Rattle.label_tree.proofs.Roses.{node_count-kids}
+use Rattle.std.proofs.Common.{◌≡◌, true, [], ◌∷◌, ap, arith, refl, sym, subst, length, ◌∙◌}
+use Rattle.label_tree.specs.Rose.{count_all, roses_of, label_of, AllowedAll}
+use Rattle.label_tree.proofs.Roses.{node_count-kids, allowed-kids}
+use Rattle.content_models.specs.Kids.{MayHave}
 use Rattle.content_models.specs.Seen.{seen, all_seen}
 use Rattle.content_models.specs.Particle.{more, none}
 use Rattle.xer_read.specs.Private.Bounds.{is_once, is_optional}
 use Rattle.xer_read.specs.Private.Made.{Several, TermMade, PartsMade, ChosenMade}
 use Rattle.xer_read.specs.Private.Growing.{term_of, Fills, Grows}
-use Rattle.xer_read.proofs.Growing.{on-ok, takes-as, takes-more, fills-one, fills-none, fills-more, once-made, optional-made, several-made, once-chosen, several-chosen}
+use Rattle.xer_read.proofs.Growing.{on-ok, takes-as, takes-more, fills-one, fills-none, fills-more, once-made, optional-made, several-made, once-chosen, several-chosen, some-alternative}
 use Rattle.xer_read.proofs.filling.+filling.Goals as goal
 
 pub fill_chosen-fill_chosen-requires : goal.fill_chosen-fill_chosen-requires
@@ -14,7 +15,10 @@ fill_chosen-fill_chosen-requires t c =
     let d = c.decreases in
     let k = ap (λ us. count_all (roses_of us)) c.in-Some.ensures.cases.0 in
     let n = node_count-kids c.in-Some.first.now in
-    (omega (arith, d, k, n), tt)
+    let long = c.in-Some.ensures.cases.1 in
+    let place = c.requires.place in
+    let some = c.if-place-gt0.true in
+    (omega (arith, d, k, n), ((subst (λ us. AllowedAll MayHave (roses_of us)) c.in-Some.ensures.cases.0 c.requires.allowed).1, omega (arith, long, place, some)))
 
 pub fill_chosen-returns-then-is_once : goal.fill_chosen-returns-then-is_once
 fill_chosen-returns-then-is_once t c =
@@ -41,13 +45,13 @@ fill_parts-fill_parts-requires t c =
     let d = c.decreases in
     let k = ap (λ us. count_all (roses_of us)) c.in-Some.ensures.cases.0 in
     let n = node_count-kids c.in-Some.first.now in
-    (omega (arith, d, k, n), tt)
+    (omega (arith, d, k, n), (subst (λ us. AllowedAll MayHave (roses_of us)) c.in-Some.ensures.cases.0 c.requires).1)
 
 pub fill_parts-fill_part-requires : goal.fill_parts-fill_part-requires
 fill_parts-fill_part-requires t c =
     let d = c.decreases in
     let k = ap (λ us. count_all (roses_of us)) c.in-Some.ensures.cases.0 in
-    (omega (arith, d, k), tt)
+    (omega (arith, d, k), (subst (λ us. AllowedAll MayHave (roses_of us)) c.in-Some.ensures.cases.0 c.requires).0)
 
 pub fill_parts-returns-in-None : goal.fill_parts-returns-in-None
 fill_parts-returns-in-None t c = fills-none c.args.particles.now c.in-None.ensures.cases c.args.children.now c.args.parts.now
@@ -56,7 +60,7 @@ pub fill_term-fill_parts-requires : goal.fill_term-fill_parts-requires
 fill_term-fill_parts-requires t c =
     let d = c.decreases in
     let k = node_count-kids c.args.particle.now in
-    (rw c.kids.ensures (omega (arith, d, k)), tt)
+    (rw c.kids.ensures (omega (arith, d, k)), subst (λ us. AllowedAll MayHave (roses_of us)) (sym c.kids.ensures) (allowed-kids MayHave c.args.particle.now c.requires))
 
 pub fill_parts-returns-in_ok-fill_part-in-Some : goal.fill_parts-returns-in_ok-fill_part-in-Some
 fill_parts-returns-in_ok-fill_part-in-Some t c =
@@ -109,4 +113,12 @@ pub fill_term-fill_chosen-requires : goal.fill_term-fill_chosen-requires
 fill_term-fill_chosen-requires t c =
     let d = c.decreases in
     let k = node_count-kids c.args.particle.now in
-    (rw c.kids-in-Choice-2.ensures (omega (arith, d, k)), tt)
+    let place = c.alternative-place.ensures in
+    let one = ap length c.kids-in-Choice.ensures in
+    let two = ap length c.kids-in-Choice-2.ensures in (
+      rw c.kids-in-Choice-2.ensures (omega (arith, d, k)),
+      (subst (λ us. AllowedAll MayHave (roses_of us)) (sym c.kids-in-Choice-2.ensures) (allowed-kids MayHave c.args.particle.now c.requires), omega (arith, place, one, two)),
+    )
+
+pub fill_term-alternative-place-requires : goal.fill_term-alternative-place-requires
+fill_term-alternative-place-requires t c = some-alternative c.args.particle.now c.label.result.now c.kids-in-Choice.result.now c.label.ensures c.in-Choice.is c.kids-in-Choice.ensures c.requires

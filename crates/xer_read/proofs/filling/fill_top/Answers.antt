@@ -1,5 +1,7 @@
-use Rattle.std.proofs.Common.{◌≡◌, [], ap, ◌∙◌}
-use Rattle.label_tree.specs.Rose.{label_of, kids_of}
+use Rattle.std.proofs.Common.{◌≡◌, [], ap, sym, subst, ◌∙◌}
+use Rattle.label_tree.specs.Rose.{label_of, kids_of, roses_of, AllowedAll}
+use Rattle.label_tree.proofs.Roses.{allowed-kids}
+use Rattle.content_models.specs.Kids.{MayHave}
 use Rattle.content_models.specs.Seen.{seen}
 use Rattle.xer_read.specs.Private.Made.{TopMade}
 use Rattle.xer_read.specs.Private.Growing.{FillsAll}
@@ -12,3 +14,7 @@ returns-then-is_parted c =
     (λ e. top-parted c.args.model.now c.label.result.now c.kids.result.now (c.label.ensures ∙ ap label_of c.root-root.ensures.root) (c.kids.ensures ∙ ap kids_of c.root-root.ensures.root)
     c.if-is_parted.ensures c.args.children c.fill_parts.new.children c.args.parts.now c.fill_parts.new.parts e c.in_ok-fill_parts.ensures)
     c.all_placed.ensures
+
+pub fill_parts-requires : goal.fill_parts-requires
+fill_parts-requires c =
+    subst (λ us. AllowedAll MayHave (roses_of us)) (sym (c.kids.ensures ∙ ap kids_of c.root-root.ensures.root)) (allowed-kids MayHave c.args.model.now c.root-root.ensures.allowed)
