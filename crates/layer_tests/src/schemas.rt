@@ -1,5 +1,25 @@
 //! The schemas of the tests.
 
+/// The start tag of a schema document without a target namespace.
+pub const HEAD: &str = "<xs:schema xmlns:xs=\"http://www.w3.org/2001/XMLSchema\">";
+
+/// Orders with their lines, as `trial` has them.
+pub const ORDERS: &str = concat!(
+    "<xs:schema xmlns:xs=\"http://www.w3.org/2001/XMLSchema\" xmlns=\"urn:po\" targetNamespace=\"urn:po\" elementFormDefault=\"qualified\">",
+    "<xs:element name=\"order\" type=\"Order\"/>",
+    "<xs:complexType name=\"Order\"><xs:sequence>",
+    "<xs:element name=\"line\" type=\"Line\" maxOccurs=\"unbounded\"/>",
+    "<xs:element name=\"note\" type=\"xs:string\" minOccurs=\"0\"/>",
+    "</xs:sequence><xs:attribute name=\"id\" type=\"xs:unsignedShort\" use=\"required\"/></xs:complexType>",
+    "<xs:complexType name=\"Line\"><xs:sequence>",
+    "<xs:element name=\"sku\" type=\"xs:token\"/><xs:element name=\"qty\" type=\"Qty\"/>",
+    "</xs:sequence></xs:complexType>",
+    "<xs:simpleType name=\"Qty\"><xs:restriction base=\"xs:int\">",
+    "<xs:minInclusive value=\"1\"/><xs:maxInclusive value=\"100\"/>",
+    "</xs:restriction></xs:simpleType>",
+    "</xs:schema>",
+);
+
 /// Orders with their lines, in no namespace.
 pub const ORDER: &str = concat!(
     "<xs:schema xmlns:xs=\"http://www.w3.org/2001/XMLSchema\">",
