@@ -78,8 +78,10 @@ fn an_order_of_100_000_lines_there_and_back(rt: HostRuntime) -> Result<(), Fail>
         pieces,
     )?;
     assert_eq!(rt; back.status, 0);
-    assert_eq!(rt; back.output.len(), 6_080_936);
-    let due = order(alloc, 100_000, "n1:")?;
+    assert_eq!(rt; back.output.len(), 6_080_976);
+    let mut due = b"<?xml version=\"1.0\" encoding=\"UTF-8\"?>\n".to_vec(alloc)?;
+    due.extend_from_slice(&order(alloc, 100_000, "n1:")?)?;
+    due.push(b'\n')?;
     assert!(rt; back.output == due);
     Ok(())
 }
@@ -171,15 +173,20 @@ fn so_many_children_of_9_800_names(rt: HostRuntime) -> Result<(), Fail> {
     schema.extend_from_slice(
         b"<xs:complexType name=\"E\"/><xs:element name=\"t\"><xs:complexType><xs:choice minOccurs=\"0\" maxOccurs=\"unbounded\">",
     )?;
-    for choice in 0..20 {
-        schema.extend_from_slice(b"<xs:choice>")?;
-        for name in 0..490 {
-            let number = 10_001 + choice * 490 + name;
-            let particle = format!(in alloc; "<xs:element name=\"n{number}\" type=\"E\"/>")?;
-            schema.extend_from_slice(particle.as_bytes())?;
+    for index in 0..9_800u32 {
+        if index % 490 == 0 {
+            let bounds: &[u8] = if index == 0 {
+                b"<xs:choice>"
+            } else {
+                b"</xs:choice><xs:choice>"
+            };
+            schema.extend_from_slice(bounds)?;
         }
-        schema.extend_from_slice(b"</xs:choice>")?;
+        let number = index.saturating_add(10_001);
+        let particle = format!(in alloc; "<xs:element name=\"n{number}\" type=\"E\"/>")?;
+        schema.extend_from_slice(particle.as_bytes())?;
     }
+    schema.extend_from_slice(b"</xs:choice>")?;
     schema.extend_from_slice(b"</xs:choice></xs:complexType></xs:element></xs:schema>")?;
     let mut document = b"<t>".to_vec(alloc)?;
     repeat(&mut document, b"<n19800/>", 1_500_000)?;
