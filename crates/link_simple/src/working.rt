@@ -1,15 +1,15 @@
 //! The making of types, one after another, each after its parts.
-ghost use Rattle.std.specs.Prelude.{◌≡◌, ◌<◌, ◌+◌, ◌∷◌, [], ℕ, List, set, replicate, None, length, map, true, false, IfOk, OnOk};
+ghost use Rattle.std.specs.Prelude.{◌≡◌, ◌<◌, ℕ, List, set, replicate, None, length, true, false, IsSome, IfOk, OnOk};
 ghost use Rattle.link_names.specs.Order.{first_of};
 ghost use Rattle.link_cycles.specs.Cycles.{numbers_in, edges};
-ghost use Rattle.link_cycles.specs.Graphs.{rows_of, IsEdge};
-ghost use Rattle.xa_base.specs.Lists.{HasItem};
-ghost use Rattle.link_cycles.specs.Private.Searching.{mark, unseen};
 ghost use Rattle.link_cycles.specs.SimpleTypes.{SimpleDefinition};
 ghost use Rattle.link_cycles.specs.Seen.{definitions_of};
 ghost use Rattle.link_cycles.specs.Tables.{told_by};
 ghost use Rattle.link_simple.specs.Answering.{made_of, AnswersMakingOf};
+ghost use Rattle.link_simple.specs.Making.{entry_at};
+ghost use Rattle.link_simple.specs.Private.Ordering.{IsReady, IsOrder};
 ghost use Rattle.link_simple.specs.Private.Parts.{entries_of, entry_of};
+ghost use Rattle.link_simple.specs.Private.Told.{AreTold};
 ghost use Rattle.link_simple.specs.Private.Varied.{AreVaried};
 ghost use Rattle.link_simple.specs.Private.Working.{space_left, fault_left, StandsIn, FinishedIn};
 
@@ -53,37 +53,6 @@ fn fault_in(left: &Left, body: Place) -> Option<LinkingFault>
     }
 }
 
-fn are_done(nodes: &[usize], done: &[bool]) -> bool
-    ensures { result ≡ true → (n : ℕ) → HasItem nodes.now n → mark done.now n ≡ true }
-{
-    'nodes: for node in nodes {
-        if *node >= done.len() {
-            return false;
-        }
-        if !done[*node] {
-            return false;
-        }
-    }
-    true
-}
-
-// Whether the type isn't done and its parts are.
-fn is_ready(graph: &[Vec<usize>], done: &[bool], n: usize) -> bool
-    ensures { result ≡ true → (mark done.now n ≡ false) × (n < length done.now)
-        × ((m : ℕ) → IsEdge (rows_of graph.now) n m → mark done.now m ≡ true) }
-{
-    if n >= graph.len() {
-        return false;
-    }
-    if n >= done.len() {
-        return false;
-    }
-    if done[n] {
-        return false;
-    }
-    are_done(&graph[n], done)
-}
-
 fn nothing_made(alloc: Global, count: usize) -> Result<Vec<Option<Simple>>, Memory>
     ensures { IfOk result (λ entries. entries.items ≡ replicate count None) }
 {
@@ -97,7 +66,7 @@ fn nothing_made(alloc: Global, count: usize) -> Result<Vec<Option<Simple>>, Memo
 impl Work {
     fn of(alloc: Global, definitions: &[SimpleType<'_>]) -> Result<Work, Memory>
         ensures stands { IfOk result (StandsIn (definitions_of definitions.now)) }
-        ensures none { IfOk result (λ w. unseen w.done.items ≡ length definitions.now) }
+        ensures done { IfOk result (λ w. w.done.items ≡ replicate (length definitions.now) false) }
     {
         let entries = nothing_made(alloc, definitions.len())?;
         let done = vec![in alloc; false; definitions.len()]?;
@@ -126,19 +95,16 @@ impl Work {
         alloc: Global,
         definitions: &[SimpleType<'a>],
         numbers: &SimpleNumbers<'a>,
-        graph: &[Vec<usize>],
         n: usize,
     ) -> Result<(), Memory>
         requires numbers { told_by numbers.now ≡ numbers_in (definitions_of definitions.now) }
-        requires graph { rows_of graph.now ≡ edges (definitions_of definitions.now) }
         requires varied { AreVaried (definitions_of definitions.now) }
+        requires told { AreTold (definitions_of definitions.now) }
         requires stands { StandsIn (definitions_of definitions.now) self.now }
+        requires ready { IsReady (edges (definitions_of definitions.now)) self.now.done.items n }
         ensures stands { OnOk result (StandsIn (definitions_of definitions.now) self.new) }
-        ensures less { OnOk result (1 + unseen self.new.done.items ≡ unseen self.old.done.items) }
+        ensures done { OnOk result (self.new.done.items ≡ set self.old.done.items n true) }
     {
-        if !is_ready(graph, &self.done, n) {
-            return Err(Memory);
-        }
         let definition = definitions[n];
         let left = left_of(alloc, numbers, &self.entries, definition)?;
         self.put(n, definition.body, left);
@@ -147,50 +113,44 @@ impl Work {
 
     /// The types, or the first fault.
     pub(crate) fn end(self, alloc: Global) -> Result<Vec<Simple>, MakingError>
+        requires { (ds : List SimpleDefinition) × FinishedIn ds self }
         ensures { (ds : List SimpleDefinition) → FinishedIn ds self → AnswersMakingOf ds result }
     {
         match self.found {
             Some(fault) => Err(MakingError::Shown(fault)),
-            None => match all_made(alloc, self.entries) {
-                Ok(simples) => Ok(simples),
-                Err(_) => Err(MakingError::Memory),
-            },
+            None => Ok(all_made(alloc, self.entries)?),
         }
     }
 }
 
-// The types, if each is made.
+// The types, each of which is made.
 fn all_made(alloc: Global, entries: Vec<Option<Simple>>) -> Result<Vec<Simple>, Memory>
+    requires { (n : ℕ) → n < length entries.items → IsSome (entry_at (entries_of entries.items) n) }
     ensures { IfOk result (λ simples. entries_of entries.items ≡ made_of simples.items) }
 {
-    let mut simples = Vec::new(alloc);
+    let mut simples = Vec::with_capacity(alloc, entries.len())?;
     'entries: for entry in entries {
-        match entry {
-            Some(simple) => simples.push(simple)?,
-            None => return Err(Memory),
-        }
+        simples.push(entry.unwrap())?;
     }
     Ok(simples)
 }
 
-/// All types made, in an order in which each stands after its parts. There are as many steps as types, and each makes one
-/// that wasn't done.
+/// All types made, in an order in which each stands after its parts.
 pub(crate) fn work_in_order<'a>(
     alloc: Global,
     definitions: &[SimpleType<'a>],
     numbers: &SimpleNumbers<'a>,
-    graph: &[Vec<usize>],
     order: &[usize],
 ) -> Result<Work, Memory>
     requires numbers { told_by numbers.now ≡ numbers_in (definitions_of definitions.now) }
-    requires graph { rows_of graph.now ≡ edges (definitions_of definitions.now) }
     requires varied { AreVaried (definitions_of definitions.now) }
-    requires long { length order.now ≡ length graph.now }
+    requires told { AreTold (definitions_of definitions.now) }
+    requires order { IsOrder (edges (definitions_of definitions.now)) order.now }
     ensures { IfOk result (FinishedIn (definitions_of definitions.now)) }
 {
     let mut work = Work::of(alloc, definitions)?;
     'order: for n in order {
-        work.make(alloc, definitions, numbers, graph, *n)?;
+        work.make(alloc, definitions, numbers, *n)?;
     }
     Ok(work)
 }

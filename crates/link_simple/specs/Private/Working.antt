@@ -1,5 +1,5 @@
 -- What only private contracts need: the types made so far, each after its parts.
-use Rattle.std.specs.Prelude.{◌≡◌, ◌<◌, ℕ, Bool, true, List, length, Option, Some, None, Err, IfSome, slice_get}
+use Rattle.std.specs.Prelude.{◌≡◌, ◌<◌, ℕ, Bool, true, List, length, Option, Some, None, Err, IsSome, IfSome, slice_get}
 use Rattle.simple_types.specs.Seen.{space_of}
 use Rattle.simple_types.specs.Sound.{Sound}
 use Rattle.simple_types.specs.Space.{Space}
@@ -41,6 +41,7 @@ pub record Stands (ds : List SimpleDefinition) (made : List (Option Space)) (don
   pub only : (others : List (Option Space)) → IsMaking ds others → (n : ℕ) → mark done n ≡ true → entry_at others n ≡ entry_at made n
   pub first : IsFirstSuch (IsFaultAmong ds made done) found
   pub sound : (n : ℕ) → IfSome (entry_at made n) Sound
+  pub filled : found ≡ None → (n : ℕ) → mark done n ≡ true → IsSome (entry_at made n)
 
 abbrev pub StandsIn : List SimpleDefinition → Work → Type 0
 StandsIn ds w = Stands ds (entries_of w.entries.items) w.done.items w.found

@@ -4,8 +4,6 @@ use Rattle.link_cycles.specs.Seen.{definition_of, definitions_of}
 use Rattle.link_simple.specs.Private.Parts.{entries_of}
 use Rattle.link_simple.specs.Private.Working.{Stands}
 use Rattle.link_simple.proofs.Standing.{stands_first}
-use Rattle.link_cycles.specs.Private.Searching.{unseen}
-use Rattle.link_simple.proofs.Finishing.{all_unseen}
 use Rattle.link_simple.proofs.working.Work.of.Goals as goal
 
 pub returns-clause-stands : goal.returns-clause-stands
@@ -18,5 +16,5 @@ returns-clause-stands c =
     subst (λ es. Stands ds (entries_of es) c.in_ok-done.done.items None) entries
     (subst (λ bs. Stands ds (entries_of (replicate (length ds) None)) bs None) done (stands_first ds))
 
-pub returns-clause-none : goal.returns-clause-none
-returns-clause-none c = ap unseen (c.in_ok-done.ensures.items_if_clones_equal (λ b e. e)) ∙ all_unseen (length c.args.definitions.now)
+pub returns-clause-done : goal.returns-clause-done
+returns-clause-done c = c.in_ok-done.ensures.items_if_clones_equal (λ b e. e)
