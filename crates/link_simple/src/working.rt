@@ -1,5 +1,5 @@
 //! The making of types, one after another, each after its parts.
-ghost use Rattle.std.specs.Prelude.{◌≡◌, ◌<◌, ℕ, List, set, replicate, None, length, true, false, IsSome, IfOk, OnOk};
+ghost use Rattle.std.specs.Prelude.{◌≡◌, ◌<◌, ℕ, Bool, List, set, replicate, None, length, true, false, IsSome, IfOk, OnOk};
 ghost use Rattle.link_names.specs.Order.{first_of};
 ghost use Rattle.link_cycles.specs.Cycles.{numbers_in, edges};
 ghost use Rattle.link_cycles.specs.SimpleTypes.{SimpleDefinition};
@@ -21,12 +21,10 @@ use simple_types::Simple;
 use std::alloc::Global;
 use xa_base::Memory;
 
-/// The types made so far, which of all types are done, and the first fault among them. A type that is done and has no
-/// entry can't be made.
+/// The types made so far, by their numbers, and the first fault of those that can't be made.
 #[derive(Drop)]
 pub(crate) struct Work {
     entries: Vec<Option<Simple>>,
-    done: Vec<bool>,
     found: Option<LinkingFault>,
 }
 
@@ -65,31 +63,25 @@ fn nothing_made(alloc: Global, count: usize) -> Result<Vec<Option<Simple>>, Memo
 
 impl Work {
     fn of(alloc: Global, definitions: &[SimpleType<'_>]) -> Result<Work, Memory>
-        ensures stands { IfOk result (StandsIn (definitions_of definitions.now)) }
-        ensures done { IfOk result (λ w. w.done.items ≡ replicate (length definitions.now) false) }
+        ensures { IfOk result (StandsIn (definitions_of definitions.now) (replicate (length definitions.now) false)) }
     {
         let entries = nothing_made(alloc, definitions.len())?;
-        let done = vec![in alloc; false; definitions.len()]?;
         Ok(Work {
             entries,
-            done,
             found: None,
         })
     }
 
     fn put(&mut self, n: usize, body: Place, left: Left)
-        requires entry { n < length self.now.entries.items }
-        requires done { n < length self.now.done.items }
+        requires { n < length self.now.entries.items }
         ensures entries { entries_of self.new.entries.items ≡ set (entries_of self.old.entries.items) n (space_left left) }
-        ensures done { self.new.done.items ≡ set self.old.done.items n true }
         ensures found { self.new.found ≡ first_of self.old.found (fault_left body left) }
     {
         self.found = first_of(self.found, fault_in(&left, body));
         self.entries[n] = simple_in(left);
-        self.done[n] = true;
     }
 
-    // Makes the type, whose parts are done.
+    // Makes the type, when its parts are done.
     fn make<'a>(
         &mut self,
         alloc: Global,
@@ -100,10 +92,9 @@ impl Work {
         requires numbers { told_by numbers.now ≡ numbers_in (definitions_of definitions.now) }
         requires varied { AreVaried (definitions_of definitions.now) }
         requires told { AreTold (definitions_of definitions.now) }
-        requires stands { StandsIn (definitions_of definitions.now) self.now }
-        requires ready { IsReady (edges (definitions_of definitions.now)) self.now.done.items n }
-        ensures stands { OnOk result (StandsIn (definitions_of definitions.now) self.new) }
-        ensures done { OnOk result (self.new.done.items ≡ set self.old.done.items n true) }
+        requires ready { (done : List Bool) × StandsIn (definitions_of definitions.now) done self.now × IsReady (edges (definitions_of definitions.now)) done n }
+        ensures { OnOk result ((done : List Bool) → StandsIn (definitions_of definitions.now) done self.old → IsReady (edges (definitions_of definitions.now)) done n
+            → StandsIn (definitions_of definitions.now) (set done n true) self.new) }
     {
         let definition = definitions[n];
         let left = left_of(alloc, numbers, &self.entries, definition)?;

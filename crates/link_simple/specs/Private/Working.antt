@@ -43,8 +43,8 @@ pub record Stands (ds : List SimpleDefinition) (made : List (Option Space)) (don
   pub sound : (n : ℕ) → IfSome (entry_at made n) Sound
   pub filled : found ≡ None → (n : ℕ) → mark done n ≡ true → IsSome (entry_at made n)
 
-abbrev pub StandsIn : List SimpleDefinition → Work → Type 0
-StandsIn ds w = Stands ds (entries_of w.entries.items) w.done.items w.found
+abbrev pub StandsIn : List SimpleDefinition → List Bool → Work → Type 0
+StandsIn ds done w = Stands ds (entries_of w.entries.items) done w.found
 
 -- and all are done
 pub record Finished (ds : List SimpleDefinition) (made : List (Option Space)) (done : List Bool) (found : Option LinkingFault) : Type 0 where
@@ -52,4 +52,4 @@ pub record Finished (ds : List SimpleDefinition) (made : List (Option Space)) (d
   pub all : (n : ℕ) → n < length done → mark done n ≡ true
 
 abbrev pub FinishedIn : List SimpleDefinition → Work → Type 0
-FinishedIn ds w = Finished ds (entries_of w.entries.items) w.done.items w.found
+FinishedIn ds w = (done : List Bool) × Finished ds (entries_of w.entries.items) done w.found

@@ -11,12 +11,12 @@ use Rattle.link_simple.proofs.working.Work.end.Goals as goal
 pub returns-in-Some : goal.returns-in-Some
 returns-in-Some c =
     let w = c.args.self in
-    λ ds h. subst (IsFirstSuch (IsNotMadeOf ds)) c.in-Some.is (first_fault ds (entries_of w.entries.items) w.done.items w.found h.stands h.all)
+    λ ds h. subst (IsFirstSuch (IsNotMadeOf ds)) c.in-Some.is (first_fault ds (entries_of w.entries.items) h.0 w.found h.1.stands h.1.all)
 
 pub all_made-requires : goal.all_made-requires
 all_made-requires c =
     let w = c.args.self in
-    let h = c.requires.1 in
+    let h = c.requires.1.1 in
     λ n lt.
     let long = h.stands.long in
     let marks = h.stands.marks in
@@ -29,7 +29,7 @@ returns-in_ok-all_made-in-None c =
     let simples = c.in_ok-all_made-in-None.field-0 in
     let made = c.in_ok-all_made-in-None.ensures in
     λ ds h. (
-      subst (IsMaking ds) made (is_making ds (entries_of w.entries.items) w.done.items w.found h.stands h.all),
-      each_sound simples.items (subst (λ m. (n : ℕ) → IfSome (entry_at m n) Sound) made h.stands.sound),
-      subst (IsFirstSuch (IsNotMadeOf ds)) c.in-None.is (first_fault ds (entries_of w.entries.items) w.done.items w.found h.stands h.all),
+      subst (IsMaking ds) made (is_making ds (entries_of w.entries.items) h.0 w.found h.1.stands h.1.all),
+      each_sound simples.items (subst (λ m. (n : ℕ) → IfSome (entry_at m n) Sound) made h.1.stands.sound),
+      subst (IsFirstSuch (IsNotMadeOf ds)) c.in-None.is (first_fault ds (entries_of w.entries.items) h.0 w.found h.1.stands h.1.all),
     )
