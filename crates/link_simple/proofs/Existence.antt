@@ -86,17 +86,20 @@ some_restricted base facets = some_asked (λ c. is_empty (narrowed base c)) (nar
 abbrev SomeLeft : (Result Space LinkWhy → Type 0) → Type 0
 SomeLeft P = ((r : Result Space LinkWhy) × P r) ⊎ ((r : Result Space LinkWhy) → P r → ⊥)
 
-some_restriction_of : (base : Space) (facets : List Facet) (r : Result Space FacetWhy) → Restricted base facets r → SomeLeft (IsRestriction (Some base) facets)
-some_restriction_of base facets (Ok s) h = inl (Ok s, h)
-some_restriction_of base facets (Err w) h = inl (Err (why.Facet w), (w, refl, h))
+pub restriction_left : (base : Space) (facets : List Facet) (r : Result Space FacetWhy) → Restricted base facets r → (q : Result Space LinkWhy) × IsRestriction (Some base) facets q
+restriction_left base facets (Ok s) h = (Ok s, h)
+restriction_left base facets (Err w) h = (Err (why.Facet w), (w, refl, h))
 
 some_restriction : (base : Option Space) (facets : List Facet) → SomeLeft (IsRestriction base facets)
 some_restriction None facets = inr (λ r h. h)
-some_restriction (Some base) facets = let left = some_restricted base facets in some_restriction_of base facets left.0 left.1
+some_restriction (Some base) facets = let left = some_restricted base facets in inl (restriction_left base facets left.0 left.1)
+
+pub list_left : (item : Space) → (q : Result Space LinkWhy) × IsList (Some item) q
+list_left item = ((if has_list item then Err why.BadItem else Ok (space.ListOf item 0 None)), refl)
 
 some_list : (item : Option Space) → SomeLeft (IsList item)
 some_list None = inr (λ r h. h)
-some_list (Some item) = inl ((if has_list item then Err why.BadItem else Ok (space.ListOf item 0 None)), refl)
+some_list (Some item) = inl (list_left item)
 
 within_limits : (members : Spaces) → AreWithinLimits members ⊎ (¬ AreWithinLimits members)
 within_limits members =
@@ -108,12 +111,15 @@ within_limits members =
       ]
     ]
 
+pub union_left : (members : Spaces) → (q : Result Space LinkWhy) × IsUnion (Some members) q
+union_left members = elim (within_limits (flattened members)) [
+  | inl within ↦ (Ok (space.UnionOf (flattened members)), inl (within, refl))
+  | inr over ↦ (Err why.Limit, inr (over, refl))
+]
+
 some_union : (members : Option Spaces) → SomeLeft (IsUnion members)
 some_union None = inr (λ r h. h)
-some_union (Some members) = elim (within_limits (flattened members)) [
-  | inl within ↦ inl (Ok (space.UnionOf (flattened members)), inl (within, refl))
-  | inr over ↦ inl (Err why.Limit, inr (over, refl))
-]
+some_union (Some members) = inl (union_left members)
 
 pub some_left : (ns : cycles.SimpleNumbers) (made : List (Option Space)) (file : ℕ) (how : How) → SomeLeft (IsLeft ns made file how)
 some_left ns made file (Restrict base facets) = some_restriction (part_space ns made file base) facets

@@ -1,11 +1,6 @@
 -- All types are done, where as many steps as there are types do one more each.
-use Rattle.std.proofs.Common.{◌≡◌, ℕ, zero, suc, ◌<◌, arith, Bool, true, false, List, [], ◌∷◌, length, replicate, refl, sym, ap, ◌∙◌, Vec}
-use Rattle.std.specs.Global.{Global}
-use Rattle.std.proofs.lemmas.List.{length-map}
-use Rattle.link_cycles.specs.Cycles.{numbers_in, parts_in, edges}
-use Rattle.link_cycles.specs.Graphs.{rows_of}
+use Rattle.std.proofs.Common.{◌≡◌, ℕ, zero, suc, ◌<◌, arith, Bool, true, false, List, [], ◌∷◌, length, replicate, refl, ap}
 use Rattle.link_cycles.specs.Private.Searching.{mark, unseen}
-use Rattle.link_cycles.specs.SimpleTypes.{SimpleDefinition}
 
 pub none_unseen : (bs : List Bool) → unseen bs ≡ 0 → (n : ℕ) → n < length bs → mark bs n ≡ true
 none_unseen [] none n lt = absurd (omega (arith, lt))
@@ -16,6 +11,3 @@ none_unseen (false ∷ bs) none n lt = absurd (omega (arith, none))
 pub all_unseen : (k : ℕ) → unseen (replicate k false) ≡ k
 all_unseen zero = refl
 all_unseen (suc k) = ap suc (all_unseen k)
-
-pub as_many : (g : List (Vec ℕ Global)) (ds : List SimpleDefinition) → rows_of g ≡ edges ds → length g ≡ length ds
-as_many g ds is = sym (length-map g (λ (v : Vec ℕ Global). v.items)) ∙ ap length is ∙ length-map ds (parts_in (numbers_in ds))

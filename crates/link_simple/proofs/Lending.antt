@@ -1,5 +1,6 @@
 -- Types that are lent, and lists of parts.
 use Rattle.std.proofs.Common.{◌≡◌, ℕ, zero, suc, ◌+◌, ◌<◌, ◌≤◌, arith, List, [], ◌∷◌, ◌++◌, length, drop, get_or, refl, sym, ap, ◌∙◌, Option, Some, None}
+use Rattle.std.specs.Prelude.{IsSome}
 use Rattle.std.specs.Option.{option_map}
 use Rattle.std.specs.Borrow.{Bor}
 use Rattle.simple_types.specs.declared.simples.Simple.{Simple}
@@ -23,6 +24,10 @@ pub entry_past : (entries : List (Option Simple)) (n : ℕ) → length entries �
 entry_past [] n le = refl
 entry_past (e ∷ es) zero le = absurd (omega (arith, le))
 entry_past (e ∷ es) (suc n) le = entry_past es n (omega (arith, le))
+
+pub is_entry : (o : Option Simple) → IsSome (option_map space_of o) → IsSome o
+is_entry None is = is
+is_entry (Some simple) is = refl
 
 joined_part : (ps : List Part) (p : Part) (rest : Spaces) → joined (seen_all ps) (more (seen p) rest) ≡ joined (seen_all (ps ++ p ∷ [])) rest
 joined_part [] p rest = refl

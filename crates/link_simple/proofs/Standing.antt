@@ -1,6 +1,6 @@
 -- The types made so far: none, one more, and all.
 use Rattle.std.proofs.Common.{◌≡◌, ℕ, zero, suc, ◌<◌, arith, Bool, true, false, ◌⊎◌, inl, inr, List, [], ◌∷◌, length, set, replicate, get_or, refl, sym, ap, ◌∙◌, subst, Option, Some, None, Result, Ok, Err}
-use Rattle.std.specs.Prelude.{IfSome, slice_get}
+use Rattle.std.specs.Prelude.{IsSome, IfSome, slice_get, if◌then◌else◌}
 use Rattle.std.specs.Result.{is_ok, is_err}
 use Rattle.std.proofs.Math.ListN.{length-set}
 use Rattle.std.proofs.lemmas.List.{length-map, length-replicate}
@@ -78,6 +78,7 @@ stands_first ds =
       only = λ others making n e. absurd (none n e);
       first = λ f r. absurd (none r.0 r.2);
       sound = λ n. subst (λ o. IfSome o Sound) (sym (no_entry count n)) tt;
+      filled = λ quiet n e. absurd (none n e);
     }
 
 -- what is left of one
@@ -117,10 +118,20 @@ module _ (ds : List SimpleDefinition) (made : List (Option Space)) (d : SimpleDe
 
 -- one more
 
+some_first : (b : Bool) (f g : LinkingFault) → (if b then Some g else Some f) ≡ None → ⊥
+some_first true f g e = cc
+some_first false f g e = cc
+
+both_none : (found w : Option LinkingFault) → first_of found w ≡ None → (found ≡ None) × (w ≡ None)
+both_none found None e = (e, refl)
+both_none None (Some g) e = absurd cc
+both_none (Some f) (Some g) e = absurd (some_first (precedes g f) f g e)
+
 module _
     (ds : List SimpleDefinition) (made : List (Option Space)) (done : List Bool) (found : Option LinkingFault) (h : Stands ds made done found) (n : ℕ) (d : SimpleDefinition)
     (is : slice_get ds n ≡ Some d) (free : mark done n ≡ false) (within : n < length done) (ready : (m : ℕ) → IsEdge (edges ds) n m → mark done m ≡ true)
-    (o : Option Space) (w : Option LinkingFault) (fits : IsEntry (numbers_in ds) made d o) (sound : IfSome o Sound) (faults : IsFirstSuch (IsHere ds made d) w) where
+    (o : Option Space) (w : Option LinkingFault) (fits : IsEntry (numbers_in ds) made d o) (sound : IfSome o Sound) (faults : IsFirstSuch (IsHere ds made d) w)
+    (filled : ((m : ℕ) → HasItem (parts_in (numbers_in ds) d) m → IsSome (entry_at made m)) → w ≡ None → IsSome o) where
   here : entry_at (set made n o) n ≡ o
   here = let long = h.long in let marks = h.marks in set_entry_here made n o (omega (arith, long, marks, within))
 
@@ -204,6 +215,16 @@ module _
   new_fault : (f : LinkingFault) → IsHere ds made d f → IsFaultAmong ds (set made n o) (set done n true) f
   new_fault f k = (n, d, set_here done n within, is, k.0, same_left (numbers_in ds) made (set made n o) d.place.file d.how agree_here (Err f.why) k.1)
 
+  filled_now : first_of found w ≡ None → (k : ℕ) → mark (set done n true) k ≡ true → IsSome (entry_at (set made n o) k)
+  filled_now none k marked =
+      let quiet = both_none found w none in
+      elim (set_parts done n k marked) [
+        | inl old ↦ subst IsSome (other k old) (h.filled quiet.0 k old)
+        | inr same ↦
+            let parts : (m : ℕ) → HasItem (parts_in (numbers_in ds) d) m → IsSome (entry_at made m) = λ m p. h.filled quiet.0 m (ready m (edge_of n d is m p)) in
+            subst (λ x. IsSome (entry_at (set made n o) x)) same (subst IsSome (sym here) (filled parts quiet.1))
+      ]
+
   pub stands_next : Stands ds (set made n o) (set done n true) (first_of found w)
   stands_next = record {
     long = length-set made n o ∙ h.long;
@@ -213,6 +234,7 @@ module _
     only = only_now;
     first = such_joined (IsFaultAmong ds made done) (IsHere ds made d) (IsFaultAmong ds (set made n o) (set done n true)) fault_parts old_fault new_fault found w h.first faults;
     sound = sound_now;
+    filled = filled_now;
   }
 
 -- all

@@ -31,7 +31,7 @@ some_at [] n lt = absurd (omega (arith, lt))
 some_at (x ∷ ds) zero lt = (x, refl)
 some_at (x ∷ ds) (suc n) lt = some_at ds n (omega (arith, lt))
 
-row_within : (g : List (List ℕ)) (n m : ℕ) → HasItem (row g n) m → n < length g
+pub row_within : (g : List (List ℕ)) (n m : ℕ) → HasItem (row g n) m → n < length g
 row_within [] n m h = absurd h
 row_within (r ∷ g) zero m h = omega arith
 row_within (r ∷ g) (suc n) m h = let lt = row_within g n m h in omega (arith, lt)

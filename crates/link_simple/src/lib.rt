@@ -4,6 +4,7 @@
 mod laws;
 mod leaving;
 mod making;
+mod orders;
 mod parts;
 mod unions;
 mod working;

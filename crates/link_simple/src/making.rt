@@ -1,15 +1,21 @@
 //! Making all simple types, or the first fault.
-ghost use Rattle.std.specs.Prelude.{◌≡◌, length, map, IfOk};
+ghost use Rattle.std.specs.Prelude.{◌≡◌, map, None, IfOk};
+ghost use Rattle.xa_base.specs.Lists.{HasItem};
 ghost use Rattle.schema_parts.specs.Documents.{doc_of};
-ghost use Rattle.link_cycles.specs.Cycles.{numbers_in};
+ghost use Rattle.link_names.specs.Order.{IsFirstSuch};
+ghost use Rattle.link_names.specs.Resolution.{unresolved};
+ghost use Rattle.link_cycles.specs.Cycles.{numbers_in, edges, IsCircular};
 ghost use Rattle.link_cycles.specs.Seen.{definitions_of};
 ghost use Rattle.link_cycles.specs.Tables.{told_by};
 ghost use Rattle.link_simple.specs.Answering.{AnswersMaking, AnswersMakingOf};
+ghost use Rattle.link_simple.specs.Private.Ordering.{IsAcyclic};
+ghost use Rattle.link_simple.specs.Private.Told.{AreTold};
 ghost use Rattle.link_simple.specs.Private.Varied.{AreVaried};
 ghost use Rattle.link_simple.specs.Private.Working.{FinishedIn};
 
+use crate::orders::order_of;
 use crate::working::{Work, work_in_order};
-use link_cycles::{SimpleNumbers, SimpleType, ranks_of, simple_types};
+use link_cycles::{SimpleNumbers, SimpleType, simple_types};
 use link_names::LinkingFault;
 use schema_parts::RawDoc;
 use simple_types::Simple;
@@ -38,28 +44,6 @@ impl From<Memory> for MakingError {
     }
 }
 
-// The node of each rank, from rank 1. Where no node is on a cycle, each rank is one node's.
-fn by_ranks(alloc: Global, ranks: &[usize]) -> Result<Vec<usize>, Memory>
-    ensures { IfOk result (λ order. length order.items ≡ length ranks.now) }
-{
-    let mut order = vec![in alloc; 0; ranks.len()]?;
-    'nodes: for node in 0..ranks.len() {
-        let rank = ranks[node];
-        if rank > 0 && rank <= order.len() {
-            order[rank - 1] = node;
-        }
-    }
-    Ok(order)
-}
-
-// An order of the nodes in which each stands after those that its edges lead to, if there is one.
-fn order_of(alloc: Global, graph: &[Vec<usize>]) -> Result<Vec<usize>, Memory>
-    ensures { IfOk result (λ order. length order.items ≡ length graph.now) }
-{
-    let ranks = ranks_of(alloc, graph)?;
-    by_ranks(alloc, &ranks)
-}
-
 fn work<'a>(
     alloc: Global,
     definitions: &[SimpleType<'a>],
@@ -67,11 +51,13 @@ fn work<'a>(
 ) -> Result<Work, Memory>
     requires numbers { told_by numbers.now ≡ numbers_in (definitions_of definitions.now) }
     requires varied { AreVaried (definitions_of definitions.now) }
+    requires told { AreTold (definitions_of definitions.now) }
+    requires acyclic { IsAcyclic (edges (definitions_of definitions.now)) }
     ensures { IfOk result (FinishedIn (definitions_of definitions.now)) }
 {
     let graph = numbers.graph(alloc, definitions)?;
     let order = order_of(alloc, &graph)?;
-    work_in_order(alloc, definitions, numbers, &graph, &order)
+    work_in_order(alloc, definitions, numbers, &order)
 }
 
 fn made_of<'a>(
@@ -81,6 +67,8 @@ fn made_of<'a>(
 ) -> Result<Vec<Simple>, MakingError>
     requires numbers { told_by numbers.now ≡ numbers_in (definitions_of definitions.now) }
     requires varied { AreVaried (definitions_of definitions.now) }
+    requires told { AreTold (definitions_of definitions.now) }
+    requires acyclic { IsAcyclic (edges (definitions_of definitions.now)) }
     ensures { AnswersMakingOf (definitions_of definitions.now) result }
 {
     let work = work(alloc, definitions, numbers)?;
@@ -88,11 +76,12 @@ fn made_of<'a>(
 }
 
 /// The simple types of the documents, in the order of `link_cycles::simple_types`, or the first fault: at a type that can't
-/// be made although its parts can. `Memory` is also answered where a type is made of itself, and where none has a fault and
-/// yet one refers to no simple type. The time grows with the number of parts, and as n log n with that
-/// of names and places; beside it stands what restricting by facets takes and the size of the types.
-#[tactic(auto, using(crate::proofs::Varied::are_varied))]
+/// be made although its parts can. Each reference has to name what it needs, and no type may be made of itself. The time
+/// grows with the number of parts, and as n log n with that of names and places; beside it stands what restricting by
+/// facets takes and the size of the types.
 pub fn made(alloc: Global, docs: &[RawDoc]) -> Result<Vec<Simple>, MakingError>
+    requires resolved { IsFirstSuch (HasItem (unresolved (map doc_of docs.now))) None }
+    requires acyclic { IsFirstSuch (IsCircular (map doc_of docs.now)) None }
     ensures { AnswersMaking (map doc_of docs.now) result }
 {
     let definitions = simple_types(alloc, docs)?;

@@ -1,15 +1,15 @@
 //! The making of types, one after another, each after its parts.
-ghost use Rattle.std.specs.Prelude.{◌≡◌, ◌<◌, ◌+◌, ◌∷◌, [], ℕ, List, set, replicate, None, length, map, true, false, IfOk, OnOk};
+ghost use Rattle.std.specs.Prelude.{◌≡◌, ◌<◌, ℕ, Bool, List, set, replicate, None, length, true, false, IsSome, IfOk, OnOk};
 ghost use Rattle.link_names.specs.Order.{first_of};
 ghost use Rattle.link_cycles.specs.Cycles.{numbers_in, edges};
-ghost use Rattle.link_cycles.specs.Graphs.{rows_of, IsEdge};
-ghost use Rattle.xa_base.specs.Lists.{HasItem};
-ghost use Rattle.link_cycles.specs.Private.Searching.{mark, unseen};
 ghost use Rattle.link_cycles.specs.SimpleTypes.{SimpleDefinition};
 ghost use Rattle.link_cycles.specs.Seen.{definitions_of};
 ghost use Rattle.link_cycles.specs.Tables.{told_by};
 ghost use Rattle.link_simple.specs.Answering.{made_of, AnswersMakingOf};
+ghost use Rattle.link_simple.specs.Making.{entry_at};
+ghost use Rattle.link_simple.specs.Private.Ordering.{IsReady, IsOrder};
 ghost use Rattle.link_simple.specs.Private.Parts.{entries_of, entry_of};
+ghost use Rattle.link_simple.specs.Private.Told.{AreTold};
 ghost use Rattle.link_simple.specs.Private.Varied.{AreVaried};
 ghost use Rattle.link_simple.specs.Private.Working.{space_left, fault_left, StandsIn, FinishedIn};
 
@@ -21,12 +21,10 @@ use simple_types::Simple;
 use std::alloc::Global;
 use xa_base::Memory;
 
-/// The types made so far, which of all types are done, and the first fault among them. A type that is done and has no
-/// entry can't be made.
+/// The types made so far, by their numbers, and the first fault of those that can't be made.
 #[derive(Drop)]
 pub(crate) struct Work {
     entries: Vec<Option<Simple>>,
-    done: Vec<bool>,
     found: Option<LinkingFault>,
 }
 
@@ -53,37 +51,6 @@ fn fault_in(left: &Left, body: Place) -> Option<LinkingFault>
     }
 }
 
-fn are_done(nodes: &[usize], done: &[bool]) -> bool
-    ensures { result ≡ true → (n : ℕ) → HasItem nodes.now n → mark done.now n ≡ true }
-{
-    'nodes: for node in nodes {
-        if *node >= done.len() {
-            return false;
-        }
-        if !done[*node] {
-            return false;
-        }
-    }
-    true
-}
-
-// Whether the type isn't done and its parts are.
-fn is_ready(graph: &[Vec<usize>], done: &[bool], n: usize) -> bool
-    ensures { result ≡ true → (mark done.now n ≡ false) × (n < length done.now)
-        × ((m : ℕ) → IsEdge (rows_of graph.now) n m → mark done.now m ≡ true) }
-{
-    if n >= graph.len() {
-        return false;
-    }
-    if n >= done.len() {
-        return false;
-    }
-    if done[n] {
-        return false;
-    }
-    are_done(&graph[n], done)
-}
-
 fn nothing_made(alloc: Global, count: usize) -> Result<Vec<Option<Simple>>, Memory>
     ensures { IfOk result (λ entries. entries.items ≡ replicate count None) }
 {
@@ -96,49 +63,39 @@ fn nothing_made(alloc: Global, count: usize) -> Result<Vec<Option<Simple>>, Memo
 
 impl Work {
     fn of(alloc: Global, definitions: &[SimpleType<'_>]) -> Result<Work, Memory>
-        ensures stands { IfOk result (StandsIn (definitions_of definitions.now)) }
-        ensures none { IfOk result (λ w. unseen w.done.items ≡ length definitions.now) }
+        ensures { IfOk result (StandsIn (definitions_of definitions.now) (replicate (length definitions.now) false)) }
     {
         let entries = nothing_made(alloc, definitions.len())?;
-        let done = vec![in alloc; false; definitions.len()]?;
         Ok(Work {
             entries,
-            done,
             found: None,
         })
     }
 
     fn put(&mut self, n: usize, body: Place, left: Left)
-        requires entry { n < length self.now.entries.items }
-        requires done { n < length self.now.done.items }
+        requires { n < length self.now.entries.items }
         ensures entries { entries_of self.new.entries.items ≡ set (entries_of self.old.entries.items) n (space_left left) }
-        ensures done { self.new.done.items ≡ set self.old.done.items n true }
         ensures found { self.new.found ≡ first_of self.old.found (fault_left body left) }
     {
         self.found = first_of(self.found, fault_in(&left, body));
         self.entries[n] = simple_in(left);
-        self.done[n] = true;
     }
 
-    // Makes the type, whose parts are done.
+    // Makes the type, when its parts are done.
     fn make<'a>(
         &mut self,
         alloc: Global,
         definitions: &[SimpleType<'a>],
         numbers: &SimpleNumbers<'a>,
-        graph: &[Vec<usize>],
         n: usize,
     ) -> Result<(), Memory>
         requires numbers { told_by numbers.now ≡ numbers_in (definitions_of definitions.now) }
-        requires graph { rows_of graph.now ≡ edges (definitions_of definitions.now) }
         requires varied { AreVaried (definitions_of definitions.now) }
-        requires stands { StandsIn (definitions_of definitions.now) self.now }
-        ensures stands { OnOk result (StandsIn (definitions_of definitions.now) self.new) }
-        ensures less { OnOk result (1 + unseen self.new.done.items ≡ unseen self.old.done.items) }
+        requires told { AreTold (definitions_of definitions.now) }
+        requires ready { (done : List Bool) × StandsIn (definitions_of definitions.now) done self.now × IsReady (edges (definitions_of definitions.now)) done n }
+        ensures { OnOk result ((done : List Bool) → StandsIn (definitions_of definitions.now) done self.old → IsReady (edges (definitions_of definitions.now)) done n
+            → StandsIn (definitions_of definitions.now) (set done n true) self.new) }
     {
-        if !is_ready(graph, &self.done, n) {
-            return Err(Memory);
-        }
         let definition = definitions[n];
         let left = left_of(alloc, numbers, &self.entries, definition)?;
         self.put(n, definition.body, left);
@@ -147,50 +104,44 @@ impl Work {
 
     /// The types, or the first fault.
     pub(crate) fn end(self, alloc: Global) -> Result<Vec<Simple>, MakingError>
+        requires { (ds : List SimpleDefinition) × FinishedIn ds self }
         ensures { (ds : List SimpleDefinition) → FinishedIn ds self → AnswersMakingOf ds result }
     {
         match self.found {
             Some(fault) => Err(MakingError::Shown(fault)),
-            None => match all_made(alloc, self.entries) {
-                Ok(simples) => Ok(simples),
-                Err(_) => Err(MakingError::Memory),
-            },
+            None => Ok(all_made(alloc, self.entries)?),
         }
     }
 }
 
-// The types, if each is made.
+// The types, each of which is made.
 fn all_made(alloc: Global, entries: Vec<Option<Simple>>) -> Result<Vec<Simple>, Memory>
+    requires { (n : ℕ) → n < length entries.items → IsSome (entry_at (entries_of entries.items) n) }
     ensures { IfOk result (λ simples. entries_of entries.items ≡ made_of simples.items) }
 {
-    let mut simples = Vec::new(alloc);
+    let mut simples = Vec::with_capacity(alloc, entries.len())?;
     'entries: for entry in entries {
-        match entry {
-            Some(simple) => simples.push(simple)?,
-            None => return Err(Memory),
-        }
+        simples.push(entry.unwrap())?;
     }
     Ok(simples)
 }
 
-/// All types made, in an order in which each stands after its parts. There are as many steps as types, and each makes one
-/// that wasn't done.
+/// All types made, in an order in which each stands after its parts.
 pub(crate) fn work_in_order<'a>(
     alloc: Global,
     definitions: &[SimpleType<'a>],
     numbers: &SimpleNumbers<'a>,
-    graph: &[Vec<usize>],
     order: &[usize],
 ) -> Result<Work, Memory>
     requires numbers { told_by numbers.now ≡ numbers_in (definitions_of definitions.now) }
-    requires graph { rows_of graph.now ≡ edges (definitions_of definitions.now) }
     requires varied { AreVaried (definitions_of definitions.now) }
-    requires long { length order.now ≡ length graph.now }
+    requires told { AreTold (definitions_of definitions.now) }
+    requires order { IsOrder (edges (definitions_of definitions.now)) order.now }
     ensures { IfOk result (FinishedIn (definitions_of definitions.now)) }
 {
     let mut work = Work::of(alloc, definitions)?;
     'order: for n in order {
-        work.make(alloc, definitions, numbers, graph, *n)?;
+        work.make(alloc, definitions, numbers, *n)?;
     }
     Ok(work)
 }

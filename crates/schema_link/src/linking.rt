@@ -4,7 +4,7 @@ ghost use Rattle.simple_types.specs.Seen.{space_of};
 ghost use Rattle.schema_parts.specs.Documents.{doc_of};
 ghost use Rattle.link_simple.specs.Answering.{AreSound};
 ghost use Rattle.link_set.specs.Sets.{parts_of, set_of};
-ghost use Rattle.schema_link.specs.Passes.{Making, Comparing, Clearing, passes};
+ghost use Rattle.schema_link.specs.Passes.{Making, Comparing, Clearing, ArePassed, passes_of_names, passes};
 ghost use Rattle.schema_link.specs.Sets.{AreNumbered, AnswersSpaces, Links};
 
 use crate::passes::{LinkError, check_content, check_names, make_simple_types};
@@ -17,6 +17,7 @@ use xa_base::Memory;
 
 // The passes from the making of simple types on.
 fn made(alloc: Global, docs: &[RawDoc]) -> Result<Vec<Simple>, LinkError>
+    requires { ArePassed (map doc_of docs.now) passes_of_names }
     ensures { AnswersSpaces (map doc_of docs.now) (Making ∷ Comparing ∷ Clearing ∷ []) result }
 {
     match make_simple_types(alloc, docs) {

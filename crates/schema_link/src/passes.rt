@@ -3,7 +3,7 @@ ghost use Rattle.std.specs.Prelude.{◌≡◌, ◌∷◌, [], Ok, Err, map, Matc
 ghost use Rattle.schema_parts.specs.Documents.{doc_of};
 ghost use Rattle.link_names.specs.Order.{IsFirstSuch};
 ghost use Rattle.schema_link.specs.Answering.{AnswersPasses, AnswersFault, AnswersSimples};
-ghost use Rattle.schema_link.specs.Passes.{Counting, Naming, Resolving, Ordering, Comparing, Clearing, IsFault, passes_of_names, passes_of_content};
+ghost use Rattle.schema_link.specs.Passes.{Counting, Naming, Resolving, Ordering, Comparing, Clearing, IsFault, ArePassed, passes_of_names, passes_of_content};
 
 use link_complex::{first_differing, first_double_use, first_unclear};
 use link_cycles::first_circular;
@@ -136,9 +136,10 @@ pub fn check_names(alloc: Global, docs: &[RawDoc]) -> Result<(), LinkError>
     }
 }
 
-/// The pass that makes the simple types: each restriction, list or union whose parts are made has to leave a type. The
-/// types stand in the order of `link_cycles::simple_types`.
+/// The pass that makes the simple types, where those of `check_names` have no fault: each restriction, list or union whose
+/// parts are made has to leave a type. The types stand in the order of `link_cycles::simple_types`.
 pub fn make_simple_types(alloc: Global, docs: &[RawDoc]) -> Result<Vec<Simple>, LinkError>
+    requires { ArePassed (map doc_of docs.now) passes_of_names }
     ensures { AnswersSimples (map doc_of docs.now) result }
 {
     match made(alloc, docs) {

@@ -1,5 +1,5 @@
 -- What only private contracts need: the types made so far, each after its parts.
-use Rattle.std.specs.Prelude.{◌≡◌, ◌<◌, ℕ, Bool, true, List, length, Option, Some, None, Err, IfSome, slice_get}
+use Rattle.std.specs.Prelude.{◌≡◌, ◌<◌, ℕ, Bool, true, List, length, Option, Some, None, Err, IsSome, IfSome, slice_get}
 use Rattle.simple_types.specs.Seen.{space_of}
 use Rattle.simple_types.specs.Sound.{Sound}
 use Rattle.simple_types.specs.Space.{Space}
@@ -41,9 +41,10 @@ pub record Stands (ds : List SimpleDefinition) (made : List (Option Space)) (don
   pub only : (others : List (Option Space)) → IsMaking ds others → (n : ℕ) → mark done n ≡ true → entry_at others n ≡ entry_at made n
   pub first : IsFirstSuch (IsFaultAmong ds made done) found
   pub sound : (n : ℕ) → IfSome (entry_at made n) Sound
+  pub filled : found ≡ None → (n : ℕ) → mark done n ≡ true → IsSome (entry_at made n)
 
-abbrev pub StandsIn : List SimpleDefinition → Work → Type 0
-StandsIn ds w = Stands ds (entries_of w.entries.items) w.done.items w.found
+abbrev pub StandsIn : List SimpleDefinition → List Bool → Work → Type 0
+StandsIn ds done w = Stands ds (entries_of w.entries.items) done w.found
 
 -- and all are done
 pub record Finished (ds : List SimpleDefinition) (made : List (Option Space)) (done : List Bool) (found : Option LinkingFault) : Type 0 where
@@ -51,4 +52,4 @@ pub record Finished (ds : List SimpleDefinition) (made : List (Option Space)) (d
   pub all : (n : ℕ) → n < length done → mark done n ≡ true
 
 abbrev pub FinishedIn : List SimpleDefinition → Work → Type 0
-FinishedIn ds w = Finished ds (entries_of w.entries.items) w.done.items w.found
+FinishedIn ds w = (done : List Bool) × Finished ds (entries_of w.entries.items) done w.found

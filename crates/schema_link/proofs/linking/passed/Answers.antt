@@ -8,3 +8,6 @@ returns-in-Ok c = behind_names (map doc_of c.args.docs.now) tt c.made.result c.i
 
 pub returns-in-Err : goal.returns-in-Err
 returns-in-Err c = in_names (map doc_of c.args.docs.now) c.in-Err.error c.in-Err.ensures
+
+pub made-requires : goal.made-requires
+made-requires c = c.in-Ok.ensures

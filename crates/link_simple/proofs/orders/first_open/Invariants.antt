@@ -1,7 +1,8 @@
 use Rattle.std.proofs.Common.{◌≡◌, ℕ, true, take}
 use Rattle.xa_base.specs.Lists.{HasItem}
 use Rattle.link_cycles.specs.Private.Searching.{mark}
-use Rattle.link_simple.proofs.working.are_done.Given as goal
+use Rattle.link_simple.proofs.orders.first_open.Given as goal
 
+-- those before this one are done
 abbrev pub invariant-nodes : goal.invariant-nodes
-invariant-nodes l = (n : ℕ) → HasItem (take l.node-index l.nodes) n → mark l.done n ≡ true
+invariant-nodes l = (m : ℕ) → HasItem (take l.k l.nodes) m → mark l.done m ≡ true
