@@ -10,4 +10,3 @@ mod ranks;
 pub use cycles::first_circular;
 pub use definitions::{SimpleType, simple_types};
 pub use numbers::SimpleNumbers;
-pub use ranks::ranks_of;

@@ -179,7 +179,7 @@ fn most_steps(graph: &[Vec<usize>]) -> usize {
 /// A rank of each node, from 1: an edge leads to a node of a lesser rank, or of the same if both are on one cycle.
 /// The contract promises a number for each node alone: what needs more has to test it. The time grows with the number of
 /// edges.
-pub fn ranks_of(alloc: Global, graph: &[Vec<usize>]) -> Result<Vec<usize>, Memory>
+pub(crate) fn ranks_of(alloc: Global, graph: &[Vec<usize>]) -> Result<Vec<usize>, Memory>
     ensures { IfOk result (λ ranks. length ranks.items ≡ length graph.now) }
 {
     let mut walk = Walk::of(alloc, graph.len())?;
