@@ -8,11 +8,11 @@ use Rattle.link_set.specs.Sets.{SetParts, set_with}
 use Rattle.link_set.specs.declared.parts.SetParts.{SetParts as KeptParts}
 use Rattle.link_set.proofs.parts.set_parts.Goals as goal
 
-pub returns : goal.returns
-returns c =
+pub returns-clause-set : goal.returns-clause-set
+returns-clause-set c =
     let docs = map doc_of c.args.docs.now in
     let spaces = map space_of c.args.spaces.items in
     let listed = c.in_ok-listed.ensures in
     let numbers = c.in_ok-numbers.ensures ∙ ap numbers_in listed in
     let Is : SetParts → Type 0 = λ parts. IfOk c.parts_with.result (λ (made : KeptParts). parts_made made ≡ parts) in
-    subst Is (ap₂ (λ ls ns. set_with docs ls ns spaces) listed numbers) c.parts_with.ensures
+    subst Is (ap₂ (λ ls ns. set_with docs ls ns spaces) listed numbers) c.parts_with.ensures.numbered
