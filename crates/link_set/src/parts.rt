@@ -5,9 +5,11 @@ ghost use Rattle.simple_types.specs.Seen.{space_of};
 ghost use Rattle.schema_parts.specs.Documents.{doc_of};
 ghost use Rattle.link_cycles.specs.SimpleTypes.{simple_types};
 ghost use Rattle.link_set.specs.Builtins as builtins_told;
+ghost use Rattle.link_set.specs.Few.{AreFew};
 ghost use Rattle.link_set.specs.Sets as told;
 ghost use Rattle.link_set.specs.Private.Told.{listed_by, told_by};
 ghost use Rattle.link_set.specs.Parts.{parts_made, HasWholeModel};
+ghost use Rattle.link_set.specs.Written.{lists_of};
 
 use crate::builtins::used_builtins;
 use crate::listing::Listed;
@@ -55,11 +57,12 @@ fn declared<'a>(
     listed: &Listed<'a>,
     numbers: &ComponentNumbers<'a>,
 ) -> Result<Declarations, Memory>
+    requires { AreFew (listed_by listed.now) }
     ensures { IfOk result (λ made. (made.elements.items ≡ told.elements (told_by numbers.now) (listed_by listed.now))
         × (made.globals ≡ length (listed_by listed.now).globals)
         × (made.attributes.items ≡ told.attributes (told_by numbers.now) (listed_by listed.now).attributes)) }
 {
-    let globals = count(listed.elements.globals.len())?;
+    let globals = count(listed.elements.globals.len());
     let elements = numbers.elements(alloc, listed)?;
     let attributes = numbers.attributes(alloc, &listed.attributes)?;
     Ok(Declarations {
@@ -101,7 +104,8 @@ fn parts_with<'a>(
     spaces: Vec<Simple>,
     used: &[Builtin],
 ) -> Result<SetParts, Memory>
-    requires { used.now ≡ builtins_told.used_builtins (listed_by listed.now) }
+    requires used { used.now ≡ builtins_told.used_builtins (listed_by listed.now) }
+    requires few { AreFew (listed_by listed.now) }
     ensures numbered { IfOk result (λ made. parts_made made ≡ told.set_with (map doc_of docs.now) (listed_by listed.now) (told_by numbers.now) (map space_of spaces.items)) }
     ensures whole { IfOk result (λ made. All HasWholeModel made.complexes.items) }
 {
@@ -116,9 +120,10 @@ fn parts_with<'a>(
     })
 }
 
-/// The parts of the set of the documents, whose simple types have these spaces in the order of
+/// The parts of the set of the documents, of which there are few, and whose simple types have these spaces in the order of
 /// `link_cycles::simple_types`. The time grows as n log n with the number of components.
 pub fn set_parts(alloc: Global, docs: &[RawDoc], spaces: Vec<Simple>) -> Result<SetParts, Memory>
+    requires { AreFew (lists_of (map doc_of docs.now)) }
     ensures set { IfOk result (λ made. parts_made made ≡ told.set_of (map doc_of docs.now) (map space_of spaces.items)) }
     ensures whole { IfOk result (λ made. All HasWholeModel made.complexes.items) }
 {

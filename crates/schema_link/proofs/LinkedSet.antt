@@ -21,14 +21,17 @@ use Rattle.link_names.specs.declared.places.Place.{Place}
 use Rattle.link_names.specs.Limits.{counted_places, limit_at}
 use Rattle.link_names.specs.Order.{fault}
 use Rattle.link_cycles.specs.SimpleTypes.{simple_types}
+use Rattle.link_complex.specs.ComplexTypes.{complex_types}
 use Rattle.link_set.specs.Builtins.{used_builtins}
+use Rattle.link_set.specs.Few.{AreFew}
 use Rattle.link_set.specs.Parts.{HasWholeModel}
 use Rattle.link_set.specs.Sets as sets
 use Rattle.link_set.specs.Sets.{named_spaces, parts_of, set_of, element, simples, type_of_kind, type_of_attribute}
-use Rattle.link_set.specs.Written.{lists_of}
+use Rattle.link_set.specs.Written.{lists_of, complex_before}
 use Rattle.schema_link.specs.Passes.{passes, ArePassed}
 use Rattle.schema_link.specs.Sets.{AreNumbered}
-use Rattle.schema_link.proofs.FewComponents.{short_list}
+use Rattle.schema_link.proofs.FewComponents.{short_list, few_elements, few_complexes}
+use Rattle.schema_link.proofs.InOrder.{length_in_order}
 use Rattle.schema_link.proofs.Items.{of_mapped, in_either, each_item, item_of_all}
 use Rattle.schema_link.proofs.Kept.{NumberedFrom, AreFaultless, each_keeps}
 use Rattle.schema_link.proofs.SetChains.{unnamed_there, descending, short}
@@ -60,6 +63,17 @@ faultless docs numbered passed = record {
   numbered = numbered_from 0 (map doc_of docs) (λ k d at. let e = numbered k d at in omega (arith, e));
   kept = each_keeps docs;
 }
+
+-- they have few components
+pub set_few : (docs : List RawDoc) → AreNumbered (map doc_of docs) → ArePassed (map doc_of docs) passes → AreFew (lists_of (map doc_of docs))
+set_few docs numbered passed =
+    let ds = map doc_of docs in
+    let h = faultless docs numbered passed in
+    record {
+      elements = let few = few_elements ds h in omega (arith, few);
+      simples = let few = simple_count_few ds h in omega (arith, few);
+      complexes = let few = few_complexes ds h in let same = length_in_order complex_before (complex_types ds) in omega (arith, few, same);
+    }
 
 -- ---- their set
 

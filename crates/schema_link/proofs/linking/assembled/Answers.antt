@@ -5,8 +5,11 @@ use Rattle.schema_parts.specs.Components.{components}
 use Rattle.schema_parts.specs.Documents.{doc_of}
 use Rattle.link_set.specs.Sets.{parts_of}
 use Rattle.link_set.proofs.Soundness.{sound_parts}
-use Rattle.schema_link.proofs.LinkedSet.{set_linked}
+use Rattle.schema_link.proofs.LinkedSet.{set_few, set_linked}
 use Rattle.schema_link.proofs.linking.assembled.Goals as goal
+
+pub set_parts-requires : goal.set_parts-requires
+set_parts-requires c = set_few c.args.docs.now c.requires.numbered c.requires.passed
 
 pub of-requires : goal.of-requires
 of-requires c =
