@@ -1,4 +1,4 @@
-mod Sorted
+pub mod Sorted
 mod Numbering
 mod Numbered
 mod Making

@@ -1,11 +1,12 @@
 -- Tables of numbers, with one entry more before the others.
-use Rattle.std.proofs.Common.{◌≡◌, ℕ, suc, ◌+◌, ◌-◌, ◌<◌, ◌≤◌, arith, Bool, List, ◌∷◌, length, drop, get_or, Option, Some, None, refl, sym, ap, ◌∙◌, Bor}
+use Rattle.std.proofs.Common.{◌≡◌, ℕ, suc, ◌+◌, ◌-◌, ◌<◌, ◌≤◌, arith, Bool, List, ◌∷◌, length, drop, get_or, map, Option, Some, None, refl, sym, ap, ◌∙◌, Bor}
 use Rattle.std.specs.Prelude.{cond, nat_eq}
 use Rattle.std.specs.Option.{option_map}
 use Rattle.std.specs.Ordering.{is_eq, nat_cmp, ordering_then}
 use Rattle.std.specs.BTreeMap as tree
 use Rattle.std.specs.BTreeMap.{BTreeMap}
 use Rattle.std.proofs.lemmas.Bool.Decides.{nat_tests}
+use Rattle.std.proofs.lemmas.List.{length-map}
 use Rattle.xa_base.specs.declared.texts.Name.{Name}
 use Rattle.xa_base.specs.Names.{name_eq}
 use Rattle.simple_types.specs.declared.simples.Builtin.{Builtin}
@@ -15,12 +16,17 @@ use Rattle.link_cycles.specs.Tables.{named_in, placed_in, names}
 use Rattle.link_cycles.proofs.Numbering.{put_placed}
 use Rattle.link_set.specs.Builtins.{rank, is_builtin}
 use Rattle.std.specs.List.{position_from}
+use Rattle.link_set.specs.Numbering as told
 use Rattle.link_set.specs.Numbering.{ComponentNumbers, number_named, number_placed, builtin_numbers, is_called, has_name, stands_at}
 use Rattle.link_set.specs.Private.Told.{entry_of, entries_of, ranked_in}
 use Rattle.link_set.specs.Private.Seen.{told_attribute, attributes_of}
 use Rattle.link_set.specs.Sets.{attribute, attributes, type_of_attribute}
 use Rattle.link_set.specs.declared.numbers.NamedPlace.{NamedPlace}
 use Rattle.link_set.specs.declared.written.WrittenAttribute.{WrittenAttribute}
+
+-- as many entries as components
+pub as_many : {A : Type 0} (es : List NamedPlace) (f : A → told.NamedPlace) (xs : List A) → entries_of es ≡ map f xs → length es ≡ length xs
+as_many es f xs e = sym (length-map es entry_of) ∙ ap length e ∙ length-map xs f
 
 number_here : {A : Type 0} (passes : A → Bool) (first i : ℕ) (x : A) (xs : List A) → 0 < i
     → position_from passes (first + (i - 1)) (x ∷ xs) ≡ cond (passes x) (Some (first + (i - 1))) (position_from passes (first + i) xs)

@@ -1,5 +1,5 @@
 -- What a stable sort leaves is the list in order.
-use Rattle.std.proofs.Common.{◌≡◌, ℕ, suc, ◌<◌, ◌≤◌, arith, Bool, true, false, List, [], ◌∷◌, length, get_or, map, refl, sym, ap, ◌∙◌}
+use Rattle.std.proofs.Common.{◌≡◌, ℕ, suc, ◌<◌, ◌≤◌, arith, Bool, true, false, List, [], ◌∷◌, length, get_or, map, refl, sym, ap, ◌∙◌, subst}
 use Rattle.std.specs.Prelude.{cond, if◌then◌else◌, not, ◌&&◌, ◌||◌, nat_eq, nat_lt}
 use Rattle.std.specs.Cmp.{IsStrictWeakOrder, IsTotalOrder, on_total, then_total, nat_cmp_total}
 use Rattle.std.specs.Ordering.{is_lt, nat_cmp, ordering_then}
@@ -18,12 +18,12 @@ same_tail false x us vs e = e
 
 module _ {A : Type 0} (lt : A → A → Bool) (o : IsStrictWeakOrder lt) where
   -- none of them stands before x
-  abbrev NoneBefore : A → List A → Type 0
+  abbrev pub NoneBefore : A → List A → Type 0
   NoneBefore x [] = Unit {0}
   NoneBefore x (y ∷ ys) = (lt y x ≡ false) × NoneBefore x ys
 
   -- none stands before one that it follows
-  abbrev Rises : List A → Type 0
+  abbrev pub Rises : List A → Type 0
   Rises [] = Unit {0}
   Rises (x ∷ xs) = NoneBefore x xs × Rises xs
 
@@ -146,7 +146,7 @@ module _ {A : Type 0} (lt : A → A → Bool) (o : IsStrictWeakOrder lt) where
       step behind true e = (still_none y a ys (o.one_way y a e) r.0, behind)
       step behind false e = ((e, none_further a y ys e r.0), r)
 
-  rises_in_order : (xs : List A) → Rises (in_order lt xs)
+  pub rises_in_order : (xs : List A) → Rises (in_order lt xs)
   rises_in_order [] = tt
   rises_in_order (x ∷ xs) = rises_inserted x (in_order lt xs) (rises_in_order xs)
 
@@ -190,6 +190,14 @@ place_test a b c d = grind (arith, nat_tests)
 
 place_total : IsTotalOrder (λ (x y : ℕ × ℕ). ordering_then (nat_cmp x.0 y.0) (nat_cmp x.1 y.1))
 place_total = then_total (on_total (λ (p : ℕ × ℕ). p.0) nat_cmp_total) (on_total (λ (p : ℕ × ℕ). p.1) nat_cmp_total)
+
+-- what has places is in a weak order by them
+pub placed_order : {X : Type 0} (placed : X → Place) → IsStrictWeakOrder (λ a b. is_before (placed a) (placed b))
+placed_order {X} placed =
+    let key : X → ℕ × ℕ = λ x. ((placed x).file, (placed x).at) in
+    let lt : X → X → Bool = λ a b. is_lt (ordering_then (nat_cmp (placed a).file (placed b).file) (nat_cmp (placed a).at (placed b).at)) in
+    let told : lt ≡ (λ a b. is_before (placed a) (placed b)) = λ i a b. place_test (placed a).file (placed b).file (placed a).at (placed b).at i in
+    subst IsStrictWeakOrder told (ranks_by place_total key)
 
 pub by_places : {X A : Type 0} (g : X → A) (placed : X → Place) (before : A → A → Bool)
     → ((a b : X) → is_before (placed a) (placed b) ≡ before (g a) (g b)) → (xs ys : List X)

@@ -1,4 +1,5 @@
 pub mod Builtins
+pub mod Few
 pub mod NamedBuiltins
 pub mod Numbering
 pub mod Ordered

@@ -1,7 +1,15 @@
 -- What the parts of a set of the code stand for.
-use Rattle.schema_parts.specs.Components.{components}
+use Rattle.std.specs.Prelude.{IfSome}
+use Rattle.label_tree.specs.Rose.{Allowed}
+use Rattle.content_models.specs.Kids.{MayHave}
+use Rattle.schema_parts.specs.Components.{components, model_of}
+use Rattle.schema_parts.specs.declared.components.ComplexDef.{ComplexDef}
 use Rattle.link_set.specs.Sets.{SetParts, parts_of}
 use Rattle.link_set.specs.declared.parts.SetParts.{SetParts as KeptParts}
 
 abbrev pub parts_made : KeptParts → SetParts
 parts_made p = parts_of (components p.elements.items p.globals p.simples.items p.complexes.items p.attributes.items)
+
+-- in the content model, if there is one, each choice has an alternative, and nothing stands in an element
+abbrev pub HasWholeModel : ComplexDef → Type 0
+HasWholeModel c = IfSome (model_of c.content) (Allowed MayHave)

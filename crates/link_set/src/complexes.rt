@@ -1,12 +1,16 @@
 //! Complex types with the numbers of what they name.
-ghost use Rattle.std.specs.Prelude.{◌≡◌, Some, map, IfOk};
+ghost use Rattle.std.specs.Prelude.{◌≡◌, Some, map, IfOk, IfSome};
+ghost use Rattle.std.specs.List.{All};
 ghost use Rattle.std.specs.Option.{option_map};
-ghost use Rattle.label_tree.specs.Rose.{label_of};
+ghost use Rattle.label_tree.specs.Rose.{label_of, Allowed};
+ghost use Rattle.content_models.specs.Kids.{MayHave};
+ghost use Rattle.schema_parts.specs.Components.{model_of};
 ghost use Rattle.schema_parts.specs.Documents.{doc_of};
 ghost use Rattle.schema_parts.specs.Seen.{base_of, use_of, uses_in};
 ghost use Rattle.link_cycles.specs.Tables.{named_in};
 ghost use Rattle.link_complex.specs.Seen.{definition_of, definitions_of};
 ghost use Rattle.link_set.specs.Ordered.{in_order};
+ghost use Rattle.link_set.specs.Parts.{HasWholeModel};
 ghost use Rattle.link_set.specs.Sets as told;
 ghost use Rattle.link_set.specs.Private.Told.{told_by};
 
@@ -179,13 +183,11 @@ impl<'a> ComponentNumbers<'a> {
         file: u32,
         model: &Particle,
     ) -> Result<Particle, Memory>
-        ensures { IfOk result (λ made. made ≡ told.numbered (told.number_of_declaration (told_by self.now) (map doc_of docs.now) file) model.now) }
+        ensures numbered { IfOk result (λ made. made ≡ told.numbered (told.number_of_declaration (told_by self.now) (map doc_of docs.now) file) model.now) }
+        ensures whole { IfOk result (λ made. Allowed MayHave made) }
     {
         let tree = self.numbered(alloc, docs, file, model.root())?;
-        match Whole::seal(tree) {
-            Ok(whole) => Ok(whole),
-            Err(_) => Err(Memory),
-        }
+        Ok(Whole::of(tree))
     }
 
     fn content(
@@ -195,7 +197,8 @@ impl<'a> ComponentNumbers<'a> {
         file: u32,
         content: &'a RawContent,
     ) -> Result<Content, Memory>
-        ensures { IfOk result (λ made. made ≡ told.content_of (told_by self.now) (told.number_of_declaration (told_by self.now) (map doc_of docs.now) file) content.now) }
+        ensures numbered { IfOk result (λ made. made ≡ told.content_of (told_by self.now) (told.number_of_declaration (told_by self.now) (map doc_of docs.now) file) content.now) }
+        ensures whole { IfOk result (λ made. IfSome (model_of made) (Allowed MayHave)) }
     {
         match content {
             RawContent::Empty => Ok(Content::Empty),
@@ -218,7 +221,8 @@ impl<'a> ComponentNumbers<'a> {
         docs: &'a [RawDoc],
         complex: ComplexType<'a>,
     ) -> Result<ComplexDef, Memory>
-        ensures { IfOk result (λ made. made ≡ told.complex (told_by self.now) (named_in types.now) (map doc_of docs.now) (definition_of complex.entry)) }
+        ensures numbered { IfOk result (λ made. made ≡ told.complex (told_by self.now) (named_in types.now) (map doc_of docs.now) (definition_of complex.entry)) }
+        ensures whole { IfOk result HasWholeModel }
     {
         let name = name_copy(alloc, complex.name)?;
         let uses = self.uses(alloc, types, complex)?;
@@ -238,7 +242,8 @@ impl<'a> ComponentNumbers<'a> {
         docs: &'a [RawDoc],
         complexes: &[ComplexType<'a>],
     ) -> Result<Vec<ComplexDef>, Memory>
-        ensures { IfOk result (λ made. made.items ≡ map (told.complex (told_by self.now) (named_in types.now) (map doc_of docs.now)) (definitions_of complexes.now)) }
+        ensures numbered { IfOk result (λ made. made.items ≡ map (told.complex (told_by self.now) (named_in types.now) (map doc_of docs.now)) (definitions_of complexes.now)) }
+        ensures whole { IfOk result (λ made. All HasWholeModel made.items) }
     {
         let mut made = Vec::new(alloc);
         'complexes: for complex in complexes {

@@ -1,5 +1,5 @@
 //! The numbers of components, by their names and by the places where they were written.
-ghost use Rattle.std.specs.Prelude.{◌≡◌, Some, cond, map, IfOk, OnOk};
+ghost use Rattle.std.specs.Prelude.{◌≡◌, ◌+◌, ◌≤◌, Some, cond, length, map, IfOk, OnOk};
 ghost use Rattle.xa_base.specs.declared.texts.Name.{Name as NameOf};
 ghost use Rattle.simple_types.specs.declared.simples.Builtin.{Builtin as BuiltinOf};
 ghost use Rattle.link_names.specs.declared.places.Place.{Place as PlaceOf};
@@ -14,9 +14,6 @@ use simple_types::Builtin;
 use std::alloc::Global;
 use std::collections::BTreeMap;
 use xa_base::{Memory, Name};
-
-/// How many components of one kind a linked set has at most.
-const MOST: u32 = 65_536;
 
 /// A component by its name, if it has one, and by the place where it was written.
 #[derive(Clone, Copy)]
@@ -49,11 +46,9 @@ pub(crate) fn by_name<'a>(
     first: u32,
     entries: &[NamedPlace<'a>],
 ) -> Result<BTreeMap<&'a Name, u32>, Memory>
+    requires { first + length entries.now ≤ 65536 }
     ensures { IfOk result (λ table. (a : NameOf) → named_in table a ≡ told.number_named first (entries_of entries.now) a) }
 {
-    if first > MOST || entries.len() > MOST as usize {
-        return Err(Memory);
-    }
     let mut table = BTreeMap::new(alloc);
     let mut i = entries.len();
     'last_first: while i > 0 {
@@ -70,11 +65,9 @@ pub(crate) fn by_place(
     first: u32,
     entries: &[NamedPlace<'_>],
 ) -> Result<BTreeMap<(u32, u64), u32>, Memory>
+    requires { first + length entries.now ≤ 65536 }
     ensures { IfOk result (λ table. (p : PlaceOf) → placed_in table p ≡ told.number_placed first (entries_of entries.now) p) }
 {
-    if first > MOST || entries.len() > MOST as usize {
-        return Err(Memory);
-    }
     let mut table = BTreeMap::new(alloc);
     let mut i = entries.len();
     'last_first: while i > 0 {
@@ -92,11 +85,9 @@ pub(crate) fn by_rank(
     first: u32,
     used: &[Builtin],
 ) -> Result<BTreeMap<u32, u32>, Memory>
+    requires { first + length used.now ≤ 65536 }
     ensures { IfOk result (λ table. (w : BuiltinOf) → ranked_in table w ≡ told.builtin_numbers first used.now w) }
 {
-    if first > MOST || used.len() > MOST as usize {
-        return Err(Memory);
-    }
     let mut table = BTreeMap::new(alloc);
     let mut i = used.len();
     'last_first: while i > 0 {

@@ -1,12 +1,15 @@
 //! The parts of the set that several documents stand for.
 ghost use Rattle.std.specs.Prelude.{◌≡◌, length, map, IfOk};
+ghost use Rattle.std.specs.List.{All};
 ghost use Rattle.simple_types.specs.Seen.{space_of};
 ghost use Rattle.schema_parts.specs.Documents.{doc_of};
 ghost use Rattle.link_cycles.specs.SimpleTypes.{simple_types};
 ghost use Rattle.link_set.specs.Builtins as builtins_told;
+ghost use Rattle.link_set.specs.Few.{AreFew};
 ghost use Rattle.link_set.specs.Sets as told;
 ghost use Rattle.link_set.specs.Private.Told.{listed_by, told_by};
-ghost use Rattle.link_set.specs.Parts.{parts_made};
+ghost use Rattle.link_set.specs.Parts.{parts_made, HasWholeModel};
+ghost use Rattle.link_set.specs.Written.{lists_of};
 
 use crate::builtins::used_builtins;
 use crate::listing::Listed;
@@ -33,7 +36,8 @@ fn complexes<'a>(
     listed: &Listed<'a>,
     numbers: &ComponentNumbers<'a>,
 ) -> Result<Vec<ComplexDef>, Memory>
-    ensures { IfOk result (λ complexes. complexes.items ≡ told.complexes (told_by numbers.now) (map doc_of docs.now) (listed_by listed.now)) }
+    ensures numbered { IfOk result (λ complexes. complexes.items ≡ told.complexes (told_by numbers.now) (map doc_of docs.now) (listed_by listed.now)) }
+    ensures whole { IfOk result (λ complexes. All HasWholeModel complexes.items) }
 {
     let types = numbers.attribute_types(alloc, &listed.attributes)?;
     let complexes = numbers.complexes(alloc, &types, docs, &listed.types.complexes)?;
@@ -53,11 +57,12 @@ fn declared<'a>(
     listed: &Listed<'a>,
     numbers: &ComponentNumbers<'a>,
 ) -> Result<Declarations, Memory>
+    requires { AreFew (listed_by listed.now) }
     ensures { IfOk result (λ made. (made.elements.items ≡ told.elements (told_by numbers.now) (listed_by listed.now))
         × (made.globals ≡ length (listed_by listed.now).globals)
         × (made.attributes.items ≡ told.attributes (told_by numbers.now) (listed_by listed.now).attributes)) }
 {
-    let globals = count(listed.elements.globals.len())?;
+    let globals = count(listed.elements.globals.len());
     let elements = numbers.elements(alloc, listed)?;
     let attributes = numbers.attributes(alloc, &listed.attributes)?;
     Ok(Declarations {
@@ -83,7 +88,8 @@ fn typed<'a>(
     used: &[Builtin],
 ) -> Result<Types, Memory>
     ensures { IfOk result (λ made. (told.named_spaces made.simples.items ≡ told.simples (simple_types (map doc_of docs.now)) (map space_of spaces.items) used.now)
-        × (made.complexes.items ≡ told.complexes (told_by numbers.now) (map doc_of docs.now) (listed_by listed.now))) }
+        × (made.complexes.items ≡ told.complexes (told_by numbers.now) (map doc_of docs.now) (listed_by listed.now))
+        × All HasWholeModel made.complexes.items) }
 {
     let simples = simples(alloc, docs, spaces, used)?;
     let complexes = complexes(alloc, docs, listed, numbers)?;
@@ -98,8 +104,10 @@ fn parts_with<'a>(
     spaces: Vec<Simple>,
     used: &[Builtin],
 ) -> Result<SetParts, Memory>
-    requires { used.now ≡ builtins_told.used_builtins (listed_by listed.now) }
-    ensures { IfOk result (λ made. parts_made made ≡ told.set_with (map doc_of docs.now) (listed_by listed.now) (told_by numbers.now) (map space_of spaces.items)) }
+    requires used { used.now ≡ builtins_told.used_builtins (listed_by listed.now) }
+    requires few { AreFew (listed_by listed.now) }
+    ensures numbered { IfOk result (λ made. parts_made made ≡ told.set_with (map doc_of docs.now) (listed_by listed.now) (told_by numbers.now) (map space_of spaces.items)) }
+    ensures whole { IfOk result (λ made. All HasWholeModel made.complexes.items) }
 {
     let declarations = declared(alloc, listed, numbers)?;
     let types = typed(alloc, docs, listed, numbers, spaces, used)?;
@@ -112,10 +120,12 @@ fn parts_with<'a>(
     })
 }
 
-/// The parts of the set of the documents, whose simple types have these spaces in the order of
+/// The parts of the set of the documents, of which there are few, and whose simple types have these spaces in the order of
 /// `link_cycles::simple_types`. The time grows as n log n with the number of components.
 pub fn set_parts(alloc: Global, docs: &[RawDoc], spaces: Vec<Simple>) -> Result<SetParts, Memory>
-    ensures { IfOk result (λ made. parts_made made ≡ told.set_of (map doc_of docs.now) (map space_of spaces.items)) }
+    requires { AreFew (lists_of (map doc_of docs.now)) }
+    ensures set { IfOk result (λ made. parts_made made ≡ told.set_of (map doc_of docs.now) (map space_of spaces.items)) }
+    ensures whole { IfOk result (λ made. All HasWholeModel made.complexes.items) }
 {
     let listed = Listed::of(alloc, docs)?;
     let used = used_builtins(alloc, &listed)?;

@@ -1,5 +1,5 @@
 //! The numbers of all components of several documents.
-ghost use Rattle.std.specs.Prelude.{◌≡◌, length, map, IfOk};
+ghost use Rattle.std.specs.Prelude.{◌≡◌, ◌+◌, ◌≤◌, length, map, IfOk};
 ghost use Rattle.xa_base.specs.declared.texts.Name.{Name as NameOf};
 ghost use Rattle.simple_types.specs.declared.simples.Builtin.{Builtin as BuiltinOf};
 ghost use Rattle.link_names.specs.declared.places.Place.{Place as PlaceOf};
@@ -7,6 +7,7 @@ ghost use Rattle.link_cycles.specs.Seen.{definitions_of as simples_of};
 ghost use Rattle.link_cycles.specs.Tables.{named_in, placed_in};
 ghost use Rattle.link_complex.specs.Seen.{definitions_of as complexes_of};
 ghost use Rattle.link_set.specs.Builtins as builtins_told;
+ghost use Rattle.link_set.specs.Few.{AreFew};
 ghost use Rattle.link_set.specs.Numbering as told;
 ghost use Rattle.link_set.specs.Private.Seen.{elements_of};
 ghost use Rattle.link_set.specs.Private.Told.{entries_of, ranked_in, listed_by, told_types, told_by};
@@ -50,14 +51,12 @@ pub(crate) struct ComponentNumbers<'a> {
     pub types: AllTypeNumbers<'a>,
 }
 
-/// The number of parts as a `u32`. A set has no more than that many.
-pub(crate) fn count(length: usize) -> Result<u32, Memory>
-    ensures { IfOk result (λ n. n ≡ length) }
+/// The number of parts as a `u32`.
+pub(crate) fn count(length: usize) -> u32
+    requires { length ≤ 65536 }
+    ensures { result ≡ length }
 {
-    if length > 65_536 {
-        return Err(Memory);
-    }
-    Ok(length as u32)
+    length as u32
 }
 
 fn element_entries<'a>(
@@ -115,6 +114,7 @@ fn numbers_of_globals<'a>(
     alloc: Global,
     globals: &[WrittenElement<'a>],
 ) -> Result<BTreeMap<&'a Name, u32>, Memory>
+    requires { length globals.now ≤ 65536 }
     ensures { IfOk result (λ table. (a : NameOf) → named_in table a ≡ told.number_named 0 (map told.element_entry (elements_of globals.now)) a) }
 {
     let entries = element_entries(alloc, globals)?;
@@ -126,9 +126,10 @@ fn numbers_of_locals(
     first: usize,
     locals: &[WrittenElement<'_>],
 ) -> Result<BTreeMap<(u32, u64), u32>, Memory>
+    requires { first + length locals.now ≤ 65536 }
     ensures { IfOk result (λ table. (p : PlaceOf) → placed_in table p ≡ told.number_placed first (map told.element_entry (elements_of locals.now)) p) }
 {
-    let first = count(first)?;
+    let first = count(first);
     let entries = element_entries(alloc, locals)?;
     by_place(alloc, first, &entries)
 }
@@ -138,9 +139,10 @@ fn numbers_of_builtins(
     first: usize,
     used: &[Builtin],
 ) -> Result<BTreeMap<u32, u32>, Memory>
+    requires { first + length used.now ≤ 65536 }
     ensures { IfOk result (λ table. (w : BuiltinOf) → ranked_in table w ≡ told.builtin_numbers first used.now w) }
 {
-    let first = count(first)?;
+    let first = count(first);
     by_rank(alloc, first, used)
 }
 
@@ -150,6 +152,7 @@ impl<'a> ElementNumbers<'a> {
         globals: &[WrittenElement<'a>],
         locals: &[WrittenElement<'a>],
     ) -> Result<ElementNumbers<'a>, Memory>
+        requires { length globals.now + length locals.now ≤ 65536 }
         ensures { IfOk result (λ numbers. ((a : NameOf) → named_in numbers.globals a ≡ told.number_named 0 (map told.element_entry (elements_of globals.now)) a)
             × ((p : PlaceOf) → placed_in numbers.locals p ≡ told.number_placed (length globals.now) (map told.element_entry (elements_of locals.now)) p)) }
     {
@@ -164,6 +167,7 @@ impl<'a> ElementNumbers<'a> {
 
 impl<'a> TypeNumbers<'a> {
     fn of(alloc: Global, entries: &[NamedPlace<'a>]) -> Result<TypeNumbers<'a>, Memory>
+        requires { length entries.now ≤ 65536 }
         ensures { IfOk result (λ numbers. told_types numbers ≡ told.type_numbers (entries_of entries.now)) }
     {
         let named = by_name(alloc, 0, entries)?;
@@ -176,6 +180,7 @@ fn numbers_of_simples<'a>(
     alloc: Global,
     types: &[SimpleType<'a>],
 ) -> Result<TypeNumbers<'a>, Memory>
+    requires { length types.now ≤ 65536 }
     ensures { IfOk result (λ numbers. told_types numbers ≡ told.type_numbers (map told.simple_entry (simples_of types.now))) }
 {
     let entries = simple_entries(alloc, types)?;
@@ -186,6 +191,7 @@ fn numbers_of_complexes<'a>(
     alloc: Global,
     types: &[ComplexType<'a>],
 ) -> Result<TypeNumbers<'a>, Memory>
+    requires { length types.now ≤ 65536 }
     ensures { IfOk result (λ numbers. told_types numbers ≡ told.type_numbers (map told.complex_entry (complexes_of types.now))) }
 {
     let entries = complex_entries(alloc, types)?;
@@ -198,6 +204,8 @@ impl<'a> AllTypeNumbers<'a> {
         listed: &Listed<'a>,
         used: &[Builtin],
     ) -> Result<AllTypeNumbers<'a>, Memory>
+        requires simples { length listed.now.types.simples.items + length used.now ≤ 65536 }
+        requires complexes { length listed.now.types.complexes.items ≤ 65536 }
         ensures { IfOk result (λ numbers. (told_types numbers.simples ≡ told.type_numbers (map told.simple_entry (listed_by listed.now).simples))
             × ((w : BuiltinOf) → ranked_in numbers.builtins w ≡ told.builtin_numbers (length listed.now.types.simples.items) used.now w)
             × (told_types numbers.complexes ≡ told.type_numbers (map told.complex_entry (listed_by listed.now).complexes))) }
@@ -220,7 +228,8 @@ impl<'a> ComponentNumbers<'a> {
         listed: &Listed<'a>,
         used: &[Builtin],
     ) -> Result<ComponentNumbers<'a>, Memory>
-        requires { used.now ≡ builtins_told.used_builtins (listed_by listed.now) }
+        requires used { used.now ≡ builtins_told.used_builtins (listed_by listed.now) }
+        requires few { AreFew (listed_by listed.now) }
         ensures { IfOk result (λ numbers. told_by numbers ≡ told.numbers_in (listed_by listed.now)) }
     {
         let elements = ElementNumbers::of(

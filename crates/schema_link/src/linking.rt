@@ -2,13 +2,13 @@
 ghost use Rattle.std.specs.Prelude.{◌≡◌, ◌≤◌, ◌∷◌, [], IsTrue, length, map, IfOk};
 ghost use Rattle.simple_types.specs.Seen.{space_of};
 ghost use Rattle.schema_parts.specs.Documents.{doc_of};
+ghost use Rattle.link_cycles.specs.SimpleTypes.{simple_types};
 ghost use Rattle.link_simple.specs.Answering.{AreSound};
 ghost use Rattle.link_set.specs.Sets.{parts_of, set_of};
 ghost use Rattle.schema_link.specs.Passes.{Making, Comparing, Clearing, ArePassed, passes_of_names, passes};
 ghost use Rattle.schema_link.specs.Sets.{AreNumbered, AnswersSpaces, Links};
 
 use crate::passes::{LinkError, check_content, check_names, make_simple_types};
-use link_check::is_linked;
 use link_set::set_parts;
 use schema_parts::{RawDoc, SchemaSet};
 use simple_types::Simple;
@@ -39,23 +39,15 @@ fn passed(alloc: Global, docs: &[RawDoc]) -> Result<Vec<Simple>, LinkError>
     }
 }
 
-// The set of the documents. That it hangs together is tested; where the passes have no fault, it does.
+// The set of the documents, which hangs together since no pass has a fault.
 fn assembled(alloc: Global, docs: &[RawDoc], spaces: Vec<Simple>) -> Result<SchemaSet, Memory>
-    requires { AreSound spaces.items }
+    requires numbered { AreNumbered (map doc_of docs.now) }
+    requires passed { ArePassed (map doc_of docs.now) passes }
+    requires all { length spaces.items ≡ length (simple_types (map doc_of docs.now)) }
+    requires sound { AreSound spaces.items }
     ensures { IfOk result (λ set. parts_of set ≡ set_of (map doc_of docs.now) (map space_of spaces.items)) }
 {
     let parts = set_parts(alloc, docs, spaces)?;
-    let linked = is_linked(
-        alloc,
-        &parts.elements,
-        parts.globals,
-        &parts.simples,
-        &parts.complexes,
-        &parts.attributes,
-    )?;
-    if !linked {
-        return Err(Memory);
-    }
     Ok(SchemaSet::of(
         parts.elements,
         parts.globals,
@@ -80,9 +72,8 @@ pub fn are_numbered(docs: &[RawDoc]) -> bool
 
 /// The documents as one set, in which each name is resolved, or the first fault that the passes show. There are at most
 /// 64 of them, and the file numbers are 1, 2 and so on. The time grows as n log n with the size of the documents, beside
-/// what `link_simple::made` says of restricting and `link_cycles::first_circular` of cycles. `Memory` is the answer too
-/// where the set that is put together isn't one that `link_check::is_linked` takes; no contract rules that out, and for
-/// documents without a fault it doesn't happen.
+/// what `link_simple::made` says of restricting and `link_cycles::first_circular` of cycles. That the set hangs together is
+/// proved, and nothing of it is tested.
 pub fn link(alloc: Global, docs: &[RawDoc]) -> Result<SchemaSet, LinkError>
     requires few { length docs.now ≤ 64 }
     requires numbered { AreNumbered (map doc_of docs.now) }

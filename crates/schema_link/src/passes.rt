@@ -24,7 +24,7 @@ pub enum LinkError {
     /// the number that the document was read with, and `at` is in bytes from 0.
     #[error("file {file}, byte {at}: {why:?}")]
     Shown { file: u32, at: u64, why: LinkWhy },
-    /// Memory is missing, or a test of what was made failed, which for documents without a fault doesn't happen.
+    /// Memory is missing.
     #[error("out of memory")]
     Memory,
 }

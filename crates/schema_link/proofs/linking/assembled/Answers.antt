@@ -1,13 +1,23 @@
-use Rattle.std.proofs.Common.{map, subst, sym, ap, ◌∙◌}
+use Rattle.std.proofs.Common.{map, ap, ◌∙◌}
+use Rattle.std.proofs.lemmas.List.{length-map}
+use Rattle.simple_types.specs.Seen.{space_of}
+use Rattle.schema_parts.specs.Components.{components}
 use Rattle.schema_parts.specs.Documents.{doc_of}
-use Rattle.link_check.specs.Given.{AreSound}
 use Rattle.link_set.specs.Sets.{parts_of}
 use Rattle.link_set.proofs.Soundness.{sound_parts}
+use Rattle.schema_link.proofs.LinkedSet.{set_few, set_linked}
 use Rattle.schema_link.proofs.linking.assembled.Goals as goal
 
-pub is_linked-requires : goal.is_linked-requires
-is_linked-requires c =
-    subst AreSound (sym c.deref-2.ensures.value) (sound_parts c.in_ok-parts.parts (map doc_of c.args.docs.now) c.args.spaces.items c.in_ok-parts.ensures c.requires)
+pub set_parts-requires : goal.set_parts-requires
+set_parts-requires c = set_few c.args.docs.now c.requires.numbered c.requires.passed
+
+pub of-requires : goal.of-requires
+of-requires c =
+    let p = c.in_ok-parts.parts in
+    let spaces = c.args.spaces.items in
+    let made = c.in_ok-parts.ensures in
+    set_linked c.args.docs.now (components p.elements.items p.globals p.simples.items p.complexes.items p.attributes.items) (map space_of spaces) c.requires.numbered
+    c.requires.passed (length-map spaces space_of ∙ c.requires.all) made.set (sound_parts p (map doc_of c.args.docs.now) spaces made.set c.requires.sound) made.whole
 
 pub returns : goal.returns
-returns c = ap parts_of c.of.ensures ∙ c.in_ok-parts.ensures
+returns c = ap parts_of c.of.ensures ∙ c.in_ok-parts.ensures.set

@@ -18,6 +18,6 @@ returns c =
       locals = λ p. (c.in_ok-elements.ensures.1 p ∙ ap₂ (λ gs ls. number_placed (length gs) (map element_entry (elements_of ls)) p) seen_globals seen_locals
           ∙ ap (λ n. number_placed n (map element_entry (elements_of locals)) p) (sym (length-map globals written_of))) i;
       simples = c.in_ok-types.ensures.0 i;
-      builtins = λ w. (c.in_ok-types.ensures.1 w ∙ ap₂ (λ n us. builtin_numbers n us w) (sym (length-map simples definition_of)) c.requires) i;
+      builtins = λ w. (c.in_ok-types.ensures.1 w ∙ ap₂ (λ n us. builtin_numbers n us w) (sym (length-map simples definition_of)) c.requires.used) i;
       complexes = c.in_ok-types.ensures.2 i;
     }

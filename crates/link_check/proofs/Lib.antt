@@ -1,9 +1,0 @@
-pub mod Ascending
-pub mod Chains
-pub mod Consistent
-pub mod Distinct
-pub mod Leaving
-pub mod Named
-pub mod Numbered
-pub mod Occurring
-pub mod Steps
