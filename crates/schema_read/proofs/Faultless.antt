@@ -18,9 +18,9 @@ use Rattle.schema_rules.specs.declared.roles.Position.{Position}
 use Rattle.schema_rules.specs.declared.roles.Part.{Part}
 use Rattle.schema_rules.specs.declared.elements.Placement.{Placement}
 use Rattle.schema_rules.specs.declared.elements.Placement.TheVariants.{Skipped, Refused, Placed}
-use Rattle.schema_faults.specs.Requirements.{lacks_required}
+use Rattle.schema_faults.specs.Requirements.{lacks_required, has_both_forms}
 use Rattle.schema_faults.specs.Limits.{is_over_limit, level_inside}
-use Rattle.schema_faults.specs.Reasons.{early_tests, left_out_attributes, left_out_reference, untyped, late_tests, reason_against}
+use Rattle.schema_faults.specs.Reasons.{early_tests, left_out_attributes, left_out_reference, untyped, is_empty_choice, late_tests, reason_against}
 use Rattle.schema_faults.specs.Faults.{LookedAt, own_reason, unless_composition, placed_at, reasons_at, reasons_among}
 use Rattle.schema_faults.specs.Shown.{NoneAtAll}
 
@@ -83,6 +83,7 @@ pub record Passes (role : ElementRole) (scope : List (List ℕ × List ℕ)) (le
   pub required : lacks_required role own kids ≡ false
   pub good : has_bad_value role scope own ≡ false
   pub few : is_over_limit role level own kids ≡ false
+  pub filled : is_empty_choice role own kids ≡ false
 
 neither : {A : Type 0} (a b : Option A) → option_or a b ≡ None → (a ≡ None) × (b ≡ None)
 neither None b h = (refl, h)
@@ -92,14 +93,14 @@ test_fails : (t : Bool) (reason : SchemaWhy) (more : List (Bool × SchemaWhy)) �
 test_fails true reason more h = absurd (no_reason reason h)
 test_fails false reason more h = (refl, h)
 
-early_none : (role : ElementRole) (scope : List (List ℕ × List ℕ)) (level : ℕ) (own : List (List ℕ × List ℕ)) (kids : List (Rose ItemLabel))
-    → reason_against role scope level own kids ≡ None → first_true (early_tests role scope level own kids) ≡ None
+both_none : (role : ElementRole) (scope : List (List ℕ × List ℕ)) (level : ℕ) (own : List (List ℕ × List ℕ)) (kids : List (Rose ItemLabel))
+    → reason_against role scope level own kids ≡ None → (first_true (early_tests role scope level own kids) ≡ None) × (first_true (late_tests role own kids) ≡ None)
 unfolding reason_against
-early_none role scope level own kids h =
+both_none role scope level own kids h =
     let early = first_true (early_tests role scope level own kids) in
     let a = neither (option_or (option_or early (left_out_reference scope own)) (untyped role own kids)) (first_true (late_tests role own kids)) h in
     let b = neither (option_or early (left_out_reference scope own)) (untyped role own kids) a.0 in
-    (neither early (left_out_reference scope own) b.0).0
+    ((neither early (left_out_reference scope own) b.0).0, a.1)
 
 pub passes : (role : ElementRole) (scope : List (List ℕ × List ℕ)) (level : ℕ) (own : List (List ℕ × List ℕ)) (kids : List (Rose ItemLabel))
     → reason_against role scope level own kids ≡ None → Passes role scope level own kids
@@ -108,8 +109,11 @@ passes role scope level own kids h =
     let l = (is_over_limit role level own kids, why.Limit) ∷ more in
     let b = (has_bad_value role scope own, why.BadValue) ∷ l in
     let m = (lacks_required role own kids, why.MissingAttribute) ∷ b in
-    let one = test_fails (has_unknown role own) why.UnknownAttribute m (early_none role scope level own kids h) in
+    let both = both_none role scope level own kids h in
+    let one = test_fails (has_unknown role own) why.UnknownAttribute m both.0 in
     let two = test_fails (lacks_required role own kids) why.MissingAttribute b one.1 in
     let three = test_fails (has_bad_value role scope own) why.BadValue l two.1 in
     let four = test_fails (is_over_limit role level own kids) why.Limit more three.1 in
-    record { known = one.0; required = two.0; good = three.0; few = four.0 }
+    let five = test_fails (has_both_forms role own kids) why.BothForms ((is_empty_choice role own kids, why.EmptyChoice) ∷ []) both.1 in
+    let six = test_fails (is_empty_choice role own kids) why.EmptyChoice [] five.1 in
+    record { known = one.0; required = two.0; good = three.0; few = four.0; filled = six.0 }

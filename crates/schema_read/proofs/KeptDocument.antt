@@ -26,6 +26,7 @@ use Rattle.schema_read.proofs.CountedPlaces.{counted_rise}
 use Rattle.schema_read.proofs.PlacedDocument.{few_locals, parts_ascend, parts_inward}
 use Rattle.schema_read.proofs.CountedDocument.{all_stand}
 use Rattle.schema_read.proofs.FittingDocument.{all_parts_fit}
+use Rattle.schema_read.proofs.HeldDocument.{all_parts_held}
 use Rattle.schema_read.proofs.ShortDocument.{all_are_short}
 use Rattle.schema_read.proofs.VariedDocument.{all_parts_varied}
 use Rattle.schema_read.proofs.WholeDocument.{coherent_document}
@@ -59,6 +60,7 @@ document_keeps file (node (Element name attributes declares at) kids) h schema s
     subst (λ ks. NoneAtAll (reasons_among Schema None scope 0 ks)) (sym (roses_of-list_of kids)) whole.1 in
     let same = ap (λ ks. levels_all ks) (roses_of-list_of kids) in
     let low : levels_all (roses_of (list_of kids)) ≤ 63 = omega (arith, same, shallow) in
+    let held = all_parts_held said scope (at + 1) w.end (list_of kids) (omega (arith, within)) spans clean in
     record {
       named = all_parts_named said target scope (list_of kids) clean (subst (λ ks. are_sound ks ≡ true) (sym (roses_of-list_of kids)) sounds.1);
       few = omega (arith, k, within);
@@ -70,4 +72,7 @@ document_keeps file (node (Element name attributes declares at) kids) h schema s
       inward = parts_inward said scope (at + 1) w.end (list_of kids) positive spans;
       short = all_are_short said scope (list_of kids) low clean;
       coherent = coherent_document said scope said.target counted (list_of kids);
+      elements_held = held.elements;
+      types_held = held.types;
+      locals_held = held.locals;
     }

@@ -11,6 +11,8 @@ pub mod Faultless
 pub mod FaultlessRoles
 pub mod FittingDocument
 pub mod FittingParts
+pub mod HeldDocument
+pub mod HeldParts
 pub mod InwardContents
 pub mod InwardTypes
 pub mod ItemPlaces
@@ -24,6 +26,7 @@ pub mod OwnNames
 pub mod PlacedDocument
 pub mod PlacedParts
 pub mod RisingPlaces
+pub mod Rooms
 pub mod ShortDocument
 pub mod ShortParts
 pub mod Simple

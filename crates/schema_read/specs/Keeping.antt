@@ -8,6 +8,7 @@ use Rattle.schema_parts.specs.Places.{all_ascend, places_in, StandAmong}
 use Rattle.schema_parts.specs.Inward.{all_inward}
 use Rattle.schema_parts.specs.Chains.{AreShort}
 use Rattle.schema_parts.specs.Coherent.{IsCoherent}
+use Rattle.schema_read.specs.Private.Held.{ElementsHeld, TypesHeld, LocalsHeld}
 
 pub record Keeps (d : Document) : Type 0 where
   -- each name that is declared may be declared
@@ -23,3 +24,7 @@ pub record Keeps (d : Document) : Type 0 where
   pub inward : all_inward d.elements d.attributes d.types d.locals ≡ true
   pub short : AreShort d.elements d.types d.locals
   pub coherent : IsCoherent d
+  -- and the values of the code can hold it
+  pub elements_held : ElementsHeld d.elements
+  pub types_held : TypesHeld d.types
+  pub locals_held : LocalsHeld d.locals

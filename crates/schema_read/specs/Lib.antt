@@ -8,3 +8,4 @@ pub mod Refusing
 pub mod Keeping
 pub mod Settings
 pub mod SimpleTypes
+pub mod Private

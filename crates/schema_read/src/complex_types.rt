@@ -1,5 +1,5 @@
 //! Complex type definitions, elements and content models.
-ghost use Rattle.std.specs.Prelude.{◌≡◌, ◌+◌, [], ◌++◌, IfOk, OnOk, length, map, option_map};
+ghost use Rattle.std.specs.Prelude.{◌≡◌, ◌+◌, ◌<◌, ◌^◌, [], ◌++◌, IfOk, OnOk, length, map, option_map};
 ghost use Rattle.label_tree.specs.Rose.{roses_of};
 ghost use Rattle.schema_parts.specs.Seen as seen;
 ghost use Rattle.schema_rules.specs.Scopes.{bindings_in};
@@ -8,6 +8,7 @@ ghost use Rattle.schema_read.specs.Names as names;
 ghost use Rattle.schema_read.specs.Settings.{said};
 ghost use Rattle.schema_read.specs.Particles as parts;
 ghost use Rattle.schema_read.specs.Particles.{Makes, made, made_some};
+ghost use Rattle.schema_read.specs.Private.Held.{BodyHeld, ElementHeld, FoundHeld, HasRoom, IsHeld, KindHeld};
 
 use crate::contents::{complex_with, is_named, is_true, simple_content};
 use crate::declarations::local_name;
@@ -23,13 +24,11 @@ use schema_rules::{ChildSet, NamespaceScope, is_in, never_occurs, own_attributes
 use std::alloc::Global;
 use xa_base::{Memory, Name, Text};
 
-fn next_number(locals: &[RawLocal]) -> Result<u32, Memory>
-    ensures { IfOk result (λ number. number ≡ length locals.now) }
+fn next_number(locals: &[RawLocal]) -> u32
+    requires { length locals.now < 2 ^ 32 }
+    ensures { result ≡ length locals.now }
 {
-    match u32::try_from(locals.len()) {
-        Ok(number) => Ok(number),
-        Err(_) => Err(Memory),
-    }
+    locals.len() as u32
 }
 
 // Adds a reference to a global element.
@@ -66,6 +65,7 @@ impl<'s, 'a, 'b> Reader<'s, 'a, 'b> {
         tree: &'a Tree<ItemLabel>,
         locals: &mut Vec<RawLocal>,
     ) -> Result<Option<Tree<ParticleLabel>>, Memory>
+        requires { HasRoom locals.old.items (parts.particle_at (said self.setting) (bindings_in self.scope.now) (length locals.old.items) tree.now) }
         ensures { IfOk result (λ found. Makes locals.old.items locals.new.items found (parts.particle_at (said self.entry.setting) (bindings_in self.entry.scope.now) (length locals.old.items) tree.now)) }
     {
         let ItemLabel::Element {
@@ -103,6 +103,9 @@ impl<'s, 'a, 'b> Reader<'s, 'a, 'b> {
         kids: &'a [Tree<ItemLabel>],
         locals: &mut Vec<RawLocal>,
     ) -> Result<Tree<ParticleLabel>, Memory>
+        requires { HasRoom locals.old.items (parts.particle_by (said self.setting) (length locals.old.items) name.now at (bindings_in self.scope.now) own.now
+            (parts.inner_kind (said self.setting) (bindings_in self.scope.now) (length locals.old.items + 1) (roses_of kids.now))
+            (parts.particles_among (said self.setting) (bindings_in self.scope.now) (length locals.old.items) (roses_of kids.now))) }
         ensures { IfOk result (λ particle. Makes locals.old.items locals.new.items particle (parts.particle_by (said self.entry.setting) (length locals.old.items) name.now at (bindings_in self.entry.scope.now) own.now
             (parts.inner_kind (said self.entry.setting) (bindings_in self.entry.scope.now) (length locals.old.items + 1) (roses_of kids.now))
             (parts.particles_among (said self.entry.setting) (bindings_in self.entry.scope.now) (length locals.old.items) (roses_of kids.now)))) }
@@ -124,6 +127,7 @@ impl<'s, 'a, 'b> Reader<'s, 'a, 'b> {
         kids: &'a [Tree<ItemLabel>],
         locals: &mut Vec<RawLocal>,
     ) -> Result<Vec<Tree<ParticleLabel>>, Memory>
+        requires { HasRoom locals.old.items (parts.particles_among (said self.setting) (bindings_in self.scope.now) (length locals.old.items) (roses_of kids.now)) }
         ensures { IfOk result (λ particles. Makes locals.old.items locals.new.items particles.items (parts.particles_among (said self.entry.setting) (bindings_in self.entry.scope.now) (length locals.old.items) (roses_of kids.now))) }
     {
         let mut particles = Vec::new(self.alloc);
@@ -143,10 +147,12 @@ impl<'s, 'a, 'b> Reader<'s, 'a, 'b> {
         kids: &'a [Tree<ItemLabel>],
         locals: &mut Vec<RawLocal>,
     ) -> Result<u32, Memory>
+        requires { HasRoom locals.old.items (made (length locals.old.items) (parts.declared (said self.setting) at (bindings_in self.scope.now) own.now
+            (parts.inner_kind (said self.setting) (bindings_in self.scope.now) (length locals.old.items + 1) (roses_of kids.now)))) }
         ensures { IfOk result (λ decl. Makes locals.old.items locals.new.items decl (made (length locals.old.items) (parts.declared (said self.entry.setting) at (bindings_in self.entry.scope.now) own.now
             (parts.inner_kind (said self.entry.setting) (bindings_in self.entry.scope.now) (length locals.old.items + 1) (roses_of kids.now))))) }
     {
-        let decl = next_number(locals)?;
+        let decl = next_number(locals);
         match value_of("ref", own) {
             Some(reference) => {
                 refer(self.alloc, self.scope, reference.as_str(), at, locals)?;
@@ -167,6 +173,9 @@ impl<'s, 'a, 'b> Reader<'s, 'a, 'b> {
         kids: &'a [Tree<ItemLabel>],
         locals: &mut Vec<RawLocal>,
     ) -> Result<(), Memory>
+        requires { HasRoom locals.old.items (made (length locals.old.items) (parts.declared_with (parts.element_by
+            (attributes.local_name self.setting.target.now self.setting.elements_qualified own.now) own.now at (parts.kind_by (bindings_in self.scope.now) own.now
+            (parts.inner_kind (said self.setting) (bindings_in self.scope.now) (length locals.old.items + 1) (roses_of kids.now)))))) }
         ensures { OnOk result (map seen.local_of locals.new.items ≡ map seen.local_of locals.old.items ++ parts.declared_with (parts.element_by
             (attributes.local_name self.entry.setting.target.now self.entry.setting.elements_qualified own.now) own.now at (parts.kind_by (bindings_in self.entry.scope.now) own.now
             (parts.inner_kind (said self.entry.setting) (bindings_in self.entry.scope.now) (length locals.old.items + 1) (roses_of kids.now))))) }
@@ -194,6 +203,8 @@ impl<'s, 'a, 'b> Reader<'s, 'a, 'b> {
         kids: &'a [Tree<ItemLabel>],
         locals: &mut Vec<RawLocal>,
     ) -> Result<RawElement, Memory>
+        requires { IsHeld ElementHeld locals.old.items (parts.element_by name own.now at (parts.kind_by (bindings_in self.scope.now) own.now
+            (parts.inner_kind (said self.setting) (bindings_in self.scope.now) (length locals.old.items) (roses_of kids.now)))) }
         ensures { IfOk result (λ element. Makes locals.old.items locals.new.items (seen.element_of element) (parts.element_by name own.now at (parts.kind_by (bindings_in self.entry.scope.now) own.now
             (parts.inner_kind (said self.entry.setting) (bindings_in self.entry.scope.now) (length locals.old.items) (roses_of kids.now))))) }
     {
@@ -216,6 +227,7 @@ impl<'s, 'a, 'b> Reader<'s, 'a, 'b> {
         kids: &'a [Tree<ItemLabel>],
         locals: &mut Vec<RawLocal>,
     ) -> Result<Option<Tree<ParticleLabel>>, Memory>
+        requires { HasRoom locals.old.items (parts.group_among (said self.setting) (bindings_in self.scope.now) (length locals.old.items) (roses_of kids.now)) }
         ensures { IfOk result (λ found. Makes locals.old.items locals.new.items found (parts.group_among (said self.entry.setting) (bindings_in self.entry.scope.now) (length locals.old.items) (roses_of kids.now))) }
     {
         for kid in kids {
@@ -234,6 +246,7 @@ impl<'s, 'a, 'b> Reader<'s, 'a, 'b> {
         kids: &'a [Tree<ItemLabel>],
         locals: &mut Vec<RawLocal>,
     ) -> Result<RawKind, Memory>
+        requires { IsHeld KindHeld locals.old.items (parts.inner_kind (said self.setting) (bindings_in self.scope.now) (length locals.old.items) (roses_of kids.now)) }
         ensures { IfOk result (λ kind. Makes locals.old.items locals.new.items (seen.kind_of kind) (parts.inner_kind (said self.entry.setting) (bindings_in self.entry.scope.now) (length locals.old.items) (roses_of kids.now))) }
     {
         for kid in kids {
@@ -256,6 +269,7 @@ impl<'s, 'a, 'b> Reader<'s, 'a, 'b> {
         tree: &'a Tree<ItemLabel>,
         locals: &mut Vec<RawLocal>,
     ) -> Result<Option<RawComplex>, Memory>
+        requires { IsHeld FoundHeld locals.old.items (parts.complex_type (said self.setting) (bindings_in self.scope.now) (length locals.old.items) tree.now) }
         ensures { IfOk result (λ found. Makes locals.old.items locals.new.items (option_map seen.complex_of found) (parts.complex_type (said self.entry.setting) (bindings_in self.entry.scope.now) (length locals.old.items) tree.now)) }
     {
         let ItemLabel::Element {
@@ -290,6 +304,8 @@ impl<'s, 'a, 'b> Reader<'s, 'a, 'b> {
         kids: &'a [Tree<ItemLabel>],
         locals: &mut Vec<RawLocal>,
     ) -> Result<RawComplex, Memory>
+        requires { IsHeld BodyHeld locals.old.items (parts.complex_of (said self.setting) at mixed (bindings_in self.scope.now) kids.now
+            (parts.group_among (said self.setting) (bindings_in self.scope.now) (length locals.old.items) (roses_of kids.now))) }
         ensures { IfOk result (λ body. Makes locals.old.items locals.new.items (seen.complex_of body) (parts.complex_of (said self.entry.setting) at mixed (bindings_in self.entry.scope.now) kids.now
             (parts.group_among (said self.entry.setting) (bindings_in self.entry.scope.now) (length locals.old.items) (roses_of kids.now)))) }
     {

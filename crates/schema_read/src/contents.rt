@@ -1,11 +1,13 @@
 //! What may stand in an element of a complex type.
-ghost use Rattle.std.specs.Prelude.{◌≡◌, IfOk, option_map};
-ghost use Rattle.label_tree.specs.Rose.{label_of, kids_of};
+ghost use Rattle.std.specs.Prelude.{◌≡◌, ◌+◌, ◌<◌, ◌^◌, IfOk, option_map};
+ghost use Rattle.label_tree.specs.Rose.{Allowed, label_of, kids_of};
+ghost use Rattle.content_models.specs.Kids.{MayHave};
 ghost use Rattle.schema_faults.specs.Reasons.{is_true};
 ghost use Rattle.schema_rules.specs.Scopes.{bindings_in};
 ghost use Rattle.schema_parts.specs.Seen.{complex_of};
 ghost use Rattle.schema_read.specs.Settings.{said};
 ghost use Rattle.schema_read.specs.Contents as contents;
+ghost use Rattle.schema_read.specs.Private.Held.{BodyHeld, ContentHeld};
 
 use crate::declarations::{Setting, uses_among};
 use crate::names::{no_name, type_ref};
@@ -158,27 +160,26 @@ fn is_nothing(group: &Tree<ParticleLabel>) -> bool
     }
 }
 
-// A choice of nothing is a fault of the document, so that each group can be sealed.
-fn model_of(mixed: bool, group: Tree<ParticleLabel>) -> Result<RawContent, Memory>
-    ensures { IfOk result (λ content. content ≡ contents.model_of mixed group) }
+// A choice of nothing is a fault of the document.
+fn model_of(mixed: bool, group: Tree<ParticleLabel>) -> RawContent
+    requires { Allowed MayHave group }
+    ensures { result ≡ contents.model_of mixed group }
 {
-    let Ok(whole) = Whole::seal(group) else {
-        return Err(Memory);
-    };
+    let whole = Whole::of(group);
     if mixed {
-        Ok(RawContent::Mixed(whole))
+        RawContent::Mixed(whole)
     } else {
-        Ok(RawContent::ElementOnly(whole))
+        RawContent::ElementOnly(whole)
     }
 }
 
-fn content_of_nothing(alloc: Global, file: u32, mixed: bool, at: u64) -> Result<RawContent, Memory>
-    ensures { IfOk result (λ content. content ≡ contents.content_of_nothing file mixed at) }
+fn content_of_nothing(alloc: Global, file: u32, mixed: bool, at: u64) -> RawContent
+    ensures { result ≡ contents.content_of_nothing file mixed at }
 {
     if mixed {
         model_of(true, nothing(alloc, file, at))
     } else {
-        Ok(RawContent::Empty)
+        RawContent::Empty
     }
 }
 
@@ -188,8 +189,9 @@ fn content_by(
     mixed: bool,
     empty_at: u64,
     group: Tree<ParticleLabel>,
-) -> Result<RawContent, Memory>
-    ensures { IfOk result (λ content. content ≡ contents.content_by file mixed empty_at group) }
+) -> RawContent
+    requires { ContentHeld (contents.content_by file mixed empty_at group) }
+    ensures { result ≡ contents.content_by file mixed empty_at group }
 {
     if is_nothing(&group) {
         content_of_nothing(alloc, file, mixed, empty_at)
@@ -205,8 +207,9 @@ fn content_of(
     mixed: bool,
     empty_at: u64,
     group: Option<Tree<ParticleLabel>>,
-) -> Result<RawContent, Memory>
-    ensures { IfOk result (λ content. content ≡ contents.content_of file mixed empty_at group) }
+) -> RawContent
+    requires { ContentHeld (contents.content_of file mixed empty_at group) }
+    ensures { result ≡ contents.content_of file mixed empty_at group }
 {
     match group {
         Some(tree) => content_by(alloc, file, mixed, empty_at, tree),
@@ -242,18 +245,14 @@ fn group_place(kids: &[Tree<ItemLabel>]) -> Option<u64>
     None
 }
 
-// The place of a content of nothing. All places are far below the greatest number of 64 bits.
-fn empty_place(at: u64, kids: &[Tree<ItemLabel>]) -> Result<u64, Memory>
-    ensures { IfOk result (λ place. place ≡ contents.empty_place at kids.now) }
+// The place of a content of nothing.
+fn empty_place(at: u64, kids: &[Tree<ItemLabel>]) -> u64
+    requires { at + 1 < 2 ^ 64 }
+    ensures { result ≡ contents.empty_place at kids.now }
 {
     match group_place(kids) {
-        Some(place) => Ok(place),
-        None => {
-            if at == u64::MAX {
-                return Err(Memory);
-            }
-            Ok(at + 1)
-        }
+        Some(place) => place,
+        None => at + 1,
     }
 }
 
@@ -274,11 +273,12 @@ impl<'s, 'a, 'b> Reader<'s, 'a, 'b> {
         kids: &'a [Tree<ItemLabel>],
         group: Option<Tree<ParticleLabel>>,
     ) -> Result<RawComplex, Memory>
+        requires { BodyHeld (contents.complex_by (said self.setting) at mixed (bindings_in self.scope.now) kids.now group) }
         ensures { IfOk result (λ body. complex_of body ≡ contents.complex_by (said self.entry.setting) at mixed (bindings_in self.entry.scope.now) kids.now group) }
     {
         let uses = uses_among(self.alloc, self.setting, kids, self.scope)?;
-        let empty_at = empty_place(at, kids)?;
-        let content = content_of(self.alloc, self.setting.file, mixed, empty_at, group)?;
+        let empty_at = empty_place(at, kids);
+        let content = content_of(self.alloc, self.setting.file, mixed, empty_at, group);
         Ok(RawComplex { at, uses, content })
     }
 }

@@ -142,10 +142,7 @@ fn components(alloc: Global, root: &Tree<ItemLabel>, file: u32) -> Result<RawDoc
     described(alloc, file, &own, root.kids(), &scope)
 }
 
-/// The components of a schema document, which is file number `file` of its set, or its first fault. Where a place were
-/// the greatest number of 64 bits, a content model had a choice of nothing, a bound namespace weren't UTF-8, or there
-/// were 2^32 local declarations, the answer would be `Memory`, too. That no document without a fault is such isn't proved
-/// of the code.
+/// The components of a schema document, which is file number `file` of its set, or its first fault.
 ///
 /// The time grows with the size of the document, and for each element and each reference with the logarithm of the
 /// number of bindings of the elements that are open.

@@ -13,7 +13,7 @@ pub enum SchemaError {
     /// The first fault. The place is in bytes from 0.
     #[error("{why} at byte {at}")]
     Shown { at: u64, why: SchemaWhy },
-    /// Memory is missing, or a test failed that `read_schema` names.
+    /// Memory is missing.
     #[error("out of memory")]
     Memory,
 }

@@ -1,5 +1,5 @@
 //! The global declarations of a document.
-ghost use Rattle.std.specs.Prelude.{IfOk, OnOk, length};
+ghost use Rattle.std.specs.Prelude.{[], IfOk, OnOk, length};
 ghost use Rattle.label_tree.specs.Rose.{roses_of, label_of, kids_of};
 ghost use Rattle.schema_rules.specs.Scopes.{bindings_in};
 ghost use Rattle.schema_read.specs.Attributes as attributes;
@@ -9,6 +9,7 @@ ghost use Rattle.schema_read.specs.SimpleTypes as simple;
 ghost use Rattle.schema_read.specs.Settings.{said};
 ghost use Rattle.schema_read.specs.Raw as raw;
 ghost use Rattle.schema_read.specs.Raw.{Adds, Are};
+ghost use Rattle.schema_read.specs.Private.Held.{PartsHeld};
 
 use crate::declarations::global_attribute;
 use crate::names::declared_name;
@@ -38,6 +39,7 @@ impl<'s, 'a, 'b> Reader<'s, 'a, 'b> {
         kids: &'a [Tree<ItemLabel>],
         globals: &mut Globals,
     ) -> Result<(), Memory>
+        requires { PartsHeld globals.old.locals.items (raw.element_parts (raw.global_element (said self.setting) (length globals.old.locals.items) at (bindings_in self.scope.now) own.now kids.now)) }
         ensures { OnOk result (Adds globals.old globals.new (raw.element_parts
             (raw.global_element (said self.entry.setting) (length globals.old.locals.items) at (bindings_in self.entry.scope.now) own.now kids.now))) }
     {
@@ -81,6 +83,8 @@ impl<'s, 'a, 'b> Reader<'s, 'a, 'b> {
         tree: &'a Tree<ItemLabel>,
         globals: &mut Globals,
     ) -> Result<(), Memory>
+        requires { PartsHeld globals.old.locals.items (raw.complex_type_parts
+            (declared_name (said self.setting).target own.now) (parts.complex_type (said self.setting) (bindings_in self.scope.now) (length globals.old.locals.items) tree.now)) }
         ensures { OnOk result (Adds globals.old globals.new (raw.complex_type_parts
             (declared_name (said self.entry.setting).target own.now) (parts.complex_type (said self.entry.setting) (bindings_in self.entry.scope.now) (length globals.old.locals.items) tree.now))) }
     {
@@ -102,6 +106,7 @@ impl<'s, 'a, 'b> Reader<'s, 'a, 'b> {
         tree: &'a Tree<ItemLabel>,
         globals: &mut Globals,
     ) -> Result<(), Memory>
+        requires { PartsHeld globals.old.locals.items (raw.parts_named (said self.setting) (bindings_in self.scope.now) (length globals.old.locals.items) name.now own.now (bindings_in inside.now) at tree.now) }
         ensures { OnOk result (Adds globals.old globals.new (raw.parts_named (said self.entry.setting) (bindings_in self.entry.scope.now) (length globals.old.locals.items)
             name.now own.now (bindings_in inside.now) at tree.now)) }
     {
@@ -123,6 +128,7 @@ impl<'s, 'a, 'b> Reader<'s, 'a, 'b> {
 
     // Adds what a child of `schema` declares.
     fn add(self, tree: &'a Tree<ItemLabel>, globals: &mut Globals) -> Result<(), Memory>
+        requires { PartsHeld globals.old.locals.items (raw.parts_by (said self.setting) (bindings_in self.scope.now) (length globals.old.locals.items) (label_of tree.now) tree.now) }
         ensures { OnOk result (Adds globals.old globals.new (raw.parts_by (said self.entry.setting) (bindings_in self.entry.scope.now) (length globals.old.locals.items) (label_of tree.now) tree.now)) }
     {
         let ItemLabel::Element {
@@ -144,6 +150,7 @@ impl<'s, 'a, 'b> Reader<'s, 'a, 'b> {
 
     /// What the children of `schema` declare, in their order.
     pub(crate) fn globals_among(self, kids: &'a [Tree<ItemLabel>]) -> Result<Globals, Memory>
+        requires { PartsHeld [] (raw.parts_among (said self.setting) (bindings_in self.scope.now) 0 kids.now) }
         ensures { IfOk result (λ globals. Are globals (raw.parts_among (said self.entry.setting) (bindings_in self.entry.scope.now) 0 kids.now)) }
     {
         let mut globals = Globals {

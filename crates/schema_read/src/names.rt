@@ -24,19 +24,10 @@ pub(crate) fn no_name(alloc: Global) -> Name
     }
 }
 
-fn bytes_text(alloc: Global, bytes: &[u8]) -> Result<Text, Memory>
-    ensures { IfOk result (λ made. made ≡ bytes.now) }
-{
-    match Text::of(alloc, bytes) {
-        Ok(text) => Ok(text),
-        Err(_) => Err(Memory),
-    }
-}
-
 fn name_of(alloc: Global, found: Resolved<'_, '_>) -> Result<Name, Memory>
     ensures { IfOk result (λ name. name ≡ name_seen found.entry) }
 {
-    let space = bytes_text(alloc, found.space)?;
+    let space = Text::from_str(alloc, found.space)?;
     let local = Text::from_str(alloc, found.local)?;
     Ok(Name { space, local })
 }

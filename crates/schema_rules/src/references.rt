@@ -14,7 +14,7 @@ use xa_base::{SCHEMA_SPACE, is_ncname_text};
 #[derive(Clone, Copy)]
 pub struct Resolved<'s, 't> {
     /// The namespace, as an element binds it.
-    pub space: &'s [u8],
+    pub space: &'s str,
     /// The local name, as the reference has it.
     pub local: &'t str,
 }
@@ -39,7 +39,7 @@ fn unprefixed<'s, 't>(scope: &NamespaceScope<'s, '_>, text: &'t str) -> Option<R
     match scope.bound_to(b"") {
         Some(space) => Some(Resolved { space, local: text }),
         None => Some(Resolved {
-            space: b"",
+            space: "",
             local: text,
         }),
     }
@@ -153,7 +153,7 @@ fn type_named<'s, 't>(found: Option<Resolved<'s, 't>>) -> Option<TypeName<'s, 't
 {
     match found {
         None => None,
-        Some(name) if name.space == SCHEMA_SPACE.as_bytes() => datatype(name.local),
+        Some(name) if name.space == SCHEMA_SPACE => datatype(name.local),
         Some(name) => Some(TypeName::Elsewhere(name)),
     }
 }

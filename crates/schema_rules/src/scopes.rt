@@ -16,7 +16,7 @@ use xa_base::{Memory, Text, XML_SPACE};
 pub struct Declared<'a> {
     bindings: &'a [(Text, Text)],
     // The namespace of each prefix.
-    spaces: BTreeMap<&'a [u8], &'a [u8]>,
+    spaces: BTreeMap<&'a [u8], &'a str>,
 }
 
 impl<'a> Model for Declared<'a> {
@@ -34,7 +34,7 @@ impl<'a> Model for Declared<'a> {
 fn spaces_of<'a>(
     alloc: Global,
     bindings: &'a [(Text, Text)],
-) -> Result<BTreeMap<&'a [u8], &'a [u8]>, Memory>
+) -> Result<BTreeMap<&'a [u8], &'a str>, Memory>
     ensures { IfOk result (Finds bindings.now) }
 {
     let mut spaces = BTreeMap::new(alloc);
@@ -42,7 +42,7 @@ fn spaces_of<'a>(
     'last_first: while i > 0 {
         i -= 1;
         let binding = &bindings[i];
-        spaces.insert(binding.0.bytes(), binding.1.bytes())?;
+        spaces.insert(binding.0.bytes(), binding.1.as_str())?;
     }
     Ok(spaces)
 }
@@ -55,7 +55,7 @@ impl<'a> Declared<'a> {
         Ok(Declared { bindings, spaces })
     }
 
-    fn bound_to(&self, prefix: &[u8]) -> Option<&'a [u8]>
+    fn bound_to(&self, prefix: &[u8]) -> Option<&'a str>
         ensures { option_map (λ space. space.now) result ≡ beside prefix.now self.now }
     {
         self.spaces.get(prefix).copied()
@@ -73,11 +73,11 @@ pub enum NamespaceScope<'a, 'b> {
 }
 
 // What is bound outside the root.
-fn outside<'a>(prefix: &[u8]) -> Option<&'a [u8]>
+fn outside<'a>(prefix: &[u8]) -> Option<&'a str>
     ensures { option_map (λ space. space.now) result ≡ beside prefix.now (bindings_in NamespaceScope.Document) }
 {
     if prefix == b"xml".as_slice() {
-        Some(XML_SPACE.as_bytes())
+        Some(XML_SPACE)
     } else {
         None
     }
@@ -99,7 +99,7 @@ impl<'a, 'b> NamespaceScope<'a, 'b> {
 
     /// The namespace that the prefix is bound to. The time grows with the number of open elements, and for each of them
     /// with the logarithm of the number of its bindings.
-    pub fn bound_to(&self, prefix: &[u8]) -> Option<&'a [u8]>
+    pub fn bound_to(&self, prefix: &[u8]) -> Option<&'a str>
         ensures { option_map (λ space. space.now) result ≡ beside prefix.now (bindings_in self.now) }
     {
         match self {

@@ -2,7 +2,15 @@ use Rattle.schema_rules.specs.Scopes.{bindings_in}
 use Rattle.schema_read.specs.Settings.{said}
 use Rattle.schema_read.specs.Raw.{parts_among}
 use Rattle.schema_read.proofs.Adding.{more_parts}
+use Rattle.schema_read.proofs.Rooms.{parts_of_kid}
 use Rattle.schema_read.proofs.reader.Reader.globals_among.Goals as goal
+
+pub add-requires : goal.add-requires
+add-requires c =
+    let s = said c.args.self.setting in
+    let scope = bindings_in c.args.self.scope.now in
+    parts_of_kid s scope c.args.kids.now c.loop-kid.kid-index (parts_among s scope 0 c.args.kids.now) c.loop-kid.globals c.loop-kid.invariant
+    c.kid-item.result c.loop-kid-test.true c.kid-item.is c.requires
 
 pub loop-kid-preserved : goal.loop-kid-preserved
 loop-kid-preserved c =
