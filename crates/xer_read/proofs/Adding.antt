@@ -1,7 +1,7 @@
 -- Parts that are added one after another make the value of an element.
 use Rattle.std.proofs.Common.{◌≡◌, ℕ, ◌+◌, ◌<◌, Bool, true, false, List, [], ◌∷◌, ◌++◌, Option, Some, None, length, map, take, get_or, refl, sym, ◌∙◌, ap, subst, arith}
 use Rattle.std.specs.Borrow.{Bor}
-use Rattle.std.specs.Prelude.{Result, Ok, Err, IfOk, slice_get, MatchBool}
+use Rattle.std.specs.Prelude.{Result, Ok, Err, IfOk, slice_get}
 use Rattle.std.proofs.lemmas.List.{map-append, take_more}
 use Rattle.xa_base.specs.declared.texts.Name.{Name}
 use Rattle.xa_base.specs.declared.texts.Memory.{Memory}
@@ -32,7 +32,7 @@ use Rattle.xer_read.specs.declared.contents.Rest.{Rest}
 use Rattle.xer_read.specs.declared.contents.Rest.TheVariants as rest
 use Rattle.xer_read.specs.declared.parts.Parts.{Parts}
 use Rattle.xer_read.specs.declared.tally.Tally.{Tally}
-use Rattle.xer_read.specs.Private.Tallied.{Counts, IsWithin, Stands, Makes, PartAdded, Grows, Child, child_nodes, Wait}
+use Rattle.xer_read.specs.Private.Tallied.{Counts, IsWithin, Stands, Makes, PartAdded, Child, child_nodes, Wait}
 use Rattle.xer_read.specs.Private.Growing.{Adds, FillsAll}
 use Rattle.xer_read.specs.Private.Held.{Beside, Held, texts_of, RestStands, IsAlone, Holds, rest_nodes, texts_nodes, held_nodes}
 use Rattle.xer_read.specs.Private.Held as held

@@ -20,10 +20,10 @@ use Rattle.xer_read.specs.declared.built.Built.{Built}
 use Rattle.xer_read.specs.declared.built.Built.TheVariants as built
 use Rattle.xer_read.specs.declared.children.Children.{Children}
 use Rattle.xer_read.specs.declared.parts.Parts.{Parts}
-use Rattle.xer_read.specs.Private.Made.{Each, Several, Standing, IsOne, TermMade, PartsMade, ChosenMade, PartedMade, TopMade}
+use Rattle.xer_read.specs.Private.Made.{Each, Several, Standing, TermMade, PartsMade, ChosenMade, PartedMade, TopMade}
 use Rattle.xer_read.specs.declared.tally.Tally.{Tally}
 use Rattle.xer_read.specs.Private.Tallied.{Counts, IsWithin, Stands, Gathers, PartAdded, Grows, Child, child_nodes, Wait, ChildTaken}
-use Rattle.xer_read.specs.Private.Growing.{term_of, Adds, Taken, Takes, Gathered, Filled, Fills, FillsAll}
+use Rattle.xer_read.specs.Private.Growing.{term_of, Adds, Taken, Takes, Gathered, Fills, FillsAll}
 use Rattle.xer_read.proofs.Counting.{counts-none, counts-both, within-before, gathered, grows-none, grows-both, grows-one, grows-absent, nodes-append, wait-later, none-waits, first-taken}
 
 -- ---- particles as they are seen

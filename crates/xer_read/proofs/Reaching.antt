@@ -22,8 +22,7 @@ use Rattle.schema_parts.specs.Components.{Set}
 use Rattle.schema_parts.specs.Linked.{leaves, IsNamed}
 use Rattle.schema_parts.specs.SetParts.{parts_of}
 use Rattle.schema_parts.proofs.Truths.{both}
-use Rattle.asn_types.specs.Values.{FitsAt}
-use Rattle.xer_items.specs.Items.{Given, joined, element_of, inside}
+use Rattle.xer_items.specs.Items.{Given, joined, element_of}
 use Rattle.validity.specs.Asked.{Asked, asked_at}
 use Rattle.validity.specs.Valid.{Between, ValidBy, KidsValid}
 use Rattle.validity.specs.Faults.{Begins, At, front}
@@ -37,8 +36,8 @@ use Rattle.validity_check.proofs.Walking.{end_judged, text_judged}
 use Rattle.xer_read.specs.declared.built.Built.{Built}
 use Rattle.xer_read.specs.declared.contents.Kids.{Kids}
 use Rattle.xer_read.specs.declared.tally.Tally.{Tally}
-use Rattle.xer_read.specs.Private.Tallied.{Counts, IsWithin, Stands, Child, child_nodes, Wait, Makes}
-use Rattle.xer_read.specs.Private.Given.{IsElementOf, IsTypeFor, IsRead}
+use Rattle.xer_read.specs.Private.Tallied.{Counts, Stands, Child, child_nodes, Wait, Makes}
+use Rattle.xer_read.specs.Private.Given.{IsElementOf, IsRead}
 use Rattle.xer_read.specs.Private.Keeping.{text_value, words_of, TextAdded, TextRead, ElementAdded, in_turns, IsKept, AllKept, AreKept, Reached, KidsRead}
 use Rattle.xer_read.proofs.Counting.{counts-none, counts-both, counts-as, within-before, stands-later, nodes-append, wait-none, wait-later, wait-more}
 

@@ -7,7 +7,6 @@ use Rattle.label_tree.specs.Rose.{Rose, node, Roses, roses_of, node_count, count
 use Rattle.label_tree.specs.Rose as rose
 use Rattle.simple_types.specs.Space.{Space}
 use Rattle.simple_types.specs.declared.labels.ValueLabel.{ValueLabel}
-use Rattle.simple_types.specs.declared.labels.ValueLabel.TheVariants as value
 use Rattle.simple_values.specs.Reading.{spelled}
 use Rattle.content_models.specs.declared.particles.ParticleLabel.{ParticleLabel}
 use Rattle.content_models.specs.Particle.{Particle}
@@ -38,13 +37,13 @@ use Rattle.xer_read.specs.declared.contents.Rest.{Rest}
 use Rattle.xer_read.specs.declared.contents.Rest.TheVariants as read
 use Rattle.xer_read.specs.declared.built.Built.{Built}
 use Rattle.xer_read.specs.declared.tally.Tally.{Tally}
-use Rattle.xer_read.specs.Private.Tallied.{Counts, IsWithin, Stands, Child, child_nodes, Wait, Makes}
+use Rattle.xer_read.specs.Private.Tallied.{Counts, IsWithin, Child, child_nodes, Wait, Makes}
 use Rattle.xer_read.specs.Private.Held.{Beside, Held, texts_of, RestStands, Holds, held_nodes}
 use Rattle.xer_read.specs.Private.Held as held
 use Rattle.xer_read.specs.Private.Reading.{IsReadAs}
 use Rattle.xer_read.specs.Private.Given.{IsElementOf, Gives, IsRead}
 use Rattle.xer_read.specs.Private.Keeping.{text_value, words_of, in_turns, KidsRead}
-use Rattle.xer_read.specs.Private.Contents.{AreAround, AreThose, IsContentBy, IsRightContent, IsRestWith, IsContentWith, is_plain_at, IsMade, IsFilled, IsNilFilled}
+use Rattle.xer_read.specs.Private.Contents.{IsContentBy, IsRightContent, IsRestWith, IsContentWith, is_plain_at, IsMade, IsFilled, IsNilFilled}
 use Rattle.xer_read.proofs.Counting.{counts-none, counts-both, counts-as, within-before, wait-later}
 use Rattle.xer_read.proofs.Adding.{nothing-counted}
 use Rattle.xer_read.proofs.Giving.{ReadBy, made-gives}

@@ -1,6 +1,6 @@
 -- What values that are made stand for while nodes are counted. Up to the limit of nodes each is kept, and is the value itself;
 -- behind it, nothing need be kept, and it stands for a value that nothing holds.
-use Rattle.std.specs.Prelude.{◌≡◌, ℕ, ◌+◌, ◌-◌, ◌^◌, ◌<◌, ◌≤◌, min, List, [], ◌∷◌, ◌++◌, map, true, false, Bool}
+use Rattle.std.specs.Prelude.{◌≡◌, ℕ, ◌+◌, ◌-◌, ◌^◌, ◌<◌, ◌≤◌, min, List, [], ◌∷◌, ◌++◌, map, true, Bool}
 use Rattle.label_tree.specs.Rose.{Rose, node_count}
 use Rattle.simple_types.specs.declared.labels.ValueLabel.{ValueLabel}
 use Rattle.xer_read.specs.declared.built.Built.{Built}

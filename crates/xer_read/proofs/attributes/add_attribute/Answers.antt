@@ -1,4 +1,4 @@
-use Rattle.std.proofs.Common.{◌≡◌, [], ◌∷◌, ◌++◌, true, false, arith}
+use Rattle.std.proofs.Common.{◌≡◌, [], ◌∷◌, ◌++◌, false, arith}
 use Rattle.label_tree.specs.Rose.{node_count}
 use Rattle.simple_values.specs.Reading.{Bad, Wide}
 use Rattle.schema_parts.specs.SetParts.{parts_of}

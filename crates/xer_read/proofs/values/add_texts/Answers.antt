@@ -1,4 +1,4 @@
-use Rattle.std.proofs.Common.{◌≡◌, ℕ, ◌≤◌, true, false, List, refl}
+use Rattle.std.proofs.Common.{◌≡◌, true, false, List, refl}
 use Rattle.label_tree.specs.Rose.{Rose, node, roses_of, count_all}
 use Rattle.simple_types.specs.declared.labels.ValueLabel.{ValueLabel}
 use Rattle.simple_types.specs.declared.labels.ValueLabel.TheVariants as value
