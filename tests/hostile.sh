@@ -202,6 +202,19 @@ hostile most_elements 4194300 40 0 0 '' check r "$features"
 make_too_many() { make_elements "$1"; }
 hostile too_many 4194300 80 0 12 'value of * nodes: too many' to-per r "$features"
 
+# Elements each of which has 490 lists of child elements, of which none stands: 491 nodes of a value for each 4 bytes.
+make_absent_lists() {
+    {
+        printf '%s<xs:element name="r"><xs:complexType><xs:sequence>' "$head"
+        printf '<xs:element name="e" type="E" minOccurs="0" maxOccurs="unbounded"/>'
+        printf '</xs:sequence></xs:complexType></xs:element><xs:complexType name="E"><xs:sequence>'
+        repeat 490 '<xs:element name="a%d" type="xs:int" minOccurs="0" maxOccurs="unbounded"/>'
+        printf '</xs:sequence></xs:complexType>%s' "$end"
+    } > "$schema"
+    make_elements "$1"
+}
+hostile absent_lists 200000 2000 1 12 'value of * nodes: too many' to-per r "$schema"
+
 # A number of 16 MB of digits, in bounds and too wide.
 make_number() { { printf '<n>'; bytes "$1" 0; printf '7</n>'; } > "$input"; }
 hostile number 16700000 8 0 0 '' to-per n "$features"

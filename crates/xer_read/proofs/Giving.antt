@@ -45,10 +45,9 @@ use Rattle.validity.specs.Attributes.{Nil, not_nil, is_nil, bad_nil, nil_by, nil
 use Rattle.value_exists.proofs.Texts.{IsEncoded, left-encoded, text-encoded, text-given, never-true}
 use Rattle.value_exists.proofs.Kids.{IsXml, only-utf8, between-xml, kids-xml, texts_value, texts-fitting}
 use Rattle.value_exists.proofs.Elements.{nil-nillable, kids-text}
-use Rattle.xer_read.specs.declared.children.Child.{Child}
-use Rattle.xer_read.specs.declared.contents.Content.{Content}
-use Rattle.xer_read.specs.declared.contents.Rest.{Rest}
-use Rattle.xer_read.specs.declared.contents.Rest.TheVariants as read
+use Rattle.xer_read.specs.Private.Tallied.{Child}
+use Rattle.xer_read.specs.Private.Held.{Beside, Held, texts_of}
+use Rattle.xer_read.specs.Private.Held as held
 use Rattle.xer_read.specs.Private.Given.{IsTypeFor, Gives}
 use Rattle.xer_read.specs.Private.Keeping.{AllKept}
 use Rattle.xer_read.specs.Private.Contents.{AreThose, IsContentBy, IsContentOf, IsNilContent, AttributesMade, TextsMade, ChildrenMade, NothingMade, RestMade, ComplexMade, is_plain_by, is_plain_at, IsMadeBy, IsMade}
@@ -56,7 +55,7 @@ use Rattle.xer_read.proofs.Making.{named-top, AreGifts}
 use Rattle.xer_read.proofs.Parting.{ContentAs, RestAs, AttributesIn, TextsIn, complex-made}
 
 -- what is read of an element, nil or not
-abbrev pub ReadBy : Set → Nil → Inside → Roses ItemLabel → Content → Roses Plain → Type 0
+abbrev pub ReadBy : Set → Nil → Inside → Roses ItemLabel → Held → Roses Plain → Type 0
 ReadBy s bad_nil inside ts content vs = ⊥
 ReadBy s is_nil inside ts content vs = IsNilContent content × (vs ≡ rose.none)
 ReadBy s not_nil inside ts content vs = IsContentOf s inside ts content vs
@@ -67,11 +66,11 @@ elements-kept s high [] (b ∷ bs) h = absurd h
 elements-kept s high (g ∷ gs) [] h = absurd h
 elements-kept s high (g ∷ gs) (b ∷ bs) h = subst (λ z. AllElements (rose.more z (roses_of bs))) (sym h.0.is) (tt, elements-kept s high gs bs h.1)
 
-made-complex : (r : Rest) (v : Rose ValueLabel) (P : Type 0) → IsMadeBy false r v P → P
-made-complex read.Nil v P h = h
-made-complex read.Nothing v P h = h
-made-complex (read.Text w) v P h = h
-made-complex (read.Children model found) v P h = h
+made-complex : (r : Beside) (v : Rose ValueLabel) (P : Type 0) → IsMadeBy false r v P → P
+made-complex held.nil v P h = h
+made-complex held.nothing v P h = h
+made-complex (held.text w) v P h = h
+made-complex (held.children model gs) v P h = h
 
 module _ (s : Set) (linked : IsLinked s) (M : List Assignment) (is_map : IsMapOf s M) (depth : ℕ) (small : depth ≤ 64) where
   abbrev asks : ℕ → Asked
@@ -169,18 +168,18 @@ module _ (s : Set) (linked : IsLinked s) (M : List Assignment) (is_map : IsMapOf
   nil-texts (content_.ElementOnly p) texts is flags vs h = h
   nil-texts (content_.Mixed p) texts is flags vs h = texts-in [] (All-nil IsXml) texts is 0 refl flags vs h.0 h.1
 
-  nil-read : (nillable : Bool) → nillable ≡ true → (c : schema.Content) (content : Content) (vs : Roses Plain) → IsNilContent content → vs ≡ rose.none
-      → (front rest : List Bool) (first last : List (Rose ValueLabel)) → TextsMade (inside_of (parts_of s) c) content.texts front first → RestMade nillable content.rest rest last
+  nil-read : (nillable : Bool) → nillable ≡ true → (c : schema.Content) (content : Held) (vs : Roses Plain) → IsNilContent content → vs ≡ rose.none
+      → (front rest : List Bool) (first last : List (Rose ValueLabel)) → TextsMade (inside_of (parts_of s) c) (texts_of content) front first → RestMade nillable content.rest rest last
       → RestRead nillable is_nil c vs front rest first last
   nil-read nillable may c content vs nil e front rest first last texts others =
-      let made : RestMade nillable read.Nil rest last = subst (λ r. RestMade nillable r rest last) nil.0 others in
+      let made : RestMade nillable held.nil rest last = subst (λ r. RestMade nillable r rest last) nil.0 others in
       record {
         nil = true;
         kids = rose.none;
         count = 0;
         texts = [];
         rest_as = subst (λ b. RestAs M E N depth small s linked b true c rest last rose.none 0) (sym may) (made.0, made.1, refl, refl);
-        texts_in = nil-texts c content.texts nil.1 front first texts;
+        texts_in = nil-texts c (texts_of content) nil.1 front first texts;
         whole = λ xs. ap (items.with_nil true) (nothing-put (is_mixed c) xs) ∙ ap (λ z. given (with_nil is_nil xs) z) (sym e);
       }
 
@@ -246,12 +245,12 @@ module _ (s : Set) (linked : IsLinked s) (M : List Assignment) (is_map : IsMapOf
           whole = λ xs. ap (λ z. given xs z) (sym (those.plain_is refl));
         }
 
-    content-read : (c : schema.Content) (texts : Rose ValueLabel) (r : Rest) (vs : Roses Plain) → IsContentBy s (inside_of (parts_of s) c) ts texts r vs → TextsMade (inside_of (parts_of s) c) texts front first
+    content-read : (c : schema.Content) (texts : Rose ValueLabel) (r : Beside) (vs : Roses Plain) → IsContentBy s (inside_of (parts_of s) c) ts texts r vs → TextsMade (inside_of (parts_of s) c) texts front first
         → RestMade nillable r rest last → RestRead nillable not_nil c vs front rest first last
-    content-read content_.Empty texts read.Nil vs h t o = absurd h
-    content-read content_.Empty texts (read.Text v) vs h t o = absurd h
-    content-read content_.Empty texts (read.Children model found) vs h t o = absurd h
-    content-read content_.Empty texts read.Nothing vs h t o = record {
+    content-read content_.Empty texts held.nil vs h t o = absurd h
+    content-read content_.Empty texts (held.text v) vs h t o = absurd h
+    content-read content_.Empty texts (held.children model gs) vs h t o = absurd h
+    content-read content_.Empty texts held.nothing vs h t o = record {
       nil = false;
       kids = rose.none;
       count = 0;
@@ -260,10 +259,10 @@ module _ (s : Set) (linked : IsLinked s) (M : List Assignment) (is_map : IsMapOf
       texts_in = t;
       whole = λ xs. ap (λ z. given xs z) (sym h.1);
     }
-    content-read (content_.Simple m) texts read.Nil vs h t o = absurd h
-    content-read (content_.Simple m) texts read.Nothing vs h t o = absurd h
-    content-read (content_.Simple m) texts (read.Children model found) vs h t o = absurd h
-    content-read (content_.Simple m) texts (read.Text v) vs (words, only, accepts, is) t o = record {
+    content-read (content_.Simple m) texts held.nil vs h t o = absurd h
+    content-read (content_.Simple m) texts held.nothing vs h t o = absurd h
+    content-read (content_.Simple m) texts (held.children model gs) vs h t o = absurd h
+    content-read (content_.Simple m) texts (held.text v) vs (words, only, accepts, is) t o = record {
       nil = false;
       kids = vs;
       count = 0;
@@ -272,27 +271,27 @@ module _ (s : Set) (linked : IsLinked s) (M : List Assignment) (is_map : IsMapOf
       texts_in = t;
       whole = λ xs. refl;
     }
-    content-read (content_.ElementOnly p) texts read.Nil vs h t o = absurd h
-    content-read (content_.ElementOnly p) texts read.Nothing vs h t o = absurd h
-    content-read (content_.ElementOnly p) texts (read.Text v) vs h t o = absurd h
-    content-read (content_.ElementOnly p) texts (read.Children model found) vs h t o =
-        plain-read p texts found.waiting.items vs h.1 t.0 t.1 (children-made (seen p) model.now found.waiting.items h.0 o)
-    content-read (content_.Mixed p) texts read.Nil vs h t o = absurd h
-    content-read (content_.Mixed p) texts read.Nothing vs h t o = absurd h
-    content-read (content_.Mixed p) texts (read.Text v) vs h t o = absurd h
-    content-read (content_.Mixed p) texts (read.Children model found) vs h t o =
-        mixed-read p texts found.waiting.items vs h.1 t.0 t.1 (children-made (seen p) model.now found.waiting.items h.0 o)
+    content-read (content_.ElementOnly p) texts held.nil vs h t o = absurd h
+    content-read (content_.ElementOnly p) texts held.nothing vs h t o = absurd h
+    content-read (content_.ElementOnly p) texts (held.text v) vs h t o = absurd h
+    content-read (content_.ElementOnly p) texts (held.children model gs) vs h t o =
+        plain-read p texts gs vs h.1 t.0 t.1 (children-made (seen p) model gs h.0 o)
+    content-read (content_.Mixed p) texts held.nil vs h t o = absurd h
+    content-read (content_.Mixed p) texts held.nothing vs h t o = absurd h
+    content-read (content_.Mixed p) texts (held.text v) vs h t o = absurd h
+    content-read (content_.Mixed p) texts (held.children model gs) vs h t o =
+        mixed-read p texts gs vs h.1 t.0 t.1 (children-made (seen p) model gs h.0 o)
 
-    rest-read : (c : schema.Content) (n : Nil) (o : Option (List ℕ)) → nil_by nillable o ≡ n → (content : Content) (vs : Roses Plain) → ReadBy s n (inside_of (parts_of s) c) ts content vs
-        → TextsMade (inside_of (parts_of s) c) content.texts front first → RestMade nillable content.rest rest last → RestRead nillable n c vs front rest first last
+    rest-read : (c : schema.Content) (n : Nil) (o : Option (List ℕ)) → nil_by nillable o ≡ n → (content : Held) (vs : Roses Plain) → ReadBy s n (inside_of (parts_of s) c) ts content vs
+        → TextsMade (inside_of (parts_of s) c) (texts_of content) front first → RestMade nillable content.rest rest last → RestRead nillable n c vs front rest first last
     rest-read c bad_nil o e content vs h t m = absurd h
     rest-read c is_nil o e content vs h t m = nil-read nillable (nil-nillable nillable o e) c content vs h.0 h.1 front rest first last t m
-    rest-read c not_nil o e content vs h t m = content-read c content.texts content.rest vs h t m
+    rest-read c not_nil o e content vs h t m = content-read c (texts_of content) content.rest vs h t m
 
   -- ---- elements
 
   module _ (xs : List (Name × List ℕ)) (sound_attributes : are_sound_attributes xs ≡ true) (ts : Roses ItemLabel) (sound : are_sound ts ≡ true) (within : suc depth + levels_all ts ≤ 65)
-      (n : Nil) (content : Content) (vs : Roses Plain) (v : Rose ValueLabel) (u : Rose TypeLabel)
+      (n : Nil) (content : Held) (vs : Roses Plain) (v : Rose ValueLabel) (u : Rose TypeLabel)
     where
       -- the value fits, and gives the treated attributes and these kids
       abbrev IsRight : Asked → Type 0
@@ -316,12 +315,12 @@ module _ (s : Set) (linked : IsLinked s) (M : List Assignment) (is_map : IsMapOf
           → IsMadeBy true content.rest v (ComplexMade a xs content v) → IsRight a
       plain-right m a e has nil h made = subst IsRight (sym e) (by n refl (subst (λ b. nil_of b.nillable xs ≡ n) e nil) (subst (λ b. ReadBy s n b.inside ts content vs) e h))
         where
-          text-right : (k : Nil) (r : Rest) → k ≡ not_nil → IsContentBy s (ask.simple (space_at (parts_of s) m)) ts content.texts r vs → IsMadeBy true r v (ComplexMade a xs content v)
+          text-right : (k : Nil) (r : Beside) → k ≡ not_nil → IsContentBy s (ask.simple (space_at (parts_of s) m)) ts (texts_of content) r vs → IsMadeBy true r v (ComplexMade a xs content v)
               → FitsAt M depth u v × (inside M u v ≡ given (with_nil k []) vs)
-          text-right k read.Nil q h made = absurd h
-          text-right k read.Nothing q h made = absurd h
-          text-right k (read.Children model found) q h made = absurd h
-          text-right k (read.Text w) q (words, only, accepts, is) made =
+          text-right k held.nil q h made = absurd h
+          text-right k held.nothing q h made = absurd h
+          text-right k (held.children model gs) q h made = absurd h
+          text-right k (held.text w) q (words, only, accepts, is) made =
               let space = space_at (parts_of s) m in
               let one = text-given s linked M depth small m words (only-utf8 ts sound words only) w accepts u has in
               subst (λ z. FitsAt M depth u z × (inside M u z ≡ given (with_nil k []) vs)) (sym made)
@@ -353,7 +352,7 @@ module _ (s : Set) (linked : IsLinked s) (M : List Assignment) (is_map : IsMapOf
 
 -- what is made of an element that was read
 pub made-gives : (s : Set) → IsLinked s → (d : ℕ) (a : Asked) → a ≡ asked_at (parts_of s) d → (xs : List (Name × List ℕ)) → are_sound_attributes xs ≡ true → AllStand a.attributes (left xs)
-    → (ts : Roses ItemLabel) → are_sound ts ≡ true → (n : Nil) → nil_of a.nillable xs ≡ n → (content : Content) (vs : Roses Plain) → ReadBy s n a.inside ts content vs
+    → (ts : Roses ItemLabel) → are_sound ts ≡ true → (n : Nil) → nil_of a.nillable xs ≡ n → (content : Held) (vs : Roses Plain) → ReadBy s n a.inside ts content vs
     → (v : Rose ValueLabel) → IsMade (is_plain_at s d) a xs content v → Gives s d (suc (levels_all ts)) v (given (with_nil n (treated_attributes a.attributes (left xs))) vs)
 made-gives s linked d a asked_is xs sound_attributes stand ts sound n nil content vs h v made = λ M is_map depth u within type. by M is_map depth u within (slice_get s.elements d) refl type
   where

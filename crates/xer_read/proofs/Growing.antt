@@ -1,9 +1,9 @@
 -- Parts that are added one after another, and child elements that are taken one after another.
-use Rattle.std.proofs.Common.{◌≡◌, ℕ, suc, ◌<◌, ◌≤◌, arith, ◌||◌, ◌&&◌, Bool, true, false, not, List, [], ◌∷◌, ◌++◌, Option, length, refl, sym, ◌∙◌, ap, subst, append-nil, append_assoc}
+use Rattle.std.proofs.Common.{◌≡◌, ℕ, suc, ◌<◌, ◌≤◌, arith, ◌||◌, ◌&&◌, Bool, true, false, not, List, [], ◌∷◌, ◌++◌, Option, length, refl, sym, ◌∙◌, ap, subst, append-nil, append_assoc, ◌+◌, length-append}
 use Rattle.std.specs.Prelude.{nat_le, Result, Ok, Err, OnOk, IfOk}
-use Rattle.label_tree.specs.Rose.{Rose, node, Roses, roses_of, label_of, kids_of, Allowed}
+use Rattle.label_tree.specs.Rose.{Rose, node, Roses, roses_of, node_count, count_all, label_of, kids_of, Allowed}
 use Rattle.label_tree.specs.Rose as rose
-use Rattle.label_tree.proofs.Roses.{roses_of-list_of, allowed-label}
+use Rattle.label_tree.proofs.Roses.{roses_of-list_of, allowed-label, count_all-append, count_all-push}
 use Rattle.content_models.specs.Kids.{KindMayHave, MayHave}
 use Rattle.simple_types.specs.declared.labels.ValueLabel.{ValueLabel}
 use Rattle.content_models.specs.declared.particles.ParticleLabel.{ParticleLabel}
@@ -16,11 +16,15 @@ use Rattle.simple_values.specs.Lexical.{is_at_most}
 use Rattle.xer_read.specs.Private.Bounds.{is_parted}
 use Rattle.content_models.specs.Seen.{term_seen, seen, all_seen}
 use Rattle.xer_read.specs.Private.Bounds.{is_once, is_optional}
-use Rattle.xer_read.specs.declared.children.Child.{Child}
+use Rattle.xer_read.specs.declared.built.Built.{Built}
+use Rattle.xer_read.specs.declared.built.Built.TheVariants as built
 use Rattle.xer_read.specs.declared.children.Children.{Children}
 use Rattle.xer_read.specs.declared.parts.Parts.{Parts}
-use Rattle.xer_read.specs.Private.Made.{Each, Several, Standing, IsOne, TermMade, PartsMade, ChosenMade, PartedMade, TopMade}
-use Rattle.xer_read.specs.Private.Growing.{term_of, Grows, Takes, Fills, FillsAll}
+use Rattle.xer_read.specs.Private.Made.{Each, Several, Standing, TermMade, PartsMade, ChosenMade, PartedMade, TopMade}
+use Rattle.xer_read.specs.declared.tally.Tally.{Tally}
+use Rattle.xer_read.specs.Private.Tallied.{Counts, IsWithin, Stands, Gathers, PartAdded, Grows, Child, child_nodes, Wait, ChildTaken}
+use Rattle.xer_read.specs.Private.Growing.{term_of, Adds, Taken, Takes, Gathered, Fills, FillsAll}
+use Rattle.xer_read.proofs.Counting.{counts-none, counts-both, within-before, gathered, grows-none, grows-both, grows-one, grows-absent, nodes-append, wait-later, none-waits, first-taken}
 
 -- ---- particles as they are seen
 
@@ -57,17 +61,6 @@ parts-more (occurs t least most) ps (true ∷ c ∷ f) g (v ∷ vs) w a b (x, y,
 parts-more (occurs t least most) ps (false ∷ []) g [] w a b h k = (h.0, subst (λ z. PartsMade ps g w (z ++ b)) (sym h.1) k)
 parts-more (occurs t least most) ps (false ∷ []) g (v ∷ vs) w a b h k = absurd h.1
 parts-more (occurs t least most) ps (false ∷ c ∷ f) g v w a b h k = absurd h.1
-
--- ---- parts
-
-pub grows-both : (one two three : Parts) (f g : List Bool) (v w : List (Rose ValueLabel)) → Grows one two f v → Grows two three g w → Grows one three (f ++ g) (v ++ w)
-grows-both one two three f g v w h k = record {
-  flags_are = k.flags_are ∙ ap (λ x. x ++ g) h.flags_are ∙ append_assoc one.flags.items f g;
-  values_are = k.values_are ∙ ap (λ x. x ++ w) h.values_are ∙ append_assoc one.values.items v w;
-}
-
-pub grows-none : (one : Parts) → Grows one one [] []
-grows-none one = record { flags_are = sym (append-nil one.flags.items); values_are = sym (append-nil one.values.items) }
 
 -- ---- a part of a sequence
 
@@ -150,86 +143,253 @@ pub on-ok : {X E : Type 0} (r : Result X E) (P Q : Type 0) → (P → Q) → OnO
 on-ok (Ok x) P Q f h = f h
 on-ok (Err e) P Q f h = tt
 
-pub takes-as : {E : Type 0} (r : Result (Rose ValueLabel) E) (P Q : Rose ValueLabel → List Child → Type 0) (old new : Children) → ((v : Rose ValueLabel) (gs : List Child) → P v gs → Q v gs)
-    → IfOk r (λ v. Takes (P v) old new) → IfOk r (λ v. Takes (Q v) old new)
-takes-as (Ok v) P Q old new f h = record { taken = h.taken; rest = h.rest; made = f v h.taken h.made }
-takes-as (Err e) P Q old new f h = tt
+-- ---- values of child elements
 
-pub takes-more : (B : Rose ValueLabel → List Child → Type 0) (vs ws : List (Rose ValueLabel)) (v : Rose ValueLabel) (one two three : Children) → ws ≡ vs ++ v ∷ []
-    → Takes (Each B vs) one two → Takes (B v) two three → Takes (Each B ws) one three
-takes-more B vs ws v one two three e h k = record {
-  taken = h.taken ++ k.taken;
-  rest = h.rest ∙ ap (λ x. h.taken ++ x) k.rest ∙ sym (append_assoc h.taken k.taken three.waiting.items);
-  made = subst (λ x. Each B x (h.taken ++ k.taken)) (sym e) (each-more B vs v h.taken k.taken h.made k.made);
+taken-as : (P Q : Rose ValueLabel → List Child → Type 0) (made : Built) (gs : List Child) (new : Children) (before after : Tally) → ((v : Rose ValueLabel) (xs : List Child) → P v xs → Q v xs)
+    → Taken P made gs new before after → Taken Q made gs new before after
+taken-as P Q made gs new before after f h = record {
+  value = h.value;
+  taken = h.taken;
+  rest = h.rest;
+  split = h.split;
+  wait = h.wait;
+  stands = h.stands;
+  nodes = h.nodes;
+  counts = h.counts;
+  all = h.all;
+  holds = f h.value h.taken h.holds;
 }
 
-pub fills-one : (P : List Bool → List (Rose ValueLabel) → List Child → Type 0) (Q : List Child → Type 0) (old new : Children) (before after : Parts) (v : Rose ValueLabel)
-    → ((gs : List Child) → Q gs → P (true ∷ []) (v ∷ []) gs) → Takes Q old new → Grows before after (true ∷ []) (v ∷ []) → Fills P old new before after
-fills-one P Q old new before after v f h g = record { flags = true ∷ []; values = v ∷ []; taken = h.taken; grows = g; rest = h.rest; made = f h.taken h.made }
+pub takes-as : {E : Type 0} (r : Result Built E) (P Q : Rose ValueLabel → List Child → Type 0) (old new : Children) (before after : Tally) → ((v : Rose ValueLabel) (gs : List Child) → P v gs → Q v gs)
+    → IfOk r (λ made. Takes P made old new before after) → IfOk r (λ made. Takes Q made old new before after)
+takes-as (Ok made) P Q old new before after f h = λ gs wait. taken-as P Q made gs new before after f (h gs wait)
+takes-as (Err e) P Q old new before after f h = tt
 
-pub fills-absent : (P : List Bool → List (Rose ValueLabel) → List Child → Type 0) (old : Children) (before after : Parts) → P (false ∷ []) [] [] → Grows before after (false ∷ []) [] → Fills P old old before after
-fills-absent P old before after p g = record { flags = false ∷ []; values = []; taken = []; grows = g; rest = refl; made = p }
+-- a node over values of which so many nodes are counted
+pub joined-stands : (l : ValueLabel) (made : Built) (kept vs : List (Rose ValueLabel)) (one two : Tally) → Counts 1 one two → (IsWithin one → kept ≡ vs) → Stands two made (node l (roses_of kept)) → Stands two made (node l (roses_of vs))
+joined-stands l made kept vs one two c h k = λ w. k w ∙ ap (λ z. built.Value (node l (roses_of z))) (h (within-before 1 one two c w))
+
+-- a SEQUENCE of the parts that were added to none
+pub sequence-stands : (none_yet all : Parts) (flags : List Bool) (vs : List (Rose ValueLabel)) (made : Built) (one two : Tally) → none_yet.flags.items ≡ [] → none_yet.values.items ≡ [] → Counts 1 one two
+    → Grows one none_yet all flags vs → Stands two made (node (value.Sequence all.flags.items) (roses_of all.values.items)) → Stands two made (node (value.Sequence flags) (roses_of vs))
+sequence-stands none_yet all flags vs made one two e f c grows k = λ w.
+    let both = grows (within-before 1 one two c w) in
+    let own_flags : all.flags.items ≡ flags = both.0 ∙ ap (λ x. x ++ flags) e in
+    let own_values : all.values.items ≡ vs = both.1 ∙ ap (λ x. x ++ vs) f in
+    k w ∙ ap (λ x. built.Value (node (value.Sequence x) (roses_of all.values.items))) own_flags ∙ ap (λ x. built.Value (node (value.Sequence flags) (roses_of x))) own_values
+
+-- ---- several values
+
+pub none-gathered : (B : Rose ValueLabel → List Child → Type 0) (kept : List (Rose ValueLabel)) → kept ≡ [] → (one : Children) (start : Tally) (gs : List Child) → Wait start one gs
+    → Gathered (Each B) 0 kept gs one start start
+none-gathered B kept e one start gs wait = record {
+  values = [];
+  long = refl;
+  taken = [];
+  rest = gs;
+  split = refl;
+  wait = wait;
+  are_kept = λ w. e;
+  nodes = 0;
+  counts = counts-none start;
+  all = refl;
+  holds = refl;
+}
+
+pub gathered-more : (B : Rose ValueLabel → List Child → Type 0) (many more_than : ℕ) → more_than ≡ many + 1 → (kept others : List (Rose ValueLabel)) (made : Built) → Gathers made kept others → (one two three : Children) (start before after : Tally)
+    → ((gs : List Child) → Wait start one gs → Gathered (Each B) many kept gs two start before) → Takes B made two three before after
+    → (gs : List Child) → Wait start one gs → Gathered (Each B) more_than others gs three start after
+gathered-more B many more_than m kept others made g one two three start before after h k gs wait =
+    let x = h gs wait in
+    let y = k x.rest x.wait in
+    record {
+      values = x.values ++ y.value ∷ [];
+      long = let l = x.long in let long = length-append x.values (y.value ∷ []) in omega (arith, l, long, m);
+      taken = x.taken ++ y.taken;
+      rest = y.rest;
+      split = x.split ∙ ap (λ z. x.taken ++ z) y.split ∙ sym (append_assoc x.taken y.taken y.rest);
+      wait = y.wait;
+      are_kept = λ w. gathered after made y.value kept others g y.stands w ∙ ap (λ z. z ++ y.value ∷ []) (x.are_kept (within-before y.nodes before after y.counts w));
+      nodes = x.nodes + y.nodes;
+      counts = counts-both x.nodes y.nodes start before after x.counts y.counts;
+      all = let push = count_all-push x.values y.value in let both = nodes-append x.taken y.taken in let all_x = x.all in let all_y = y.all in omega (arith, push, both, all_x, all_y);
+      holds = each-more B x.values y.value x.taken y.taken x.holds y.holds;
+    }
+
+pub several-done : (t : Rose ParticleLabel) (many : ℕ) (kept : List (Rose ValueLabel)) (old new : Children) (start before after : Tally)
+    → ((gs : List Child) → Wait start old gs → Gathered (Each (TermMade (term_of t))) many kept gs new start before) → (least : ℕ) (most : Option ℕ)
+    → nat_le least many ≡ true → is_at_most many most ≡ true → (made : Built) → Counts 1 before after → Stands after made (node value.SequenceOf (roses_of kept))
+    → Takes (Several (TermMade (term_of t)) least most) made old new start after
+several-done t many kept old new start before after h least most e f made c stands = λ gs wait.
+    let x = h gs wait in
+    record {
+      value = node value.SequenceOf (roses_of x.values);
+      taken = x.taken;
+      rest = x.rest;
+      split = x.split;
+      wait = wait-later 1 before after new x.rest c x.wait;
+      stands = joined-stands value.SequenceOf made kept x.values before after c x.are_kept stands;
+      nodes = x.nodes + 1;
+      counts = counts-both x.nodes 1 start before after x.counts c;
+      all = let all = x.all in omega (arith, all);
+      holds = (x.values, refl, subst (λ n. nat_le least n ≡ true) (sym x.long) e, subst (λ n. is_at_most n most ≡ true) (sym x.long) f, x.holds);
+    }
+
+-- ---- terms
+
+pub sequence-made : (t : Rose ParticleLabel) (ps : Particles) → term_of t ≡ sequence ps → (old new : Children) (none_yet all : Parts) (start before after : Tally) → none_yet.flags.items ≡ [] → none_yet.values.items ≡ []
+    → Fills (PartsMade ps) old new none_yet all start before → (made : Built) → Counts 1 before after → Stands after made (node (value.Sequence all.flags.items) (roses_of all.values.items))
+    → Takes (TermMade (term_of t)) made old new start after
+sequence-made t ps is old new none_yet all start before after e f h made c stands = λ gs wait.
+    let x = h gs wait in
+    let a = x.adds in
+    record {
+      value = node (value.Sequence a.flags) (roses_of a.values);
+      taken = x.taken;
+      rest = x.rest;
+      split = x.split;
+      wait = wait-later 1 before after new x.rest c x.wait;
+      stands = sequence-stands none_yet all a.flags a.values made before after e f c a.grows stands;
+      nodes = a.nodes + 1;
+      counts = counts-both a.nodes 1 start before after a.counts c;
+      all = let all = a.all in omega (arith, all);
+      holds = subst (λ q. TermMade q (node (value.Sequence a.flags) (roses_of a.values)) x.taken) (sym is) (a.flags, a.values, refl, a.made);
+    }
+
+pub choice-made : (t : Rose ParticleLabel) (ps : Particles) → term_of t ≡ choice ps → (old new : Children) (i : ℕ) (chosen : Built) (start before after : Tally) → Takes (ChosenMade ps i) chosen old new start before
+    → (kept : List (Rose ValueLabel)) → Gathers chosen [] kept → (made : Built) → Counts 1 before after → Stands after made (node (value.Choice i) (roses_of kept)) → Takes (TermMade (term_of t)) made old new start after
+choice-made t ps is old new i chosen start before after h kept g made c stands = λ gs wait.
+    let x = h gs wait in
+    record {
+      value = node (value.Choice i) (rose.more x.value rose.none);
+      taken = x.taken;
+      rest = x.rest;
+      split = x.split;
+      wait = wait-later 1 before after new x.rest c x.wait;
+      stands = joined-stands (value.Choice i) made kept (x.value ∷ []) before after c (gathered before chosen x.value [] kept g x.stands) stands;
+      nodes = x.nodes + 1;
+      counts = counts-both x.nodes 1 start before after x.counts c;
+      all = let all = x.all in omega (arith, all);
+      holds = subst (λ q. TermMade q (node (value.Choice i) (rose.more x.value rose.none)) x.taken) (sym is) (i, x.value, refl, x.holds);
+    }
+
+pub element-made : {E : Type 0} (t : Rose ParticleLabel) (d : ℕ) (a : Name) → term_of t ≡ element d a → (r : Result Built E) (old new : Children) (tally : Tally) → IfOk r (λ made. ChildTaken d made old new)
+    → IfOk r (λ made. Takes (TermMade (term_of t)) made old new tally tally)
+element-made t d a is (Err e) old new tally h = tt
+element-made t d a is (Ok made) old new tally h = λ gs wait.
+    let x = first-taken d tally made gs old new wait h in
+    record {
+      value = x.child.value;
+      taken = x.child ∷ [];
+      rest = x.rest;
+      split = x.is;
+      wait = x.wait;
+      stands = x.stands;
+      nodes = 0;
+      counts = counts-none tally;
+      all = omega arith;
+      holds = subst (λ q. TermMade q x.child.value (x.child ∷ [])) (sym is) (x.child, refl, x.decl, refl);
+    }
+
+-- ---- parts
+
+pub adds-both : (P Q R : List Bool → List (Rose ValueLabel) → Type 0) (m n : ℕ) (one two three : Parts) (start before after : Tally)
+    → ((f g : List Bool) (v w : List (Rose ValueLabel)) → P f v → Q g w → R (f ++ g) (v ++ w)) → Adds P m one two start before → Adds Q n two three before after → Adds R (m + n) one three start after
+adds-both P Q R m n one two three start before after join h k = record {
+  flags = h.flags ++ k.flags;
+  values = h.values ++ k.values;
+  grows = grows-both k.nodes before after k.counts one two three h.flags k.flags h.values k.values h.grows k.grows;
+  nodes = h.nodes + k.nodes;
+  counts = counts-both h.nodes k.nodes start before after h.counts k.counts;
+  all = let sum = count_all-append h.values k.values in let first = h.all in let second = k.all in omega (arith, sum, first, second);
+  made = join h.flags k.flags h.values k.values h.made k.made;
+}
+
+pub fills-one : (P : List Bool → List (Rose ValueLabel) → List Child → Type 0) (Q : Rose ValueLabel → List Child → Type 0) (old new : Children) (former latter : Parts) (before after : Tally) (made : Built)
+    → ((v : Rose ValueLabel) (gs : List Child) → Q v gs → P (true ∷ []) (v ∷ []) gs) → Takes Q made old new before after → PartAdded made former latter → Fills P old new former latter before after
+fills-one P Q old new former latter before after made f h added = λ gs wait.
+    let x = h gs wait in
+    record {
+      taken = x.taken;
+      rest = x.rest;
+      split = x.split;
+      wait = x.wait;
+      adds = record {
+        flags = true ∷ [];
+        values = x.value ∷ [];
+        grows = grows-one after former latter made x.value added x.stands;
+        nodes = x.nodes;
+        counts = x.counts;
+        all = let all = x.all in omega (arith, all);
+        made = f x.value x.taken x.holds;
+      };
+    }
+
+pub fills-absent : (P : List Bool → List (Rose ValueLabel) → List Child → Type 0) (old : Children) (former latter : Parts) (tally : Tally) → P (false ∷ []) [] []
+    → (latter.flags.items ≡ former.flags.items ++ false ∷ []) × (latter.values.items ≡ former.values.items) → Fills P old old former latter tally tally
+fills-absent P old former latter tally p g = λ gs wait. record {
+  taken = [];
+  rest = gs;
+  split = refl;
+  wait = wait;
+  adds = record { flags = false ∷ []; values = []; grows = grows-absent tally former latter g; nodes = 0; counts = counts-none tally; all = refl; made = p };
+}
 
 no-trees : (ts : List (Rose ParticleLabel)) → length ts ≡ 0 → ts ≡ []
 no-trees [] e = refl
 no-trees (t ∷ ts) e = absurd (cc)
 
-pub fills-none : (ts : List (Rose ParticleLabel)) → length ts ≡ 0 → (old : Children) (before : Parts) → Fills (PartsMade (all_seen (roses_of ts))) old old before before
-fills-none ts e old before = record {
-  flags = [];
-  values = [];
+pub fills-none : (ts : List (Rose ParticleLabel)) → length ts ≡ 0 → (old : Children) (former : Parts) (tally : Tally) → Fills (PartsMade (all_seen (roses_of ts))) old old former former tally tally
+fills-none ts e old former tally = λ gs wait. record {
   taken = [];
-  grows = grows-none before;
-  rest = refl;
-  made = subst (λ us. PartsMade (all_seen (roses_of us)) [] [] []) (sym (no-trees ts e)) refl;
+  rest = gs;
+  split = refl;
+  wait = wait;
+  adds = record {
+    flags = [];
+    values = [];
+    grows = grows-none tally former;
+    nodes = 0;
+    counts = counts-none tally;
+    all = refl;
+    made = subst (λ us. PartsMade (all_seen (roses_of us)) [] [] []) (sym (no-trees ts e)) refl;
+  };
 }
 
-pub fills-more : (ts : List (Rose ParticleLabel)) (t : Rose ParticleLabel) (rest : List (Rose ParticleLabel)) → ts ≡ t ∷ rest → (one two three : Children) (a b c : Parts)
-    → Fills (PartsMade (more (seen t) none)) one two a b → Fills (PartsMade (all_seen (roses_of rest))) two three b c → Fills (PartsMade (all_seen (roses_of ts))) one three a c
-fills-more ts t rest is one two three a b c h k = record {
-  flags = h.flags ++ k.flags;
-  values = h.values ++ k.values;
-  taken = h.taken ++ k.taken;
-  grows = grows-both a b c h.flags k.flags h.values k.values h.grows k.grows;
-  rest = h.rest ∙ ap (λ x. h.taken ++ x) k.rest ∙ sym (append_assoc h.taken k.taken three.waiting.items);
-  made = subst (λ us. PartsMade (all_seen (roses_of us)) (h.flags ++ k.flags) (h.values ++ k.values) (h.taken ++ k.taken)) (sym is)
-      (parts-more (seen t) (all_seen (roses_of rest)) h.flags k.flags h.values k.values h.taken k.taken h.made k.made);
-}
-
--- a SEQUENCE of the parts that were added to none
-pub sequence-made : (t : Rose ParticleLabel) (ps : Particles) → term_of t ≡ sequence ps → (old new : Children) (none_yet all : Parts) → none_yet.flags.items ≡ [] → none_yet.values.items ≡ []
-    → Fills (PartsMade ps) old new none_yet all → (v : Rose ValueLabel) → v ≡ node (value.Sequence all.flags.items) (roses_of all.values.items) → Takes (TermMade (term_of t) v) old new
-sequence-made t ps is old new none_yet all e f h v made =
-    let flags : all.flags.items ≡ h.flags = h.grows.flags_are ∙ ap (λ x. x ++ h.flags) e in
-    let values : all.values.items ≡ h.values = h.grows.values_are ∙ ap (λ x. x ++ h.values) f in
+pub fills-more : (ts : List (Rose ParticleLabel)) (t : Rose ParticleLabel) (rest : List (Rose ParticleLabel)) → ts ≡ t ∷ rest → (one two three : Children) (a b c : Parts) (start before after : Tally)
+    → Fills (PartsMade (more (seen t) none)) one two a b start before → Fills (PartsMade (all_seen (roses_of rest))) two three b c before after → Fills (PartsMade (all_seen (roses_of ts))) one three a c start after
+fills-more ts t rest is one two three a b c start before after h k = λ gs wait.
+    let x = h gs wait in
+    let y = k x.rest x.wait in
     record {
-      taken = h.taken;
-      rest = h.rest;
-      made = subst (λ q. TermMade q v h.taken) (sym is)
-          (h.flags, h.values, made ∙ ap (λ x. node (value.Sequence x) (roses_of all.values.items)) flags ∙ ap (λ x. node (value.Sequence h.flags) (roses_of x)) values, h.made);
+      taken = x.taken ++ y.taken;
+      rest = y.rest;
+      split = x.split ∙ ap (λ z. x.taken ++ z) y.split ∙ sym (append_assoc x.taken y.taken y.rest);
+      wait = y.wait;
+      adds = subst (λ n. Adds (λ fs vs. PartsMade (all_seen (roses_of ts)) fs vs (x.taken ++ y.taken)) n a c start after) (sym (nodes-append x.taken y.taken))
+          (adds-both (λ fs vs. PartsMade (more (seen t) none) fs vs x.taken) (λ fs vs. PartsMade (all_seen (roses_of rest)) fs vs y.taken) (λ fs vs. PartsMade (all_seen (roses_of ts)) fs vs (x.taken ++ y.taken))
+          (child_nodes x.taken) (child_nodes y.taken) a b c start before after
+          (λ f g v w p q. subst (λ us. PartsMade (all_seen (roses_of us)) (f ++ g) (v ++ w) (x.taken ++ y.taken)) (sym is) (parts-more (seen t) (all_seen (roses_of rest)) f g v w x.taken y.taken p q))
+          x.adds y.adds);
     }
-
-pub choice-made : (t : Rose ParticleLabel) (ps : Particles) → term_of t ≡ choice ps → (old new : Children) (i : ℕ) (w : Rose ValueLabel) → Takes (ChosenMade ps i w) old new
-    → (v : Rose ValueLabel) → v ≡ node (value.Choice i) (rose.more w rose.none) → Takes (TermMade (term_of t) v) old new
-choice-made t ps is old new i w h v made = record { taken = h.taken; rest = h.rest; made = subst (λ q. TermMade q v h.taken) (sym is) (i, w, made, h.made) }
-
-pub element-made : (t : Rose ParticleLabel) (d : ℕ) (a : Name) → term_of t ≡ element d a → (old new : Children) (v : Rose ValueLabel) → Takes (IsOne d v) old new → Takes (TermMade (term_of t) v) old new
-element-made t d a is old new v h = record { taken = h.taken; rest = h.rest; made = subst (λ q. TermMade q v h.taken) (sym is) h.made }
-
-pub several-done : (t : Rose ParticleLabel) (vs : List (Rose ValueLabel)) (old new : Children) → Takes (Each (TermMade (term_of t)) vs) old new → (least : ℕ) (most : Option ℕ)
-    → nat_le least (length vs) ≡ true → is_at_most (length vs) most ≡ true → (v : Rose ValueLabel) → v ≡ node value.SequenceOf (roses_of vs) → Takes (Several (TermMade (term_of t)) least most v) old new
-several-done t vs old new h least most e f v made = record { taken = h.taken; rest = h.rest; made = (vs, made, e, f, h.made) }
 
 -- ---- the top particle
 
 all-taken : (P : List Bool → List (Rose ValueLabel) → List Child → Type 0) (Q : List Bool → List (Rose ValueLabel) → List Child → Type 0) → ((f : List Bool) (v : List (Rose ValueLabel)) (gs : List Child) → P f v gs → Q f v gs)
-    → (old new : Children) (before after : Parts) → new.waiting.items ≡ [] → Fills P old new before after → FillsAll Q old.waiting.items before after
-all-taken P Q g old new before after e h = record {
-  flags = h.flags;
-  values = h.values;
-  grows = h.grows;
-  made = subst (λ gs. Q h.flags h.values gs) (sym (h.rest ∙ ap (λ x. h.taken ++ x) e ∙ append-nil h.taken)) (g h.flags h.values h.taken h.made);
-}
+    → (old new : Children) (former latter : Parts) (before after : Tally) → new.waiting.items ≡ [] → Fills P old new former latter before after → FillsAll Q old former latter before after
+all-taken P Q g old new former latter before after e h = λ gs wait.
+    let x = h gs wait in
+    let a = x.adds in
+    let all : gs ≡ x.taken = x.split ∙ ap (λ z. x.taken ++ z) (none-waits after new x.rest e x.wait) ∙ append-nil x.taken in
+    record {
+      flags = a.flags;
+      values = a.values;
+      grows = a.grows;
+      nodes = a.nodes;
+      counts = a.counts;
+      all = subst (λ z. count_all (roses_of a.values) ≡ a.nodes + child_nodes z) (sym all) a.all;
+      made = subst (λ z. Q a.flags a.values z) (sym all) (g a.flags a.values x.taken a.made);
+    }
 
 once-of : (kind : ParticleKind) (ps : Particles) (least : ℕ) (most : Option ℕ) → is_parted (term_seen kind ps) least most ≡ true → (term_seen kind ps ≡ sequence ps) × (is_once least most ≡ true)
 once-of (kinds.Element d a) ps least most e = absurd (cc)
@@ -238,8 +398,9 @@ once-of kinds.Choice ps least most e = absurd (cc)
 
 pub top-parted : (t : Rose ParticleLabel) (l : ParticleLabel) (kids : List (Rose ParticleLabel)) → l ≡ label_of t → kids ≡ kids_of t
     → ((ps : Particles) → true ≡ is_parted (term_seen l.kind ps) l.min l.max)
-    → (old new : Children) (before after : Parts) → new.waiting.items ≡ [] → Fills (PartsMade (all_seen (roses_of kids))) old new before after → FillsAll (TopMade (seen t)) old.waiting.items before after
-top-parted t l kids el ek parted old new before after e h =
+    → (old new : Children) (former latter : Parts) (before after : Tally) → new.waiting.items ≡ [] → Fills (PartsMade (all_seen (roses_of kids))) old new former latter before after
+    → FillsAll (TopMade (seen t)) old former latter before after
+top-parted t l kids el ek parted old new former latter before after e h =
     let ps = all_seen (roses_of kids) in
     let own : is_parted (term_seen (label_of t).kind ps) (label_of t).min (label_of t).max ≡ true = sym (parted ps ∙ ap (λ (m : ParticleLabel). is_parted (term_seen m.kind ps) m.min m.max) el) in
     let both = once-of (label_of t).kind ps (label_of t).min (label_of t).max own in
@@ -249,11 +410,12 @@ top-parted t l kids el ek parted old new before after e h =
     all-taken (PartsMade ps) (TopMade (seen t))
     (λ f v gs p. subst (λ q. TopMade q f v gs) (sym (seen-is t ∙ ap (λ q. occurs q least most) is))
     (subst (λ b. elim b as (λ _. Type 0) [ true ↦ PartedMade (sequence ps) f v gs | false ↦ PartsMade (more (occurs (sequence ps) least most) none) f v gs ]) (sym both.1) p))
-    old new before after e h
+    old new former latter before after e h
 
 pub top-whole : (t : Rose ParticleLabel) (l : ParticleLabel) → l ≡ label_of t → ((ps : Particles) → false ≡ is_parted (term_seen l.kind ps) l.min l.max)
-    → (old new : Children) (before after : Parts) → new.waiting.items ≡ [] → Fills (PartsMade (more (seen t) none)) old new before after → FillsAll (TopMade (seen t)) old.waiting.items before after
-top-whole t l el whole old new before after e h =
+    → (old new : Children) (former latter : Parts) (before after : Tally) → new.waiting.items ≡ [] → Fills (PartsMade (more (seen t) none)) old new former latter before after
+    → FillsAll (TopMade (seen t)) old former latter before after
+top-whole t l el whole old new former latter before after e h =
     let least = (label_of t).min in
     let most = (label_of t).max in
     let o : is_parted (term_of t) least most ≡ false =
@@ -262,4 +424,4 @@ top-whole t l el whole old new before after e h =
     (λ f v gs p. subst (λ q. TopMade q f v gs) (sym (seen-is t))
     (subst (λ b. elim b as (λ _. Type 0) [ true ↦ PartedMade (term_of t) f v gs | false ↦ PartsMade (more (occurs (term_of t) least most) none) f v gs ]) (sym o)
     (subst (λ q. PartsMade (more q none) f v gs) (seen-is t) p)))
-    old new before after e h
+    old new former latter before after e h

@@ -5,7 +5,7 @@ use Rattle.std.proofs.lemmas.List.{map-append}
 use Rattle.xa_base.specs.declared.texts.Name.{Name}
 use Rattle.xa_base.specs.Limits.{is_empty, has_xml_chars}
 use Rattle.xa_base.specs.WhiteSpace.{is_blank}
-use Rattle.label_tree.specs.Rose.{Rose, node, Roses, roses_of, label_of}
+use Rattle.label_tree.specs.Rose.{Rose, node, node_count, Roses, roses_of, label_of}
 use Rattle.label_tree.specs.Rose as rose
 use Rattle.simple_types.specs.declared.labels.ValueLabel.{ValueLabel}
 use Rattle.content_models.specs.Particle.{Particle}
@@ -22,8 +22,7 @@ use Rattle.schema_parts.specs.Components.{Set}
 use Rattle.schema_parts.specs.Linked.{leaves, IsNamed}
 use Rattle.schema_parts.specs.SetParts.{parts_of}
 use Rattle.schema_parts.proofs.Truths.{both}
-use Rattle.asn_types.specs.Values.{FitsAt}
-use Rattle.xer_items.specs.Items.{Given, joined, element_of, inside}
+use Rattle.xer_items.specs.Items.{Given, joined, element_of}
 use Rattle.validity.specs.Asked.{Asked, asked_at}
 use Rattle.validity.specs.Valid.{Between, ValidBy, KidsValid}
 use Rattle.validity.specs.Faults.{Begins, At, front}
@@ -34,10 +33,13 @@ use Rattle.validity_check.specs.Walked.{Walked}
 use Rattle.validity_check.specs.Answers.{Tells, KidsFault}
 use Rattle.validity_check.proofs.Leaves.{last_has}
 use Rattle.validity_check.proofs.Walking.{end_judged, text_judged}
-use Rattle.xer_read.specs.declared.children.Child.{Child}
+use Rattle.xer_read.specs.declared.built.Built.{Built}
 use Rattle.xer_read.specs.declared.contents.Kids.{Kids}
-use Rattle.xer_read.specs.Private.Given.{IsElementOf, IsTypeFor, IsRead}
-use Rattle.xer_read.specs.Private.Keeping.{text_value, words_of, TextAdded, TextRead, IsChild, ElementAdded, in_turns, IsKept, AllKept, AreKept, Reached, KidsRead}
+use Rattle.xer_read.specs.declared.tally.Tally.{Tally}
+use Rattle.xer_read.specs.Private.Tallied.{Counts, Stands, Child, child_nodes, Wait, Makes}
+use Rattle.xer_read.specs.Private.Given.{IsElementOf, IsRead}
+use Rattle.xer_read.specs.Private.Keeping.{text_value, words_of, TextAdded, TextRead, ElementAdded, in_turns, IsKept, AllKept, AreKept, Reached, KidsRead}
+use Rattle.xer_read.proofs.Counting.{counts-none, counts-both, counts-as, within-before, stands-later, nodes-append, wait-none, wait-later, wait-more}
 
 -- ---- treated kids, one more at their end
 
@@ -127,12 +129,17 @@ roses-more [] b = refl
 roses-more (c ∷ bs) b = ap (λ z. rose.more c z) (roses-more bs b)
 
 module _ (s : Set) (high : ℕ) where
-  pub nothing-kept : (mixed : Bool) (read : Kids) → read.texts.items ≡ [] → read.behind ≡ None → read.children.waiting.items ≡ [] → AreKept s mixed high read rose.none
-  nothing-kept mixed read e f g = record {
+  pub nothing-kept : (mixed : Bool) (read : Kids) (tally : Tally) → read.texts.items ≡ [] → read.behind ≡ None → read.children.waiting.items ≡ [] → read.children.values.items ≡ [] → AreKept s mixed high read tally tally rose.none
+  nothing-kept mixed read tally e f g h = record {
+    texts = [];
+    texts_are = λ w. e;
+    gs = [];
+    wait = wait-none tally read.children g h;
+    counts = counts-none tally;
     items = [];
-    children = subst (λ gs. AllKept s high gs []) (sym g) tt;
-    mixed_is = λ is. record { texts = []; texts_are = e; many = refl; is = ap (λ o. text_before (words_of o) rose.none) (sym f) };
-    plain_is = λ is. refl;
+    children = tt;
+    mixed_is = λ is. record { many = refl; is = ap (λ o. text_before (words_of o) rose.none) (sym f) };
+    plain_is = λ is. (refl, refl);
   }
 
   all-more : (gs : List Child) (bs : List (Rose Plain)) (g : Child) (b : Rose Plain) → AllKept s high gs bs → IsKept s high g b → AllKept s high (gs ++ g ∷ []) (bs ++ b ∷ [])
@@ -141,49 +148,85 @@ module _ (s : Set) (high : ℕ) where
   all-more (x ∷ gs) [] g b h k = absurd h
   all-more (x ∷ gs) (c ∷ bs) g b h k = (h.0, all-more gs bs g b h.1 k)
 
-  text-more : (words : List ℕ) (old new : Kids) (vs : Roses Plain) → is_empty words ≡ false → TextAdded words old new → AreKept s true high old vs → AreKept s true high new (joined vs (text_kept true words))
-  text-more words old new vs some added h =
+  text-more : (words : List ℕ) (old new : Kids) (start now : Tally) (vs : Roses Plain) → is_empty words ≡ false → TextAdded words old new → AreKept s true high old start now vs
+      → AreKept s true high new start now (joined vs (text_kept true words))
+  text-more words old new start now vs some added h =
       let k = h.mixed_is refl in
       record {
+        texts = h.texts;
+        texts_are = λ w. added.texts ∙ h.texts_are w;
+        gs = h.gs;
+        wait = subst (λ c. Wait now c h.gs) (sym added.children) h.wait;
+        counts = h.counts;
         items = h.items;
-        children = subst (λ gs. AllKept s high gs h.items) (sym added.children) h.children;
+        children = h.children;
         mixed_is = λ is. record {
-          texts = k.texts;
-          texts_are = added.texts ∙ k.texts_are;
           many = k.many;
-          is = ap (λ z. joined z (text_kept true words)) (k.is ∙ ap (λ o. joined (in_turns k.texts h.items) (text_before (words_of o) rose.none)) added.alone ∙ joined-none (in_turns k.texts h.items))
-              ∙ ap (λ z. joined (in_turns k.texts h.items) z) (sym (some-words words some))
-              ∙ ap (λ o. joined (in_turns k.texts h.items) (text_before (words_of o) rose.none)) (sym added.behind);
+          is = ap (λ z. joined z (text_kept true words)) (k.is ∙ ap (λ o. joined (in_turns h.texts h.items) (text_before (words_of o) rose.none)) added.alone ∙ joined-none (in_turns h.texts h.items))
+              ∙ ap (λ z. joined (in_turns h.texts h.items) z) (sym (some-words words some))
+              ∙ ap (λ o. joined (in_turns h.texts h.items) (text_before (words_of o) rose.none)) (sym added.behind);
         };
         plain_is = λ is. absurd (true≢false is);
       }
 
   -- a text that stands among child elements
-  pub text-read : (mixed : Bool) (words : List ℕ) (old new : Kids) (vs : Roses Plain) → is_empty words ≡ false → TextRead mixed words old new → AreKept s mixed high old vs
-      → AreKept s mixed high new (joined vs (text_kept mixed words))
-  text-read true words old new vs some read h = text-more words old new vs some read h
-  text-read false words old new vs some read h = subst (λ z. AreKept s false high new z) (sym (joined-none vs)) (subst (λ k. AreKept s false high k vs) (sym read.1) h)
+  pub text-read : (mixed : Bool) (words : List ℕ) (old new : Kids) (start now : Tally) (vs : Roses Plain) → is_empty words ≡ false → TextRead mixed words old new → AreKept s mixed high old start now vs
+      → AreKept s mixed high new start now (joined vs (text_kept mixed words))
+  text-read true words old new start now vs some read h = text-more words old new start now vs some read h
+  text-read false words old new start now vs some read h =
+      subst (λ z. AreKept s false high new start now z) (sym (joined-none vs)) (subst (λ k. AreKept s false high k start now vs) (sym read.1) h)
 
-  pub element-kept : (mixed : Bool) (d : ℕ) (v : Rose ValueLabel) (old new : Kids) (vs : Roses Plain) (b : Rose Plain) → (added : ElementAdded mixed d v old new) → IsKept s high added.child b
-      → AreKept s mixed high old vs → AreKept s mixed high new (joined vs (rose.more b rose.none))
-  element-kept mixed d v old new vs b added one h = record {
-    items = h.items ++ b ∷ [];
-    children = subst (λ gs. AllKept s high gs (h.items ++ b ∷ [])) (sym added.children) (all-more old.children.waiting.items h.items added.child b h.children one);
-    mixed_is = λ is.
-        let k = h.mixed_is is in
-        let words = words_of old.behind in
-        record {
-          texts = k.texts ++ words ∷ [];
-          texts_are = added.texts is ∙ ap (λ z. z ++ text_value words ∷ []) k.texts_are ∙ sym (map-append text_value k.texts (words ∷ []));
-          many = let m = k.many in let one = length-append k.texts (words ∷ []) in let other = length-append h.items (b ∷ []) in omega (arith, m, one, other);
-          is = ap (λ z. joined z (rose.more b rose.none)) k.is ∙ joined-assoc (in_turns k.texts h.items) (text_before words rose.none) (rose.more b rose.none)
-              ∙ ap (λ z. joined (in_turns k.texts h.items) z) (before-joined words (rose.more b rose.none))
-              ∙ sym (in-turns-more k.texts h.items words b k.many)
-              ∙ sym (joined-none (in_turns (k.texts ++ words ∷ []) (h.items ++ b ∷ [])))
-              ∙ ap (λ o. joined (in_turns (k.texts ++ words ∷ []) (h.items ++ b ∷ [])) (text_before (words_of o) rose.none)) (sym (added.behind is));
-        };
-    plain_is = λ is. ap (λ z. joined z (rose.more b rose.none)) (h.plain_is is) ∙ roses-more h.items b;
-  }
+  module _ (old new : Kids) (made : Built) (g : Child) (b : Rose Plain) (start before between after : Tally) (vs : Roses Plain) (n : ℕ) (counted : Counts n before between) (is_all : n ≡ node_count g.value)
+      (stands : Stands between made g.value) (one : IsKept s high g b)
+    where
+      element-mixed : ElementAdded true g.decl made old new between after → AreKept s true high old start before vs → AreKept s true high new start after (joined vs (rose.more b rose.none))
+      element-mixed added h =
+          let k = h.mixed_is refl in
+          let closed = added.mixed_is refl in
+          let words = words_of old.behind in
+          let later = counts-both n 1 before between after counted closed.1 in
+          record {
+            texts = h.texts ++ words ∷ [];
+            texts_are = λ w. closed.2 w ∙ ap (λ z. z ++ text_value words ∷ []) (h.texts_are (within-before (n + 1) before after later w)) ∙ sym (map-append text_value h.texts (words ∷ []));
+            gs = h.gs ++ g ∷ [];
+            wait = wait-more after old.children new.children h.gs g made (wait-later (n + 1) before after old.children h.gs later h.wait) added.children (stands-later 1 between after made g.value closed.1 stands);
+            counts = counts-as (length h.texts + child_nodes h.gs + (n + 1)) (length (h.texts ++ words ∷ []) + child_nodes (h.gs ++ g ∷ [])) start after
+                (let long = length-append h.texts (words ∷ []) in let sum = nodes-append h.gs (g ∷ []) in omega (arith, long, sum, is_all))
+                (counts-both (length h.texts + child_nodes h.gs) (n + 1) start before after h.counts later);
+            items = h.items ++ b ∷ [];
+            children = all-more h.gs h.items g b h.children one;
+            mixed_is = λ is. record {
+              many = let m = k.many in let long = length-append h.texts (words ∷ []) in let other = length-append h.items (b ∷ []) in omega (arith, m, long, other);
+              is = ap (λ z. joined z (rose.more b rose.none)) k.is ∙ joined-assoc (in_turns h.texts h.items) (text_before words rose.none) (rose.more b rose.none)
+                  ∙ ap (λ z. joined (in_turns h.texts h.items) z) (before-joined words (rose.more b rose.none))
+                  ∙ sym (in-turns-more h.texts h.items words b k.many)
+                  ∙ sym (joined-none (in_turns (h.texts ++ words ∷ []) (h.items ++ b ∷ [])))
+                  ∙ ap (λ o. joined (in_turns (h.texts ++ words ∷ []) (h.items ++ b ∷ [])) (text_before (words_of o) rose.none)) (sym closed.0);
+            };
+            plain_is = λ is. absurd (true≢false is);
+          }
+
+      element-plain : ElementAdded false g.decl made old new between after → AreKept s false high old start before vs → AreKept s false high new start after (joined vs (rose.more b rose.none))
+      element-plain added h =
+          let k = h.plain_is refl in
+          let same = added.plain_is refl in
+          let later : Counts n before after = subst (λ t. Counts n before t) (sym same.0) counted in
+          record {
+            texts = h.texts;
+            texts_are = λ w. same.1 ∙ h.texts_are (within-before n before after later w);
+            gs = h.gs ++ g ∷ [];
+            wait = wait-more after old.children new.children h.gs g made (wait-later n before after old.children h.gs later h.wait) added.children (subst (λ t. Stands t made g.value) (sym same.0) stands);
+            counts = counts-as (length h.texts + child_nodes h.gs + n) (length h.texts + child_nodes (h.gs ++ g ∷ [])) start after
+                (let sum = nodes-append h.gs (g ∷ []) in omega (arith, sum, is_all)) (counts-both (length h.texts + child_nodes h.gs) n start before after h.counts later);
+            items = h.items ++ b ∷ [];
+            children = all-more h.gs h.items g b h.children one;
+            mixed_is = λ is. absurd (true≢false (sym is));
+            plain_is = λ is. (ap (λ z. joined z (rose.more b rose.none)) k.0 ∙ roses-more h.items b, k.1);
+          }
+
+      pub element-kept : (mixed : Bool) → ElementAdded mixed g.decl made old new between after → AreKept s mixed high old start before vs → AreKept s mixed high new start after (joined vs (rose.more b rose.none))
+      element-kept true added h = element-mixed added h
+      element-kept false added h = element-plain added h
 
 -- ---- behind some kids
 
@@ -197,19 +240,19 @@ some-text (node (Text others c) ks) words at e h =
     let same : others ≡ words = cc in
     subst (λ w. is_empty w ≡ false) same (not_true (is_empty others) (both (not (is_empty others)) (has_xml_chars others) (both (not (is_empty others) && has_xml_chars others) (are_sound ks) h).0).0)
 
-pub none-reached : (s : Set) (m : Bool) (p : Particle) (kids : List (Rose ItemLabel)) (k : Matched) (read : Kids) → k.particle ≡ p → Took k [] → read.texts.items ≡ [] → read.behind ≡ None → read.children.waiting.items ≡ []
-    → Reached s m p kids 0 k read
-none-reached s m p kids k read e h texts behind children = record {
+pub none-reached : (s : Set) (m : Bool) (p : Particle) (kids : List (Rose ItemLabel)) (k : Matched) (read : Kids) (tally : Tally) → k.particle ≡ p → Took k [] → read.texts.items ≡ [] → read.behind ≡ None
+    → read.children.waiting.items ≡ [] → read.children.values.items ≡ [] → Reached s m p kids 0 k read tally tally
+none-reached s m p kids k read tally e h texts behind waiting values = record {
   particle = e;
   us = [];
   took = h;
   few = omega arith;
   vs = rose.none;
   fine = (refl, refl);
-  kept = nothing-kept s (levels_all (roses_of kids)) m read texts behind children;
+  kept = nothing-kept s (levels_all (roses_of kids)) m read tally texts behind waiting values;
 }
 
-module _ (s : Set) (m : Bool) (p : Particle) (kids : List (Rose ItemLabel)) (place : ℕ) (i : ℕ) (k : Matched) (read : Kids) (r : Reached s m p kids i k read) where
+module _ (s : Set) (m : Bool) (p : Particle) (kids : List (Rose ItemLabel)) (place : ℕ) (i : ℕ) (k : Matched) (read : Kids) (start now : Tally) (r : Reached s m p kids i k read start now) where
   abbrev asks : ℕ → Asked
   asks = asked_at (parts_of s)
 
@@ -218,7 +261,7 @@ module _ (s : Set) (m : Bool) (p : Particle) (kids : List (Rose ItemLabel)) (pla
 
   -- ---- behind all
 
-  end-reached : length kids ≤ i → Lang k.particle 0 [] r.us → KidsRead s m p (roses_of kids) read
+  end-reached : length kids ≤ i → Lang k.particle 0 [] r.us → KidsRead s m p (roses_of kids) read start now
   end-reached past l = record {
     leaves = r.us;
     lang = subst (λ q. Lang q 0 [] r.us) r.particle l;
@@ -229,8 +272,8 @@ module _ (s : Set) (m : Bool) (p : Particle) (kids : List (Rose ItemLabel)) (pla
 
   pub end-read : length kids ≤ i → (o : Result Kids CheckError)
       → MatchResult o (λ kept. Lang k.particle 0 [] r.us × (kept ≡ read)) (Tells (At place MissingElement (spots.IsNamed k.particle (names r.us) → ⊥)))
-      → MatchResult o (KidsRead s m p (roses_of kids)) (Tells (KidsFault asks m p (roses_of kids) place))
-  end-read past (Ok kept) h = subst (KidsRead s m p (roses_of kids)) (sym h.1) (end-reached past h.0)
+      → MatchResult o (λ kept. KidsRead s m p (roses_of kids) kept start now) (Tells (KidsFault asks m p (roses_of kids) place))
+  end-read past (Ok kept) h = subst (λ z. KidsRead s m p (roses_of kids) z start now) (sym h.1) (end-reached past h.0)
   end-read past (Err e) h =
       let refused : Result Kids CheckError = Err e in
       end_judged s m p kids place i k walked past refused h
@@ -238,7 +281,7 @@ module _ (s : Set) (m : Bool) (p : Particle) (kids : List (Rose ItemLabel)) (pla
   module _ (t : Rose ItemLabel) (below : i < length kids) (here : t ≡ get_or kids i t) (sound : is_sound t ≡ true) where
     -- ---- behind a text
 
-    text-reached : (words : List ℕ) (b : ℕ) → label_of t ≡ Text words b → (new : Kids) → TextRead m words read new → Reached s m p kids (i + 1) k new
+    text-reached : (words : List ℕ) (b : ℕ) → label_of t ≡ Text words b → (new : Kids) → TextRead m words read new → Reached s m p kids (i + 1) k new start now
     text-reached words b l new added = record {
       particle = r.particle;
       us = r.us;
@@ -246,7 +289,7 @@ module _ (s : Set) (m : Bool) (p : Particle) (kids : List (Rose ItemLabel)) (pla
       few = let f = r.few in omega (arith, f);
       vs = joined r.vs (text_kept m words);
       fine = rw add-one (text-valid asks m (roses_of kids) i t r.us words b (kid_here kids i t below here) l (why m added) r.vs r.fine);
-      kept = text-read s (levels_all (roses_of kids)) m words read new r.vs (some-text t words b l sound) added r.kept;
+      kept = text-read s (levels_all (roses_of kids)) m words read new start now r.vs (some-text t words b l sound) added r.kept;
     }
       where
         why : (m : Bool) → TextRead m words read new → (m ≡ true) ⊎ (is_blank words ≡ true)
@@ -255,7 +298,7 @@ module _ (s : Set) (m : Bool) (p : Particle) (kids : List (Rose ItemLabel)) (pla
 
     pub text-judged : {X : Type 0} (words : List ℕ) (b : ℕ) → label_of t ≡ Text words b → (new : Kids) → (o : Result X CheckError)
         → MatchResult o (λ _. TextRead m words read new) (Tells (At b TextNotAllowed ((m ≡ false) × (is_blank words ≡ false))))
-        → MatchResult o (λ _. Reached s m p kids (i + 1) k new) (Tells (KidsFault asks m p (roses_of kids) place))
+        → MatchResult o (λ _. Reached s m p kids (i + 1) k new start now) (Tells (KidsFault asks m p (roses_of kids) place))
     text-judged words b l new (Ok x) h = text-reached words b l new h
     text-judged {X} words b l new (Err e) h =
         let refused : Result X CheckError = Err e in
@@ -278,25 +321,29 @@ module _ (s : Set) (m : Bool) (p : Particle) (kids : List (Rose ItemLabel)) (pla
       element-is : (inner : Given) (b : Rose Plain) → IsElementOf (label_of t) inner b → b ≡ element_of n inner
       element-is inner b h = subst (λ l. IsElementOf l inner b) is h
 
-      kept-one : (v : Rose ValueLabel) → (one : IsRead s leaf.decl t v) → (g : Child) → IsChild leaf.decl v g → IsKept s (levels_all (roses_of kids)) g one.treated
-      kept-one v one g child = record {
+      kept-one : (v : Rose ValueLabel) → (one : IsRead s leaf.decl t v) → IsKept s (levels_all (roses_of kids)) (record { decl = leaf.decl; value = v }) one.treated
+      kept-one v one = record {
         name = n;
-        named = subst (λ d. IsNamed s (d, n)) (sym child.0) is-named;
+        named = is-named;
         inner = one.inner;
         is = element-is one.inner one.treated one.is;
         gives = λ M is_map depth u within type.
             let low = level-within (roses_of kids) i t (kid_here kids i t below here) in
-            subst (λ w. FitsAt M depth u w × (inside M u w ≡ one.inner)) (sym child.1) (one.gives M is_map depth u (omega (arith, within, low)) (subst (λ d. IsTypeFor s M is_map d u) child.0 type));
+            one.gives M is_map depth u (omega (arith, within, low)) type;
       }
 
-      pub kid-reached : (v : Rose ValueLabel) → IsRead s leaf.decl t v → (after : Kids) → ElementAdded m leaf.decl v read after → Reached s m p kids (i + 1) new after
-      kid-reached v one after added = record {
-        particle = same ∙ r.particle;
-        us = r.us ++ further.last ∷ [];
-        took = further.took;
-        few = let f = r.few in let e = length-append r.us (further.last ∷ []) in omega (arith, f, e);
-        vs = joined r.vs (rose.more one.treated rose.none);
-        fine = rw add-one (element-valid asks m (roses_of kids) i t r.us n further.last one.treated (kid_here kids i t below here) (named t n xs declares c is) further.named
-            (subst (λ d. ValidBy asks d t one.treated) (sym further.decl) one.valid) r.vs r.fine);
-        kept = element-kept s (levels_all (roses_of kids)) m leaf.decl v read after r.vs one.treated added (kept-one v one added.child added.is) r.kept;
-      }
+      pub kid-reached : (made : Built) (between after : Tally) → Makes (IsRead s leaf.decl t) 0 made now between → (latter : Kids) → ElementAdded m leaf.decl made read latter between after
+          → Reached s m p kids (i + 1) new latter start after
+      kid-reached made between after makes latter added =
+          let one = makes.holds in
+          record {
+            particle = same ∙ r.particle;
+            us = r.us ++ further.last ∷ [];
+            took = further.took;
+            few = let f = r.few in let e = length-append r.us (further.last ∷ []) in omega (arith, f, e);
+            vs = joined r.vs (rose.more one.treated rose.none);
+            fine = rw add-one (element-valid asks m (roses_of kids) i t r.us n further.last one.treated (kid_here kids i t below here) (named t n xs declares c is) further.named
+                (subst (λ d. ValidBy asks d t one.treated) (sym further.decl) one.valid) r.vs r.fine);
+            kept = element-kept s (levels_all (roses_of kids)) read latter made (record { decl = leaf.decl; value = makes.value }) one.treated start now between after r.vs makes.nodes makes.counts
+                (let all = makes.all in omega (arith, all)) makes.stands (kept-one makes.value one) m added r.kept;
+          }

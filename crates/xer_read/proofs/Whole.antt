@@ -1,13 +1,12 @@
 -- What is read of an element is its value.
-use Rattle.std.proofs.Common.{◌≡◌, ℕ, suc, Bool, true, false, List, [], ◌∷◌, ◌++◌, Some, length, refl, sym, ◌∙◌, ap, subst, arith, length-append}
+use Rattle.std.proofs.Common.{◌≡◌, ℕ, suc, ◌+◌, true≢false, Bool, true, false, List, [], ◌∷◌, ◌++◌, Some, length, refl, sym, ◌∙◌, ap, subst, arith, length-append, map}
 use Rattle.std.specs.Prelude.{Result, Ok, Err, MatchResult, All}
 use Rattle.std.proofs.lemmas.List.{map-append}
 use Rattle.xa_base.specs.declared.texts.Name.{Name}
-use Rattle.label_tree.specs.Rose.{Rose, node, Roses, roses_of, list_of, label_of, kids_of}
+use Rattle.label_tree.specs.Rose.{Rose, node, Roses, roses_of, node_count, count_all, list_of, label_of, kids_of}
 use Rattle.label_tree.specs.Rose as rose
 use Rattle.simple_types.specs.Space.{Space}
 use Rattle.simple_types.specs.declared.labels.ValueLabel.{ValueLabel}
-use Rattle.simple_types.specs.declared.labels.ValueLabel.TheVariants as value
 use Rattle.simple_values.specs.Reading.{spelled}
 use Rattle.content_models.specs.declared.particles.ParticleLabel.{ParticleLabel}
 use Rattle.content_models.specs.Particle.{Particle}
@@ -36,21 +35,41 @@ use Rattle.xer_read.specs.declared.contents.Content.{Content}
 use Rattle.xer_read.specs.declared.contents.Kids.{Kids}
 use Rattle.xer_read.specs.declared.contents.Rest.{Rest}
 use Rattle.xer_read.specs.declared.contents.Rest.TheVariants as read
+use Rattle.xer_read.specs.declared.built.Built.{Built}
+use Rattle.xer_read.specs.declared.tally.Tally.{Tally}
+use Rattle.xer_read.specs.Private.Tallied.{Counts, IsWithin, Child, child_nodes, Wait, Makes}
+use Rattle.xer_read.specs.Private.Held.{Beside, Held, texts_of, RestStands, Holds, held_nodes}
+use Rattle.xer_read.specs.Private.Held as held
 use Rattle.xer_read.specs.Private.Reading.{IsReadAs}
 use Rattle.xer_read.specs.Private.Given.{IsElementOf, Gives, IsRead}
 use Rattle.xer_read.specs.Private.Keeping.{text_value, words_of, in_turns, KidsRead}
-use Rattle.xer_read.specs.Private.Contents.{AreAround, AreThose, IsContentBy, IsRightContent, IsRestWith, IsContentWith, is_plain_at, IsMade, IsFilled, IsNilFilled}
+use Rattle.xer_read.specs.Private.Contents.{IsContentBy, IsRightContent, IsRestWith, IsContentWith, is_plain_at, IsMade, IsFilled, IsNilFilled}
+use Rattle.xer_read.proofs.Counting.{counts-none, counts-both, counts-as, within-before, wait-later}
+use Rattle.xer_read.proofs.Adding.{nothing-counted}
 use Rattle.xer_read.proofs.Giving.{ReadBy, made-gives}
 
 -- ---- contents
 
-pub nothing-right : (s : Set) (ts : Roses ItemLabel) (content : Content) → content.rest ≡ read.Nothing → ts ≡ rose.none → IsRightContent s nothing ts content
-nothing-right s ts content e h = (rose.none, subst (λ r. IsContentBy s nothing ts content.texts r rose.none) (sym e) (h, refl))
+pub nothing-right : (s : Set) (ts : Roses ItemLabel) (content : Content) (tally : Tally) → content.rest ≡ read.Nothing → content.texts.items ≡ [] → ts ≡ rose.none → IsRightContent s nothing ts content tally tally
+nothing-right s ts content tally e f h = record {
+  held = record { texts = []; rest = held.nothing };
+  holds = record { texts = λ w. f; rest = subst (λ r. RestStands tally r held.nothing) (sym e) tt; alone = tt };
+  counts = counts-none tally;
+  vs = rose.none;
+  is = (h, refl);
+}
 
-pub text-right : (s : Set) (space : Space) (ts : Roses ItemLabel) (content : Content) (v : Rose ValueLabel) → content.rest ≡ read.Text v → IsReadAs space ts v → IsRightContent s (simple space) ts content
-text-right s space ts content v e (words, only, accepts) =
-    let vs = text_kids (spelled space v) in
-    (vs, subst (λ r. IsContentBy s (simple space) ts content.texts r vs) (sym e) (words, only, accepts, refl))
+pub text-right : (s : Set) (space : Space) (ts : Roses ItemLabel) (content : Content) (made : Built) (before after : Tally) → content.rest ≡ read.Text made → content.texts.items ≡ [] → Makes (IsReadAs space ts) 0 made before after
+    → IsRightContent s (simple space) ts content before after
+text-right s space ts content made before after e f m =
+    let vs = text_kids (spelled space m.value) in
+    record {
+      held = record { texts = []; rest = held.text m.value };
+      holds = record { texts = λ w. f; rest = subst (λ r. RestStands after r (held.text m.value)) (sym e) m.stands; alone = refl };
+      counts = counts-as m.nodes (0 + node_count m.value) before after (let all = m.all in omega (arith, all)) m.counts;
+      vs = vs;
+      is = (m.holds.0, m.holds.1, m.holds.2, refl);
+    }
 
 turns-interleaved : (texts : List (List ℕ)) (bs : List (Rose Plain)) (words : List ℕ) → length texts ≡ length bs
     → joined (in_turns texts bs) (text_before words rose.none) ≡ interleaved (texts ++ words ∷ []) (roses_of bs)
@@ -60,53 +79,107 @@ turns-interleaved (t ∷ texts) [] words e = absurd (cc)
 turns-interleaved ([] ∷ texts) (b ∷ bs) words e = ap (λ z. rose.more b z) (turns-interleaved texts bs words (omega (arith, e)))
 turns-interleaved ((x ∷ xs) ∷ texts) (b ∷ bs) words e = ap (λ z. rose.more (node (text (x ∷ xs)) rose.none) (rose.more b z)) (turns-interleaved texts bs words (omega (arith, e)))
 
-module _ (s : Set) (mixed : Bool) (p : Particle) (ts : Roses ItemLabel) (kids : Kids) (content : Content) (model : Rose ParticleLabel) (h : KidsRead s mixed p ts kids) (made : IsContentWith mixed kids model content) where
-  around : mixed ≡ true → AreAround content.texts h.kept.items h.vs
-  around e =
-      let k = h.kept.mixed_is e in
-      let words = words_of kids.behind in
+-- texts have no kids
+texts-counted : (texts : List (List ℕ)) → count_all (roses_of (map text_value texts)) ≡ length texts
+texts-counted [] = refl
+texts-counted (t ∷ texts) = let h = texts-counted texts in omega (arith, h)
+
+-- the child elements that wait are the rest
+rest-stands : (read_kids : Kids) (model : Rose ParticleLabel) (r : Rest) (tally : Tally) (gs : List Child) → IsRestWith read_kids model r → Wait tally read_kids.children gs → RestStands tally r (held.children model gs)
+rest-stands kids model read.Nil tally gs q wait = absurd q
+rest-stands kids model read.Nothing tally gs q wait = absurd q
+rest-stands kids model (read.Text made) tally gs q wait = absurd q
+rest-stands kids model (read.Children own found) tally gs q wait = (q.0, subst (λ x. Wait tally x gs) (sym q.1) wait)
+
+module _ (s : Set) (p : Particle) (ts : Roses ItemLabel) (kids : Kids) (content : Content) (model : Rose ParticleLabel) (start before after : Tally) where
+  mixed-right : KidsRead s true p ts kids start before → IsContentWith true kids model content before after → p ≡ seen model → All (IsNamed s) (leaves p) → IsRightContent s (children true p) ts content start after
+  mixed-right h made e named =
+      let k = h.kept in
+      let mixed = k.mixed_is refl in
+      let closed = made.mixed_is refl in
+      let last = words_of kids.behind in
+      let words = k.texts ++ last ∷ [] in
+      let texts = map text_value words in
       record {
-        words = k.texts ++ words ∷ [];
-        texts_are = made.texts e ∙ ap (λ z. node value.SequenceOf (roses_of (z ++ text_value words ∷ []))) k.texts_are ∙ ap (λ z. node value.SequenceOf (roses_of z)) (sym (map-append text_value k.texts (words ∷ [])));
-        many = let m = k.many in let l = length-append k.texts (words ∷ []) in omega (arith, m, l);
-        is = k.is ∙ turns-interleaved k.texts h.kept.items words k.many;
+        held = record { texts = texts; rest = held.children model k.gs };
+        holds = record {
+          texts = λ w. closed.1 w ∙ ap (λ z. z ++ text_value last ∷ []) (k.texts_are (within-before 1 before after closed.0 w)) ∙ sym (map-append text_value k.texts (last ∷ []));
+          rest = rest-stands kids model content.rest after k.gs made.rest_is (wait-later 1 before after kids.children k.gs closed.0 k.wait);
+          alone = tt;
+        };
+        counts = counts-as (length k.texts + child_nodes k.gs + 1) (count_all (roses_of texts) + child_nodes k.gs) start after
+            (let counted = texts-counted words in let long = length-append k.texts (last ∷ []) in omega (arith, counted, long))
+            (counts-both (length k.texts + child_nodes k.gs) 1 start before after k.counts closed.0);
+        vs = h.vs;
+        is = (
+          e,
+          record {
+            named = named;
+            leaves_are = h.leaves;
+            lang = h.lang;
+            valid = h.valid;
+            items = k.items;
+            kept = k.children;
+            mixed_is = λ _. record {
+              words = words;
+              texts_are = refl;
+              many = let m = mixed.many in let l = length-append k.texts (last ∷ []) in omega (arith, m, l);
+              is = mixed.is ∙ turns-interleaved k.texts k.items last mixed.many;
+            };
+            plain_is = λ is. absurd (true≢false is);
+          },
+        );
       }
 
-  those : All (IsNamed s) (leaves p) → AreThose s mixed p ts content.texts kids.children.waiting.items h.vs
-  those named = record {
-    named = named;
-    leaves_are = h.leaves;
-    lang = h.lang;
-    valid = h.valid;
-    items = h.kept.items;
-    kept = h.kept.children;
-    mixed_is = around;
-    plain_is = h.kept.plain_is;
-  }
+  plain-right : KidsRead s false p ts kids start before → IsContentWith false kids model content before after → p ≡ seen model → All (IsNamed s) (leaves p) → IsRightContent s (children false p) ts content start after
+  plain-right h made e named =
+      let k = h.kept in
+      let plain = k.plain_is refl in
+      let same = made.plain_is refl in
+      record {
+        held = record { texts = []; rest = held.children model k.gs };
+        holds = record {
+          texts = λ w. same.1 ∙ k.texts_are (subst IsWithin same.0 w) ∙ ap (map text_value) plain.1;
+          rest = rest-stands kids model content.rest after k.gs made.rest_is (subst (λ t. Wait t kids.children k.gs) (sym same.0) k.wait);
+          alone = tt;
+        };
+        counts = subst (λ t. Counts (0 + child_nodes k.gs) start t) (sym same.0)
+            (counts-as (length k.texts + child_nodes k.gs) (0 + child_nodes k.gs) start before (let none = ap length plain.1 in omega (arith, none)) k.counts);
+        vs = h.vs;
+        is = (
+          e,
+          record {
+            named = named;
+            leaves_are = h.leaves;
+            lang = h.lang;
+            valid = h.valid;
+            items = k.items;
+            kept = k.children;
+            mixed_is = λ is. absurd (true≢false (sym is));
+            plain_is = λ _. plain.0;
+          },
+        );
+      }
 
-  by-rest : (r : Rest) → IsRestWith kids.children.waiting.items model r → p ≡ seen model → AreThose s mixed p ts content.texts kids.children.waiting.items h.vs → IsContentBy s (children mixed p) ts content.texts r h.vs
-  by-rest read.Nil q e all = absurd q
-  by-rest read.Nothing q e all = absurd q
-  by-rest (read.Text v) q e all = absurd q
-  by-rest (read.Children own found) q e all = (e ∙ ap seen (sym q.0), subst (λ gs. AreThose s mixed p ts content.texts gs h.vs) (sym q.1) all)
-
-  pub children-right : p ≡ seen model → All (IsNamed s) (leaves p) → IsRightContent s (children mixed p) ts content
-  children-right e named = (h.vs, by-rest content.rest made.rest_is e (those named))
+  pub children-right : (mixed : Bool) → KidsRead s mixed p ts kids start before → IsContentWith mixed kids model content before after → p ≡ seen model → All (IsNamed s) (leaves p)
+      → IsRightContent s (children mixed p) ts content start after
+  children-right true h made e named = mixed-right h made e named
+  children-right false h made e named = plain-right h made e named
 
 -- such a content is valid
-content-valid : (s : Set) (inside : Inside) (ts : Roses ItemLabel) (texts : Rose ValueLabel) (r : Rest) (vs : Roses Plain) → IsContentBy s inside ts texts r vs → ContentValid (asked_at (parts_of s)) inside ts vs
-content-valid s nothing ts texts read.Nil vs h = absurd h
-content-valid s nothing ts texts read.Nothing vs h = h
-content-valid s nothing ts texts (read.Text v) vs h = absurd h
-content-valid s nothing ts texts (read.Children model found) vs h = absurd h
-content-valid s (simple space) ts texts read.Nil vs h = absurd h
-content-valid s (simple space) ts texts read.Nothing vs h = absurd h
-content-valid s (simple space) ts texts (read.Text v) vs (words, only, accepts, is) = (words, only, subst (λ r. Spells space r vs) (sym accepts) is)
-content-valid s (simple space) ts texts (read.Children model found) vs h = absurd h
-content-valid s (children mixed p) ts texts read.Nil vs h = absurd h
-content-valid s (children mixed p) ts texts read.Nothing vs h = absurd h
-content-valid s (children mixed p) ts texts (read.Text v) vs h = absurd h
-content-valid s (children mixed p) ts texts (read.Children model found) vs h = (h.1.leaves_are, h.1.lang, h.1.valid)
+content-valid : (s : Set) (inside : Inside) (ts : Roses ItemLabel) (texts : Rose ValueLabel) (r : Beside) (vs : Roses Plain) → IsContentBy s inside ts texts r vs → ContentValid (asked_at (parts_of s)) inside ts vs
+content-valid s nothing ts texts held.nil vs h = absurd h
+content-valid s nothing ts texts held.nothing vs h = h
+content-valid s nothing ts texts (held.text v) vs h = absurd h
+content-valid s nothing ts texts (held.children model gs) vs h = absurd h
+content-valid s (simple space) ts texts held.nil vs h = absurd h
+content-valid s (simple space) ts texts held.nothing vs h = absurd h
+content-valid s (simple space) ts texts (held.text v) vs (words, only, accepts, is) = (words, only, subst (λ r. Spells space r vs) (sym accepts) is)
+content-valid s (simple space) ts texts (held.children model gs) vs h = absurd h
+content-valid s (children mixed p) ts texts held.nil vs h = absurd h
+content-valid s (children mixed p) ts texts held.nothing vs h = absurd h
+content-valid s (children mixed p) ts texts (held.text v) vs h = absurd h
+content-valid s (children mixed p) ts texts (held.children model gs) vs h = (h.1.leaves_are, h.1.lang, h.1.valid)
 
 -- ---- an element
 
@@ -133,7 +206,7 @@ module _ (s : Set) (linked : IsLinked s) (d : ℕ) (n : Name) (xs : List (Name �
         go true h = h
         go false h = h
 
-    element-read : (nil : Bool) → IsGoodTag (asks d) xs nil → (vs : Roses Plain) → NilValid asks (nil_from (Some nil)) (asks d).inside (roses_of (kids_of t)) vs → (content : Content)
+    element-read : (nil : Bool) → IsGoodTag (asks d) xs nil → (vs : Roses Plain) → NilValid asks (nil_from (Some nil)) (asks d).inside (roses_of (kids_of t)) vs → (content : Held)
         → ReadBy s (nil_from (Some nil)) (asks d).inside (roses_of (kids_of t)) content vs → (v : Rose ValueLabel) → IsMade (is_plain_at s d) (asks d) xs content v → IsRead s d t v
     element-read nil good vs valid content here v made =
         let whole = element-sound t n xs declares place is sound in
@@ -156,19 +229,64 @@ module _ (s : Set) (linked : IsLinked s) (d : ℕ) (n : Name) (xs : List (Name �
       abbrev refused : CheckError → Result (Rose ValueLabel) CheckError
       refused e = Err e
 
-      pub nil-read : IsGoodTag a ys true → (r : Result (Rose ValueLabel) CheckError)
-          → MatchResult r (λ v. (roses_of kids ≡ rose.none) × IsNilFilled s d a ys v) (Tells (FirstKid (roses_of kids) (λ _. NilWithContent)))
-          → MatchResult r (IsRead s d t) (Tells (FaultBy asks d t))
-      nil-read good (Ok v) (none, filled) =
-          let (content, nil, made) = subst (λ b. IsNilFilled s d b xs v) asked_is (subst (λ zs. IsNilFilled s d a zs v) same filled) in
+      pub nil-read : (before after : Tally) → IsGoodTag a ys true → (r : Result Built CheckError)
+          → MatchResult r (λ made. (roses_of kids ≡ rose.none) × Makes (IsNilFilled s d a ys) 0 made before after) (Tells (FirstKid (roses_of kids) (λ _. NilWithContent)))
+          → MatchResult r (λ made. Makes (IsRead s d t) 0 made before after) (Tells (FaultBy asks d t))
+      nil-read before after good (Ok made) (none, m) =
+          let (content, nil, filled) = subst (λ b. IsNilFilled s d b xs m.value) asked_is (subst (λ zs. IsNilFilled s d a zs m.value) same m.holds) in
           let empty : roses_of (kids_of t) ≡ rose.none = ap roses_of (sym are) ∙ none in
-          element-read true (good-tag true good) rose.none (empty, refl) content (nil, refl) v made
-      nil-read good (Err e) h = nil_judged s d a ys n xs declares place t is asked_is same good kids are (refused e) h
+          record {
+            value = m.value;
+            holds = element-read true (good-tag true good) rose.none (empty, refl) content (nil, refl) m.value filled;
+            stands = m.stands;
+            nodes = m.nodes;
+            counts = m.counts;
+            all = m.all;
+          }
+      nil-read before after good (Err e) h = nil_judged s d a ys n xs declares place t is asked_is same good kids are (refused e) h
 
-      pub filled-read : IsGoodTag a ys false → (r : Result (Rose ValueLabel) CheckError)
-          → MatchResult r (IsFilled s d a ys (roses_of kids)) (Tells (InsideFault asks a.inside (roses_of kids) place))
-          → MatchResult r (IsRead s d t) (Tells (FaultBy asks d t))
-      filled-read good (Ok v) filled =
-          let (content, vs, right, made) = subst (λ ks. IsFilled s d (asks d) xs (roses_of ks) v) are (subst (λ b. IsFilled s d b xs (roses_of kids) v) asked_is (subst (λ zs. IsFilled s d a zs (roses_of kids) v) same filled)) in
-          element-read false (good-tag false good) vs (content-valid s (asks d).inside (roses_of (kids_of t)) content.texts content.rest vs right) content right v made
-      filled-read good (Err e) h = inside_judged s d a ys n xs declares place t is asked_is same good kids are (refused e) h
+      pub filled-read : (before after : Tally) → IsGoodTag a ys false → (r : Result Built CheckError)
+          → MatchResult r (λ made. Makes (IsFilled s d a ys (roses_of kids)) 0 made before after) (Tells (InsideFault asks a.inside (roses_of kids) place))
+          → MatchResult r (λ made. Makes (IsRead s d t) 0 made before after) (Tells (FaultBy asks d t))
+      filled-read before after good (Ok made) m =
+          let (content, vs, right, filled) = subst (λ ks. IsFilled s d (asks d) xs (roses_of ks) m.value) are (subst (λ b. IsFilled s d b xs (roses_of kids) m.value) asked_is (subst (λ zs. IsFilled s d a zs (roses_of kids) m.value) same m.holds)) in
+          record {
+            value = m.value;
+            holds = element-read false (good-tag false good) vs (content-valid s (asks d).inside (roses_of (kids_of t)) (texts_of content) content.rest vs right) content right m.value filled;
+            stands = m.stands;
+            nodes = m.nodes;
+            counts = m.counts;
+            all = m.all;
+          }
+      filled-read before after good (Err e) h = inside_judged s d a ys n xs declares place t is asked_is same good kids are (refused e) h
+
+-- ---- the value of a content
+
+-- of what is read
+pub right-filled : (s : Set) (d : ℕ) (a : Asked) (xs : List (Name × List ℕ)) (ts : Roses ItemLabel) (content : Content) (made : Built) (start before after : Tally) → IsRightContent s a.inside ts content start before
+    → ((h : Held) → Holds before content h → Makes (IsMade (is_plain_at s d) a xs h) (held_nodes a.inside h) made before after) → Makes (IsFilled s d a xs ts) 0 made start after
+right-filled s d a xs ts content made start before after right f =
+    let m = f right.held right.holds in
+    record {
+      value = m.value;
+      holds = (right.held, right.vs, right.is, m.holds);
+      stands = m.stands;
+      nodes = held_nodes a.inside right.held + m.nodes;
+      counts = counts-both (held_nodes a.inside right.held) m.nodes start before after right.counts m.counts;
+      all = let all = m.all in omega (arith, all);
+    }
+
+-- of none
+pub nil-filled : (s : Set) (d : ℕ) (a : Asked) (xs : List (Name × List ℕ)) (content : Content) (made : Built) (before after : Tally) → content.rest ≡ read.Nil → content.texts.items ≡ []
+    → ((h : Held) → Holds before content h → Makes (IsMade (is_plain_at s d) a xs h) (held_nodes a.inside h) made before after) → Makes (IsNilFilled s d a xs) 0 made before after
+nil-filled s d a xs content made before after e g f =
+    let h : Held = record { texts = []; rest = held.nil } in
+    let m = f h (record { texts = λ w. g; rest = subst (λ r. RestStands before r held.nil) (sym e) tt; alone = tt }) in
+    record {
+      value = m.value;
+      holds = (h, (refl, refl), m.holds);
+      stands = m.stands;
+      nodes = m.nodes;
+      counts = m.counts;
+      all = let all = m.all in let none = nothing-counted a.inside h.texts refl in omega (arith, all, none);
+    }

@@ -1,4 +1,6 @@
 pub mod Bounds
+pub mod Tallied
+pub mod Held
 pub mod Made
 pub mod Growing
 pub mod Reading

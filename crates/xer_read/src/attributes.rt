@@ -5,9 +5,12 @@ ghost use Rattle.schema_parts.specs.Linked.{IsUse, IsLinked};
 ghost use Rattle.schema_parts.specs.SetParts.{parts_of};
 ghost use Rattle.validity.specs.Asked.{attribute_in};
 ghost use Rattle.validity.specs.Attributes.{left};
-ghost use Rattle.xer_read.specs.Private.Contents.{IsTaken, AreTaken, Adds, AttributesMade};
+ghost use Rattle.xer_read.specs.Private.Contents.{IsTaken, AreTaken, AttributesMade};
+ghost use Rattle.xer_read.specs.Private.Growing.{Adds};
 
+use crate::built::Built;
 use crate::parts::Parts;
+use crate::tally::Tally;
 use attribute_faults::text_of;
 use schema_parts::{AttributeUse, SchemaSet};
 use simple_values::{SimpleError, accept};
@@ -21,16 +24,17 @@ fn add_attribute(
     declared: &AttributeUse,
     attributes: &[(Name, Text)],
     parts: &mut Parts,
+    tally: &mut Tally,
 ) -> Result<(), Memory>
     requires linked { IsLinked set.now }
     requires declared { IsUse set.now declared.now }
     requires taken { IsTaken (left attributes.now) (attribute_in (parts_of set.now) declared.now) }
-    ensures { OnOk result (Adds (AttributesMade (attribute_in (parts_of set.now) declared.now ∷ []) (left attributes.now)) parts.old parts.new) }
+    ensures { OnOk result (Adds (AttributesMade (attribute_in (parts_of set.now) declared.now ∷ []) (left attributes.now)) 0 parts.old parts.new tally.old tally.new) }
 {
     match text_of(attributes, &declared.name) {
         None => parts.leave_out(),
         Some(text) => match accept(alloc, &set.simple(declared.simple).space, text) {
-            Ok(value) => parts.add(value),
+            Ok(value) => parts.add(Built::of(value, tally)),
             Err(SimpleError::Memory) => Err(Memory),
             Err(SimpleError::BadText) => unreachable!(),
             Err(SimpleError::TooWide) => unreachable!(),
@@ -45,14 +49,15 @@ pub(crate) fn add_attributes(
     uses: &[AttributeUse],
     attributes: &[(Name, Text)],
     parts: &mut Parts,
+    tally: &mut Tally,
 ) -> Result<(), Memory>
     requires linked { IsLinked set.now }
     requires uses { All (IsUse set.now) uses.now }
     requires taken { AreTaken set.now attributes.now uses.now }
-    ensures { OnOk result (Adds (AttributesMade (map (attribute_in (parts_of set.now)) uses.now) (left attributes.now)) parts.old parts.new) }
+    ensures { OnOk result (Adds (AttributesMade (map (attribute_in (parts_of set.now)) uses.now) (left attributes.now)) 0 parts.old parts.new tally.old tally.new) }
 {
     for declared in uses {
-        add_attribute(alloc, set, declared, attributes, parts)?;
+        add_attribute(alloc, set, declared, attributes, parts, tally)?;
     }
     Ok(())
 }

@@ -1,9 +1,8 @@
 //! The values of child elements, in their order, with the places at which they stand in the content model.
-ghost use Rattle.std.specs.Prelude.{◌≡◌, [], ◌∷◌, ◌++◌, OnOk, IfOk, IsTrue};
-ghost use Rattle.xer_read.specs.declared.children.Child.{Child};
-ghost use Rattle.xer_read.specs.Private.Made.{IsOne};
-ghost use Rattle.xer_read.specs.Private.Growing.{Takes};
+ghost use Rattle.std.specs.Prelude.{◌≡◌, [], ◌∷◌, OnOk, IfOk, IsTrue};
+ghost use Rattle.xer_read.specs.Private.Tallied.{ChildAdded, ValueTaken, ChildTaken};
 
+use crate::built::Built;
 use content_match::Turn;
 use label_tree::Tree;
 use simple_types::ValueLabel;
@@ -11,53 +10,54 @@ use std::alloc::Global;
 use std::collections::VecDeque;
 use xa_base::Memory;
 
-/// A child element: the number of its declaration, its value, and where its turns begin and end.
+/// A child element: the number of its declaration, and where its turns begin and end.
 #[derive(Drop)]
 pub(crate) struct Child {
     decl: u32,
-    value: Tree<ValueLabel>,
     from: usize,
     to: usize,
 }
 
-/// Child elements that wait for their places in a value, and the turns of all.
+/// Child elements that wait for their places in a value, with the values of all or of none, and the turns of all.
 #[derive(Drop)]
 pub(crate) struct Children {
     waiting: VecDeque<Child>,
+    values: VecDeque<Tree<ValueLabel>>,
     turns: Vec<Turn>,
 }
 
 impl Children {
     /// None yet.
     pub(crate) fn new(alloc: Global) -> Children
-        ensures { result.waiting.items ≡ [] }
+        ensures waiting { result.waiting.items ≡ [] }
+        ensures values { result.values.items ≡ [] }
     {
         Children {
             waiting: VecDeque::new(alloc),
+            values: VecDeque::new(alloc),
             turns: Vec::new(alloc),
         }
     }
 
-    /// The next child element, with the turns of the particles from the top to its leaf.
-    pub(crate) fn add(
-        &mut self,
-        decl: u32,
-        turns: &[Turn],
-        value: Tree<ValueLabel>,
-    ) -> Result<(), Memory>
-        ensures { OnOk result ((g : Child) × (self.new.waiting.items ≡ self.old.waiting.items ++ g ∷ []) × (g.decl ≡ decl) × (g.value ≡ value)) }
+    /// The next child element, with the turns of the particles from the top to its leaf. Where its value is too large, no
+    /// value is kept.
+    pub(crate) fn add(&mut self, decl: u32, turns: &[Turn], value: Built) -> Result<(), Memory>
+        ensures { OnOk result (ChildAdded decl value self.old self.new) }
     {
         let from = self.turns.len();
         self.turns.extend_from_slice(turns)?;
         let to = self.turns.len();
-        let child = Child {
-            decl,
-            value,
-            from,
-            to,
-        };
-        self.waiting.push_back(child)?;
-        Ok(())
+        self.waiting.push_back(Child { decl, from, to })?;
+        match value {
+            Built::Value(tree) => {
+                self.values.push_back(tree)?;
+                Ok(())
+            }
+            Built::TooLarge => {
+                self.values.clear();
+                Ok(())
+            }
+        }
     }
 
     // The turns of the first that waits.
@@ -82,22 +82,27 @@ impl Children {
         }
     }
 
+    // The value of the first that waits.
+    fn take_value(&mut self) -> Built
+        ensures waiting { self.new.waiting ≡ self.old.waiting }
+        ensures value { ValueTaken result self.old.values.items self.new.values.items }
+    {
+        match self.values.pop_front() {
+            None => Built::TooLarge,
+            Some(tree) => Built::Value(tree),
+        }
+    }
+
     /// The value of the first that waits, which has this declaration.
     // Open: another declaration never stands there, as the turns are those of a list of the content model.
-    pub(crate) fn take(&mut self, decl: u32) -> Result<Tree<ValueLabel>, Memory>
-        ensures { IfOk result (λ value. Takes (IsOne decl value) self.old self.new) }
+    pub(crate) fn take(&mut self, decl: u32) -> Result<Built, Memory>
+        ensures { IfOk result (λ value. ChildTaken decl value self.old self.new) }
     {
         match self.waiting.pop_front() {
             None => Err(Memory),
             Some(child) => {
-                let Child {
-                    decl: found,
-                    value,
-                    from: _,
-                    to: _,
-                } = child;
-                if found == decl {
-                    Ok(value)
+                if child.decl == decl {
+                    Ok(self.take_value())
                 } else {
                     Err(Memory)
                 }

@@ -1,11 +1,11 @@
 //! What is read of the content of an element.
 ghost use Rattle.std.specs.Prelude.{◌≡◌, [], None, OnOk, IfOk};
-ghost use Rattle.label_tree.specs.Rose.{node};
-ghost use Rattle.label_tree.specs.Rose as rose;
 ghost use Rattle.xer_read.specs.Private.Keeping.{TextAdded, TextClosed, ElementAdded};
 ghost use Rattle.xer_read.specs.Private.Contents.{IsContentWith};
 
+use crate::built::Built;
 use crate::children::Children;
+use crate::tally::Tally;
 use content_match::Turn;
 use content_models::Particle;
 use label_tree::Tree;
@@ -29,7 +29,7 @@ pub(crate) enum Rest<'a> {
     Nil,
     Nothing,
     /// A text, by its value.
-    Text(Tree<ValueLabel>),
+    Text(Built),
     /// Child elements, with their content model.
     Children {
         model: &'a Particle,
@@ -37,21 +37,21 @@ pub(crate) enum Rest<'a> {
     },
 }
 
-/// The content of an element. In mixed content its texts are the items of a SEQUENCE OF, which has none elsewhere.
+/// The content of an element: in mixed content the texts before, between and behind its child elements, and the rest.
 #[derive(Drop)]
 pub(crate) struct Content<'a> {
-    pub(crate) texts: Tree<ValueLabel>,
+    pub(crate) texts: Vec<Tree<ValueLabel>>,
     pub(crate) rest: Rest<'a>,
 }
 
 impl<'a> Content<'a> {
     /// A content without texts between child elements.
     pub(crate) fn without_texts(alloc: Global, rest: Rest<'a>) -> Content<'a>
-        ensures texts { result.texts ≡ node ValueLabel.SequenceOf rose.none }
+        ensures texts { result.texts.items ≡ [] }
         ensures rest { result.rest ≡ rest.entry }
     {
         Content {
-            texts: Tree::leaf(alloc, ValueLabel::SequenceOf),
+            texts: Vec::new(alloc),
             rest,
         }
     }
@@ -62,7 +62,8 @@ impl Kids {
     pub(crate) fn new(alloc: Global) -> Kids
         ensures texts { result.texts.items ≡ [] }
         ensures behind { result.behind ≡ None }
-        ensures children { result.children.waiting.items ≡ [] }
+        ensures waiting { result.children.waiting.items ≡ [] }
+        ensures values { result.children.values.items ≡ [] }
     {
         Kids {
             texts: Vec::new(alloc),
@@ -81,15 +82,14 @@ impl Kids {
     }
 
     // The text behind the last child element is one of those before a child element, or the last.
-    fn close_text(&mut self, alloc: Global) -> Result<(), Memory>
-        ensures { OnOk result (TextClosed self.old self.new) }
+    fn close_text(&mut self, alloc: Global, tally: &mut Tally) -> Result<(), Memory>
+        ensures { OnOk result (TextClosed self.old self.new tally.old tally.new) }
     {
         let text = match self.behind.take() {
             None => Text::empty(),
             Some(text) => text,
         };
-        self.texts.push(Tree::leaf(alloc, ValueLabel::Utf8(text)))?;
-        Ok(())
+        Built::of(Tree::leaf(alloc, ValueLabel::Utf8(text)), tally).push_to(&mut self.texts)
     }
 
     /// A child element of this declaration, with its turns and its value.
@@ -99,28 +99,30 @@ impl Kids {
         mixed: bool,
         decl: u32,
         turns: &[Turn],
-        value: Tree<ValueLabel>,
+        value: Built,
+        tally: &mut Tally,
     ) -> Result<(), Memory>
-        ensures { OnOk result (ElementAdded mixed decl value self.old self.new) }
+        ensures { OnOk result (ElementAdded mixed decl value self.old self.new tally.old tally.new) }
     {
         if mixed {
-            self.close_text(alloc)?;
+            self.close_text(alloc, tally)?;
         }
         self.children.add(decl, turns, value)
     }
 
     /// The content of which these are the kids.
-    pub(crate) fn into_content(
+    pub(crate) fn into_content<'a>(
         self,
         alloc: Global,
         mixed: bool,
-        model: &Particle,
-    ) -> Result<Content, Memory>
-        ensures { IfOk result (λ content. IsContentWith mixed self model.now content) }
+        model: &'a Particle,
+        tally: &mut Tally,
+    ) -> Result<Content<'a>, Memory>
+        ensures { IfOk result (λ content. IsContentWith mixed self model.now content tally.old tally.new) }
     {
         let mut kids = self;
         if mixed {
-            kids.close_text(alloc)?;
+            kids.close_text(alloc, tally)?;
         }
         let Kids {
             texts,
@@ -128,7 +130,7 @@ impl Kids {
             children,
         } = kids;
         Ok(Content {
-            texts: Tree::join(ValueLabel::SequenceOf, texts),
+            texts,
             rest: Rest::Children { model, children },
         })
     }

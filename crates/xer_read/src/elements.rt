@@ -15,18 +15,21 @@ ghost use Rattle.validity.specs.Faults.{At, FirstKid, FaultBy};
 ghost use Rattle.validity_check.specs.Answers.{Tells, TextFault, KidsFault, InsideFault};
 ghost use Rattle.validity_check.specs.Counts.{element_count, elements_in};
 ghost use Rattle.validity_check.specs.Told.{inside_told, told, IsFittingInside};
+ghost use Rattle.xer_read.specs.declared.tally.Tally as tally_of;
 ghost use Rattle.xer_read.specs.Private.Given.{IsRead};
 ghost use Rattle.xer_read.specs.Private.Keeping.{TextRead, Reached, KidsRead};
 ghost use Rattle.xer_read.specs.Private.Contents.{AreTaken, IsRightContent, IsFilled, IsNilFilled};
+ghost use Rattle.xer_read.specs.Private.Tallied.{Makes};
 
+use crate::built::Built;
 use crate::contents::{Content, Kids, Rest};
+use crate::tally::Tally;
 use crate::texts::read_text;
 use crate::values::make_value;
 use content_match::{Matcher, Plan};
 use doc_text::ItemLabel;
 use label_tree::Tree;
 use schema_parts::SchemaSet;
-use simple_types::ValueLabel;
 use std::alloc::Global;
 use std::sync::ledger::Ledger;
 use validity::InvalidWhy;
@@ -71,6 +74,7 @@ fn read_kid<L: Ledger>(
     mixed: bool,
     kid: &Tree<ItemLabel>,
     read: &mut Kids,
+    tally: &mut Tally,
     steps: &mut Steps<L>,
 ) -> Result<(), CheckError>
     requires linked { IsLinked set.now }
@@ -83,9 +87,10 @@ fn read_kid<L: Ledger>(
     requires apart { is_text (label_of kid.now) ≡ true → mixed ≡ true → read.old.behind ≡ None }
     requires few { node_count kid.now < 2 ^ 31 }
     ensures same { plans.new ≡ set.now }
-    ensures judged { (p : Particle) (kids : List (Rose ItemLabel)) (place i : ℕ) → i < length kids → kid.now ≡ slice_index_or kids i kid.now → Reached set.now mixed p kids i matcher.old read.old
+    ensures judged { (p : Particle) (kids : List (Rose ItemLabel)) (place i : ℕ) (start : tally_of.Tally) → i < length kids → kid.now ≡ slice_index_or kids i kid.now
+        → Reached set.now mixed p kids i matcher.old read.old start tally.old
         → MatchResult result
-        (λ _. Reached set.now mixed p kids (i + 1) matcher.new read.new)
+        (λ _. Reached set.now mixed p kids (i + 1) matcher.new read.new start tally.new)
         (Tells (KidsFault (asked_at (parts_of set.now)) mixed p (roses_of kids) place)) }
     ensures most { steps.new ≤ steps.old + 144 * element_count kid.now }
     ensures least { OnOk result (steps.old + element_count kid.now ≤ steps.new) }
@@ -98,11 +103,11 @@ fn read_kid<L: Ledger>(
                 at: *at,
                 why: InvalidWhy::UnexpectedElement,
             }),
-            Ok(leaf) => match read_element(set, plans, leaf.decl, kid, steps) {
+            Ok(leaf) => match read_element(set, plans, leaf.decl, kid, tally, steps) {
                 Err(error) => Err(error),
                 Ok(value) => {
                     let alloc = plans.alloc();
-                    read.add_element(alloc, mixed, leaf.decl, matcher.turns(), value)?;
+                    read.add_element(alloc, mixed, leaf.decl, matcher.turns(), value, tally)?;
                     Ok(())
                 }
             },
@@ -142,6 +147,7 @@ fn read_kids<L: Ledger>(
     mixed: bool,
     at: u64,
     kids: &[Tree<ItemLabel>],
+    tally: &mut Tally,
     steps: &mut Steps<L>,
 ) -> Result<Kids, CheckError>
     requires linked { IsLinked set.now }
@@ -152,7 +158,7 @@ fn read_kids<L: Ledger>(
     requires few { count_all (roses_of kids.now) < 2 ^ 31 }
     ensures same { plans.new ≡ set.now }
     ensures judged { MatchResult result
-        (KidsRead set.now mixed plan.now (roses_of kids.now))
+        (λ read. KidsRead set.now mixed plan.now (roses_of kids.now) read tally.old tally.new)
         (Tells (KidsFault (asked_at (parts_of set.now)) mixed plan.now (roses_of kids.now) at)) }
     ensures most { steps.new ≤ steps.old + (144 * elements_in (roses_of kids.now) + 72) }
     ensures least { OnOk result (steps.old + elements_in (roses_of kids.now) ≤ steps.new) }
@@ -160,7 +166,16 @@ fn read_kids<L: Ledger>(
     let mut matcher = Matcher::start(plan)?;
     let mut read = Kids::new(plans.alloc());
     for kid in kids {
-        read_kid(set, plans, &mut matcher, mixed, kid, &mut read, steps)?;
+        read_kid(
+            set,
+            plans,
+            &mut matcher,
+            mixed,
+            kid,
+            &mut read,
+            tally,
+            steps,
+        )?;
     }
     finish(&matcher, at, read, steps)
 }
@@ -173,6 +188,7 @@ fn read_inside<'a, L: Ledger>(
     inside: Inside<'a>,
     at: u64,
     kids: &[Tree<ItemLabel>],
+    tally: &mut Tally,
     steps: &mut Steps<L>,
 ) -> Result<Content<'a>, CheckError>
     requires linked { IsLinked set.now }
@@ -182,7 +198,7 @@ fn read_inside<'a, L: Ledger>(
     requires few { count_all (roses_of kids.now) < 2 ^ 31 }
     ensures same { plans.new ≡ set.now }
     ensures judged { MatchResult result
-        (IsRightContent set.now (inside_told inside.entry) (roses_of kids.now))
+        (λ content. IsRightContent set.now (inside_told inside.entry) (roses_of kids.now) content tally.old tally.new)
         (Tells (InsideFault (asked_at (parts_of set.now)) (inside_told inside.entry) (roses_of kids.now) at)) }
     ensures most { steps.new ≤ steps.old + (144 * elements_in (roses_of kids.now) + 72) }
     ensures least { OnOk result (steps.old + elements_in (roses_of kids.now) ≤ steps.new) }
@@ -192,7 +208,7 @@ fn read_inside<'a, L: Ledger>(
             Ok(()) => Ok(Content::without_texts(plans.alloc(), Rest::Nothing)),
             Err(error) => Err(error),
         },
-        Inside::Simple(simple) => match read_text(plans.alloc(), simple, at, kids) {
+        Inside::Simple(simple) => match read_text(plans.alloc(), simple, at, kids, tally) {
             Ok(value) => Ok(Content::without_texts(plans.alloc(), Rest::Text(value))),
             Err(error) => Err(error),
         },
@@ -202,9 +218,9 @@ fn read_inside<'a, L: Ledger>(
             model,
         } => {
             let plan = plans.plan(complex, model)?;
-            match read_kids(set, plans, plan.as_ref(), mixed, at, kids, steps) {
+            match read_kids(set, plans, plan.as_ref(), mixed, at, kids, tally, steps) {
                 Ok(read) => {
-                    let content = read.into_content(plans.alloc(), mixed, model)?;
+                    let content = read.into_content(plans.alloc(), mixed, model, tally)?;
                     Ok(content)
                 }
                 Err(error) => Err(error),
@@ -223,8 +239,9 @@ fn read_filled<L: Ledger>(
     attributes: &[(Name, Text)],
     at: u64,
     kids: &[Tree<ItemLabel>],
+    tally: &mut Tally,
     steps: &mut Steps<L>,
-) -> Result<Tree<ValueLabel>, CheckError>
+) -> Result<Built, CheckError>
     requires linked { IsLinked set.now }
     requires plans { plans.old ≡ set.now }
     requires decl { decl < length set.now.elements }
@@ -235,16 +252,16 @@ fn read_filled<L: Ledger>(
     requires few { count_all (roses_of kids.now) < 2 ^ 31 }
     ensures same { plans.new ≡ set.now }
     ensures judged { MatchResult result
-        (IsFilled set.now decl (told (parts_of set.now) declared.entry) attributes.now (roses_of kids.now))
+        (λ made. Makes (IsFilled set.now decl (told (parts_of set.now) declared.entry) attributes.now (roses_of kids.now)) 0 made tally.old tally.new)
         (Tells (InsideFault (asked_at (parts_of set.now)) (inside_told declared.entry.inside) (roses_of kids.now) at)) }
     ensures most { steps.new ≤ steps.old + (144 * elements_in (roses_of kids.now) + 72) }
     ensures least { OnOk result (steps.old + elements_in (roses_of kids.now) ≤ steps.new) }
 {
-    match read_inside(set, plans, declared.inside, at, kids, steps) {
+    match read_inside(set, plans, declared.inside, at, kids, tally, steps) {
         Err(error) => Err(error),
         Ok(content) => {
             let alloc = plans.alloc();
-            let value = make_value(alloc, set, decl, declared, attributes, content)?;
+            let value = make_value(alloc, set, decl, declared, attributes, content, tally)?;
             Ok(value)
         }
     }
@@ -258,20 +275,21 @@ fn read_nil(
     declared: Declared,
     attributes: &[(Name, Text)],
     kids: &[Tree<ItemLabel>],
-) -> Result<Tree<ValueLabel>, CheckError>
+    tally: &mut Tally,
+) -> Result<Built, CheckError>
     requires linked { IsLinked set.now }
     requires uses { All (IsUse set.now) declared.uses.now }
     requires taken { AreTaken set.now attributes.now declared.uses.now }
     requires decl { decl < length set.now.elements }
     ensures { MatchResult result
-        (λ value. (roses_of kids.now ≡ none) × IsNilFilled set.now decl (told (parts_of set.now) declared.entry) attributes.now value)
+        (λ made. (roses_of kids.now ≡ none) × Makes (IsNilFilled set.now decl (told (parts_of set.now) declared.entry) attributes.now) 0 made tally.old tally.new)
         (Tells (FirstKid (roses_of kids.now) (λ _. InvalidWhy.NilWithContent))) }
 {
     match check_empty(kids) {
         Err(error) => Err(error),
         Ok(()) => {
             let content = Content::without_texts(alloc, Rest::Nil);
-            let value = make_value(alloc, set, decl, declared, attributes, content)?;
+            let value = make_value(alloc, set, decl, declared, attributes, content, tally)?;
             Ok(value)
         }
     }
@@ -284,8 +302,9 @@ pub(crate) fn read_element<L: Ledger>(
     plans: &mut Plans,
     decl: u32,
     item: &Tree<ItemLabel>,
+    tally: &mut Tally,
     steps: &mut Steps<L>,
-) -> Result<Tree<ValueLabel>, CheckError>
+) -> Result<Built, CheckError>
     requires linked { IsLinked set.now }
     requires plans { plans.old ≡ set.now }
     requires decl { decl < length set.now.elements }
@@ -294,7 +313,7 @@ pub(crate) fn read_element<L: Ledger>(
     requires few { node_count item.now < 2 ^ 31 }
     ensures same { plans.new ≡ set.now }
     ensures judged { MatchResult result
-        (IsRead set.now decl item.now)
+        (λ made. Makes (IsRead set.now decl item.now) 0 made tally.old tally.new)
         (Tells (FaultBy (asked_at (parts_of set.now)) decl item.now)) }
     ensures most { steps.new + 72 ≤ steps.old + 144 * element_count item.now }
     ensures least { OnOk result (steps.old + element_count item.now ≤ steps.new + 1) }
@@ -309,9 +328,9 @@ pub(crate) fn read_element<L: Ledger>(
                 Err(error) => Err(error),
                 Ok(nil) => {
                     if nil {
-                        read_nil(plans.alloc(), set, decl, declared, items, kids)
+                        read_nil(plans.alloc(), set, decl, declared, items, kids, tally)
                     } else {
-                        read_filled(set, plans, decl, declared, items, *at, kids, steps)
+                        read_filled(set, plans, decl, declared, items, *at, kids, tally, steps)
                     }
                 }
             }

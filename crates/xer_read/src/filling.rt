@@ -1,4 +1,5 @@
-//! The values of child elements at their places in the value of a content model.
+//! The values of child elements at their places in the value of a content model. Where they are not kept, the nodes that it
+//! would have are counted.
 ghost use Rattle.std.specs.Prelude.{◌≡◌, ◌<◌, [], length, OnOk, IfOk};
 ghost use Rattle.label_tree.specs.Rose.{label_of, roses_of, Allowed, AllowedAll};
 ghost use Rattle.content_models.specs.Kids.{MayHave};
@@ -8,8 +9,10 @@ ghost use Rattle.xer_read.specs.Private.Bounds as bounds;
 ghost use Rattle.xer_read.specs.Private.Made.{Several, TermMade, PartsMade, ChosenMade, TopMade};
 ghost use Rattle.xer_read.specs.Private.Growing.{term_of, Takes, Fills, FillsAll};
 
+use crate::built::Built;
 use crate::children::Children;
 use crate::parts::Parts;
+use crate::tally::Tally;
 use content_models::{Particle, ParticleKind, ParticleLabel};
 use label_tree::Tree;
 use simple_types::ValueLabel;
@@ -109,9 +112,10 @@ fn fill_term(
     number: u64,
     level: usize,
     children: &mut Children,
-) -> Result<Tree<ValueLabel>, Memory>
+    tally: &mut Tally,
+) -> Result<Built, Memory>
     requires { Allowed MayHave particle.now }
-    ensures { IfOk result (λ value. Takes (TermMade (term_of particle.now) value) children.old children.new) }
+    ensures { IfOk result (λ made. Takes (TermMade (term_of particle.now)) made children.old children.new tally.old tally.new) }
 {
     match particle.label().kind {
         ParticleKind::Element { decl, .. } => children.take(decl),
@@ -124,15 +128,16 @@ fn fill_term(
                 level,
                 children,
                 &mut parts,
+                tally,
             )?;
-            Ok(parts.into_value())
+            Ok(parts.into_value(tally))
         }
         ParticleKind::Choice => {
             let first = number.saturating_add(1);
             let place = alternative(particle.kids(), first, level, children);
-            let value = fill_chosen(alloc, particle.kids(), first, level, place, children)?;
-            let chosen = vec![in alloc; value]?;
-            Ok(Tree::join(ValueLabel::Choice(place), chosen))
+            let value = fill_chosen(alloc, particle.kids(), first, level, place, children, tally)?;
+            let chosen = value.into_list(alloc)?;
+            Ok(Built::join(ValueLabel::Choice(place), chosen, tally))
         }
     }
 }
@@ -145,24 +150,26 @@ fn fill_items(
     number: u64,
     level: usize,
     children: &mut Children,
-) -> Result<Tree<ValueLabel>, Memory>
+    tally: &mut Tally,
+) -> Result<Built, Memory>
     requires { Allowed MayHave particle.now }
-    ensures { IfOk result (λ value. Takes (Several (TermMade (term_of particle.now)) (label_of particle.now).min (label_of particle.now).max value) children.old children.new) }
+    ensures { IfOk result (λ made. Takes (Several (TermMade (term_of particle.now)) (label_of particle.now).min (label_of particle.now).max) made children.old children.new tally.old tally.new) }
 {
     let mut values = Vec::new(alloc);
-    let mut turn: u64 = 0;
-    'turns: for _ in 0..children.count() {
-        if children.next_turn(level, number) != Some(turn) {
+    let mut count: usize = 0;
+    'turns: for turn in 0..children.count() {
+        if children.next_turn(level, number) != Some(turn as u64) {
             break;
         }
-        let value = fill_term(alloc, particle, number, level.saturating_add(1), children)?;
-        values.push(value)?;
-        turn = turn.saturating_add(1);
+        let below = level.saturating_add(1);
+        let value = fill_term(alloc, particle, number, below, children, tally)?;
+        value.push_to(&mut values)?;
+        count = turn + 1;
     }
     let label = particle.label();
     // Open: they are always within the bounds.
-    if label.min as usize <= values.len() && is_at_most(values.len(), label.max) {
-        Ok(Tree::join(ValueLabel::SequenceOf, values))
+    if label.min as usize <= count && is_at_most(count, label.max) {
+        Ok(Built::join(ValueLabel::SequenceOf, values, tally))
     } else {
         Err(Memory)
     }
@@ -177,22 +184,30 @@ fn fill_chosen(
     level: usize,
     place: u32,
     children: &mut Children,
-) -> Result<Tree<ValueLabel>, Memory>
+    tally: &mut Tally,
+) -> Result<Built, Memory>
     requires allowed { AllowedAll MayHave (roses_of particles.now) }
     requires place { place < length particles.now }
-    ensures { IfOk result (λ value. Takes (ChosenMade (all_seen (roses_of particles.now)) place value) children.old children.new) }
+    ensures { IfOk result (λ made. Takes (ChosenMade (all_seen (roses_of particles.now)) place) made children.old children.new tally.old tally.new) }
 {
     let Some((first, rest)) = particles.split_first() else {
         unreachable!();
     };
     if 0 < place {
         let next = number.saturating_add(first.count());
-        return fill_chosen(alloc, rest, next, level, place - 1, children);
+        return fill_chosen(alloc, rest, next, level, place - 1, children, tally);
     }
     if is_once(first.label()) {
-        fill_term(alloc, first, number, level.saturating_add(1), children)
+        fill_term(
+            alloc,
+            first,
+            number,
+            level.saturating_add(1),
+            children,
+            tally,
+        )
     } else {
-        fill_items(alloc, first, number, level, children)
+        fill_items(alloc, first, number, level, children, tally)
     }
 }
 
@@ -205,24 +220,25 @@ fn fill_part(
     level: usize,
     children: &mut Children,
     parts: &mut Parts,
+    tally: &mut Tally,
 ) -> Result<(), Memory>
     requires { Allowed MayHave particle.now }
-    ensures { OnOk result (Fills (PartsMade (more (seen particle.now) none)) children.old children.new parts.old parts.new) }
+    ensures { OnOk result (Fills (PartsMade (more (seen particle.now) none)) children.old children.new parts.old parts.new tally.old tally.new) }
 {
     let label = particle.label();
     let below = level.saturating_add(1);
     if is_once(label) {
-        let value = fill_term(alloc, particle, number, below, children)?;
+        let value = fill_term(alloc, particle, number, below, children, tally)?;
         return parts.add(value);
     }
     if is_optional(label) {
         if children.next_turn(level, number).is_none() {
             return parts.leave_out();
         }
-        let value = fill_term(alloc, particle, number, below, children)?;
+        let value = fill_term(alloc, particle, number, below, children, tally)?;
         return parts.add(value);
     }
-    let value = fill_items(alloc, particle, number, level, children)?;
+    let value = fill_items(alloc, particle, number, level, children, tally)?;
     parts.add(value)
 }
 
@@ -235,16 +251,17 @@ fn fill_parts(
     level: usize,
     children: &mut Children,
     parts: &mut Parts,
+    tally: &mut Tally,
 ) -> Result<(), Memory>
     requires { AllowedAll MayHave (roses_of particles.now) }
-    ensures { OnOk result (Fills (PartsMade (all_seen (roses_of particles.now))) children.old children.new parts.old parts.new) }
+    ensures { OnOk result (Fills (PartsMade (all_seen (roses_of particles.now))) children.old children.new parts.old parts.new tally.old tally.new) }
 {
     match particles.split_first() {
         None => Ok(()),
         Some((first, rest)) => {
-            fill_part(alloc, first, number, level, children, parts)?;
+            fill_part(alloc, first, number, level, children, parts, tally)?;
             let next = number.saturating_add(first.count());
-            fill_parts(alloc, rest, next, level, children, parts)
+            fill_parts(alloc, rest, next, level, children, parts, tally)
         }
     }
 }
@@ -278,16 +295,17 @@ pub(crate) fn fill_top(
     model: &Particle,
     children: Children,
     parts: &mut Parts,
+    tally: &mut Tally,
 ) -> Result<(), Memory>
-    ensures { OnOk result (FillsAll (TopMade (seen model.now)) children.waiting.items parts.old parts.new) }
+    ensures { OnOk result (FillsAll (TopMade (seen model.now)) children parts.old parts.new tally.old tally.new) }
 {
     let mut waiting = children;
     let root = model.root();
     if is_parted(root.label()) {
-        fill_parts(alloc, root.kids(), 1, 1, &mut waiting, parts)?;
+        fill_parts(alloc, root.kids(), 1, 1, &mut waiting, parts, tally)?;
         all_placed(&waiting)
     } else {
-        fill_part(alloc, root, 0, 0, &mut waiting, parts)?;
+        fill_part(alloc, root, 0, 0, &mut waiting, parts, tally)?;
         all_placed(&waiting)
     }
 }

@@ -1,8 +1,10 @@
 //! The parts of a SEQUENCE, as they are put together.
-ghost use Rattle.std.specs.Prelude.{◌≡◌, [], ◌∷◌, true, false, OnOk};
+ghost use Rattle.std.specs.Prelude.{◌≡◌, ◌++◌, [], ◌∷◌, false, OnOk};
 ghost use Rattle.label_tree.specs.Rose.{node, roses_of};
-ghost use Rattle.xer_read.specs.Private.Growing.{Grows};
+ghost use Rattle.xer_read.specs.Private.Tallied.{Counts, IsBuilt, PartAdded};
 
+use crate::built::Built;
+use crate::tally::Tally;
 use label_tree::Tree;
 use simple_types::{Flags, ValueLabel};
 use std::alloc::Global;
@@ -27,29 +29,29 @@ impl Parts {
         }
     }
 
-    /// The next part has this value.
-    pub(crate) fn add(&mut self, value: Tree<ValueLabel>) -> Result<(), Memory>
-        ensures { OnOk result (Grows self.old self.new (true ∷ []) (value ∷ [])) }
+    /// The next part has this value. Where it is too large, no value is kept.
+    pub(crate) fn add(&mut self, value: Built) -> Result<(), Memory>
+        ensures { OnOk result (PartAdded value self.old self.new) }
     {
         self.flags.push(true)?;
-        self.values.push(value)?;
-        Ok(())
+        value.push_to(&mut self.values)
     }
 
     /// The next part is absent.
     pub(crate) fn leave_out(&mut self) -> Result<(), Memory>
-        ensures { OnOk result (Grows self.old self.new (false ∷ []) []) }
+        ensures { OnOk result ((self.new.flags.items ≡ self.old.flags.items ++ false ∷ []) × (self.new.values.items ≡ self.old.values.items)) }
     {
         self.flags.push(false)?;
         Ok(())
     }
 
     /// The value of the SEQUENCE, which has no more parts.
-    pub(crate) fn into_value(self) -> Tree<ValueLabel>
-        ensures { result ≡ node (ValueLabel.Sequence self.flags.items) (roses_of self.values.items) }
+    pub(crate) fn into_value(self, tally: &mut Tally) -> Built
+        ensures counts { Counts 1 tally.old tally.new }
+        ensures built { IsBuilt tally.new result (node (ValueLabel.Sequence self.flags.items) (roses_of self.values.items)) }
     {
         let Parts { flags, values } = self;
         let present = Flags::of(flags);
-        Tree::join(ValueLabel::Sequence { present }, values)
+        Built::join(ValueLabel::Sequence { present }, values, tally)
     }
 }

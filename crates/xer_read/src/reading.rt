@@ -1,6 +1,7 @@
 //! The value of a document.
 ghost use Rattle.std.specs.Prelude.{◌≡◌, ◌+◌, ◌*◌, ◌<◌, ◌≤◌, List, Some, MatchResult, OnOk, IfOk};
-ghost use Rattle.label_tree.specs.Rose.{node_count, shown_count, Allowed};
+ghost use Rattle.label_tree.specs.Rose.{Rose, node_count, shown_count, Allowed};
+ghost use Rattle.simple_types.specs.declared.labels.ValueLabel.{ValueLabel};
 ghost use Rattle.simple_types.specs.Labels.{MayHave};
 ghost use Rattle.schema_parts.specs.Linked.{IsLinked};
 ghost use Rattle.schema_parts.specs.SetParts.{parts_of};
@@ -14,21 +15,21 @@ ghost use Rattle.validity_check.specs.Answers.{Tells};
 ghost use Rattle.validity_check.specs.Counts.{element_count};
 ghost use Rattle.xer_read.specs.Answers.{IsValueOf, IsTooLarge, IsOnlyValue, ReadTells};
 ghost use Rattle.xer_read.specs.Private.Given.{IsRootRead};
+ghost use Rattle.xer_read.specs.Private.Tallied.{Stands, Makes};
 
+use crate::built::Built;
 use crate::elements::read_element;
 use crate::error::ReadError;
+use crate::tally::Tally;
 use doc_text::{ItemLabel, Items};
-use label_tree::{Tree, Whole};
+use label_tree::Whole;
 use schema_parts::SchemaSet;
-use simple_types::{Value, ValueLabel};
+use simple_types::Value;
 use std::alloc::Global;
 use std::sync::ledger::Ledger;
 use validity::InvalidWhy;
 use validity_check::{CheckError, Plans};
 use xa_base::{Name, Steps};
-
-/// How many nodes a value may have.
-const MOST_NODES: u64 = 1_048_576;
 
 // The root has the name that is declared.
 fn check_root(label: &ItemLabel, name: &Name) -> Result<(), CheckError>
@@ -58,18 +59,19 @@ fn check_root(label: &ItemLabel, name: &Name) -> Result<(), CheckError>
     }
 }
 
-// The value of the root, whatever the number of its nodes.
+// The value of the root. Its nodes are counted, whatever their number.
 fn read_root<L: Ledger>(
     alloc: Global,
     set: &SchemaSet,
     root: u32,
     items: &Items,
+    tally: &mut Tally,
     steps: &mut Steps<L>,
-) -> Result<Tree<ValueLabel>, CheckError>
+) -> Result<Built, CheckError>
     requires root { root < set.now.globals }
     ensures linked { IsLinked set.now }
     ensures judged { MatchResult result
-        (IsRootRead set.now root items.now)
+        (λ made. Makes (IsRootRead set.now root items.now) 0 made tally.old tally.new)
         (Tells (FirstFault (parts_of set.now) root items.now)) }
     ensures most { steps.new ≤ steps.old + 144 * element_count items.now }
     ensures least { OnOk result (steps.old + element_count items.now ≤ steps.new + 1) }
@@ -82,23 +84,27 @@ fn read_root<L: Ledger>(
     let declared = set.element(root);
     match check_root(label, &declared.name) {
         Err(error) => Err(error),
-        Ok(()) => read_element(set, &mut plans, root, item, steps),
+        Ok(()) => read_element(set, &mut plans, root, item, tally, steps),
     }
 }
 
-// The value, unless it has too many nodes.
-fn counted(tree: Tree<ValueLabel>) -> Result<Value, ReadError>
-    requires { Allowed MayHave tree }
-    ensures { MatchResult result
-        (λ value. (value ≡ tree) × (node_count tree ≤ 1048576))
-        (ReadTells (λ at why. ⊥) (λ count. (1048576 < node_count tree) × (count ≡ shown_count tree))) }
+// The value, unless more nodes were counted than it may have.
+fn counted(made: Built, tally: &Tally) -> Result<Value, ReadError>
+    requires { (v : Rose ValueLabel) × Stands tally.now made v × (tally.now.nodes ≡ shown_count v) × Allowed MayHave v }
+    ensures { (v : Rose ValueLabel) → Stands tally.now made v → tally.now.nodes ≡ shown_count v → MatchResult result
+        (λ value. (value ≡ v) × (node_count v ≤ 1048576))
+        (ReadTells (λ at why. ⊥) (λ count. (1048576 < node_count v) × (count ≡ shown_count v))) }
 {
-    let value = Whole::of(tree);
-    let count = value.count();
-    if count > MOST_NODES {
-        Err(ReadError::TooManyNodes { count })
-    } else {
-        Ok(value)
+    let count = tally.count();
+    match made {
+        Built::TooLarge => Err(ReadError::TooManyNodes { count }),
+        Built::Value(tree) => {
+            if tally.is_within() {
+                Ok(Whole::of(tree))
+            } else {
+                Err(ReadError::TooManyNodes { count })
+            }
+        }
     }
 }
 
@@ -125,9 +131,10 @@ pub fn read_value<L: Ledger>(
         (λ _. steps.old + element_count items.now ≤ steps.new + 1)
         (ReadTells (λ at why. Unit {0}) (λ count. steps.old + element_count items.now ≤ steps.new + 1)) }
 {
-    match read_root(alloc, set, root, items, steps) {
+    let mut tally = Tally::new();
+    match read_root(alloc, set, root, items, &mut tally, steps) {
         Err(CheckError::Invalid { at, why }) => Err(ReadError::Invalid { at, why }),
         Err(CheckError::Memory) => Err(ReadError::Memory),
-        Ok(tree) => counted(tree),
+        Ok(made) => counted(made, &tally),
     }
 }

@@ -6,10 +6,13 @@ ghost use Rattle.simple_types.specs.Seen.{space_of};
 ghost use Rattle.simple_types.specs.Sound.{Sound};
 ghost use Rattle.validity_check.specs.Answers.{Tells, TextFault};
 ghost use Rattle.xer_read.specs.Private.Reading.{IsReadAs};
+ghost use Rattle.xer_read.specs.Private.Tallied.{Makes};
 
+use crate::built::Built;
+use crate::tally::Tally;
 use doc_text::ItemLabel;
 use label_tree::Tree;
-use simple_types::{Simple, ValueLabel};
+use simple_types::Simple;
 use simple_values::{SimpleError, accept};
 use std::alloc::Global;
 use validity::InvalidWhy;
@@ -22,17 +25,18 @@ pub(crate) fn read_text(
     simple: &Simple,
     at: u64,
     kids: &[Tree<ItemLabel>],
-) -> Result<Tree<ValueLabel>, CheckError>
+    tally: &mut Tally,
+) -> Result<Built, CheckError>
     requires simple { Sound (space_of simple.now) }
     requires sound { are_sound (roses_of kids.now) ≡ true }
     ensures { MatchResult result
-        (IsReadAs (space_of simple.now) (roses_of kids.now))
+        (λ made. Makes (IsReadAs (space_of simple.now) (roses_of kids.now)) 0 made tally.old tally.new)
         (Tells (TextFault (space_of simple.now) (roses_of kids.now) at)) }
 {
     let empty = Text::empty();
     let text = only_text(kids, &empty)?;
     match accept(alloc, simple, text) {
-        Ok(value) => Ok(value),
+        Ok(value) => Ok(Built::of(value, tally)),
         Err(SimpleError::BadText) => Err(CheckError::Invalid {
             at,
             why: InvalidWhy::BadText,

@@ -23,15 +23,16 @@ use Rattle.schema_parts.specs.SetParts.{parts_of}
 use Rattle.validity.specs.Asked.{Asked, Attribute, Inside, nothing, simple, children, attribute_in, asked_at}
 use Rattle.validity.specs.Attributes.{text_of, left}
 use Rattle.validity.specs.Valid.{only_text, text_kids, KidsValid}
-use Rattle.xer_read.specs.declared.children.Child.{Child}
 use Rattle.xer_read.specs.declared.contents.Content.{Content}
 use Rattle.xer_read.specs.declared.contents.Kids.{Kids}
 use Rattle.xer_read.specs.declared.contents.Rest.{Rest}
 use Rattle.xer_read.specs.declared.contents.Rest.TheVariants as rest
-use Rattle.xer_read.specs.declared.parts.Parts.{Parts}
-use Rattle.xer_read.specs.Private.Growing.{Grows}
+use Rattle.xer_read.specs.declared.tally.Tally.{Tally}
+use Rattle.xer_read.specs.Private.Held.{Beside, Held, texts_of, Holds, held_nodes}
+use Rattle.xer_read.specs.Private.Held as held
 use Rattle.xer_read.specs.Private.Keeping.{text_value, words_of, AllKept}
 use Rattle.xer_read.specs.Private.Made.{TopMade}
+use Rattle.xer_read.specs.Private.Tallied.{IsWithin, Counts, Child}
 
 -- ---- what is read
 
@@ -66,32 +67,37 @@ abbrev pub AreChildren : Set → Inside → Roses ItemLabel → Rose ParticleLab
 AreChildren s (children mixed p) ts model texts gs vs = (p ≡ seen model) × AreThose s mixed p ts texts gs vs
 AreChildren s _ ts model texts gs vs = ⊥
 
-abbrev pub IsContentBy : Set → Inside → Roses ItemLabel → Rose ValueLabel → Rest → Roses Plain → Type 0
-IsContentBy s inside ts texts rest.Nil vs = ⊥
-IsContentBy s inside ts texts rest.Nothing vs = IsNothing inside ts vs
-IsContentBy s inside ts texts (rest.Text v) vs = IsText inside ts v vs
-IsContentBy s inside ts texts (rest.Children model found) vs = AreChildren s inside ts model.now texts found.waiting.items vs
+abbrev pub IsContentBy : Set → Inside → Roses ItemLabel → Rose ValueLabel → Beside → Roses Plain → Type 0
+IsContentBy s inside ts texts held.nil vs = ⊥
+IsContentBy s inside ts texts held.nothing vs = IsNothing inside ts vs
+IsContentBy s inside ts texts (held.text v) vs = IsText inside ts v vs
+IsContentBy s inside ts texts (held.children model gs) vs = AreChildren s inside ts model texts gs vs
 
 -- the content of an element that isn't nil
-abbrev pub IsContentOf : Set → Inside → Roses ItemLabel → Content → Roses Plain → Type 0
-IsContentOf s inside ts content vs = IsContentBy s inside ts content.texts content.rest vs
+abbrev pub IsContentOf : Set → Inside → Roses ItemLabel → Held → Roses Plain → Type 0
+IsContentOf s inside ts content vs = IsContentBy s inside ts (texts_of content) content.rest vs
 
--- with some treated kids
-abbrev pub IsRightContent : Set → Inside → Roses ItemLabel → Content → Type 0
-IsRightContent s inside ts content = (vs : Roses Plain) × IsContentOf s inside ts content vs
+-- what is read is one, with some treated kids
+pub record IsRightContent (s : Set) (inside : Inside) (ts : Roses ItemLabel) (content : Content) (before after : Tally) : Type 0 where
+  pub held : Held
+  pub holds : Holds after content held
+  pub counts : Counts (held_nodes inside held) before after
+  pub vs : Roses Plain
+  pub is : IsContentOf s inside ts held vs
 
 -- of one that is nil: it has no text
-abbrev pub IsNilContent : Content → Type 0
-IsNilContent content = (content.rest ≡ rest.Nil) × (content.texts ≡ node value.SequenceOf rose.none)
+abbrev pub IsNilContent : Held → Type 0
+IsNilContent content = (content.rest ≡ held.nil) × (texts_of content ≡ node value.SequenceOf rose.none)
 
-abbrev pub IsRestWith : List Child → Rose ParticleLabel → Rest → Type 0
-IsRestWith gs model (rest.Children own found) = (own.now ≡ model) × (found.waiting.items ≡ gs)
-IsRestWith gs model _ = ⊥
+abbrev pub IsRestWith : Kids → Rose ParticleLabel → Rest → Type 0
+IsRestWith read model (rest.Children own found) = (own.now ≡ model) × (found ≡ read.children)
+IsRestWith read model _ = ⊥
 
 -- these kids, whose last text is closed in mixed content
-pub record IsContentWith (mixed : Bool) (read : Kids) (model : Rose ParticleLabel) (content : Content) : Type 0 where
-  pub rest_is : IsRestWith read.children.waiting.items model content.rest
-  pub texts : mixed ≡ true → content.texts ≡ node value.SequenceOf (roses_of (read.texts.items ++ text_value (words_of read.behind) ∷ []))
+pub record IsContentWith (mixed : Bool) (read : Kids) (model : Rose ParticleLabel) (content : Content) (before after : Tally) : Type 0 where
+  pub rest_is : IsRestWith read model content.rest
+  pub mixed_is : mixed ≡ true → Counts 1 before after × (IsWithin after → content.texts.items ≡ read.texts.items ++ text_value (words_of read.behind) ∷ [])
+  pub plain_is : mixed ≡ false → (after ≡ before) × (content.texts.items ≡ read.texts.items)
 
 -- the type of the attribute takes its text, where it stands
 abbrev pub IsTaken : List (Name × List ℕ) → Attribute → Type 0
@@ -101,13 +107,6 @@ abbrev pub AreTaken : Set → List (Name × List ℕ) → List AttributeUse → 
 AreTaken s xs us = All (λ (u : AttributeUse). IsTaken (left xs) (attribute_in (parts_of s) u)) us
 
 -- ---- what is made
-
--- parts were added of which this holds
-pub record Adds (P : List Bool → List (Rose ValueLabel) → Type 0) (before after : Parts) : Type 0 where
-  pub flags : List Bool
-  pub values : List (Rose ValueLabel)
-  pub grows : Grows before after flags values
-  pub made : P flags values
 
 -- a part for each attribute that may stand: its value, or none
 abbrev pub AttributesMade : List Attribute → List (Name × List ℕ) → List Bool → List (Rose ValueLabel) → Type 0
@@ -133,14 +132,14 @@ NothingMade false flags vs = (flags ≡ []) × (vs ≡ [])
 NothingMade true flags vs = (flags ≡ true ∷ []) × (vs ≡ node (value.Sequence []) rose.none ∷ [])
 
 -- the parts for what stands beside attributes and texts
-abbrev pub RestMade : Bool → Rest → List Bool → List (Rose ValueLabel) → Type 0
-RestMade nillable rest.Nil flags vs = (flags ≡ false ∷ []) × (vs ≡ [])
-RestMade nillable rest.Nothing flags vs = NothingMade nillable flags vs
-RestMade nillable (rest.Text v) flags vs = (flags ≡ true ∷ []) × (vs ≡ v ∷ [])
-RestMade nillable (rest.Children model found) flags vs = ChildrenMade nillable (seen model.now) found.waiting.items flags vs
+abbrev pub RestMade : Bool → Beside → List Bool → List (Rose ValueLabel) → Type 0
+RestMade nillable held.nil flags vs = (flags ≡ false ∷ []) × (vs ≡ [])
+RestMade nillable held.nothing flags vs = NothingMade nillable flags vs
+RestMade nillable (held.text v) flags vs = (flags ≡ true ∷ []) × (vs ≡ v ∷ [])
+RestMade nillable (held.children model gs) flags vs = ChildrenMade nillable (seen model) gs flags vs
 
 -- the value of a complex type: its texts, its attributes, and the rest
-pub record ComplexMade (a : Asked) (xs : List (Name × List ℕ)) (content : Content) (v : Rose ValueLabel) : Type 0 where
+pub record ComplexMade (a : Asked) (xs : List (Name × List ℕ)) (content : Held) (v : Rose ValueLabel) : Type 0 where
   pub text_flags : List Bool
   pub text_values : List (Rose ValueLabel)
   pub flags : List Bool
@@ -148,7 +147,7 @@ pub record ComplexMade (a : Asked) (xs : List (Name × List ℕ)) (content : Con
   pub rest_flags : List Bool
   pub rest_values : List (Rose ValueLabel)
   pub is : v ≡ node (value.Sequence (text_flags ++ (flags ++ rest_flags))) (roses_of (text_values ++ (values ++ rest_values)))
-  pub texts : TextsMade a.inside content.texts text_flags text_values
+  pub texts : TextsMade a.inside (texts_of content) text_flags text_values
   pub attributes : AttributesMade a.attributes (left xs) flags values
   pub others : RestMade a.nillable content.rest rest_flags rest_values
 
@@ -160,19 +159,19 @@ is_plain_by (Some e) = elim e.kind [ kind.Simple n ↦ not e.nillable | kind.Com
 abbrev pub is_plain_at : Set → ℕ → Bool
 is_plain_at s d = is_plain_by (slice_get s.elements d)
 
-abbrev pub IsMadeBy : Bool → Rest → Rose ValueLabel → Type 0 → Type 0
-IsMadeBy plain (rest.Text w) v complex = MatchBool plain (v ≡ w) complex
-IsMadeBy plain rest.Nil v complex = complex
-IsMadeBy plain rest.Nothing v complex = complex
-IsMadeBy plain (rest.Children model found) v complex = complex
+abbrev pub IsMadeBy : Bool → Beside → Rose ValueLabel → Type 0 → Type 0
+IsMadeBy plain (held.text w) v complex = MatchBool plain (v ≡ w) complex
+IsMadeBy plain held.nil v complex = complex
+IsMadeBy plain held.nothing v complex = complex
+IsMadeBy plain (held.children model gs) v complex = complex
 
 -- the value of an element: that of its text, or one of a complex type
-abbrev pub IsMade : Bool → Asked → List (Name × List ℕ) → Content → Rose ValueLabel → Type 0
+abbrev pub IsMade : Bool → Asked → List (Name × List ℕ) → Held → Rose ValueLabel → Type 0
 IsMade plain a xs content v = IsMadeBy plain content.rest v (ComplexMade a xs content v)
 
 -- the value of a content that is read of these kids
 abbrev pub IsFilled : Set → ℕ → Asked → List (Name × List ℕ) → Roses ItemLabel → Rose ValueLabel → Type 0
-IsFilled s d a xs ts v = (content : Content) × (vs : Roses Plain) × IsContentOf s a.inside ts content vs × IsMade (is_plain_at s d) a xs content v
+IsFilled s d a xs ts v = (content : Held) × (vs : Roses Plain) × IsContentOf s a.inside ts content vs × IsMade (is_plain_at s d) a xs content v
 
 abbrev pub IsNilFilled : Set → ℕ → Asked → List (Name × List ℕ) → Rose ValueLabel → Type 0
-IsNilFilled s d a xs v = (content : Content) × IsNilContent content × IsMade (is_plain_at s d) a xs content v
+IsNilFilled s d a xs v = (content : Held) × IsNilContent content × IsMade (is_plain_at s d) a xs content v

@@ -1,5 +1,5 @@
 -- The kids of an element as they are read, one by one: child elements by their values, and the texts between them.
-use Rattle.std.specs.Prelude.{◌≡◌, ℕ, ◌≤◌, Bool, true, false, List, [], ◌∷◌, ◌++◌, length, map, Option, Some, None}
+use Rattle.std.specs.Prelude.{◌≡◌, ℕ, ◌+◌, ◌≤◌, Bool, true, false, List, [], ◌∷◌, ◌++◌, length, map, Option, Some, None}
 use Rattle.xa_base.specs.declared.texts.Name.{Name}
 use Rattle.xa_base.specs.WhiteSpace.{is_blank}
 use Rattle.label_tree.specs.Rose.{Rose, node, Roses, roses_of}
@@ -20,9 +20,11 @@ use Rattle.xer_items.specs.Items.{Given, joined, element_of}
 use Rattle.validity.specs.Asked.{asked_at}
 use Rattle.validity.specs.Valid.{KidsValid}
 use Rattle.validity.specs.Faults.{front}
-use Rattle.xer_read.specs.declared.children.Child.{Child}
+use Rattle.xer_read.specs.declared.built.Built.{Built}
 use Rattle.xer_read.specs.declared.contents.Kids.{Kids}
+use Rattle.xer_read.specs.declared.tally.Tally.{Tally}
 use Rattle.xer_read.specs.Private.Given.{Gives}
+use Rattle.xer_read.specs.Private.Tallied.{IsWithin, Counts, Child, child_nodes, Wait, ChildAdded}
 
 -- ---- one more kid
 
@@ -38,29 +40,25 @@ pub record TextAdded (words : List ℕ) (old new : Kids) : Type 0 where
   pub alone : old.behind ≡ None
   pub behind : new.behind ≡ Some words
   pub texts : new.texts.items ≡ old.texts.items
-  pub children : new.children.waiting.items ≡ old.children.waiting.items
+  pub children : new.children ≡ old.children
 
 -- a text is kept in mixed content alone
 abbrev pub TextRead : Bool → List ℕ → Kids → Kids → Type 0
 TextRead true words old new = TextAdded words old new
 TextRead false words old new = (is_blank words ≡ true) × (new ≡ old)
 
-abbrev pub IsChild : ℕ → Rose ValueLabel → Child → Type 0
-IsChild d v g = (g.decl ≡ d) × (g.value ≡ v)
-
 -- the text behind the last child element
-pub record TextClosed (old new : Kids) : Type 0 where
+pub record TextClosed (old new : Kids) (before after : Tally) : Type 0 where
   pub behind : new.behind ≡ None
-  pub texts : new.texts.items ≡ old.texts.items ++ text_value (words_of old.behind) ∷ []
-  pub children : new.children.waiting.items ≡ old.children.waiting.items
+  pub counts : Counts 1 before after
+  pub texts : IsWithin after → new.texts.items ≡ old.texts.items ++ text_value (words_of old.behind) ∷ []
+  pub children : new.children ≡ old.children
 
 -- in mixed content the text before it is closed
-pub record ElementAdded (mixed : Bool) (d : ℕ) (v : Rose ValueLabel) (old new : Kids) : Type 0 where
-  pub child : Child
-  pub is : IsChild d v child
-  pub children : new.children.waiting.items ≡ old.children.waiting.items ++ child ∷ []
-  pub behind : mixed ≡ true → new.behind ≡ None
-  pub texts : mixed ≡ true → new.texts.items ≡ old.texts.items ++ text_value (words_of old.behind) ∷ []
+pub record ElementAdded (mixed : Bool) (d : ℕ) (made : Built) (old new : Kids) (before after : Tally) : Type 0 where
+  pub children : ChildAdded d made old.children new.children
+  pub mixed_is : mixed ≡ true → (new.behind ≡ None) × Counts 1 before after × (IsWithin after → new.texts.items ≡ old.texts.items ++ text_value (words_of old.behind) ∷ [])
+  pub plain_is : mixed ≡ false → (after ≡ before) × (new.texts.items ≡ old.texts.items)
 
 -- ---- all kids so far
 
@@ -70,11 +68,9 @@ in_turns (words ∷ texts) (b ∷ bs) = text_before words (rose.more b (in_turns
 in_turns _ _ = rose.none
 
 -- what is kept of mixed content gives these items, among them these elements
-pub record MixedKept (read : Kids) (bs : List (Rose Plain)) (vs : Roses Plain) : Type 0 where
-  pub texts : List (List ℕ)
-  pub texts_are : read.texts.items ≡ map text_value texts
+pub record MixedKept (texts : List (List ℕ)) (behind : Option (List ℕ)) (bs : List (Rose Plain)) (vs : Roses Plain) : Type 0 where
   pub many : length texts ≡ length bs
-  pub is : vs ≡ joined (in_turns texts bs) (text_before (words_of read.behind) rose.none)
+  pub is : vs ≡ joined (in_turns texts bs) (text_before (words_of behind) rose.none)
 
 module _ (s : Set) where
   -- wherever the child element stands with so many levels, its value gives this item
@@ -90,27 +86,32 @@ module _ (s : Set) where
   AllKept high (g ∷ gs) (b ∷ bs) = IsKept high g b × AllKept high gs bs
   AllKept high _ _ = ⊥
 
-  -- what is kept gives these items
-  pub record AreKept (mixed : Bool) (high : ℕ) (read : Kids) (vs : Roses Plain) : Type 0 where
+  -- what is kept gives these items. Its nodes were counted.
+  pub record AreKept (mixed : Bool) (high : ℕ) (read : Kids) (before after : Tally) (vs : Roses Plain) : Type 0 where
+    pub texts : List (List ℕ)
+    pub texts_are : IsWithin after → read.texts.items ≡ map text_value texts
+    pub gs : List Child
+    pub wait : Wait after read.children gs
+    pub counts : Counts (length texts + child_nodes gs) before after
     pub items : List (Rose Plain)
-    pub children : AllKept high read.children.waiting.items items
-    pub mixed_is : mixed ≡ true → MixedKept read items vs
-    pub plain_is : mixed ≡ false → vs ≡ roses_of items
+    pub children : AllKept high gs items
+    pub mixed_is : mixed ≡ true → MixedKept texts read.behind items vs
+    pub plain_is : mixed ≡ false → (vs ≡ roses_of items) × (texts ≡ [])
 
   -- the kids before number i are those of the leaves that were taken, and are well and kept
-  pub record Reached (mixed : Bool) (p : Particle) (kids : List (Rose ItemLabel)) (i : ℕ) (k : Matched) (read : Kids) : Type 0 where
+  pub record Reached (mixed : Bool) (p : Particle) (kids : List (Rose ItemLabel)) (i : ℕ) (k : Matched) (read : Kids) (before after : Tally) : Type 0 where
     pub particle : k.particle ≡ p
     pub us : List Leaf
     pub took : Took k us
     pub few : length us ≤ i
     pub vs : Roses Plain
     pub fine : KidsValid (asked_at (parts_of s)) mixed (front i (roses_of kids)) us vs
-    pub kept : AreKept mixed (levels_all (roses_of kids)) read vs
+    pub kept : AreKept mixed (levels_all (roses_of kids)) read before after vs
 
   -- all kids are well and kept
-  pub record KidsRead (mixed : Bool) (p : Particle) (ts : Roses ItemLabel) (read : Kids) : Type 0 where
+  pub record KidsRead (mixed : Bool) (p : Particle) (ts : Roses ItemLabel) (read : Kids) (before after : Tally) : Type 0 where
     pub leaves : List Leaf
     pub lang : Lang p 0 [] leaves
     pub vs : Roses Plain
     pub valid : KidsValid (asked_at (parts_of s)) mixed ts leaves vs
-    pub kept : AreKept mixed (levels_all ts) read vs
+    pub kept : AreKept mixed (levels_all ts) read before after vs

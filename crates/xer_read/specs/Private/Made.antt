@@ -9,7 +9,7 @@ use Rattle.simple_values.specs.Lexical.{is_at_most}
 use Rattle.content_models.specs.Particle.{Particle, occurs, Term, element, sequence, choice, Particles, none, more}
 use Rattle.xer_read.specs.Private.Bounds.{is_once, is_optional}
 use Rattle.xer_read.specs.Private.Bounds.{is_parted}
-use Rattle.xer_read.specs.declared.children.Child.{Child}
+use Rattle.xer_read.specs.Private.Tallied.{Child}
 
 -- each value in turn is made of the next child elements
 abbrev pub Each : (Rose ValueLabel → List Child → Type 0) → List (Rose ValueLabel) → List Child → Type 0

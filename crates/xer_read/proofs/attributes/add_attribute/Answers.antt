@@ -1,10 +1,12 @@
-use Rattle.std.proofs.Common.{[], ◌∷◌, true, false}
+use Rattle.std.proofs.Common.{◌≡◌, [], ◌∷◌, ◌++◌, false, arith}
+use Rattle.label_tree.specs.Rose.{node_count}
 use Rattle.simple_values.specs.Reading.{Bad, Wide}
 use Rattle.schema_parts.specs.SetParts.{parts_of}
 use Rattle.validity.specs.Asked.{attribute_in}
 use Rattle.validity.specs.Attributes.{left}
-use Rattle.xer_read.specs.Private.Contents.{Adds, AttributesMade}
-use Rattle.xer_read.specs.Private.Growing.{Grows}
+use Rattle.xer_read.specs.Private.Tallied.{PartAdded}
+use Rattle.xer_read.specs.Private.Growing.{Adds}
+use Rattle.xer_read.specs.Private.Contents.{AttributesMade}
 use Rattle.xer_read.proofs.Adding.{adds-one, adds-absent, attribute-absent, attribute-present, never-refused}
 use Rattle.xer_read.proofs.Growing.{on-ok}
 use Rattle.xer_read.proofs.attributes.add_attribute.Goals as goal
@@ -12,15 +14,19 @@ use Rattle.xer_read.proofs.attributes.add_attribute.Goals as goal
 pub returns-in-None : goal.returns-in-None
 returns-in-None c =
     let P = AttributesMade (attribute_in (parts_of c.args.set.now) c.args.declared.now ∷ []) (left c.args.attributes.now) in
-    on-ok c.leave_out.result (Grows c.args.parts.now c.leave_out.new.self (false ∷ []) []) (Adds P c.args.parts.now c.leave_out.new.self)
-    (adds-absent P c.args.parts.now c.leave_out.new.self (attribute-absent c.args.set.now c.args.declared.now c.args.attributes.now c.requires.declared.0 c.in-None.ensures)) c.leave_out.ensures
+    let old = c.args.parts.now in
+    let new = c.leave_out.new.self in
+    on-ok c.leave_out.result ((new.flags.items ≡ old.flags.items ++ false ∷ []) × (new.values.items ≡ old.values.items)) (Adds P 0 old new c.args.tally.now c.args.tally.now)
+    (adds-absent P old new c.args.tally.now (attribute-absent c.args.set.now c.args.declared.now c.args.attributes.now c.requires.declared.0 c.in-None.ensures)) c.leave_out.ensures
 
 pub returns-in-Ok : goal.returns-in-Ok
 returns-in-Ok c =
     let P = AttributesMade (attribute_in (parts_of c.args.set.now) c.args.declared.now ∷ []) (left c.args.attributes.now) in
-    on-ok c.add.result (Grows c.args.parts.now c.add.new.self (true ∷ []) (c.in-Ok.value ∷ [])) (Adds P c.args.parts.now c.add.new.self)
-    (adds-one P c.args.parts.now c.add.new.self c.in-Ok.value
-    (attribute-present c.args.set.now c.args.declared.now c.args.attributes.now c.requires.declared.0 c.in-Some.text.now c.in-Some.ensures c.simple.result.now c.simple.ensures c.in-Ok.value c.in-Ok.ensures))
+    let v = c.in-Ok.value in
+    on-ok c.add.result (PartAdded c.of.result c.args.parts.now c.add.new.self) (Adds P 0 c.args.parts.now c.add.new.self c.args.tally.now c.of.new.tally)
+    (λ added. adds-one P 0 (node_count v) c.args.parts.now c.add.new.self c.args.tally.now c.of.new.tally c.of.result v
+    (attribute-present c.args.set.now c.args.declared.now c.args.attributes.now c.requires.declared.0 c.in-Some.text.now c.in-Some.ensures c.simple.result.now c.simple.ensures v c.in-Ok.ensures)
+    added c.of.ensures.built.0 c.of.ensures.counts (omega arith))
     c.add.ensures
 
 pub unreachable-requires : goal.unreachable-requires

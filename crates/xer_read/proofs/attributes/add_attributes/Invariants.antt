@@ -2,8 +2,9 @@ use Rattle.std.proofs.Common.{take, map}
 use Rattle.schema_parts.specs.SetParts.{parts_of}
 use Rattle.validity.specs.Asked.{attribute_in}
 use Rattle.validity.specs.Attributes.{left}
-use Rattle.xer_read.specs.Private.Contents.{Adds, AttributesMade}
+use Rattle.xer_read.specs.Private.Growing.{Adds}
+use Rattle.xer_read.specs.Private.Contents.{AttributesMade}
 use Rattle.xer_read.proofs.attributes.add_attributes.Given as goal
 
 abbrev pub invariant-loop-declared : goal.invariant-loop-declared
-invariant-loop-declared l = Adds (AttributesMade (map (attribute_in (parts_of l.set)) (take l.declared-index l.uses)) (left l.attributes)) l.initial.parts l.parts
+invariant-loop-declared l = Adds (AttributesMade (map (attribute_in (parts_of l.set)) (take l.declared-index l.uses)) (left l.attributes)) 0 l.initial.parts l.parts l.initial.tally l.tally

@@ -19,6 +19,7 @@ use Rattle.validity_check.proofs.Tagging.{tag_refused}
 use Rattle.validity_check.proofs.Walking.{leaf_declared, name_refused, kid_judged}
 use Rattle.xer_read.proofs.Reaching.{none-reached, walked, end-read, text-judged, kid-reached}
 use Rattle.simple_types.specs.Seen.{space_of}
+use Rattle.xer_read.specs.Private.Tallied.{Makes}
 use Rattle.xer_read.specs.Private.Keeping.{KidsRead}
 use Rattle.xer_read.specs.Private.Contents.{IsRightContent, IsNilFilled}
 use Rattle.validity.specs.Faults.{FirstKid}
@@ -26,7 +27,7 @@ use Rattle.validity.specs.declared.why.InvalidWhy.TheVariants.{NilWithContent}
 use Rattle.validity_check.specs.Answers.{Tells}
 use Rattle.xer_read.proofs.Apart.{none-behind, apart-next, all-taken}
 use Rattle.xer_read.proofs.Growing.{on-ok}
-use Rattle.xer_read.proofs.Whole.{nothing-right, text-right, children-right, nil-read, filled-read}
+use Rattle.xer_read.proofs.Whole.{nothing-right, text-right, children-right, nil-read, filled-read, right-filled}
 use Rattle.xer_read.proofs.elements.+reading.Goals as goal
 
 -- ---- one kid
@@ -35,13 +36,13 @@ pub read_kid-step-requires : goal.read_kid-step-requires
 read_kid-step-requires g t c = c.requires.taken
 
 pub read_kid-returns-in-Text-clause-judged : goal.read_kid-returns-in-Text-clause-judged
-read_kid-returns-in-Text-clause-judged g t c = λ p kids place i below here r.
-    text-judged c.args.set.now c.args.mixed p kids place i c.args.matcher.now c.args.read.now r c.args.kid.now below here c.requires.sound c.in-Text.text c.in-Text.at (sym c.label.ensures ∙ c.in-Text.is)
+read_kid-returns-in-Text-clause-judged g t c = λ p kids place i start below here r.
+    text-judged c.args.set.now c.args.mixed p kids place i c.args.matcher.now c.args.read.now start c.args.tally.now r c.args.kid.now below here c.requires.sound c.in-Text.text c.in-Text.at (sym c.label.ensures ∙ c.in-Text.is)
     c.read_between.new.read c.read_between.result c.read_between.ensures
 
 pub read_kid-returns-in-Err-clause-judged : goal.read_kid-returns-in-Err-clause-judged
-read_kid-returns-in-Err-clause-judged g t c = λ p kids place i below here r.
-    name_refused c.args.set.now c.args.mixed p kids place i c.args.matcher.now (walked c.args.set.now c.args.mixed p kids place i c.args.matcher.now c.args.read.now r) c.args.kid.now below here
+read_kid-returns-in-Err-clause-judged g t c = λ p kids place i start below here r.
+    name_refused c.args.set.now c.args.mixed p kids place i c.args.matcher.now (walked c.args.set.now c.args.mixed p kids place i c.args.matcher.now c.args.read.now start c.args.tally.now r) c.args.kid.now below here
     c.in-Element.name c.in-Element.attributes c.in-Element.declares c.in-Element.at (sym c.label.ensures ∙ c.in-Element.is) (c.in-Err.ensures.took r.us r.took).0
 
 pub read_kid-returns-in-Err-clause-most : goal.read_kid-returns-in-Err-clause-most
@@ -73,24 +74,25 @@ read_kid-read_element-requires g t c κs within =
     )
 
 pub read_kid-returns-in-Err-read_element-clause-judged : goal.read_kid-returns-in-Err-read_element-clause-judged
-read_kid-returns-in-Err-read_element-clause-judged g t c = λ p kids place i below here r.
+read_kid-returns-in-Err-read_element-clause-judged g t c = λ p kids place i start below here r.
     let refused : Result (Unit {0}) CheckError = Err c.in-Err-read_element.error in
-    kid_judged c.args.set.now c.args.mixed p kids place i c.args.matcher.now (walked c.args.set.now c.args.mixed p kids place i c.args.matcher.now c.args.read.now r) c.args.kid.now below here
+    kid_judged c.args.set.now c.args.mixed p kids place i c.args.matcher.now (walked c.args.set.now c.args.mixed p kids place i c.args.matcher.now c.args.read.now start c.args.tally.now r) c.args.kid.now below here
     c.in-Element.name c.in-Element.attributes c.in-Element.declares c.in-Element.at (sym c.label.ensures ∙ c.in-Element.is) c.step.new.self c.in-Ok.leaf c.in-Ok.ensures.particle (c.in-Ok.ensures.took r.us r.took)
     refused c.in-Err-read_element.ensures.judged
 
 pub read_kid-returns-in_ok-add_element-in-Ok-read_element-clause-judged : goal.read_kid-returns-in_ok-add_element-in-Ok-read_element-clause-judged
-read_kid-returns-in_ok-add_element-in-Ok-read_element-clause-judged g t c = λ p kids place i below here r.
-    kid-reached c.args.set.now c.args.mixed p kids place i c.args.matcher.now c.args.read.now r c.args.kid.now below here c.requires.sound
+read_kid-returns-in_ok-add_element-in-Ok-read_element-clause-judged g t c = λ p kids place i start below here r.
+    kid-reached c.args.set.now c.args.mixed p kids place i c.args.matcher.now c.args.read.now start c.args.tally.now r c.args.kid.now below here c.requires.sound
     c.in-Element.name c.in-Element.attributes c.in-Element.declares c.in-Element.at (sym c.label.ensures ∙ c.in-Element.is) c.step.new.self c.in-Ok.leaf c.in-Ok.ensures.particle (c.in-Ok.ensures.took r.us r.took)
-    c.requires.named c.in-Ok-read_element.value c.in-Ok-read_element.ensures.judged c.add_element.new.self c.in_ok-add_element-in-Ok-read_element.ensures
+    c.requires.named c.in-Ok-read_element.value c.read_element.new.tally c.add_element.new.tally c.in-Ok-read_element.ensures.judged c.add_element.new.self c.in_ok-add_element-in-Ok-read_element.ensures
 
 -- ---- all kids
 
 pub read_kids-loop-kid-init : goal.read_kids-loop-kid-init
 read_kids-loop-kid-init g t c = record {
   plans = c.requires.plans;
-  reached = none-reached c.args.set.now c.args.mixed c.args.plan.now c.args.kids.now c.in_ok-matcher.matcher c.new-read.result c.in_ok-matcher.ensures.plan c.in_ok-matcher.ensures.took c.new-read.ensures.texts c.new-read.ensures.behind c.new-read.ensures.children;
+  reached = none-reached c.args.set.now c.args.mixed c.args.plan.now c.args.kids.now c.in_ok-matcher.matcher c.new-read.result c.args.tally.now c.in_ok-matcher.ensures.plan c.in_ok-matcher.ensures.took
+      c.new-read.ensures.texts c.new-read.ensures.behind c.new-read.ensures.waiting c.new-read.ensures.values;
   apart = λ is. inl c.new-read.ensures.behind;
   most = omega arith;
   least = omega arith;
@@ -147,7 +149,7 @@ read_kids-loop-kid-preserved g t c =
     let m = c.in_ok-read_kid.ensures.most in
     record {
       plans = c.in_ok-read_kid.ensures.same;
-      reached = c.in_ok-read_kid.ensures.judged c.args.plan.now c.args.kids.now c.args.at c.loop-kid.kid-index below c.kid-item.is c.loop-kid.invariant.reached;
+      reached = c.in_ok-read_kid.ensures.judged c.args.plan.now c.args.kids.now c.args.at c.loop-kid.kid-index c.args.tally.now below c.kid-item.is c.loop-kid.invariant.reached;
       apart = apart-next c.args.mixed c.args.kids.now c.loop-kid.kid-index c.read_kid.new.read c.kid-item.result here c.in_ok-read_kid.ensures.apart;
       most = rw add-one (omega (arith, more, so_far, m));
       least =
@@ -159,7 +161,7 @@ read_kids-loop-kid-preserved g t c =
 pub read_kids-returns-clause-judged : goal.read_kids-returns-clause-judged
 read_kids-returns-clause-judged g t c =
     let w = c.loop-kid.invariant.reached in
-    end-read c.args.set.now c.args.mixed c.args.plan.now c.args.kids.now c.args.at c.loop-kid.kid-index c.loop-kid.matcher c.loop-kid.read w c.loop-kid-test.false c.finish.result (c.finish.ensures.finished w.us w.took)
+    end-read c.args.set.now c.args.mixed c.args.plan.now c.args.kids.now c.args.at c.loop-kid.kid-index c.loop-kid.matcher c.loop-kid.read c.args.tally.now c.loop-kid.tally w c.loop-kid-test.false c.finish.result (c.finish.ensures.finished w.us w.took)
 
 pub read_kids-returns-clause-most : goal.read_kids-returns-clause-most
 read_kids-returns-clause-most g t c =
@@ -194,24 +196,36 @@ read_inside-read_kids-requires g t c κs within =
 
 pub read_inside-returns-in-Ok-clause-judged : goal.read_inside-returns-in-Ok-clause-judged
 read_inside-returns-in-Ok-clause-judged g t c =
-    subst (λ x. IsRightContent c.args.set.now (inside_told x) (roses_of c.args.kids.now) c.without_texts.result) (sym c.in-Nothing.is)
-    (nothing-right c.args.set.now (roses_of c.args.kids.now) c.without_texts.result c.without_texts.ensures.rest c.in-Ok.ensures)
+    let content = c.without_texts.result in
+    subst (λ x. IsRightContent c.args.set.now (inside_told x) (roses_of c.args.kids.now) content c.args.tally.now c.args.tally.now) (sym c.in-Nothing.is)
+    (nothing-right c.args.set.now (roses_of c.args.kids.now) content c.args.tally.now c.without_texts.ensures.rest c.without_texts.ensures.texts c.in-Ok.ensures)
 
 pub read_inside-returns-in-Ok-read_text-clause-judged : goal.read_inside-returns-in-Ok-read_text-clause-judged
 read_inside-returns-in-Ok-read_text-clause-judged g t c =
-    subst (λ x. IsRightContent c.args.set.now (inside_told x) (roses_of c.args.kids.now) c.without_texts-in-Ok-read_text.result) (sym c.in-Simple.is)
-    (text-right c.args.set.now (space_of c.in-Simple.simple.now) (roses_of c.args.kids.now) c.without_texts-in-Ok-read_text.result c.in-Ok-read_text.value c.without_texts-in-Ok-read_text.ensures.rest
-    c.in-Ok-read_text.ensures)
+    let content = c.without_texts-in-Ok-read_text.result in
+    subst (λ x. IsRightContent c.args.set.now (inside_told x) (roses_of c.args.kids.now) content c.args.tally.now c.read_text.new.tally) (sym c.in-Simple.is)
+    (text-right c.args.set.now (space_of c.in-Simple.simple.now) (roses_of c.args.kids.now) content c.in-Ok-read_text.value c.args.tally.now c.read_text.new.tally
+    c.without_texts-in-Ok-read_text.ensures.rest c.without_texts-in-Ok-read_text.ensures.texts c.in-Ok-read_text.ensures)
 
 pub read_inside-returns-in-Ok-read_kids-clause-judged : goal.read_inside-returns-in-Ok-read_kids-clause-judged
 read_inside-returns-in-Ok-read_kids-clause-judged g t c =
     let fits = subst (λ x. IsFittingInside c.args.set.now x) c.in-Children.is c.requires.inside in
     let is : c.as_ref.result.now ≡ seen c.in-Children.model.now = c.as_ref.ensures ∙ c.in_ok-plan-in-Children.ensures.plan in
     let content = c.in_ok-content-in-Ok-read_kids.content in
-    let all = subst (λ p. KidsRead c.args.set.now c.in-Children.mixed p (roses_of c.args.kids.now) c.in-Ok-read_kids.read) is c.in-Ok-read_kids.ensures.judged in
-    subst (λ x. IsRightContent c.args.set.now (inside_told x) (roses_of c.args.kids.now) content) (sym c.in-Children.is)
-    (children-right c.args.set.now c.in-Children.mixed (seen c.in-Children.model.now) (roses_of c.args.kids.now) c.in-Ok-read_kids.read content c.in-Children.model.now all
+    let before = c.args.tally.now in
+    let between = c.read_kids.new.tally in
+    let after = c.into_content.new.tally in
+    let all = subst (λ p. KidsRead c.args.set.now c.in-Children.mixed p (roses_of c.args.kids.now) c.in-Ok-read_kids.read before between) is c.in-Ok-read_kids.ensures.judged in
+    subst (λ x. IsRightContent c.args.set.now (inside_told x) (roses_of c.args.kids.now) content before after) (sym c.in-Children.is)
+    (children-right c.args.set.now (seen c.in-Children.model.now) (roses_of c.args.kids.now) c.in-Ok-read_kids.read content c.in-Children.model.now before between after c.in-Children.mixed all
     c.in_ok-content-in-Ok-read_kids.ensures refl fits.1.named)
+
+-- ---- an element that isn't nil, and one that is
+
+pub read_filled-returns-in_ok-value-in-Ok-clause-judged : goal.read_filled-returns-in_ok-value-in-Ok-clause-judged
+read_filled-returns-in_ok-value-in-Ok-clause-judged g t c =
+    right-filled c.args.set.now c.args.decl (told (parts_of c.args.set.now) c.args.declared) c.args.attributes.now (roses_of c.args.kids.now) c.in-Ok.content c.in_ok-value-in-Ok.value
+    c.args.tally.now c.read_inside.new.tally c.make_value.new.tally c.in-Ok.ensures.judged c.in_ok-value-in-Ok.ensures
 
 -- ---- an element
 
@@ -256,13 +270,13 @@ pub read_element-returns-then-nil-clause-judged : goal.read_element-returns-then
 read_element-returns-then-nil-clause-judged g t c =
     nil-read c.args.set.now c.requires.linked c.args.decl c.in-Element.name c.in-Element.attributes c.in-Element.declares c.in-Element.at c.args.item.now (sym c.label.ensures ∙ c.in-Element.is) c.requires.sound
     (told (parts_of c.args.set.now) c.declared_of-declared.result) c.items-items.result.now c.declared_of-declared.ensures.asked c.items-items.ensures c.kids-kids.result.now c.kids-kids.ensures
-    (rw c.if-nil.true at c.in-Ok.ensures) c.read_nil.result c.read_nil.ensures
+    c.args.tally.now c.read_nil.new.tally (rw c.if-nil.true at c.in-Ok.ensures) c.read_nil.result c.read_nil.ensures
 
 pub read_element-returns-else-nil-clause-judged : goal.read_element-returns-else-nil-clause-judged
 read_element-returns-else-nil-clause-judged g t c =
     filled-read c.args.set.now c.requires.linked c.args.decl c.in-Element.name c.in-Element.attributes c.in-Element.declares c.in-Element.at c.args.item.now (sym c.label.ensures ∙ c.in-Element.is) c.requires.sound
     (told (parts_of c.args.set.now) c.declared_of-declared.result) c.items-items.result.now c.declared_of-declared.ensures.asked c.items-items.ensures c.kids-kids.result.now c.kids-kids.ensures
-    (rw c.if-nil.false at c.in-Ok.ensures) c.read_filled.result c.read_filled.ensures.judged
+    c.args.tally.now c.read_filled.new.tally (rw c.if-nil.false at c.in-Ok.ensures) c.read_filled.result c.read_filled.ensures.judged
 
 pub read_element-returns-in-Err-clause-most : goal.read_element-returns-in-Err-clause-most
 read_element-returns-in-Err-clause-most g t c =
@@ -286,7 +300,7 @@ pub read_kids-returns-in_err-read_kid-clause-judged :
 read_kids-returns-in_err-read_kid-clause-judged g t c =
     let p = err_from_is_err_and c.from_residual-in_err-read_kid.result c.from_residual-in_err-read_kid.ensures.1 in
     rw (p.1, p.2)
-    (c.in_err-read_kid.ensures.judged c.args.plan.now c.args.kids.now c.args.at c.loop-kid.kid-index c.loop-kid-test.true c.kid-item.is c.loop-kid.invariant.reached)
+    (c.in_err-read_kid.ensures.judged c.args.plan.now c.args.kids.now c.args.at c.loop-kid.kid-index c.args.tally.now c.loop-kid-test.true c.kid-item.is c.loop-kid.invariant.reached)
 
 pub read_kids-returns-in_err-read_kid-clause-most :
     goal.read_kids-returns-in_err-read_kid-clause-most
@@ -302,7 +316,8 @@ read_element-returns-then-nil-clause-least g t c =
     let n = element_counts c.args.item.now c.in-Element.name c.in-Element.attributes c.in-Element.declares c.in-Element.at (sym c.label.ensures ∙ c.in-Element.is) in
     let same = ap (λ ks. elements_in (roses_of ks)) c.kids-kids.ensures in
     match-ok c.read_nil.result
-    (λ v. (roses_of c.kids-kids.result.now ≡ none) × IsNilFilled c.args.set.now c.args.decl (told (parts_of c.args.set.now) c.declared_of-declared.result) c.items-items.result.now v)
+    (λ made. (roses_of c.kids-kids.result.now ≡ none)
+    × Makes (IsNilFilled c.args.set.now c.args.decl (told (parts_of c.args.set.now) c.declared_of-declared.result) c.items-items.result.now) 0 made c.args.tally.now c.read_nil.new.tally)
     (Tells (FirstKid (roses_of c.kids-kids.result.now) (λ _. NilWithContent))) (c.args.steps.now + element_count c.args.item.now ≤ c.args.steps.now + 1)
     (λ v h. let empty = ap elements_in h.0 in omega (arith, n, same, empty)) c.read_nil.ensures
 
@@ -315,7 +330,8 @@ read_element-returns-else-nil-clause-least g t c =
 
 pub read_inside-returns-in-Ok-read_text-clause-least : goal.read_inside-returns-in-Ok-read_text-clause-least
 read_inside-returns-in-Ok-read_text-clause-least g t c =
-    let empty = text-without (roses_of c.args.kids.now) c.in-Ok-read_text.ensures.0 c.in-Ok-read_text.ensures.1 in
+    let text = c.in-Ok-read_text.ensures.holds in
+    let empty = text-without (roses_of c.args.kids.now) text.0 text.1 in
     omega (arith, empty)
 
 pub read_kids-returns-clause-least : goal.read_kids-returns-clause-least

@@ -24,7 +24,7 @@ decreases-read_element g l = 5 * node_count l.item.now
 abbrev pub invariant-read_kids-loop-kid : goal.invariant-read_kids-loop-kid
 invariant-read_kids-loop-kid g l = record {
   plans : l.plans ≡ l.set;
-  reached : Reached l.set l.mixed l.plan l.kids l.kid-index l.matcher l.read;
+  reached : Reached l.set l.mixed l.plan l.kids l.kid-index l.matcher l.read l.initial.tally l.tally;
   apart : IsApart l.mixed l.kids l.kid-index l.read;
   most : l.steps ≤ l.initial.steps + 144 * elements_in (front l.kid-index (roses_of l.kids));
   least : l.initial.steps + elements_in (front l.kid-index (roses_of l.kids)) ≤ l.steps;

@@ -1,7 +1,8 @@
-use Rattle.std.proofs.Common.{◌+◌, ◌*◌}
+use Rattle.std.proofs.Common.{◌≡◌, ◌+◌, ◌*◌, List}
 use Rattle.label_tree.specs.Rose.{node_count, count_all, roses_of}
 use Rattle.xer_read.specs.Private.Made.{Each, TermMade}
-use Rattle.xer_read.specs.Private.Growing.{term_of, Takes}
+use Rattle.xer_read.specs.Private.Tallied.{Child, Wait}
+use Rattle.xer_read.specs.Private.Growing.{term_of, Gathered}
 use Rattle.xer_read.proofs.filling.+filling.Given as goal
 
 abbrev pub decreases-fill_term : goal.decreases-fill_term
@@ -20,4 +21,7 @@ abbrev pub decreases-fill_parts : goal.decreases-fill_parts
 decreases-fill_parts l = 4 * count_all (roses_of l.particles.now) + 3
 
 abbrev pub invariant-fill_items-turns : goal.invariant-fill_items-turns
-invariant-fill_items-turns l = Takes (Each (TermMade (term_of l.particle)) l.values.items) l.initial.children l.children
+invariant-fill_items-turns l = record {
+  many : l.count ≡ l.turn;
+  gathered : (gs : List Child) → Wait l.initial.tally l.initial.children gs → Gathered (Each (TermMade (term_of l.particle))) l.count l.values.items gs l.children l.initial.tally l.tally;
+}

@@ -11,6 +11,7 @@ use Rattle.validity_check.specs.Answers.{Tells}
 use Rattle.validity_check.proofs.Shape.{element_label}
 use Rattle.validity_check.proofs.Rooting.{root_refused}
 use Rattle.xer_read.specs.Private.Given.{IsRootRead}
+use Rattle.xer_read.specs.Private.Tallied.{Makes}
 use Rattle.xer_read.proofs.Valuing.{root-read}
 use Rattle.xer_read.proofs.reading.read_root.Goals as goal
 
@@ -34,7 +35,7 @@ returns-in-Err-clause-judged g c =
 pub returns-clause-judged : goal.returns-clause-judged
 returns-clause-judged g c =
     let is = c.root-item.ensures.root ∙ c.tree-tree.ensures.tree in
-    subst (λ x. MatchResult c.read_element.result (IsRootRead c.args.set.now c.args.root x) (Tells (FirstFault (parts_of c.args.set.now) c.args.root x))) is
+    subst (λ x. MatchResult c.read_element.result (λ made. Makes (IsRootRead c.args.set.now c.args.root x) 0 made c.args.tally.now c.read_element.new.tally) (Tells (FirstFault (parts_of c.args.set.now) c.args.root x))) is
     (root-read c.args.set.now c.args.root c.element-declared.result.now c.element-declared.ensures c.root-item.result.now
     (subst (λ l. HasName (Some c.element-declared.result.now.name) l) c.label-label.ensures c.in-Ok.ensures) (subst (λ x. levels x ≤ 64) (sym is) c.tree-tree.ensures.items.shallow)
-    c.read_element.result c.read_element.ensures.judged)
+    c.args.tally.now c.read_element.new.tally c.read_element.result c.read_element.ensures.judged)

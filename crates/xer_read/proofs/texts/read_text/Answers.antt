@@ -1,10 +1,18 @@
-use Rattle.label_tree.specs.Rose.{roses_of}
+use Rattle.std.proofs.Common.{arith}
+use Rattle.label_tree.specs.Rose.{roses_of, node_count}
 use Rattle.simple_types.specs.Seen.{space_of}
 use Rattle.xer_read.proofs.Refusing.{bad-text, wide-text}
 use Rattle.xer_read.proofs.texts.read_text.Goals as goal
 
 pub returns-in-Ok : goal.returns-in-Ok
-returns-in-Ok c = (c.in_ok-text.text.now, c.in_ok-text.ensures, c.in-Ok.ensures)
+returns-in-Ok c = record {
+  value = c.in-Ok.value;
+  holds = (c.in_ok-text.text.now, c.in_ok-text.ensures, c.in-Ok.ensures);
+  stands = c.of.ensures.built.0;
+  nodes = node_count c.in-Ok.value;
+  counts = c.of.ensures.counts;
+  all = omega arith;
+}
 
 pub returns-in-Err-BadText : goal.returns-in-Err-BadText
 returns-in-Err-BadText c =

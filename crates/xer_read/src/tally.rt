@@ -1,0 +1,56 @@
+//! How many nodes a value has, as far as it is made.
+ghost use Rattle.std.specs.Prelude.{◌<◌, ◌^◌};
+
+use label_tree::Tree;
+use simple_types::ValueLabel;
+
+/// How many nodes a value may have.
+const MOST_NODES: u64 = 1_048_576;
+
+/// The number of nodes that were made. 2^64 - 1 stands for that number and every greater one.
+#[derive(Drop)]
+pub(crate) struct Tally {
+    nodes: u64,
+    ghost small: { nodes < 2 ^ 64 },
+}
+
+impl Tally {
+    ghost use Rattle.std.specs.Prelude.{◌≡◌, ◌≤◌, ◌↔◌, IsTrue};
+    ghost use Rattle.label_tree.specs.Rose.{node_count};
+    ghost use Rattle.xer_read.specs.Private.Tallied.{Counts, IsWithin};
+
+    /// None yet.
+    pub(crate) fn new() -> Tally
+        ensures { result.nodes ≡ 0 }
+    {
+        Tally { nodes: 0 }
+    }
+
+    /// One more.
+    pub(crate) fn add_node(&mut self)
+        ensures { Counts 1 self.old self.new }
+    {
+        self.nodes = self.nodes.saturating_add(1);
+    }
+
+    /// All those of a tree, each of which it visits.
+    pub(crate) fn add_tree(&mut self, tree: &Tree<ValueLabel>)
+        ensures { Counts (node_count tree.now) self.old self.new }
+    {
+        self.nodes = self.nodes.saturating_add(tree.count());
+    }
+
+    /// Whether a value may have so many.
+    pub(crate) fn is_within(&self) -> bool
+        ensures { IsTrue result ↔ IsWithin self.now }
+    {
+        self.nodes <= MOST_NODES
+    }
+
+    /// How many there are.
+    pub(crate) fn count(&self) -> u64
+        ensures { result ≡ self.now.nodes }
+    {
+        self.nodes
+    }
+}
