@@ -1,3 +1,4 @@
 pub mod Written
 pub mod WrittenSpaces
 pub mod Entries
+pub mod Qualified

@@ -1,9 +1,9 @@
 //! The prefixes under which the namespaces of a document are declared.
-ghost use Rattle.std.specs.Prelude.{◌≡◌, ◌++◌, [], map, OnOk, bytes_eq};
+ghost use Rattle.std.specs.Prelude.{◌≡◌, ◌∷◌, ◌++◌, [], map, OnOk, bytes_eq};
 ghost use Rattle.std.specs.Option.{option_map};
 ghost use Rattle.std.specs.Map.{lookup};
-ghost use Rattle.doc_written.specs.Spaces.{attribute_spaces, label_spaces, spaces, prefix_for};
-ghost use Rattle.doc_write.specs.Private.Binding.{prefix_text, entry_of, next_prefix, is_bound, with_space, with_spaces};
+ghost use Rattle.doc_written.specs.Spaces.{attribute_spaces, label_spaces, spaces};
+ghost use Rattle.doc_write.specs.Private.Binding.{prefix_text, qualifier_text, before_local, entry_of, next_prefix, is_bound, with_space, with_spaces};
 
 use doc_text::{Attributes, ItemLabel};
 use itoa::Buffer;
@@ -18,6 +18,16 @@ use xa_base::{XML_SPACE, XSI_SPACE};
 pub(crate) enum Prefix {
     Xsi,
     Numbered(usize),
+}
+
+// What stands before the local part of a name: nothing, a prefix with a colon, or the colon alone where a namespace has
+// no prefix.
+#[derive(Clone, Copy)]
+pub(crate) enum Qualifier {
+    Absent,
+    Xml,
+    Declared(Prefix),
+    Unknown,
 }
 
 // The namespaces found so far, each with its prefix, in the order found. That of XML and the absent one have no entry.
@@ -56,10 +66,15 @@ impl<'a> Prefixes<'a> {
         self.found.as_slice()
     }
 
-    // The prefix under which a namespace is declared.
+    // The prefix under which a namespace is declared. Most names are in the one that was found first.
     fn get(&self, space: &[u8]) -> Option<Prefix>
         ensures { option_map prefix_text result ≡ lookup (bytes_eq space.now) self.now }
     {
+        if let Some((first, prefix)) = self.found.first() {
+            if space == *first {
+                return Some(*prefix);
+            }
+        }
         self.by_space.get(space).copied()
     }
 
@@ -137,16 +152,19 @@ impl<'a> Prefixes<'a> {
         Ok(())
     }
 
-    // Writes the prefix of a namespace, nothing where it has none.
-    pub(crate) fn write_for(&self, out: &mut Vec<u8>, space: &[u8]) -> Result<(), AllocError>
-        ensures { OnOk result (out.new.items ≡ out.old.items ++ prefix_for self.now space.now) }
+    // What stands before the local part of a name in this namespace.
+    pub(crate) fn qualifier(&self, space: &[u8]) -> Qualifier
+        ensures { qualifier_text result ≡ before_local self.now space.now }
     {
+        if space.is_empty() {
+            return Qualifier::Absent;
+        }
         if space == XML_SPACE.as_bytes() {
-            return out.extend_from_slice(b"xml");
+            return Qualifier::Xml;
         }
         match self.get(space) {
-            Some(prefix) => prefix.write(out),
-            None => Ok(()),
+            Some(prefix) => Qualifier::Declared(prefix),
+            None => Qualifier::Unknown,
         }
     }
 }
@@ -162,6 +180,34 @@ impl Prefix {
                 out.push(b'n')?;
                 out.extend_from_slice(buffer.format(number).as_bytes())
             }
+        }
+    }
+
+    // Writes the prefix and a colon. One of one digit, as most are, is written at once.
+    fn write_before_colon(self, out: &mut Vec<u8>) -> Result<(), AllocError>
+        ensures { OnOk result (out.new.items ≡ out.old.items ++ (prefix_text self ++ 58 ∷ [])) }
+    {
+        match self {
+            Prefix::Numbered(number) if number < 10 => {
+                out.extend_from_slice(&[b'n', b'0' + number as u8, b':'])
+            }
+            _ => {
+                self.write(out)?;
+                out.extend_from_slice(b":")
+            }
+        }
+    }
+}
+
+impl Qualifier {
+    pub(crate) fn write(self, out: &mut Vec<u8>) -> Result<(), AllocError>
+        ensures { OnOk result (out.new.items ≡ out.old.items ++ qualifier_text self) }
+    {
+        match self {
+            Qualifier::Absent => Ok(()),
+            Qualifier::Xml => out.extend_from_slice(b"xml:"),
+            Qualifier::Declared(prefix) => prefix.write_before_colon(out),
+            Qualifier::Unknown => out.extend_from_slice(b":"),
         }
     }
 }

@@ -4,9 +4,9 @@ ghost use Rattle.std.specs.List.{flat_map};
 ghost use Rattle.doc_written.specs.Written.{written_name, written_value, written_attribute, written_declaration, written_start, written_end, spelled, written};
 ghost use Rattle.doc_written.specs.ReadBack.{ReadsAs};
 ghost use Rattle.doc_write.specs.Private.Escapes.{escape_in};
-ghost use Rattle.doc_write.specs.Private.Binding.{prefix_text, entry_of};
+ghost use Rattle.doc_write.specs.Private.Binding.{prefix_text, entry_of, named};
 
-use crate::prefixes::{Prefix, Prefixes};
+use crate::prefixes::{Prefix, Prefixes, Qualifier};
 use doc_text::{Attributes, ItemLabel, Items};
 use label_tree::Tree;
 use std::alloc::{AllocError, Global};
@@ -70,14 +70,11 @@ fn write_escaped(out: &mut Vec<u8>, place: CharacterPlace, bytes: &[u8]) -> Resu
     }
 }
 
-fn write_name(out: &mut Vec<u8>, prefixes: &Prefixes<'_>, name: &Name) -> Result<(), AllocError>
-    ensures { OnOk result (out.new.items ≡ out.old.items ++ written_name prefixes.now name.now) }
+// A name behind what stands before its local part.
+fn write_name(out: &mut Vec<u8>, qualifier: Qualifier, name: &Name) -> Result<(), AllocError>
+    ensures { OnOk result (out.new.items ≡ out.old.items ++ named qualifier name.now) }
 {
-    let space = name.space.bytes();
-    if !space.is_empty() {
-        prefixes.write_for(out, space)?;
-        out.push(b':')?;
-    }
+    qualifier.write(out)?;
     out.extend_from_slice(name.local.bytes())
 }
 
@@ -99,7 +96,8 @@ fn write_attribute(
     ensures { OnOk result (out.new.items ≡ out.old.items ++ written_attribute prefixes.now attribute.now) }
 {
     out.push(b' ')?;
-    write_name(out, prefixes, &attribute.0)?;
+    let qualifier = prefixes.qualifier(attribute.0.space.bytes());
+    write_name(out, qualifier, &attribute.0)?;
     write_value(out, attribute.1.bytes())
 }
 
@@ -140,22 +138,24 @@ fn write_start(
     out: &mut Vec<u8>,
     prefixes: &Prefixes<'_>,
     declared: &[(&[u8], Prefix)],
+    qualifier: Qualifier,
     name: &Name,
     attributes: &Attributes,
 ) -> Result<(), AllocError>
+    requires { named qualifier name.now ≡ written_name prefixes.now name.now }
     ensures { OnOk result (out.new.items ≡ out.old.items ++ written_start prefixes.now (flat_map written_declaration (map entry_of declared.now)) name.now attributes.now) }
 {
     out.push(b'<')?;
-    write_name(out, prefixes, name)?;
+    write_name(out, qualifier, name)?;
     write_declarations(out, declared)?;
     write_attributes(out, prefixes, attributes)
 }
 
-fn write_end(out: &mut Vec<u8>, prefixes: &Prefixes<'_>, name: &Name) -> Result<(), AllocError>
-    ensures { OnOk result (out.new.items ≡ out.old.items ++ written_end prefixes.now name.now) }
+fn write_end(out: &mut Vec<u8>, qualifier: Qualifier, name: &Name) -> Result<(), AllocError>
+    ensures { OnOk result (out.new.items ≡ out.old.items ++ (60 ∷ 47 ∷ named qualifier name.now ++ 62 ∷ [])) }
 {
     out.extend_from_slice(b"</")?;
-    write_name(out, prefixes, name)?;
+    write_name(out, qualifier, name)?;
     out.push(b'>')?;
     Ok(())
 }
@@ -177,7 +177,8 @@ fn write_tree(
             attributes,
             ..
         } => {
-            write_start(out, prefixes, declared, name, attributes)?;
+            let qualifier = prefixes.qualifier(name.space.bytes());
+            write_start(out, prefixes, declared, qualifier, name, attributes)?;
             if kids.is_empty() {
                 return out.extend_from_slice(b"/>");
             }
@@ -185,7 +186,7 @@ fn write_tree(
             'kids: for kid in kids {
                 write_tree(out, prefixes, &[], kid)?;
             }
-            write_end(out, prefixes, name)
+            write_end(out, qualifier, name)
         }
     }
 }

@@ -9,27 +9,98 @@ ghost use Rattle.xer_write.specs.Private.Gaining.{IsUtf8Contents, Has, Gains, va
 
 use crate::spelling::value_text;
 use doc_text::{Attributes, Bindings, ItemLabel};
-use label_tree::Tree;
+use label_tree::{Shape, Tree};
 use simple_types::ValueLabel;
 use std::alloc::Global;
+use std::marker::Model;
 use xa_base::{Memory, Name, Text, XSI_SPACE};
+
+/// An element without attributes and bindings. Copies of its empty lists share them, so that they take no memory.
+#[derive(Drop)]
+pub(crate) struct Blank {
+    label: ItemLabel,
+}
+
+impl Model for Blank {
+    ghost use Rattle.std.specs.Prelude.{ℕ};
+    ghost use Rattle.xer_write.specs.Private.Blanks.{IsBlank};
+
+    ghost Value = { ℕ };
+
+    ghost view = { λ _. 0 };
+
+    ghost invariant = { λ b. IsBlank b.label };
+}
+
+impl Blank {
+    pub(crate) fn new(alloc: Global) -> Result<Blank, Memory> {
+        let attributes = Attributes::of(Vec::new(alloc))?;
+        let declares = Bindings::of(Vec::new(alloc))?;
+        let name = Name {
+            space: Text::empty(),
+            local: Text::empty(),
+        };
+        let label = ItemLabel::Element {
+            name,
+            attributes,
+            declares,
+            at: 0,
+        };
+        Ok(Blank { label })
+    }
+
+    // No attributes and no bindings.
+    fn lists(&self, alloc: Global) -> Result<(Attributes, Bindings), Memory>
+        ensures { IfOk result (λ lists. (lists.0 ≡ []) × (lists.1 ≡ [])) }
+    {
+        match self.label.copy(alloc)? {
+            ItemLabel::Element {
+                attributes,
+                declares,
+                ..
+            } => Ok((attributes, declares)),
+            ItemLabel::Text { .. } => unreachable!(),
+        }
+    }
+}
+
+// These attributes, and the empty list where there are none.
+fn attributes_of(entries: Vec<(Name, Text)>, none: Attributes) -> Result<Attributes, Memory>
+    requires { none ≡ [] }
+    ensures { IfOk result (λ attributes. attributes ≡ entries.items) }
+{
+    if entries.is_empty() {
+        Ok(none)
+    } else {
+        Attributes::of(entries)
+    }
+}
 
 /// The attributes and the kids of an element so far.
 #[derive(Drop)]
-pub(crate) struct Contents {
+pub(crate) struct Contents<'a> {
     attributes: Vec<(Name, Text)>,
     kids: Vec<Tree<ItemLabel>>,
+    blank: &'a Blank,
 }
 
-impl Contents {
-    /// Nothing so far.
-    pub(crate) fn new(alloc: Global) -> Contents
+impl<'a> Contents<'a> {
+    /// Nothing so far, with room for so many kids where there is memory for it.
+    pub(crate) fn new(alloc: Global, blank: &'a Blank, room: usize) -> Contents<'a>
         ensures { Has result nothing }
     {
+        let mut kids = Vec::new(alloc);
+        let _ = kids.reserve_exact(room);
         Contents {
             attributes: Vec::new(alloc),
-            kids: Vec::new(alloc),
+            kids,
+            blank,
         }
+    }
+
+    /// The element of which all others take their empty lists.
+    pub(crate) fn blank(&self) -> &'a Blank {
+        self.blank
     }
 
     pub(crate) fn add_attribute(&mut self, name: Name, text: Text) -> Result<(), Memory>
@@ -68,9 +139,9 @@ impl Contents {
         &mut self,
         alloc: Global,
         name: Name,
-        inner: Contents,
+        inner: Contents<'_>,
     ) -> Result<(), Memory>
-        ensures { OnOk result ((g : Given) → Has inner g → Gains self.old self.new (given [] (more (element_of name g) none))) }
+        ensures { OnOk result ((g : Given) → Has inner.entry g → Gains self.old self.new (given [] (more (element_of name g) none))) }
     {
         self.kids.push(inner.into_element(alloc, name)?)?;
         Ok(())
@@ -78,11 +149,16 @@ impl Contents {
 
     /// The element of this name in which this stands.
     pub(crate) fn into_element(self, alloc: Global, name: Name) -> Result<Tree<ItemLabel>, Memory>
-        ensures { IfOk result (λ tree. (g : Given) → Has self g → (tree ≡ unplaced (element_of name g)) × ItemIsUtf8 tree) }
+        ensures { IfOk result (λ tree. (g : Given) → Has self.entry g → (tree ≡ unplaced (element_of name g)) × ItemIsUtf8 tree) }
     {
-        let Contents { attributes, kids } = self;
-        let attributes = Attributes::of(attributes)?;
-        let declares = Bindings::of(Vec::new(alloc))?;
+        let Contents {
+            attributes,
+            mut kids,
+            blank,
+        } = self;
+        kids.shrink_to_fit();
+        let (none, declares) = blank.lists(alloc)?;
+        let attributes = attributes_of(attributes, none)?;
         let label = ItemLabel::Element {
             name,
             attributes,
@@ -138,13 +214,14 @@ impl Contents {
         &mut self,
         alloc: Global,
         texts: &[Tree<ValueLabel>],
-        inner: Contents,
+        inner: Contents<'_>,
     ) -> Result<(), Memory>
-        ensures { OnOk result ((g : Given) → Has inner g → Gains self.old self.new (given g.attributes (interleaved (map value_text texts.now) g.kids))) }
+        ensures { OnOk result ((g : Given) → Has inner.entry g → Gains self.old self.new (given g.attributes (interleaved (map value_text texts.now) g.kids))) }
     {
         let Contents {
             mut attributes,
             kids,
+            ..
         } = inner;
         self.attributes.append(&mut attributes)?;
         let count = self.add_kids(alloc, texts, kids)?;

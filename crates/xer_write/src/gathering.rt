@@ -75,7 +75,7 @@ fn add_nil_if(
     alloc: Global,
     label: &TypeLabel,
     value: &ValueLabel,
-    out: &mut Contents,
+    out: &mut Contents<'_>,
 ) -> Result<(), Memory>
     ensures { OnOk result (Gains out.old out.new (with_nil (has_use_nil label.now.marks && rule.is_last_absent value.now) nothing)) }
 {
@@ -93,7 +93,7 @@ fn gather_at(
     module: &Module,
     place: &Place,
     value: &Tree<ValueLabel>,
-    out: &mut Contents,
+    out: &mut Contents<'_>,
 ) -> Result<(), Memory>
     requires { IsTypeIn module.now place.now.node.now }
     ensures { OnOk result (Gains out.old out.new (place_gives module.now (place_seen place.now) value.now)) }
@@ -105,7 +105,8 @@ fn gather_at(
             out.add_attribute(attribute, text)
         }
         Role::Element => {
-            let mut inner = Contents::new(alloc);
+            let room = value.kids().len().max(1);
+            let mut inner = Contents::new(alloc, out.blank(), room);
             gather(alloc, module, place.node, value, &mut inner)?;
             let name = place.part.name(alloc)?;
             out.add_element(alloc, name, inner)
@@ -125,7 +126,7 @@ fn gather_present(
     parts: &[Component],
     present: &[bool],
     values: &[Tree<ValueLabel>],
-    out: &mut Contents,
+    out: &mut Contents<'_>,
 ) -> Result<(), Memory>
     requires node { IsTypeIn module.now node.now }
     requires form { (label_of node.now).form ≡ form.Sequence parts.now }
@@ -158,7 +159,7 @@ fn gather_sequence(
     node: &Tree<TypeLabel>,
     parts: &[Component],
     value: &Tree<ValueLabel>,
-    out: &mut Contents,
+    out: &mut Contents<'_>,
 ) -> Result<(), Memory>
     requires node { IsTypeIn module.now node.now }
     requires form { (label_of node.now).form ≡ form.Sequence parts.now }
@@ -185,7 +186,7 @@ fn gather_choice(
     node: &Tree<TypeLabel>,
     parts: &[Component],
     value: &Tree<ValueLabel>,
-    out: &mut Contents,
+    out: &mut Contents<'_>,
 ) -> Result<(), Memory>
     requires node { IsTypeIn module.now node.now }
     requires form { (label_of node.now).form ≡ form.Choice parts.now }
@@ -215,7 +216,7 @@ fn gather_items(
     module: &Module,
     place: &Place,
     values: &[Tree<ValueLabel>],
-    out: &mut Contents,
+    out: &mut Contents<'_>,
 ) -> Result<(), Memory>
     requires { IsTypeIn module.now place.now.node.now }
     ensures { OnOk result (Gains out.old out.new (gathered module.now (replicate (length values.now) (place_seen place.now)) (roses_of values.now))) }
@@ -236,7 +237,7 @@ fn gather_sequence_of(
     min: u32,
     max: Option<u32>,
     value: &Tree<ValueLabel>,
-    out: &mut Contents,
+    out: &mut Contents<'_>,
 ) -> Result<(), Memory>
     requires node { IsTypeIn module.now node.now }
     requires form { (label_of node.now).form ≡ form.SequenceOf part.now min max }
@@ -264,7 +265,7 @@ fn gather_kids(
     module: &Module,
     node: &Tree<TypeLabel>,
     value: &Tree<ValueLabel>,
-    out: &mut Contents,
+    out: &mut Contents<'_>,
 ) -> Result<(), Memory>
     requires node { IsTypeIn module.now node.now }
     requires parts { is_textual (label_of node.now) ≡ false }
@@ -289,7 +290,7 @@ fn gather_parts(
     module: &Module,
     node: &Tree<TypeLabel>,
     value: &Tree<ValueLabel>,
-    out: &mut Contents,
+    out: &mut Contents<'_>,
 ) -> Result<(), Memory>
     requires node { IsTypeIn module.now node.now }
     requires parts { is_textual (label_of node.now) ≡ false }
@@ -297,7 +298,7 @@ fn gather_parts(
 {
     add_nil_if(alloc, node.label(), value.label(), out)?;
     if node.label().marks.has_embed_values() {
-        let mut inner = Contents::new(alloc);
+        let mut inner = Contents::new(alloc, out.blank(), value.kids().len());
         gather_kids(alloc, module, node, value, &mut inner)?;
         out.add_mixed(alloc, texts_of(value), inner)
     } else {
@@ -312,7 +313,7 @@ pub(crate) fn gather(
     module: &Module,
     node: &Tree<TypeLabel>,
     value: &Tree<ValueLabel>,
-    out: &mut Contents,
+    out: &mut Contents<'_>,
 ) -> Result<(), Memory>
     requires { IsTypeIn module.now node.now }
     ensures { OnOk result (Gains out.old out.new (inside module.now node.now value.now)) }

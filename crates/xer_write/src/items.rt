@@ -7,7 +7,7 @@ ghost use Rattle.xer_items.specs.Items.{Xer};
 ghost use Rattle.asn_types.specs.Values.{In};
 ghost use Rattle.xer_items.specs.Sound.{IsSound};
 
-use crate::contents::Contents;
+use crate::contents::{Blank, Contents};
 use crate::gathering::gather;
 use asn_types::Module;
 use doc_text::Items;
@@ -31,14 +31,10 @@ pub fn items_of(alloc: Global, module: &Module, t: u32, value: &Value) -> Result
     ensures { IfOk result (λ items. (b : Rose Plain) × (Xer module.now t value.now ≡ Some b) × (items ≡ unplaced b)) }
 {
     let assignment = module.assignment(t);
-    let mut inner = Contents::new(alloc);
-    gather(
-        alloc,
-        module,
-        assignment.body.root(),
-        value.root(),
-        &mut inner,
-    )?;
+    let top = value.root();
+    let blank = Blank::new(alloc)?;
+    let mut inner = Contents::new(alloc, &blank, top.kids().len());
+    gather(alloc, module, assignment.body.root(), top, &mut inner)?;
     let name = assignment.name(alloc)?;
     let root = inner.into_element(alloc, name)?;
     Ok(Items::of(Whole::of(root)))

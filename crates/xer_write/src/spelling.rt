@@ -96,6 +96,16 @@ fn write_text(out: &mut String, label: &ValueLabel) -> Result<(), Memory>
     Ok(())
 }
 
+// The digits of a whole number.
+fn whole_text(alloc: Global, label: &ValueLabel) -> Result<Text, Memory>
+    ensures { IfOk result (λ text. text ≡ spelled_whole label.now) }
+{
+    match label {
+        ValueLabel::Int(n) => Text::from_str(alloc, Buffer::new().format(*n)),
+        _ => Ok(Text::empty()),
+    }
+}
+
 /// The text of a UTF8String.
 pub(crate) fn value_text(alloc: Global, value: &Tree<ValueLabel>) -> Result<Text, Memory>
     ensures { IfOk result (λ text. text ≡ value_text value.now) }
@@ -198,6 +208,7 @@ pub(crate) fn spelling(
             None => Ok(Text::empty()),
         },
         Form::Utf8 { .. } => value_text(alloc, value),
+        Form::Int { .. } => whole_text(alloc, value.label()),
         _ => {
             let mut out = String::new(alloc);
             write_spelling(&mut out, node, value)?;

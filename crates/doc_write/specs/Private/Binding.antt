@@ -7,14 +7,32 @@ use Rattle.std.specs.Cmp.Lexicographic.{slice_cmp}
 use Rattle.std.specs.BTreeMap.{BTreeMap, get_by}
 use Rattle.std.specs.Map.{lookup}
 use Rattle.std.specs.Option.{option_map}
+use Rattle.xa_base.specs.declared.texts.Name.{Name}
 use Rattle.xa_base.specs.Limits.{is_empty}
 use Rattle.xa_base.specs.Namespaces.{xml_space, xsi_space}
 use Rattle.doc_write.specs.declared.prefixes.Prefix.{Prefix}
 use Rattle.doc_write.specs.declared.prefixes.Prefix.TheVariants.{Xsi, Numbered}
+use Rattle.doc_write.specs.declared.prefixes.Qualifier.{Qualifier}
+use Rattle.doc_write.specs.declared.prefixes.Qualifier.TheVariants.{Absent, Xml, Declared, Unknown}
+use Rattle.doc_written.specs.Spaces.{prefix_for}
 
 abbrev pub prefix_text : Prefix → List ℕ
 prefix_text Xsi = codes "xsi"
 prefix_text (Numbered number) = codes "n" ++ decimal number
+
+-- what stands before the local part of a name
+abbrev pub qualifier_text : Qualifier → List ℕ
+qualifier_text Absent = []
+qualifier_text Xml = codes "xml:"
+qualifier_text (Declared prefix) = prefix_text prefix ++ 58 ∷ []
+qualifier_text Unknown = 58 ∷ []
+
+abbrev pub before_local : List (List ℕ × List ℕ) → List ℕ → List ℕ
+before_local table space = if is_empty space then [] else prefix_for table space ++ 58 ∷ []
+
+-- a name behind it
+abbrev pub named : Qualifier → Name → List ℕ
+named qualifier name = qualifier_text qualifier ++ name.local
 
 abbrev pub entry_of : Bor (List ℕ) × Prefix → List ℕ × List ℕ
 entry_of e = (e.0.now, prefix_text e.1)

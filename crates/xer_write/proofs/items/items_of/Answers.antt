@@ -21,8 +21,8 @@ of-requires c =
     let m = c.args.module.now in
     let v = c.args.value.now in
     let a = c.assignment-assignment in
-    let made = root-made m a.result.now v c.new-inner.result c.gather.new.out c.root.result.now c.root-2.result.now c.in_ok-name.name c.in_ok-root.root
-    c.root.ensures.root c.root-2.ensures.root c.new-inner.ensures c.in_ok-gather.ensures c.in_ok-name.ensures c.in_ok-root.ensures in
+    let made = root-made m a.result.now v c.new-inner.result c.gather.new.out c.root.result.now c.root-top.result.now c.in_ok-name.name c.in_ok-root.root
+    c.root.ensures.root c.root-top.ensures.root c.new-inner.ensures c.in_ok-gather.ensures c.in_ok-name.ensures c.in_ok-root.ensures in
     let items = root-items m c.args.t a.result.now v a.ensures.assignment c.requires.value c.requires.sound made.1 in
     subst (Allowed MayHave) (sym made.0) items.allowed
 
@@ -31,8 +31,8 @@ of-requires-2 c =
     let m = c.args.module.now in
     let v = c.args.value.now in
     let a = c.assignment-assignment in
-    let made = root-made m a.result.now v c.new-inner.result c.gather.new.out c.root.result.now c.root-2.result.now c.in_ok-name.name c.in_ok-root.root
-    c.root.ensures.root c.root-2.ensures.root c.new-inner.ensures c.in_ok-gather.ensures c.in_ok-name.ensures c.in_ok-root.ensures in
+    let made = root-made m a.result.now v c.new-inner.result c.gather.new.out c.root.result.now c.root-top.result.now c.in_ok-name.name c.in_ok-root.root
+    c.root.ensures.root c.root-top.ensures.root c.new-inner.ensures c.in_ok-gather.ensures c.in_ok-name.ensures c.in_ok-root.ensures in
     let items = root-items m c.args.t a.result.now v a.ensures.assignment c.requires.value c.requires.sound made.1 in
     subst AreItems (sym (c.of.ensures ∙ made.0)) items
 
@@ -41,6 +41,6 @@ returns c =
     let m = c.args.module.now in
     let v = c.args.value.now in
     let a = c.assignment-assignment in
-    let made = root-made m a.result.now v c.new-inner.result c.gather.new.out c.root.result.now c.root-2.result.now c.in_ok-name.name c.in_ok-root.root
-    c.root.ensures.root c.root-2.ensures.root c.new-inner.ensures c.in_ok-gather.ensures c.in_ok-name.ensures c.in_ok-root.ensures in
+    let made = root-made m a.result.now v c.new-inner.result c.gather.new.out c.root.result.now c.root-top.result.now c.in_ok-name.name c.in_ok-root.root
+    c.root.ensures.root c.root-top.ensures.root c.new-inner.ensures c.in_ok-gather.ensures c.in_ok-name.ensures c.in_ok-root.ensures in
     (root_of m a.result.now v, ap (option_map (λ (x : Assignment). root_of m x v)) a.ensures.assignment, c.of-2.ensures ∙ c.of.ensures ∙ made.0)

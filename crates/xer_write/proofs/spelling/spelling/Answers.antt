@@ -1,5 +1,5 @@
 use Rattle.std.proofs.Common.{sym, ap, ◌∙◌}
-use Rattle.xer_write.proofs.Spellings.{spelled-Words, spelled-Utf8}
+use Rattle.xer_write.proofs.Spellings.{spelled-Int, spelled-Words, spelled-Utf8}
 use Rattle.xer_write.proofs.spelling.spelling.Goals as goal
 
 pub returns-in-Some : goal.returns-in-Some
@@ -16,3 +16,8 @@ pub returns-in-Utf8 : goal.returns-in-Utf8
 returns-in-Utf8 c =
     let is = spelled-Utf8 c.args.node.now c.args.value.now c.in-Utf8.min c.in-Utf8.max c.in-Utf8.class (ap (λ l. l.form) (sym c.label.ensures) ∙ c.in-Utf8.is) in
     rw is c.value_text.ensures
+
+pub returns-in-Int : goal.returns-in-Int
+returns-in-Int c =
+    let is = spelled-Int c.args.node.now c.args.value.now c.in-Int.lo c.in-Int.hi (ap (λ l. l.form) (sym c.label.ensures) ∙ c.in-Int.is) in
+    rw (is, sym c.label-in-Int.ensures) c.whole_text.ensures

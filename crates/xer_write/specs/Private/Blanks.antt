@@ -1,0 +1,8 @@
+-- An element without attributes and bindings.
+use Rattle.std.specs.Prelude.{◌≡◌, []}
+use Rattle.doc_text.specs.declared.label.ItemLabel.{ItemLabel}
+use Rattle.doc_text.specs.declared.label.ItemLabel.TheVariants.{Element, Text}
+
+abbrev pub IsBlank : ItemLabel → Type 0
+IsBlank (Element name attributes declares at) = (attributes ≡ []) × (declares ≡ [])
+IsBlank (Text text at) = ⊥
