@@ -1,11 +1,13 @@
 //! The nodes of a value.
 ghost use Rattle.std.specs.Prelude.{◌≡◌, ℕ, ◌<◌, ◌≤◌, ◌+◌, ◌-◌, ◌*◌, ◌^◌, IfOk, IfErr, OnOk, IsErrOf, IsTrue, length, true, false, ◌⊎◌};
-ghost use Rattle.label_tree.specs.Rose.{label_of, kids_of, roses_of, node_count, count_all};
+ghost use Rattle.simple_types.specs.declared.labels.ValueLabel.{ValueLabel};
+ghost use Rattle.asn_types.specs.Modules.{AreWellFormed};
+ghost use Rattle.label_tree.specs.Rose.{Rose, label_of, kids_of, roses_of, node_count, count_all};
 ghost use Rattle.bit_cursor.specs.Cursors.{IsInStep};
 ghost use Rattle.xa_base.specs.Faults.{HasRisen};
 ghost use Rattle.asn_types.specs.declared.types.Form.TheVariants as form;
 ghost use Rattle.asn_types.specs.Refs.{IsOf, resolve};
-ghost use Rattle.asn_types.specs.Values.{FitsAt, Own, present_from};
+ghost use Rattle.asn_types.specs.Values.{FitsAt, Own, OwnAt, present_from};
 ghost use Rattle.asn_types.specs.Private.Placing.{FitKids};
 ghost use Rattle.per_fields.specs.Laws.{Present};
 ghost use Rattle.per_fields.specs.Fields.{counted_at, list_at};
@@ -45,20 +47,42 @@ fn below(role: Role, depth: u32) -> u32
     }
 }
 
-// A value whose fields were all read, from a bit to another, where it keeps the rules of its node.
+// Whether every value of a type, which is no reference, keeps the rules of its first node. LIST stands on a SEQUENCE OF
+// alone, USE-UNION on a CHOICE and EMBED-VALUES on a SEQUENCE.
+fn has_no_rules(module: &Module, found: &Tree<TypeLabel>) -> bool
+    requires { AreWellFormed module.now found.now }
+    ensures { IsTrue result → (v : Rose ValueLabel) → OwnAt module.now (label_of found.now) found.now v }
+{
+    let label = found.label();
+    match &label.form {
+        Form::Utf8 { .. } => false,
+        Form::Sequence { .. } => !label.marks.has_embed_values(),
+        Form::Choice { .. } => !label.marks.has_use_union(),
+        Form::SequenceOf { .. } => !label.marks.has_list(),
+        _ => true,
+    }
+}
+
+// A value whose fields were all read, from a bit to another, where it keeps the rules of its node, whose type is found.
 #[inline(always)]
 fn owned(
     alloc: Global,
     module: &Module,
     node: &Tree<TypeLabel>,
+    found: &Tree<TypeLabel>,
     value: Tree<ValueLabel>,
     begin: u64,
     end: u64,
 ) -> Result<Tree<ValueLabel>, Fault>
-    requires { IsOf module.now node.now }
+    requires known { bodies.IsKnown module.now }
+    requires of { IsOf module.now node.now }
+    requires found { found.now ≡ resolve module.now node.now }
     ensures ok { IfOk result (λ v. (v ≡ value) × Own module.now node.now value) }
     ensures err { IfErr result (λ fault. (fault ≡ Fault.Memory) ⊎ ((fault ≡ Fault.Stopped (record { bit = begin; why = Why.NotAValue; end = end })) × (Own module.now node.now value → ⊥))) }
 {
+    if has_no_rules(module, found) {
+        return Ok(value);
+    }
     if own(alloc, module, node, &value)? {
         Ok(value)
     } else {
@@ -124,11 +148,11 @@ fn body<S: Source, K: Origin>(
     match &found.label().form {
         Form::Utf8 { .. } => {
             let value = text_node(alloc, run, begin)?;
-            owned(alloc, module, node, value, begin, run.position())
+            owned(alloc, module, node, found, value, begin, run.position())
         }
         _ => {
             let value = fields(alloc, module, run, depth, found)?;
-            owned(alloc, module, node, value, begin, run.position())
+            owned(alloc, module, node, found, value, begin, run.position())
         }
     }
 }
