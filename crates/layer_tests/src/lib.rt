@@ -1,15 +1,18 @@
 //! Tests of what no row of transcode_rows shows: what is taken of a source, what becomes of each part of an encoding and of
-//! each bit that is turned, and long texts. Octets are worked out from X.691, and never copied from the program.
+//! each bit that is turned, long texts, and the leaves and turns that a matcher tells. What is due is worked out from X.691
+//! and from the language of content models, and never copied from the program.
 #![tactic(auto)]
 
 #[cfg(test)]
 mod damaged;
 #[cfg(test)]
 mod fragments;
+#[cfg(test)]
+mod matching;
 mod opening;
 mod schemas;
 #[cfg(test)]
 mod taken;
 
 pub use opening::{Unopened, opened};
-pub use schemas::{ORDER, SORTS, TRUTHS};
+pub use schemas::{CHOICES_BEGIN, CHOICES_END, GROUPS, ORDER, SORTS, TRUTHS, TWICE_AND_ONCE};
