@@ -10,6 +10,8 @@ mod fragments;
 #[cfg(test)]
 mod matching;
 mod opening;
+#[cfg(test)]
+mod references;
 mod schemas;
 #[cfg(test)]
 mod taken;
