@@ -14,6 +14,8 @@ mod large;
 #[cfg(test)]
 mod matching;
 mod opening;
+#[cfg(test)]
+mod references;
 mod schemas;
 #[cfg(test)]
 mod taken;
