@@ -5,6 +5,7 @@ set -eu
 cd "$(dirname "$0")/.."
 . bench/measure.sh
 . bench/orders.sh
+. bench/names.sh
 
 head='<xs:schema xmlns:xs="http://www.w3.org/2001/XMLSchema">'
 
@@ -22,21 +23,7 @@ order 100000 > "$work/order"
 awk 'BEGIN { printf "<r>"; for (i = 0; i < 100000; i++) printf "<a/>"; printf "</r>" }' > "$work/groups"
 
 # 1,500,000 times the last of 9,800 names, which stand in 20 choices in a repeated choice.
-{
-    printf '%s<xs:complexType name="E"/><xs:element name="r"><xs:complexType>' "$head"
-    printf '<xs:choice minOccurs="0" maxOccurs="unbounded">'
-    awk 'BEGIN {
-        letters = "abcdefghijklmnopqrstuvwxyz"
-        for (i = 0; i < 9800; i++) {
-            if (i % 490 == 0) printf "%s<xs:choice>", (i > 0) ? "</xs:choice>" : ""
-            name = substr(letters, i % 26 + 1, 1) substr(letters, int(i / 26) % 26 + 1, 1) substr(letters, int(i / 676) + 1, 1)
-            printf "<xs:element name=\"%s\" type=\"E\"/>", name
-        }
-        printf "</xs:choice>"
-    }'
-    printf '</xs:choice></xs:complexType></xs:element></xs:schema>\n'
-} > "$work/names.xsd"
-awk 'BEGIN { printf "<r>"; for (i = 0; i < 1500000; i++) printf "<xmo/>"; printf "</r>" }' > "$work/names"
+names 1500000
 
 # A list of 300,000 words, each one of 1,000.
 {

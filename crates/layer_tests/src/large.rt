@@ -32,10 +32,6 @@ fn order(alloc: Global, lines: u32, prefix: &str) -> Result<Vec<u8>, AllocError>
     Ok(text)
 }
 
-fn none(alloc: Global) -> Vec<u64> {
-    Vec::new(alloc)
-}
-
 #[test]
 fn a_trial_of_100_000_lines(rt: HostRuntime) -> Result<(), Fail> {
     let alloc = rt.alloc();
@@ -44,7 +40,7 @@ fn a_trial_of_100_000_lines(rt: HostRuntime) -> Result<(), Fail> {
         &["trial", "100000"],
         b"",
         Vec::new(alloc),
-        none(alloc),
+        Vec::new(alloc),
     )?;
     assert_eq!(rt; found.status, 0);
     assert_eq!(rt;
@@ -65,7 +61,7 @@ fn an_order_of_100_000_lines_there_and_back(rt: HostRuntime) -> Result<(), Fail>
         &["to-per", "{urn:po}order", "schema"],
         schema,
         document,
-        none(alloc),
+        Vec::new(alloc),
     )?;
     assert_eq!(rt; there.status, 0);
     assert_eq!(rt; there.output.len(), 788_897);
@@ -103,7 +99,7 @@ fn a_value_of_just_as_many_nodes_as_may_be(rt: HostRuntime) -> Result<(), Fail> 
         &["to-per", "r", "schema"],
         schema,
         many(alloc, 1_048_574)?,
-        none(alloc),
+        Vec::new(alloc),
     )?;
     assert_eq!(rt; most.status, 0);
     let mut due = Vec::new(alloc);
@@ -115,7 +111,7 @@ fn a_value_of_just_as_many_nodes_as_may_be(rt: HostRuntime) -> Result<(), Fail> 
         &["to-per", "r", "schema"],
         schema,
         many(alloc, 1_048_575)?,
-        none(alloc),
+        Vec::new(alloc),
     )?;
     assert_eq!(rt; more.status, 12);
     assert_eq!(rt;
@@ -127,7 +123,7 @@ fn a_value_of_just_as_many_nodes_as_may_be(rt: HostRuntime) -> Result<(), Fail> 
         &["check", "r", "schema"],
         schema,
         many(alloc, 1_048_575)?,
-        none(alloc),
+        Vec::new(alloc),
     )?;
     assert_eq!(rt; valid.status, 0);
     Ok(())
@@ -152,7 +148,7 @@ fn so_many_children_under_16_groups(rt: HostRuntime) -> Result<(), Fail> {
         &["to-per", "t", "schema"],
         &schema,
         document,
-        none(alloc),
+        Vec::new(alloc),
     )?;
     assert_eq!(rt; found.status, 0);
     // Fragments of 65,536, of 32,768 and of 1,696 bits, each of them 1.
@@ -197,7 +193,7 @@ fn so_many_children_of_9_800_names(rt: HostRuntime) -> Result<(), Fail> {
         &["check", "t", "schema"],
         &schema,
         document,
-        none(alloc),
+        Vec::new(alloc),
     )?;
     assert_eq!(rt; found.status, 0);
     Ok(())

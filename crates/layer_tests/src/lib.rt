@@ -1,5 +1,6 @@
 //! Tests of what no row of transcode_rows shows: what is taken of a source, what becomes of each part of an encoding and of
-//! each bit that is turned, long texts, and large documents. Octets are worked out from X.691, and never copied from the program.
+//! each bit that is turned, long texts, the leaves and turns that a matcher tells, and large documents. What is due is worked
+//! out from X.691 and from the language of content models, and never copied from the program.
 #![tactic(auto)]
 
 #[cfg(test)]
@@ -10,10 +11,16 @@ mod damaged;
 mod fragments;
 #[cfg(test)]
 mod large;
+#[cfg(test)]
+mod matching;
 mod opening;
+#[cfg(test)]
+mod references;
 mod schemas;
 #[cfg(test)]
 mod taken;
 
 pub use opening::{Unopened, opened};
-pub use schemas::{HEAD, ORDER, ORDERS, SORTS, TRUTHS};
+pub use schemas::{
+    CHOICES_BEGIN, CHOICES_END, GROUPS, HEAD, ORDER, ORDERS, SORTS, TRUTHS, TWICE_AND_ONCE,
+};

@@ -43,7 +43,7 @@ fn read(alloc: Global, schema: &str) -> Result<RawDoc, Unopened>
     }
 }
 
-fn linked(alloc: Global, schema: &str) -> Result<SchemaSet, Unopened> {
+pub(crate) fn linked(alloc: Global, schema: &str) -> Result<SchemaSet, Unopened> {
     let document = read(alloc, schema)?;
     match link(alloc, &[document]) {
         Ok(set) => Ok(set),

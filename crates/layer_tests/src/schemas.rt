@@ -74,3 +74,33 @@ pub const TRUTHS: &str = concat!(
     "<xs:element name=\"_1x\" type=\"xs:boolean\"/><xs:element name=\"c\" type=\"xs:boolean\"/>",
     "</xs:sequence></xs:complexType></xs:element></xs:schema>",
 );
+
+/// Two particles of one name, of which the first stands twice.
+pub const TWICE_AND_ONCE: &str = concat!(
+    "<xs:schema xmlns:xs=\"http://www.w3.org/2001/XMLSchema\">",
+    "<xs:element name=\"r\"><xs:complexType><xs:sequence>",
+    "<xs:element name=\"a\" type=\"xs:boolean\" minOccurs=\"2\" maxOccurs=\"2\"/>",
+    "<xs:element name=\"a\" type=\"xs:boolean\"/>",
+    "</xs:sequence></xs:complexType></xs:element></xs:schema>",
+);
+
+/// 16 groups inside one another, around an element that stands twice: the first is repeated at will, the eighth three
+/// times.
+pub const GROUPS: &str = concat!(
+    "<xs:schema xmlns:xs=\"http://www.w3.org/2001/XMLSchema\"><xs:element name=\"r\"><xs:complexType>",
+    "<xs:sequence maxOccurs=\"unbounded\"><xs:choice><xs:sequence><xs:choice><xs:sequence><xs:choice><xs:sequence>",
+    "<xs:choice minOccurs=\"3\" maxOccurs=\"3\"><xs:sequence><xs:choice><xs:sequence><xs:choice><xs:sequence>",
+    "<xs:choice><xs:sequence><xs:choice>",
+    "<xs:element name=\"a\" type=\"xs:boolean\" minOccurs=\"2\" maxOccurs=\"2\"/>",
+    "</xs:choice></xs:sequence></xs:choice></xs:sequence></xs:choice></xs:sequence></xs:choice></xs:sequence></xs:choice>",
+    "</xs:sequence></xs:choice></xs:sequence></xs:choice></xs:sequence></xs:choice></xs:sequence>",
+    "</xs:complexType></xs:element></xs:schema>",
+);
+
+/// What stands before and behind the choices of a repeated choice.
+pub const CHOICES_BEGIN: &str = concat!(
+    "<xs:schema xmlns:xs=\"http://www.w3.org/2001/XMLSchema\"><xs:element name=\"r\"><xs:complexType>",
+    "<xs:choice minOccurs=\"0\" maxOccurs=\"unbounded\">",
+);
+
+pub const CHOICES_END: &str = "</xs:choice></xs:complexType></xs:element></xs:schema>";
