@@ -1,4 +1,4 @@
-//! How many nodes a value has, as far as it is made.
+//! How many nodes a value has, as far as it is read.
 ghost use Rattle.std.specs.Prelude.{◌<◌, ◌^◌};
 
 use label_tree::Tree;
@@ -7,7 +7,8 @@ use simple_types::ValueLabel;
 /// How many nodes a value may have.
 const MOST_NODES: u64 = 1_048_576;
 
-/// The number of nodes that were made. 2^64 - 1 stands for that number and every greater one.
+/// The number of nodes of a value so far, of those that are made and those that are counted alone. 2^64 - 1 stands for that
+/// number and every greater one.
 #[derive(Drop)]
 pub(crate) struct Tally {
     nodes: u64,
