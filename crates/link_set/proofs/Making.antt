@@ -1,5 +1,5 @@
 -- Definitions with their spaces, with one space more.
-use Rattle.std.proofs.Common.{◌≡◌, ◌<◌, arith, List, [], ◌∷◌, ◌++◌, length, get_or, refl, sym, ap, ◌∙◌}
+use Rattle.std.proofs.Common.{◌≡◌, ◌<◌, ◌≤◌, arith, List, [], ◌∷◌, ◌++◌, length, get_or, refl, sym, ap, ◌∙◌}
 use Rattle.simple_types.specs.Space.{Space}
 use Rattle.link_cycles.specs.SimpleTypes.{SimpleDefinition}
 use Rattle.link_cycles.specs.Seen.{definition_of, definitions_of}
@@ -16,3 +16,10 @@ one_made [] ss s t lt e = absurd (omega arith)
 one_made (u ∷ us) [] s t lt e =
     ap (λ ms. made_type (definition_of u) s ∷ ms) (none_made (definitions_of us)) ∙ ap (λ v. made_type (definition_of v) s ∷ []) (sym e)
 one_made (u ∷ us) (x ∷ xs) s t lt e = ap (λ ms. made_type (definition_of u) x ∷ ms) (one_made us xs s t (omega arith) e)
+
+-- spaces behind the last definition are left out
+pub no_more : (ts : List SimpleType) (ss : List Space) (s : Space) → length ts ≤ length ss
+    → made_types (definitions_of ts) (ss ++ s ∷ []) ≡ made_types (definitions_of ts) ss
+no_more [] ss s le = refl
+no_more (u ∷ us) [] s le = absurd (omega (arith, le))
+no_more (u ∷ us) (x ∷ xs) s le = ap (λ ms. made_type (definition_of u) x ∷ ms) (no_more us xs s (omega (arith, le)))

@@ -1,6 +1,6 @@
 -- The numbers of the components of several documents. Each kind is numbered from 0, in its order: the global elements and
 -- then the local ones, the simple types and then the built-in ones that are used, the complex types.
-use Rattle.std.specs.Prelude.{ℕ, Bool, false, ◌&&◌, nat_eq, List, [], ◌∷◌, length, map, Option, Some, None}
+use Rattle.std.specs.Prelude.{ℕ, Bool, false, ◌&&◌, nat_eq, List, length, map, Option, Some, None}
 use Rattle.std.specs.List.{position_from}
 use Rattle.xa_base.specs.declared.texts.Name.{Name}
 use Rattle.xa_base.specs.Names.{name_eq}

@@ -9,7 +9,6 @@ use Rattle.label_tree.specs.Rose.{Rose, node, Roses}
 use Rattle.label_tree.specs.Rose as rose
 use Rattle.simple_types.specs.declared.simples.Builtin.{Builtin}
 use Rattle.simple_types.specs.Builtins.{builtin_space}
-use Rattle.simple_types.specs.Seen.{space_of}
 use Rattle.simple_types.specs.Space.{Space}
 use Rattle.content_models.specs.declared.particles.ParticleLabel.{ParticleLabel}
 use Rattle.content_models.specs.declared.particles.ParticleKind.{ParticleKind}
@@ -23,12 +22,10 @@ use Rattle.schema_parts.specs.declared.components.ElementDecl.{ElementDecl}
 use Rattle.schema_parts.specs.declared.components.TypeOf.{TypeOf}
 use Rattle.schema_parts.specs.declared.components.TypeOf.TheVariants as kind
 use Rattle.schema_parts.specs.declared.components.AttributeUse.{AttributeUse}
-use Rattle.schema_parts.specs.declared.components.SimpleDef.{SimpleDef}
 use Rattle.schema_parts.specs.declared.components.ComplexDef.{ComplexDef}
 use Rattle.schema_parts.specs.declared.components.Content.{Content}
 use Rattle.schema_parts.specs.declared.components.Content.TheVariants as content
 use Rattle.schema_parts.specs.declared.components.GlobalAttribute.{GlobalAttribute}
-use Rattle.schema_parts.specs.Components.{Set}
 pub use Rattle.schema_parts.specs.SetParts.{NamedSpace, SetParts, named_space, named_spaces, parts_of}
 use Rattle.link_names.specs.Order.{place, is_before}
 use Rattle.link_cycles.specs.SimpleTypes.{SimpleDefinition, simple_types}

@@ -22,7 +22,7 @@ pub(crate) struct MadeType<'a> {
     space: Simple,
 }
 
-// Each definition with the space of its number.
+// Each definition with the space of its number. A space without a definition is left out.
 fn made_types<'a>(
     alloc: Global,
     definitions: &[SimpleType<'a>],
@@ -33,12 +33,11 @@ fn made_types<'a>(
     let mut made = Vec::new(alloc);
     let mut n = 0;
     'spaces: for space in spaces {
-        if n >= definitions.len() {
-            return Err(Memory);
+        if n < definitions.len() {
+            let definition = definitions[n];
+            made.push(MadeType { definition, space })?;
+            n += 1;
         }
-        let definition = definitions[n];
-        made.push(MadeType { definition, space })?;
-        n += 1;
     }
     Ok(made)
 }

@@ -24,8 +24,7 @@ pub enum LinkError {
     /// the number that the document was read with, and `at` is in bytes from 0.
     #[error("file {file}, byte {at}: {why:?}")]
     Shown { file: u32, at: u64, why: LinkWhy },
-    /// Memory is missing, or there are more spaces than definitions of simple types, which `link_set` still tests and which
-    /// doesn't happen.
+    /// Memory is missing.
     #[error("out of memory")]
     Memory,
 }
