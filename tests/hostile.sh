@@ -213,7 +213,7 @@ make_absent_lists() {
     } > "$schema"
     make_elements "$1"
 }
-hostile absent_lists 200000 2000 1 12 'value of * nodes: too many' to-per r "$schema"
+hostile absent_lists 200000 600 1 12 'value of * nodes: too many' to-per r "$schema"
 
 # A number of 16 MB of digits, in bounds and too wide.
 make_number() { { printf '<n>'; bytes "$1" 0; printf '7</n>'; } > "$input"; }
