@@ -1,14 +1,13 @@
 -- Where the leaves of a list of a content model stand: each part of the content model has those whose turns say so, and no
 -- others, so that child elements find their places by their turns alone.
-use Rattle.std.proofs.Common.{◌≡◌, ℕ, zero, suc, ◌+◌, ◌≤◌, ◌<◌, ◌⊎◌, inl, inr, List, [], ◌∷◌, ◌++◌, Option, Some, None, Bool, true, false, length, refl, sym, ◌∙◌, ap, subst, arith, append_assoc, append-nil, length-append}
+use Rattle.std.proofs.Common.{◌≡◌, ℕ, zero, suc, ◌+◌, ◌≤◌, inl, inr, List, [], ◌∷◌, ◌++◌, Option, true, false, length, refl, sym, ◌∙◌, ap, subst, arith, append_assoc, length-append}
 use Rattle.content_models.specs.Particle.{Particle, occurs, Term, element, sequence, choice, Particles, none, more}
-use Rattle.content_models.specs.Language.{Turn, Leaf, leaf_at, names, turn_of, size_of, size_of_term, Times, Within, Lang, Body, InOrder, OneOf}
+use Rattle.content_models.specs.Language.{Turn, Leaf, leaf_at, names, turn_of, size_of, Times, Within, Lang, Body, InOrder, OneOf}
 use Rattle.content_models.specs.Laws.{Opens}
-use Rattle.content_models.specs.Clear.{Clear, ClearBelow, ClearInOrder, ClearOneOf, first, first_of_term, empties, empties_term}
-use Rattle.content_models.proofs.Opening.{lang_opens, body_opens}
+use Rattle.content_models.specs.Clear.{Clear, ClearInOrder, ClearOneOf, first_of_term, empties_term}
+use Rattle.content_models.proofs.Opening.{body_opens}
 use Rattle.xer_read.specs.declared.children.Children.{Children}
-use Rattle.xer_read.specs.Private.Bounds.{is_once, is_optional}
-use Rattle.xer_read.specs.Private.Places.{AreAt, IsBelow, AllIn, NoneIn, HeadIn, Placed, ParticlePlaced, TurnPlaced, TurnsPlaced, TermPlaced, OrderPlaced, OnePlaced, Chosen, ChosenPlaced, KeepsRule1, TermKeepsRule1, AllKeepRule1}
+use Rattle.xer_read.specs.Private.Places.{AreAt, IsBelow, AllIn, NoneIn, HeadIn, ParticlePlaced, TurnPlaced, TurnsPlaced, TermPlaced, OrderPlaced, OnePlaced, Chosen, ChosenPlaced, KeepsRule1, AllKeepRule1}
 
 -- ---- below a path
 

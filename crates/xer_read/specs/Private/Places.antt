@@ -1,5 +1,8 @@
 -- Where the child elements that wait stand in a content model: each at a leaf, by its declaration and its turns.
-use Rattle.std.specs.Prelude.{◌≡◌, ℕ, zero, suc, ◌+◌, ◌≤◌, List, [], ◌∷◌, ◌++◌, length, map, Option, slice_range}
+use Rattle.std.specs.Prelude.{◌≡◌, ℕ, zero, suc, ◌+◌, ◌≤◌, List, [], ◌∷◌, ◌++◌, length, map, slice_range}
+use Rattle.label_tree.specs.Rose.{Rose, node_count}
+use Rattle.content_models.specs.declared.particles.ParticleLabel.{ParticleLabel}
+use Rattle.content_models.specs.Seen.{seen}
 use Rattle.content_models.specs.Particle.{Particle, occurs, Term, element, sequence, choice, Particles, none, more}
 use Rattle.content_models.specs.Language.{Turn, Leaf, turn_of, size_of, Times, Lang, Body, InOrder, OneOf}
 use Rattle.content_models.specs.Clear.{Rule1}
@@ -26,6 +29,10 @@ AllAt turns _ _ = ⊥
 -- those that wait are at these leaves
 abbrev pub AreAt : Children → List Leaf → Type 0
 AreAt children ls = AllAt children.turns.items children.waiting.items ls
+
+-- One more waits: with the leaf of this declaration and these turns behind them, those that wait are at the leaves.
+abbrev pub LeafAdded : ℕ → List matched.Turn → Children → Children → Type 0
+LeafAdded d turns old new = (ls : List Leaf) (l : Leaf) → l.decl ≡ d → l.path ≡ map turn_shown turns → AreAt old ls → AreAt new (ls ++ l ∷ [])
 
 -- ---- below a path
 
@@ -114,3 +121,11 @@ TermIsFillable t = TermMayOccur t × TermKeepsRule1 t
 
 abbrev pub AllAreFillable : Particles → Type 0
 AllAreFillable ps = AllMayOccur ps × AllKeepRule1 ps
+
+-- The child elements that wait are all at the leaves of a list of the content model.
+pub record ModelPlaced (t : Rose ParticleLabel) (children : Children) : Type 0 where
+  pub few : node_count t ≤ 65536
+  pub fillable : IsFillable (seen t)
+  pub us : List Leaf
+  pub at : AreAt children us
+  pub lang : Lang (seen t) 0 [] us
