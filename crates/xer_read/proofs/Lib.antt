@@ -7,6 +7,8 @@ pub mod Reaching
 pub mod Adding
 pub mod Giving
 pub mod Allowing
+pub mod Placing
+pub mod Waiting
 pub mod Whole
 pub mod Valuing
 pub mod Apart

@@ -12,6 +12,8 @@ use Rattle.content_models.specs.Particle.{Particle}
 use Rattle.content_models.specs.Language.{Leaf, names, Lang}
 use Rattle.content_spots.specs.Laws as spots
 use Rattle.content_match.specs.Taking.{Matched, Took, TookMore}
+use Rattle.xer_read.specs.Private.Places.{AreAt, LeafAdded}
+use Rattle.xer_read.proofs.Waiting.{last-turns}
 use Rattle.content_match.specs.declared.places.Leaf as matched
 use Rattle.doc_text.specs.declared.label.ItemLabel.{ItemLabel}
 use Rattle.doc_text.specs.declared.label.ItemLabel.TheVariants.{Element, Text}
@@ -241,14 +243,15 @@ some-text (node (Text others c) ks) words at e h =
     subst (λ w. is_empty w ≡ false) same (not_true (is_empty others) (both (not (is_empty others)) (has_xml_chars others) (both (not (is_empty others) && has_xml_chars others) (are_sound ks) h).0).0)
 
 pub none-reached : (s : Set) (m : Bool) (p : Particle) (kids : List (Rose ItemLabel)) (k : Matched) (read : Kids) (tally : Tally) → k.particle ≡ p → Took k [] → read.texts.items ≡ [] → read.behind ≡ None
-    → read.children.waiting.items ≡ [] → read.children.values.items ≡ [] → Reached s m p kids 0 k read tally tally
-none-reached s m p kids k read tally e h texts behind waiting values = record {
+    → read.children.waiting.items ≡ [] → read.children.values.items ≡ [] → AreAt read.children [] → Reached s m p kids 0 k read tally tally
+none-reached s m p kids k read tally e h texts behind waiting values at = record {
   particle = e;
   us = [];
   took = h;
   few = omega arith;
   vs = rose.none;
   fine = (refl, refl);
+  at = at;
   kept = nothing-kept s (levels_all (roses_of kids)) m read tally texts behind waiting values;
 }
 
@@ -267,6 +270,7 @@ module _ (s : Set) (m : Bool) (p : Particle) (kids : List (Rose ItemLabel)) (pla
     lang = subst (λ q. Lang q 0 [] r.us) r.particle l;
     vs = r.vs;
     valid = subst (λ ts. KidsValid asks m ts r.us r.vs) (front_long kids i past) r.fine;
+    at = r.at;
     kept = r.kept;
   }
 
@@ -289,12 +293,17 @@ module _ (s : Set) (m : Bool) (p : Particle) (kids : List (Rose ItemLabel)) (pla
       few = let f = r.few in omega (arith, f);
       vs = joined r.vs (text_kept m words);
       fine = rw add-one (text-valid asks m (roses_of kids) i t r.us words b (kid_here kids i t below here) l (why m added) r.vs r.fine);
+      at = subst (λ c. AreAt c r.us) (sym (same m added)) r.at;
       kept = text-read s (levels_all (roses_of kids)) m words read new start now r.vs (some-text t words b l sound) added r.kept;
     }
       where
         why : (m : Bool) → TextRead m words read new → (m ≡ true) ⊎ (is_blank words ≡ true)
         why true h = inl refl
         why false h = inr h.0
+
+        same : (m : Bool) → TextRead m words read new → new.children ≡ read.children
+        same true h = h.children
+        same false h = ap (λ (z : Kids). z.children) h.1
 
     pub text-judged : {X : Type 0} (words : List ℕ) (b : ℕ) → label_of t ≡ Text words b → (new : Kids) → (o : Result X CheckError)
         → MatchResult o (λ _. TextRead m words read new) (Tells (At b TextNotAllowed ((m ≡ false) × (is_blank words ≡ false))))
@@ -333,8 +342,8 @@ module _ (s : Set) (m : Bool) (p : Particle) (kids : List (Rose ItemLabel)) (pla
       }
 
       pub kid-reached : (made : Built) (between after : Tally) → Makes (IsRead s leaf.decl t) 0 made now between → (latter : Kids) → ElementAdded m leaf.decl made read latter between after
-          → Reached s m p kids (i + 1) new latter start after
-      kid-reached made between after makes latter added =
+          → LeafAdded leaf.decl new.turns read.children latter.children → Reached s m p kids (i + 1) new latter start after
+      kid-reached made between after makes latter added placed =
           let one = makes.holds in
           record {
             particle = same ∙ r.particle;
@@ -344,6 +353,7 @@ module _ (s : Set) (m : Bool) (p : Particle) (kids : List (Rose ItemLabel)) (pla
             vs = joined r.vs (rose.more one.treated rose.none);
             fine = rw add-one (element-valid asks m (roses_of kids) i t r.us n further.last one.treated (kid_here kids i t below here) (named t n xs declares c is) further.named
                 (subst (λ d. ValidBy asks d t one.treated) (sym further.decl) one.valid) r.vs r.fine);
+            at = placed r.us further.last further.decl (last-turns r.us further.last new.turns further.took.turns) r.at;
             kept = element-kept s (levels_all (roses_of kids)) read latter made (record { decl = leaf.decl; value = makes.value }) one.treated start now between after r.vs makes.nodes makes.counts
                 (let all = makes.all in omega (arith, all)) makes.stands (kept-one makes.value one) m added r.kept;
           }

@@ -17,7 +17,7 @@ use Rattle.doc_text.specs.Sound.{is_sound, are_sound_attributes, are_sound, leve
 use Rattle.plain_items.specs.Plain.{Plain, text}
 use Rattle.plain_items.specs.Mixing.{text_before, interleaved}
 use Rattle.schema_parts.specs.Components.{Set}
-use Rattle.schema_parts.specs.Linked.{leaves, IsNamed, IsLinked}
+use Rattle.schema_parts.specs.Linked.{leaves, IsModel, IsNamed, IsLinked}
 use Rattle.schema_parts.specs.SetParts.{parts_of}
 use Rattle.xer_items.specs.Items.{given, joined}
 use Rattle.validity.specs.Asked.{Asked, Inside, nothing, simple, children, asked_at}
@@ -43,7 +43,9 @@ use Rattle.xer_read.specs.Private.Held as held
 use Rattle.xer_read.specs.Private.Reading.{IsReadAs}
 use Rattle.xer_read.specs.Private.Given.{IsElementOf, Gives, IsRead}
 use Rattle.xer_read.specs.Private.Keeping.{text_value, words_of, in_turns, KidsRead}
-use Rattle.xer_read.specs.Private.Contents.{IsContentBy, IsRightContent, IsRestWith, IsContentWith, is_plain_at, IsMade, IsFilled, IsNilFilled}
+use Rattle.xer_read.specs.Private.Places.{ModelPlaced}
+use Rattle.xer_read.proofs.Placing.{clear-rule1}
+use Rattle.xer_read.specs.Private.Contents.{IsRestPlaced, IsContentBy, IsRightContent, IsRestWith, IsContentWith, is_plain_at, IsMade, IsFilled, IsNilFilled}
 use Rattle.xer_read.proofs.Counting.{counts-none, counts-both, counts-as, within-before, wait-later}
 use Rattle.xer_read.proofs.Adding.{nothing-counted}
 use Rattle.xer_read.proofs.Giving.{ReadBy, made-gives}
@@ -165,6 +167,17 @@ module _ (s : Set) (p : Particle) (ts : Roses ItemLabel) (kids : Kids) (content 
       → IsRightContent s (children mixed p) ts content start after
   children-right true h made e named = mixed-right h made e named
   children-right false h made e named = plain-right h made e named
+
+-- child elements that are read are at the leaves of a list of the content model
+pub rest-placed : (s : Set) (mixed : Bool) (ts : Roses ItemLabel) (kids : Kids) (model : Rose ParticleLabel) (r : Rest) (start before : Tally) → IsRestWith kids model r → KidsRead s mixed (seen model) ts kids start before
+    → IsModel s model → IsRestPlaced r
+rest-placed s mixed ts kids model read.Nil start before q h m = absurd q
+rest-placed s mixed ts kids model read.Nothing start before q h m = absurd q
+rest-placed s mixed ts kids model (read.Text made) start before q h m = absurd q
+rest-placed s mixed ts kids model (read.Children own found) start before q h m =
+    subst (λ t. ModelPlaced t found) (sym q.0)
+    (subst (λ c. ModelPlaced model c) (sym q.1)
+    (record { few = m.few; fillable = (m.occurring, clear-rule1 (seen model) [] m.clear); us = h.leaves; at = h.at; lang = h.lang }))
 
 -- such a content is valid
 content-valid : (s : Set) (inside : Inside) (ts : Roses ItemLabel) (texts : Rose ValueLabel) (r : Beside) (vs : Roses Plain) → IsContentBy s inside ts texts r vs → ContentValid (asked_at (parts_of s)) inside ts vs

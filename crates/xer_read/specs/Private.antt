@@ -7,3 +7,4 @@ pub mod Reading
 pub mod Given
 pub mod Keeping
 pub mod Contents
+pub mod Places

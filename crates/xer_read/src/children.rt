@@ -1,5 +1,6 @@
 //! The values of child elements, in their order, with the places at which they stand in the content model.
 ghost use Rattle.std.specs.Prelude.{◌≡◌, [], ◌∷◌, OnOk, IfOk, IsTrue};
+ghost use Rattle.xer_read.specs.Private.Places.{AreAt, LeafAdded};
 ghost use Rattle.xer_read.specs.Private.Tallied.{ChildAdded, ValueTaken, ChildTaken};
 
 use crate::built::Built;
@@ -31,6 +32,7 @@ impl Children {
     pub(crate) fn new(alloc: Global) -> Children
         ensures waiting { result.waiting.items ≡ [] }
         ensures values { result.values.items ≡ [] }
+        ensures placed { AreAt result [] }
     {
         Children {
             waiting: VecDeque::new(alloc),
@@ -42,11 +44,12 @@ impl Children {
     /// The next child element, with the turns of the particles from the top to its leaf. Where its value is too large, no
     /// value is kept.
     pub(crate) fn add(&mut self, decl: u32, turns: &[Turn], value: Built) -> Result<(), Memory>
-        ensures { OnOk result (ChildAdded decl value self.old self.new) }
+        ensures added { OnOk result (ChildAdded decl value self.old self.new) }
+        ensures placed { OnOk result (LeafAdded decl turns.now self.old self.new) }
     {
-        let from = self.turns.len();
+        let from = self.turns.as_slice().len();
         self.turns.extend_from_slice(turns)?;
-        let to = self.turns.len();
+        let to = self.turns.as_slice().len();
         self.waiting.push_back(Child { decl, from, to })?;
         match value {
             Built::Value(tree) => {

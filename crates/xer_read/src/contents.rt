@@ -2,6 +2,7 @@
 ghost use Rattle.std.specs.Prelude.{◌≡◌, [], None, OnOk, IfOk};
 ghost use Rattle.xer_read.specs.Private.Keeping.{TextAdded, TextClosed, ElementAdded};
 ghost use Rattle.xer_read.specs.Private.Contents.{IsContentWith};
+ghost use Rattle.xer_read.specs.Private.Places.{AreAt, LeafAdded};
 
 use crate::built::Built;
 use crate::children::Children;
@@ -64,6 +65,7 @@ impl Kids {
         ensures behind { result.behind ≡ None }
         ensures waiting { result.children.waiting.items ≡ [] }
         ensures values { result.children.values.items ≡ [] }
+        ensures placed { AreAt result.children [] }
     {
         Kids {
             texts: Vec::new(alloc),
@@ -102,7 +104,8 @@ impl Kids {
         value: Built,
         tally: &mut Tally,
     ) -> Result<(), Memory>
-        ensures { OnOk result (ElementAdded mixed decl value self.old self.new tally.old tally.new) }
+        ensures added { OnOk result (ElementAdded mixed decl value self.old self.new tally.old tally.new) }
+        ensures placed { OnOk result (LeafAdded decl turns.now self.old.children self.new.children) }
     {
         if mixed {
             self.close_text(alloc, tally)?;

@@ -1,5 +1,5 @@
 //! Elements and their kids, one by one.
-ghost use Rattle.std.specs.Prelude.{◌≡◌, ◌⊎◌, Option, None, ℕ, ◌+◌, ◌-◌, ◌*◌, ◌^◌, ◌<◌, ◌≤◌, true, false, List, [], length, slice_index_or, All, MatchResult, OnOk};
+ghost use Rattle.std.specs.Prelude.{◌≡◌, ◌⊎◌, Option, None, ℕ, ◌+◌, ◌-◌, ◌*◌, ◌^◌, ◌<◌, ◌≤◌, true, false, List, [], length, slice_index_or, All, MatchResult, IfOk, OnOk};
 ghost use Rattle.label_tree.specs.Rose.{Rose, label_of, roses_of, none, node_count, count_all};
 ghost use Rattle.xa_base.specs.WhiteSpace.{is_blank};
 ghost use Rattle.doc_text.specs.declared.label.ItemLabel.{ItemLabel};
@@ -18,7 +18,7 @@ ghost use Rattle.validity_check.specs.Told.{inside_told, told, IsFittingInside};
 ghost use Rattle.xer_read.specs.declared.tally.Tally as tally_of;
 ghost use Rattle.xer_read.specs.Private.Given.{IsRead};
 ghost use Rattle.xer_read.specs.Private.Keeping.{TextRead, Reached, KidsRead};
-ghost use Rattle.xer_read.specs.Private.Contents.{AreTaken, IsRightContent, IsFilled, IsNilFilled};
+ghost use Rattle.xer_read.specs.Private.Contents.{AreTaken, IsRestPlaced, IsRightContent, IsFilled, IsNilFilled};
 ghost use Rattle.xer_read.specs.Private.Tallied.{Makes};
 
 use crate::built::Built;
@@ -200,6 +200,7 @@ fn read_inside<'a, L: Ledger>(
     ensures judged { MatchResult result
         (λ content. IsRightContent set.now (inside_told inside.entry) (roses_of kids.now) content tally.old tally.new)
         (Tells (InsideFault (asked_at (parts_of set.now)) (inside_told inside.entry) (roses_of kids.now) at)) }
+    ensures placed { IfOk result (λ content. IsRestPlaced content.rest) }
     ensures most { steps.new ≤ steps.old + (144 * elements_in (roses_of kids.now) + 72) }
     ensures least { OnOk result (steps.old + elements_in (roses_of kids.now) ≤ steps.new) }
 {

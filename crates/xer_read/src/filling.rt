@@ -8,6 +8,7 @@ ghost use Rattle.content_models.specs.Particle.{Particles, more, none};
 ghost use Rattle.xer_read.specs.Private.Bounds as bounds;
 ghost use Rattle.xer_read.specs.Private.Made.{Several, TermMade, PartsMade, ChosenMade, TopMade};
 ghost use Rattle.xer_read.specs.Private.Growing.{term_of, Takes, Fills, FillsAll};
+ghost use Rattle.xer_read.specs.Private.Places.{ModelPlaced};
 
 use crate::built::Built;
 use crate::children::Children;
@@ -297,6 +298,7 @@ pub(crate) fn fill_top(
     parts: &mut Parts,
     tally: &mut Tally,
 ) -> Result<(), Memory>
+    requires { ModelPlaced model.now children }
     ensures { OnOk result (FillsAll (TopMade (seen model.now)) children parts.old parts.new tally.old tally.new) }
 {
     let mut waiting = children;

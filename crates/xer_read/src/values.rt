@@ -7,9 +7,10 @@ ghost use Rattle.content_models.specs.Seen.{seen};
 ghost use Rattle.schema_parts.specs.Linked.{IsUse, IsLinked};
 ghost use Rattle.schema_parts.specs.SetParts.{parts_of};
 ghost use Rattle.validity_check.specs.Told.{inside_told, told};
-ghost use Rattle.xer_read.specs.Private.Contents.{AreTaken, TextsMade, ChildrenMade, RestMade, ComplexMade, is_plain_at, IsMade};
+ghost use Rattle.xer_read.specs.Private.Contents.{AreTaken, IsRestPlaced, TextsMade, ChildrenMade, RestMade, ComplexMade, is_plain_at, IsMade};
 ghost use Rattle.xer_read.specs.Private.Growing.{Adds};
 ghost use Rattle.xer_read.specs.Private.Held.{Beside, Held, RestStands, Holds, texts_nodes, rest_nodes, held_nodes};
+ghost use Rattle.xer_read.specs.Private.Places.{ModelPlaced};
 ghost use Rattle.xer_read.specs.Private.Tallied.{IsWithin, Child, child_nodes, Wait, Makes};
 
 use crate::attributes::add_attributes;
@@ -71,6 +72,7 @@ fn add_children(
     parts: &mut Parts,
     tally: &mut Tally,
 ) -> Result<(), Memory>
+    requires { ModelPlaced model.now children }
     ensures { OnOk result ((gs : List Child) → Wait tally.old children gs
         → Adds (ChildrenMade nillable (seen model.now) gs) (child_nodes gs) parts.old parts.new tally.old tally.new) }
 {
@@ -91,6 +93,7 @@ fn add_rest(
     parts: &mut Parts,
     tally: &mut Tally,
 ) -> Result<(), Memory>
+    requires { IsRestPlaced rest }
     ensures { OnOk result ((beside : Beside) → RestStands tally.old rest.entry beside
         → Adds (RestMade nillable beside) (rest_nodes beside) parts.old parts.new tally.old tally.new) }
 {
@@ -122,6 +125,7 @@ fn make_complex(
     requires linked { IsLinked set.now }
     requires uses { All (IsUse set.now) declared.uses.now }
     requires taken { AreTaken set.now attributes.now declared.uses.now }
+    requires placed { IsRestPlaced content.rest }
     ensures { IfOk result (λ made. (held : Held) → Holds tally.old content.entry held
         → Makes (ComplexMade (told (parts_of set.now) declared.entry) attributes.now held) (held_nodes (inside_told declared.entry.inside) held) made tally.old tally.new) }
 {
@@ -147,6 +151,7 @@ pub(crate) fn make_value(
     requires uses { All (IsUse set.now) declared.uses.now }
     requires taken { AreTaken set.now attributes.now declared.uses.now }
     requires decl { decl < length set.now.elements }
+    requires placed { IsRestPlaced content.rest }
     ensures { IfOk result (λ made. (held : Held) → Holds tally.old content.entry held
         → Makes (IsMade (is_plain_at set.now decl) (told (parts_of set.now) declared.entry) attributes.now held) (held_nodes (inside_told declared.entry.inside) held) made tally.old tally.new) }
 {

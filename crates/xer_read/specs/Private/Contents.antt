@@ -32,6 +32,7 @@ use Rattle.xer_read.specs.Private.Held.{Beside, Held, texts_of, Holds, held_node
 use Rattle.xer_read.specs.Private.Held as held
 use Rattle.xer_read.specs.Private.Keeping.{text_value, words_of, AllKept}
 use Rattle.xer_read.specs.Private.Made.{TopMade}
+use Rattle.xer_read.specs.Private.Places.{ModelPlaced}
 use Rattle.xer_read.specs.Private.Tallied.{IsWithin, Counts, Child}
 
 -- ---- what is read
@@ -76,6 +77,11 @@ IsContentBy s inside ts texts (held.children model gs) vs = AreChildren s inside
 -- the content of an element that isn't nil
 abbrev pub IsContentOf : Set → Inside → Roses ItemLabel → Held → Roses Plain → Type 0
 IsContentOf s inside ts content vs = IsContentBy s inside ts (texts_of content) content.rest vs
+
+-- child elements are at the leaves of a list of their content model
+abbrev pub IsRestPlaced : Rest → Type 0
+IsRestPlaced (rest.Children model found) = ModelPlaced model.now found
+IsRestPlaced _ = Unit {0}
 
 -- what is read is one, with some treated kids
 pub record IsRightContent (s : Set) (inside : Inside) (ts : Roses ItemLabel) (content : Content) (before after : Tally) : Type 0 where

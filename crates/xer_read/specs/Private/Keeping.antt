@@ -24,6 +24,7 @@ use Rattle.xer_read.specs.declared.built.Built.{Built}
 use Rattle.xer_read.specs.declared.contents.Kids.{Kids}
 use Rattle.xer_read.specs.declared.tally.Tally.{Tally}
 use Rattle.xer_read.specs.Private.Given.{Gives}
+use Rattle.xer_read.specs.Private.Places.{AreAt}
 use Rattle.xer_read.specs.Private.Tallied.{IsWithin, Counts, Child, child_nodes, Wait, ChildAdded}
 
 -- ---- one more kid
@@ -106,6 +107,7 @@ module _ (s : Set) where
     pub few : length us ≤ i
     pub vs : Roses Plain
     pub fine : KidsValid (asked_at (parts_of s)) mixed (front i (roses_of kids)) us vs
+    pub at : AreAt read.children us
     pub kept : AreKept mixed (levels_all (roses_of kids)) read before after vs
 
   -- all kids are well and kept
@@ -114,4 +116,5 @@ module _ (s : Set) where
     pub lang : Lang p 0 [] leaves
     pub vs : Roses Plain
     pub valid : KidsValid (asked_at (parts_of s)) mixed ts leaves vs
+    pub at : AreAt read.children leaves
     pub kept : AreKept mixed (levels_all ts) read before after vs

@@ -17,17 +17,18 @@ use Rattle.validity_check.proofs.Shape.{kid_sound, kids_sound}
 use Rattle.validity_check.proofs.Levels.{model_levels}
 use Rattle.validity_check.proofs.Tagging.{tag_refused}
 use Rattle.validity_check.proofs.Walking.{leaf_declared, name_refused, kid_judged}
+use Rattle.xer_read.specs.Private.Places.{LeafAdded}
 use Rattle.xer_read.proofs.Reaching.{none-reached, walked, end-read, text-judged, kid-reached}
 use Rattle.simple_types.specs.Seen.{space_of}
 use Rattle.xer_read.specs.Private.Tallied.{Makes}
 use Rattle.xer_read.specs.Private.Keeping.{KidsRead}
-use Rattle.xer_read.specs.Private.Contents.{IsRightContent, IsNilFilled}
+use Rattle.xer_read.specs.Private.Contents.{IsRestPlaced, IsRightContent, IsNilFilled}
 use Rattle.validity.specs.Faults.{FirstKid}
 use Rattle.validity.specs.declared.why.InvalidWhy.TheVariants.{NilWithContent}
 use Rattle.validity_check.specs.Answers.{Tells}
 use Rattle.xer_read.proofs.Apart.{none-behind, apart-next, all-taken}
 use Rattle.xer_read.proofs.Growing.{on-ok}
-use Rattle.xer_read.proofs.Whole.{nothing-right, text-right, children-right, nil-read, filled-read, right-filled}
+use Rattle.xer_read.proofs.Whole.{rest-placed, nothing-right, text-right, children-right, nil-read, filled-read, right-filled}
 use Rattle.xer_read.proofs.elements.+reading.Goals as goal
 
 -- ---- one kid
@@ -84,7 +85,8 @@ pub read_kid-returns-in_ok-add_element-in-Ok-read_element-clause-judged : goal.r
 read_kid-returns-in_ok-add_element-in-Ok-read_element-clause-judged g t c = λ p kids place i start below here r.
     kid-reached c.args.set.now c.args.mixed p kids place i c.args.matcher.now c.args.read.now start c.args.tally.now r c.args.kid.now below here c.requires.sound
     c.in-Element.name c.in-Element.attributes c.in-Element.declares c.in-Element.at (sym c.label.ensures ∙ c.in-Element.is) c.step.new.self c.in-Ok.leaf c.in-Ok.ensures.particle (c.in-Ok.ensures.took r.us r.took)
-    c.requires.named c.in-Ok-read_element.value c.read_element.new.tally c.add_element.new.tally c.in-Ok-read_element.ensures.judged c.add_element.new.self c.in_ok-add_element-in-Ok-read_element.ensures
+    c.requires.named c.in-Ok-read_element.value c.read_element.new.tally c.add_element.new.tally c.in-Ok-read_element.ensures.judged c.add_element.new.self c.in_ok-add_element-in-Ok-read_element.ensures.added
+    (subst (λ us. LeafAdded c.in-Ok.leaf.decl us c.args.read.now.children c.add_element.new.self.children) c.turns.ensures c.in_ok-add_element-in-Ok-read_element.ensures.placed)
 
 -- ---- all kids
 
@@ -92,7 +94,7 @@ pub read_kids-loop-kid-init : goal.read_kids-loop-kid-init
 read_kids-loop-kid-init g t c = record {
   plans = c.requires.plans;
   reached = none-reached c.args.set.now c.args.mixed c.args.plan.now c.args.kids.now c.in_ok-matcher.matcher c.new-read.result c.args.tally.now c.in_ok-matcher.ensures.plan c.in_ok-matcher.ensures.took
-      c.new-read.ensures.texts c.new-read.ensures.behind c.new-read.ensures.waiting c.new-read.ensures.values;
+      c.new-read.ensures.texts c.new-read.ensures.behind c.new-read.ensures.waiting c.new-read.ensures.values c.new-read.ensures.placed;
   apart = λ is. inl c.new-read.ensures.behind;
   most = omega arith;
   least = omega arith;
@@ -219,6 +221,21 @@ read_inside-returns-in-Ok-read_kids-clause-judged g t c =
     subst (λ x. IsRightContent c.args.set.now (inside_told x) (roses_of c.args.kids.now) content before after) (sym c.in-Children.is)
     (children-right c.args.set.now (seen c.in-Children.model.now) (roses_of c.args.kids.now) c.in-Ok-read_kids.read content c.in-Children.model.now before between after c.in-Children.mixed all
     c.in_ok-content-in-Ok-read_kids.ensures refl fits.1.named)
+
+pub read_inside-returns-in-Ok-clause-placed : goal.read_inside-returns-in-Ok-clause-placed
+read_inside-returns-in-Ok-clause-placed g t c = subst IsRestPlaced (sym c.without_texts.ensures.rest) tt
+
+pub read_inside-returns-in-Ok-read_text-clause-placed : goal.read_inside-returns-in-Ok-read_text-clause-placed
+read_inside-returns-in-Ok-read_text-clause-placed g t c = subst IsRestPlaced (sym c.without_texts-in-Ok-read_text.ensures.rest) tt
+
+pub read_inside-returns-in-Ok-read_kids-clause-placed : goal.read_inside-returns-in-Ok-read_kids-clause-placed
+read_inside-returns-in-Ok-read_kids-clause-placed g t c =
+    let fits = subst (λ x. IsFittingInside c.args.set.now x) c.in-Children.is c.requires.inside in
+    let is : c.as_ref.result.now ≡ seen c.in-Children.model.now = c.as_ref.ensures ∙ c.in_ok-plan-in-Children.ensures.plan in
+    let content = c.in_ok-content-in-Ok-read_kids.content in
+    let all = subst (λ p. KidsRead c.args.set.now c.in-Children.mixed p (roses_of c.args.kids.now) c.in-Ok-read_kids.read c.args.tally.now c.read_kids.new.tally) is c.in-Ok-read_kids.ensures.judged in
+    rest-placed c.args.set.now c.in-Children.mixed (roses_of c.args.kids.now) c.in-Ok-read_kids.read c.in-Children.model.now content.rest c.args.tally.now c.read_kids.new.tally
+    c.in_ok-content-in-Ok-read_kids.ensures.rest_is all fits.1
 
 -- ---- an element that isn't nil, and one that is
 

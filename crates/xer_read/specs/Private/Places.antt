@@ -1,0 +1,131 @@
+-- Where the child elements that wait stand in a content model: each at a leaf, by its declaration and its turns.
+use Rattle.std.specs.Prelude.{◌≡◌, ℕ, zero, suc, ◌+◌, ◌≤◌, List, [], ◌∷◌, ◌++◌, length, map, slice_range}
+use Rattle.label_tree.specs.Rose.{Rose, node_count}
+use Rattle.content_models.specs.declared.particles.ParticleLabel.{ParticleLabel}
+use Rattle.content_models.specs.Seen.{seen}
+use Rattle.content_models.specs.Particle.{Particle, occurs, Term, element, sequence, choice, Particles, none, more}
+use Rattle.content_models.specs.Language.{Turn, Leaf, turn_of, size_of, Times, Lang, Body, InOrder, OneOf}
+use Rattle.content_models.specs.Clear.{Rule1}
+use Rattle.content_models.specs.Occurring.{MayOccur, TermMayOccur, AllMayOccur}
+use Rattle.content_match.specs.declared.places.Turn as matched
+use Rattle.content_match.specs.Private.Standing.{turn_shown}
+use Rattle.xer_read.specs.declared.children.Child as kept
+use Rattle.xer_read.specs.declared.children.Children.{Children}
+
+-- ---- at leaves
+
+-- the child element is at the leaf, where these are the turns of all
+pub record IsAt (turns : List matched.Turn) (k : kept.Child) (l : Leaf) : Type 0 where
+  pub decl : k.decl ≡ l.decl
+  pub ordered : k.from ≤ k.to
+  pub within : k.to ≤ length turns
+  pub path : map turn_shown (slice_range turns k.from k.to) ≡ l.path
+
+abbrev pub AllAt : List matched.Turn → List kept.Child → List Leaf → Type 0
+AllAt turns [] [] = Unit {0}
+AllAt turns (k ∷ ks) (l ∷ ls) = IsAt turns k l × AllAt turns ks ls
+AllAt turns _ _ = ⊥
+
+-- those that wait are at these leaves
+abbrev pub AreAt : Children → List Leaf → Type 0
+AreAt children ls = AllAt children.turns.items children.waiting.items ls
+
+-- One more waits: with the leaf of this declaration and these turns behind them, those that wait are at the leaves.
+abbrev pub LeafAdded : ℕ → List matched.Turn → Children → Children → Type 0
+LeafAdded d turns old new = (ls : List Leaf) (l : Leaf) → l.decl ≡ d → l.path ≡ map turn_shown turns → AreAt old ls → AreAt new (ls ++ l ∷ [])
+
+-- ---- below a path
+
+-- The leaf stands below the path, at this turn.
+abbrev pub IsBelow : List Turn → Turn → Leaf → Type 0
+IsBelow path u l = (rest : List Turn) × (l.path ≡ path ++ u ∷ rest)
+
+-- each stands below the path, at a turn of which T holds
+abbrev pub AllIn : List Turn → (Turn → Type 0) → List Leaf → Type 0
+AllIn path T [] = Unit {0}
+AllIn path T (l ∷ ls) = ((u : Turn) × IsBelow path u l × T u) × AllIn path T ls
+
+-- and none does
+abbrev pub NoneIn : List Turn → (Turn → Type 0) → List Leaf → Type 0
+NoneIn path T [] = Unit {0}
+NoneIn path T (l ∷ ls) = ((u : Turn) → IsBelow path u l → T u → ⊥) × NoneIn path T ls
+
+-- the first stands below the path, at this turn
+abbrev pub HeadIn : List Turn → Turn → List Leaf → Type 0
+HeadIn path u [] = ⊥
+HeadIn path u (l ∷ ls) = IsBelow path u l
+
+-- ---- the leaves of a part of a content model, before others
+
+-- The leaves us, which are a list of L, wait before the leaves ws. Of these none stands below the path at a turn of which T
+-- holds.
+pub record Placed (L : List Leaf → Type 0) (path : List Turn) (T : Turn → Type 0) (children : Children) (us ws : List Leaf) : Type 0 where
+  pub at : AreAt children (us ++ ws)
+  pub lang : L us
+  pub apart : NoneIn path T ws
+
+-- those of the particle with this number
+abbrev pub ParticlePlaced : Particle → ℕ → List Turn → Children → List Leaf → List Leaf → Type 0
+ParticlePlaced p n path = Placed (Lang p n path) path (λ u. u.particle ≡ n)
+
+-- of its occurrence i
+abbrev pub TurnPlaced : Term → ℕ → ℕ → List Turn → Children → List Leaf → List Leaf → Type 0
+TurnPlaced t n i path = Placed (Body t n (path ++ turn_of n i ∷ [])) path (λ u. u ≡ turn_of n i)
+
+-- of so many of its occurrences from i on
+abbrev pub TurnsPlaced : Term → ℕ → ℕ → ℕ → List Turn → Children → List Leaf → List Leaf → Type 0
+TurnsPlaced t n k i path = Placed (Times (λ j. Body t n (path ++ turn_of n j ∷ [])) k i) path (λ u. u.particle ≡ n)
+
+-- of one occurrence, whose path is this one
+abbrev pub TermPlaced : Term → ℕ → List Turn → Children → List Leaf → List Leaf → Type 0
+TermPlaced t n path = Placed (Body t n path) path (λ u. Unit {0})
+
+-- of particles in a sequence
+abbrev pub OrderPlaced : Particles → ℕ → List Turn → Children → List Leaf → List Leaf → Type 0
+OrderPlaced ps n path = Placed (InOrder ps n path) path (λ u. n ≤ u.particle)
+
+-- of one of the particles in a choice
+abbrev pub OnePlaced : Particles → ℕ → List Turn → Children → List Leaf → List Leaf → Type 0
+OnePlaced ps n path = Placed (OneOf ps n path) path (λ u. n ≤ u.particle)
+
+-- a list of the alternative with this place
+abbrev pub Chosen : Particles → ℕ → ℕ → List Turn → List Leaf → Type 0
+Chosen none i n path w = ⊥
+Chosen (more p ps) zero n path w = Lang p n path w
+Chosen (more p ps) (suc i) n path w = Chosen ps i (n + size_of p) path w
+
+abbrev pub ChosenPlaced : Particles → ℕ → ℕ → List Turn → Children → List Leaf → List Leaf → Type 0
+ChosenPlaced ps i n path = Placed (Chosen ps i n path) path (λ u. n ≤ u.particle)
+
+-- ---- what is asked of a content model
+
+abbrev mutual
+  -- the bounds of each particle are 1 and 1, or no occurrence of it is empty
+  pub KeepsRule1 : Particle → Type 0
+  KeepsRule1 (occurs t least most) = Rule1 t least most × TermKeepsRule1 t
+
+  pub TermKeepsRule1 : Term → Type 0
+  TermKeepsRule1 (element d a) = Unit {0}
+  TermKeepsRule1 (sequence ps) = AllKeepRule1 ps
+  TermKeepsRule1 (choice ps) = AllKeepRule1 ps
+
+  pub AllKeepRule1 : Particles → Type 0
+  AllKeepRule1 none = Unit {0}
+  AllKeepRule1 (more p ps) = KeepsRule1 p × AllKeepRule1 ps
+
+abbrev pub IsFillable : Particle → Type 0
+IsFillable p = MayOccur p × KeepsRule1 p
+
+abbrev pub TermIsFillable : Term → Type 0
+TermIsFillable t = TermMayOccur t × TermKeepsRule1 t
+
+abbrev pub AllAreFillable : Particles → Type 0
+AllAreFillable ps = AllMayOccur ps × AllKeepRule1 ps
+
+-- The child elements that wait are all at the leaves of a list of the content model.
+pub record ModelPlaced (t : Rose ParticleLabel) (children : Children) : Type 0 where
+  pub few : node_count t ≤ 65536
+  pub fillable : IsFillable (seen t)
+  pub us : List Leaf
+  pub at : AreAt children us
+  pub lang : Lang (seen t) 0 [] us
