@@ -1,6 +1,7 @@
 #!/usr/bin/env bash
 # Measures the matcher of content models beside a look-up by name in a map, in the same run of `check`: the instructions of
-# a step of the matcher, and those of one look-up in the tables that it asks, which are each a plain IndexMap. The document
+# a step of the matcher, and those of one look-up in the tables that it asks: an IndexMap's, with its hash and the two indexes
+# into lists that lead to it. A map beside the matcher, with a hash of its own, isn't measured. The document
 # has 1,500,000 times the last of 9,800 names, which stand in 20 choices in a repeated choice, so that two in three look-ups
 # are among all 9,800 names and the third is among 490. Valgrind counts, so that a run tells the same numbers again; it
 # takes a minute or two. STEPS=20000 does with fewer.
