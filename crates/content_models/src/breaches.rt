@@ -1,5 +1,5 @@
 //! Deciding whether a content model is clear.
-ghost use Rattle.std.specs.Prelude.{◌≡◌, ◌||◌, ◌&&◌, ◌↔◌, [], IfOk, IsTrue, MatchOption};
+ghost use Rattle.std.specs.Prelude.{◌≡◌, ◌||◌, ◌&&◌, [], IfOk, MatchOption};
 ghost use Rattle.label_tree.specs.Rose.{roses_of};
 ghost use Rattle.content_models.specs.Clear.{Clear, repeats};
 ghost use Rattle.content_models.specs.Seen.{seen, all_seen};
@@ -240,12 +240,4 @@ pub fn first_breach(alloc: Global, particle: &Particle) -> Result<Option<Breach>
         (λ breach. (Clear (seen particle.now) [] → ⊥) × IsFirstBreach (all_placed particle.now []) breach)) }
 {
     breach_in(alloc, particle.root(), &[])
-}
-
-/// Whether a content model is clear before an empty follow.
-pub fn is_clear(alloc: Global, particle: &Particle) -> Result<bool, Memory>
-    ensures { IfOk result (λ clear. IsTrue clear ↔ Clear (seen particle.now) []) }
-{
-    let found = first_breach(alloc, particle)?;
-    Ok(found.is_none())
 }

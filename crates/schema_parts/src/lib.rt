@@ -4,14 +4,11 @@
 mod attribute_uses;
 mod components;
 mod declarations;
-mod declared_names;
 mod documents;
-mod fitting;
 mod laws;
 mod roots;
 mod schema_sets;
 mod simple_definitions;
-mod varieties;
 
 pub use attribute_uses::RawUse;
 pub use components::{
@@ -20,11 +17,8 @@ pub use components::{
 pub use declarations::{
     RawAttribute, RawComplex, RawContent, RawElement, RawKind, RawLocal, RawType, RawUses,
 };
-pub use declared_names::{all_named, declarable, declarable_attribute};
 pub use documents::RawDoc;
-pub use fitting::{all_fit, ascend};
 pub use laws::uses_are_typed;
 pub use roots::find_root;
 pub use schema_sets::SchemaSet;
 pub use simple_definitions::{RawBase, RawBases, RawHow, RawRef, RawSimple};
-pub use varieties::all_varied;

@@ -387,51 +387,6 @@ fn push_document<'a>(doc: &'a RawDoc, out: &mut Vec<Part<'a>>) -> Result<(), Mem
     Ok(())
 }
 
-fn push_local_list<'a>(
-    file: u32,
-    locals: &'a [RawLocal],
-    out: &mut Vec<Part<'a>>,
-) -> Result<(), Memory>
-    ensures { OnOk result (parts_of out.new.items ≡ parts_of out.old.items ++ flat_map (told.in_local file) (map local_of locals.now)) }
-{
-    'locals: for local in locals {
-        push_local(file, local, out)?;
-    }
-    Ok(())
-}
-
-/// The parts of the content of a complex type at this place, each behind the part that it stands in.
-pub fn content_parts<'a>(
-    alloc: Global,
-    file: u32,
-    within: u64,
-    content: &'a RawContent,
-) -> Result<Vec<Part<'a>>, Memory>
-    ensures { IfOk result (λ found. parts_of found.items ≡ told.in_content file within content.now) }
-{
-    let mut found = Vec::new(alloc);
-    push_content(file, within, content, &mut found)?;
-    Ok(found)
-}
-
-/// The parts of these components of a document, before they are one.
-pub fn component_parts<'a>(
-    alloc: Global,
-    file: u32,
-    elements: &'a [RawElement],
-    attributes: &'a [RawAttribute],
-    types: &'a [RawType],
-    locals: &'a [RawLocal],
-) -> Result<Vec<Part<'a>>, Memory>
-    ensures { IfOk result (λ found. parts_of found.items
-        ≡ told.in_components file (map element_of elements.now) (map attribute_of attributes.now) (map type_of types.now) (map local_of locals.now)) }
-{
-    let mut found = Vec::new(alloc);
-    push_globals(file, elements, attributes, types, &mut found)?;
-    push_local_list(file, locals, &mut found)?;
-    Ok(found)
-}
-
 /// The parts of a document, each behind the part that it stands in: those of its global elements, its global attributes,
 /// its types with a name and its local elements. Time and memory grow with their number.
 pub fn document_parts<'a>(alloc: Global, doc: &'a RawDoc) -> Result<Vec<Part<'a>>, Memory>

@@ -19,7 +19,7 @@ pub use characters::{
 };
 pub use digits::{are_digits, is_digit, is_numeral};
 pub use libraries::{Entry, Library, LoadError, MemoryLibrary, SureLibrary};
-pub use limits::{is_name_part, is_namespace, is_short_part, is_short_space, is_xmlns};
+pub use limits::{is_short_part, is_short_space};
 pub use moves::{ReadError, read_all, write_all};
 pub use namespaces::{SCHEMA_SPACE, XML_SPACE, XMLNS_SPACE, XSI_SPACE};
 pub use sinks::{MemorySink, Sink, SureSink};
