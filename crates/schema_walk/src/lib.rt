@@ -5,4 +5,4 @@ mod parts;
 mod walk;
 
 pub use parts::{Part, TypeRole, What};
-pub use walk::{all_parts, document_parts};
+pub use walk::{all_parts, content_parts, document_parts};

@@ -387,6 +387,20 @@ fn push_document<'a>(doc: &'a RawDoc, out: &mut Vec<Part<'a>>) -> Result<(), Mem
     Ok(())
 }
 
+/// The parts of the content of a complex type at this place, each behind the part that it stands in.
+pub fn content_parts<'a>(
+    alloc: Global,
+    file: u32,
+    within: u64,
+    content: &'a RawContent,
+) -> Result<Vec<Part<'a>>, Memory>
+    ensures { IfOk result (λ found. parts_of found.items ≡ told.in_content file within content.now) }
+{
+    let mut found = Vec::new(alloc);
+    push_content(file, within, content, &mut found)?;
+    Ok(found)
+}
+
 /// The parts of a document, each behind the part that it stands in: those of its global elements, its global attributes,
 /// its types with a name and its local elements. Time and memory grow with their number.
 pub fn document_parts<'a>(alloc: Global, doc: &'a RawDoc) -> Result<Vec<Part<'a>>, Memory>
