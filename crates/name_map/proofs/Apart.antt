@@ -111,14 +111,6 @@ least_of kind before name n some small free below = record {
 pub taken_further : (before after : List (List ℕ)) (name : List ℕ) (n : ℕ) → AreTakenBelow before name n → AreTakenBelow (before ++ after) name n
 taken_further before after name n below k some less = Contains-append_left before after (suffixed name k) (below k some less)
 
--- the first of the names from a number on
-pub first_from : (names : List (List ℕ)) (name : List ℕ) (from n : ℕ) → AreTakenBelow names name from → ((k : ℕ) → from ≤ k → k < n → Contains names (suffixed name k)) → AreTakenBelow names name n
-first_from names name from n below further k some less = by (cases_lt k from)
-  where
-    by : (k < from) ⊎ (from ≤ k) → Contains names (suffixed name k)
-    by (inl under) = below k some under
-    by (inr over) = further k over less
-
 -- what a table of suffixes says of the names
 abbrev pub Tried : List (List ℕ) → (List ℕ → Option ℕ) → Type 0
 Tried names look = (name : List ℕ) (n : ℕ) → look name ≡ Some n → (0 < n) × AreTakenBelow names name n
@@ -156,12 +148,11 @@ free_reference names name false lacks is = (λ _. (lacks-Contains name names lac
 pub taken_by : (kind : NameKind) (names : List (List ℕ)) (name : List ℕ) → list_any (bytes_eq name) names ≡ true → ¬ IsFree kind names name
 taken_by kind names name has f = f.0 (has-Contains name names has)
 
-pub one_more_taken : (names : List (List ℕ)) (name : List ℕ) (from n : ℕ) → ((k : ℕ) → from ≤ k → k < n → Contains names (suffixed name k)) → Contains names (suffixed name n)
-    → (k : ℕ) → from ≤ k → k < n + 1 → Contains names (suffixed name k)
-one_more_taken names name from n so_far here k over less = by (cases_lt k n)
+pub one_more_taken : (names : List (List ℕ)) (name : List ℕ) (n : ℕ) → AreTakenBelow names name n → Contains names (suffixed name n) → AreTakenBelow names name (n + 1)
+one_more_taken names name n so_far here k some less = by (cases_lt k n)
   where
     by : (k < n) ⊎ (n ≤ k) → Contains names (suffixed name k)
-    by (inl under) = so_far k over under
+    by (inl under) = so_far k some under
     by (inr above) = let e : n ≡ k = omega arith in subst (λ m. Contains names (suffixed name m)) e here
 
 -- no name is given twice

@@ -1,2 +1,3 @@
 mod Converting
 pub mod Apart
+mod Numbers

@@ -1,7 +1,7 @@
 //! Names that are kept apart.
 ghost use Rattle.std.specs.Prelude.{◌≡◌, ℕ, ◌+◌, ◌<◌, ◌≤◌, ◌^◌, ◌↔◌, List, [], ◌∷◌, ◌++◌, IfOk, OnErr, IsTrue};
 ghost use Rattle.std.specs.List.{Contains};
-ghost use Rattle.name_map.specs.Taking.{IsFree, IsTaken, IsLeastSuffix, suffixed};
+ghost use Rattle.name_map.specs.Taking.{IsFree, IsTaken, IsLeastSuffix, AreTakenBelow, suffixed};
 ghost use Rattle.name_map.specs.declared.conversion.NameKind.{NameKind};
 
 use crate::conversion::NameKind;
@@ -39,23 +39,27 @@ fn with_suffix(alloc: Global, name: &Text, n: u64) -> Result<Text, Memory>
     Text::from_string(format!(in alloc; "{}-{n}", name.as_str())?)
 }
 
-// The name with the first suffix, from this one on, that makes it none of the names.
+// The name with the first suffix that makes it none of the names, where each suffix below this one is taken.
 fn first_suffix(
     alloc: Global,
     names: &IndexSet<Text>,
     name: &Text,
     from: u64,
 ) -> Result<(Text, u64), Memory>
-    ensures { IfOk result (λ r. (r.0 ≡ suffixed name.now r.1) × (from ≤ r.1) × (r.1 < 2 ^ 64) × (¬ Contains names.now.keys r.0) × ((k : ℕ) → from ≤ k → k < r.1 → Contains names.now.keys (suffixed name.now k))) }
+    requires positive { 0 < from }
+    requires taken { AreTakenBelow names.now.keys name.now from }
+    ensures { IfOk result (λ r. (r.0 ≡ suffixed name.now r.1) × (0 < r.1) × (r.1 < 2 ^ 64) × (¬ Contains names.now.keys r.0) × AreTakenBelow names.now.keys name.now r.1) }
 {
-    for n in from..u64::MAX {
+    // Each suffix that is taken is a name of its own, so they run out before the numbers do.
+    prove!(names.len() < usize::MAX);
+    let mut n = from;
+    'suffixes: loop {
         let text = with_suffix(alloc, name, n)?;
         if !names.contains(&text) {
             return Ok((text, n));
         }
+        n += 1;
     }
-    // So many names are more than memory holds.
-    Err(Memory)
 }
 
 impl Scope {

@@ -1,7 +1,9 @@
-use Rattle.std.proofs.Common.{ℕ, ◌<◌, ◌≤◌}
-use Rattle.std.specs.List.{Contains}
-use Rattle.name_map.specs.Taking.{suffixed}
+use Rattle.std.proofs.Common.{◌<◌, ◌-◌, ◌^◌}
+use Rattle.name_map.specs.Taking.{AreTakenBelow}
 use Rattle.name_map.proofs.scope.first_suffix.Given as goal
 
-abbrev pub invariant-loop-n : goal.invariant-loop-n
-invariant-loop-n l = (k : ℕ) → l.from ≤ k → k < l.n → Contains l.names.keys (suffixed l.name k)
+abbrev pub invariant-suffixes : goal.invariant-suffixes
+invariant-suffixes l = (0 < l.n) × AreTakenBelow l.names.keys l.name l.n
+
+abbrev pub decreases-suffixes : goal.decreases-suffixes
+decreases-suffixes l = 2 ^ 64 - l.n
