@@ -1,6 +1,6 @@
 -- Types, written with their parts.
-use Rattle.std.proofs.Common.{◌≡◌, ℕ, suc, ◌+◌, ◌<◌, ◌≤◌, List, [], ◌∷◌, ◌++◌, length, drop, get_or, Result, Ok, Err, OnOk, sym, ◌∙◌, ap, arith, append_assoc}
-use Rattle.std.proofs.lemmas.List.{append-nil, drop_all}
+use Rattle.std.proofs.Common.{◌≡◌, ℕ, zero, suc, ◌+◌, ◌<◌, ◌≤◌, List, [], ◌∷◌, ◌++◌, length, drop, get_or, Result, Ok, Err, OnOk, sym, ◌∙◌, ap, arith, append_assoc, add-one}
+use Rattle.std.proofs.lemmas.List.{append-nil, drop_all, length-append}
 use Rattle.label_tree.specs.Rose.{Rose, node, more, roses_of, label_of, kids_of}
 use Rattle.label_tree.proofs.Roses.{node-parts}
 use Rattle.label_tree.proofs.Kids.{roses_of-drop}
@@ -9,7 +9,7 @@ use Rattle.asn_types.specs.declared.modules.Assignment.{Assignment}
 use Rattle.asn_types.specs.declared.types.Component.{Component}
 use Rattle.asn_types.specs.declared.types.TypeLabel.{TypeLabel}
 use Rattle.asn_types.specs.Parts.{parts_of}
-use Rattle.module_print.specs.Notation.{new_line, listed, block}
+use Rattle.module_print.specs.Notation.{indent, new_line, listed, block}
 use Rattle.module_print.specs.Printed.{with_type, prefixes, type_of, level_of_parts, printed_type, printed_parts}
 use Rattle.module_print.proofs.Listing.{block-some, listed_from, listed_from-all}
 use Rattle.module_print.proofs.Texts.{drop-item}
@@ -39,15 +39,26 @@ some_parts M levels parts [] some same = absurd (omega arith)
 some_parts M levels [] (kid ∷ kids) some same = absurd (omega arith)
 some_parts M levels (part ∷ parts) (kid ∷ kids) some same = omega arith
 
+-- the indentation of a line stands before what is written on it
+levels-le : (levels : ℕ) → levels ≤ length (indent levels)
+levels-le zero = omega arith
+levels-le (suc levels) = omega (arith, levels-le levels)
+
+pub indented : (levels : ℕ) (old out : List ℕ) → out ≡ old ++ new_line levels → levels ≤ length out
+indented levels old out written = omega (arith, levels-le levels, ap length written, length-append old (new_line levels))
+
+pub still_indented : (levels : ℕ) (old added out : List ℕ) → out ≡ old ++ added → levels ≤ length old → levels ≤ length out
+still_indented levels old added out written before = omega (arith, before, ap length written, length-append old added)
+
 -- the parts in braces, one level deeper
-pub block-parts : (M : List Assignment) (levels inner : ℕ) (parts : List Component) (kids : List (Rose TypeLabel)) (old opened out : List ℕ)
-    → 0 < length kids → length kids ≡ length parts → inner ≡ suc levels → opened ≡ old ++ 123 ∷ []
-    → out ≡ opened ++ listed (new_line inner) (printed_parts M inner parts (roses_of kids))
+pub block-parts : (M : List Assignment) (levels : ℕ) (parts : List Component) (kids : List (Rose TypeLabel)) (old opened out : List ℕ)
+    → 0 < length kids → length kids ≡ length parts → opened ≡ old ++ 123 ∷ []
+    → out ≡ opened ++ listed (new_line (levels + 1)) (printed_parts M (levels + 1) parts (roses_of kids))
     → out ++ (new_line levels ++ 125 ∷ []) ≡ old ++ block levels (printed_parts M (suc levels) parts (roses_of kids))
-block-parts M levels inner parts kids old opened out some same next begun written =
+block-parts M levels parts kids old opened out some same begun written =
     let all = listed (new_line (suc levels)) (printed_parts M (suc levels) parts (roses_of kids)) in
     ap (λ o. o ++ (new_line levels ++ 125 ∷ []))
-    (written ∙ ap (λ n. opened ++ listed (new_line n) (printed_parts M n parts (roses_of kids))) next ∙ ap (λ o. o ++ all) begun)
+    (written ∙ ap (λ n. opened ++ listed (new_line n) (printed_parts M n parts (roses_of kids))) (add-one levels) ∙ ap (λ o. o ++ all) begun)
     ∙ regroup old (123 ∷ []) all (new_line levels) (125 ∷ [])
     ∙ ap (λ b. old ++ b) (block-some levels (printed_parts M (suc levels) parts (roses_of kids)) (some_parts M (suc levels) parts kids some same))
   where

@@ -1,5 +1,5 @@
 //! Types with their parts.
-ghost use Rattle.std.specs.Prelude.{◌≡◌, ◌++◌, ◌∷◌, [], IfOk, OnOk, suc, map, length};
+ghost use Rattle.std.specs.Prelude.{◌≡◌, ◌++◌, ◌∷◌, [], ◌≤◌, OnOk, suc, map, length};
 ghost use Rattle.label_tree.specs.Rose.{roses_of, Allowed, AllowedAll};
 ghost use Rattle.asn_types.specs.Parts.{parts_of, MayHave};
 ghost use Rattle.module_print.specs.Notation.{enumerated, block, listed, new_line};
@@ -141,7 +141,7 @@ fn write_closing_brace(out: &mut Vec<u8>, levels: usize) -> Result<(), AllocErro
 }
 
 /// The type of a part or an assignment with this generated name and these instructions, on a line that is indented by so
-/// many levels.
+/// many levels. That indentation is in the text already, so the levels don't outgrow a number.
 #[cycle(types)]
 pub(crate) fn write_type(
     out: &mut Vec<u8>,
@@ -151,7 +151,8 @@ pub(crate) fn write_type(
     marks: &Marks,
     tree: &Tree<TypeLabel>,
 ) -> Result<(), Memory>
-    requires { Allowed MayHave tree.now }
+    requires allowed { Allowed MayHave tree.now }
+    requires indented { levels ≤ length out.old.items }
     ensures { OnOk result (out.new.items ≡ out.old.items ++ printed_type assignments.now levels generated.now marks.now tree.now) }
 {
     let label = tree.label();
@@ -169,6 +170,7 @@ fn write_form(
 ) -> Result<(), Memory>
     requires count { length kids.now ≡ length (parts_of form.now) }
     requires allowed { AllowedAll MayHave (roses_of kids.now) }
+    requires indented { levels ≤ length out.old.items }
     ensures { OnOk result (out.new.items ≡ out.old.items ++ type_of assignments.now levels form.now (printed_parts assignments.now (level_of_parts levels form.now) (parts_of form.now) (roses_of kids.now))) }
 {
     match form {
@@ -194,16 +196,6 @@ fn write_form(
     Ok(())
 }
 
-// The level of the parts on a line of this level. A line that is too long for a number is too long for memory.
-fn next_level(levels: usize) -> Result<usize, Memory>
-    ensures { IfOk result (λ next. next ≡ suc levels) }
-{
-    match levels.checked_add(1) {
-        Some(next) => Ok(next),
-        None => Err(Memory),
-    }
-}
-
 // The parts in braces.
 #[cycle(types)]
 fn write_block(
@@ -215,15 +207,15 @@ fn write_block(
 ) -> Result<(), Memory>
     requires count { length kids.now ≡ length parts.now }
     requires allowed { AllowedAll MayHave (roses_of kids.now) }
+    requires indented { levels ≤ length out.old.items }
     ensures { OnOk result (out.new.items ≡ out.old.items ++ block levels (printed_parts assignments.now (suc levels) parts.now (roses_of kids.now))) }
 {
     if kids.is_empty() {
         out.extend_from_slice(b"{}")?;
         return Ok(());
     }
-    let inner = next_level(levels)?;
     out.push(b'{')?;
-    write_parts(out, assignments, inner, parts, kids)?;
+    write_parts(out, assignments, levels + 1, parts, kids)?;
     write_closing_brace(out, levels)?;
     Ok(())
 }
@@ -257,7 +249,8 @@ fn write_part(
     part: &Component,
     kid: &Tree<TypeLabel>,
 ) -> Result<(), Memory>
-    requires { Allowed MayHave kid.now }
+    requires allowed { Allowed MayHave kid.now }
+    requires indented { levels ≤ length out.old.items }
     ensures { OnOk result (out.new.items ≡ out.old.items ++ with_type part.now (printed_type assignments.now levels part.now.identifier part.now.marks kid.now)) }
 {
     write_identifier(out, &part.identifier)?;

@@ -3,7 +3,7 @@ use Rattle.label_tree.specs.Rose.{count_all, roses_of, AllowedAll}
 use Rattle.label_tree.proofs.Kids.{kid-count-le, kid-allowed}
 use Rattle.label_tree.proofs.Roses.{node_count-kids, allowed-label, allowed-kids}
 use Rattle.asn_types.specs.Parts.{parts_of, MayHave}
-use Rattle.module_print.proofs.Typing.{on_ok, written-type, block-parts, parts-end}
+use Rattle.module_print.proofs.Typing.{still_indented, indented, on_ok, written-type, block-parts, parts-end}
 use Rattle.module_print.proofs.types.+types.Goals as goal
 
 pub write_type-write_form-requires : goal.write_type-write_form-requires
@@ -16,8 +16,11 @@ write_type-write_form-requires t c =
     let all = node_count-kids tree in (
       omega (arith, now, fewer, all),
       (
-        ap length below ∙ allowed-label MayHave tree c.requires ∙ sym (ap (λ l. length (parts_of l.form)) is),
-        subst (λ ts. AllowedAll MayHave (roses_of ts)) (sym below) (allowed-kids MayHave tree c.requires),
+        ap length below ∙ allowed-label MayHave tree c.requires.allowed ∙ sym (ap (λ l. length (parts_of l.form)) is),
+        (
+          subst (λ ts. AllowedAll MayHave (roses_of ts)) (sym below) (allowed-kids MayHave tree c.requires.allowed),
+          still_indented c.args.levels c.args.out.now.items _ _ c.in_ok-write_prefixes.ensures c.requires.indented,
+        ),
       ),
     )
 
@@ -33,8 +36,8 @@ write_block-returns t c =
     let kids = c.args.kids.now in
     let some : 0 < length kids = search rules in
     c.in_ok-write_closing_brace.ensures
-    ∙ block-parts c.args.assignments.now c.args.levels c.in_ok-inner.inner c.args.parts.now kids c.args.out.now.items c.push.new.self.items c.write_parts.new.out.items
-    some c.requires.count c.in_ok-inner.ensures c.in_ok-push.ensures.items c.in_ok-write_parts.ensures
+    ∙ block-parts c.args.assignments.now c.args.levels c.args.parts.now kids c.args.out.now.items c.push.new.self.items c.write_parts.new.out.items
+    some c.requires.count c.in_ok-push.ensures.items c.in_ok-write_parts.ensures
 
 pub write_parts-write_part-requires : goal.write_parts-write_part-requires
 write_parts-write_part-requires t c =
@@ -43,7 +46,7 @@ write_parts-write_part-requires t c =
     let at = c.parts-test.true in
     let fewer = kid-count-le kids c.parts.i kid at c.index-kids-i.is in
     let now = c.decreases in
-    (omega (arith, now, fewer), kid-allowed kids c.parts.i kid at c.index-kids-i.is MayHave c.requires.allowed)
+    (omega (arith, now, fewer), (kid-allowed kids c.parts.i kid at c.index-kids-i.is MayHave c.requires.allowed, indented c.args.levels _ _ c.in_ok-write_new_line.ensures))
 
 pub write_parts-returns : goal.write_parts-returns
 write_parts-returns t c =
