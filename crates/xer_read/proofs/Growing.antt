@@ -143,6 +143,10 @@ pub on-ok : {X E : Type 0} (r : Result X E) (P Q : Type 0) → (P → Q) → OnO
 on-ok (Ok x) P Q f h = f h
 on-ok (Err e) P Q f h = tt
 
+pub on-both : {X E : Type 0} (r : Result X E) (P Q R : Type 0) → (P → Q → R) → OnOk r P → OnOk r Q → OnOk r R
+on-both (Ok x) P Q R f h k = f h k
+on-both (Err e) P Q R f h k = tt
+
 -- ---- values of child elements
 
 taken-as : (P Q : Rose ValueLabel → List Child → Type 0) (made : Built) (gs : List Child) (new : Children) (before after : Tally) → ((v : Rose ValueLabel) (xs : List Child) → P v xs → Q v xs)
@@ -273,10 +277,8 @@ choice-made t ps is old new i chosen start before after h kept g made c stands =
       holds = subst (λ q. TermMade q (node (value.Choice i) (rose.more x.value rose.none)) x.taken) (sym is) (i, x.value, refl, x.holds);
     }
 
-pub element-made : {E : Type 0} (t : Rose ParticleLabel) (d : ℕ) (a : Name) → term_of t ≡ element d a → (r : Result Built E) (old new : Children) (tally : Tally) → IfOk r (λ made. ChildTaken d made old new)
-    → IfOk r (λ made. Takes (TermMade (term_of t)) made old new tally tally)
-element-made t d a is (Err e) old new tally h = tt
-element-made t d a is (Ok made) old new tally h = λ gs wait.
+pub element-made : (t : Rose ParticleLabel) (d : ℕ) (a : Name) → term_of t ≡ element d a → (made : Built) (old new : Children) (tally : Tally) → ChildTaken d made old new → Takes (TermMade (term_of t)) made old new tally tally
+element-made t d a is made old new tally h = λ gs wait.
     let x = first-taken d tally made gs old new wait h in
     record {
       value = x.child.value;
@@ -396,17 +398,25 @@ once-of (kinds.Element d a) ps least most e = absurd (cc)
 once-of kinds.Sequence ps least most e = (refl, e)
 once-of kinds.Choice ps least most e = absurd (cc)
 
+-- a top particle whose particles are parts by themselves
+pub top-term : (t : Rose ParticleLabel) (l : ParticleLabel) (kids : List (Rose ParticleLabel)) → l ≡ label_of t → kids ≡ kids_of t
+    → ((ps : Particles) → true ≡ is_parted (term_seen l.kind ps) l.min l.max) → (term_of t ≡ sequence (all_seen (roses_of kids))) × (is_once (label_of t).min (label_of t).max ≡ true)
+top-term t l kids el ek parted =
+    let ps = all_seen (roses_of kids) in
+    let own : is_parted (term_seen (label_of t).kind ps) (label_of t).min (label_of t).max ≡ true = sym (parted ps ∙ ap (λ (m : ParticleLabel). is_parted (term_seen m.kind ps) m.min m.max) el) in
+    let both = once-of (label_of t).kind ps (label_of t).min (label_of t).max own in
+    (ap (λ ks. term_seen (label_of t).kind (all_seen (roses_of ks))) (sym ek) ∙ both.0, both.1)
+
 pub top-parted : (t : Rose ParticleLabel) (l : ParticleLabel) (kids : List (Rose ParticleLabel)) → l ≡ label_of t → kids ≡ kids_of t
     → ((ps : Particles) → true ≡ is_parted (term_seen l.kind ps) l.min l.max)
     → (old new : Children) (former latter : Parts) (before after : Tally) → new.waiting.items ≡ [] → Fills (PartsMade (all_seen (roses_of kids))) old new former latter before after
     → FillsAll (TopMade (seen t)) old former latter before after
 top-parted t l kids el ek parted old new former latter before after e h =
     let ps = all_seen (roses_of kids) in
-    let own : is_parted (term_seen (label_of t).kind ps) (label_of t).min (label_of t).max ≡ true = sym (parted ps ∙ ap (λ (m : ParticleLabel). is_parted (term_seen m.kind ps) m.min m.max) el) in
-    let both = once-of (label_of t).kind ps (label_of t).min (label_of t).max own in
+    let both = top-term t l kids el ek parted in
+    let is = both.0 in
     let least = (label_of t).min in
     let most = (label_of t).max in
-    let is : term_of t ≡ sequence ps = ap (λ ks. term_seen (label_of t).kind (all_seen (roses_of ks))) (sym ek) ∙ both.0 in
     all-taken (PartsMade ps) (TopMade (seen t))
     (λ f v gs p. subst (λ q. TopMade q f v gs) (sym (seen-is t ∙ ap (λ q. occurs q least most) is))
     (subst (λ b. elim b as (λ _. Type 0) [ true ↦ PartedMade (sequence ps) f v gs | false ↦ PartsMade (more (occurs (sequence ps) least most) none) f v gs ]) (sym both.1) p))

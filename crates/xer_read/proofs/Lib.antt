@@ -8,6 +8,7 @@ pub mod Adding
 pub mod Giving
 pub mod Allowing
 pub mod Placing
+pub mod Stepping
 pub mod Waiting
 pub mod Whole
 pub mod Valuing

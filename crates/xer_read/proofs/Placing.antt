@@ -1,17 +1,24 @@
 -- Where the leaves of a list of a content model stand: each part of the content model has those whose turns say so, and no
 -- others, so that child elements find their places by their turns alone.
-use Rattle.std.proofs.Common.{◌≡◌, ℕ, zero, suc, ◌+◌, ◌≤◌, inl, inr, List, [], ◌∷◌, ◌++◌, Option, true, false, length, refl, sym, ◌∙◌, ap, subst, arith, append_assoc, length-append}
+use Rattle.std.proofs.Common.{◌≡◌, ℕ, zero, suc, ◌+◌, ◌≤◌, inl, inr, List, [], ◌∷◌, ◌++◌, Option, Some, None, true, false, length, refl, sym, ◌∙◌, ap, subst, arith, append-nil, append_assoc, length-append, nat_le}
+use Rattle.std.proofs.Math.Dec.{eqb}
+use Rattle.std.proofs.lemmas.Bool.{eqb-true, le-leb, and_parts}
+use Rattle.simple_values.specs.Lexical.{is_at_most}
+use Rattle.content_match.specs.declared.places.Turn as matched
 use Rattle.content_models.specs.Particle.{Particle, occurs, Term, element, sequence, choice, Particles, none, more}
 use Rattle.content_models.specs.Language.{Turn, Leaf, leaf_at, names, turn_of, size_of, Times, Within, Lang, Body, InOrder, OneOf}
 use Rattle.content_models.specs.Laws.{Opens}
-use Rattle.content_models.specs.Clear.{Clear, ClearInOrder, ClearOneOf, first_of_term, empties_term}
-use Rattle.content_models.proofs.Opening.{body_opens}
+use Rattle.content_models.specs.Clear.{Clear, ClearInOrder, ClearOneOf, Rule1, first_of_term, first_of_any, empties_term, any_empty}
+use Rattle.content_models.specs.Occurring.{IsMore}
+use Rattle.content_models.proofs.Opening.{body_opens, one_opens}
+use Rattle.xer_read.specs.declared.children.Child as kept
 use Rattle.xer_read.specs.declared.children.Children.{Children}
-use Rattle.xer_read.specs.Private.Places.{AreAt, IsBelow, AllIn, NoneIn, HeadIn, ParticlePlaced, TurnPlaced, TurnsPlaced, TermPlaced, OrderPlaced, OnePlaced, Chosen, ChosenPlaced, KeepsRule1, AllKeepRule1}
+use Rattle.xer_read.specs.Private.Bounds.{is_once, is_optional}
+use Rattle.xer_read.specs.Private.Places.{AllAt, AreAt, BeginsWith, IsBelow, AllIn, NoneIn, HeadIn, ParticlePlaced, TurnPlaced, TurnsPlaced, TermPlaced, OrderPlaced, OnePlaced, Chosen, ChosenPlaced, KeepsRule1, AllKeepRule1}
 
 -- ---- below a path
 
-same-front : (path r s : List Turn) (u v : Turn) → path ++ u ∷ r ≡ path ++ v ∷ s → u ≡ v
+pub same-front : (path r s : List Turn) (u v : Turn) → path ++ u ∷ r ≡ path ++ v ∷ s → u ≡ v
 same-front [] r s u v e = cc
 same-front (t ∷ path) r s u v e = same-front path r s u v (cc)
 
@@ -205,6 +212,24 @@ pub turns-long : (t : Term) (n k i : ℕ) (path : List Turn) (children : Childre
 turns-long t n k i path children us ws e h =
     times-long (λ j. Body t n (path ++ turn_of n j ∷ [])) (λ j w b. body-some t n (path ++ turn_of n j ∷ []) w e b) k i us h.lang
 
+-- the first of some occurrences, which aren't empty
+turns-head : (t : Term) (n k i : ℕ) (path : List Turn) (children : Children) (us ws : List Leaf) → empties_term t ≡ false → TurnsPlaced t n (suc k) i path children us ws → HeadIn path (turn_of n i) (us ++ ws)
+turns-head t n k i path children us ws e h =
+    let x = h.lang.0 in
+    let y = h.lang.1 in
+    subst (λ z. HeadIn path (turn_of n i) z) (sym (ap (λ z. z ++ ws) h.lang.2 ∙ append_assoc x y ws))
+    (head-in path (turn_of n i) x (y ++ ws) (body-in t n path i x h.lang.3) (body-some t n (path ++ turn_of n i ∷ []) x e h.lang.3))
+
+-- one occurrence alone
+turns-one : (t : Term) (n i : ℕ) (path : List Turn) (children : Children) (us ws : List Leaf) → TurnsPlaced t n 1 i path children us ws → TurnPlaced t n i path children us ws
+turns-one t n i path children us ws h =
+    let own : us ≡ h.lang.0 = h.lang.2 ∙ ap (λ z. h.lang.0 ++ z) h.lang.4 ∙ append-nil h.lang.0 in
+    record {
+      at = h.at;
+      lang = subst (λ z. Body t n (path ++ turn_of n i ∷ []) z) (sym own) h.lang.3;
+      apart = none-as path (λ u. u.particle ≡ n) (λ u. u ≡ turn_of n i) (λ u q. ap (λ (v : Turn). v.particle) q) ws h.apart;
+    }
+
 pub turn-term : (t : Term) (n i : ℕ) (path : List Turn) (children : Children) (us ws : List Leaf) → TurnPlaced t n i path children us ws → TermPlaced t n (path ++ turn_of n i ∷ []) children us ws
 turn-term t n i path children us ws h = record { at = h.at; lang = h.lang; apart = none-deeper path (turn_of n i) ws h.apart }
 
@@ -216,8 +241,7 @@ term-order ps n path children us ws h =
     record { at = h.at; lang = h.lang; apart = none-as path (λ u. Unit {0}) (λ u. suc n ≤ u.particle) (λ u q. tt) ws h.apart }
 
 pub term-one : (ps : Particles) (n : ℕ) (path : List Turn) (children : Children) (us ws : List Leaf) → TermPlaced (choice ps) n path children us ws → OnePlaced ps (suc n) path children us ws
-term-one ps n path children us ws h =
-    record { at = h.at; lang = h.lang; apart = none-as path (λ u. Unit {0}) (λ u. suc n ≤ u.particle) (λ u q. tt) ws h.apart }
+term-one ps n path children us ws h = record { at = h.at; lang = h.lang; apart = h.apart }
 
 pub chosen-first : (p : Particle) (ps : Particles) (n : ℕ) (path : List Turn) (children : Children) (us ws : List Leaf) → ChosenPlaced (more p ps) 0 n path children us ws → ParticlePlaced p n path children us ws
 chosen-first p ps n path children us ws h =
@@ -227,6 +251,150 @@ pub chosen-later : (p : Particle) (ps : Particles) (i n : ℕ) (path : List Turn
     → ChosenPlaced ps i (n + size_of p) path children us ws
 chosen-later p ps i n path children us ws h =
     record { at = h.at; lang = h.lang; apart = none-as path (λ u. n ≤ u.particle) (λ u. n + size_of p ≤ u.particle) (λ u q. omega (arith, q)) ws h.apart }
+
+pub chosen-short : (ps : Particles) (i n : ℕ) (path : List Turn) (w : List Leaf) → Chosen ps i n path w → IsMore ps
+chosen-short none i n path w h = absurd h
+chosen-short (more p ps) i n path w h = tt
+
+-- ---- by the bounds
+
+once-bounds : (least : ℕ) (most : Option ℕ) → is_once least most ≡ true → (least ≡ 1) × (most ≡ Some 1)
+once-bounds least None h = absurd (cc)
+once-bounds least (Some m) h =
+    let b = and_parts (eqb least 1) (eqb m 1) h in
+    (eqb-true least 1 b.0, ap (λ k. Some k) (eqb-true m 1 b.1))
+
+optional-bounds : (least : ℕ) (most : Option ℕ) → is_optional least most ≡ true → (least ≡ 0) × (most ≡ Some 1)
+optional-bounds least None h = absurd (cc)
+optional-bounds least (Some m) h =
+    let b = and_parts (eqb least 0) (eqb m 1) h in
+    (eqb-true least 0 b.0, ap (λ k. Some k) (eqb-true m 1 b.1))
+
+-- a particle of other bounds than 1 and 1 has no empty occurrence
+pub never-empty : (t : Term) (least : ℕ) (most : Option ℕ) → Rule1 t least most → is_once least most ≡ false → empties_term t ≡ false
+never-empty t least most (inr e) o = e
+never-empty t least most (inl b) o =
+    absurd (let one : is_once least most ≡ true = ap (λ n. is_once n most) b.0 ∙ ap (λ m. is_once 1 m) b.1 in let f : true ≡ false = sym one ∙ o in cc)
+
+pub once-placed : (t : Term) (least : ℕ) (most : Option ℕ) (n : ℕ) (path : List Turn) (children : Children) (us ws : List Leaf) → is_once least most ≡ true
+    → ParticlePlaced (occurs t least most) n path children us ws → TurnPlaced t n 0 path children us ws
+once-placed t least most n path children us ws o h =
+    let b = once-bounds least most o in
+    let turns = turns-of t least most n path children us ws h in
+    let within : Within 1 (Some 1) turns.0 = subst (λ m. Within 1 m turns.0) b.1 (subst (λ k. Within k most turns.0) b.0 turns.1) in
+    let low = within.0 in
+    let high = within.1 in
+    let one : turns.0 ≡ 1 = omega (arith, low, high) in
+    turns-one t n 0 path children us ws (subst (λ k. TurnsPlaced t n k 0 path children us ws) one turns.2)
+
+-- where an occurrence is the first to come, of a particle that may have one
+pub present-placed : (t : Term) (least : ℕ) (most : Option ℕ) (n : ℕ) (path : List Turn) (children : Children) (us ws : List Leaf) → is_optional least most ≡ true → HeadIn path (turn_of n 0) (us ++ ws)
+    → ParticlePlaced (occurs t least most) n path children us ws → TurnPlaced t n 0 path children us ws
+present-placed t least most n path children us ws o head h =
+    let b = optional-bounds least most o in
+    let turns = turns-of t least most n path children us ws h in
+    let within : Within least (Some 1) turns.0 = subst (λ m. Within least m turns.0) b.1 turns.1 in
+    by turns.0 within.1 turns.2
+  where
+    by : (k : ℕ) → k ≤ 1 → TurnsPlaced t n k 0 path children us ws → TurnPlaced t n 0 path children us ws
+    by zero l k = absurd (no-turns-head t n 0 0 path children us ws k head)
+    by (suc zero) l k = turns-one t n 0 path children us ws k
+    by (suc (suc j)) l k = absurd (omega (arith, l))
+
+-- and where it isn't, there is none
+pub absent-placed : (t : Term) (least : ℕ) (most : Option ℕ) (n : ℕ) (path : List Turn) (children : Children) (us ws : List Leaf) → empties_term t ≡ false → (HeadIn path (turn_of n 0) (us ++ ws) → ⊥)
+    → ParticlePlaced (occurs t least most) n path children us ws → AreAt children ws
+absent-placed t least most n path children us ws e head h =
+    let turns = turns-of t least most n path children us ws h in
+    by turns.0 turns.2
+  where
+    by : (k : ℕ) → TurnsPlaced t n k 0 path children us ws → AreAt children ws
+    by zero k = no-turns t n 0 path children us ws k
+    by (suc j) k = absurd (head (turns-head t n j 0 path children us ws e k))
+
+-- ---- occurrence after occurrence
+
+-- So many occurrences were taken, and as many are left as the bounds ask for. No more can be taken than this many.
+pub record TurnsLeft (t : Term) (least : ℕ) (most : Option ℕ) (n : ℕ) (path : List Turn) (children : Children) (taken many : ℕ) (ws : List Leaf) : Type 0 where
+  pub us : List Leaf
+  pub left : ℕ
+  pub within : Within least most (taken + left)
+  pub few : taken + left ≤ many
+  pub placed : TurnsPlaced t n left taken path children us ws
+
+at-long : (turns : List matched.Turn) (ks : List kept.Child) (ls : List Leaf) → AllAt turns ks ls → length ks ≡ length ls
+at-long turns [] [] h = refl
+at-long turns [] (l ∷ ls) h = absurd h
+at-long turns (k ∷ ks) [] h = absurd h
+at-long turns (k ∷ ks) (l ∷ ls) h = ap suc (at-long turns ks ls h.1)
+
+pub turns-init : (t : Term) (least : ℕ) (most : Option ℕ) (n : ℕ) (path : List Turn) (children : Children) (us ws : List Leaf) → empties_term t ≡ false
+    → ParticlePlaced (occurs t least most) n path children us ws → TurnsLeft t least most n path children 0 (length children.waiting.items) ws
+turns-init t least most n path children us ws e h =
+    let turns = turns-of t least most n path children us ws h in
+    let long = turns-long t n turns.0 0 path children us ws e turns.2 in
+    let sum = length-append us ws in
+    let all = at-long children.turns.items children.waiting.items (us ++ ws) h.at in
+    record {
+      us = us;
+      left = turns.0;
+      within = subst (λ k. Within least most k) (omega arith) turns.1;
+      few = omega (arith, long, sum, all);
+      placed = turns.2;
+    }
+
+-- The next occurrence is the first to come, and the others are behind it.
+pub record NextTurn (t : Term) (least : ℕ) (most : Option ℕ) (n : ℕ) (path : List Turn) (children : Children) (taken many : ℕ) (ws : List Leaf) : Type 0 where
+  pub front : List Leaf
+  pub behind : List Leaf
+  pub one : TurnPlaced t n taken path children front (behind ++ ws)
+  pub others : (later : Children) → AreAt later (behind ++ ws) → TurnsLeft t least most n path later (taken + 1) many ws
+
+pub next-turn : (t : Term) (least : ℕ) (most : Option ℕ) (n : ℕ) (path : List Turn) (children : Children) (taken many : ℕ) (ws : List Leaf)
+    → ((ls : List Leaf) → AreAt children ls → HeadIn path (turn_of n taken) ls) → TurnsLeft t least most n path children taken many ws → NextTurn t least most n path children taken many ws
+next-turn t least most n path children taken many ws head h = by h.left h.within h.few h.placed
+  where
+    by : (k : ℕ) → Within least most (taken + k) → taken + k ≤ many → TurnsPlaced t n k taken path children h.us ws → NextTurn t least most n path children taken many ws
+    by zero within few placed = absurd (no-turns-head t n taken taken path children h.us ws placed (head (h.us ++ ws) placed.at))
+    by (suc k) within few placed =
+        let s = turns-split t n k taken path children h.us ws placed in
+        record {
+          front = s.front;
+          behind = s.behind;
+          one = s.one;
+          others = λ later at. record {
+            us = s.behind;
+            left = k;
+            within = subst (λ j. Within least most j) (omega arith) within;
+            few = omega (arith, few);
+            placed = subst (λ j. TurnsPlaced t n k j path later s.behind ws) (omega arith) (s.others later at);
+          };
+        }
+
+-- Where the next occurrence isn't the first to come, or no more can be taken, none is left.
+none-left : (t : Term) (least : ℕ) (most : Option ℕ) (n : ℕ) (path : List Turn) (children : Children) (taken many : ℕ) (ws : List Leaf) (h : TurnsLeft t least most n path children taken many ws)
+    → h.left ≡ 0 → Within least most taken × AreAt children ws
+none-left t least most n path children taken many ws h e = (
+  (let l = e in subst (λ k. Within least most k) (omega (arith, l)) h.within),
+  no-turns t n taken path children h.us ws (subst (λ k. TurnsPlaced t n k taken path children h.us ws) e h.placed),
+)
+
+pub no-next : (t : Term) (least : ℕ) (most : Option ℕ) (n : ℕ) (path : List Turn) (children : Children) (taken many : ℕ) (ws : List Leaf) → empties_term t ≡ false
+    → ((ls : List Leaf) → AreAt children ls → HeadIn path (turn_of n taken) ls → ⊥) → TurnsLeft t least most n path children taken many ws → Within least most taken × AreAt children ws
+no-next t least most n path children taken many ws e head h = none-left t least most n path children taken many ws h (by h.left h.placed)
+  where
+    by : (k : ℕ) → TurnsPlaced t n k taken path children h.us ws → k ≡ 0
+    by zero placed = refl
+    by (suc k) placed = absurd (head (h.us ++ ws) placed.at (turns-head t n k taken path children h.us ws e placed))
+
+pub no-more : (t : Term) (least : ℕ) (most : Option ℕ) (n : ℕ) (path : List Turn) (children : Children) (taken many : ℕ) (ws : List Leaf) → many ≤ taken
+    → TurnsLeft t least most n path children taken many ws → Within least most taken × AreAt children ws
+no-more t least most n path children taken many ws l h =
+    none-left t least most n path children taken many ws h (let few = h.few in omega (arith, few, l))
+
+pub within-bounds : (least : ℕ) (most : Option ℕ) (k : ℕ) → Within least most k → (nat_le least k ≡ true) × (is_at_most k most ≡ true)
+within-bounds least None k h = (le-leb least k h, refl)
+within-bounds least (Some most) k h = (le-leb least k h.0, le-leb k most h.1)
 
 -- ---- which alternative
 
@@ -243,6 +411,58 @@ one-later p ps n path u w (inr h) b e = h
 one-later p ps n path u [] (inl h) b e = absurd b
 one-later p ps n path u (l ∷ w) (inl h) b e =
     absurd ((all-none path (λ v. v.particle ≡ n) (λ v. v.particle ≡ n → ⊥) (λ v q r. r q) (l ∷ w) (lang-in p n path (l ∷ w) h)).0 u b e)
+
+-- The particles from the number next on are left of all, whose first has the number first. So many were passed, and none was
+-- the one that is sought.
+pub record Sought (number first next place : ℕ) (all left : Particles) : Type 0 where
+  pub one : (path : List Turn) (us : List Leaf) → BeginsWith number first path all us → BeginsWith number next path left us
+  pub chosen : (path : List Turn) (us : List Leaf) (i : ℕ) → Chosen left i next path us → Chosen all (place + i) first path us
+
+pub sought-all : (number first : ℕ) (all : Particles) → Sought number first first 0 all all
+sought-all number first all = record {
+  one = λ path us h. h;
+  chosen = λ path us i h. subst (λ j. Chosen all j first path us) (omega arith) h;
+}
+
+pub sought-later : (number first next place : ℕ) (all : Particles) (p : Particle) (left : Particles) → (next ≡ number → ⊥) → Sought number first next place all (more p left)
+    → Sought number first (next + size_of p) (place + 1) all left
+sought-later number first next place all p left other s = record {
+  one = λ path us h.
+      let k = s.one path us h in
+      record { lang = one-later p left next path k.head us k.lang k.begins (λ e. other (sym e ∙ k.is)); head = k.head; begins = k.begins; is = k.is };
+  chosen = λ path us i h. subst (λ j. Chosen all j first path us) (omega arith) (s.chosen path us (suc i) h);
+}
+
+pub sought-here : (number first next place : ℕ) (all : Particles) (p : Particle) (left : Particles) → next ≡ number → Sought number first next place all (more p left)
+    → (path : List Turn) (us : List Leaf) → BeginsWith number first path all us → Chosen all place first path us
+sought-here number first next place all p left e s path us h =
+    let k = s.one path us h in
+    subst (λ j. Chosen all j first path us) (omega arith) (s.chosen path us 0 (one-here p left next path k.head us k.lang k.begins (k.is ∙ sym e)))
+
+pub one-begins : (ps : Particles) (n : ℕ) (path : List Turn) (children : Children) (u : Turn) (us ws : List Leaf) → OnePlaced ps n path children us ws → HeadIn path u (us ++ ws) → BeginsWith u.particle n path ps us
+one-begins ps n path children u [] ws h b = absurd (none-head path (λ v. Unit {0}) u ws h.apart tt b)
+one-begins ps n path children u (l ∷ us) ws h b = record { lang = h.lang; head = u; begins = b; is = refl }
+
+-- where none is the first to come, the list is empty
+one-empty : (ps : Particles) (n : ℕ) (path : List Turn) (children : Children) (us ws : List Leaf) → OnePlaced ps n path children us ws → ((u : Turn) → HeadIn path u (us ++ ws) → ⊥) → us ≡ []
+one-empty ps n path children [] ws h none_first = refl
+one-empty ps n path children (l ∷ us) ws h none_first =
+    let first = (one-in ps n path (l ∷ us) h.lang).0 in
+    absurd (none_first first.0 first.1)
+
+pub empty-placed : (ps : Particles) (n : ℕ) (path : List Turn) (children : Children) (us ws : List Leaf) → OnePlaced ps n path children us ws → ((u : Turn) → HeadIn path u (us ++ ws) → ⊥)
+    → any_empty ps ≡ true
+empty-placed ps n path children us ws h none_first =
+    subst (λ z. Opens (first_of_any ps) (any_empty ps) (names z)) (one-empty ps n path children us ws h none_first) (one_opens ps n path us h.lang)
+
+-- the list of a choice, once its alternative is known
+pub one-chosen : (ps : Particles) (i n : ℕ) (path : List Turn) (children : Children) (us ws : List Leaf) → Chosen ps i n path us → OnePlaced ps n path children us ws → ChosenPlaced ps i n path children us ws
+one-chosen ps i n path children us ws c h = record { at = h.at; lang = c; apart = none-as path (λ u. Unit {0}) (λ u. n ≤ u.particle) (λ u q. tt) ws h.apart }
+
+pub empty-chosen : (ps : Particles) (i n : ℕ) (path : List Turn) (children : Children) (us ws : List Leaf) → Chosen ps i n path [] → ((u : Turn) → HeadIn path u (us ++ ws) → ⊥)
+    → OnePlaced ps n path children us ws → ChosenPlaced ps i n path children us ws
+empty-chosen ps i n path children us ws c none_first h =
+    one-chosen ps i n path children us ws (subst (λ z. Chosen ps i n path z) (sym (one-empty ps n path children us ws h none_first)) c) h
 
 -- ---- rule 1
 

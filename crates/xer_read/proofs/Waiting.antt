@@ -1,15 +1,18 @@
 -- That the child elements that wait are at leaves, as one more is added.
 use Rattle.std.proofs.Common.{◌≡◌, ℕ, zero, suc, ◌+◌, ◌-◌, ◌≤◌, List, [], ◌∷◌, ◌++◌, length, take, drop, map, refl, sym, ◌∙◌, ap, subst, arith, length-append}
-use Rattle.std.specs.Prelude.{slice_range}
+use Rattle.std.specs.Prelude.{slice_range, Option, Some, None, MatchOption, IsTrue, nat_eq}
 use Rattle.std.proofs.lemmas.List.{take-append-le, drop-append-le, length-drop}
+use Rattle.std.proofs.lemmas.Bool.{eqb-true, eq-eqb}
 use Rattle.std.proofs.Math.Seq.{drop-append_seam}
-use Rattle.content_models.specs.Language.{Leaf}
+use Rattle.content_models.specs.Language.{Turn, Leaf, turn_of}
 use Rattle.content_match.specs.Taking.{AreTurnsOf}
 use Rattle.content_match.specs.Private.Standing.{turn_shown}
 use Rattle.content_match.specs.declared.places.Turn as matched
 use Rattle.xer_read.specs.declared.children.Child as kept
 use Rattle.xer_read.specs.declared.children.Children.{Children}
-use Rattle.xer_read.specs.Private.Places.{IsAt, AllAt, LeafAdded}
+use Rattle.xer_read.specs.declared.children.Occurrence.{Occurrence}
+use Rattle.xer_read.specs.Private.Places.{IsAt, AllAt, LeafAdded, GoesOn, HeadIn, first_path, occurrence_shown, path_shown}
+use Rattle.xer_read.proofs.Placing.{same-front}
 
 -- the turns behind the last leaf are its path
 pub last-turns : (us : List Leaf) (l : Leaf) (turns : List matched.Turn) → AreTurnsOf (us ++ l ∷ []) turns → l.path ≡ map turn_shown turns
@@ -62,3 +65,100 @@ leaf-added d turns old new k all decl begin end waiting = λ ls l is_decl is_pat
 
 pub leaf-added-as : (d : ℕ) (turns : List matched.Turn) (old between new : Children) → between ≡ old → LeafAdded d turns between new → LeafAdded d turns old new
 leaf-added-as d turns old between new e h = subst (λ c. LeafAdded d turns c new) e h
+
+-- ---- the first
+
+pub none-waits-at : (turns : List matched.Turn) (ks : List kept.Child) (ls : List Leaf) → ks ≡ [] → AllAt turns ks ls → ls ≡ []
+none-waits-at turns [] [] e h = refl
+none-waits-at turns [] (l ∷ ls) e h = absurd h
+none-waits-at turns (k ∷ ks) ls e h = absurd (cc)
+
+pub none-left-waits : (turns : List matched.Turn) (ks : List kept.Child) → AllAt turns ks [] → ks ≡ []
+none-left-waits turns [] h = refl
+none-left-waits turns (k ∷ ks) h = absurd h
+
+-- the turns of the first child element are the path to the first leaf
+pub first-waits-at : (turns : List matched.Turn) (all : List kept.Child) (k : kept.Child) (ks : List kept.Child) (ls : List Leaf) → all ≡ k ∷ ks → AllAt turns all ls
+    → (k.from ≤ k.to) × (k.to ≤ length turns) × (map turn_shown (slice_range turns k.from k.to) ≡ first_path ls)
+first-waits-at turns [] k ks ls e h = absurd (cc)
+first-waits-at turns (j ∷ js) k ks [] e h = absurd h
+first-waits-at turns (j ∷ js) k ks (l ∷ ls) e h =
+    let one : IsAt turns k l = subst (λ z. IsAt turns z l) (cc) h.0 in
+    (one.ordered, one.within, one.path)
+
+-- and once it is taken the others are at the other leaves
+pub first-taken-at : (turns : List matched.Turn) (all : List kept.Child) (k : kept.Child) (ks : List kept.Child) (l : Leaf) (ls : List Leaf) → all ≡ k ∷ ks → AllAt turns all (l ∷ ls)
+    → (k.decl ≡ l.decl) × AllAt turns ks ls
+first-taken-at turns [] k ks l ls e h = absurd h
+first-taken-at turns (j ∷ js) k ks l ls e h =
+    let both = subst (λ z. AllAt turns z (l ∷ ls)) e h in
+    (both.0.decl, both.1)
+
+-- ---- below a path
+
+no-turns-go : (path : List Turn) (u : Turn) (rest : List Turn) → [] ≡ path ++ u ∷ rest → ⊥
+no-turns-go [] u rest e = cc
+no-turns-go (t ∷ path) u rest e = cc
+
+pub head-goes : (path : List Turn) (u : Turn) (ls : List Leaf) → HeadIn path u ls → GoesOn path u (first_path ls)
+head-goes path u [] h = absurd h
+head-goes path u (l ∷ ls) h = h
+
+goes-head : (path : List Turn) (u : Turn) (ls : List Leaf) → GoesOn path u (first_path ls) → HeadIn path u ls
+goes-head path u [] h = absurd (no-turns-go path u h.0 h.1)
+goes-head path u (l ∷ ls) h = h
+
+pub next-head : (r : Option Occurrence) (path turns : List Turn) (ls : List Leaf) → turns ≡ first_path ls
+    → MatchOption r ((u : Turn) → GoesOn path u turns → ⊥) (λ o. GoesOn path (occurrence_shown o) turns)
+    → MatchOption r ((u : Turn) → HeadIn path u ls → ⊥) (λ o. HeadIn path (occurrence_shown o) ls)
+next-head None path turns ls e h = λ u k. h u (subst (λ z. GoesOn path u z) (sym e) (head-goes path u ls k))
+next-head (Some o) path turns ls e h = goes-head path (occurrence_shown o) ls (subst (λ z. GoesOn path (occurrence_shown o) z) e h)
+
+same-goes : (path r s turns : List Turn) (u v : Turn) → turns ≡ path ++ u ∷ r → turns ≡ path ++ v ∷ s → u ≡ v
+same-goes path r s turns u v e f = same-front path r s u v (sym e ∙ f)
+
+pub same-head : (path : List Turn) (u v : Turn) (ls : List Leaf) → HeadIn path u ls → HeadIn path v ls → u ≡ v
+same-head path u v ls h k =
+    let a = head-goes path u ls h in
+    let b = head-goes path v ls k in
+    same-goes path a.0 b.0 (first_path ls) u v a.1 b.1
+
+-- ---- turns that go on below a path
+
+pub goes-at-top : (turns : List matched.Turn) (t : matched.Turn) (ts : List matched.Turn) (path : List Occurrence) (u : Turn) → turns ≡ t ∷ ts → length path ≡ 0 → u ≡ turn_shown t
+    → GoesOn (path_shown path) u (map turn_shown turns)
+goes-at-top turns t ts [] u e none is = (map turn_shown ts, ap (map turn_shown) e ∙ ap (λ v. v ∷ map turn_shown ts) (sym is))
+goes-at-top turns t ts (o ∷ os) u e none is = absurd (cc)
+
+tail-same : (a b : Turn) (x y : List Turn) → a ∷ x ≡ b ∷ y → x ≡ y
+tail-same a b x y e = cc
+
+pub goes-deeper : (r : Option Occurrence) (turns : List matched.Turn) (t : matched.Turn) (ts : List matched.Turn) (path : List Occurrence) (o : Occurrence) (os : List Occurrence)
+    → turns ≡ t ∷ ts → path ≡ o ∷ os → occurrence_shown o ≡ turn_shown t
+    → MatchOption r ((u : Turn) → GoesOn (path_shown os) u (map turn_shown ts) → ⊥) (λ q. GoesOn (path_shown os) (occurrence_shown q) (map turn_shown ts))
+    → MatchOption r ((u : Turn) → GoesOn (path_shown path) u (map turn_shown turns) → ⊥) (λ q. GoesOn (path_shown path) (occurrence_shown q) (map turn_shown turns))
+goes-deeper None turns t ts path o os e d is h = λ u g.
+    let both : turn_shown t ∷ map turn_shown ts ≡ occurrence_shown o ∷ (path_shown os ++ u ∷ g.0) =
+    sym (ap (map turn_shown) e) ∙ g.1 ∙ ap (λ p. path_shown p ++ u ∷ g.0) d in
+    h u (g.0, tail-same (turn_shown t) (occurrence_shown o) (map turn_shown ts) (path_shown os ++ u ∷ g.0) both)
+goes-deeper (Some q) turns t ts path o os e d is h = (
+  h.0,
+  ap (map turn_shown) e ∙ ap (λ x. turn_shown t ∷ x) h.1 ∙ ap (λ v. v ∷ (path_shown os ++ occurrence_shown q ∷ h.0)) (sym is)
+      ∙ sym (ap (λ p. path_shown p ++ occurrence_shown q ∷ h.0) d),
+)
+
+-- ---- the occurrence that comes next
+
+pub at-head : (o : Occurrence) (particle turn : ℕ) (path : List Turn) (ls : List Leaf) → HeadIn path (occurrence_shown o) ls → o.particle ≡ particle
+    → (IsTrue (nat_eq o.turn turn) → HeadIn path (turn_of particle turn) ls) × (HeadIn path (turn_of particle turn) ls → IsTrue (nat_eq o.turn turn))
+at-head o particle turn path ls h e = (
+  λ t. subst (λ u. HeadIn path u ls) (ap (λ n. turn_of n o.turn) e ∙ ap (λ k. turn_of particle k) (eqb-true o.turn turn t)) h,
+  λ k. eq-eqb o.turn turn (ap (λ (u : Turn). u.turn) (same-head path (occurrence_shown o) (turn_of particle turn) ls h k)),
+)
+
+pub off-head : (o : Occurrence) (particle turn : ℕ) (path : List Turn) (ls : List Leaf) → HeadIn path (occurrence_shown o) ls → (o.particle ≡ particle → ⊥)
+    → (IsTrue (nat_eq o.particle particle) → HeadIn path (turn_of particle turn) ls) × (HeadIn path (turn_of particle turn) ls → IsTrue (nat_eq o.particle particle))
+off-head o particle turn path ls h other = (
+  λ t. absurd (other (eqb-true o.particle particle t)),
+  λ k. absurd (other (ap (λ (u : Turn). u.particle) (same-head path (occurrence_shown o) (turn_of particle turn) ls h k))),
+)

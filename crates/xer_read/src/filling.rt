@@ -1,23 +1,25 @@
 //! The values of child elements at their places in the value of a content model. Where they are not kept, the nodes that it
 //! would have are counted.
-ghost use Rattle.std.specs.Prelude.{◌≡◌, ◌<◌, [], length, OnOk, IfOk};
-ghost use Rattle.label_tree.specs.Rose.{label_of, roses_of, Allowed, AllowedAll};
+ghost use Rattle.std.specs.Prelude.{◌≡◌, ℕ, ◌+◌, ◌≤◌, List, [], true, false, OnOk, IfOk};
+ghost use Rattle.label_tree.specs.Rose.{node_count, count_all, label_of, roses_of, Allowed, AllowedAll};
+ghost use Rattle.content_models.specs.Clear.{empties, all_empty, any_empty};
 ghost use Rattle.content_models.specs.Kids.{MayHave};
+ghost use Rattle.content_models.specs.Language.{Turn, Leaf};
+ghost use Rattle.content_models.specs.Occurring.{AllMayOccur};
 ghost use Rattle.content_models.specs.Seen.{seen, all_seen, term_seen};
 ghost use Rattle.content_models.specs.Particle.{Particles, more, none};
 ghost use Rattle.xer_read.specs.Private.Bounds as bounds;
 ghost use Rattle.xer_read.specs.Private.Made.{Several, TermMade, PartsMade, ChosenMade, TopMade};
 ghost use Rattle.xer_read.specs.Private.Growing.{term_of, Takes, Fills, FillsAll};
-ghost use Rattle.xer_read.specs.Private.Places.{ModelPlaced};
+ghost use Rattle.xer_read.specs.Private.Places.{ModelPlaced, SomeWait, Leaves, ParticlePlaced, TurnPlaced, TermPlaced, OrderPlaced, OnePlaced, ChosenPlaced, Chosen, BeginsWith, IsFillable, AllAreFillable, path_shown};
 
 use crate::built::Built;
-use crate::children::Children;
+use crate::children::{Children, Occurrence};
 use crate::parts::Parts;
 use crate::tally::Tally;
 use content_models::{Particle, ParticleKind, ParticleLabel};
 use label_tree::Tree;
 use simple_types::ValueLabel;
-use simple_values::is_at_most;
 use std::alloc::Global;
 use xa_base::Memory;
 
@@ -43,7 +45,9 @@ fn is_optional(label: &ParticleLabel) -> bool
 
 // Whether no name need stand for the particle.
 #[cycle(emptiness)]
-fn may_be_empty(particle: &Tree<ParticleLabel>) -> bool {
+fn may_be_empty(particle: &Tree<ParticleLabel>) -> bool
+    ensures { result ≡ empties (seen particle.now) }
+{
     let label = particle.label();
     if label.min == 0 {
         return true;
@@ -56,7 +60,9 @@ fn may_be_empty(particle: &Tree<ParticleLabel>) -> bool {
 }
 
 #[cycle(emptiness)]
-fn all_may_be_empty(particles: &[Tree<ParticleLabel>]) -> bool {
+fn all_may_be_empty(particles: &[Tree<ParticleLabel>]) -> bool
+    ensures { result ≡ all_empty (all_seen (roses_of particles.now)) }
+{
     'particles: for particle in particles {
         if !may_be_empty(particle) {
             return false;
@@ -66,7 +72,9 @@ fn all_may_be_empty(particles: &[Tree<ParticleLabel>]) -> bool {
 }
 
 #[cycle(emptiness)]
-fn one_may_be_empty(particles: &[Tree<ParticleLabel>]) -> bool {
+fn one_may_be_empty(particles: &[Tree<ParticleLabel>]) -> bool
+    ensures { result ≡ any_empty (all_seen (roses_of particles.now)) }
+{
     'particles: for particle in particles {
         if may_be_empty(particle) {
             return true;
@@ -75,58 +83,91 @@ fn one_may_be_empty(particles: &[Tree<ParticleLabel>]) -> bool {
     false
 }
 
-// The alternative in which the first child element stands that waits, or else the first that may be empty, or else the
-// first. The first has this number, and stands at this level.
+// The first alternative that may be empty.
+fn empty_alternative(particles: &[Tree<ParticleLabel>]) -> u32
+    requires allowed { AllowedAll MayHave (roses_of particles.now) }
+    requires few { count_all (roses_of particles.now) ≤ 65536 }
+    requires able { AllMayOccur (all_seen (roses_of particles.now)) }
+    requires empty { any_empty (all_seen (roses_of particles.now)) ≡ true }
+    ensures { (n : ℕ) (path : List Turn) → Chosen (all_seen (roses_of particles.now)) result n path [] }
+{
+    let mut place: u32 = 0;
+    'particles: for particle in particles {
+        if may_be_empty(particle) {
+            return place;
+        }
+        place += 1;
+    }
+    unreachable!()
+}
+
+// The alternative that is the particle with this number. The first has the number `first`.
+fn alternative_with(particles: &[Tree<ParticleLabel>], first: u64, number: u64) -> u32
+    requires allowed { AllowedAll MayHave (roses_of particles.now) }
+    requires few { first + count_all (roses_of particles.now) ≤ 65536 }
+    requires begun { (path : List Turn) × (us : List Leaf) × BeginsWith number first path (all_seen (roses_of particles.now)) us }
+    ensures { (path : List Turn) (us : List Leaf) → BeginsWith number first path (all_seen (roses_of particles.now)) us → Chosen (all_seen (roses_of particles.now)) result first path us }
+{
+    let mut place: u32 = 0;
+    let mut next = first;
+    'particles: for particle in particles {
+        if next == number {
+            return place;
+        }
+        next += particle.count();
+        place += 1;
+    }
+    unreachable!()
+}
+
+// The alternative in which the child elements stand that are to be taken. The first has this number.
 fn alternative(
     particles: &[Tree<ParticleLabel>],
     number: u64,
-    level: usize,
+    path: &[Occurrence],
     children: &Children,
 ) -> u32
-    requires { 0 < length particles.now }
-    ensures { result < length particles.now }
+    requires allowed { AllowedAll MayHave (roses_of particles.now) }
+    requires few { number + count_all (roses_of particles.now) ≤ 65536 }
+    requires able { AllMayOccur (all_seen (roses_of particles.now)) }
+    requires placed { SomeWait (OnePlaced (all_seen (roses_of particles.now)) number (path_shown path.now) children.now) }
+    ensures { (us ws : List Leaf) → OnePlaced (all_seen (roses_of particles.now)) number (path_shown path.now) children.now us ws
+        → ChosenPlaced (all_seen (roses_of particles.now)) result number (path_shown path.now) children.now us ws }
 {
-    let mut place: u32 = 0;
-    let mut next = number;
-    'numbers: for particle in particles {
-        if children.next_turn(level, next).is_some() {
-            return place;
-        }
-        next = next.saturating_add(particle.count());
-        place = place.saturating_add(1);
+    match children.next(path) {
+        None => empty_alternative(particles),
+        Some(next) => alternative_with(particles, number, next.particle),
     }
-    let mut behind: u32 = 0;
-    'particles: for other in particles {
-        if may_be_empty(other) {
-            return behind;
-        }
-        behind = behind.saturating_add(1);
-    }
-    0
 }
 
-// One occurrence of the particle with this number, whose kids stand at this level.
+// One occurrence of the particle with this number, to which the path leads.
 #[cycle(filling)]
 fn fill_term(
     alloc: Global,
     particle: &Tree<ParticleLabel>,
     number: u64,
-    level: usize,
+    path: &mut Vec<Occurrence>,
     children: &mut Children,
     tally: &mut Tally,
 ) -> Result<Built, Memory>
-    requires { Allowed MayHave particle.now }
-    ensures { IfOk result (λ made. Takes (TermMade (term_of particle.now)) made children.old children.new tally.old tally.new) }
+    requires allowed { Allowed MayHave particle.now }
+    requires few { number + node_count particle.now ≤ 65536 }
+    requires fillable { IsFillable (seen particle.now) }
+    requires placed { SomeWait (TermPlaced (term_of particle.now) number (path_shown path.old.items) children.old) }
+    ensures path { OnOk result (path.new.items ≡ path.old.items) }
+    ensures taken { OnOk result (Leaves (TermPlaced (term_of particle.now) number (path_shown path.old.items) children.old) children.new) }
+    ensures made { IfOk result (λ made. Takes (TermMade (term_of particle.now)) made children.old children.new tally.old tally.new) }
 {
     match particle.label().kind {
-        ParticleKind::Element { decl, .. } => children.take(decl),
+        ParticleKind::Element { .. } => Ok(children.take()),
         ParticleKind::Sequence => {
             let mut parts = Parts::new(alloc);
+            let first = number + 1;
             fill_parts(
                 alloc,
                 particle.kids(),
-                number.saturating_add(1),
-                level,
+                first,
+                path,
                 children,
                 &mut parts,
                 tally,
@@ -134,135 +175,168 @@ fn fill_term(
             Ok(parts.into_value(tally))
         }
         ParticleKind::Choice => {
-            let first = number.saturating_add(1);
-            let place = alternative(particle.kids(), first, level, children);
-            let value = fill_chosen(alloc, particle.kids(), first, level, place, children, tally)?;
+            let first = number + 1;
+            let place = alternative(particle.kids(), first, path.as_slice(), children);
+            let value = fill_chosen(alloc, particle.kids(), first, place, path, children, tally)?;
             let chosen = value.into_list(alloc)?;
             Ok(Built::join(ValueLabel::Choice(place), chosen, tally))
         }
     }
 }
 
-// All occurrences of the particle with this number, which stands at this level.
+// This occurrence of the particle with this number, which stands below the path.
+#[cycle(filling)]
+fn fill_turn(
+    alloc: Global,
+    particle: &Tree<ParticleLabel>,
+    number: u64,
+    turn: u64,
+    path: &mut Vec<Occurrence>,
+    children: &mut Children,
+    tally: &mut Tally,
+) -> Result<Built, Memory>
+    requires allowed { Allowed MayHave particle.now }
+    requires few { number + node_count particle.now ≤ 65536 }
+    requires fillable { IsFillable (seen particle.now) }
+    requires placed { SomeWait (TurnPlaced (term_of particle.now) number turn (path_shown path.old.items) children.old) }
+    ensures path { OnOk result (path.new.items ≡ path.old.items) }
+    ensures taken { OnOk result (Leaves (TurnPlaced (term_of particle.now) number turn (path_shown path.old.items) children.old) children.new) }
+    ensures made { IfOk result (λ made. Takes (TermMade (term_of particle.now)) made children.old children.new tally.old tally.new) }
+{
+    let level = path.as_slice().len();
+    path.push(Occurrence {
+        particle: number,
+        turn,
+    })?;
+    let value = fill_term(alloc, particle, number, path, children, tally)?;
+    path.truncate(level);
+    Ok(value)
+}
+
+// All occurrences of the particle with this number, which stands below the path.
 #[cycle(filling)]
 fn fill_items(
     alloc: Global,
     particle: &Tree<ParticleLabel>,
     number: u64,
-    level: usize,
+    path: &mut Vec<Occurrence>,
     children: &mut Children,
     tally: &mut Tally,
 ) -> Result<Built, Memory>
-    requires { Allowed MayHave particle.now }
-    ensures { IfOk result (λ made. Takes (Several (TermMade (term_of particle.now)) (label_of particle.now).min (label_of particle.now).max) made children.old children.new tally.old tally.new) }
+    requires allowed { Allowed MayHave particle.now }
+    requires few { number + node_count particle.now ≤ 65536 }
+    requires fillable { IsFillable (seen particle.now) }
+    requires several { bounds.is_once (label_of particle.now).min (label_of particle.now).max ≡ false }
+    requires placed { SomeWait (ParticlePlaced (seen particle.now) number (path_shown path.old.items) children.old) }
+    ensures path { OnOk result (path.new.items ≡ path.old.items) }
+    ensures taken { OnOk result (Leaves (ParticlePlaced (seen particle.now) number (path_shown path.old.items) children.old) children.new) }
+    ensures made { IfOk result (λ made. Takes (Several (TermMade (term_of particle.now)) (label_of particle.now).min (label_of particle.now).max) made children.old children.new tally.old tally.new) }
 {
     let mut values = Vec::new(alloc);
-    let mut count: usize = 0;
     'turns: for turn in 0..children.count() {
-        if children.next_turn(level, number) != Some(turn as u64) {
+        if !children.is_next(path.as_slice(), number, turn as u64) {
             break;
         }
-        let below = level.saturating_add(1);
-        let value = fill_term(alloc, particle, number, below, children, tally)?;
+        let value = fill_turn(alloc, particle, number, turn as u64, path, children, tally)?;
         value.push_to(&mut values)?;
-        count = turn + 1;
     }
-    let label = particle.label();
-    // Open: they are always within the bounds.
-    if label.min as usize <= count && is_at_most(count, label.max) {
-        Ok(Built::join(ValueLabel::SequenceOf, values, tally))
-    } else {
-        Err(Memory)
-    }
+    Ok(Built::join(ValueLabel::SequenceOf, values, tally))
 }
 
-// The alternative with this place behind the first, which has this number and stands at this level.
+// The alternative with this place behind the first, which has this number and stands below the path.
 #[cycle(filling)]
 fn fill_chosen(
     alloc: Global,
     particles: &[Tree<ParticleLabel>],
     number: u64,
-    level: usize,
     place: u32,
+    path: &mut Vec<Occurrence>,
     children: &mut Children,
     tally: &mut Tally,
 ) -> Result<Built, Memory>
     requires allowed { AllowedAll MayHave (roses_of particles.now) }
-    requires place { place < length particles.now }
-    ensures { IfOk result (λ made. Takes (ChosenMade (all_seen (roses_of particles.now)) place) made children.old children.new tally.old tally.new) }
+    requires few { number + count_all (roses_of particles.now) ≤ 65536 }
+    requires fillable { AllAreFillable (all_seen (roses_of particles.now)) }
+    requires placed { SomeWait (ChosenPlaced (all_seen (roses_of particles.now)) place number (path_shown path.old.items) children.old) }
+    ensures path { OnOk result (path.new.items ≡ path.old.items) }
+    ensures taken { OnOk result (Leaves (ChosenPlaced (all_seen (roses_of particles.now)) place number (path_shown path.old.items) children.old) children.new) }
+    ensures made { IfOk result (λ made. Takes (ChosenMade (all_seen (roses_of particles.now)) place) made children.old children.new tally.old tally.new) }
 {
-    let Some((first, rest)) = particles.split_first() else {
-        unreachable!();
-    };
-    if 0 < place {
-        let next = number.saturating_add(first.count());
-        return fill_chosen(alloc, rest, next, level, place - 1, children, tally);
-    }
-    if is_once(first.label()) {
-        fill_term(
-            alloc,
-            first,
-            number,
-            level.saturating_add(1),
-            children,
-            tally,
-        )
-    } else {
-        fill_items(alloc, first, number, level, children, tally)
+    match particles.split_first() {
+        None => unreachable!(),
+        Some((first, rest)) => {
+            if 0 < place {
+                let next = number + first.count();
+                fill_chosen(alloc, rest, next, place - 1, path, children, tally)
+            } else if is_once(first.label()) {
+                fill_turn(alloc, first, number, 0, path, children, tally)
+            } else {
+                fill_items(alloc, first, number, path, children, tally)
+            }
+        }
     }
 }
 
-// The part for the particle with this number, which stands at this level of a sequence.
+// The part for the particle with this number, which stands below the path in a sequence.
 #[cycle(filling)]
 fn fill_part(
     alloc: Global,
     particle: &Tree<ParticleLabel>,
     number: u64,
-    level: usize,
+    path: &mut Vec<Occurrence>,
     children: &mut Children,
     parts: &mut Parts,
     tally: &mut Tally,
 ) -> Result<(), Memory>
-    requires { Allowed MayHave particle.now }
-    ensures { OnOk result (Fills (PartsMade (more (seen particle.now) none)) children.old children.new parts.old parts.new tally.old tally.new) }
+    requires allowed { Allowed MayHave particle.now }
+    requires few { number + node_count particle.now ≤ 65536 }
+    requires fillable { IsFillable (seen particle.now) }
+    requires placed { SomeWait (ParticlePlaced (seen particle.now) number (path_shown path.old.items) children.old) }
+    ensures path { OnOk result (path.new.items ≡ path.old.items) }
+    ensures taken { OnOk result (Leaves (ParticlePlaced (seen particle.now) number (path_shown path.old.items) children.old) children.new) }
+    ensures made { OnOk result (Fills (PartsMade (more (seen particle.now) none)) children.old children.new parts.old parts.new tally.old tally.new) }
 {
     let label = particle.label();
-    let below = level.saturating_add(1);
     if is_once(label) {
-        let value = fill_term(alloc, particle, number, below, children, tally)?;
+        let value = fill_turn(alloc, particle, number, 0, path, children, tally)?;
         return parts.add(value);
     }
     if is_optional(label) {
-        if children.next_turn(level, number).is_none() {
+        if !children.is_next(path.as_slice(), number, 0) {
             return parts.leave_out();
         }
-        let value = fill_term(alloc, particle, number, below, children, tally)?;
+        let value = fill_turn(alloc, particle, number, 0, path, children, tally)?;
         return parts.add(value);
     }
-    let value = fill_items(alloc, particle, number, level, children, tally)?;
+    let value = fill_items(alloc, particle, number, path, children, tally)?;
     parts.add(value)
 }
 
-// The parts for the particles of a sequence, of which the first has this number and stands at this level.
+// The parts for the particles of a sequence, of which the first has this number and stands below the path.
 #[cycle(filling)]
 fn fill_parts(
     alloc: Global,
     particles: &[Tree<ParticleLabel>],
     number: u64,
-    level: usize,
+    path: &mut Vec<Occurrence>,
     children: &mut Children,
     parts: &mut Parts,
     tally: &mut Tally,
 ) -> Result<(), Memory>
-    requires { AllowedAll MayHave (roses_of particles.now) }
-    ensures { OnOk result (Fills (PartsMade (all_seen (roses_of particles.now))) children.old children.new parts.old parts.new tally.old tally.new) }
+    requires allowed { AllowedAll MayHave (roses_of particles.now) }
+    requires few { number + count_all (roses_of particles.now) ≤ 65536 }
+    requires fillable { AllAreFillable (all_seen (roses_of particles.now)) }
+    requires placed { SomeWait (OrderPlaced (all_seen (roses_of particles.now)) number (path_shown path.old.items) children.old) }
+    ensures path { OnOk result (path.new.items ≡ path.old.items) }
+    ensures taken { OnOk result (Leaves (OrderPlaced (all_seen (roses_of particles.now)) number (path_shown path.old.items) children.old) children.new) }
+    ensures made { OnOk result (Fills (PartsMade (all_seen (roses_of particles.now))) children.old children.new parts.old parts.new tally.old tally.new) }
 {
     match particles.split_first() {
         None => Ok(()),
         Some((first, rest)) => {
-            fill_part(alloc, first, number, level, children, parts, tally)?;
-            let next = number.saturating_add(first.count());
-            fill_parts(alloc, rest, next, level, children, parts, tally)
+            fill_part(alloc, first, number, path, children, parts, tally)?;
+            let next = number + first.count();
+            fill_parts(alloc, rest, next, path, children, parts, tally)
         }
     }
 }
@@ -274,18 +348,6 @@ fn is_parted(label: &ParticleLabel) -> bool
     match label.kind {
         ParticleKind::Sequence => is_once(label),
         _ => false,
-    }
-}
-
-// Each child element has found its place.
-// Open: none is ever left.
-fn all_placed(children: &Children) -> Result<(), Memory>
-    ensures { OnOk result (children.now.waiting.items ≡ []) }
-{
-    if children.are_placed() {
-        Ok(())
-    } else {
-        Err(Memory)
     }
 }
 
@@ -302,12 +364,15 @@ pub(crate) fn fill_top(
     ensures { OnOk result (FillsAll (TopMade (seen model.now)) children parts.old parts.new tally.old tally.new) }
 {
     let mut waiting = children;
+    let mut path = Vec::new(alloc);
     let root = model.root();
     if is_parted(root.label()) {
-        fill_parts(alloc, root.kids(), 1, 1, &mut waiting, parts, tally)?;
-        all_placed(&waiting)
+        path.push(Occurrence {
+            particle: 0,
+            turn: 0,
+        })?;
+        fill_parts(alloc, root.kids(), 1, &mut path, &mut waiting, parts, tally)
     } else {
-        fill_part(alloc, root, 0, 0, &mut waiting, parts, tally)?;
-        all_placed(&waiting)
+        fill_part(alloc, root, 0, &mut path, &mut waiting, parts, tally)
     }
 }

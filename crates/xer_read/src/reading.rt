@@ -110,7 +110,7 @@ fn counted(made: Built, tally: &Tally) -> Result<Value, ReadError>
 
 /// The value of a document that is valid against the global element with this number: in each map of the set, one of the
 /// root type of the element, and its items are the treated items of the document. No other value of the type has these
-/// items.
+/// items, where the numbers of enumerations have 128 bits, as they have in memory.
 ///
 /// An error tells the first fault; or that the document is valid and its value has more than 1,048,576 nodes, where the
 /// count 2^64 - 1 stands for that number and every greater one; or that memory is missing.

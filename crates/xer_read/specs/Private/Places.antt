@@ -11,6 +11,7 @@ use Rattle.content_match.specs.declared.places.Turn as matched
 use Rattle.content_match.specs.Private.Standing.{turn_shown}
 use Rattle.xer_read.specs.declared.children.Child as kept
 use Rattle.xer_read.specs.declared.children.Children.{Children}
+use Rattle.xer_read.specs.declared.children.Occurrence.{Occurrence}
 
 -- ---- at leaves
 
@@ -34,11 +35,26 @@ AreAt children ls = AllAt children.turns.items children.waiting.items ls
 abbrev pub LeafAdded : ℕ → List matched.Turn → Children → Children → Type 0
 LeafAdded d turns old new = (ls : List Leaf) (l : Leaf) → l.decl ≡ d → l.path ≡ map turn_shown turns → AreAt old ls → AreAt new (ls ++ l ∷ [])
 
+-- The path to the first leaf, if there is one.
+abbrev pub first_path : List Leaf → List Turn
+first_path [] = []
+first_path (l ∷ ls) = l.path
+
 -- ---- below a path
+
+abbrev pub occurrence_shown : Occurrence → Turn
+occurrence_shown o = record { particle = o.particle; turn = o.turn }
+
+abbrev pub path_shown : List Occurrence → List Turn
+path_shown = map occurrence_shown
+
+-- The turns go on below the path, with this one.
+abbrev pub GoesOn : List Turn → Turn → List Turn → Type 0
+GoesOn path u turns = (rest : List Turn) × (turns ≡ path ++ u ∷ rest)
 
 -- The leaf stands below the path, at this turn.
 abbrev pub IsBelow : List Turn → Turn → Leaf → Type 0
-IsBelow path u l = (rest : List Turn) × (l.path ≡ path ++ u ∷ rest)
+IsBelow path u l = GoesOn path u l.path
 
 -- each stands below the path, at a turn of which T holds
 abbrev pub AllIn : List Turn → (Turn → Type 0) → List Leaf → Type 0
@@ -64,6 +80,14 @@ pub record Placed (L : List Leaf → Type 0) (path : List Turn) (T : Turn → Ty
   pub lang : L us
   pub apart : NoneIn path T ws
 
+-- some wait so
+abbrev pub SomeWait : (List Leaf → List Leaf → Type 0) → Type 0
+SomeWait P = (us : List Leaf) × (ws : List Leaf) × P us ws
+
+-- whichever waited so, they were taken, and no others
+abbrev pub Leaves : (List Leaf → List Leaf → Type 0) → Children → Type 0
+Leaves P new = (us ws : List Leaf) → P us ws → AreAt new ws
+
 -- those of the particle with this number
 abbrev pub ParticlePlaced : Particle → ℕ → List Turn → Children → List Leaf → List Leaf → Type 0
 ParticlePlaced p n path = Placed (Lang p n path) path (λ u. u.particle ≡ n)
@@ -84,15 +108,22 @@ TermPlaced t n path = Placed (Body t n path) path (λ u. Unit {0})
 abbrev pub OrderPlaced : Particles → ℕ → List Turn → Children → List Leaf → List Leaf → Type 0
 OrderPlaced ps n path = Placed (InOrder ps n path) path (λ u. n ≤ u.particle)
 
--- of one of the particles in a choice
+-- of one of the particles in a choice, where nothing else stands below the path
 abbrev pub OnePlaced : Particles → ℕ → List Turn → Children → List Leaf → List Leaf → Type 0
-OnePlaced ps n path = Placed (OneOf ps n path) path (λ u. n ≤ u.particle)
+OnePlaced ps n path = Placed (OneOf ps n path) path (λ u. Unit {0})
 
 -- a list of the alternative with this place
 abbrev pub Chosen : Particles → ℕ → ℕ → List Turn → List Leaf → Type 0
 Chosen none i n path w = ⊥
 Chosen (more p ps) zero n path w = Lang p n path w
 Chosen (more p ps) (suc i) n path w = Chosen ps i (n + size_of p) path w
+
+-- A list of one of the particles begins at a turn of the particle with this number, where the first of them has the number n.
+pub record BeginsWith (number n : ℕ) (path : List Turn) (ps : Particles) (us : List Leaf) : Type 0 where
+  pub lang : OneOf ps n path us
+  pub head : Turn
+  pub begins : HeadIn path head us
+  pub is : head.particle ≡ number
 
 abbrev pub ChosenPlaced : Particles → ℕ → ℕ → List Turn → Children → List Leaf → List Leaf → Type 0
 ChosenPlaced ps i n path = Placed (Chosen ps i n path) path (λ u. n ≤ u.particle)

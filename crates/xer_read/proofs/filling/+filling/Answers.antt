@@ -1,116 +1,291 @@
-use Rattle.std.proofs.Common.{◌≡◌, ◌+◌, ◌-◌, nat_le, false, [], ◌∷◌, ◌++◌, ap, arith, refl, sym, subst, length, ◌∙◌}
-use Rattle.std.proofs.lemmas.Bool.{le-leb}
-use Rattle.label_tree.specs.Rose.{count_all, roses_of, label_of, kids_of, AllowedAll}
+use Rattle.std.proofs.Common.{◌≡◌, ℕ, ◌+◌, ◌-◌, false, [], ◌∷◌, ◌++◌, ap, arith, refl, sym, subst, ◌∙◌}
+use Rattle.label_tree.specs.Rose.{roses_of, label_of, kids_of, AllowedAll}
 use Rattle.label_tree.proofs.Roses.{node_count-kids, allowed-kids}
 use Rattle.content_models.specs.Kids.{MayHave}
+use Rattle.content_models.specs.Language.{turn_of}
 use Rattle.content_models.specs.Seen.{seen, all_seen}
-use Rattle.content_models.specs.Particle.{more, none}
+use Rattle.content_models.specs.Particle.{more, none, choice, sequence}
 use Rattle.content_models.specs.declared.particles.ParticleKind.TheVariants as kinds
-use Rattle.simple_values.specs.Lexical.{is_at_most}
 use Rattle.xer_read.specs.Private.Bounds.{is_once, is_optional}
 use Rattle.xer_read.specs.Private.Made.{Several, TermMade, PartsMade, ChosenMade}
 use Rattle.xer_read.specs.Private.Tallied.{PartAdded}
 use Rattle.xer_read.specs.Private.Growing.{term_of, Fills}
-use Rattle.xer_read.proofs.Growing.{on-ok, takes-as, none-gathered, gathered-more, several-done, term-by, absent-made, later-chosen, sequence-made, choice-made, element-made, fills-one, fills-absent, fills-none, fills-more, once-made, optional-made, several-made, once-chosen, several-chosen, some-alternative}
+use Rattle.xer_read.specs.Private.Places.{HeadIn, Leaves, SomeWait, ParticlePlaced, TurnPlaced, OrderPlaced, OnePlaced, ChosenPlaced, path_shown}
+use Rattle.xer_read.proofs.Growing.{on-ok, takes-as, none-gathered, gathered-more, several-done, term-by, absent-made, later-chosen, sequence-made, choice-made, element-made, fills-one, fills-absent, fills-none, fills-more, once-made, optional-made, several-made, once-chosen, several-chosen}
+use Rattle.xer_read.proofs.Stepping as step
 use Rattle.xer_read.proofs.filling.+filling.Goals as goal
+use Rattle.xer_read.proofs.filling.+filling.Goals.{fill_items-else-turns-test, fill_items-then-turns-test+then-not-is_next}
+
+-- ---- an alternative
+
+pub fill_chosen-unreachable-requires : goal.fill_chosen-unreachable-requires
+fill_chosen-unreachable-requires t c = step.none-chosen c.args.particles.now c.args.place c.args.number (path_shown c.args.path.now.items) c.args.children.now c.in-None.ensures.cases c.requires.placed
 
 pub fill_chosen-fill_chosen-requires : goal.fill_chosen-fill_chosen-requires
 fill_chosen-fill_chosen-requires t c =
+    let ts = c.args.particles.now in
+    let first = c.in-Some.first.now in
+    let rest = c.in-Some.rest.now in
+    let is = c.in-Some.ensures.cases.0 in
     let d = c.decreases in
-    let k = ap (λ us. count_all (roses_of us)) c.in-Some.ensures.cases.0 in
-    let n = node_count-kids c.in-Some.first.now in
-    let long = c.in-Some.ensures.cases.1 in
-    let place = c.requires.place in
+    let k = step.counts-split ts first rest is in
+    let n = node_count-kids first in
+    let some = c.if-place-gt0.true in (
+      omega (arith, d, k, n),
+      (
+        step.rest-allowed ts first rest is c.requires.allowed,
+        (
+          step.rest-few ts first rest is c.args.number c.count.result c.requires.few c.count.ensures,
+          (
+            step.rest-fillable ts first rest is c.requires.fillable,
+            step.later-waits ts first rest is c.args.place (c.args.place - 1) c.args.number (c.args.number + c.count.result) (path_shown c.args.path.now.items) c.args.children.now (omega (arith, some))
+                (step.next-number ts first rest is c.args.number c.count.result c.requires.allowed c.requires.few c.count.ensures) c.requires.placed,
+          ),
+        ),
+      ),
+    )
+
+pub fill_chosen-fill_turn-requires : goal.fill_chosen-fill_turn-requires
+fill_chosen-fill_turn-requires t c =
+    let ts = c.args.particles.now in
+    let first = c.in-Some.first.now in
+    let rest = c.in-Some.rest.now in
+    let is = c.in-Some.ensures.cases.0 in
+    let d = c.decreases in
+    let k = step.counts-split ts first rest is in
+    let is_first : c.args.place ≡ 0 = omega (arith, c.if-place-gt0.false) in
+    let path = path_shown c.args.path.now.items in (
+      omega (arith, d, k),
+      (
+        step.first-allowed ts first rest is c.requires.allowed,
+        (
+          step.first-few ts first rest is c.args.number c.requires.few,
+          (
+            step.first-fillable ts first rest is c.requires.fillable,
+            step.once-waits first c.args.number path c.args.children.now (sym (c.if-is_once.ensures ∙ ap (λ l. is_once l.min l.max) c.label.ensures))
+                (step.chosen-waits ts first rest is c.args.place c.args.number path c.args.children.now is_first c.requires.placed),
+          ),
+        ),
+      ),
+    )
+
+pub fill_chosen-fill_items-requires : goal.fill_chosen-fill_items-requires
+fill_chosen-fill_items-requires t c =
+    let ts = c.args.particles.now in
+    let first = c.in-Some.first.now in
+    let rest = c.in-Some.rest.now in
+    let is = c.in-Some.ensures.cases.0 in
+    let d = c.decreases in
+    let k = step.counts-split ts first rest is in
+    let is_first : c.args.place ≡ 0 = omega (arith, c.if-place-gt0.false) in
+    let path = path_shown c.args.path.now.items in (
+      omega (arith, d, k),
+      (step.first-allowed ts first rest is c.requires.allowed, (step.first-few ts first rest is c.args.number c.requires.few, (step.first-fillable ts first rest is c.requires.fillable, (sym (c.if-is_once.ensures ∙ ap (λ l. is_once l.min l.max) c.label.ensures), step.chosen-waits ts first rest is c.args.place c.args.number path c.args.children.now is_first c.requires.placed)))),
+    )
+
+pub fill_chosen-returns-then-place-gt0-clause-taken : goal.fill_chosen-returns-then-place-gt0-clause-taken
+fill_chosen-returns-then-place-gt0-clause-taken t c =
     let some = c.if-place-gt0.true in
-    (omega (arith, d, k, n), ((subst (λ us. AllowedAll MayHave (roses_of us)) c.in-Some.ensures.cases.0 c.requires.allowed).1, omega (arith, long, place, some)))
+    let path = path_shown c.args.path.now.items in
+    let new = c.fill_chosen.new.children in
+    let next = c.args.number + c.count.result in
+    let is = c.in-Some.ensures.cases.0 in
+    on-ok c.fill_chosen.result (Leaves (ChosenPlaced (all_seen (roses_of c.in-Some.rest.now)) (c.args.place - 1) next path c.args.children.now) new)
+    (Leaves (ChosenPlaced (all_seen (roses_of c.args.particles.now)) c.args.place c.args.number path c.args.children.now) new)
+    (step.later-leaves c.args.particles.now c.in-Some.first.now c.in-Some.rest.now is c.args.place (c.args.place - 1) c.args.number next path c.args.children.now new (omega (arith, some))
+    (step.next-number c.args.particles.now c.in-Some.first.now c.in-Some.rest.now is c.args.number c.count.result c.requires.allowed c.requires.few c.count.ensures)) c.fill_chosen.ensures.taken
 
-pub fill_chosen-returns-then-is_once : goal.fill_chosen-returns-then-is_once
-fill_chosen-returns-then-is_once t c =
-    let zero_is : c.args.place ≡ 0 = omega arith in
-    takes-as c.fill_term.result (TermMade (term_of c.in-Some.first.now)) (ChosenMade (all_seen (roses_of c.args.particles.now)) c.args.place) c.args.children.now c.fill_term.new.children c.args.tally.now c.fill_term.new.tally
+pub fill_chosen-returns-then-place-gt0-clause-made : goal.fill_chosen-returns-then-place-gt0-clause-made
+fill_chosen-returns-then-place-gt0-clause-made t c =
+    let some = c.if-place-gt0.true in
+    takes-as c.fill_chosen.result (ChosenMade (all_seen (roses_of c.in-Some.rest.now)) (c.args.place - 1)) (ChosenMade (all_seen (roses_of c.args.particles.now)) c.args.place)
+    c.args.children.now c.fill_chosen.new.children c.args.tally.now c.fill_chosen.new.tally
+    (λ v gs h. later-chosen c.args.particles.now c.in-Some.first.now c.in-Some.rest.now c.in-Some.ensures.cases.0 c.args.place (c.args.place - 1) v gs (omega (arith, some)) h) c.fill_chosen.ensures.made
+
+pub fill_chosen-returns-then-is_once-clause-taken : goal.fill_chosen-returns-then-is_once-clause-taken
+fill_chosen-returns-then-is_once-clause-taken t c =
+    let first = c.in-Some.first.now in
+    let is_first : c.args.place ≡ 0 = omega (arith, c.if-place-gt0.false) in
+    let path = path_shown c.args.path.now.items in
+    let old = c.args.children.now in
+    let new = c.fill_turn.new.children in
+    on-ok c.fill_turn.result (Leaves (TurnPlaced (term_of first) c.args.number 0 path old) new) (Leaves (ChosenPlaced (all_seen (roses_of c.args.particles.now)) c.args.place c.args.number path old) new)
+    (λ h. step.chosen-leaves c.args.particles.now first c.in-Some.rest.now c.in-Some.ensures.cases.0 c.args.place c.args.number path old new is_first
+    (step.once-leaves first c.args.number path old (sym (c.if-is_once.ensures ∙ ap (λ l. is_once l.min l.max) c.label.ensures)) new h)) c.fill_turn.ensures.taken
+
+pub fill_chosen-returns-then-is_once-clause-made : goal.fill_chosen-returns-then-is_once-clause-made
+fill_chosen-returns-then-is_once-clause-made t c =
+    let zero_is : c.args.place ≡ 0 = omega (arith, c.if-place-gt0.false) in
+    takes-as c.fill_turn.result (TermMade (term_of c.in-Some.first.now)) (ChosenMade (all_seen (roses_of c.args.particles.now)) c.args.place) c.args.children.now c.fill_turn.new.children c.args.tally.now c.fill_turn.new.tally
     (λ v gs h. once-chosen c.args.particles.now c.in-Some.first.now c.in-Some.rest.now c.in-Some.ensures.cases.0 c.args.place v gs zero_is
-    (sym (c.if-is_once.ensures ∙ ap (λ l. is_once l.min l.max) c.label.ensures)) h) c.fill_term.ensures
+    (sym (c.if-is_once.ensures ∙ ap (λ l. is_once l.min l.max) c.label.ensures)) h) c.fill_turn.ensures.made
 
-pub fill_chosen-returns-else-is_once : goal.fill_chosen-returns-else-is_once
-fill_chosen-returns-else-is_once t c =
-    let zero_is : c.args.place ≡ 0 = omega arith in
+pub fill_chosen-returns-else-is_once-clause-taken : goal.fill_chosen-returns-else-is_once-clause-taken
+fill_chosen-returns-else-is_once-clause-taken t c =
+    let first = c.in-Some.first.now in
+    let is_first : c.args.place ≡ 0 = omega (arith, c.if-place-gt0.false) in
+    let path = path_shown c.args.path.now.items in
+    let old = c.args.children.now in
+    let new = c.fill_items.new.children in
+    on-ok c.fill_items.result (Leaves (ParticlePlaced (seen first) c.args.number path old) new) (Leaves (ChosenPlaced (all_seen (roses_of c.args.particles.now)) c.args.place c.args.number path old) new)
+    (step.chosen-leaves c.args.particles.now first c.in-Some.rest.now c.in-Some.ensures.cases.0 c.args.place c.args.number path old new is_first) c.fill_items.ensures.taken
+
+pub fill_chosen-returns-else-is_once-clause-made : goal.fill_chosen-returns-else-is_once-clause-made
+fill_chosen-returns-else-is_once-clause-made t c =
+    let zero_is : c.args.place ≡ 0 = omega (arith, c.if-place-gt0.false) in
     takes-as c.fill_items.result (Several (TermMade (term_of c.in-Some.first.now)) (label_of c.in-Some.first.now).min (label_of c.in-Some.first.now).max) (ChosenMade (all_seen (roses_of c.args.particles.now)) c.args.place)
     c.args.children.now c.fill_items.new.children c.args.tally.now c.fill_items.new.tally
     (λ v gs h. several-chosen c.args.particles.now c.in-Some.first.now c.in-Some.rest.now c.in-Some.ensures.cases.0 c.args.place v gs zero_is
-    (sym (c.if-is_once.ensures ∙ ap (λ l. is_once l.min l.max) c.label.ensures)) h) c.fill_items.ensures
+    (sym (c.if-is_once.ensures ∙ ap (λ l. is_once l.min l.max) c.label.ensures)) h) c.fill_items.ensures.made
+
+-- ---- several occurrences
 
 pub fill_items-turns-init : goal.fill_items-turns-init
 fill_items-turns-init t c = record {
-  many = refl;
+  path = refl;
+  placed = step.items-start c.args.particle.now c.args.number (path_shown c.args.path.now.items) c.args.children.now c.requires.several c.requires.fillable;
   gathered = none-gathered (TermMade (term_of c.args.particle.now)) c.new-values.result.items c.new-values.ensures.items c.args.children.now c.args.tally.now;
 }
 
+pub fill_items-fill_turn-requires : goal.fill_items-fill_turn-requires
+fill_items-fill_turn-requires t c =
+    let d = c.decreases in (
+      omega (arith, d),
+      (
+        c.requires.allowed,
+        (
+          c.requires.few,
+          (
+            c.requires.fillable,
+            step.items-wait c.args.particle.now c.args.number c.args.path.now.items c.turns.path.items c.turns.invariant.path c.args.children.now c.turns.children c.turns.turn c.turns.invariant.placed
+                (λ ls at. subst (λ p. HeadIn (path_shown p) (turn_of c.args.number c.turns.turn) ls) c.as_slice.ensures.value ((c.is_next.ensures ls at).0 c.if-not-is_next.false)) c.requires.placed,
+          ),
+        ),
+      ),
+    )
+
 pub fill_items-turns-preserved : goal.fill_items-turns-preserved
-fill_items-turns-preserved t c =
-    let is = c.turns.invariant.many in
-    record {
-      many = omega arith;
-      gathered = gathered-more (TermMade (term_of c.args.particle.now)) c.turns.count (c.turns.turn + 1) (omega (arith, is)) c.turns.values.items c.push_to.new.values.items c.in_ok-value.value c.in_ok-push_to.ensures
-          c.args.children.now c.turns.children c.fill_term.new.children c.args.tally.now c.turns.tally c.fill_term.new.tally c.turns.invariant.gathered c.in_ok-value.ensures;
-    }
+fill_items-turns-preserved t c = record {
+  path = c.in_ok-value.ensures.path ∙ c.turns.invariant.path;
+  placed = step.items-go-on c.args.particle.now c.args.number c.args.path.now.items c.turns.path.items c.turns.invariant.path c.args.children.now c.turns.children c.turns.turn c.turns.invariant.placed
+      (λ ls at. subst (λ p. HeadIn (path_shown p) (turn_of c.args.number c.turns.turn) ls) c.as_slice.ensures.value ((c.is_next.ensures ls at).0 c.if-not-is_next.false)) c.fill_turn.new.children c.in_ok-value.ensures.taken;
+  gathered = gathered-more (TermMade (term_of c.args.particle.now)) c.turns.turn (c.turns.turn + 1) refl c.turns.values.items c.push_to.new.values.items c.in_ok-value.value c.in_ok-push_to.ensures
+      c.args.children.now c.turns.children c.fill_turn.new.children c.args.tally.now c.turns.tally c.fill_turn.new.tally c.turns.invariant.gathered c.in_ok-value.ensures.made;
+}
 
-pub fill_parts-fill_parts-requires : goal.fill_parts-fill_parts-requires
-fill_parts-fill_parts-requires t c =
-    let d = c.decreases in
-    let k = ap (λ us. count_all (roses_of us)) c.in-Some.ensures.cases.0 in
-    let n = node_count-kids c.in-Some.first.now in
-    (omega (arith, d, k, n), (subst (λ us. AllowedAll MayHave (roses_of us)) c.in-Some.ensures.cases.0 c.requires).1)
+-- behind the loop no more of them come, however it ended
+items-taken : (t : ℕ) (c : goal.fill_items-After-join t) → step.AllTaken c.args.particle.now c.args.number c.args.path.now.items c.turns.path.items c.turns.invariant.path c.args.children.now c.turns.children c.turns.turn c.turns.invariant.placed
+items-taken t c =
+    elim c.turns-test.branch [
+      | fill_items-else-turns-test w ↦ step.items-all c.args.particle.now c.args.number c.args.path.now.items c.turns.path.items c.turns.invariant.path c.args.children.now c.turns.children c.turns.turn c.turns.invariant.placed
+          (let l = w.turns-test.false in let e = c.count-turn-end.ensures in omega (arith, l, e))
+      | fill_items-then-turns-test+then-not-is_next w ↦ step.items-end c.args.particle.now c.args.number c.args.path.now.items c.turns.path.items c.turns.invariant.path c.args.children.now c.turns.children c.turns.turn c.turns.invariant.placed
+          c.requires.several c.requires.fillable
+          (λ ls at k. step.never-true w.if-not-is_next.true ((w.is_next.ensures ls at).1 (subst (λ p. HeadIn (path_shown p) (turn_of c.args.number c.turns.turn) ls) (sym w.as_slice.ensures.value) k)))
+    ]
 
-pub fill_parts-fill_part-requires : goal.fill_parts-fill_part-requires
-fill_parts-fill_part-requires t c =
-    let d = c.decreases in
-    let k = ap (λ us. count_all (roses_of us)) c.in-Some.ensures.cases.0 in
-    (omega (arith, d, k), (subst (λ us. AllowedAll MayHave (roses_of us)) c.in-Some.ensures.cases.0 c.requires).0)
+pub fill_items-returns-clause-taken : goal.fill_items-returns-clause-taken
+fill_items-returns-clause-taken t c = step.items-leave c.args.particle.now c.args.number c.args.path.now.items c.turns.path.items c.turns.invariant.path c.args.children.now c.turns.children c.turns.turn c.turns.invariant.placed (items-taken t c)
 
-pub fill_parts-returns-in-None : goal.fill_parts-returns-in-None
-fill_parts-returns-in-None t c = fills-none c.args.particles.now c.in-None.ensures.cases c.args.children.now c.args.parts.now c.args.tally.now
+pub fill_items-returns-clause-made : goal.fill_items-returns-clause-made
+fill_items-returns-clause-made t c =
+    let within = step.items-within c.args.particle.now c.args.number c.args.path.now.items c.turns.path.items c.turns.invariant.path c.args.children.now c.turns.children c.turns.turn c.turns.invariant.placed (items-taken t c) c.requires.placed in
+    several-done c.args.particle.now c.turns.turn c.turns.values.items c.args.children.now c.turns.children c.args.tally.now c.turns.tally c.join.new.tally c.turns.invariant.gathered
+    (label_of c.args.particle.now).min (label_of c.args.particle.now).max within.0 within.1 c.join.result c.join.ensures.counts c.join.ensures.built.0
 
-pub fill_term-fill_parts-requires : goal.fill_term-fill_parts-requires
-fill_term-fill_parts-requires t c =
-    let d = c.decreases in
-    let k = node_count-kids c.args.particle.now in
-    (rw c.kids.ensures (omega (arith, d, k)), subst (λ us. AllowedAll MayHave (roses_of us)) (sym c.kids.ensures) (allowed-kids MayHave c.args.particle.now c.requires))
+-- ---- parts
 
-pub fill_parts-returns-in_ok-fill_part-in-Some : goal.fill_parts-returns-in_ok-fill_part-in-Some
-fill_parts-returns-in_ok-fill_part-in-Some t c =
-    on-ok c.fill_parts.result
-    (Fills (PartsMade (all_seen (roses_of c.in-Some.rest.now))) c.fill_part.new.children c.fill_parts.new.children c.fill_part.new.parts c.fill_parts.new.parts c.fill_part.new.tally c.fill_parts.new.tally)
-    (Fills (PartsMade (all_seen (roses_of c.args.particles.now))) c.args.children.now c.fill_parts.new.children c.args.parts.now c.fill_parts.new.parts c.args.tally.now c.fill_parts.new.tally)
-    (fills-more c.args.particles.now c.in-Some.first.now c.in-Some.rest.now c.in-Some.ensures.cases.0 c.args.children.now c.fill_part.new.children c.fill_parts.new.children
-    c.args.parts.now c.fill_part.new.parts c.fill_parts.new.parts c.args.tally.now c.fill_part.new.tally c.fill_parts.new.tally c.in_ok-fill_part-in-Some.ensures) c.fill_parts.ensures
+pub fill_part-fill_turn-requires : goal.fill_part-fill_turn-requires
+fill_part-fill_turn-requires t c =
+    let d = c.decreases in (
+      omega (arith, d),
+      (c.requires.allowed, (c.requires.few, (c.requires.fillable, step.once-waits c.args.particle.now c.args.number (path_shown c.args.path.now.items) c.args.children.now (sym (c.if-is_once.ensures ∙ ap (λ l. is_once l.min l.max) c.label-label.ensures)) c.requires.placed))),
+    )
 
-pub fill_part-returns-then-is_once : goal.fill_part-returns-then-is_once
-fill_part-returns-then-is_once t c =
+pub fill_part-fill_turn-requires-then-is_optional : goal.fill_part-fill_turn-requires-then-is_optional
+fill_part-fill_turn-requires-then-is_optional t c =
+    let d = c.decreases in (
+      omega (arith, d),
+      (
+        c.requires.allowed,
+        (
+          c.requires.few,
+          (
+            c.requires.fillable,
+            step.present-waits c.args.particle.now c.args.number (path_shown c.args.path.now.items) c.args.children.now (sym (c.if-is_optional.ensures ∙ ap (λ l. is_optional l.min l.max) c.label-label.ensures))
+                (λ ls at. subst (λ p. HeadIn (path_shown p) (turn_of c.args.number 0) ls) c.as_slice.ensures.value ((c.is_next.ensures ls at).0 c.if-not-is_next.false)) c.requires.placed,
+          ),
+        ),
+      ),
+    )
+
+pub fill_part-fill_items-requires : goal.fill_part-fill_items-requires
+fill_part-fill_items-requires t c =
+    let d = c.decreases in (
+      omega (arith, d),
+      (c.requires.allowed, (c.requires.few, (c.requires.fillable, (sym (c.if-is_once.ensures ∙ ap (λ l. is_once l.min l.max) c.label-label.ensures), c.requires.placed)))),
+    )
+
+pub fill_part-returns-then-is_once-clause-path : goal.fill_part-returns-then-is_once-clause-path
+fill_part-returns-then-is_once-clause-path t c =
+    on-ok c.add.result (PartAdded c.in_ok-value.value c.args.parts.now c.add.new.self) (c.fill_turn.new.path.items ≡ c.args.path.now.items) (λ g. c.in_ok-value.ensures.path) c.add.ensures
+
+pub fill_part-returns-then-is_once-clause-taken : goal.fill_part-returns-then-is_once-clause-taken
+fill_part-returns-then-is_once-clause-taken t c =
+    on-ok c.add.result (PartAdded c.in_ok-value.value c.args.parts.now c.add.new.self)
+    (Leaves (ParticlePlaced (seen c.args.particle.now) c.args.number (path_shown c.args.path.now.items) c.args.children.now) c.fill_turn.new.children)
+    (λ g. step.once-leaves c.args.particle.now c.args.number (path_shown c.args.path.now.items) c.args.children.now (sym (c.if-is_once.ensures ∙ ap (λ l. is_once l.min l.max) c.label-label.ensures))
+    c.fill_turn.new.children c.in_ok-value.ensures.taken) c.add.ensures
+
+pub fill_part-returns-then-is_once-clause-made : goal.fill_part-returns-then-is_once-clause-made
+fill_part-returns-then-is_once-clause-made t c =
     let particle = c.args.particle.now in
     let label = c.label-label.result.now in
     let made = c.in_ok-value.value in
     on-ok c.add.result (PartAdded made c.args.parts.now c.add.new.self)
-    (Fills (PartsMade (more (seen particle) none)) c.args.children.now c.fill_term.new.children c.args.parts.now c.add.new.self c.args.tally.now c.fill_term.new.tally)
-    (λ g. fills-one (PartsMade (more (seen particle) none)) (TermMade (term_of particle)) c.args.children.now c.fill_term.new.children c.args.parts.now c.add.new.self c.args.tally.now c.fill_term.new.tally made
+    (Fills (PartsMade (more (seen particle) none)) c.args.children.now c.fill_turn.new.children c.args.parts.now c.add.new.self c.args.tally.now c.fill_turn.new.tally)
+    (λ g. fills-one (PartsMade (more (seen particle) none)) (TermMade (term_of particle)) c.args.children.now c.fill_turn.new.children c.args.parts.now c.add.new.self c.args.tally.now c.fill_turn.new.tally made
     (λ v gs h. once-made particle label.min label.max (ap (λ l. l.min) (sym c.label-label.ensures)) (ap (λ l. l.max) (sym c.label-label.ensures)) (sym c.if-is_once.ensures) v gs h)
-    c.in_ok-value.ensures g)
+    c.in_ok-value.ensures.made g)
     c.add.ensures
 
-pub fill_part-returns-then-is_optional : goal.fill_part-returns-then-is_optional
-fill_part-returns-then-is_optional t c =
+pub fill_part-returns-then-is_optional-clause-path : goal.fill_part-returns-then-is_optional-clause-path
+fill_part-returns-then-is_optional-clause-path t c =
+    on-ok c.add-then-is_optional.result (PartAdded c.in_ok-value-2.value c.args.parts.now c.add-then-is_optional.new.self) (c.fill_turn-then-is_optional.new.path.items ≡ c.args.path.now.items)
+    (λ g. c.in_ok-value-2.ensures.path) c.add-then-is_optional.ensures
+
+pub fill_part-returns-then-is_optional-clause-taken : goal.fill_part-returns-then-is_optional-clause-taken
+fill_part-returns-then-is_optional-clause-taken t c =
+    on-ok c.add-then-is_optional.result (PartAdded c.in_ok-value-2.value c.args.parts.now c.add-then-is_optional.new.self)
+    (Leaves (ParticlePlaced (seen c.args.particle.now) c.args.number (path_shown c.args.path.now.items) c.args.children.now) c.fill_turn-then-is_optional.new.children)
+    (λ g. step.present-leaves c.args.particle.now c.args.number (path_shown c.args.path.now.items) c.args.children.now (sym (c.if-is_optional.ensures ∙ ap (λ l. is_optional l.min l.max) c.label-label.ensures))
+    (λ ls at. subst (λ p. HeadIn (path_shown p) (turn_of c.args.number 0) ls) c.as_slice.ensures.value ((c.is_next.ensures ls at).0 c.if-not-is_next.false))
+    c.fill_turn-then-is_optional.new.children c.in_ok-value-2.ensures.taken) c.add-then-is_optional.ensures
+
+pub fill_part-returns-then-is_optional-clause-made : goal.fill_part-returns-then-is_optional-clause-made
+fill_part-returns-then-is_optional-clause-made t c =
     let particle = c.args.particle.now in
     let label = c.label-label.result.now in
     let made = c.in_ok-value-2.value in
     on-ok c.add-then-is_optional.result (PartAdded made c.args.parts.now c.add-then-is_optional.new.self)
-    (Fills (PartsMade (more (seen particle) none)) c.args.children.now c.fill_term-then-is_optional.new.children c.args.parts.now c.add-then-is_optional.new.self c.args.tally.now c.fill_term-then-is_optional.new.tally)
-    (λ g. fills-one (PartsMade (more (seen particle) none)) (TermMade (term_of particle)) c.args.children.now c.fill_term-then-is_optional.new.children c.args.parts.now c.add-then-is_optional.new.self
-    c.args.tally.now c.fill_term-then-is_optional.new.tally made
+    (Fills (PartsMade (more (seen particle) none)) c.args.children.now c.fill_turn-then-is_optional.new.children c.args.parts.now c.add-then-is_optional.new.self c.args.tally.now c.fill_turn-then-is_optional.new.tally)
+    (λ g. fills-one (PartsMade (more (seen particle) none)) (TermMade (term_of particle)) c.args.children.now c.fill_turn-then-is_optional.new.children c.args.parts.now c.add-then-is_optional.new.self
+    c.args.tally.now c.fill_turn-then-is_optional.new.tally made
     (λ v gs h. optional-made particle label.min label.max (ap (λ l. l.min) (sym c.label-label.ensures)) (ap (λ l. l.max) (sym c.label-label.ensures)) (sym c.if-is_optional.ensures) v gs h)
-    c.in_ok-value-2.ensures g)
+    c.in_ok-value-2.ensures.made g)
     c.add-then-is_optional.ensures
 
-pub fill_part-returns : goal.fill_part-returns
-fill_part-returns t c =
+pub fill_part-returns-clause-path : goal.fill_part-returns-clause-path
+fill_part-returns-clause-path t c =
+    on-ok c.add-2.result (PartAdded c.in_ok-value-3.value c.args.parts.now c.add-2.new.self) (c.fill_items.new.path.items ≡ c.args.path.now.items) (λ g. c.in_ok-value-3.ensures.path) c.add-2.ensures
+
+pub fill_part-returns-clause-taken : goal.fill_part-returns-clause-taken
+fill_part-returns-clause-taken t c =
+    on-ok c.add-2.result (PartAdded c.in_ok-value-3.value c.args.parts.now c.add-2.new.self)
+    (Leaves (ParticlePlaced (seen c.args.particle.now) c.args.number (path_shown c.args.path.now.items) c.args.children.now) c.fill_items.new.children) (λ g. c.in_ok-value-3.ensures.taken) c.add-2.ensures
+
+pub fill_part-returns-clause-made : goal.fill_part-returns-clause-made
+fill_part-returns-clause-made t c =
     let particle = c.args.particle.now in
     let label = c.label-label.result.now in
     let made = c.in_ok-value-3.value in
@@ -120,39 +295,26 @@ fill_part-returns t c =
     c.args.parts.now c.add-2.new.self c.args.tally.now c.fill_items.new.tally made
     (λ v gs h. several-made particle (label_of particle).min (label_of particle).max refl refl
     (sym (c.if-is_once.ensures ∙ ap (λ l. is_once l.min l.max) c.label-label.ensures)) (sym (c.if-is_optional.ensures ∙ ap (λ l. is_optional l.min l.max) c.label-label.ensures)) v gs h)
-    c.in_ok-value-3.ensures g)
+    c.in_ok-value-3.ensures.made g)
     c.add-2.ensures
 
-pub fill_term-fill_chosen-requires : goal.fill_term-fill_chosen-requires
-fill_term-fill_chosen-requires t c =
-    let d = c.decreases in
-    let k = node_count-kids c.args.particle.now in
-    let place = c.alternative-place.ensures in
-    let one = ap length c.kids-in-Choice.ensures in
-    let two = ap length c.kids-in-Choice-2.ensures in (
-      rw c.kids-in-Choice-2.ensures (omega (arith, d, k)),
-      (subst (λ us. AllowedAll MayHave (roses_of us)) (sym c.kids-in-Choice-2.ensures) (allowed-kids MayHave c.args.particle.now c.requires), omega (arith, place, one, two)),
-    )
+pub fill_part-returns-then-not-is_next-clause-path : goal.fill_part-returns-then-not-is_next-clause-path
+fill_part-returns-then-not-is_next-clause-path t c =
+    let old = c.args.parts.now in
+    let new = c.leave_out.new.self in
+    on-ok c.leave_out.result ((new.flags.items ≡ old.flags.items ++ false ∷ []) × (new.values.items ≡ old.values.items)) (c.args.path.now.items ≡ c.args.path.now.items) (λ g. refl) c.leave_out.ensures
 
-pub fill_term-alternative-place-requires : goal.fill_term-alternative-place-requires
-fill_term-alternative-place-requires t c = some-alternative c.args.particle.now c.label.result.now c.kids-in-Choice.result.now c.label.ensures c.in-Choice.is c.kids-in-Choice.ensures c.requires
+pub fill_part-returns-then-not-is_next-clause-taken : goal.fill_part-returns-then-not-is_next-clause-taken
+fill_part-returns-then-not-is_next-clause-taken t c =
+    let old = c.args.parts.now in
+    let new = c.leave_out.new.self in
+    on-ok c.leave_out.result ((new.flags.items ≡ old.flags.items ++ false ∷ []) × (new.values.items ≡ old.values.items))
+    (Leaves (ParticlePlaced (seen c.args.particle.now) c.args.number (path_shown c.args.path.now.items) c.args.children.now) c.args.children.now)
+    (λ g. step.absent-leaves c.args.particle.now c.args.number (path_shown c.args.path.now.items) c.args.children.now (sym (c.if-is_once.ensures ∙ ap (λ l. is_once l.min l.max) c.label-label.ensures)) c.requires.fillable
+    (λ ls at k. step.never-true c.if-not-is_next.true ((c.is_next.ensures ls at).1 (subst (λ p. HeadIn (path_shown p) (turn_of c.args.number 0) ls) (sym c.as_slice.ensures.value) k)))) c.leave_out.ensures
 
-pub fill_chosen-returns-then-place-gt0 : goal.fill_chosen-returns-then-place-gt0
-fill_chosen-returns-then-place-gt0 t c =
-    let some = c.if-place-gt0.true in
-    takes-as c.fill_chosen.result (ChosenMade (all_seen (roses_of c.in-Some.rest.now)) (c.args.place - 1)) (ChosenMade (all_seen (roses_of c.args.particles.now)) c.args.place)
-    c.args.children.now c.fill_chosen.new.children c.args.tally.now c.fill_chosen.new.tally
-    (λ v gs h. later-chosen c.args.particles.now c.in-Some.first.now c.in-Some.rest.now c.in-Some.ensures.cases.0 c.args.place (c.args.place - 1) v gs (omega (arith, some)) h) c.fill_chosen.ensures
-
-pub fill_items-returns-then-is_at_most : goal.fill_items-returns-then-is_at_most
-fill_items-returns-then-is_at_most t c =
-    several-done c.args.particle.now c.turns.count c.turns.values.items c.args.children.now c.turns.children c.args.tally.now c.turns.tally c.join.new.tally c.turns.invariant.gathered
-    (label_of c.args.particle.now).min (label_of c.args.particle.now).max
-    (ap (λ l. nat_le l.min c.turns.count) (sym c.label-label.ensures) ∙ le-leb c.label-label.result.now.min c.turns.count c.if-label-count.true) (ap (λ l. is_at_most c.turns.count l.max) (sym c.label-label.ensures) ∙ sym c.if-is_at_most.ensures)
-    c.join.result c.join.ensures.counts c.join.ensures.built.0
-
-pub fill_part-returns-then-is_none : goal.fill_part-returns-then-is_none
-fill_part-returns-then-is_none t c =
+pub fill_part-returns-then-not-is_next-clause-made : goal.fill_part-returns-then-not-is_next-clause-made
+fill_part-returns-then-not-is_next-clause-made t c =
     let particle = c.args.particle.now in
     let label = c.label-label.result.now in
     let old = c.args.parts.now in
@@ -163,23 +325,189 @@ fill_part-returns-then-is_none t c =
     (absent-made particle label.min label.max (ap (λ l. l.min) (sym c.label-label.ensures)) (ap (λ l. l.max) (sym c.label-label.ensures)) (sym c.if-is_optional.ensures)))
     c.leave_out.ensures
 
-pub fill_term-returns-in-Element : goal.fill_term-returns-in-Element
-fill_term-returns-in-Element t c =
-    let particle = c.args.particle.now in
-    element-made particle c.in-Element.decl c.in-Element.name
-    (term-by particle c.label.result.now (kids_of particle) (kinds.Element c.in-Element.decl c.in-Element.name) c.label.ensures refl c.in-Element.is)
-    c.take.result c.args.children.now c.take.new.self c.args.tally.now c.take.ensures
+pub fill_parts-fill_part-requires : goal.fill_parts-fill_part-requires
+fill_parts-fill_part-requires t c =
+    let ts = c.args.particles.now in
+    let first = c.in-Some.first.now in
+    let rest = c.in-Some.rest.now in
+    let is = c.in-Some.ensures.cases.0 in
+    let d = c.decreases in
+    let k = step.counts-split ts first rest is in (
+      omega (arith, d, k),
+      (step.first-allowed ts first rest is c.requires.allowed, (step.first-few ts first rest is c.args.number c.requires.few, (step.first-fillable ts first rest is c.requires.fillable, step.first-waits ts first rest is c.args.number (path_shown c.args.path.now.items) c.args.children.now c.requires.placed))),
+    )
 
-pub fill_term-returns-in_ok-fill_parts-in-Sequence : goal.fill_term-returns-in_ok-fill_parts-in-Sequence
-fill_term-returns-in_ok-fill_parts-in-Sequence t c =
+pub fill_parts-fill_parts-requires : goal.fill_parts-fill_parts-requires
+fill_parts-fill_parts-requires t c =
+    let ts = c.args.particles.now in
+    let first = c.in-Some.first.now in
+    let rest = c.in-Some.rest.now in
+    let is = c.in-Some.ensures.cases.0 in
+    let d = c.decreases in
+    let k = step.counts-split ts first rest is in
+    let n = node_count-kids first in (
+      omega (arith, d, k, n),
+      (
+        step.rest-allowed ts first rest is c.requires.allowed,
+        (
+          step.rest-few ts first rest is c.args.number c.count.result c.requires.few c.count.ensures,
+          (
+            step.rest-fillable ts first rest is c.requires.fillable,
+            step.rest-waits ts first rest is c.args.number (c.args.number + c.count.result) (path_shown c.args.path.now.items) (path_shown c.fill_part.new.path.items) c.args.children.now c.fill_part.new.children
+                (step.next-number ts first rest is c.args.number c.count.result c.requires.allowed c.requires.few c.count.ensures) (ap path_shown c.in_ok-fill_part-in-Some.ensures.path) c.in_ok-fill_part-in-Some.ensures.taken
+                c.requires.placed,
+          ),
+        ),
+      ),
+    )
+
+pub fill_parts-returns-in-None-clause-taken : goal.fill_parts-returns-in-None-clause-taken
+fill_parts-returns-in-None-clause-taken t c = step.parts-none c.args.particles.now c.args.number (path_shown c.args.path.now.items) c.args.children.now c.in-None.ensures.cases
+
+pub fill_parts-returns-in-None-clause-made : goal.fill_parts-returns-in-None-clause-made
+fill_parts-returns-in-None-clause-made t c = fills-none c.args.particles.now c.in-None.ensures.cases c.args.children.now c.args.parts.now c.args.tally.now
+
+pub fill_parts-returns-in_ok-fill_part-in-Some-clause-path : goal.fill_parts-returns-in_ok-fill_part-in-Some-clause-path
+fill_parts-returns-in_ok-fill_part-in-Some-clause-path t c =
+    on-ok c.fill_parts.result (c.fill_parts.new.path.items ≡ c.fill_part.new.path.items) (c.fill_parts.new.path.items ≡ c.args.path.now.items) (λ e. e ∙ c.in_ok-fill_part-in-Some.ensures.path) c.fill_parts.ensures.path
+
+pub fill_parts-returns-in_ok-fill_part-in-Some-clause-taken : goal.fill_parts-returns-in_ok-fill_part-in-Some-clause-taken
+fill_parts-returns-in_ok-fill_part-in-Some-clause-taken t c =
+    let ts = c.args.particles.now in
+    let first = c.in-Some.first.now in
+    let rest = c.in-Some.rest.now in
+    let is = c.in-Some.ensures.cases.0 in
+    let next = c.args.number + c.count.result in
+    let path = path_shown c.args.path.now.items in
+    let again = path_shown c.fill_part.new.path.items in
+    let new = c.fill_parts.new.children in
+    on-ok c.fill_parts.result (Leaves (OrderPlaced (all_seen (roses_of rest)) next again c.fill_part.new.children) new) (Leaves (OrderPlaced (all_seen (roses_of ts)) c.args.number path c.args.children.now) new)
+    (step.parts-leave ts first rest is c.args.number next path again c.args.children.now c.fill_part.new.children new
+    (step.next-number ts first rest is c.args.number c.count.result c.requires.allowed c.requires.few c.count.ensures) (ap path_shown c.in_ok-fill_part-in-Some.ensures.path) c.in_ok-fill_part-in-Some.ensures.taken)
+    c.fill_parts.ensures.taken
+
+pub fill_parts-returns-in_ok-fill_part-in-Some-clause-made : goal.fill_parts-returns-in_ok-fill_part-in-Some-clause-made
+fill_parts-returns-in_ok-fill_part-in-Some-clause-made t c =
+    on-ok c.fill_parts.result
+    (Fills (PartsMade (all_seen (roses_of c.in-Some.rest.now))) c.fill_part.new.children c.fill_parts.new.children c.fill_part.new.parts c.fill_parts.new.parts c.fill_part.new.tally c.fill_parts.new.tally)
+    (Fills (PartsMade (all_seen (roses_of c.args.particles.now))) c.args.children.now c.fill_parts.new.children c.args.parts.now c.fill_parts.new.parts c.args.tally.now c.fill_parts.new.tally)
+    (fills-more c.args.particles.now c.in-Some.first.now c.in-Some.rest.now c.in-Some.ensures.cases.0 c.args.children.now c.fill_part.new.children c.fill_parts.new.children
+    c.args.parts.now c.fill_part.new.parts c.fill_parts.new.parts c.args.tally.now c.fill_part.new.tally c.fill_parts.new.tally c.in_ok-fill_part-in-Some.ensures.made) c.fill_parts.ensures.made
+
+-- ---- one occurrence
+
+pub fill_turn-fill_term-requires : goal.fill_turn-fill_term-requires
+fill_turn-fill_term-requires t c =
+    let d = c.decreases in (
+      omega (arith, d),
+      (c.requires.allowed, (c.requires.few, (c.requires.fillable, step.turn-waits c.args.particle.now c.args.number c.args.turn c.args.path.now.items c.push.new.self.items c.args.children.now (record { particle = c.args.number; turn = c.args.turn }) c.in_ok-push.ensures.items refl c.requires.placed))),
+    )
+
+pub fill_turn-returns-clause-taken : goal.fill_turn-returns-clause-taken
+fill_turn-returns-clause-taken t c =
+    step.turn-leaves c.args.particle.now c.args.number c.args.turn c.args.path.now.items c.push.new.self.items c.args.children.now (record { particle = c.args.number; turn = c.args.turn }) c.in_ok-push.ensures.items refl
+    c.fill_term.new.children c.in_ok-value.ensures.taken
+
+pub fill_term-take-requires : goal.fill_term-take-requires
+fill_term-take-requires t c =
+    let particle = c.args.particle.now in
+    step.element-waits (term_of particle) c.args.number (path_shown c.args.path.now.items) c.args.children.now c.in-Element.decl c.in-Element.name
+    (term-by particle c.label.result.now (kids_of particle) (kinds.Element c.in-Element.decl c.in-Element.name) c.label.ensures refl c.in-Element.is) c.requires.placed
+
+pub fill_term-returns-in-Element-clause-taken : goal.fill_term-returns-in-Element-clause-taken
+fill_term-returns-in-Element-clause-taken t c =
+    let particle = c.args.particle.now in
+    step.element-leaves (term_of particle) c.args.number (path_shown c.args.path.now.items) c.args.children.now c.in-Element.decl c.in-Element.name c.take.new.self
+    (term-by particle c.label.result.now (kids_of particle) (kinds.Element c.in-Element.decl c.in-Element.name) c.label.ensures refl c.in-Element.is) c.take.ensures.placed
+
+pub fill_term-returns-in-Element-clause-made : goal.fill_term-returns-in-Element-clause-made
+fill_term-returns-in-Element-clause-made t c =
+    let particle = c.args.particle.now in
+    let is = term-by particle c.label.result.now (kids_of particle) (kinds.Element c.in-Element.decl c.in-Element.name) c.label.ensures refl c.in-Element.is in
+    element-made particle c.in-Element.decl c.in-Element.name is c.take.result c.args.children.now c.take.new.self c.args.tally.now
+    (step.element-taken (term_of particle) c.args.number (path_shown c.args.path.now.items) c.args.children.now c.in-Element.decl c.in-Element.name c.take.result c.take.new.self is c.take.ensures.taken c.requires.placed)
+
+pub fill_term-fill_parts-requires : goal.fill_term-fill_parts-requires
+fill_term-fill_parts-requires t c =
+    let particle = c.args.particle.now in
+    let ps = all_seen (roses_of c.kids.result.now) in
+    let is : term_of particle ≡ sequence ps = term-by particle c.label.result.now c.kids.result.now kinds.Sequence c.label.ensures c.kids.ensures c.in-Sequence.is in
+    let d = c.decreases in
+    let k = node_count-kids particle in
+    let few = c.requires.few in (
+      rw c.kids.ensures (omega (arith, d, k)),
+      (subst (λ us. AllowedAll MayHave (roses_of us)) (sym c.kids.ensures) (allowed-kids MayHave particle c.requires.allowed), (rw c.kids.ensures (omega (arith, few, k)), (step.kids-fillable particle ps is c.requires.fillable, step.order-waits (term_of particle) c.args.number (path_shown c.args.path.now.items) c.args.children.now ps (c.args.number + 1) is (omega arith) c.requires.placed))),
+    )
+
+pub fill_term-returns-in_ok-fill_parts-in-Sequence-clause-taken : goal.fill_term-returns-in_ok-fill_parts-in-Sequence-clause-taken
+fill_term-returns-in_ok-fill_parts-in-Sequence-clause-taken t c =
+    let particle = c.args.particle.now in
+    let ps = all_seen (roses_of c.kids.result.now) in
+    let is : term_of particle ≡ sequence ps = term-by particle c.label.result.now c.kids.result.now kinds.Sequence c.label.ensures c.kids.ensures c.in-Sequence.is in
+    step.order-leaves (term_of particle) c.args.number (path_shown c.args.path.now.items) c.args.children.now ps (c.args.number + 1) c.fill_parts.new.children is (omega arith) c.in_ok-fill_parts-in-Sequence.ensures.taken
+
+pub fill_term-returns-in_ok-fill_parts-in-Sequence-clause-made : goal.fill_term-returns-in_ok-fill_parts-in-Sequence-clause-made
+fill_term-returns-in_ok-fill_parts-in-Sequence-clause-made t c =
     let particle = c.args.particle.now in
     sequence-made particle (all_seen (roses_of c.kids.result.now)) (term-by particle c.label.result.now c.kids.result.now kinds.Sequence c.label.ensures c.kids.ensures c.in-Sequence.is)
     c.args.children.now c.fill_parts.new.children c.new-parts.result c.fill_parts.new.parts c.args.tally.now c.fill_parts.new.tally c.into_value.new.tally
-    c.new-parts.ensures.flags c.new-parts.ensures.values c.in_ok-fill_parts-in-Sequence.ensures c.into_value.result c.into_value.ensures.counts c.into_value.ensures.built.0
+    c.new-parts.ensures.flags c.new-parts.ensures.values c.in_ok-fill_parts-in-Sequence.ensures.made c.into_value.result c.into_value.ensures.counts c.into_value.ensures.built.0
 
-pub fill_term-returns-in_ok-chosen-in-Choice : goal.fill_term-returns-in_ok-chosen-in-Choice
-fill_term-returns-in_ok-chosen-in-Choice t c =
+pub fill_term-alternative-place-requires : goal.fill_term-alternative-place-requires
+fill_term-alternative-place-requires t c =
+    let particle = c.args.particle.now in
+    let ps = all_seen (roses_of c.kids-in-Choice.result.now) in
+    let is : term_of particle ≡ choice ps = term-by particle c.label.result.now c.kids-in-Choice.result.now kinds.Choice c.label.ensures c.kids-in-Choice.ensures c.in-Choice.is in
+    let k = node_count-kids particle in
+    let few = c.requires.few in
+    record {
+      allowed = subst (λ us. AllowedAll MayHave (roses_of us)) (sym c.kids-in-Choice.ensures) (allowed-kids MayHave particle c.requires.allowed);
+      few = rw c.kids-in-Choice.ensures (omega (arith, few, k));
+      able = (step.alternatives-fillable particle ps is c.requires.fillable).0;
+      placed = subst (λ p. SomeWait (OnePlaced ps (c.args.number + 1) (path_shown p) c.args.children.now)) (sym c.as_slice.ensures.value)
+          (step.one-waits (term_of particle) c.args.number (path_shown c.args.path.now.items) c.args.children.now ps (c.args.number + 1) is (omega arith) c.requires.placed);
+    }
+
+pub fill_term-fill_chosen-requires : goal.fill_term-fill_chosen-requires
+fill_term-fill_chosen-requires t c =
+    let particle = c.args.particle.now in
+    let kids = c.kids-in-Choice-2.result.now in
+    let ps = all_seen (roses_of kids) in
+    let is : term_of particle ≡ choice ps = term-by particle c.label.result.now kids kinds.Choice c.label.ensures c.kids-in-Choice-2.ensures c.in-Choice.is in
+    let d = c.decreases in
+    let k = node_count-kids particle in
+    let few = c.requires.few in (
+      rw c.kids-in-Choice-2.ensures (omega (arith, d, k)),
+      (
+        subst (λ us. AllowedAll MayHave (roses_of us)) (sym c.kids-in-Choice-2.ensures) (allowed-kids MayHave particle c.requires.allowed),
+        (
+          rw c.kids-in-Choice-2.ensures (omega (arith, few, k)),
+          (
+            step.alternatives-fillable particle ps is c.requires.fillable,
+            step.alternative-waits (term_of particle) c.args.number (path_shown c.args.path.now.items) c.args.children.now ps (c.args.number + 1) c.alternative-place.result is (omega arith)
+                (step.chosen-in-all c.kids-in-Choice.result.now kids (c.kids-in-Choice.ensures ∙ sym c.kids-in-Choice-2.ensures) c.as_slice.result.now c.args.path.now.items c.as_slice.ensures.value c.alternative-place.result (c.args.number + 1)
+                c.args.children.now c.alternative-place.ensures) c.requires.placed,
+          ),
+        ),
+      ),
+    )
+
+pub fill_term-returns-in_ok-chosen-in-Choice-clause-path : goal.fill_term-returns-in_ok-chosen-in-Choice-clause-path
+fill_term-returns-in_ok-chosen-in-Choice-clause-path t c = c.in_ok-value-in-Choice.ensures.path
+
+pub fill_term-returns-in_ok-chosen-in-Choice-clause-taken : goal.fill_term-returns-in_ok-chosen-in-Choice-clause-taken
+fill_term-returns-in_ok-chosen-in-Choice-clause-taken t c =
+    let particle = c.args.particle.now in
+    let kids = c.kids-in-Choice-2.result.now in
+    let ps = all_seen (roses_of kids) in
+    let is : term_of particle ≡ choice ps = term-by particle c.label.result.now kids kinds.Choice c.label.ensures c.kids-in-Choice-2.ensures c.in-Choice.is in
+    step.alternative-leaves (term_of particle) c.args.number (path_shown c.args.path.now.items) c.args.children.now ps (c.args.number + 1) c.alternative-place.result c.fill_chosen.new.children is (omega arith)
+    (step.chosen-in-all c.kids-in-Choice.result.now kids (c.kids-in-Choice.ensures ∙ sym c.kids-in-Choice-2.ensures) c.as_slice.result.now c.args.path.now.items c.as_slice.ensures.value c.alternative-place.result (c.args.number + 1)
+    c.args.children.now c.alternative-place.ensures) c.in_ok-value-in-Choice.ensures.taken
+
+pub fill_term-returns-in_ok-chosen-in-Choice-clause-made : goal.fill_term-returns-in_ok-chosen-in-Choice-clause-made
+fill_term-returns-in_ok-chosen-in-Choice-clause-made t c =
     let particle = c.args.particle.now in
     choice-made particle (all_seen (roses_of c.kids-in-Choice-2.result.now)) (term-by particle c.label.result.now c.kids-in-Choice-2.result.now kinds.Choice c.label.ensures c.kids-in-Choice-2.ensures c.in-Choice.is)
     c.args.children.now c.fill_chosen.new.children c.alternative-place.result c.in_ok-value-in-Choice.value c.args.tally.now c.fill_chosen.new.tally c.join.new.tally
-    c.in_ok-value-in-Choice.ensures c.in_ok-chosen-in-Choice.chosen.items c.in_ok-chosen-in-Choice.ensures c.join.result c.join.ensures.counts c.join.ensures.built.0
+    c.in_ok-value-in-Choice.ensures.made c.in_ok-chosen-in-Choice.chosen.items c.in_ok-chosen-in-Choice.ensures c.join.result c.join.ensures.counts c.join.ensures.built.0
