@@ -221,14 +221,25 @@ hostile number 16700000 8 0 0 '' to-per n "$features"
 make_wide() { { printf '<n>'; bytes "$1" 9; printf '</n>'; } > "$input"; }
 hostile wide 16700000 8 0 8 'input, byte 0: invalid: TooWide' to-per n "$features"
 
-# A list of so many items; one whose items are of the last of 1,000 members, each of which reads each item; elements of 400
-# attributes that may stand, of which none does.
+# A list of so many items.
 make_items() {
     printf '%s<xs:simpleType name="L"><xs:list itemType="xs:token"/></xs:simpleType><xs:element name="l" type="L"/>%s' \
         "$head" "$end" > "$schema"
     { printf '<l>'; repeat "$1" '%d '; printf '</l>'; } > "$input"
 }
 hostile items 1000000 80 0 0 '' to-per l "$schema"
+
+# A list of as many items as 16 MB hold, which are too many for a value: they are counted, and no list is made of them.
+make_many_items() {
+    make_items 0
+    { printf '<l>'; repeat "$1" '1 '; printf '</l>'; } > "$input"
+}
+hostile many_items 8000000 8 0 12 'value of * nodes: too many' to-per l "$schema"
+make_many_judged() { make_many_items "$1"; }
+hostile many_judged 8000000 8 0 0 '' check l "$schema"
+
+# A list whose items are of the last of 1,000 members, each of which reads each item; elements of 400 attributes that may
+# stand, of which none does.
 make_members_read() {
     {
         printf '%s<xs:simpleType name="U"><xs:union memberTypes="' "$head"

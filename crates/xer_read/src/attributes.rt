@@ -13,7 +13,7 @@ use crate::parts::Parts;
 use crate::tally::Tally;
 use attribute_faults::text_of;
 use schema_parts::{AttributeUse, SchemaSet};
-use simple_values::{SimpleError, accept};
+use simple_values::SimpleError;
 use std::alloc::Global;
 use xa_base::{Memory, Name, Text};
 
@@ -33,8 +33,8 @@ fn add_attribute(
 {
     match text_of(attributes, &declared.name) {
         None => parts.leave_out(),
-        Some(text) => match accept(alloc, &set.simple(declared.simple).space, text) {
-            Ok(value) => parts.add(Built::of(value, tally)),
+        Some(text) => match Built::read(alloc, &set.simple(declared.simple).space, text, tally) {
+            Ok(made) => parts.add(made),
             Err(SimpleError::Memory) => Err(Memory),
             Err(SimpleError::BadText) => unreachable!(),
             Err(SimpleError::TooWide) => unreachable!(),

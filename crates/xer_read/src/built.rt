@@ -1,13 +1,20 @@
 //! Values that are made while a value may have their nodes, and are counted alone from there on.
-ghost use Rattle.std.specs.Prelude.{◌≡◌, [], OnOk, IfOk};
+ghost use Rattle.std.specs.Prelude.{◌≡◌, [], Err, OnOk, IfOk, MatchResult};
 ghost use Rattle.label_tree.specs.Rose.{node, roses_of, node_count};
+ghost use Rattle.simple_types.specs.Seen.{space_of};
+ghost use Rattle.simple_types.specs.Sound.{Sound};
+ghost use Rattle.simple_values.specs.Answering.{AnswersReading};
+ghost use Rattle.simple_values.specs.Reading.{reads};
+ghost use Rattle.xer_read.specs.Private.Reading.{IsRead};
 ghost use Rattle.xer_read.specs.Private.Tallied.{Counts, IsBuilt, Gathers};
 
 use crate::tally::Tally;
 use label_tree::Tree;
-use simple_types::ValueLabel;
+use simple_types::{Simple, ValueLabel};
+use simple_values::{SimpleError, accept};
 use std::alloc::Global;
-use xa_base::Memory;
+use value_counts::count;
+use xa_base::{Memory, Text};
 
 /// A value, unless too many nodes were counted when it was to be made.
 #[derive(Drop)]
@@ -35,6 +42,34 @@ impl Built {
     {
         tally.add_tree(&tree);
         Built::counted(tree, tally)
+    }
+
+    /// The value that the type gives to the text. Where the text is so long that a list may have too many nodes, they are
+    /// counted first, and no value is made if they are.
+    pub(crate) fn read(
+        alloc: Global,
+        simple: &Simple,
+        text: &Text,
+        tally: &mut Tally,
+    ) -> Result<Built, SimpleError>
+        requires { Sound (space_of simple.now) }
+        ensures { MatchResult result
+            (λ made. IsRead (space_of simple.now) text.now made tally.old tally.new)
+            (λ error. AnswersReading (Err error) (reads (space_of simple.now) text.now)) }
+    {
+        // A list has no more items than one for each two bytes of its text. An item of a union has two nodes, the list has
+        // one, and a union of lists one more.
+        let has_items = matches!(simple, Simple::List { .. } | Simple::Union(_));
+        let most = text.bytes().len() as u64 + 3;
+        if has_items && !tally.has_room(most) {
+            let nodes = count(alloc, simple, text)?;
+            if !tally.has_room(nodes) {
+                tally.add_nodes(nodes);
+                return Ok(Built::TooLarge);
+            }
+        }
+        let value = accept(alloc, simple, text)?;
+        Ok(Built::of(value, tally))
     }
 
     /// A node with these kids, which are counted already.

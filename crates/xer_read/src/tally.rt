@@ -16,7 +16,7 @@ pub(crate) struct Tally {
 }
 
 impl Tally {
-    ghost use Rattle.std.specs.Prelude.{◌≡◌, ◌≤◌, ◌↔◌, IsTrue};
+    ghost use Rattle.std.specs.Prelude.{◌≡◌, ◌+◌, ◌-◌, ◌^◌, ◌≤◌, ◌↔◌, ℕ, min, IsTrue};
     ghost use Rattle.label_tree.specs.Rose.{node_count};
     ghost use Rattle.xer_read.specs.Private.Tallied.{Counts, IsWithin};
 
@@ -34,11 +34,18 @@ impl Tally {
         self.nodes = self.nodes.saturating_add(1);
     }
 
+    /// So many more, where 2^64 - 1 stands for that number and every greater one.
+    pub(crate) fn add_nodes(&mut self, nodes: u64)
+        ensures { (n : ℕ) → nodes ≡ min n (2 ^ 64 - 1) → Counts n self.old self.new }
+    {
+        self.nodes = self.nodes.saturating_add(nodes);
+    }
+
     /// All those of a tree, each of which it visits.
     pub(crate) fn add_tree(&mut self, tree: &Tree<ValueLabel>)
         ensures { Counts (node_count tree.now) self.old self.new }
     {
-        self.nodes = self.nodes.saturating_add(tree.count());
+        self.add_nodes(tree.count());
     }
 
     /// Whether a value may have so many.
@@ -46,6 +53,13 @@ impl Tally {
         ensures { IsTrue result ↔ IsWithin self.now }
     {
         self.nodes <= MOST_NODES
+    }
+
+    /// Whether a value may have so many more.
+    pub(crate) fn has_room(&self, nodes: u64) -> bool
+        ensures { IsTrue result ↔ (self.now.nodes + nodes ≤ 1048576) }
+    {
+        self.nodes.saturating_add(nodes) <= MOST_NODES
     }
 
     /// How many there are.

@@ -13,7 +13,7 @@ use crate::tally::Tally;
 use doc_text::ItemLabel;
 use label_tree::Tree;
 use simple_types::Simple;
-use simple_values::{SimpleError, accept};
+use simple_values::SimpleError;
 use std::alloc::Global;
 use validity::InvalidWhy;
 use validity_check::{CheckError, only_text};
@@ -35,8 +35,8 @@ pub(crate) fn read_text(
 {
     let empty = Text::empty();
     let text = only_text(kids, &empty)?;
-    match accept(alloc, simple, text) {
-        Ok(value) => Ok(Built::of(value, tally)),
+    match Built::read(alloc, simple, text, tally) {
+        Ok(made) => Ok(made),
         Err(SimpleError::BadText) => Err(CheckError::Invalid {
             at,
             why: InvalidWhy::BadText,

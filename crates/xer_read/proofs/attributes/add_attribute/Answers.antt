@@ -22,11 +22,12 @@ returns-in-None c =
 pub returns-in-Ok : goal.returns-in-Ok
 returns-in-Ok c =
     let P = AttributesMade (attribute_in (parts_of c.args.set.now) c.args.declared.now ∷ []) (left c.args.attributes.now) in
-    let v = c.in-Ok.value in
-    on-ok c.add.result (PartAdded c.of.result c.args.parts.now c.add.new.self) (Adds P 0 c.args.parts.now c.add.new.self c.args.tally.now c.of.new.tally)
-    (λ added. adds-one P 0 (node_count v) c.args.parts.now c.add.new.self c.args.tally.now c.of.new.tally c.of.result v
-    (attribute-present c.args.set.now c.args.declared.now c.args.attributes.now c.requires.declared.0 c.in-Some.text.now c.in-Some.ensures c.simple.result.now c.simple.ensures v c.in-Ok.ensures)
-    added c.of.ensures.built.0 c.of.ensures.counts (omega arith))
+    let known = c.in-Ok.ensures in
+    let v = known.value in
+    on-ok c.add.result (PartAdded c.in-Ok.made c.args.parts.now c.add.new.self) (Adds P 0 c.args.parts.now c.add.new.self c.args.tally.now c.read.new.tally)
+    (λ added. adds-one P 0 (node_count v) c.args.parts.now c.add.new.self c.args.tally.now c.read.new.tally c.in-Ok.made v
+    (attribute-present c.args.set.now c.args.declared.now c.args.attributes.now c.requires.declared.0 c.in-Some.text.now c.in-Some.ensures c.simple.result.now c.simple.ensures v known.accepts)
+    added known.built.0 known.counts (omega arith))
     c.add.ensures
 
 pub unreachable-requires : goal.unreachable-requires

@@ -6,11 +6,11 @@ use Rattle.xer_read.proofs.texts.read_text.Goals as goal
 
 pub returns-in-Ok : goal.returns-in-Ok
 returns-in-Ok c = record {
-  value = c.in-Ok.value;
-  holds = (c.in_ok-text.text.now, c.in_ok-text.ensures, c.in-Ok.ensures);
-  stands = c.of.ensures.built.0;
-  nodes = node_count c.in-Ok.value;
-  counts = c.of.ensures.counts;
+  value = c.in-Ok.ensures.value;
+  holds = (c.in_ok-text.text.now, c.in_ok-text.ensures, c.in-Ok.ensures.accepts);
+  stands = c.in-Ok.ensures.built.0;
+  nodes = node_count c.in-Ok.ensures.value;
+  counts = c.in-Ok.ensures.counts;
   all = omega arith;
 }
 

@@ -1,0 +1,12 @@
+//! How many nodes the value of a text has, where the value itself isn't wanted.
+//!
+//! A list is read word by word, and the value of a word is let go once its nodes are counted: a list of millions of items takes
+//! no memory. Of what a member of a union makes of a text, the number of its nodes and its spelling are kept.
+#![tactic(auto)]
+
+mod counting;
+mod items;
+mod lists;
+mod unions;
+
+pub use counting::count;
