@@ -2,21 +2,21 @@
 use content_models::{Particle, ParticleKind, ParticleLabel};
 use label_tree::Tree;
 use sha2::{Digest, Sha256};
-use std::hash::{BuildHasher, DefaultHasher, Hasher};
+use std::hash::{BuildHasher, FoldHasher, Hasher};
 
-// A hash whose key is a digest of all names of the content model. So whoever writes a schema can't choose names that
-// collide: another name makes another key.
+// A fast hash that begins with a digest of all names of the content model as its key. So whoever writes a schema can't
+// choose names that collide: another name makes another key.
 #[derive(Clone, Copy)]
 pub(crate) struct NameHash {
-    keyed: DefaultHasher,
+    keyed: FoldHasher,
 }
 
 impl BuildHasher for NameHash {
-    type Hasher = DefaultHasher;
+    type Hasher = FoldHasher;
 
     ghost build_hasher = { λ s. s.keyed };
 
-    fn build_hasher(&self) -> DefaultHasher {
+    fn build_hasher(&self) -> FoldHasher {
         self.keyed
     }
 }
@@ -49,7 +49,7 @@ pub(crate) fn name_hash(particle: &Particle) -> NameHash {
     let mut digest = Sha256::new();
     digest_names(&mut digest, particle.root());
     let key = digest.finalize();
-    let mut keyed = DefaultHasher::new();
+    let mut keyed = FoldHasher::default();
     keyed.write(&key);
     NameHash { keyed }
 }
