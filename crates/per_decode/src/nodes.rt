@@ -21,6 +21,7 @@ ghost use Rattle.per_decode.specs.Private.Bodies as bodies;
 use crate::faults::{Fault, stopped};
 use crate::leaves::{boolean, enumerated, integer, presence, text_node};
 use crate::lengths::{MOST_UNITS, Piece, UNIT};
+use crate::plain::is_plain;
 use crate::room::with_room;
 use crate::run::{Origin, Run};
 use asn_types::{Component, Form, Module, Role, TypeLabel, own, resolve, role};
@@ -64,20 +65,26 @@ fn has_no_rules(module: &Module, found: &Tree<TypeLabel>) -> bool
     }
 }
 
-// A value whose fields were all read, from a bit to another, where it keeps the rules of its node.
+// A value whose fields were all read, from a bit to another, where it keeps the rules of its node, whose type is found.
 #[inline(always)]
 fn owned(
     alloc: Global,
     module: &Module,
     node: &Tree<TypeLabel>,
+    found: &Tree<TypeLabel>,
     value: Tree<ValueLabel>,
     begin: u64,
     end: u64,
 ) -> Result<Tree<ValueLabel>, Fault>
+    requires known { bodies.IsKnown module.now }
     requires of { IsOf module.now node.now }
+    requires found { found.now ≡ resolve module.now node.now }
     ensures ok { IfOk result (λ v. (v ≡ value) × Own module.now node.now value) }
     ensures err { IfErr result (λ fault. (fault ≡ Fault.Memory) ⊎ ((fault ≡ Fault.Stopped (record { bit = begin; why = Why.NotAValue; end = end })) × (Own module.now node.now value → ⊥))) }
 {
+    if is_plain(module, found, &value) {
+        return Ok(value);
+    }
     if own(alloc, module, node, &value)? {
         Ok(value)
     } else {
@@ -174,11 +181,11 @@ fn ruled<S: Source, K: Origin>(
     match &found.label().form {
         Form::Utf8 { .. } => {
             let value = text_node(alloc, run, begin)?;
-            owned(alloc, module, node, value, begin, run.position())
+            owned(alloc, module, node, found, value, begin, run.position())
         }
         _ => {
             let value = fields(alloc, module, run, depth, found)?;
-            owned(alloc, module, node, value, begin, run.position())
+            owned(alloc, module, node, found, value, begin, run.position())
         }
     }
 }
