@@ -137,3 +137,10 @@ module _ (M : List Assignment) (known : IsKnown M) (depth : ℕ) (t : Rose TypeL
       by : (e ≡ fault.Memory) ⊎ ((e ≡ fault.Stopped (stop_at begin why.NotAValue r.at)) × (Own M t v → ⊥)) → FailsAt limit whole e taken (body_at M depth begin (resolve M t) (input limit whole) s)
       by (inl m) = subst (λ f. FailsAt limit whole f taken (body_at M depth begin (resolve M t) (input limit whole) s)) (sym m) (omega (arith, body-end begin (input limit whole) s v r read text, step))
       by (inr n) = subst (λ f. FailsAt limit whole f taken (body_at M depth begin (resolve M t) (input limit whole) s)) (sym n.0) (body-not begin (input limit whole) s v r read text n.1, step, refl)
+
+  -- where every value keeps the rules, the fields are all
+  pub body_plain : (begin : ℕ) (s : Spot) (r : Spot) (limit : ℕ) (whole : List ℕ) (taken : ℕ) (answer : Result (Rose ValueLabel) Fault)
+      → s.at ≤ length (input limit whole) → ((v : Rose ValueLabel) → Own M t v) → IfOk answer (λ v. is_no_text (label_of v) ≡ false)
+      → Gives limit whole (λ x. x) answer r taken (fields_at M depth (resolve M t)) s → Gives limit whole (λ x. x) answer r taken (body_at M depth begin (resolve M t)) s
+  body_plain begin s r limit whole taken (Ok v) inside own text read = body-own begin (input limit whole) s v r read text (own v)
+  body_plain begin s r limit whole taken (Err e) inside own text fails = fields_fail begin (input limit whole) s limit whole e taken inside fails

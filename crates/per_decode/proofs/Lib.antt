@@ -17,3 +17,4 @@ pub mod Texts
 pub mod Parts
 pub mod Forms
 pub mod Lists
+pub mod Visible

@@ -2,3 +2,4 @@ pub mod Standing
 pub mod Giving
 pub mod Bodies
 pub mod Pieces
+pub mod Visible

@@ -9,6 +9,7 @@ mod leaves;
 mod lengths;
 mod nodes;
 mod numbers;
+mod plain;
 mod room;
 mod run;
 mod wholes;

@@ -21,6 +21,7 @@ ghost use Rattle.per_decode.specs.Private.Bodies as bodies;
 use crate::faults::{Fault, stopped};
 use crate::leaves::{boolean, enumerated, integer, presence, text_node};
 use crate::lengths::{MOST_UNITS, Piece, UNIT};
+use crate::plain::is_plain;
 use crate::room::with_room;
 use crate::run::{Origin, Run};
 use asn_types::{Component, Form, Module, Role, TypeLabel, own, resolve, role};
@@ -51,7 +52,8 @@ fn below(role: Role, depth: u32) -> u32
 // alone, USE-UNION on a CHOICE and EMBED-VALUES on a SEQUENCE.
 fn has_no_rules(module: &Module, found: &Tree<TypeLabel>) -> bool
     requires { AreWellFormed module.now found.now }
-    ensures { IsTrue result → (v : Rose ValueLabel) → OwnAt module.now (label_of found.now) found.now v }
+    ensures own { IsTrue result → (v : Rose ValueLabel) → OwnAt module.now (label_of found.now) found.now v }
+    ensures no_text { IsTrue result → bodies.IsNoText (label_of found.now).form }
 {
     let label = found.label();
     match &label.form {
@@ -80,7 +82,7 @@ fn owned(
     ensures ok { IfOk result (λ v. (v ≡ value) × Own module.now node.now value) }
     ensures err { IfErr result (λ fault. (fault ≡ Fault.Memory) ⊎ ((fault ≡ Fault.Stopped (record { bit = begin; why = Why.NotAValue; end = end })) × (Own module.now node.now value → ⊥))) }
 {
-    if has_no_rules(module, found) {
+    if is_plain(module, found, &value) {
         return Ok(value);
     }
     if own(alloc, module, node, &value)? {
@@ -145,6 +147,37 @@ fn body<S: Source, K: Origin>(
     ensures failed { IsErrOf result Fault.Failed → HasRisen K.faults (S.faults run.new.bits.source.now) }
 {
     let found = resolve(module, node);
+    if has_no_rules(module, found) {
+        return fields(alloc, module, run, depth, found);
+    }
+    ruled(alloc, module, run, depth, node, found, begin)
+}
+
+// The same of a node whose values may break its rules, where its type is found.
+#[inline(never)]
+#[cycle(nodes)]
+fn ruled<S: Source, K: Origin>(
+    alloc: Global,
+    module: &Module,
+    run: &mut Run<S, K>,
+    depth: u32,
+    node: &Tree<TypeLabel>,
+    found: &Tree<TypeLabel>,
+    begin: u64,
+) -> Result<Tree<ValueLabel>, Fault>
+    requires depth { depth ≤ 64 }
+    requires known { bodies.IsKnown module.now }
+    requires of { IsOf module.now node.now }
+    requires found { found.now ≡ resolve module.now node.now }
+    requires in_step { IsInStep run.old.bits.position run.old.bits.taken }
+    ensures same_reference { run.new.bits.source.ghost_name ≡ run.old.bits.source.ghost_name }
+    ensures on { OnOk result (GoesOn run.old.bits.position run.new.bits.position run.new.bits.taken) }
+    ensures count { IfOk result (λ v. run.new.nodes + 1 ≡ run.old.nodes + node_count v) }
+    ensures fits { IfOk result (λ v. FitsAt module.now depth node.now v) }
+    ensures gives { IsTrue K.told → Gives K.limit K.whole (λ x. x) result (spot run.new.bits.position run.new.nodes) run.new.bits.taken
+        (bodies.body_at module.now depth begin (resolve module.now node.now)) (spot run.old.bits.position run.old.nodes) }
+    ensures failed { IsErrOf result Fault.Failed → HasRisen K.faults (S.faults run.new.bits.source.now) }
+{
     match &found.label().form {
         Form::Utf8 { .. } => {
             let value = text_node(alloc, run, begin)?;

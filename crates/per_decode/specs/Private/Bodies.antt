@@ -29,6 +29,11 @@ HasFields (form.Utf8 least most class) = ⊥
 HasFields (form.Ref to) = ⊥
 HasFields _ = Unit {0}
 
+-- no text
+abbrev pub IsNoText : Form → Type 0
+IsNoText (form.Utf8 least most class) = ⊥
+IsNoText _ = Unit {0}
+
 -- a text of a node that begins at a bit, where its octets are UTF-8
 abbrev pub text_told_at : ℕ → Reader (Rose ValueLabel)
 text_told_at begin X s = do

@@ -7,16 +7,18 @@ use Rattle.simple_types.specs.declared.labels.ValueLabel.TheVariants as value
 use Rattle.asn_types.specs.declared.types.TypeLabel.{TypeLabel}
 use Rattle.asn_types.specs.Parts.{parts_of}
 use Rattle.asn_types.specs.Private.Placing.{FitKids}
+use Rattle.asn_types.specs.Modules.{AreWellFormed}
+use Rattle.simple_types.specs.declared.labels.ValueLabel.{ValueLabel}
 use Rattle.asn_types.specs.Refs.{resolve}
-use Rattle.asn_types.specs.Values.{place_of, place_at, below, FitsAt}
-use Rattle.asn_types.proofs.Chaining.{resolved-of-module}
-use Rattle.asn_types.proofs.Counting.{replicate-drop}
+use Rattle.asn_types.specs.Values.{place_of, place_at, below, FitsAt, OwnAt}
+use Rattle.asn_types.proofs.Chaining.{resolved-of-module, well-formed}
+use Rattle.asn_types.proofs.Counting.{replicate-drop, fits-from_kids}
 use Rattle.per_fields.specs.Fields.{fragments_at, counted_at, list_at}
 use Rattle.per_fields.specs.Nodes.{node_read, items_at}
 use Rattle.per_decode.specs.declared.faults.Fault.TheVariants.{Memory}
-use Rattle.per_decode.specs.Private.Giving.{input, spot, end_of, FailsAt}
-use Rattle.per_decode.specs.Private.Bodies.{HasFields, fields_at, kid_at, node_of, many_at, FitAll}
-use Rattle.per_decode.proofs.Bodies.{node-deep, node-many, node-goes, fields_fail, text_fails, text_read, body_gives}
+use Rattle.per_decode.specs.Private.Giving.{input, spot, end_of, FailsAt, Gives}
+use Rattle.per_decode.specs.Private.Bodies.{HasFields, IsNoText, fields_at, kid_at, node_of, many_at, FitAll}
+use Rattle.per_decode.proofs.Bodies.{node-deep, node-many, node-goes, fields_fail, text_fails, text_read, body_gives, body_plain}
 use Rattle.per_decode.proofs.EndNodes.{sits-node}
 use Rattle.per_decode.proofs.Fitting.{count-push, all-push, own_fits, own_counts, fit-bool, fit-int, fit-numbers, fit-words, fit-text, fit-sequence, fit-choice, fit-list}
 use Rattle.per_decode.proofs.Forms.{shows_as, fields-bool, fields-int, fields-numbers, fields-words, fields-sequence, fields-choice, fields-list, sequence_fails, sequence_reads, components_fail, choice_fails, choice_reads, alternative_fails}
@@ -51,26 +53,61 @@ node-returns-clause-gives g t c = λ told.
 
 -- ITS FIELDS AND ITS RULES
 
+pub body-has_no_rules-requires : goal.body-has_no_rules-requires
+body-has_no_rules-requires g t c =
+    let M = c.args.module.now in
+    let u = c.args.node.now in
+    subst (AreWellFormed M) (sym c.resolve-found.ensures) (well-formed M (resolve M u) c.requires.known.0 (resolved-of-module M u c.requires.of))
+
 pub body-fields-requires : goal.body-fields-requires
 body-fields-requires g t c =
     let M = c.args.module.now in
     let d = c.decreases in
     let e = resolved-levels M c.requires.known c.args.depth c.args.node.now c.requires.of in
-    let no = c.in_default.not-Utf8 in
-    let form_is : c.label.result.now.form ≡ (label_of (resolve c.args.module.now c.args.node.now)).form = ap (λ (l : TypeLabel). l.form) c.label.ensures ∙ ap (λ (u : Rose TypeLabel). (label_of u).form) c.resolve-found.ensures in
-    let has = resolved-fields M c.requires.known c.args.node.now c.requires.of (λ least most class is. no least most class (form_is ∙ is)) in
+    let plain = subst (λ (u : Rose TypeLabel). IsNoText (label_of u).form) c.resolve-found.ensures (c.has_no_rules.ensures.no_text c.if-has_no_rules.true) in
+    let has = resolved-fields M c.requires.known c.args.node.now c.requires.of (λ least most class is. subst IsNoText is plain) in
     rw c.resolve-found.ensures (λ κs h. (omega (arith, d, e), (h.0, (h.1, (c.requires.depth, (c.requires.known, (resolved-of-module M c.args.node.now c.requires.of, (has, c.requires.in_step))))))))
 
-pub body-returns-in_err-value-in-Utf8-clause-gives : goal.body-returns-in_err-value-in-Utf8-clause-gives
-body-returns-in_err-value-in-Utf8-clause-gives g t c = λ told.
+pub body-returns-then-has_no_rules : goal.body-returns-then-has_no_rules
+body-returns-then-has_no_rules g t c =
+    let M = c.args.module.now in
+    let own = subst (λ u. (v : Rose ValueLabel) → OwnAt M (label_of u) u v) c.resolve-found.ensures (c.has_no_rules.ensures.own c.if-has_no_rules.true) in
+    record {
+      same_reference = search rules;
+      on = search rules;
+      count = search rules;
+      fits = IfOk-weaker c.fields.result _ (FitsAt M c.args.depth c.args.node.now) (λ v h. fits-from_kids M c.args.depth c.args.node.now v c.requires.depth (subst (λ u. FitKids M c.args.depth u v) c.resolve-found.ensures h) (own v)) c.fields.ensures.fits;
+      gives = λ told.
+          let old = c.args.run.now in
+          let new = c.fields.new.run in
+          let i = stands_inside old.bits.position old.bits.taken old.bits.held old.bits.limit g.K.Origin.limit g.K.Origin.whole _ old.limited old.bits.behind old.bits.within (old.here told) in
+          body_plain M c.requires.known c.args.depth c.args.node.now c.requires.of c.args.begin (spot old.bits.position old.nodes) (spot new.bits.position new.nodes) g.K.Origin.limit g.K.Origin.whole new.bits.taken c.fields.result i own c.fields.ensures.text
+          (subst (λ u. Gives g.K.Origin.limit g.K.Origin.whole (λ x. x) c.fields.result (spot new.bits.position new.nodes) new.bits.taken (fields_at M c.args.depth u) (spot old.bits.position old.nodes)) c.resolve-found.ensures (c.fields.ensures.gives told));
+      failed = search rules;
+    }
+
+-- THE RULES
+
+pub ruled-fields-requires : goal.ruled-fields-requires
+ruled-fields-requires g t c =
+    let M = c.args.module.now in
+    let d = c.decreases in
+    let e = resolved-levels M c.requires.known c.args.depth c.args.node.now c.requires.of in
+    let no = c.in_default.not-Utf8 in
+    let form_is : c.label.result.now.form ≡ (label_of (resolve c.args.module.now c.args.node.now)).form = ap (λ (l : TypeLabel). l.form) c.label.ensures ∙ ap (λ (u : Rose TypeLabel). (label_of u).form) c.requires.found in
+    let has = resolved-fields M c.requires.known c.args.node.now c.requires.of (λ least most class is. no least most class (form_is ∙ is)) in
+    rw c.requires.found (λ κs h. (omega (arith, d, e), (h.0, (h.1, (c.requires.depth, (c.requires.known, (resolved-of-module M c.args.node.now c.requires.of, (has, c.requires.in_step))))))))
+
+pub ruled-returns-in_err-value-in-Utf8-clause-gives : goal.ruled-returns-in_err-value-in-Utf8-clause-gives
+ruled-returns-in_err-value-in-Utf8-clause-gives g t c = λ told.
     let p = err_from_is_err_and c.from_residual.result c.from_residual.ensures.1 in
-    let is = ap (λ (u : Rose TypeLabel). (label_of u).form) (sym c.resolve-found.ensures) ∙ ap (λ (l : TypeLabel). l.form) (sym c.label.ensures) ∙ c.in-Utf8.is in
+    let is = ap (λ (u : Rose TypeLabel). (label_of u).form) (sym c.requires.found) ∙ ap (λ (l : TypeLabel). l.form) (sym c.label.ensures) ∙ c.in-Utf8.is in
     let old = c.args.run.now in
     let i = stands_inside old.bits.position old.bits.taken old.bits.held old.bits.limit g.K.Origin.limit g.K.Origin.whole _ old.limited old.bits.behind old.bits.within (old.here told) in
     rw (p.1, p.2) (text_fails c.args.module.now c.requires.known c.args.depth c.args.node.now c.requires.of c.args.begin (input g.K.Origin.limit g.K.Origin.whole) (spot old.bits.position old.nodes) g.K.Origin.limit g.K.Origin.whole c.in_err-value-in-Utf8.field-0.0 c.text_node.new.run.bits.taken _ _ _ is i (c.in_err-value-in-Utf8.ensures.gives told))
 
-pub body-returns-in_err-value-in_default : goal.body-returns-in_err-value-in_default
-body-returns-in_err-value-in_default g t c =
+pub ruled-returns-in_err-value-in_default : goal.ruled-returns-in_err-value-in_default
+ruled-returns-in_err-value-in_default g t c =
     record {
       same_reference = search rules;
       on = search rules;
@@ -80,40 +117,40 @@ body-returns-in_err-value-in_default g t c =
           let p = err_from_is_err_and c.from_residual-in_err-value-in_default.result c.from_residual-in_err-value-in_default.ensures.1 in
           let old = c.args.run.now in
           let i = stands_inside old.bits.position old.bits.taken old.bits.held old.bits.limit g.K.Origin.limit g.K.Origin.whole _ old.limited old.bits.behind old.bits.within (old.here told) in
-          rw (p.1, p.2) (fields_fail c.args.module.now c.requires.known c.args.depth c.args.node.now c.requires.of c.args.begin (input g.K.Origin.limit g.K.Origin.whole) (spot old.bits.position old.nodes) g.K.Origin.limit g.K.Origin.whole c.in_err-value-in_default.field-0.0 c.fields.new.run.bits.taken i (rw c.resolve-found.ensures at (c.in_err-value-in_default.ensures.gives told)));
+          rw (p.1, p.2) (fields_fail c.args.module.now c.requires.known c.args.depth c.args.node.now c.requires.of c.args.begin (input g.K.Origin.limit g.K.Origin.whole) (spot old.bits.position old.nodes) g.K.Origin.limit g.K.Origin.whole c.in_err-value-in_default.field-0.0 c.fields.new.run.bits.taken i (rw c.requires.found at (c.in_err-value-in_default.ensures.gives told)));
       failed = search rules;
     }
 
-pub body-returns-in_ok-value-in-Utf8-clause-fits : goal.body-returns-in_ok-value-in-Utf8-clause-fits
-body-returns-in_ok-value-in-Utf8-clause-fits g t c =
-    let is = ap (λ (u : Rose TypeLabel). (label_of u).form) (sym c.resolve-found.ensures) ∙ ap (λ (l : TypeLabel). l.form) (sym c.label.ensures) ∙ c.in-Utf8.is in
+pub ruled-returns-in_ok-value-in-Utf8-clause-fits : goal.ruled-returns-in_ok-value-in-Utf8-clause-fits
+ruled-returns-in_ok-value-in-Utf8-clause-fits g t c =
+    let is = ap (λ (u : Rose TypeLabel). (label_of u).form) (sym c.requires.found) ∙ ap (λ (l : TypeLabel). l.form) (sym c.label.ensures) ∙ c.in-Utf8.is in
     let M = c.args.module.now in
     let v = c.in_ok-value-in-Utf8.value in
     let leaf = c.in_ok-value-in-Utf8.ensures.leaf in
     own_fits M c.args.depth c.args.node.now v c.owned.result c.requires.depth (subst (FitKids M c.args.depth (resolve c.args.module.now c.args.node.now)) (sym leaf.1) (fit-text M c.args.depth (resolve c.args.module.now c.args.node.now) _ _ _ leaf.0 is)) c.owned.ensures.ok
 
-pub body-returns-in_ok-value-in-Utf8-clause-gives : goal.body-returns-in_ok-value-in-Utf8-clause-gives
-body-returns-in_ok-value-in-Utf8-clause-gives g t c = λ told.
-    let is = ap (λ (u : Rose TypeLabel). (label_of u).form) (sym c.resolve-found.ensures) ∙ ap (λ (l : TypeLabel). l.form) (sym c.label.ensures) ∙ c.in-Utf8.is in
+pub ruled-returns-in_ok-value-in-Utf8-clause-gives : goal.ruled-returns-in_ok-value-in-Utf8-clause-gives
+ruled-returns-in_ok-value-in-Utf8-clause-gives g t c = λ told.
+    let is = ap (λ (u : Rose TypeLabel). (label_of u).form) (sym c.requires.found) ∙ ap (λ (l : TypeLabel). l.form) (sym c.label.ensures) ∙ c.in-Utf8.is in
     let old = c.args.run.now in
     let new = c.text_node.new.run in
     let v = c.in_ok-value-in-Utf8.value in
     let read = text_read c.args.module.now c.requires.known c.args.depth c.args.node.now c.requires.of c.args.begin (input g.K.Origin.limit g.K.Origin.whole) (spot old.bits.position old.nodes) _ _ _ is v (spot new.bits.position new.nodes) (c.in_ok-value-in-Utf8.ensures.gives told) in
     body_gives c.args.module.now c.requires.known c.args.depth c.args.node.now c.requires.of c.args.begin (spot old.bits.position old.nodes) v (spot new.bits.position new.nodes) g.K.Origin.limit g.K.Origin.whole new.bits.taken c.owned.result read.0 read.1 (omega (arith, c.in_ok-value-in-Utf8.ensures.on.1)) c.owned.ensures.ok (rw c.position.ensures at c.owned.ensures.err)
 
-pub body-returns-in_ok-value-in_default : goal.body-returns-in_ok-value-in_default
-body-returns-in_ok-value-in_default g t c =
+pub ruled-returns-in_ok-value-in_default : goal.ruled-returns-in_ok-value-in_default
+ruled-returns-in_ok-value-in_default g t c =
     let M = c.args.module.now in
     let v = c.in_ok-value-in_default.value in
     record {
       same_reference = search rules;
       on = search rules;
       count = own_counts _ _ _ v c.owned-in_default.result c.in_ok-value-in_default.ensures.count c.owned-in_default.ensures.ok;
-      fits = own_fits M c.args.depth c.args.node.now v c.owned-in_default.result c.requires.depth (subst (λ u. FitKids M c.args.depth u v) c.resolve-found.ensures c.in_ok-value-in_default.ensures.fits) c.owned-in_default.ensures.ok;
+      fits = own_fits M c.args.depth c.args.node.now v c.owned-in_default.result c.requires.depth (subst (λ u. FitKids M c.args.depth u v) c.requires.found c.in_ok-value-in_default.ensures.fits) c.owned-in_default.ensures.ok;
       gives = λ told.
           let old = c.args.run.now in
           let new = c.fields.new.run in
-          body_gives c.args.module.now c.requires.known c.args.depth c.args.node.now c.requires.of c.args.begin (spot old.bits.position old.nodes) v (spot new.bits.position new.nodes) g.K.Origin.limit g.K.Origin.whole new.bits.taken c.owned-in_default.result (subst (λ u. fields_at M c.args.depth u (input g.K.Origin.limit g.K.Origin.whole) (spot old.bits.position old.nodes) ≡ Ok (v, (spot new.bits.position new.nodes))) c.resolve-found.ensures (c.in_ok-value-in_default.ensures.gives told)) c.in_ok-value-in_default.ensures.text
+          body_gives c.args.module.now c.requires.known c.args.depth c.args.node.now c.requires.of c.args.begin (spot old.bits.position old.nodes) v (spot new.bits.position new.nodes) g.K.Origin.limit g.K.Origin.whole new.bits.taken c.owned-in_default.result (subst (λ u. fields_at M c.args.depth u (input g.K.Origin.limit g.K.Origin.whole) (spot old.bits.position old.nodes) ≡ Ok (v, (spot new.bits.position new.nodes))) c.requires.found (c.in_ok-value-in_default.ensures.gives told)) c.in_ok-value-in_default.ensures.text
           (omega (arith, c.in_ok-value-in_default.ensures.on.1)) c.owned-in_default.ensures.ok (rw c.position-in_default.ensures at c.owned-in_default.ensures.err);
       failed = search rules;
     }

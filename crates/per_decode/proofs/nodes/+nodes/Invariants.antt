@@ -14,20 +14,23 @@ decreases-node g l = 10 * levels_needed l.«module».now l.depth l.node.now + 9
 abbrev pub decreases-body : goal.decreases-body
 decreases-body g l = 10 * levels_needed l.«module».now l.depth l.node.now + 8
 
+abbrev pub decreases-ruled : goal.decreases-ruled
+decreases-ruled g l = 10 * levels_needed l.«module».now l.depth l.node.now + 7
+
 abbrev pub decreases-fields : goal.decreases-fields
-decreases-fields g l = 10 * levels_needed l.«module».now l.depth l.found.now + 7
+decreases-fields g l = 10 * levels_needed l.«module».now l.depth l.found.now + 6
 
 abbrev pub decreases-sequence : goal.decreases-sequence
-decreases-sequence g l = 10 * levels_needed l.«module».now l.depth l.found.now + 6
+decreases-sequence g l = 10 * levels_needed l.«module».now l.depth l.found.now + 5
 
 abbrev pub decreases-components : goal.decreases-components
-decreases-components g l = 10 * levels_needed l.«module».now l.depth l.found.now + 5
+decreases-components g l = 10 * levels_needed l.«module».now l.depth l.found.now + 4
 
 abbrev pub decreases-choice : goal.decreases-choice
-decreases-choice g l = 10 * levels_needed l.«module».now l.depth l.found.now + 6
+decreases-choice g l = 10 * levels_needed l.«module».now l.depth l.found.now + 5
 
 abbrev pub decreases-sequence_of : goal.decreases-sequence_of
-decreases-sequence_of g l = 10 * levels_needed l.«module».now l.depth l.found.now + 6
+decreases-sequence_of g l = 10 * levels_needed l.«module».now l.depth l.found.now + 5
 
 abbrev pub decreases-list : goal.decreases-list
 decreases-list g l = 10 * levels_needed l.«module».now l.depth l.item.now + 12
