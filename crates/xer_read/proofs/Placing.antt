@@ -184,10 +184,6 @@ body-some t n path w e h empty =
     let opens : empties_term t ≡ true = subst (λ z. Opens (first_of_term t) (empties_term t) (names z)) empty (body_opens t n path w h) in
     absurd (let f : true ≡ false = sym opens ∙ e in cc)
 
-pub turn-head : (t : Term) (n i : ℕ) (path : List Turn) (children : Children) (us ws : List Leaf) → empties_term t ≡ false → TurnPlaced t n i path children us ws → HeadIn path (turn_of n i) (us ++ ws)
-turn-head t n i path children us ws e h =
-    head-in path (turn_of n i) us ws (body-in t n path i us h.lang) (body-some t n (path ++ turn_of n i ∷ []) us e h.lang)
-
 pub no-turns : (t : Term) (n i : ℕ) (path : List Turn) (children : Children) (us ws : List Leaf) → TurnsPlaced t n 0 i path children us ws → AreAt children ws
 no-turns t n i path children us ws h = subst (λ z. AreAt children (z ++ ws)) h.lang h.at
 
@@ -417,12 +413,6 @@ one-later p ps n path u (l ∷ w) (inl h) b e =
 pub record Sought (number first next place : ℕ) (all left : Particles) : Type 0 where
   pub one : (path : List Turn) (us : List Leaf) → BeginsWith number first path all us → BeginsWith number next path left us
   pub chosen : (path : List Turn) (us : List Leaf) (i : ℕ) → Chosen left i next path us → Chosen all (place + i) first path us
-
-pub sought-all : (number first : ℕ) (all : Particles) → Sought number first first 0 all all
-sought-all number first all = record {
-  one = λ path us h. h;
-  chosen = λ path us i h. subst (λ j. Chosen all j first path us) (omega arith) h;
-}
 
 pub sought-later : (number first next place : ℕ) (all : Particles) (p : Particle) (left : Particles) → (next ≡ number → ⊥) → Sought number first next place all (more p left)
     → Sought number first (next + size_of p) (place + 1) all left

@@ -22,7 +22,7 @@ use Rattle.xer_read.specs.declared.children.Occurrence.{Occurrence}
 use Rattle.xer_read.specs.Private.Bounds.{is_once, is_optional}
 use Rattle.xer_read.specs.Private.Growing.{term_of}
 use Rattle.xer_read.specs.Private.Tallied.{ChildTaken}
-use Rattle.xer_read.specs.Private.Places.{ModelPlaced, AreAt, HeadIn, path_shown, occurrence_shown, SomeWait, Leaves, ParticlePlaced, TurnPlaced, TermPlaced, OrderPlaced, OnePlaced, ChosenPlaced, Chosen, BeginsWith, IsFillable, TermIsFillable, AllAreFillable}
+use Rattle.xer_read.specs.Private.Places.{ModelPlaced, AreAt, HeadIn, path_shown, occurrence_shown, SomeWait, OthersWait, ParticlePlaced, TurnPlaced, TermPlaced, OrderPlaced, OnePlaced, ChosenPlaced, Chosen, BeginsWith, IsFillable, TermIsFillable, AllAreFillable}
 use Rattle.xer_read.proofs.Growing.{seen-is}
 use Rattle.xer_read.proofs.Waiting.{none-left-waits}
 use Rattle.simple_values.specs.Lexical.{is_at_most}
@@ -103,7 +103,7 @@ kid-empty-at ts i place kid rest same is e h n path = subst (λ j. Chosen (all_s
 wait-as : (P Q : List Leaf → List Leaf → Type 0) → ((us ws : List Leaf) → P us ws → Q us ws) → SomeWait P → SomeWait Q
 wait-as P Q f h = (h.0, h.1, f h.0 h.1 h.2)
 
-leave-as : (P Q : List Leaf → List Leaf → Type 0) (new : Children) → ((us ws : List Leaf) → P us ws → Q us ws) → Leaves Q new → Leaves P new
+leave-as : (P Q : List Leaf → List Leaf → Type 0) (new : Children) → ((us ws : List Leaf) → P us ws → Q us ws) → OthersWait Q new → OthersWait P new
 leave-as P Q new f h = λ us ws p. h us ws (f us ws p)
 
 -- ---- a particle
@@ -122,7 +122,7 @@ module _ (t : Rose ParticleLabel) (n : ℕ) (path : List Turn) (children : Child
   pub once-waits : is_once (label_of t).min (label_of t).max ≡ true → SomeWait (ParticlePlaced (seen t) n path children) → SomeWait (TurnPlaced (term_of t) n 0 path children)
   once-waits o = wait-as (ParticlePlaced (seen t) n path children) (TurnPlaced (term_of t) n 0 path children) (once-as o)
 
-  pub once-leaves : is_once (label_of t).min (label_of t).max ≡ true → (new : Children) → Leaves (TurnPlaced (term_of t) n 0 path children) new → Leaves (ParticlePlaced (seen t) n path children) new
+  pub once-leaves : is_once (label_of t).min (label_of t).max ≡ true → (new : Children) → OthersWait (TurnPlaced (term_of t) n 0 path children) new → OthersWait (ParticlePlaced (seen t) n path children) new
   once-leaves o new = leave-as (ParticlePlaced (seen t) n path children) (TurnPlaced (term_of t) n 0 path children) new (once-as o)
 
   pub present-waits : is_optional (label_of t).min (label_of t).max ≡ true → ((ls : List Leaf) → AreAt children ls → HeadIn path (turn_of n 0) ls)
@@ -130,7 +130,7 @@ module _ (t : Rose ParticleLabel) (n : ℕ) (path : List Turn) (children : Child
   present-waits o head = wait-as (ParticlePlaced (seen t) n path children) (TurnPlaced (term_of t) n 0 path children) (present-as o head)
 
   pub present-leaves : is_optional (label_of t).min (label_of t).max ≡ true → ((ls : List Leaf) → AreAt children ls → HeadIn path (turn_of n 0) ls)
-      → (new : Children) → Leaves (TurnPlaced (term_of t) n 0 path children) new → Leaves (ParticlePlaced (seen t) n path children) new
+      → (new : Children) → OthersWait (TurnPlaced (term_of t) n 0 path children) new → OthersWait (ParticlePlaced (seen t) n path children) new
   present-leaves o head new = leave-as (ParticlePlaced (seen t) n path children) (TurnPlaced (term_of t) n 0 path children) new (present-as o head)
 
   -- an occurrence of a particle that is no single one isn't empty
@@ -140,7 +140,7 @@ module _ (t : Rose ParticleLabel) (n : ℕ) (path : List Turn) (children : Child
       never-empty (term_of t) (label_of t).min (label_of t).max own.1.0 o
 
   pub absent-leaves : is_once (label_of t).min (label_of t).max ≡ false → IsFillable (seen t) → ((ls : List Leaf) → AreAt children ls → HeadIn path (turn_of n 0) ls → ⊥)
-      → Leaves (ParticlePlaced (seen t) n path children) children
+      → OthersWait (ParticlePlaced (seen t) n path children) children
   absent-leaves o f head = λ us ws h.
       absent-placed (term_of t) (label_of t).min (label_of t).max n path children us ws (some-names o f) (head (us ++ ws) h.at) (with-bounds us ws h)
 
@@ -170,7 +170,7 @@ module _ (t : Rose ParticleLabel) (n : ℕ) (path again : List Occurrence) (same
     pub items-wait : SomeWait (ParticlePlaced (seen t) n (path_shown path) initial) → SomeWait (TurnPlaced (term_of t) n taken (path_shown again) children)
     items-wait (us, ws, h) = let x = next-of us ws h in (x.front, x.behind ++ ws, one-of x.front (x.behind ++ ws) x.one)
 
-    pub items-go-on : (later : Children) → Leaves (TurnPlaced (term_of t) n taken (path_shown again) children) later → StillPlaced t n (path_shown path) initial later (taken + 1)
+    pub items-go-on : (later : Children) → OthersWait (TurnPlaced (term_of t) n taken (path_shown again) children) later → StillPlaced t n (path_shown path) initial later (taken + 1)
     items-go-on later left = λ us ws h. let x = next-of us ws h in x.others later (left x.front (x.behind ++ ws) (one-of x.front (x.behind ++ ws) x.one))
 
   -- no more of them come
@@ -185,7 +185,7 @@ module _ (t : Rose ParticleLabel) (n : ℕ) (path again : List Occurrence) (same
   pub items-all : length initial.waiting.items ≤ taken → AllTaken
   items-all l = λ us ws h. no-more (term_of t) (label_of t).min (label_of t).max n (path_shown path) children taken (length initial.waiting.items) ws l (still us ws h)
 
-  pub items-leave : AllTaken → Leaves (ParticlePlaced (seen t) n (path_shown path) initial) children
+  pub items-leave : AllTaken → OthersWait (ParticlePlaced (seen t) n (path_shown path) initial) children
   items-leave all = λ us ws h. (all us ws h).1
 
   pub items-within : AllTaken → SomeWait (ParticlePlaced (seen t) n (path_shown path) initial) → (nat_le (label_of t).min taken ≡ true) × (is_at_most taken (label_of t).max ≡ true)
@@ -237,7 +237,7 @@ module _ (ts : List (Rose ParticleLabel)) (t : Rose ParticleLabel) (rest : List 
       let s = order-split (seen t) (all_seen (roses_of rest)) n path children us ws (in-parts (λ ps. OrderPlaced ps n path children us ws) h) in
       (s.front, s.behind ++ ws, s.one)
 
-  pub rest-waits : (n next : ℕ) (path again : List Turn) (children later : Children) → next ≡ n + size_of (seen t) → again ≡ path → Leaves (ParticlePlaced (seen t) n path children) later
+  pub rest-waits : (n next : ℕ) (path again : List Turn) (children later : Children) → next ≡ n + size_of (seen t) → again ≡ path → OthersWait (ParticlePlaced (seen t) n path children) later
       → SomeWait (OrderPlaced (all_seen (roses_of ts)) n path children) → SomeWait (OrderPlaced (all_seen (roses_of rest)) next again later)
   rest-waits n next path again children later number same taken (us, ws, h) =
       let s = order-split (seen t) (all_seen (roses_of rest)) n path children us ws (in-parts (λ ps. OrderPlaced ps n path children us ws) h) in (
@@ -247,8 +247,8 @@ module _ (ts : List (Rose ParticleLabel)) (t : Rose ParticleLabel) (rest : List 
             (subst (λ p. OrderPlaced (all_seen (roses_of rest)) (n + size_of (seen t)) p later s.behind ws) (sym same) (s.others later (taken s.front (s.behind ++ ws) s.one))),
       )
 
-  pub parts-leave : (n next : ℕ) (path again : List Turn) (children later new : Children) → next ≡ n + size_of (seen t) → again ≡ path → Leaves (ParticlePlaced (seen t) n path children) later
-      → Leaves (OrderPlaced (all_seen (roses_of rest)) next again later) new → Leaves (OrderPlaced (all_seen (roses_of ts)) n path children) new
+  pub parts-leave : (n next : ℕ) (path again : List Turn) (children later new : Children) → next ≡ n + size_of (seen t) → again ≡ path → OthersWait (ParticlePlaced (seen t) n path children) later
+      → OthersWait (OrderPlaced (all_seen (roses_of rest)) next again later) new → OthersWait (OrderPlaced (all_seen (roses_of ts)) n path children) new
   parts-leave n next path again children later new number same taken left = λ us ws h.
       let s = order-split (seen t) (all_seen (roses_of rest)) n path children us ws (in-parts (λ ps. OrderPlaced ps n path children us ws) h) in
       left s.behind ws (subst (λ k. OrderPlaced (all_seen (roses_of rest)) k again later s.behind ws) (sym number)
@@ -271,7 +271,7 @@ module _ (ts : List (Rose ParticleLabel)) (t : Rose ParticleLabel) (rest : List 
   pub chosen-waits : (i n : ℕ) (path : List Turn) (children : Children) → i ≡ 0 → SomeWait (ChosenPlaced (all_seen (roses_of ts)) i n path children) → SomeWait (ParticlePlaced (seen t) n path children)
   chosen-waits i n path children e = wait-as (ChosenPlaced (all_seen (roses_of ts)) i n path children) (ParticlePlaced (seen t) n path children) (first-chosen i n path children e)
 
-  pub chosen-leaves : (i n : ℕ) (path : List Turn) (children new : Children) → i ≡ 0 → Leaves (ParticlePlaced (seen t) n path children) new → Leaves (ChosenPlaced (all_seen (roses_of ts)) i n path children) new
+  pub chosen-leaves : (i n : ℕ) (path : List Turn) (children new : Children) → i ≡ 0 → OthersWait (ParticlePlaced (seen t) n path children) new → OthersWait (ChosenPlaced (all_seen (roses_of ts)) i n path children) new
   chosen-leaves i n path children new e = leave-as (ChosenPlaced (all_seen (roses_of ts)) i n path children) (ParticlePlaced (seen t) n path children) new (first-chosen i n path children e)
 
   pub later-waits : (i j n next : ℕ) (path : List Turn) (children : Children) → i ≡ suc j → next ≡ n + size_of (seen t)
@@ -280,11 +280,11 @@ module _ (ts : List (Rose ParticleLabel)) (t : Rose ParticleLabel) (rest : List 
       wait-as (ChosenPlaced (all_seen (roses_of ts)) i n path children) (ChosenPlaced (all_seen (roses_of rest)) j next path children) (later-chosen i j n next path children e number)
 
   pub later-leaves : (i j n next : ℕ) (path : List Turn) (children new : Children) → i ≡ suc j → next ≡ n + size_of (seen t)
-      → Leaves (ChosenPlaced (all_seen (roses_of rest)) j next path children) new → Leaves (ChosenPlaced (all_seen (roses_of ts)) i n path children) new
+      → OthersWait (ChosenPlaced (all_seen (roses_of rest)) j next path children) new → OthersWait (ChosenPlaced (all_seen (roses_of ts)) i n path children) new
   later-leaves i j n next path children new e number =
       leave-as (ChosenPlaced (all_seen (roses_of ts)) i n path children) (ChosenPlaced (all_seen (roses_of rest)) j next path children) new (later-chosen i j n next path children e number)
 
-pub parts-none : (ts : List (Rose ParticleLabel)) (n : ℕ) (path : List Turn) (children : Children) → length ts ≡ 0 → Leaves (OrderPlaced (all_seen (roses_of ts)) n path children) children
+pub parts-none : (ts : List (Rose ParticleLabel)) (n : ℕ) (path : List Turn) (children : Children) → length ts ≡ 0 → OthersWait (OrderPlaced (all_seen (roses_of ts)) n path children) children
 parts-none [] n path children e = λ us ws h. order-none n path children us ws h
 parts-none (t ∷ ts) n path children e = absurd (cc)
 
@@ -303,7 +303,7 @@ module _ (t : Rose ParticleLabel) (n i : ℕ) (path below : List Occurrence) (ch
   pub turn-waits : SomeWait (TurnPlaced (term_of t) n i (path_shown path) children) → SomeWait (TermPlaced (term_of t) n (path_shown below) children)
   turn-waits = wait-as (TurnPlaced (term_of t) n i (path_shown path) children) (TermPlaced (term_of t) n (path_shown below) children) turn-as
 
-  pub turn-leaves : (new : Children) → Leaves (TermPlaced (term_of t) n (path_shown below) children) new → Leaves (TurnPlaced (term_of t) n i (path_shown path) children) new
+  pub turn-leaves : (new : Children) → OthersWait (TermPlaced (term_of t) n (path_shown below) children) new → OthersWait (TurnPlaced (term_of t) n i (path_shown path) children) new
   turn-leaves new = leave-as (TurnPlaced (term_of t) n i (path_shown path) children) (TermPlaced (term_of t) n (path_shown below) children) new turn-as
 
 module _ (t : Term) (n : ℕ) (path : List Turn) (children : Children) where
@@ -317,7 +317,7 @@ module _ (t : Term) (n : ℕ) (path : List Turn) (children : Children) where
       → SomeWait (TermPlaced t n path children) → ChildTaken d made children new
   element-taken d a made new is f (us, ws, h) = f (leaf_at n d a path) ws (element-as d a is us ws h)
 
-  pub element-leaves : (d : ℕ) (a : Name) (new : Children) → t ≡ element d a → ((l : Leaf) (ls : List Leaf) → AreAt children (l ∷ ls) → AreAt new ls) → Leaves (TermPlaced t n path children) new
+  pub element-leaves : (d : ℕ) (a : Name) (new : Children) → t ≡ element d a → ((l : Leaf) (ls : List Leaf) → AreAt children (l ∷ ls) → AreAt new ls) → OthersWait (TermPlaced t n path children) new
   element-leaves d a new is f = λ us ws h. f (leaf_at n d a path) ws (element-as d a is us ws h)
 
   order-as : (ps : Particles) → t ≡ sequence ps → (us ws : List Leaf) → TermPlaced t n path children us ws → OrderPlaced ps (suc n) path children us ws
@@ -332,7 +332,7 @@ module _ (t : Term) (n : ℕ) (path : List Turn) (children : Children) where
   pub order-waits : (ps : Particles) (first : ℕ) → t ≡ sequence ps → first ≡ suc n → SomeWait (TermPlaced t n path children) → SomeWait (OrderPlaced ps first path children)
   order-waits ps first is e = wait-as (TermPlaced t n path children) (OrderPlaced ps first path children) (order-by ps first is e)
 
-  pub order-leaves : (ps : Particles) (first : ℕ) (new : Children) → t ≡ sequence ps → first ≡ suc n → Leaves (OrderPlaced ps first path children) new → Leaves (TermPlaced t n path children) new
+  pub order-leaves : (ps : Particles) (first : ℕ) (new : Children) → t ≡ sequence ps → first ≡ suc n → OthersWait (OrderPlaced ps first path children) new → OthersWait (TermPlaced t n path children) new
   order-leaves ps first new is e = leave-as (TermPlaced t n path children) (OrderPlaced ps first path children) new (order-by ps first is e)
 
   pub one-waits : (ps : Particles) (first : ℕ) → t ≡ choice ps → first ≡ suc n → SomeWait (TermPlaced t n path children) → SomeWait (OnePlaced ps first path children)
@@ -344,7 +344,7 @@ module _ (t : Term) (n : ℕ) (path : List Turn) (children : Children) where
   alternative-waits ps first i is e f = wait-as (TermPlaced t n path children) (ChosenPlaced ps i first path children) (λ us ws h. f us ws (one-as ps first is e us ws h))
 
   pub alternative-leaves : (ps : Particles) (first i : ℕ) (new : Children) → t ≡ choice ps → first ≡ suc n → ((us ws : List Leaf) → OnePlaced ps first path children us ws → ChosenPlaced ps i first path children us ws)
-      → Leaves (ChosenPlaced ps i first path children) new → Leaves (TermPlaced t n path children) new
+      → OthersWait (ChosenPlaced ps i first path children) new → OthersWait (TermPlaced t n path children) new
   alternative-leaves ps first i new is e f = leave-as (TermPlaced t n path children) (ChosenPlaced ps i first path children) new (λ us ws h. f us ws (one-as ps first is e us ws h))
 
 -- the alternative is that of the same particles below the same path
@@ -367,7 +367,7 @@ module _ (t : Rose ParticleLabel) (children : Children) (m : ModelPlaced t child
   pub whole-waits : (path : List Occurrence) → path ≡ [] → SomeWait (ParticlePlaced (seen t) 0 (path_shown path) children)
   whole-waits path e = (m.us, [], subst (λ p. ParticlePlaced (seen t) 0 (path_shown p) children m.us []) (sym e) model-placed)
 
-  pub whole-taken : (path : List Occurrence) → path ≡ [] → (new : Children) → Leaves (ParticlePlaced (seen t) 0 (path_shown path) children) new → new.waiting.items ≡ []
+  pub whole-taken : (path : List Occurrence) → path ≡ [] → (new : Children) → OthersWait (ParticlePlaced (seen t) 0 (path_shown path) children) new → new.waiting.items ≡ []
   whole-taken path e new left =
       none-left-waits new.turns.items new.waiting.items (left m.us [] (subst (λ p. ParticlePlaced (seen t) 0 (path_shown p) children m.us []) (sym e) model-placed))
 
@@ -380,5 +380,5 @@ module _ (t : Rose ParticleLabel) (children : Children) (m : ModelPlaced t child
     pub parted-waits : SomeWait (OrderPlaced ps 1 (path_shown below) children)
     parted-waits = (m.us, [], parted-placed)
 
-    pub parted-taken : (new : Children) → Leaves (OrderPlaced ps 1 (path_shown below) children) new → new.waiting.items ≡ []
+    pub parted-taken : (new : Children) → OthersWait (OrderPlaced ps 1 (path_shown below) children) new → new.waiting.items ≡ []
     parted-taken new left = none-left-waits new.turns.items new.waiting.items (left m.us [] parted-placed)

@@ -63,30 +63,13 @@ leaf-added d turns old new k all decl begin end waiting = λ ls l is_decl is_pat
       path = ap (map turn_shown) (range-new old.turns.items turns k.from k.to begin end) ∙ sym is_path;
     }) at))
 
-pub leaf-added-as : (d : ℕ) (turns : List matched.Turn) (old between new : Children) → between ≡ old → LeafAdded d turns between new → LeafAdded d turns old new
-leaf-added-as d turns old between new e h = subst (λ c. LeafAdded d turns c new) e h
-
 -- ---- the first
-
-pub none-waits-at : (turns : List matched.Turn) (ks : List kept.Child) (ls : List Leaf) → ks ≡ [] → AllAt turns ks ls → ls ≡ []
-none-waits-at turns [] [] e h = refl
-none-waits-at turns [] (l ∷ ls) e h = absurd h
-none-waits-at turns (k ∷ ks) ls e h = absurd (cc)
 
 pub none-left-waits : (turns : List matched.Turn) (ks : List kept.Child) → AllAt turns ks [] → ks ≡ []
 none-left-waits turns [] h = refl
 none-left-waits turns (k ∷ ks) h = absurd h
 
--- the turns of the first child element are the path to the first leaf
-pub first-waits-at : (turns : List matched.Turn) (all : List kept.Child) (k : kept.Child) (ks : List kept.Child) (ls : List Leaf) → all ≡ k ∷ ks → AllAt turns all ls
-    → (k.from ≤ k.to) × (k.to ≤ length turns) × (map turn_shown (slice_range turns k.from k.to) ≡ first_path ls)
-first-waits-at turns [] k ks ls e h = absurd (cc)
-first-waits-at turns (j ∷ js) k ks [] e h = absurd h
-first-waits-at turns (j ∷ js) k ks (l ∷ ls) e h =
-    let one : IsAt turns k l = subst (λ z. IsAt turns z l) (cc) h.0 in
-    (one.ordered, one.within, one.path)
-
--- and once it is taken the others are at the other leaves
+-- once the first is taken, the others are at the other leaves
 pub first-taken-at : (turns : List matched.Turn) (all : List kept.Child) (k : kept.Child) (ks : List kept.Child) (l : Leaf) (ls : List Leaf) → all ≡ k ∷ ks → AllAt turns all (l ∷ ls)
     → (k.decl ≡ l.decl) × AllAt turns ks ls
 first-taken-at turns [] k ks l ls e h = absurd h

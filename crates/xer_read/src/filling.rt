@@ -11,7 +11,7 @@ ghost use Rattle.content_models.specs.Particle.{Particles, more, none};
 ghost use Rattle.xer_read.specs.Private.Bounds as bounds;
 ghost use Rattle.xer_read.specs.Private.Made.{Several, TermMade, PartsMade, ChosenMade, TopMade};
 ghost use Rattle.xer_read.specs.Private.Growing.{term_of, Takes, Fills, FillsAll};
-ghost use Rattle.xer_read.specs.Private.Places.{ModelPlaced, SomeWait, Leaves, ParticlePlaced, TurnPlaced, TermPlaced, OrderPlaced, OnePlaced, ChosenPlaced, Chosen, BeginsWith, IsFillable, AllAreFillable, path_shown};
+ghost use Rattle.xer_read.specs.Private.Places.{ModelPlaced, SomeWait, OthersWait, ParticlePlaced, TurnPlaced, TermPlaced, OrderPlaced, OnePlaced, ChosenPlaced, Chosen, BeginsWith, IsFillable, AllAreFillable, path_shown};
 
 use crate::built::Built;
 use crate::children::{Children, Occurrence};
@@ -120,7 +120,8 @@ fn alternative_with(particles: &[Tree<ParticleLabel>], first: u64, number: u64) 
     unreachable!()
 }
 
-// The alternative in which the child elements stand that are to be taken. The first has this number.
+// The alternative in which the child elements stand that are to be taken, or where there are none, the first that may be
+// empty. The first of all has this number.
 fn alternative(
     particles: &[Tree<ParticleLabel>],
     number: u64,
@@ -155,7 +156,7 @@ fn fill_term(
     requires fillable { IsFillable (seen particle.now) }
     requires placed { SomeWait (TermPlaced (term_of particle.now) number (path_shown path.old.items) children.old) }
     ensures path { OnOk result (path.new.items ≡ path.old.items) }
-    ensures taken { OnOk result (Leaves (TermPlaced (term_of particle.now) number (path_shown path.old.items) children.old) children.new) }
+    ensures taken { OnOk result (OthersWait (TermPlaced (term_of particle.now) number (path_shown path.old.items) children.old) children.new) }
     ensures made { IfOk result (λ made. Takes (TermMade (term_of particle.now)) made children.old children.new tally.old tally.new) }
 {
     match particle.label().kind {
@@ -200,7 +201,7 @@ fn fill_turn(
     requires fillable { IsFillable (seen particle.now) }
     requires placed { SomeWait (TurnPlaced (term_of particle.now) number turn (path_shown path.old.items) children.old) }
     ensures path { OnOk result (path.new.items ≡ path.old.items) }
-    ensures taken { OnOk result (Leaves (TurnPlaced (term_of particle.now) number turn (path_shown path.old.items) children.old) children.new) }
+    ensures taken { OnOk result (OthersWait (TurnPlaced (term_of particle.now) number turn (path_shown path.old.items) children.old) children.new) }
     ensures made { IfOk result (λ made. Takes (TermMade (term_of particle.now)) made children.old children.new tally.old tally.new) }
 {
     let level = path.as_slice().len();
@@ -229,7 +230,7 @@ fn fill_items(
     requires several { bounds.is_once (label_of particle.now).min (label_of particle.now).max ≡ false }
     requires placed { SomeWait (ParticlePlaced (seen particle.now) number (path_shown path.old.items) children.old) }
     ensures path { OnOk result (path.new.items ≡ path.old.items) }
-    ensures taken { OnOk result (Leaves (ParticlePlaced (seen particle.now) number (path_shown path.old.items) children.old) children.new) }
+    ensures taken { OnOk result (OthersWait (ParticlePlaced (seen particle.now) number (path_shown path.old.items) children.old) children.new) }
     ensures made { IfOk result (λ made. Takes (Several (TermMade (term_of particle.now)) (label_of particle.now).min (label_of particle.now).max) made children.old children.new tally.old tally.new) }
 {
     let mut values = Vec::new(alloc);
@@ -259,7 +260,7 @@ fn fill_chosen(
     requires fillable { AllAreFillable (all_seen (roses_of particles.now)) }
     requires placed { SomeWait (ChosenPlaced (all_seen (roses_of particles.now)) place number (path_shown path.old.items) children.old) }
     ensures path { OnOk result (path.new.items ≡ path.old.items) }
-    ensures taken { OnOk result (Leaves (ChosenPlaced (all_seen (roses_of particles.now)) place number (path_shown path.old.items) children.old) children.new) }
+    ensures taken { OnOk result (OthersWait (ChosenPlaced (all_seen (roses_of particles.now)) place number (path_shown path.old.items) children.old) children.new) }
     ensures made { IfOk result (λ made. Takes (ChosenMade (all_seen (roses_of particles.now)) place) made children.old children.new tally.old tally.new) }
 {
     match particles.split_first() {
@@ -293,7 +294,7 @@ fn fill_part(
     requires fillable { IsFillable (seen particle.now) }
     requires placed { SomeWait (ParticlePlaced (seen particle.now) number (path_shown path.old.items) children.old) }
     ensures path { OnOk result (path.new.items ≡ path.old.items) }
-    ensures taken { OnOk result (Leaves (ParticlePlaced (seen particle.now) number (path_shown path.old.items) children.old) children.new) }
+    ensures taken { OnOk result (OthersWait (ParticlePlaced (seen particle.now) number (path_shown path.old.items) children.old) children.new) }
     ensures made { OnOk result (Fills (PartsMade (more (seen particle.now) none)) children.old children.new parts.old parts.new tally.old tally.new) }
 {
     let label = particle.label();
@@ -328,7 +329,7 @@ fn fill_parts(
     requires fillable { AllAreFillable (all_seen (roses_of particles.now)) }
     requires placed { SomeWait (OrderPlaced (all_seen (roses_of particles.now)) number (path_shown path.old.items) children.old) }
     ensures path { OnOk result (path.new.items ≡ path.old.items) }
-    ensures taken { OnOk result (Leaves (OrderPlaced (all_seen (roses_of particles.now)) number (path_shown path.old.items) children.old) children.new) }
+    ensures taken { OnOk result (OthersWait (OrderPlaced (all_seen (roses_of particles.now)) number (path_shown path.old.items) children.old) children.new) }
     ensures made { OnOk result (Fills (PartsMade (all_seen (roses_of particles.now))) children.old children.new parts.old parts.new tally.old tally.new) }
 {
     match particles.split_first() {

@@ -84,9 +84,9 @@ pub record Placed (L : List Leaf → Type 0) (path : List Turn) (T : Turn → Ty
 abbrev pub SomeWait : (List Leaf → List Leaf → Type 0) → Type 0
 SomeWait P = (us : List Leaf) × (ws : List Leaf) × P us ws
 
--- whichever waited so, they were taken, and no others
-abbrev pub Leaves : (List Leaf → List Leaf → Type 0) → Children → Type 0
-Leaves P new = (us ws : List Leaf) → P us ws → AreAt new ws
+-- whichever waited so, they were taken, and no others: those behind them wait
+abbrev pub OthersWait : (List Leaf → List Leaf → Type 0) → Children → Type 0
+OthersWait P new = (us ws : List Leaf) → P us ws → AreAt new ws
 
 -- those of the particle with this number
 abbrev pub ParticlePlaced : Particle → ℕ → List Turn → Children → List Leaf → List Leaf → Type 0
@@ -118,15 +118,16 @@ Chosen none i n path w = ⊥
 Chosen (more p ps) zero n path w = Lang p n path w
 Chosen (more p ps) (suc i) n path w = Chosen ps i (n + size_of p) path w
 
+-- of that alternative
+abbrev pub ChosenPlaced : Particles → ℕ → ℕ → List Turn → Children → List Leaf → List Leaf → Type 0
+ChosenPlaced ps i n path = Placed (Chosen ps i n path) path (λ u. n ≤ u.particle)
+
 -- A list of one of the particles begins at a turn of the particle with this number, where the first of them has the number n.
 pub record BeginsWith (number n : ℕ) (path : List Turn) (ps : Particles) (us : List Leaf) : Type 0 where
   pub lang : OneOf ps n path us
   pub head : Turn
   pub begins : HeadIn path head us
   pub is : head.particle ≡ number
-
-abbrev pub ChosenPlaced : Particles → ℕ → ℕ → List Turn → Children → List Leaf → List Leaf → Type 0
-ChosenPlaced ps i n path = Placed (Chosen ps i n path) path (λ u. n ≤ u.particle)
 
 -- ---- what is asked of a content model
 

@@ -10,7 +10,7 @@ use Rattle.xer_read.specs.Private.Bounds.{is_once, is_optional}
 use Rattle.xer_read.specs.Private.Made.{Several, TermMade, PartsMade, ChosenMade}
 use Rattle.xer_read.specs.Private.Tallied.{PartAdded}
 use Rattle.xer_read.specs.Private.Growing.{term_of, Fills}
-use Rattle.xer_read.specs.Private.Places.{HeadIn, Leaves, SomeWait, ParticlePlaced, TurnPlaced, OrderPlaced, OnePlaced, ChosenPlaced, path_shown}
+use Rattle.xer_read.specs.Private.Places.{HeadIn, OthersWait, SomeWait, ParticlePlaced, TurnPlaced, OrderPlaced, OnePlaced, ChosenPlaced, path_shown}
 use Rattle.xer_read.proofs.Growing.{on-ok, takes-as, none-gathered, gathered-more, several-done, term-by, absent-made, later-chosen, sequence-made, choice-made, element-made, fills-one, fills-absent, fills-none, fills-more, once-made, optional-made, several-made, once-chosen, several-chosen}
 use Rattle.xer_read.proofs.Stepping as step
 use Rattle.xer_read.proofs.filling.+filling.Goals as goal
@@ -90,8 +90,8 @@ fill_chosen-returns-then-place-gt0-clause-taken t c =
     let new = c.fill_chosen.new.children in
     let next = c.args.number + c.count.result in
     let is = c.in-Some.ensures.cases.0 in
-    on-ok c.fill_chosen.result (Leaves (ChosenPlaced (all_seen (roses_of c.in-Some.rest.now)) (c.args.place - 1) next path c.args.children.now) new)
-    (Leaves (ChosenPlaced (all_seen (roses_of c.args.particles.now)) c.args.place c.args.number path c.args.children.now) new)
+    on-ok c.fill_chosen.result (OthersWait (ChosenPlaced (all_seen (roses_of c.in-Some.rest.now)) (c.args.place - 1) next path c.args.children.now) new)
+    (OthersWait (ChosenPlaced (all_seen (roses_of c.args.particles.now)) c.args.place c.args.number path c.args.children.now) new)
     (step.later-leaves c.args.particles.now c.in-Some.first.now c.in-Some.rest.now is c.args.place (c.args.place - 1) c.args.number next path c.args.children.now new (omega (arith, some))
     (step.next-number c.args.particles.now c.in-Some.first.now c.in-Some.rest.now is c.args.number c.count.result c.requires.allowed c.requires.few c.count.ensures)) c.fill_chosen.ensures.taken
 
@@ -109,7 +109,7 @@ fill_chosen-returns-then-is_once-clause-taken t c =
     let path = path_shown c.args.path.now.items in
     let old = c.args.children.now in
     let new = c.fill_turn.new.children in
-    on-ok c.fill_turn.result (Leaves (TurnPlaced (term_of first) c.args.number 0 path old) new) (Leaves (ChosenPlaced (all_seen (roses_of c.args.particles.now)) c.args.place c.args.number path old) new)
+    on-ok c.fill_turn.result (OthersWait (TurnPlaced (term_of first) c.args.number 0 path old) new) (OthersWait (ChosenPlaced (all_seen (roses_of c.args.particles.now)) c.args.place c.args.number path old) new)
     (λ h. step.chosen-leaves c.args.particles.now first c.in-Some.rest.now c.in-Some.ensures.cases.0 c.args.place c.args.number path old new is_first
     (step.once-leaves first c.args.number path old (sym (c.if-is_once.ensures ∙ ap (λ l. is_once l.min l.max) c.label.ensures)) new h)) c.fill_turn.ensures.taken
 
@@ -127,7 +127,7 @@ fill_chosen-returns-else-is_once-clause-taken t c =
     let path = path_shown c.args.path.now.items in
     let old = c.args.children.now in
     let new = c.fill_items.new.children in
-    on-ok c.fill_items.result (Leaves (ParticlePlaced (seen first) c.args.number path old) new) (Leaves (ChosenPlaced (all_seen (roses_of c.args.particles.now)) c.args.place c.args.number path old) new)
+    on-ok c.fill_items.result (OthersWait (ParticlePlaced (seen first) c.args.number path old) new) (OthersWait (ChosenPlaced (all_seen (roses_of c.args.particles.now)) c.args.place c.args.number path old) new)
     (step.chosen-leaves c.args.particles.now first c.in-Some.rest.now c.in-Some.ensures.cases.0 c.args.place c.args.number path old new is_first) c.fill_items.ensures.taken
 
 pub fill_chosen-returns-else-is_once-clause-made : goal.fill_chosen-returns-else-is_once-clause-made
@@ -233,7 +233,7 @@ fill_part-returns-then-is_once-clause-path t c =
 pub fill_part-returns-then-is_once-clause-taken : goal.fill_part-returns-then-is_once-clause-taken
 fill_part-returns-then-is_once-clause-taken t c =
     on-ok c.add.result (PartAdded c.in_ok-value.value c.args.parts.now c.add.new.self)
-    (Leaves (ParticlePlaced (seen c.args.particle.now) c.args.number (path_shown c.args.path.now.items) c.args.children.now) c.fill_turn.new.children)
+    (OthersWait (ParticlePlaced (seen c.args.particle.now) c.args.number (path_shown c.args.path.now.items) c.args.children.now) c.fill_turn.new.children)
     (λ g. step.once-leaves c.args.particle.now c.args.number (path_shown c.args.path.now.items) c.args.children.now (sym (c.if-is_once.ensures ∙ ap (λ l. is_once l.min l.max) c.label-label.ensures))
     c.fill_turn.new.children c.in_ok-value.ensures.taken) c.add.ensures
 
@@ -257,7 +257,7 @@ fill_part-returns-then-is_optional-clause-path t c =
 pub fill_part-returns-then-is_optional-clause-taken : goal.fill_part-returns-then-is_optional-clause-taken
 fill_part-returns-then-is_optional-clause-taken t c =
     on-ok c.add-then-is_optional.result (PartAdded c.in_ok-value-2.value c.args.parts.now c.add-then-is_optional.new.self)
-    (Leaves (ParticlePlaced (seen c.args.particle.now) c.args.number (path_shown c.args.path.now.items) c.args.children.now) c.fill_turn-then-is_optional.new.children)
+    (OthersWait (ParticlePlaced (seen c.args.particle.now) c.args.number (path_shown c.args.path.now.items) c.args.children.now) c.fill_turn-then-is_optional.new.children)
     (λ g. step.present-leaves c.args.particle.now c.args.number (path_shown c.args.path.now.items) c.args.children.now (sym (c.if-is_optional.ensures ∙ ap (λ l. is_optional l.min l.max) c.label-label.ensures))
     (λ ls at. subst (λ p. HeadIn (path_shown p) (turn_of c.args.number 0) ls) c.as_slice.ensures.value ((c.is_next.ensures ls at).0 c.if-not-is_next.false))
     c.fill_turn-then-is_optional.new.children c.in_ok-value-2.ensures.taken) c.add-then-is_optional.ensures
@@ -282,7 +282,7 @@ fill_part-returns-clause-path t c =
 pub fill_part-returns-clause-taken : goal.fill_part-returns-clause-taken
 fill_part-returns-clause-taken t c =
     on-ok c.add-2.result (PartAdded c.in_ok-value-3.value c.args.parts.now c.add-2.new.self)
-    (Leaves (ParticlePlaced (seen c.args.particle.now) c.args.number (path_shown c.args.path.now.items) c.args.children.now) c.fill_items.new.children) (λ g. c.in_ok-value-3.ensures.taken) c.add-2.ensures
+    (OthersWait (ParticlePlaced (seen c.args.particle.now) c.args.number (path_shown c.args.path.now.items) c.args.children.now) c.fill_items.new.children) (λ g. c.in_ok-value-3.ensures.taken) c.add-2.ensures
 
 pub fill_part-returns-clause-made : goal.fill_part-returns-clause-made
 fill_part-returns-clause-made t c =
@@ -309,7 +309,7 @@ fill_part-returns-then-not-is_next-clause-taken t c =
     let old = c.args.parts.now in
     let new = c.leave_out.new.self in
     on-ok c.leave_out.result ((new.flags.items ≡ old.flags.items ++ false ∷ []) × (new.values.items ≡ old.values.items))
-    (Leaves (ParticlePlaced (seen c.args.particle.now) c.args.number (path_shown c.args.path.now.items) c.args.children.now) c.args.children.now)
+    (OthersWait (ParticlePlaced (seen c.args.particle.now) c.args.number (path_shown c.args.path.now.items) c.args.children.now) c.args.children.now)
     (λ g. step.absent-leaves c.args.particle.now c.args.number (path_shown c.args.path.now.items) c.args.children.now (sym (c.if-is_once.ensures ∙ ap (λ l. is_once l.min l.max) c.label-label.ensures)) c.requires.fillable
     (λ ls at k. step.never-true c.if-not-is_next.true ((c.is_next.ensures ls at).1 (subst (λ p. HeadIn (path_shown p) (turn_of c.args.number 0) ls) (sym c.as_slice.ensures.value) k)))) c.leave_out.ensures
 
@@ -381,7 +381,7 @@ fill_parts-returns-in_ok-fill_part-in-Some-clause-taken t c =
     let path = path_shown c.args.path.now.items in
     let again = path_shown c.fill_part.new.path.items in
     let new = c.fill_parts.new.children in
-    on-ok c.fill_parts.result (Leaves (OrderPlaced (all_seen (roses_of rest)) next again c.fill_part.new.children) new) (Leaves (OrderPlaced (all_seen (roses_of ts)) c.args.number path c.args.children.now) new)
+    on-ok c.fill_parts.result (OthersWait (OrderPlaced (all_seen (roses_of rest)) next again c.fill_part.new.children) new) (OthersWait (OrderPlaced (all_seen (roses_of ts)) c.args.number path c.args.children.now) new)
     (step.parts-leave ts first rest is c.args.number next path again c.args.children.now c.fill_part.new.children new
     (step.next-number ts first rest is c.args.number c.count.result c.requires.allowed c.requires.few c.count.ensures) (ap path_shown c.in_ok-fill_part-in-Some.ensures.path) c.in_ok-fill_part-in-Some.ensures.taken)
     c.fill_parts.ensures.taken

@@ -6,7 +6,7 @@ use Rattle.content_models.specs.Seen.{seen, all_seen}
 use Rattle.content_models.specs.Particle.{more, none}
 use Rattle.xer_read.specs.Private.Made.{PartsMade, TopMade}
 use Rattle.xer_read.specs.Private.Growing.{Fills, FillsAll}
-use Rattle.xer_read.specs.Private.Places.{IsFillable, Leaves, OrderPlaced, ParticlePlaced, SomeWait, path_shown}
+use Rattle.xer_read.specs.Private.Places.{IsFillable, OthersWait, OrderPlaced, ParticlePlaced, SomeWait, path_shown}
 use Rattle.xer_read.proofs.Growing.{on-both, top-term, top-parted, top-whole}
 use Rattle.xer_read.proofs.Stepping as step
 use Rattle.xer_read.proofs.filling.fill_top.Goals as goal
@@ -36,7 +36,7 @@ returns-then-is_parted c =
     let is = top-term model c.label.result.now kids label_is kids_is c.if-is_parted.ensures in
     let ps = all_seen (roses_of kids) in
     let new = c.fill_parts.new.children in
-    on-both c.fill_parts.result (Leaves (OrderPlaced ps 1 (path_shown c.push.new.self.items) c.args.children) new)
+    on-both c.fill_parts.result (OthersWait (OrderPlaced ps 1 (path_shown c.push.new.self.items) c.args.children) new)
     (Fills (PartsMade ps) c.args.children new c.args.parts.now c.fill_parts.new.parts c.args.tally.now c.fill_parts.new.tally)
     (FillsAll (TopMade (seen model)) c.args.children c.args.parts.now c.fill_parts.new.parts c.args.tally.now c.fill_parts.new.tally)
     (λ taken made. top-parted model c.label.result.now kids label_is kids_is c.if-is_parted.ensures c.args.children new c.args.parts.now c.fill_parts.new.parts c.args.tally.now c.fill_parts.new.tally
@@ -63,11 +63,11 @@ returns c =
     let root = c.root-root.result.now in
     let is = c.root-root.ensures.root in
     let new = c.fill_part.new.children in
-    on-both c.fill_part.result (Leaves (ParticlePlaced (seen root) 0 (path_shown c.new-path.result.items) c.args.children) new)
+    on-both c.fill_part.result (OthersWait (ParticlePlaced (seen root) 0 (path_shown c.new-path.result.items) c.args.children) new)
     (Fills (PartsMade (more (seen root) none)) c.args.children new c.args.parts.now c.fill_part.new.parts c.args.tally.now c.fill_part.new.tally)
     (FillsAll (TopMade (seen model)) c.args.children c.args.parts.now c.fill_part.new.parts c.args.tally.now c.fill_part.new.tally)
     (λ taken made. top-whole model c.label.result.now (c.label.ensures ∙ ap label_of is) c.if-is_parted.ensures c.args.children new c.args.parts.now c.fill_part.new.parts c.args.tally.now c.fill_part.new.tally
     (step.whole-taken model c.args.children c.requires c.new-path.result.items c.new-path.ensures.items new
-    (subst (λ r. Leaves (ParticlePlaced (seen r) 0 (path_shown c.new-path.result.items) c.args.children) new) is taken))
+    (subst (λ r. OthersWait (ParticlePlaced (seen r) 0 (path_shown c.new-path.result.items) c.args.children) new) is taken))
     (subst (λ r. Fills (PartsMade (more (seen r) none)) c.args.children new c.args.parts.now c.fill_part.new.parts c.args.tally.now c.fill_part.new.tally) is made))
     c.fill_part.ensures.taken c.fill_part.ensures.made
