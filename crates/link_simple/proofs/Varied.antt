@@ -1,11 +1,12 @@
 -- Each restriction of the documents has few enumerations, and each union has a member.
-use Rattle.std.proofs.Common.{◌≡◌, ℕ, zero, suc, ◌+◌, ◌<◌, arith, true, cond, List, [], ◌∷◌, ◌++◌, length, map, refl, sym, subst, Option, Some, None}
+use Rattle.std.proofs.Common.{◌≡◌, ℕ, zero, suc, ◌+◌, ◌<◌, arith, true, cond, inl, inr, List, [], ◌∷◌, ◌++◌, length, map, refl, sym, subst, Option, Some, None}
 use Rattle.std.specs.Prelude.{◌&&◌, ◌^◌, count_by, slice_get}
 use Rattle.std.specs.List.{flat_map}
 use Rattle.std.specs.Borrow.{Bor}
 use Rattle.std.proofs.lemmas.Bool.{and_parts, leb-true, true≢false}
 use Rattle.std.proofs.lemmas.Grind.{flat_map-append}
 use Rattle.std.proofs.lemmas.List.Sums.{sum_by-cons}
+use Rattle.xa_base.specs.Lists.{HasItem}
 use Rattle.label_tree.specs.Rose.{Rose, node, Roses}
 use Rattle.label_tree.specs.Rose as rose
 use Rattle.content_models.specs.declared.particles.ParticleLabel.{ParticleLabel}
@@ -147,6 +148,11 @@ in_document_varied d h =
     (parts_append elements (attributes ++ types) (in_elements_varied d.file d.elements one.0)
     (parts_append attributes types (in_attributes_varied d.file d.attributes two.0) (in_types_varied d.file d.types three.0)))
     (in_locals_varied d.file d.locals three.1)
+
+-- of documents that keep so much
+pub documents_varied : (docs : List Document) → ((d : Document) → HasItem docs d → all_varied d.elements d.attributes d.types d.locals ≡ true) → AreVaried (simple_types docs)
+documents_varied [] h = tt
+documents_varied (d ∷ docs) h = parts_append (in_document d) (parts docs) (in_document_varied d (h d (inl refl))) (documents_varied docs (λ e i. h e (inr i)))
 
 pub are_varied : (docs : List RawDoc) → AreVaried (simple_types (map doc_of docs))
 are_varied [] = tt

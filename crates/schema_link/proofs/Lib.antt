@@ -1,16 +1,16 @@
 mod DeclaredNumbers
 mod DeclaredParts
-mod FewComponents
+pub mod FewComponents
 mod FirstCircular
 mod FirstDiffering
 mod FirstNotMade
 mod Firsts
-mod GlobalLists
-mod InOrder
-mod Items
-mod Kept
+pub mod GlobalLists
+pub mod InOrder
+pub mod Items
+pub mod Kept
 mod KeptComplexes
-mod LinkedSet
+pub mod LinkedSet
 mod Members
 mod Numbered
 mod NumberedModels

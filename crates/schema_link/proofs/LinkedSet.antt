@@ -33,7 +33,7 @@ use Rattle.schema_link.specs.Sets.{AreNumbered}
 use Rattle.schema_link.proofs.FewComponents.{short_list, few_elements, few_complexes}
 use Rattle.schema_link.proofs.InOrder.{length_in_order}
 use Rattle.schema_link.proofs.Items.{of_mapped, in_either, each_item, item_of_all}
-use Rattle.schema_link.proofs.Kept.{NumberedFrom, AreFaultless, each_keeps}
+use Rattle.schema_link.proofs.Kept.{Keeps, NumberedFrom, AreFaultless, each_keeps}
 use Rattle.schema_link.proofs.SetChains.{unnamed_there, descending, short}
 use Rattle.schema_link.proofs.SetContents.{linked_set, complexes_good}
 use Rattle.schema_link.proofs.SetCounts.{made, one_particle, one_declaration}
@@ -52,17 +52,20 @@ numbered_from n [] h = tt
 numbered_from n (d ∷ docs) h =
     ((let e = h 0 d refl in omega (arith, e)), numbered_from (n + 1) docs (λ k x at. let e = h (suc k) x at in omega (arith, e)))
 
-faultless : (docs : List RawDoc) → AreNumbered (map doc_of docs) → ArePassed (map doc_of docs) passes → AreFaultless (map doc_of docs)
-faultless docs numbered passed = record {
-  few = short_list (counted_places (map doc_of docs)) 10000 (none_beyond (slice_get (counted_places (map doc_of docs)) 10000) passed.0);
+pub faultless_of : (docs : List Document) → AreNumbered docs → ((d : Document) → HasItem docs d → Keeps d) → ArePassed docs passes → AreFaultless docs
+faultless_of docs numbered kept passed = record {
+  few = short_list (counted_places docs) 10000 (none_beyond (slice_get (counted_places docs) 10000) passed.0);
   apart = passed.1.0;
   resolved = passed.1.1.0;
   uses = λ f i. passed.1.1.1.1.1.0 f (inl i);
   typed = λ f i. passed.1.1.1.1.1.0 f (inr i);
   clear = passed.1.1.1.1.1.1.0;
-  numbered = numbered_from 0 (map doc_of docs) (λ k d at. let e = numbered k d at in omega (arith, e));
-  kept = each_keeps docs;
+  numbered = numbered_from 0 docs (λ k d at. let e = numbered k d at in omega (arith, e));
+  kept = kept;
 }
+
+faultless : (docs : List RawDoc) → AreNumbered (map doc_of docs) → ArePassed (map doc_of docs) passes → AreFaultless (map doc_of docs)
+faultless docs numbered passed = faultless_of (map doc_of docs) numbered (each_keeps docs) passed
 
 -- they have few components
 pub set_few : (docs : List RawDoc) → AreNumbered (map doc_of docs) → ArePassed (map doc_of docs) passes → AreFew (lists_of (map doc_of docs))
@@ -124,14 +127,16 @@ module _ (docs : List Document) (h : AreFaultless docs) (spaces : List Space) (l
       }
 
 -- the set that has the parts
+pub set_of_linked : (docs : List Document) → AreFaultless docs → (s : Set) (spaces : List Space) → length spaces ≡ length (simple_types docs) → parts_of s ≡ set_of docs spaces
+    → All (λ (t : SimpleDef). Sound (space_of t.space)) s.simples → All HasWholeModel s.complexes → IsLinked s
+set_of_linked docs h s spaces long is sound whole =
+    let named = ap (λ (p : sets.SetParts). p.simples) is in
+    let complexes = ap (λ (p : sets.SetParts). p.complexes) is in
+    let same : s ≡ linked_set docs h s.simples (simples_count docs spaces long s.simples named) =
+    λ i. components (is i).elements (is i).globals s.simples (is i).complexes (is i).attributes in
+    subst IsLinked (sym same) (linked docs h spaces long s.simples named sound (subst (λ cs. All HasWholeModel cs) complexes whole))
+
 pub set_linked : (docs : List RawDoc) (s : Set) (spaces : List Space) → AreNumbered (map doc_of docs) → ArePassed (map doc_of docs) passes
     → length spaces ≡ length (simple_types (map doc_of docs)) → parts_of s ≡ set_of (map doc_of docs) spaces
     → All (λ (t : SimpleDef). Sound (space_of t.space)) s.simples → All HasWholeModel s.complexes → IsLinked s
-set_linked docs s spaces numbered passed long is sound whole =
-    let ds = map doc_of docs in
-    let h = faultless docs numbered passed in
-    let named = ap (λ (p : sets.SetParts). p.simples) is in
-    let complexes = ap (λ (p : sets.SetParts). p.complexes) is in
-    let same : s ≡ linked_set ds h s.simples (simples_count ds spaces long s.simples named) =
-    λ i. components (is i).elements (is i).globals s.simples (is i).complexes (is i).attributes in
-    subst IsLinked (sym same) (linked ds h spaces long s.simples named sound (subst (λ cs. All HasWholeModel cs) complexes whole))
+set_linked docs s spaces numbered passed long is sound whole = set_of_linked (map doc_of docs) (faultless docs numbered passed) s spaces long is sound whole

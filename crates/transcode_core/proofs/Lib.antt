@@ -12,3 +12,5 @@ pub mod Again
 pub mod Trials
 pub mod Received
 pub mod Valuing
+pub mod Answering
+pub mod SomeSets

@@ -7,3 +7,4 @@ pub mod Due
 pub mod Lines
 pub mod Status
 pub mod Private
+pub mod ReadBack

@@ -9,11 +9,18 @@ ghost use Rattle.transcode_core.specs.Steps.{Judged};
 ghost use Rattle.transcode_core.specs.declared.outcome.Outcome.{Outcome};
 ghost use Rattle.transcode_core.specs.Causes.{ReadsInput, IsTold};
 ghost use Rattle.transcode_core.specs.Due.{ItemsIn, Encoded, Documented, Due};
+ghost use Rattle.transcode_core.specs.ReadBack.{AreReadBack};
 
-use one_value::one_value;
+use doc_text::{document_items, one_answer as document_answer};
+use map_laws::maps_exist;
+use map_widths::{maps_are_bounded, maps_are_modules};
+use one_value::{items_of_values, one_value};
 use per_fields::first_stop;
+use schema_link::one_answer as link_answer;
+use set_exists::sets_of_documents;
 use sound_items::documents_of_values;
-use validity::at_most_one;
+use validity::{at_least_one, at_most_one};
+use value_exists::values_of_items;
 
 /// Of all words, over files that are told, at most one refusal or result is due, and a result with its bytes alone; where
 /// the words ask for the input, this is told too.
@@ -23,6 +30,26 @@ pub fn one_answer()
 {
     at_most_one();
     one_value();
+    first_stop();
+}
+
+/// Of all words, over files that are told, a refusal or a result is due; where the words ask for the input, this is told
+/// too. For `to-xml` it is asked that the text which is written of a value is read as a document with its items; the code
+/// writes no other. So with the law above just one is due.
+pub fn some_answer()
+    ensures { (words : List (List ℕ)) (entries : List (List ℕ × List ℕ)) (left : Option (List ℕ)) → (ReadsInput words → IsTold left)
+        → AreReadBack words (Some entries) left → (v : Result (List ℕ) Outcome) × Due words (Some entries) left v }
+{
+    document_answer();
+    document_items();
+    link_answer();
+    sets_of_documents();
+    maps_exist();
+    maps_are_modules();
+    maps_are_bounded();
+    at_least_one();
+    values_of_items();
+    items_of_values();
     first_stop();
 }
 

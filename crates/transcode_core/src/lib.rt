@@ -15,7 +15,7 @@ mod trial;
 mod typing;
 mod words;
 
-pub use laws::{one_answer, there_and_back};
+pub use laws::{one_answer, some_answer, there_and_back};
 pub use lines::write_line;
 pub use outcome::Outcome;
 pub use top::run;

@@ -1,0 +1,6 @@
+//! The map of a set is a module, and within the widths of numbers and sizes where the set is.
+#![tactic(auto)]
+
+mod laws;
+
+pub use laws::{maps_are_bounded, maps_are_modules};

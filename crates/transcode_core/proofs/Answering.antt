@@ -1,0 +1,365 @@
+-- At least one outcome or result is due.
+use Rattle.std.proofs.Common.{◌≡◌, ◌⊎◌, ℕ, zero, suc, ◌+◌, ◌*◌, ◌/◌, ◌<◌, ◌≤◌, ◌^◌, Bool, true, List, [], ◌∷◌, ◌++◌, length, take, drop, All, refl, sym, ap, ◌∙◌, subst, inl, inr, arith, Option, Some, None, Result, Ok, Err}
+use Rattle.std.proofs.lemmas.Bool.{cases_lt}
+use Rattle.std.proofs.lemmas.List.{take_all, length-append, length-take, append-nil}
+use Rattle.std.proofs.lemmas.List.{take-append-drop}
+use Rattle.std.proofs.lemmas.List.Elements.{All-nil, All-cons}
+use Rattle.xa_base.specs.declared.texts.Name.{Name}
+use Rattle.xa_base.specs.Entries.{beside}
+use Rattle.label_tree.specs.Rose as tree
+use Rattle.label_tree.specs.Rose.{Rose, node_count, shown_count}
+use Rattle.doc_text.specs.declared.label.ItemLabel.{ItemLabel}
+use Rattle.doc_text.specs.declared.error.DocWhy.{DocWhy}
+use Rattle.doc_text.specs.Documents.{DocOf, BrokenAt}
+use Rattle.doc_text.specs.Sound.{AreItems}
+use Rattle.doc_written.specs.Written.{written}
+use Rattle.plain_items.specs.Plain.{Plain}
+use Rattle.plain_items.specs.Unplaced.{unplaced}
+use Rattle.simple_types.specs.declared.labels.ValueLabel.{ValueLabel}
+use Rattle.schema_faults.specs.Faults.{first_fault, reasons}
+use Rattle.schema_faults.specs.declared.faults.DocumentFault.{DocumentFault}
+use Rattle.schema_read.specs.Raw.{raw_of}
+use Rattle.schema_parts.specs.Components.{Set}
+use Rattle.schema_parts.specs.Linked.{IsLinked}
+use Rattle.schema_parts.specs.Raw.{Document}
+use Rattle.schema_parts.specs.SetParts.{SetParts, parts_of}
+use Rattle.link_names.specs.declared.faults.LinkingFault as link
+use Rattle.schema_link.specs.Passes.{passes, ArePassed, IsShownBy}
+use Rattle.validity.specs.Laws.{AtLeastOne}
+use Rattle.validity.specs.Valid.{Valid}
+use Rattle.asn_types.specs.declared.modules.Assignment.{Assignment}
+use Rattle.asn_types.specs.Modules.{IsModule}
+use Rattle.asn_types.specs.Bounds.{IsBounded}
+use Rattle.asn_types.specs.Values.{Fits}
+use Rattle.map_subjects.specs.declared.subjects.Subject.TheVariants as subject
+use Rattle.map_assignments.specs.Mapped.{IsMapOf}
+use Rattle.map_694.proofs.Bodies.{global-named}
+use Rattle.map_694.proofs.Whole.{root-within}
+use Rattle.module_print.specs.Printed.{printed}
+use Rattle.xer_items.specs.Items.{Xer}
+use Rattle.one_value.specs.Statements.{AreSmall, root_at, ValuesOfItems, ItemsOfValues}
+use Rattle.bit_cursor.specs.Bits.{octet, octet_bits, number, bits}
+use Rattle.bit_cursor.proofs.BitLemmas.{bits-number, number-lt, length-octet_bits}
+use Rattle.per_fields.specs.Encoding.{complete}
+use Rattle.per_fields.specs.Laws as law
+use Rattle.per_fields.specs.Laws.{Begins, Stops}
+use Rattle.transcode_core.specs.declared.outcome.Outcome.{Outcome}
+use Rattle.transcode_core.specs.declared.outcome.Outcome.TheVariants.{Usage, SchemaSyntax, SchemaFault, DocSyntax, LinkFault, UnknownRoot, Invalid, Trailing, TooLong, TooManyNodes, LoadFault}
+use Rattle.transcode_core.specs.Order.{Give, Found, Then}
+use Rattle.transcode_core.specs.Steps.{Loaded, Read, Faultless, SchemaIn, Schema, Schemas, AreParts, Linked, number_named, Rooted, Printed, Input, AreLinked, Judged, RootType, IsTypeOf, IsRootType, Typed, Valued, ValueIn, Encoding, readable, fault_in, Decoded, Written}
+use Rattle.transcode_core.specs.Due.{Requested, SetIn, Opened, ItemsIn, Checked, Encoded, Documented, Sent, Tried, Answered, Due}
+use Rattle.transcode_core.specs.Words.{Asked, Show, Check, ToPer, ToXml, Trial, asked}
+use Rattle.transcode_core.specs.Trial.{trial_name, trial_schema, trial_root, trial_document, summary}
+use Rattle.transcode_core.specs.Causes.{reads_input, ReadsInput, IsTold}
+use Rattle.transcode_core.specs.ReadBack.{IsReadBack, AreReadBack}
+use Rattle.transcode_core.proofs.Roots.{number-within}
+
+-- an outcome or a result
+abbrev pub IsAnswered : {A : Type 0} → (Result A Outcome → Type 0) → Type 0
+IsAnswered {A} step = (v : Result A Outcome) × step v
+
+Give-answered : {A : Type 0} (a : A) → IsAnswered (Give a)
+Give-answered a = (Ok a, refl)
+
+Found-answered : {A : Type 0} (found : Option A) (refusal : Outcome) → IsAnswered (Found found refusal)
+Found-answered (Some a) refusal = (Ok a, refl)
+Found-answered None refusal = (Err refusal, (refl, refl))
+
+-- the next step may use what the first passed on
+Then-with : {A B : Type 0} (first : Result A Outcome → Type 0) (next : A → Result B Outcome → Type 0)
+    → IsAnswered first → ((a : A) → first (Ok a) → IsAnswered (next a)) → IsAnswered (Then first next)
+Then-with {A} {B} first next (Ok a, p) each = let w = each a p in by w.0 w.1
+  where
+    by : (v : Result B Outcome) → next a v → IsAnswered (Then first next)
+    by (Ok b) q = (Ok b, (a, p, q))
+    by (Err o) q = (Err o, inr (a, p, q))
+Then-with first next (Err o, p) each = (Err o, inl p)
+
+-- ---- files
+
+loaded_from : (entries : List (List ℕ × List ℕ)) (k : ℕ) (name : List ℕ) (found : Option (List ℕ)) → beside name entries ≡ found → IsAnswered (Loaded (Some entries) k name)
+loaded_from entries k name None is = (Err (LoadFault k), inr (refl, is))
+loaded_from entries k name (Some bytes) is = elim (cases_lt 16777216 (length bytes)) [
+  | inl long ↦ (Err (TooLong k), inl (refl, (bytes, is, long)))
+  | inr short ↦ (Ok bytes, (is, short))
+]
+
+module _ (document : (bytes : List ℕ) → ((x : tree.Rose ItemLabel) × DocOf bytes x) ⊎ ((at : ℕ) × (why : DocWhy) × BrokenAt bytes at why)) where
+  Read-answered : (refusal : ℕ → DocWhy → Outcome) (bytes : List ℕ) → IsAnswered (Read refusal bytes)
+  Read-answered refusal bytes = elim (document bytes) [
+    | inl is ↦ (Ok is.0, is.1)
+    | inr broken ↦ (Err (refusal broken.0 broken.1), (broken.0, broken.1, broken.2, refl))
+  ]
+
+  faultless_from : (k : ℕ) (items : tree.Rose ItemLabel) (found : Option DocumentFault) → first_fault (reasons items) ≡ found → IsAnswered (Faultless k items)
+  faultless_from k items None is = (Ok tt, is)
+  faultless_from k items (Some fault) is = (Err (SchemaFault k fault.at fault.why), (fault, is, refl))
+
+  Schema-answered : (entries : List (List ℕ × List ℕ)) (k : ℕ) (name : List ℕ) → IsAnswered (Schema (Some entries) k name)
+  Schema-answered entries k name =
+      Then-with (Loaded (Some entries) k name) (λ bytes. SchemaIn k bytes) (loaded_from entries k name (beside name entries) refl) (λ bytes loaded.
+      Then-with (Read (λ at why. SchemaSyntax k at why) bytes) (λ items. Then (Faultless k items) (λ _. Give (raw_of k items))) (Read-answered (λ at why. SchemaSyntax k at why) bytes) (λ items read.
+      Then-with (Faultless k items) (λ _. Give (raw_of k items)) (faultless_from k items (first_fault (reasons items)) refl) (λ u faultless. Give-answered (raw_of k items))))
+
+  Schemas-answered : (entries : List (List ℕ × List ℕ)) (k : ℕ) (names : List (List ℕ)) → IsAnswered (Schemas (Some entries) k names)
+  Schemas-answered entries k [] = Give-answered []
+  Schemas-answered entries k (name ∷ names) =
+      Then-with (Schema (Some entries) k name) (λ first. Then (Schemas (Some entries) (k + 1) names) (λ others. Give (first ∷ others))) (Schema-answered entries k name) (λ first is.
+      Then-with (Schemas (Some entries) (k + 1) names) (λ others. Give (first ∷ others)) (Schemas-answered entries (k + 1) names) (λ others rest. Give-answered (first ∷ others)))
+
+  Input-answered : (left : List ℕ) → IsAnswered (Input (Some left))
+  Input-answered left = elim (cases_lt 16777216 (length left)) [
+    | inl long ↦ (Err (TooLong 0), (long, refl))
+    | inr short ↦ (Ok left, (refl, short))
+  ]
+
+  ItemsIn-answered : (left : List ℕ) → IsAnswered (ItemsIn (Some left))
+  ItemsIn-answered left =
+      Then-with (Input (Some left)) (λ bytes. Read (λ at why. DocSyntax at why) bytes) (Input-answered left) (λ bytes input. Read-answered (λ at why. DocSyntax at why) bytes)
+
+-- ---- sets
+
+Linked-answered : (documents : List Document) → (ArePassed documents passes ⊎ ((f : link.LinkingFault) × IsShownBy documents passes f))
+    → (ArePassed documents passes → (parts : SetParts) × AreParts documents parts) → IsAnswered (Linked documents)
+Linked-answered documents (inl passed) made = let parts = made passed in (Ok parts.0, (passed, parts.1))
+Linked-answered documents (inr (fault, shown)) made = (Err (LinkFault fault.place.file fault.place.at fault.why), (fault, shown, refl))
+
+-- a set with these parts that is linked, and its map, which is a module within the widths that the code has
+pub record HasMap (parts : SetParts) : Type 0 where
+  pub set : Set
+  pub of_set : parts_of set ≡ parts
+  pub linked : IsLinked set
+  pub small : AreSmall set
+  pub map : List Assignment
+  pub is_map : IsMapOf set map
+  pub is_module : IsModule map
+  pub is_bounded : IsBounded map
+
+Printed-answered : (parts : SetParts) → HasMap parts → IsAnswered (Printed parts)
+Printed-answered parts h = (Ok (printed h.map), (h.set, h.of_set, h.map, h.is_map, refl))
+
+are_linked : (parts : SetParts) → HasMap parts → AreLinked parts
+are_linked parts h = (h.set, h.linked, h.of_set)
+
+-- ---- documents
+
+module _ (valid : AtLeastOne) where
+  judged_in : (s : Set) → IsLinked s → (n : ℕ) (items : tree.Rose ItemLabel) → AreItems items → IsAnswered (Judged (parts_of s) n items)
+  judged_in s linked n items are = elim (valid s linked n items are.element) [
+    | inl is ↦ (Ok is.0, ((s, linked, refl), is.1))
+    | inr fault ↦ (Err (Invalid fault.0 fault.1), ((s, linked, refl), (fault.0, fault.1, fault.2, refl)))
+  ]
+
+  Judged-answered : (parts : SetParts) (n : ℕ) → AreLinked parts → (items : tree.Rose ItemLabel) → AreItems items → IsAnswered (Judged parts n items)
+  Judged-answered parts n (s, linked, of_s) items are = subst (λ p. IsAnswered (Judged p n items)) of_s (judged_in s linked n items are)
+
+-- ---- types and values
+
+type_in : (s : Set) (linked : IsLinked s) (small : AreSmall s) (M : List Assignment) (is_map : IsMapOf s M) → IsModule M → IsBounded M → (n : ℕ) → n < s.globals
+    → (type : RootType) × IsTypeOf s n type
+type_in s linked small M is_map is_module bounded n global = (
+  record { assignments = M; number = root_at s M is_map n },
+  record {
+    linked = linked;
+    small = small;
+    global = global;
+    is_map = is_map;
+    number_is = refl;
+    is_module = is_module;
+    is_bounded = bounded;
+    within = root-within s M is_map (subject.Element n) (global-named s n linked global);
+  },
+)
+
+Typed-answered : (parts : SetParts) (n : ℕ) → HasMap parts → n < parts.globals → IsAnswered (Typed (parts, n))
+Typed-answered parts n h global =
+    let below : n < h.set.globals = subst (λ (p : SetParts). n < p.globals) (sym h.of_set) global in
+    let type = type_in h.set h.linked h.small h.map h.is_map h.is_module h.is_bounded n below in
+    (Ok type.0, (h.set, h.of_set, type.1))
+
+module _ (values : ValuesOfItems) (parts : SetParts) (n : ℕ) (type : RootType) where
+  valued_in : IsRootType parts n type → (items : tree.Rose ItemLabel) → AreItems items → (b : Rose Plain) → Valid parts n items b
+      → (v : Rose ValueLabel) × Fits type.assignments type.number v × (Xer type.assignments type.number v ≡ Some b)
+  valued_in (s, of_s, h) items are b valid =
+      let M = type.assignments in
+      let v = values s M h.linked h.small h.is_map n h.global items b are (subst (λ p. Valid p n items b) (sym of_s) valid) in
+      (v.0, subst (λ t. Fits M t v.0) (sym h.number_is) v.1, subst (λ t. Xer M t v.0 ≡ Some b) (sym h.number_is) v.2)
+
+  Valued-answered : IsRootType parts n type → (items : tree.Rose ItemLabel) → AreItems items → (b : Rose Plain) → Judged parts n items (Ok b) → IsAnswered (Valued type b)
+  Valued-answered is items are b judged =
+      let v = valued_in is items are b judged.1 in
+      elim (cases_lt 1048576 (node_count v.0)) [
+        | inl many ↦ (Err (TooManyNodes (shown_count v.0)), (v.0, v.1, v.2, many, refl))
+        | inr few ↦ (Ok v.0, ((v.1, few), v.2))
+      ]
+
+-- ---- octets
+
+front_bits : (n : ℕ) (bs : List Bool) → n ≤ length bs → length (take n bs) ≡ n
+front_bits n bs le = omega (arith, length-take n bs, le)
+
+octets_of : (n : ℕ) (bs : List Bool) → length bs ≡ 8 * n → (octets : List ℕ) × (octet_bits octets ≡ bs) × All (λ x. x < 256) octets
+unfolding octet
+octets_of zero [] long = ([], refl, All-nil (λ x. x < 256))
+octets_of zero (b ∷ bs) long = absurd (omega (arith, long))
+octets_of (suc n) bs long =
+    let front = take 8 bs in
+    let behind = drop 8 bs in
+    let eight : length front ≡ 8 = front_bits 8 bs (omega (arith, long)) in
+    let cut : front ++ behind ≡ bs = take-append-drop 8 bs in
+    let fewer : length behind ≡ 8 * n = omega (arith, eight, ap length cut, length-append front behind, long) in
+    let rest = octets_of n behind fewer in
+    let same : bits 8 (number front) ≡ front = ap (λ k. bits k (number front)) (sym eight) ∙ bits-number front in
+    let small : number front < 256 = let lt = number-lt front in subst (λ k. number front < 2 ^ k) eight lt in
+    (number front ∷ rest.0, ap (λ l. l ++ octet_bits rest.0) same ∙ ap (λ l. front ++ l) rest.1 ∙ cut, All-cons (λ x. x < 256) (number front) rest.0 small rest.2)
+
+Encoding-answered : law.WholeOctets → (type : RootType) (v : Rose ValueLabel) → IsAnswered (Encoding type v)
+Encoding-answered whole type v =
+    let bs = complete type.assignments type.number v in
+    let n = length bs / 8 in
+    let even = whole type.assignments type.number v in
+    let octets = octets_of n bs (omega (arith, even)) in
+    (Ok octets.0, (octets.1, octets.2))
+
+no_rest : (a b : List Bool) → length (a ++ b) ≤ length a → b ≡ []
+no_rest a [] e = refl
+no_rest a (x ∷ b) e = absurd (omega (arith, e, length-append a (x ∷ b)))
+
+module _ (either : law.Either) (whole : law.WholeOctets) (type : RootType) {s : Set} {n : ℕ} (h : IsTypeOf s n type) (octets : List ℕ) where
+  begun : (v : Rose ValueLabel) → Begins type.assignments type.number (readable octets) v → IsAnswered (Decoded type (Some octets))
+  begun v b =
+      let bs = complete type.assignments type.number v in
+      let at = length bs / 8 in
+      let even = whole type.assignments type.number v in
+      let long : 8 * at ≡ length bs = omega (arith, even) in
+      let all = length-octet_bits (take 16777216 octets) in
+      let cut = length-take 16777216 octets in
+      let both : length (readable octets) ≡ length bs + length b.rest = ap length b.is ∙ length-append bs b.rest in
+      elim (cases_lt at (length octets)) [
+        | inl less ↦ (Err (Trailing at), inr (v, at, b, long, less, refl))
+        | inr over ↦
+            let few : length octets ≤ 16777216 = omega (arith, over, long, all, cut, both) in
+            let same : readable octets ≡ octet_bits octets = ap octet_bits (take_all 16777216 octets few) in
+            let none : b.rest ≡ [] = no_rest bs b.rest (omega (arith, ap length (sym b.is), ap length same, length-octet_bits octets, over, long)) in
+            (Ok v, (few, b.value, sym same ∙ b.is ∙ ap (λ r. bs ++ r) none ∙ append-nil bs))
+      ]
+
+  Decoded-answered : IsAnswered (Decoded type (Some octets))
+  Decoded-answered = elim (either type.assignments type.number (take 16777216 octets) h.is_module h.is_bounded h.within) [
+    | inl is ↦ begun is.0 is.1
+    | inr stops ↦ (Err (fault_in octets stops.0), inl (stops.0, stops.1, refl))
+  ]
+
+Written-answered : ItemsOfValues → (parts : SetParts) (n : ℕ) (type : RootType) → IsRootType parts n type → (v : Rose ValueLabel) → Fits type.assignments type.number v → IsReadBack type v
+    → IsAnswered (Written type v)
+Written-answered items parts n type (s, of_s, h) v fits back =
+    let M = type.assignments in
+    let b = items s M h.linked h.small h.is_map n h.global v (subst (λ t. Fits M t v) h.number_is fits) in
+    let is : Xer M type.number v ≡ Some b.0 = subst (λ t. Xer M t v ≡ Some b.0) (sym h.number_is) b.1 in
+    (Ok (written (unplaced b.0)), (b.0, is, refl, back b.0 is))
+
+-- ---- commands
+
+-- the laws from which it follows
+pub record Laws : Type 1 where
+  pub document : (bytes : List ℕ) → ((x : tree.Rose ItemLabel) × DocOf bytes x) ⊎ ((at : ℕ) × (why : DocWhy) × BrokenAt bytes at why)
+  pub items : (bytes : List ℕ) (root : tree.Rose ItemLabel) → DocOf bytes root → length bytes < 2 ^ 31 → AreItems root
+  pub linking : (documents : List Document) → ArePassed documents passes ⊎ ((f : link.LinkingFault) × IsShownBy documents passes f)
+  pub valid : AtLeastOne
+  pub values : ValuesOfItems
+  pub items_of : ItemsOfValues
+  pub either : law.Either
+  pub whole : law.WholeOctets
+
+-- what is said of sets of documents: each has its parts, and a map
+pub record SetLaws (entries : List (List ℕ × List ℕ)) : Type 0 where
+  pub made : (files : List (List ℕ)) (documents : List Document) → Schemas (Some entries) 1 files (Ok documents) → ArePassed documents passes
+      → (parts : SetParts) × AreParts documents parts
+  pub mapped : (files : List (List ℕ)) (documents : List Document) → Schemas (Some entries) 1 files (Ok documents) → ArePassed documents passes
+      → (parts : SetParts) → AreParts documents parts → HasMap parts
+
+module _ (laws : Laws) (entries : List (List ℕ × List ℕ)) (sets : SetLaws entries) where
+  SetIn-answered : (files : List (List ℕ)) → IsAnswered (SetIn (Some entries) files)
+  SetIn-answered files =
+      Then-with (Schemas (Some entries) 1 files) (λ documents. Linked documents) (Schemas-answered laws.document entries 1 files) (λ documents read.
+      Linked-answered documents (laws.linking documents) (λ passed. sets.made files documents read passed))
+
+  has_map : (files : List (List ℕ)) (parts : SetParts) → SetIn (Some entries) files (Ok parts) → HasMap parts
+  has_map files parts (documents, read, (passed, are)) = sets.mapped files documents read passed parts are
+
+  Opened-answered : (root : Name) (files : List (List ℕ)) → IsAnswered (Opened (Some entries) root files)
+  Opened-answered root files =
+      Then-with (SetIn (Some entries) files) (λ parts. Then (Rooted root parts) (λ n. Give (parts, n))) (SetIn-answered files) (λ parts set.
+      Then-with (Rooted root parts) (λ n. Give (parts, n)) (Found-answered (number_named root (take parts.globals parts.elements)) UnknownRoot) (λ n found. Give-answered (parts, n)))
+
+  record IsOpened (opened : SetParts × ℕ) : Type 0 where
+    map : HasMap opened.0
+    global : opened.1 < opened.0.globals
+
+  is_opened : (root : Name) (files : List (List ℕ)) (opened : SetParts × ℕ) → Opened (Some entries) root files (Ok opened) → IsOpened opened
+  is_opened root files opened (parts, set, (n, found, is)) =
+      subst IsOpened (sym is) (record { map = has_map files parts set; global = number-within root parts.globals parts.elements n found })
+
+  items_are : (left : List ℕ) (items : tree.Rose ItemLabel) → ItemsIn (Some left) (Ok items) → AreItems items
+  items_are left items (bytes, (is, few), read) = laws.items bytes items read (omega (arith, few))
+
+  Checked-answered : (opened : SetParts × ℕ) → IsOpened opened → (left : List ℕ) → IsAnswered (Checked opened (Some left))
+  Checked-answered opened h left =
+      Then-with (ItemsIn (Some left)) (λ items. Then (Judged opened.0 opened.1 items) (λ _. Give [])) (ItemsIn-answered laws.document left) (λ items read.
+      Then-with (Judged opened.0 opened.1 items) (λ _. Give []) (Judged-answered laws.valid opened.0 opened.1 (are_linked opened.0 h.map) items (items_are left items read))
+      (λ treated judged. Give-answered []))
+
+  Encoded-answered : (opened : SetParts × ℕ) → IsOpened opened → (left : List ℕ) → IsAnswered (Encoded opened (Some left))
+  Encoded-answered opened h left =
+      Then-with (Typed opened) (λ type. Then (ItemsIn (Some left)) (λ items. Then (ValueIn opened type items) (λ value. Encoding type value))) (Typed-answered opened.0 opened.1 h.map h.global) (λ type typed.
+      Then-with (ItemsIn (Some left)) (λ items. Then (ValueIn opened type items) (λ value. Encoding type value)) (ItemsIn-answered laws.document left) (λ items read.
+      Then-with (ValueIn opened type items) (λ value. Encoding type value)
+      (Then-with (Judged opened.0 opened.1 items) (λ treated. Valued type treated) (Judged-answered laws.valid opened.0 opened.1 (are_linked opened.0 h.map) items (items_are left items read)) (λ treated judged.
+      Valued-answered laws.values opened.0 opened.1 type typed items (items_are left items read) treated judged)) (λ value valued.
+      Encoding-answered laws.whole type value)))
+
+  Documented-answered : (opened : SetParts × ℕ) → IsOpened opened → (left : List ℕ)
+      → ((type : RootType) (v : Rose ValueLabel) → Typed opened (Ok type) → Decoded type (Some left) (Ok v) → IsReadBack type v) → IsAnswered (Documented opened (Some left))
+  Documented-answered opened h left back =
+      Then-with (Typed opened) (λ type. Then (Decoded type (Some left)) (λ value. Written type value)) (Typed-answered opened.0 opened.1 h.map h.global) (λ type typed.
+      Then-with (Decoded type (Some left)) (λ value. Written type value) (Decoded-answered laws.either laws.whole type typed.2 left) (λ value decoded.
+      Written-answered laws.items_of opened.0 opened.1 type typed value decoded.1.0 (back type value typed decoded)))
+
+  Sent-answered : (root : Name) (files : List (List ℕ)) (left : List ℕ) → IsAnswered (Sent (Some entries) root files (Some left))
+  Sent-answered root files left =
+      Then-with (Opened (Some entries) root files) (λ opened. Encoded opened (Some left)) (Opened-answered root files) (λ opened is. Encoded-answered opened (is_opened root files opened is) left)
+
+Tried-answered : Laws → SetLaws ((trial_name, trial_schema) ∷ []) → (lines : ℕ) → IsAnswered (Tried lines)
+Tried-answered laws sets lines =
+    Then-with (Sent (Some ((trial_name, trial_schema) ∷ [])) trial_root (trial_name ∷ []) (Some (trial_document lines))) (λ octets. Give (summary lines (length (trial_document lines)) (length octets)))
+    (Sent-answered laws ((trial_name, trial_schema) ∷ []) sets trial_root (trial_name ∷ []) (trial_document lines)) (λ octets sent.
+    Give-answered (summary lines (length (trial_document lines)) (length octets)))
+
+-- of a value that this command takes, what is written is read as its items
+abbrev BacksUp : List (List ℕ × List ℕ) → Option (List ℕ) → Asked → Type 0
+BacksUp entries left request =
+    (root : Name) (files : List (List ℕ)) (opened : SetParts × ℕ) (type : RootType) (v : Rose ValueLabel) → request ≡ ToXml root files → Opened (Some entries) root files (Ok opened)
+    → Typed opened (Ok type) → Decoded type left (Ok v) → IsReadBack type v
+
+module _ (laws : Laws) (sets : (entries : List (List ℕ × List ℕ)) → SetLaws entries) (entries : List (List ℕ × List ℕ)) where
+  Answered-answered : (left : Option (List ℕ)) (request : Asked) → (reads_input request ≡ true → IsTold left) → BacksUp entries left request → IsAnswered (Answered (Some entries) left request)
+  Answered-answered left (Show files) told back =
+      Then-with (SetIn (Some entries) files) (λ parts. Printed parts) (SetIn-answered laws entries (sets entries) files) (λ parts set. Printed-answered parts (has_map laws entries (sets entries) files parts set))
+  Answered-answered (Some left) (Check root files) told back =
+      Then-with (Opened (Some entries) root files) (λ opened. Checked opened (Some left)) (Opened-answered laws entries (sets entries) root files) (λ opened is.
+      Checked-answered laws entries (sets entries) opened (is_opened laws entries (sets entries) root files opened is) left)
+  Answered-answered None (Check root files) told back = absurd (told refl)
+  Answered-answered (Some left) (ToPer root files) told back = Sent-answered laws entries (sets entries) root files left
+  Answered-answered None (ToPer root files) told back = absurd (told refl)
+  Answered-answered (Some left) (ToXml root files) told back =
+      Then-with (Opened (Some entries) root files) (λ opened. Documented opened (Some left)) (Opened-answered laws entries (sets entries) root files) (λ opened is.
+      Documented-answered laws entries (sets entries) opened (is_opened laws entries (sets entries) root files opened is) left (λ type v typed decoded. back root files opened type v refl is typed decoded))
+  Answered-answered None (ToXml root files) told back = absurd (told refl)
+  Answered-answered left (Trial lines) told back = Tried-answered laws (sets ((trial_name, trial_schema) ∷ [])) lines
+
+  -- at least one outcome or result is due
+  pub Due-answered : (words : List (List ℕ)) (left : Option (List ℕ)) → (ReadsInput words → IsTold left) → AreReadBack words (Some entries) left → IsAnswered (Due words (Some entries) left)
+  Due-answered words left told back =
+      Then-with (Requested words) (λ request. Answered (Some entries) left request) (Found-answered (asked words) Usage) (λ request asks.
+      Answered-answered left request (λ reads. told (request, asks, reads))
+      (λ root files opened type v is opens typed decoded. back root files opened type v (asks ∙ ap (λ r. Some r) is) opens typed decoded))
