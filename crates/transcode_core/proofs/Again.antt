@@ -16,6 +16,7 @@ use Rattle.validity.specs.Valid.{Valid}
 use Rattle.transcode_core.specs.declared.outcome.Outcome.{Outcome}
 use Rattle.transcode_core.specs.Steps.{RootType, IsTypeOf, Typed, Decoded, Judged}
 use Rattle.transcode_core.specs.Due.{ItemsIn, Encoded, Documented}
+use Rattle.transcode_core.specs.ReadBack.{DocumentedBack}
 use Rattle.transcode_core.proofs.Octets.{OctetLaws, one_whole, whole_or_none}
 use Rattle.transcode_core.proofs.Single.{Typed-single, ok_inj, some_inj}
 
@@ -30,7 +31,7 @@ module _ (documents : DocumentsOfValues) where
       let M = type.assignments in
       documents s M h.linked h.small h.is_map n h.global v (subst (λ t. Fits M t v) h.number_is fits) items (subst (λ t. Xer M t v ≡ Some items) h.number_is is) text short reads
 
-  pub is_valid : (opened : SetParts × ℕ) (octets text : List ℕ) → Documented opened (Some octets) (Ok text) → length text < 2 ^ 31
+  pub is_valid : (opened : SetParts × ℕ) (octets text : List ℕ) → DocumentedBack opened (Some octets) text → length text < 2 ^ 31
       → (again : Rose ItemLabel) × (treated : Rose Plain) × DocOf text again × Judged opened.0 opened.1 again (Ok treated)
   is_valid opened octets text (type, (s, of_s, h), (v, decoded, (items, is, written, reads))) short =
       let again = valid_again s opened.1 type h v decoded.1.0 items is text short reads in
@@ -46,7 +47,7 @@ module _ (laws : OctetLaws) where
   is_taken opened document octets o encoded few (inr (other, typed, inr (w, decoded, none))) = none
 
   pub is_same : DocumentsOfValues → (opened : SetParts × ℕ) (document octets text : List ℕ) → Encoded opened (Some document) (Ok octets)
-      → Documented opened (Some octets) (Ok text) → length text < 2 ^ 31
+      → DocumentedBack opened (Some octets) text → length text < 2 ^ 31
       → (items again : Rose ItemLabel) × (treated : Rose Plain) × ItemsIn (Some document) (Ok items) × Judged opened.0 opened.1 items (Ok treated)
       × DocOf text again × Judged opened.0 opened.1 again (Ok treated)
   is_same documents opened document octets text (type, (s, of_s, h), (items, read, (v, (treated, judged, valued), bits))) (other, typed, (w, decoded, (found, is, written, reads))) short =

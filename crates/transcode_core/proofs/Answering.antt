@@ -51,7 +51,6 @@ use Rattle.transcode_core.specs.Due.{Requested, SetIn, Opened, ItemsIn, Checked,
 use Rattle.transcode_core.specs.Words.{Asked, Show, Check, ToPer, ToXml, Trial, asked}
 use Rattle.transcode_core.specs.Trial.{trial_name, trial_schema, trial_root, trial_document, summary}
 use Rattle.transcode_core.specs.Causes.{reads_input, ReadsInput, IsTold}
-use Rattle.transcode_core.specs.ReadBack.{IsReadBack, AreReadBack}
 use Rattle.transcode_core.proofs.Roots.{number-within}
 
 -- an outcome or a result
@@ -250,13 +249,13 @@ module _ (either : law.Either) (whole : law.WholeOctets) (type : RootType) {s : 
     | inr stops ↦ (Err (fault_in octets stops.0), inl (stops.0, stops.1, refl))
   ]
 
-Written-answered : ItemsOfValues → (parts : SetParts) (n : ℕ) (type : RootType) → IsRootType parts n type → (v : Rose ValueLabel) → Fits type.assignments type.number v → IsReadBack type v
+Written-answered : ItemsOfValues → (parts : SetParts) (n : ℕ) (type : RootType) → IsRootType parts n type → (v : Rose ValueLabel) → Fits type.assignments type.number v
     → IsAnswered (Written type v)
-Written-answered items parts n type (s, of_s, h) v fits back =
+Written-answered items parts n type (s, of_s, h) v fits =
     let M = type.assignments in
     let b = items s M h.linked h.small h.is_map n h.global v (subst (λ t. Fits M t v) h.number_is fits) in
     let is : Xer M type.number v ≡ Some b.0 = subst (λ t. Xer M t v ≡ Some b.0) (sym h.number_is) b.1 in
-    (Ok (written (unplaced b.0)), (b.0, is, refl, back b.0 is))
+    (Ok (written (unplaced b.0)), (b.0, is, refl))
 
 -- ---- commands
 
@@ -318,12 +317,11 @@ module _ (laws : Laws) (entries : List (List ℕ × List ℕ)) (sets : SetLaws e
       Valued-answered laws.values opened.0 opened.1 type typed items (items_are left items read) treated judged)) (λ value valued.
       Encoding-answered laws.whole type value)))
 
-  Documented-answered : (opened : SetParts × ℕ) → IsOpened opened → (left : List ℕ)
-      → ((type : RootType) (v : Rose ValueLabel) → Typed opened (Ok type) → Decoded type (Some left) (Ok v) → IsReadBack type v) → IsAnswered (Documented opened (Some left))
-  Documented-answered opened h left back =
+  Documented-answered : (opened : SetParts × ℕ) → IsOpened opened → (left : List ℕ) → IsAnswered (Documented opened (Some left))
+  Documented-answered opened h left =
       Then-with (Typed opened) (λ type. Then (Decoded type (Some left)) (λ value. Written type value)) (Typed-answered opened.0 opened.1 h.map h.global) (λ type typed.
       Then-with (Decoded type (Some left)) (λ value. Written type value) (Decoded-answered laws.either laws.whole type typed.2 left) (λ value decoded.
-      Written-answered laws.items_of opened.0 opened.1 type typed value decoded.1.0 (back type value typed decoded)))
+      Written-answered laws.items_of opened.0 opened.1 type typed value decoded.1.0))
 
   Sent-answered : (root : Name) (files : List (List ℕ)) (left : List ℕ) → IsAnswered (Sent (Some entries) root files (Some left))
   Sent-answered root files left =
@@ -335,31 +333,24 @@ Tried-answered laws sets lines =
     (Sent-answered laws ((trial_name, trial_schema) ∷ []) sets trial_root (trial_name ∷ []) (trial_document lines)) (λ octets sent.
     Give-answered (summary lines (length (trial_document lines)) (length octets)))
 
--- of a value that this command takes, what is written is read as its items
-abbrev BacksUp : List (List ℕ × List ℕ) → Option (List ℕ) → Asked → Type 0
-BacksUp entries left request =
-    (root : Name) (files : List (List ℕ)) (opened : SetParts × ℕ) (type : RootType) (v : Rose ValueLabel) → request ≡ ToXml root files → Opened (Some entries) root files (Ok opened)
-    → Typed opened (Ok type) → Decoded type left (Ok v) → IsReadBack type v
-
 module _ (laws : Laws) (sets : (entries : List (List ℕ × List ℕ)) → SetLaws entries) (entries : List (List ℕ × List ℕ)) where
-  Answered-answered : (left : Option (List ℕ)) (request : Asked) → (reads_input request ≡ true → IsTold left) → BacksUp entries left request → IsAnswered (Answered (Some entries) left request)
-  Answered-answered left (Show files) told back =
+  Answered-answered : (left : Option (List ℕ)) (request : Asked) → (reads_input request ≡ true → IsTold left) → IsAnswered (Answered (Some entries) left request)
+  Answered-answered left (Show files) told =
       Then-with (SetIn (Some entries) files) (λ parts. Printed parts) (SetIn-answered laws entries (sets entries) files) (λ parts set. Printed-answered parts (has_map laws entries (sets entries) files parts set))
-  Answered-answered (Some left) (Check root files) told back =
+  Answered-answered (Some left) (Check root files) told =
       Then-with (Opened (Some entries) root files) (λ opened. Checked opened (Some left)) (Opened-answered laws entries (sets entries) root files) (λ opened is.
       Checked-answered laws entries (sets entries) opened (is_opened laws entries (sets entries) root files opened is) left)
-  Answered-answered None (Check root files) told back = absurd (told refl)
-  Answered-answered (Some left) (ToPer root files) told back = Sent-answered laws entries (sets entries) root files left
-  Answered-answered None (ToPer root files) told back = absurd (told refl)
-  Answered-answered (Some left) (ToXml root files) told back =
+  Answered-answered None (Check root files) told = absurd (told refl)
+  Answered-answered (Some left) (ToPer root files) told = Sent-answered laws entries (sets entries) root files left
+  Answered-answered None (ToPer root files) told = absurd (told refl)
+  Answered-answered (Some left) (ToXml root files) told =
       Then-with (Opened (Some entries) root files) (λ opened. Documented opened (Some left)) (Opened-answered laws entries (sets entries) root files) (λ opened is.
-      Documented-answered laws entries (sets entries) opened (is_opened laws entries (sets entries) root files opened is) left (λ type v typed decoded. back root files opened type v refl is typed decoded))
-  Answered-answered None (ToXml root files) told back = absurd (told refl)
-  Answered-answered left (Trial lines) told back = Tried-answered laws (sets ((trial_name, trial_schema) ∷ [])) lines
+      Documented-answered laws entries (sets entries) opened (is_opened laws entries (sets entries) root files opened is) left)
+  Answered-answered None (ToXml root files) told = absurd (told refl)
+  Answered-answered left (Trial lines) told = Tried-answered laws (sets ((trial_name, trial_schema) ∷ [])) lines
 
   -- at least one outcome or result is due
-  pub Due-answered : (words : List (List ℕ)) (left : Option (List ℕ)) → (ReadsInput words → IsTold left) → AreReadBack words (Some entries) left → IsAnswered (Due words (Some entries) left)
-  Due-answered words left told back =
+  pub Due-answered : (words : List (List ℕ)) (left : Option (List ℕ)) → (ReadsInput words → IsTold left) → IsAnswered (Due words (Some entries) left)
+  Due-answered words left told =
       Then-with (Requested words) (λ request. Answered (Some entries) left request) (Found-answered (asked words) Usage) (λ request asks.
-      Answered-answered left request (λ reads. told (request, asks, reads))
-      (λ root files opened type v is opens typed decoded. back root files opened type v (asks ∙ ap (λ r. Some r) is) opens typed decoded))
+      Answered-answered left request (λ reads. told (request, asks, reads)))

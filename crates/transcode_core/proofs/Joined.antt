@@ -1,5 +1,7 @@
 -- One step after another.
 use Rattle.std.proofs.Common.{inl, inr, ◌⊎◌, Result, Ok, Err}
+use Rattle.std.specs.Prelude.{⊤}
+use Rattle.std.specs.Result.{IfOk}
 use Rattle.transcode_core.specs.declared.outcome.Outcome.{Outcome}
 use Rattle.transcode_core.specs.Order.{Then}
 use Rattle.transcode_core.specs.Causes.{Answers, IsRefusal}
@@ -23,3 +25,8 @@ pub wider : {C D : Type 0} (due : Result D Outcome → Type 0) (narrow wide : Ou
 wider due narrow wide view (Ok c) h more = h
 wider due narrow wide view (Err o) (inl h) more = inl h
 wider due narrow wide view (Err o) (inr cause) more = inr (more o cause)
+
+-- an answer of which nothing is said
+pub nothing_said : {C : Type 0} (v : Result C Outcome) → IfOk v (λ _. ⊤)
+nothing_said (Ok c) = tt
+nothing_said (Err o) = tt

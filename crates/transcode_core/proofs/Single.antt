@@ -264,7 +264,7 @@ Encoding-single type v (Ok x) (Ok y) p q = ap (λ z. Ok z) (same_octets x y p.1 
 pub Written-single : (type : RootType) (v : Rose ValueLabel) → IsSingle (Written type v)
 Written-single type v (Err o) w none also = absurd none
 Written-single type v (Ok x) (Err o) due none = absurd none
-Written-single type v (Ok x) (Ok y) (a, of_a, is, reads) (b, of_b, was, also) = ap (λ z. Ok z) (is ∙ (ap (λ z. written (unplaced z)) (some_inj a b (sym of_a ∙ of_b)) ∙ sym was))
+Written-single type v (Ok x) (Ok y) (a, of_a, is) (b, of_b, was) = ap (λ z. Ok z) (is ∙ (ap (λ z. written (unplaced z)) (some_inj a b (sym of_a ∙ of_b)) ∙ sym was))
 
 module _ (laws : OctetLaws) (parts : SetParts) (n : ℕ) (type : RootType) where
   pub Decoded-single : IsRootType parts n type → (octets : List ℕ) → IsSingle (Decoded type (Some octets))

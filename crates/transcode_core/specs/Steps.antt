@@ -34,7 +34,6 @@ use Rattle.per_fields.specs.Encoding.{complete}
 use Rattle.per_fields.specs.Laws.{Begins, Stops}
 use Rattle.per_decode.specs.Answers.{is_short}
 use Rattle.doc_written.specs.Written.{written}
-use Rattle.doc_written.specs.ReadBack.{ReadsAs}
 use Rattle.map_assignments.specs.Mapped.{IsMapOf}
 use Rattle.module_print.specs.Printed.{printed}
 use Rattle.schema_parts.specs.declared.components.ElementDecl.{ElementDecl}
@@ -196,7 +195,7 @@ Decoded type None (Err o) = IsOfOctets o
 Decoded type (Some octets) (Ok v) = (length octets ≤ 16777216) × In type.assignments type.number v × (octet_bits octets ≡ complete type.assignments type.number v)
 Decoded type (Some octets) (Err o) = IsNoEncoding type octets o
 
--- the text that is written of the items of the value (X.693), which is read as a document with these items
+-- the text that is written of the items of the value (X.693)
 abbrev pub Written : RootType → Rose ValueLabel → Result (List ℕ) Outcome → Type 0
-Written type v (Ok text) = (items : Rose Plain) × (Xer type.assignments type.number v ≡ Some items) × (text ≡ written (unplaced items)) × ReadsAs text (unplaced items)
+Written type v (Ok text) = (items : Rose Plain) × (Xer type.assignments type.number v ≡ Some items) × (text ≡ written (unplaced items))
 Written type v (Err o) = ⊥

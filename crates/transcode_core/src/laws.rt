@@ -9,7 +9,7 @@ ghost use Rattle.transcode_core.specs.Steps.{Judged};
 ghost use Rattle.transcode_core.specs.declared.outcome.Outcome.{Outcome};
 ghost use Rattle.transcode_core.specs.Causes.{ReadsInput, IsTold};
 ghost use Rattle.transcode_core.specs.Due.{ItemsIn, Encoded, Documented, Due};
-ghost use Rattle.transcode_core.specs.ReadBack.{AreReadBack};
+ghost use Rattle.transcode_core.specs.ReadBack.{DocumentedBack};
 
 use doc_text::{document_items, one_answer as document_answer};
 use map_laws::maps_exist;
@@ -34,11 +34,10 @@ pub fn one_answer()
 }
 
 /// Of all words, over files that are told, a refusal or a result is due; where the words ask for the input, this is told
-/// too. For `to-xml` it is asked that the text which is written of a value is read as a document with its items; the code
-/// writes no other. So with the law above just one is due.
+/// too. So with the law above just one is due.
 pub fn some_answer()
     ensures { (words : List (List ℕ)) (entries : List (List ℕ × List ℕ)) (left : Option (List ℕ)) → (ReadsInput words → IsTold left)
-        → AreReadBack words (Some entries) left → (v : Result (List ℕ) Outcome) × Due words (Some entries) left v }
+        → (v : Result (List ℕ) Outcome) × Due words (Some entries) left v }
 {
     document_answer();
     document_items();
@@ -59,9 +58,9 @@ pub fn some_answer()
 pub fn there_and_back()
     ensures taken { (opened : SetParts × ℕ) (document octets : List ℕ) (o : Outcome) → Encoded opened (Some document) (Ok octets) → length octets ≤ 16777216
         → Documented opened (Some octets) (Err o) → ⊥ }
-    ensures valid { (opened : SetParts × ℕ) (octets text : List ℕ) → Documented opened (Some octets) (Ok text) → length text < 2 ^ 31
+    ensures valid { (opened : SetParts × ℕ) (octets text : List ℕ) → DocumentedBack opened (Some octets) text → length text < 2 ^ 31
         → (again : Rose ItemLabel) × (treated : Rose Plain) × DocOf text again × Judged opened.0 opened.1 again (Ok treated) }
-    ensures same { (opened : SetParts × ℕ) (document octets text : List ℕ) → Encoded opened (Some document) (Ok octets) → Documented opened (Some octets) (Ok text) → length text < 2 ^ 31
+    ensures same { (opened : SetParts × ℕ) (document octets text : List ℕ) → Encoded opened (Some document) (Ok octets) → DocumentedBack opened (Some octets) text → length text < 2 ^ 31
         → (items again : Rose ItemLabel) × (treated : Rose Plain) × ItemsIn (Some document) (Ok items) × Judged opened.0 opened.1 items (Ok treated)
         × DocOf text again × Judged opened.0 opened.1 again (Ok treated) }
 {

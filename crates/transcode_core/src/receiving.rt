@@ -6,6 +6,7 @@ ghost use Rattle.asn_types.specs.Values.{In};
 ghost use Rattle.schema_parts.specs.Components.{Set};
 ghost use Rattle.transcode_core.specs.Private.Requests.{type_seen};
 ghost use Rattle.transcode_core.specs.Steps.{IsTypeOf, Decoded, Written};
+ghost use Rattle.transcode_core.specs.ReadBack.{WrittenBack, DecodedBack};
 ghost use Rattle.transcode_core.specs.Order.{Then};
 ghost use Rattle.transcode_core.specs.Causes.{Answers, NoMemory, OneRead, TakesItsField, IsOfInput};
 
@@ -67,6 +68,7 @@ fn write_value(alloc: Global, typed: &RootModule, value: &Value) -> Result<Vec<u
     requires typed { (set : Set) × (n : ℕ) × IsTypeOf set n (type_seen typed.now) }
     requires value { In typed.now.module typed.now.number value.now }
     ensures due { Answers (λ text. text.items) (Written (type_seen typed.now) value.now) NoMemory result }
+    ensures back { IfOk result (λ text. WrittenBack (type_seen typed.now) value.now text.items) }
     ensures stage { IfErr result IsOfInput }
 {
     items_are_sound();
@@ -88,6 +90,7 @@ pub fn write_input<S: Source>(
     requires { (set : Set) × (n : ℕ) × IsTypeOf set n (type_seen typed.now) }
     ensures due { Answers (λ text. text.items)
         (Then (Decoded (type_seen typed.now) (S.left input.old)) (λ value. Written (type_seen typed.now) value)) (OneRead (S.faults input.old) (S.faults input.new)) result }
+    ensures back { IfOk result (λ text. DecodedBack (type_seen typed.now) (S.left input.old) text.items) }
     ensures end { OnOk result (IsAtEnd (S.left input.new)) }
     ensures stage { IfErr result IsOfInput }
     ensures taken { TakesItsField (type_seen typed.now) (S.left input.old) (S.left input.new) }

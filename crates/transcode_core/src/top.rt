@@ -14,6 +14,7 @@ ghost use Rattle.transcode_core.specs.Steps.{Printed, Judged, RootType, IsTypeOf
 ghost use Rattle.transcode_core.specs.Order.{Give, Then};
 ghost use Rattle.transcode_core.specs.Due as due;
 ghost use Rattle.transcode_core.specs.Due.{Requested, SetIn, ItemsIn, Checked, Encoded, Documented, Sent, Tried, Answered, Due};
+ghost use Rattle.transcode_core.specs.ReadBack.{DocumentedBack, AnsweredBack, ReadBack};
 ghost use Rattle.transcode_core.specs.Causes.{Answers, Never, NoMemory, SomeLoad, OneRead, files_of, ReachesFile, reads_input, ReadsInput, IsTold, TakesItsField, TakesInput, TakesOfWords, ReadsItems, ReadsOfWords, StepsUpTo, ReachesInput, IsOfInput, Answering, Deciding, Fails, IsRefusal, WritesNothing, StepsFrom, reads_document, ReadsDocument};
 
 use crate::files::{read_input, read_input_items};
@@ -260,6 +261,7 @@ fn to_per<F: Library, S: Source, L: Ledger>(
 // The document of the value of which the input is the encoding, in this set.
 fn receive<S: Source>(alloc: Global, opened: &Opened, input: &mut S) -> Result<Vec<u8>, Outcome>
     ensures due { Answers (λ bytes. bytes.items) (Documented (opened_seen opened.now) (S.left input.old)) (OneRead (S.faults input.old) (S.faults input.new)) result }
+    ensures back { IfOk result (λ bytes. DocumentedBack (opened_seen opened.now) (S.left input.old) bytes.items) }
     ensures end { OnOk result (IsAtEnd (S.left input.new)) }
     ensures stage { IfErr result IsOfInput }
     ensures taken { (S.left input.new ≡ S.left input.old) ⊎ ((type : RootType) × Typed (opened_seen opened.now) (Ok type) × TakesItsField type (S.left input.old) (S.left input.new)) }
@@ -282,6 +284,7 @@ fn to_xml<F: Library, S: Source>(
     requires { length names.now ≤ 64 }
     ensures due { Answers (λ bytes. bytes.items) (Answered (F.entries files.old) (S.left input.old) (command.ToXml (root_seen root.entry) names.now))
         (Answering (F.faults files.old) (F.faults files.new) (F.is_sure files.old) (F.entries files.old) (S.faults input.old) (S.faults input.new) (command.ToXml (root_seen root.entry) names.now)) result }
+    ensures back { IfOk result (λ bytes. AnsweredBack (F.entries files.old) (S.left input.old) (command.ToXml (root_seen root.entry) names.now) bytes.items) }
     ensures end { OnOk result (IsAtEnd (S.left input.new)) }
     ensures untouched { (S.left input.new ≡ S.left input.old) ⊎ (TakesInput (F.entries files.old) (command.ToXml (root_seen root.entry) names.now) (S.left input.old) (S.left input.new) × IfErr result IsOfInput) }
     ensures files { (F.entries files.new ≡ F.entries files.old) × (F.is_sure files.new ≡ F.is_sure files.old) }
@@ -355,6 +358,7 @@ fn answer<F: Library, S: Source, L: Ledger>(
     requires { length (files_of (seen request)) ≤ 64 }
     ensures due { Answers (λ bytes. bytes.items) (Answered (F.entries files.old) (S.left input.old) (seen request.entry))
         (Answering (F.faults files.old) (F.faults files.new) (F.is_sure files.old) (F.entries files.old) (S.faults input.old) (S.faults input.new) (seen request.entry)) result }
+    ensures back { IfOk result (λ bytes. AnsweredBack (F.entries files.old) (S.left input.old) (seen request.entry) bytes.items) }
     ensures end { reads_input (seen request.entry) ≡ true → OnOk result (IsAtEnd (S.left input.new)) }
     ensures untouched { (S.left input.new ≡ S.left input.old) ⊎ (TakesInput (F.entries files.old) (seen request.entry) (S.left input.old) (S.left input.new) × IfErr result IsOfInput) }
     ensures files { (F.entries files.new ≡ F.entries files.old) × (F.is_sure files.new ≡ F.is_sure files.old) }
@@ -382,6 +386,7 @@ fn decide<F: Library, S: Source, L: Ledger>(
 ) -> Result<Vec<u8>, Outcome>
     ensures due { Answers (λ bytes. bytes.items) (Due words.now (F.entries files.old) (S.left input.old))
         (Deciding (F.faults files.old) (F.faults files.new) (F.is_sure files.old) (F.entries files.old) (S.faults input.old) (S.faults input.new) words.now) result }
+    ensures back { IfOk result (λ bytes. ReadBack words.now (F.entries files.old) (S.left input.old) bytes.items) }
     ensures end { ReadsInput words.now → OnOk result (IsAtEnd (S.left input.new)) }
     ensures untouched { (S.left input.new ≡ S.left input.old) ⊎ (TakesOfWords words.now (F.entries files.old) (S.left input.old) (S.left input.new) × IfErr result IsOfInput) }
     ensures files { (F.entries files.new ≡ F.entries files.old) × (F.is_sure files.new ≡ F.is_sure files.old) }
@@ -429,14 +434,16 @@ pub fn run<F: Library, S: Source, K: Sink, E: Sink, L: Ledger>(
 ) -> Outcome
     // A refusal is the first in the order of the steps.
     ensures refused { IsRefusal result → Due words.now (F.entries files.old) (S.left input.old) (Err result) }
-    // Done is due, with the bytes that were appended.
-    ensures done { result ≡ Outcome.Done → (bytes : List ℕ) × Due words.now (F.entries files.old) (S.left input.old) (Ok bytes) × Appends (K.written output.old) (K.written output.new) bytes }
+    // Done is due, with the bytes that were appended; where the words ask for `to-xml`, these are read back as the items.
+    ensures done { result ≡ Outcome.Done → (bytes : List ℕ) × Due words.now (F.entries files.old) (S.left input.old) (Ok bytes)
+        × ReadBack words.now (F.entries files.old) (S.left input.old) bytes × Appends (K.written output.old) (K.written output.new) bytes }
     // A fault of the outside comes only where that object's count rose, at the step that meets it.
     ensures load { (file : ℕ) → result ≡ Outcome.LoadFault file → (name : List ℕ) × ReachesFile words.now (F.entries files.old) file name
         × Fails (F.faults files.old) (F.faults files.new) (F.is_sure files.old) (F.entries files.old) name }
     ensures read { result ≡ Outcome.ReadFault → HasRisen (S.faults input.old) (S.faults input.new) × ReachesInput words.now (F.entries files.old) }
     ensures write { result ≡ Outcome.WriteFault → HasRisen (K.faults output.old) (K.faults output.new)
-        × ((bytes : List ℕ) × Due words.now (F.entries files.old) (S.left input.old) (Ok bytes) × AppendsFront (K.written output.old) (K.written output.new) bytes) }
+        × ((bytes : List ℕ) × Due words.now (F.entries files.old) (S.left input.old) (Ok bytes)
+        × ReadBack words.now (F.entries files.old) (S.left input.old) bytes × AppendsFront (K.written output.old) (K.written output.new) bytes) }
     ensures kept { WritesNothing result → K.written output.new ≡ K.written output.old }
     ensures end { result ≡ Outcome.Done → ReadsInput words.now → IsAtEnd (S.left input.new) }
     ensures untouched { (S.left input.new ≡ S.left input.old) ⊎ (TakesOfWords words.now (F.entries files.old) (S.left input.old) (S.left input.new) × IsOfInput result) }

@@ -3,7 +3,7 @@ use Rattle.transcode_core.proofs.SomeSets.{sets}
 use Rattle.transcode_core.proofs.laws.some_answer.Goals as goal
 
 pub returns : goal.returns
-returns c = λ words entries left told back.
+returns c = λ words entries left told.
     Due-answered (record {
       document = c.one_answer.ensures.some;
       items = c.document_items.ensures;
@@ -15,4 +15,4 @@ returns c = λ words entries left told back.
       whole = c.first_stop.ensures.whole_octets;
     })
     (λ files. sets c.document_items.ensures files c.sets_of_documents.ensures.made c.sets_of_documents.ensures.linked c.maps_exist.ensures c.maps_are_modules.ensures c.maps_are_bounded.ensures)
-    entries words left told back
+    entries words left told

@@ -1,4 +1,5 @@
 use Rattle.std.proofs.Common.{ℕ, inl}
+use Rattle.std.proofs.lemmas.Result.{IfOk-weaker}
 use Rattle.std.specs.Prelude.{Vec}
 use Rattle.std.specs.declared.alloc.Global.{Global}
 use Rattle.label_tree.specs.Rose.{Rose}
@@ -22,3 +23,6 @@ returns-in-Err-clause-due g c =
     let cause = OneRead (g.S.Source.faults c.args.input.now) (g.S.Source.faults c.decode_input.new.input) in
     refused (Decoded type (g.S.Source.left c.args.input.now)) (λ (value : Rose ValueLabel). Written type value) cause cause
     (λ (bytes : Vec ℕ Global). bytes.items) c.in-Err.outcome c.in-Err.ensures.due (λ h. h)
+
+pub returns-in-Ok-clause-back : goal.returns-in-Ok-clause-back
+returns-in-Ok-clause-back g c = IfOk-weaker c.write_value.result _ _ (λ text back. (c.in-Ok.value, c.in-Ok.ensures.due, back)) c.write_value.ensures.back

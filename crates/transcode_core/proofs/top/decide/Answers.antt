@@ -1,4 +1,5 @@
 use Rattle.std.proofs.Common.{ℕ, inl, inr}
+use Rattle.std.proofs.lemmas.Result.{IfOk-weaker}
 use Rattle.std.specs.Prelude.{Vec}
 use Rattle.std.specs.declared.alloc.Global.{Global}
 use Rattle.transcode_core.specs.Private.Requests.{seen}
@@ -54,3 +55,6 @@ returns-in-Ok-clause-many g c = λ reads.
     (StepsFrom (ReadsOfWords c.args.words.now (g.S.Source.left c.args.input.now)) c.args.steps.now c.answer.new.steps)
     (λ (items, read, many). (items, (seen c.in-Ok.request, c.in-Ok.ensures.due, read), many))
     (c.answer.ensures.many (reads_document_too c.args.words.now (seen c.in-Ok.request) c.in-Ok.ensures.due reads))
+
+pub returns-in-Ok-clause-back : goal.returns-in-Ok-clause-back
+returns-in-Ok-clause-back g c = IfOk-weaker c.answer.result _ _ (λ text back. (seen c.in-Ok.request, c.in-Ok.ensures.due, back)) c.answer.ensures.back

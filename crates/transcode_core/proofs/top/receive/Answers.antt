@@ -1,4 +1,5 @@
 use Rattle.std.proofs.Common.{ℕ, inl, inr}
+use Rattle.std.proofs.lemmas.Result.{IfOk-weaker}
 use Rattle.std.specs.Prelude.{Vec}
 use Rattle.std.specs.declared.alloc.Global.{Global}
 use Rattle.transcode_core.specs.Order.{Then}
@@ -26,3 +27,6 @@ returns-in-Err-clause-due g c =
 
 pub returns-in-Ok-clause-taken : goal.returns-in-Ok-clause-taken
 returns-in-Ok-clause-taken g c = inr (type_seen c.in-Ok.typed, c.in-Ok.ensures.due, c.write_input.ensures.taken)
+
+pub returns-in-Ok-clause-back : goal.returns-in-Ok-clause-back
+returns-in-Ok-clause-back g c = IfOk-weaker c.write_input.result _ _ (λ text back. (type_seen c.in-Ok.typed, c.in-Ok.ensures.due, back)) c.write_input.ensures.back

@@ -1,4 +1,5 @@
 use Rattle.std.proofs.Common.{inl, inr}
+use Rattle.std.proofs.lemmas.Result.{IfOk-weaker}
 use Rattle.transcode_core.specs.Private.Requests.{root_seen, opened_seen}
 use Rattle.transcode_core.specs.Due.{Documented}
 use Rattle.transcode_core.proofs.Deciding.{goes_on, stops}
@@ -22,3 +23,6 @@ returns-in-Err-clause-due g c =
     stops (g.F.Library.entries c.args.files.now) (g.F.Library.faults c.args.files.now) (g.F.Library.faults c.open_files.new.files) (g.F.Library.is_sure c.args.files.now)
     (g.S.Source.faults c.args.input.now) (g.S.Source.faults c.args.input.now) (root_seen c.args.root) c.args.names.now (λ opened. Documented opened (g.S.Source.left c.args.input.now))
     c.in-Err.outcome c.in-Err.ensures.due
+
+pub returns-in-Ok-clause-back : goal.returns-in-Ok-clause-back
+returns-in-Ok-clause-back g c = IfOk-weaker c.receive.result _ _ (λ text back. (opened_seen c.in-Ok.opened, c.in-Ok.ensures.due, back)) c.receive.ensures.back
