@@ -29,12 +29,12 @@ pub fn link_files(alloc: Global, documents: &[RawDoc]) -> Result<SchemaSet, Outc
     }
 }
 
-// The bytes of a word are a text, so memory alone may be missing.
-fn word_text(alloc: Global, bytes: &[u8]) -> Result<Text, Outcome>
-    ensures ok { IfOk result (λ text. text ≡ bytes.now) }
+// A copy of a part of a word.
+fn part_of(alloc: Global, part: &str) -> Result<Text, Outcome>
+    ensures ok { IfOk result (λ text. text ≡ part.now) }
     ensures err { IfErr result NoMemory }
 {
-    match Text::of(alloc, bytes) {
+    match Text::from_str(alloc, part) {
         Ok(text) => Ok(text),
         Err(_) => Err(Outcome::OutOfMemory),
     }
@@ -44,8 +44,8 @@ fn name_of(alloc: Global, root: Root<'_>) -> Result<Name, Outcome>
     ensures ok { IfOk result (λ name. name ≡ root_seen root.entry) }
     ensures err { IfErr result NoMemory }
 {
-    let space = word_text(alloc, root.space)?;
-    let local = word_text(alloc, root.local)?;
+    let space = part_of(alloc, root.space)?;
+    let local = part_of(alloc, root.local)?;
     Ok(Name { space, local })
 }
 

@@ -12,8 +12,8 @@ const NAME: &str = "order.xsd";
 
 /// The root of the trial document.
 pub const ROOT: Root<'static> = Root {
-    space: b"urn:po",
-    local: b"order",
+    space: "urn:po",
+    local: "order",
 };
 
 // The schema of an order, by which the trial document is valid.

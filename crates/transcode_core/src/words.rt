@@ -14,8 +14,8 @@ use xa_base::{Text, are_digits, is_ncname, is_ncname_text, is_short_space, is_xm
 /// The name of a root element: its namespace, empty where there is none, and its local name.
 #[derive(Clone, Copy)]
 pub struct Root<'a> {
-    pub space: &'a [u8],
-    pub local: &'a [u8],
+    pub space: &'a str,
+    pub local: &'a str,
 }
 
 /// What the words ask for.
@@ -63,10 +63,7 @@ fn braced(text: &str) -> Option<Root<'_>>
 {
     let (space, local) = text.split_once('}')?;
     if is_space(space) && is_ncname_text(local) {
-        Some(Root {
-            space: space.as_bytes(),
-            local: local.as_bytes(),
-        })
+        Some(Root { space, local })
     } else {
         None
     }
@@ -113,11 +110,12 @@ fn behind_brace(word: &str) -> Option<&str>
 fn root_of(word: &Text) -> Option<Root<'_>>
     ensures { option_map root_seen result ≡ command_line.root_of word.now }
 {
-    match behind_brace(word.as_str()) {
+    let name = word.as_str();
+    match behind_brace(name) {
         Some(text) => braced(text),
         None if is_ncname(word) => Some(Root {
-            space: b"",
-            local: word.bytes(),
+            space: "",
+            local: name,
         }),
         None => None,
     }
