@@ -25,5 +25,5 @@ pub use namespaces::{SCHEMA_SPACE, XML_SPACE, XMLNS_SPACE, XSI_SPACE};
 pub use sinks::{MemorySink, Sink, SureSink};
 pub use sources::{Failed, MemorySource, Source, SureSource};
 pub use steps::Steps;
-pub use texts::{Memory, Name, Text, TextError, utf8_text};
+pub use texts::{Memory, Name, ROOM, Text, TextError, utf8_text};
 pub use white_space::{WhiteSpace, first_word, is_blank, is_treated, is_white_space, treat};

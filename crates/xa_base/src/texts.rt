@@ -1,5 +1,5 @@
 //! Texts, seen as their bytes, and names.
-ghost use Rattle.std.specs.Prelude.{◌≡◌, ◌≤◌, [], IfOk, IsUtf8, IsErrOf, length, string_bytes, bytes_eq};
+ghost use Rattle.std.specs.Prelude.{◌≡◌, ◌≤◌, ◌<◌, ◌↔◌, [], IfOk, IfSome, IsTrue, IsUtf8, IsErrOf, All, length, take, string_bytes, bytes_eq};
 ghost use Rattle.std.specs.Cmp.{partial_order_from_own_ties};
 ghost use Rattle.std.specs.Cmp.Lexicographic.{slice_cmp};
 ghost use Rattle.std.specs.Cmp.Rules.{comparing, hashing};
@@ -50,9 +50,17 @@ pub fn utf8_text(bytes: &[u8]) -> &str
     unsafe { str::from_utf8_unchecked(bytes) }
 }
 
-// How many bytes a text has at most that lies in its value: with the length and the tag of `Kept` that is 24 bytes,
-// as many as a `String` takes.
-const ROOM: usize = 22;
+/// How many bytes a text has at most that lies in its value: with the length and the tag of where it lies that is 24
+/// bytes, as many as a `String` takes.
+pub const ROOM: usize = 22;
+
+// Whether all bytes are ASCII characters.
+#[inline(always)]
+fn are_ascii(bytes: &[u8]) -> bool
+    ensures { IsTrue result ↔ All (λ b. b < 128) bytes.now }
+{
+    bytes.iter().all(|byte| *byte < 128)
+}
 
 // Valid UTF-8 in place.
 #[derive(Drop)]
@@ -191,6 +199,23 @@ impl Text {
             Ok(text) => Ok(text),
             Err(_) => Err(TextError::Memory),
         }
+    }
+
+    /// The text of so many bytes of an array, which stay in place, where they are ASCII characters.
+    #[inline(always)]
+    pub fn of_ascii(bytes: [u8; ROOM], len: usize) -> Option<Text>
+        requires { len ≤ 22 }
+        ensures some { IfSome result (λ text. (text ≡ take len bytes) × IsUtf8 (take len bytes)) }
+    {
+        if !are_ascii(&bytes[..len]) {
+            return None;
+        }
+        Some(Text {
+            kept: Kept::Here(Short {
+                len: len as u8,
+                bytes,
+            }),
+        })
     }
 
     /// An equal text. It takes no memory.
