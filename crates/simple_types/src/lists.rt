@@ -1,46 +1,160 @@
 //! Lists that are seen as just their entries.
-ghost use Rattle.std.specs.Prelude.{◌≡◌, IfOk};
+ghost use Rattle.std.specs.Prelude.{◌≡◌, ◌<◌, ◌++◌, [], ◌∷◌, IfOk, OnOk, length};
 
 use std::alloc::Global;
 use std::marker::Model;
+use std::mem::size_of;
 use std::rc::RcSlice;
 use xa_base::{Memory, Text};
 
-/// Truth values.
+// How many flags lie in their value at most: with their number and the tag of `Kept` that is 24 bytes, as many as a list
+// takes.
+const ROOM: usize = 22;
+
+// Flags in place.
+#[derive(Drop)]
+struct Few {
+    len: u8,
+    flags: [bool; ROOM],
+}
+
+impl Model for Few {
+    ghost use Rattle.std.specs.Prelude.{List, Bool, ◌≤◌, take};
+
+    ghost Value = { List Bool };
+
+    ghost view = { λ a. take a.len a.flags };
+
+    ghost invariant = { λ a. a.len ≤ 22 };
+}
+
+impl Few {
+    // No flags.
+    #[inline(always)]
+    fn none() -> Few
+        ensures { result ≡ [] }
+    {
+        Few {
+            len: 0,
+            flags: [false; ROOM],
+        }
+    }
+
+    // Equal flags.
+    fn copy(&self) -> Few
+        ensures { result ≡ self.now }
+    {
+        Few {
+            len: self.len,
+            flags: self.flags,
+        }
+    }
+
+    // One flag more, behind the others.
+    #[inline(always)]
+    fn push(&mut self, flag: bool)
+        requires { length self.old < 22 }
+        ensures { self.new ≡ self.old ++ flag ∷ [] }
+    {
+        self.flags[self.len as usize] = flag;
+        self.len += 1;
+    }
+
+    #[inline(always)]
+    fn items(&self) -> &[bool]
+        ensures { result.now ≡ self.now }
+    {
+        &self.flags[..self.len as usize]
+    }
+}
+
+// Where flags lie.
+#[derive(Drop)]
+enum Kept {
+    Here(Few),
+    There(Box<Vec<bool>>),
+}
+
+/// Truth values. Up to 22 of them take no memory of their own.
 #[derive(Drop)]
 pub struct Flags {
-    entries: Vec<bool>,
+    kept: Kept,
 }
 
 impl Model for Flags {
     ghost use Rattle.std.specs.Prelude.{List, Bool};
+    ghost use Rattle.simple_types.specs.Kept.{kept_flags};
 
     ghost Value = { List Bool };
 
-    ghost view = { λ a. a.entries.items };
+    ghost view = { λ a. kept_flags a.kept };
 }
 
 impl Flags {
-    pub fn of(entries: Vec<bool>) -> Flags
-        ensures { result ≡ entries.items }
+    /// No flags.
+    #[inline(always)]
+    pub fn none() -> Flags
+        ensures { result ≡ [] }
     {
-        Flags { entries }
+        Flags {
+            kept: Kept::Here(Few::none()),
+        }
     }
 
+    /// One flag more, behind the others.
+    #[inline(always)]
+    pub fn push(&mut self, alloc: Global, flag: bool) -> Result<(), Memory>
+        ensures { OnOk result (self.new ≡ self.old ++ flag ∷ []) }
+    {
+        match &mut self.kept {
+            Kept::Here(few) => {
+                if few.items().len() < ROOM {
+                    few.push(flag);
+                    return Ok(());
+                }
+                let mut many = Vec::from_slice(alloc, few.items())?;
+                many.push(flag)?;
+                let many = Box::new(alloc, many)?;
+                self.kept = Kept::There(many);
+                Ok(())
+            }
+            Kept::There(many) => {
+                many.push(flag)?;
+                Ok(())
+            }
+        }
+    }
+
+    #[inline(always)]
     pub fn items(&self) -> &[bool]
         ensures { result.now ≡ self.now }
     {
-        &self.entries
+        match &self.kept {
+            Kept::Here(few) => few.items(),
+            Kept::There(many) => many,
+        }
     }
 
     /// Equal flags.
     pub fn copy(&self, alloc: Global) -> Result<Flags, Memory>
         ensures { IfOk result (λ flags. flags ≡ self.now) }
     {
-        let entries = Vec::from_slice(alloc, self.items())?;
-        Ok(Flags { entries })
+        match &self.kept {
+            Kept::Here(few) => Ok(Flags {
+                kept: Kept::Here(few.copy()),
+            }),
+            Kept::There(many) => {
+                let many = Vec::from_slice(alloc, many)?;
+                let many = Box::new(alloc, many)?;
+                Ok(Flags {
+                    kept: Kept::There(many),
+                })
+            }
+        }
     }
 }
+
+const _: () = prove!(size_of::<Flags>() == 24);
 
 /// Whole numbers. A copy shares them.
 #[derive(Drop)]

@@ -1,0 +1,8 @@
+-- Flags as they are kept: in place, or in a list.
+use Rattle.std.specs.Prelude.{List, Bool}
+use Rattle.simple_types.specs.declared.lists.Kept.{Kept}
+use Rattle.simple_types.specs.declared.lists.Kept.TheVariants.{Here, There}
+
+abbrev pub kept_flags : Kept → List Bool
+kept_flags (Here few) = few
+kept_flags (There many) = many.value.items
