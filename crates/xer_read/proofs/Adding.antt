@@ -102,7 +102,7 @@ adds-one P had n former latter before after made v p added stands c e = record {
 }
 
 pub adds-absent : (P : List Bool → List (Rose ValueLabel) → Type 0) (former latter : Parts) (tally : Tally) → P (false ∷ []) []
-    → (latter.flags.items ≡ former.flags.items ++ false ∷ []) × (latter.values.items ≡ former.values.items) → Adds P 0 former latter tally tally
+    → (latter.flags ≡ former.flags ++ false ∷ []) × (latter.values.items ≡ former.values.items) → Adds P 0 former latter tally tally
 adds-absent P former latter tally p g = record { flags = false ∷ []; values = []; grows = grows-absent tally former latter g; nodes = 0; counts = counts-none tally; all = refl; made = p }
 
 pub adds-none : (P : List Bool → List (Rose ValueLabel) → Type 0) (parts : Parts) (tally : Tally) → P [] [] → Adds P 0 parts parts tally tally
@@ -116,8 +116,8 @@ children-plain p found former latter before after h gs wait =
     let a = h gs wait in
     record { flags = a.flags; values = a.values; grows = a.grows; nodes = a.nodes; counts = a.counts; all = a.all; made = a.made }
 
-pub children-inner : (p : Particle) (found : Children) (none_yet all former latter : Parts) (start before after : Tally) → none_yet.flags.items ≡ [] → none_yet.values.items ≡ []
-    → FillsAll (TopMade p) found none_yet all start before → (made : Built) → Counts 1 before after → Stands after made (node (value.Sequence all.flags.items) (roses_of all.values.items)) → PartAdded made former latter
+pub children-inner : (p : Particle) (found : Children) (none_yet all former latter : Parts) (start before after : Tally) → none_yet.flags ≡ [] → none_yet.values.items ≡ []
+    → FillsAll (TopMade p) found none_yet all start before → (made : Built) → Counts 1 before after → Stands after made (node (value.Sequence all.flags) (roses_of all.values.items)) → PartAdded made former latter
     → (gs : List Child) → Wait start found gs → Adds (ChildrenMade true p gs) (child_nodes gs) former latter start after
 children-inner p found none_yet all former latter start before after e f h made c stands added gs wait =
     let a = h gs wait in
@@ -146,7 +146,7 @@ rest-later n one two (rest.Children own found) held.nothing c h = absurd h
 rest-later n one two (rest.Children own found) (held.text v) c h = absurd h
 
 module _ (nillable : Bool) (former latter : Parts) where
-  pub nil-rest : (tally : Tally) → (latter.flags.items ≡ former.flags.items ++ false ∷ []) × (latter.values.items ≡ former.values.items) → (b : Beside) → RestStands tally rest.Nil b
+  pub nil-rest : (tally : Tally) → (latter.flags ≡ former.flags ++ false ∷ []) × (latter.values.items ≡ former.values.items) → (b : Beside) → RestStands tally rest.Nil b
       → Adds (RestMade nillable b) (rest_nodes b) former latter tally tally
   nil-rest tally g held.nil h = adds-absent (RestMade nillable held.nil) former latter tally (refl, refl) g
   nil-rest tally g held.nothing h = absurd h
@@ -168,8 +168,8 @@ module _ (nillable : Bool) (former latter : Parts) where
   children-rest before after own found f (held.text v) h = absurd h
   children-rest before after own found f (held.children model gs) h = subst (λ m. Adds (ChildrenMade nillable (seen m) gs) (child_nodes gs) former latter before after) h.0 (f gs h.1)
 
-pub nothing-inner : (none_yet former latter : Parts) (before after : Tally) (made : Built) → none_yet.flags.items ≡ [] → none_yet.values.items ≡ [] → Counts 1 before after
-    → Stands after made (node (value.Sequence none_yet.flags.items) (roses_of none_yet.values.items)) → PartAdded made former latter → (b : Beside) → RestStands before rest.Nothing b
+pub nothing-inner : (none_yet former latter : Parts) (before after : Tally) (made : Built) → none_yet.flags ≡ [] → none_yet.values.items ≡ [] → Counts 1 before after
+    → Stands after made (node (value.Sequence none_yet.flags) (roses_of none_yet.values.items)) → PartAdded made former latter → (b : Beside) → RestStands before rest.Nothing b
     → Adds (RestMade true b) (rest_nodes b) former latter before after
 nothing-inner none_yet former latter before after made e f c stands added held.nil h = absurd h
 nothing-inner none_yet former latter before after made e f c stands added held.nothing h =
@@ -195,10 +195,10 @@ texts-made p texts vs former latter before after made e c stands added =
 
 -- ---- all parts
 
-pub all-made : (a : Asked) (xs : List (Name × List ℕ)) (h : Held) (one two three four : Parts) (start first second third after : Tally) → one.flags.items ≡ [] → one.values.items ≡ []
+pub all-made : (a : Asked) (xs : List (Name × List ℕ)) (h : Held) (one two three four : Parts) (start first second third after : Tally) → one.flags ≡ [] → one.values.items ≡ []
     → Adds (TextsMade a.inside (texts_of h)) (texts_nodes a.inside h.texts) one two start first → Adds (AttributesMade a.attributes (left xs)) 0 two three first second
     → Adds (RestMade a.nillable h.rest) (rest_nodes h.rest) three four second third
-    → (made : Built) → Counts 1 third after → Stands after made (node (value.Sequence four.flags.items) (roses_of four.values.items)) → Makes (ComplexMade a xs h) (held_nodes a.inside h) made start after
+    → (made : Built) → Counts 1 third after → Stands after made (node (value.Sequence four.flags) (roses_of four.values.items)) → Makes (ComplexMade a xs h) (held_nodes a.inside h) made start after
 all-made a xs h one two three four start first second third after e f texts attributes others made c stands =
     let both = grows-both others.nodes second third others.counts two three four attributes.flags others.flags attributes.values others.values attributes.grows others.grows in
     let later = counts-both attributes.nodes others.nodes first second third attributes.counts others.counts in

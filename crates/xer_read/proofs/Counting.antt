@@ -42,21 +42,21 @@ gathered tally made v old new h k w = subst (λ b. Gathers b old new) (k w) h
 -- ---- parts
 
 pub grows-none : (tally : Tally) (one : Parts) → Grows tally one one [] []
-grows-none tally one = λ w. (sym (append-nil one.flags.items), sym (append-nil one.values.items))
+grows-none tally one = λ w. (sym (append-nil one.flags), sym (append-nil one.values.items))
 
 pub grows-both : (n : ℕ) (before after : Tally) → Counts n before after → (one two three : Parts) (f g : List Bool) (v w : List (Rose ValueLabel)) → Grows before one two f v → Grows after two three g w
     → Grows after one three (f ++ g) (v ++ w)
 grows-both n before after c one two three f g v w h k = λ is.
     let first = h (within-before n before after c is) in
     let second = k is in (
-      second.0 ∙ ap (λ x. x ++ g) first.0 ∙ append_assoc one.flags.items f g,
+      second.0 ∙ ap (λ x. x ++ g) first.0 ∙ append_assoc one.flags f g,
       second.1 ∙ ap (λ x. x ++ w) first.1 ∙ append_assoc one.values.items v w,
     )
 
 pub grows-one : (tally : Tally) (old new : Parts) (made : Built) (v : Rose ValueLabel) → PartAdded made old new → Stands tally made v → Grows tally old new (true ∷ []) (v ∷ [])
 grows-one tally old new made v h k = λ w. (h.flags, gathered tally made v old.values.items new.values.items h.values k w)
 
-pub grows-absent : (tally : Tally) (old new : Parts) → (new.flags.items ≡ old.flags.items ++ false ∷ []) × (new.values.items ≡ old.values.items) → Grows tally old new (false ∷ []) []
+pub grows-absent : (tally : Tally) (old new : Parts) → (new.flags ≡ old.flags ++ false ∷ []) × (new.values.items ≡ old.values.items) → Grows tally old new (false ∷ []) []
 grows-absent tally old new h = λ w. (h.0, h.1 ∙ sym (append-nil old.values.items))
 
 -- ---- child elements

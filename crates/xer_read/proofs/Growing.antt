@@ -174,11 +174,11 @@ pub joined-stands : (l : ValueLabel) (made : Built) (kept vs : List (Rose ValueL
 joined-stands l made kept vs one two c h k = λ w. k w ∙ ap (λ z. built.Value (node l (roses_of z))) (h (within-before 1 one two c w))
 
 -- a SEQUENCE of the parts that were added to none
-pub sequence-stands : (none_yet all : Parts) (flags : List Bool) (vs : List (Rose ValueLabel)) (made : Built) (one two : Tally) → none_yet.flags.items ≡ [] → none_yet.values.items ≡ [] → Counts 1 one two
-    → Grows one none_yet all flags vs → Stands two made (node (value.Sequence all.flags.items) (roses_of all.values.items)) → Stands two made (node (value.Sequence flags) (roses_of vs))
+pub sequence-stands : (none_yet all : Parts) (flags : List Bool) (vs : List (Rose ValueLabel)) (made : Built) (one two : Tally) → none_yet.flags ≡ [] → none_yet.values.items ≡ [] → Counts 1 one two
+    → Grows one none_yet all flags vs → Stands two made (node (value.Sequence all.flags) (roses_of all.values.items)) → Stands two made (node (value.Sequence flags) (roses_of vs))
 sequence-stands none_yet all flags vs made one two e f c grows k = λ w.
     let both = grows (within-before 1 one two c w) in
-    let own_flags : all.flags.items ≡ flags = both.0 ∙ ap (λ x. x ++ flags) e in
+    let own_flags : all.flags ≡ flags = both.0 ∙ ap (λ x. x ++ flags) e in
     let own_values : all.values.items ≡ vs = both.1 ∙ ap (λ x. x ++ vs) f in
     k w ∙ ap (λ x. built.Value (node (value.Sequence x) (roses_of all.values.items))) own_flags ∙ ap (λ x. built.Value (node (value.Sequence flags) (roses_of x))) own_values
 
@@ -241,8 +241,8 @@ several-done t many kept old new start before after h least most e f made c stan
 
 -- ---- terms
 
-pub sequence-made : (t : Rose ParticleLabel) (ps : Particles) → term_of t ≡ sequence ps → (old new : Children) (none_yet all : Parts) (start before after : Tally) → none_yet.flags.items ≡ [] → none_yet.values.items ≡ []
-    → Fills (PartsMade ps) old new none_yet all start before → (made : Built) → Counts 1 before after → Stands after made (node (value.Sequence all.flags.items) (roses_of all.values.items))
+pub sequence-made : (t : Rose ParticleLabel) (ps : Particles) → term_of t ≡ sequence ps → (old new : Children) (none_yet all : Parts) (start before after : Tally) → none_yet.flags ≡ [] → none_yet.values.items ≡ []
+    → Fills (PartsMade ps) old new none_yet all start before → (made : Built) → Counts 1 before after → Stands after made (node (value.Sequence all.flags) (roses_of all.values.items))
     → Takes (TermMade (term_of t)) made old new start after
 sequence-made t ps is old new none_yet all start before after e f h made c stands = λ gs wait.
     let x = h gs wait in
@@ -328,7 +328,7 @@ fills-one P Q old new former latter before after made f h added = λ gs wait.
     }
 
 pub fills-absent : (P : List Bool → List (Rose ValueLabel) → List Child → Type 0) (old : Children) (former latter : Parts) (tally : Tally) → P (false ∷ []) [] []
-    → (latter.flags.items ≡ former.flags.items ++ false ∷ []) × (latter.values.items ≡ former.values.items) → Fills P old old former latter tally tally
+    → (latter.flags ≡ former.flags ++ false ∷ []) × (latter.values.items ≡ former.values.items) → Fills P old old former latter tally tally
 fills-absent P old former latter tally p g = λ gs wait. record {
   taken = [];
   rest = gs;

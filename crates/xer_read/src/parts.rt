@@ -13,18 +13,20 @@ use xa_base::Memory;
 /// The first parts of a SEQUENCE: a flag for each, and the values of those that are present.
 #[derive(Drop)]
 pub(crate) struct Parts {
-    flags: Vec<bool>,
+    alloc: Global,
+    flags: Flags,
     values: Vec<Tree<ValueLabel>>,
 }
 
 impl Parts {
     /// None yet.
     pub(crate) fn new(alloc: Global) -> Parts
-        ensures flags { result.flags.items ≡ [] }
+        ensures flags { result.flags ≡ [] }
         ensures values { result.values.items ≡ [] }
     {
         Parts {
-            flags: Vec::new(alloc),
+            alloc,
+            flags: Flags::none(),
             values: Vec::new(alloc),
         }
     }
@@ -33,25 +35,24 @@ impl Parts {
     pub(crate) fn add(&mut self, value: Built) -> Result<(), Memory>
         ensures { OnOk result (PartAdded value self.old self.new) }
     {
-        self.flags.push(true)?;
+        self.flags.push(self.alloc, true)?;
         value.push_to(&mut self.values)
     }
 
     /// The next part is absent.
     pub(crate) fn leave_out(&mut self) -> Result<(), Memory>
-        ensures { OnOk result ((self.new.flags.items ≡ self.old.flags.items ++ false ∷ []) × (self.new.values.items ≡ self.old.values.items)) }
+        ensures { OnOk result ((self.new.flags ≡ self.old.flags ++ false ∷ []) × (self.new.values.items ≡ self.old.values.items)) }
     {
-        self.flags.push(false)?;
+        self.flags.push(self.alloc, false)?;
         Ok(())
     }
 
     /// The value of the SEQUENCE, which has no more parts.
     pub(crate) fn into_value(self, tally: &mut Tally) -> Built
         ensures counts { Counts 1 tally.old tally.new }
-        ensures built { IsBuilt tally.new result (node (ValueLabel.Sequence self.flags.items) (roses_of self.values.items)) }
+        ensures built { IsBuilt tally.new result (node (ValueLabel.Sequence self.flags) (roses_of self.values.items)) }
     {
-        let Parts { flags, values } = self;
-        let present = Flags::of(flags);
-        Built::join(ValueLabel::Sequence { present }, values, tally)
+        let Parts { flags, values, .. } = self;
+        Built::join(ValueLabel::Sequence { present: flags }, values, tally)
     }
 }

@@ -48,12 +48,12 @@ pub record Makes (P : Rose ValueLabel → Type 0) (had : ℕ) (made : Built) (be
 
 -- a part that stands
 pub record PartAdded (made : Built) (old new : Parts) : Type 0 where
-  pub flags : new.flags.items ≡ old.flags.items ++ true ∷ []
+  pub flags : new.flags ≡ old.flags ++ true ∷ []
   pub values : Gathers made old.values.items new.values.items
 
 -- these parts were added
 abbrev pub Grows : Tally → Parts → Parts → List Bool → List (Rose ValueLabel) → Type 0
-Grows tally old new flags values = IsWithin tally → (new.flags.items ≡ old.flags.items ++ flags) × (new.values.items ≡ old.values.items ++ values)
+Grows tally old new flags values = IsWithin tally → (new.flags ≡ old.flags ++ flags) × (new.values.items ≡ old.values.items ++ values)
 
 -- ---- child elements
 

@@ -16,7 +16,7 @@ returns-in-None c =
     let P = AttributesMade (attribute_in (parts_of c.args.set.now) c.args.declared.now ∷ []) (left c.args.attributes.now) in
     let old = c.args.parts.now in
     let new = c.leave_out.new.self in
-    on-ok c.leave_out.result ((new.flags.items ≡ old.flags.items ++ false ∷ []) × (new.values.items ≡ old.values.items)) (Adds P 0 old new c.args.tally.now c.args.tally.now)
+    on-ok c.leave_out.result ((new.flags ≡ old.flags ++ false ∷ []) × (new.values.items ≡ old.values.items)) (Adds P 0 old new c.args.tally.now c.args.tally.now)
     (adds-absent P old new c.args.tally.now (attribute-absent c.args.set.now c.args.declared.now c.args.attributes.now c.requires.declared.0 c.in-None.ensures)) c.leave_out.ensures
 
 pub returns-in-Ok : goal.returns-in-Ok

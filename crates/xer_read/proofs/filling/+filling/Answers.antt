@@ -302,13 +302,13 @@ pub fill_part-returns-then-not-is_next-clause-path : goal.fill_part-returns-then
 fill_part-returns-then-not-is_next-clause-path t c =
     let old = c.args.parts.now in
     let new = c.leave_out.new.self in
-    on-ok c.leave_out.result ((new.flags.items ≡ old.flags.items ++ false ∷ []) × (new.values.items ≡ old.values.items)) (c.args.path.now.items ≡ c.args.path.now.items) (λ g. refl) c.leave_out.ensures
+    on-ok c.leave_out.result ((new.flags ≡ old.flags ++ false ∷ []) × (new.values.items ≡ old.values.items)) (c.args.path.now.items ≡ c.args.path.now.items) (λ g. refl) c.leave_out.ensures
 
 pub fill_part-returns-then-not-is_next-clause-taken : goal.fill_part-returns-then-not-is_next-clause-taken
 fill_part-returns-then-not-is_next-clause-taken t c =
     let old = c.args.parts.now in
     let new = c.leave_out.new.self in
-    on-ok c.leave_out.result ((new.flags.items ≡ old.flags.items ++ false ∷ []) × (new.values.items ≡ old.values.items))
+    on-ok c.leave_out.result ((new.flags ≡ old.flags ++ false ∷ []) × (new.values.items ≡ old.values.items))
     (OthersWait (ParticlePlaced (seen c.args.particle.now) c.args.number (path_shown c.args.path.now.items) c.args.children.now) c.args.children.now)
     (λ g. step.absent-leaves c.args.particle.now c.args.number (path_shown c.args.path.now.items) c.args.children.now (sym (c.if-is_once.ensures ∙ ap (λ l. is_once l.min l.max) c.label-label.ensures)) c.requires.fillable
     (λ ls at k. step.never-true c.if-not-is_next.true ((c.is_next.ensures ls at).1 (subst (λ p. HeadIn (path_shown p) (turn_of c.args.number 0) ls) (sym c.as_slice.ensures.value) k)))) c.leave_out.ensures
@@ -320,7 +320,7 @@ fill_part-returns-then-not-is_next-clause-made t c =
     let old = c.args.parts.now in
     let new = c.leave_out.new.self in
     let P = PartsMade (more (seen particle) none) in
-    on-ok c.leave_out.result ((new.flags.items ≡ old.flags.items ++ false ∷ []) × (new.values.items ≡ old.values.items)) (Fills P c.args.children.now c.args.children.now old new c.args.tally.now c.args.tally.now)
+    on-ok c.leave_out.result ((new.flags ≡ old.flags ++ false ∷ []) × (new.values.items ≡ old.values.items)) (Fills P c.args.children.now c.args.children.now old new c.args.tally.now c.args.tally.now)
     (fills-absent P c.args.children.now old new c.args.tally.now
     (absent-made particle label.min label.max (ap (λ l. l.min) (sym c.label-label.ensures)) (ap (λ l. l.max) (sym c.label-label.ensures)) (sym c.if-is_optional.ensures)))
     c.leave_out.ensures

@@ -15,7 +15,7 @@ returns-in-Nil c =
     let new = c.leave_out.new.self in
     let tally = c.args.tally.now in
     rw c.in-Nil.is
-    (on-ok c.leave_out.result ((new.flags.items ≡ old.flags.items ++ false ∷ []) × (new.values.items ≡ old.values.items))
+    (on-ok c.leave_out.result ((new.flags ≡ old.flags ++ false ∷ []) × (new.values.items ≡ old.values.items))
     ((b : Beside) → RestStands tally rest.Nil b → Adds (RestMade c.args.nillable b) (rest_nodes b) old new tally tally)
     (nil-rest c.args.nillable old new tally) c.leave_out.ensures)
 
