@@ -2,7 +2,7 @@
 ghost use Rattle.std.specs.Prelude.{◌≡◌, ◌<◌, ◌≤◌, ◌-◌, ◌*◌, ◌^◌};
 
 use crate::fetch::{CursorError, fetch};
-use crate::gather::gather;
+use crate::gather::{gather, gather_octet};
 use std::alloc::Global;
 use xa_base::Source;
 
@@ -72,6 +72,9 @@ impl<'a, S: Source> BitSource<'a, S> {
         ensures kinds { ¬ IsErrOf result CursorError.Padding × ¬ IsErrOf result CursorError.Memory }
     {
         let unread = (8 * self.taken - self.position) as u32;
+        if n <= 8 {
+            return self.take_few(n, unread);
+        }
         let need = (n.saturating_sub(unread) as usize + 7) / 8;
         let mut buf = [0u8; 8];
         let (count, end) = fetch(self.source, self.limit - self.taken, &mut buf[..need]);
@@ -84,6 +87,49 @@ impl<'a, S: Source> BitSource<'a, S> {
         let left = unread + 8 * need as u32 - n;
         self.position += n as u64;
         self.held = (all % (1u128 << left)) as u8;
+        Ok((all >> left) as u64)
+    }
+
+    // The same of a few bits, where so many of the last octet are not taken yet.
+    #[inline(always)]
+    fn take_few(&mut self, n: u32, unread: u32) -> Result<u64, CursorError>
+        requires few { n ≤ 8 }
+        requires in_step { IsInStep self.old.position self.old.taken }
+        requires unread { unread ≡ 8 * self.old.taken - self.old.position }
+        ensures same_reference { self.new.source.ghost_name ≡ self.old.source.ghost_name }
+        ensures limit { self.new.limit ≡ self.old.limit }
+        ensures moved { OnOk result ((self.new.position ≡ self.old.position + n) × IsInStep self.new.position self.new.taken) }
+        ensures below { IfOk result (λ x. x < 2 ^ n) }
+        ensures bits { (left : List ℕ) → S.left self.old.source.now ≡ Some left → IfOk result (λ x.
+            ahead self.old.position self.old.taken self.old.held self.old.limit left
+            ≡ bits n x ++ ahead self.new.position self.new.taken self.new.held self.new.limit (drop (self.new.taken - self.old.taken) left)) }
+        ensures took { LosesFirst (S.left self.old.source.now) (S.left self.new.source.now) (self.new.taken - self.old.taken) }
+        ensures most { (self.old.taken ≤ self.new.taken) × (8 * self.new.taken ≤ self.old.position + n + 7) }
+        ensures stays { OnErr result ((self.new.position ≡ self.old.position) × (self.new.held ≡ self.old.held)) }
+        ensures missing { OnErr result (8 * self.new.taken < self.old.position + n) }
+        ensures short { IsErrOf result CursorError.Short → (self.new.taken < self.old.limit) × IsAtEnd (S.left self.new.source.now) }
+        ensures too_long { IsErrOf result CursorError.TooLong → self.new.taken ≡ self.old.limit }
+        ensures cause { Counts (S.faults self.old.source.now) (S.faults self.new.source.now) (IsErrOf result CursorError.Failed) }
+        ensures kinds { ¬ IsErrOf result CursorError.Padding × ¬ IsErrOf result CursorError.Memory }
+    {
+        if n <= unread {
+            let left = unread - n;
+            let number = self.held >> left;
+            self.position += n as u64;
+            self.held %= 1u8 << left;
+            return Ok(number as u64);
+        }
+        let mut octet = [0u8; 1];
+        let (count, end) = fetch(self.source, self.limit - self.taken, &mut octet);
+        self.taken += count as u64;
+        match end {
+            Err(error) => return Err(error),
+            Ok(()) => {}
+        }
+        let all = gather_octet(self.held, unread, octet[0]);
+        let left = unread + 8 - n;
+        self.position += n as u64;
+        self.held = (all % (1u32 << left)) as u8;
         Ok((all >> left) as u64)
     }
 
@@ -127,13 +173,37 @@ impl<'a, S: Source> BitSource<'a, S> {
         ensures kinds { ¬ IsErrOf result CursorError.Padding }
     {
         let mut octets = vec![in alloc; 0u8; n as usize]?;
-        let (count, end) = fetch(self.source, self.limit - self.taken, &mut octets);
+        self.fill_octets(&mut octets)?;
+        Ok(octets)
+    }
+
+    /// Fills the buffer with the next octets, at the end of an octet.
+    #[inline(always)]
+    pub fn fill_octets(&mut self, octets: &mut [u8]) -> Result<(), CursorError>
+        requires few { length octets.old ≤ 65536 }
+        requires in_step { IsInStep self.old.position self.old.taken }
+        requires aligned { self.old.position % 8 ≡ 0 }
+        ensures same_reference { self.new.source.ghost_name ≡ self.old.source.ghost_name }
+        ensures limit { self.new.limit ≡ self.old.limit }
+        ensures moved { OnOk result ((self.new.position ≡ self.old.position + 8 * length octets.old) × (self.new.taken ≡ self.old.taken + length octets.old)) }
+        ensures held { self.new.held ≡ self.old.held }
+        ensures octets { (left : List ℕ) → S.left self.old.source.now ≡ Some left → OnOk result (octets.new ≡ take (length octets.old) left) }
+        ensures took { LosesFirst (S.left self.old.source.now) (S.left self.new.source.now) (self.new.taken - self.old.taken) }
+        ensures most { (self.old.taken ≤ self.new.taken) × (self.new.taken ≤ self.old.taken + length octets.old) }
+        ensures stays { OnErr result (self.new.position ≡ self.old.position) }
+        ensures missing { OnErr result (self.new.taken < self.old.taken + length octets.old) }
+        ensures short { IsErrOf result CursorError.Short → (self.new.taken < self.old.limit) × IsAtEnd (S.left self.new.source.now) }
+        ensures too_long { IsErrOf result CursorError.TooLong → self.new.taken ≡ self.old.limit }
+        ensures cause { Counts (S.faults self.old.source.now) (S.faults self.new.source.now) (IsErrOf result CursorError.Failed) }
+        ensures kinds { ¬ IsErrOf result CursorError.Padding × ¬ IsErrOf result CursorError.Memory }
+    {
+        let (count, end) = fetch(self.source, self.limit - self.taken, octets);
         self.taken += count as u64;
         match end {
             Err(error) => return Err(error),
             Ok(()) => {}
         }
-        self.position += 8 * n as u64;
-        Ok(octets)
+        self.position += 8 * octets.len() as u64;
+        Ok(())
     }
 }
