@@ -12,8 +12,8 @@ ghost use Rattle.schema_link.specs.Sets.{AreNumbered};
 ghost use Rattle.map_widths.specs.Widths.{HasWidths};
 ghost use Rattle.set_exists.specs.Reading.{AreRead};
 
-/// Where no pass finds a fault, each simple type of the documents is made, and a set that is linked and within the widths
-/// that the code has is the set of the documents with these spaces.
+/// Where no pass finds a fault, each simple type of the documents is made. Where besides the components are few enough to be
+/// numbered, a set that is linked and within the widths that the code has is the set of the documents with these spaces.
 pub fn sets_of_documents()
     ensures made { (docs : List Document) → AreRead docs → ArePassed docs passes → (spaces : List Space) × IsMaking (simple_types docs) (map Some spaces) }
     ensures linked { (docs : List Document) → AreRead docs → ArePassed docs passes → AreNumbered docs → (spaces : List Space) → IsMaking (simple_types docs) (map Some spaces)

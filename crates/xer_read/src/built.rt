@@ -44,8 +44,8 @@ impl Built {
         Built::counted(tree, tally)
     }
 
-    /// The value that the type gives to the text. Where the text is so long that a list may have too many nodes, they are
-    /// counted first, and no value is made if they are.
+    /// The value that the type gives to the text. Where the type is a list or a union, and the text so long that its value
+    /// may have too many nodes, they are counted first, and no value is made if they are.
     pub(crate) fn read(
         alloc: Global,
         simple: &Simple,
