@@ -14,14 +14,14 @@ ghost use Rattle.per_decode.specs.Private.Giving.{Gives, spot};
 ghost use Rattle.per_decode.specs.Private.Bodies.{text_told_at};
 
 use crate::faults::{Fault, stopped};
-use crate::room::with_room;
+use crate::lengths::{MOST_UNITS, Piece};
 use crate::run::{Origin, Run};
 use asn_types::Component;
 use label_tree::Tree;
 use per_fields::Why;
-use simple_types::ValueLabel;
+use simple_types::{Flags, ValueLabel};
 use std::alloc::Global;
-use xa_base::{Source, Text, TextError};
+use xa_base::{ROOM, Source, Text, TextError};
 
 /// A BOOLEAN.
 #[tactic(auto, unfolding(per_fields::specs::Nodes::bool_at))]
@@ -102,9 +102,53 @@ pub(crate) fn text_node<S: Source, K: Origin>(
         (text_told_at begin) (spot run.old.bits.position run.old.nodes) }
     ensures failed { IsErrOf result Fault.Failed → HasRisen K.faults (S.faults run.new.bits.source.now) }
 {
-    let octets = run.text(alloc)?;
-    match Text::of(alloc, &octets) {
-        Ok(text) => Ok(Tree::leaf(alloc, ValueLabel::Utf8(text))),
+    let piece = run.count(0, None, MOST_UNITS, 0)?;
+    let text = match piece {
+        Piece::Last(n) if n as usize <= ROOM => short_text(alloc, run, n, begin)?,
+        _ => long_text(alloc, run, piece, begin)?,
+    };
+    Ok(Tree::leaf(alloc, ValueLabel::Utf8(text)))
+}
+
+// A text of so few octets.
+#[inline(always)]
+fn short_text<S: Source, K: Origin>(
+    alloc: Global,
+    run: &mut Run<S, K>,
+    n: u32,
+    begin: u64,
+) -> Result<Text, Fault>
+{
+    let mut bytes = [0u8; ROOM];
+    run.fill_octets(&mut bytes[..n as usize])?;
+    match Text::of_ascii(bytes, n as usize) {
+        Some(text) => Ok(text),
+        None => told(alloc, run, &bytes[..n as usize], begin),
+    }
+}
+
+#[inline(never)]
+fn long_text<S: Source, K: Origin>(
+    alloc: Global,
+    run: &mut Run<S, K>,
+    piece: Piece,
+    begin: u64,
+) -> Result<Text, Fault>
+{
+    let octets = run.text(alloc, piece)?;
+    told(alloc, run, &octets, begin)
+}
+
+#[inline(never)]
+fn told<S: Source, K: Origin>(
+    alloc: Global,
+    run: &mut Run<S, K>,
+    octets: &[u8],
+    begin: u64,
+) -> Result<Text, Fault>
+{
+    match Text::of(alloc, octets) {
+        Ok(text) => Ok(text),
         Err(TextError::NotUtf8) => Err(stopped(begin, Why::NotUtf8, run.position())),
         Err(TextError::Memory) => Err(Fault::Memory),
     }
@@ -135,20 +179,20 @@ pub(crate) fn presence<S: Source, K: Origin>(
     alloc: Global,
     run: &mut Run<S, K>,
     parts: &[Component],
-) -> Result<Vec<bool>, Fault>
+) -> Result<Flags, Fault>
     requires in_step { IsInStep run.old.bits.position run.old.bits.taken }
     ensures same_reference { run.new.bits.source.ghost_name ≡ run.old.bits.source.ghost_name }
     ensures on { OnOk result (GoesOn run.old.bits.position run.new.bits.position run.new.bits.taken) }
     ensures nodes { run.new.nodes ≡ run.old.nodes }
-    ensures present { IfOk result (λ flags. Present parts.now flags.items) }
-    ensures gives { IsTrue K.told → Gives K.limit K.whole (λ flags. flags.items) result (spot run.new.bits.position run.new.nodes) run.new.bits.taken
+    ensures present { IfOk result (λ flags. Present parts.now flags) }
+    ensures gives { IsTrue K.told → Gives K.limit K.whole (λ flags. flags) result (spot run.new.bits.position run.new.nodes) run.new.bits.taken
         (each_at flag_at parts.now) (spot run.old.bits.position run.old.nodes) }
     ensures failed { IsErrOf result Fault.Failed → HasRisen K.faults (S.faults run.new.bits.source.now) }
 {
-    let mut present = with_room(alloc, parts.len());
+    let mut present = Flags::none();
     for part in parts {
         let there = presence_bit(run, part)?;
-        present.push(there)?;
+        present.push(alloc, there)?;
     }
     Ok(present)
 }

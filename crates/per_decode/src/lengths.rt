@@ -203,7 +203,7 @@ impl<'a, S: Source, K: Origin> Run<'a, S, K> {
     }
 
     /// The octets of a text, in fragments.
-    pub(crate) fn text(&mut self, alloc: Global) -> Result<Vec<u8>, Fault>
+    pub(crate) fn text(&mut self, alloc: Global, first: Piece) -> Result<Vec<u8>, Fault>
         requires in_step { IsInStep self.old.bits.position self.old.bits.taken }
         ensures same_reference { self.new.bits.source.ghost_name ≡ self.old.bits.source.ghost_name }
         ensures on { OnOk result (GoesOn self.old.bits.position self.new.bits.position self.new.bits.taken) }
@@ -213,10 +213,8 @@ impl<'a, S: Source, K: Origin> Run<'a, S, K> {
         ensures failed { IsErrOf result Fault.Failed → HasRisen K.faults (S.faults self.new.bits.source.now) }
     {
         let mut text = Vec::new(alloc);
-        let mut before = MOST_UNITS;
+        let mut piece = first;
         'fragments: loop {
-            let total = text.as_slice().len();
-            let piece = self.count(0, None, before, total)?;
             match piece {
                 Piece::Last(n) => {
                     let last = self.take_octets(alloc, n)?;
@@ -225,7 +223,8 @@ impl<'a, S: Source, K: Origin> Run<'a, S, K> {
                 Piece::Units(k) => {
                     let octets = self.take_octets(alloc, k * UNIT)?;
                     text = joined(text, octets)?;
-                    before = k;
+                    let total = text.as_slice().len();
+                    piece = self.count(0, None, k, total)?;
                 }
             }
         }

@@ -134,4 +134,18 @@ impl<'a, S: Source, K: Origin> Run<'a, S, K> {
             Err(CursorError::Padding) => unreachable!(),
         }
     }
+
+    #[inline(always)]
+    pub(crate) fn fill_octets(&mut self, octets: &mut [u8]) -> Result<(), Fault>
+    {
+        let begin = self.position();
+        match self.bits.fill_octets(octets) {
+            Ok(()) => Ok(()),
+            Err(CursorError::Failed) => Err(Fault::Failed),
+            Err(CursorError::Short) => Err(Fault::Short { bit: begin }),
+            Err(CursorError::TooLong) => Err(Fault::TooLong { bit: begin }),
+            Err(CursorError::Memory) => unreachable!(),
+            Err(CursorError::Padding) => unreachable!(),
+        }
+    }
 }
