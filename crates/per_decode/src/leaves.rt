@@ -12,14 +12,15 @@ ghost use Rattle.per_fields.specs.Nodes.{flag_at, bool_at, int_at, enum_at};
 ghost use Rattle.per_decode.specs.Private.Standing.{GoesOn};
 ghost use Rattle.per_decode.specs.Private.Giving.{Gives, spot};
 ghost use Rattle.per_decode.specs.Private.Bodies.{text_told_at};
+ghost use Rattle.per_decode.specs.Private.Kept.{octets_of, HasRoom};
 
 use crate::faults::{Fault, stopped};
-use crate::room::with_room;
+use crate::lengths::Octets;
 use crate::run::{Origin, Run};
 use asn_types::Component;
 use label_tree::Tree;
 use per_fields::Why;
-use simple_types::ValueLabel;
+use simple_types::{Flags, ValueLabel};
 use std::alloc::Global;
 use xa_base::{Source, Text, TextError};
 
@@ -88,6 +89,7 @@ pub(crate) fn enumerated<S: Source, K: Origin>(
 }
 
 /// The text of a node that begins at a bit.
+#[inline(always)]
 pub(crate) fn text_node<S: Source, K: Origin>(
     alloc: Global,
     run: &mut Run<S, K>,
@@ -103,11 +105,36 @@ pub(crate) fn text_node<S: Source, K: Origin>(
     ensures failed { IsErrOf result Fault.Failed → HasRisen K.faults (S.faults run.new.bits.source.now) }
 {
     let octets = run.text(alloc)?;
-    match Text::of(alloc, &octets) {
+    match text_of(alloc, octets) {
         Ok(text) => Ok(Tree::leaf(alloc, ValueLabel::Utf8(text))),
         Err(TextError::NotUtf8) => Err(stopped(begin, Why::NotUtf8, run.position())),
         Err(TextError::Memory) => Err(Fault::Memory),
     }
+}
+
+// The text of these octets. Few ASCII characters stay in place.
+#[inline(always)]
+fn text_of(alloc: Global, octets: Octets) -> Result<Text, TextError>
+    requires { HasRoom octets }
+    ensures ok { IfOk result (λ text. (text ≡ octets_of octets) × IsUtf8 (octets_of octets)) }
+    ensures not_utf8 { IsErrOf result TextError.NotUtf8 → ¬ IsUtf8 (octets_of octets) }
+{
+    match octets {
+        Octets::Few { bytes, count } => match Text::of_ascii(bytes, count) {
+            Some(text) => Ok(text),
+            None => copied_text(alloc, &bytes[..count]),
+        },
+        Octets::Many(octets) => copied_text(alloc, &octets),
+    }
+}
+
+// The text of these octets, which are copied.
+#[inline(never)]
+fn copied_text(alloc: Global, octets: &[u8]) -> Result<Text, TextError>
+    ensures ok { IfOk result (λ text. (text ≡ octets.now) × IsUtf8 octets.now) }
+    ensures not_utf8 { IsErrOf result TextError.NotUtf8 → ¬ IsUtf8 octets.now }
+{
+    Text::of(alloc, octets)
 }
 
 // Whether a component is there.
@@ -135,20 +162,20 @@ pub(crate) fn presence<S: Source, K: Origin>(
     alloc: Global,
     run: &mut Run<S, K>,
     parts: &[Component],
-) -> Result<Vec<bool>, Fault>
+) -> Result<Flags, Fault>
     requires in_step { IsInStep run.old.bits.position run.old.bits.taken }
     ensures same_reference { run.new.bits.source.ghost_name ≡ run.old.bits.source.ghost_name }
     ensures on { OnOk result (GoesOn run.old.bits.position run.new.bits.position run.new.bits.taken) }
     ensures nodes { run.new.nodes ≡ run.old.nodes }
-    ensures present { IfOk result (λ flags. Present parts.now flags.items) }
-    ensures gives { IsTrue K.told → Gives K.limit K.whole (λ flags. flags.items) result (spot run.new.bits.position run.new.nodes) run.new.bits.taken
+    ensures present { IfOk result (λ flags. Present parts.now flags) }
+    ensures gives { IsTrue K.told → Gives K.limit K.whole (λ flags. flags) result (spot run.new.bits.position run.new.nodes) run.new.bits.taken
         (each_at flag_at parts.now) (spot run.old.bits.position run.old.nodes) }
     ensures failed { IsErrOf result Fault.Failed → HasRisen K.faults (S.faults run.new.bits.source.now) }
 {
-    let mut present = with_room(alloc, parts.len());
+    let mut present = Flags::none();
     for part in parts {
         let there = presence_bit(run, part)?;
-        present.push(there)?;
+        present.push(alloc, there)?;
     }
     Ok(present)
 }

@@ -27,7 +27,7 @@ use crate::run::{Origin, Run};
 use asn_types::{Component, Form, Module, Role, TypeLabel, own, resolve, role};
 use label_tree::Tree;
 use per_fields::Why;
-use simple_types::{Flags, ValueLabel};
+use simple_types::ValueLabel;
 use std::alloc::Global;
 use xa_base::Source;
 
@@ -253,8 +253,7 @@ fn sequence<S: Source, K: Origin>(
     ensures failed { IsErrOf result Fault.Failed → HasRisen K.faults (S.faults run.new.bits.source.now) }
 {
     let present = presence(alloc, run, parts)?;
-    let values = components(alloc, module, run, depth, found, parts, &present)?;
-    let present = Flags::of(present);
+    let values = components(alloc, module, run, depth, found, parts, present.items())?;
     Ok(Tree::join(ValueLabel::Sequence { present }, values))
 }
 

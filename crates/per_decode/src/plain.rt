@@ -10,7 +10,6 @@ use asn_types::{Form, Module, TypeLabel};
 use label_tree::Tree;
 use simple_types::{Class, ValueLabel};
 use simple_values::is_at_most;
-use xa_base::is_treated;
 
 fn is_visible(byte: u8) -> bool
     ensures { result ≡ is_visible byte }
@@ -18,15 +17,16 @@ fn is_visible(byte: u8) -> bool
     matches!(byte, b'!'..=b'~')
 }
 
+#[inline(always)]
 fn are_visible(bytes: &[u8]) -> bool
     ensures { result ≡ list_all is_visible bytes.now }
 {
     bytes.iter().all(|byte| is_visible(*byte))
 }
 
-// Whether a text has visible ASCII characters alone and is in no narrower class than they are, within the size and as
-// its white space is treated.
-#[tactic(auto, using(crate::proofs::Visible::plain_characters))]
+// Whether a text has visible ASCII characters alone, and is within the size of a type of any characters (`Class::Any`).
+#[tactic(auto, using(crate::proofs::Visible::plain_characters, crate::proofs::Visible::plain_treated))]
+#[inline(always)]
 fn is_plain_text(label: &TypeLabel, value: &ValueLabel) -> bool
     ensures { IsTrue result → IsTextOf label.now.form label.now.marks value.now }
 {
@@ -38,10 +38,7 @@ fn is_plain_text(label: &TypeLabel, value: &ValueLabel) -> bool
         } => match value {
             ValueLabel::Utf8(text) => {
                 let bytes = text.bytes();
-                are_visible(bytes)
-                    && *min as usize <= bytes.len()
-                    && is_at_most(bytes.len(), *max)
-                    && is_treated(label.marks.white_space(), text)
+                are_visible(bytes) && *min as usize <= bytes.len() && is_at_most(bytes.len(), *max)
             }
             _ => false,
         },
@@ -51,6 +48,7 @@ fn is_plain_text(label: &TypeLabel, value: &ValueLabel) -> bool
 
 /// Whether a value is such a text, and so keeps the rules of its type, which is no reference. Other values may keep them
 /// too.
+#[inline(always)]
 pub(crate) fn is_plain(module: &Module, found: &Tree<TypeLabel>, value: &Tree<ValueLabel>) -> bool
     requires { AreWellFormed module.now found.now }
     ensures { IsTrue result → OwnAt module.now (label_of found.now) found.now value.now }

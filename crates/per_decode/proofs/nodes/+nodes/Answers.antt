@@ -263,18 +263,18 @@ sequence-returns-in_err-values-clause-gives g t c = λ told.
     let old = c.args.run.now in
     let mid = c.presence.new.run in
     let i = stands_inside mid.bits.position mid.bits.taken mid.bits.held mid.bits.limit g.K.Origin.limit g.K.Origin.whole _ mid.limited mid.bits.behind mid.bits.within (mid.here told) in
-    rw (p.1, p.2) (components_fail c.args.module.now c.args.depth (label_of c.args.found.now) (kids_of c.args.found.now) c.args.parts.now (input g.K.Origin.limit g.K.Origin.whole) (spot old.bits.position old.nodes) c.in_ok-present.present.items (spot mid.bits.position mid.nodes) (c.in_ok-present.ensures.gives told) g.K.Origin.limit g.K.Origin.whole c.in_err-values.field-0.0 c.components.new.run.bits.taken i (rw c.deref.ensures.value at (c.in_err-values.ensures.gives told)))
+    rw (p.1, p.2) (components_fail c.args.module.now c.args.depth (label_of c.args.found.now) (kids_of c.args.found.now) c.args.parts.now (input g.K.Origin.limit g.K.Origin.whole) (spot old.bits.position old.nodes) c.in_ok-present.present (spot mid.bits.position mid.nodes) (c.in_ok-present.ensures.gives told) g.K.Origin.limit g.K.Origin.whole c.in_err-values.field-0.0 c.components.new.run.bits.taken i (rw c.items.ensures at (c.in_err-values.ensures.gives told)))
 
 pub sequence-returns-clause-fits : goal.sequence-returns-clause-fits
 sequence-returns-clause-fits g t c =
-    rw (c.join.ensures, c.of-present.ensures) (fit-sequence c.args.module.now c.args.depth c.args.found.now c.args.parts.now c.in_ok-present.present.items c.in_ok-values.values.items c.requires.form (rw c.deref.ensures.value at c.in_ok-values.ensures.fits))
+    rw c.join.ensures (fit-sequence c.args.module.now c.args.depth c.args.found.now c.args.parts.now c.in_ok-present.present c.in_ok-values.values.items c.requires.form (rw c.items.ensures at c.in_ok-values.ensures.fits))
 
 pub sequence-returns-clause-gives : goal.sequence-returns-clause-gives
 sequence-returns-clause-gives g t c = λ told.
     let old = c.args.run.now in
     let mid = c.presence.new.run in
     let new = c.components.new.run in
-    rw (c.join.ensures, c.of-present.ensures) (sequence_reads c.args.module.now c.args.depth (label_of c.args.found.now) (kids_of c.args.found.now) c.args.parts.now (input g.K.Origin.limit g.K.Origin.whole) (spot old.bits.position old.nodes) c.in_ok-present.present.items (spot mid.bits.position mid.nodes) (c.in_ok-present.ensures.gives told) c.in_ok-values.values.items (spot new.bits.position new.nodes) (rw c.deref.ensures.value at (c.in_ok-values.ensures.gives told)))
+    rw c.join.ensures (sequence_reads c.args.module.now c.args.depth (label_of c.args.found.now) (kids_of c.args.found.now) c.args.parts.now (input g.K.Origin.limit g.K.Origin.whole) (spot old.bits.position old.nodes) c.in_ok-present.present (spot mid.bits.position mid.nodes) (c.in_ok-present.ensures.gives told) c.in_ok-values.values.items (spot new.bits.position new.nodes) (rw c.items.ensures at (c.in_ok-values.ensures.gives told)))
 
 -- ITS COMPONENTS
 
