@@ -3,3 +3,4 @@ pub mod Giving
 pub mod Bodies
 pub mod Pieces
 pub mod Visible
+pub mod Newest
