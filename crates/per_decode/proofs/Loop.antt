@@ -34,6 +34,12 @@ pub end-front : {B : Type 0} (front : List B) (r : Result (List B × Spot) Stop)
 end-front front (Ok x) = refl
 end-front front (Err s) = refl
 
+-- where nothing was read before
+pub front-none : {B : Type 0} (front : List B) (r : Result (List B × Spot) Stop) → length front ≡ 0 → with_front front r ≡ r
+front-none [] (Ok x) e = refl
+front-none [] (Err s) e = refl
+front-none (b ∷ bs) r e = absurd (omega arith)
+
 module _ {A B : Type 0} (read : A → Reader B) (front : List B) (X : List Bool) (s : Spot) where
   pub each_done : (as' : List A) → as' ≡ [] → with_front front (each_at read as' X s) ≡ Ok (front, s)
   unfolding each_at

@@ -1,16 +1,21 @@
 -- Texts of visible ASCII characters.
-use Rattle.std.proofs.Common.{◌≡◌, ℕ, zero, suc, ◌≤◌, true, List, [], ◌∷◌, length, refl, arith, Option}
+use Rattle.std.proofs.Common.{◌≡◌, ℕ, zero, suc, ◌≤◌, true, false, List, [], ◌∷◌, length, map, refl, ap, arith, Option}
 use Rattle.std.specs.Prelude.{nat_le}
-use Rattle.std.specs.List.{list_all}
+use Rattle.std.specs.List.{list_all, join_with_byte, All}
 use Rattle.std.specs.Str.{IsAscii}
 use Rattle.std.specs.Cmp.{first_so, second_so}
 use Rattle.std.proofs.lemmas.Bool.{leb-true, le-leb}
 use Rattle.std.proofs.lemmas.Bool.Decides.{nat_tests}
+use Rattle.std.proofs.lemmas.List.Elements.{All-nil, All-cons}
 use Rattle.std.proofs.lemmas.Str.{chars-IsAscii}
 use Rattle.simple_types.specs.declared.simples.Class.TheVariants.{Any}
 use Rattle.simple_values.specs.Lexical.{in_class, is_at_most}
 use Rattle.simple_values.specs.Reading.{has_characters}
+use Rattle.xa_base.proofs.WordLaws.{words_of-nil, words_of-join}
 use Rattle.xa_base.specs.Characters.{is_xml_char}
+use Rattle.xa_base.specs.WhiteSpace.{is_white_space, spaced, treated, IsWord}
+use Rattle.xa_base.specs.declared.white_space.WhiteSpace.{WhiteSpace}
+use Rattle.xa_base.specs.declared.white_space.WhiteSpace.TheVariants.{Preserve, Replace, Collapse}
 use Rattle.per_decode.specs.Private.Visible.{is_visible}
 
 low : (b : ℕ) → is_visible b ≡ true → 33 ≤ b
@@ -37,3 +42,29 @@ pub plain_characters : (least : ℕ) (most : Option ℕ) (bs : List ℕ) → lis
 unfolding in_class
 plain_characters least most bs seen enough few =
     rw (chars-IsAscii bs (ascii bs seen), all_xml bs seen, le-leb least (length bs) enough, few) refl
+
+no_white_space : (b : ℕ) → is_visible b ≡ true → is_white_space b ≡ false
+unfolding is_white_space
+no_white_space b h = let l = low b h in grind (arith, nat_tests)
+
+all_plain : (bs : List ℕ) → list_all is_visible bs ≡ true → All (λ b. is_white_space b ≡ false) bs
+all_plain [] h = All-nil (λ b. is_white_space b ≡ false)
+all_plain (b ∷ bs) h =
+    All-cons (λ b. is_white_space b ≡ false) b bs (no_white_space b (first_so (is_visible b) (list_all is_visible bs) h)) (all_plain bs (second_so (is_visible b) (list_all is_visible bs) h))
+
+unspaced : (b : ℕ) → is_visible b ≡ true → spaced b ≡ b
+unspaced b h = rw (no_white_space b h) refl
+
+all_unspaced : (bs : List ℕ) → list_all is_visible bs ≡ true → map spaced bs ≡ bs
+all_unspaced [] h = refl
+all_unspaced (b ∷ bs) h = λ i. unspaced b (first_so (is_visible b) (list_all is_visible bs) h) i ∷ all_unspaced bs (second_so (is_visible b) (list_all is_visible bs) h) i
+
+-- and no treatment of white space changes them
+pub plain_treated : (how : WhiteSpace) (bs : List ℕ) → list_all is_visible bs ≡ true → treated how bs ≡ bs
+unfolding treated
+plain_treated Preserve bs seen = refl
+plain_treated Replace bs seen = all_unspaced bs seen
+plain_treated Collapse [] seen = ap (join_with_byte 32) words_of-nil
+plain_treated Collapse (b ∷ bs) seen =
+    let word : IsWord (b ∷ bs) = record { has = refl; plain = all_plain (b ∷ bs) seen } in
+    ap (join_with_byte 32) (words_of-join ((b ∷ bs) ∷ []) (All-cons IsWord (b ∷ bs) [] word (All-nil IsWord)))

@@ -4,3 +4,4 @@ pub mod Bodies
 pub mod Pieces
 pub mod Visible
 pub mod Newest
+pub mod Kept

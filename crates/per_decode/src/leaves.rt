@@ -13,16 +13,17 @@ ghost use Rattle.per_decode.specs.Private.Standing.{GoesOn};
 ghost use Rattle.per_decode.specs.Private.Giving.{Gives, spot};
 ghost use Rattle.per_decode.specs.Private.Bodies.{text_told_at};
 ghost use Rattle.per_decode.specs.Private.Newest.{newest};
+ghost use Rattle.per_decode.specs.Private.Kept.{octets_of, HasRoom};
 
 use crate::faults::{Fault, stopped};
-use crate::lengths::{MOST_UNITS, Piece};
+use crate::lengths::Octets;
 use crate::run::{Origin, Run};
 use asn_types::Component;
 use label_tree::Tree;
 use per_fields::Why;
 use simple_types::{Flags, ValueLabel};
 use std::alloc::Global;
-use xa_base::{ROOM, Source, Text, TextError};
+use xa_base::{Source, Text, TextError};
 
 /// A BOOLEAN.
 #[tactic(auto, unfolding(per_fields::specs::Nodes::bool_at))]
@@ -98,6 +99,7 @@ pub(crate) fn enumerated<S: Source, K: Origin>(
 }
 
 /// The text of a node that begins at a bit.
+#[inline(always)]
 pub(crate) fn text_node<S: Source, K: Origin>(
     alloc: Global,
     run: &mut Run<S, K>,
@@ -112,56 +114,37 @@ pub(crate) fn text_node<S: Source, K: Origin>(
         (text_told_at begin) (spot run.old.bits.position run.old.nodes) }
     ensures failed { IsErrOf result Fault.Failed → HasRisen K.faults (S.faults run.new.bits.source.now) }
 {
-    let piece = run.count(0, None, MOST_UNITS, 0)?;
-    let text = match piece {
-        Piece::Last(n) if n as usize <= ROOM => short_text(alloc, run, n, begin)?,
-        _ => long_text(alloc, run, piece, begin)?,
-    };
-    Ok(Tree::leaf(alloc, ValueLabel::Utf8(text)))
-}
-
-// A text of so few octets.
-#[inline(always)]
-fn short_text<S: Source, K: Origin>(
-    alloc: Global,
-    run: &mut Run<S, K>,
-    n: u32,
-    begin: u64,
-) -> Result<Text, Fault>
-{
-    let mut bytes = [0u8; ROOM];
-    run.fill_octets(&mut bytes[..n as usize])?;
-    match Text::of_ascii(bytes, n as usize) {
-        Some(text) => Ok(text),
-        None => told(alloc, run, &bytes[..n as usize], begin),
-    }
-}
-
-#[inline(never)]
-fn long_text<S: Source, K: Origin>(
-    alloc: Global,
-    run: &mut Run<S, K>,
-    piece: Piece,
-    begin: u64,
-) -> Result<Text, Fault>
-{
-    let octets = run.text(alloc, piece)?;
-    told(alloc, run, &octets, begin)
-}
-
-#[inline(never)]
-fn told<S: Source, K: Origin>(
-    alloc: Global,
-    run: &mut Run<S, K>,
-    octets: &[u8],
-    begin: u64,
-) -> Result<Text, Fault>
-{
-    match Text::of(alloc, octets) {
-        Ok(text) => Ok(text),
+    let octets = run.text(alloc)?;
+    match text_of(alloc, octets) {
+        Ok(text) => Ok(Tree::leaf(alloc, ValueLabel::Utf8(text))),
         Err(TextError::NotUtf8) => Err(stopped(begin, Why::NotUtf8, run.position())),
         Err(TextError::Memory) => Err(Fault::Memory),
     }
+}
+
+// The text of these octets. Few ASCII characters stay in place.
+#[inline(always)]
+fn text_of(alloc: Global, octets: Octets) -> Result<Text, TextError>
+    requires { HasRoom octets }
+    ensures ok { IfOk result (λ text. (text ≡ octets_of octets) × IsUtf8 (octets_of octets)) }
+    ensures not_utf8 { IsErrOf result TextError.NotUtf8 → ¬ IsUtf8 (octets_of octets) }
+{
+    match octets {
+        Octets::Few { bytes, count } => match Text::of_ascii(bytes, count) {
+            Some(text) => Ok(text),
+            None => copied_text(alloc, &bytes[..count]),
+        },
+        Octets::Many(octets) => copied_text(alloc, &octets),
+    }
+}
+
+// The text of these octets, which are copied.
+#[inline(never)]
+fn copied_text(alloc: Global, octets: &[u8]) -> Result<Text, TextError>
+    ensures ok { IfOk result (λ text. (text ≡ octets.now) × IsUtf8 octets.now) }
+    ensures not_utf8 { IsErrOf result TextError.NotUtf8 → ¬ IsUtf8 octets.now }
+{
+    Text::of(alloc, octets)
 }
 
 // Whether a component is there.

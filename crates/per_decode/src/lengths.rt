@@ -2,13 +2,14 @@
 ghost use Rattle.std.specs.Prelude.{◌≡◌, ℕ, ◌<◌, ◌≤◌, ◌+◌, ◌-◌, ◌*◌, ◌^◌, ◌++◌, false, IfOk, IfErr, length};
 ghost use Rattle.per_fields.specs.Fields.{is_out};
 ghost use Rattle.per_decode.specs.Private.Pieces.{piece_of, IsPiece};
+ghost use Rattle.per_decode.specs.Private.Kept.{octets_of, HasRoom};
 
 use crate::faults::{Fault, stopped};
 use crate::run::{Origin, Run};
 use per_fields::Why;
 use simple_values::is_at_most;
 use std::alloc::Global;
-use xa_base::Source;
+use xa_base::{ROOM, Source};
 
 /// The octets or items of one unit of a fragment.
 pub(crate) const UNIT: u32 = 16_384;
@@ -23,6 +24,14 @@ pub(crate) enum Piece {
     Last(u32),
     /// A fragment of so many units.
     Units(u32),
+}
+
+/// The octets of a text: up to as many as a text keeps in place, or a list.
+#[derive(Drop)]
+pub(crate) enum Octets {
+    /// The first `count` bytes.
+    Few { bytes: [u8; ROOM], count: usize },
+    Many(Vec<u8>),
 }
 
 /// With what was read before it, this length passes the most, or is the last one and stays below the least.
@@ -202,29 +211,55 @@ impl<'a, S: Source, K: Origin> Run<'a, S, K> {
         self.octet_count_here()
     }
 
+    // So few octets, where reading is aligned. They lie in place.
+    #[inline(always)]
+    fn few_octets(&mut self, n: u32) -> Result<Octets, Fault>
+        requires few { n ≤ 22 }
+        requires in_step { IsInStep self.old.bits.position self.old.bits.taken }
+        requires aligned { self.old.bits.position % 8 ≡ 0 }
+        ensures same_reference { self.new.bits.source.ghost_name ≡ self.old.bits.source.ghost_name }
+        ensures on { OnOk result (GoesOn self.old.bits.position self.new.bits.position self.new.bits.taken) }
+        ensures nodes { self.new.nodes ≡ self.old.nodes }
+        ensures room { IfOk result (λ octets. HasRoom octets) }
+        ensures gives { IsTrue K.told → Gives K.limit K.whole (octets_of) result (spot self.new.bits.position self.new.nodes) self.new.bits.taken
+            (octets_at n) (spot self.old.bits.position self.old.nodes) }
+        ensures failed { IsErrOf result Fault.Failed → HasRisen K.faults (S.faults self.new.bits.source.now) }
+    {
+        let count = n as usize;
+        let mut bytes = [0u8; ROOM];
+        self.fill_octets(&mut bytes[..count])?;
+        Ok(Octets::Few { bytes, count })
+    }
+
     /// The octets of a text, in fragments.
-    pub(crate) fn text(&mut self, alloc: Global, first: Piece) -> Result<Vec<u8>, Fault>
+    #[inline(always)]
+    pub(crate) fn text(&mut self, alloc: Global) -> Result<Octets, Fault>
         requires in_step { IsInStep self.old.bits.position self.old.bits.taken }
         ensures same_reference { self.new.bits.source.ghost_name ≡ self.old.bits.source.ghost_name }
         ensures on { OnOk result (GoesOn self.old.bits.position self.new.bits.position self.new.bits.taken) }
         ensures nodes { self.new.nodes ≡ self.old.nodes }
-        ensures gives { IsTrue K.told → Gives K.limit K.whole (λ octets. octets.items) result (spot self.new.bits.position self.new.nodes) self.new.bits.taken
+        ensures room { IfOk result (λ octets. HasRoom octets) }
+        ensures gives { IsTrue K.told → Gives K.limit K.whole (octets_of) result (spot self.new.bits.position self.new.nodes) self.new.bits.taken
             (counted_at 0 None octets_at) (spot self.old.bits.position self.old.nodes) }
         ensures failed { IsErrOf result Fault.Failed → HasRisen K.faults (S.faults self.new.bits.source.now) }
     {
         let mut text = Vec::new(alloc);
-        let mut piece = first;
+        let mut before = MOST_UNITS;
         'fragments: loop {
+            let total = text.as_slice().len();
+            let piece = self.count(0, None, before, total)?;
             match piece {
                 Piece::Last(n) => {
+                    if total == 0 && n as usize <= ROOM {
+                        return self.few_octets(n);
+                    }
                     let last = self.take_octets(alloc, n)?;
-                    return joined(text, last);
+                    return all_octets(text, last);
                 }
                 Piece::Units(k) => {
                     let octets = self.take_octets(alloc, k * UNIT)?;
                     text = joined(text, octets)?;
-                    let total = text.as_slice().len();
-                    piece = self.count(0, None, k, total)?;
+                    before = k;
                 }
             }
         }
@@ -242,4 +277,16 @@ fn joined(mut text: Vec<u8>, octets: Vec<u8>) -> Result<Vec<u8>, Fault>
     }
     text.extend_from_slice(&octets)?;
     Ok(text)
+}
+
+// All octets of a text, of which these are the last.
+fn all_octets(text: Vec<u8>, last: Vec<u8>) -> Result<Octets, Fault>
+    ensures room { IfOk result (λ octets. HasRoom octets) }
+    ensures ok { IfOk result (λ octets. octets_of octets ≡ text.items ++ last.items) }
+    ensures memory { IfErr result (λ fault. fault ≡ Fault.Memory) }
+{
+    match joined(text, last) {
+        Ok(all) => Ok(Octets::Many(all)),
+        Err(fault) => Err(fault),
+    }
 }

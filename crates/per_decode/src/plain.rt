@@ -24,9 +24,8 @@ fn are_visible(bytes: &[u8]) -> bool
     bytes.iter().all(|byte| is_visible(*byte))
 }
 
-// Whether a text has visible ASCII characters alone and is in no narrower class than they are, within the size and as
-// its white space is treated.
-#[tactic(auto, using(crate::proofs::Visible::plain_characters))]
+// Whether a text has visible ASCII characters alone, and is within the size of a type of any characters (`Class::Any`).
+#[tactic(auto, using(crate::proofs::Visible::plain_characters, crate::proofs::Visible::plain_treated))]
 #[inline(always)]
 fn is_plain_text(label: &TypeLabel, value: &ValueLabel) -> bool
     ensures { IsTrue result → IsTextOf label.now.form label.now.marks value.now }
@@ -39,9 +38,7 @@ fn is_plain_text(label: &TypeLabel, value: &ValueLabel) -> bool
         } => match value {
             ValueLabel::Utf8(text) => {
                 let bytes = text.bytes();
-                are_visible(bytes)
-                    && *min as usize <= bytes.len()
-                    && is_at_most(bytes.len(), *max)
+                are_visible(bytes) && *min as usize <= bytes.len() && is_at_most(bytes.len(), *max)
             }
             _ => false,
         },

@@ -135,12 +135,26 @@ impl<'a, S: Source, K: Origin> Run<'a, S, K> {
         }
     }
 
+    /// Fills the buffer with the next octets, where reading is aligned.
     #[inline(always)]
     pub(crate) fn fill_octets(&mut self, octets: &mut [u8]) -> Result<(), Fault>
+        requires few { length octets.old ≤ 65536 }
+        requires in_step { IsInStep self.old.bits.position self.old.bits.taken }
+        requires aligned { self.old.bits.position % 8 ≡ 0 }
+        ensures same_reference { self.new.bits.source.ghost_name ≡ self.old.bits.source.ghost_name }
+        ensures on { OnOk result (GoesOn self.old.bits.position self.new.bits.position self.new.bits.taken) }
+        ensures nodes { self.new.nodes ≡ self.old.nodes }
+        ensures moved { OnOk result (self.new.bits.position ≡ self.old.bits.position + 8 * length octets.old) }
+        ensures gives { IsTrue K.told → Gives K.limit K.whole (λ done. octets.new) result (spot self.new.bits.position self.new.nodes) self.new.bits.taken
+            (octets_at (length octets.old)) (spot self.old.bits.position self.old.nodes) }
+        ensures failed { IsErrOf result Fault.Failed → HasRisen K.faults (S.faults self.new.bits.source.now) }
     {
         let begin = self.position();
         match self.bits.fill_octets(octets) {
-            Ok(()) => Ok(()),
+            Ok(()) => {
+                see_octets(octets);
+                Ok(())
+            }
             Err(CursorError::Failed) => Err(Fault::Failed),
             Err(CursorError::Short) => Err(Fault::Short { bit: begin }),
             Err(CursorError::TooLong) => Err(Fault::TooLong { bit: begin }),

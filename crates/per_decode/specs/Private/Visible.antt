@@ -1,4 +1,4 @@
--- Characters that no class of texts, no white space and no encoding makes anything of.
+-- Visible ASCII characters, which are XML characters, and which no treatment of white space changes.
 use Rattle.std.specs.Prelude.{ℕ, ◌&&◌, Bool, nat_le}
 
 -- the visible characters of ASCII

@@ -16,7 +16,7 @@ returns-in_err-there-clause-gives g c = λ told.
     let X = input g.K.Origin.limit g.K.Origin.whole in
     let run = c.loop-part.run in
     let i = stands_inside run.bits.position run.bits.taken run.bits.held run.bits.limit g.K.Origin.limit g.K.Origin.whole _ run.limited run.bits.behind run.bits.within (run.here told) in
-    let k = each_fails flag_at c.loop-part.present.items X (spot run.bits.position run.nodes) c.part-item.result _ _ (here_split c.args.parts.now c.loop-part.part-index c.part-item.result c.loop-part-test.true c.part-item.is)
+    let k = each_fails flag_at c.loop-part.present X (spot run.bits.position run.nodes) c.part-item.result _ _ (here_split c.args.parts.now c.loop-part.part-index c.part-item.result c.loop-part-test.true c.part-item.is)
     sits-flag g.K.Origin.limit g.K.Origin.whole c.in_err-there.field-0.0 c.presence_bit.new.run.bits.taken i (c.in_err-there.ensures.gives told) in
     rw (p.1, p.2) (subst (FailsAt g.K.Origin.limit g.K.Origin.whole c.in_err-there.field-0.0 c.presence_bit.new.run.bits.taken) (c.loop-part.invariant.so_far told) k)
 
@@ -27,7 +27,7 @@ returns-in_err-push-clause-gives g c = λ told.
     let old = c.loop-part.run in
     let run = c.presence_bit.new.run in
     let i = stands_inside run.bits.position run.bits.taken run.bits.held run.bits.limit g.K.Origin.limit g.K.Origin.whole _ run.limited run.bits.behind run.bits.within (run.here told) in
-    let k = each_full flag_at c.loop-part.present.items X (spot old.bits.position old.nodes) c.part-item.result _ _ (here_split c.args.parts.now c.loop-part.part-index c.part-item.result c.loop-part-test.true c.part-item.is)
+    let k = each_full flag_at c.loop-part.present X (spot old.bits.position old.nodes) c.part-item.result _ _ (here_split c.args.parts.now c.loop-part.part-index c.part-item.result c.loop-part-test.true c.part-item.is)
     sits-flag g.K.Origin.limit g.K.Origin.whole c.in_ok-there.there (spot run.bits.position run.nodes) run.bits.taken (c.in_ok-there.ensures.gives told) i (omega (arith, c.in_ok-there.ensures.on.1)) in
     rw (p.1, p.2) (subst (FailsAt g.K.Origin.limit g.K.Origin.whole Memory run.bits.taken) (c.loop-part.invariant.so_far told) k)
 
@@ -40,15 +40,15 @@ loop-part-preserved g c =
       on = omega (arith, c.in_ok-there.ensures.on.0, c.loop-part.invariant.on);
       nodes = c.presence_bit.ensures.nodes ∙ c.loop-part.invariant.nodes;
       same = c.presence_bit.ensures.same_reference ∙ c.loop-part.invariant.same;
-      present = rw c.in_ok-push.ensures.items (present_more c.args.parts.now c.loop-part.part-index c.loop-part.present.items c.part-item.result c.in_ok-there.there c.loop-part-test.true c.part-item.is c.loop-part.invariant.present c.in_ok-there.ensures.there);
-      so_far = λ told. rw c.in_ok-push.ensures.items (
-          sym (each_more flag_at c.loop-part.present.items (input g.K.Origin.limit g.K.Origin.whole) (spot old.bits.position old.nodes) c.part-item.result _ _ (here_split c.args.parts.now c.loop-part.part-index c.part-item.result c.loop-part-test.true c.part-item.is)
+      present = rw c.in_ok-push.ensures (present_more c.args.parts.now c.loop-part.part-index c.loop-part.present c.part-item.result c.in_ok-there.there c.loop-part-test.true c.part-item.is c.loop-part.invariant.present c.in_ok-there.ensures.there);
+      so_far = λ told. rw c.in_ok-push.ensures (
+          sym (each_more flag_at c.loop-part.present (input g.K.Origin.limit g.K.Origin.whole) (spot old.bits.position old.nodes) c.part-item.result _ _ (here_split c.args.parts.now c.loop-part.part-index c.part-item.result c.loop-part-test.true c.part-item.is)
           c.in_ok-there.there (spot run.bits.position run.nodes) (c.in_ok-there.ensures.gives told)) ∙ c.loop-part.invariant.so_far told);
     }
 
 pub returns-clause-gives : goal.returns-clause-gives
 returns-clause-gives g c = λ told.
-    sym (c.loop-part.invariant.so_far told) ∙ each_done flag_at c.loop-part.present.items (input g.K.Origin.limit g.K.Origin.whole) (spot c.loop-part.run.bits.position c.loop-part.run.nodes) _ (drop_all c.loop-part.part-index c.args.parts.now c.loop-part-test.false)
+    sym (c.loop-part.invariant.so_far told) ∙ each_done flag_at c.loop-part.present (input g.K.Origin.limit g.K.Origin.whole) (spot c.loop-part.run.bits.position c.loop-part.run.nodes) _ (drop_all c.loop-part.part-index c.args.parts.now c.loop-part-test.false)
 
 pub returns-clause-present : goal.returns-clause-present
-returns-clause-present g c = present_all c.args.parts.now c.loop-part.part-index c.loop-part.present.items c.loop-part-test.false c.loop-part.invariant.present
+returns-clause-present g c = present_all c.args.parts.now c.loop-part.part-index c.loop-part.present c.loop-part-test.false c.loop-part.invariant.present

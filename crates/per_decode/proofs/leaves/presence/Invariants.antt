@@ -13,7 +13,7 @@ invariant-loop-part g l = record {
   on : l.fn.run.bits.position ≤ l.run.bits.position;
   nodes : l.run.nodes ≡ l.fn.run.nodes;
   same : l.run.bits.source.ghost_name ≡ l.fn.run.bits.source.ghost_name;
-  present : Present (take l.part-index l.parts) l.present.items;
-  so_far : IsTrue g.K.Origin.told → with_front l.present.items (each_at flag_at (drop l.part-index l.parts) (input g.K.Origin.limit g.K.Origin.whole) (spot l.run.bits.position l.run.nodes))
+  present : Present (take l.part-index l.parts) l.present;
+  so_far : IsTrue g.K.Origin.told → with_front l.present (each_at flag_at (drop l.part-index l.parts) (input g.K.Origin.limit g.K.Origin.whole) (spot l.run.bits.position l.run.nodes))
       ≡ each_at flag_at l.parts (input g.K.Origin.limit g.K.Origin.whole) (spot l.fn.run.bits.position l.fn.run.nodes);
 }

@@ -110,20 +110,29 @@ ruled-returns-in_err-value-in-Utf8-clause-gives g t c = λ told.
     let i = stands_inside old.bits.position old.bits.taken old.bits.held old.bits.limit g.K.Origin.limit g.K.Origin.whole _ old.limited old.bits.behind old.bits.within (old.here told) in
     rw (p.1, p.2) (text_fails c.args.module.now c.requires.known c.args.depth c.args.node.now c.requires.of c.args.begin (input g.K.Origin.limit g.K.Origin.whole) (spot old.bits.position old.nodes) g.K.Origin.limit g.K.Origin.whole c.in_err-value-in-Utf8.field-0.0 c.text_node.new.run.bits.taken _ _ _ is i (c.in_err-value-in-Utf8.ensures.gives told))
 
-pub ruled-returns-in_err-value-in_default : goal.ruled-returns-in_err-value-in_default
-ruled-returns-in_err-value-in_default g t c =
+pub ruled-returns-in_err-fields-in_default : goal.ruled-returns-in_err-fields-in_default
+ruled-returns-in_err-fields-in_default g t c =
     record {
       same_reference = search rules;
       on = search rules;
+      pushed = search rules;
       count = search rules;
       fits = search rules;
       gives = λ told.
-          let p = err_from_is_err_and c.from_residual-in_err-value-in_default.result c.from_residual-in_err-value-in_default.ensures.1 in
+          let p = err_from_is_err_and c.from_residual-in_err-fields-in_default.result c.from_residual-in_err-fields-in_default.ensures.1 in
           let old = c.args.run.now in
           let i = stands_inside old.bits.position old.bits.taken old.bits.held old.bits.limit g.K.Origin.limit g.K.Origin.whole _ old.limited old.bits.behind old.bits.within (old.here told) in
-          rw (p.1, p.2) (fields_fail c.args.module.now c.requires.known c.args.depth c.args.node.now c.requires.of c.args.begin (input g.K.Origin.limit g.K.Origin.whole) (spot old.bits.position old.nodes) g.K.Origin.limit g.K.Origin.whole c.in_err-value-in_default.field-0.0 c.fields.new.run.bits.taken i (rw c.requires.found at (c.in_err-value-in_default.ensures.gives told)));
+          rw (p.1, p.2) (fields_fail c.args.module.now c.requires.known c.args.depth c.args.node.now c.requires.of c.args.begin (input g.K.Origin.limit g.K.Origin.whole) (spot old.bits.position old.nodes) g.K.Origin.limit g.K.Origin.whole c.in_err-fields-in_default.field-0.0 c.fields.new.run.bits.taken i (rw c.requires.found at (c.in_err-fields-in_default.ensures.gives told)));
       failed = search rules;
     }
+
+pub ruled-returns-in_ok-value-in-Utf8-clause-pushed : goal.ruled-returns-in_ok-value-in-Utf8-clause-pushed
+ruled-returns-in_ok-value-in-Utf8-clause-pushed g t c = pushed-told c.owned.result _ _ _ c.owned.ensures.pushed
+
+pub ruled-returns-in_ok-value-in-Utf8-clause-count : goal.ruled-returns-in_ok-value-in-Utf8-clause-count
+ruled-returns-in_ok-value-in-Utf8-clause-count g t c =
+    let v = c.in_ok-value-in-Utf8.value in
+    own_counts _ _ v (newest c.owned.new.values.items) c.owned.result (rw c.in_ok-value-in-Utf8.ensures.leaf.1 (omega (arith, c.in_ok-value-in-Utf8.ensures.nodes))) (newest-told c.owned.result _ _ v c.owned.ensures.pushed)
 
 pub ruled-returns-in_ok-value-in-Utf8-clause-fits : goal.ruled-returns-in_ok-value-in-Utf8-clause-fits
 ruled-returns-in_ok-value-in-Utf8-clause-fits g t c =
@@ -142,22 +151,8 @@ ruled-returns-in_ok-value-in-Utf8-clause-gives g t c = λ told.
     let read = text_read c.args.module.now c.requires.known c.args.depth c.args.node.now c.requires.of c.args.begin (input g.K.Origin.limit g.K.Origin.whole) (spot old.bits.position old.nodes) _ _ _ is v (spot new.bits.position new.nodes) (c.in_ok-value-in-Utf8.ensures.gives told) in
     body_gives c.args.module.now c.requires.known c.args.depth c.args.node.now c.requires.of c.args.begin (spot old.bits.position old.nodes) v (spot new.bits.position new.nodes) g.K.Origin.limit g.K.Origin.whole new.bits.taken (newest c.owned.new.values.items) c.owned.result read.0 read.1 (omega (arith, c.in_ok-value-in-Utf8.ensures.on.1)) (newest-told c.owned.result _ _ v c.owned.ensures.pushed) c.owned.ensures.ok (rw c.position.ensures at c.owned.ensures.err)
 
-pub ruled-returns-in_ok-value-in_default : goal.ruled-returns-in_ok-value-in_default
-ruled-returns-in_ok-value-in_default g t c =
-    let M = c.args.module.now in
-    let v = c.in_ok-value-in_default.value in
-    record {
-      same_reference = search rules;
-      on = search rules;
-      count = own_counts _ _ _ v c.owned-in_default.result c.in_ok-value-in_default.ensures.count c.owned-in_default.ensures.ok;
-      fits = own_fits M c.args.depth c.args.node.now v c.owned-in_default.result c.requires.depth (subst (λ u. FitKids M c.args.depth u v) c.requires.found c.in_ok-value-in_default.ensures.fits) c.owned-in_default.ensures.ok;
-      gives = λ told.
-          let old = c.args.run.now in
-          let new = c.fields.new.run in
-          body_gives c.args.module.now c.requires.known c.args.depth c.args.node.now c.requires.of c.args.begin (spot old.bits.position old.nodes) v (spot new.bits.position new.nodes) g.K.Origin.limit g.K.Origin.whole new.bits.taken c.owned-in_default.result (subst (λ u. fields_at M c.args.depth u (input g.K.Origin.limit g.K.Origin.whole) (spot old.bits.position old.nodes) ≡ Ok (v, (spot new.bits.position new.nodes))) c.requires.found (c.in_ok-value-in_default.ensures.gives told)) c.in_ok-value-in_default.ensures.text
-          (omega (arith, c.in_ok-value-in_default.ensures.on.1)) c.owned-in_default.ensures.ok (rw c.position-in_default.ensures at c.owned-in_default.ensures.err);
-      failed = search rules;
-    }
+pub ruled-returns-in-Some : goal.ruled-returns-in-Some
+ruled-returns-in-Some g t c = ?
 
 -- FIELDS, by the form of the type
 
@@ -269,16 +264,36 @@ sequence-returns-in_err-kids-clause-gives g t c = λ told.
     let i = stands_inside mid.bits.position mid.bits.taken mid.bits.held mid.bits.limit g.K.Origin.limit g.K.Origin.whole _ mid.limited mid.bits.behind mid.bits.within (mid.here told) in
     rw (p.1, p.2) (components_fail c.args.module.now c.args.depth (label_of c.args.found.now) (kids_of c.args.found.now) c.args.parts.now (input g.K.Origin.limit g.K.Origin.whole) (spot old.bits.position old.nodes) c.in_ok-present.present (spot mid.bits.position mid.nodes) (c.in_ok-present.ensures.gives told) g.K.Origin.limit g.K.Origin.whole c.in_err-kids.field-0.0 c.components.new.run.bits.taken i (rw c.items.ensures at (c.in_err-kids.ensures.gives told)))
 
+pub sequence-returns-in_err-push-clause-gives : goal.sequence-returns-in_err-push-clause-gives
+sequence-returns-in_err-push-clause-gives g t c = λ told.
+    let p = err_from_is_err_and c.from_residual-in_err-push.result c.from_residual-in_err-push.ensures.1 in
+    let old = c.args.run.now in
+    let mid = c.presence.new.run in
+    let new = c.components.new.run in
+    let reads = sequence_reads c.args.module.now c.args.depth (label_of c.args.found.now) (kids_of c.args.found.now) c.args.parts.now (input g.K.Origin.limit g.K.Origin.whole) (spot old.bits.position old.nodes) c.in_ok-present.present (spot mid.bits.position mid.nodes) (c.in_ok-present.ensures.gives told) c.in_ok-kids.kids.items (spot new.bits.position new.nodes) (rw c.items.ensures at (c.in_ok-kids.ensures.gives told)) in
+    rw (p.1, p.2) (omega (arith, ap end_of reads, c.in_ok-kids.ensures.on.1))
+
+pub sequence-returns-clause-pushed : goal.sequence-returns-clause-pushed
+sequence-returns-clause-pushed g t c = pushed-newest _ _ _ c.in_ok-push.ensures.items
+
+pub sequence-returns-clause-count : goal.sequence-returns-clause-count
+sequence-returns-clause-count g t c =
+    rw (newest-pushed _ _ _ c.in_ok-push.ensures.items, c.join.ensures) (omega (arith, c.in_ok-kids.ensures.count, c.in_ok-present.ensures.nodes))
+
+pub sequence-returns-clause-text : goal.sequence-returns-clause-text
+sequence-returns-clause-text g t c =
+    rw (newest-pushed _ _ _ c.in_ok-push.ensures.items, c.join.ensures) refl
+
 pub sequence-returns-clause-fits : goal.sequence-returns-clause-fits
 sequence-returns-clause-fits g t c =
-    rw (newest-pushed _ _ _ c.in_ok-push.ensures.items, c.join.ensures) (fit-sequence c.args.module.now c.args.depth c.args.found.now c.args.parts.now c.in_ok-present.present c.in_ok-kids.values.items c.requires.form (rw c.items.ensures at c.in_ok-kids.ensures.fits))
+    rw (newest-pushed _ _ _ c.in_ok-push.ensures.items, c.join.ensures) (fit-sequence c.args.module.now c.args.depth c.args.found.now c.args.parts.now c.in_ok-present.present c.in_ok-kids.kids.items c.requires.form (rw c.items.ensures at c.in_ok-kids.ensures.fits))
 
 pub sequence-returns-clause-gives : goal.sequence-returns-clause-gives
 sequence-returns-clause-gives g t c = λ told.
     let old = c.args.run.now in
     let mid = c.presence.new.run in
     let new = c.components.new.run in
-    rw (newest-pushed _ _ _ c.in_ok-push.ensures.items, c.join.ensures) (sequence_reads c.args.module.now c.args.depth (label_of c.args.found.now) (kids_of c.args.found.now) c.args.parts.now (input g.K.Origin.limit g.K.Origin.whole) (spot old.bits.position old.nodes) c.in_ok-present.present (spot mid.bits.position mid.nodes) (c.in_ok-present.ensures.gives told) c.in_ok-kids.values.items (spot new.bits.position new.nodes) (rw c.items.ensures at (c.in_ok-kids.ensures.gives told)))
+    rw (newest-pushed _ _ _ c.in_ok-push.ensures.items, c.join.ensures) (sequence_reads c.args.module.now c.args.depth (label_of c.args.found.now) (kids_of c.args.found.now) c.args.parts.now (input g.K.Origin.limit g.K.Origin.whole) (spot old.bits.position old.nodes) c.in_ok-present.present (spot mid.bits.position mid.nodes) (c.in_ok-present.ensures.gives told) c.in_ok-kids.kids.items (spot new.bits.position new.nodes) (rw c.items.ensures at (c.in_ok-kids.ensures.gives told)))
 
 -- ITS COMPONENTS
 
@@ -472,6 +487,17 @@ choice-returns-in_err-push-clause-gives g t c = λ told.
     let reads = choice_reads c.args.module.now c.args.depth (label_of c.args.found.now) (kids_of c.args.found.now) c.args.parts.now (input g.K.Origin.limit g.K.Origin.whole) (spot old.bits.position old.nodes) i (spot mid.bits.position mid.nodes) there.0 kid (c.in_ok-index.ensures.gives told) is_part c.kid-kid.ensures (newest c.node.new.values.items) (spot new.bits.position new.nodes) (subst (λ n. node_read c.args.module.now n kid (input g.K.Origin.limit g.K.Origin.whole) (spot mid.bits.position mid.nodes) ≡ Ok ((newest c.node.new.values.items), (spot new.bits.position new.nodes))) k.inner_is (c.in_ok-node.ensures.gives told)) in
     rw (p.1, p.2) (omega (arith, ap end_of reads, c.in_ok-node.ensures.on.1))
 
+pub choice-returns-clause-pushed : goal.choice-returns-clause-pushed
+choice-returns-clause-pushed g t c = pushed-newest _ _ _ c.in_ok-push.ensures.items
+
+pub choice-returns-clause-count : goal.choice-returns-clause-count
+choice-returns-clause-count g t c =
+    rw (newest-pushed _ _ _ c.in_ok-push.ensures.items, c.join.ensures, c.in_ok-node.ensures.pushed, c.with_room-kids.ensures) (omega (arith, c.in_ok-node.ensures.count, c.in_ok-index.ensures.nodes))
+
+pub choice-returns-clause-text : goal.choice-returns-clause-text
+choice-returns-clause-text g t c =
+    rw (newest-pushed _ _ _ c.in_ok-push.ensures.items, c.join.ensures) refl
+
 pub choice-returns-clause-fits : goal.choice-returns-clause-fits
 choice-returns-clause-fits g t c =
     let u = c.args.found.now in
@@ -537,6 +563,34 @@ sequence_of-returns-in_err-items-clause-gives g t c = λ told.
     rw (p.1, p.2) (subst (λ o. FailsAt g.K.Origin.limit g.K.Origin.whole c.in_err-items.field-0.0 new.bits.taken (items_at (kid_at c.args.module.now c.args.depth) c.args.min c.args.max o (input g.K.Origin.limit g.K.Origin.whole) (spot old.bits.position old.nodes))) (sym is_place)
     (list_fails c.args.module.now c.args.depth place c.args.min c.args.max (input g.K.Origin.limit g.K.Origin.whole) (spot old.bits.position old.nodes) g.K.Origin.limit g.K.Origin.whole c.in_err-items.field-0.0 new.bits.taken j h))
 
+pub sequence_of-returns-in_err-push-clause-gives : goal.sequence_of-returns-in_err-push-clause-gives
+sequence_of-returns-in_err-push-clause-gives g t c = λ told.
+    let p = err_from_is_err_and c.from_residual-in_err-push.result c.from_residual-in_err-push.ensures.1 in
+    let u = c.args.found.now in
+    let part = c.args.part.now in
+    let item = c.kid-item.result.now in
+    let is_part : slice_get (parts_of (label_of u).form) 0 ≡ Some part = ap (λ f. slice_get (parts_of f) 0) c.requires.form in
+    let k = kid_here c.args.module.now c.requires.known c.args.found.now c.requires.of c.args.depth 0 c.below-inner.result part item c.role.result (subst HasFields (sym c.requires.form) tt) c.requires.depth is_part c.kid-item.ensures (rw c.label.ensures at c.role.ensures) c.below-inner.ensures.same in
+    let place = place_of (label_of u) 0 part item in
+    let is_place : place_at (label_of u) 0 (Some part) (slice_get (kids_of u) 0) ≡ Some place = ap (λ o. place_at (label_of u) 0 (Some part) o) c.kid-item.ensures in
+    let old = c.args.run.now in
+    let new = c.list.new.run in
+    let h = subst (λ n. (list_at c.args.min c.args.max (λ m. many_at c.args.module.now n m item) (input g.K.Origin.limit g.K.Origin.whole) (spot old.bits.position old.nodes)) ≡ Ok (c.in_ok-items.items.items, (spot new.bits.position new.nodes))) k.inner_is (c.in_ok-items.ensures.gives told) in
+    let e = list_reads c.args.module.now c.args.depth place c.args.min c.args.max (input g.K.Origin.limit g.K.Origin.whole) (spot old.bits.position old.nodes) c.in_ok-items.items.items (spot new.bits.position new.nodes) h in
+    let reads = subst (λ o. (items_at (kid_at c.args.module.now c.args.depth) c.args.min c.args.max o (input g.K.Origin.limit g.K.Origin.whole) (spot old.bits.position old.nodes)) ≡ Ok (node value.SequenceOf (roses_of c.in_ok-items.items.items), (spot new.bits.position new.nodes))) (sym is_place) e in
+    rw (p.1, p.2) (omega (arith, ap end_of reads, c.in_ok-items.ensures.on.1))
+
+pub sequence_of-returns-clause-pushed : goal.sequence_of-returns-clause-pushed
+sequence_of-returns-clause-pushed g t c = pushed-newest _ _ _ c.in_ok-push.ensures.items
+
+pub sequence_of-returns-clause-count : goal.sequence_of-returns-clause-count
+sequence_of-returns-clause-count g t c =
+    rw (newest-pushed _ _ _ c.in_ok-push.ensures.items, c.join.ensures) (omega (arith, c.in_ok-items.ensures.count))
+
+pub sequence_of-returns-clause-text : goal.sequence_of-returns-clause-text
+sequence_of-returns-clause-text g t c =
+    rw (newest-pushed _ _ _ c.in_ok-push.ensures.items, c.join.ensures) refl
+
 pub sequence_of-returns-clause-fits : goal.sequence_of-returns-clause-fits
 sequence_of-returns-clause-fits g t c =
     let u = c.args.found.now in
@@ -548,7 +602,7 @@ sequence_of-returns-clause-fits g t c =
     let is_place : place_at (label_of u) 0 (Some part) (slice_get (kids_of u) 0) ≡ Some place = ap (λ o. place_at (label_of u) 0 (Some part) o) c.kid-item.ensures in
     let old = c.args.run.now in
     let new = c.list.new.run in
-    rw (newest-pushed _ _ _ c.in_ok-push.ensures.items, c.join.ensures) (fit-list c.args.module.now c.args.depth c.args.found.now part c.args.min c.args.max item c.in_ok-items.values.items c.requires.form c.kid-item.ensures c.in_ok-items.ensures.size.0 c.in_ok-items.ensures.size.1 (subst (λ n. FitAll c.args.module.now n item c.in_ok-items.values.items) k.inner_is c.in_ok-items.ensures.fits))
+    rw (newest-pushed _ _ _ c.in_ok-push.ensures.items, c.join.ensures) (fit-list c.args.module.now c.args.depth c.args.found.now part c.args.min c.args.max item c.in_ok-items.items.items c.requires.form c.kid-item.ensures c.in_ok-items.ensures.size.0 c.in_ok-items.ensures.size.1 (subst (λ n. FitAll c.args.module.now n item c.in_ok-items.items.items) k.inner_is c.in_ok-items.ensures.fits))
 
 pub sequence_of-returns-clause-gives : goal.sequence_of-returns-clause-gives
 sequence_of-returns-clause-gives g t c = λ told.
@@ -561,9 +615,9 @@ sequence_of-returns-clause-gives g t c = λ told.
     let is_place : place_at (label_of u) 0 (Some part) (slice_get (kids_of u) 0) ≡ Some place = ap (λ o. place_at (label_of u) 0 (Some part) o) c.kid-item.ensures in
     let old = c.args.run.now in
     let new = c.list.new.run in
-    let h = subst (λ n. (list_at c.args.min c.args.max (λ m. many_at c.args.module.now n m item) (input g.K.Origin.limit g.K.Origin.whole) (spot old.bits.position old.nodes)) ≡ Ok (c.in_ok-items.values.items, (spot new.bits.position new.nodes))) k.inner_is (c.in_ok-items.ensures.gives told) in
-    let e = list_reads c.args.module.now c.args.depth place c.args.min c.args.max (input g.K.Origin.limit g.K.Origin.whole) (spot old.bits.position old.nodes) c.in_ok-items.values.items (spot new.bits.position new.nodes) h in
-    rw (newest-pushed _ _ _ c.in_ok-push.ensures.items, c.join.ensures) (subst (λ o. (items_at (kid_at c.args.module.now c.args.depth) c.args.min c.args.max o (input g.K.Origin.limit g.K.Origin.whole) (spot old.bits.position old.nodes)) ≡ Ok (node value.SequenceOf (roses_of c.in_ok-items.values.items), (spot new.bits.position new.nodes))) (sym is_place) e)
+    let h = subst (λ n. (list_at c.args.min c.args.max (λ m. many_at c.args.module.now n m item) (input g.K.Origin.limit g.K.Origin.whole) (spot old.bits.position old.nodes)) ≡ Ok (c.in_ok-items.items.items, (spot new.bits.position new.nodes))) k.inner_is (c.in_ok-items.ensures.gives told) in
+    let e = list_reads c.args.module.now c.args.depth place c.args.min c.args.max (input g.K.Origin.limit g.K.Origin.whole) (spot old.bits.position old.nodes) c.in_ok-items.items.items (spot new.bits.position new.nodes) h in
+    rw (newest-pushed _ _ _ c.in_ok-push.ensures.items, c.join.ensures) (subst (λ o. (items_at (kid_at c.args.module.now c.args.depth) c.args.min c.args.max o (input g.K.Origin.limit g.K.Origin.whole) (spot old.bits.position old.nodes)) ≡ Ok (node value.SequenceOf (roses_of c.in_ok-items.items.items), (spot new.bits.position new.nodes))) (sym is_place) e)
 
 -- THE ITEMS, by their count
 

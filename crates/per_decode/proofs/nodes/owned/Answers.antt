@@ -12,6 +12,3 @@ is_plain-requires c =
     let is = c.requires.known.0 in
     subst (AreWellFormed m) (sym c.requires.found) (follow-well_formed m is 4 t (of-well_formed m is t c.requires.of))
 
-pub returns-then-is_plain-clause-ok : goal.returns-then-is_plain-clause-ok
-returns-then-is_plain-clause-ok c =
-    (refl, subst (λ u. OwnAt c.args.module.now (label_of u) u c.args.value) c.requires.found (c.is_plain.ensures c.if-is_plain.true))
