@@ -189,13 +189,31 @@ fn ruled<S: Source, K: Origin>(
     match &found.label().form {
         Form::Utf8 { .. } => {
             let value = text_node(alloc, run, begin)?;
-            owned(alloc, module, node, found, value, begin, run.position(), values)
+            owned(
+                alloc,
+                module,
+                node,
+                found,
+                value,
+                begin,
+                run.position(),
+                values,
+            )
         }
         _ => {
             let mut read = with_room(alloc, 1);
             fields(alloc, module, run, depth, found, &mut read)?;
             match read.pop() {
-                Some(value) => owned(alloc, module, node, found, value, begin, run.position(), values),
+                Some(value) => owned(
+                    alloc,
+                    module,
+                    node,
+                    found,
+                    value,
+                    begin,
+                    run.position(),
+                    values,
+                ),
                 None => unreachable!(),
             }
         }
@@ -232,7 +250,15 @@ fn fields<S: Source, K: Origin>(
         Form::Int { lo, hi } => integer(alloc, run, *lo, *hi, values),
         Form::Numbers { numbers } => enumerated(alloc, run, numbers.items().len(), values),
         Form::Words { words, .. } => enumerated(alloc, run, words.items().len(), values),
-        Form::Sequence { parts } => sequence(alloc, module, run, depth, found, parts.items(), values),
+        Form::Sequence { parts } => sequence(
+            alloc,
+            module,
+            run,
+            depth,
+            found,
+            parts.items(),
+            values,
+        ),
         Form::Choice { parts } => choice(alloc, module, run, depth, found, parts.items(), values),
         Form::SequenceOf { part, min, max } => {
             sequence_of(alloc, module, run, depth, found, part, *min, *max, values)

@@ -14,8 +14,7 @@ use Rattle.asn_types.specs.Values.{place_of, place_at, below, FitsAt, OwnAt}
 use Rattle.asn_types.proofs.Chaining.{resolved-of-module, well-formed}
 use Rattle.asn_types.proofs.Counting.{replicate-drop, fits-from_kids}
 use Rattle.per_fields.specs.Fields.{fragments_at, counted_at, list_at}
-use Rattle.per_fields.specs.Nodes.{node_read, items_at}
-use Rattle.per_decode.specs.declared.faults.Fault.TheVariants.{Memory}
+use Rattle.per_fields.specs.Nodes.{node_read, items_at, is_no_text}
 use Rattle.per_decode.specs.Private.Giving.{input, spot, end_of, FailsAt, Gives}
 use Rattle.per_decode.specs.Private.Bodies.{HasFields, IsNoText, fields_at, kid_at, node_of, many_at, FitAll}
 use Rattle.per_decode.proofs.Bodies.{node-deep, node-many, node-goes, fields_fail, text_fails, text_read, body_gives, body_plain}
@@ -25,7 +24,7 @@ use Rattle.per_decode.proofs.Forms.{shows_as, fields-bool, fields-int, fields-nu
 use Rattle.per_decode.proofs.Lists.{steady-items, list-none, list-large, count_fails, count_told, list_fails, list_reads}
 use Rattle.per_decode.proofs.Loop.{with_front, each_more, each_fails, each_done, through_none, through_skip, through_more, through_fails, through_end, through_fit}
 use Rattle.per_decode.specs.Private.Newest.{newest}
-use Rattle.per_decode.proofs.Newest.{newest-push, newest-pushed, newest-told, pushed-newest, pushed-told, pushed_full}
+use Rattle.per_decode.proofs.Newest.{newest-pushed, newest-told, pushed-newest, pushed-told}
 use Rattle.per_decode.proofs.Parts.{kids-parts, bounds_ordered, numbers_counted, words_counted, components_few, alternatives_counted, sizes_ordered, got, got_split, flag_split, copies-none, part_there, kid_here}
 use Rattle.per_decode.proofs.Presence.{present-length, places_there}
 use Rattle.per_decode.proofs.Standing.{stands_inside}
@@ -152,7 +151,28 @@ ruled-returns-in_ok-value-in-Utf8-clause-gives g t c = λ told.
     body_gives c.args.module.now c.requires.known c.args.depth c.args.node.now c.requires.of c.args.begin (spot old.bits.position old.nodes) v (spot new.bits.position new.nodes) g.K.Origin.limit g.K.Origin.whole new.bits.taken (newest c.owned.new.values.items) c.owned.result read.0 read.1 (omega (arith, c.in_ok-value-in-Utf8.ensures.on.1)) (newest-told c.owned.result _ _ v c.owned.ensures.pushed) c.owned.ensures.ok (rw c.position.ensures at c.owned.ensures.err)
 
 pub ruled-returns-in-Some : goal.ruled-returns-in-Some
-ruled-returns-in-Some g t c = ?
+ruled-returns-in-Some g t c =
+    let M = c.args.module.now in
+    let v = c.in-Some.value in
+    let w = newest c.owned-in-Some.new.values.items in
+    let is : newest c.fields.new.values.items ≡ v = newest-pushed _ _ _ c.in-Some.ensures.items in
+    let same = newest-told c.owned-in-Some.result _ _ v c.owned-in-Some.ensures.pushed in
+    record {
+      same_reference = search rules;
+      on = search rules;
+      pushed = pushed-told c.owned-in-Some.result _ _ v c.owned-in-Some.ensures.pushed;
+      count = own_counts _ _ v w c.owned-in-Some.result (rw is at c.in_ok-fields-in_default.ensures.count) same;
+      fits = own_fits M c.args.depth c.args.node.now v w c.owned-in-Some.result c.requires.depth (subst (FitKids M c.args.depth (resolve M c.args.node.now)) is (subst (λ u. FitKids M c.args.depth u (newest c.fields.new.values.items)) c.requires.found c.in_ok-fields-in_default.ensures.fits)) same c.owned-in-Some.ensures.ok;
+      gives = λ told.
+          let old = c.args.run.now in
+          let new = c.fields.new.run in
+          let read = subst (λ x. fields_at M c.args.depth c.args.found.now (input g.K.Origin.limit g.K.Origin.whole) (spot old.bits.position old.nodes) ≡ Ok (x, spot new.bits.position new.nodes)) is (c.in_ok-fields-in_default.ensures.gives told) in
+          body_gives M c.requires.known c.args.depth c.args.node.now c.requires.of c.args.begin (spot old.bits.position old.nodes) v (spot new.bits.position new.nodes) g.K.Origin.limit g.K.Origin.whole new.bits.taken w c.owned-in-Some.result
+          (subst (λ u. fields_at M c.args.depth u (input g.K.Origin.limit g.K.Origin.whole) (spot old.bits.position old.nodes) ≡ Ok (v, spot new.bits.position new.nodes)) c.requires.found read)
+          (subst (λ (x : Rose ValueLabel). is_no_text (label_of x) ≡ false) is c.in_ok-fields-in_default.ensures.text)
+          (omega (arith, c.in_ok-fields-in_default.ensures.on.1)) same c.owned-in-Some.ensures.ok (rw c.position-in-Some.ensures at c.owned-in-Some.ensures.err);
+      failed = search rules;
+    }
 
 -- FIELDS, by the form of the type
 
