@@ -1,14 +1,10 @@
 -- The value that was read onto a list.
-use Rattle.std.proofs.Common.{◌≡◌, ℕ, ◌+◌, ◌*◌, ◌≤◌, false, List, [], ◌∷◌, ◌++◌, refl, sym, ap, ◌∙◌, arith, Result, Ok, Err}
+use Rattle.std.proofs.Common.{◌≡◌, false, List, [], ◌∷◌, ◌++◌, refl, sym, ap, ◌∙◌, Result, Ok, Err}
 use Rattle.std.specs.Prelude.{IfOk}
 use Rattle.label_tree.specs.Rose.{Rose, node, none}
 use Rattle.simple_types.specs.declared.labels.ValueLabel.{ValueLabel}
 use Rattle.simple_types.specs.declared.labels.ValueLabel.TheVariants as value
-use Rattle.per_fields.specs.declared.stops.Spot.{Spot}
-use Rattle.per_fields.specs.declared.stops.Stop.{Stop}
 use Rattle.per_decode.specs.declared.faults.Fault.{Fault}
-use Rattle.per_decode.specs.declared.faults.Fault.TheVariants.{Memory}
-use Rattle.per_decode.specs.Private.Giving.{end_of, FailsAt}
 use Rattle.per_decode.specs.Private.Newest.{last_of, newest}
 
 last-push : (u : Rose ValueLabel) (vs : List (Rose ValueLabel)) (v : Rose ValueLabel) → last_of u (vs ++ v ∷ []) ≡ v
@@ -32,7 +28,3 @@ newest-told (Err f) vs old v e = tt
 pub pushed-told : {A : Type 0} (answer : Result A Fault) (vs old : List (Rose ValueLabel)) (v : Rose ValueLabel) → IfOk answer (λ _. vs ≡ old ++ v ∷ []) → IfOk answer (λ _. vs ≡ old ++ newest vs ∷ [])
 pushed-told (Ok x) vs old v e = pushed-newest vs old v e
 pushed-told (Err f) vs old v e = tt
-
--- memory may be missing for a value that was read
-pub pushed_full : {B : Type 0} (limit : ℕ) (whole : List ℕ) (taken : ℕ) (read : Result (B × Spot) Stop) (x : B) (new : Spot) → read ≡ Ok (x, new) → 8 * taken ≤ new.at + 7 → FailsAt limit whole Memory taken read
-pushed_full limit whole taken read x new e step = omega (arith, ap end_of e, step)
