@@ -126,21 +126,21 @@ module _ (M : List Assignment) (known : IsKnown M) (depth : ℕ) (t : Rose TypeL
           by false e = omega (arith, ap end_of e)
 
   -- what the rules say of a value, where octets were taken up to its end
-  pub body_gives : (begin : ℕ) (s : Spot) (v : Rose ValueLabel) (r : Spot) (limit : ℕ) (whole : List ℕ) (taken : ℕ) (answer : Result (Rose ValueLabel) Fault)
+  pub body_gives : {A : Type 0} (begin : ℕ) (s : Spot) (v : Rose ValueLabel) (r : Spot) (limit : ℕ) (whole : List ℕ) (taken : ℕ) (w : Rose ValueLabel) (answer : Result A Fault)
       → fields_at M depth (resolve M t) (input limit whole) s ≡ Ok (v, r) → is_no_text (label_of v) ≡ false → 8 * taken ≤ r.at + 7
-      → IfOk answer (λ w. (w ≡ v) × Own M t v)
+      → IfOk answer (λ _. w ≡ v) → IfOk answer (λ _. Own M t v)
       → IfErr answer (λ e. (e ≡ fault.Memory) ⊎ ((e ≡ fault.Stopped (stop_at begin why.NotAValue r.at)) × (Own M t v → ⊥)))
-      → Gives limit whole (λ x. x) answer r taken (body_at M depth begin (resolve M t)) s
-  body_gives begin s v r limit whole taken (Ok w) read text step ok err = body-own begin (input limit whole) s v r read text ok.1 ∙ ap (λ w. Ok (w, r)) (sym ok.0)
-  body_gives begin s v r limit whole taken (Err e) read text step ok err = by err
+      → Gives limit whole (λ _. w) answer r taken (body_at M depth begin (resolve M t)) s
+  body_gives begin s v r limit whole taken w (Ok x) read text step is own err = body-own begin (input limit whole) s v r read text own ∙ ap (λ w. Ok (w, r)) (sym is)
+  body_gives begin s v r limit whole taken w (Err e) read text step is own err = by err
     where
       by : (e ≡ fault.Memory) ⊎ ((e ≡ fault.Stopped (stop_at begin why.NotAValue r.at)) × (Own M t v → ⊥)) → FailsAt limit whole e taken (body_at M depth begin (resolve M t) (input limit whole) s)
       by (inl m) = subst (λ f. FailsAt limit whole f taken (body_at M depth begin (resolve M t) (input limit whole) s)) (sym m) (omega (arith, body-end begin (input limit whole) s v r read text, step))
       by (inr n) = subst (λ f. FailsAt limit whole f taken (body_at M depth begin (resolve M t) (input limit whole) s)) (sym n.0) (body-not begin (input limit whole) s v r read text n.1, step, refl)
 
   -- where every value keeps the rules, the fields are all
-  pub body_plain : (begin : ℕ) (s : Spot) (r : Spot) (limit : ℕ) (whole : List ℕ) (taken : ℕ) (answer : Result (Rose ValueLabel) Fault)
-      → s.at ≤ length (input limit whole) → ((v : Rose ValueLabel) → Own M t v) → IfOk answer (λ v. is_no_text (label_of v) ≡ false)
-      → Gives limit whole (λ x. x) answer r taken (fields_at M depth (resolve M t)) s → Gives limit whole (λ x. x) answer r taken (body_at M depth begin (resolve M t)) s
-  body_plain begin s r limit whole taken (Ok v) inside own text read = body-own begin (input limit whole) s v r read text (own v)
-  body_plain begin s r limit whole taken (Err e) inside own text fails = fields_fail begin (input limit whole) s limit whole e taken inside fails
+  pub body_plain : {A : Type 0} (begin : ℕ) (s : Spot) (r : Spot) (limit : ℕ) (whole : List ℕ) (taken : ℕ) (w : Rose ValueLabel) (answer : Result A Fault)
+      → s.at ≤ length (input limit whole) → ((v : Rose ValueLabel) → Own M t v) → IfOk answer (λ _. is_no_text (label_of w) ≡ false)
+      → Gives limit whole (λ _. w) answer r taken (fields_at M depth (resolve M t)) s → Gives limit whole (λ _. w) answer r taken (body_at M depth begin (resolve M t)) s
+  body_plain begin s r limit whole taken w (Ok x) inside own text read = body-own begin (input limit whole) s w r read text (own w)
+  body_plain begin s r limit whole taken w (Err e) inside own text fails = fields_fail begin (input limit whole) s limit whole e taken inside fails

@@ -102,13 +102,13 @@ module _ (M : List Assignment) (depth : ℕ) where
         (all-each p vs h)
 
   -- A VALUE THAT KEEPS THE RULES OF ITS NODE, with the kids that it had
-  pub own_fits : (t : Rose TypeLabel) (v : Rose ValueLabel) (answer : Result (Rose ValueLabel) Fault) → depth ≤ 64 → FitKids M depth (resolve M t) v → IfOk answer (λ w. (w ≡ v) × Own M t v) → IfOk answer (λ w. FitsAt M depth t w)
-  own_fits t v (Ok w) deep kids h = subst (FitsAt M depth t) (sym h.0) (fits-from_kids M depth t v deep kids h.1)
-  own_fits t v (Err e) deep kids h = tt
+  pub own_fits : {A : Type 0} (t : Rose TypeLabel) (v w : Rose ValueLabel) (answer : Result A Fault) → depth ≤ 64 → FitKids M depth (resolve M t) v → IfOk answer (λ _. w ≡ v) → IfOk answer (λ _. Own M t v) → IfOk answer (λ _. FitsAt M depth t w)
+  own_fits t v w (Ok x) deep kids is own = subst (FitsAt M depth t) (sym is) (fits-from_kids M depth t v deep kids own)
+  own_fits t v w (Err e) deep kids is own = tt
 
-pub own_counts : (O : Type 0) (a b : ℕ) (v : Rose ValueLabel) (answer : Result (Rose ValueLabel) Fault) → a + 1 ≡ b + node_count v → IfOk answer (λ w. (w ≡ v) × O) → IfOk answer (λ w. a + 1 ≡ b + node_count w)
-own_counts O a b v (Ok w) e h = subst (λ u. a + 1 ≡ b + node_count u) (sym h.0) e
-own_counts O a b v (Err f) e h = tt
+pub own_counts : {A : Type 0} (a b : ℕ) (v w : Rose ValueLabel) (answer : Result A Fault) → a + 1 ≡ b + node_count v → IfOk answer (λ _. w ≡ v) → IfOk answer (λ _. a + 1 ≡ b + node_count w)
+own_counts a b v w (Ok x) e is = subst (λ u. a + 1 ≡ b + node_count u) (sym is) e
+own_counts a b v w (Err f) e is = tt
 
 -- A VALUE THAT FITS HAS THE KIDS THAT ITS LABELS ALLOW
 same_some : {A : Type 0} (a b : A) → Some a ≡ Some b → a ≡ b

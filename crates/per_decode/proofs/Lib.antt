@@ -18,3 +18,4 @@ pub mod Parts
 pub mod Forms
 pub mod Lists
 pub mod Visible
+pub mod Newest

@@ -131,14 +131,6 @@ module _ (M : List Assignment) (depth : ℕ) (l : TypeLabel) (parts : List Compo
         let k = each_fails (kid_at M depth) vs X s (place_of l i part kid) h.ps n.0 n.1 one limit whole e taken inside fails in
         subst (λ o. FailsAt limit whole e taken (kids_read M depth o X began)) (sym h.all) (subst (FailsAt limit whole e taken) (h.so_far t) k)
 
-    pub through_full : drop i flags ≡ true ∷ drop (i + 1) flags → ((p : ComponentPlace) → SteadyReader (kid_at M depth p)) → told → (limit : ℕ) (whole : List ℕ) (v : Rose ValueLabel) (r : Spot) (taken : ℕ)
-        → kid_at M depth (place_of l i part kid) X s ≡ Ok (v, r) → r.at ≤ length X → 8 * taken ≤ r.at + 7 → Through i vs s
-        → FailsAt limit whole fault.Memory taken (kids_read M depth (present_from l 0 parts ts flags) X began)
-    through_full is_flag one t limit whole v r taken gives inside step h =
-        let n = next_place is_flag h in
-        let k = each_full (kid_at M depth) vs X s (place_of l i part kid) h.ps n.0 n.1 one limit whole v r taken gives inside step in
-        subst (λ o. FailsAt limit whole fault.Memory taken (kids_read M depth o X began)) (sym h.all) (subst (FailsAt limit whole fault.Memory taken) (h.so_far t) k)
-
   -- no part is left
   module _ (i : ℕ) (vs : List (Rose ValueLabel)) (s : Spot) (end : drop i parts ≡ []) (h : Through i vs s) where
     no_place : h.ps ≡ []

@@ -15,6 +15,7 @@ use crate::decoded::Decoded;
 use crate::errors::DecodeError;
 use crate::faults::{Fault, stopped};
 use crate::nodes::node;
+use crate::room::with_room;
 use crate::run::{Origin, Run};
 use asn_types::{Module, TypeLabel};
 use bit_cursor::BitSource;
@@ -66,9 +67,13 @@ fn complete<S: Source, K: Origin>(
         (complete_at module.now body.now) (spot run.old.bits.position run.old.nodes) }
     ensures failed { IsErrOf result Fault.Failed → HasRisen K.faults (S.faults run.new.bits.source.now) }
 {
-    let value = node(alloc, module, run, 1, body)?;
+    let mut values = with_room(alloc, 1);
+    node(alloc, module, run, 1, body, &mut values)?;
     last(run)?;
-    Ok((value, run.position() / 8))
+    match values.pop() {
+        Some(value) => Ok((value, run.position() / 8)),
+        None => unreachable!(),
+    }
 }
 
 // Decoding from what a source has left: the value, and how many octets were taken.

@@ -1,5 +1,5 @@
 //! The fields of nodes without kids.
-ghost use Rattle.std.specs.Prelude.{◌≡◌, ℕ, ◌<◌, ◌≤◌, ◌+◌, ◌-◌, ◌*◌, ◌^◌, ℤ, Bool, true, false, List, IsUtf8, IfOk, OnOk, IsErrOf, IsTrue};
+ghost use Rattle.std.specs.Prelude.{◌≡◌, ℕ, [], ◌∷◌, ◌++◌, ◌<◌, ◌≤◌, ◌+◌, ◌-◌, ◌*◌, ◌^◌, ℤ, Bool, true, false, List, IsUtf8, IfOk, OnOk, IsErrOf, IsTrue};
 ghost use Rattle.label_tree.specs.Rose.{node, none};
 ghost use Rattle.bit_cursor.specs.Cursors.{IsInStep};
 ghost use Rattle.xa_base.specs.Faults.{HasRisen};
@@ -12,6 +12,7 @@ ghost use Rattle.per_fields.specs.Nodes.{flag_at, bool_at, int_at, enum_at};
 ghost use Rattle.per_decode.specs.Private.Standing.{GoesOn};
 ghost use Rattle.per_decode.specs.Private.Giving.{Gives, spot};
 ghost use Rattle.per_decode.specs.Private.Bodies.{text_told_at};
+ghost use Rattle.per_decode.specs.Private.Newest.{newest};
 ghost use Rattle.per_decode.specs.Private.Kept.{octets_of, HasRoom};
 
 use crate::faults::{Fault, stopped};
@@ -29,19 +30,22 @@ use xa_base::{Source, Text, TextError};
 pub(crate) fn boolean<S: Source, K: Origin>(
     alloc: Global,
     run: &mut Run<S, K>,
-) -> Result<Tree<ValueLabel>, Fault>
+    values: &mut Vec<Tree<ValueLabel>>,
+) -> Result<(), Fault>
     requires in_step { IsInStep run.old.bits.position run.old.bits.taken }
     ensures same_reference { run.new.bits.source.ghost_name ≡ run.old.bits.source.ghost_name }
     ensures on { OnOk result (GoesOn run.old.bits.position run.new.bits.position run.new.bits.taken) }
     ensures nodes { run.new.nodes ≡ run.old.nodes }
-    ensures leaf { IfOk result (λ v. (b : Bool) × (v ≡ node (value.Bool b) none)) }
-    ensures gives { IsTrue K.told → Gives K.limit K.whole (λ x. x) result (spot run.new.bits.position run.new.nodes) run.new.bits.taken
+    ensures pushed { OnOk result (values.new.items ≡ values.old.items ++ newest values.new.items ∷ []) }
+    ensures leaf { OnOk result ((b : Bool) × (newest values.new.items ≡ node (value.Bool b) none)) }
+    ensures gives { IsTrue K.told → Gives K.limit K.whole (λ _. newest values.new.items) result (spot run.new.bits.position run.new.nodes) run.new.bits.taken
         (bool_at) (spot run.old.bits.position run.old.nodes) }
     ensures failed { IsErrOf result Fault.Failed → HasRisen K.faults (S.faults run.new.bits.source.now) }
 {
     let begin = run.position();
     let bit = run.take_bits(begin, 1)?;
-    Ok(Tree::leaf(alloc, ValueLabel::Bool(bit == 1)))
+    values.push(Tree::leaf(alloc, ValueLabel::Bool(bit == 1)))?;
+    Ok(())
 }
 
 /// An INTEGER.
@@ -51,19 +55,22 @@ pub(crate) fn integer<S: Source, K: Origin>(
     run: &mut Run<S, K>,
     lo: Option<i128>,
     hi: Option<i128>,
-) -> Result<Tree<ValueLabel>, Fault>
+    values: &mut Vec<Tree<ValueLabel>>,
+) -> Result<(), Fault>
     requires bounds { AreBounds lo hi }
     requires in_step { IsInStep run.old.bits.position run.old.bits.taken }
     ensures same_reference { run.new.bits.source.ghost_name ≡ run.old.bits.source.ghost_name }
     ensures on { OnOk result (GoesOn run.old.bits.position run.new.bits.position run.new.bits.taken) }
     ensures nodes { run.new.nodes ≡ run.old.nodes }
-    ensures leaf { IfOk result (λ v. (z : ℤ) × (v ≡ node (value.Int z) none) × (is_128_bits z ≡ true) × (is_from lo z ≡ true) × (is_to hi z ≡ true)) }
-    ensures gives { IsTrue K.told → Gives K.limit K.whole (λ x. x) result (spot run.new.bits.position run.new.nodes) run.new.bits.taken
+    ensures pushed { OnOk result (values.new.items ≡ values.old.items ++ newest values.new.items ∷ []) }
+    ensures leaf { OnOk result ((z : ℤ) × (newest values.new.items ≡ node (value.Int z) none) × (is_128_bits z ≡ true) × (is_from lo z ≡ true) × (is_to hi z ≡ true)) }
+    ensures gives { IsTrue K.told → Gives K.limit K.whole (λ _. newest values.new.items) result (spot run.new.bits.position run.new.nodes) run.new.bits.taken
         (int_at lo hi) (spot run.old.bits.position run.old.nodes) }
     ensures failed { IsErrOf result Fault.Failed → HasRisen K.faults (S.faults run.new.bits.source.now) }
 {
     let z = run.whole(alloc, lo, hi)?;
-    Ok(Tree::leaf(alloc, ValueLabel::Int(z)))
+    values.push(Tree::leaf(alloc, ValueLabel::Int(z)))?;
+    Ok(())
 }
 
 /// One of so many items of an ENUMERATED.
@@ -72,20 +79,23 @@ pub(crate) fn enumerated<S: Source, K: Origin>(
     alloc: Global,
     run: &mut Run<S, K>,
     items: usize,
-) -> Result<Tree<ValueLabel>, Fault>
+    values: &mut Vec<Tree<ValueLabel>>,
+) -> Result<(), Fault>
     requires some { 1 ≤ items }
     requires few { items < 2 ^ 32 }
     requires in_step { IsInStep run.old.bits.position run.old.bits.taken }
     ensures same_reference { run.new.bits.source.ghost_name ≡ run.old.bits.source.ghost_name }
     ensures on { OnOk result (GoesOn run.old.bits.position run.new.bits.position run.new.bits.taken) }
     ensures nodes { run.new.nodes ≡ run.old.nodes }
-    ensures leaf { IfOk result (λ v. (i : ℕ) × (v ≡ node (value.Enum i) none) × (i < items)) }
-    ensures gives { IsTrue K.told → Gives K.limit K.whole (λ x. x) result (spot run.new.bits.position run.new.nodes) run.new.bits.taken
+    ensures pushed { OnOk result (values.new.items ≡ values.old.items ++ newest values.new.items ∷ []) }
+    ensures leaf { OnOk result ((i : ℕ) × (newest values.new.items ≡ node (value.Enum i) none) × (i < items)) }
+    ensures gives { IsTrue K.told → Gives K.limit K.whole (λ _. newest values.new.items) result (spot run.new.bits.position run.new.nodes) run.new.bits.taken
         (enum_at items) (spot run.old.bits.position run.old.nodes) }
     ensures failed { IsErrOf result Fault.Failed → HasRisen K.faults (S.faults run.new.bits.source.now) }
 {
     let item = run.number(alloc, (items - 1) as u128)?;
-    Ok(Tree::leaf(alloc, ValueLabel::Enum(item as u32)))
+    values.push(Tree::leaf(alloc, ValueLabel::Enum(item as u32)))?;
+    Ok(())
 }
 
 /// The text of a node that begins at a bit.

@@ -1,5 +1,5 @@
 //! The nodes of a value.
-ghost use Rattle.std.specs.Prelude.{◌≡◌, ℕ, ◌<◌, ◌≤◌, ◌+◌, ◌-◌, ◌*◌, ◌^◌, IfOk, IfErr, OnOk, IsErrOf, IsTrue, length, true, false, ◌⊎◌};
+ghost use Rattle.std.specs.Prelude.{◌≡◌, ℕ, [], ◌∷◌, ◌++◌, ◌<◌, ◌≤◌, ◌+◌, ◌-◌, ◌*◌, ◌^◌, IfOk, IfErr, OnOk, IsErrOf, IsTrue, length, true, false, ◌⊎◌};
 ghost use Rattle.simple_types.specs.declared.labels.ValueLabel.{ValueLabel};
 ghost use Rattle.asn_types.specs.Modules.{AreWellFormed};
 ghost use Rattle.label_tree.specs.Rose.{Rose, label_of, kids_of, roses_of, node_count, count_all};
@@ -17,6 +17,7 @@ ghost use Rattle.per_fields.specs.Nodes.{sequence_at, choice_at, items_at, is_no
 ghost use Rattle.per_decode.specs.Private.Standing.{GoesOn};
 ghost use Rattle.per_decode.specs.Private.Giving.{Gives, spot};
 ghost use Rattle.per_decode.specs.Private.Bodies as bodies;
+ghost use Rattle.per_decode.specs.Private.Newest.{newest};
 
 use crate::faults::{Fault, stopped};
 use crate::leaves::{boolean, enumerated, integer, presence, text_node};
@@ -65,7 +66,8 @@ fn has_no_rules(module: &Module, found: &Tree<TypeLabel>) -> bool
     }
 }
 
-// A value whose fields were all read, from a bit to another, where it keeps the rules of its node, whose type is found.
+// Puts a value whose fields were all read, from a bit to another, behind others, where it keeps the rules of its node,
+// whose type is found.
 #[inline(always)]
 fn owned(
     alloc: Global,
@@ -75,18 +77,18 @@ fn owned(
     value: Tree<ValueLabel>,
     begin: u64,
     end: u64,
-) -> Result<Tree<ValueLabel>, Fault>
+    values: &mut Vec<Tree<ValueLabel>>,
+) -> Result<(), Fault>
     requires known { bodies.IsKnown module.now }
     requires of { IsOf module.now node.now }
     requires found { found.now ≡ resolve module.now node.now }
-    ensures ok { IfOk result (λ v. (v ≡ value) × Own module.now node.now value) }
+    ensures pushed { OnOk result (values.new.items ≡ values.old.items ++ value ∷ []) }
+    ensures ok { OnOk result (Own module.now node.now value) }
     ensures err { IfErr result (λ fault. (fault ≡ Fault.Memory) ⊎ ((fault ≡ Fault.Stopped (record { bit = begin; why = Why.NotAValue; end = end })) × (Own module.now node.now value → ⊥))) }
 {
-    if is_plain(module, found, &value) {
-        return Ok(value);
-    }
-    if own(alloc, module, node, &value)? {
-        Ok(value)
+    if is_plain(module, found, &value) || own(alloc, module, node, &value)? {
+        values.push(value)?;
+        Ok(())
     } else {
         Err(stopped(begin, Why::NotAValue, end))
     }
@@ -100,16 +102,18 @@ pub(crate) fn node<S: Source, K: Origin>(
     run: &mut Run<S, K>,
     depth: u32,
     node: &Tree<TypeLabel>,
-) -> Result<Tree<ValueLabel>, Fault>
+    values: &mut Vec<Tree<ValueLabel>>,
+) -> Result<(), Fault>
     requires depth { depth ≤ 65 }
     requires known { bodies.IsKnown module.now }
     requires of { IsOf module.now node.now }
     requires in_step { IsInStep run.old.bits.position run.old.bits.taken }
     ensures same_reference { run.new.bits.source.ghost_name ≡ run.old.bits.source.ghost_name }
     ensures on { OnOk result (GoesOn run.old.bits.position run.new.bits.position run.new.bits.taken) }
-    ensures count { IfOk result (λ v. run.new.nodes ≡ run.old.nodes + node_count v) }
-    ensures fits { IfOk result (λ v. FitsAt module.now depth node.now v) }
-    ensures gives { IsTrue K.told → Gives K.limit K.whole (λ x. x) result (spot run.new.bits.position run.new.nodes) run.new.bits.taken
+    ensures pushed { OnOk result (values.new.items ≡ values.old.items ++ newest values.new.items ∷ []) }
+    ensures count { OnOk result (run.new.nodes ≡ run.old.nodes + node_count (newest values.new.items)) }
+    ensures fits { OnOk result (FitsAt module.now depth node.now (newest values.new.items)) }
+    ensures gives { IsTrue K.told → Gives K.limit K.whole (λ _. newest values.new.items) result (spot run.new.bits.position run.new.nodes) run.new.bits.taken
         (node_read module.now depth node.now) (spot run.old.bits.position run.old.nodes) }
     ensures failed { IsErrOf result Fault.Failed → HasRisen K.faults (S.faults run.new.bits.source.now) }
 {
@@ -121,7 +125,7 @@ pub(crate) fn node<S: Source, K: Origin>(
         return Err(stopped(begin, Why::TooMany, begin));
     }
     run.nodes += 1;
-    body(alloc, module, run, depth, node, begin)
+    body(alloc, module, run, depth, node, begin, values)
 }
 
 // The fields and the kids of a node that begins at a bit, and its rules.
@@ -133,24 +137,26 @@ fn body<S: Source, K: Origin>(
     depth: u32,
     node: &Tree<TypeLabel>,
     begin: u64,
-) -> Result<Tree<ValueLabel>, Fault>
+    values: &mut Vec<Tree<ValueLabel>>,
+) -> Result<(), Fault>
     requires depth { depth ≤ 64 }
     requires known { bodies.IsKnown module.now }
     requires of { IsOf module.now node.now }
     requires in_step { IsInStep run.old.bits.position run.old.bits.taken }
     ensures same_reference { run.new.bits.source.ghost_name ≡ run.old.bits.source.ghost_name }
     ensures on { OnOk result (GoesOn run.old.bits.position run.new.bits.position run.new.bits.taken) }
-    ensures count { IfOk result (λ v. run.new.nodes + 1 ≡ run.old.nodes + node_count v) }
-    ensures fits { IfOk result (λ v. FitsAt module.now depth node.now v) }
-    ensures gives { IsTrue K.told → Gives K.limit K.whole (λ x. x) result (spot run.new.bits.position run.new.nodes) run.new.bits.taken
+    ensures pushed { OnOk result (values.new.items ≡ values.old.items ++ newest values.new.items ∷ []) }
+    ensures count { OnOk result (run.new.nodes + 1 ≡ run.old.nodes + node_count (newest values.new.items)) }
+    ensures fits { OnOk result (FitsAt module.now depth node.now (newest values.new.items)) }
+    ensures gives { IsTrue K.told → Gives K.limit K.whole (λ _. newest values.new.items) result (spot run.new.bits.position run.new.nodes) run.new.bits.taken
         (bodies.body_at module.now depth begin (resolve module.now node.now)) (spot run.old.bits.position run.old.nodes) }
     ensures failed { IsErrOf result Fault.Failed → HasRisen K.faults (S.faults run.new.bits.source.now) }
 {
     let found = resolve(module, node);
     if has_no_rules(module, found) {
-        return fields(alloc, module, run, depth, found);
+        return fields(alloc, module, run, depth, found, values);
     }
-    ruled(alloc, module, run, depth, node, found, begin)
+    ruled(alloc, module, run, depth, node, found, begin, values)
 }
 
 // The same of a node whose values may break its rules, where its type is found.
@@ -164,7 +170,8 @@ fn ruled<S: Source, K: Origin>(
     node: &Tree<TypeLabel>,
     found: &Tree<TypeLabel>,
     begin: u64,
-) -> Result<Tree<ValueLabel>, Fault>
+    values: &mut Vec<Tree<ValueLabel>>,
+) -> Result<(), Fault>
     requires depth { depth ≤ 64 }
     requires known { bodies.IsKnown module.now }
     requires of { IsOf module.now node.now }
@@ -172,20 +179,43 @@ fn ruled<S: Source, K: Origin>(
     requires in_step { IsInStep run.old.bits.position run.old.bits.taken }
     ensures same_reference { run.new.bits.source.ghost_name ≡ run.old.bits.source.ghost_name }
     ensures on { OnOk result (GoesOn run.old.bits.position run.new.bits.position run.new.bits.taken) }
-    ensures count { IfOk result (λ v. run.new.nodes + 1 ≡ run.old.nodes + node_count v) }
-    ensures fits { IfOk result (λ v. FitsAt module.now depth node.now v) }
-    ensures gives { IsTrue K.told → Gives K.limit K.whole (λ x. x) result (spot run.new.bits.position run.new.nodes) run.new.bits.taken
+    ensures pushed { OnOk result (values.new.items ≡ values.old.items ++ newest values.new.items ∷ []) }
+    ensures count { OnOk result (run.new.nodes + 1 ≡ run.old.nodes + node_count (newest values.new.items)) }
+    ensures fits { OnOk result (FitsAt module.now depth node.now (newest values.new.items)) }
+    ensures gives { IsTrue K.told → Gives K.limit K.whole (λ _. newest values.new.items) result (spot run.new.bits.position run.new.nodes) run.new.bits.taken
         (bodies.body_at module.now depth begin (resolve module.now node.now)) (spot run.old.bits.position run.old.nodes) }
     ensures failed { IsErrOf result Fault.Failed → HasRisen K.faults (S.faults run.new.bits.source.now) }
 {
     match &found.label().form {
         Form::Utf8 { .. } => {
             let value = text_node(alloc, run, begin)?;
-            owned(alloc, module, node, found, value, begin, run.position())
+            owned(
+                alloc,
+                module,
+                node,
+                found,
+                value,
+                begin,
+                run.position(),
+                values,
+            )
         }
         _ => {
-            let value = fields(alloc, module, run, depth, found)?;
-            owned(alloc, module, node, found, value, begin, run.position())
+            let mut read = with_room(alloc, 1);
+            fields(alloc, module, run, depth, found, &mut read)?;
+            match read.pop() {
+                Some(value) => owned(
+                    alloc,
+                    module,
+                    node,
+                    found,
+                    value,
+                    begin,
+                    run.position(),
+                    values,
+                ),
+                None => unreachable!(),
+            }
         }
     }
 }
@@ -198,7 +228,8 @@ fn fields<S: Source, K: Origin>(
     run: &mut Run<S, K>,
     depth: u32,
     found: &Tree<TypeLabel>,
-) -> Result<Tree<ValueLabel>, Fault>
+    values: &mut Vec<Tree<ValueLabel>>,
+) -> Result<(), Fault>
     requires depth { depth ≤ 64 }
     requires known { bodies.IsKnown module.now }
     requires of { IsOf module.now found.now }
@@ -206,22 +237,31 @@ fn fields<S: Source, K: Origin>(
     requires in_step { IsInStep run.old.bits.position run.old.bits.taken }
     ensures same_reference { run.new.bits.source.ghost_name ≡ run.old.bits.source.ghost_name }
     ensures on { OnOk result (GoesOn run.old.bits.position run.new.bits.position run.new.bits.taken) }
-    ensures count { IfOk result (λ v. run.new.nodes + 1 ≡ run.old.nodes + node_count v) }
-    ensures fits { IfOk result (λ v. FitKids module.now depth found.now v) }
-    ensures text { IfOk result (λ v. is_no_text (label_of v) ≡ false) }
-    ensures gives { IsTrue K.told → Gives K.limit K.whole (λ x. x) result (spot run.new.bits.position run.new.nodes) run.new.bits.taken
+    ensures pushed { OnOk result (values.new.items ≡ values.old.items ++ newest values.new.items ∷ []) }
+    ensures count { OnOk result (run.new.nodes + 1 ≡ run.old.nodes + node_count (newest values.new.items)) }
+    ensures fits { OnOk result (FitKids module.now depth found.now (newest values.new.items)) }
+    ensures text { OnOk result (is_no_text (label_of (newest values.new.items)) ≡ false) }
+    ensures gives { IsTrue K.told → Gives K.limit K.whole (λ _. newest values.new.items) result (spot run.new.bits.position run.new.nodes) run.new.bits.taken
         (bodies.fields_at module.now depth found.now) (spot run.old.bits.position run.old.nodes) }
     ensures failed { IsErrOf result Fault.Failed → HasRisen K.faults (S.faults run.new.bits.source.now) }
 {
     match &found.label().form {
-        Form::Bool => boolean(alloc, run),
-        Form::Int { lo, hi } => integer(alloc, run, *lo, *hi),
-        Form::Numbers { numbers } => enumerated(alloc, run, numbers.items().len()),
-        Form::Words { words, .. } => enumerated(alloc, run, words.items().len()),
-        Form::Sequence { parts } => sequence(alloc, module, run, depth, found, parts.items()),
-        Form::Choice { parts } => choice(alloc, module, run, depth, found, parts.items()),
+        Form::Bool => boolean(alloc, run, values),
+        Form::Int { lo, hi } => integer(alloc, run, *lo, *hi, values),
+        Form::Numbers { numbers } => enumerated(alloc, run, numbers.items().len(), values),
+        Form::Words { words, .. } => enumerated(alloc, run, words.items().len(), values),
+        Form::Sequence { parts } => sequence(
+            alloc,
+            module,
+            run,
+            depth,
+            found,
+            parts.items(),
+            values,
+        ),
+        Form::Choice { parts } => choice(alloc, module, run, depth, found, parts.items(), values),
         Form::SequenceOf { part, min, max } => {
-            sequence_of(alloc, module, run, depth, found, part, *min, *max)
+            sequence_of(alloc, module, run, depth, found, part, *min, *max, values)
         }
         Form::Utf8 { .. } => unreachable!(),
         Form::Ref { .. } => unreachable!(),
@@ -237,7 +277,8 @@ fn sequence<S: Source, K: Origin>(
     depth: u32,
     found: &Tree<TypeLabel>,
     parts: &[Component],
-) -> Result<Tree<ValueLabel>, Fault>
+    values: &mut Vec<Tree<ValueLabel>>,
+) -> Result<(), Fault>
     requires depth { depth ≤ 64 }
     requires known { bodies.IsKnown module.now }
     requires of { IsOf module.now found.now }
@@ -245,16 +286,18 @@ fn sequence<S: Source, K: Origin>(
     requires in_step { IsInStep run.old.bits.position run.old.bits.taken }
     ensures same_reference { run.new.bits.source.ghost_name ≡ run.old.bits.source.ghost_name }
     ensures on { OnOk result (GoesOn run.old.bits.position run.new.bits.position run.new.bits.taken) }
-    ensures count { IfOk result (λ v. run.new.nodes + 1 ≡ run.old.nodes + node_count v) }
-    ensures fits { IfOk result (λ v. FitKids module.now depth found.now v) }
-    ensures text { IfOk result (λ v. is_no_text (label_of v) ≡ false) }
-    ensures gives { IsTrue K.told → Gives K.limit K.whole (λ x. x) result (spot run.new.bits.position run.new.nodes) run.new.bits.taken
+    ensures pushed { OnOk result (values.new.items ≡ values.old.items ++ newest values.new.items ∷ []) }
+    ensures count { OnOk result (run.new.nodes + 1 ≡ run.old.nodes + node_count (newest values.new.items)) }
+    ensures fits { OnOk result (FitKids module.now depth found.now (newest values.new.items)) }
+    ensures text { OnOk result (is_no_text (label_of (newest values.new.items)) ≡ false) }
+    ensures gives { IsTrue K.told → Gives K.limit K.whole (λ _. newest values.new.items) result (spot run.new.bits.position run.new.nodes) run.new.bits.taken
         (sequence_at (bodies.kid_at module.now depth) (label_of found.now) (kids_of found.now) parts.now) (spot run.old.bits.position run.old.nodes) }
     ensures failed { IsErrOf result Fault.Failed → HasRisen K.faults (S.faults run.new.bits.source.now) }
 {
     let present = presence(alloc, run, parts)?;
-    let values = components(alloc, module, run, depth, found, parts, present.items())?;
-    Ok(Tree::join(ValueLabel::Sequence { present }, values))
+    let kids = components(alloc, module, run, depth, found, parts, present.items())?;
+    values.push(Tree::join(ValueLabel::Sequence { present }, kids))?;
+    Ok(())
 }
 
 // The components of a SEQUENCE that are present.
@@ -290,8 +333,7 @@ fn components<S: Source, K: Origin>(
         }
         let kid = found.kid(i);
         let inner = below(role(found.label(), i as u32), depth);
-        let value = node(alloc, module, run, inner, kid)?;
-        values.push(value)?;
+        node(alloc, module, run, inner, kid, &mut values)?;
     }
     Ok(values)
 }
@@ -305,7 +347,8 @@ fn choice<S: Source, K: Origin>(
     depth: u32,
     found: &Tree<TypeLabel>,
     parts: &[Component],
-) -> Result<Tree<ValueLabel>, Fault>
+    values: &mut Vec<Tree<ValueLabel>>,
+) -> Result<(), Fault>
     requires depth { depth ≤ 64 }
     requires known { bodies.IsKnown module.now }
     requires of { IsOf module.now found.now }
@@ -313,20 +356,21 @@ fn choice<S: Source, K: Origin>(
     requires in_step { IsInStep run.old.bits.position run.old.bits.taken }
     ensures same_reference { run.new.bits.source.ghost_name ≡ run.old.bits.source.ghost_name }
     ensures on { OnOk result (GoesOn run.old.bits.position run.new.bits.position run.new.bits.taken) }
-    ensures count { IfOk result (λ v. run.new.nodes + 1 ≡ run.old.nodes + node_count v) }
-    ensures fits { IfOk result (λ v. FitKids module.now depth found.now v) }
-    ensures text { IfOk result (λ v. is_no_text (label_of v) ≡ false) }
-    ensures gives { IsTrue K.told → Gives K.limit K.whole (λ x. x) result (spot run.new.bits.position run.new.nodes) run.new.bits.taken
+    ensures pushed { OnOk result (values.new.items ≡ values.old.items ++ newest values.new.items ∷ []) }
+    ensures count { OnOk result (run.new.nodes + 1 ≡ run.old.nodes + node_count (newest values.new.items)) }
+    ensures fits { OnOk result (FitKids module.now depth found.now (newest values.new.items)) }
+    ensures text { OnOk result (is_no_text (label_of (newest values.new.items)) ≡ false) }
+    ensures gives { IsTrue K.told → Gives K.limit K.whole (λ _. newest values.new.items) result (spot run.new.bits.position run.new.nodes) run.new.bits.taken
         (choice_at (bodies.kid_at module.now depth) (label_of found.now) (kids_of found.now) parts.now) (spot run.old.bits.position run.old.nodes) }
     ensures failed { IsErrOf result Fault.Failed → HasRisen K.faults (S.faults run.new.bits.source.now) }
 {
     let index = run.number(alloc, (parts.len() - 1) as u128)? as u32;
     let kid = found.kid(index as usize);
     let inner = below(role(found.label(), index), depth);
-    let value = node(alloc, module, run, inner, kid)?;
-    let mut values = with_room(alloc, 1);
-    values.push(value)?;
-    Ok(Tree::join(ValueLabel::Choice(index), values))
+    let mut kids = with_room(alloc, 1);
+    node(alloc, module, run, inner, kid, &mut kids)?;
+    values.push(Tree::join(ValueLabel::Choice(index), kids))?;
+    Ok(())
 }
 
 // The count and the items of a SEQUENCE OF.
@@ -340,7 +384,8 @@ fn sequence_of<S: Source, K: Origin>(
     part: &Component,
     min: u32,
     max: Option<u32>,
-) -> Result<Tree<ValueLabel>, Fault>
+    values: &mut Vec<Tree<ValueLabel>>,
+) -> Result<(), Fault>
     requires depth { depth ≤ 64 }
     requires known { bodies.IsKnown module.now }
     requires of { IsOf module.now found.now }
@@ -348,17 +393,19 @@ fn sequence_of<S: Source, K: Origin>(
     requires in_step { IsInStep run.old.bits.position run.old.bits.taken }
     ensures same_reference { run.new.bits.source.ghost_name ≡ run.old.bits.source.ghost_name }
     ensures on { OnOk result (GoesOn run.old.bits.position run.new.bits.position run.new.bits.taken) }
-    ensures count { IfOk result (λ v. run.new.nodes + 1 ≡ run.old.nodes + node_count v) }
-    ensures fits { IfOk result (λ v. FitKids module.now depth found.now v) }
-    ensures text { IfOk result (λ v. is_no_text (label_of v) ≡ false) }
-    ensures gives { IsTrue K.told → Gives K.limit K.whole (λ x. x) result (spot run.new.bits.position run.new.nodes) run.new.bits.taken
+    ensures pushed { OnOk result (values.new.items ≡ values.old.items ++ newest values.new.items ∷ []) }
+    ensures count { OnOk result (run.new.nodes + 1 ≡ run.old.nodes + node_count (newest values.new.items)) }
+    ensures fits { OnOk result (FitKids module.now depth found.now (newest values.new.items)) }
+    ensures text { OnOk result (is_no_text (label_of (newest values.new.items)) ≡ false) }
+    ensures gives { IsTrue K.told → Gives K.limit K.whole (λ _. newest values.new.items) result (spot run.new.bits.position run.new.nodes) run.new.bits.taken
         (items_at (bodies.kid_at module.now depth) min max (bodies.item_place found.now part.now)) (spot run.old.bits.position run.old.nodes) }
     ensures failed { IsErrOf result Fault.Failed → HasRisen K.faults (S.faults run.new.bits.source.now) }
 {
     let item = found.kid(0);
     let inner = below(role(found.label(), 0), depth);
-    let values = list(alloc, module, run, inner, item, min, max)?;
-    Ok(Tree::join(ValueLabel::SequenceOf, values))
+    let items = list(alloc, module, run, inner, item, min, max)?;
+    values.push(Tree::join(ValueLabel::SequenceOf, items))?;
+    Ok(())
 }
 
 // The count and the items of a SEQUENCE OF this type, where so many elements stand in one another down to the items.
@@ -464,8 +511,7 @@ fn items<S: Source, K: Origin>(
     ensures failed { IsErrOf result Fault.Failed → HasRisen K.faults (S.faults run.new.bits.source.now) }
 {
     'items: for _ in 0..n {
-        let value = node(alloc, module, run, depth, item)?;
-        values.push(value)?;
+        node(alloc, module, run, depth, item, &mut values)?;
     }
     Ok(values)
 }

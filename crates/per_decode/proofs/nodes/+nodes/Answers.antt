@@ -1,7 +1,7 @@
 use Rattle.std.proofs.Common.{rules, arith, refl, sym, ap, ◌∙◌, subst, ◌≡◌, suc, ◌+◌, ◌*◌, ◌∷◌, [], length, true, false, Some, Ok, IsTrue}
 use Rattle.std.specs.Prelude.{slice_get}
 use Rattle.std.proofs.lemmas.List.{length-append, drop_all}
-use Rattle.std.proofs.lemmas.Result.{err_from_is_err_and, IfOk-weaker}
+use Rattle.std.proofs.lemmas.Result.{err_from_is_err_and, on_ok_weaker}
 use Rattle.label_tree.specs.Rose.{Rose, node, label_of, kids_of, roses_of}
 use Rattle.simple_types.specs.declared.labels.ValueLabel.TheVariants as value
 use Rattle.asn_types.specs.declared.types.TypeLabel.{TypeLabel}
@@ -14,8 +14,7 @@ use Rattle.asn_types.specs.Values.{place_of, place_at, below, FitsAt, OwnAt}
 use Rattle.asn_types.proofs.Chaining.{resolved-of-module, well-formed}
 use Rattle.asn_types.proofs.Counting.{replicate-drop, fits-from_kids}
 use Rattle.per_fields.specs.Fields.{fragments_at, counted_at, list_at}
-use Rattle.per_fields.specs.Nodes.{node_read, items_at}
-use Rattle.per_decode.specs.declared.faults.Fault.TheVariants.{Memory}
+use Rattle.per_fields.specs.Nodes.{node_read, items_at, is_no_text}
 use Rattle.per_decode.specs.Private.Giving.{input, spot, end_of, FailsAt, Gives}
 use Rattle.per_decode.specs.Private.Bodies.{HasFields, IsNoText, fields_at, kid_at, node_of, many_at, FitAll}
 use Rattle.per_decode.proofs.Bodies.{node-deep, node-many, node-goes, fields_fail, text_fails, text_read, body_gives, body_plain}
@@ -23,7 +22,9 @@ use Rattle.per_decode.proofs.EndNodes.{sits-node}
 use Rattle.per_decode.proofs.Fitting.{count-push, all-push, own_fits, own_counts, fit-bool, fit-int, fit-numbers, fit-words, fit-text, fit-sequence, fit-choice, fit-list}
 use Rattle.per_decode.proofs.Forms.{shows_as, fields-bool, fields-int, fields-numbers, fields-words, fields-sequence, fields-choice, fields-list, sequence_fails, sequence_reads, components_fail, choice_fails, choice_reads, alternative_fails}
 use Rattle.per_decode.proofs.Lists.{steady-items, list-none, list-large, count_fails, count_told, list_fails, list_reads}
-use Rattle.per_decode.proofs.Loop.{with_front, each_more, each_fails, each_full, each_done, through_none, through_skip, through_more, through_fails, through_full, through_end, through_fit}
+use Rattle.per_decode.proofs.Loop.{with_front, each_more, each_fails, each_done, through_none, through_skip, through_more, through_fails, through_end, through_fit}
+use Rattle.per_decode.specs.Private.Newest.{newest}
+use Rattle.per_decode.proofs.Newest.{newest-pushed, newest-told, pushed-newest, pushed-told}
 use Rattle.per_decode.proofs.Parts.{kids-parts, bounds_ordered, numbers_counted, words_counted, components_few, alternatives_counted, sizes_ordered, got, got_split, flag_split, copies-none, part_there, kid_here}
 use Rattle.per_decode.proofs.Presence.{present-length, places_there}
 use Rattle.per_decode.proofs.Standing.{stands_inside}
@@ -49,7 +50,7 @@ pub node-returns-clause-gives : goal.node-returns-clause-gives
 node-returns-clause-gives g t c = λ told.
     let run = c.args.run.now in
     let goes = node-goes c.args.module.now c.requires.known c.args.depth c.args.node.now c.requires.of (input g.K.Origin.limit g.K.Origin.whole) (spot run.bits.position run.nodes) c.if-depth-gt-MOST_DEEP.false c.if-run-ge-MOST_NODES.false in
-    shows_as g.K.Origin.limit g.K.Origin.whole (λ x. x) c.body.result _ _ _ _ goes (rw c.position-begin.ensures at (c.body.ensures.gives told))
+    shows_as g.K.Origin.limit g.K.Origin.whole (λ _. newest c.body.new.values.items) c.body.result _ _ _ _ goes (rw c.position-begin.ensures at (c.body.ensures.gives told))
 
 -- ITS FIELDS AND ITS RULES
 
@@ -72,17 +73,19 @@ pub body-returns-then-has_no_rules : goal.body-returns-then-has_no_rules
 body-returns-then-has_no_rules g t c =
     let M = c.args.module.now in
     let own = subst (λ u. (v : Rose ValueLabel) → OwnAt M (label_of u) u v) c.resolve-found.ensures (c.has_no_rules.ensures.own c.if-has_no_rules.true) in
+    let v = newest c.fields.new.values.items in
     record {
       same_reference = search rules;
       on = search rules;
+      pushed = search rules;
       count = search rules;
-      fits = IfOk-weaker c.fields.result _ (FitsAt M c.args.depth c.args.node.now) (λ v h. fits-from_kids M c.args.depth c.args.node.now v c.requires.depth (subst (λ u. FitKids M c.args.depth u v) c.resolve-found.ensures h) (own v)) c.fields.ensures.fits;
+      fits = on_ok_weaker c.fields.result (λ h. fits-from_kids M c.args.depth c.args.node.now v c.requires.depth (subst (λ u. FitKids M c.args.depth u v) c.resolve-found.ensures h) (own v)) c.fields.ensures.fits;
       gives = λ told.
           let old = c.args.run.now in
           let new = c.fields.new.run in
           let i = stands_inside old.bits.position old.bits.taken old.bits.held old.bits.limit g.K.Origin.limit g.K.Origin.whole _ old.limited old.bits.behind old.bits.within (old.here told) in
-          body_plain M c.requires.known c.args.depth c.args.node.now c.requires.of c.args.begin (spot old.bits.position old.nodes) (spot new.bits.position new.nodes) g.K.Origin.limit g.K.Origin.whole new.bits.taken c.fields.result i own c.fields.ensures.text
-          (subst (λ u. Gives g.K.Origin.limit g.K.Origin.whole (λ x. x) c.fields.result (spot new.bits.position new.nodes) new.bits.taken (fields_at M c.args.depth u) (spot old.bits.position old.nodes)) c.resolve-found.ensures (c.fields.ensures.gives told));
+          body_plain M c.requires.known c.args.depth c.args.node.now c.requires.of c.args.begin (spot old.bits.position old.nodes) (spot new.bits.position new.nodes) g.K.Origin.limit g.K.Origin.whole new.bits.taken v c.fields.result i own c.fields.ensures.text
+          (subst (λ u. Gives g.K.Origin.limit g.K.Origin.whole (λ _. v) c.fields.result (spot new.bits.position new.nodes) new.bits.taken (fields_at M c.args.depth u) (spot old.bits.position old.nodes)) c.resolve-found.ensures (c.fields.ensures.gives told));
       failed = search rules;
     }
 
@@ -106,20 +109,29 @@ ruled-returns-in_err-value-in-Utf8-clause-gives g t c = λ told.
     let i = stands_inside old.bits.position old.bits.taken old.bits.held old.bits.limit g.K.Origin.limit g.K.Origin.whole _ old.limited old.bits.behind old.bits.within (old.here told) in
     rw (p.1, p.2) (text_fails c.args.module.now c.requires.known c.args.depth c.args.node.now c.requires.of c.args.begin (input g.K.Origin.limit g.K.Origin.whole) (spot old.bits.position old.nodes) g.K.Origin.limit g.K.Origin.whole c.in_err-value-in-Utf8.field-0.0 c.text_node.new.run.bits.taken _ _ _ is i (c.in_err-value-in-Utf8.ensures.gives told))
 
-pub ruled-returns-in_err-value-in_default : goal.ruled-returns-in_err-value-in_default
-ruled-returns-in_err-value-in_default g t c =
+pub ruled-returns-in_err-fields-in_default : goal.ruled-returns-in_err-fields-in_default
+ruled-returns-in_err-fields-in_default g t c =
     record {
       same_reference = search rules;
       on = search rules;
+      pushed = search rules;
       count = search rules;
       fits = search rules;
       gives = λ told.
-          let p = err_from_is_err_and c.from_residual-in_err-value-in_default.result c.from_residual-in_err-value-in_default.ensures.1 in
+          let p = err_from_is_err_and c.from_residual-in_err-fields-in_default.result c.from_residual-in_err-fields-in_default.ensures.1 in
           let old = c.args.run.now in
           let i = stands_inside old.bits.position old.bits.taken old.bits.held old.bits.limit g.K.Origin.limit g.K.Origin.whole _ old.limited old.bits.behind old.bits.within (old.here told) in
-          rw (p.1, p.2) (fields_fail c.args.module.now c.requires.known c.args.depth c.args.node.now c.requires.of c.args.begin (input g.K.Origin.limit g.K.Origin.whole) (spot old.bits.position old.nodes) g.K.Origin.limit g.K.Origin.whole c.in_err-value-in_default.field-0.0 c.fields.new.run.bits.taken i (rw c.requires.found at (c.in_err-value-in_default.ensures.gives told)));
+          rw (p.1, p.2) (fields_fail c.args.module.now c.requires.known c.args.depth c.args.node.now c.requires.of c.args.begin (input g.K.Origin.limit g.K.Origin.whole) (spot old.bits.position old.nodes) g.K.Origin.limit g.K.Origin.whole c.in_err-fields-in_default.field-0.0 c.fields.new.run.bits.taken i (rw c.requires.found at (c.in_err-fields-in_default.ensures.gives told)));
       failed = search rules;
     }
+
+pub ruled-returns-in_ok-value-in-Utf8-clause-pushed : goal.ruled-returns-in_ok-value-in-Utf8-clause-pushed
+ruled-returns-in_ok-value-in-Utf8-clause-pushed g t c = pushed-told c.owned.result _ _ _ c.owned.ensures.pushed
+
+pub ruled-returns-in_ok-value-in-Utf8-clause-count : goal.ruled-returns-in_ok-value-in-Utf8-clause-count
+ruled-returns-in_ok-value-in-Utf8-clause-count g t c =
+    let v = c.in_ok-value-in-Utf8.value in
+    own_counts _ _ v (newest c.owned.new.values.items) c.owned.result (rw c.in_ok-value-in-Utf8.ensures.leaf.1 (omega (arith, c.in_ok-value-in-Utf8.ensures.nodes))) (newest-told c.owned.result _ _ v c.owned.ensures.pushed)
 
 pub ruled-returns-in_ok-value-in-Utf8-clause-fits : goal.ruled-returns-in_ok-value-in-Utf8-clause-fits
 ruled-returns-in_ok-value-in-Utf8-clause-fits g t c =
@@ -127,7 +139,7 @@ ruled-returns-in_ok-value-in-Utf8-clause-fits g t c =
     let M = c.args.module.now in
     let v = c.in_ok-value-in-Utf8.value in
     let leaf = c.in_ok-value-in-Utf8.ensures.leaf in
-    own_fits M c.args.depth c.args.node.now v c.owned.result c.requires.depth (subst (FitKids M c.args.depth (resolve c.args.module.now c.args.node.now)) (sym leaf.1) (fit-text M c.args.depth (resolve c.args.module.now c.args.node.now) _ _ _ leaf.0 is)) c.owned.ensures.ok
+    own_fits M c.args.depth c.args.node.now v (newest c.owned.new.values.items) c.owned.result c.requires.depth (subst (FitKids M c.args.depth (resolve c.args.module.now c.args.node.now)) (sym leaf.1) (fit-text M c.args.depth (resolve c.args.module.now c.args.node.now) _ _ _ leaf.0 is)) (newest-told c.owned.result _ _ v c.owned.ensures.pushed) c.owned.ensures.ok
 
 pub ruled-returns-in_ok-value-in-Utf8-clause-gives : goal.ruled-returns-in_ok-value-in-Utf8-clause-gives
 ruled-returns-in_ok-value-in-Utf8-clause-gives g t c = λ told.
@@ -136,22 +148,29 @@ ruled-returns-in_ok-value-in-Utf8-clause-gives g t c = λ told.
     let new = c.text_node.new.run in
     let v = c.in_ok-value-in-Utf8.value in
     let read = text_read c.args.module.now c.requires.known c.args.depth c.args.node.now c.requires.of c.args.begin (input g.K.Origin.limit g.K.Origin.whole) (spot old.bits.position old.nodes) _ _ _ is v (spot new.bits.position new.nodes) (c.in_ok-value-in-Utf8.ensures.gives told) in
-    body_gives c.args.module.now c.requires.known c.args.depth c.args.node.now c.requires.of c.args.begin (spot old.bits.position old.nodes) v (spot new.bits.position new.nodes) g.K.Origin.limit g.K.Origin.whole new.bits.taken c.owned.result read.0 read.1 (omega (arith, c.in_ok-value-in-Utf8.ensures.on.1)) c.owned.ensures.ok (rw c.position.ensures at c.owned.ensures.err)
+    body_gives c.args.module.now c.requires.known c.args.depth c.args.node.now c.requires.of c.args.begin (spot old.bits.position old.nodes) v (spot new.bits.position new.nodes) g.K.Origin.limit g.K.Origin.whole new.bits.taken (newest c.owned.new.values.items) c.owned.result read.0 read.1 (omega (arith, c.in_ok-value-in-Utf8.ensures.on.1)) (newest-told c.owned.result _ _ v c.owned.ensures.pushed) c.owned.ensures.ok (rw c.position.ensures at c.owned.ensures.err)
 
-pub ruled-returns-in_ok-value-in_default : goal.ruled-returns-in_ok-value-in_default
-ruled-returns-in_ok-value-in_default g t c =
+pub ruled-returns-in-Some : goal.ruled-returns-in-Some
+ruled-returns-in-Some g t c =
     let M = c.args.module.now in
-    let v = c.in_ok-value-in_default.value in
+    let v = c.in-Some.value in
+    let w = newest c.owned-in-Some.new.values.items in
+    let is : newest c.fields.new.values.items ≡ v = newest-pushed _ _ _ c.in-Some.ensures.items in
+    let same = newest-told c.owned-in-Some.result _ _ v c.owned-in-Some.ensures.pushed in
     record {
       same_reference = search rules;
       on = search rules;
-      count = own_counts _ _ _ v c.owned-in_default.result c.in_ok-value-in_default.ensures.count c.owned-in_default.ensures.ok;
-      fits = own_fits M c.args.depth c.args.node.now v c.owned-in_default.result c.requires.depth (subst (λ u. FitKids M c.args.depth u v) c.requires.found c.in_ok-value-in_default.ensures.fits) c.owned-in_default.ensures.ok;
+      pushed = pushed-told c.owned-in-Some.result _ _ v c.owned-in-Some.ensures.pushed;
+      count = own_counts _ _ v w c.owned-in-Some.result (rw is at c.in_ok-fields-in_default.ensures.count) same;
+      fits = own_fits M c.args.depth c.args.node.now v w c.owned-in-Some.result c.requires.depth (subst (FitKids M c.args.depth (resolve M c.args.node.now)) is (subst (λ u. FitKids M c.args.depth u (newest c.fields.new.values.items)) c.requires.found c.in_ok-fields-in_default.ensures.fits)) same c.owned-in-Some.ensures.ok;
       gives = λ told.
           let old = c.args.run.now in
           let new = c.fields.new.run in
-          body_gives c.args.module.now c.requires.known c.args.depth c.args.node.now c.requires.of c.args.begin (spot old.bits.position old.nodes) v (spot new.bits.position new.nodes) g.K.Origin.limit g.K.Origin.whole new.bits.taken c.owned-in_default.result (subst (λ u. fields_at M c.args.depth u (input g.K.Origin.limit g.K.Origin.whole) (spot old.bits.position old.nodes) ≡ Ok (v, (spot new.bits.position new.nodes))) c.requires.found (c.in_ok-value-in_default.ensures.gives told)) c.in_ok-value-in_default.ensures.text
-          (omega (arith, c.in_ok-value-in_default.ensures.on.1)) c.owned-in_default.ensures.ok (rw c.position-in_default.ensures at c.owned-in_default.ensures.err);
+          let read = subst (λ x. fields_at M c.args.depth c.args.found.now (input g.K.Origin.limit g.K.Origin.whole) (spot old.bits.position old.nodes) ≡ Ok (x, spot new.bits.position new.nodes)) is (c.in_ok-fields-in_default.ensures.gives told) in
+          body_gives M c.requires.known c.args.depth c.args.node.now c.requires.of c.args.begin (spot old.bits.position old.nodes) v (spot new.bits.position new.nodes) g.K.Origin.limit g.K.Origin.whole new.bits.taken w c.owned-in-Some.result
+          (subst (λ u. fields_at M c.args.depth u (input g.K.Origin.limit g.K.Origin.whole) (spot old.bits.position old.nodes) ≡ Ok (v, spot new.bits.position new.nodes)) c.requires.found read)
+          (subst (λ (x : Rose ValueLabel). is_no_text (label_of x) ≡ false) is c.in_ok-fields-in_default.ensures.text)
+          (omega (arith, c.in_ok-fields-in_default.ensures.on.1)) same c.owned-in-Some.ensures.ok (rw c.position-in-Some.ensures at c.owned-in-Some.ensures.err);
       failed = search rules;
     }
 
@@ -189,64 +208,64 @@ fields-enumerated-requires-in-Words-clause-few g t c =
 pub fields-returns-in-Bool-clause-fits : goal.fields-returns-in-Bool-clause-fits
 fields-returns-in-Bool-clause-fits g t c =
     let e = ap (λ l. l.form) (sym c.label.ensures) ∙ c.in-Bool.is in
-    IfOk-weaker c.boolean.result _ (FitKids c.args.module.now c.args.depth c.args.found.now) (λ v h. subst (FitKids c.args.module.now c.args.depth c.args.found.now) (sym h.1) (fit-bool c.args.module.now c.args.depth c.args.found.now h.0 e)) c.boolean.ensures.leaf
+    on_ok_weaker c.boolean.result (λ h. subst (FitKids c.args.module.now c.args.depth c.args.found.now) (sym h.1) (fit-bool c.args.module.now c.args.depth c.args.found.now h.0 e)) c.boolean.ensures.leaf
 
 pub fields-returns-in-Bool-clause-gives : goal.fields-returns-in-Bool-clause-gives
 fields-returns-in-Bool-clause-gives g t c = λ told.
     let e = ap (λ l. l.form) (sym c.label.ensures) ∙ c.in-Bool.is in
     let old = c.args.run.now in
-    shows_as g.K.Origin.limit g.K.Origin.whole (λ x. x) c.boolean.result _ _ _ _ (fields-bool c.args.module.now c.args.depth c.args.found.now (input g.K.Origin.limit g.K.Origin.whole) (spot old.bits.position old.nodes) e) (c.boolean.ensures.gives told)
+    shows_as g.K.Origin.limit g.K.Origin.whole (λ _. newest c.boolean.new.values.items) c.boolean.result _ _ _ _ (fields-bool c.args.module.now c.args.depth c.args.found.now (input g.K.Origin.limit g.K.Origin.whole) (spot old.bits.position old.nodes) e) (c.boolean.ensures.gives told)
 
 pub fields-returns-in-Int-clause-fits : goal.fields-returns-in-Int-clause-fits
 fields-returns-in-Int-clause-fits g t c =
     let e = ap (λ l. l.form) (sym c.label.ensures) ∙ c.in-Int.is in
-    IfOk-weaker c.integer.result _ (FitKids c.args.module.now c.args.depth c.args.found.now) (λ v h. subst (FitKids c.args.module.now c.args.depth c.args.found.now) (sym h.1) (fit-int c.args.module.now c.args.depth c.args.found.now _ _ h.0 e h.2 h.3 h.4)) c.integer.ensures.leaf
+    on_ok_weaker c.integer.result (λ h. subst (FitKids c.args.module.now c.args.depth c.args.found.now) (sym h.1) (fit-int c.args.module.now c.args.depth c.args.found.now _ _ h.0 e h.2 h.3 h.4)) c.integer.ensures.leaf
 
 pub fields-returns-in-Int-clause-gives : goal.fields-returns-in-Int-clause-gives
 fields-returns-in-Int-clause-gives g t c = λ told.
     let e = ap (λ l. l.form) (sym c.label.ensures) ∙ c.in-Int.is in
     let old = c.args.run.now in
-    shows_as g.K.Origin.limit g.K.Origin.whole (λ x. x) c.integer.result _ _ _ _ (fields-int c.args.module.now c.args.depth c.args.found.now (input g.K.Origin.limit g.K.Origin.whole) (spot old.bits.position old.nodes) _ _ e) (c.integer.ensures.gives told)
+    shows_as g.K.Origin.limit g.K.Origin.whole (λ _. newest c.integer.new.values.items) c.integer.result _ _ _ _ (fields-int c.args.module.now c.args.depth c.args.found.now (input g.K.Origin.limit g.K.Origin.whole) (spot old.bits.position old.nodes) _ _ e) (c.integer.ensures.gives told)
 
 pub fields-returns-in-Numbers-clause-fits : goal.fields-returns-in-Numbers-clause-fits
 fields-returns-in-Numbers-clause-fits g t c =
     let e = ap (λ l. l.form) (sym c.label.ensures) ∙ c.in-Numbers.is in
-    IfOk-weaker c.enumerated.result _ (FitKids c.args.module.now c.args.depth c.args.found.now) (λ v h. subst (FitKids c.args.module.now c.args.depth c.args.found.now) (sym h.1) (fit-numbers c.args.module.now c.args.depth c.args.found.now _ h.0 e (rw c.items.ensures at h.2))) c.enumerated.ensures.leaf
+    on_ok_weaker c.enumerated.result (λ h. subst (FitKids c.args.module.now c.args.depth c.args.found.now) (sym h.1) (fit-numbers c.args.module.now c.args.depth c.args.found.now _ h.0 e (rw c.items.ensures at h.2))) c.enumerated.ensures.leaf
 
 pub fields-returns-in-Numbers-clause-gives : goal.fields-returns-in-Numbers-clause-gives
 fields-returns-in-Numbers-clause-gives g t c = λ told.
     let e = ap (λ l. l.form) (sym c.label.ensures) ∙ c.in-Numbers.is in
     let old = c.args.run.now in
-    shows_as g.K.Origin.limit g.K.Origin.whole (λ x. x) c.enumerated.result _ _ _ _ (fields-numbers c.args.module.now c.args.depth c.args.found.now (input g.K.Origin.limit g.K.Origin.whole) (spot old.bits.position old.nodes) _ e) (rw c.items.ensures at (c.enumerated.ensures.gives told))
+    shows_as g.K.Origin.limit g.K.Origin.whole (λ _. newest c.enumerated.new.values.items) c.enumerated.result _ _ _ _ (fields-numbers c.args.module.now c.args.depth c.args.found.now (input g.K.Origin.limit g.K.Origin.whole) (spot old.bits.position old.nodes) _ e) (rw c.items.ensures at (c.enumerated.ensures.gives told))
 
 pub fields-returns-in-Words-clause-fits : goal.fields-returns-in-Words-clause-fits
 fields-returns-in-Words-clause-fits g t c =
     let e = ap (λ l. l.form) (sym c.label.ensures) ∙ c.in-Words.is in
-    IfOk-weaker c.enumerated-in-Words.result _ (FitKids c.args.module.now c.args.depth c.args.found.now) (λ v h. subst (FitKids c.args.module.now c.args.depth c.args.found.now) (sym h.1) (fit-words c.args.module.now c.args.depth c.args.found.now _ _ h.0 e (rw c.items-in-Words.ensures at h.2))) c.enumerated-in-Words.ensures.leaf
+    on_ok_weaker c.enumerated-in-Words.result (λ h. subst (FitKids c.args.module.now c.args.depth c.args.found.now) (sym h.1) (fit-words c.args.module.now c.args.depth c.args.found.now _ _ h.0 e (rw c.items-in-Words.ensures at h.2))) c.enumerated-in-Words.ensures.leaf
 
 pub fields-returns-in-Words-clause-gives : goal.fields-returns-in-Words-clause-gives
 fields-returns-in-Words-clause-gives g t c = λ told.
     let e = ap (λ l. l.form) (sym c.label.ensures) ∙ c.in-Words.is in
     let old = c.args.run.now in
-    shows_as g.K.Origin.limit g.K.Origin.whole (λ x. x) c.enumerated-in-Words.result _ _ _ _ (fields-words c.args.module.now c.args.depth c.args.found.now (input g.K.Origin.limit g.K.Origin.whole) (spot old.bits.position old.nodes) _ _ e) (rw c.items-in-Words.ensures at (c.enumerated-in-Words.ensures.gives told))
+    shows_as g.K.Origin.limit g.K.Origin.whole (λ _. newest c.enumerated-in-Words.new.values.items) c.enumerated-in-Words.result _ _ _ _ (fields-words c.args.module.now c.args.depth c.args.found.now (input g.K.Origin.limit g.K.Origin.whole) (spot old.bits.position old.nodes) _ _ e) (rw c.items-in-Words.ensures at (c.enumerated-in-Words.ensures.gives told))
 
 pub fields-returns-in-Sequence-clause-gives : goal.fields-returns-in-Sequence-clause-gives
 fields-returns-in-Sequence-clause-gives g t c = λ told.
     let e = ap (λ l. l.form) (sym c.label.ensures) ∙ c.in-Sequence.is in
     let old = c.args.run.now in
-    shows_as g.K.Origin.limit g.K.Origin.whole (λ x. x) c.sequence.result _ _ _ _ (fields-sequence c.args.module.now c.args.depth c.args.found.now (input g.K.Origin.limit g.K.Origin.whole) (spot old.bits.position old.nodes) _ e) (rw c.items-in-Sequence.ensures at (c.sequence.ensures.gives told))
+    shows_as g.K.Origin.limit g.K.Origin.whole (λ _. newest c.sequence.new.values.items) c.sequence.result _ _ _ _ (fields-sequence c.args.module.now c.args.depth c.args.found.now (input g.K.Origin.limit g.K.Origin.whole) (spot old.bits.position old.nodes) _ e) (rw c.items-in-Sequence.ensures at (c.sequence.ensures.gives told))
 
 pub fields-returns-in-Choice-clause-gives : goal.fields-returns-in-Choice-clause-gives
 fields-returns-in-Choice-clause-gives g t c = λ told.
     let e = ap (λ l. l.form) (sym c.label.ensures) ∙ c.in-Choice.is in
     let old = c.args.run.now in
-    shows_as g.K.Origin.limit g.K.Origin.whole (λ x. x) c.choice.result _ _ _ _ (fields-choice c.args.module.now c.args.depth c.args.found.now (input g.K.Origin.limit g.K.Origin.whole) (spot old.bits.position old.nodes) _ e) (rw c.items-in-Choice.ensures at (c.choice.ensures.gives told))
+    shows_as g.K.Origin.limit g.K.Origin.whole (λ _. newest c.choice.new.values.items) c.choice.result _ _ _ _ (fields-choice c.args.module.now c.args.depth c.args.found.now (input g.K.Origin.limit g.K.Origin.whole) (spot old.bits.position old.nodes) _ e) (rw c.items-in-Choice.ensures at (c.choice.ensures.gives told))
 
 pub fields-returns-in-SequenceOf-clause-gives : goal.fields-returns-in-SequenceOf-clause-gives
 fields-returns-in-SequenceOf-clause-gives g t c = λ told.
     let e = ap (λ l. l.form) (sym c.label.ensures) ∙ c.in-SequenceOf.is in
     let old = c.args.run.now in
-    shows_as g.K.Origin.limit g.K.Origin.whole (λ x. x) c.sequence_of.result _ _ _ _ (fields-list c.args.module.now c.args.depth c.args.found.now (input g.K.Origin.limit g.K.Origin.whole) (spot old.bits.position old.nodes) _ _ _ e) (c.sequence_of.ensures.gives told)
+    shows_as g.K.Origin.limit g.K.Origin.whole (λ _. newest c.sequence_of.new.values.items) c.sequence_of.result _ _ _ _ (fields-list c.args.module.now c.args.depth c.args.found.now (input g.K.Origin.limit g.K.Origin.whole) (spot old.bits.position old.nodes) _ _ _ e) (c.sequence_of.ensures.gives told)
 
 -- A SEQUENCE
 
@@ -257,24 +276,44 @@ sequence-returns-in_err-present-clause-gives g t c = λ told.
     let i = stands_inside old.bits.position old.bits.taken old.bits.held old.bits.limit g.K.Origin.limit g.K.Origin.whole _ old.limited old.bits.behind old.bits.within (old.here told) in
     rw (p.1, p.2) (sequence_fails c.args.module.now c.args.depth (label_of c.args.found.now) (kids_of c.args.found.now) c.args.parts.now (input g.K.Origin.limit g.K.Origin.whole) (spot old.bits.position old.nodes) g.K.Origin.limit g.K.Origin.whole c.in_err-present.field-0.0 c.presence.new.run.bits.taken i (c.in_err-present.ensures.gives told))
 
-pub sequence-returns-in_err-values-clause-gives : goal.sequence-returns-in_err-values-clause-gives
-sequence-returns-in_err-values-clause-gives g t c = λ told.
-    let p = err_from_is_err_and c.from_residual-in_err-values.result c.from_residual-in_err-values.ensures.1 in
+pub sequence-returns-in_err-kids-clause-gives : goal.sequence-returns-in_err-kids-clause-gives
+sequence-returns-in_err-kids-clause-gives g t c = λ told.
+    let p = err_from_is_err_and c.from_residual-in_err-kids.result c.from_residual-in_err-kids.ensures.1 in
     let old = c.args.run.now in
     let mid = c.presence.new.run in
     let i = stands_inside mid.bits.position mid.bits.taken mid.bits.held mid.bits.limit g.K.Origin.limit g.K.Origin.whole _ mid.limited mid.bits.behind mid.bits.within (mid.here told) in
-    rw (p.1, p.2) (components_fail c.args.module.now c.args.depth (label_of c.args.found.now) (kids_of c.args.found.now) c.args.parts.now (input g.K.Origin.limit g.K.Origin.whole) (spot old.bits.position old.nodes) c.in_ok-present.present (spot mid.bits.position mid.nodes) (c.in_ok-present.ensures.gives told) g.K.Origin.limit g.K.Origin.whole c.in_err-values.field-0.0 c.components.new.run.bits.taken i (rw c.items.ensures at (c.in_err-values.ensures.gives told)))
+    rw (p.1, p.2) (components_fail c.args.module.now c.args.depth (label_of c.args.found.now) (kids_of c.args.found.now) c.args.parts.now (input g.K.Origin.limit g.K.Origin.whole) (spot old.bits.position old.nodes) c.in_ok-present.present (spot mid.bits.position mid.nodes) (c.in_ok-present.ensures.gives told) g.K.Origin.limit g.K.Origin.whole c.in_err-kids.field-0.0 c.components.new.run.bits.taken i (rw c.items.ensures at (c.in_err-kids.ensures.gives told)))
+
+pub sequence-returns-in_err-push-clause-gives : goal.sequence-returns-in_err-push-clause-gives
+sequence-returns-in_err-push-clause-gives g t c = λ told.
+    let p = err_from_is_err_and c.from_residual-in_err-push.result c.from_residual-in_err-push.ensures.1 in
+    let old = c.args.run.now in
+    let mid = c.presence.new.run in
+    let new = c.components.new.run in
+    let reads = sequence_reads c.args.module.now c.args.depth (label_of c.args.found.now) (kids_of c.args.found.now) c.args.parts.now (input g.K.Origin.limit g.K.Origin.whole) (spot old.bits.position old.nodes) c.in_ok-present.present (spot mid.bits.position mid.nodes) (c.in_ok-present.ensures.gives told) c.in_ok-kids.kids.items (spot new.bits.position new.nodes) (rw c.items.ensures at (c.in_ok-kids.ensures.gives told)) in
+    rw (p.1, p.2) (omega (arith, ap end_of reads, c.in_ok-kids.ensures.on.1))
+
+pub sequence-returns-clause-pushed : goal.sequence-returns-clause-pushed
+sequence-returns-clause-pushed g t c = pushed-newest _ _ _ c.in_ok-push.ensures.items
+
+pub sequence-returns-clause-count : goal.sequence-returns-clause-count
+sequence-returns-clause-count g t c =
+    rw (newest-pushed _ _ _ c.in_ok-push.ensures.items, c.join.ensures) (omega (arith, c.in_ok-kids.ensures.count, c.in_ok-present.ensures.nodes))
+
+pub sequence-returns-clause-text : goal.sequence-returns-clause-text
+sequence-returns-clause-text g t c =
+    rw (newest-pushed _ _ _ c.in_ok-push.ensures.items, c.join.ensures) refl
 
 pub sequence-returns-clause-fits : goal.sequence-returns-clause-fits
 sequence-returns-clause-fits g t c =
-    rw c.join.ensures (fit-sequence c.args.module.now c.args.depth c.args.found.now c.args.parts.now c.in_ok-present.present c.in_ok-values.values.items c.requires.form (rw c.items.ensures at c.in_ok-values.ensures.fits))
+    rw (newest-pushed _ _ _ c.in_ok-push.ensures.items, c.join.ensures) (fit-sequence c.args.module.now c.args.depth c.args.found.now c.args.parts.now c.in_ok-present.present c.in_ok-kids.kids.items c.requires.form (rw c.items.ensures at c.in_ok-kids.ensures.fits))
 
 pub sequence-returns-clause-gives : goal.sequence-returns-clause-gives
 sequence-returns-clause-gives g t c = λ told.
     let old = c.args.run.now in
     let mid = c.presence.new.run in
     let new = c.components.new.run in
-    rw c.join.ensures (sequence_reads c.args.module.now c.args.depth (label_of c.args.found.now) (kids_of c.args.found.now) c.args.parts.now (input g.K.Origin.limit g.K.Origin.whole) (spot old.bits.position old.nodes) c.in_ok-present.present (spot mid.bits.position mid.nodes) (c.in_ok-present.ensures.gives told) c.in_ok-values.values.items (spot new.bits.position new.nodes) (rw c.items.ensures at (c.in_ok-values.ensures.gives told)))
+    rw (newest-pushed _ _ _ c.in_ok-push.ensures.items, c.join.ensures) (sequence_reads c.args.module.now c.args.depth (label_of c.args.found.now) (kids_of c.args.found.now) c.args.parts.now (input g.K.Origin.limit g.K.Origin.whole) (spot old.bits.position old.nodes) c.in_ok-present.present (spot mid.bits.position mid.nodes) (c.in_ok-present.ensures.gives told) c.in_ok-kids.kids.items (spot new.bits.position new.nodes) (rw c.items.ensures at (c.in_ok-kids.ensures.gives told)))
 
 -- ITS COMPONENTS
 
@@ -315,8 +354,8 @@ components-node-requires g t c =
     let d = c.decreases in
     (λ κs h. (omega (arith, d, k.fewer), (h.0, (h.1, (c.below-inner.ensures.few, (c.requires.known, (k.of_module, c.parts.invariant.in_step)))))))
 
-pub components-returns-in_err-value-clause-gives : goal.components-returns-in_err-value-clause-gives
-components-returns-in_err-value-clause-gives g t c = λ told.
+pub components-returns-in_err-node-clause-gives : goal.components-returns-in_err-node-clause-gives
+components-returns-in_err-node-clause-gives g t c = λ told.
     let p = err_from_is_err_and c.from_residual.result c.from_residual.ensures.1 in
     let u = c.args.found.now in
     let parts = c.args.parts.now in
@@ -331,25 +370,7 @@ components-returns-in_err-value-clause-gives g t c = λ told.
     let old = c.parts.run in
     let new = c.node.new.run in
     let j = stands_inside old.bits.position old.bits.taken old.bits.held old.bits.limit g.K.Origin.limit g.K.Origin.whole _ old.limited old.bits.behind old.bits.within (old.here told) in
-    rw (p.1, p.2) (through_fails c.args.module.now c.args.depth (label_of u) parts (kids_of u) flags (IsTrue g.K.Origin.told) (input g.K.Origin.limit g.K.Origin.whole) (spot c.args.run.now.bits.position c.args.run.now.nodes) i c.parts.values.items (spot old.bits.position old.nodes) there.0 kid is_part is_kid is_flag (λ p. sits-node c.args.module.now (below p.role c.args.depth) p.type) told g.K.Origin.limit g.K.Origin.whole c.in_err-value.field-0.0 new.bits.taken j (subst (λ n. FailsAt g.K.Origin.limit g.K.Origin.whole c.in_err-value.field-0.0 new.bits.taken (node_read c.args.module.now n kid (input g.K.Origin.limit g.K.Origin.whole) (spot old.bits.position old.nodes))) k.inner_is (c.in_err-value.ensures.gives told)) c.parts.invariant.through)
-
-pub components-returns-in_err-push-clause-gives : goal.components-returns-in_err-push-clause-gives
-components-returns-in_err-push-clause-gives g t c = λ told.
-    let p = err_from_is_err_and c.from_residual-in_err-push.result c.from_residual-in_err-push.ensures.1 in
-    let u = c.args.found.now in
-    let parts = c.args.parts.now in
-    let i = c.parts.i in
-    let kid = c.kid-kid.result.now in
-    let there = part_there c.args.module.now c.requires.known c.args.found.now c.requires.of i kid c.kid-kid.ensures in
-    let k = kid_here c.args.module.now c.requires.known c.args.found.now c.requires.of c.args.depth i c.below-inner.result there.0 kid c.role.result (subst HasFields (sym c.requires.form) tt) c.requires.depth there.1 c.kid-kid.ensures (rw c.label.ensures at c.role.ensures) c.below-inner.ensures.same in
-    let flags = c.args.present.now in
-    let is_part = got_split parts i there.0 (subst (λ f. slice_get (parts_of f) i ≡ Some there.0) c.requires.form there.1) in
-    let is_kid = got_split (kids_of u) i kid c.kid-kid.ensures in
-    let is_flag = flag_split flags i true (omega (arith, present-length parts flags c.requires.present, c.parts-test.true)) c.if-not-present-i.false in
-    let old = c.parts.run in
-    let new = c.node.new.run in
-    let j = stands_inside new.bits.position new.bits.taken new.bits.held new.bits.limit g.K.Origin.limit g.K.Origin.whole _ new.limited new.bits.behind new.bits.within (new.here told) in
-    rw (p.1, p.2) (through_full c.args.module.now c.args.depth (label_of u) parts (kids_of u) flags (IsTrue g.K.Origin.told) (input g.K.Origin.limit g.K.Origin.whole) (spot c.args.run.now.bits.position c.args.run.now.nodes) i c.parts.values.items (spot old.bits.position old.nodes) there.0 kid is_part is_kid is_flag (λ p. sits-node c.args.module.now (below p.role c.args.depth) p.type) told g.K.Origin.limit g.K.Origin.whole c.in_ok-value.value (spot new.bits.position new.nodes) new.bits.taken (subst (λ n. node_read c.args.module.now n kid (input g.K.Origin.limit g.K.Origin.whole) (spot old.bits.position old.nodes) ≡ Ok (c.in_ok-value.value, (spot new.bits.position new.nodes))) k.inner_is (c.in_ok-value.ensures.gives told)) j (omega (arith, c.in_ok-value.ensures.on.1)) c.parts.invariant.through)
+    rw (p.1, p.2) (through_fails c.args.module.now c.args.depth (label_of u) parts (kids_of u) flags (IsTrue g.K.Origin.told) (input g.K.Origin.limit g.K.Origin.whole) (spot c.args.run.now.bits.position c.args.run.now.nodes) i c.parts.values.items (spot old.bits.position old.nodes) there.0 kid is_part is_kid is_flag (λ p. sits-node c.args.module.now (below p.role c.args.depth) p.type) told g.K.Origin.limit g.K.Origin.whole c.in_err-node.field-0.0 new.bits.taken j (subst (λ n. FailsAt g.K.Origin.limit g.K.Origin.whole c.in_err-node.field-0.0 new.bits.taken (node_read c.args.module.now n kid (input g.K.Origin.limit g.K.Origin.whole) (spot old.bits.position old.nodes))) k.inner_is (c.in_err-node.ensures.gives told)) c.parts.invariant.through)
 
 pub components-parts-preserved-then-not-present-i : goal.components-parts-preserved-then-not-present-i
 components-parts-preserved-then-not-present-i g t c =
@@ -387,12 +408,12 @@ components-parts-preserved g t c =
     let old = c.parts.run in
     let new = c.node.new.run in
     record {
-      in_step = c.in_ok-value.ensures.on.1;
-      on = omega (arith, c.in_ok-value.ensures.on.0, c.parts.invariant.on);
+      in_step = c.in_ok-node.ensures.on.1;
+      on = omega (arith, c.in_ok-node.ensures.on.0, c.parts.invariant.on);
       same = c.node.ensures.same_reference ∙ c.parts.invariant.same;
-      count = rw c.in_ok-push.ensures.items (omega (arith, c.in_ok-value.ensures.count, c.parts.invariant.count, count-push c.parts.values.items c.in_ok-value.value));
-      through = rw c.in_ok-push.ensures.items (through_more c.args.module.now c.args.depth (label_of u) parts (kids_of u) flags (IsTrue g.K.Origin.told) (input g.K.Origin.limit g.K.Origin.whole) (spot c.args.run.now.bits.position c.args.run.now.nodes) i c.parts.values.items (spot old.bits.position old.nodes) there.0 kid is_part is_kid is_flag c.in_ok-value.value (spot new.bits.position new.nodes)
-          (subst (λ n. FitsAt c.args.module.now n kid c.in_ok-value.value) k.inner_is c.in_ok-value.ensures.fits) (λ told. (subst (λ n. node_read c.args.module.now n kid (input g.K.Origin.limit g.K.Origin.whole) (spot old.bits.position old.nodes) ≡ Ok (c.in_ok-value.value, (spot new.bits.position new.nodes))) k.inner_is (c.in_ok-value.ensures.gives told))) c.parts.invariant.through);
+      count = rw c.in_ok-node.ensures.pushed (omega (arith, c.in_ok-node.ensures.count, c.parts.invariant.count, count-push c.parts.values.items (newest c.node.new.values.items)));
+      through = rw c.in_ok-node.ensures.pushed (through_more c.args.module.now c.args.depth (label_of u) parts (kids_of u) flags (IsTrue g.K.Origin.told) (input g.K.Origin.limit g.K.Origin.whole) (spot c.args.run.now.bits.position c.args.run.now.nodes) i c.parts.values.items (spot old.bits.position old.nodes) there.0 kid is_part is_kid is_flag (newest c.node.new.values.items) (spot new.bits.position new.nodes)
+          (subst (λ n. FitsAt c.args.module.now n kid (newest c.node.new.values.items)) k.inner_is c.in_ok-node.ensures.fits) (λ told. (subst (λ n. node_read c.args.module.now n kid (input g.K.Origin.limit g.K.Origin.whole) (spot old.bits.position old.nodes) ≡ Ok ((newest c.node.new.values.items), (spot new.bits.position new.nodes))) k.inner_is (c.in_ok-node.ensures.gives told))) c.parts.invariant.through);
     }
 
 pub components-returns-clause-gives : goal.components-returns-clause-gives
@@ -454,9 +475,9 @@ choice-returns-in_err-index-clause-gives g t c = λ told.
     let j = stands_inside old.bits.position old.bits.taken old.bits.held old.bits.limit g.K.Origin.limit g.K.Origin.whole _ old.limited old.bits.behind old.bits.within (old.here told) in
     rw (p.1, p.2) (choice_fails c.args.module.now c.args.depth (label_of c.args.found.now) (kids_of c.args.found.now) c.args.parts.now (input g.K.Origin.limit g.K.Origin.whole) (spot old.bits.position old.nodes) g.K.Origin.limit g.K.Origin.whole c.in_err-index.field-0.0 c.number.new.self.bits.taken j (c.in_err-index.ensures.gives told))
 
-pub choice-returns-in_err-value-clause-gives : goal.choice-returns-in_err-value-clause-gives
-choice-returns-in_err-value-clause-gives g t c = λ told.
-    let p = err_from_is_err_and c.from_residual-in_err-value.result c.from_residual-in_err-value.ensures.1 in
+pub choice-returns-in_err-node-clause-gives : goal.choice-returns-in_err-node-clause-gives
+choice-returns-in_err-node-clause-gives g t c = λ told.
+    let p = err_from_is_err_and c.from_residual-in_err-node.result c.from_residual-in_err-node.ensures.1 in
     let u = c.args.found.now in
     let parts = c.args.parts.now in
     let i = c.in_ok-index.field-0 in
@@ -468,7 +489,7 @@ choice-returns-in_err-value-clause-gives g t c = λ told.
     let mid = c.number.new.self in
     let new = c.node.new.run in
     let j = stands_inside mid.bits.position mid.bits.taken mid.bits.held mid.bits.limit g.K.Origin.limit g.K.Origin.whole _ mid.limited mid.bits.behind mid.bits.within (mid.here told) in
-    rw (p.1, p.2) (alternative_fails c.args.module.now c.args.depth (label_of c.args.found.now) (kids_of c.args.found.now) c.args.parts.now (input g.K.Origin.limit g.K.Origin.whole) (spot old.bits.position old.nodes) i (spot mid.bits.position mid.nodes) there.0 kid (c.in_ok-index.ensures.gives told) is_part c.kid-kid.ensures g.K.Origin.limit g.K.Origin.whole c.in_err-value.field-0.0 new.bits.taken j (subst (λ n. FailsAt g.K.Origin.limit g.K.Origin.whole c.in_err-value.field-0.0 new.bits.taken (node_read c.args.module.now n kid (input g.K.Origin.limit g.K.Origin.whole) (spot mid.bits.position mid.nodes))) k.inner_is (c.in_err-value.ensures.gives told)))
+    rw (p.1, p.2) (alternative_fails c.args.module.now c.args.depth (label_of c.args.found.now) (kids_of c.args.found.now) c.args.parts.now (input g.K.Origin.limit g.K.Origin.whole) (spot old.bits.position old.nodes) i (spot mid.bits.position mid.nodes) there.0 kid (c.in_ok-index.ensures.gives told) is_part c.kid-kid.ensures g.K.Origin.limit g.K.Origin.whole c.in_err-node.field-0.0 new.bits.taken j (subst (λ n. FailsAt g.K.Origin.limit g.K.Origin.whole c.in_err-node.field-0.0 new.bits.taken (node_read c.args.module.now n kid (input g.K.Origin.limit g.K.Origin.whole) (spot mid.bits.position mid.nodes))) k.inner_is (c.in_err-node.ensures.gives told)))
 
 pub choice-returns-in_err-push-clause-gives : goal.choice-returns-in_err-push-clause-gives
 choice-returns-in_err-push-clause-gives g t c = λ told.
@@ -483,8 +504,19 @@ choice-returns-in_err-push-clause-gives g t c = λ told.
     let old = c.args.run.now in
     let mid = c.number.new.self in
     let new = c.node.new.run in
-    let reads = choice_reads c.args.module.now c.args.depth (label_of c.args.found.now) (kids_of c.args.found.now) c.args.parts.now (input g.K.Origin.limit g.K.Origin.whole) (spot old.bits.position old.nodes) i (spot mid.bits.position mid.nodes) there.0 kid (c.in_ok-index.ensures.gives told) is_part c.kid-kid.ensures c.in_ok-value.value (spot new.bits.position new.nodes) (subst (λ n. node_read c.args.module.now n kid (input g.K.Origin.limit g.K.Origin.whole) (spot mid.bits.position mid.nodes) ≡ Ok (c.in_ok-value.value, (spot new.bits.position new.nodes))) k.inner_is (c.in_ok-value.ensures.gives told)) in
-    rw (p.1, p.2) (omega (arith, ap end_of reads, c.in_ok-value.ensures.on.1))
+    let reads = choice_reads c.args.module.now c.args.depth (label_of c.args.found.now) (kids_of c.args.found.now) c.args.parts.now (input g.K.Origin.limit g.K.Origin.whole) (spot old.bits.position old.nodes) i (spot mid.bits.position mid.nodes) there.0 kid (c.in_ok-index.ensures.gives told) is_part c.kid-kid.ensures (newest c.node.new.values.items) (spot new.bits.position new.nodes) (subst (λ n. node_read c.args.module.now n kid (input g.K.Origin.limit g.K.Origin.whole) (spot mid.bits.position mid.nodes) ≡ Ok ((newest c.node.new.values.items), (spot new.bits.position new.nodes))) k.inner_is (c.in_ok-node.ensures.gives told)) in
+    rw (p.1, p.2) (omega (arith, ap end_of reads, c.in_ok-node.ensures.on.1))
+
+pub choice-returns-clause-pushed : goal.choice-returns-clause-pushed
+choice-returns-clause-pushed g t c = pushed-newest _ _ _ c.in_ok-push.ensures.items
+
+pub choice-returns-clause-count : goal.choice-returns-clause-count
+choice-returns-clause-count g t c =
+    rw (newest-pushed _ _ _ c.in_ok-push.ensures.items, c.join.ensures, c.in_ok-node.ensures.pushed, c.with_room-kids.ensures) (omega (arith, c.in_ok-node.ensures.count, c.in_ok-index.ensures.nodes))
+
+pub choice-returns-clause-text : goal.choice-returns-clause-text
+choice-returns-clause-text g t c =
+    rw (newest-pushed _ _ _ c.in_ok-push.ensures.items, c.join.ensures) refl
 
 pub choice-returns-clause-fits : goal.choice-returns-clause-fits
 choice-returns-clause-fits g t c =
@@ -498,7 +530,7 @@ choice-returns-clause-fits g t c =
     let old = c.args.run.now in
     let mid = c.number.new.self in
     let new = c.node.new.run in
-    rw (c.join.ensures, c.in_ok-push.ensures.items, c.with_room-values.ensures) (fit-choice c.args.module.now c.args.depth c.args.found.now parts i there.0 kid c.in_ok-value.value c.requires.form is_part c.kid-kid.ensures (subst (λ n. FitsAt c.args.module.now n kid c.in_ok-value.value) k.inner_is c.in_ok-value.ensures.fits))
+    rw (newest-pushed _ _ _ c.in_ok-push.ensures.items, c.join.ensures, c.in_ok-node.ensures.pushed, c.with_room-kids.ensures) (fit-choice c.args.module.now c.args.depth c.args.found.now parts i there.0 kid (newest c.node.new.values.items) c.requires.form is_part c.kid-kid.ensures (subst (λ n. FitsAt c.args.module.now n kid (newest c.node.new.values.items)) k.inner_is c.in_ok-node.ensures.fits))
 
 pub choice-returns-clause-gives : goal.choice-returns-clause-gives
 choice-returns-clause-gives g t c = λ told.
@@ -512,7 +544,7 @@ choice-returns-clause-gives g t c = λ told.
     let old = c.args.run.now in
     let mid = c.number.new.self in
     let new = c.node.new.run in
-    rw (c.join.ensures, c.in_ok-push.ensures.items, c.with_room-values.ensures) (choice_reads c.args.module.now c.args.depth (label_of c.args.found.now) (kids_of c.args.found.now) c.args.parts.now (input g.K.Origin.limit g.K.Origin.whole) (spot old.bits.position old.nodes) i (spot mid.bits.position mid.nodes) there.0 kid (c.in_ok-index.ensures.gives told) is_part c.kid-kid.ensures c.in_ok-value.value (spot new.bits.position new.nodes) (subst (λ n. node_read c.args.module.now n kid (input g.K.Origin.limit g.K.Origin.whole) (spot mid.bits.position mid.nodes) ≡ Ok (c.in_ok-value.value, (spot new.bits.position new.nodes))) k.inner_is (c.in_ok-value.ensures.gives told)))
+    rw (newest-pushed _ _ _ c.in_ok-push.ensures.items, c.join.ensures, c.in_ok-node.ensures.pushed, c.with_room-kids.ensures) (choice_reads c.args.module.now c.args.depth (label_of c.args.found.now) (kids_of c.args.found.now) c.args.parts.now (input g.K.Origin.limit g.K.Origin.whole) (spot old.bits.position old.nodes) i (spot mid.bits.position mid.nodes) there.0 kid (c.in_ok-index.ensures.gives told) is_part c.kid-kid.ensures (newest c.node.new.values.items) (spot new.bits.position new.nodes) (subst (λ n. node_read c.args.module.now n kid (input g.K.Origin.limit g.K.Origin.whole) (spot mid.bits.position mid.nodes) ≡ Ok ((newest c.node.new.values.items), (spot new.bits.position new.nodes))) k.inner_is (c.in_ok-node.ensures.gives told)))
 
 -- A SEQUENCE OF
 
@@ -534,8 +566,8 @@ sequence_of-list-requires g t c =
     let d = c.decreases in
     (λ κs h. (omega (arith, d, k.fewer), (h.0, (h.1, (c.below-inner.ensures.few, (c.requires.known, (k.of_module, (sizes_ordered c.args.module.now c.requires.known c.args.found.now c.requires.of part _ _ c.requires.form, c.requires.in_step))))))))
 
-pub sequence_of-returns-in_err-values-clause-gives : goal.sequence_of-returns-in_err-values-clause-gives
-sequence_of-returns-in_err-values-clause-gives g t c = λ told.
+pub sequence_of-returns-in_err-items-clause-gives : goal.sequence_of-returns-in_err-items-clause-gives
+sequence_of-returns-in_err-items-clause-gives g t c = λ told.
     let p = err_from_is_err_and c.from_residual.result c.from_residual.ensures.1 in
     let u = c.args.found.now in
     let part = c.args.part.now in
@@ -547,9 +579,37 @@ sequence_of-returns-in_err-values-clause-gives g t c = λ told.
     let old = c.args.run.now in
     let new = c.list.new.run in
     let j = stands_inside old.bits.position old.bits.taken old.bits.held old.bits.limit g.K.Origin.limit g.K.Origin.whole _ old.limited old.bits.behind old.bits.within (old.here told) in
-    let h = subst (λ n. FailsAt g.K.Origin.limit g.K.Origin.whole c.in_err-values.field-0.0 new.bits.taken (list_at c.args.min c.args.max (λ m. many_at c.args.module.now n m item) (input g.K.Origin.limit g.K.Origin.whole) (spot old.bits.position old.nodes))) k.inner_is (c.in_err-values.ensures.gives told) in
-    rw (p.1, p.2) (subst (λ o. FailsAt g.K.Origin.limit g.K.Origin.whole c.in_err-values.field-0.0 new.bits.taken (items_at (kid_at c.args.module.now c.args.depth) c.args.min c.args.max o (input g.K.Origin.limit g.K.Origin.whole) (spot old.bits.position old.nodes))) (sym is_place)
-    (list_fails c.args.module.now c.args.depth place c.args.min c.args.max (input g.K.Origin.limit g.K.Origin.whole) (spot old.bits.position old.nodes) g.K.Origin.limit g.K.Origin.whole c.in_err-values.field-0.0 new.bits.taken j h))
+    let h = subst (λ n. FailsAt g.K.Origin.limit g.K.Origin.whole c.in_err-items.field-0.0 new.bits.taken (list_at c.args.min c.args.max (λ m. many_at c.args.module.now n m item) (input g.K.Origin.limit g.K.Origin.whole) (spot old.bits.position old.nodes))) k.inner_is (c.in_err-items.ensures.gives told) in
+    rw (p.1, p.2) (subst (λ o. FailsAt g.K.Origin.limit g.K.Origin.whole c.in_err-items.field-0.0 new.bits.taken (items_at (kid_at c.args.module.now c.args.depth) c.args.min c.args.max o (input g.K.Origin.limit g.K.Origin.whole) (spot old.bits.position old.nodes))) (sym is_place)
+    (list_fails c.args.module.now c.args.depth place c.args.min c.args.max (input g.K.Origin.limit g.K.Origin.whole) (spot old.bits.position old.nodes) g.K.Origin.limit g.K.Origin.whole c.in_err-items.field-0.0 new.bits.taken j h))
+
+pub sequence_of-returns-in_err-push-clause-gives : goal.sequence_of-returns-in_err-push-clause-gives
+sequence_of-returns-in_err-push-clause-gives g t c = λ told.
+    let p = err_from_is_err_and c.from_residual-in_err-push.result c.from_residual-in_err-push.ensures.1 in
+    let u = c.args.found.now in
+    let part = c.args.part.now in
+    let item = c.kid-item.result.now in
+    let is_part : slice_get (parts_of (label_of u).form) 0 ≡ Some part = ap (λ f. slice_get (parts_of f) 0) c.requires.form in
+    let k = kid_here c.args.module.now c.requires.known c.args.found.now c.requires.of c.args.depth 0 c.below-inner.result part item c.role.result (subst HasFields (sym c.requires.form) tt) c.requires.depth is_part c.kid-item.ensures (rw c.label.ensures at c.role.ensures) c.below-inner.ensures.same in
+    let place = place_of (label_of u) 0 part item in
+    let is_place : place_at (label_of u) 0 (Some part) (slice_get (kids_of u) 0) ≡ Some place = ap (λ o. place_at (label_of u) 0 (Some part) o) c.kid-item.ensures in
+    let old = c.args.run.now in
+    let new = c.list.new.run in
+    let h = subst (λ n. (list_at c.args.min c.args.max (λ m. many_at c.args.module.now n m item) (input g.K.Origin.limit g.K.Origin.whole) (spot old.bits.position old.nodes)) ≡ Ok (c.in_ok-items.items.items, (spot new.bits.position new.nodes))) k.inner_is (c.in_ok-items.ensures.gives told) in
+    let e = list_reads c.args.module.now c.args.depth place c.args.min c.args.max (input g.K.Origin.limit g.K.Origin.whole) (spot old.bits.position old.nodes) c.in_ok-items.items.items (spot new.bits.position new.nodes) h in
+    let reads = subst (λ o. (items_at (kid_at c.args.module.now c.args.depth) c.args.min c.args.max o (input g.K.Origin.limit g.K.Origin.whole) (spot old.bits.position old.nodes)) ≡ Ok (node value.SequenceOf (roses_of c.in_ok-items.items.items), (spot new.bits.position new.nodes))) (sym is_place) e in
+    rw (p.1, p.2) (omega (arith, ap end_of reads, c.in_ok-items.ensures.on.1))
+
+pub sequence_of-returns-clause-pushed : goal.sequence_of-returns-clause-pushed
+sequence_of-returns-clause-pushed g t c = pushed-newest _ _ _ c.in_ok-push.ensures.items
+
+pub sequence_of-returns-clause-count : goal.sequence_of-returns-clause-count
+sequence_of-returns-clause-count g t c =
+    rw (newest-pushed _ _ _ c.in_ok-push.ensures.items, c.join.ensures) (omega (arith, c.in_ok-items.ensures.count))
+
+pub sequence_of-returns-clause-text : goal.sequence_of-returns-clause-text
+sequence_of-returns-clause-text g t c =
+    rw (newest-pushed _ _ _ c.in_ok-push.ensures.items, c.join.ensures) refl
 
 pub sequence_of-returns-clause-fits : goal.sequence_of-returns-clause-fits
 sequence_of-returns-clause-fits g t c =
@@ -562,7 +622,7 @@ sequence_of-returns-clause-fits g t c =
     let is_place : place_at (label_of u) 0 (Some part) (slice_get (kids_of u) 0) ≡ Some place = ap (λ o. place_at (label_of u) 0 (Some part) o) c.kid-item.ensures in
     let old = c.args.run.now in
     let new = c.list.new.run in
-    rw c.join.ensures (fit-list c.args.module.now c.args.depth c.args.found.now part c.args.min c.args.max item c.in_ok-values.values.items c.requires.form c.kid-item.ensures c.in_ok-values.ensures.size.0 c.in_ok-values.ensures.size.1 (subst (λ n. FitAll c.args.module.now n item c.in_ok-values.values.items) k.inner_is c.in_ok-values.ensures.fits))
+    rw (newest-pushed _ _ _ c.in_ok-push.ensures.items, c.join.ensures) (fit-list c.args.module.now c.args.depth c.args.found.now part c.args.min c.args.max item c.in_ok-items.items.items c.requires.form c.kid-item.ensures c.in_ok-items.ensures.size.0 c.in_ok-items.ensures.size.1 (subst (λ n. FitAll c.args.module.now n item c.in_ok-items.items.items) k.inner_is c.in_ok-items.ensures.fits))
 
 pub sequence_of-returns-clause-gives : goal.sequence_of-returns-clause-gives
 sequence_of-returns-clause-gives g t c = λ told.
@@ -575,9 +635,9 @@ sequence_of-returns-clause-gives g t c = λ told.
     let is_place : place_at (label_of u) 0 (Some part) (slice_get (kids_of u) 0) ≡ Some place = ap (λ o. place_at (label_of u) 0 (Some part) o) c.kid-item.ensures in
     let old = c.args.run.now in
     let new = c.list.new.run in
-    let h = subst (λ n. (list_at c.args.min c.args.max (λ m. many_at c.args.module.now n m item) (input g.K.Origin.limit g.K.Origin.whole) (spot old.bits.position old.nodes)) ≡ Ok (c.in_ok-values.values.items, (spot new.bits.position new.nodes))) k.inner_is (c.in_ok-values.ensures.gives told) in
-    let e = list_reads c.args.module.now c.args.depth place c.args.min c.args.max (input g.K.Origin.limit g.K.Origin.whole) (spot old.bits.position old.nodes) c.in_ok-values.values.items (spot new.bits.position new.nodes) h in
-    rw c.join.ensures (subst (λ o. (items_at (kid_at c.args.module.now c.args.depth) c.args.min c.args.max o (input g.K.Origin.limit g.K.Origin.whole) (spot old.bits.position old.nodes)) ≡ Ok (node value.SequenceOf (roses_of c.in_ok-values.values.items), (spot new.bits.position new.nodes))) (sym is_place) e)
+    let h = subst (λ n. (list_at c.args.min c.args.max (λ m. many_at c.args.module.now n m item) (input g.K.Origin.limit g.K.Origin.whole) (spot old.bits.position old.nodes)) ≡ Ok (c.in_ok-items.items.items, (spot new.bits.position new.nodes))) k.inner_is (c.in_ok-items.ensures.gives told) in
+    let e = list_reads c.args.module.now c.args.depth place c.args.min c.args.max (input g.K.Origin.limit g.K.Origin.whole) (spot old.bits.position old.nodes) c.in_ok-items.items.items (spot new.bits.position new.nodes) h in
+    rw (newest-pushed _ _ _ c.in_ok-push.ensures.items, c.join.ensures) (subst (λ o. (items_at (kid_at c.args.module.now c.args.depth) c.args.min c.args.max o (input g.K.Origin.limit g.K.Origin.whole) (spot old.bits.position old.nodes)) ≡ Ok (node value.SequenceOf (roses_of c.in_ok-items.items.items), (spot new.bits.position new.nodes))) (sym is_place) e)
 
 -- THE ITEMS, by their count
 
@@ -654,22 +714,13 @@ fragments-fragments-preserved g t c =
 
 -- ITEMS
 
-pub items-returns-in_err-value-clause-gives : goal.items-returns-in_err-value-clause-gives
-items-returns-in_err-value-clause-gives g t c = λ told.
+pub items-returns-in_err-node-clause-gives : goal.items-returns-in_err-node-clause-gives
+items-returns-in_err-node-clause-gives g t c = λ told.
     let p = err_from_is_err_and c.from_residual.result c.from_residual.ensures.1 in
     let old = c.items.run in
     let i = stands_inside old.bits.position old.bits.taken old.bits.held old.bits.limit g.K.Origin.limit g.K.Origin.whole _ old.limited old.bits.behind old.bits.within (old.here told) in
-    let k = each_fails (node_of c.args.module.now c.args.depth c.args.item.now) c.items.values.items (input g.K.Origin.limit g.K.Origin.whole) (spot old.bits.position old.nodes) 0 _ _ (replicate-drop c.args.n c.items.counter 0 c.items-test.true) (λ n. sits-node c.args.module.now c.args.depth c.args.item.now) g.K.Origin.limit g.K.Origin.whole c.in_err-value.field-0.0 c.node.new.run.bits.taken i (c.in_err-value.ensures.gives told) in
-    rw (p.1, p.2) (subst (FailsAt g.K.Origin.limit g.K.Origin.whole c.in_err-value.field-0.0 c.node.new.run.bits.taken) (c.items.invariant.so_far told) k)
-
-pub items-returns-in_err-push-clause-gives : goal.items-returns-in_err-push-clause-gives
-items-returns-in_err-push-clause-gives g t c = λ told.
-    let p = err_from_is_err_and c.from_residual-in_err-push.result c.from_residual-in_err-push.ensures.1 in
-    let old = c.items.run in
-    let new = c.node.new.run in
-    let j = stands_inside new.bits.position new.bits.taken new.bits.held new.bits.limit g.K.Origin.limit g.K.Origin.whole _ new.limited new.bits.behind new.bits.within (new.here told) in
-    let k = each_full (node_of c.args.module.now c.args.depth c.args.item.now) c.items.values.items (input g.K.Origin.limit g.K.Origin.whole) (spot old.bits.position old.nodes) 0 _ _ (replicate-drop c.args.n c.items.counter 0 c.items-test.true) (λ n. sits-node c.args.module.now c.args.depth c.args.item.now) g.K.Origin.limit g.K.Origin.whole c.in_ok-value.value (spot new.bits.position new.nodes) new.bits.taken (c.in_ok-value.ensures.gives told) j (omega (arith, c.in_ok-value.ensures.on.1)) in
-    rw (p.1, p.2) (subst (FailsAt g.K.Origin.limit g.K.Origin.whole Memory new.bits.taken) (c.items.invariant.so_far told) k)
+    let k = each_fails (node_of c.args.module.now c.args.depth c.args.item.now) c.items.values.items (input g.K.Origin.limit g.K.Origin.whole) (spot old.bits.position old.nodes) 0 _ _ (replicate-drop c.args.n c.items.counter 0 c.items-test.true) (λ n. sits-node c.args.module.now c.args.depth c.args.item.now) g.K.Origin.limit g.K.Origin.whole c.in_err-node.field-0.0 c.node.new.run.bits.taken i (c.in_err-node.ensures.gives told) in
+    rw (p.1, p.2) (subst (FailsAt g.K.Origin.limit g.K.Origin.whole c.in_err-node.field-0.0 c.node.new.run.bits.taken) (c.items.invariant.so_far told) k)
 
 pub items-items-preserved : goal.items-items-preserved
 items-items-preserved g t c =
@@ -678,16 +729,16 @@ items-items-preserved g t c =
     let old = c.items.run in
     let new = c.node.new.run in
     let front = c.items.values.items in
-    let v = c.in_ok-value.value in
+    let v = newest c.node.new.values.items in
     record {
-      in_step = c.in_ok-value.ensures.on.1;
-      on = omega (arith, c.in_ok-value.ensures.on.0, c.items.invariant.on);
+      in_step = c.in_ok-node.ensures.on.1;
+      on = omega (arith, c.in_ok-node.ensures.on.0, c.items.invariant.on);
       same = c.node.ensures.same_reference ∙ c.items.invariant.same;
-      count = rw c.in_ok-push.ensures.items (omega (arith, c.in_ok-value.ensures.count, c.items.invariant.count, count-push front v));
-      size = rw c.in_ok-push.ensures.items (omega (arith, c.items.invariant.size, length-append front (v ∷ [])));
-      fit = rw c.in_ok-push.ensures.items (all-push M c.args.depth item front v c.items.invariant.fit c.in_ok-value.ensures.fits);
-      so_far = λ told. rw c.in_ok-push.ensures.items (
-          sym (each_more (node_of M c.args.depth item) front (input g.K.Origin.limit g.K.Origin.whole) (spot old.bits.position old.nodes) 0 _ _ (replicate-drop c.args.n c.items.counter 0 c.items-test.true) v (spot new.bits.position new.nodes) (c.in_ok-value.ensures.gives told)) ∙ c.items.invariant.so_far told);
+      count = rw c.in_ok-node.ensures.pushed (omega (arith, c.in_ok-node.ensures.count, c.items.invariant.count, count-push front v));
+      size = rw c.in_ok-node.ensures.pushed (omega (arith, c.items.invariant.size, length-append front (v ∷ [])));
+      fit = rw c.in_ok-node.ensures.pushed (all-push M c.args.depth item front v c.items.invariant.fit c.in_ok-node.ensures.fits);
+      so_far = λ told. rw c.in_ok-node.ensures.pushed (
+          sym (each_more (node_of M c.args.depth item) front (input g.K.Origin.limit g.K.Origin.whole) (spot old.bits.position old.nodes) 0 _ _ (replicate-drop c.args.n c.items.counter 0 c.items-test.true) v (spot new.bits.position new.nodes) (c.in_ok-node.ensures.gives told)) ∙ c.items.invariant.so_far told);
     }
 
 pub items-returns-clause-gives : goal.items-returns-clause-gives

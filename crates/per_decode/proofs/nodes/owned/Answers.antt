@@ -1,7 +1,5 @@
-use Rattle.std.proofs.Common.{sym, subst, refl}
-use Rattle.label_tree.specs.Rose.{label_of}
+use Rattle.std.proofs.Common.{sym, subst}
 use Rattle.asn_types.specs.Modules.{AreWellFormed}
-use Rattle.asn_types.specs.Values.{OwnAt}
 use Rattle.asn_types.proofs.Inside.{of-well_formed, follow-well_formed}
 use Rattle.per_decode.proofs.nodes.owned.Goals as goal
 
@@ -11,7 +9,3 @@ is_plain-requires c =
     let t = c.args.node.now in
     let is = c.requires.known.0 in
     subst (AreWellFormed m) (sym c.requires.found) (follow-well_formed m is 4 t (of-well_formed m is t c.requires.of))
-
-pub returns-then-is_plain-clause-ok : goal.returns-then-is_plain-clause-ok
-returns-then-is_plain-clause-ok c =
-    (refl, subst (λ u. OwnAt c.args.module.now (label_of u) u c.args.value) c.requires.found (c.is_plain.ensures c.if-is_plain.true))
