@@ -49,6 +49,7 @@ pub(crate) fn boolean<S: Source, K: Origin>(
 }
 
 /// An INTEGER.
+#[inline(always)]
 #[tactic(auto, unfolding(per_fields::specs::Nodes::int_at))]
 pub(crate) fn integer<S: Source, K: Origin>(
     alloc: Global,

@@ -38,6 +38,7 @@ const MOST_DEEP: u32 = 64;
 /// How many nodes a value may have.
 const MOST_NODES: u32 = 1_048_576;
 
+#[inline(always)]
 fn below(role: Role, depth: u32) -> u32
     requires { depth ≤ 64 }
     ensures same { result ≡ bodies.below role depth }
@@ -51,6 +52,7 @@ fn below(role: Role, depth: u32) -> u32
 
 // Whether every value of a type, which is no reference, keeps the rules of its first node. LIST stands on a SEQUENCE OF
 // alone, USE-UNION on a CHOICE and EMBED-VALUES on a SEQUENCE.
+#[inline(always)]
 fn has_no_rules(module: &Module, found: &Tree<TypeLabel>) -> bool
     requires { AreWellFormed module.now found.now }
     ensures own { IsTrue result → (v : Rose ValueLabel) → OwnAt module.now (label_of found.now) found.now v }
@@ -95,6 +97,7 @@ fn owned(
 }
 
 /// A node of a type, where so many elements stand in one another down to it.
+#[inline(always)]
 #[cycle(nodes)]
 pub(crate) fn node<S: Source, K: Origin>(
     alloc: Global,
@@ -129,6 +132,7 @@ pub(crate) fn node<S: Source, K: Origin>(
 }
 
 // The fields and the kids of a node that begins at a bit, and its rules.
+#[inline(always)]
 #[cycle(nodes)]
 fn body<S: Source, K: Origin>(
     alloc: Global,
@@ -221,6 +225,7 @@ fn ruled<S: Source, K: Origin>(
 }
 
 // The fields and the kids of a node of a type that is neither a text nor a reference.
+#[inline(always)]
 #[cycle(nodes)]
 fn fields<S: Source, K: Origin>(
     alloc: Global,
@@ -269,6 +274,7 @@ fn fields<S: Source, K: Origin>(
 }
 
 // The fields and the kids of a SEQUENCE of these components.
+#[inline(never)]
 #[cycle(nodes)]
 fn sequence<S: Source, K: Origin>(
     alloc: Global,
@@ -301,6 +307,7 @@ fn sequence<S: Source, K: Origin>(
 }
 
 // The components of a SEQUENCE that are present.
+#[inline(always)]
 #[cycle(nodes)]
 fn components<S: Source, K: Origin>(
     alloc: Global,
@@ -339,6 +346,7 @@ fn components<S: Source, K: Origin>(
 }
 
 // The index and the value of a CHOICE of these alternatives.
+#[inline(never)]
 #[cycle(nodes)]
 fn choice<S: Source, K: Origin>(
     alloc: Global,
@@ -374,6 +382,7 @@ fn choice<S: Source, K: Origin>(
 }
 
 // The count and the items of a SEQUENCE OF.
+#[inline(never)]
 #[cycle(nodes)]
 fn sequence_of<S: Source, K: Origin>(
     alloc: Global,
@@ -486,6 +495,7 @@ fn fragments<S: Source, K: Origin>(
 }
 
 // So many items more, behind those that were read.
+#[inline(always)]
 #[cycle(nodes)]
 fn items<S: Source, K: Origin>(
     alloc: Global,
