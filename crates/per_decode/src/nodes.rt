@@ -28,7 +28,7 @@ use crate::run::{Origin, Run};
 use asn_types::{Component, Form, Module, Role, TypeLabel, own, resolve, role};
 use label_tree::Tree;
 use per_fields::Why;
-use simple_types::ValueLabel;
+use simple_types::{Flags, ValueLabel};
 use std::alloc::Global;
 use xa_base::Source;
 
@@ -300,13 +300,23 @@ fn sequence<S: Source, K: Origin>(
         (sequence_at (bodies.kid_at module.now depth) (label_of found.now) (kids_of found.now) parts.now) (spot run.old.bits.position run.old.nodes) }
     ensures failed { IsErrOf result Fault.Failed → HasRisen K.faults (S.faults run.new.bits.source.now) }
 {
-    let present = presence(alloc, run, parts)?;
-    let kids = components(alloc, module, run, depth, found, parts, present.items())?;
+    let mut present = Flags::none();
+    let count = presence(alloc, run, parts, &mut present)?;
+    let kids = components(
+        alloc,
+        module,
+        run,
+        depth,
+        found,
+        parts,
+        present.items(),
+        count,
+    )?;
     values.push(Tree::join(ValueLabel::Sequence { present }, kids))?;
     Ok(())
 }
 
-// The components of a SEQUENCE that are present.
+// The components of a SEQUENCE that are present, about so many: room is made for these.
 #[inline(always)]
 #[cycle(nodes)]
 fn components<S: Source, K: Origin>(
@@ -317,6 +327,7 @@ fn components<S: Source, K: Origin>(
     found: &Tree<TypeLabel>,
     parts: &[Component],
     present: &[bool],
+    count: usize,
 ) -> Result<Vec<Tree<ValueLabel>>, Fault>
     requires depth { depth ≤ 64 }
     requires known { bodies.IsKnown module.now }
@@ -332,7 +343,6 @@ fn components<S: Source, K: Origin>(
         (bodies.kids_read module.now depth (present_from (label_of found.now) 0 parts.now (kids_of found.now) present.now)) (spot run.old.bits.position run.old.nodes) }
     ensures failed { IsErrOf result Fault.Failed → HasRisen K.faults (S.faults run.new.bits.source.now) }
 {
-    let count = present.iter().filter(|flag| **flag).count();
     let mut values = with_room(alloc, count);
     'parts: for i in 0..parts.len() {
         if !present[i] {
