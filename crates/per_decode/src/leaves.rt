@@ -49,6 +49,7 @@ pub(crate) fn boolean<S: Source, K: Origin>(
 }
 
 /// An INTEGER.
+#[inline(always)]
 #[tactic(auto, unfolding(per_fields::specs::Nodes::int_at))]
 pub(crate) fn integer<S: Source, K: Origin>(
     alloc: Global,
@@ -148,6 +149,7 @@ fn copied_text(alloc: Global, octets: &[u8]) -> Result<Text, TextError>
 }
 
 // Whether a component is there.
+#[inline(always)]
 #[tactic(auto, unfolding(per_fields::specs::Nodes::flag_at))]
 fn presence_bit<S: Source, K: Origin>(run: &mut Run<S, K>, part: &Component) -> Result<bool, Fault>
     requires in_step { IsInStep run.old.bits.position run.old.bits.taken }
@@ -167,25 +169,29 @@ fn presence_bit<S: Source, K: Origin>(run: &mut Run<S, K>, part: &Component) -> 
     Ok(true)
 }
 
-/// Which components are there.
+/// Which components are there, and how many.
+#[inline(always)]
 pub(crate) fn presence<S: Source, K: Origin>(
     alloc: Global,
     run: &mut Run<S, K>,
     parts: &[Component],
-) -> Result<Flags, Fault>
+    present: &mut Flags,
+) -> Result<usize, Fault>
+    requires none { present.old ≡ [] }
     requires in_step { IsInStep run.old.bits.position run.old.bits.taken }
     ensures same_reference { run.new.bits.source.ghost_name ≡ run.old.bits.source.ghost_name }
     ensures on { OnOk result (GoesOn run.old.bits.position run.new.bits.position run.new.bits.taken) }
     ensures nodes { run.new.nodes ≡ run.old.nodes }
-    ensures present { IfOk result (λ flags. Present parts.now flags) }
-    ensures gives { IsTrue K.told → Gives K.limit K.whole (λ flags. flags) result (spot run.new.bits.position run.new.nodes) run.new.bits.taken
+    ensures present { OnOk result (Present parts.now present.new) }
+    ensures gives { IsTrue K.told → Gives K.limit K.whole (λ _. present.new) result (spot run.new.bits.position run.new.nodes) run.new.bits.taken
         (each_at flag_at parts.now) (spot run.old.bits.position run.old.nodes) }
     ensures failed { IsErrOf result Fault.Failed → HasRisen K.faults (S.faults run.new.bits.source.now) }
 {
-    let mut present = Flags::none();
-    for part in parts {
+    let mut count = 0;
+    'parts: for part in parts {
         let there = presence_bit(run, part)?;
         present.push(alloc, there)?;
+        count += usize::from(there);
     }
-    Ok(present)
+    Ok(count)
 }

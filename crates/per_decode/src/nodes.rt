@@ -28,7 +28,7 @@ use crate::run::{Origin, Run};
 use asn_types::{Component, Form, Module, Role, TypeLabel, own, resolve, role};
 use label_tree::Tree;
 use per_fields::Why;
-use simple_types::ValueLabel;
+use simple_types::{Flags, ValueLabel};
 use std::alloc::Global;
 use xa_base::Source;
 
@@ -38,6 +38,7 @@ const MOST_DEEP: u32 = 64;
 /// How many nodes a value may have.
 const MOST_NODES: u32 = 1_048_576;
 
+#[inline(always)]
 fn below(role: Role, depth: u32) -> u32
     requires { depth ≤ 64 }
     ensures same { result ≡ bodies.below role depth }
@@ -51,6 +52,7 @@ fn below(role: Role, depth: u32) -> u32
 
 // Whether every value of a type, which is no reference, keeps the rules of its first node. LIST stands on a SEQUENCE OF
 // alone, USE-UNION on a CHOICE and EMBED-VALUES on a SEQUENCE.
+#[inline(always)]
 fn has_no_rules(module: &Module, found: &Tree<TypeLabel>) -> bool
     requires { AreWellFormed module.now found.now }
     ensures own { IsTrue result → (v : Rose ValueLabel) → OwnAt module.now (label_of found.now) found.now v }
@@ -95,6 +97,7 @@ fn owned(
 }
 
 /// A node of a type, where so many elements stand in one another down to it.
+#[inline(always)]
 #[cycle(nodes)]
 pub(crate) fn node<S: Source, K: Origin>(
     alloc: Global,
@@ -129,6 +132,7 @@ pub(crate) fn node<S: Source, K: Origin>(
 }
 
 // The fields and the kids of a node that begins at a bit, and its rules.
+#[inline(always)]
 #[cycle(nodes)]
 fn body<S: Source, K: Origin>(
     alloc: Global,
@@ -221,6 +225,7 @@ fn ruled<S: Source, K: Origin>(
 }
 
 // The fields and the kids of a node of a type that is neither a text nor a reference.
+#[inline(always)]
 #[cycle(nodes)]
 fn fields<S: Source, K: Origin>(
     alloc: Global,
@@ -269,6 +274,7 @@ fn fields<S: Source, K: Origin>(
 }
 
 // The fields and the kids of a SEQUENCE of these components.
+#[inline(never)]
 #[cycle(nodes)]
 fn sequence<S: Source, K: Origin>(
     alloc: Global,
@@ -294,13 +300,24 @@ fn sequence<S: Source, K: Origin>(
         (sequence_at (bodies.kid_at module.now depth) (label_of found.now) (kids_of found.now) parts.now) (spot run.old.bits.position run.old.nodes) }
     ensures failed { IsErrOf result Fault.Failed → HasRisen K.faults (S.faults run.new.bits.source.now) }
 {
-    let present = presence(alloc, run, parts)?;
-    let kids = components(alloc, module, run, depth, found, parts, present.items())?;
+    let mut present = Flags::none();
+    let count = presence(alloc, run, parts, &mut present)?;
+    let kids = components(
+        alloc,
+        module,
+        run,
+        depth,
+        found,
+        parts,
+        present.items(),
+        count,
+    )?;
     values.push(Tree::join(ValueLabel::Sequence { present }, kids))?;
     Ok(())
 }
 
-// The components of a SEQUENCE that are present.
+// The components of a SEQUENCE that are present, about so many: room is made for these.
+#[inline(always)]
 #[cycle(nodes)]
 fn components<S: Source, K: Origin>(
     alloc: Global,
@@ -310,6 +327,7 @@ fn components<S: Source, K: Origin>(
     found: &Tree<TypeLabel>,
     parts: &[Component],
     present: &[bool],
+    count: usize,
 ) -> Result<Vec<Tree<ValueLabel>>, Fault>
     requires depth { depth ≤ 64 }
     requires known { bodies.IsKnown module.now }
@@ -325,7 +343,6 @@ fn components<S: Source, K: Origin>(
         (bodies.kids_read module.now depth (present_from (label_of found.now) 0 parts.now (kids_of found.now) present.now)) (spot run.old.bits.position run.old.nodes) }
     ensures failed { IsErrOf result Fault.Failed → HasRisen K.faults (S.faults run.new.bits.source.now) }
 {
-    let count = present.iter().filter(|flag| **flag).count();
     let mut values = with_room(alloc, count);
     'parts: for i in 0..parts.len() {
         if !present[i] {
@@ -339,6 +356,7 @@ fn components<S: Source, K: Origin>(
 }
 
 // The index and the value of a CHOICE of these alternatives.
+#[inline(never)]
 #[cycle(nodes)]
 fn choice<S: Source, K: Origin>(
     alloc: Global,
@@ -374,6 +392,7 @@ fn choice<S: Source, K: Origin>(
 }
 
 // The count and the items of a SEQUENCE OF.
+#[inline(never)]
 #[cycle(nodes)]
 fn sequence_of<S: Source, K: Origin>(
     alloc: Global,
@@ -486,6 +505,7 @@ fn fragments<S: Source, K: Origin>(
 }
 
 // So many items more, behind those that were read.
+#[inline(always)]
 #[cycle(nodes)]
 fn items<S: Source, K: Origin>(
     alloc: Global,

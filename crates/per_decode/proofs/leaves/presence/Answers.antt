@@ -1,4 +1,4 @@
-use Rattle.std.proofs.Common.{arith, sym, ◌∙◌, subst}
+use Rattle.std.proofs.Common.{arith, rules, sym, ◌∙◌, subst}
 use Rattle.std.proofs.lemmas.List.{drop_all}
 use Rattle.std.proofs.lemmas.Result.{err_from_is_err_and}
 use Rattle.per_fields.specs.Nodes.{flag_at}
@@ -14,41 +14,42 @@ pub returns-in_err-there-clause-gives : goal.returns-in_err-there-clause-gives
 returns-in_err-there-clause-gives g c = λ told.
     let p = err_from_is_err_and c.from_residual.result c.from_residual.ensures.1 in
     let X = input g.K.Origin.limit g.K.Origin.whole in
-    let run = c.loop-part.run in
+    let run = c.parts.run in
     let i = stands_inside run.bits.position run.bits.taken run.bits.held run.bits.limit g.K.Origin.limit g.K.Origin.whole _ run.limited run.bits.behind run.bits.within (run.here told) in
-    let k = each_fails flag_at c.loop-part.present X (spot run.bits.position run.nodes) c.part-item.result _ _ (here_split c.args.parts.now c.loop-part.part-index c.part-item.result c.loop-part-test.true c.part-item.is)
+    let k = each_fails flag_at c.parts.present X (spot run.bits.position run.nodes) c.part-item.result _ _ (here_split c.args.parts.now c.parts.part-index c.part-item.result c.parts-test.true c.part-item.is)
     sits-flag g.K.Origin.limit g.K.Origin.whole c.in_err-there.field-0.0 c.presence_bit.new.run.bits.taken i (c.in_err-there.ensures.gives told) in
-    rw (p.1, p.2) (subst (FailsAt g.K.Origin.limit g.K.Origin.whole c.in_err-there.field-0.0 c.presence_bit.new.run.bits.taken) (c.loop-part.invariant.so_far told) k)
+    rw (p.1, p.2) (subst (FailsAt g.K.Origin.limit g.K.Origin.whole c.in_err-there.field-0.0 c.presence_bit.new.run.bits.taken) (c.parts.invariant.so_far told) k)
 
 pub returns-in_err-push-clause-gives : goal.returns-in_err-push-clause-gives
 returns-in_err-push-clause-gives g c = λ told.
     let p = err_from_is_err_and c.from_residual-in_err-push.result c.from_residual-in_err-push.ensures.1 in
     let X = input g.K.Origin.limit g.K.Origin.whole in
-    let old = c.loop-part.run in
+    let old = c.parts.run in
     let run = c.presence_bit.new.run in
     let i = stands_inside run.bits.position run.bits.taken run.bits.held run.bits.limit g.K.Origin.limit g.K.Origin.whole _ run.limited run.bits.behind run.bits.within (run.here told) in
-    let k = each_full flag_at c.loop-part.present X (spot old.bits.position old.nodes) c.part-item.result _ _ (here_split c.args.parts.now c.loop-part.part-index c.part-item.result c.loop-part-test.true c.part-item.is)
+    let k = each_full flag_at c.parts.present X (spot old.bits.position old.nodes) c.part-item.result _ _ (here_split c.args.parts.now c.parts.part-index c.part-item.result c.parts-test.true c.part-item.is)
     sits-flag g.K.Origin.limit g.K.Origin.whole c.in_ok-there.there (spot run.bits.position run.nodes) run.bits.taken (c.in_ok-there.ensures.gives told) i (omega (arith, c.in_ok-there.ensures.on.1)) in
-    rw (p.1, p.2) (subst (FailsAt g.K.Origin.limit g.K.Origin.whole Memory run.bits.taken) (c.loop-part.invariant.so_far told) k)
+    rw (p.1, p.2) (subst (FailsAt g.K.Origin.limit g.K.Origin.whole Memory run.bits.taken) (c.parts.invariant.so_far told) k)
 
-pub loop-part-preserved : goal.loop-part-preserved
-loop-part-preserved g c =
-    let old = c.loop-part.run in
+pub parts-preserved : goal.parts-preserved
+parts-preserved g c =
+    let old = c.parts.run in
     let run = c.presence_bit.new.run in
     record {
       in_step = c.in_ok-there.ensures.on.1;
-      on = omega (arith, c.in_ok-there.ensures.on.0, c.loop-part.invariant.on);
-      nodes = c.presence_bit.ensures.nodes ∙ c.loop-part.invariant.nodes;
-      same = c.presence_bit.ensures.same_reference ∙ c.loop-part.invariant.same;
-      present = rw c.in_ok-push.ensures (present_more c.args.parts.now c.loop-part.part-index c.loop-part.present c.part-item.result c.in_ok-there.there c.loop-part-test.true c.part-item.is c.loop-part.invariant.present c.in_ok-there.ensures.there);
+      on = omega (arith, c.in_ok-there.ensures.on.0, c.parts.invariant.on);
+      few = search rules;
+      nodes = c.presence_bit.ensures.nodes ∙ c.parts.invariant.nodes;
+      same = c.presence_bit.ensures.same_reference ∙ c.parts.invariant.same;
+      present = rw c.in_ok-push.ensures (present_more c.args.parts.now c.parts.part-index c.parts.present c.part-item.result c.in_ok-there.there c.parts-test.true c.part-item.is c.parts.invariant.present c.in_ok-there.ensures.there);
       so_far = λ told. rw c.in_ok-push.ensures (
-          sym (each_more flag_at c.loop-part.present (input g.K.Origin.limit g.K.Origin.whole) (spot old.bits.position old.nodes) c.part-item.result _ _ (here_split c.args.parts.now c.loop-part.part-index c.part-item.result c.loop-part-test.true c.part-item.is)
-          c.in_ok-there.there (spot run.bits.position run.nodes) (c.in_ok-there.ensures.gives told)) ∙ c.loop-part.invariant.so_far told);
+          sym (each_more flag_at c.parts.present (input g.K.Origin.limit g.K.Origin.whole) (spot old.bits.position old.nodes) c.part-item.result _ _ (here_split c.args.parts.now c.parts.part-index c.part-item.result c.parts-test.true c.part-item.is)
+          c.in_ok-there.there (spot run.bits.position run.nodes) (c.in_ok-there.ensures.gives told)) ∙ c.parts.invariant.so_far told);
     }
 
 pub returns-clause-gives : goal.returns-clause-gives
 returns-clause-gives g c = λ told.
-    sym (c.loop-part.invariant.so_far told) ∙ each_done flag_at c.loop-part.present (input g.K.Origin.limit g.K.Origin.whole) (spot c.loop-part.run.bits.position c.loop-part.run.nodes) _ (drop_all c.loop-part.part-index c.args.parts.now c.loop-part-test.false)
+    sym (c.parts.invariant.so_far told) ∙ each_done flag_at c.parts.present (input g.K.Origin.limit g.K.Origin.whole) (spot c.parts.run.bits.position c.parts.run.nodes) _ (drop_all c.parts.part-index c.args.parts.now c.parts-test.false)
 
 pub returns-clause-present : goal.returns-clause-present
-returns-clause-present g c = present_all c.args.parts.now c.loop-part.part-index c.loop-part.present c.loop-part-test.false c.loop-part.invariant.present
+returns-clause-present g c = present_all c.args.parts.now c.parts.part-index c.parts.present c.parts-test.false c.parts.invariant.present

@@ -269,12 +269,12 @@ fields-returns-in-SequenceOf-clause-gives g t c = λ told.
 
 -- A SEQUENCE
 
-pub sequence-returns-in_err-present-clause-gives : goal.sequence-returns-in_err-present-clause-gives
-sequence-returns-in_err-present-clause-gives g t c = λ told.
+pub sequence-returns-in_err-count-clause-gives : goal.sequence-returns-in_err-count-clause-gives
+sequence-returns-in_err-count-clause-gives g t c = λ told.
     let p = err_from_is_err_and c.from_residual.result c.from_residual.ensures.1 in
     let old = c.args.run.now in
     let i = stands_inside old.bits.position old.bits.taken old.bits.held old.bits.limit g.K.Origin.limit g.K.Origin.whole _ old.limited old.bits.behind old.bits.within (old.here told) in
-    rw (p.1, p.2) (sequence_fails c.args.module.now c.args.depth (label_of c.args.found.now) (kids_of c.args.found.now) c.args.parts.now (input g.K.Origin.limit g.K.Origin.whole) (spot old.bits.position old.nodes) g.K.Origin.limit g.K.Origin.whole c.in_err-present.field-0.0 c.presence.new.run.bits.taken i (c.in_err-present.ensures.gives told))
+    rw (p.1, p.2) (sequence_fails c.args.module.now c.args.depth (label_of c.args.found.now) (kids_of c.args.found.now) c.args.parts.now (input g.K.Origin.limit g.K.Origin.whole) (spot old.bits.position old.nodes) g.K.Origin.limit g.K.Origin.whole c.in_err-count.field-0.0 c.presence.new.run.bits.taken i (c.in_err-count.ensures.gives told))
 
 pub sequence-returns-in_err-kids-clause-gives : goal.sequence-returns-in_err-kids-clause-gives
 sequence-returns-in_err-kids-clause-gives g t c = λ told.
@@ -282,7 +282,7 @@ sequence-returns-in_err-kids-clause-gives g t c = λ told.
     let old = c.args.run.now in
     let mid = c.presence.new.run in
     let i = stands_inside mid.bits.position mid.bits.taken mid.bits.held mid.bits.limit g.K.Origin.limit g.K.Origin.whole _ mid.limited mid.bits.behind mid.bits.within (mid.here told) in
-    rw (p.1, p.2) (components_fail c.args.module.now c.args.depth (label_of c.args.found.now) (kids_of c.args.found.now) c.args.parts.now (input g.K.Origin.limit g.K.Origin.whole) (spot old.bits.position old.nodes) c.in_ok-present.present (spot mid.bits.position mid.nodes) (c.in_ok-present.ensures.gives told) g.K.Origin.limit g.K.Origin.whole c.in_err-kids.field-0.0 c.components.new.run.bits.taken i (rw c.items.ensures at (c.in_err-kids.ensures.gives told)))
+    rw (p.1, p.2) (components_fail c.args.module.now c.args.depth (label_of c.args.found.now) (kids_of c.args.found.now) c.args.parts.now (input g.K.Origin.limit g.K.Origin.whole) (spot old.bits.position old.nodes) c.presence.new.present (spot mid.bits.position mid.nodes) (c.in_ok-count.ensures.gives told) g.K.Origin.limit g.K.Origin.whole c.in_err-kids.field-0.0 c.components.new.run.bits.taken i (rw c.items.ensures at (c.in_err-kids.ensures.gives told)))
 
 pub sequence-returns-in_err-push-clause-gives : goal.sequence-returns-in_err-push-clause-gives
 sequence-returns-in_err-push-clause-gives g t c = λ told.
@@ -290,7 +290,7 @@ sequence-returns-in_err-push-clause-gives g t c = λ told.
     let old = c.args.run.now in
     let mid = c.presence.new.run in
     let new = c.components.new.run in
-    let reads = sequence_reads c.args.module.now c.args.depth (label_of c.args.found.now) (kids_of c.args.found.now) c.args.parts.now (input g.K.Origin.limit g.K.Origin.whole) (spot old.bits.position old.nodes) c.in_ok-present.present (spot mid.bits.position mid.nodes) (c.in_ok-present.ensures.gives told) c.in_ok-kids.kids.items (spot new.bits.position new.nodes) (rw c.items.ensures at (c.in_ok-kids.ensures.gives told)) in
+    let reads = sequence_reads c.args.module.now c.args.depth (label_of c.args.found.now) (kids_of c.args.found.now) c.args.parts.now (input g.K.Origin.limit g.K.Origin.whole) (spot old.bits.position old.nodes) c.presence.new.present (spot mid.bits.position mid.nodes) (c.in_ok-count.ensures.gives told) c.in_ok-kids.kids.items (spot new.bits.position new.nodes) (rw c.items.ensures at (c.in_ok-kids.ensures.gives told)) in
     rw (p.1, p.2) (omega (arith, ap end_of reads, c.in_ok-kids.ensures.on.1))
 
 pub sequence-returns-clause-pushed : goal.sequence-returns-clause-pushed
@@ -298,7 +298,7 @@ sequence-returns-clause-pushed g t c = pushed-newest _ _ _ c.in_ok-push.ensures.
 
 pub sequence-returns-clause-count : goal.sequence-returns-clause-count
 sequence-returns-clause-count g t c =
-    rw (newest-pushed _ _ _ c.in_ok-push.ensures.items, c.join.ensures) (omega (arith, c.in_ok-kids.ensures.count, c.in_ok-present.ensures.nodes))
+    rw (newest-pushed _ _ _ c.in_ok-push.ensures.items, c.join.ensures) (omega (arith, c.in_ok-kids.ensures.count, c.in_ok-count.ensures.nodes))
 
 pub sequence-returns-clause-text : goal.sequence-returns-clause-text
 sequence-returns-clause-text g t c =
@@ -306,14 +306,14 @@ sequence-returns-clause-text g t c =
 
 pub sequence-returns-clause-fits : goal.sequence-returns-clause-fits
 sequence-returns-clause-fits g t c =
-    rw (newest-pushed _ _ _ c.in_ok-push.ensures.items, c.join.ensures) (fit-sequence c.args.module.now c.args.depth c.args.found.now c.args.parts.now c.in_ok-present.present c.in_ok-kids.kids.items c.requires.form (rw c.items.ensures at c.in_ok-kids.ensures.fits))
+    rw (newest-pushed _ _ _ c.in_ok-push.ensures.items, c.join.ensures) (fit-sequence c.args.module.now c.args.depth c.args.found.now c.args.parts.now c.presence.new.present c.in_ok-kids.kids.items c.requires.form (rw c.items.ensures at c.in_ok-kids.ensures.fits))
 
 pub sequence-returns-clause-gives : goal.sequence-returns-clause-gives
 sequence-returns-clause-gives g t c = λ told.
     let old = c.args.run.now in
     let mid = c.presence.new.run in
     let new = c.components.new.run in
-    rw (newest-pushed _ _ _ c.in_ok-push.ensures.items, c.join.ensures) (sequence_reads c.args.module.now c.args.depth (label_of c.args.found.now) (kids_of c.args.found.now) c.args.parts.now (input g.K.Origin.limit g.K.Origin.whole) (spot old.bits.position old.nodes) c.in_ok-present.present (spot mid.bits.position mid.nodes) (c.in_ok-present.ensures.gives told) c.in_ok-kids.kids.items (spot new.bits.position new.nodes) (rw c.items.ensures at (c.in_ok-kids.ensures.gives told)))
+    rw (newest-pushed _ _ _ c.in_ok-push.ensures.items, c.join.ensures) (sequence_reads c.args.module.now c.args.depth (label_of c.args.found.now) (kids_of c.args.found.now) c.args.parts.now (input g.K.Origin.limit g.K.Origin.whole) (spot old.bits.position old.nodes) c.presence.new.present (spot mid.bits.position mid.nodes) (c.in_ok-count.ensures.gives told) c.in_ok-kids.kids.items (spot new.bits.position new.nodes) (rw c.items.ensures at (c.in_ok-kids.ensures.gives told)))
 
 -- ITS COMPONENTS
 
