@@ -45,7 +45,7 @@ module _ (M : List Assignment) (known : IsKnown M) (t : Rose TypeLabel) (of : Is
     pub owned-own : Own M t v → owned_at M begin (resolve M t) (v, r) ≡ Ok (v, r)
     owned-own own = owned-is ∙ ap (λ b. stop_if (not b) (stop_at begin why.NotAValue r.at) (Ok (v, r))) (own_owns M (resolve M t) v own)
 
-    owned-not : (Own M t v → ⊥) → owned_at M begin (resolve M t) (v, r) ≡ Err (stop_at begin why.NotAValue r.at)
+    pub owned-not : (Own M t v → ⊥) → owned_at M begin (resolve M t) (v, r) ≡ Err (stop_at begin why.NotAValue r.at)
     owned-not wrong = owned-is ∙ by (owns M (resolve M t) v) (λ e. wrong (owns_own M (resolve M t) v wfr e))
       where
         by : (b : Bool) → (b ≡ true → ⊥) → stop_if {A = Rose ValueLabel × Spot} (not b) (stop_at begin why.NotAValue r.at) (Ok (v, r)) ≡ Err (stop_at begin why.NotAValue r.at)

@@ -22,7 +22,6 @@ ghost use Rattle.per_decode.specs.Private.Newest.{newest};
 use crate::faults::{Fault, stopped};
 use crate::leaves::{boolean, enumerated, integer, presence};
 use crate::lengths::{MOST_UNITS, Piece, UNIT};
-use crate::plain::is_plain;
 use crate::room::with_room;
 use crate::run::{Origin, Run};
 use crate::texts::text;
@@ -67,14 +66,12 @@ fn has_no_rules(module: &Module, found: &Tree<TypeLabel>) -> bool
     }
 }
 
-/// Puts a value whose fields were all read, from a bit to another, behind others, where it keeps the rules of its node,
-/// whose type is found.
+/// Puts a value whose fields were all read, from a bit to another, behind others, where it keeps the rules of its node.
 #[inline(always)]
 pub(crate) fn owned(
     alloc: Global,
     module: &Module,
     node: &Tree<TypeLabel>,
-    found: &Tree<TypeLabel>,
     value: Tree<ValueLabel>,
     begin: u64,
     end: u64,
@@ -82,12 +79,11 @@ pub(crate) fn owned(
 ) -> Result<(), Fault>
     requires known { bodies.IsKnown module.now }
     requires of { IsOf module.now node.now }
-    requires found { found.now ≡ resolve module.now node.now }
     ensures pushed { OnOk result (values.new.items ≡ values.old.items ++ value ∷ []) }
     ensures ok { OnOk result (Own module.now node.now value) }
     ensures err { IfErr result (λ fault. (fault ≡ Fault.Memory) ⊎ ((fault ≡ Fault.Stopped (record { bit = begin; why = Why.NotAValue; end = end })) × (Own module.now node.now value → ⊥))) }
 {
-    if is_plain(module, found, &value) || own(alloc, module, node, &value)? {
+    if own(alloc, module, node, &value)? {
         values.push(value)?;
         Ok(())
     } else {
@@ -194,16 +190,7 @@ fn ruled<S: Source, K: Origin>(
     let mut read = with_room(alloc, 1);
     fields(alloc, module, run, depth, found, &mut read)?;
     match read.pop() {
-        Some(value) => owned(
-            alloc,
-            module,
-            node,
-            found,
-            value,
-            begin,
-            run.position(),
-            values,
-        ),
+        Some(value) => owned(alloc, module, node, value, begin, run.position(), values),
         None => unreachable!(),
     }
 }
