@@ -1,9 +1,10 @@
 -- A node, by what comes before its fields, its fields, and its rules.
-use Rattle.std.proofs.Common.{◌≡◌, ℕ, ◌+◌, ◌*◌, ◌<◌, ◌≤◌, Bool, true, false, not, ltb, List, length, refl, sym, ap, ◌∙◌, subst, arith, Option, Result, Ok, Err, inl, inr, ◌⊎◌}
+use Rattle.std.proofs.Common.{◌≡◌, ℕ, ◌+◌, ◌*◌, ◌<◌, ◌≤◌, Bool, true, false, not, ltb, List, length, refl, sym, ap, ◌∙◌, subst, arith, Option, None, Result, Ok, Err, inl, inr, ◌⊎◌}
 use Rattle.std.specs.Prelude.{IfOk, IfErr}
 use Rattle.std.proofs.lemmas.Bool.{lt-ltb, le-ltb, lt-leb, le-leb}
-use Rattle.label_tree.specs.Rose.{Rose, label_of, kids_of}
+use Rattle.label_tree.specs.Rose.{Rose, label_of, kids_of, node, none}
 use Rattle.simple_types.specs.declared.labels.ValueLabel.{ValueLabel}
+use Rattle.simple_types.specs.declared.labels.ValueLabel.TheVariants as value
 use Rattle.asn_types.specs.declared.modules.Assignment.{Assignment}
 use Rattle.asn_types.specs.declared.types.Form.TheVariants as form
 use Rattle.asn_types.specs.declared.types.TypeLabel.{TypeLabel}
@@ -14,31 +15,67 @@ use Rattle.asn_types.proofs.Chaining.{well-formed, resolved-of-module}
 use Rattle.per_fields.specs.declared.stops.Spot.{Spot}
 use Rattle.per_fields.specs.declared.stops.Stop.{Stop}
 use Rattle.per_fields.specs.declared.stops.Why.TheVariants as why
-use Rattle.per_fields.specs.Reading.{◌>>=◌, stop_at, stop_if}
+use Rattle.per_fields.specs.Reading.{◌>>=◌, stop_at, stop_if, octets_at}
+use Rattle.per_fields.specs.Fields.{counted_at}
 use Rattle.per_fields.specs.Nodes.{text_at, content_at, is_no_text, entered_at, enter_by, owned_at, node_read}
 use Rattle.per_fields.specs.Owning.{owns}
 use Rattle.per_fields.proofs.Owns.{owns_own, own_owns}
 use Rattle.per_fields.proofs.Unfolding.{node_recursion}
 use Rattle.per_decode.specs.declared.faults.Fault.{Fault}
 use Rattle.per_decode.specs.declared.faults.Fault.TheVariants as fault
-use Rattle.per_decode.specs.Private.Giving.{spot, end_of, FailsAt, Gives, input}
-use Rattle.per_decode.specs.Private.Bodies.{IsKnown, kid_at, fields_at, body_at, text_told_at}
-use Rattle.per_fields.proofs.Codecs.{bind_ok, stop_ok, ok_is}
-use Rattle.per_decode.proofs.Ends.{Sits, SteadyReader, fails_first, sits_then, sits_if, sits_ok, sits_err}
-use Rattle.per_decode.proofs.EndNodes.{sits-node, sits-content, sits-owned, sits-text}
+use Rattle.per_decode.specs.Private.Giving.{spot, end_of, FailsAt, Shows, Gives, input}
+use Rattle.per_decode.specs.Private.Bodies.{IsKnown, kid_at, fields_at, body_at, octets_kept, kept_by}
+use Rattle.per_decode.proofs.Ends.{SteadyReader, fails_first}
+use Rattle.per_decode.proofs.EndNodes.{sits-node, sits-content, sits-owned}
 use Rattle.per_decode.proofs.Types.{of-tall}
 
-module _ (M : List Assignment) (known : IsKnown M) (depth : ℕ) (t : Rose TypeLabel) (of : IsOf M t) where
+module _ (M : List Assignment) (known : IsKnown M) (t : Rose TypeLabel) (of : IsOf M t) where
   wf : AreWellFormed M t
   wf = well-formed M t known.0 of
 
   wfr : AreWellFormed M (resolve M t)
   wfr = well-formed M (resolve M t) known.0 (resolved-of-module M t of)
 
+  -- THE RULES of a value
+  module _ (begin : ℕ) (v : Rose ValueLabel) (r : Spot) (text : is_no_text (label_of v) ≡ false) where
+    owned-is : owned_at M begin (resolve M t) (v, r) ≡ stop_if (not (owns M (resolve M t) v)) (stop_at begin why.NotAValue r.at) (Ok (v, r))
+    unfolding owned_at
+    owned-is = ap (λ b. stop_if b (stop_at begin why.NotUtf8 r.at) (stop_if (not (owns M (resolve M t) v)) (stop_at begin why.NotAValue r.at) (Ok (v, r)))) text
+
+    pub owned-own : Own M t v → owned_at M begin (resolve M t) (v, r) ≡ Ok (v, r)
+    owned-own own = owned-is ∙ ap (λ b. stop_if (not b) (stop_at begin why.NotAValue r.at) (Ok (v, r))) (own_owns M (resolve M t) v own)
+
+    pub owned-not : (Own M t v → ⊥) → owned_at M begin (resolve M t) (v, r) ≡ Err (stop_at begin why.NotAValue r.at)
+    owned-not wrong = owned-is ∙ by (owns M (resolve M t) v) (λ e. wrong (owns_own M (resolve M t) v wfr e))
+      where
+        by : (b : Bool) → (b ≡ true → ⊥) → stop_if {A = Rose ValueLabel × Spot} (not b) (stop_at begin why.NotAValue r.at) (Ok (v, r)) ≡ Err (stop_at begin why.NotAValue r.at)
+        by true k = absurd (k refl)
+        by false k = refl
+
+    owned-end : r.at ≤ end_of (owned_at M begin (resolve M t) (v, r))
+    owned-end = by (owns M (resolve M t) v) owned-is
+      where
+        by : (b : Bool) → owned_at M begin (resolve M t) (v, r) ≡ stop_if (not b) (stop_at begin why.NotAValue r.at) (Ok (v, r)) → r.at ≤ end_of (owned_at M begin (resolve M t) (v, r))
+        by true e = omega (arith, ap end_of e)
+        by false e = omega (arith, ap end_of e)
+
+    -- what they say, where octets were taken up to its end
+    pub owned_shows : {A : Type 0} (limit : ℕ) (whole : List ℕ) (taken : ℕ) (w : Rose ValueLabel) (answer : Result A Fault)
+        → 8 * taken ≤ r.at + 7 → IfOk answer (λ _. w ≡ v) → IfOk answer (λ _. Own M t v)
+        → IfErr answer (λ e. (e ≡ fault.Memory) ⊎ ((e ≡ fault.Stopped (stop_at begin why.NotAValue r.at)) × (Own M t v → ⊥)))
+        → Shows limit whole (λ _. w) answer r taken (owned_at M begin (resolve M t) (v, r))
+    owned_shows limit whole taken w (Ok x) step is own err = owned-own own ∙ ap (λ w. Ok (w, r)) (sym is)
+    owned_shows limit whole taken w (Err e) step is own err = by err
+      where
+        by : (e ≡ fault.Memory) ⊎ ((e ≡ fault.Stopped (stop_at begin why.NotAValue r.at)) × (Own M t v → ⊥)) → FailsAt limit whole e taken (owned_at M begin (resolve M t) (v, r))
+        by (inl m) = subst (λ f. FailsAt limit whole f taken (owned_at M begin (resolve M t) (v, r))) (sym m) (omega (arith, owned-end, step))
+        by (inr n) = subst (λ f. FailsAt limit whole f taken (owned_at M begin (resolve M t) (v, r))) (sym n.0) (owned-not n.1, step, refl)
+
+module _ (M : List Assignment) (known : IsKnown M) (depth : ℕ) (t : Rose TypeLabel) (of : IsOf M t) where
   -- BEFORE THE FIELDS
   module _ (X : List Bool) (s : Spot) where
     node-is : node_read M depth t X s ≡ entered_at depth s (λ r. body_at M depth s.at (resolve M t) X r)
-    node-is = node_recursion M known.0 depth t wf (of-tall M t of) X s
+    node-is = node_recursion M known.0 depth t (wf M known t of) (of-tall M t of) X s
 
     pub node-deep : 64 < depth → node_read M depth t X s ≡ Err (stop_at s.at why.TooDeep s.at)
     unfolding entered_at
@@ -71,76 +108,27 @@ module _ (M : List Assignment) (known : IsKnown M) (depth : ℕ) (t : Rose TypeL
     unfolding content_at
     text-is least most class e = rw e refl
 
-    owned_told : (r : Result (Rose ValueLabel × Spot) Stop)
-        → (r >>= λ v. owned_at M begin (resolve M t) v) ≡ ((r >>= λ v. stop_if (is_no_text (label_of v.0)) (stop_at begin why.NotUtf8 v.1.at) (Ok v)) >>= λ v. stop_if (not (owns M (resolve M t) v.0)) (stop_at begin why.NotAValue v.1.at) (Ok v))
-    unfolding owned_at
-    owned_told (Err e) = refl
-    owned_told (Ok v) = by (is_no_text (label_of v.0))
+    pub text-body : (least : ℕ) (most : Option ℕ) (class : _) → (label_of (resolve M t)).form ≡ form.Utf8 least most class → body_at M depth begin (resolve M t) X s ≡ kept_by M begin (resolve M t) (counted_at 0 None octets_at) X s
+    unfolding text_at
+    text-body least most class e = ap (λ r. r >>= λ v. owned_at M begin (resolve M t) v) (text-is least most class e) ∙ by (counted_at 0 None octets_at X s)
       where
-        by : (b : Bool) → stop_if b (stop_at begin why.NotUtf8 v.1.at) (stop_if (not (owns M (resolve M t) v.0)) (stop_at begin why.NotAValue v.1.at) (Ok v))
-            ≡ (stop_if b (stop_at begin why.NotUtf8 v.1.at) (Ok v) >>= λ v. stop_if (not (owns M (resolve M t) v.0)) (stop_at begin why.NotAValue v.1.at) (Ok v))
-        by true = refl
-        by false = refl
+        by : (r : Result (List ℕ × Spot) Stop) → ((r >>= λ x. Ok (node (value.Utf8 x.0) none, x.1)) >>= λ v. owned_at M begin (resolve M t) v) ≡ (r >>= octets_kept M begin (resolve M t))
+        by (Ok x) = refl
+        by (Err e) = refl
 
-    sits-told : (inside : s.at ≤ length X) → Sits X s.at (text_told_at begin X s)
-    sits-told inside = sits_then X s.at (text_at X s) (λ v. stop_if (is_no_text (label_of v.0)) (stop_at begin why.NotUtf8 v.1.at) (Ok v)) (sits-text X s inside) (λ v i.
-        sits_if X v.1.at (is_no_text (label_of v.0)) _ _ (sits_err X v.1.at (stop_at begin why.NotUtf8 v.1.at) (omega arith) i) (sits_ok X v.1.at v (omega arith) i))
-
-    pub text_fails : (limit : ℕ) (whole : List ℕ) (e : Fault) (taken : ℕ) (least : ℕ) (most : Option ℕ) (class : _) → (label_of (resolve M t)).form ≡ form.Utf8 least most class → s.at ≤ length X
-        → FailsAt limit whole e taken (text_told_at begin X s) → FailsAt limit whole e taken (body_at M depth begin (resolve M t) X s)
-    text_fails limit whole e taken least most class is inside h =
-        let k = fails_first limit whole e taken X (text_told_at begin X s) (λ v. stop_if (not (owns M (resolve M t) v.0)) (stop_at begin why.NotAValue v.1.at) (Ok v)) (sits-told inside).inside (λ v i.
-        sits_if X v.1.at (not (owns M (resolve M t) v.0)) _ _ (sits_err X v.1.at (stop_at begin why.NotAValue v.1.at) (omega arith) i) (sits_ok X v.1.at v (omega arith) i)) h in
-        subst (FailsAt limit whole e taken) (sym (owned_told (fields_at M depth (resolve M t) X s) ∙ ap (λ r. (r >>= λ v. stop_if (is_no_text (label_of v.0)) (stop_at begin why.NotUtf8 v.1.at) (Ok v)) >>= λ v. stop_if (not (owns M (resolve M t) v.0)) (stop_at begin why.NotAValue v.1.at) (Ok v)) (text-is least most class is))) k
-
-    -- what a text gives: its fields, which are UTF-8
-    pub text_read : (least : ℕ) (most : Option ℕ) (class : _) → (label_of (resolve M t)).form ≡ form.Utf8 least most class → (v : Rose ValueLabel) (r : Spot) → text_told_at begin X s ≡ Ok (v, r)
-        → (fields_at M depth (resolve M t) X s ≡ Ok (v, r)) × (is_no_text (label_of v) ≡ false)
-    text_read least most class is v r e =
-        let g = bind_ok (text_at X s) (λ v. stop_if (is_no_text (label_of v.0)) (stop_at begin why.NotUtf8 v.1.at) (Ok v)) (v, r) e in
-        let k = stop_ok (is_no_text (label_of g.0.0)) (stop_at begin why.NotUtf8 g.0.1.at) (Ok g.0) (v, r) g.2 in
-        let same : g.0 ≡ (v, r) = ok_is g.0 (v, r) k.1 in
-        (text-is least most class is ∙ g.1 ∙ ap (λ x. Ok x) same, subst (λ (x : Rose ValueLabel × Spot). is_no_text (label_of x.0) ≡ false) same k.0)
-
-    -- THE RULES, behind the fields
-    module _ (v : Rose ValueLabel) (r : Spot) (read : fields_at M depth (resolve M t) X s ≡ Ok (v, r)) (text : is_no_text (label_of v) ≡ false) where
-      body-is : body_at M depth begin (resolve M t) X s ≡ stop_if (not (owns M (resolve M t) v)) (stop_at begin why.NotAValue r.at) (Ok (v, r))
-      unfolding owned_at
-      body-is = ap (λ x. x >>= λ v. owned_at M begin (resolve M t) v) read ∙ ap (λ b. stop_if b (stop_at begin why.NotUtf8 r.at) (stop_if (not (owns M (resolve M t) v)) (stop_at begin why.NotAValue r.at) (Ok (v, r)))) text
-
-      pub body-own : Own M t v → body_at M depth begin (resolve M t) X s ≡ Ok (v, r)
-      body-own own = body-is ∙ ap (λ b. stop_if (not b) (stop_at begin why.NotAValue r.at) (Ok (v, r))) (own_owns M (resolve M t) v own)
-
-      pub body-not : (Own M t v → ⊥) → body_at M depth begin (resolve M t) X s ≡ Err (stop_at begin why.NotAValue r.at)
-      body-not wrong = body-is ∙ by (owns M (resolve M t) v) (λ e. wrong (owns_own M (resolve M t) v wfr e))
-        where
-          by : (b : Bool) → (b ≡ true → ⊥) → stop_if {A = Rose ValueLabel × Spot} (not b) (stop_at begin why.NotAValue r.at) (Ok (v, r)) ≡ Err (stop_at begin why.NotAValue r.at)
-          by true k = absurd (k refl)
-          by false k = refl
-
-      pub body-end : r.at ≤ end_of (body_at M depth begin (resolve M t) X s)
-      body-end = by (owns M (resolve M t) v) body-is
-        where
-          by : (b : Bool) → body_at M depth begin (resolve M t) X s ≡ stop_if (not b) (stop_at begin why.NotAValue r.at) (Ok (v, r)) → r.at ≤ end_of (body_at M depth begin (resolve M t) X s)
-          by true e = omega (arith, ap end_of e)
-          by false e = omega (arith, ap end_of e)
-
-  -- what the rules say of a value, where octets were taken up to its end
+  -- what the rules say of a value that was read, where octets were taken up to its end
   pub body_gives : {A : Type 0} (begin : ℕ) (s : Spot) (v : Rose ValueLabel) (r : Spot) (limit : ℕ) (whole : List ℕ) (taken : ℕ) (w : Rose ValueLabel) (answer : Result A Fault)
       → fields_at M depth (resolve M t) (input limit whole) s ≡ Ok (v, r) → is_no_text (label_of v) ≡ false → 8 * taken ≤ r.at + 7
       → IfOk answer (λ _. w ≡ v) → IfOk answer (λ _. Own M t v)
       → IfErr answer (λ e. (e ≡ fault.Memory) ⊎ ((e ≡ fault.Stopped (stop_at begin why.NotAValue r.at)) × (Own M t v → ⊥)))
       → Gives limit whole (λ _. w) answer r taken (body_at M depth begin (resolve M t)) s
-  body_gives begin s v r limit whole taken w (Ok x) read text step is own err = body-own begin (input limit whole) s v r read text own ∙ ap (λ w. Ok (w, r)) (sym is)
-  body_gives begin s v r limit whole taken w (Err e) read text step is own err = by err
-    where
-      by : (e ≡ fault.Memory) ⊎ ((e ≡ fault.Stopped (stop_at begin why.NotAValue r.at)) × (Own M t v → ⊥)) → FailsAt limit whole e taken (body_at M depth begin (resolve M t) (input limit whole) s)
-      by (inl m) = subst (λ f. FailsAt limit whole f taken (body_at M depth begin (resolve M t) (input limit whole) s)) (sym m) (omega (arith, body-end begin (input limit whole) s v r read text, step))
-      by (inr n) = subst (λ f. FailsAt limit whole f taken (body_at M depth begin (resolve M t) (input limit whole) s)) (sym n.0) (body-not begin (input limit whole) s v r read text n.1, step, refl)
+  body_gives begin s v r limit whole taken w answer read text step is own err =
+      subst (Shows limit whole (λ _. w) answer r taken) (sym (ap (λ x. x >>= λ v. owned_at M begin (resolve M t) v) read))
+      (owned_shows M known t of begin v r text limit whole taken w answer step is own err)
 
   -- where every value keeps the rules, the fields are all
   pub body_plain : {A : Type 0} (begin : ℕ) (s : Spot) (r : Spot) (limit : ℕ) (whole : List ℕ) (taken : ℕ) (w : Rose ValueLabel) (answer : Result A Fault)
       → s.at ≤ length (input limit whole) → ((v : Rose ValueLabel) → Own M t v) → IfOk answer (λ _. is_no_text (label_of w) ≡ false)
       → Gives limit whole (λ _. w) answer r taken (fields_at M depth (resolve M t)) s → Gives limit whole (λ _. w) answer r taken (body_at M depth begin (resolve M t)) s
-  body_plain begin s r limit whole taken w (Ok x) inside own text read = body-own begin (input limit whole) s w r read text (own w)
+  body_plain begin s r limit whole taken w (Ok x) inside own text read = ap (λ x. x >>= λ v. owned_at M begin (resolve M t) v) read ∙ owned-own M known t of begin w r text (own w)
   body_plain begin s r limit whole taken w (Err e) inside own text fails = fields_fail begin (input limit whole) s limit whole e taken inside fails

@@ -18,7 +18,7 @@ use Rattle.asn_types.specs.Values.{ComponentPlace, place_of, put_first, present_
 use Rattle.asn_types.specs.Private.Placing.{FitPlaces, FitKids}
 use Rattle.asn_types.proofs.Counting.{fit_none, fits-from_kids}
 use Rattle.per_decode.specs.declared.faults.Fault.{Fault}
-use Rattle.per_decode.specs.Private.Bodies.{FitAll, FitSome}
+use Rattle.per_decode.specs.Private.Bodies.{text_leaf, FitAll, FitSome}
 
 pub list-roses : (vs : List (Rose ValueLabel)) → list_of (roses_of vs) ≡ vs
 list-roses [] = refl
@@ -66,7 +66,7 @@ module _ (M : List Assignment) (depth : ℕ) where
     pub fit-words : (identifiers words : List (List ℕ)) (i : ℕ) → (label_of t).form ≡ form.Words identifiers words → i < length words → FitKids M depth t (node (value.Enum i) none)
     fit-words identifiers words i e lt = by_places (value.Enum i) (ap (λ f. places_in (label_of t) (kids_of t) f (value.Enum i) 0) e ∙ ap none_if (lt-ltb i (length words) lt))
 
-    pub fit-text : (least : ℕ) (most : Option ℕ) (class : _) (text : List ℕ) → (label_of t).form ≡ form.Utf8 least most class → FitKids M depth t (node (value.Utf8 text) none)
+    fit-text : (least : ℕ) (most : Option ℕ) (class : _) (text : List ℕ) → (label_of t).form ≡ form.Utf8 least most class → FitKids M depth t (node (value.Utf8 text) none)
     fit-text least most class text e = by_places (value.Utf8 text) (ap (λ f. places_in (label_of t) (kids_of t) f (value.Utf8 text) 0) e)
 
     -- NODES WITH KIDS
@@ -105,6 +105,12 @@ module _ (M : List Assignment) (depth : ℕ) where
   pub own_fits : {A : Type 0} (t : Rose TypeLabel) (v w : Rose ValueLabel) (answer : Result A Fault) → depth ≤ 64 → FitKids M depth (resolve M t) v → IfOk answer (λ _. w ≡ v) → IfOk answer (λ _. Own M t v) → IfOk answer (λ _. FitsAt M depth t w)
   own_fits t v w (Ok x) deep kids is own = subst (FitsAt M depth t) (sym is) (fits-from_kids M depth t v deep kids own)
   own_fits t v w (Err e) deep kids is own = tt
+
+  -- a text
+  pub text_fits : {A : Type 0} (t : Rose TypeLabel) (w : Rose ValueLabel) (answer : Result A Fault) → depth ≤ 64 → (least : ℕ) (most : Option ℕ) (class : _) → (label_of (resolve M t)).form ≡ form.Utf8 least most class
+      → IfOk answer (λ _. (text : List ℕ) × (w ≡ text_leaf text)) → IfOk answer (λ _. Own M t w) → IfOk answer (λ _. FitsAt M depth t w)
+  text_fits t w (Ok x) deep least most class is leaf own = fits-from_kids M depth t w deep (subst (FitKids M depth (resolve M t)) (sym leaf.1) (fit-text (resolve M t) least most class leaf.0 is)) own
+  text_fits t w (Err e) deep least most class is leaf own = tt
 
 pub own_counts : {A : Type 0} (a b : ℕ) (v w : Rose ValueLabel) (answer : Result A Fault) → a + 1 ≡ b + node_count v → IfOk answer (λ _. w ≡ v) → IfOk answer (λ _. a + 1 ≡ b + node_count w)
 own_counts a b v w (Ok x) e is = subst (λ u. a + 1 ≡ b + node_count u) (sym is) e

@@ -13,7 +13,7 @@ pub mod Presence
 pub mod Signs
 pub mod Origins
 pub mod NumberReads
-pub mod Texts
+pub mod OfOctets
 pub mod Parts
 pub mod Forms
 pub mod Lists

@@ -1,5 +1,5 @@
 -- The value that was read onto a list.
-use Rattle.std.proofs.Common.{◌≡◌, false, List, [], ◌∷◌, ◌++◌, refl, sym, ap, ◌∙◌, Result, Ok, Err}
+use Rattle.std.proofs.Common.{◌≡◌, false, List, [], ◌∷◌, ◌++◌, refl, sym, ap, ◌∙◌, subst, Result, Ok, Err}
 use Rattle.std.specs.Prelude.{IfOk}
 use Rattle.label_tree.specs.Rose.{Rose, node, none}
 use Rattle.simple_types.specs.declared.labels.ValueLabel.{ValueLabel}
@@ -28,3 +28,8 @@ newest-told (Err f) vs old v e = tt
 pub pushed-told : {A : Type 0} (answer : Result A Fault) (vs old : List (Rose ValueLabel)) (v : Rose ValueLabel) → IfOk answer (λ _. vs ≡ old ++ v ∷ []) → IfOk answer (λ _. vs ≡ old ++ newest vs ∷ [])
 pushed-told (Ok x) vs old v e = pushed-newest vs old v e
 pushed-told (Err f) vs old v e = tt
+
+-- what is known of the value is known of the newest
+pub newest-has : {A : Type 0} (P : Rose ValueLabel → Type 0) (answer : Result A Fault) (v w : Rose ValueLabel) → IfOk answer (λ _. w ≡ v) → IfOk answer (λ _. P v) → IfOk answer (λ _. P w)
+newest-has P (Ok x) v w e h = subst P (sym e) h
+newest-has P (Err f) v w e h = tt

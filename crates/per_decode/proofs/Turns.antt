@@ -47,7 +47,7 @@ count-later least most before total X s x inside e =
     let c = at_ok X s.at (count_at least most before total X s) x (sits-count least most before total X s inside) (unfold count_at in e) in
     (omega (arith, a.0, b), c.1)
 
-bind_same : {B C : Type 0} (r : Result B Stop) (f g : B → Result C Stop) → ((x : B) → r ≡ Ok x → f x ≡ g x) → (r >>= f) ≡ (r >>= g)
+pub bind_same : {B C : Type 0} (r : Result B Stop) (f g : B → Result C Stop) → ((x : B) → r ≡ Ok x → f x ≡ g x) → (r >>= f) ≡ (r >>= g)
 bind_same (Ok x) f g h = h x refl
 bind_same (Err e) f g h = refl
 
@@ -87,7 +87,7 @@ module _ {A : Type 0} (least : ℕ) (most : Option ℕ) (items : ℕ → Reader 
   abbrev pub left_at : ℕ → ℕ → Reader (List A)
   left_at before total X s = fragments_at least most items (suc (length X)) before total X s
 
-  left-step : (before total : ℕ) (X : List Bool) (s : Spot) → s.at ≤ length X → left_at before total X s ≡ (count_at least most before total X s >>= behind left_at total X)
+  pub left-step : (before total : ℕ) (X : List Bool) (s : Spot) → s.at ≤ length X → left_at before total X s ≡ (count_at least most before total X s >>= behind left_at total X)
   unfolding fragments_at
   left-step before total X s inside =
       bind_same (count_at least most before total X s) (behind (λ k total. fragments_at least most items (length X) k total) total X) (behind left_at total X)

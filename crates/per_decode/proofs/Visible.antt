@@ -2,12 +2,12 @@
 use Rattle.std.proofs.Common.{◌≡◌, ℕ, zero, suc, ◌≤◌, true, false, List, [], ◌∷◌, length, map, refl, ap, arith, Option}
 use Rattle.std.specs.Prelude.{nat_le}
 use Rattle.std.specs.List.{list_all, join_with_byte, All}
-use Rattle.std.specs.Str.{IsAscii}
+use Rattle.std.specs.Str.{IsAscii, IsUtf8}
 use Rattle.std.specs.Cmp.{first_so, second_so}
 use Rattle.std.proofs.lemmas.Bool.{leb-true, le-leb}
 use Rattle.std.proofs.lemmas.Bool.Decides.{nat_tests}
 use Rattle.std.proofs.lemmas.List.Elements.{All-nil, All-cons}
-use Rattle.std.proofs.lemmas.Str.{chars-IsAscii}
+use Rattle.std.proofs.lemmas.Str.{chars-IsAscii, IsUtf8-from_ascii}
 use Rattle.simple_types.specs.declared.simples.Class.TheVariants.{Any}
 use Rattle.simple_values.specs.Lexical.{in_class, is_at_most}
 use Rattle.simple_values.specs.Reading.{has_characters}
@@ -37,7 +37,11 @@ ascii [] h i = omega arith
 ascii (b ∷ bs) h zero = omega (arith, high b (first_so (is_visible b) (list_all is_visible bs) h))
 ascii (b ∷ bs) h (suc i) = ascii bs (second_so (is_visible b) (list_all is_visible bs) h) i
 
--- they are XML characters, one for each byte
+-- they are UTF-8
+pub plain_utf8 : (bs : List ℕ) → list_all is_visible bs ≡ true → IsUtf8 bs
+plain_utf8 bs seen = IsUtf8-from_ascii bs (ascii bs seen)
+
+-- XML characters, one for each byte
 pub plain_characters : (least : ℕ) (most : Option ℕ) (bs : List ℕ) → list_all is_visible bs ≡ true → least ≤ length bs → is_at_most (length bs) most ≡ true → has_characters least most Any bs ≡ true
 unfolding in_class
 plain_characters least most bs seen enough few =

@@ -1,5 +1,5 @@
 //! The fields of nodes without kids.
-ghost use Rattle.std.specs.Prelude.{◌≡◌, ℕ, [], ◌∷◌, ◌++◌, ◌<◌, ◌≤◌, ◌+◌, ◌-◌, ◌*◌, ◌^◌, ℤ, Bool, true, false, List, IsUtf8, IfOk, OnOk, IsErrOf, IsTrue};
+ghost use Rattle.std.specs.Prelude.{◌≡◌, ℕ, [], ◌∷◌, ◌++◌, ◌<◌, ◌≤◌, ◌+◌, ◌-◌, ◌*◌, ◌^◌, ℤ, Bool, true, false, List, IfOk, OnOk, IsErrOf, IsTrue};
 ghost use Rattle.label_tree.specs.Rose.{node, none};
 ghost use Rattle.bit_cursor.specs.Cursors.{IsInStep};
 ghost use Rattle.xa_base.specs.Faults.{HasRisen};
@@ -11,19 +11,15 @@ ghost use Rattle.per_fields.specs.Reading.{each_at};
 ghost use Rattle.per_fields.specs.Nodes.{flag_at, bool_at, int_at, enum_at};
 ghost use Rattle.per_decode.specs.Private.Standing.{GoesOn};
 ghost use Rattle.per_decode.specs.Private.Giving.{Gives, spot};
-ghost use Rattle.per_decode.specs.Private.Bodies.{text_told_at};
 ghost use Rattle.per_decode.specs.Private.Newest.{newest};
-ghost use Rattle.per_decode.specs.Private.Kept.{octets_of, HasRoom};
 
-use crate::faults::{Fault, stopped};
-use crate::lengths::Octets;
+use crate::faults::Fault;
 use crate::run::{Origin, Run};
 use asn_types::Component;
 use label_tree::Tree;
-use per_fields::Why;
 use simple_types::{Flags, ValueLabel};
 use std::alloc::Global;
-use xa_base::{Source, Text, TextError};
+use xa_base::Source;
 
 /// A BOOLEAN.
 #[tactic(auto, unfolding(per_fields::specs::Nodes::bool_at))]
@@ -97,55 +93,6 @@ pub(crate) fn enumerated<S: Source, K: Origin>(
     let item = run.number(alloc, (items - 1) as u128)?;
     values.push(Tree::leaf(alloc, ValueLabel::Enum(item as u32)))?;
     Ok(())
-}
-
-/// The text of a node that begins at a bit.
-#[inline(always)]
-pub(crate) fn text_node<S: Source, K: Origin>(
-    alloc: Global,
-    run: &mut Run<S, K>,
-    begin: u64,
-) -> Result<Tree<ValueLabel>, Fault>
-    requires in_step { IsInStep run.old.bits.position run.old.bits.taken }
-    ensures same_reference { run.new.bits.source.ghost_name ≡ run.old.bits.source.ghost_name }
-    ensures on { OnOk result (GoesOn run.old.bits.position run.new.bits.position run.new.bits.taken) }
-    ensures nodes { run.new.nodes ≡ run.old.nodes }
-    ensures leaf { IfOk result (λ v. (text : List ℕ) × (v ≡ node (value.Utf8 text) none) × IsUtf8 text) }
-    ensures gives { IsTrue K.told → Gives K.limit K.whole (λ x. x) result (spot run.new.bits.position run.new.nodes) run.new.bits.taken
-        (text_told_at begin) (spot run.old.bits.position run.old.nodes) }
-    ensures failed { IsErrOf result Fault.Failed → HasRisen K.faults (S.faults run.new.bits.source.now) }
-{
-    let octets = run.text(alloc)?;
-    match text_of(alloc, octets) {
-        Ok(text) => Ok(Tree::leaf(alloc, ValueLabel::Utf8(text))),
-        Err(TextError::NotUtf8) => Err(stopped(begin, Why::NotUtf8, run.position())),
-        Err(TextError::Memory) => Err(Fault::Memory),
-    }
-}
-
-// The text of these octets. Few ASCII characters stay in place.
-#[inline(always)]
-fn text_of(alloc: Global, octets: Octets) -> Result<Text, TextError>
-    requires { HasRoom octets }
-    ensures ok { IfOk result (λ text. (text ≡ octets_of octets) × IsUtf8 (octets_of octets)) }
-    ensures not_utf8 { IsErrOf result TextError.NotUtf8 → ¬ IsUtf8 (octets_of octets) }
-{
-    match octets {
-        Octets::Few { bytes, count } => match Text::of_ascii(bytes, count) {
-            Some(text) => Ok(text),
-            None => copied_text(alloc, &bytes[..count]),
-        },
-        Octets::Many(octets) => copied_text(alloc, &octets),
-    }
-}
-
-// The text of these octets, which are copied.
-#[inline(never)]
-fn copied_text(alloc: Global, octets: &[u8]) -> Result<Text, TextError>
-    ensures ok { IfOk result (λ text. (text ≡ octets.now) × IsUtf8 octets.now) }
-    ensures not_utf8 { IsErrOf result TextError.NotUtf8 → ¬ IsUtf8 octets.now }
-{
-    Text::of(alloc, octets)
 }
 
 // Whether a component is there.

@@ -1,8 +1,8 @@
 //! General lengths (X.691, clause 11.9), and texts behind them.
-ghost use Rattle.std.specs.Prelude.{◌≡◌, ℕ, ◌<◌, ◌≤◌, ◌+◌, ◌-◌, ◌*◌, ◌^◌, ◌++◌, false, IfOk, IfErr, length};
+ghost use Rattle.std.specs.Prelude.{◌≡◌, ℕ, ◌<◌, ◌≤◌, ◌+◌, ◌-◌, ◌*◌, ◌^◌, ◌++◌, false, IfOk, IfErr, length, take};
 ghost use Rattle.per_fields.specs.Fields.{is_out};
 ghost use Rattle.per_decode.specs.Private.Pieces.{piece_of, IsPiece};
-ghost use Rattle.per_decode.specs.Private.Kept.{octets_of, HasRoom};
+ghost use Rattle.per_decode.specs.Private.Kept.{octets_more, octets_behind};
 
 use crate::faults::{Fault, stopped};
 use crate::run::{Origin, Run};
@@ -24,14 +24,6 @@ pub(crate) enum Piece {
     Last(u32),
     /// A fragment of so many units.
     Units(u32),
-}
-
-/// The octets of a text: up to as many as a text keeps in place, or a list.
-#[derive(Drop)]
-pub(crate) enum Octets {
-    /// The first `count` bytes.
-    Few { bytes: [u8; ROOM], count: usize },
-    Many(Vec<u8>),
 }
 
 /// With what was read before it, this length passes the most, or is the last one and stays below the least.
@@ -56,9 +48,8 @@ impl<'a, S: Source, K: Origin> Run<'a, S, K> {
     ghost use Rattle.xa_base.specs.Faults.{HasRisen};
     ghost use Rattle.per_decode.specs.Private.Standing.{GoesOn};
     ghost use Rattle.per_decode.specs.Private.Giving.{Gives, spot};
-    ghost use Rattle.std.specs.Prelude.{None};
     ghost use Rattle.per_fields.specs.Reading.{octets_at};
-    ghost use Rattle.per_fields.specs.Fields.{length_from, length_here, count_here, count_at, counted_at, octet_count_here, octet_count_at};
+    ghost use Rattle.per_fields.specs.Fields.{length_from, length_here, count_here, count_at, octet_count_here, octet_count_at};
 
     // A length whose first octet is `x`, of a field that begins at a bit, behind a fragment of so many units.
     #[tactic(auto, unfolding(per_fields::specs::Fields::length_from))]
@@ -211,50 +202,62 @@ impl<'a, S: Source, K: Origin> Run<'a, S, K> {
         self.octet_count_here()
     }
 
-    // So few octets, where reading is aligned. They lie in place.
+    /// Fills the first `n` bytes with the next octets, where reading is aligned.
     #[inline(always)]
-    fn few_octets(&mut self, n: u32) -> Result<Octets, Fault>
+    pub(crate) fn fill_few(&mut self, bytes: &mut [u8; ROOM], n: u32) -> Result<(), Fault>
         requires few { n ≤ 22 }
         requires in_step { IsInStep self.old.bits.position self.old.bits.taken }
         requires aligned { self.old.bits.position % 8 ≡ 0 }
         ensures same_reference { self.new.bits.source.ghost_name ≡ self.old.bits.source.ghost_name }
         ensures on { OnOk result (GoesOn self.old.bits.position self.new.bits.position self.new.bits.taken) }
         ensures nodes { self.new.nodes ≡ self.old.nodes }
-        ensures room { IfOk result (λ octets. HasRoom octets) }
-        ensures gives { IsTrue K.told → Gives K.limit K.whole (octets_of) result (spot self.new.bits.position self.new.nodes) self.new.bits.taken
+        ensures gives { IsTrue K.told → Gives K.limit K.whole (λ done. take n bytes.new) result (spot self.new.bits.position self.new.nodes) self.new.bits.taken
             (octets_at n) (spot self.old.bits.position self.old.nodes) }
         ensures failed { IsErrOf result Fault.Failed → HasRisen K.faults (S.faults self.new.bits.source.now) }
     {
-        let count = n as usize;
-        let mut bytes = [0u8; ROOM];
-        self.fill_octets(&mut bytes[..count])?;
-        Ok(Octets::Few { bytes, count })
+        self.fill_octets(&mut bytes[..n as usize])
     }
 
-    /// The octets of a text, in fragments.
-    #[inline(always)]
-    pub(crate) fn text(&mut self, alloc: Global) -> Result<Octets, Fault>
+    /// The octets of a text behind its first length.
+    pub(crate) fn octets_behind(&mut self, alloc: Global, first: Piece) -> Result<Vec<u8>, Fault>
+        requires piece { IsPiece first }
+        requires in_step { IsInStep self.old.bits.position self.old.bits.taken }
+        requires aligned { self.old.bits.position % 8 ≡ 0 }
+        ensures same_reference { self.new.bits.source.ghost_name ≡ self.old.bits.source.ghost_name }
+        ensures on { OnOk result (GoesOn self.old.bits.position self.new.bits.position self.new.bits.taken) }
+        ensures nodes { self.new.nodes ≡ self.old.nodes }
+        ensures gives { IsTrue K.told → Gives K.limit K.whole (λ octets. octets.items) result (spot self.new.bits.position self.new.nodes) self.new.bits.taken
+            (octets_behind (piece_of first)) (spot self.old.bits.position self.old.nodes) }
+        ensures failed { IsErrOf result Fault.Failed → HasRisen K.faults (S.faults self.new.bits.source.now) }
+    {
+        match first {
+            Piece::Last(n) => self.take_octets(alloc, n),
+            Piece::Units(k) => {
+                let octets = self.take_octets(alloc, k * UNIT)?;
+                self.more_octets(alloc, octets, k)
+            }
+        }
+    }
+
+    // The octets of a text, of which these were read, behind a fragment of so many units.
+    fn more_octets(&mut self, alloc: Global, first: Vec<u8>, units: u32) -> Result<Vec<u8>, Fault>
         requires in_step { IsInStep self.old.bits.position self.old.bits.taken }
         ensures same_reference { self.new.bits.source.ghost_name ≡ self.old.bits.source.ghost_name }
         ensures on { OnOk result (GoesOn self.old.bits.position self.new.bits.position self.new.bits.taken) }
         ensures nodes { self.new.nodes ≡ self.old.nodes }
-        ensures room { IfOk result (λ octets. HasRoom octets) }
-        ensures gives { IsTrue K.told → Gives K.limit K.whole (octets_of) result (spot self.new.bits.position self.new.nodes) self.new.bits.taken
-            (counted_at 0 None octets_at) (spot self.old.bits.position self.old.nodes) }
+        ensures gives { IsTrue K.told → Gives K.limit K.whole (λ octets. octets.items) result (spot self.new.bits.position self.new.nodes) self.new.bits.taken
+            (octets_more first.items units (length first.items)) (spot self.old.bits.position self.old.nodes) }
         ensures failed { IsErrOf result Fault.Failed → HasRisen K.faults (S.faults self.new.bits.source.now) }
     {
-        let mut text = Vec::new(alloc);
-        let mut before = MOST_UNITS;
+        let mut text = first;
+        let mut before = units;
         'fragments: loop {
             let total = text.as_slice().len();
             let piece = self.count(0, None, before, total)?;
             match piece {
                 Piece::Last(n) => {
-                    if total == 0 && n as usize <= ROOM {
-                        return self.few_octets(n);
-                    }
                     let last = self.take_octets(alloc, n)?;
-                    return all_octets(text, last);
+                    return joined(text, last);
                 }
                 Piece::Units(k) => {
                     let octets = self.take_octets(alloc, k * UNIT)?;
@@ -266,27 +269,11 @@ impl<'a, S: Source, K: Origin> Run<'a, S, K> {
     }
 }
 
-// The octets behind those of a text. The first ones are not copied.
-#[inline(always)]
+// The octets behind those of a text.
 fn joined(mut text: Vec<u8>, octets: Vec<u8>) -> Result<Vec<u8>, Fault>
     ensures ok { IfOk result (λ all. all.items ≡ text.items ++ octets.items) }
     ensures memory { IfErr result (λ fault. fault ≡ Fault.Memory) }
 {
-    if text.is_empty() {
-        return Ok(octets);
-    }
     text.extend_from_slice(&octets)?;
     Ok(text)
-}
-
-// All octets of a text, of which these are the last.
-fn all_octets(text: Vec<u8>, last: Vec<u8>) -> Result<Octets, Fault>
-    ensures room { IfOk result (λ octets. HasRoom octets) }
-    ensures ok { IfOk result (λ octets. octets_of octets ≡ text.items ++ last.items) }
-    ensures memory { IfErr result (λ fault. fault ≡ Fault.Memory) }
-{
-    match joined(text, last) {
-        Ok(all) => Ok(Octets::Many(all)),
-        Err(fault) => Err(fault),
-    }
 }

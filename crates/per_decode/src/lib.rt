@@ -12,6 +12,7 @@ mod numbers;
 mod plain;
 mod room;
 mod run;
+mod texts;
 mod wholes;
 
 pub use decoded::Decoded;

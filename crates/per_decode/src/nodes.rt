@@ -20,11 +20,11 @@ ghost use Rattle.per_decode.specs.Private.Bodies as bodies;
 ghost use Rattle.per_decode.specs.Private.Newest.{newest};
 
 use crate::faults::{Fault, stopped};
-use crate::leaves::{boolean, enumerated, integer, presence, text_node};
+use crate::leaves::{boolean, enumerated, integer, presence};
 use crate::lengths::{MOST_UNITS, Piece, UNIT};
-use crate::plain::is_plain;
 use crate::room::with_room;
 use crate::run::{Origin, Run};
+use crate::texts::text;
 use asn_types::{Component, Form, Module, Role, TypeLabel, own, resolve, role};
 use label_tree::Tree;
 use per_fields::Why;
@@ -68,14 +68,12 @@ fn has_no_rules(module: &Module, found: &Tree<TypeLabel>) -> bool
     }
 }
 
-// Puts a value whose fields were all read, from a bit to another, behind others, where it keeps the rules of its node,
-// whose type is found.
+/// Puts a value whose fields were all read, from a bit to another, behind others, where it keeps the rules of its node.
 #[inline(always)]
-fn owned(
+pub(crate) fn owned(
     alloc: Global,
     module: &Module,
     node: &Tree<TypeLabel>,
-    found: &Tree<TypeLabel>,
     value: Tree<ValueLabel>,
     begin: u64,
     end: u64,
@@ -83,12 +81,11 @@ fn owned(
 ) -> Result<(), Fault>
     requires known { bodies.IsKnown module.now }
     requires of { IsOf module.now node.now }
-    requires found { found.now ≡ resolve module.now node.now }
     ensures pushed { OnOk result (values.new.items ≡ values.old.items ++ value ∷ []) }
     ensures ok { OnOk result (Own module.now node.now value) }
     ensures err { IfErr result (λ fault. (fault ≡ Fault.Memory) ⊎ ((fault ≡ Fault.Stopped (record { bit = begin; why = Why.NotAValue; end = end })) × (Own module.now node.now value → ⊥))) }
 {
-    if is_plain(module, found, &value) || own(alloc, module, node, &value)? {
+    if own(alloc, module, node, &value)? {
         values.push(value)?;
         Ok(())
     } else {
@@ -157,13 +154,16 @@ fn body<S: Source, K: Origin>(
     ensures failed { IsErrOf result Fault.Failed → HasRisen K.faults (S.faults run.new.bits.source.now) }
 {
     let found = resolve(module, node);
+    if let Form::Utf8 { .. } = &found.label().form {
+        return text(alloc, module, run, node, found, begin, values);
+    }
     if has_no_rules(module, found) {
         return fields(alloc, module, run, depth, found, values);
     }
     ruled(alloc, module, run, depth, node, found, begin, values)
 }
 
-// The same of a node whose values may break its rules, where its type is found.
+// The same of a node whose values may break its rules, where its type is found and no text.
 #[inline(never)]
 #[cycle(nodes)]
 fn ruled<S: Source, K: Origin>(
@@ -180,6 +180,7 @@ fn ruled<S: Source, K: Origin>(
     requires known { bodies.IsKnown module.now }
     requires of { IsOf module.now node.now }
     requires found { found.now ≡ resolve module.now node.now }
+    requires form { bodies.IsNoText (label_of found.now).form }
     requires in_step { IsInStep run.old.bits.position run.old.bits.taken }
     ensures same_reference { run.new.bits.source.ghost_name ≡ run.old.bits.source.ghost_name }
     ensures on { OnOk result (GoesOn run.old.bits.position run.new.bits.position run.new.bits.taken) }
@@ -190,37 +191,11 @@ fn ruled<S: Source, K: Origin>(
         (bodies.body_at module.now depth begin (resolve module.now node.now)) (spot run.old.bits.position run.old.nodes) }
     ensures failed { IsErrOf result Fault.Failed → HasRisen K.faults (S.faults run.new.bits.source.now) }
 {
-    match &found.label().form {
-        Form::Utf8 { .. } => {
-            let value = text_node(alloc, run, begin)?;
-            owned(
-                alloc,
-                module,
-                node,
-                found,
-                value,
-                begin,
-                run.position(),
-                values,
-            )
-        }
-        _ => {
-            let mut read = with_room(alloc, 1);
-            fields(alloc, module, run, depth, found, &mut read)?;
-            match read.pop() {
-                Some(value) => owned(
-                    alloc,
-                    module,
-                    node,
-                    found,
-                    value,
-                    begin,
-                    run.position(),
-                    values,
-                ),
-                None => unreachable!(),
-            }
-        }
+    let mut read = with_room(alloc, 1);
+    fields(alloc, module, run, depth, found, &mut read)?;
+    match read.pop() {
+        Some(value) => owned(alloc, module, node, value, begin, run.position(), values),
+        None => unreachable!(),
     }
 }
 

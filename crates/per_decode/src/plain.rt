@@ -4,11 +4,13 @@ ghost use Rattle.std.specs.List.{list_all};
 ghost use Rattle.label_tree.specs.Rose.{label_of};
 ghost use Rattle.asn_types.specs.Modules.{AreWellFormed};
 ghost use Rattle.asn_types.specs.Values.{IsTextOf, OwnAt};
+ghost use Rattle.simple_types.specs.declared.labels.ValueLabel.TheVariants as value;
 ghost use Rattle.per_decode.specs.Private.Visible.{is_visible};
+ghost use Rattle.per_decode.specs.Private.Bodies.{text_leaf};
 
 use asn_types::{Form, Module, TypeLabel};
 use label_tree::Tree;
-use simple_types::{Class, ValueLabel};
+use simple_types::Class;
 use simple_values::is_at_most;
 
 fn is_visible(byte: u8) -> bool
@@ -25,37 +27,31 @@ fn are_visible(bytes: &[u8]) -> bool
 }
 
 // Whether a text has visible ASCII characters alone, and is within the size of a type of any characters (`Class::Any`).
-#[tactic(auto, using(crate::proofs::Visible::plain_characters, crate::proofs::Visible::plain_treated))]
+#[tactic(auto, using(crate::proofs::Visible::plain_utf8, crate::proofs::Visible::plain_characters, crate::proofs::Visible::plain_treated))]
 #[inline(always)]
-fn is_plain_text(label: &TypeLabel, value: &ValueLabel) -> bool
-    ensures { IsTrue result → IsTextOf label.now.form label.now.marks value.now }
+fn is_plain_text(label: &TypeLabel, bytes: &[u8]) -> bool
+    ensures { IsTrue result → IsTextOf label.now.form label.now.marks (value.Utf8 bytes.now) }
 {
     match &label.form {
         Form::Utf8 {
             min,
             max,
             class: Class::Any,
-        } => match value {
-            ValueLabel::Utf8(text) => {
-                let bytes = text.bytes();
-                are_visible(bytes) && *min as usize <= bytes.len() && is_at_most(bytes.len(), *max)
-            }
-            _ => false,
-        },
+        } => { are_visible(bytes) && *min as usize <= bytes.len() && is_at_most(bytes.len(), *max) }
         _ => false,
     }
 }
 
-/// Whether a value is such a text, and so keeps the rules of its type, which is no reference. Other values may keep them
+/// Whether these bytes are such a text, and so keep the rules of a type, which is no reference. Other texts may keep them
 /// too.
 #[inline(always)]
-pub(crate) fn is_plain(module: &Module, found: &Tree<TypeLabel>, value: &Tree<ValueLabel>) -> bool
+pub(crate) fn is_plain(module: &Module, found: &Tree<TypeLabel>, bytes: &[u8]) -> bool
     requires { AreWellFormed module.now found.now }
-    ensures { IsTrue result → OwnAt module.now (label_of found.now) found.now value.now }
+    ensures { IsTrue result → OwnAt module.now (label_of found.now) found.now (text_leaf bytes.now) }
 {
     let label = found.label();
     match &label.form {
-        Form::Utf8 { .. } => is_plain_text(label, value.label()),
+        Form::Utf8 { .. } => is_plain_text(label, bytes),
         _ => false,
     }
 }

@@ -1,7 +1,8 @@
 -- Parts of the reading of a node, as the code has them.
-use Rattle.std.specs.Prelude.{ℕ, Option, Some, None, List, [], ◌∷◌, ◌++◌, slice_get, replicate, Ok}
-use Rattle.label_tree.specs.Rose.{Rose, Roses, label_of, kids_of}
+use Rattle.std.specs.Prelude.{ℕ, Result, Option, Some, None, List, [], ◌∷◌, ◌++◌, slice_get, replicate, Ok}
+use Rattle.label_tree.specs.Rose.{Rose, Roses, label_of, kids_of, node, none}
 use Rattle.simple_types.specs.declared.labels.ValueLabel.{ValueLabel}
+use Rattle.simple_types.specs.declared.labels.ValueLabel.TheVariants as value
 use Rattle.asn_types.specs.declared.modules.Assignment.{Assignment}
 use Rattle.asn_types.specs.declared.roles.Role.{Role}
 use Rattle.asn_types.specs.declared.types.Component.{Component}
@@ -12,9 +13,10 @@ use Rattle.asn_types.specs.Bounds.{IsBounded}
 use Rattle.asn_types.specs.Modules.{IsModule}
 use Rattle.asn_types.specs.Values as values
 use Rattle.asn_types.specs.Values.{ComponentPlace, FitEach, FitsAt, place_at}
-use Rattle.per_fields.specs.declared.stops.Why.TheVariants.{NotUtf8}
-use Rattle.per_fields.specs.Reading.{◌>>=◌, Reader, stop_at, stop_if, each_at}
-use Rattle.per_fields.specs.Nodes.{text_at, content_at, owned_at, is_no_text, node_read, nothing_at, last_at}
+use Rattle.per_fields.specs.declared.stops.Spot.{Spot}
+use Rattle.per_fields.specs.declared.stops.Stop.{Stop}
+use Rattle.per_fields.specs.Reading.{◌>>=◌, Reader, each_at}
+use Rattle.per_fields.specs.Nodes.{content_at, owned_at, node_read, nothing_at, last_at}
 
 abbrev pub below : Role → ℕ → ℕ
 below role depth = values.below role depth
@@ -34,11 +36,16 @@ abbrev pub IsNoText : Form → Type 0
 IsNoText (form.Utf8 least most class) = ⊥
 IsNoText _ = Unit {0}
 
--- a text of a node that begins at a bit, where its octets are UTF-8
-abbrev pub text_told_at : ℕ → Reader (Rose ValueLabel)
-text_told_at begin X s = do
-  v ← text_at X s
-  stop_if (is_no_text (label_of v.0)) (stop_at begin NotUtf8 v.1.at) (Ok v)
+abbrev pub text_leaf : List ℕ → Rose ValueLabel
+text_leaf octets = node (value.Utf8 octets) none
+
+-- the octets of a text of a node that begins at a bit, and its rules
+module _ (M : List Assignment) (begin : ℕ) (t : Rose TypeLabel) where
+  abbrev pub octets_kept : List ℕ × Spot → Result (Rose ValueLabel × Spot) Stop
+  octets_kept x = owned_at M begin t (text_leaf x.0, x.1)
+
+  abbrev pub kept_by : Reader (List ℕ) → Reader (Rose ValueLabel)
+  kept_by octets X s = octets X s >>= octets_kept
 
 module _ (M : List Assignment) (depth : ℕ) where
   -- a kid of a node, where so many elements stand in one another down to the node

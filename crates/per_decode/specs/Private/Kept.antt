@@ -1,13 +1,13 @@
--- The octets of a text, in place or in a list.
-use Rattle.std.specs.Prelude.{ℕ, ◌≤◌, List, take}
-use Rattle.per_decode.specs.declared.lengths.Octets.{Octets}
-use Rattle.per_decode.specs.declared.lengths.Octets.TheVariants.{Few, Many}
+-- The octets of a text, as they are read.
+use Rattle.std.specs.Prelude.{ℕ, suc, ◌*◌, ◌++◌, List, length, None, Ok}
+use Rattle.per_fields.specs.Reading.{◌>>=◌, Reader, octets_at}
+use Rattle.per_fields.specs.Fields.{Piece, Last, Units, unit, fragments_at}
 
-abbrev pub octets_of : Octets → List ℕ
-octets_of (Few bytes count) = take count bytes
-octets_of (Many octets) = octets.items
+-- behind these octets, where so many were read, and the last fragment had so many units
+abbrev pub octets_more : List ℕ → ℕ → ℕ → Reader (List ℕ)
+octets_more front before total X s = fragments_at 0 None octets_at (suc (length X)) before total X s >>= λ b. Ok (front ++ b.0, b.1)
 
--- so many octets have room in place
-abbrev pub HasRoom : Octets → Type 0
-HasRoom (Few bytes count) = count ≤ 22
-HasRoom (Many octets) = Unit {0}
+-- behind the first length
+abbrev pub octets_behind : Piece → Reader (List ℕ)
+octets_behind (Last n) X s = octets_at n X s
+octets_behind (Units k) X s = octets_at (k * unit) X s >>= λ a. octets_more a.0 k (k * unit) X a.1

@@ -4,6 +4,7 @@ use Rattle.std.proofs.lemmas.List.{length-append, drop_all}
 use Rattle.std.proofs.lemmas.Result.{err_from_is_err_and, on_ok_weaker}
 use Rattle.label_tree.specs.Rose.{Rose, node, label_of, kids_of, roses_of}
 use Rattle.simple_types.specs.declared.labels.ValueLabel.TheVariants as value
+use Rattle.asn_types.specs.declared.types.Form.TheVariants as form
 use Rattle.asn_types.specs.declared.types.TypeLabel.{TypeLabel}
 use Rattle.asn_types.specs.Parts.{parts_of}
 use Rattle.asn_types.specs.Private.Placing.{FitKids}
@@ -17,9 +18,9 @@ use Rattle.per_fields.specs.Fields.{fragments_at, counted_at, list_at}
 use Rattle.per_fields.specs.Nodes.{node_read, items_at, is_no_text}
 use Rattle.per_decode.specs.Private.Giving.{input, spot, end_of, FailsAt, Gives}
 use Rattle.per_decode.specs.Private.Bodies.{HasFields, IsNoText, fields_at, kid_at, node_of, many_at, FitAll}
-use Rattle.per_decode.proofs.Bodies.{node-deep, node-many, node-goes, fields_fail, text_fails, text_read, body_gives, body_plain}
+use Rattle.per_decode.proofs.Bodies.{node-deep, node-many, node-goes, fields_fail, text-body, body_gives, body_plain}
 use Rattle.per_decode.proofs.EndNodes.{sits-node}
-use Rattle.per_decode.proofs.Fitting.{count-push, all-push, own_fits, own_counts, fit-bool, fit-int, fit-numbers, fit-words, fit-text, fit-sequence, fit-choice, fit-list}
+use Rattle.per_decode.proofs.Fitting.{count-push, all-push, own_fits, own_counts, text_fits, fit-bool, fit-int, fit-numbers, fit-words, fit-sequence, fit-choice, fit-list}
 use Rattle.per_decode.proofs.Forms.{shows_as, fields-bool, fields-int, fields-numbers, fields-words, fields-sequence, fields-choice, fields-list, sequence_fails, sequence_reads, components_fail, choice_fails, choice_reads, alternative_fails}
 use Rattle.per_decode.proofs.Lists.{steady-items, list-none, list-large, count_fails, count_told, list_fails, list_reads}
 use Rattle.per_decode.proofs.Loop.{with_front, each_more, each_fails, each_done, through_none, through_skip, through_more, through_fails, through_end, through_fit}
@@ -53,6 +54,25 @@ node-returns-clause-gives g t c = λ told.
     shows_as g.K.Origin.limit g.K.Origin.whole (λ _. newest c.body.new.values.items) c.body.result _ _ _ _ goes (rw c.position-begin.ensures at (c.body.ensures.gives told))
 
 -- ITS FIELDS AND ITS RULES
+
+pub body-returns-in-Utf8 : goal.body-returns-in-Utf8
+body-returns-in-Utf8 g t c =
+    let M = c.args.module.now in
+    let u = c.args.node.now in
+    let v = newest c.text.new.values.items in
+    let is : (label_of (resolve M u)).form ≡ form.Utf8 c.in-Utf8.min c.in-Utf8.max c.in-Utf8.class = ap (λ (u : Rose TypeLabel). (label_of u).form) (sym c.resolve-found.ensures) ∙ ap (λ (l : TypeLabel). l.form) (sym c.label.ensures) ∙ c.in-Utf8.is in
+    record {
+      same_reference = search rules;
+      on = search rules;
+      pushed = search rules;
+      count = on_ok_weaker c.text.result (λ h. rw h.1 (omega (arith, c.text.ensures.nodes))) c.text.ensures.leaf;
+      fits = text_fits M c.args.depth u v c.text.result c.requires.depth _ _ _ is c.text.ensures.leaf c.text.ensures.own;
+      gives = λ told.
+          let old = c.args.run.now in
+          let new = c.text.new.run in
+          shows_as g.K.Origin.limit g.K.Origin.whole (λ _. v) c.text.result _ _ _ _ (text-body M c.requires.known c.args.depth u c.requires.of c.args.begin (input g.K.Origin.limit g.K.Origin.whole) (spot old.bits.position old.nodes) _ _ _ is) (c.text.ensures.gives told);
+      failed = search rules;
+    }
 
 pub body-has_no_rules-requires : goal.body-has_no_rules-requires
 body-has_no_rules-requires g t c =
@@ -96,21 +116,12 @@ ruled-fields-requires g t c =
     let M = c.args.module.now in
     let d = c.decreases in
     let e = resolved-levels M c.requires.known c.args.depth c.args.node.now c.requires.of in
-    let no = c.in_default.not-Utf8 in
-    let form_is : c.label.result.now.form ≡ (label_of (resolve c.args.module.now c.args.node.now)).form = ap (λ (l : TypeLabel). l.form) c.label.ensures ∙ ap (λ (u : Rose TypeLabel). (label_of u).form) c.requires.found in
-    let has = resolved-fields M c.requires.known c.args.node.now c.requires.of (λ least most class is. no least most class (form_is ∙ is)) in
+    let plain = subst (λ (u : Rose TypeLabel). IsNoText (label_of u).form) c.requires.found c.requires.form in
+    let has = resolved-fields M c.requires.known c.args.node.now c.requires.of (λ least most class is. subst IsNoText is plain) in
     rw c.requires.found (λ κs h. (omega (arith, d, e), (h.0, (h.1, (c.requires.depth, (c.requires.known, (resolved-of-module M c.args.node.now c.requires.of, (has, c.requires.in_step))))))))
 
-pub ruled-returns-in_err-value-in-Utf8-clause-gives : goal.ruled-returns-in_err-value-in-Utf8-clause-gives
-ruled-returns-in_err-value-in-Utf8-clause-gives g t c = λ told.
-    let p = err_from_is_err_and c.from_residual.result c.from_residual.ensures.1 in
-    let is = ap (λ (u : Rose TypeLabel). (label_of u).form) (sym c.requires.found) ∙ ap (λ (l : TypeLabel). l.form) (sym c.label.ensures) ∙ c.in-Utf8.is in
-    let old = c.args.run.now in
-    let i = stands_inside old.bits.position old.bits.taken old.bits.held old.bits.limit g.K.Origin.limit g.K.Origin.whole _ old.limited old.bits.behind old.bits.within (old.here told) in
-    rw (p.1, p.2) (text_fails c.args.module.now c.requires.known c.args.depth c.args.node.now c.requires.of c.args.begin (input g.K.Origin.limit g.K.Origin.whole) (spot old.bits.position old.nodes) g.K.Origin.limit g.K.Origin.whole c.in_err-value-in-Utf8.field-0.0 c.text_node.new.run.bits.taken _ _ _ is i (c.in_err-value-in-Utf8.ensures.gives told))
-
-pub ruled-returns-in_err-fields-in_default : goal.ruled-returns-in_err-fields-in_default
-ruled-returns-in_err-fields-in_default g t c =
+pub ruled-returns-in_err-fields : goal.ruled-returns-in_err-fields
+ruled-returns-in_err-fields g t c =
     record {
       same_reference = search rules;
       on = search rules;
@@ -118,59 +129,34 @@ ruled-returns-in_err-fields-in_default g t c =
       count = search rules;
       fits = search rules;
       gives = λ told.
-          let p = err_from_is_err_and c.from_residual-in_err-fields-in_default.result c.from_residual-in_err-fields-in_default.ensures.1 in
+          let p = err_from_is_err_and c.from_residual.result c.from_residual.ensures.1 in
           let old = c.args.run.now in
           let i = stands_inside old.bits.position old.bits.taken old.bits.held old.bits.limit g.K.Origin.limit g.K.Origin.whole _ old.limited old.bits.behind old.bits.within (old.here told) in
-          rw (p.1, p.2) (fields_fail c.args.module.now c.requires.known c.args.depth c.args.node.now c.requires.of c.args.begin (input g.K.Origin.limit g.K.Origin.whole) (spot old.bits.position old.nodes) g.K.Origin.limit g.K.Origin.whole c.in_err-fields-in_default.field-0.0 c.fields.new.run.bits.taken i (rw c.requires.found at (c.in_err-fields-in_default.ensures.gives told)));
+          rw (p.1, p.2) (fields_fail c.args.module.now c.requires.known c.args.depth c.args.node.now c.requires.of c.args.begin (input g.K.Origin.limit g.K.Origin.whole) (spot old.bits.position old.nodes) g.K.Origin.limit g.K.Origin.whole c.in_err-fields.field-0.0 c.fields.new.run.bits.taken i (rw c.requires.found at (c.in_err-fields.ensures.gives told)));
       failed = search rules;
     }
 
-pub ruled-returns-in_ok-value-in-Utf8-clause-pushed : goal.ruled-returns-in_ok-value-in-Utf8-clause-pushed
-ruled-returns-in_ok-value-in-Utf8-clause-pushed g t c = pushed-told c.owned.result _ _ _ c.owned.ensures.pushed
-
-pub ruled-returns-in_ok-value-in-Utf8-clause-count : goal.ruled-returns-in_ok-value-in-Utf8-clause-count
-ruled-returns-in_ok-value-in-Utf8-clause-count g t c =
-    let v = c.in_ok-value-in-Utf8.value in
-    own_counts _ _ v (newest c.owned.new.values.items) c.owned.result (rw c.in_ok-value-in-Utf8.ensures.leaf.1 (omega (arith, c.in_ok-value-in-Utf8.ensures.nodes))) (newest-told c.owned.result _ _ v c.owned.ensures.pushed)
-
-pub ruled-returns-in_ok-value-in-Utf8-clause-fits : goal.ruled-returns-in_ok-value-in-Utf8-clause-fits
-ruled-returns-in_ok-value-in-Utf8-clause-fits g t c =
-    let is = ap (λ (u : Rose TypeLabel). (label_of u).form) (sym c.requires.found) ∙ ap (λ (l : TypeLabel). l.form) (sym c.label.ensures) ∙ c.in-Utf8.is in
-    let M = c.args.module.now in
-    let v = c.in_ok-value-in-Utf8.value in
-    let leaf = c.in_ok-value-in-Utf8.ensures.leaf in
-    own_fits M c.args.depth c.args.node.now v (newest c.owned.new.values.items) c.owned.result c.requires.depth (subst (FitKids M c.args.depth (resolve c.args.module.now c.args.node.now)) (sym leaf.1) (fit-text M c.args.depth (resolve c.args.module.now c.args.node.now) _ _ _ leaf.0 is)) (newest-told c.owned.result _ _ v c.owned.ensures.pushed) c.owned.ensures.ok
-
-pub ruled-returns-in_ok-value-in-Utf8-clause-gives : goal.ruled-returns-in_ok-value-in-Utf8-clause-gives
-ruled-returns-in_ok-value-in-Utf8-clause-gives g t c = λ told.
-    let is = ap (λ (u : Rose TypeLabel). (label_of u).form) (sym c.requires.found) ∙ ap (λ (l : TypeLabel). l.form) (sym c.label.ensures) ∙ c.in-Utf8.is in
-    let old = c.args.run.now in
-    let new = c.text_node.new.run in
-    let v = c.in_ok-value-in-Utf8.value in
-    let read = text_read c.args.module.now c.requires.known c.args.depth c.args.node.now c.requires.of c.args.begin (input g.K.Origin.limit g.K.Origin.whole) (spot old.bits.position old.nodes) _ _ _ is v (spot new.bits.position new.nodes) (c.in_ok-value-in-Utf8.ensures.gives told) in
-    body_gives c.args.module.now c.requires.known c.args.depth c.args.node.now c.requires.of c.args.begin (spot old.bits.position old.nodes) v (spot new.bits.position new.nodes) g.K.Origin.limit g.K.Origin.whole new.bits.taken (newest c.owned.new.values.items) c.owned.result read.0 read.1 (omega (arith, c.in_ok-value-in-Utf8.ensures.on.1)) (newest-told c.owned.result _ _ v c.owned.ensures.pushed) c.owned.ensures.ok (rw c.position.ensures at c.owned.ensures.err)
-
-pub ruled-returns-in-Some : goal.ruled-returns-in-Some
-ruled-returns-in-Some g t c =
+pub ruled-returns : goal.ruled-returns
+ruled-returns g t c =
     let M = c.args.module.now in
     let v = c.in-Some.value in
-    let w = newest c.owned-in-Some.new.values.items in
+    let w = newest c.owned.new.values.items in
     let is : newest c.fields.new.values.items ≡ v = newest-pushed _ _ _ c.in-Some.ensures.items in
-    let same = newest-told c.owned-in-Some.result _ _ v c.owned-in-Some.ensures.pushed in
+    let same = newest-told c.owned.result _ _ v c.owned.ensures.pushed in
     record {
       same_reference = search rules;
       on = search rules;
-      pushed = pushed-told c.owned-in-Some.result _ _ v c.owned-in-Some.ensures.pushed;
-      count = own_counts _ _ v w c.owned-in-Some.result (rw is at c.in_ok-fields-in_default.ensures.count) same;
-      fits = own_fits M c.args.depth c.args.node.now v w c.owned-in-Some.result c.requires.depth (subst (FitKids M c.args.depth (resolve M c.args.node.now)) is (subst (λ u. FitKids M c.args.depth u (newest c.fields.new.values.items)) c.requires.found c.in_ok-fields-in_default.ensures.fits)) same c.owned-in-Some.ensures.ok;
+      pushed = pushed-told c.owned.result _ _ v c.owned.ensures.pushed;
+      count = own_counts _ _ v w c.owned.result (rw is at c.in_ok-fields.ensures.count) same;
+      fits = own_fits M c.args.depth c.args.node.now v w c.owned.result c.requires.depth (subst (FitKids M c.args.depth (resolve M c.args.node.now)) is (subst (λ u. FitKids M c.args.depth u (newest c.fields.new.values.items)) c.requires.found c.in_ok-fields.ensures.fits)) same c.owned.ensures.ok;
       gives = λ told.
           let old = c.args.run.now in
           let new = c.fields.new.run in
-          let read = subst (λ x. fields_at M c.args.depth c.args.found.now (input g.K.Origin.limit g.K.Origin.whole) (spot old.bits.position old.nodes) ≡ Ok (x, spot new.bits.position new.nodes)) is (c.in_ok-fields-in_default.ensures.gives told) in
-          body_gives M c.requires.known c.args.depth c.args.node.now c.requires.of c.args.begin (spot old.bits.position old.nodes) v (spot new.bits.position new.nodes) g.K.Origin.limit g.K.Origin.whole new.bits.taken w c.owned-in-Some.result
+          let read = subst (λ x. fields_at M c.args.depth c.args.found.now (input g.K.Origin.limit g.K.Origin.whole) (spot old.bits.position old.nodes) ≡ Ok (x, spot new.bits.position new.nodes)) is (c.in_ok-fields.ensures.gives told) in
+          body_gives M c.requires.known c.args.depth c.args.node.now c.requires.of c.args.begin (spot old.bits.position old.nodes) v (spot new.bits.position new.nodes) g.K.Origin.limit g.K.Origin.whole new.bits.taken w c.owned.result
           (subst (λ u. fields_at M c.args.depth u (input g.K.Origin.limit g.K.Origin.whole) (spot old.bits.position old.nodes) ≡ Ok (v, spot new.bits.position new.nodes)) c.requires.found read)
-          (subst (λ (x : Rose ValueLabel). is_no_text (label_of x) ≡ false) is c.in_ok-fields-in_default.ensures.text)
-          (omega (arith, c.in_ok-fields-in_default.ensures.on.1)) same c.owned-in-Some.ensures.ok (rw c.position-in-Some.ensures at c.owned-in-Some.ensures.err);
+          (subst (λ (x : Rose ValueLabel). is_no_text (label_of x) ≡ false) is c.in_ok-fields.ensures.text)
+          (omega (arith, c.in_ok-fields.ensures.on.1)) same c.owned.ensures.ok (rw c.position.ensures at c.owned.ensures.err);
       failed = search rules;
     }
 

@@ -2,15 +2,15 @@ use Rattle.std.proofs.Common.{arith, ◌≡◌, ◌+◌, ◌*◌, None, length, 
 use Rattle.std.proofs.lemmas.Result.{err_from_is_err_and}
 use Rattle.per_fields.specs.Reading.{octets_at}
 use Rattle.std.proofs.lemmas.List.{length-append}
-use Rattle.per_fields.specs.Fields.{fragments_at, counted_at}
-use Rattle.per_decode.proofs.Loop.{with_front, front-none}
+use Rattle.per_fields.specs.Fields.{fragments_at}
+use Rattle.per_decode.proofs.Loop.{with_front}
 use Rattle.per_decode.specs.declared.faults.Fault.TheVariants.{Memory}
-use Rattle.per_decode.specs.Private.Giving.{input, spot, FailsAt, Shows}
-use Rattle.per_decode.specs.Private.Kept.{octets_of}
+use Rattle.per_decode.specs.Private.Giving.{input, spot, FailsAt}
+use Rattle.per_decode.specs.Private.Kept.{octets_more}
 use Rattle.per_decode.proofs.Ends.{sits-octets}
 use Rattle.per_decode.proofs.Turns.{turn_fails, turn_last, turn_more, items_fail, last_fail, joined_shows, turn_full}
 use Rattle.per_decode.proofs.Standing.{stands_inside}
-use Rattle.per_decode.proofs.run.Run.text.Goals as goal
+use Rattle.per_decode.proofs.run.Run.more_octets.Goals as goal
 
 pub returns-in_err-piece-clause-gives : goal.returns-in_err-piece-clause-gives
 returns-in_err-piece-clause-gives g c = λ told.
@@ -37,24 +37,14 @@ returns-in_err-octets-in-Units-clause-gives g c = λ told.
     let k = items_fail 0 None octets_at sits-octets c.fragments.text.items c.fragments.before (length c.fragments.text.items) (input g.K.Origin.limit g.K.Origin.whole) (spot old.bits.position old.nodes) i c.in-Units.k _ g.K.Origin.limit g.K.Origin.whole c.in_err-octets-in-Units.field-0.0 c.take_octets-in-Units.new.self.bits.taken (rw (c.as_slice-total.ensures.value, c.in-Units.is) at (c.in_ok-piece.ensures.gives told)) (c.in_err-octets-in-Units.ensures.gives told) in
     rw (p.1, p.2) (subst (FailsAt g.K.Origin.limit g.K.Origin.whole c.in_err-octets-in-Units.field-0.0 c.take_octets-in-Units.new.self.bits.taken) (c.fragments.invariant.so_far told) k)
 
-pub returns-then-n-le-ROOM-clause-gives : goal.returns-then-n-le-ROOM-clause-gives
-returns-then-n-le-ROOM-clause-gives g c = λ told.
-    let old = c.fragments.self in
-    let new = c.few_octets.new.self in
-    let i = stands_inside old.bits.position old.bits.taken old.bits.held old.bits.limit g.K.Origin.limit g.K.Origin.whole _ old.limited old.bits.behind old.bits.within (old.here told) in
-    let e = turn_last 0 None octets_at sits-octets c.fragments.text.items c.fragments.before (length c.fragments.text.items) (input g.K.Origin.limit g.K.Origin.whole) (spot old.bits.position old.nodes) i c.in-Last.n _ (rw (c.as_slice-total.ensures.value, c.in-Last.is) at (c.in_ok-piece.ensures.gives told)) in
-    let n = front-none c.fragments.text.items _ (rw c.as_slice-total.ensures.value at c.if-total-eq0.true) in
-    subst (Shows g.K.Origin.limit g.K.Origin.whole octets_of c.few_octets.result (spot new.bits.position new.nodes) new.bits.taken)
-    (sym (sym (c.fragments.invariant.so_far told) ∙ e ∙ n)) (c.few_octets.ensures.gives told)
-
 pub returns-in-Last-clause-gives : goal.returns-in-Last-clause-gives
 returns-in-Last-clause-gives g c = λ told.
     let old = c.fragments.self in
     let new = c.take_octets.new.self in
     let i = stands_inside old.bits.position old.bits.taken old.bits.held old.bits.limit g.K.Origin.limit g.K.Origin.whole _ old.limited old.bits.behind old.bits.within (old.here told) in
     let e = turn_last 0 None octets_at sits-octets c.fragments.text.items c.fragments.before (length c.fragments.text.items) (input g.K.Origin.limit g.K.Origin.whole) (spot old.bits.position old.nodes) i c.in-Last.n _ (rw (c.as_slice-total.ensures.value, c.in-Last.is) at (c.in_ok-piece.ensures.gives told)) in
-    joined_shows g.K.Origin.limit g.K.Origin.whole octets_of c.all_octets.result c.fragments.text.items c.in_ok-last-in-Last.last.items (spot new.bits.position new.nodes) new.bits.taken _
-    (sym (c.fragments.invariant.so_far told) ∙ e ∙ ap (with_front c.fragments.text.items) (c.in_ok-last-in-Last.ensures.gives told)) (omega (arith, c.in_ok-last-in-Last.ensures.on.1)) c.all_octets.ensures.ok c.all_octets.ensures.memory
+    joined_shows g.K.Origin.limit g.K.Origin.whole (λ all. all.items) c.joined.result c.fragments.text.items c.in_ok-last-in-Last.last.items (spot new.bits.position new.nodes) new.bits.taken _
+    (sym (c.fragments.invariant.so_far told) ∙ e ∙ ap (with_front c.fragments.text.items) (c.in_ok-last-in-Last.ensures.gives told)) (omega (arith, c.in_ok-last-in-Last.ensures.on.1)) c.joined.ensures.ok c.joined.ensures.memory
 
 pub returns-in_err-text-in-Units-clause-gives : goal.returns-in_err-text-in-Units-clause-gives
 returns-in_err-text-in-Units-clause-gives g c = λ told.
@@ -85,6 +75,6 @@ fragments-preserved g c =
       so_far = λ told.
           let i = stands_inside old.bits.position old.bits.taken old.bits.held old.bits.limit g.K.Origin.limit g.K.Origin.whole _ old.limited old.bits.behind old.bits.within (old.here told) in
           let e = turn_more 0 None octets_at sits-octets c.fragments.text.items c.fragments.before (length c.fragments.text.items) (input g.K.Origin.limit g.K.Origin.whole) (spot old.bits.position old.nodes) i c.in-Units.k _ got (spot new.bits.position new.nodes) (rw (c.as_slice-total.ensures.value, c.in-Units.is) at (c.in_ok-piece.ensures.gives told)) (c.in_ok-octets-in-Units.ensures.gives told) in
-          rw c.in_ok-text-in-Units.ensures.ok (subst (λ n. with_front (front ++ got) (fragments_at 0 None octets_at (suc (length X)) c.in-Units.k n X (spot new.bits.position new.nodes)) ≡ counted_at 0 None octets_at X (spot c.args.self.now.bits.position c.args.self.now.nodes))
+          rw c.in_ok-text-in-Units.ensures.ok (subst (λ n. with_front (front ++ got) (fragments_at 0 None octets_at (suc (length X)) c.in-Units.k n X (spot new.bits.position new.nodes)) ≡ octets_more c.args.first.items c.args.units (length c.args.first.items) X (spot c.args.self.now.bits.position c.args.self.now.nodes))
           long (sym e ∙ c.fragments.invariant.so_far told));
     }
