@@ -423,9 +423,9 @@ fn choice<S: Source, K: Origin>(
 {
     let index = run.number(alloc, (parts.len() - 1) as u128)? as u32;
     let kid = found.kid(index as usize);
-    let inner = below(role(found.label(), index), depth);
-    let mut kids = with_room(alloc, 1);
     let to = resolve(module, kid);
+    let inner = part_depth(found, index, to, depth);
+    let mut kids = with_room(alloc, 1);
     node(alloc, module, run, inner, kid, to, &mut kids)?;
     values.push(Tree::join(ValueLabel::Choice(index), kids))?;
     Ok(())

@@ -10,11 +10,11 @@ use Rattle.asn_types.specs.Private.Placing.{FitKids}
 use Rattle.asn_types.specs.Modules.{AreWellFormed}
 use Rattle.simple_types.specs.declared.labels.ValueLabel.{ValueLabel}
 use Rattle.asn_types.specs.Refs.{resolve}
-use Rattle.asn_types.specs.Values.{place_of, place_at, below, FitsAt, OwnAt}
+use Rattle.asn_types.specs.Values.{place_of, place_at, below, OwnAt}
 use Rattle.asn_types.proofs.Chaining.{resolved-of-module, well-formed}
 use Rattle.asn_types.proofs.Counting.{replicate-drop, fits-from_kids}
 use Rattle.per_fields.specs.Fields.{fragments_at, counted_at, list_at}
-use Rattle.per_fields.specs.Nodes.{node_read, items_at, is_no_text}
+use Rattle.per_fields.specs.Nodes.{items_at, is_no_text}
 use Rattle.per_decode.specs.Private.Giving.{input, spot, end_of, FailsAt, Gives}
 use Rattle.per_decode.specs.Private.Bodies.{HasFields, IsNoText, fields_at, kid_at, node_of, many_at, FitAll}
 use Rattle.per_decode.proofs.Bodies.{node-deep, node-many, node-goes, fields_fail, text_fails, text_read, body_gives, body_plain}
@@ -469,10 +469,10 @@ choice-kid-kid-requires g t c =
     let counted = alternatives_counted c.args.module.now c.requires.known c.args.found.now c.requires.of c.args.parts.now c.requires.form in
     omega (arith, as_many, counted.0, c.in_ok-index.ensures.top)
 
-pub choice-role-requires : goal.choice-role-requires
-choice-role-requires g t c =
+pub choice-part_depth-inner-requires-clause-part : goal.choice-part_depth-inner-requires-clause-part
+choice-part_depth-inner-requires-clause-part g t c =
     let counted = alternatives_counted c.args.module.now c.requires.known c.args.found.now c.requires.of c.args.parts.now c.requires.form in
-    rw (c.label.ensures, c.requires.form) (omega (arith, counted.0, c.in_ok-index.ensures.top))
+    rw c.requires.form (omega (arith, counted.0, c.in_ok-index.ensures.top))
 
 pub choice-node-requires : goal.choice-node-requires
 choice-node-requires g t c =
@@ -481,12 +481,12 @@ choice-node-requires g t c =
     let i = c.in_ok-index.field-0 in
     let kid = c.kid-kid.result.now in
     let there = part_there c.args.module.now c.requires.known c.args.found.now c.requires.of i kid c.kid-kid.ensures in
-    let k = kid_here c.args.module.now c.requires.known c.args.found.now c.requires.of c.args.depth i c.below-inner.result there.0 kid c.role.result (subst HasFields (sym c.requires.form) tt) c.requires.depth there.1 c.kid-kid.ensures (rw c.label.ensures at c.role.ensures) c.below-inner.ensures.same in
+    let k = inner_here c.args.module.now c.requires.known c.args.found.now c.requires.of c.args.depth i c.part_depth-inner.result there.0 kid c.resolve-to.result.now (subst HasFields (sym c.requires.form) tt) c.requires.depth there.1 c.kid-kid.ensures c.resolve-to.ensures c.part_depth-inner.ensures.same in
     let is_part = subst (λ f. slice_get (parts_of f) i ≡ Some there.0) c.requires.form there.1 in
     let old = c.args.run.now in
     let mid = c.number.new.self in
     let d = c.decreases in
-    (λ κs h. (omega (arith, d, k.fewer, needs-resolved c.args.module.now c.requires.known c.below-inner.result kid k.of_module, ap (needs c.args.module.now c.below-inner.result) c.resolve-to.ensures), (h.0, (h.1, (c.below-inner.ensures.few, (c.requires.known, (k.of_module, (c.resolve-to.ensures, c.in_ok-index.ensures.on.1))))))))
+    (λ κs h. (omega (arith, d, k.fewer, ap (needs c.args.module.now c.part_depth-inner.result) c.resolve-to.ensures), (h.0, (h.1, (c.part_depth-inner.ensures.few, (c.requires.known, (k.of_module, (c.resolve-to.ensures, c.in_ok-index.ensures.on.1))))))))
 
 pub choice-returns-in_err-index-clause-gives : goal.choice-returns-in_err-index-clause-gives
 choice-returns-in_err-index-clause-gives g t c = λ told.
@@ -503,13 +503,13 @@ choice-returns-in_err-node-clause-gives g t c = λ told.
     let i = c.in_ok-index.field-0 in
     let kid = c.kid-kid.result.now in
     let there = part_there c.args.module.now c.requires.known c.args.found.now c.requires.of i kid c.kid-kid.ensures in
-    let k = kid_here c.args.module.now c.requires.known c.args.found.now c.requires.of c.args.depth i c.below-inner.result there.0 kid c.role.result (subst HasFields (sym c.requires.form) tt) c.requires.depth there.1 c.kid-kid.ensures (rw c.label.ensures at c.role.ensures) c.below-inner.ensures.same in
+    let k = inner_here c.args.module.now c.requires.known c.args.found.now c.requires.of c.args.depth i c.part_depth-inner.result there.0 kid c.resolve-to.result.now (subst HasFields (sym c.requires.form) tt) c.requires.depth there.1 c.kid-kid.ensures c.resolve-to.ensures c.part_depth-inner.ensures.same in
     let is_part = subst (λ f. slice_get (parts_of f) i ≡ Some there.0) c.requires.form there.1 in
     let old = c.args.run.now in
     let mid = c.number.new.self in
     let new = c.node.new.run in
     let j = stands_inside mid.bits.position mid.bits.taken mid.bits.held mid.bits.limit g.K.Origin.limit g.K.Origin.whole _ mid.limited mid.bits.behind mid.bits.within (mid.here told) in
-    rw (p.1, p.2) (alternative_fails c.args.module.now c.args.depth (label_of c.args.found.now) (kids_of c.args.found.now) c.args.parts.now (input g.K.Origin.limit g.K.Origin.whole) (spot old.bits.position old.nodes) i (spot mid.bits.position mid.nodes) there.0 kid (c.in_ok-index.ensures.gives told) is_part c.kid-kid.ensures g.K.Origin.limit g.K.Origin.whole c.in_err-node.field-0.0 new.bits.taken j (subst (λ n. FailsAt g.K.Origin.limit g.K.Origin.whole c.in_err-node.field-0.0 new.bits.taken (node_read c.args.module.now n kid (input g.K.Origin.limit g.K.Origin.whole) (spot mid.bits.position mid.nodes))) k.inner_is (c.in_err-node.ensures.gives told)))
+    rw (p.1, p.2) (alternative_fails c.args.module.now c.args.depth (label_of c.args.found.now) (kids_of c.args.found.now) c.args.parts.now (input g.K.Origin.limit g.K.Origin.whole) (spot old.bits.position old.nodes) i (spot mid.bits.position mid.nodes) there.0 kid (c.in_ok-index.ensures.gives told) is_part c.kid-kid.ensures g.K.Origin.limit g.K.Origin.whole c.in_err-node.field-0.0 new.bits.taken j (subst (FailsAt g.K.Origin.limit g.K.Origin.whole c.in_err-node.field-0.0 new.bits.taken) (k.read (input g.K.Origin.limit g.K.Origin.whole) (spot mid.bits.position mid.nodes)) (c.in_err-node.ensures.gives told)))
 
 pub choice-returns-in_err-push-clause-gives : goal.choice-returns-in_err-push-clause-gives
 choice-returns-in_err-push-clause-gives g t c = λ told.
@@ -519,12 +519,12 @@ choice-returns-in_err-push-clause-gives g t c = λ told.
     let i = c.in_ok-index.field-0 in
     let kid = c.kid-kid.result.now in
     let there = part_there c.args.module.now c.requires.known c.args.found.now c.requires.of i kid c.kid-kid.ensures in
-    let k = kid_here c.args.module.now c.requires.known c.args.found.now c.requires.of c.args.depth i c.below-inner.result there.0 kid c.role.result (subst HasFields (sym c.requires.form) tt) c.requires.depth there.1 c.kid-kid.ensures (rw c.label.ensures at c.role.ensures) c.below-inner.ensures.same in
+    let k = inner_here c.args.module.now c.requires.known c.args.found.now c.requires.of c.args.depth i c.part_depth-inner.result there.0 kid c.resolve-to.result.now (subst HasFields (sym c.requires.form) tt) c.requires.depth there.1 c.kid-kid.ensures c.resolve-to.ensures c.part_depth-inner.ensures.same in
     let is_part = subst (λ f. slice_get (parts_of f) i ≡ Some there.0) c.requires.form there.1 in
     let old = c.args.run.now in
     let mid = c.number.new.self in
     let new = c.node.new.run in
-    let reads = choice_reads c.args.module.now c.args.depth (label_of c.args.found.now) (kids_of c.args.found.now) c.args.parts.now (input g.K.Origin.limit g.K.Origin.whole) (spot old.bits.position old.nodes) i (spot mid.bits.position mid.nodes) there.0 kid (c.in_ok-index.ensures.gives told) is_part c.kid-kid.ensures (newest c.node.new.values.items) (spot new.bits.position new.nodes) (subst (λ n. node_read c.args.module.now n kid (input g.K.Origin.limit g.K.Origin.whole) (spot mid.bits.position mid.nodes) ≡ Ok ((newest c.node.new.values.items), (spot new.bits.position new.nodes))) k.inner_is (c.in_ok-node.ensures.gives told)) in
+    let reads = choice_reads c.args.module.now c.args.depth (label_of c.args.found.now) (kids_of c.args.found.now) c.args.parts.now (input g.K.Origin.limit g.K.Origin.whole) (spot old.bits.position old.nodes) i (spot mid.bits.position mid.nodes) there.0 kid (c.in_ok-index.ensures.gives told) is_part c.kid-kid.ensures (newest c.node.new.values.items) (spot new.bits.position new.nodes) (sym (k.read (input g.K.Origin.limit g.K.Origin.whole) (spot mid.bits.position mid.nodes)) ∙ c.in_ok-node.ensures.gives told) in
     rw (p.1, p.2) (omega (arith, ap end_of reads, c.in_ok-node.ensures.on.1))
 
 pub choice-returns-clause-pushed : goal.choice-returns-clause-pushed
@@ -545,12 +545,12 @@ choice-returns-clause-fits g t c =
     let i = c.in_ok-index.field-0 in
     let kid = c.kid-kid.result.now in
     let there = part_there c.args.module.now c.requires.known c.args.found.now c.requires.of i kid c.kid-kid.ensures in
-    let k = kid_here c.args.module.now c.requires.known c.args.found.now c.requires.of c.args.depth i c.below-inner.result there.0 kid c.role.result (subst HasFields (sym c.requires.form) tt) c.requires.depth there.1 c.kid-kid.ensures (rw c.label.ensures at c.role.ensures) c.below-inner.ensures.same in
+    let k = inner_here c.args.module.now c.requires.known c.args.found.now c.requires.of c.args.depth i c.part_depth-inner.result there.0 kid c.resolve-to.result.now (subst HasFields (sym c.requires.form) tt) c.requires.depth there.1 c.kid-kid.ensures c.resolve-to.ensures c.part_depth-inner.ensures.same in
     let is_part = subst (λ f. slice_get (parts_of f) i ≡ Some there.0) c.requires.form there.1 in
     let old = c.args.run.now in
     let mid = c.number.new.self in
     let new = c.node.new.run in
-    rw (newest-pushed _ _ _ c.in_ok-push.ensures.items, c.join.ensures, c.in_ok-node.ensures.pushed, c.with_room-kids.ensures) (fit-choice c.args.module.now c.args.depth c.args.found.now parts i there.0 kid (newest c.node.new.values.items) c.requires.form is_part c.kid-kid.ensures (subst (λ n. FitsAt c.args.module.now n kid (newest c.node.new.values.items)) k.inner_is c.in_ok-node.ensures.fits))
+    rw (newest-pushed _ _ _ c.in_ok-push.ensures.items, c.join.ensures, c.in_ok-node.ensures.pushed, c.with_room-kids.ensures) (fit-choice c.args.module.now c.args.depth c.args.found.now parts i there.0 kid (newest c.node.new.values.items) c.requires.form is_part c.kid-kid.ensures (k.fits (newest c.node.new.values.items) c.in_ok-node.ensures.fits))
 
 pub choice-returns-clause-gives : goal.choice-returns-clause-gives
 choice-returns-clause-gives g t c = λ told.
@@ -559,12 +559,12 @@ choice-returns-clause-gives g t c = λ told.
     let i = c.in_ok-index.field-0 in
     let kid = c.kid-kid.result.now in
     let there = part_there c.args.module.now c.requires.known c.args.found.now c.requires.of i kid c.kid-kid.ensures in
-    let k = kid_here c.args.module.now c.requires.known c.args.found.now c.requires.of c.args.depth i c.below-inner.result there.0 kid c.role.result (subst HasFields (sym c.requires.form) tt) c.requires.depth there.1 c.kid-kid.ensures (rw c.label.ensures at c.role.ensures) c.below-inner.ensures.same in
+    let k = inner_here c.args.module.now c.requires.known c.args.found.now c.requires.of c.args.depth i c.part_depth-inner.result there.0 kid c.resolve-to.result.now (subst HasFields (sym c.requires.form) tt) c.requires.depth there.1 c.kid-kid.ensures c.resolve-to.ensures c.part_depth-inner.ensures.same in
     let is_part = subst (λ f. slice_get (parts_of f) i ≡ Some there.0) c.requires.form there.1 in
     let old = c.args.run.now in
     let mid = c.number.new.self in
     let new = c.node.new.run in
-    rw (newest-pushed _ _ _ c.in_ok-push.ensures.items, c.join.ensures, c.in_ok-node.ensures.pushed, c.with_room-kids.ensures) (choice_reads c.args.module.now c.args.depth (label_of c.args.found.now) (kids_of c.args.found.now) c.args.parts.now (input g.K.Origin.limit g.K.Origin.whole) (spot old.bits.position old.nodes) i (spot mid.bits.position mid.nodes) there.0 kid (c.in_ok-index.ensures.gives told) is_part c.kid-kid.ensures (newest c.node.new.values.items) (spot new.bits.position new.nodes) (subst (λ n. node_read c.args.module.now n kid (input g.K.Origin.limit g.K.Origin.whole) (spot mid.bits.position mid.nodes) ≡ Ok ((newest c.node.new.values.items), (spot new.bits.position new.nodes))) k.inner_is (c.in_ok-node.ensures.gives told)))
+    rw (newest-pushed _ _ _ c.in_ok-push.ensures.items, c.join.ensures, c.in_ok-node.ensures.pushed, c.with_room-kids.ensures) (choice_reads c.args.module.now c.args.depth (label_of c.args.found.now) (kids_of c.args.found.now) c.args.parts.now (input g.K.Origin.limit g.K.Origin.whole) (spot old.bits.position old.nodes) i (spot mid.bits.position mid.nodes) there.0 kid (c.in_ok-index.ensures.gives told) is_part c.kid-kid.ensures (newest c.node.new.values.items) (spot new.bits.position new.nodes) (sym (k.read (input g.K.Origin.limit g.K.Origin.whole) (spot mid.bits.position mid.nodes)) ∙ c.in_ok-node.ensures.gives told))
 
 -- A SEQUENCE OF
 
