@@ -81,16 +81,18 @@ module _ (M : List Assignment) (known : IsKnown M) (depth : ℕ) (t : Rose TypeL
     unfolding entered_at
     node-deep over = node-is ∙ ap (λ b. enter_by b (ltb s.nodes 1048576) s (λ r. body_at M depth s.at (resolve M t) X r)) (lt-leb depth 64 over)
 
-    pub node-many : depth ≤ 64 → 1048576 ≤ s.nodes → node_read M depth t X s ≡ Err (stop_at s.at why.TooMany s.at)
+    -- not too deep
+    pub node-shallow : depth ≤ 64 → node_read M depth t X s ≡ enter_by true (ltb s.nodes 1048576) s (λ r. body_at M depth s.at (resolve M t) X r)
     unfolding entered_at
-    node-many shallow many = node-is ∙ ap (λ b. enter_by b (ltb s.nodes 1048576) s (λ r. body_at M depth s.at (resolve M t) X r)) (le-leb depth 64 shallow)
-        ∙ ap (λ b. enter_by true b s (λ r. body_at M depth s.at (resolve M t) X r)) (le-ltb s.nodes 1048576 many)
+    node-shallow shallow = node-is ∙ ap (λ b. enter_by b (ltb s.nodes 1048576) s (λ r. body_at M depth s.at (resolve M t) X r)) (le-leb depth 64 shallow)
+
+    pub node-many : depth ≤ 64 → 1048576 ≤ s.nodes → node_read M depth t X s ≡ Err (stop_at s.at why.TooMany s.at)
+    node-many shallow many = node-shallow shallow ∙ ap (λ b. enter_by true b s (λ r. body_at M depth s.at (resolve M t) X r)) (le-ltb s.nodes 1048576 many)
 
     pub node-goes : depth ≤ 64 → s.nodes < 1048576 → node_read M depth t X s ≡ body_at M depth s.at (resolve M t) X (spot s.at (s.nodes + 1))
-    unfolding entered_at
     node-goes shallow few =
         let e : s.at + 0 ≡ s.at = omega arith in
-        node-is ∙ ap (λ b. enter_by b (ltb s.nodes 1048576) s (λ r. body_at M depth s.at (resolve M t) X r)) (le-leb depth 64 shallow)
+        node-shallow shallow
         ∙ ap (λ b. enter_by true b s (λ r. body_at M depth s.at (resolve M t) X r)) (lt-ltb s.nodes 1048576 few)
         ∙ ap (λ p. body_at M depth s.at (resolve M t) X (spot p (s.nodes + 1))) e
 

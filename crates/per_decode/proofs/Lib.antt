@@ -19,3 +19,4 @@ pub mod Forms
 pub mod Lists
 pub mod Visible
 pub mod Newest
+pub mod NoKids

@@ -45,7 +45,7 @@ flag_split flags i b lt e = drop_more flags i false lt ∙ ap (λ f. f ∷ drop 
 pub copies-none : {A : Type 0} (n i : ℕ) (x : A) → n ≤ i → replicate (n - i) x ≡ []
 copies-none n i x le = let e : n - i ≡ 0 = omega arith in ap (λ k. replicate k x) e
 
-if_some : {A : Type 0} (P : A → Type 0) (o : Option A) (x : A) → o ≡ Some x → IfSome o P → P x
+pub if_some : {A : Type 0} (P : A → Type 0) (o : Option A) (x : A) → o ≡ Some x → IfSome o P → P x
 if_some P o x e h = subst (λ o. IfSome o P) e h
 
 module _ (M : List Assignment) (known : IsKnown M) (u : Rose TypeLabel) (of : IsOf M u) where

@@ -17,7 +17,7 @@ use crate::faults::{Fault, stopped};
 use crate::nodes::node;
 use crate::room::with_room;
 use crate::run::{Origin, Run};
-use asn_types::{Module, TypeLabel};
+use asn_types::{Module, TypeLabel, resolve};
 use bit_cursor::BitSource;
 use label_tree::{Tree, Whole};
 use per_fields::Why;
@@ -68,7 +68,8 @@ fn complete<S: Source, K: Origin>(
     ensures failed { IsErrOf result Fault.Failed → HasRisen K.faults (S.faults run.new.bits.source.now) }
 {
     let mut values = with_room(alloc, 1);
-    node(alloc, module, run, 1, body, &mut values)?;
+    let found = resolve(module, body);
+    node(alloc, module, run, 1, body, found, &mut values)?;
     last(run)?;
     match values.pop() {
         Some(value) => Ok((value, run.position() / 8)),

@@ -1,12 +1,14 @@
 //! The nodes of a value.
-ghost use Rattle.std.specs.Prelude.{◌≡◌, ℕ, [], ◌∷◌, ◌++◌, ◌<◌, ◌≤◌, ◌+◌, ◌-◌, ◌*◌, ◌^◌, IfOk, IfErr, OnOk, IsErrOf, IsTrue, length, true, false, ◌⊎◌};
+ghost use Rattle.std.specs.Prelude.{◌≡◌, ℕ, [], ◌∷◌, ◌++◌, ◌<◌, ◌≤◌, ◌+◌, ◌-◌, ◌*◌, ◌^◌, IfOk, IfErr, OnOk, IsErrOf, IsTrue, IfSome, slice_get, length, true, false, ◌⊎◌};
 ghost use Rattle.simple_types.specs.declared.labels.ValueLabel.{ValueLabel};
 ghost use Rattle.asn_types.specs.Modules.{AreWellFormed};
 ghost use Rattle.label_tree.specs.Rose.{Rose, label_of, kids_of, roses_of, node_count, count_all};
 ghost use Rattle.bit_cursor.specs.Cursors.{IsInStep};
 ghost use Rattle.xa_base.specs.Faults.{HasRisen};
 ghost use Rattle.asn_types.specs.declared.types.Form.TheVariants as form;
+ghost use Rattle.asn_types.specs.Parts.{parts_of};
 ghost use Rattle.asn_types.specs.Refs.{IsOf, resolve};
+ghost use Rattle.asn_types.specs.Roles.{role_of};
 ghost use Rattle.asn_types.specs.Values.{FitsAt, Own, OwnAt, present_from};
 ghost use Rattle.asn_types.specs.Private.Placing.{FitKids};
 ghost use Rattle.per_fields.specs.Laws.{Present};
@@ -48,6 +50,39 @@ fn below(role: Role, depth: u32) -> u32
         Role::Element => depth + 1,
         _ => depth,
     }
+}
+
+// Whether the values of a type, which is no reference, have no kids.
+#[inline(always)]
+fn is_leaf(found: &Tree<TypeLabel>) -> bool
+    ensures { result ≡ bodies.is_leaf (label_of found.now).form }
+{
+    match &found.label().form {
+        Form::Bool
+        | Form::Int { .. }
+        | Form::Numbers { .. }
+        | Form::Words { .. }
+        | Form::Utf8 { .. } => true,
+        Form::Sequence { .. } | Form::Choice { .. } | Form::SequenceOf { .. } | Form::Ref { .. } =>
+            false,
+    }
+}
+
+// A depth at which a part is read as at its own, that is, so many elements stand in one another down to it. Behind its
+// references this type is found. A part without kids is read alike wherever it isn't too deep, so that its role, which
+// takes time, is looked up only at the last depth.
+#[inline(always)]
+fn part_depth(node: &Tree<TypeLabel>, part: u32, found: &Tree<TypeLabel>, depth: u32) -> u32
+    requires part { part < length (parts_of (label_of node.now).form) }
+    requires depth { depth ≤ 64 }
+    ensures same { ((depth < 64) × (bodies.is_leaf (label_of found.now).form ≡ true) × (result ≡ depth))
+        ⊎ IfSome (slice_get (parts_of (label_of node.now).form) part) (λ component. result ≡ bodies.below (role_of (label_of node.now) part component) depth) }
+    ensures few { result ≤ 65 }
+{
+    if depth < MOST_DEEP && is_leaf(found) {
+        return depth;
+    }
+    below(role(node.label(), part), depth)
 }
 
 // Whether every value of a type, which is no reference, keeps the rules of its first node. LIST stands on a SEQUENCE OF
@@ -93,7 +128,7 @@ pub(crate) fn owned(
     }
 }
 
-/// A node of a type, where so many elements stand in one another down to it.
+/// A node of a type, where so many elements stand in one another down to it, and its type is found.
 #[inline(always)]
 #[cycle(nodes)]
 pub(crate) fn node<S: Source, K: Origin>(
@@ -102,11 +137,13 @@ pub(crate) fn node<S: Source, K: Origin>(
     run: &mut Run<S, K>,
     depth: u32,
     node: &Tree<TypeLabel>,
+    found: &Tree<TypeLabel>,
     values: &mut Vec<Tree<ValueLabel>>,
 ) -> Result<(), Fault>
     requires depth { depth ≤ 65 }
     requires known { bodies.IsKnown module.now }
     requires of { IsOf module.now node.now }
+    requires found { found.now ≡ resolve module.now node.now }
     requires in_step { IsInStep run.old.bits.position run.old.bits.taken }
     ensures same_reference { run.new.bits.source.ghost_name ≡ run.old.bits.source.ghost_name }
     ensures on { OnOk result (GoesOn run.old.bits.position run.new.bits.position run.new.bits.taken) }
@@ -125,7 +162,7 @@ pub(crate) fn node<S: Source, K: Origin>(
         return Err(stopped(begin, Why::TooMany, begin));
     }
     run.nodes += 1;
-    body(alloc, module, run, depth, node, begin, values)
+    body(alloc, module, run, depth, node, found, begin, values)
 }
 
 // The fields and the kids of a node that begins at a bit, and its rules.
@@ -137,12 +174,14 @@ fn body<S: Source, K: Origin>(
     run: &mut Run<S, K>,
     depth: u32,
     node: &Tree<TypeLabel>,
+    found: &Tree<TypeLabel>,
     begin: u64,
     values: &mut Vec<Tree<ValueLabel>>,
 ) -> Result<(), Fault>
     requires depth { depth ≤ 64 }
     requires known { bodies.IsKnown module.now }
     requires of { IsOf module.now node.now }
+    requires found { found.now ≡ resolve module.now node.now }
     requires in_step { IsInStep run.old.bits.position run.old.bits.taken }
     ensures same_reference { run.new.bits.source.ghost_name ≡ run.old.bits.source.ghost_name }
     ensures on { OnOk result (GoesOn run.old.bits.position run.new.bits.position run.new.bits.taken) }
@@ -153,7 +192,6 @@ fn body<S: Source, K: Origin>(
         (bodies.body_at module.now depth begin (resolve module.now node.now)) (spot run.old.bits.position run.old.nodes) }
     ensures failed { IsErrOf result Fault.Failed → HasRisen K.faults (S.faults run.new.bits.source.now) }
 {
-    let found = resolve(module, node);
     if let Form::Utf8 { .. } = &found.label().form {
         return text(alloc, module, run, node, found, begin, values);
     }
@@ -324,8 +362,9 @@ fn components<S: Source, K: Origin>(
             continue;
         }
         let kid = found.kid(i);
-        let inner = below(role(found.label(), i as u32), depth);
-        node(alloc, module, run, inner, kid, &mut values)?;
+        let to = resolve(module, kid);
+        let inner = part_depth(found, i as u32, to, depth);
+        node(alloc, module, run, inner, kid, to, &mut values)?;
     }
     Ok(values)
 }
@@ -359,9 +398,10 @@ fn choice<S: Source, K: Origin>(
 {
     let index = run.number(alloc, (parts.len() - 1) as u128)? as u32;
     let kid = found.kid(index as usize);
-    let inner = below(role(found.label(), index), depth);
+    let to = resolve(module, kid);
+    let inner = part_depth(found, index, to, depth);
     let mut kids = with_room(alloc, 1);
-    node(alloc, module, run, inner, kid, &mut kids)?;
+    node(alloc, module, run, inner, kid, to, &mut kids)?;
     values.push(Tree::join(ValueLabel::Choice(index), kids))?;
     Ok(())
 }
@@ -505,8 +545,9 @@ fn items<S: Source, K: Origin>(
         (bodies.more_at module.now depth n item.now values.items) (spot run.old.bits.position run.old.nodes) }
     ensures failed { IsErrOf result Fault.Failed → HasRisen K.faults (S.faults run.new.bits.source.now) }
 {
+    let found = resolve(module, item);
     'items: for _ in 0..n {
-        node(alloc, module, run, depth, item, &mut values)?;
+        node(alloc, module, run, depth, item, found, &mut values)?;
     }
     Ok(values)
 }

@@ -1,5 +1,5 @@
 -- Parts of the reading of a node, as the code has them.
-use Rattle.std.specs.Prelude.{ℕ, Result, Option, Some, None, List, [], ◌∷◌, ◌++◌, slice_get, replicate, Ok}
+use Rattle.std.specs.Prelude.{ℕ, Bool, true, false, Result, Option, Some, None, List, [], ◌∷◌, ◌++◌, slice_get, replicate, Ok}
 use Rattle.label_tree.specs.Rose.{Rose, Roses, label_of, kids_of, node, none}
 use Rattle.simple_types.specs.declared.labels.ValueLabel.{ValueLabel}
 use Rattle.simple_types.specs.declared.labels.ValueLabel.TheVariants as value
@@ -35,6 +35,15 @@ HasFields _ = Unit {0}
 abbrev pub IsNoText : Form → Type 0
 IsNoText (form.Utf8 least most class) = ⊥
 IsNoText _ = Unit {0}
+
+-- no kids, and no reference
+abbrev pub is_leaf : Form → Bool
+is_leaf form.Bool = true
+is_leaf (form.Int least greatest) = true
+is_leaf (form.Numbers numbers) = true
+is_leaf (form.Words identifiers words) = true
+is_leaf (form.Utf8 least most class) = true
+is_leaf _ = false
 
 abbrev pub text_leaf : List ℕ → Rose ValueLabel
 text_leaf octets = node (value.Utf8 octets) none

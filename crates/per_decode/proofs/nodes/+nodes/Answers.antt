@@ -11,11 +11,11 @@ use Rattle.asn_types.specs.Private.Placing.{FitKids}
 use Rattle.asn_types.specs.Modules.{AreWellFormed}
 use Rattle.simple_types.specs.declared.labels.ValueLabel.{ValueLabel}
 use Rattle.asn_types.specs.Refs.{resolve}
-use Rattle.asn_types.specs.Values.{place_of, place_at, below, FitsAt, OwnAt}
+use Rattle.asn_types.specs.Values.{place_of, place_at, below, OwnAt}
 use Rattle.asn_types.proofs.Chaining.{resolved-of-module, well-formed}
 use Rattle.asn_types.proofs.Counting.{replicate-drop, fits-from_kids}
 use Rattle.per_fields.specs.Fields.{fragments_at, counted_at, list_at}
-use Rattle.per_fields.specs.Nodes.{node_read, items_at, is_no_text}
+use Rattle.per_fields.specs.Nodes.{items_at, is_no_text}
 use Rattle.per_decode.specs.Private.Giving.{input, spot, end_of, FailsAt, Gives}
 use Rattle.per_decode.specs.Private.Bodies.{HasFields, IsNoText, fields_at, kid_at, node_of, many_at, FitAll}
 use Rattle.per_decode.proofs.Bodies.{node-deep, node-many, node-goes, fields_fail, text-body, body_gives, body_plain}
@@ -25,12 +25,13 @@ use Rattle.per_decode.proofs.Forms.{shows_as, fields-bool, fields-int, fields-nu
 use Rattle.per_decode.proofs.Lists.{steady-items, list-none, list-large, count_fails, count_told, list_fails, list_reads}
 use Rattle.per_decode.proofs.Loop.{with_front, each_more, each_fails, each_done, through_none, through_skip, through_more, through_fails, through_end, through_fit}
 use Rattle.per_decode.specs.Private.Newest.{newest}
+use Rattle.per_decode.proofs.NoKids.{needs, needs-kids, needs-resolved, inner_here}
 use Rattle.per_decode.proofs.Newest.{newest-pushed, newest-told, pushed-newest, pushed-told}
 use Rattle.per_decode.proofs.Parts.{kids-parts, bounds_ordered, numbers_counted, words_counted, components_few, alternatives_counted, sizes_ordered, got, got_split, flag_split, copies-none, part_there, kid_here}
 use Rattle.per_decode.proofs.Presence.{present-length, places_there}
 use Rattle.per_decode.proofs.Standing.{stands_inside}
 use Rattle.per_decode.proofs.Turns.{turn_fails, turn_last, turn_on, turn_off}
-use Rattle.per_decode.proofs.Types.{resolved-levels, resolved-fields}
+use Rattle.per_decode.proofs.Types.{resolved-fields}
 use Rattle.per_decode.proofs.nodes.+nodes.Goals as goal
 
 -- A NODE, before its fields
@@ -60,7 +61,7 @@ body-returns-in-Utf8 g t c =
     let M = c.args.module.now in
     let u = c.args.node.now in
     let v = newest c.text.new.values.items in
-    let is : (label_of (resolve M u)).form ≡ form.Utf8 c.in-Utf8.min c.in-Utf8.max c.in-Utf8.class = ap (λ (u : Rose TypeLabel). (label_of u).form) (sym c.resolve-found.ensures) ∙ ap (λ (l : TypeLabel). l.form) (sym c.label.ensures) ∙ c.in-Utf8.is in
+    let is : (label_of (resolve M u)).form ≡ form.Utf8 c.in-Utf8.min c.in-Utf8.max c.in-Utf8.class = ap (λ (u : Rose TypeLabel). (label_of u).form) (sym c.requires.found) ∙ ap (λ (l : TypeLabel). l.form) (sym c.label.ensures) ∙ c.in-Utf8.is in
     record {
       same_reference = search rules;
       on = search rules;
@@ -78,34 +79,33 @@ pub body-has_no_rules-requires : goal.body-has_no_rules-requires
 body-has_no_rules-requires g t c =
     let M = c.args.module.now in
     let u = c.args.node.now in
-    subst (AreWellFormed M) (sym c.resolve-found.ensures) (well-formed M (resolve M u) c.requires.known.0 (resolved-of-module M u c.requires.of))
+    subst (AreWellFormed M) (sym c.requires.found) (well-formed M (resolve M u) c.requires.known.0 (resolved-of-module M u c.requires.of))
 
 pub body-fields-requires : goal.body-fields-requires
 body-fields-requires g t c =
     let M = c.args.module.now in
     let d = c.decreases in
-    let e = resolved-levels M c.requires.known c.args.depth c.args.node.now c.requires.of in
-    let plain = subst (λ (u : Rose TypeLabel). IsNoText (label_of u).form) c.resolve-found.ensures (c.has_no_rules.ensures.no_text c.if-has_no_rules.true) in
+    let plain = subst (λ (u : Rose TypeLabel). IsNoText (label_of u).form) c.requires.found (c.has_no_rules.ensures.no_text c.if-has_no_rules.true) in
     let has = resolved-fields M c.requires.known c.args.node.now c.requires.of (λ least most class is. subst IsNoText is plain) in
-    rw c.resolve-found.ensures (λ κs h. (omega (arith, d, e), (h.0, (h.1, (c.requires.depth, (c.requires.known, (resolved-of-module M c.args.node.now c.requires.of, (has, c.requires.in_step))))))))
+    rw c.requires.found (λ κs h. (omega (arith, d, ap (needs M c.args.depth) c.requires.found), (h.0, (h.1, (c.requires.depth, (c.requires.known, (resolved-of-module M c.args.node.now c.requires.of, (has, c.requires.in_step))))))))
 
 pub body-returns-then-has_no_rules : goal.body-returns-then-has_no_rules
 body-returns-then-has_no_rules g t c =
     let M = c.args.module.now in
-    let own = subst (λ u. (v : Rose ValueLabel) → OwnAt M (label_of u) u v) c.resolve-found.ensures (c.has_no_rules.ensures.own c.if-has_no_rules.true) in
+    let own = subst (λ u. (v : Rose ValueLabel) → OwnAt M (label_of u) u v) c.requires.found (c.has_no_rules.ensures.own c.if-has_no_rules.true) in
     let v = newest c.fields.new.values.items in
     record {
       same_reference = search rules;
       on = search rules;
       pushed = search rules;
       count = search rules;
-      fits = on_ok_weaker c.fields.result (λ h. fits-from_kids M c.args.depth c.args.node.now v c.requires.depth (subst (λ u. FitKids M c.args.depth u v) c.resolve-found.ensures h) (own v)) c.fields.ensures.fits;
+      fits = on_ok_weaker c.fields.result (λ h. fits-from_kids M c.args.depth c.args.node.now v c.requires.depth (subst (λ u. FitKids M c.args.depth u v) c.requires.found h) (own v)) c.fields.ensures.fits;
       gives = λ told.
           let old = c.args.run.now in
           let new = c.fields.new.run in
           let i = stands_inside old.bits.position old.bits.taken old.bits.held old.bits.limit g.K.Origin.limit g.K.Origin.whole _ old.limited old.bits.behind old.bits.within (old.here told) in
           body_plain M c.requires.known c.args.depth c.args.node.now c.requires.of c.args.begin (spot old.bits.position old.nodes) (spot new.bits.position new.nodes) g.K.Origin.limit g.K.Origin.whole new.bits.taken v c.fields.result i own c.fields.ensures.text
-          (subst (λ u. Gives g.K.Origin.limit g.K.Origin.whole (λ _. v) c.fields.result (spot new.bits.position new.nodes) new.bits.taken (fields_at M c.args.depth u) (spot old.bits.position old.nodes)) c.resolve-found.ensures (c.fields.ensures.gives told));
+          (subst (λ u. Gives g.K.Origin.limit g.K.Origin.whole (λ _. v) c.fields.result (spot new.bits.position new.nodes) new.bits.taken (fields_at M c.args.depth u) (spot old.bits.position old.nodes)) c.requires.found (c.fields.ensures.gives told));
       failed = search rules;
     }
 
@@ -115,10 +115,9 @@ pub ruled-fields-requires : goal.ruled-fields-requires
 ruled-fields-requires g t c =
     let M = c.args.module.now in
     let d = c.decreases in
-    let e = resolved-levels M c.requires.known c.args.depth c.args.node.now c.requires.of in
     let plain = subst (λ (u : Rose TypeLabel). IsNoText (label_of u).form) c.requires.found c.requires.form in
     let has = resolved-fields M c.requires.known c.args.node.now c.requires.of (λ least most class is. subst IsNoText is plain) in
-    rw c.requires.found (λ κs h. (omega (arith, d, e), (h.0, (h.1, (c.requires.depth, (c.requires.known, (resolved-of-module M c.args.node.now c.requires.of, (has, c.requires.in_step))))))))
+    rw c.requires.found (λ κs h. (omega (arith, d, ap (needs M c.args.depth) c.requires.found), (h.0, (h.1, (c.requires.depth, (c.requires.known, (resolved-of-module M c.args.node.now c.requires.of, (has, c.requires.in_step))))))))
 
 pub ruled-returns-in_err-fields : goal.ruled-returns-in_err-fields
 ruled-returns-in_err-fields g t c =
@@ -190,6 +189,27 @@ fields-enumerated-requires-in-Words-clause-few g t c =
     let e = ap (λ l. l.form) (sym c.label.ensures) ∙ c.in-Words.is in
     let n = words_counted c.args.module.now c.requires.known c.args.found.now c.requires.of _ _ e in
     rw c.items-in-Words.ensures (omega (arith, n.1))
+
+pub fields-sequence-requires : goal.fields-sequence-requires
+fields-sequence-requires g t c =
+    let d = c.decreases in
+    let e = ap (λ l. l.form) (sym c.label.ensures) ∙ c.in-Sequence.is in
+    let all = needs-kids c.args.module.now c.args.depth c.args.found.now _ e refl in
+    (λ κs h. (omega (arith, d, all), (h.0, (h.1, (c.requires.depth, (c.requires.known, (c.requires.of, (rw c.items-in-Sequence.ensures e, c.requires.in_step))))))))
+
+pub fields-choice-requires : goal.fields-choice-requires
+fields-choice-requires g t c =
+    let d = c.decreases in
+    let e = ap (λ l. l.form) (sym c.label.ensures) ∙ c.in-Choice.is in
+    let all = needs-kids c.args.module.now c.args.depth c.args.found.now _ e refl in
+    (λ κs h. (omega (arith, d, all), (h.0, (h.1, (c.requires.depth, (c.requires.known, (c.requires.of, (rw c.items-in-Choice.ensures e, c.requires.in_step))))))))
+
+pub fields-sequence_of-requires : goal.fields-sequence_of-requires
+fields-sequence_of-requires g t c =
+    let d = c.decreases in
+    let e = ap (λ l. l.form) (sym c.label.ensures) ∙ c.in-SequenceOf.is in
+    let all = needs-kids c.args.module.now c.args.depth c.args.found.now _ e refl in
+    (λ κs h. (omega (arith, d, all), (h.0, (h.1, (c.requires.depth, (c.requires.known, (c.requires.of, (e, c.requires.in_step))))))))
 
 pub fields-returns-in-Bool-clause-fits : goal.fields-returns-in-Bool-clause-fits
 fields-returns-in-Bool-clause-fits g t c =
@@ -336,9 +356,9 @@ components-node-requires g t c =
     let i = c.parts.i in
     let kid = c.kid-kid.result.now in
     let there = part_there c.args.module.now c.requires.known c.args.found.now c.requires.of i kid c.kid-kid.ensures in
-    let k = kid_here c.args.module.now c.requires.known c.args.found.now c.requires.of c.args.depth i c.below-inner.result there.0 kid c.role.result (subst HasFields (sym c.requires.form) tt) c.requires.depth there.1 c.kid-kid.ensures (rw c.label.ensures at c.role.ensures) c.below-inner.ensures.same in
+    let k = inner_here c.args.module.now c.requires.known c.args.found.now c.requires.of c.args.depth i c.part_depth-inner.result there.0 kid c.resolve-to.result.now (subst HasFields (sym c.requires.form) tt) c.requires.depth there.1 c.kid-kid.ensures c.resolve-to.ensures c.part_depth-inner.ensures.same in
     let d = c.decreases in
-    (λ κs h. (omega (arith, d, k.fewer), (h.0, (h.1, (c.below-inner.ensures.few, (c.requires.known, (k.of_module, c.parts.invariant.in_step)))))))
+    (λ κs h. (omega (arith, d, k.fewer, ap (needs c.args.module.now c.part_depth-inner.result) c.resolve-to.ensures), (h.0, (h.1, (c.part_depth-inner.ensures.few, (c.requires.known, (k.of_module, (c.resolve-to.ensures, c.parts.invariant.in_step))))))))
 
 pub components-returns-in_err-node-clause-gives : goal.components-returns-in_err-node-clause-gives
 components-returns-in_err-node-clause-gives g t c = λ told.
@@ -348,7 +368,7 @@ components-returns-in_err-node-clause-gives g t c = λ told.
     let i = c.parts.i in
     let kid = c.kid-kid.result.now in
     let there = part_there c.args.module.now c.requires.known c.args.found.now c.requires.of i kid c.kid-kid.ensures in
-    let k = kid_here c.args.module.now c.requires.known c.args.found.now c.requires.of c.args.depth i c.below-inner.result there.0 kid c.role.result (subst HasFields (sym c.requires.form) tt) c.requires.depth there.1 c.kid-kid.ensures (rw c.label.ensures at c.role.ensures) c.below-inner.ensures.same in
+    let k = inner_here c.args.module.now c.requires.known c.args.found.now c.requires.of c.args.depth i c.part_depth-inner.result there.0 kid c.resolve-to.result.now (subst HasFields (sym c.requires.form) tt) c.requires.depth there.1 c.kid-kid.ensures c.resolve-to.ensures c.part_depth-inner.ensures.same in
     let flags = c.args.present.now in
     let is_part = got_split parts i there.0 (subst (λ f. slice_get (parts_of f) i ≡ Some there.0) c.requires.form there.1) in
     let is_kid = got_split (kids_of u) i kid c.kid-kid.ensures in
@@ -356,7 +376,7 @@ components-returns-in_err-node-clause-gives g t c = λ told.
     let old = c.parts.run in
     let new = c.node.new.run in
     let j = stands_inside old.bits.position old.bits.taken old.bits.held old.bits.limit g.K.Origin.limit g.K.Origin.whole _ old.limited old.bits.behind old.bits.within (old.here told) in
-    rw (p.1, p.2) (through_fails c.args.module.now c.args.depth (label_of u) parts (kids_of u) flags (IsTrue g.K.Origin.told) (input g.K.Origin.limit g.K.Origin.whole) (spot c.args.run.now.bits.position c.args.run.now.nodes) i c.parts.values.items (spot old.bits.position old.nodes) there.0 kid is_part is_kid is_flag (λ p. sits-node c.args.module.now (below p.role c.args.depth) p.type) told g.K.Origin.limit g.K.Origin.whole c.in_err-node.field-0.0 new.bits.taken j (subst (λ n. FailsAt g.K.Origin.limit g.K.Origin.whole c.in_err-node.field-0.0 new.bits.taken (node_read c.args.module.now n kid (input g.K.Origin.limit g.K.Origin.whole) (spot old.bits.position old.nodes))) k.inner_is (c.in_err-node.ensures.gives told)) c.parts.invariant.through)
+    rw (p.1, p.2) (through_fails c.args.module.now c.args.depth (label_of u) parts (kids_of u) flags (IsTrue g.K.Origin.told) (input g.K.Origin.limit g.K.Origin.whole) (spot c.args.run.now.bits.position c.args.run.now.nodes) i c.parts.values.items (spot old.bits.position old.nodes) there.0 kid is_part is_kid is_flag (λ p. sits-node c.args.module.now (below p.role c.args.depth) p.type) told g.K.Origin.limit g.K.Origin.whole c.in_err-node.field-0.0 new.bits.taken j (subst (FailsAt g.K.Origin.limit g.K.Origin.whole c.in_err-node.field-0.0 new.bits.taken) (k.read (input g.K.Origin.limit g.K.Origin.whole) (spot old.bits.position old.nodes)) (c.in_err-node.ensures.gives told)) c.parts.invariant.through)
 
 pub components-parts-preserved-then-not-present-i : goal.components-parts-preserved-then-not-present-i
 components-parts-preserved-then-not-present-i g t c =
@@ -386,7 +406,7 @@ components-parts-preserved g t c =
     let i = c.parts.i in
     let kid = c.kid-kid.result.now in
     let there = part_there c.args.module.now c.requires.known c.args.found.now c.requires.of i kid c.kid-kid.ensures in
-    let k = kid_here c.args.module.now c.requires.known c.args.found.now c.requires.of c.args.depth i c.below-inner.result there.0 kid c.role.result (subst HasFields (sym c.requires.form) tt) c.requires.depth there.1 c.kid-kid.ensures (rw c.label.ensures at c.role.ensures) c.below-inner.ensures.same in
+    let k = inner_here c.args.module.now c.requires.known c.args.found.now c.requires.of c.args.depth i c.part_depth-inner.result there.0 kid c.resolve-to.result.now (subst HasFields (sym c.requires.form) tt) c.requires.depth there.1 c.kid-kid.ensures c.resolve-to.ensures c.part_depth-inner.ensures.same in
     let flags = c.args.present.now in
     let is_part = got_split parts i there.0 (subst (λ f. slice_get (parts_of f) i ≡ Some there.0) c.requires.form there.1) in
     let is_kid = got_split (kids_of u) i kid c.kid-kid.ensures in
@@ -399,7 +419,7 @@ components-parts-preserved g t c =
       same = c.node.ensures.same_reference ∙ c.parts.invariant.same;
       count = rw c.in_ok-node.ensures.pushed (omega (arith, c.in_ok-node.ensures.count, c.parts.invariant.count, count-push c.parts.values.items (newest c.node.new.values.items)));
       through = rw c.in_ok-node.ensures.pushed (through_more c.args.module.now c.args.depth (label_of u) parts (kids_of u) flags (IsTrue g.K.Origin.told) (input g.K.Origin.limit g.K.Origin.whole) (spot c.args.run.now.bits.position c.args.run.now.nodes) i c.parts.values.items (spot old.bits.position old.nodes) there.0 kid is_part is_kid is_flag (newest c.node.new.values.items) (spot new.bits.position new.nodes)
-          (subst (λ n. FitsAt c.args.module.now n kid (newest c.node.new.values.items)) k.inner_is c.in_ok-node.ensures.fits) (λ told. (subst (λ n. node_read c.args.module.now n kid (input g.K.Origin.limit g.K.Origin.whole) (spot old.bits.position old.nodes) ≡ Ok ((newest c.node.new.values.items), (spot new.bits.position new.nodes))) k.inner_is (c.in_ok-node.ensures.gives told))) c.parts.invariant.through);
+          (k.fits (newest c.node.new.values.items) c.in_ok-node.ensures.fits) (λ told. sym (k.read (input g.K.Origin.limit g.K.Origin.whole) (spot old.bits.position old.nodes)) ∙ c.in_ok-node.ensures.gives told) c.parts.invariant.through);
     }
 
 pub components-returns-clause-gives : goal.components-returns-clause-gives
@@ -435,10 +455,10 @@ choice-kid-kid-requires g t c =
     let counted = alternatives_counted c.args.module.now c.requires.known c.args.found.now c.requires.of c.args.parts.now c.requires.form in
     omega (arith, as_many, counted.0, c.in_ok-index.ensures.top)
 
-pub choice-role-requires : goal.choice-role-requires
-choice-role-requires g t c =
+pub choice-part_depth-inner-requires-clause-part : goal.choice-part_depth-inner-requires-clause-part
+choice-part_depth-inner-requires-clause-part g t c =
     let counted = alternatives_counted c.args.module.now c.requires.known c.args.found.now c.requires.of c.args.parts.now c.requires.form in
-    rw (c.label.ensures, c.requires.form) (omega (arith, counted.0, c.in_ok-index.ensures.top))
+    rw c.requires.form (omega (arith, counted.0, c.in_ok-index.ensures.top))
 
 pub choice-node-requires : goal.choice-node-requires
 choice-node-requires g t c =
@@ -447,12 +467,12 @@ choice-node-requires g t c =
     let i = c.in_ok-index.field-0 in
     let kid = c.kid-kid.result.now in
     let there = part_there c.args.module.now c.requires.known c.args.found.now c.requires.of i kid c.kid-kid.ensures in
-    let k = kid_here c.args.module.now c.requires.known c.args.found.now c.requires.of c.args.depth i c.below-inner.result there.0 kid c.role.result (subst HasFields (sym c.requires.form) tt) c.requires.depth there.1 c.kid-kid.ensures (rw c.label.ensures at c.role.ensures) c.below-inner.ensures.same in
+    let k = inner_here c.args.module.now c.requires.known c.args.found.now c.requires.of c.args.depth i c.part_depth-inner.result there.0 kid c.resolve-to.result.now (subst HasFields (sym c.requires.form) tt) c.requires.depth there.1 c.kid-kid.ensures c.resolve-to.ensures c.part_depth-inner.ensures.same in
     let is_part = subst (λ f. slice_get (parts_of f) i ≡ Some there.0) c.requires.form there.1 in
     let old = c.args.run.now in
     let mid = c.number.new.self in
     let d = c.decreases in
-    (λ κs h. (omega (arith, d, k.fewer), (h.0, (h.1, (c.below-inner.ensures.few, (c.requires.known, (k.of_module, c.in_ok-index.ensures.on.1)))))))
+    (λ κs h. (omega (arith, d, k.fewer, ap (needs c.args.module.now c.part_depth-inner.result) c.resolve-to.ensures), (h.0, (h.1, (c.part_depth-inner.ensures.few, (c.requires.known, (k.of_module, (c.resolve-to.ensures, c.in_ok-index.ensures.on.1))))))))
 
 pub choice-returns-in_err-index-clause-gives : goal.choice-returns-in_err-index-clause-gives
 choice-returns-in_err-index-clause-gives g t c = λ told.
@@ -469,13 +489,13 @@ choice-returns-in_err-node-clause-gives g t c = λ told.
     let i = c.in_ok-index.field-0 in
     let kid = c.kid-kid.result.now in
     let there = part_there c.args.module.now c.requires.known c.args.found.now c.requires.of i kid c.kid-kid.ensures in
-    let k = kid_here c.args.module.now c.requires.known c.args.found.now c.requires.of c.args.depth i c.below-inner.result there.0 kid c.role.result (subst HasFields (sym c.requires.form) tt) c.requires.depth there.1 c.kid-kid.ensures (rw c.label.ensures at c.role.ensures) c.below-inner.ensures.same in
+    let k = inner_here c.args.module.now c.requires.known c.args.found.now c.requires.of c.args.depth i c.part_depth-inner.result there.0 kid c.resolve-to.result.now (subst HasFields (sym c.requires.form) tt) c.requires.depth there.1 c.kid-kid.ensures c.resolve-to.ensures c.part_depth-inner.ensures.same in
     let is_part = subst (λ f. slice_get (parts_of f) i ≡ Some there.0) c.requires.form there.1 in
     let old = c.args.run.now in
     let mid = c.number.new.self in
     let new = c.node.new.run in
     let j = stands_inside mid.bits.position mid.bits.taken mid.bits.held mid.bits.limit g.K.Origin.limit g.K.Origin.whole _ mid.limited mid.bits.behind mid.bits.within (mid.here told) in
-    rw (p.1, p.2) (alternative_fails c.args.module.now c.args.depth (label_of c.args.found.now) (kids_of c.args.found.now) c.args.parts.now (input g.K.Origin.limit g.K.Origin.whole) (spot old.bits.position old.nodes) i (spot mid.bits.position mid.nodes) there.0 kid (c.in_ok-index.ensures.gives told) is_part c.kid-kid.ensures g.K.Origin.limit g.K.Origin.whole c.in_err-node.field-0.0 new.bits.taken j (subst (λ n. FailsAt g.K.Origin.limit g.K.Origin.whole c.in_err-node.field-0.0 new.bits.taken (node_read c.args.module.now n kid (input g.K.Origin.limit g.K.Origin.whole) (spot mid.bits.position mid.nodes))) k.inner_is (c.in_err-node.ensures.gives told)))
+    rw (p.1, p.2) (alternative_fails c.args.module.now c.args.depth (label_of c.args.found.now) (kids_of c.args.found.now) c.args.parts.now (input g.K.Origin.limit g.K.Origin.whole) (spot old.bits.position old.nodes) i (spot mid.bits.position mid.nodes) there.0 kid (c.in_ok-index.ensures.gives told) is_part c.kid-kid.ensures g.K.Origin.limit g.K.Origin.whole c.in_err-node.field-0.0 new.bits.taken j (subst (FailsAt g.K.Origin.limit g.K.Origin.whole c.in_err-node.field-0.0 new.bits.taken) (k.read (input g.K.Origin.limit g.K.Origin.whole) (spot mid.bits.position mid.nodes)) (c.in_err-node.ensures.gives told)))
 
 pub choice-returns-in_err-push-clause-gives : goal.choice-returns-in_err-push-clause-gives
 choice-returns-in_err-push-clause-gives g t c = λ told.
@@ -485,12 +505,12 @@ choice-returns-in_err-push-clause-gives g t c = λ told.
     let i = c.in_ok-index.field-0 in
     let kid = c.kid-kid.result.now in
     let there = part_there c.args.module.now c.requires.known c.args.found.now c.requires.of i kid c.kid-kid.ensures in
-    let k = kid_here c.args.module.now c.requires.known c.args.found.now c.requires.of c.args.depth i c.below-inner.result there.0 kid c.role.result (subst HasFields (sym c.requires.form) tt) c.requires.depth there.1 c.kid-kid.ensures (rw c.label.ensures at c.role.ensures) c.below-inner.ensures.same in
+    let k = inner_here c.args.module.now c.requires.known c.args.found.now c.requires.of c.args.depth i c.part_depth-inner.result there.0 kid c.resolve-to.result.now (subst HasFields (sym c.requires.form) tt) c.requires.depth there.1 c.kid-kid.ensures c.resolve-to.ensures c.part_depth-inner.ensures.same in
     let is_part = subst (λ f. slice_get (parts_of f) i ≡ Some there.0) c.requires.form there.1 in
     let old = c.args.run.now in
     let mid = c.number.new.self in
     let new = c.node.new.run in
-    let reads = choice_reads c.args.module.now c.args.depth (label_of c.args.found.now) (kids_of c.args.found.now) c.args.parts.now (input g.K.Origin.limit g.K.Origin.whole) (spot old.bits.position old.nodes) i (spot mid.bits.position mid.nodes) there.0 kid (c.in_ok-index.ensures.gives told) is_part c.kid-kid.ensures (newest c.node.new.values.items) (spot new.bits.position new.nodes) (subst (λ n. node_read c.args.module.now n kid (input g.K.Origin.limit g.K.Origin.whole) (spot mid.bits.position mid.nodes) ≡ Ok ((newest c.node.new.values.items), (spot new.bits.position new.nodes))) k.inner_is (c.in_ok-node.ensures.gives told)) in
+    let reads = choice_reads c.args.module.now c.args.depth (label_of c.args.found.now) (kids_of c.args.found.now) c.args.parts.now (input g.K.Origin.limit g.K.Origin.whole) (spot old.bits.position old.nodes) i (spot mid.bits.position mid.nodes) there.0 kid (c.in_ok-index.ensures.gives told) is_part c.kid-kid.ensures (newest c.node.new.values.items) (spot new.bits.position new.nodes) (sym (k.read (input g.K.Origin.limit g.K.Origin.whole) (spot mid.bits.position mid.nodes)) ∙ c.in_ok-node.ensures.gives told) in
     rw (p.1, p.2) (omega (arith, ap end_of reads, c.in_ok-node.ensures.on.1))
 
 pub choice-returns-clause-pushed : goal.choice-returns-clause-pushed
@@ -511,12 +531,12 @@ choice-returns-clause-fits g t c =
     let i = c.in_ok-index.field-0 in
     let kid = c.kid-kid.result.now in
     let there = part_there c.args.module.now c.requires.known c.args.found.now c.requires.of i kid c.kid-kid.ensures in
-    let k = kid_here c.args.module.now c.requires.known c.args.found.now c.requires.of c.args.depth i c.below-inner.result there.0 kid c.role.result (subst HasFields (sym c.requires.form) tt) c.requires.depth there.1 c.kid-kid.ensures (rw c.label.ensures at c.role.ensures) c.below-inner.ensures.same in
+    let k = inner_here c.args.module.now c.requires.known c.args.found.now c.requires.of c.args.depth i c.part_depth-inner.result there.0 kid c.resolve-to.result.now (subst HasFields (sym c.requires.form) tt) c.requires.depth there.1 c.kid-kid.ensures c.resolve-to.ensures c.part_depth-inner.ensures.same in
     let is_part = subst (λ f. slice_get (parts_of f) i ≡ Some there.0) c.requires.form there.1 in
     let old = c.args.run.now in
     let mid = c.number.new.self in
     let new = c.node.new.run in
-    rw (newest-pushed _ _ _ c.in_ok-push.ensures.items, c.join.ensures, c.in_ok-node.ensures.pushed, c.with_room-kids.ensures) (fit-choice c.args.module.now c.args.depth c.args.found.now parts i there.0 kid (newest c.node.new.values.items) c.requires.form is_part c.kid-kid.ensures (subst (λ n. FitsAt c.args.module.now n kid (newest c.node.new.values.items)) k.inner_is c.in_ok-node.ensures.fits))
+    rw (newest-pushed _ _ _ c.in_ok-push.ensures.items, c.join.ensures, c.in_ok-node.ensures.pushed, c.with_room-kids.ensures) (fit-choice c.args.module.now c.args.depth c.args.found.now parts i there.0 kid (newest c.node.new.values.items) c.requires.form is_part c.kid-kid.ensures (k.fits (newest c.node.new.values.items) c.in_ok-node.ensures.fits))
 
 pub choice-returns-clause-gives : goal.choice-returns-clause-gives
 choice-returns-clause-gives g t c = λ told.
@@ -525,12 +545,12 @@ choice-returns-clause-gives g t c = λ told.
     let i = c.in_ok-index.field-0 in
     let kid = c.kid-kid.result.now in
     let there = part_there c.args.module.now c.requires.known c.args.found.now c.requires.of i kid c.kid-kid.ensures in
-    let k = kid_here c.args.module.now c.requires.known c.args.found.now c.requires.of c.args.depth i c.below-inner.result there.0 kid c.role.result (subst HasFields (sym c.requires.form) tt) c.requires.depth there.1 c.kid-kid.ensures (rw c.label.ensures at c.role.ensures) c.below-inner.ensures.same in
+    let k = inner_here c.args.module.now c.requires.known c.args.found.now c.requires.of c.args.depth i c.part_depth-inner.result there.0 kid c.resolve-to.result.now (subst HasFields (sym c.requires.form) tt) c.requires.depth there.1 c.kid-kid.ensures c.resolve-to.ensures c.part_depth-inner.ensures.same in
     let is_part = subst (λ f. slice_get (parts_of f) i ≡ Some there.0) c.requires.form there.1 in
     let old = c.args.run.now in
     let mid = c.number.new.self in
     let new = c.node.new.run in
-    rw (newest-pushed _ _ _ c.in_ok-push.ensures.items, c.join.ensures, c.in_ok-node.ensures.pushed, c.with_room-kids.ensures) (choice_reads c.args.module.now c.args.depth (label_of c.args.found.now) (kids_of c.args.found.now) c.args.parts.now (input g.K.Origin.limit g.K.Origin.whole) (spot old.bits.position old.nodes) i (spot mid.bits.position mid.nodes) there.0 kid (c.in_ok-index.ensures.gives told) is_part c.kid-kid.ensures (newest c.node.new.values.items) (spot new.bits.position new.nodes) (subst (λ n. node_read c.args.module.now n kid (input g.K.Origin.limit g.K.Origin.whole) (spot mid.bits.position mid.nodes) ≡ Ok ((newest c.node.new.values.items), (spot new.bits.position new.nodes))) k.inner_is (c.in_ok-node.ensures.gives told)))
+    rw (newest-pushed _ _ _ c.in_ok-push.ensures.items, c.join.ensures, c.in_ok-node.ensures.pushed, c.with_room-kids.ensures) (choice_reads c.args.module.now c.args.depth (label_of c.args.found.now) (kids_of c.args.found.now) c.args.parts.now (input g.K.Origin.limit g.K.Origin.whole) (spot old.bits.position old.nodes) i (spot mid.bits.position mid.nodes) there.0 kid (c.in_ok-index.ensures.gives told) is_part c.kid-kid.ensures (newest c.node.new.values.items) (spot new.bits.position new.nodes) (sym (k.read (input g.K.Origin.limit g.K.Origin.whole) (spot mid.bits.position mid.nodes)) ∙ c.in_ok-node.ensures.gives told))
 
 -- A SEQUENCE OF
 
@@ -699,6 +719,12 @@ fragments-fragments-preserved g t c =
     }
 
 -- ITEMS
+
+pub items-node-requires : goal.items-node-requires
+items-node-requires g t c =
+    let M = c.args.module.now in
+    let d = c.decreases in
+    (λ κs h. (omega (arith, d, needs-resolved M c.requires.known c.args.depth c.args.item.now c.requires.of, ap (needs M c.args.depth) c.resolve-found.ensures), (h.0, (h.1, (c.requires.depth, (c.requires.known, (c.requires.of, (c.resolve-found.ensures, c.items.invariant.in_step))))))))
 
 pub items-returns-in_err-node-clause-gives : goal.items-returns-in_err-node-clause-gives
 items-returns-in_err-node-clause-gives g t c = λ told.

@@ -5,20 +5,21 @@ use Rattle.per_fields.specs.Levels.{levels_needed}
 use Rattle.per_fields.specs.Fields.{fragments_at, counted_at}
 use Rattle.per_decode.specs.Private.Giving.{input, spot}
 use Rattle.per_decode.specs.Private.Bodies.{many_at, more_at, FitAll}
+use Rattle.per_decode.proofs.NoKids.{needs}
 use Rattle.per_decode.proofs.Loop.{with_front, Through}
 use Rattle.per_decode.proofs.nodes.+nodes.Given as goal
 
 abbrev pub decreases-node : goal.decreases-node
-decreases-node g l = 10 * levels_needed l.«module».now l.depth l.node.now + 9
+decreases-node g l = 10 * needs l.«module».now l.depth l.found.now + 9
 
 abbrev pub decreases-body : goal.decreases-body
-decreases-body g l = 10 * levels_needed l.«module».now l.depth l.node.now + 8
+decreases-body g l = 10 * needs l.«module».now l.depth l.found.now + 8
 
 abbrev pub decreases-ruled : goal.decreases-ruled
-decreases-ruled g l = 10 * levels_needed l.«module».now l.depth l.node.now + 7
+decreases-ruled g l = 10 * needs l.«module».now l.depth l.found.now + 7
 
 abbrev pub decreases-fields : goal.decreases-fields
-decreases-fields g l = 10 * levels_needed l.«module».now l.depth l.found.now + 6
+decreases-fields g l = 10 * needs l.«module».now l.depth l.found.now + 6
 
 abbrev pub decreases-sequence : goal.decreases-sequence
 decreases-sequence g l = 10 * levels_needed l.«module».now l.depth l.found.now + 5
