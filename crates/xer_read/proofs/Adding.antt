@@ -23,6 +23,7 @@ use Rattle.schema_parts.specs.Declarable.{is_declarable_attribute}
 use Rattle.schema_parts.specs.SetParts.{parts_of}
 use Rattle.one_value.proofs.Simples.{found-in}
 use Rattle.validity.specs.Asked.{Asked, Attribute, Inside, nothing, simple, children, attribute_in, space_at}
+use Rattle.validity_check.specs.Kept.{KeptPlan}
 use Rattle.validity_check.proofs.Tagging.{plain_name, text_left}
 use Rattle.validity.specs.Attributes.{text_of, left}
 use Rattle.xer_read.specs.declared.built.Built.{Built}
@@ -131,7 +132,7 @@ pub rest-later : (n : ℕ) (one two : Tally) (r : Rest) (b : Beside) → Counts 
 rest-later n one two rest.Nil held.nil c h = tt
 rest-later n one two rest.Nothing held.nothing c h = tt
 rest-later n one two (rest.Text made) (held.text v) c h = stands-later n one two made v c h
-rest-later n one two (rest.Children own found) (held.children model gs) c h = (h.0, wait-later n one two found gs c h.1)
+rest-later n one two (rest.Children own plan found) (held.children model gs) c h = (h.0, wait-later n one two found gs c h.1)
 rest-later n one two rest.Nil held.nothing c h = absurd h
 rest-later n one two rest.Nil (held.text v) c h = absurd h
 rest-later n one two rest.Nil (held.children model gs) c h = absurd h
@@ -141,9 +142,9 @@ rest-later n one two rest.Nothing (held.children model gs) c h = absurd h
 rest-later n one two (rest.Text made) held.nil c h = absurd h
 rest-later n one two (rest.Text made) held.nothing c h = absurd h
 rest-later n one two (rest.Text made) (held.children model gs) c h = absurd h
-rest-later n one two (rest.Children own found) held.nil c h = absurd h
-rest-later n one two (rest.Children own found) held.nothing c h = absurd h
-rest-later n one two (rest.Children own found) (held.text v) c h = absurd h
+rest-later n one two (rest.Children own plan found) held.nil c h = absurd h
+rest-later n one two (rest.Children own plan found) held.nothing c h = absurd h
+rest-later n one two (rest.Children own plan found) (held.text v) c h = absurd h
 
 module _ (nillable : Bool) (former latter : Parts) where
   pub nil-rest : (tally : Tally) → (latter.flags ≡ former.flags ++ false ∷ []) × (latter.values.items ≡ former.values.items) → (b : Beside) → RestStands tally rest.Nil b
@@ -160,13 +161,13 @@ module _ (nillable : Bool) (former latter : Parts) where
       adds-one (RestMade nillable (held.text v)) (node_count v) 0 former latter tally tally made v (refl, refl) added h (counts-none tally) (omega arith)
   text-rest tally made added (held.children model gs) h = absurd h
 
-  pub children-rest : (before after : Tally) (own : Bor (Rose ParticleLabel)) (found : Children)
+  pub children-rest : (before after : Tally) (own : Bor (Rose ParticleLabel)) (plan : KeptPlan) (found : Children)
       → ((gs : List Child) → Wait before found gs → Adds (ChildrenMade nillable (seen own.now) gs) (child_nodes gs) former latter before after)
-      → (b : Beside) → RestStands before (rest.Children own found) b → Adds (RestMade nillable b) (rest_nodes b) former latter before after
-  children-rest before after own found f held.nil h = absurd h
-  children-rest before after own found f held.nothing h = absurd h
-  children-rest before after own found f (held.text v) h = absurd h
-  children-rest before after own found f (held.children model gs) h = subst (λ m. Adds (ChildrenMade nillable (seen m) gs) (child_nodes gs) former latter before after) h.0 (f gs h.1)
+      → (b : Beside) → RestStands before (rest.Children own plan found) b → Adds (RestMade nillable b) (rest_nodes b) former latter before after
+  children-rest before after own plan found f held.nil h = absurd h
+  children-rest before after own plan found f held.nothing h = absurd h
+  children-rest before after own plan found f (held.text v) h = absurd h
+  children-rest before after own plan found f (held.children model gs) h = subst (λ m. Adds (ChildrenMade nillable (seen m) gs) (child_nodes gs) former latter before after) h.0 (f gs h.1)
 
 pub nothing-inner : (none_yet former latter : Parts) (before after : Tally) (made : Built) → none_yet.flags ≡ [] → none_yet.values.items ≡ [] → Counts 1 before after
     → Stands after made (node (value.Sequence none_yet.flags) (roses_of none_yet.values.items)) → PartAdded made former latter → (b : Beside) → RestStands before rest.Nothing b
@@ -254,4 +255,4 @@ complex-made plain a xs content (Ok made) before after apart f = λ h holds.
     by v P rest.Nil (held.text w) apart stands p = absurd stands
     by v P rest.Nothing (held.text w) apart stands p = absurd stands
     by v P (rest.Text one) (held.text w) apart stands p = absurd (apart one refl)
-    by v P (rest.Children own found) (held.text w) apart stands p = absurd stands
+    by v P (rest.Children own plan found) (held.text w) apart stands p = absurd stands

@@ -1,5 +1,5 @@
 -- Parts that are added one after another, and child elements that are taken one after another.
-use Rattle.std.proofs.Common.{◌≡◌, ℕ, suc, ◌<◌, ◌≤◌, arith, ◌||◌, ◌&&◌, Bool, true, false, not, List, [], ◌∷◌, ◌++◌, Option, length, refl, sym, ◌∙◌, ap, subst, append-nil, append_assoc, ◌+◌, length-append}
+use Rattle.std.proofs.Common.{◌≡◌, ℕ, ◌<◌, ◌≤◌, arith, ◌||◌, ◌&&◌, Bool, true, false, not, List, [], ◌∷◌, ◌++◌, Option, length, refl, sym, ◌∙◌, ap, subst, append-nil, append_assoc, ◌+◌, length-append}
 use Rattle.std.specs.Prelude.{nat_le, Result, Ok, Err, OnOk, IfOk}
 use Rattle.label_tree.specs.Rose.{Rose, node, Roses, roses_of, node_count, count_all, label_of, kids_of, Allowed}
 use Rattle.label_tree.specs.Rose as rose
@@ -82,10 +82,10 @@ other-true false b e = rw e refl
 neither-true : (a b : Bool) → a ≡ false → b ≡ false → (a || (b && true)) ≡ false
 neither-true a b e f = rw (e, f) refl
 
-once-alone : (a b : Bool) → a ≡ true → (a || (b && false)) ≡ true
+pub once-alone : (a b : Bool) → a ≡ true → (a || (b && false)) ≡ true
 once-alone a b e = rw e refl
 
-not-once : (a b : Bool) → a ≡ false → (a || (b && false)) ≡ false
+pub not-once : (a b : Bool) → a ≡ false → (a || (b && false)) ≡ false
 not-once false true e = refl
 not-once false false e = refl
 not-once true b e = absurd (cc)
@@ -113,30 +113,6 @@ module _ (t : Rose ParticleLabel) (least : ℕ) (most : Option ℕ) (e : (label_
       → PartsMade (more (seen t) none) (true ∷ []) (v ∷ []) gs
   several-made o q v gs h = stands-made v gs (stands-several false least most (term_of t) v gs (neither-true (is_once least most) (is_optional least most) o q) h)
 
--- ---- alternatives
-
-module _ (ts : List (Rose ParticleLabel)) (t : Rose ParticleLabel) (rest : List (Rose ParticleLabel)) (is : ts ≡ t ∷ rest) where
-  chosen-seen : (i : ℕ) (v : Rose ValueLabel) (gs : List Child) → ChosenMade (more (occurs (term_of t) (label_of t).min (label_of t).max) (all_seen (roses_of rest))) i v gs
-      → ChosenMade (all_seen (roses_of ts)) i v gs
-  chosen-seen i v gs h =
-      subst (λ us. ChosenMade (all_seen (roses_of us)) i v gs) (sym is) (subst (λ p. ChosenMade (more p (all_seen (roses_of rest))) i v gs) (sym (seen-is t)) h)
-
-  pub later-chosen : (i j : ℕ) (v : Rose ValueLabel) (gs : List Child) → i ≡ suc j → ChosenMade (all_seen (roses_of rest)) j v gs → ChosenMade (all_seen (roses_of ts)) i v gs
-  later-chosen i j v gs e h = subst (λ k. ChosenMade (all_seen (roses_of ts)) k v gs) (sym e) (chosen-seen (suc j) v gs h)
-
-  pub once-chosen : (i : ℕ) (v : Rose ValueLabel) (gs : List Child) → i ≡ 0 → is_once (label_of t).min (label_of t).max ≡ true → TermMade (term_of t) v gs → ChosenMade (all_seen (roses_of ts)) i v gs
-  once-chosen i v gs e o h =
-      subst (λ k. ChosenMade (all_seen (roses_of ts)) k v gs) (sym e)
-      (chosen-seen 0 v gs
-      (stands-once true (label_of t).min (label_of t).max (term_of t) v gs (once-alone (is_once (label_of t).min (label_of t).max) (is_optional (label_of t).min (label_of t).max) o) h))
-
-  pub several-chosen : (i : ℕ) (v : Rose ValueLabel) (gs : List Child) → i ≡ 0 → is_once (label_of t).min (label_of t).max ≡ false
-      → Several (TermMade (term_of t)) (label_of t).min (label_of t).max v gs → ChosenMade (all_seen (roses_of ts)) i v gs
-  several-chosen i v gs e o h =
-      subst (λ k. ChosenMade (all_seen (roses_of ts)) k v gs) (sym e)
-      (chosen-seen 0 v gs
-      (stands-several true (label_of t).min (label_of t).max (term_of t) v gs (not-once (is_once (label_of t).min (label_of t).max) (is_optional (label_of t).min (label_of t).max) o) h))
-
 -- ---- answers
 
 pub on-ok : {X E : Type 0} (r : Result X E) (P Q : Type 0) → (P → Q) → OnOk r P → OnOk r Q
@@ -149,7 +125,7 @@ on-both (Err e) P Q R f h k = tt
 
 -- ---- values of child elements
 
-taken-as : (P Q : Rose ValueLabel → List Child → Type 0) (made : Built) (gs : List Child) (new : Children) (before after : Tally) → ((v : Rose ValueLabel) (xs : List Child) → P v xs → Q v xs)
+pub taken-as : (P Q : Rose ValueLabel → List Child → Type 0) (made : Built) (gs : List Child) (new : Children) (before after : Tally) → ((v : Rose ValueLabel) (xs : List Child) → P v xs → Q v xs)
     → Taken P made gs new before after → Taken Q made gs new before after
 taken-as P Q made gs new before after f h = record {
   value = h.value;

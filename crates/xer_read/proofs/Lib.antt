@@ -14,3 +14,4 @@ pub mod Whole
 pub mod Valuing
 pub mod Apart
 pub mod Again
+pub mod Choosing

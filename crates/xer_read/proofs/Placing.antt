@@ -9,12 +9,11 @@ use Rattle.content_models.specs.Particle.{Particle, occurs, Term, element, seque
 use Rattle.content_models.specs.Language.{Turn, Leaf, leaf_at, names, turn_of, size_of, Times, Within, Lang, Body, InOrder, OneOf}
 use Rattle.content_models.specs.Laws.{Opens}
 use Rattle.content_models.specs.Clear.{Clear, ClearInOrder, ClearOneOf, Rule1, first_of_term, first_of_any, empties_term, any_empty}
-use Rattle.content_models.specs.Occurring.{IsMore}
 use Rattle.content_models.proofs.Opening.{body_opens, one_opens}
 use Rattle.xer_read.specs.declared.children.Child as kept
 use Rattle.xer_read.specs.declared.children.Children.{Children}
 use Rattle.xer_read.specs.Private.Bounds.{is_once, is_optional}
-use Rattle.xer_read.specs.Private.Places.{AllAt, AreAt, BeginsWith, IsBelow, AllIn, NoneIn, HeadIn, ParticlePlaced, TurnPlaced, TurnsPlaced, TermPlaced, OrderPlaced, OnePlaced, Chosen, ChosenPlaced, KeepsRule1, AllKeepRule1}
+use Rattle.xer_read.specs.Private.Places.{AllAt, AreAt, IsBelow, AllIn, NoneIn, HeadIn, ParticlePlaced, TurnPlaced, TurnsPlaced, TermPlaced, OrderPlaced, OnePlaced, Chosen, ChosenPlaced, KeepsRule1, AllKeepRule1}
 
 -- ---- below a path
 
@@ -72,13 +71,13 @@ times-in B path n f (suc k) i w (x, y, e, b, h) =
     (all-as path (λ u. u ≡ turn_of n i) (IsFrom n i) (λ u q. (ap (λ (v : Turn). v.particle) q, let d = ap (λ (v : Turn). v.turn) q in omega (arith, d))) x (f i x b))
     (all-as path (IsFrom n (suc i)) (IsFrom n i) (λ u q. (q.0, let d = q.1 in omega (arith, d))) y (times-in B path n f k (suc i) y h)))
 
-some-size : (p : Particle) → 1 ≤ size_of p
+pub some-size : (p : Particle) → 1 ≤ size_of p
 some-size (occurs (element d a) least most) = omega arith
 some-size (occurs (sequence ps) least most) = omega arith
 some-size (occurs (choice ps) least most) = omega arith
 
 mutual
-  lang-in : (p : Particle) (n : ℕ) (path : List Turn) (w : List Leaf) → Lang p n path w → AllIn path (λ u. u.particle ≡ n) w
+  pub lang-in : (p : Particle) (n : ℕ) (path : List Turn) (w : List Leaf) → Lang p n path w → AllIn path (λ u. u.particle ≡ n) w
   lang-in (occurs t least most) n path w (k, within, h) =
       all-as path (IsFrom n 0) (λ u. u.particle ≡ n) (λ u q. q.0) w
       (times-in (λ i. Body t n (path ++ turn_of n i ∷ [])) path n (λ i x b. body-in t n path i x b) k 0 w h)
@@ -248,10 +247,6 @@ pub chosen-later : (p : Particle) (ps : Particles) (i n : ℕ) (path : List Turn
 chosen-later p ps i n path children us ws h =
     record { at = h.at; lang = h.lang; apart = none-as path (λ u. n ≤ u.particle) (λ u. n + size_of p ≤ u.particle) (λ u q. omega (arith, q)) ws h.apart }
 
-pub chosen-short : (ps : Particles) (i n : ℕ) (path : List Turn) (w : List Leaf) → Chosen ps i n path w → IsMore ps
-chosen-short none i n path w h = absurd h
-chosen-short (more p ps) i n path w h = tt
-
 -- ---- by the bounds
 
 once-bounds : (least : ℕ) (most : Option ℕ) → is_once least most ≡ true → (least ≡ 1) × (most ≡ Some 1)
@@ -394,40 +389,12 @@ within-bounds least (Some most) k h = (le-leb least k h.0, le-leb k most h.1)
 
 -- ---- which alternative
 
--- the list of a choice is one of the alternative at whose turn its first leaf stands
-pub one-here : (p : Particle) (ps : Particles) (n : ℕ) (path : List Turn) (u : Turn) (w : List Leaf) → OneOf (more p ps) n path w → HeadIn path u w → u.particle ≡ n → Lang p n path w
-one-here p ps n path u w (inl h) b e = h
-one-here p ps n path u [] (inr h) b e = absurd b
-one-here p ps n path u (l ∷ w) (inr h) b e =
-    let size = some-size p in
-    absurd ((all-none path (λ v. n + size_of p ≤ v.particle) (λ v. v.particle ≡ n) (λ v q r. absurd (omega (arith, q, r, size))) (l ∷ w) (one-in ps (n + size_of p) path (l ∷ w) h)).0 u b e)
-
-pub one-later : (p : Particle) (ps : Particles) (n : ℕ) (path : List Turn) (u : Turn) (w : List Leaf) → OneOf (more p ps) n path w → HeadIn path u w → (u.particle ≡ n → ⊥) → OneOf ps (n + size_of p) path w
-one-later p ps n path u w (inr h) b e = h
-one-later p ps n path u [] (inl h) b e = absurd b
-one-later p ps n path u (l ∷ w) (inl h) b e =
-    absurd ((all-none path (λ v. v.particle ≡ n) (λ v. v.particle ≡ n → ⊥) (λ v q r. r q) (l ∷ w) (lang-in p n path (l ∷ w) h)).0 u b e)
-
--- The particles from the number next on are left of all, whose first has the number first. So many were passed, and none was
--- the one that is sought.
-pub record Sought (number first next place : ℕ) (all left : Particles) : Type 0 where
-  pub one : (path : List Turn) (us : List Leaf) → BeginsWith number first path all us → BeginsWith number next path left us
-  pub chosen : (path : List Turn) (us : List Leaf) (i : ℕ) → Chosen left i next path us → Chosen all (place + i) first path us
-
-pub sought-later : (number first next place : ℕ) (all : Particles) (p : Particle) (left : Particles) → (next ≡ number → ⊥) → Sought number first next place all (more p left)
-    → Sought number first (next + size_of p) (place + 1) all left
-sought-later number first next place all p left other s = record {
-  one = λ path us h.
-      let k = s.one path us h in
-      record { lang = one-later p left next path k.head us k.lang k.begins (λ e. other (sym e ∙ k.is)); head = k.head; begins = k.begins; is = k.is };
-  chosen = λ path us i h. subst (λ j. Chosen all j first path us) (omega arith) (s.chosen path us (suc i) h);
-}
-
-pub sought-here : (number first next place : ℕ) (all : Particles) (p : Particle) (left : Particles) → next ≡ number → Sought number first next place all (more p left)
-    → (path : List Turn) (us : List Leaf) → BeginsWith number first path all us → Chosen all place first path us
-sought-here number first next place all p left e s path us h =
-    let k = s.one path us h in
-    subst (λ j. Chosen all j first path us) (omega arith) (s.chosen path us 0 (one-here p left next path k.head us k.lang k.begins (k.is ∙ sym e)))
+-- A list of one of the particles begins at a turn of the particle with this number, where the first of them has the number n.
+pub record BeginsWith (number n : ℕ) (path : List Turn) (ps : Particles) (us : List Leaf) : Type 0 where
+  pub lang : OneOf ps n path us
+  pub head : Turn
+  pub begins : HeadIn path head us
+  pub is : head.particle ≡ number
 
 pub one-begins : (ps : Particles) (n : ℕ) (path : List Turn) (children : Children) (u : Turn) (us ws : List Leaf) → OnePlaced ps n path children us ws → HeadIn path u (us ++ ws) → BeginsWith u.particle n path ps us
 one-begins ps n path children u [] ws h b = absurd (none-head path (λ v. Unit {0}) u ws h.apart tt b)

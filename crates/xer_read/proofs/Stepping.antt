@@ -6,7 +6,7 @@ use Rattle.label_tree.specs.Rose as rose
 use Rattle.label_tree.proofs.Kids.{roses_of-drop, all_allowed-drop}
 use Rattle.label_tree.proofs.Roses.{length-le-count_all}
 use Rattle.content_models.specs.Kids.{KindMayHave, MayHave}
-use Rattle.content_models.specs.Particle.{occurs, Term, element, sequence, choice, Particles, none, more}
+use Rattle.content_models.specs.Particle.{occurs, Term, element, sequence, choice, Particles, more}
 use Rattle.content_models.specs.Language.{Turn, Leaf, leaf_at, turn_of, size_of, size_of_term, size_of_all, Within}
 use Rattle.content_models.specs.Clear.{is_zero, empties, empties_term}
 use Rattle.content_models.specs.Occurring.{AllMayOccur}
@@ -22,11 +22,11 @@ use Rattle.xer_read.specs.declared.children.Occurrence.{Occurrence}
 use Rattle.xer_read.specs.Private.Bounds.{is_once, is_optional}
 use Rattle.xer_read.specs.Private.Growing.{term_of}
 use Rattle.xer_read.specs.Private.Tallied.{ChildTaken}
-use Rattle.xer_read.specs.Private.Places.{ModelPlaced, AreAt, HeadIn, path_shown, occurrence_shown, SomeWait, OthersWait, ParticlePlaced, TurnPlaced, TermPlaced, OrderPlaced, OnePlaced, ChosenPlaced, Chosen, BeginsWith, IsFillable, TermIsFillable, AllAreFillable}
+use Rattle.xer_read.specs.Private.Places.{ModelPlaced, AreAt, HeadIn, path_shown, occurrence_shown, SomeWait, OthersWait, ParticlePlaced, TurnPlaced, TermPlaced, OrderPlaced, OnePlaced, ChosenPlaced, Chosen, IsFillable, TermIsFillable, AllAreFillable}
 use Rattle.xer_read.proofs.Growing.{seen-is}
 use Rattle.xer_read.proofs.Waiting.{none-left-waits}
 use Rattle.simple_values.specs.Lexical.{is_at_most}
-use Rattle.xer_read.proofs.Placing.{Sought, TurnsLeft, NextTurn, turns-init, next-turn, no-next, no-more, within-bounds, order-split, order-none, once-placed, present-placed, absent-placed, never-empty, turn-term, term-element, term-order, term-one, chosen-first, chosen-later, chosen-short}
+use Rattle.xer_read.proofs.Placing.{TurnsLeft, NextTurn, turns-init, next-turn, no-next, no-more, within-bounds, order-split, order-none, once-placed, present-placed, absent-placed, never-empty, turn-term, term-element, term-order, term-one}
 
 -- ---- numbers of particles
 
@@ -61,19 +61,6 @@ kid-allowed ts i kid at here h = (subst (AllowedAll MayHave) (roses_of-drop ts i
 pub kid-count : (ts : List (Rose ParticleLabel)) → length ts ≤ count_all (roses_of ts)
 kid-count ts = length-le-count_all ts
 
-no-more-kids : (ts : List (Rose ParticleLabel)) (i : ℕ) → length ts ≤ i → drop i ts ≡ []
-no-more-kids [] zero l = refl
-no-more-kids [] (suc i) l = refl
-no-more-kids (t ∷ ts) zero l = absurd (omega (arith, l))
-no-more-kids (t ∷ ts) (suc i) l = no-more-kids ts i (omega (arith, l))
-
--- one of the particles is the one that is sought
-pub none-sought : (ts : List (Rose ParticleLabel)) (i : ℕ) → length ts ≤ i → (number first next place : ℕ) (path : List Turn) (us : List Leaf) → BeginsWith number first path (all_seen (roses_of ts)) us
-    → Sought number first next place (all_seen (roses_of ts)) (all_seen (roses_of (drop i ts))) → ⊥
-none-sought ts i l number first next place path us h s =
-    let none_left : BeginsWith number next path none us = subst (λ left. BeginsWith number next path (all_seen (roses_of left)) us) (no-more-kids ts i l) (s.one path us h) in
-    none_left.lang
-
 -- ---- what may be empty
 
 some-zero : (n : ℕ) → (n ≡ 0 → ⊥) → is_zero n ≡ false
@@ -100,10 +87,10 @@ kid-empty-at ts i place kid rest same is e h n path = subst (λ j. Chosen (all_s
 
 -- ---- those that wait, and those that are left
 
-wait-as : (P Q : List Leaf → List Leaf → Type 0) → ((us ws : List Leaf) → P us ws → Q us ws) → SomeWait P → SomeWait Q
+pub wait-as : (P Q : List Leaf → List Leaf → Type 0) → ((us ws : List Leaf) → P us ws → Q us ws) → SomeWait P → SomeWait Q
 wait-as P Q f h = (h.0, h.1, f h.0 h.1 h.2)
 
-leave-as : (P Q : List Leaf → List Leaf → Type 0) (new : Children) → ((us ws : List Leaf) → P us ws → Q us ws) → OthersWait Q new → OthersWait P new
+pub leave-as : (P Q : List Leaf → List Leaf → Type 0) (new : Children) → ((us ws : List Leaf) → P us ws → Q us ws) → OthersWait Q new → OthersWait P new
 leave-as P Q new f h = λ us ws p. h us ws (f us ws p)
 
 -- ---- a particle
@@ -254,43 +241,9 @@ module _ (ts : List (Rose ParticleLabel)) (t : Rose ParticleLabel) (rest : List 
       left s.behind ws (subst (λ k. OrderPlaced (all_seen (roses_of rest)) k again later s.behind ws) (sym number)
       (subst (λ p. OrderPlaced (all_seen (roses_of rest)) (n + size_of (seen t)) p later s.behind ws) (sym same) (s.others later (taken s.front (s.behind ++ ws) s.one))))
 
-  -- ---- an alternative
-
-  first-chosen : (i n : ℕ) (path : List Turn) (children : Children) → i ≡ 0 → (us ws : List Leaf) → ChosenPlaced (all_seen (roses_of ts)) i n path children us ws → ParticlePlaced (seen t) n path children us ws
-  first-chosen i n path children e us ws h =
-      chosen-first (seen t) (all_seen (roses_of rest)) n path children us ws
-      (subst (λ j. ChosenPlaced (more (seen t) (all_seen (roses_of rest))) j n path children us ws) e (in-parts (λ ps. ChosenPlaced ps i n path children us ws) h))
-
-  later-chosen : (i j n next : ℕ) (path : List Turn) (children : Children) → i ≡ suc j → next ≡ n + size_of (seen t)
-      → (us ws : List Leaf) → ChosenPlaced (all_seen (roses_of ts)) i n path children us ws → ChosenPlaced (all_seen (roses_of rest)) j next path children us ws
-  later-chosen i j n next path children e number us ws h =
-      subst (λ k. ChosenPlaced (all_seen (roses_of rest)) j k path children us ws) (sym number)
-      (chosen-later (seen t) (all_seen (roses_of rest)) j n path children us ws
-      (subst (λ k. ChosenPlaced (more (seen t) (all_seen (roses_of rest))) k n path children us ws) e (in-parts (λ ps. ChosenPlaced ps i n path children us ws) h)))
-
-  pub chosen-waits : (i n : ℕ) (path : List Turn) (children : Children) → i ≡ 0 → SomeWait (ChosenPlaced (all_seen (roses_of ts)) i n path children) → SomeWait (ParticlePlaced (seen t) n path children)
-  chosen-waits i n path children e = wait-as (ChosenPlaced (all_seen (roses_of ts)) i n path children) (ParticlePlaced (seen t) n path children) (first-chosen i n path children e)
-
-  pub chosen-leaves : (i n : ℕ) (path : List Turn) (children new : Children) → i ≡ 0 → OthersWait (ParticlePlaced (seen t) n path children) new → OthersWait (ChosenPlaced (all_seen (roses_of ts)) i n path children) new
-  chosen-leaves i n path children new e = leave-as (ChosenPlaced (all_seen (roses_of ts)) i n path children) (ParticlePlaced (seen t) n path children) new (first-chosen i n path children e)
-
-  pub later-waits : (i j n next : ℕ) (path : List Turn) (children : Children) → i ≡ suc j → next ≡ n + size_of (seen t)
-      → SomeWait (ChosenPlaced (all_seen (roses_of ts)) i n path children) → SomeWait (ChosenPlaced (all_seen (roses_of rest)) j next path children)
-  later-waits i j n next path children e number =
-      wait-as (ChosenPlaced (all_seen (roses_of ts)) i n path children) (ChosenPlaced (all_seen (roses_of rest)) j next path children) (later-chosen i j n next path children e number)
-
-  pub later-leaves : (i j n next : ℕ) (path : List Turn) (children new : Children) → i ≡ suc j → next ≡ n + size_of (seen t)
-      → OthersWait (ChosenPlaced (all_seen (roses_of rest)) j next path children) new → OthersWait (ChosenPlaced (all_seen (roses_of ts)) i n path children) new
-  later-leaves i j n next path children new e number =
-      leave-as (ChosenPlaced (all_seen (roses_of ts)) i n path children) (ChosenPlaced (all_seen (roses_of rest)) j next path children) new (later-chosen i j n next path children e number)
-
 pub parts-none : (ts : List (Rose ParticleLabel)) (n : ℕ) (path : List Turn) (children : Children) → length ts ≡ 0 → OthersWait (OrderPlaced (all_seen (roses_of ts)) n path children) children
 parts-none [] n path children e = λ us ws h. order-none n path children us ws h
 parts-none (t ∷ ts) n path children e = absurd (cc)
-
-pub none-chosen : (ts : List (Rose ParticleLabel)) (i n : ℕ) (path : List Turn) (children : Children) → length ts ≡ 0 → SomeWait (ChosenPlaced (all_seen (roses_of ts)) i n path children) → ⊥
-none-chosen [] i n path children e (us, ws, h) = chosen-short none i n path us h.lang
-none-chosen (t ∷ ts) i n path children e h = absurd (cc)
 
 -- ---- one occurrence
 

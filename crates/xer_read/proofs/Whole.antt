@@ -91,7 +91,7 @@ rest-stands : (read_kids : Kids) (model : Rose ParticleLabel) (r : Rest) (tally 
 rest-stands kids model read.Nil tally gs q wait = absurd q
 rest-stands kids model read.Nothing tally gs q wait = absurd q
 rest-stands kids model (read.Text made) tally gs q wait = absurd q
-rest-stands kids model (read.Children own found) tally gs q wait = (q.0, subst (λ x. Wait tally x gs) (sym q.1) wait)
+rest-stands kids model (read.Children own plan found) tally gs q wait = (q.0, subst (λ x. Wait tally x gs) (sym q.1) wait)
 
 module _ (s : Set) (p : Particle) (ts : Roses ItemLabel) (kids : Kids) (content : Content) (model : Rose ParticleLabel) (start before after : Tally) where
   mixed-right : KidsRead s true p ts kids start before → IsContentWith true kids model content before after → p ≡ seen model → All (IsNamed s) (leaves p) → IsRightContent s (children true p) ts content start after
@@ -174,10 +174,12 @@ pub rest-placed : (s : Set) (mixed : Bool) (ts : Roses ItemLabel) (kids : Kids) 
 rest-placed s mixed ts kids model read.Nil start before q h m = absurd q
 rest-placed s mixed ts kids model read.Nothing start before q h m = absurd q
 rest-placed s mixed ts kids model (read.Text made) start before q h m = absurd q
-rest-placed s mixed ts kids model (read.Children own found) start before q h m =
-    subst (λ t. ModelPlaced t found) (sym q.0)
-    (subst (λ c. ModelPlaced model c) (sym q.1)
-    (record { few = m.few; fillable = (m.occurring, clear-rule1 (seen model) [] m.clear); us = h.leaves; at = h.at; lang = h.lang }))
+rest-placed s mixed ts kids model (read.Children own plan found) start before q h m = (
+  subst (λ t. ModelPlaced t found) (sym q.0)
+      (subst (λ c. ModelPlaced model c) (sym q.1)
+      (record { few = m.few; fillable = (m.occurring, clear-rule1 (seen model) [] m.clear); us = h.leaves; at = h.at; lang = h.lang })),
+  subst (λ t. plan.value ≡ seen t) (sym q.0) q.2,
+)
 
 -- such a content is valid
 content-valid : (s : Set) (inside : Inside) (ts : Roses ItemLabel) (texts : Rose ValueLabel) (r : Beside) (vs : Roses Plain) → IsContentBy s inside ts texts r vs → ContentValid (asked_at (parts_of s)) inside ts vs

@@ -1,5 +1,6 @@
 //! What is read of the content of an element.
 ghost use Rattle.std.specs.Prelude.{◌≡◌, [], None, OnOk, IfOk};
+ghost use Rattle.content_models.specs.Seen.{seen};
 ghost use Rattle.xer_read.specs.Private.Keeping.{TextAdded, TextClosed, ElementAdded};
 ghost use Rattle.xer_read.specs.Private.Contents.{IsContentWith};
 ghost use Rattle.xer_read.specs.Private.Places.{AreAt, LeafAdded};
@@ -7,11 +8,12 @@ ghost use Rattle.xer_read.specs.Private.Places.{AreAt, LeafAdded};
 use crate::built::Built;
 use crate::children::Children;
 use crate::tally::Tally;
-use content_match::Turn;
+use content_match::{Plan, Turn};
 use content_models::Particle;
 use label_tree::Tree;
 use simple_types::ValueLabel;
 use std::alloc::Global;
+use std::rc::Rc;
 use xa_base::{Memory, Text};
 
 /// The kids of an element as they are read: its child elements, and in mixed content the texts before each, with the text
@@ -31,9 +33,10 @@ pub(crate) enum Rest<'a> {
     Nothing,
     /// A text, by its value.
     Text(Built),
-    /// Child elements, with their content model.
+    /// Child elements, with their content model and its plan.
     Children {
         model: &'a Particle,
+        plan: Rc<Plan>,
         children: Children,
     },
 }
@@ -119,8 +122,10 @@ impl Kids {
         alloc: Global,
         mixed: bool,
         model: &'a Particle,
+        plan: Rc<Plan>,
         tally: &mut Tally,
     ) -> Result<Content<'a>, Memory>
+        requires { plan.value ≡ seen model.now }
         ensures { IfOk result (λ content. IsContentWith mixed self model.now content tally.old tally.new) }
     {
         let mut kids = self;
@@ -134,7 +139,11 @@ impl Kids {
         } = kids;
         Ok(Content {
             texts,
-            rest: Rest::Children { model, children },
+            rest: Rest::Children {
+                model,
+                plan,
+                children,
+            },
         })
     }
 }

@@ -221,7 +221,7 @@ fn read_inside<'a, L: Ledger>(
             let plan = plans.plan(complex, model)?;
             match read_kids(set, plans, plan.as_ref(), mixed, at, kids, tally, steps) {
                 Ok(read) => {
-                    let content = read.into_content(plans.alloc(), mixed, model, tally)?;
+                    let content = read.into_content(plans.alloc(), mixed, model, plan, tally)?;
                     Ok(content)
                 }
                 Err(error) => Err(error),

@@ -1,5 +1,8 @@
 //! The values of child elements at their places in the value of a content model. Where they are not kept, the nodes that it
 //! would have are counted.
+//!
+//! Beside a particle goes the part of the plan's table that begins with the places of the particles inside it. So the
+//! alternative in which a child element stands is known by the number of its particle, and none is looked through.
 ghost use Rattle.std.specs.Prelude.{◌≡◌, ℕ, ◌+◌, ◌≤◌, List, [], true, false, OnOk, IfOk};
 ghost use Rattle.label_tree.specs.Rose.{node_count, count_all, label_of, roses_of, Allowed, AllowedAll};
 ghost use Rattle.content_models.specs.Clear.{empties, all_empty, any_empty};
@@ -9,9 +12,9 @@ ghost use Rattle.content_models.specs.Occurring.{AllMayOccur};
 ghost use Rattle.content_models.specs.Seen.{seen, all_seen, term_seen};
 ghost use Rattle.content_models.specs.Particle.{Particles, more, none};
 ghost use Rattle.xer_read.specs.Private.Bounds as bounds;
-ghost use Rattle.xer_read.specs.Private.Made.{Several, TermMade, PartsMade, ChosenMade, TopMade};
+ghost use Rattle.xer_read.specs.Private.Made.{Several, Standing, TermMade, PartsMade, TopMade};
 ghost use Rattle.xer_read.specs.Private.Growing.{term_of, Takes, Fills, FillsAll};
-ghost use Rattle.xer_read.specs.Private.Places.{ModelPlaced, SomeWait, OthersWait, ParticlePlaced, TurnPlaced, TermPlaced, OrderPlaced, OnePlaced, ChosenPlaced, Chosen, BeginsWith, IsFillable, AllAreFillable, path_shown};
+ghost use Rattle.xer_read.specs.Private.Places.{ModelPlaced, SomeWait, OthersWait, ParticlePlaced, TurnPlaced, TermPlaced, OrderPlaced, OnePlaced, ChosenPlaced, Chosen, IsNumbered, IsFillable, AllAreFillable, HasPlacesIn, HasPlacesFrom, path_shown};
 
 use crate::built::Built;
 use crate::children::{Children, Occurrence};
@@ -83,61 +86,61 @@ fn one_may_be_empty(particles: &[Tree<ParticleLabel>]) -> bool
     false
 }
 
-// The first alternative that may be empty.
-fn empty_alternative(particles: &[Tree<ParticleLabel>]) -> u32
-    requires allowed { AllowedAll MayHave (roses_of particles.now) }
-    requires few { count_all (roses_of particles.now) ≤ 65536 }
-    requires able { AllMayOccur (all_seen (roses_of particles.now)) }
-    requires empty { any_empty (all_seen (roses_of particles.now)) ≡ true }
-    ensures { (n : ℕ) (path : List Turn) → Chosen (all_seen (roses_of particles.now)) result n path [] }
-{
-    let mut place: u32 = 0;
-    'particles: for particle in particles {
-        if may_be_empty(particle) {
-            return place;
-        }
-        place += 1;
-    }
-    unreachable!()
+// An alternative of a choice: its place among all, from 0, and the number of its particle.
+#[derive(Clone, Copy)]
+struct Alternative {
+    place: u32,
+    number: u64,
 }
 
-// The alternative that is the particle with this number. The first has the number `first`.
-fn alternative_with(particles: &[Tree<ParticleLabel>], first: u64, number: u64) -> u32
+// The first alternative that may be empty. The first of all has the number `first`.
+fn empty_alternative(particles: &[Tree<ParticleLabel>], first: u64) -> Alternative
     requires allowed { AllowedAll MayHave (roses_of particles.now) }
     requires few { first + count_all (roses_of particles.now) ≤ 65536 }
-    requires begun { (path : List Turn) × (us : List Leaf) × BeginsWith number first path (all_seen (roses_of particles.now)) us }
-    ensures { (path : List Turn) (us : List Leaf) → BeginsWith number first path (all_seen (roses_of particles.now)) us → Chosen (all_seen (roses_of particles.now)) result first path us }
+    requires able { AllMayOccur (all_seen (roses_of particles.now)) }
+    requires empty { any_empty (all_seen (roses_of particles.now)) ≡ true }
+    ensures chosen { (n : ℕ) (path : List Turn) → Chosen (all_seen (roses_of particles.now)) result.place n path [] }
+    ensures number { IsNumbered (all_seen (roses_of particles.now)) result.place first result.number }
 {
     let mut place: u32 = 0;
-    let mut next = first;
+    let mut number = first;
     'particles: for particle in particles {
-        if next == number {
-            return place;
+        if may_be_empty(particle) {
+            return Alternative { place, number };
         }
-        next += particle.count();
+        number += particle.count();
         place += 1;
     }
     unreachable!()
 }
 
 // The alternative in which the child elements stand that are to be taken, or where there are none, the first that may be
-// empty. The first of all has this number.
-fn alternative(
+// empty. The first of all has the number `first`, and the table begins with its place.
+fn chosen_alternative(
     particles: &[Tree<ParticleLabel>],
-    number: u64,
+    places: &[u32],
+    first: u64,
     path: &[Occurrence],
     children: &Children,
-) -> u32
+) -> Alternative
     requires allowed { AllowedAll MayHave (roses_of particles.now) }
-    requires few { number + count_all (roses_of particles.now) ≤ 65536 }
+    requires few { first + count_all (roses_of particles.now) ≤ 65536 }
     requires able { AllMayOccur (all_seen (roses_of particles.now)) }
-    requires placed { SomeWait (OnePlaced (all_seen (roses_of particles.now)) number (path_shown path.now) children.now) }
-    ensures { (us ws : List Leaf) → OnePlaced (all_seen (roses_of particles.now)) number (path_shown path.now) children.now us ws
-        → ChosenPlaced (all_seen (roses_of particles.now)) result number (path_shown path.now) children.now us ws }
+    requires table { HasPlacesFrom 0 places.now (all_seen (roses_of particles.now)) }
+    requires placed { SomeWait (OnePlaced (all_seen (roses_of particles.now)) first (path_shown path.now) children.now) }
+    ensures chosen { (us ws : List Leaf) → OnePlaced (all_seen (roses_of particles.now)) first (path_shown path.now) children.now us ws
+        → ChosenPlaced (all_seen (roses_of particles.now)) result.place first (path_shown path.now) children.now us ws }
+    ensures number { IsNumbered (all_seen (roses_of particles.now)) result.place first result.number }
 {
     match children.next(path) {
-        None => empty_alternative(particles),
-        Some(next) => alternative_with(particles, number, next.particle),
+        None => empty_alternative(particles, first),
+        Some(next) => {
+            let at = (next.particle - first) as usize;
+            Alternative {
+                place: places[at],
+                number: next.particle,
+            }
+        }
     }
 }
 
@@ -146,6 +149,7 @@ fn alternative(
 fn fill_term(
     alloc: Global,
     particle: &Tree<ParticleLabel>,
+    places: &[u32],
     number: u64,
     path: &mut Vec<Occurrence>,
     children: &mut Children,
@@ -154,6 +158,7 @@ fn fill_term(
     requires allowed { Allowed MayHave particle.now }
     requires few { number + node_count particle.now ≤ 65536 }
     requires fillable { IsFillable (seen particle.now) }
+    requires table { HasPlacesIn places.now (seen particle.now) }
     requires placed { SomeWait (TermPlaced (term_of particle.now) number (path_shown path.old.items) children.old) }
     ensures path { OnOk result (path.new.items ≡ path.old.items) }
     ensures taken { OnOk result (OthersWait (TermPlaced (term_of particle.now) number (path_shown path.old.items) children.old) children.new) }
@@ -167,6 +172,7 @@ fn fill_term(
             fill_parts(
                 alloc,
                 particle.kids(),
+                places,
                 first,
                 path,
                 children,
@@ -176,11 +182,21 @@ fn fill_term(
             Ok(parts.into_value(tally))
         }
         ParticleKind::Choice => {
+            let alternatives = particle.kids();
             let first = number + 1;
-            let place = alternative(particle.kids(), first, path.as_slice(), children);
-            let value = fill_chosen(alloc, particle.kids(), first, place, path, children, tally)?;
-            let chosen = value.into_list(alloc)?;
-            Ok(Built::join(ValueLabel::Choice(place), chosen, tally))
+            let chosen = chosen_alternative(alternatives, places, first, path.as_slice(), children);
+            let at = (chosen.number - first) as usize;
+            let value = fill_alternative(
+                alloc,
+                &alternatives[chosen.place as usize],
+                &places[at + 1..],
+                chosen.number,
+                path,
+                children,
+                tally,
+            )?;
+            let value = value.into_list(alloc)?;
+            Ok(Built::join(ValueLabel::Choice(chosen.place), value, tally))
         }
     }
 }
@@ -190,6 +206,7 @@ fn fill_term(
 fn fill_turn(
     alloc: Global,
     particle: &Tree<ParticleLabel>,
+    places: &[u32],
     number: u64,
     turn: u64,
     path: &mut Vec<Occurrence>,
@@ -199,6 +216,7 @@ fn fill_turn(
     requires allowed { Allowed MayHave particle.now }
     requires few { number + node_count particle.now ≤ 65536 }
     requires fillable { IsFillable (seen particle.now) }
+    requires table { HasPlacesIn places.now (seen particle.now) }
     requires placed { SomeWait (TurnPlaced (term_of particle.now) number turn (path_shown path.old.items) children.old) }
     ensures path { OnOk result (path.new.items ≡ path.old.items) }
     ensures taken { OnOk result (OthersWait (TurnPlaced (term_of particle.now) number turn (path_shown path.old.items) children.old) children.new) }
@@ -209,7 +227,7 @@ fn fill_turn(
         particle: number,
         turn,
     })?;
-    let value = fill_term(alloc, particle, number, path, children, tally)?;
+    let value = fill_term(alloc, particle, places, number, path, children, tally)?;
     path.truncate(level);
     Ok(value)
 }
@@ -219,6 +237,7 @@ fn fill_turn(
 fn fill_items(
     alloc: Global,
     particle: &Tree<ParticleLabel>,
+    places: &[u32],
     number: u64,
     path: &mut Vec<Occurrence>,
     children: &mut Children,
@@ -227,6 +246,7 @@ fn fill_items(
     requires allowed { Allowed MayHave particle.now }
     requires few { number + node_count particle.now ≤ 65536 }
     requires fillable { IsFillable (seen particle.now) }
+    requires table { HasPlacesIn places.now (seen particle.now) }
     requires several { bounds.is_once (label_of particle.now).min (label_of particle.now).max ≡ false }
     requires placed { SomeWait (ParticlePlaced (seen particle.now) number (path_shown path.old.items) children.old) }
     ensures path { OnOk result (path.new.items ≡ path.old.items) }
@@ -238,43 +258,45 @@ fn fill_items(
         if !children.is_next(path.as_slice(), number, turn as u64) {
             break;
         }
-        let value = fill_turn(alloc, particle, number, turn as u64, path, children, tally)?;
+        let value = fill_turn(
+            alloc,
+            particle,
+            places,
+            number,
+            turn as u64,
+            path,
+            children,
+            tally,
+        )?;
         value.push_to(&mut values)?;
     }
     Ok(Built::join(ValueLabel::SequenceOf, values, tally))
 }
 
-// The alternative with this place behind the first, which has this number and stands below the path.
+// The value of the alternative with this number, which stands below the path.
 #[cycle(filling)]
-fn fill_chosen(
+fn fill_alternative(
     alloc: Global,
-    particles: &[Tree<ParticleLabel>],
+    particle: &Tree<ParticleLabel>,
+    places: &[u32],
     number: u64,
-    place: u32,
     path: &mut Vec<Occurrence>,
     children: &mut Children,
     tally: &mut Tally,
 ) -> Result<Built, Memory>
-    requires allowed { AllowedAll MayHave (roses_of particles.now) }
-    requires few { number + count_all (roses_of particles.now) ≤ 65536 }
-    requires fillable { AllAreFillable (all_seen (roses_of particles.now)) }
-    requires placed { SomeWait (ChosenPlaced (all_seen (roses_of particles.now)) place number (path_shown path.old.items) children.old) }
+    requires allowed { Allowed MayHave particle.now }
+    requires few { number + node_count particle.now ≤ 65536 }
+    requires fillable { IsFillable (seen particle.now) }
+    requires table { HasPlacesIn places.now (seen particle.now) }
+    requires placed { SomeWait (ParticlePlaced (seen particle.now) number (path_shown path.old.items) children.old) }
     ensures path { OnOk result (path.new.items ≡ path.old.items) }
-    ensures taken { OnOk result (OthersWait (ChosenPlaced (all_seen (roses_of particles.now)) place number (path_shown path.old.items) children.old) children.new) }
-    ensures made { IfOk result (λ made. Takes (ChosenMade (all_seen (roses_of particles.now)) place) made children.old children.new tally.old tally.new) }
+    ensures taken { OnOk result (OthersWait (ParticlePlaced (seen particle.now) number (path_shown path.old.items) children.old) children.new) }
+    ensures made { IfOk result (λ made. Takes (Standing (TermMade (term_of particle.now)) true (label_of particle.now).min (label_of particle.now).max) made children.old children.new tally.old tally.new) }
 {
-    match particles.split_first() {
-        None => unreachable!(),
-        Some((first, rest)) => {
-            if 0 < place {
-                let next = number + first.count();
-                fill_chosen(alloc, rest, next, place - 1, path, children, tally)
-            } else if is_once(first.label()) {
-                fill_turn(alloc, first, number, 0, path, children, tally)
-            } else {
-                fill_items(alloc, first, number, path, children, tally)
-            }
-        }
+    if is_once(particle.label()) {
+        fill_turn(alloc, particle, places, number, 0, path, children, tally)
+    } else {
+        fill_items(alloc, particle, places, number, path, children, tally)
     }
 }
 
@@ -283,6 +305,7 @@ fn fill_chosen(
 fn fill_part(
     alloc: Global,
     particle: &Tree<ParticleLabel>,
+    places: &[u32],
     number: u64,
     path: &mut Vec<Occurrence>,
     children: &mut Children,
@@ -292,6 +315,7 @@ fn fill_part(
     requires allowed { Allowed MayHave particle.now }
     requires few { number + node_count particle.now ≤ 65536 }
     requires fillable { IsFillable (seen particle.now) }
+    requires table { HasPlacesIn places.now (seen particle.now) }
     requires placed { SomeWait (ParticlePlaced (seen particle.now) number (path_shown path.old.items) children.old) }
     ensures path { OnOk result (path.new.items ≡ path.old.items) }
     ensures taken { OnOk result (OthersWait (ParticlePlaced (seen particle.now) number (path_shown path.old.items) children.old) children.new) }
@@ -299,25 +323,27 @@ fn fill_part(
 {
     let label = particle.label();
     if is_once(label) {
-        let value = fill_turn(alloc, particle, number, 0, path, children, tally)?;
+        let value = fill_turn(alloc, particle, places, number, 0, path, children, tally)?;
         return parts.add(value);
     }
     if is_optional(label) {
         if !children.is_next(path.as_slice(), number, 0) {
             return parts.leave_out();
         }
-        let value = fill_turn(alloc, particle, number, 0, path, children, tally)?;
+        let value = fill_turn(alloc, particle, places, number, 0, path, children, tally)?;
         return parts.add(value);
     }
-    let value = fill_items(alloc, particle, number, path, children, tally)?;
+    let value = fill_items(alloc, particle, places, number, path, children, tally)?;
     parts.add(value)
 }
 
-// The parts for the particles of a sequence, of which the first has this number and stands below the path.
+// The parts for the particles of a sequence, of which the first has this number and stands below the path. The table begins
+// with its place.
 #[cycle(filling)]
 fn fill_parts(
     alloc: Global,
     particles: &[Tree<ParticleLabel>],
+    places: &[u32],
     number: u64,
     path: &mut Vec<Occurrence>,
     children: &mut Children,
@@ -327,6 +353,7 @@ fn fill_parts(
     requires allowed { AllowedAll MayHave (roses_of particles.now) }
     requires few { number + count_all (roses_of particles.now) ≤ 65536 }
     requires fillable { AllAreFillable (all_seen (roses_of particles.now)) }
+    requires table { (i : ℕ) × HasPlacesFrom i places.now (all_seen (roses_of particles.now)) }
     requires placed { SomeWait (OrderPlaced (all_seen (roses_of particles.now)) number (path_shown path.old.items) children.old) }
     ensures path { OnOk result (path.new.items ≡ path.old.items) }
     ensures taken { OnOk result (OthersWait (OrderPlaced (all_seen (roses_of particles.now)) number (path_shown path.old.items) children.old) children.new) }
@@ -335,9 +362,20 @@ fn fill_parts(
     match particles.split_first() {
         None => Ok(()),
         Some((first, rest)) => {
-            fill_part(alloc, first, number, path, children, parts, tally)?;
-            let next = number + first.count();
-            fill_parts(alloc, rest, next, path, children, parts, tally)
+            fill_part(
+                alloc,
+                first,
+                &places[1..],
+                number,
+                path,
+                children,
+                parts,
+                tally,
+            )?;
+            let size = first.count();
+            let next = number + size;
+            let behind = &places[size as usize..];
+            fill_parts(alloc, rest, behind, next, path, children, parts, tally)
         }
     }
 }
@@ -353,15 +391,17 @@ fn is_parted(label: &ParticleLabel) -> bool
 }
 
 /// The parts for a content model: the child elements all stand in them. The particles of a top sequence that stands once are
-/// parts by themselves; another top particle is one part.
+/// parts by themselves; another top particle is one part. The table of places is that of the content model's plan.
 pub(crate) fn fill_top(
     alloc: Global,
     model: &Particle,
+    places: &[u32],
     children: Children,
     parts: &mut Parts,
     tally: &mut Tally,
 ) -> Result<(), Memory>
-    requires { ModelPlaced model.now children }
+    requires placed { ModelPlaced model.now children }
+    requires table { HasPlacesIn places.now (seen model.now) }
     ensures { OnOk result (FillsAll (TopMade (seen model.now)) children parts.old parts.new tally.old tally.new) }
 {
     let mut waiting = children;
@@ -372,8 +412,26 @@ pub(crate) fn fill_top(
             particle: 0,
             turn: 0,
         })?;
-        fill_parts(alloc, root.kids(), 1, &mut path, &mut waiting, parts, tally)
+        fill_parts(
+            alloc,
+            root.kids(),
+            places,
+            1,
+            &mut path,
+            &mut waiting,
+            parts,
+            tally,
+        )
     } else {
-        fill_part(alloc, root, 0, &mut path, &mut waiting, parts, tally)
+        fill_part(
+            alloc,
+            root,
+            places,
+            0,
+            &mut path,
+            &mut waiting,
+            parts,
+            tally,
+        )
     }
 }

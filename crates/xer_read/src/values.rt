@@ -20,6 +20,7 @@ use crate::contents::{Content, Rest};
 use crate::filling::fill_top;
 use crate::parts::Parts;
 use crate::tally::Tally;
+use content_match::Plan;
 use content_models::Particle;
 use label_tree::Tree;
 use schema_parts::{SchemaSet, TypeOf};
@@ -63,25 +64,27 @@ fn add_texts(
     }
 }
 
-// The parts for child elements.
+// The parts for child elements. The plan is that of their content model.
 fn add_children(
     alloc: Global,
     nillable: bool,
     model: &Particle,
+    plan: &Plan,
     children: Children,
     parts: &mut Parts,
     tally: &mut Tally,
 ) -> Result<(), Memory>
-    requires { ModelPlaced model.now children }
+    requires placed { ModelPlaced model.now children }
+    requires plan { plan.now ≡ seen model.now }
     ensures { OnOk result ((gs : List Child) → Wait tally.old children gs
         → Adds (ChildrenMade nillable (seen model.now) gs) (child_nodes gs) parts.old parts.new tally.old tally.new) }
 {
     if nillable {
         let mut inner = Parts::new(alloc);
-        fill_top(alloc, model, children, &mut inner, tally)?;
+        fill_top(alloc, model, plan.places(), children, &mut inner, tally)?;
         parts.add(inner.into_value(tally))
     } else {
-        fill_top(alloc, model, children, parts, tally)
+        fill_top(alloc, model, plan.places(), children, parts, tally)
     }
 }
 
@@ -107,8 +110,13 @@ fn add_rest(
                 Ok(())
             }
         }
-        Rest::Children { model, children } => {
-            add_children(alloc, nillable, model, children, parts, tally)
+        Rest::Children {
+            model,
+            plan,
+            children,
+        } => {
+            let plan = plan.as_ref();
+            add_children(alloc, nillable, model, plan, children, parts, tally)
         }
     }
 }

@@ -78,9 +78,9 @@ IsContentBy s inside ts texts (held.children model gs) vs = AreChildren s inside
 abbrev pub IsContentOf : Set → Inside → Roses ItemLabel → Held → Roses Plain → Type 0
 IsContentOf s inside ts content vs = IsContentBy s inside ts (texts_of content) content.rest vs
 
--- child elements are at the leaves of a list of their content model
+-- child elements are at the leaves of a list of their content model, which has this plan
 abbrev pub IsRestPlaced : Rest → Type 0
-IsRestPlaced (rest.Children model found) = ModelPlaced model.now found
+IsRestPlaced (rest.Children model plan found) = ModelPlaced model.now found × (plan.value ≡ seen model.now)
 IsRestPlaced _ = Unit {0}
 
 -- what is read is one, with some treated kids
@@ -96,7 +96,7 @@ abbrev pub IsNilContent : Held → Type 0
 IsNilContent content = (content.rest ≡ held.nil) × (texts_of content ≡ node value.SequenceOf rose.none)
 
 abbrev pub IsRestWith : Kids → Rose ParticleLabel → Rest → Type 0
-IsRestWith read model (rest.Children own found) = (own.now ≡ model) × (found ≡ read.children)
+IsRestWith read model (rest.Children own plan found) = (own.now ≡ model) × (found ≡ read.children) × (plan.value ≡ seen model)
 IsRestWith read model _ = ⊥
 
 -- these kids, whose last text is closed in mixed content

@@ -33,7 +33,7 @@ abbrev pub RestStands : Tally → Rest → Beside → Type 0
 RestStands tally rest.Nil nil = Unit {0}
 RestStands tally rest.Nothing nothing = Unit {0}
 RestStands tally (rest.Text made) (text v) = Stands tally made v
-RestStands tally (rest.Children own found) (children model gs) = (own.now ≡ model) × Wait tally found gs
+RestStands tally (rest.Children own plan found) (children model gs) = (own.now ≡ model) × Wait tally found gs
 RestStands tally _ _ = ⊥
 
 -- beside a text alone no other texts stand

@@ -7,6 +7,7 @@ use Rattle.content_models.specs.Particle.{Particle, occurs, Term, element, seque
 use Rattle.content_models.specs.Language.{Turn, Leaf, turn_of, size_of, Times, Lang, Body, InOrder, OneOf}
 use Rattle.content_models.specs.Clear.{Rule1}
 use Rattle.content_models.specs.Occurring.{MayOccur, TermMayOccur, AllMayOccur}
+use Rattle.content_match.specs.Siblings.{places_in, places_from}
 use Rattle.content_match.specs.declared.places.Turn as matched
 use Rattle.content_match.specs.Private.Standing.{turn_shown}
 use Rattle.xer_read.specs.declared.children.Child as kept
@@ -118,16 +119,27 @@ Chosen none i n path w = ⊥
 Chosen (more p ps) zero n path w = Lang p n path w
 Chosen (more p ps) (suc i) n path w = Chosen ps i (n + size_of p) path w
 
+-- The alternative with this place is the particle with this number, where the first has the number n.
+abbrev pub IsNumbered : Particles → ℕ → ℕ → ℕ → Type 0
+IsNumbered none i n number = ⊥
+IsNumbered (more p ps) zero n number = number ≡ n
+IsNumbered (more p ps) (suc i) n number = IsNumbered ps i (n + size_of p) number
+
 -- of that alternative
 abbrev pub ChosenPlaced : Particles → ℕ → ℕ → List Turn → Children → List Leaf → List Leaf → Type 0
 ChosenPlaced ps i n path = Placed (Chosen ps i n path) path (λ u. n ≤ u.particle)
 
--- A list of one of the particles begins at a turn of the particle with this number, where the first of them has the number n.
-pub record BeginsWith (number n : ℕ) (path : List Turn) (ps : Particles) (us : List Leaf) : Type 0 where
-  pub lang : OneOf ps n path us
-  pub head : Turn
-  pub begins : HeadIn path head us
-  pub is : head.particle ≡ number
+-- ---- the table of places
+
+-- The table begins with the places of the particles inside this one. What follows may be those of particles behind it.
+pub record HasPlacesIn (table : List ℕ) (p : Particle) : Type 0 where
+  pub rest : List ℕ
+  pub is : table ≡ places_in p ++ rest
+
+-- It begins with those of these particles, of which the first has the place i, and of the particles inside them.
+pub record HasPlacesFrom (i : ℕ) (table : List ℕ) (ps : Particles) : Type 0 where
+  pub rest : List ℕ
+  pub is : table ≡ places_from i ps ++ rest
 
 -- ---- what is asked of a content model
 

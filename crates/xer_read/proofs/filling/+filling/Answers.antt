@@ -1,5 +1,6 @@
-use Rattle.std.proofs.Common.{◌≡◌, ℕ, ◌+◌, ◌-◌, false, [], ◌∷◌, ◌++◌, ap, arith, refl, sym, subst, ◌∙◌}
-use Rattle.label_tree.specs.Rose.{roses_of, label_of, kids_of, AllowedAll}
+use Rattle.std.proofs.Common.{◌≡◌, ◌≤◌, ℕ, suc, length, true, ◌+◌, ◌-◌, false, [], ◌∷◌, ◌++◌, ap, arith, refl, sym, subst, ◌∙◌}
+use Rattle.label_tree.specs.Rose.{count_all, roses_of, label_of, kids_of, AllowedAll}
+use Rattle.label_tree.proofs.Kids.{kid-count-le}
 use Rattle.label_tree.proofs.Roses.{node_count-kids, allowed-kids}
 use Rattle.content_models.specs.Kids.{MayHave}
 use Rattle.content_models.specs.Language.{turn_of}
@@ -7,136 +8,73 @@ use Rattle.content_models.specs.Seen.{seen, all_seen}
 use Rattle.content_models.specs.Particle.{more, none, choice, sequence}
 use Rattle.content_models.specs.declared.particles.ParticleKind.TheVariants as kinds
 use Rattle.xer_read.specs.Private.Bounds.{is_once, is_optional}
-use Rattle.xer_read.specs.Private.Made.{Several, TermMade, PartsMade, ChosenMade}
+use Rattle.xer_read.specs.Private.Made.{Several, Standing, TermMade, PartsMade, ChosenMade}
 use Rattle.xer_read.specs.Private.Tallied.{PartAdded}
 use Rattle.xer_read.specs.Private.Growing.{term_of, Fills}
-use Rattle.xer_read.specs.Private.Places.{HeadIn, OthersWait, SomeWait, ParticlePlaced, TurnPlaced, OrderPlaced, OnePlaced, ChosenPlaced, path_shown}
-use Rattle.xer_read.proofs.Growing.{on-ok, takes-as, none-gathered, gathered-more, several-done, term-by, absent-made, later-chosen, sequence-made, choice-made, element-made, fills-one, fills-absent, fills-none, fills-more, once-made, optional-made, several-made, once-chosen, several-chosen}
+use Rattle.xer_read.specs.Private.Places.{HeadIn, OthersWait, SomeWait, ParticlePlaced, TurnPlaced, OrderPlaced, OnePlaced, path_shown}
+use Rattle.xer_read.proofs.Growing.{on-ok, takes-as, none-gathered, gathered-more, several-done, term-by, absent-made, sequence-made, choice-made, element-made, fills-one, fills-absent, fills-none, fills-more, once-made, optional-made, several-made, stands-once, stands-several, once-alone, not-once, taken-as}
+use Rattle.xer_read.proofs.Choosing.{numbered-few, inside-next, behind-next, first-size, table-sequence, table-choice, entry-within, numbered-within, kid-few, kid-fillable, kid-waits, kid-leaves, kid-made, kid-entry, entry-inside}
 use Rattle.xer_read.proofs.Stepping as step
+use Rattle.xer_read.proofs.Stepping.{kid-allowed}
 use Rattle.xer_read.proofs.filling.+filling.Goals as goal
 use Rattle.xer_read.proofs.filling.+filling.Goals.{fill_items-else-turns-test, fill_items-then-turns-test+then-not-is_next}
 
 -- ---- an alternative
 
-pub fill_chosen-unreachable-requires : goal.fill_chosen-unreachable-requires
-fill_chosen-unreachable-requires t c = step.none-chosen c.args.particles.now c.args.place c.args.number (path_shown c.args.path.now.items) c.args.children.now c.in-None.ensures.cases c.requires.placed
-
-pub fill_chosen-fill_chosen-requires : goal.fill_chosen-fill_chosen-requires
-fill_chosen-fill_chosen-requires t c =
-    let ts = c.args.particles.now in
-    let first = c.in-Some.first.now in
-    let rest = c.in-Some.rest.now in
-    let is = c.in-Some.ensures.cases.0 in
-    let d = c.decreases in
-    let k = step.counts-split ts first rest is in
-    let n = node_count-kids first in
-    let some = c.if-place-gt0.true in (
-      omega (arith, d, k, n),
+pub fill_alternative-fill_turn-requires : goal.fill_alternative-fill_turn-requires
+fill_alternative-fill_turn-requires t c =
+    let d = c.decreases in (
+      omega (arith, d),
       (
-        step.rest-allowed ts first rest is c.requires.allowed,
+        c.requires.allowed,
         (
-          step.rest-few ts first rest is c.args.number c.count.result c.requires.few c.count.ensures,
+          c.requires.few,
           (
-            step.rest-fillable ts first rest is c.requires.fillable,
-            step.later-waits ts first rest is c.args.place (c.args.place - 1) c.args.number (c.args.number + c.count.result) (path_shown c.args.path.now.items) c.args.children.now (omega (arith, some))
-                (step.next-number ts first rest is c.args.number c.count.result c.requires.allowed c.requires.few c.count.ensures) c.requires.placed,
+            c.requires.fillable,
+            (
+              c.requires.table,
+              step.once-waits c.args.particle.now c.args.number (path_shown c.args.path.now.items) c.args.children.now (sym (c.if-is_once.ensures ∙ ap (λ l. is_once l.min l.max) c.label.ensures))
+                  c.requires.placed,
+            ),
           ),
         ),
       ),
     )
 
-pub fill_chosen-fill_turn-requires : goal.fill_chosen-fill_turn-requires
-fill_chosen-fill_turn-requires t c =
-    let ts = c.args.particles.now in
-    let first = c.in-Some.first.now in
-    let rest = c.in-Some.rest.now in
-    let is = c.in-Some.ensures.cases.0 in
-    let d = c.decreases in
-    let k = step.counts-split ts first rest is in
-    let is_first : c.args.place ≡ 0 = omega (arith, c.if-place-gt0.false) in
-    let path = path_shown c.args.path.now.items in (
-      omega (arith, d, k),
-      (
-        step.first-allowed ts first rest is c.requires.allowed,
-        (
-          step.first-few ts first rest is c.args.number c.requires.few,
-          (
-            step.first-fillable ts first rest is c.requires.fillable,
-            step.once-waits first c.args.number path c.args.children.now (sym (c.if-is_once.ensures ∙ ap (λ l. is_once l.min l.max) c.label.ensures))
-                (step.chosen-waits ts first rest is c.args.place c.args.number path c.args.children.now is_first c.requires.placed),
-          ),
-        ),
-      ),
+pub fill_alternative-fill_items-requires : goal.fill_alternative-fill_items-requires
+fill_alternative-fill_items-requires t c =
+    let d = c.decreases in (
+      omega (arith, d),
+      (c.requires.allowed, (c.requires.few, (c.requires.fillable, (c.requires.table, (sym (c.if-is_once.ensures ∙ ap (λ l. is_once l.min l.max) c.label.ensures), c.requires.placed))))),
     )
 
-pub fill_chosen-fill_items-requires : goal.fill_chosen-fill_items-requires
-fill_chosen-fill_items-requires t c =
-    let ts = c.args.particles.now in
-    let first = c.in-Some.first.now in
-    let rest = c.in-Some.rest.now in
-    let is = c.in-Some.ensures.cases.0 in
-    let d = c.decreases in
-    let k = step.counts-split ts first rest is in
-    let is_first : c.args.place ≡ 0 = omega (arith, c.if-place-gt0.false) in
-    let path = path_shown c.args.path.now.items in (
-      omega (arith, d, k),
-      (step.first-allowed ts first rest is c.requires.allowed, (step.first-few ts first rest is c.args.number c.requires.few, (step.first-fillable ts first rest is c.requires.fillable, (sym (c.if-is_once.ensures ∙ ap (λ l. is_once l.min l.max) c.label.ensures), step.chosen-waits ts first rest is c.args.place c.args.number path c.args.children.now is_first c.requires.placed)))),
-    )
-
-pub fill_chosen-returns-then-place-gt0-clause-taken : goal.fill_chosen-returns-then-place-gt0-clause-taken
-fill_chosen-returns-then-place-gt0-clause-taken t c =
-    let some = c.if-place-gt0.true in
-    let path = path_shown c.args.path.now.items in
-    let new = c.fill_chosen.new.children in
-    let next = c.args.number + c.count.result in
-    let is = c.in-Some.ensures.cases.0 in
-    on-ok c.fill_chosen.result (OthersWait (ChosenPlaced (all_seen (roses_of c.in-Some.rest.now)) (c.args.place - 1) next path c.args.children.now) new)
-    (OthersWait (ChosenPlaced (all_seen (roses_of c.args.particles.now)) c.args.place c.args.number path c.args.children.now) new)
-    (step.later-leaves c.args.particles.now c.in-Some.first.now c.in-Some.rest.now is c.args.place (c.args.place - 1) c.args.number next path c.args.children.now new (omega (arith, some))
-    (step.next-number c.args.particles.now c.in-Some.first.now c.in-Some.rest.now is c.args.number c.count.result c.requires.allowed c.requires.few c.count.ensures)) c.fill_chosen.ensures.taken
-
-pub fill_chosen-returns-then-place-gt0-clause-made : goal.fill_chosen-returns-then-place-gt0-clause-made
-fill_chosen-returns-then-place-gt0-clause-made t c =
-    let some = c.if-place-gt0.true in
-    takes-as c.fill_chosen.result (ChosenMade (all_seen (roses_of c.in-Some.rest.now)) (c.args.place - 1)) (ChosenMade (all_seen (roses_of c.args.particles.now)) c.args.place)
-    c.args.children.now c.fill_chosen.new.children c.args.tally.now c.fill_chosen.new.tally
-    (λ v gs h. later-chosen c.args.particles.now c.in-Some.first.now c.in-Some.rest.now c.in-Some.ensures.cases.0 c.args.place (c.args.place - 1) v gs (omega (arith, some)) h) c.fill_chosen.ensures.made
-
-pub fill_chosen-returns-then-is_once-clause-taken : goal.fill_chosen-returns-then-is_once-clause-taken
-fill_chosen-returns-then-is_once-clause-taken t c =
-    let first = c.in-Some.first.now in
-    let is_first : c.args.place ≡ 0 = omega (arith, c.if-place-gt0.false) in
+pub fill_alternative-returns-then-is_once-clause-taken : goal.fill_alternative-returns-then-is_once-clause-taken
+fill_alternative-returns-then-is_once-clause-taken t c =
+    let particle = c.args.particle.now in
     let path = path_shown c.args.path.now.items in
     let old = c.args.children.now in
     let new = c.fill_turn.new.children in
-    on-ok c.fill_turn.result (OthersWait (TurnPlaced (term_of first) c.args.number 0 path old) new) (OthersWait (ChosenPlaced (all_seen (roses_of c.args.particles.now)) c.args.place c.args.number path old) new)
-    (λ h. step.chosen-leaves c.args.particles.now first c.in-Some.rest.now c.in-Some.ensures.cases.0 c.args.place c.args.number path old new is_first
-    (step.once-leaves first c.args.number path old (sym (c.if-is_once.ensures ∙ ap (λ l. is_once l.min l.max) c.label.ensures)) new h)) c.fill_turn.ensures.taken
+    on-ok c.fill_turn.result (OthersWait (TurnPlaced (term_of particle) c.args.number 0 path old) new) (OthersWait (ParticlePlaced (seen particle) c.args.number path old) new)
+    (step.once-leaves particle c.args.number path old (sym (c.if-is_once.ensures ∙ ap (λ l. is_once l.min l.max) c.label.ensures)) new) c.fill_turn.ensures.taken
 
-pub fill_chosen-returns-then-is_once-clause-made : goal.fill_chosen-returns-then-is_once-clause-made
-fill_chosen-returns-then-is_once-clause-made t c =
-    let zero_is : c.args.place ≡ 0 = omega (arith, c.if-place-gt0.false) in
-    takes-as c.fill_turn.result (TermMade (term_of c.in-Some.first.now)) (ChosenMade (all_seen (roses_of c.args.particles.now)) c.args.place) c.args.children.now c.fill_turn.new.children c.args.tally.now c.fill_turn.new.tally
-    (λ v gs h. once-chosen c.args.particles.now c.in-Some.first.now c.in-Some.rest.now c.in-Some.ensures.cases.0 c.args.place v gs zero_is
-    (sym (c.if-is_once.ensures ∙ ap (λ l. is_once l.min l.max) c.label.ensures)) h) c.fill_turn.ensures.made
+pub fill_alternative-returns-then-is_once-clause-made : goal.fill_alternative-returns-then-is_once-clause-made
+fill_alternative-returns-then-is_once-clause-made t c =
+    let particle = c.args.particle.now in
+    let least = (label_of particle).min in
+    let most = (label_of particle).max in
+    takes-as c.fill_turn.result (TermMade (term_of particle)) (Standing (TermMade (term_of particle)) true least most) c.args.children.now c.fill_turn.new.children c.args.tally.now c.fill_turn.new.tally
+    (λ v gs. stands-once true least most (term_of particle) v gs (once-alone (is_once least most) (is_optional least most) (sym (c.if-is_once.ensures ∙ ap (λ l. is_once l.min l.max) c.label.ensures))))
+    c.fill_turn.ensures.made
 
-pub fill_chosen-returns-else-is_once-clause-taken : goal.fill_chosen-returns-else-is_once-clause-taken
-fill_chosen-returns-else-is_once-clause-taken t c =
-    let first = c.in-Some.first.now in
-    let is_first : c.args.place ≡ 0 = omega (arith, c.if-place-gt0.false) in
-    let path = path_shown c.args.path.now.items in
-    let old = c.args.children.now in
-    let new = c.fill_items.new.children in
-    on-ok c.fill_items.result (OthersWait (ParticlePlaced (seen first) c.args.number path old) new) (OthersWait (ChosenPlaced (all_seen (roses_of c.args.particles.now)) c.args.place c.args.number path old) new)
-    (step.chosen-leaves c.args.particles.now first c.in-Some.rest.now c.in-Some.ensures.cases.0 c.args.place c.args.number path old new is_first) c.fill_items.ensures.taken
-
-pub fill_chosen-returns-else-is_once-clause-made : goal.fill_chosen-returns-else-is_once-clause-made
-fill_chosen-returns-else-is_once-clause-made t c =
-    let zero_is : c.args.place ≡ 0 = omega (arith, c.if-place-gt0.false) in
-    takes-as c.fill_items.result (Several (TermMade (term_of c.in-Some.first.now)) (label_of c.in-Some.first.now).min (label_of c.in-Some.first.now).max) (ChosenMade (all_seen (roses_of c.args.particles.now)) c.args.place)
+pub fill_alternative-returns-else-is_once-clause-made : goal.fill_alternative-returns-else-is_once-clause-made
+fill_alternative-returns-else-is_once-clause-made t c =
+    let particle = c.args.particle.now in
+    let least = (label_of particle).min in
+    let most = (label_of particle).max in
+    takes-as c.fill_items.result (Several (TermMade (term_of particle)) least most) (Standing (TermMade (term_of particle)) true least most)
     c.args.children.now c.fill_items.new.children c.args.tally.now c.fill_items.new.tally
-    (λ v gs h. several-chosen c.args.particles.now c.in-Some.first.now c.in-Some.rest.now c.in-Some.ensures.cases.0 c.args.place v gs zero_is
-    (sym (c.if-is_once.ensures ∙ ap (λ l. is_once l.min l.max) c.label.ensures)) h) c.fill_items.ensures.made
+    (λ v gs. stands-several true least most (term_of particle) v gs (not-once (is_once least most) (is_optional least most) (sym (c.if-is_once.ensures ∙ ap (λ l. is_once l.min l.max) c.label.ensures))))
+    c.fill_items.ensures.made
 
 -- ---- several occurrences
 
@@ -157,8 +95,11 @@ fill_items-fill_turn-requires t c =
           c.requires.few,
           (
             c.requires.fillable,
-            step.items-wait c.args.particle.now c.args.number c.args.path.now.items c.turns.path.items c.turns.invariant.path c.args.children.now c.turns.children c.turns.turn c.turns.invariant.placed
-                (λ ls at. subst (λ p. HeadIn (path_shown p) (turn_of c.args.number c.turns.turn) ls) c.as_slice.ensures.value ((c.is_next.ensures ls at).0 c.if-not-is_next.false)) c.requires.placed,
+            (
+              c.requires.table,
+              step.items-wait c.args.particle.now c.args.number c.args.path.now.items c.turns.path.items c.turns.invariant.path c.args.children.now c.turns.children c.turns.turn c.turns.invariant.placed
+                  (λ ls at. subst (λ p. HeadIn (path_shown p) (turn_of c.args.number c.turns.turn) ls) c.as_slice.ensures.value ((c.is_next.ensures ls at).0 c.if-not-is_next.false)) c.requires.placed,
+            ),
           ),
         ),
       ),
@@ -199,7 +140,7 @@ pub fill_part-fill_turn-requires : goal.fill_part-fill_turn-requires
 fill_part-fill_turn-requires t c =
     let d = c.decreases in (
       omega (arith, d),
-      (c.requires.allowed, (c.requires.few, (c.requires.fillable, step.once-waits c.args.particle.now c.args.number (path_shown c.args.path.now.items) c.args.children.now (sym (c.if-is_once.ensures ∙ ap (λ l. is_once l.min l.max) c.label-label.ensures)) c.requires.placed))),
+      (c.requires.allowed, (c.requires.few, (c.requires.fillable, (c.requires.table, step.once-waits c.args.particle.now c.args.number (path_shown c.args.path.now.items) c.args.children.now (sym (c.if-is_once.ensures ∙ ap (λ l. is_once l.min l.max) c.label-label.ensures)) c.requires.placed)))),
     )
 
 pub fill_part-fill_turn-requires-then-is_optional : goal.fill_part-fill_turn-requires-then-is_optional
@@ -212,8 +153,11 @@ fill_part-fill_turn-requires-then-is_optional t c =
           c.requires.few,
           (
             c.requires.fillable,
-            step.present-waits c.args.particle.now c.args.number (path_shown c.args.path.now.items) c.args.children.now (sym (c.if-is_optional.ensures ∙ ap (λ l. is_optional l.min l.max) c.label-label.ensures))
-                (λ ls at. subst (λ p. HeadIn (path_shown p) (turn_of c.args.number 0) ls) c.as_slice.ensures.value ((c.is_next.ensures ls at).0 c.if-not-is_next.false)) c.requires.placed,
+            (
+              c.requires.table,
+              step.present-waits c.args.particle.now c.args.number (path_shown c.args.path.now.items) c.args.children.now (sym (c.if-is_optional.ensures ∙ ap (λ l. is_optional l.min l.max) c.label-label.ensures))
+                  (λ ls at. subst (λ p. HeadIn (path_shown p) (turn_of c.args.number 0) ls) c.as_slice.ensures.value ((c.is_next.ensures ls at).0 c.if-not-is_next.false)) c.requires.placed,
+            ),
           ),
         ),
       ),
@@ -223,7 +167,7 @@ pub fill_part-fill_items-requires : goal.fill_part-fill_items-requires
 fill_part-fill_items-requires t c =
     let d = c.decreases in (
       omega (arith, d),
-      (c.requires.allowed, (c.requires.few, (c.requires.fillable, (sym (c.if-is_once.ensures ∙ ap (λ l. is_once l.min l.max) c.label-label.ensures), c.requires.placed)))),
+      (c.requires.allowed, (c.requires.few, (c.requires.fillable, (c.requires.table, (sym (c.if-is_once.ensures ∙ ap (λ l. is_once l.min l.max) c.label-label.ensures), c.requires.placed))))),
     )
 
 pub fill_part-returns-then-is_once-clause-path : goal.fill_part-returns-then-is_once-clause-path
@@ -334,7 +278,7 @@ fill_parts-fill_part-requires t c =
     let d = c.decreases in
     let k = step.counts-split ts first rest is in (
       omega (arith, d, k),
-      (step.first-allowed ts first rest is c.requires.allowed, (step.first-few ts first rest is c.args.number c.requires.few, (step.first-fillable ts first rest is c.requires.fillable, step.first-waits ts first rest is c.args.number (path_shown c.args.path.now.items) c.args.children.now c.requires.placed))),
+      (step.first-allowed ts first rest is c.requires.allowed, (step.first-few ts first rest is c.args.number c.requires.few, (step.first-fillable ts first rest is c.requires.fillable, ((inside-next ts first rest c.requires.table.0 c.args.places.now is c.requires.table.1).1, step.first-waits ts first rest is c.args.number (path_shown c.args.path.now.items) c.args.children.now c.requires.placed)))),
     )
 
 pub fill_parts-fill_parts-requires : goal.fill_parts-fill_parts-requires
@@ -345,21 +289,43 @@ fill_parts-fill_parts-requires t c =
     let is = c.in-Some.ensures.cases.0 in
     let d = c.decreases in
     let k = step.counts-split ts first rest is in
-    let n = node_count-kids first in (
+    let n = node_count-kids first in
+    let size = first-size ts first rest is c.args.number c.count-size.result c.requires.allowed c.requires.few c.count-size.ensures in (
       omega (arith, d, k, n),
       (
         step.rest-allowed ts first rest is c.requires.allowed,
         (
-          step.rest-few ts first rest is c.args.number c.count.result c.requires.few c.count.ensures,
+          step.rest-few ts first rest is c.args.number c.count-size.result c.requires.few c.count-size.ensures,
           (
             step.rest-fillable ts first rest is c.requires.fillable,
-            step.rest-waits ts first rest is c.args.number (c.args.number + c.count.result) (path_shown c.args.path.now.items) (path_shown c.fill_part.new.path.items) c.args.children.now c.fill_part.new.children
-                (step.next-number ts first rest is c.args.number c.count.result c.requires.allowed c.requires.few c.count.ensures) (ap path_shown c.in_ok-fill_part-in-Some.ensures.path) c.in_ok-fill_part-in-Some.ensures.taken
-                c.requires.placed,
+            (
+              (suc c.requires.table.0, (behind-next ts first rest c.requires.table.0 c.count-size.result c.args.places.now is size c.requires.table.1).1),
+              step.rest-waits ts first rest is c.args.number (c.args.number + c.count-size.result) (path_shown c.args.path.now.items) (path_shown c.fill_part.new.path.items) c.args.children.now c.fill_part.new.children
+                  (step.next-number ts first rest is c.args.number c.count-size.result c.requires.allowed c.requires.few c.count-size.ensures) (ap path_shown c.in_ok-fill_part-in-Some.ensures.path) c.in_ok-fill_part-in-Some.ensures.taken
+                  c.requires.placed,
+            ),
           ),
         ),
       ),
     )
+
+pub fill_parts-slice_bounds-behind-count : goal.fill_parts-slice_bounds-behind-count
+fill_parts-slice_bounds-behind-count t c =
+    let ts = c.args.particles.now in
+    let first = c.in-Some.first.now in
+    let rest = c.in-Some.rest.now in
+    let is = c.in-Some.ensures.cases.0 in
+    let size = first-size ts first rest is c.args.number c.count-size.result c.requires.allowed c.requires.few c.count-size.ensures in
+    (behind-next ts first rest c.requires.table.0 c.count-size.result c.args.places.now is size c.requires.table.1).0
+
+pub fill_parts-slice_bounds-behind-start : goal.fill_parts-slice_bounds-behind-start
+fill_parts-slice_bounds-behind-start t c =
+    let ts = c.args.particles.now in
+    let first = c.in-Some.first.now in
+    let rest = c.in-Some.rest.now in
+    let is = c.in-Some.ensures.cases.0 in
+    let size = first-size ts first rest is c.args.number c.count-size.result c.requires.allowed c.requires.few c.count-size.ensures in
+    (behind-next ts first rest c.requires.table.0 c.count-size.result c.args.places.now is size c.requires.table.1).0
 
 pub fill_parts-returns-in-None-clause-taken : goal.fill_parts-returns-in-None-clause-taken
 fill_parts-returns-in-None-clause-taken t c = step.parts-none c.args.particles.now c.args.number (path_shown c.args.path.now.items) c.args.children.now c.in-None.ensures.cases
@@ -377,13 +343,13 @@ fill_parts-returns-in_ok-fill_part-in-Some-clause-taken t c =
     let first = c.in-Some.first.now in
     let rest = c.in-Some.rest.now in
     let is = c.in-Some.ensures.cases.0 in
-    let next = c.args.number + c.count.result in
+    let next = c.args.number + c.count-size.result in
     let path = path_shown c.args.path.now.items in
     let again = path_shown c.fill_part.new.path.items in
     let new = c.fill_parts.new.children in
     on-ok c.fill_parts.result (OthersWait (OrderPlaced (all_seen (roses_of rest)) next again c.fill_part.new.children) new) (OthersWait (OrderPlaced (all_seen (roses_of ts)) c.args.number path c.args.children.now) new)
     (step.parts-leave ts first rest is c.args.number next path again c.args.children.now c.fill_part.new.children new
-    (step.next-number ts first rest is c.args.number c.count.result c.requires.allowed c.requires.few c.count.ensures) (ap path_shown c.in_ok-fill_part-in-Some.ensures.path) c.in_ok-fill_part-in-Some.ensures.taken)
+    (step.next-number ts first rest is c.args.number c.count-size.result c.requires.allowed c.requires.few c.count-size.ensures) (ap path_shown c.in_ok-fill_part-in-Some.ensures.path) c.in_ok-fill_part-in-Some.ensures.taken)
     c.fill_parts.ensures.taken
 
 pub fill_parts-returns-in_ok-fill_part-in-Some-clause-made : goal.fill_parts-returns-in_ok-fill_part-in-Some-clause-made
@@ -400,7 +366,7 @@ pub fill_turn-fill_term-requires : goal.fill_turn-fill_term-requires
 fill_turn-fill_term-requires t c =
     let d = c.decreases in (
       omega (arith, d),
-      (c.requires.allowed, (c.requires.few, (c.requires.fillable, step.turn-waits c.args.particle.now c.args.number c.args.turn c.args.path.now.items c.push.new.self.items c.args.children.now (record { particle = c.args.number; turn = c.args.turn }) c.in_ok-push.ensures.items refl c.requires.placed))),
+      (c.requires.allowed, (c.requires.few, (c.requires.fillable, (c.requires.table, step.turn-waits c.args.particle.now c.args.number c.args.turn c.args.path.now.items c.push.new.self.items c.args.children.now (record { particle = c.args.number; turn = c.args.turn }) c.in_ok-push.ensures.items refl c.requires.placed)))),
     )
 
 pub fill_turn-returns-clause-taken : goal.fill_turn-returns-clause-taken
@@ -436,7 +402,7 @@ fill_term-fill_parts-requires t c =
     let k = node_count-kids particle in
     let few = c.requires.few in (
       rw c.kids.ensures (omega (arith, d, k)),
-      (subst (λ us. AllowedAll MayHave (roses_of us)) (sym c.kids.ensures) (allowed-kids MayHave particle c.requires.allowed), (rw c.kids.ensures (omega (arith, few, k)), (step.kids-fillable particle ps is c.requires.fillable, step.order-waits (term_of particle) c.args.number (path_shown c.args.path.now.items) c.args.children.now ps (c.args.number + 1) is (omega arith) c.requires.placed))),
+      (subst (λ us. AllowedAll MayHave (roses_of us)) (sym c.kids.ensures) (allowed-kids MayHave particle c.requires.allowed), (rw c.kids.ensures (omega (arith, few, k)), (step.kids-fillable particle ps is c.requires.fillable, ((0, table-sequence particle ps c.args.places.now is c.requires.table), step.order-waits (term_of particle) c.args.number (path_shown c.args.path.now.items) c.args.children.now ps (c.args.number + 1) is (omega arith) c.requires.placed)))),
     )
 
 pub fill_term-returns-in_ok-fill_parts-in-Sequence-clause-taken : goal.fill_term-returns-in_ok-fill_parts-in-Sequence-clause-taken
@@ -453,61 +419,156 @@ fill_term-returns-in_ok-fill_parts-in-Sequence-clause-made t c =
     c.args.children.now c.fill_parts.new.children c.new-parts.result c.fill_parts.new.parts c.args.tally.now c.fill_parts.new.tally c.into_value.new.tally
     c.new-parts.ensures.flags c.new-parts.ensures.values c.in_ok-fill_parts-in-Sequence.ensures.made c.into_value.result c.into_value.ensures.counts c.into_value.ensures.built.0
 
-pub fill_term-alternative-place-requires : goal.fill_term-alternative-place-requires
-fill_term-alternative-place-requires t c =
+-- ---- one occurrence of a choice
+
+pub fill_term-chosen_alternative-chosen-requires : goal.fill_term-chosen_alternative-chosen-requires
+fill_term-chosen_alternative-chosen-requires t c =
     let particle = c.args.particle.now in
-    let ps = all_seen (roses_of c.kids-in-Choice.result.now) in
-    let is : term_of particle ≡ choice ps = term-by particle c.label.result.now c.kids-in-Choice.result.now kinds.Choice c.label.ensures c.kids-in-Choice.ensures c.in-Choice.is in
+    let kids = c.kids-alternatives.result.now in
+    let ps = all_seen (roses_of kids) in
+    let is : term_of particle ≡ choice ps = term-by particle c.label.result.now kids kinds.Choice c.label.ensures c.kids-alternatives.ensures c.in-Choice.is in
     let k = node_count-kids particle in
     let few = c.requires.few in
     record {
-      allowed = subst (λ us. AllowedAll MayHave (roses_of us)) (sym c.kids-in-Choice.ensures) (allowed-kids MayHave particle c.requires.allowed);
-      few = rw c.kids-in-Choice.ensures (omega (arith, few, k));
+      allowed = subst (λ us. AllowedAll MayHave (roses_of us)) (sym c.kids-alternatives.ensures) (allowed-kids MayHave particle c.requires.allowed);
+      few = rw c.kids-alternatives.ensures (omega (arith, few, k));
       able = (step.alternatives-fillable particle ps is c.requires.fillable).0;
+      table = table-choice particle ps c.args.places.now is c.requires.table;
       placed = subst (λ p. SomeWait (OnePlaced ps (c.args.number + 1) (path_shown p) c.args.children.now)) (sym c.as_slice.ensures.value)
           (step.one-waits (term_of particle) c.args.number (path_shown c.args.path.now.items) c.args.children.now ps (c.args.number + 1) is (omega arith) c.requires.placed);
     }
 
-pub fill_term-fill_chosen-requires : goal.fill_term-fill_chosen-requires
-fill_term-fill_chosen-requires t c =
+pub fill_term-overflow_sub-at : goal.fill_term-overflow_sub-at
+fill_term-overflow_sub-at t c =
     let particle = c.args.particle.now in
-    let kids = c.kids-in-Choice-2.result.now in
+    let kids = c.kids-alternatives.result.now in
     let ps = all_seen (roses_of kids) in
-    let is : term_of particle ≡ choice ps = term-by particle c.label.result.now kids kinds.Choice c.label.ensures c.kids-in-Choice-2.ensures c.in-Choice.is in
+    let is : term_of particle ≡ choice ps = term-by particle c.label.result.now kids kinds.Choice c.label.ensures c.kids-alternatives.ensures c.in-Choice.is in
+    let first = c.args.number + 1 in
+    let place = c.chosen_alternative-chosen.result.place in
+    let number = c.chosen_alternative-chosen.result.number in
+    let numbered = c.chosen_alternative-chosen.ensures.number in
+    let within = entry-within ps 0 place first number c.args.places.now numbered (table-choice particle ps c.args.places.now is c.requires.table) in
+    within.0
+
+pub fill_term-offset_bounds-places-at : goal.fill_term-offset_bounds-places-at
+fill_term-offset_bounds-places-at t c =
+    let particle = c.args.particle.now in
+    let kids = c.kids-alternatives.result.now in
+    let allowed = subst (λ us. AllowedAll MayHave (roses_of us)) (sym c.kids-alternatives.ensures) (allowed-kids MayHave particle c.requires.allowed) in
+    let below = numbered-few kids c.chosen_alternative-chosen.result.place (c.args.number + 1) c.chosen_alternative-chosen.result.number allowed c.chosen_alternative-chosen.ensures.number in
+    let same = ap (λ us. count_all (roses_of us)) c.kids-alternatives.ensures in
+    let k = node_count-kids particle in
+    let few = c.requires.few in
+    omega (arith, below, same, k, few)
+
+pub fill_term-slice_bounds-fill_alternative-count : goal.fill_term-slice_bounds-fill_alternative-count
+fill_term-slice_bounds-fill_alternative-count t c =
+    let particle = c.args.particle.now in
+    let kids = c.kids-alternatives.result.now in
+    let ps = all_seen (roses_of kids) in
+    let is : term_of particle ≡ choice ps = term-by particle c.label.result.now kids kinds.Choice c.label.ensures c.kids-alternatives.ensures c.in-Choice.is in
+    let first = c.args.number + 1 in
+    let place = c.chosen_alternative-chosen.result.place in
+    let number = c.chosen_alternative-chosen.result.number in
+    let numbered = c.chosen_alternative-chosen.ensures.number in
+    let within = entry-within ps 0 place first number c.args.places.now numbered (table-choice particle ps c.args.places.now is c.requires.table) in
+    let ahead = within.0 in
+    let behind = within.1 in
+    omega (arith, ahead, behind)
+
+pub fill_term-slice_bounds-fill_alternative-start : goal.fill_term-slice_bounds-fill_alternative-start
+fill_term-slice_bounds-fill_alternative-start t c =
+    let particle = c.args.particle.now in
+    let kids = c.kids-alternatives.result.now in
+    let ps = all_seen (roses_of kids) in
+    let is : term_of particle ≡ choice ps = term-by particle c.label.result.now kids kinds.Choice c.label.ensures c.kids-alternatives.ensures c.in-Choice.is in
+    let first = c.args.number + 1 in
+    let place = c.chosen_alternative-chosen.result.place in
+    let number = c.chosen_alternative-chosen.result.number in
+    let numbered = c.chosen_alternative-chosen.ensures.number in
+    let within = entry-within ps 0 place first number c.args.places.now numbered (table-choice particle ps c.args.places.now is c.requires.table) in
+    let ahead = within.0 in
+    let behind = within.1 in
+    let own : (number - first) + 1 ≤ length c.args.places.now = omega (arith, ahead, behind) in
+    own
+
+pub fill_term-bounds-alternatives-chosen : goal.fill_term-bounds-alternatives-chosen
+fill_term-bounds-alternatives-chosen t c =
+    numbered-within c.kids-alternatives.result.now c.chosen_alternative-chosen.result.place (c.args.number + 1) c.chosen_alternative-chosen.result.number c.chosen_alternative-chosen.ensures.number
+
+pub fill_term-fill_alternative-requires : goal.fill_term-fill_alternative-requires
+fill_term-fill_alternative-requires t c =
+    let particle = c.args.particle.now in
+    let kids = c.kids-alternatives.result.now in
+    let ps = all_seen (roses_of kids) in
+    let is : term_of particle ≡ choice ps = term-by particle c.label.result.now kids kinds.Choice c.label.ensures c.kids-alternatives.ensures c.in-Choice.is in
+    let first = c.args.number + 1 in
+    let place = c.chosen_alternative-chosen.result.place in
+    let number = c.chosen_alternative-chosen.result.number in
+    let numbered = c.chosen_alternative-chosen.ensures.number in
+    let within = numbered-within kids place first number numbered in
+    let kid = c.index-alternatives-chosen.result in
+    let here = c.index-alternatives-chosen.is in
+    let allowed = subst (λ us. AllowedAll MayHave (roses_of us)) (sym c.kids-alternatives.ensures) (allowed-kids MayHave particle c.requires.allowed) in
+    let few = kid-few kids place first number kid within here allowed numbered in
     let d = c.decreases in
     let k = node_count-kids particle in
-    let few = c.requires.few in (
-      rw c.kids-in-Choice-2.ensures (omega (arith, d, k)),
+    let same = ap (λ us. count_all (roses_of us)) c.kids-alternatives.ensures in
+    let less = kid-count-le kids place kid within here in
+    let all = c.requires.few in (
+      omega (arith, d, k, same, less),
       (
-        subst (λ us. AllowedAll MayHave (roses_of us)) (sym c.kids-in-Choice-2.ensures) (allowed-kids MayHave particle c.requires.allowed),
+        kid-allowed kids place kid within here allowed,
         (
-          rw c.kids-in-Choice-2.ensures (omega (arith, few, k)),
+          omega (arith, few, k, same, all),
           (
-            step.alternatives-fillable particle ps is c.requires.fillable,
-            step.alternative-waits (term_of particle) c.args.number (path_shown c.args.path.now.items) c.args.children.now ps (c.args.number + 1) c.alternative-place.result is (omega arith)
-                (step.chosen-in-all c.kids-in-Choice.result.now kids (c.kids-in-Choice.ensures ∙ sym c.kids-in-Choice-2.ensures) c.as_slice.result.now c.args.path.now.items c.as_slice.ensures.value c.alternative-place.result (c.args.number + 1)
-                c.args.children.now c.alternative-place.ensures) c.requires.placed,
+            kid-fillable kids place kid within here (step.alternatives-fillable particle ps is c.requires.fillable),
+            (
+              entry-inside first number c.args.places.now (seen kid)
+                  (kid-entry kids place first number kid within here numbered 0 c.args.places.now (table-choice particle ps c.args.places.now is c.requires.table)) (number - first) refl,
+              kid-waits kids place first number kid within here numbered (path_shown c.args.path.now.items) c.args.children.now
+                  (step.alternative-waits (term_of particle) c.args.number (path_shown c.args.path.now.items) c.args.children.now ps first place is (omega arith)
+                  (step.chosen-in-all kids kids refl c.as_slice.result.now c.args.path.now.items c.as_slice.ensures.value place first c.args.children.now c.chosen_alternative-chosen.ensures.chosen)
+                  c.requires.placed),
+            ),
           ),
         ),
       ),
     )
 
-pub fill_term-returns-in_ok-chosen-in-Choice-clause-path : goal.fill_term-returns-in_ok-chosen-in-Choice-clause-path
-fill_term-returns-in_ok-chosen-in-Choice-clause-path t c = c.in_ok-value-in-Choice.ensures.path
-
-pub fill_term-returns-in_ok-chosen-in-Choice-clause-taken : goal.fill_term-returns-in_ok-chosen-in-Choice-clause-taken
-fill_term-returns-in_ok-chosen-in-Choice-clause-taken t c =
+pub fill_term-returns-in_ok-value-in-Choice-2-clause-taken : goal.fill_term-returns-in_ok-value-in-Choice-2-clause-taken
+fill_term-returns-in_ok-value-in-Choice-2-clause-taken t c =
     let particle = c.args.particle.now in
-    let kids = c.kids-in-Choice-2.result.now in
+    let kids = c.kids-alternatives.result.now in
     let ps = all_seen (roses_of kids) in
-    let is : term_of particle ≡ choice ps = term-by particle c.label.result.now kids kinds.Choice c.label.ensures c.kids-in-Choice-2.ensures c.in-Choice.is in
-    step.alternative-leaves (term_of particle) c.args.number (path_shown c.args.path.now.items) c.args.children.now ps (c.args.number + 1) c.alternative-place.result c.fill_chosen.new.children is (omega arith)
-    (step.chosen-in-all c.kids-in-Choice.result.now kids (c.kids-in-Choice.ensures ∙ sym c.kids-in-Choice-2.ensures) c.as_slice.result.now c.args.path.now.items c.as_slice.ensures.value c.alternative-place.result (c.args.number + 1)
-    c.args.children.now c.alternative-place.ensures) c.in_ok-value-in-Choice.ensures.taken
+    let is : term_of particle ≡ choice ps = term-by particle c.label.result.now kids kinds.Choice c.label.ensures c.kids-alternatives.ensures c.in-Choice.is in
+    let first = c.args.number + 1 in
+    let place = c.chosen_alternative-chosen.result.place in
+    let number = c.chosen_alternative-chosen.result.number in
+    let numbered = c.chosen_alternative-chosen.ensures.number in
+    let within = numbered-within kids place first number numbered in
+    let new = c.fill_alternative.new.children in
+    step.alternative-leaves (term_of particle) c.args.number (path_shown c.args.path.now.items) c.args.children.now ps first place new is (omega arith)
+    (step.chosen-in-all kids kids refl c.as_slice.result.now c.args.path.now.items c.as_slice.ensures.value place first c.args.children.now c.chosen_alternative-chosen.ensures.chosen)
+    (kid-leaves kids place first number c.index-alternatives-chosen.result within c.index-alternatives-chosen.is numbered (path_shown c.args.path.now.items) c.args.children.now new c.in_ok-value-in-Choice.ensures.taken)
 
-pub fill_term-returns-in_ok-chosen-in-Choice-clause-made : goal.fill_term-returns-in_ok-chosen-in-Choice-clause-made
-fill_term-returns-in_ok-chosen-in-Choice-clause-made t c =
+pub fill_term-returns-in_ok-value-in-Choice-2-clause-made : goal.fill_term-returns-in_ok-value-in-Choice-2-clause-made
+fill_term-returns-in_ok-value-in-Choice-2-clause-made t c =
     let particle = c.args.particle.now in
-    choice-made particle (all_seen (roses_of c.kids-in-Choice-2.result.now)) (term-by particle c.label.result.now c.kids-in-Choice-2.result.now kinds.Choice c.label.ensures c.kids-in-Choice-2.ensures c.in-Choice.is)
-    c.args.children.now c.fill_chosen.new.children c.alternative-place.result c.in_ok-value-in-Choice.value c.args.tally.now c.fill_chosen.new.tally c.join.new.tally
-    c.in_ok-value-in-Choice.ensures.made c.in_ok-chosen-in-Choice.chosen.items c.in_ok-chosen-in-Choice.ensures c.join.result c.join.ensures.counts c.join.ensures.built.0
+    let kids = c.kids-alternatives.result.now in
+    let ps = all_seen (roses_of kids) in
+    let is : term_of particle ≡ choice ps = term-by particle c.label.result.now kids kinds.Choice c.label.ensures c.kids-alternatives.ensures c.in-Choice.is in
+    let first = c.args.number + 1 in
+    let place = c.chosen_alternative-chosen.result.place in
+    let number = c.chosen_alternative-chosen.result.number in
+    let numbered = c.chosen_alternative-chosen.ensures.number in
+    let within = numbered-within kids place first number numbered in
+    let kid = c.index-alternatives-chosen.result in
+    let made = c.in_ok-value-in-Choice.value in
+    let old = c.args.children.now in
+    let new = c.fill_alternative.new.children in
+    choice-made particle ps is old new place made c.args.tally.now c.fill_alternative.new.tally c.join.new.tally
+    (λ gs wait. taken-as (Standing (TermMade (term_of kid)) true (label_of kid).min (label_of kid).max) (ChosenMade ps place) made gs new c.args.tally.now c.fill_alternative.new.tally
+    (kid-made kids place kid within c.index-alternatives-chosen.is) (c.in_ok-value-in-Choice.ensures.made gs wait))
+    c.in_ok-value-in-Choice-2.value.items c.in_ok-value-in-Choice-2.ensures c.join.result c.join.ensures.counts c.join.ensures.built.0

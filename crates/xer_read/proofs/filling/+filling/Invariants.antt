@@ -21,8 +21,8 @@ decreases-fill_items l = 5 * node_count l.particle.now + 2
 abbrev pub decreases-fill_part : goal.decreases-fill_part
 decreases-fill_part l = 5 * node_count l.particle.now + 3
 
-abbrev pub decreases-fill_chosen : goal.decreases-fill_chosen
-decreases-fill_chosen l = 5 * count_all (roses_of l.particles.now) + 3
+abbrev pub decreases-fill_alternative : goal.decreases-fill_alternative
+decreases-fill_alternative l = 5 * node_count l.particle.now + 3
 
 abbrev pub decreases-fill_parts : goal.decreases-fill_parts
 decreases-fill_parts l = 5 * count_all (roses_of l.particles.now) + 4

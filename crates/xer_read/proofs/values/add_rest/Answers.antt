@@ -53,5 +53,5 @@ returns-in-Children c =
     rw c.in-Children.is
     (on-ok c.add_children.result
     ((gs : List Child) → Wait before c.in-Children.children gs → Adds (ChildrenMade c.args.nillable (seen c.in-Children.model.now) gs) (child_nodes gs) old new before after)
-    ((b : Beside) → RestStands before (rest.Children c.in-Children.model c.in-Children.children) b → Adds (RestMade c.args.nillable b) (rest_nodes b) old new before after)
-    (children-rest c.args.nillable old new before after c.in-Children.model c.in-Children.children) c.add_children.ensures)
+    ((b : Beside) → RestStands before (rest.Children c.in-Children.model c.in-Children.plan c.in-Children.children) b → Adds (RestMade c.args.nillable b) (rest_nodes b) old new before after)
+    (children-rest c.args.nillable old new before after c.in-Children.model c.in-Children.plan c.in-Children.children) c.add_children.ensures)
