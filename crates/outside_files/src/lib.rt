@@ -2,5 +2,7 @@
 #![tactic(auto)]
 
 mod adapters;
+mod buffered;
 
 pub use adapters::{Folder, Reading, Writing};
+pub use buffered::Buffered;

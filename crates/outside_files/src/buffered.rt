@@ -1,0 +1,63 @@
+//! A source over a buffered reader.
+ghost use Rattle.std.specs.Prelude.{◌≡◌, ◌≤◌, length, take};
+ghost use Rattle.std.specs.Io.Buffered.{reader_remaining};
+
+use std::alloc::Global;
+use std::io::{BufRead, BufReader, Read};
+use xa_base::{Failed, Memory, Source};
+
+// How many bytes of the reader are read at once.
+const BLOCK: usize = 65_536;
+
+/// A source over a reader that is read in blocks of 65,536 bytes. Whoever asks for a byte at a time, as decoding does, gets
+/// it without a call of the reader's `read`.
+#[derive(Drop)]
+pub struct Buffered<R> {
+    inner: BufReader<R>,
+    faults: u64,
+}
+
+impl<R: Read + Drop> Buffered<R> {
+    pub fn new(alloc: Global, inner: R) -> Result<Buffered<R>, Memory> {
+        let Ok(inner) = BufReader::with_capacity(alloc, BLOCK, inner) else {
+            return Err(Memory);
+        };
+        Ok(Buffered { inner, faults: 0 })
+    }
+}
+
+// Fills the buffer with the first bytes. A single byte isn't worth a call.
+#[inline(always)]
+fn fill(buf: &mut [u8], from: &[u8])
+    requires { length buf.old ≤ length from.now }
+    ensures { buf.new ≡ take (length buf.old) from.now }
+{
+    if buf.len() == 1 {
+        buf[0] = from[0];
+    } else {
+        buf.copy_from_slice(&from[..buf.len()]);
+    }
+}
+
+impl<R: Read> Source for Buffered<R> {
+    ghost left = { λ s. reader_remaining R.remaining s.inner };
+
+    ghost faults = { λ s. s.faults };
+
+    #[tactic(auto, using(crate::proofs::Front::handed_on))]
+    fn read(&mut self, buf: &mut [u8]) -> Result<usize, Failed> {
+        let front = self.inner.buffer();
+        if !buf.is_empty() && buf.len() <= front.len() {
+            fill(buf, front);
+            self.inner.consume(buf.len());
+            return Ok(buf.len());
+        }
+        match self.inner.read(buf) {
+            Ok(count) => Ok(count),
+            Err(_) => {
+                self.faults = self.faults.saturating_add(1);
+                Err(Failed)
+            }
+        }
+    }
+}
