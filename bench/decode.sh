@@ -1,14 +1,19 @@
 #!/usr/bin/env bash
-# Measures decoding beside encoding: the instructions that `to-xml` takes in `decode` to read an encoding of an order, and
-# those that `to-per` takes in `encode` to write it. Valgrind counts them, so that a run tells the same numbers again. Where
-# there is no valgrind, the times of the whole commands stand for them, as bench/to-xml.sh measures them.
+# Measures decoding beside encoding. For each order: the least times, in microseconds, of `decode` to read its encoding and of
+# `encode` to write it again, which take turns in one process (the program crates/per_times, as the gate builds it or this
+# script does). The first run takes the memory of the value from the system; the least time is that of a run that finds it
+# there. Then, where there is valgrind, the instructions that `to-xml` takes in `decode` and `to-per` in `encode`: it counts,
+# so that a run tells the same numbers again.
+#
+#     bench/decode.sh          needs the program (`make run`) and awk
+#
+# LINES_OF names other numbers of lines, TIMES how often they take turns.
 set -eu
 cd "$(dirname "$0")/.."
-if ! command -v valgrind > /dev/null; then
-    exec bench/to-xml.sh
-fi
 . bench/measure.sh
 . bench/orders.sh
+times=${PER_TIMES:-crates/per_times/out/per_times}
+[ -x "$times" ] || (cd crates/per_times && rt run -- 1 < stdin > /dev/null 2>&1)
 
 # The instructions of one run of a command in the functions of a crate and in what they call. Of calls that recur in one
 # another the outermost counts.
@@ -24,13 +29,28 @@ instructions() {
         END { print most + 0 }'
 }
 
-printf '%-8s %10s %12s %12s %6s\n' lines octets decode encode ratio
-for lines in ${LINES_OF:-10000 20000}; do
+row() {
+    awk -v lines="$1" -v octets="$2" -v decode="$3" -v encode="$4" \
+        'BEGIN { printf "%-8d %10d %12d %12d %6.2f\n", lines, octets, decode, encode, (encode > 0) ? decode / encode : 0 }'
+}
+
+for lines in ${LINES_OF:-10000 100000}; do
     file=$work/order-$lines
     order "$lines" > "$file"
     "$program" to-per '{urn:po}order' "$work/order.xsd" < "$file" > "$file.per"
+done
+printf '%-8s %10s %12s %12s %6s\n' lines octets 'decode: us' 'encode: us' ratio
+for lines in ${LINES_OF:-10000 100000}; do
+    file=$work/order-$lines.per
+    "$times" "${TIMES:-20}" < "$file" > "$work/same" 2> "$work/least"
+    read -r decode encode < "$work/least"
+    row "$lines" "$(stat -c %s "$file")" "$decode" "$encode"
+done
+command -v valgrind > /dev/null || exit 0
+printf '%-8s %10s %12s %12s %6s\n' lines octets 'decode: ir' 'encode: ir' ratio
+for lines in ${LINES_OF:-10000 100000}; do
+    file=$work/order-$lines
     decode=$(instructions per_decode "$file.per" to-xml '{urn:po}order' "$work/order.xsd")
     encode=$(instructions per_encode "$file" to-per '{urn:po}order' "$work/order.xsd")
-    awk -v lines="$lines" -v octets="$(stat -c %s "$file.per")" -v decode="$decode" -v encode="$encode" \
-        'BEGIN { printf "%-8d %10d %12d %12d %6.2f\n", lines, octets, decode, encode, (encode > 0) ? decode / encode : 0 }'
+    row "$lines" "$(stat -c %s "$file.per")" "$decode" "$encode"
 done

@@ -1,0 +1,92 @@
+//! Times decoding beside encoding. The standard input is an encoding of an order in no namespace. It is decoded and its value
+//! encoded again as often as the first argument says, and once at least. Whether the same octets came back each time is told
+//! on the standard output, and the least times of a decoding and of an encoding, in microseconds, on the standard error
+//! stream.
+#![tactic(auto)]
+
+ghost use Rattle.std.specs.Prelude.{◌<◌, length};
+
+use anyhow::anyhow;
+use asn_types::Module;
+use layer_tests::{ORDER, opened};
+use outside_files::{Buffered, Reading};
+use per_decode::decode;
+use per_encode::encode;
+use std::env;
+use std::time::{Clock, Duration, Instant};
+use xa_base::read_all;
+
+// How many octets an encoding may have.
+const LIMIT: u64 = 134_217_728;
+
+// How long a decoding and an encoding took at least, and whether the same octets came back each time.
+#[derive(Clone, Copy)]
+struct Least {
+    decoding: Duration,
+    encoding: Duration,
+    same: bool,
+}
+
+// Decodes the octets and encodes the value.
+fn there_and_back<R: Clock + AllocGlobal>(
+    rt: &R,
+    module: &Module,
+    t: u32,
+    octets: &[u8],
+) -> anyhow::Result<Least>
+    requires { t < length module.now }
+{
+    let alloc = rt.alloc();
+    let Ok(mut source) = Buffered::new(alloc, octets) else {
+        return Err(anyhow!("out of memory"));
+    };
+    let start = Instant::now(rt)?;
+    let found = decode(alloc, module, t, &mut source, LIMIT)?;
+    let decoding = start.elapsed(rt)?;
+    let start = Instant::now(rt)?;
+    let encoded = encode(alloc, module, t, &found.value)?;
+    let encoding = start.elapsed(rt)?;
+    Ok(Least {
+        decoding,
+        encoding,
+        same: encoded.as_slice() == octets,
+    })
+}
+
+// The same, so many times and once more.
+fn repeat<R: Clock + AllocGlobal>(
+    rt: &R,
+    module: &Module,
+    t: u32,
+    octets: &[u8],
+    times: u32,
+) -> anyhow::Result<Least>
+    requires { t < length module.now }
+{
+    let mut least = there_and_back(rt, module, t, octets)?;
+    'times: for _ in 0..times {
+        let next = there_and_back(rt, module, t, octets)?;
+        least = Least {
+            decoding: least.decoding.min(next.decoding),
+            encoding: least.encoding.min(next.encoding),
+            same: least.same && next.same,
+        };
+    }
+    Ok(least)
+}
+
+fn main(rt: HostRuntime) -> anyhow::Result<()> {
+    let alloc = rt.alloc();
+    let Some(times) = env::args(&rt)?.nth(1) else {
+        return Err(anyhow!("how often?"));
+    };
+    let times: u32 = times.as_str().parse()?;
+    let octets = read_all(alloc, &mut Reading::new(rt.stdin()), LIMIT)?;
+    let (module, t) = opened(alloc, ORDER, "order")?;
+    let least = repeat(&rt, &module, t, &octets, times.saturating_sub(1))?;
+    let back = if least.same { "the same" } else { "others" };
+    println!(rt; "{} octets, {back} came back", octets.len())?;
+    let (decoding, encoding) = (least.decoding.as_micros(), least.encoding.as_micros());
+    eprintln!(rt; "{decoding} {encoding}")?;
+    Ok(())
+}
