@@ -215,6 +215,24 @@ make_absent_lists() {
 }
 hostile absent_lists 200000 600 1 12 'value of * nodes: too many' to-per r "$schema"
 
+# Child elements each of which is the last of 9,800 names, which stand in 20 choices in a repeated choice.
+make_chosen() {
+    {
+        printf '%s<xs:complexType name="E"/><xs:element name="r"><xs:complexType>' "$head"
+        printf '<xs:choice minOccurs="0" maxOccurs="unbounded">'
+        awk 'BEGIN {
+            for (i = 0; i < 9800; i++) {
+                if (i % 490 == 0) printf "%s<xs:choice>", (i > 0) ? "</xs:choice>" : ""
+                printf "<xs:element name=\"a%d\" type=\"E\"/>", i
+            }
+            printf "</xs:choice>"
+        }'
+        printf '</xs:choice></xs:complexType></xs:element>%s' "$end"
+    } > "$schema"
+    { printf '<r>'; repeat "$1" '<a9799/>'; printf '</r>'; } > "$input"
+}
+hostile chosen 300000 60 0 0 '' to-per r "$schema"
+
 # A number of 16 MB of digits, in bounds and too wide.
 make_number() { { printf '<n>'; bytes "$1" 0; printf '7</n>'; } > "$input"; }
 hostile number 16700000 8 0 0 '' to-per n "$features"
