@@ -7,16 +7,18 @@ below. A case is wrong where
 
 - `to-per` doesn't write just these octets;
 - `to-xml` doesn't take them, or what it writes isn't encoded to them again;
-- of the document with something changed, four times, `check` doesn't say what `xmllint --schema` says.
+- of the document with something changed, four times, `check` doesn't say what `xmllint --schema` says;
+- the schema with something changed, ten times, is taken by `show` and not by xmllint. The other way round is no fault: the
+  profile leaves things out, and xmllint takes more than XML Schema does (attributes that are unknown, a facet twice).
 
 Models that would give one document two values are refused (NotClear); they are counted and passed over. It prints a line for
 each case that is wrong, keeps its schema and its document in the folder KEEP, and the counts at the end. Its status is 1 where
 any is wrong.
 
-    tests/random.py [FIRST [COUNT]]      needs the program (`make run`) and xmllint; 1 and 300, about a minute
+    tests/random.py [FIRST [COUNT]]      needs the program (`make run`) and xmllint; 1 and 300, some two minutes
 
 PROGRAM names another program. What xmllint takes otherwise is left out: a sign before unsigned numbers, white space around
-numbers, characters that may begin a name since the fifth edition of XML.
+numbers, characters that may begin a name since the fifth edition of XML, a type in an attribute that is prohibited.
 """
 import copy
 import os
@@ -740,15 +742,68 @@ def changed(document):
     return tree.tostring(root, encoding="unicode").encode()
 
 
+ATTRIBUTES = {
+    "minOccurs": ["0", "1", "2", "5", "x", "-1", ""],
+    "maxOccurs": ["0", "1", "2", "300", "unbounded", "x"],
+    "use": ["required", "optional", "x"],
+    "form": ["qualified", "unqualified", "x"],
+    "nillable": ["true", "false", "1", "x"],
+    "mixed": ["true", "false", "x"],
+    "type": ["xs:int", "xs:string", "xs:boolean", "xs:none", "t:none", "none:x"],
+    "base": ["xs:int", "xs:string", "xs:token", "xs:byte", "t:none"],
+    "itemType": ["xs:int", "xs:string", "t:none"],
+    "ref": ["t:a1", "t:none", "el2"],
+    "name": ["a1", "el2", "x y", "1a", "", "a:b"],
+    "value": ["0", "1", "-1", "5", "1000", "x", "", "9" * 44, "red", " 7 ", "1.5"],
+}
+
+
+def changed_schema(schema):
+    """The schema with something changed, which may leave it one of the profile."""
+    tree.register_namespace("xs", XSD)
+    root = tree.fromstring(schema)
+    for _ in range(rng.choice([1, 1, 2])):
+        element = rng.choice(list(root.iter()))
+        children = list(element)
+        form = rng.randrange(8)
+        if form == 0 and element.attrib:
+            del element.attrib[rng.choice(list(element.attrib))]
+        elif form <= 3 and element.attrib:
+            name = rng.choice(list(element.attrib))
+            element.set(name, rng.choice(ATTRIBUTES.get(name, ["x", "", "true"])))
+        elif form == 4 and children:
+            element.insert(rng.randint(0, len(children)), copy.deepcopy(rng.choice(children)))
+        elif form == 5 and children:
+            element.remove(rng.choice(children))
+        elif form == 6 and len(children) > 1:
+            i, j = rng.sample(range(len(children)), 2)
+            element[i], element[j] = children[j], children[i]
+        elif form == 7:
+            name = rng.choice(list(ATTRIBUTES))
+            element.set(name, rng.choice(ATTRIBUTES[name]))
+    # The prefix of names in values, of which the tree knows nothing.
+    return tree.tostring(root, encoding="unicode").replace("<xs:schema ", '<xs:schema xmlns:t="urn:t" ', 1)
+
+
 class Cases:
     def __init__(self, program, folder):
         self.program = program
         self.schema = os.path.join(folder, "schema.xsd")
         self.document = os.path.join(folder, "document.xml")
-        self.counts = dict.fromkeys(["schemas", "refused", "documents", "changed", "invalid", "wrong"], 0)
+        names = ["schemas", "refused", "documents", "changed", "invalid", "changed schemas", "taken", "wrong"]
+        self.counts = dict.fromkeys(names, 0)
 
-    def run(self, command, root, octets):
-        return subprocess.run([self.program, command, root, self.schema], input=octets, capture_output=True)
+    def run(self, command, *root, octets=b""):
+        return subprocess.run([self.program, command, *root, self.schema], input=octets, capture_output=True)
+
+    def peer(self, document):
+        with open(self.document, "wb") as file:
+            file.write(document)
+        return subprocess.run(["xmllint", "--noout", "--schema", self.schema, self.document], capture_output=True)
+
+    def put_schema(self, text):
+        with open(self.schema, "w", encoding="utf-8") as file:
+            file.write(text)
 
     def is_wrong(self, number, document, told):
         self.counts["wrong"] += 1
@@ -764,7 +819,7 @@ class Cases:
 
     def there_and_back(self, number, root, document, due):
         """Whether the schema is taken."""
-        there = self.run("to-per", root, document)
+        there = self.run("to-per", root, octets=document)
         if there.returncode in (3, 4, 5):
             self.counts["refused"] += 1
             if b"NotClear" not in there.stderr:
@@ -775,30 +830,36 @@ class Cases:
             told = there.stderr.decode() or there.stdout.hex()
             self.is_wrong(number, document, f"to-per: {told}, due {due.hex()}")
             return True
-        back = self.run("to-xml", root, due)
-        again = self.run("to-per", root, back.stdout)
+        back = self.run("to-xml", root, octets=due)
+        again = self.run("to-per", root, octets=back.stdout)
         if again.stdout != due:
             self.is_wrong(number, document, f"to-xml: {back.stderr.decode()}{again.stderr.decode()}")
         return True
 
     def is_valid(self, number, root, document):
-        with open(self.document, "wb") as file:
-            file.write(document)
-        peer = subprocess.run(["xmllint", "--noout", "--schema", self.schema, self.document], capture_output=True)
+        peer = self.peer(document)
         due = {0: 0, 3: 8}.get(peer.returncode)
-        ours = self.run("check", root, document)
+        ours = self.run("check", root, octets=document)
         self.counts["changed"] += 1
         self.counts["invalid"] += due == 8
         if ours.returncode != due:
             told = f"check: {ours.returncode} {ours.stderr.decode()}, xmllint: {peer.returncode} {peer.stderr.decode()}"
             self.is_wrong(number, document, told)
 
+    def is_taken(self, number, schema):
+        self.put_schema(schema)
+        self.counts["changed schemas"] += 1
+        if self.run("show").returncode == 0:
+            self.counts["taken"] += 1
+            peer = self.peer(b"<none/>")
+            if peer.returncode == 5:
+                self.is_wrong(number, b"", f"show: taken, xmllint: {peer.stderr.decode()}")
+
     def try_all(self, number):
         rng.seed(number)
         schema = Schema()
         self.counts["schemas"] += 1
-        with open(self.schema, "w", encoding="utf-8") as file:
-            file.write(schema.text)
+        self.put_schema(schema.text)
         root = "{urn:t}" + schema.root.name
         for _ in range(6):
             text, due = schema.document()
@@ -807,6 +868,8 @@ class Cases:
                 return
             for _ in range(4):
                 self.is_valid(number, root, changed(document))
+        for _ in range(10):
+            self.is_taken(number, changed_schema(schema.text))
 
 
 def main():
