@@ -1,9 +1,9 @@
 #!/usr/bin/env bash
 # Measures decoding beside encoding. For each order: the least times, in microseconds, of `decode` to read its encoding and of
 # `encode` to write it again, which take turns in one process (the program crates/per_times, as the gate builds it or this
-# script does). The first run takes the memory of the value from the system; the least time is that of a run that finds it
-# there. Then, where there is valgrind, the instructions that `to-xml` takes in `decode` and `to-per` in `encode`: it counts,
-# so that a run tells the same numbers again.
+# script does). The C library gives the memory of the value back to the system before the next turn, so that each decoding
+# takes it anew; with `kept` it keeps that memory. Then, where there is valgrind, the instructions that `to-xml` takes in
+# `decode` and `to-per` in `encode`: it counts, so that a run tells the same numbers again.
 #
 #     bench/decode.sh          needs the program (`make run`) and awk
 #
@@ -30,8 +30,17 @@ instructions() {
 }
 
 row() {
-    awk -v lines="$1" -v octets="$2" -v decode="$3" -v encode="$4" \
-        'BEGIN { printf "%-8d %10d %12d %12d %6.2f\n", lines, octets, decode, encode, (encode > 0) ? decode / encode : 0 }'
+    awk -v lines="$1" -v octets="$2" -v decode="$3" -v encode="$4" -v how="${5-}" 'BEGIN {
+        printf "%-8d %10d %12d %12d %6.2f %s\n", lines, octets, decode, encode, (encode > 0) ? decode / encode : 0, how
+    }'
+}
+
+# A line of times, of a process with this setting of the C library.
+time_row() {
+    local lines=$1 file=$2 setting=$3 how=$4
+    GLIBC_TUNABLES=$setting "$times" "${TIMES:-20}" < "$file" > "$work/same" 2> "$work/least"
+    read -r decode encode < "$work/least"
+    row "$lines" "$(stat -c %s "$file")" "$decode" "$encode" "$how"
 }
 
 for lines in ${LINES_OF:-10000 100000}; do
@@ -41,10 +50,8 @@ for lines in ${LINES_OF:-10000 100000}; do
 done
 printf '%-8s %10s %12s %12s %6s\n' lines octets 'decode: us' 'encode: us' ratio
 for lines in ${LINES_OF:-10000 100000}; do
-    file=$work/order-$lines.per
-    "$times" "${TIMES:-20}" < "$file" > "$work/same" 2> "$work/least"
-    read -r decode encode < "$work/least"
-    row "$lines" "$(stat -c %s "$file")" "$decode" "$encode"
+    time_row "$lines" "$work/order-$lines.per" '' ''
+    time_row "$lines" "$work/order-$lines.per" glibc.malloc.top_pad=100000000 kept
 done
 command -v valgrind > /dev/null || exit 0
 printf '%-8s %10s %12s %12s %6s\n' lines octets 'decode: ir' 'encode: ir' ratio
