@@ -2,10 +2,10 @@
 # Measures decoding beside encoding. For each order: the least times, in microseconds, of `decode` to read its encoding and of
 # `encode` to write it again, which take turns in one process (the program crates/per_times, as the gate builds it or this
 # script does). The C library gives the memory of the value back to the system before the next turn, so that each decoding
-# takes it anew; with `kept` it keeps that memory. Then, where there is valgrind, the instructions that `to-xml` takes in
+# takes it anew; with `kept` it keeps that memory, since the top of its heap is then given back only from 100 MB on. Then, where there is valgrind, the instructions that `to-xml` takes in
 # `decode` and `to-per` in `encode`: it counts, so that a run tells the same numbers again.
 #
-#     bench/decode.sh          needs the program (`make run`) and awk
+#     bench/decode.sh          needs the program (`make run`), awk, and rt where the gate hasn't built crates/per_times
 #
 # LINES_OF names other numbers of lines, TIMES how often they take turns.
 set -eu
@@ -15,8 +15,8 @@ cd "$(dirname "$0")/.."
 times=${PER_TIMES:-crates/per_times/out/per_times}
 [ -x "$times" ] || (cd crates/per_times && rt run -- 1 < stdin > /dev/null 2>&1)
 
-# The instructions of one run of a command in the functions of a crate and in what they call. Of calls that recur in one
-# another the outermost counts.
+# The instructions of one run of a command in that function of a crate which takes most, and in what it calls: the one through
+# which the crate is entered. Of calls that recur in one another the outermost counts.
 instructions() {
     local crate=$1 input=$2
     shift 2
@@ -38,7 +38,11 @@ row() {
 # A line of times, of a process with this setting of the C library.
 time_row() {
     local lines=$1 file=$2 setting=$3 how=$4
-    GLIBC_TUNABLES=$setting "$times" "${TIMES:-20}" < "$file" > "$work/same" 2> "$work/least"
+    if ! GLIBC_TUNABLES=$setting "$times" "${TIMES:-20}" < "$file" > "$work/same" 2> "$work/least" ||
+        ! grep -q 'the same came back' "$work/same"; then
+        cat "$work/same" "$work/least" >&2
+        exit 1
+    fi
     read -r decode encode < "$work/least"
     row "$lines" "$(stat -c %s "$file")" "$decode" "$encode" "$how"
 }

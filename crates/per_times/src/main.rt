@@ -1,7 +1,7 @@
-//! Times decoding beside encoding. The standard input is an encoding of an order in no namespace. It is decoded and its value
-//! encoded again as often as the first argument says, and once at least. Whether the same octets came back each time is told
-//! on the standard output, and the least times of a decoding and of an encoding, in microseconds, on the standard error
-//! stream.
+//! Times decoding beside encoding. The standard input is an encoding of an order, whose octets are the same in whatever
+//! namespace its schema puts it. It is decoded and its value encoded again as often as the first argument says, and once at
+//! least. Whether the same octets came back each time is told on the standard output, and the least times of a decoding and of
+//! an encoding, in microseconds, on the standard error stream.
 #![tactic(auto)]
 
 ghost use Rattle.std.specs.Prelude.{◌<◌, length};
@@ -16,12 +16,12 @@ use std::env;
 use std::time::{Clock, Duration, Instant};
 use xa_base::read_all;
 
-// How many octets an encoding may have.
+// How many octets an encoding may have: more than the converter takes, for orders of more lines.
 const LIMIT: u64 = 134_217_728;
 
-// How long a decoding and an encoding took at least, and whether the same octets came back each time.
+// How long a decoding and an encoding took, and whether the same octets came back.
 #[derive(Clone, Copy)]
-struct Least {
+struct Times {
     decoding: Duration,
     encoding: Duration,
     same: bool,
@@ -33,7 +33,7 @@ fn there_and_back<R: Clock + AllocGlobal>(
     module: &Module,
     t: u32,
     octets: &[u8],
-) -> anyhow::Result<Least>
+) -> anyhow::Result<Times>
     requires { t < length module.now }
 {
     let alloc = rt.alloc();
@@ -46,27 +46,27 @@ fn there_and_back<R: Clock + AllocGlobal>(
     let start = Instant::now(rt)?;
     let encoded = encode(alloc, module, t, &found.value)?;
     let encoding = start.elapsed(rt)?;
-    Ok(Least {
+    Ok(Times {
         decoding,
         encoding,
         same: encoded.as_slice() == octets,
     })
 }
 
-// The same, so many times and once more.
+// The same so many times and once more: the least times, and whether the same octets came back each time.
 fn repeat<R: Clock + AllocGlobal>(
     rt: &R,
     module: &Module,
     t: u32,
     octets: &[u8],
     times: u32,
-) -> anyhow::Result<Least>
+) -> anyhow::Result<Times>
     requires { t < length module.now }
 {
     let mut least = there_and_back(rt, module, t, octets)?;
     'times: for _ in 0..times {
         let next = there_and_back(rt, module, t, octets)?;
-        least = Least {
+        least = Times {
             decoding: least.decoding.min(next.decoding),
             encoding: least.encoding.min(next.encoding),
             same: least.same && next.same,
