@@ -8,6 +8,7 @@ use asn_types::Module;
 use per_decode::{DecodeError, Decoded, decode};
 use per_encode::encode;
 use std::alloc::Global;
+use std::process::Abort;
 use std::test::Fail;
 use xa_base::SureSource;
 
@@ -32,8 +33,7 @@ fn read(alloc: Global, module: &Module, t: u32, octets: Vec<u8>) -> Result<Decod
     decode(alloc, module, t, &mut source, 16_777_216)
 }
 
-#[test]
-fn no_front_of_an_encoding_is_one(rt: HostRuntime) -> Result<(), Fail> {
+fn no_front_of_an_encoding_is_one<R: Abort + AllocGlobal>(rt: &R) -> Result<(), Fail> {
     for (schema, root, octets) in ENCODINGS {
         let (module, t) = opened(rt.alloc(), schema, root)?;
         for length in 0..octets.len() {
@@ -47,8 +47,9 @@ fn no_front_of_an_encoding_is_one(rt: HostRuntime) -> Result<(), Fail> {
     Ok(())
 }
 
-#[test]
-fn what_is_read_of_turned_bits_is_written_as_them(rt: HostRuntime) -> Result<(), Fail> {
+fn what_is_read_of_turned_bits_is_written_as_them<R: Abort + AllocGlobal>(
+    rt: &R,
+) -> Result<(), Fail> {
     for (schema, root, octets) in ENCODINGS {
         let (module, t) = opened(rt.alloc(), schema, root)?;
         for place in 0..octets.len() {
@@ -68,4 +69,10 @@ fn what_is_read_of_turned_bits_is_written_as_them(rt: HostRuntime) -> Result<(),
         }
     }
     Ok(())
+}
+
+#[test]
+fn damaged_encodings(rt: HostRuntime) -> Result<(), Fail> {
+    no_front_of_an_encoding_is_one(&rt)?;
+    what_is_read_of_turned_bits_is_written_as_them(&rt)
 }

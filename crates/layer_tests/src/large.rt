@@ -2,6 +2,7 @@
 use crate::commands::answered;
 use crate::schemas::{HEAD, ORDERS, SORTS};
 use std::alloc::{AllocError, Global};
+use std::process::Abort;
 use std::test::Fail;
 
 // Adds the text so many times.
@@ -32,8 +33,7 @@ fn order(alloc: Global, lines: u32, prefix: &str) -> Result<Vec<u8>, AllocError>
     Ok(text)
 }
 
-#[test]
-fn a_trial_of_100_000_lines(rt: HostRuntime) -> Result<(), Fail> {
+fn a_trial_of_100_000_lines<R: Abort + AllocGlobal>(rt: &R) -> Result<(), Fail> {
     let alloc = rt.alloc();
     let found = answered(
         alloc,
@@ -50,8 +50,7 @@ fn a_trial_of_100_000_lines(rt: HostRuntime) -> Result<(), Fail> {
     Ok(())
 }
 
-#[test]
-fn an_order_of_100_000_lines_there_and_back(rt: HostRuntime) -> Result<(), Fail> {
+fn an_order_of_100_000_lines_there_and_back<R: Abort + AllocGlobal>(rt: &R) -> Result<(), Fail> {
     let alloc = rt.alloc();
     let document = order(alloc, 100_000, "")?;
     assert_eq!(rt; document.len(), 4_280_927);
@@ -90,8 +89,7 @@ fn many(alloc: Global, count: usize) -> Result<Vec<u8>, AllocError> {
     Ok(text)
 }
 
-#[test]
-fn a_value_of_just_as_many_nodes_as_may_be(rt: HostRuntime) -> Result<(), Fail> {
+fn a_value_of_just_as_many_nodes_as_may_be<R: Abort + AllocGlobal>(rt: &R) -> Result<(), Fail> {
     let alloc = rt.alloc();
     let schema = SORTS.as_bytes();
     let most = answered(
@@ -129,8 +127,7 @@ fn a_value_of_just_as_many_nodes_as_may_be(rt: HostRuntime) -> Result<(), Fail> 
     Ok(())
 }
 
-#[test]
-fn so_many_children_under_16_groups(rt: HostRuntime) -> Result<(), Fail> {
+fn so_many_children_under_16_groups<R: Abort + AllocGlobal>(rt: &R) -> Result<(), Fail> {
     let alloc = rt.alloc();
     let mut schema = HEAD.as_bytes().to_vec(alloc)?;
     schema.extend_from_slice(b"<xs:element name=\"t\"><xs:complexType>")?;
@@ -162,8 +159,7 @@ fn so_many_children_under_16_groups(rt: HostRuntime) -> Result<(), Fail> {
     Ok(())
 }
 
-#[test]
-fn so_many_children_of_9_800_names(rt: HostRuntime) -> Result<(), Fail> {
+fn so_many_children_of_9_800_names<R: Abort + AllocGlobal>(rt: &R) -> Result<(), Fail> {
     let alloc = rt.alloc();
     let mut schema = HEAD.as_bytes().to_vec(alloc)?;
     schema.extend_from_slice(
@@ -197,4 +193,13 @@ fn so_many_children_of_9_800_names(rt: HostRuntime) -> Result<(), Fail> {
     )?;
     assert_eq!(rt; found.status, 0);
     Ok(())
+}
+
+#[test]
+fn large_documents(rt: HostRuntime) -> Result<(), Fail> {
+    a_trial_of_100_000_lines(&rt)?;
+    an_order_of_100_000_lines_there_and_back(&rt)?;
+    a_value_of_just_as_many_nodes_as_may_be(&rt)?;
+    so_many_children_under_16_groups(&rt)?;
+    so_many_children_of_9_800_names(&rt)
 }

@@ -193,27 +193,24 @@ fn follow<A: Abort + AllocGlobal>(
     Ok(())
 }
 
-#[test]
-fn orders(rt: HostRuntime) -> Result<(), Fail> {
+fn orders<R: Abort + AllocGlobal>(rt: &R) -> Result<(), Fail> {
     let set = linked(rt.alloc(), ORDER)?;
-    follow(&rt, &set, 0, false, &ORDERS)?;
-    follow(&rt, &set, 1, false, &LINES)?;
+    follow(rt, &set, 0, false, &ORDERS)?;
+    follow(rt, &set, 1, false, &LINES)?;
     Ok(())
 }
 
-#[test]
-fn features(rt: HostRuntime) -> Result<(), Fail> {
+fn features<R: Abort + AllocGlobal>(rt: &R) -> Result<(), Fail> {
     let set = linked(rt.alloc(), SORTS)?;
-    follow(&rt, &set, 10, true, &REFERENCES)?;
-    follow(&rt, &set, 11, true, &RECURSIVE)?;
-    follow(&rt, &set, 12, true, &MIXED)?;
+    follow(rt, &set, 10, true, &REFERENCES)?;
+    follow(rt, &set, 11, true, &RECURSIVE)?;
+    follow(rt, &set, 12, true, &MIXED)?;
     Ok(())
 }
 
-#[test]
-fn two_and_then_one(rt: HostRuntime) -> Result<(), Fail> {
+fn two_and_then_one<R: Abort + AllocGlobal>(rt: &R) -> Result<(), Fail> {
     let set = linked(rt.alloc(), TWICE_AND_ONCE)?;
-    follow(&rt, &set, 0, false, &TWICE)?;
+    follow(rt, &set, 0, false, &TWICE)?;
     Ok(())
 }
 
@@ -230,8 +227,7 @@ fn path_in_groups(n: u32) -> [(u32, u32); 17] {
     path
 }
 
-#[test]
-fn groups_inside_one_another(rt: HostRuntime) -> Result<(), Fail> {
+fn groups_inside_one_another<R: Abort + AllocGlobal>(rt: &R) -> Result<(), Fail> {
     let set = linked(rt.alloc(), GROUPS)?;
     let mut paths = Vec::new(rt.alloc());
     for n in 0..14 {
@@ -242,7 +238,7 @@ fn groups_inside_one_another(rt: HostRuntime) -> Result<(), Fail> {
         steps.push(("b", None, n > 0 && n % 6 == 0))?;
         steps.push(("a", Some((1, path)), n % 6 == 5))?;
     }
-    follow(&rt, &set, 0, false, &steps)
+    follow(rt, &set, 0, false, &steps)
 }
 
 // 20 choices of 490 elements each, in a repeated choice.
@@ -262,9 +258,17 @@ fn choices(alloc: Global) -> Result<String, AllocError> {
     Ok(schema)
 }
 
-#[test]
-fn choices_of_many_names(rt: HostRuntime) -> Result<(), Fail> {
+fn choices_of_many_names<R: Abort + AllocGlobal>(rt: &R) -> Result<(), Fail> {
     let schema = choices(rt.alloc())?;
     let set = linked(rt.alloc(), &schema)?;
-    follow(&rt, &set, 0, true, &CHOSEN)
+    follow(rt, &set, 0, true, &CHOSEN)
+}
+
+#[test]
+fn what_a_matcher_tells(rt: HostRuntime) -> Result<(), Fail> {
+    orders(&rt)?;
+    features(&rt)?;
+    two_and_then_one(&rt)?;
+    groups_inside_one_another(&rt)?;
+    choices_of_many_names(&rt)
 }

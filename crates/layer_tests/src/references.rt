@@ -9,6 +9,7 @@ use per_decode::decode;
 use per_encode::encode;
 use simple_types::{Value, ValueLabel};
 use std::alloc::Global;
+use std::process::Abort;
 use std::test::Fail;
 use xa_base::{Memory, SureSource, Text};
 
@@ -48,8 +49,7 @@ fn four_behind_one_another(alloc: Global) -> Result<Module, Memory>
     Ok(Module::of(assignments))
 }
 
-#[test]
-fn four_references_are_followed(rt: HostRuntime) -> Result<(), Fail> {
+fn four_references_are_followed<R: Abort + AllocGlobal>(rt: &R) -> Result<(), Fail> {
     let module = four_behind_one_another(rt.alloc())?;
     let mut found = module.assignment(0).body.root();
     for _ in 0..4u32 {
@@ -63,8 +63,7 @@ fn four_references_are_followed(rt: HostRuntime) -> Result<(), Fail> {
     Ok(())
 }
 
-#[test]
-fn a_value_behind_four_references_is_encoded(rt: HostRuntime) -> Result<(), Fail> {
+fn a_value_behind_four_references_is_encoded<R: Abort + AllocGlobal>(rt: &R) -> Result<(), Fail> {
     let module = four_behind_one_another(rt.alloc())?;
     for (truth, octet) in [(false, 0x00), (true, 0x80)] {
         let label = ValueLabel::Bool(truth);
@@ -81,4 +80,10 @@ fn a_value_behind_four_references_is_encoded(rt: HostRuntime) -> Result<(), Fail
         assert_eq!(rt; found.octets, 1);
     }
     Ok(())
+}
+
+#[test]
+fn references_behind_one_another(rt: HostRuntime) -> Result<(), Fail> {
+    four_references_are_followed(&rt)?;
+    a_value_behind_four_references_is_encoded(&rt)
 }

@@ -4,6 +4,7 @@ use crate::schemas::ORDER;
 use per_decode::{DecodeError, decode};
 use per_fields::Why;
 use std::alloc::Global;
+use std::process::Abort;
 use std::test::Fail;
 use xa_base::SureSource;
 
@@ -21,8 +22,7 @@ fn cut(alloc: Global, octets: &[u8], size: u64) -> Result<SureSource, Unopened> 
     Ok(SureSource::new(given, pieces))
 }
 
-#[test]
-fn an_encoding_is_taken_and_nothing_behind_it(rt: HostRuntime) -> Result<(), Fail> {
+fn an_encoding_is_taken_and_nothing_behind_it<R: Abort + AllocGlobal>(rt: &R) -> Result<(), Fail> {
     let (module, t) = opened(rt.alloc(), ORDER, "order")?;
     for piece in [1, 3, 8] {
         let mut source = cut(rt.alloc(), OCTETS, piece)?;
@@ -32,8 +32,7 @@ fn an_encoding_is_taken_and_nothing_behind_it(rt: HostRuntime) -> Result<(), Fai
     Ok(())
 }
 
-#[test]
-fn no_more_is_taken_than_may_be(rt: HostRuntime) -> Result<(), Fail> {
+fn no_more_is_taken_than_may_be<R: Abort + AllocGlobal>(rt: &R) -> Result<(), Fail> {
     let (module, t) = opened(rt.alloc(), ORDER, "order")?;
     for piece in [1, 3, 8] {
         let mut source = cut(rt.alloc(), OCTETS, piece)?;
@@ -44,8 +43,9 @@ fn no_more_is_taken_than_may_be(rt: HostRuntime) -> Result<(), Fail> {
     Ok(())
 }
 
-#[test]
-fn nothing_is_taken_behind_a_field_with_a_fault(rt: HostRuntime) -> Result<(), Fail> {
+fn nothing_is_taken_behind_a_field_with_a_fault<R: Abort + AllocGlobal>(
+    rt: &R,
+) -> Result<(), Fail> {
     let (module, t) = opened(rt.alloc(), ORDER, "order")?;
     let given = Vec::from_slice(rt.alloc(), b"\x00\x00\x07\x80\x01\x02\x41")?;
     let mut source = SureSource::new(given, Vec::new(rt.alloc()));
@@ -61,4 +61,11 @@ fn nothing_is_taken_behind_a_field_with_a_fault(rt: HostRuntime) -> Result<(), F
     );
     assert_eq!(rt; source.left(), b"\x02\x41".as_slice());
     Ok(())
+}
+
+#[test]
+fn what_is_taken_of_a_source(rt: HostRuntime) -> Result<(), Fail> {
+    an_encoding_is_taken_and_nothing_behind_it(&rt)?;
+    no_more_is_taken_than_may_be(&rt)?;
+    nothing_is_taken_behind_a_field_with_a_fault(&rt)
 }

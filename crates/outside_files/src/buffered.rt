@@ -6,11 +6,11 @@ use std::alloc::Global;
 use std::io::{BufRead, BufReader, Read};
 use xa_base::{Failed, Memory, Source};
 
-// How many bytes of the reader are read at once.
+// How many bytes of the reader are read at once at most.
 const BLOCK: usize = 65_536;
 
-/// A source over a reader that is read in blocks of 65,536 bytes. Whoever asks for a byte at a time, as decoding does, gets
-/// it without a call of the reader's `read`.
+/// A source over a reader that is read in blocks of at most 65,536 bytes. A byte that lies in the block costs no call of the
+/// reader's `read`, as it is for decoding, which asks for a byte or a few at a time.
 #[derive(Drop)]
 pub struct Buffered<R> {
     inner: BufReader<R>,
