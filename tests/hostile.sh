@@ -278,7 +278,7 @@ make_flags() {
     } > "$schema"
     { printf '<r>'; repeat "$1" '<a/>'; printf '</r>'; } > "$input"
 }
-hostile flags 200000 1000 1 0 '' to-per r "$schema"
+hostile flags 200000 800 1 0 '' to-per r "$schema"
 
 # ---- Octets
 
