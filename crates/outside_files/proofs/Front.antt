@@ -1,5 +1,5 @@
 -- The first bytes of a buffer are handed on.
-use Rattle.std.proofs.Common.{◌≡◌, ◌==◌, ℕ, Bool, true, false, List, ◌++◌, None, Some, take, drop, sym, ap, ◌∙◌, append_assoc, take-append-drop}
+use Rattle.std.proofs.Common.{◌≡◌, ◌==◌, ℕ, Bool, true, false, List, [], refl, ◌++◌, None, Some, take, drop, sym, ap, ◌∙◌, append_assoc, take-append-drop}
 use Rattle.std.specs.declared.option.Option.{Option}
 use Rattle.std.specs.Prelude.{if◌then◌else◌}
 use Rattle.std.specs.Io.KnownBytes.{Consumes, prepend_known}
@@ -20,3 +20,14 @@ pub handed_on : {R A : Type 0} (remaining : R → Option (List ℕ)) (old new : 
     → given ≡ take n (reader_buffer old) → Consumes (reader_remaining remaining old) (reader_remaining remaining new) given
 handed_on remaining old new given n rest inner capacity front =
     rw (capacity, inner) (unless (reader_capacity old == 0) _ _ given (front_of (remaining old.inner) _ _ given n rest front))
+
+-- A reader with an empty buffer has left what the reader behind it has.
+none_in_front : (known : Option (List ℕ)) → prepend_known [] known ≡ known
+none_in_front None = refl
+none_in_front (Some xs) = refl
+
+pub fresh : {R A : Type 0} (remaining : R → Option (List ℕ)) (r : BufReader R A) → reader_capacity r ≡ 65536 → reader_buffer r ≡ []
+    → reader_remaining remaining r ≡ remaining (reader_inner r)
+fresh remaining r capacity empty =
+    ap (λ n. if n == 0 then None else prepend_known (reader_buffer r) (remaining (reader_inner r))) capacity
+    ∙ ap (λ bytes. prepend_known bytes (remaining (reader_inner r))) empty ∙ none_in_front (remaining (reader_inner r))

@@ -1,5 +1,5 @@
 //! A source over a buffered reader.
-ghost use Rattle.std.specs.Prelude.{◌≡◌, ◌≤◌, length, take};
+ghost use Rattle.std.specs.Prelude.{◌≡◌, ◌≤◌, IfOk, length, take};
 ghost use Rattle.std.specs.Io.Buffered.{reader_remaining};
 
 use std::alloc::Global;
@@ -18,11 +18,38 @@ pub struct Buffered<R> {
 }
 
 impl<R: Read + Drop> Buffered<R> {
-    pub fn new(alloc: Global, inner: R) -> Result<Buffered<R>, Memory> {
+    #[tactic(auto, using(crate::proofs::Front::fresh))]
+    pub fn new(alloc: Global, inner: R) -> Result<Buffered<R>, Memory>
+        ensures left { IfOk result (λ s. reader_remaining R.remaining s.inner ≡ R.remaining inner) }
+        ensures faults { IfOk result (λ s. s.faults ≡ 0) }
+    {
         let Ok(inner) = BufReader::with_capacity(alloc, BLOCK, inner) else {
             return Err(Memory);
         };
         Ok(Buffered { inner, faults: 0 })
+    }
+}
+
+impl<R: Read> Buffered<R> {
+    ghost use Rattle.std.specs.Prelude.{IsErr};
+    ghost use Rattle.std.specs.Io.{ReadsAtMost};
+    ghost use Rattle.std.specs.Io.KnownBytes.{ReadConsumes};
+    ghost use Rattle.xa_base.specs.Faults.{Counts};
+
+    // Reads where the block has fewer bytes than are asked for.
+    #[inline(never)]
+    fn read_on(&mut self, buf: &mut [u8]) -> Result<usize, Failed>
+        ensures bound { ReadsAtMost result buf.new }
+        ensures bytes { ReadConsumes (reader_remaining R.remaining self.old.inner) (reader_remaining R.remaining self.new.inner) result buf.new }
+        ensures cause { Counts self.old.faults self.new.faults (IsErr result) }
+    {
+        match self.inner.read(buf) {
+            Ok(count) => Ok(count),
+            Err(_) => {
+                self.faults = self.faults.saturating_add(1);
+                Err(Failed)
+            }
+        }
     }
 }
 
@@ -44,6 +71,7 @@ impl<R: Read> Source for Buffered<R> {
 
     ghost faults = { λ s. s.faults };
 
+    #[inline(always)]
     #[tactic(auto, using(crate::proofs::Front::handed_on))]
     fn read(&mut self, buf: &mut [u8]) -> Result<usize, Failed> {
         let front = self.inner.buffer();
@@ -52,12 +80,6 @@ impl<R: Read> Source for Buffered<R> {
             self.inner.consume(buf.len());
             return Ok(buf.len());
         }
-        match self.inner.read(buf) {
-            Ok(count) => Ok(count),
-            Err(_) => {
-                self.faults = self.faults.saturating_add(1);
-                Err(Failed)
-            }
-        }
+        self.read_on(buf)
     }
 }

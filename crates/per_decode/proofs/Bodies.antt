@@ -23,7 +23,7 @@ use Rattle.per_fields.proofs.Owns.{owns_own, own_owns}
 use Rattle.per_fields.proofs.Unfolding.{node_recursion}
 use Rattle.per_decode.specs.declared.faults.Fault.{Fault}
 use Rattle.per_decode.specs.declared.faults.Fault.TheVariants as fault
-use Rattle.per_decode.specs.Private.Giving.{spot, end_of, FailsAt, Shows, Gives, input}
+use Rattle.per_decode.specs.Private.Giving.{Halt, stopped, halt_of, spot, end_of, FailsAt, Shows, Gives, input}
 use Rattle.per_decode.specs.Private.Bodies.{IsKnown, kid_at, fields_at, body_at, octets_kept, kept_by}
 use Rattle.per_decode.proofs.Ends.{SteadyReader, fails_first}
 use Rattle.per_decode.proofs.EndNodes.{sits-node, sits-content, sits-owned}
@@ -60,16 +60,18 @@ module _ (M : List Assignment) (known : IsKnown M) (t : Rose TypeLabel) (of : Is
         by false e = omega (arith, ap end_of e)
 
     -- what they say, where octets were taken up to its end
-    pub owned_shows : {A : Type 0} (limit : ℕ) (whole : List ℕ) (taken : ℕ) (w : Rose ValueLabel) (answer : Result A Fault)
+    pub owned_shows : {A : Type 0} (limit : ℕ) (whole : List ℕ) (stop : Stop) (taken : ℕ) (w : Rose ValueLabel) (answer : Result A Fault)
         → 8 * taken ≤ r.at + 7 → IfOk answer (λ _. w ≡ v) → IfOk answer (λ _. Own M t v)
-        → IfErr answer (λ e. (e ≡ fault.Memory) ⊎ ((e ≡ fault.Stopped (stop_at begin why.NotAValue r.at)) × (Own M t v → ⊥)))
-        → Shows limit whole (λ _. w) answer r taken (owned_at M begin (resolve M t) (v, r))
-    owned_shows limit whole taken w (Ok x) step is own err = owned-own own ∙ ap (λ w. Ok (w, r)) (sym is)
-    owned_shows limit whole taken w (Err e) step is own err = by err
+        → IfErr answer (λ e. (e ≡ fault.Memory) ⊎ ((e ≡ fault.Stopped) × (stop ≡ stop_at begin why.NotAValue r.at) × (Own M t v → ⊥)))
+        → Shows limit whole (λ _. w) answer r stop taken (owned_at M begin (resolve M t) (v, r))
+    owned_shows limit whole stop taken w (Ok x) step is own err = owned-own own ∙ ap (λ w. Ok (w, r)) (sym is)
+    owned_shows limit whole stop taken w (Err e) step is own err = by err
       where
-        by : (e ≡ fault.Memory) ⊎ ((e ≡ fault.Stopped (stop_at begin why.NotAValue r.at)) × (Own M t v → ⊥)) → FailsAt limit whole e taken (owned_at M begin (resolve M t) (v, r))
-        by (inl m) = subst (λ f. FailsAt limit whole f taken (owned_at M begin (resolve M t) (v, r))) (sym m) (omega (arith, owned-end, step))
-        by (inr n) = subst (λ f. FailsAt limit whole f taken (owned_at M begin (resolve M t) (v, r))) (sym n.0) (owned-not n.1, step, refl)
+        by : (e ≡ fault.Memory) ⊎ ((e ≡ fault.Stopped) × (stop ≡ stop_at begin why.NotAValue r.at) × (Own M t v → ⊥)) → FailsAt limit whole (halt_of e stop) taken (owned_at M begin (resolve M t) (v, r))
+        by (inl m) = subst (λ f. FailsAt limit whole (halt_of f stop) taken (owned_at M begin (resolve M t) (v, r))) (sym m) (omega (arith, owned-end, step))
+        by (inr n) =
+            subst (λ f. FailsAt limit whole (halt_of f stop) taken (owned_at M begin (resolve M t) (v, r))) (sym n.0)
+            (subst (λ u. FailsAt limit whole (stopped u) taken (owned_at M begin (resolve M t) (v, r))) (sym n.1) (owned-not n.2, step, refl))
 
 module _ (M : List Assignment) (known : IsKnown M) (depth : ℕ) (t : Rose TypeLabel) (of : IsOf M t) where
   -- BEFORE THE FIELDS
@@ -101,7 +103,7 @@ module _ (M : List Assignment) (known : IsKnown M) (depth : ℕ) (t : Rose TypeL
   sits-fields X s h = sits-content (kid_at M depth) (λ p. sits-node M (below p.role depth) p.type) (label_of (resolve M t)) (kids_of (resolve M t)) (label_of (resolve M t)).form X s h
 
   module _ (begin : ℕ) (X : List Bool) (s : Spot) where
-    pub fields_fail : (limit : ℕ) (whole : List ℕ) (e : Fault) (taken : ℕ) → s.at ≤ length X → FailsAt limit whole e taken (fields_at M depth (resolve M t) X s) → FailsAt limit whole e taken (body_at M depth begin (resolve M t) X s)
+    pub fields_fail : (limit : ℕ) (whole : List ℕ) (e : Halt) (taken : ℕ) → s.at ≤ length X → FailsAt limit whole e taken (fields_at M depth (resolve M t) X s) → FailsAt limit whole e taken (body_at M depth begin (resolve M t) X s)
     fields_fail limit whole e taken inside h =
         fails_first limit whole e taken X (fields_at M depth (resolve M t) X s) (λ v. owned_at M begin (resolve M t) v) (sits-fields X s inside).inside (λ v i. sits-owned M begin (resolve M t) X v i) h
 
@@ -119,18 +121,18 @@ module _ (M : List Assignment) (known : IsKnown M) (depth : ℕ) (t : Rose TypeL
         by (Err e) = refl
 
   -- what the rules say of a value that was read, where octets were taken up to its end
-  pub body_gives : {A : Type 0} (begin : ℕ) (s : Spot) (v : Rose ValueLabel) (r : Spot) (limit : ℕ) (whole : List ℕ) (taken : ℕ) (w : Rose ValueLabel) (answer : Result A Fault)
+  pub body_gives : {A : Type 0} (begin : ℕ) (s : Spot) (v : Rose ValueLabel) (r : Spot) (limit : ℕ) (whole : List ℕ) (stop : Stop) (taken : ℕ) (w : Rose ValueLabel) (answer : Result A Fault)
       → fields_at M depth (resolve M t) (input limit whole) s ≡ Ok (v, r) → is_no_text (label_of v) ≡ false → 8 * taken ≤ r.at + 7
       → IfOk answer (λ _. w ≡ v) → IfOk answer (λ _. Own M t v)
-      → IfErr answer (λ e. (e ≡ fault.Memory) ⊎ ((e ≡ fault.Stopped (stop_at begin why.NotAValue r.at)) × (Own M t v → ⊥)))
-      → Gives limit whole (λ _. w) answer r taken (body_at M depth begin (resolve M t)) s
-  body_gives begin s v r limit whole taken w answer read text step is own err =
-      subst (Shows limit whole (λ _. w) answer r taken) (sym (ap (λ x. x >>= λ v. owned_at M begin (resolve M t) v) read))
-      (owned_shows M known t of begin v r text limit whole taken w answer step is own err)
+      → IfErr answer (λ e. (e ≡ fault.Memory) ⊎ ((e ≡ fault.Stopped) × (stop ≡ stop_at begin why.NotAValue r.at) × (Own M t v → ⊥)))
+      → Gives limit whole (λ _. w) answer r stop taken (body_at M depth begin (resolve M t)) s
+  body_gives begin s v r limit whole stop taken w answer read text step is own err =
+      subst (Shows limit whole (λ _. w) answer r stop taken) (sym (ap (λ x. x >>= λ v. owned_at M begin (resolve M t) v) read))
+      (owned_shows M known t of begin v r text limit whole stop taken w answer step is own err)
 
   -- where every value keeps the rules, the fields are all
-  pub body_plain : {A : Type 0} (begin : ℕ) (s : Spot) (r : Spot) (limit : ℕ) (whole : List ℕ) (taken : ℕ) (w : Rose ValueLabel) (answer : Result A Fault)
+  pub body_plain : {A : Type 0} (begin : ℕ) (s : Spot) (r : Spot) (limit : ℕ) (whole : List ℕ) (stop : Stop) (taken : ℕ) (w : Rose ValueLabel) (answer : Result A Fault)
       → s.at ≤ length (input limit whole) → ((v : Rose ValueLabel) → Own M t v) → IfOk answer (λ _. is_no_text (label_of w) ≡ false)
-      → Gives limit whole (λ _. w) answer r taken (fields_at M depth (resolve M t)) s → Gives limit whole (λ _. w) answer r taken (body_at M depth begin (resolve M t)) s
-  body_plain begin s r limit whole taken w (Ok x) inside own text read = ap (λ x. x >>= λ v. owned_at M begin (resolve M t) v) read ∙ owned-own M known t of begin w r text (own w)
-  body_plain begin s r limit whole taken w (Err e) inside own text fails = fields_fail begin (input limit whole) s limit whole e taken inside fails
+      → Gives limit whole (λ _. w) answer r stop taken (fields_at M depth (resolve M t)) s → Gives limit whole (λ _. w) answer r stop taken (body_at M depth begin (resolve M t)) s
+  body_plain begin s r limit whole stop taken w (Ok x) inside own text read = ap (λ x. x >>= λ v. owned_at M begin (resolve M t) v) read ∙ owned-own M known t of begin w r text (own w)
+  body_plain begin s r limit whole stop taken w (Err e) inside own text fails = fields_fail begin (input limit whole) s limit whole (halt_of e stop) taken inside fails

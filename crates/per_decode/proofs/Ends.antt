@@ -7,9 +7,7 @@ use Rattle.per_fields.specs.declared.stops.Stop.{Stop}
 use Rattle.per_fields.specs.declared.stops.Why.TheVariants as why
 use Rattle.per_fields.specs.Reading.{◌>>=◌, Reader, stop_at, stop_if, bits_at, align_at, octets_at, each_at}
 use Rattle.per_fields.specs.Fields.{Piece, Last, Units, unit, within_at, aligned_at, large_octets_at, large_at, number_at, length_from, length_here, count_here, count_at, fragments_at, counted_at, octet_count_here, octet_count_at, from_octets_at, from_at, signed_octets_at, signed_at, ranged_at, whole_at, sized_at, list_at}
-use Rattle.per_decode.specs.declared.faults.Fault.{Fault}
-use Rattle.per_decode.specs.declared.faults.Fault.TheVariants as fault
-use Rattle.per_decode.specs.Private.Giving.{end_of, FailsAt}
+use Rattle.per_decode.specs.Private.Giving.{Halt, stopped, short, too_long, failed, memory, end_of, FailsAt}
 
 pub record Sits {B : Type 0} (X : List Bool) (p : ℕ) (r : Result (B × Spot) Stop) : Type 0 where
   pub later : p ≤ end_of r
@@ -30,18 +28,18 @@ pub sits_if : {B : Type 0} (X : List Bool) (p : ℕ) (b : Bool) (x y : Result (B
 sits_if X p true x y h k = h
 sits_if X p false x y h k = k
 
-pub fails_first : {A B : Type 0} (limit : ℕ) (whole : List ℕ) (e : Fault) (taken : ℕ) (X : List Bool) (r : Result (A × Spot) Stop) (k : A × Spot → Result (B × Spot) Stop)
+pub fails_first : {A B : Type 0} (limit : ℕ) (whole : List ℕ) (e : Halt) (taken : ℕ) (X : List Bool) (r : Result (A × Spot) Stop) (k : A × Spot → Result (B × Spot) Stop)
     → end_of r ≤ length X → Steady X k → FailsAt limit whole e taken r → FailsAt limit whole e taken (r >>= k)
-fails_first limit whole fault.Memory taken X (Ok x) k h g f = omega (arith, (g x h).later, f)
-fails_first limit whole fault.Memory taken X (Err s) k h g f = f
-fails_first limit whole fault.Failed taken X (Ok x) k h g f = (omega (arith, (g x h).later, f.0), λ r. omega (arith, (g x h).later, f.1 tt))
-fails_first limit whole fault.Failed taken X (Err s) k h g f = (f.0, λ r. absurd r)
-fails_first limit whole (fault.Stopped t) taken X (Ok x) k h g f = absurd cc
-fails_first limit whole (fault.Stopped t) taken X (Err s) k h g f = let e : s ≡ t = cc (f.0) in (ap (λ u. Err u) e, f.1, f.2)
-fails_first limit whole (fault.Short b) taken X (Ok x) k h g f = absurd cc
-fails_first limit whole (fault.Short b) taken X (Err s) k h g f = let e : s ≡ stop_at b why.Short (8 * taken) = cc (f.0) in (ap (λ u. Err u) e, f.1)
-fails_first limit whole (fault.TooLong b) taken X (Ok x) k h g f = absurd cc
-fails_first limit whole (fault.TooLong b) taken X (Err s) k h g f = let e : s ≡ stop_at b why.Short (8 * taken) = cc (f.0) in (ap (λ u. Err u) e, f.1)
+fails_first limit whole memory taken X (Ok x) k h g f = omega (arith, (g x h).later, f)
+fails_first limit whole memory taken X (Err s) k h g f = f
+fails_first limit whole failed taken X (Ok x) k h g f = (omega (arith, (g x h).later, f.0), λ r. omega (arith, (g x h).later, f.1 tt))
+fails_first limit whole failed taken X (Err s) k h g f = (f.0, λ r. absurd r)
+fails_first limit whole (stopped t) taken X (Ok x) k h g f = absurd cc
+fails_first limit whole (stopped t) taken X (Err s) k h g f = let e : s ≡ t = cc (f.0) in (ap (λ u. Err u) e, f.1, f.2)
+fails_first limit whole (short b) taken X (Ok x) k h g f = absurd cc
+fails_first limit whole (short b) taken X (Err s) k h g f = let e : s ≡ stop_at b why.Short (8 * taken) = cc (f.0) in (ap (λ u. Err u) e, f.1)
+fails_first limit whole (too_long b) taken X (Ok x) k h g f = absurd cc
+fails_first limit whole (too_long b) taken X (Err s) k h g f = let e : s ≡ stop_at b why.Short (8 * taken) = cc (f.0) in (ap (λ u. Err u) e, f.1)
 
 pub sits_ok : {A : Type 0} (X : List Bool) (p : ℕ) (x : A × Spot) → p ≤ x.1.at → x.1.at ≤ length X → Sits X p (Ok x)
 sits_ok X p x h k = record { later = h; inside = k }

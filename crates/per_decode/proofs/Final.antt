@@ -27,11 +27,10 @@ use Rattle.per_fields.proofs.Codecs.{bind_ok, stop_ok, ok_is, taken-then, align_
 use Rattle.per_fields.proofs.Levels.{body-tall}
 use Rattle.per_fields.proofs.Recursion.{body-bounded, node_codec}
 use Rattle.per_fields.proofs.Law.{not_both, one_value, whole_octets}
+use Rattle.per_decode.specs.declared.errors.DecodeError.{DecodeError}
 use Rattle.per_decode.specs.declared.errors.DecodeError.TheVariants as error
-use Rattle.per_decode.specs.declared.faults.Fault.{Fault}
-use Rattle.per_decode.specs.declared.faults.Fault.TheVariants as fault
 use Rattle.per_decode.specs.Answers.{Takes, fault_of, Answers, Answer, is_short}
-use Rattle.per_decode.specs.Private.Giving.{spot, input, end_of, IsRead, Ended}
+use Rattle.per_decode.specs.Private.Giving.{Halt, stopped, short, too_long, failed, memory, error_of, spot, input, end_of, IsRead, FailsAt, Ended}
 use Rattle.per_decode.specs.Private.Bodies.{IsKnown, complete_at}
 use Rattle.per_decode.proofs.Origins.{is_told, contents}
 
@@ -96,13 +95,9 @@ module _ (M : List Assignment) (known : IsKnown M) (t : ℕ) (a : Assignment) (a
       )
 
   -- the answer that is told
-  abbrev pub answer_of : Result (Rose ValueLabel × ℕ) Fault → Answer
+  abbrev pub answer_of : Result (Rose ValueLabel × ℕ) DecodeError → Answer
   answer_of (Ok found) = Ok (record { value = found.0; octets = found.1 })
-  answer_of (Err (fault.Stopped stop)) = Err (error.Bad stop.bit stop.why)
-  answer_of (Err (fault.Short bit)) = Err (error.Bad bit why.Short)
-  answer_of (Err (fault.TooLong bit)) = Err error.TooLong
-  answer_of (Err fault.Failed) = Err error.Failed
-  answer_of (Err fault.Memory) = Err error.Memory
+  answer_of (Err e) = Err e
 
   module _ (limit : ℕ) (left : List ℕ) where
     abbrev read : Result (Rose ValueLabel × Spot) Stop
@@ -189,10 +184,10 @@ module _ (M : List Assignment) (known : IsKnown M) (t : ℕ) (a : Assignment) (a
       err_is s u e f = let k : Err s ≡ Err u = sym e ∙ f in cc
 
       bad_answers : (s : Stop) → read ≡ Err s → 8 * taken ≤ s.end + 7 → fault_of M t limit left s ≡ error.Bad s.bit s.why → (s.why ≡ why.Short → length left < limit) → Answers M t limit left new (Err (error.Bad s.bit s.why))
-      bad_answers s e h told short = record {
+      bad_answers s e h told cut = record {
         count = taken;
         takes = up_to (omega (arith, h, ap end_of e));
-        says = (s, stops-from s e, refl, refl, short);
+        says = (s, stops-from s e, refl, refl, cut);
         value = λ v b. absurd (not_both_here v s b (stops-from s e));
         stop = λ u k. let same : s ≡ u = err_is s u e (stops-to u k) in inl (ap (λ f. Err f) (sym told ∙ ap (fault_of M t limit left) same));
       }
@@ -210,19 +205,23 @@ module _ (M : List Assignment) (known : IsKnown M) (t : ℕ) (a : Assignment) (a
     short_no w other is = let e : true ≡ false = sym (ap is_short is) ∙ other in absurd cc
 
     -- each answer of the code is that of the definitions
-    pub answers : (new : Option (List ℕ)) (r : Result (Rose ValueLabel × ℕ) Fault) → Ended limit left (λ found. found.0) (λ found. found.1) r new (complete_at M a.body) → Answers M t limit left new (answer_of r)
+    err_answers : (new : Option (List ℕ)) (taken : ℕ) (inside : taken ≤ length left) (limited : taken ≤ limit) (rest : new ≡ Some (drop taken left)) (halt : Halt)
+        → FailsAt limit left halt taken read → Answers M t limit left new (Err (error_of halt))
+    err_answers new taken inside limited rest (stopped s) h =
+        bad_answers new taken inside limited rest s h.0 h.1 (ap (λ b. cond (b && leb limit (length left)) error.TooLong (error.Bad s.bit s.why)) h.2) (short_no s.why h.2)
+    err_answers new taken inside limited rest (short bit) h =
+        bad_answers new taken inside limited rest (stop_at bit why.Short (8 * taken)) h.0 (omega arith) (ap (λ b. cond b error.TooLong (error.Bad bit why.Short)) (lt-leb limit (length left) h.1)) (λ _. h.1)
+    err_answers new taken inside limited rest (too_long bit) h =
+        long_answers new taken inside limited rest (stop_at bit why.Short (8 * taken)) h.0 (omega arith) refl (ap (λ b. cond b error.TooLong (error.Bad bit why.Short)) (le-leb limit (length left) h.1)) h.1
+    err_answers new taken inside limited rest failed h = failed_answers new taken inside limited rest h.0 h.1
+    err_answers new taken inside limited rest memory h = memory_answers new taken inside limited rest h
+
+    pub answers : (new : Option (List ℕ)) (r : Result (Rose ValueLabel × ℕ) DecodeError) → Ended limit left (λ found. found.0) (λ found. found.1) r new (complete_at M a.body) → Answers M t limit left new (answer_of r)
     answers new (Ok found) h =
         subst (λ n. Answers M t limit left new (Ok (record { value = found.0; octets = n }))) (sym h.octets.1) (ok_answers new h.taken h.inside h.limited h.rest found.0 h.end h.gives h.octets.0)
-    answers new (Err (fault.Stopped s)) h =
-        bad_answers new h.taken h.inside h.limited h.rest s h.gives.0 h.gives.1 (ap (λ b. cond (b && leb limit (length left)) error.TooLong (error.Bad s.bit s.why)) h.gives.2) (short_no s.why h.gives.2)
-    answers new (Err (fault.Short bit)) h =
-        bad_answers new h.taken h.inside h.limited h.rest (stop_at bit why.Short (8 * h.taken)) h.gives.0 (omega arith) (ap (λ b. cond b error.TooLong (error.Bad bit why.Short)) (lt-leb limit (length left) h.gives.1)) (λ _. h.gives.1)
-    answers new (Err (fault.TooLong bit)) h =
-        long_answers new h.taken h.inside h.limited h.rest (stop_at bit why.Short (8 * h.taken)) h.gives.0 (omega arith) refl (ap (λ b. cond b error.TooLong (error.Bad bit why.Short)) (le-leb limit (length left) h.gives.1)) h.gives.1
-    answers new (Err fault.Failed) h = failed_answers new h.taken h.inside h.limited h.rest h.gives.0 h.gives.1
-    answers new (Err fault.Memory) h = memory_answers new h.taken h.inside h.limited h.rest h.gives
+    answers new (Err e) h = subst (λ f. Answers M t limit left new (Err f)) h.gives.1 (err_answers new h.taken h.inside h.limited h.rest h.gives.0 h.gives.2)
 
-  pub answers_told : (limit : ℕ) (left : List ℕ) (old new : Option (List ℕ)) (r : Result (Rose ValueLabel × ℕ) Fault) → old ≡ Some left → (is_told old ≡ true → Ended limit (contents old) (λ found. found.0) (λ found. found.1) r new (complete_at M a.body))
+  pub answers_told : (limit : ℕ) (left : List ℕ) (old new : Option (List ℕ)) (r : Result (Rose ValueLabel × ℕ) DecodeError) → old ≡ Some left → (is_told old ≡ true → Ended limit (contents old) (λ found. found.0) (λ found. found.1) r new (complete_at M a.body))
       → Answers M t limit left new (answer_of r)
   answers_told limit left old new r is h =
       let told : is_told old ≡ true = ap is_told is in

@@ -15,14 +15,14 @@ use Rattle.per_fields.specs.Reading.{◌>>=◌, Reader, each_at}
 use Rattle.per_fields.specs.Fields.{number_at, list_at}
 use Rattle.per_fields.specs.Nodes.{flag_at, bool_at, int_at, enum_at, sequence_at, choice_at, items_at, content_at, kids_at}
 use Rattle.per_decode.specs.declared.faults.Fault.{Fault}
-use Rattle.per_decode.specs.Private.Giving.{FailsAt, Shows}
+use Rattle.per_decode.specs.Private.Giving.{Halt, FailsAt, Shows}
 use Rattle.per_decode.specs.Private.Bodies.{kid_at, fields_at, kids_read, many_at, item_place}
 use Rattle.per_decode.proofs.Ends.{Sits, SteadyReader, sits-each, fails_first, sits-number}
 use Rattle.per_decode.proofs.EndNodes.{sits-node, sits-kids, sits-flags}
 
 -- what a reading shows, another does that is equal to it
-pub shows_as : {A B : Type 0} (limit : ℕ) (whole : List ℕ) (view : A → B) (r : Result A Fault) (new : Spot) (taken : ℕ) (found other : Result (B × Spot) Stop) → other ≡ found → Shows limit whole view r new taken found → Shows limit whole view r new taken other
-shows_as limit whole view r new taken found other e h = subst (Shows limit whole view r new taken) (sym e) h
+pub shows_as : {A B : Type 0} (limit : ℕ) (whole : List ℕ) (view : A → B) (r : Result A Fault) (new : Spot) (stop : Stop) (taken : ℕ) (found other : Result (B × Spot) Stop) → other ≡ found → Shows limit whole view r new stop taken found → Shows limit whole view r new stop taken other
+shows_as limit whole view r new stop taken found other e h = subst (Shows limit whole view r new stop taken) (sym e) h
 
 module _ (M : List Assignment) (depth : ℕ) (t : Rose TypeLabel) (X : List Bool) (s : Spot) where
   pub fields-bool : (label_of t).form ≡ form.Bool → fields_at M depth t X s ≡ bool_at X s
@@ -71,7 +71,7 @@ module _ (M : List Assignment) (depth : ℕ) where
 
   -- A SEQUENCE
   module _ (l : TypeLabel) (ts : List (Rose TypeLabel)) (parts : List Component) (X : List Bool) (s : Spot) where
-    pub sequence_fails : (limit : ℕ) (whole : List ℕ) (e : Fault) (taken : ℕ) → s.at ≤ length X → FailsAt limit whole e taken (each_at flag_at parts X s) → FailsAt limit whole e taken (sequence_at (kid_at M depth) l ts parts X s)
+    pub sequence_fails : (limit : ℕ) (whole : List ℕ) (e : Halt) (taken : ℕ) → s.at ≤ length X → FailsAt limit whole e taken (each_at flag_at parts X s) → FailsAt limit whole e taken (sequence_at (kid_at M depth) l ts parts X s)
     unfolding sequence_at
     sequence_fails limit whole e taken inside h =
         fails_first limit whole e taken X (each_at flag_at parts X s) (λ f. kids_at (kid_at M depth) (value.Sequence f.0) (present_from l 0 parts ts f.0) X f.1) (sits-flags parts X s inside).inside
@@ -89,14 +89,14 @@ module _ (M : List Assignment) (depth : ℕ) where
       sits-read None h = record { later = omega arith; inside = h }
       sits-read (Some ps) h = sits-each (kid_at M depth) steady-kid ps X r h
 
-      pub components_fail : (limit : ℕ) (whole : List ℕ) (e : Fault) (taken : ℕ) → r.at ≤ length X → FailsAt limit whole e taken (kids_read M depth (present_from l 0 parts ts flags) X r) → FailsAt limit whole e taken (sequence_at (kid_at M depth) l ts parts X s)
+      pub components_fail : (limit : ℕ) (whole : List ℕ) (e : Halt) (taken : ℕ) → r.at ≤ length X → FailsAt limit whole e taken (kids_read M depth (present_from l 0 parts ts flags) X r) → FailsAt limit whole e taken (sequence_at (kid_at M depth) l ts parts X s)
       components_fail limit whole e taken inside h =
           subst (FailsAt limit whole e taken) (sym sequence_is)
           (fails_first limit whole e taken X (kids_read M depth (present_from l 0 parts ts flags) X r) (λ vs. Ok (node (value.Sequence flags) (roses_of vs.0), vs.1)) (sits-read (present_from l 0 parts ts flags) inside).inside (λ vs i. record { later = omega arith; inside = i }) h)
 
   -- A CHOICE
   module _ (l : TypeLabel) (ts : List (Rose TypeLabel)) (parts : List Component) (X : List Bool) (s : Spot) where
-    pub choice_fails : (limit : ℕ) (whole : List ℕ) (e : Fault) (taken : ℕ) → s.at ≤ length X → FailsAt limit whole e taken (number_at (length parts - 1) X s) → FailsAt limit whole e taken (choice_at (kid_at M depth) l ts parts X s)
+    pub choice_fails : (limit : ℕ) (whole : List ℕ) (e : Halt) (taken : ℕ) → s.at ≤ length X → FailsAt limit whole e taken (number_at (length parts - 1) X s) → FailsAt limit whole e taken (choice_at (kid_at M depth) l ts parts X s)
     unfolding choice_at
     choice_fails limit whole e taken inside h =
         fails_first limit whole e taken X (number_at (length parts - 1) X s) (λ i. kids_at (kid_at M depth) (value.Choice i.0) (alone (place_at l i.0 (slice_get parts i.0) (slice_get ts i.0))) X i.1) (sits-number (length parts - 1) X s inside).inside
@@ -120,7 +120,7 @@ module _ (M : List Assignment) (depth : ℕ) where
       pub choice_reads : (v : Rose ValueLabel) (q : Spot) → kid_at M depth (place_of l i part kid) X r ≡ Ok (v, q) → choice_at (kid_at M depth) l ts parts X s ≡ Ok (node (value.Choice i) (roses_of (v ∷ [])), q)
       choice_reads v q e = choice_is ∙ ap (λ k. k >>= λ v. Ok (node (value.Choice i) (roses_of (v.0 ∷ [])), v.1)) e
 
-      pub alternative_fails : (limit : ℕ) (whole : List ℕ) (e : Fault) (taken : ℕ) → r.at ≤ length X → FailsAt limit whole e taken (kid_at M depth (place_of l i part kid) X r) → FailsAt limit whole e taken (choice_at (kid_at M depth) l ts parts X s)
+      pub alternative_fails : (limit : ℕ) (whole : List ℕ) (e : Halt) (taken : ℕ) → r.at ≤ length X → FailsAt limit whole e taken (kid_at M depth (place_of l i part kid) X r) → FailsAt limit whole e taken (choice_at (kid_at M depth) l ts parts X s)
       alternative_fails limit whole e taken inside h =
           subst (FailsAt limit whole e taken) (sym choice_is)
           (fails_first limit whole e taken X (kid_at M depth (place_of l i part kid) X r) (λ v. Ok (node (value.Choice i) (roses_of (v.0 ∷ [])), v.1)) (steady-kid (place_of l i part kid) X r inside).inside (λ v j. record { later = omega arith; inside = j }) h)

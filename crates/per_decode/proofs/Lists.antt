@@ -13,8 +13,7 @@ use Rattle.per_fields.specs.declared.stops.Stop.{Stop}
 use Rattle.per_fields.specs.Reading.{◌>>=◌}
 use Rattle.per_fields.specs.Fields.{number_at, sized_at, counted_at, list_at}
 use Rattle.per_fields.specs.Nodes.{items_at}
-use Rattle.per_decode.specs.declared.faults.Fault.{Fault}
-use Rattle.per_decode.specs.Private.Giving.{FailsAt}
+use Rattle.per_decode.specs.Private.Giving.{Halt, FailsAt}
 use Rattle.per_decode.specs.Private.Bodies.{kid_at, node_of, many_at, more_at}
 use Rattle.per_decode.proofs.Ends.{SteadyReader, sits-each, sits-list, fails_first, sits-number}
 use Rattle.per_decode.proofs.EndNodes.{sits-node}
@@ -43,7 +42,7 @@ module _ (M : List Assignment) (depth : ℕ) (t : Rose TypeLabel) where
       unfolding list_at sized_at
       list-small h = ap (λ b. elim b as (λ _. Result (List (Rose ValueLabel) × Spot) Stop) [ true ↦ sized_at least most (λ n. many_at M depth n t) X s | false ↦ counted_at least (Some most) (λ n. many_at M depth n t) X s ]) (lt-ltb most 65536 h)
 
-      pub count_fails : (limit : ℕ) (whole : List ℕ) (e : Fault) (taken : ℕ) → most < 65536 → s.at ≤ length X → FailsAt limit whole e taken (number_at (most - least) X s)
+      pub count_fails : (limit : ℕ) (whole : List ℕ) (e : Halt) (taken : ℕ) → most < 65536 → s.at ≤ length X → FailsAt limit whole e taken (number_at (most - least) X s)
           → FailsAt limit whole e taken (list_at least (Some most) (λ n. many_at M depth n t) X s)
       count_fails limit whole e taken small inside h =
           subst (FailsAt limit whole e taken) (sym (list-small small))
@@ -57,7 +56,7 @@ module _ (M : List Assignment) (depth : ℕ) (p : ComponentPlace) (least : ℕ) 
   abbrev listed : Result (List (Rose ValueLabel) × Spot) Stop
   listed = list_at least most (λ n. many_at M (below p.role depth) n p.type) X s
 
-  pub list_fails : (limit : ℕ) (whole : List ℕ) (e : Fault) (taken : ℕ) → s.at ≤ length X → FailsAt limit whole e taken (list_at least most (λ n. many_at M (below p.role depth) n p.type) X s)
+  pub list_fails : (limit : ℕ) (whole : List ℕ) (e : Halt) (taken : ℕ) → s.at ≤ length X → FailsAt limit whole e taken (list_at least most (λ n. many_at M (below p.role depth) n p.type) X s)
       → FailsAt limit whole e taken (items_at (kid_at M depth) least most (Some p) X s)
   list_fails limit whole e taken inside h =
       subst (FailsAt limit whole e taken) (sym (items_are M depth p least most X s))

@@ -11,9 +11,7 @@ use Rattle.asn_types.proofs.Counting.{fit_none}
 use Rattle.per_fields.specs.declared.stops.Spot.{Spot}
 use Rattle.per_fields.specs.declared.stops.Stop.{Stop}
 use Rattle.per_fields.specs.Reading.{◌>>=◌, Reader, each_at}
-use Rattle.per_decode.specs.declared.faults.Fault.{Fault}
-use Rattle.per_decode.specs.declared.faults.Fault.TheVariants as fault
-use Rattle.per_decode.specs.Private.Giving.{end_of, FailsAt}
+use Rattle.per_decode.specs.Private.Giving.{Halt, memory, end_of, FailsAt}
 use Rattle.per_decode.specs.Private.Bodies.{kid_at, kids_read, FitSome}
 use Rattle.per_decode.proofs.Ends.{SteadyReader, sits_then, sits-each, fails_first}
 use Rattle.per_decode.proofs.Fitting.{each-push}
@@ -50,7 +48,7 @@ module _ {A B : Type 0} (read : A → Reader B) (front : List B) (X : List Bool)
     unfolding each_at
     each_more b r h = ap (λ bs. with_front front (each_at read bs X s)) is ∙ rw h (regroup front b (each_at read others X r))
 
-    pub each_fails : ((a : A) → SteadyReader (read a)) → (limit : ℕ) (whole : List ℕ) (e : Fault) (taken : ℕ) → s.at ≤ length X → FailsAt limit whole e taken (read a X s) → FailsAt limit whole e taken (with_front front (each_at read as' X s))
+    pub each_fails : ((a : A) → SteadyReader (read a)) → (limit : ℕ) (whole : List ℕ) (e : Halt) (taken : ℕ) → s.at ≤ length X → FailsAt limit whole e taken (read a X s) → FailsAt limit whole e taken (with_front front (each_at read as' X s))
     unfolding each_at
     each_fails one limit whole e taken inside h =
         let k = fails_first limit whole e taken X (read a X s) (λ b. each_at read others X b.1 >>= λ bs. Ok (b.0 ∷ bs.0, bs.1)) (one a X s inside).inside
@@ -60,7 +58,7 @@ module _ {A B : Type 0} (read : A → Reader B) (front : List B) (X : List Bool)
 
     -- want of memory behind what was read
     pub each_full : ((a : A) → SteadyReader (read a)) → (limit : ℕ) (whole : List ℕ) (b : B) (r : Spot) (taken : ℕ) → read a X s ≡ Ok (b, r) → r.at ≤ length X → 8 * taken ≤ r.at + 7
-        → FailsAt limit whole fault.Memory taken (with_front front (each_at read as' X s))
+        → FailsAt limit whole memory taken (with_front front (each_at read as' X s))
     each_full one limit whole b r taken h inside step =
         let k = sits-each read one others X r inside in
         omega (arith, k.later, step, end-front (front ++ b ∷ []) (each_at read others X r), ap end_of (each_more b r h))
@@ -124,7 +122,7 @@ module _ (M : List Assignment) (depth : ℕ) (l : TypeLabel) (parts : List Compo
           so_far = λ t. sym (each_more (kid_at M depth) vs X s p h.ps n.0 n.1 v r (gives t)) ∙ h.so_far t ∙ ap (λ qs. each_at (kid_at M depth) qs X began) e;
         }
 
-    pub through_fails : drop i flags ≡ true ∷ drop (i + 1) flags → ((p : ComponentPlace) → SteadyReader (kid_at M depth p)) → told → (limit : ℕ) (whole : List ℕ) (e : Fault) (taken : ℕ) → s.at ≤ length X
+    pub through_fails : drop i flags ≡ true ∷ drop (i + 1) flags → ((p : ComponentPlace) → SteadyReader (kid_at M depth p)) → told → (limit : ℕ) (whole : List ℕ) (e : Halt) (taken : ℕ) → s.at ≤ length X
         → FailsAt limit whole e taken (kid_at M depth (place_of l i part kid) X s) → Through i vs s → FailsAt limit whole e taken (kids_read M depth (present_from l 0 parts ts flags) X began)
     through_fails is_flag one t limit whole e taken inside fails h =
         let n = next_place is_flag h in

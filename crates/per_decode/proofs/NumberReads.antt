@@ -8,8 +8,7 @@ use Rattle.per_fields.specs.Reading.{◌>>=◌, bits_at, octets_at, octets_from,
 use Rattle.per_fields.specs.Encoding.{octet_writer}
 use Rattle.per_fields.specs.Fields.{in_turn}
 use Rattle.per_fields.proofs.Fragments.{octets_codec, run_octets}
-use Rattle.per_decode.specs.declared.faults.Fault.{Fault}
-use Rattle.per_decode.specs.Private.Giving.{FailsAt}
+use Rattle.per_decode.specs.Private.Giving.{Halt, FailsAt}
 use Rattle.per_decode.proofs.Standing.{reads_bits, same_spot}
 use Rattle.per_decode.proofs.Octets.{nothing_weighs}
 use Rattle.per_decode.proofs.Ends.{sits-octets, fails_first}
@@ -33,7 +32,7 @@ as_octets n X s = by (ltb (length X) (s.at + 8 * n))
     by true = refl
     by false = refl
 
-pub number_fails : (limit : ℕ) (whole : List ℕ) (e : Fault) (taken n : ℕ) (X : List Bool) (s : Spot) → s.at ≤ length X → FailsAt limit whole e taken (octets_at n X s) → FailsAt limit whole e taken (bits_at s.at (8 * n) X s)
+pub number_fails : (limit : ℕ) (whole : List ℕ) (e : Halt) (taken n : ℕ) (X : List Bool) (s : Spot) → s.at ≤ length X → FailsAt limit whole e taken (octets_at n X s) → FailsAt limit whole e taken (bits_at s.at (8 * n) X s)
 number_fails limit whole e taken n X s inside h =
     subst (FailsAt limit whole e taken) (sym (as_octets n X s))
     (fails_first limit whole e taken X (octets_at n X s) (λ o. Ok (number (take (8 * n) (drop s.at X)), o.1)) (sits-octets n X s inside).inside (λ o i. record { later = omega arith; inside = i }) h)

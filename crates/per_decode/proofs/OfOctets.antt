@@ -19,7 +19,7 @@ use Rattle.per_fields.specs.Nodes.{owned_at}
 use Rattle.per_fields.specs.Owning.{owns}
 use Rattle.per_decode.specs.declared.faults.Fault.{Fault}
 use Rattle.per_decode.specs.declared.faults.Fault.TheVariants.{Memory, Stopped}
-use Rattle.per_decode.specs.Private.Giving.{end_of, FailsAt, Shows}
+use Rattle.per_decode.specs.Private.Giving.{Halt, stopped, memory, halt_of, end_of, FailsAt, Shows}
 use Rattle.per_decode.specs.Private.Bodies.{IsKnown, text_leaf, octets_kept, kept_by}
 use Rattle.per_decode.specs.Private.Kept.{octets_more, octets_behind}
 use Rattle.per_decode.proofs.Ends.{SteadyReader, Steady, fails_first, sits_then, sits-octets, sits-count, sits-fragments}
@@ -37,7 +37,7 @@ sits-length (Units k) X s h = sits_then X s.at (octets_at (k * unit) X s) (λ a.
 
 -- octets behind a first length of so many units
 module _ (k : ℕ) (X : List Bool) (s : Spot) where
-  pub units_fail : (limit : ℕ) (whole : List ℕ) (e : Fault) (taken : ℕ) → s.at ≤ length X → FailsAt limit whole e taken (octets_at (k * unit) X s) → FailsAt limit whole e taken (octets_behind (Units k) X s)
+  pub units_fail : (limit : ℕ) (whole : List ℕ) (e : Halt) (taken : ℕ) → s.at ≤ length X → FailsAt limit whole e taken (octets_at (k * unit) X s) → FailsAt limit whole e taken (octets_behind (Units k) X s)
   units_fail limit whole e taken inside h = fails_first limit whole e taken X (octets_at (k * unit) X s) (λ a. octets_more a.0 k (k * unit) X a.1) (sits-octets (k * unit) X s inside).inside (λ a i. steady-more a.0 k (k * unit) X a.1 i) h
 
   pub units_read : (octets : List ℕ) (r : Spot) → octets_at (k * unit) X s ≡ Ok (octets, r) → length octets ≡ k * unit → octets_behind (Units k) X s ≡ octets_more octets k (length octets) X r
@@ -58,7 +58,7 @@ module _ (M : List Assignment) (begin : ℕ) (t : Rose TypeLabel) where
   steady-kept X x h = sits-owned M begin t X (node (value.Utf8 x.0) none, x.1) h
 
   -- octets that could not be read
-  pub kept_fails : (read : Reader (List ℕ)) → SteadyReader read → (X : List Bool) (s : Spot) (limit : ℕ) (whole : List ℕ) (e : Fault) (taken : ℕ) → s.at ≤ length X
+  pub kept_fails : (read : Reader (List ℕ)) → SteadyReader read → (X : List Bool) (s : Spot) (limit : ℕ) (whole : List ℕ) (e : Halt) (taken : ℕ) → s.at ≤ length X
       → FailsAt limit whole e taken (read X s) → FailsAt limit whole e taken (kept_by M begin t read X s)
   kept_fails read steady X s limit whole e taken inside h = fails_first limit whole e taken X (read X s) (octets_kept M begin t) (steady X s inside).inside (steady-kept X) h
 
@@ -82,7 +82,7 @@ module _ (M : List Assignment) (begin : ℕ) (t : Rose TypeLabel) where
         by false false = omega arith
 
     -- where memory is missing
-    pub kept_full : (limit : ℕ) (whole : List ℕ) (taken : ℕ) → 8 * taken ≤ r.at + 7 → FailsAt limit whole Memory taken (octets_kept M begin t (octets, r))
+    pub kept_full : (limit : ℕ) (whole : List ℕ) (taken : ℕ) → 8 * taken ≤ r.at + 7 → FailsAt limit whole memory taken (octets_kept M begin t (octets, r))
     kept_full limit whole taken step = omega (arith, kept-end, step)
 
   -- the octets that were read decide
@@ -98,7 +98,7 @@ module _ (M : List Assignment) (begin : ℕ) (t : Rose TypeLabel) where
         by (Ok n) = refl
         by (Err e) = refl
 
-    pub count_fails : (limit : ℕ) (whole : List ℕ) (e : Fault) (taken : ℕ) → FailsAt limit whole e taken (count_at 0 None 4 0 X s) → FailsAt limit whole e taken (kept_by M begin t (counted_at 0 None octets_at) X s)
+    pub count_fails : (limit : ℕ) (whole : List ℕ) (e : Halt) (taken : ℕ) → FailsAt limit whole e taken (count_at 0 None 4 0 X s) → FailsAt limit whole e taken (kept_by M begin t (counted_at 0 None octets_at) X s)
     count_fails limit whole e taken h =
         subst (FailsAt limit whole e taken) (sym kept-counted)
         (fails_first limit whole e taken X (count_at 0 None 4 0 X s) (λ n. kept_by M begin t (octets_behind n.0) X n.1) (sits-count 0 None 4 0 X s inside).inside
@@ -112,14 +112,18 @@ module _ (M : List Assignment) (known : IsKnown M) (begin : ℕ) (t : Rose TypeL
   is_text : IsUtf8 octets → not (is_utf8 octets) ≡ false
   is_text utf8 = ap not (is_utf8-from_IsUtf8 octets utf8)
 
-  pub text_shows : {A : Type 0} (limit : ℕ) (whole : List ℕ) (taken : ℕ) (w : Rose ValueLabel) (answer : Result A Fault)
+  pub text_shows : {A : Type 0} (limit : ℕ) (whole : List ℕ) (stop : Stop) (taken : ℕ) (w : Rose ValueLabel) (answer : Result A Fault)
       → 8 * taken ≤ r.at + 7 → IfOk answer (λ _. w ≡ text_leaf octets) → IfOk answer (λ _. IsUtf8 octets × Own M t (text_leaf octets))
-      → IfErr answer (λ e. (e ≡ Memory) ⊎ ((e ≡ Stopped (stop_at begin NotUtf8 r.at)) × (IsUtf8 octets → ⊥)) ⊎ ((e ≡ Stopped (stop_at begin NotAValue r.at)) × IsUtf8 octets × (Own M t (text_leaf octets) → ⊥)))
-      → Shows limit whole (λ _. w) answer r taken (octets_kept M begin (resolve M t) (octets, r))
-  text_shows limit whole taken w (Ok x) step is ok err = owned-own M known t of begin (text_leaf octets) r (is_text ok.0) ok.1 ∙ ap (λ v. Ok (v, r)) (sym is)
-  text_shows limit whole taken w (Err e) step is ok err = by err
+      → IfErr answer (λ e. (e ≡ Memory) ⊎ ((e ≡ Stopped) × (stop ≡ stop_at begin NotUtf8 r.at) × (IsUtf8 octets → ⊥)) ⊎ ((e ≡ Stopped) × (stop ≡ stop_at begin NotAValue r.at) × IsUtf8 octets × (Own M t (text_leaf octets) → ⊥)))
+      → Shows limit whole (λ _. w) answer r stop taken (octets_kept M begin (resolve M t) (octets, r))
+  text_shows limit whole stop taken w (Ok x) step is ok err = owned-own M known t of begin (text_leaf octets) r (is_text ok.0) ok.1 ∙ ap (λ v. Ok (v, r)) (sym is)
+  text_shows limit whole stop taken w (Err e) step is ok err = by err
     where
-      by : (e ≡ Memory) ⊎ ((e ≡ Stopped (stop_at begin NotUtf8 r.at)) × (IsUtf8 octets → ⊥)) ⊎ ((e ≡ Stopped (stop_at begin NotAValue r.at)) × IsUtf8 octets × (Own M t (text_leaf octets) → ⊥)) → FailsAt limit whole e taken (octets_kept M begin (resolve M t) (octets, r))
-      by (inl m) = subst (λ f. FailsAt limit whole f taken (octets_kept M begin (resolve M t) (octets, r))) (sym m) (kept_full M begin (resolve M t) octets r limit whole taken step)
-      by (inr (inl n)) = subst (λ f. FailsAt limit whole f taken (octets_kept M begin (resolve M t) (octets, r))) (sym n.0) (kept_wrong M begin (resolve M t) octets r n.1, step, refl)
-      by (inr (inr n)) = subst (λ f. FailsAt limit whole f taken (octets_kept M begin (resolve M t) (octets, r))) (sym n.0) (owned-not M known t of begin (text_leaf octets) r (is_text n.1) n.2, step, refl)
+      by : (e ≡ Memory) ⊎ ((e ≡ Stopped) × (stop ≡ stop_at begin NotUtf8 r.at) × (IsUtf8 octets → ⊥)) ⊎ ((e ≡ Stopped) × (stop ≡ stop_at begin NotAValue r.at) × IsUtf8 octets × (Own M t (text_leaf octets) → ⊥)) → FailsAt limit whole (halt_of e stop) taken (octets_kept M begin (resolve M t) (octets, r))
+      by (inl m) = subst (λ f. FailsAt limit whole (halt_of f stop) taken (octets_kept M begin (resolve M t) (octets, r))) (sym m) (kept_full M begin (resolve M t) octets r limit whole taken step)
+      by (inr (inl n)) =
+          subst (λ f. FailsAt limit whole (halt_of f stop) taken (octets_kept M begin (resolve M t) (octets, r))) (sym n.0)
+          (subst (λ u. FailsAt limit whole (stopped u) taken (octets_kept M begin (resolve M t) (octets, r))) (sym n.1) (kept_wrong M begin (resolve M t) octets r n.2, step, refl))
+      by (inr (inr n)) =
+          subst (λ f. FailsAt limit whole (halt_of f stop) taken (octets_kept M begin (resolve M t) (octets, r))) (sym n.0)
+          (subst (λ u. FailsAt limit whole (stopped u) taken (octets_kept M begin (resolve M t) (octets, r))) (sym n.1) (owned-not M known t of begin (text_leaf octets) r (is_text n.2) n.3, step, refl))

@@ -8,7 +8,7 @@ use Rattle.per_fields.proofs.Codecs.{bind_ok, stop_ok, ok_is}
 use Rattle.per_decode.specs.declared.faults.Fault.{Fault}
 use Rattle.per_decode.specs.declared.faults.Fault.TheVariants as fault
 use Rattle.std.specs.Prelude.{IfOk, IfErr}
-use Rattle.per_decode.specs.Private.Giving.{end_of, FailsAt, Shows}
+use Rattle.per_decode.specs.Private.Giving.{Halt, halt_of, memory, end_of, FailsAt, Shows}
 use Rattle.per_decode.proofs.Ends.{Sits, SteadyReader, Steady, sits_then, sits-bits, sits-align, sits-length_from, sits-count, sits-fragments, fails_first}
 use Rattle.per_decode.proofs.Loop.{with_front, end-front}
 
@@ -117,7 +117,7 @@ module _ {A : Type 0} (least : ℕ) (most : Option ℕ) (items : ℕ → Reader 
 
   -- A TURN OF THE LOOP, in front of which so much was read
   module _ (front : List A) (before total : ℕ) (X : List Bool) (s : Spot) (inside : s.at ≤ length X) where
-    pub turn_fails : (limit : ℕ) (whole : List ℕ) (e : Fault) (taken : ℕ) → FailsAt limit whole e taken (count_at least most before total X s) → FailsAt limit whole e taken (with_front front (left_at before total X s))
+    pub turn_fails : (limit : ℕ) (whole : List ℕ) (e : Halt) (taken : ℕ) → FailsAt limit whole e taken (count_at least most before total X s) → FailsAt limit whole e taken (with_front front (left_at before total X s))
     turn_fails limit whole e taken h =
         let k = fails_first limit whole e taken X (count_at least most before total X s) (behind left_at total X) (sits-count least most before total X s inside).inside (sits-behind total X) h in
         let l = subst (FailsAt limit whole e taken) (sym (left-step before total X s inside)) k in
@@ -128,7 +128,7 @@ module _ {A : Type 0} (least : ℕ) (most : Option ℕ) (items : ℕ → Reader 
       turn_last e = ap (with_front front) (left-step before total X s inside ∙ ap (λ c. c >>= behind left_at total X) e)
 
       -- the last items, which fail
-      pub last_fail : (limit : ℕ) (whole : List ℕ) (e : Fault) (taken : ℕ) → count_at least most before total X s ≡ Ok (Last k, r) → FailsAt limit whole e taken (items k X r) → FailsAt limit whole e taken (with_front front (left_at before total X s))
+      pub last_fail : (limit : ℕ) (whole : List ℕ) (e : Halt) (taken : ℕ) → count_at least most before total X s ≡ Ok (Last k, r) → FailsAt limit whole e taken (items k X r) → FailsAt limit whole e taken (with_front front (left_at before total X s))
       last_fail limit whole e taken is h =
           let c = count-later least most before total X s (Last k, r) inside is in
           subst (FailsAt limit whole e taken) (sym (turn_last is)) (fails_first limit whole e taken X (items k X r) (λ b. Ok (front ++ b.0, b.1)) (one k X r c.1).inside (λ b l. record { later = omega arith; inside = l }) h)
@@ -140,7 +140,7 @@ module _ {A : Type 0} (least : ℕ) (most : Option ℕ) (items : ℕ → Reader 
           ∙ front_then front a (left_at k (total + k * unit) X q)
 
       -- items of a fragment that fail
-      pub items_fail : (limit : ℕ) (whole : List ℕ) (e : Fault) (taken : ℕ) → count_at least most before total X s ≡ Ok (Units k, r) → FailsAt limit whole e taken (items (k * unit) X r) → FailsAt limit whole e taken (with_front front (left_at before total X s))
+      pub items_fail : (limit : ℕ) (whole : List ℕ) (e : Halt) (taken : ℕ) → count_at least most before total X s ≡ Ok (Units k, r) → FailsAt limit whole e taken (items (k * unit) X r) → FailsAt limit whole e taken (with_front front (left_at before total X s))
       items_fail limit whole e taken is h =
           let c = count-later least most before total X s (Units k, r) inside is in
           let f = fails_first limit whole e taken X (items (k * unit) X r) (λ y. joined y.0 (left_at k (total + k * unit) X y.1)) (one (k * unit) X r c.1).inside
@@ -161,7 +161,7 @@ module _ {A : Type 0} (least : ℕ) (most : Option ℕ) (items : ℕ → Reader 
           → with_front front (left_at before total X s) ≡ with_front all (left_at k (total + k * unit) X q)
       turn_on all q e f = turn_is e ∙ ap (λ z. z >>= λ z. joined z.0 (left_at k (total + k * unit) X z.1)) f
 
-      pub turn_off : (limit : ℕ) (whole : List ℕ) (e : Fault) (taken : ℕ) → count_at least most before total X s ≡ Ok (Units k, r) → FailsAt limit whole e taken (with_front front (items (k * unit) X r))
+      pub turn_off : (limit : ℕ) (whole : List ℕ) (e : Halt) (taken : ℕ) → count_at least most before total X s ≡ Ok (Units k, r) → FailsAt limit whole e taken (with_front front (items (k * unit) X r))
           → FailsAt limit whole e taken (with_front front (left_at before total X s))
       turn_off limit whole e taken is h =
           let c = count-later least most before total X s (Units k, r) inside is in
@@ -171,13 +171,13 @@ module _ {A : Type 0} (least : ℕ) (most : Option ℕ) (items : ℕ → Reader 
           (λ z j. sits_then X z.1.at (left_at k (total + k * unit) X z.1) (λ b. Ok (z.0 ++ b.0, b.1)) (sits-left k (total + k * unit) X z.1 j) (λ b l. record { later = omega arith; inside = l })) h)
 
   -- want of memory where so much is still to be read
-  pub turn_full : (front : List A) (before total : ℕ) (X : List Bool) (s : Spot) (limit : ℕ) (whole : List ℕ) (taken : ℕ) → s.at ≤ length X → 8 * taken ≤ s.at + 7 → FailsAt limit whole fault.Memory taken (with_front front (left_at before total X s))
+  pub turn_full : (front : List A) (before total : ℕ) (X : List Bool) (s : Spot) (limit : ℕ) (whole : List ℕ) (taken : ℕ) → s.at ≤ length X → 8 * taken ≤ s.at + 7 → FailsAt limit whole memory taken (with_front front (left_at before total X s))
   turn_full front before total X s limit whole taken inside step =
       let k = sits_then X s.at (left_at before total X s) (λ b. Ok (front ++ b.0, b.1)) (sits-left before total X s inside) (λ b l. record { later = omega arith; inside = l }) in
       omega (arith, k.later, step)
 
 -- octets or items put behind others, where memory may be missing
-pub joined_shows : {A B : Type 0} (limit : ℕ) (whole : List ℕ) (view : A → List B) (r : Result A Fault) (front got : List B) (new : Spot) (taken : ℕ) (found : Result (List B × Spot) Stop)
-    → found ≡ Ok (front ++ got, new) → 8 * taken ≤ new.at + 7 → IfOk r (λ all. view all ≡ front ++ got) → IfErr r (λ e. e ≡ fault.Memory) → Shows limit whole view r new taken found
-joined_shows limit whole view (Ok all) front got new taken found is step ok err = is ∙ ap (λ bs. Ok (bs, new)) (sym ok)
-joined_shows {B = B} limit whole view (Err e) front got new taken found is step ok err = subst (λ f. FailsAt limit whole f taken found) (sym err) (omega (arith, step, ap (end_of {B = List B}) is))
+pub joined_shows : {A B : Type 0} (limit : ℕ) (whole : List ℕ) (view : A → List B) (r : Result A Fault) (front got : List B) (new : Spot) (stop : Stop) (taken : ℕ) (found : Result (List B × Spot) Stop)
+    → found ≡ Ok (front ++ got, new) → 8 * taken ≤ new.at + 7 → IfOk r (λ all. view all ≡ front ++ got) → IfErr r (λ e. e ≡ fault.Memory) → Shows limit whole view r new stop taken found
+joined_shows limit whole view (Ok all) front got new stop taken found is step ok err = is ∙ ap (λ bs. Ok (bs, new)) (sym ok)
+joined_shows {B = B} limit whole view (Err e) front got new stop taken found is step ok err = subst (λ f. FailsAt limit whole (halt_of f stop) taken found) (sym err) (omega (arith, step, ap (end_of {B = List B}) is))

@@ -8,19 +8,19 @@ ghost use Rattle.asn_types.specs.Values.{FitsAt, In};
 ghost use Rattle.per_fields.specs.Nodes.{last_at};
 ghost use Rattle.per_decode.specs.Answers.{Answers};
 ghost use Rattle.per_decode.specs.Private.Standing.{GoesOn};
-ghost use Rattle.per_decode.specs.Private.Giving.{Gives, Ended, spot};
+ghost use Rattle.per_decode.specs.Private.Giving.{Gives, Ended, spot, halt_of, error_of};
 ghost use Rattle.per_decode.specs.Private.Bodies.{IsKnown, complete_at};
 
 use crate::decoded::Decoded;
 use crate::errors::DecodeError;
-use crate::faults::{Fault, stopped};
+use crate::faults::Fault;
 use crate::nodes::node;
 use crate::room::with_room;
 use crate::run::{Origin, Run};
 use asn_types::{Module, TypeLabel, resolve};
 use bit_cursor::BitSource;
 use label_tree::{Tree, Whole};
-use per_fields::Why;
+use per_fields::{Stop, Why};
 use simple_types::ValueLabel;
 use std::alloc::Global;
 use std::marker::{Brand, PhantomData};
@@ -34,14 +34,14 @@ fn last<S: Source, K: Origin>(run: &mut Run<S, K>) -> Result<(), Fault>
     ensures on { OnOk result (GoesOn run.old.bits.position run.new.bits.position run.new.bits.taken) }
     ensures nodes { run.new.nodes ≡ run.old.nodes }
     ensures whole { OnOk result (run.new.bits.position % 8 ≡ 0) }
-    ensures gives { IsTrue K.told → Gives K.limit K.whole (λ x. 0) result (spot run.new.bits.position run.new.nodes) run.new.bits.taken
+    ensures gives { IsTrue K.told → Gives K.limit K.whole (λ x. 0) result (spot run.new.bits.position run.new.nodes) run.new.stop run.new.bits.taken
         (last_at) (spot run.old.bits.position run.old.nodes) }
     ensures failed { IsErrOf result Fault.Failed → HasRisen K.faults (S.faults run.new.bits.source.now) }
 {
     if run.position() == 0 {
         let octet = run.take_bits(0, 8)?;
         if octet != 0 {
-            return Err(stopped(0, Why::Padding, run.position()));
+            return Err(run.stopped(0, Why::Padding));
         }
         return Ok(());
     }
@@ -63,7 +63,7 @@ fn complete<S: Source, K: Origin>(
     ensures count { IfOk result (λ found. run.new.nodes ≡ run.old.nodes + node_count found.0) }
     ensures fits { IfOk result (λ found. FitsAt module.now 1 body.now found.0) }
     ensures octets { IfOk result (λ found. (run.new.bits.position ≡ 8 * run.new.bits.taken) × (found.1 ≡ run.new.bits.taken)) }
-    ensures gives { IsTrue K.told → Gives K.limit K.whole (λ found. found.0) result (spot run.new.bits.position run.new.nodes) run.new.bits.taken
+    ensures gives { IsTrue K.told → Gives K.limit K.whole (λ found. found.0) result (spot run.new.bits.position run.new.nodes) run.new.stop run.new.bits.taken
         (complete_at module.now body.now) (spot run.old.bits.position run.old.nodes) }
     ensures failed { IsErrOf result Fault.Failed → HasRisen K.faults (S.faults run.new.bits.source.now) }
 {
@@ -77,6 +77,25 @@ fn complete<S: Source, K: Origin>(
     }
 }
 
+// What a fault is to the caller.
+fn told(fault: Fault, stop: Stop) -> DecodeError
+    ensures { result ≡ error_of (halt_of fault stop) }
+{
+    match fault {
+        Fault::Stopped => DecodeError::Bad {
+            bit: stop.bit,
+            why: stop.why,
+        },
+        Fault::Short => DecodeError::Bad {
+            bit: stop.bit,
+            why: Why::Short,
+        },
+        Fault::TooLong => DecodeError::TooLong,
+        Fault::Failed => DecodeError::Failed,
+        Fault::Memory => DecodeError::Memory,
+    }
+}
+
 // Decoding from what a source has left: the value, and how many octets were taken.
 fn decode_from<S: Source, K: Origin>(
     alloc: Global,
@@ -84,7 +103,7 @@ fn decode_from<S: Source, K: Origin>(
     body: &Tree<TypeLabel>,
     source: &mut S,
     limit: u64,
-) -> Result<(Tree<ValueLabel>, u64), Fault>
+) -> Result<(Tree<ValueLabel>, u64), DecodeError>
     requires known { IsKnown module.now }
     requires of { IsOf module.now body.now }
     requires small { limit ≤ 2 ^ 32 }
@@ -94,14 +113,22 @@ fn decode_from<S: Source, K: Origin>(
     ensures fits { IfOk result (λ found. FitsAt module.now 1 body.now found.0 × (node_count found.0 ≤ 1048576)) }
     ensures limited { IfOk result (λ found. found.1 ≤ limit) }
     ensures told { IsTrue K.told → Ended K.limit K.whole (λ found. found.0) (λ found. found.1) result (S.left source.new) (complete_at module.now body.now) }
-    ensures cause { Counts K.faults (S.faults source.new) (IsErrOf result Fault.Failed) }
+    ensures cause { Counts K.faults (S.faults source.new) (IsErrOf result DecodeError.Failed) }
 {
     let mut run: Run<S, K> = Run {
         bits: BitSource::new(source, limit),
         nodes: 0,
+        stop: Stop {
+            bit: 0,
+            why: Why::Short,
+            end: 0,
+        },
         origin: PhantomData,
     };
-    complete(alloc, module, &mut run, body)
+    match complete(alloc, module, &mut run, body) {
+        Ok(found) => Ok(found),
+        Err(fault) => Err(told(fault, run.stop)),
+    }
 }
 
 /// The value of the type of the assignment with this number, by the complete encoding (X.691, canonical aligned PER)
@@ -129,21 +156,9 @@ pub fn decode<S: Source>(
     // What each module keeps is known once one of its readers was called.
     let _ = module.count();
     let body = module.assignment(t).body.root();
-    match decode_from::<S, Brand>(alloc, module, body, source, limit) {
-        Ok(found) => Ok(Decoded {
-            octets: found.1,
-            value: Whole::of(found.0),
-        }),
-        Err(Fault::Stopped(stop)) => Err(DecodeError::Bad {
-            bit: stop.bit,
-            why: stop.why,
-        }),
-        Err(Fault::Short { bit }) => Err(DecodeError::Bad {
-            bit,
-            why: Why::Short,
-        }),
-        Err(Fault::TooLong { .. }) => Err(DecodeError::TooLong),
-        Err(Fault::Failed) => Err(DecodeError::Failed),
-        Err(Fault::Memory) => Err(DecodeError::Memory),
-    }
+    let found = decode_from::<S, Brand>(alloc, module, body, source, limit)?;
+    Ok(Decoded {
+        octets: found.1,
+        value: Whole::of(found.0),
+    })
 }

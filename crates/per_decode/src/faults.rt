@@ -6,15 +6,16 @@ use per_fields::{Stop, Why};
 use std::alloc::{AllocError, AllocFailed};
 use xa_base::Memory;
 
-/// Why reading ends before the value.
+/// Why reading ends before the value. It is one octet, since every step of reading answers so: what else there is to tell
+/// stands where reading is (`Run::stop`).
 #[derive(Clone, Copy, Debug)]
 pub(crate) enum Fault {
-    /// A fault of a field that is whole, or of a node.
-    Stopped(Stop),
-    /// The octets end inside a field that begins at a bit.
-    Short { bit: u64 },
-    /// Those that may be taken end there.
-    TooLong { bit: u64 },
+    /// A fault of a field that is whole, or of a node: the stop.
+    Stopped,
+    /// The octets end inside the field that begins at the bit of the stop.
+    Short,
+    /// Those that may be taken end inside it.
+    TooLong,
     Failed,
     Memory,
 }
@@ -43,9 +44,12 @@ impl From<Memory> for Fault {
     }
 }
 
-/// The fault of a field from `bit` to `end`.
-pub(crate) fn stopped(bit: u64, why: Why, end: u64) -> Fault
-    ensures { result ≡ Fault.Stopped (record { bit = bit; why = why; end = end }) }
+/// The fault of a field or a node from `bit` to `end`, which becomes the stop.
+#[inline(always)]
+pub(crate) fn stopped(stop: &mut Stop, bit: u64, why: Why, end: u64) -> Fault
+    ensures fault { result ≡ Fault.Stopped }
+    ensures stop { stop.new ≡ record { bit = bit; why = why; end = end } }
 {
-    Fault::Stopped(Stop { bit, why, end })
+    *stop = Stop { bit, why, end };
+    Fault::Stopped
 }

@@ -14,6 +14,7 @@ ghost use Rattle.per_decode.specs.Private.Giving.{Gives, spot};
 ghost use Rattle.per_decode.specs.Private.Newest.{newest};
 
 use crate::faults::Fault;
+use crate::room::put;
 use crate::run::{Origin, Run};
 use asn_types::Component;
 use label_tree::Tree;
@@ -34,13 +35,13 @@ pub(crate) fn boolean<S: Source, K: Origin>(
     ensures nodes { run.new.nodes ≡ run.old.nodes }
     ensures pushed { OnOk result (values.new.items ≡ values.old.items ++ newest values.new.items ∷ []) }
     ensures leaf { OnOk result ((b : Bool) × (newest values.new.items ≡ node (value.Bool b) none)) }
-    ensures gives { IsTrue K.told → Gives K.limit K.whole (λ _. newest values.new.items) result (spot run.new.bits.position run.new.nodes) run.new.bits.taken
+    ensures gives { IsTrue K.told → Gives K.limit K.whole (λ _. newest values.new.items) result (spot run.new.bits.position run.new.nodes) run.new.stop run.new.bits.taken
         (bool_at) (spot run.old.bits.position run.old.nodes) }
     ensures failed { IsErrOf result Fault.Failed → HasRisen K.faults (S.faults run.new.bits.source.now) }
 {
     let begin = run.position();
     let bit = run.take_bits(begin, 1)?;
-    values.push(Tree::leaf(alloc, ValueLabel::Bool(bit == 1)))?;
+    put(values, Tree::leaf(alloc, ValueLabel::Bool(bit == 1)))?;
     Ok(())
 }
 
@@ -61,12 +62,12 @@ pub(crate) fn integer<S: Source, K: Origin>(
     ensures nodes { run.new.nodes ≡ run.old.nodes }
     ensures pushed { OnOk result (values.new.items ≡ values.old.items ++ newest values.new.items ∷ []) }
     ensures leaf { OnOk result ((z : ℤ) × (newest values.new.items ≡ node (value.Int z) none) × (is_128_bits z ≡ true) × (is_from lo z ≡ true) × (is_to hi z ≡ true)) }
-    ensures gives { IsTrue K.told → Gives K.limit K.whole (λ _. newest values.new.items) result (spot run.new.bits.position run.new.nodes) run.new.bits.taken
+    ensures gives { IsTrue K.told → Gives K.limit K.whole (λ _. newest values.new.items) result (spot run.new.bits.position run.new.nodes) run.new.stop run.new.bits.taken
         (int_at lo hi) (spot run.old.bits.position run.old.nodes) }
     ensures failed { IsErrOf result Fault.Failed → HasRisen K.faults (S.faults run.new.bits.source.now) }
 {
     let z = run.whole(alloc, lo, hi)?;
-    values.push(Tree::leaf(alloc, ValueLabel::Int(z)))?;
+    put(values, Tree::leaf(alloc, ValueLabel::Int(z)))?;
     Ok(())
 }
 
@@ -86,12 +87,12 @@ pub(crate) fn enumerated<S: Source, K: Origin>(
     ensures nodes { run.new.nodes ≡ run.old.nodes }
     ensures pushed { OnOk result (values.new.items ≡ values.old.items ++ newest values.new.items ∷ []) }
     ensures leaf { OnOk result ((i : ℕ) × (newest values.new.items ≡ node (value.Enum i) none) × (i < items)) }
-    ensures gives { IsTrue K.told → Gives K.limit K.whole (λ _. newest values.new.items) result (spot run.new.bits.position run.new.nodes) run.new.bits.taken
+    ensures gives { IsTrue K.told → Gives K.limit K.whole (λ _. newest values.new.items) result (spot run.new.bits.position run.new.nodes) run.new.stop run.new.bits.taken
         (enum_at items) (spot run.old.bits.position run.old.nodes) }
     ensures failed { IsErrOf result Fault.Failed → HasRisen K.faults (S.faults run.new.bits.source.now) }
 {
     let item = run.number(alloc, (items - 1) as u128)?;
-    values.push(Tree::leaf(alloc, ValueLabel::Enum(item as u32)))?;
+    put(values, Tree::leaf(alloc, ValueLabel::Enum(item as u32)))?;
     Ok(())
 }
 
@@ -104,7 +105,7 @@ fn presence_bit<S: Source, K: Origin>(run: &mut Run<S, K>, part: &Component) -> 
     ensures on { OnOk result (GoesOn run.old.bits.position run.new.bits.position run.new.bits.taken) }
     ensures nodes { run.new.nodes ≡ run.old.nodes }
     ensures there { IfOk result (λ flag. part.now.optional ≡ false → flag ≡ true) }
-    ensures gives { IsTrue K.told → Gives K.limit K.whole (λ x. x) result (spot run.new.bits.position run.new.nodes) run.new.bits.taken
+    ensures gives { IsTrue K.told → Gives K.limit K.whole (λ x. x) result (spot run.new.bits.position run.new.nodes) run.new.stop run.new.bits.taken
         (flag_at part.now) (spot run.old.bits.position run.old.nodes) }
     ensures failed { IsErrOf result Fault.Failed → HasRisen K.faults (S.faults run.new.bits.source.now) }
 {
@@ -130,7 +131,7 @@ pub(crate) fn presence<S: Source, K: Origin>(
     ensures on { OnOk result (GoesOn run.old.bits.position run.new.bits.position run.new.bits.taken) }
     ensures nodes { run.new.nodes ≡ run.old.nodes }
     ensures present { OnOk result (Present parts.now present.new) }
-    ensures gives { IsTrue K.told → Gives K.limit K.whole (λ _. present.new) result (spot run.new.bits.position run.new.nodes) run.new.bits.taken
+    ensures gives { IsTrue K.told → Gives K.limit K.whole (λ _. present.new) result (spot run.new.bits.position run.new.nodes) run.new.stop run.new.bits.taken
         (each_at flag_at parts.now) (spot run.old.bits.position run.old.nodes) }
     ensures failed { IsErrOf result Fault.Failed → HasRisen K.faults (S.faults run.new.bits.source.now) }
 {

@@ -4,7 +4,7 @@ ghost use Rattle.per_fields.specs.Fields.{is_out};
 ghost use Rattle.per_decode.specs.Private.Pieces.{piece_of, IsPiece};
 ghost use Rattle.per_decode.specs.Private.Kept.{octets_more, octets_behind};
 
-use crate::faults::{Fault, stopped};
+use crate::faults::Fault;
 use crate::run::{Origin, Run};
 use per_fields::Why;
 use simple_values::is_at_most;
@@ -62,7 +62,7 @@ impl<'a, S: Source, K: Origin> Run<'a, S, K> {
         ensures aligned { OnOk result (self.new.bits.position % 8 ≡ self.old.bits.position % 8) }
         ensures nodes { self.new.nodes ≡ self.old.nodes }
         ensures piece { IfOk result (λ piece. IsPiece piece) }
-        ensures gives { IsTrue K.told → Gives K.limit K.whole (piece_of) result (spot self.new.bits.position self.new.nodes) self.new.bits.taken
+        ensures gives { IsTrue K.told → Gives K.limit K.whole (piece_of) result (spot self.new.bits.position self.new.nodes) self.new.stop self.new.bits.taken
             (length_from before begin x) (spot self.old.bits.position self.old.nodes) }
         ensures failed { IsErrOf result Fault.Failed → HasRisen K.faults (S.faults self.new.bits.source.now) }
     {
@@ -73,16 +73,16 @@ impl<'a, S: Source, K: Origin> Run<'a, S, K> {
             let y = self.take_bits(begin, 8)?;
             let n = (x - 128) * 256 + y;
             if n < 128 {
-                return Err(stopped(begin, Why::NotShortest, self.position()));
+                return Err(self.stopped(begin, Why::NotShortest));
             }
             return Ok(Piece::Last(n as u32));
         }
         if before < MOST_UNITS {
-            return Err(stopped(begin, Why::NotShortest, self.position()));
+            return Err(self.stopped(begin, Why::NotShortest));
         }
         let units = (x - 192) as u32;
         if units < 1 || MOST_UNITS < units {
-            return Err(stopped(begin, Why::Range, self.position()));
+            return Err(self.stopped(begin, Why::Range));
         }
         Ok(Piece::Units(units))
     }
@@ -98,7 +98,7 @@ impl<'a, S: Source, K: Origin> Run<'a, S, K> {
         ensures nodes { self.new.nodes ≡ self.old.nodes }
         ensures further { OnOk result (self.old.bits.position < self.new.bits.position) }
         ensures piece { IfOk result (λ piece. IsPiece piece) }
-        ensures gives { IsTrue K.told → Gives K.limit K.whole (piece_of) result (spot self.new.bits.position self.new.nodes) self.new.bits.taken
+        ensures gives { IsTrue K.told → Gives K.limit K.whole (piece_of) result (spot self.new.bits.position self.new.nodes) self.new.stop self.new.bits.taken
             (length_here before) (spot self.old.bits.position self.old.nodes) }
         ensures failed { IsErrOf result Fault.Failed → HasRisen K.faults (S.faults self.new.bits.source.now) }
     {
@@ -125,14 +125,14 @@ impl<'a, S: Source, K: Origin> Run<'a, S, K> {
         ensures nodes { self.new.nodes ≡ self.old.nodes }
         ensures further { OnOk result (self.old.bits.position < self.new.bits.position) }
         ensures piece { IfOk result (λ piece. IsPiece piece × (is_out least most total (piece_of piece) ≡ false)) }
-        ensures gives { IsTrue K.told → Gives K.limit K.whole (piece_of) result (spot self.new.bits.position self.new.nodes) self.new.bits.taken
+        ensures gives { IsTrue K.told → Gives K.limit K.whole (piece_of) result (spot self.new.bits.position self.new.nodes) self.new.stop self.new.bits.taken
             (count_here least most before total) (spot self.old.bits.position self.old.nodes) }
         ensures failed { IsErrOf result Fault.Failed → HasRisen K.faults (S.faults self.new.bits.source.now) }
     {
         let begin = self.position();
         let piece = self.length_here(before)?;
         if is_out(least, most, total, piece) {
-            return Err(stopped(begin, Why::Range, self.position()));
+            return Err(self.stopped(begin, Why::Range));
         }
         Ok(piece)
     }
@@ -155,7 +155,7 @@ impl<'a, S: Source, K: Origin> Run<'a, S, K> {
         ensures nodes { self.new.nodes ≡ self.old.nodes }
         ensures further { OnOk result (self.old.bits.position < self.new.bits.position) }
         ensures piece { IfOk result (λ piece. IsPiece piece × (is_out least most total (piece_of piece) ≡ false)) }
-        ensures gives { IsTrue K.told → Gives K.limit K.whole (piece_of) result (spot self.new.bits.position self.new.nodes) self.new.bits.taken
+        ensures gives { IsTrue K.told → Gives K.limit K.whole (piece_of) result (spot self.new.bits.position self.new.nodes) self.new.stop self.new.bits.taken
             (count_at least most before total) (spot self.old.bits.position self.old.nodes) }
         ensures failed { IsErrOf result Fault.Failed → HasRisen K.faults (S.faults self.new.bits.source.now) }
     {
@@ -172,16 +172,16 @@ impl<'a, S: Source, K: Origin> Run<'a, S, K> {
         ensures aligned { OnOk result (self.new.bits.position % 8 ≡ self.old.bits.position % 8) }
         ensures nodes { self.new.nodes ≡ self.old.nodes }
         ensures few { IfOk result (λ more. more ≤ 15) }
-        ensures gives { IsTrue K.told → Gives K.limit K.whole (λ x. x) result (spot self.new.bits.position self.new.nodes) self.new.bits.taken
+        ensures gives { IsTrue K.told → Gives K.limit K.whole (λ x. x) result (spot self.new.bits.position self.new.nodes) self.new.stop self.new.bits.taken
             (octet_count_here) (spot self.old.bits.position self.old.nodes) }
         ensures failed { IsErrOf result Fault.Failed → HasRisen K.faults (S.faults self.new.bits.source.now) }
     {
         let begin = self.position();
         match self.length_here(MOST_UNITS)? {
-            Piece::Last(0) => Err(stopped(begin, Why::Range, self.position())),
-            Piece::Last(n) if n > 16 => Err(stopped(begin, Why::TooWide, self.position())),
+            Piece::Last(0) => Err(self.stopped(begin, Why::Range)),
+            Piece::Last(n) if n > 16 => Err(self.stopped(begin, Why::TooWide)),
             Piece::Last(n) => Ok(n - 1),
-            Piece::Units(_) => Err(stopped(begin, Why::TooWide, self.position())),
+            Piece::Units(_) => Err(self.stopped(begin, Why::TooWide)),
         }
     }
 
@@ -194,7 +194,7 @@ impl<'a, S: Source, K: Origin> Run<'a, S, K> {
         ensures aligned { OnOk result (self.new.bits.position % 8 ≡ 0) }
         ensures nodes { self.new.nodes ≡ self.old.nodes }
         ensures few { IfOk result (λ more. more ≤ 15) }
-        ensures gives { IsTrue K.told → Gives K.limit K.whole (λ x. x) result (spot self.new.bits.position self.new.nodes) self.new.bits.taken
+        ensures gives { IsTrue K.told → Gives K.limit K.whole (λ x. x) result (spot self.new.bits.position self.new.nodes) self.new.stop self.new.bits.taken
             (octet_count_at) (spot self.old.bits.position self.old.nodes) }
         ensures failed { IsErrOf result Fault.Failed → HasRisen K.faults (S.faults self.new.bits.source.now) }
     {
@@ -211,7 +211,7 @@ impl<'a, S: Source, K: Origin> Run<'a, S, K> {
         ensures same_reference { self.new.bits.source.ghost_name ≡ self.old.bits.source.ghost_name }
         ensures on { OnOk result (GoesOn self.old.bits.position self.new.bits.position self.new.bits.taken) }
         ensures nodes { self.new.nodes ≡ self.old.nodes }
-        ensures gives { IsTrue K.told → Gives K.limit K.whole (λ done. take n bytes.new) result (spot self.new.bits.position self.new.nodes) self.new.bits.taken
+        ensures gives { IsTrue K.told → Gives K.limit K.whole (λ done. take n bytes.new) result (spot self.new.bits.position self.new.nodes) self.new.stop self.new.bits.taken
             (octets_at n) (spot self.old.bits.position self.old.nodes) }
         ensures failed { IsErrOf result Fault.Failed → HasRisen K.faults (S.faults self.new.bits.source.now) }
     {
@@ -226,7 +226,7 @@ impl<'a, S: Source, K: Origin> Run<'a, S, K> {
         ensures same_reference { self.new.bits.source.ghost_name ≡ self.old.bits.source.ghost_name }
         ensures on { OnOk result (GoesOn self.old.bits.position self.new.bits.position self.new.bits.taken) }
         ensures nodes { self.new.nodes ≡ self.old.nodes }
-        ensures gives { IsTrue K.told → Gives K.limit K.whole (λ octets. octets.items) result (spot self.new.bits.position self.new.nodes) self.new.bits.taken
+        ensures gives { IsTrue K.told → Gives K.limit K.whole (λ octets. octets.items) result (spot self.new.bits.position self.new.nodes) self.new.stop self.new.bits.taken
             (octets_behind (piece_of first)) (spot self.old.bits.position self.old.nodes) }
         ensures failed { IsErrOf result Fault.Failed → HasRisen K.faults (S.faults self.new.bits.source.now) }
     {
@@ -245,7 +245,7 @@ impl<'a, S: Source, K: Origin> Run<'a, S, K> {
         ensures same_reference { self.new.bits.source.ghost_name ≡ self.old.bits.source.ghost_name }
         ensures on { OnOk result (GoesOn self.old.bits.position self.new.bits.position self.new.bits.taken) }
         ensures nodes { self.new.nodes ≡ self.old.nodes }
-        ensures gives { IsTrue K.told → Gives K.limit K.whole (λ octets. octets.items) result (spot self.new.bits.position self.new.nodes) self.new.bits.taken
+        ensures gives { IsTrue K.told → Gives K.limit K.whole (λ octets. octets.items) result (spot self.new.bits.position self.new.nodes) self.new.stop self.new.bits.taken
             (octets_more first.items units (length first.items)) (spot self.old.bits.position self.old.nodes) }
         ensures failed { IsErrOf result Fault.Failed → HasRisen K.faults (S.faults self.new.bits.source.now) }
     {

@@ -24,12 +24,12 @@ ghost use Rattle.per_decode.specs.Private.Newest.{newest};
 use crate::faults::{Fault, stopped};
 use crate::leaves::{boolean, enumerated, integer, presence};
 use crate::lengths::{MOST_UNITS, Piece, UNIT};
-use crate::room::with_room;
+use crate::room::{put, with_room};
 use crate::run::{Origin, Run};
 use crate::texts::text;
 use asn_types::{Component, Form, Module, Role, TypeLabel, own, resolve, role};
 use label_tree::Tree;
-use per_fields::Why;
+use per_fields::{Stop, Why};
 use simple_types::{Flags, ValueLabel};
 use std::alloc::Global;
 use xa_base::Source;
@@ -112,19 +112,20 @@ pub(crate) fn owned(
     value: Tree<ValueLabel>,
     begin: u64,
     end: u64,
+    stop: &mut Stop,
     values: &mut Vec<Tree<ValueLabel>>,
 ) -> Result<(), Fault>
     requires known { bodies.IsKnown module.now }
     requires of { IsOf module.now node.now }
     ensures pushed { OnOk result (values.new.items ≡ values.old.items ++ value ∷ []) }
     ensures ok { OnOk result (Own module.now node.now value) }
-    ensures err { IfErr result (λ fault. (fault ≡ Fault.Memory) ⊎ ((fault ≡ Fault.Stopped (record { bit = begin; why = Why.NotAValue; end = end })) × (Own module.now node.now value → ⊥))) }
+    ensures err { IfErr result (λ fault. (fault ≡ Fault.Memory) ⊎ ((fault ≡ Fault.Stopped) × (stop.new ≡ record { bit = begin; why = Why.NotAValue; end = end }) × (Own module.now node.now value → ⊥))) }
 {
     if own(alloc, module, node, &value)? {
-        values.push(value)?;
+        put(values, value)?;
         Ok(())
     } else {
-        Err(stopped(begin, Why::NotAValue, end))
+        Err(stopped(stop, begin, Why::NotAValue, end))
     }
 }
 
@@ -150,16 +151,16 @@ pub(crate) fn node<S: Source, K: Origin>(
     ensures pushed { OnOk result (values.new.items ≡ values.old.items ++ newest values.new.items ∷ []) }
     ensures count { OnOk result (run.new.nodes ≡ run.old.nodes + node_count (newest values.new.items)) }
     ensures fits { OnOk result (FitsAt module.now depth node.now (newest values.new.items)) }
-    ensures gives { IsTrue K.told → Gives K.limit K.whole (λ _. newest values.new.items) result (spot run.new.bits.position run.new.nodes) run.new.bits.taken
+    ensures gives { IsTrue K.told → Gives K.limit K.whole (λ _. newest values.new.items) result (spot run.new.bits.position run.new.nodes) run.new.stop run.new.bits.taken
         (node_read module.now depth node.now) (spot run.old.bits.position run.old.nodes) }
     ensures failed { IsErrOf result Fault.Failed → HasRisen K.faults (S.faults run.new.bits.source.now) }
 {
     let begin = run.position();
     if depth > MOST_DEEP {
-        return Err(stopped(begin, Why::TooDeep, begin));
+        return Err(run.stopped(begin, Why::TooDeep));
     }
     if run.nodes >= MOST_NODES {
-        return Err(stopped(begin, Why::TooMany, begin));
+        return Err(run.stopped(begin, Why::TooMany));
     }
     run.nodes += 1;
     body(alloc, module, run, depth, node, found, begin, values)
@@ -188,7 +189,7 @@ fn body<S: Source, K: Origin>(
     ensures pushed { OnOk result (values.new.items ≡ values.old.items ++ newest values.new.items ∷ []) }
     ensures count { OnOk result (run.new.nodes + 1 ≡ run.old.nodes + node_count (newest values.new.items)) }
     ensures fits { OnOk result (FitsAt module.now depth node.now (newest values.new.items)) }
-    ensures gives { IsTrue K.told → Gives K.limit K.whole (λ _. newest values.new.items) result (spot run.new.bits.position run.new.nodes) run.new.bits.taken
+    ensures gives { IsTrue K.told → Gives K.limit K.whole (λ _. newest values.new.items) result (spot run.new.bits.position run.new.nodes) run.new.stop run.new.bits.taken
         (bodies.body_at module.now depth begin (resolve module.now node.now)) (spot run.old.bits.position run.old.nodes) }
     ensures failed { IsErrOf result Fault.Failed → HasRisen K.faults (S.faults run.new.bits.source.now) }
 {
@@ -225,14 +226,26 @@ fn ruled<S: Source, K: Origin>(
     ensures pushed { OnOk result (values.new.items ≡ values.old.items ++ newest values.new.items ∷ []) }
     ensures count { OnOk result (run.new.nodes + 1 ≡ run.old.nodes + node_count (newest values.new.items)) }
     ensures fits { OnOk result (FitsAt module.now depth node.now (newest values.new.items)) }
-    ensures gives { IsTrue K.told → Gives K.limit K.whole (λ _. newest values.new.items) result (spot run.new.bits.position run.new.nodes) run.new.bits.taken
+    ensures gives { IsTrue K.told → Gives K.limit K.whole (λ _. newest values.new.items) result (spot run.new.bits.position run.new.nodes) run.new.stop run.new.bits.taken
         (bodies.body_at module.now depth begin (resolve module.now node.now)) (spot run.old.bits.position run.old.nodes) }
     ensures failed { IsErrOf result Fault.Failed → HasRisen K.faults (S.faults run.new.bits.source.now) }
 {
     let mut read = with_room(alloc, 1);
     fields(alloc, module, run, depth, found, &mut read)?;
     match read.pop() {
-        Some(value) => owned(alloc, module, node, value, begin, run.position(), values),
+        Some(value) => {
+            let end = run.position();
+            owned(
+                alloc,
+                module,
+                node,
+                value,
+                begin,
+                end,
+                &mut run.stop,
+                values,
+            )
+        }
         None => unreachable!(),
     }
 }
@@ -259,7 +272,7 @@ fn fields<S: Source, K: Origin>(
     ensures count { OnOk result (run.new.nodes + 1 ≡ run.old.nodes + node_count (newest values.new.items)) }
     ensures fits { OnOk result (FitKids module.now depth found.now (newest values.new.items)) }
     ensures text { OnOk result (is_no_text (label_of (newest values.new.items)) ≡ false) }
-    ensures gives { IsTrue K.told → Gives K.limit K.whole (λ _. newest values.new.items) result (spot run.new.bits.position run.new.nodes) run.new.bits.taken
+    ensures gives { IsTrue K.told → Gives K.limit K.whole (λ _. newest values.new.items) result (spot run.new.bits.position run.new.nodes) run.new.stop run.new.bits.taken
         (bodies.fields_at module.now depth found.now) (spot run.old.bits.position run.old.nodes) }
     ensures failed { IsErrOf result Fault.Failed → HasRisen K.faults (S.faults run.new.bits.source.now) }
 {
@@ -309,13 +322,14 @@ fn sequence<S: Source, K: Origin>(
     ensures count { OnOk result (run.new.nodes + 1 ≡ run.old.nodes + node_count (newest values.new.items)) }
     ensures fits { OnOk result (FitKids module.now depth found.now (newest values.new.items)) }
     ensures text { OnOk result (is_no_text (label_of (newest values.new.items)) ≡ false) }
-    ensures gives { IsTrue K.told → Gives K.limit K.whole (λ _. newest values.new.items) result (spot run.new.bits.position run.new.nodes) run.new.bits.taken
+    ensures gives { IsTrue K.told → Gives K.limit K.whole (λ _. newest values.new.items) result (spot run.new.bits.position run.new.nodes) run.new.stop run.new.bits.taken
         (sequence_at (bodies.kid_at module.now depth) (label_of found.now) (kids_of found.now) parts.now) (spot run.old.bits.position run.old.nodes) }
     ensures failed { IsErrOf result Fault.Failed → HasRisen K.faults (S.faults run.new.bits.source.now) }
 {
     let mut present = Flags::none();
     let count = presence(alloc, run, parts, &mut present)?;
-    let kids = components(
+    let mut kids = with_room(alloc, count);
+    components(
         alloc,
         module,
         run,
@@ -323,13 +337,13 @@ fn sequence<S: Source, K: Origin>(
         found,
         parts,
         present.items(),
-        count,
+        &mut kids,
     )?;
-    values.push(Tree::join(ValueLabel::Sequence { present }, kids))?;
+    put(values, Tree::join(ValueLabel::Sequence { present }, kids))?;
     Ok(())
 }
 
-// The components of a SEQUENCE that are present, about so many: room is made for these.
+// The components of a SEQUENCE that are present, put into a list that is empty.
 #[inline(always)]
 #[cycle(nodes)]
 fn components<S: Source, K: Origin>(
@@ -340,23 +354,23 @@ fn components<S: Source, K: Origin>(
     found: &Tree<TypeLabel>,
     parts: &[Component],
     present: &[bool],
-    count: usize,
-) -> Result<Vec<Tree<ValueLabel>>, Fault>
+    values: &mut Vec<Tree<ValueLabel>>,
+) -> Result<(), Fault>
     requires depth { depth ≤ 64 }
     requires known { bodies.IsKnown module.now }
     requires of { IsOf module.now found.now }
     requires form { (label_of found.now).form ≡ form.Sequence parts.now }
     requires present { Present parts.now present.now }
+    requires empty { values.old.items ≡ [] }
     requires in_step { IsInStep run.old.bits.position run.old.bits.taken }
     ensures same_reference { run.new.bits.source.ghost_name ≡ run.old.bits.source.ghost_name }
     ensures on { OnOk result (GoesOn run.old.bits.position run.new.bits.position run.new.bits.taken) }
-    ensures count { IfOk result (λ vs. run.new.nodes ≡ run.old.nodes + count_all (roses_of vs.items)) }
-    ensures fits { IfOk result (λ vs. bodies.FitSome module.now depth (present_from (label_of found.now) 0 parts.now (kids_of found.now) present.now) (roses_of vs.items)) }
-    ensures gives { IsTrue K.told → Gives K.limit K.whole (λ vs. vs.items) result (spot run.new.bits.position run.new.nodes) run.new.bits.taken
+    ensures count { OnOk result (run.new.nodes ≡ run.old.nodes + count_all (roses_of values.new.items)) }
+    ensures fits { OnOk result (bodies.FitSome module.now depth (present_from (label_of found.now) 0 parts.now (kids_of found.now) present.now) (roses_of values.new.items)) }
+    ensures gives { IsTrue K.told → Gives K.limit K.whole (λ _. values.new.items) result (spot run.new.bits.position run.new.nodes) run.new.stop run.new.bits.taken
         (bodies.kids_read module.now depth (present_from (label_of found.now) 0 parts.now (kids_of found.now) present.now)) (spot run.old.bits.position run.old.nodes) }
     ensures failed { IsErrOf result Fault.Failed → HasRisen K.faults (S.faults run.new.bits.source.now) }
 {
-    let mut values = with_room(alloc, count);
     'parts: for i in 0..parts.len() {
         if !present[i] {
             continue;
@@ -364,9 +378,9 @@ fn components<S: Source, K: Origin>(
         let kid = found.kid(i);
         let to = resolve(module, kid);
         let inner = part_depth(found, i as u32, to, depth);
-        node(alloc, module, run, inner, kid, to, &mut values)?;
+        node(alloc, module, run, inner, kid, to, values)?;
     }
-    Ok(values)
+    Ok(())
 }
 
 // The index and the value of a CHOICE of these alternatives.
@@ -392,7 +406,7 @@ fn choice<S: Source, K: Origin>(
     ensures count { OnOk result (run.new.nodes + 1 ≡ run.old.nodes + node_count (newest values.new.items)) }
     ensures fits { OnOk result (FitKids module.now depth found.now (newest values.new.items)) }
     ensures text { OnOk result (is_no_text (label_of (newest values.new.items)) ≡ false) }
-    ensures gives { IsTrue K.told → Gives K.limit K.whole (λ _. newest values.new.items) result (spot run.new.bits.position run.new.nodes) run.new.bits.taken
+    ensures gives { IsTrue K.told → Gives K.limit K.whole (λ _. newest values.new.items) result (spot run.new.bits.position run.new.nodes) run.new.stop run.new.bits.taken
         (choice_at (bodies.kid_at module.now depth) (label_of found.now) (kids_of found.now) parts.now) (spot run.old.bits.position run.old.nodes) }
     ensures failed { IsErrOf result Fault.Failed → HasRisen K.faults (S.faults run.new.bits.source.now) }
 {
@@ -402,7 +416,7 @@ fn choice<S: Source, K: Origin>(
     let inner = part_depth(found, index, to, depth);
     let mut kids = with_room(alloc, 1);
     node(alloc, module, run, inner, kid, to, &mut kids)?;
-    values.push(Tree::join(ValueLabel::Choice(index), kids))?;
+    put(values, Tree::join(ValueLabel::Choice(index), kids))?;
     Ok(())
 }
 
@@ -431,14 +445,14 @@ fn sequence_of<S: Source, K: Origin>(
     ensures count { OnOk result (run.new.nodes + 1 ≡ run.old.nodes + node_count (newest values.new.items)) }
     ensures fits { OnOk result (FitKids module.now depth found.now (newest values.new.items)) }
     ensures text { OnOk result (is_no_text (label_of (newest values.new.items)) ≡ false) }
-    ensures gives { IsTrue K.told → Gives K.limit K.whole (λ _. newest values.new.items) result (spot run.new.bits.position run.new.nodes) run.new.bits.taken
+    ensures gives { IsTrue K.told → Gives K.limit K.whole (λ _. newest values.new.items) result (spot run.new.bits.position run.new.nodes) run.new.stop run.new.bits.taken
         (items_at (bodies.kid_at module.now depth) min max (bodies.item_place found.now part.now)) (spot run.old.bits.position run.old.nodes) }
     ensures failed { IsErrOf result Fault.Failed → HasRisen K.faults (S.faults run.new.bits.source.now) }
 {
     let item = found.kid(0);
     let inner = below(role(found.label(), 0), depth);
     let items = list(alloc, module, run, inner, item, min, max)?;
-    values.push(Tree::join(ValueLabel::SequenceOf, items))?;
+    put(values, Tree::join(ValueLabel::SequenceOf, items))?;
     Ok(())
 }
 
@@ -463,7 +477,7 @@ fn list<S: Source, K: Origin>(
     ensures count { IfOk result (λ vs. run.new.nodes ≡ run.old.nodes + count_all (roses_of vs.items)) }
     ensures fits { IfOk result (λ vs. bodies.FitAll module.now depth item.now vs.items) }
     ensures size { IfOk result (λ vs. (min ≤ length vs.items) × (is_at_most (length vs.items) max ≡ true)) }
-    ensures gives { IsTrue K.told → Gives K.limit K.whole (λ vs. vs.items) result (spot run.new.bits.position run.new.nodes) run.new.bits.taken
+    ensures gives { IsTrue K.told → Gives K.limit K.whole (λ vs. vs.items) result (spot run.new.bits.position run.new.nodes) run.new.stop run.new.bits.taken
         (list_at min max (λ n. bodies.many_at module.now depth n item.now)) (spot run.old.bits.position run.old.nodes) }
     ensures failed { IsErrOf result Fault.Failed → HasRisen K.faults (S.faults run.new.bits.source.now) }
 {
@@ -500,7 +514,7 @@ fn fragments<S: Source, K: Origin>(
     ensures count { IfOk result (λ vs. run.new.nodes ≡ run.old.nodes + count_all (roses_of vs.items)) }
     ensures fits { IfOk result (λ vs. bodies.FitAll module.now depth item.now vs.items) }
     ensures size { IfOk result (λ vs. (min ≤ length vs.items) × (is_at_most (length vs.items) max ≡ true)) }
-    ensures gives { IsTrue K.told → Gives K.limit K.whole (λ vs. vs.items) result (spot run.new.bits.position run.new.nodes) run.new.bits.taken
+    ensures gives { IsTrue K.told → Gives K.limit K.whole (λ vs. vs.items) result (spot run.new.bits.position run.new.nodes) run.new.stop run.new.bits.taken
         (counted_at min max (λ n. bodies.many_at module.now depth n item.now)) (spot run.old.bits.position run.old.nodes) }
     ensures failed { IsErrOf result Fault.Failed → HasRisen K.faults (S.faults run.new.bits.source.now) }
 {
@@ -541,7 +555,7 @@ fn items<S: Source, K: Origin>(
     ensures count { IfOk result (λ vs. run.new.nodes + count_all (roses_of values.items) ≡ run.old.nodes + count_all (roses_of vs.items)) }
     ensures fits { IfOk result (λ vs. bodies.FitAll module.now depth item.now vs.items) }
     ensures size { IfOk result (λ vs. length vs.items ≡ length values.items + n) }
-    ensures gives { IsTrue K.told → Gives K.limit K.whole (λ vs. vs.items) result (spot run.new.bits.position run.new.nodes) run.new.bits.taken
+    ensures gives { IsTrue K.told → Gives K.limit K.whole (λ vs. vs.items) result (spot run.new.bits.position run.new.nodes) run.new.stop run.new.bits.taken
         (bodies.more_at module.now depth n item.now values.items) (spot run.old.bits.position run.old.nodes) }
     ensures failed { IsErrOf result Fault.Failed → HasRisen K.faults (S.faults run.new.bits.source.now) }
 {

@@ -3,7 +3,7 @@ ghost use Rattle.std.specs.Prelude.{◌≡◌, ℕ, ◌<◌, ◌≤◌, ◌+◌,
 ghost use Rattle.bit_cursor.specs.Bits.{bits, octet_bits};
 ghost use Rattle.per_fields.specs.Widths.{width_of, more_of};
 
-use crate::faults::{Fault, stopped};
+use crate::faults::Fault;
 use crate::run::{Origin, Run};
 use per_fields::Why;
 use std::alloc::Global;
@@ -56,7 +56,7 @@ impl<'a, S: Source, K: Origin> Run<'a, S, K> {
         ensures on { OnOk result (GoesOn self.old.bits.position self.new.bits.position self.new.bits.taken) }
         ensures nodes { self.new.nodes ≡ self.old.nodes }
         ensures below { IfOk result (λ x. x < 2 ^ (8 * octets)) }
-        ensures gives { IsTrue K.told → Gives K.limit K.whole (λ x. x) result (spot self.new.bits.position self.new.nodes) self.new.bits.taken
+        ensures gives { IsTrue K.told → Gives K.limit K.whole (λ x. x) result (spot self.new.bits.position self.new.nodes) self.new.stop self.new.bits.taken
             (λ X s. bits_at s.at (8 * octets) X s) (spot self.old.bits.position self.old.nodes) }
         ensures failed { IsErrOf result Fault.Failed → HasRisen K.faults (S.faults self.new.bits.source.now) }
     {
@@ -78,14 +78,14 @@ impl<'a, S: Source, K: Origin> Run<'a, S, K> {
         ensures on { OnOk result (GoesOn self.old.bits.position self.new.bits.position self.new.bits.taken) }
         ensures nodes { self.new.nodes ≡ self.old.nodes }
         ensures top { IfOk result (λ x. x ≤ top) }
-        ensures gives { IsTrue K.told → Gives K.limit K.whole (λ x. x) result (spot self.new.bits.position self.new.nodes) self.new.bits.taken
+        ensures gives { IsTrue K.told → Gives K.limit K.whole (λ x. x) result (spot self.new.bits.position self.new.nodes) self.new.stop self.new.bits.taken
             (within_at top n) (spot self.old.bits.position self.old.nodes) }
         ensures failed { IsErrOf result Fault.Failed → HasRisen K.faults (S.faults self.new.bits.source.now) }
     {
         let begin = self.position();
         let x = self.take_bits(begin, n)?;
         if top < x {
-            return Err(stopped(begin, Why::Range, self.position()));
+            return Err(self.stopped(begin, Why::Range));
         }
         Ok(x)
     }
@@ -99,7 +99,7 @@ impl<'a, S: Source, K: Origin> Run<'a, S, K> {
         ensures on { OnOk result (GoesOn self.old.bits.position self.new.bits.position self.new.bits.taken) }
         ensures nodes { self.new.nodes ≡ self.old.nodes }
         ensures top { IfOk result (λ x. x ≤ top) }
-        ensures gives { IsTrue K.told → Gives K.limit K.whole (λ x. x) result (spot self.new.bits.position self.new.nodes) self.new.bits.taken
+        ensures gives { IsTrue K.told → Gives K.limit K.whole (λ x. x) result (spot self.new.bits.position self.new.nodes) self.new.stop self.new.bits.taken
             (aligned_at top n) (spot self.old.bits.position self.old.nodes) }
         ensures failed { IsErrOf result Fault.Failed → HasRisen K.faults (S.faults self.new.bits.source.now) }
     {
@@ -117,17 +117,17 @@ impl<'a, S: Source, K: Origin> Run<'a, S, K> {
         ensures on { OnOk result (GoesOn self.old.bits.position self.new.bits.position self.new.bits.taken) }
         ensures nodes { self.new.nodes ≡ self.old.nodes }
         ensures top { IfOk result (λ x. x ≤ top) }
-        ensures gives { IsTrue K.told → Gives K.limit K.whole (λ x. x) result (spot self.new.bits.position self.new.nodes) self.new.bits.taken
+        ensures gives { IsTrue K.told → Gives K.limit K.whole (λ x. x) result (spot self.new.bits.position self.new.nodes) self.new.stop self.new.bits.taken
             (large_octets_at top more) (spot self.old.bits.position self.old.nodes) }
         ensures failed { IsErrOf result Fault.Failed → HasRisen K.faults (S.faults self.new.bits.source.now) }
     {
         let begin = self.position();
         let x = self.take_number(alloc, more + 1)?;
         if 0 < more && x < 1u128 << (8 * more) {
-            return Err(stopped(begin, Why::NotShortest, self.position()));
+            return Err(self.stopped(begin, Why::NotShortest));
         }
         if top < x {
-            return Err(stopped(begin, Why::Range, self.position()));
+            return Err(self.stopped(begin, Why::Range));
         }
         Ok(x)
     }
@@ -140,7 +140,7 @@ impl<'a, S: Source, K: Origin> Run<'a, S, K> {
         ensures on { OnOk result (GoesOn self.old.bits.position self.new.bits.position self.new.bits.taken) }
         ensures nodes { self.new.nodes ≡ self.old.nodes }
         ensures top { IfOk result (λ x. x ≤ top) }
-        ensures gives { IsTrue K.told → Gives K.limit K.whole (λ x. x) result (spot self.new.bits.position self.new.nodes) self.new.bits.taken
+        ensures gives { IsTrue K.told → Gives K.limit K.whole (λ x. x) result (spot self.new.bits.position self.new.nodes) self.new.stop self.new.bits.taken
             (large_at top) (spot self.old.bits.position self.old.nodes) }
         ensures failed { IsErrOf result Fault.Failed → HasRisen K.faults (S.faults self.new.bits.source.now) }
     {
@@ -159,7 +159,7 @@ impl<'a, S: Source, K: Origin> Run<'a, S, K> {
         ensures on { OnOk result (GoesOn self.old.bits.position self.new.bits.position self.new.bits.taken) }
         ensures nodes { self.new.nodes ≡ self.old.nodes }
         ensures top { IfOk result (λ x. x ≤ top) }
-        ensures gives { IsTrue K.told → Gives K.limit K.whole (λ x. x) result (spot self.new.bits.position self.new.nodes) self.new.bits.taken
+        ensures gives { IsTrue K.told → Gives K.limit K.whole (λ x. x) result (spot self.new.bits.position self.new.nodes) self.new.stop self.new.bits.taken
             (number_at top) (spot self.old.bits.position self.old.nodes) }
         ensures failed { IsErrOf result Fault.Failed → HasRisen K.faults (S.faults self.new.bits.source.now) }
     {

@@ -4,7 +4,7 @@ ghost use Rattle.per_decode.specs.Private.Standing.{IsAt};
 
 use crate::faults::{Fault, stopped};
 use bit_cursor::{BitSource, CursorError};
-use per_fields::Why;
+use per_fields::{Stop, Why};
 use std::alloc::Global;
 use std::marker::{Brand, PhantomData};
 use xa_base::Source;
@@ -36,11 +36,12 @@ fn see_octets(octets: &[u8])
     ensures { (k : ℕ) → slice_index octets.now k < 256 }
 {}
 
-/// Reading from a source, since the origin, with the nodes that were begun.
+/// Reading from a source, since the origin, with the nodes that were begun, and where and why reading stopped once it has.
 #[derive(Drop)]
 pub(crate) struct Run<'a, S: Source, K: Origin> {
     pub(crate) bits: BitSource<'a, S>,
     pub(crate) nodes: u32,
+    pub(crate) stop: Stop,
     pub(crate) origin: PhantomData<K>,
     ghost limited: { bits.limit ≡ K.limit },
     ghost few: { nodes ≤ 1048576 },
@@ -64,6 +65,18 @@ impl<'a, S: Source, K: Origin> Run<'a, S, K> {
         self.bits.position()
     }
 
+    /// A fault of what begins at a bit and ends here.
+    #[inline(always)]
+    pub(crate) fn stopped(&mut self, begin: u64, why: Why) -> Fault
+        ensures fault { result ≡ Fault.Stopped }
+        ensures stop { self.new.stop ≡ record { bit = begin; why = why; end = self.old.bits.position } }
+        ensures bits { self.new.bits ≡ self.old.bits }
+        ensures nodes { self.new.nodes ≡ self.old.nodes }
+    {
+        let end = self.position();
+        stopped(&mut self.stop, begin, why, end)
+    }
+
     /// The next `n` bits, of a field that begins at a bit.
     #[inline(always)]
     pub(crate) fn take_bits(&mut self, begin: u64, n: u32) -> Result<u64, Fault>
@@ -74,15 +87,21 @@ impl<'a, S: Source, K: Origin> Run<'a, S, K> {
         ensures nodes { self.new.nodes ≡ self.old.nodes }
         ensures moved { OnOk result (self.new.bits.position ≡ self.old.bits.position + n) }
         ensures below { IfOk result (λ x. x < 2 ^ n) }
-        ensures gives { IsTrue K.told → Gives K.limit K.whole (λ x. x) result (spot self.new.bits.position self.new.nodes) self.new.bits.taken
+        ensures gives { IsTrue K.told → Gives K.limit K.whole (λ x. x) result (spot self.new.bits.position self.new.nodes) self.new.stop self.new.bits.taken
             (bits_at begin n) (spot self.old.bits.position self.old.nodes) }
         ensures failed { IsErrOf result Fault.Failed → HasRisen K.faults (S.faults self.new.bits.source.now) }
     {
         match self.bits.take_bits(n) {
             Ok(x) => Ok(x),
             Err(CursorError::Failed) => Err(Fault::Failed),
-            Err(CursorError::Short) => Err(Fault::Short { bit: begin }),
-            Err(CursorError::TooLong) => Err(Fault::TooLong { bit: begin }),
+            Err(CursorError::Short) => {
+                self.stop.bit = begin;
+                Err(Fault::Short)
+            }
+            Err(CursorError::TooLong) => {
+                self.stop.bit = begin;
+                Err(Fault::TooLong)
+            }
             Err(CursorError::Memory) => unreachable!(),
             Err(CursorError::Padding) => unreachable!(),
         }
@@ -96,14 +115,17 @@ impl<'a, S: Source, K: Origin> Run<'a, S, K> {
         ensures on { OnOk result (GoesOn self.old.bits.position self.new.bits.position self.new.bits.taken) }
         ensures nodes { self.new.nodes ≡ self.old.nodes }
         ensures aligned { OnOk result (self.new.bits.position % 8 ≡ 0) }
-        ensures gives { IsTrue K.told → Gives K.limit K.whole (λ x. 0) result (spot self.new.bits.position self.new.nodes) self.new.bits.taken
+        ensures gives { IsTrue K.told → Gives K.limit K.whole (λ x. 0) result (spot self.new.bits.position self.new.nodes) self.new.stop self.new.bits.taken
             (align_at) (spot self.old.bits.position self.old.nodes) }
         ensures failed { IsErrOf result Fault.Failed → HasRisen K.faults (S.faults self.new.bits.source.now) }
     {
         let begin = self.position();
         match self.bits.align() {
             Ok(()) => Ok(()),
-            Err(_) => Err(stopped(begin, Why::Padding, begin + (8 - begin % 8) % 8)),
+            Err(_) => {
+                let end = begin + (8 - begin % 8) % 8;
+                Err(stopped(&mut self.stop, begin, Why::Padding, end))
+            }
         }
     }
 
@@ -117,7 +139,7 @@ impl<'a, S: Source, K: Origin> Run<'a, S, K> {
         ensures nodes { self.new.nodes ≡ self.old.nodes }
         ensures moved { OnOk result (self.new.bits.position ≡ self.old.bits.position + 8 * n) }
         ensures count { IfOk result (λ octets. length octets.items ≡ n) }
-        ensures gives { IsTrue K.told → Gives K.limit K.whole (λ octets. octets.items) result (spot self.new.bits.position self.new.nodes) self.new.bits.taken
+        ensures gives { IsTrue K.told → Gives K.limit K.whole (λ octets. octets.items) result (spot self.new.bits.position self.new.nodes) self.new.stop self.new.bits.taken
             (octets_at n) (spot self.old.bits.position self.old.nodes) }
         ensures failed { IsErrOf result Fault.Failed → HasRisen K.faults (S.faults self.new.bits.source.now) }
     {
@@ -128,8 +150,14 @@ impl<'a, S: Source, K: Origin> Run<'a, S, K> {
                 Ok(octets)
             }
             Err(CursorError::Failed) => Err(Fault::Failed),
-            Err(CursorError::Short) => Err(Fault::Short { bit: begin }),
-            Err(CursorError::TooLong) => Err(Fault::TooLong { bit: begin }),
+            Err(CursorError::Short) => {
+                self.stop.bit = begin;
+                Err(Fault::Short)
+            }
+            Err(CursorError::TooLong) => {
+                self.stop.bit = begin;
+                Err(Fault::TooLong)
+            }
             Err(CursorError::Memory) => Err(Fault::Memory),
             Err(CursorError::Padding) => unreachable!(),
         }
@@ -145,7 +173,7 @@ impl<'a, S: Source, K: Origin> Run<'a, S, K> {
         ensures on { OnOk result (GoesOn self.old.bits.position self.new.bits.position self.new.bits.taken) }
         ensures nodes { self.new.nodes ≡ self.old.nodes }
         ensures moved { OnOk result (self.new.bits.position ≡ self.old.bits.position + 8 * length octets.old) }
-        ensures gives { IsTrue K.told → Gives K.limit K.whole (λ done. octets.new) result (spot self.new.bits.position self.new.nodes) self.new.bits.taken
+        ensures gives { IsTrue K.told → Gives K.limit K.whole (λ done. octets.new) result (spot self.new.bits.position self.new.nodes) self.new.stop self.new.bits.taken
             (octets_at (length octets.old)) (spot self.old.bits.position self.old.nodes) }
         ensures failed { IsErrOf result Fault.Failed → HasRisen K.faults (S.faults self.new.bits.source.now) }
     {
@@ -156,8 +184,14 @@ impl<'a, S: Source, K: Origin> Run<'a, S, K> {
                 Ok(())
             }
             Err(CursorError::Failed) => Err(Fault::Failed),
-            Err(CursorError::Short) => Err(Fault::Short { bit: begin }),
-            Err(CursorError::TooLong) => Err(Fault::TooLong { bit: begin }),
+            Err(CursorError::Short) => {
+                self.stop.bit = begin;
+                Err(Fault::Short)
+            }
+            Err(CursorError::TooLong) => {
+                self.stop.bit = begin;
+                Err(Fault::TooLong)
+            }
             Err(CursorError::Memory) => unreachable!(),
             Err(CursorError::Padding) => unreachable!(),
         }

@@ -17,10 +17,11 @@ use crate::faults::{Fault, stopped};
 use crate::lengths::{MOST_UNITS, Piece};
 use crate::nodes::owned;
 use crate::plain::is_plain;
+use crate::room::put;
 use crate::run::{Origin, Run};
 use asn_types::{Module, TypeLabel};
 use label_tree::Tree;
-use per_fields::Why;
+use per_fields::{Stop, Why};
 use simple_types::ValueLabel;
 use std::alloc::Global;
 use xa_base::{ROOM, Source, Text, TextError};
@@ -46,7 +47,7 @@ pub(crate) fn text<S: Source, K: Origin>(
     ensures pushed { OnOk result (values.new.items ≡ values.old.items ++ newest values.new.items ∷ []) }
     ensures leaf { OnOk result ((text : List ℕ) × (newest values.new.items ≡ text_leaf text)) }
     ensures own { OnOk result (Own module.now node.now (newest values.new.items)) }
-    ensures gives { IsTrue K.told → Gives K.limit K.whole (λ _. newest values.new.items) result (spot run.new.bits.position run.new.nodes) run.new.bits.taken
+    ensures gives { IsTrue K.told → Gives K.limit K.whole (λ _. newest values.new.items) result (spot run.new.bits.position run.new.nodes) run.new.stop run.new.bits.taken
         (kept_by module.now begin (resolve module.now node.now) (counted_at 0 None octets_at)) (spot run.old.bits.position run.old.nodes) }
     ensures failed { IsErrOf result Fault.Failed → HasRisen K.faults (S.faults run.new.bits.source.now) }
 {
@@ -83,12 +84,13 @@ fn short_text<S: Source, K: Origin>(
     ensures pushed { OnOk result (values.new.items ≡ values.old.items ++ newest values.new.items ∷ []) }
     ensures leaf { OnOk result ((text : List ℕ) × (newest values.new.items ≡ text_leaf text)) }
     ensures own { OnOk result (Own module.now node.now (newest values.new.items)) }
-    ensures gives { IsTrue K.told → Gives K.limit K.whole (λ _. newest values.new.items) result (spot run.new.bits.position run.new.nodes) run.new.bits.taken
+    ensures gives { IsTrue K.told → Gives K.limit K.whole (λ _. newest values.new.items) result (spot run.new.bits.position run.new.nodes) run.new.stop run.new.bits.taken
         (kept_by module.now begin (resolve module.now node.now) (octets_at n)) (spot run.old.bits.position run.old.nodes) }
     ensures failed { IsErrOf result Fault.Failed → HasRisen K.faults (S.faults run.new.bits.source.now) }
 {
     let mut bytes = [0u8; ROOM];
     run.fill_few(&mut bytes, n)?;
+    let end = run.position();
     few_octets(
         alloc,
         module,
@@ -97,7 +99,8 @@ fn short_text<S: Source, K: Origin>(
         &bytes,
         n as usize,
         begin,
-        run.position(),
+        end,
+        &mut run.stop,
         values,
     )
 }
@@ -124,12 +127,22 @@ fn long_text<S: Source, K: Origin>(
     ensures pushed { OnOk result (values.new.items ≡ values.old.items ++ newest values.new.items ∷ []) }
     ensures leaf { OnOk result ((text : List ℕ) × (newest values.new.items ≡ text_leaf text)) }
     ensures own { OnOk result (Own module.now node.now (newest values.new.items)) }
-    ensures gives { IsTrue K.told → Gives K.limit K.whole (λ _. newest values.new.items) result (spot run.new.bits.position run.new.nodes) run.new.bits.taken
+    ensures gives { IsTrue K.told → Gives K.limit K.whole (λ _. newest values.new.items) result (spot run.new.bits.position run.new.nodes) run.new.stop run.new.bits.taken
         (kept_by module.now begin (resolve module.now node.now) (octets_behind (piece_of first))) (spot run.old.bits.position run.old.nodes) }
     ensures failed { IsErrOf result Fault.Failed → HasRisen K.faults (S.faults run.new.bits.source.now) }
 {
     let octets = run.octets_behind(alloc, first)?;
-    copied_text(alloc, module, node, &octets, begin, run.position(), values)
+    let end = run.position();
+    copied_text(
+        alloc,
+        module,
+        node,
+        &octets,
+        begin,
+        end,
+        &mut run.stop,
+        values,
+    )
 }
 
 // Puts the text of the first `count` bytes, which were read from a bit to another, behind others, where it is one and keeps
@@ -144,6 +157,7 @@ fn few_octets(
     count: usize,
     begin: u64,
     end: u64,
+    stop: &mut Stop,
     values: &mut Vec<Tree<ValueLabel>>,
 ) -> Result<(), Fault>
     requires few { count ≤ 22 }
@@ -153,13 +167,13 @@ fn few_octets(
     ensures pushed { OnOk result (values.new.items ≡ values.old.items ++ text_leaf (take count bytes.now) ∷ []) }
     ensures ok { OnOk result (IsUtf8 (take count bytes.now) × Own module.now node.now (text_leaf (take count bytes.now))) }
     ensures err { IfErr result (λ fault. (fault ≡ Fault.Memory)
-        ⊎ ((fault ≡ Fault.Stopped (record { bit = begin; why = Why.NotUtf8; end = end })) × (IsUtf8 (take count bytes.now) → ⊥))
-        ⊎ ((fault ≡ Fault.Stopped (record { bit = begin; why = Why.NotAValue; end = end })) × IsUtf8 (take count bytes.now) × (Own module.now node.now (text_leaf (take count bytes.now)) → ⊥))) }
+        ⊎ ((fault ≡ Fault.Stopped) × (stop.new ≡ record { bit = begin; why = Why.NotUtf8; end = end }) × (IsUtf8 (take count bytes.now) → ⊥))
+        ⊎ ((fault ≡ Fault.Stopped) × (stop.new ≡ record { bit = begin; why = Why.NotAValue; end = end }) × IsUtf8 (take count bytes.now) × (Own module.now node.now (text_leaf (take count bytes.now)) → ⊥))) }
 {
     match Text::of_ascii(*bytes, count) {
         Some(text) => {
             if is_plain(module, found, &bytes[..count]) {
-                values.push(Tree::leaf(alloc, ValueLabel::Utf8(text)))?;
+                put(values, Tree::leaf(alloc, ValueLabel::Utf8(text)))?;
                 return Ok(());
             }
             owned(
@@ -169,10 +183,20 @@ fn few_octets(
                 Tree::leaf(alloc, ValueLabel::Utf8(text)),
                 begin,
                 end,
+                stop,
                 values,
             )
         }
-        None => copied_text(alloc, module, node, &bytes[..count], begin, end, values),
+        None => copied_text(
+            alloc,
+            module,
+            node,
+            &bytes[..count],
+            begin,
+            end,
+            stop,
+            values,
+        ),
     }
 }
 
@@ -185,6 +209,7 @@ fn copied_text(
     octets: &[u8],
     begin: u64,
     end: u64,
+    stop: &mut Stop,
     values: &mut Vec<Tree<ValueLabel>>,
 ) -> Result<(), Fault>
     requires known { IsKnown module.now }
@@ -192,8 +217,8 @@ fn copied_text(
     ensures pushed { OnOk result (values.new.items ≡ values.old.items ++ text_leaf octets.now ∷ []) }
     ensures ok { OnOk result (IsUtf8 octets.now × Own module.now node.now (text_leaf octets.now)) }
     ensures err { IfErr result (λ fault. (fault ≡ Fault.Memory)
-        ⊎ ((fault ≡ Fault.Stopped (record { bit = begin; why = Why.NotUtf8; end = end })) × (IsUtf8 octets.now → ⊥))
-        ⊎ ((fault ≡ Fault.Stopped (record { bit = begin; why = Why.NotAValue; end = end })) × IsUtf8 octets.now × (Own module.now node.now (text_leaf octets.now) → ⊥))) }
+        ⊎ ((fault ≡ Fault.Stopped) × (stop.new ≡ record { bit = begin; why = Why.NotUtf8; end = end }) × (IsUtf8 octets.now → ⊥))
+        ⊎ ((fault ≡ Fault.Stopped) × (stop.new ≡ record { bit = begin; why = Why.NotAValue; end = end }) × IsUtf8 octets.now × (Own module.now node.now (text_leaf octets.now) → ⊥))) }
 {
     match Text::of(alloc, octets) {
         Ok(text) => owned(
@@ -203,9 +228,10 @@ fn copied_text(
             Tree::leaf(alloc, ValueLabel::Utf8(text)),
             begin,
             end,
+            stop,
             values,
         ),
-        Err(TextError::NotUtf8) => Err(stopped(begin, Why::NotUtf8, end)),
+        Err(TextError::NotUtf8) => Err(stopped(stop, begin, Why::NotUtf8, end)),
         Err(TextError::Memory) => Err(Fault::Memory),
     }
 }

@@ -4,7 +4,7 @@ ghost use Rattle.simple_values.specs.Lexical.{is_128_bits};
 ghost use Rattle.simple_types.specs.Sound.{AreBounds};
 ghost use Rattle.per_fields.specs.Widths.{distance, raised, magnitude, more_signed, signed_of};
 
-use crate::faults::{Fault, stopped};
+use crate::faults::Fault;
 use crate::numbers::width_of;
 use crate::run::{Origin, Run};
 use per_fields::Why;
@@ -67,18 +67,18 @@ impl<'a, S: Source, K: Origin> Run<'a, S, K> {
         ensures on { OnOk result (GoesOn self.old.bits.position self.new.bits.position self.new.bits.taken) }
         ensures nodes { self.new.nodes ≡ self.old.nodes }
         ensures bounds { IfOk result (λ z. is_from (Some lo) z ≡ true) }
-        ensures gives { IsTrue K.told → Gives K.limit K.whole (λ x. x) result (spot self.new.bits.position self.new.nodes) self.new.bits.taken
+        ensures gives { IsTrue K.told → Gives K.limit K.whole (λ x. x) result (spot self.new.bits.position self.new.nodes) self.new.stop self.new.bits.taken
             (from_octets_at lo more) (spot self.old.bits.position self.old.nodes) }
         ensures failed { IsErrOf result Fault.Failed → HasRisen K.faults (S.faults self.new.bits.source.now) }
     {
         let begin = self.position();
         let x = self.take_number(alloc, more + 1)?;
         if 0 < more && x < 1u128 << (8 * more) {
-            return Err(stopped(begin, Why::NotShortest, self.position()));
+            return Err(self.stopped(begin, Why::NotShortest));
         }
         match raised(lo, x) {
             Some(z) => Ok(z),
-            None => Err(stopped(begin, Why::TooWide, self.position())),
+            None => Err(self.stopped(begin, Why::TooWide)),
         }
     }
 
@@ -90,7 +90,7 @@ impl<'a, S: Source, K: Origin> Run<'a, S, K> {
         ensures on { OnOk result (GoesOn self.old.bits.position self.new.bits.position self.new.bits.taken) }
         ensures nodes { self.new.nodes ≡ self.old.nodes }
         ensures bounds { IfOk result (λ z. is_from (Some lo) z ≡ true) }
-        ensures gives { IsTrue K.told → Gives K.limit K.whole (λ x. x) result (spot self.new.bits.position self.new.nodes) self.new.bits.taken
+        ensures gives { IsTrue K.told → Gives K.limit K.whole (λ x. x) result (spot self.new.bits.position self.new.nodes) self.new.stop self.new.bits.taken
             (from_at lo) (spot self.old.bits.position self.old.nodes) }
         ensures failed { IsErrOf result Fault.Failed → HasRisen K.faults (S.faults self.new.bits.source.now) }
     {
@@ -108,7 +108,7 @@ impl<'a, S: Source, K: Origin> Run<'a, S, K> {
         ensures on { OnOk result (GoesOn self.old.bits.position self.new.bits.position self.new.bits.taken) }
         ensures nodes { self.new.nodes ≡ self.old.nodes }
         ensures bounds { IfOk result (λ z. is_to hi z ≡ true) }
-        ensures gives { IsTrue K.told → Gives K.limit K.whole (λ x. x) result (spot self.new.bits.position self.new.nodes) self.new.bits.taken
+        ensures gives { IsTrue K.told → Gives K.limit K.whole (λ x. x) result (spot self.new.bits.position self.new.nodes) self.new.stop self.new.bits.taken
             (signed_octets_at hi more) (spot self.old.bits.position self.old.nodes) }
         ensures failed { IsErrOf result Fault.Failed → HasRisen K.faults (S.faults self.new.bits.source.now) }
     {
@@ -116,10 +116,10 @@ impl<'a, S: Source, K: Origin> Run<'a, S, K> {
         let x = self.take_number(alloc, more + 1)?;
         let z = signed_of(x, more);
         if more_signed(z) < more {
-            return Err(stopped(begin, Why::NotShortest, self.position()));
+            return Err(self.stopped(begin, Why::NotShortest));
         }
         if hi.is_some_and(|hi| hi < z) {
-            return Err(stopped(begin, Why::Range, self.position()));
+            return Err(self.stopped(begin, Why::Range));
         }
         Ok(z)
     }
@@ -132,7 +132,7 @@ impl<'a, S: Source, K: Origin> Run<'a, S, K> {
         ensures on { OnOk result (GoesOn self.old.bits.position self.new.bits.position self.new.bits.taken) }
         ensures nodes { self.new.nodes ≡ self.old.nodes }
         ensures bounds { IfOk result (λ z. is_to hi z ≡ true) }
-        ensures gives { IsTrue K.told → Gives K.limit K.whole (λ x. x) result (spot self.new.bits.position self.new.nodes) self.new.bits.taken
+        ensures gives { IsTrue K.told → Gives K.limit K.whole (λ x. x) result (spot self.new.bits.position self.new.nodes) self.new.stop self.new.bits.taken
             (signed_at hi) (spot self.old.bits.position self.old.nodes) }
         ensures failed { IsErrOf result Fault.Failed → HasRisen K.faults (S.faults self.new.bits.source.now) }
     {
@@ -150,7 +150,7 @@ impl<'a, S: Source, K: Origin> Run<'a, S, K> {
         ensures on { OnOk result (GoesOn self.old.bits.position self.new.bits.position self.new.bits.taken) }
         ensures nodes { self.new.nodes ≡ self.old.nodes }
         ensures bounds { IfOk result (λ z. (is_from (Some lo) z ≡ true) × (is_to (Some hi) z ≡ true)) }
-        ensures gives { IsTrue K.told → Gives K.limit K.whole (λ x. x) result (spot self.new.bits.position self.new.nodes) self.new.bits.taken
+        ensures gives { IsTrue K.told → Gives K.limit K.whole (λ x. x) result (spot self.new.bits.position self.new.nodes) self.new.stop self.new.bits.taken
             (ranged_at lo hi) (spot self.old.bits.position self.old.nodes) }
         ensures failed { IsErrOf result Fault.Failed → HasRisen K.faults (S.faults self.new.bits.source.now) }
     {
@@ -176,7 +176,7 @@ impl<'a, S: Source, K: Origin> Run<'a, S, K> {
         ensures on { OnOk result (GoesOn self.old.bits.position self.new.bits.position self.new.bits.taken) }
         ensures nodes { self.new.nodes ≡ self.old.nodes }
         ensures bounds { IfOk result (λ z. (is_from lo z ≡ true) × (is_to hi z ≡ true)) }
-        ensures gives { IsTrue K.told → Gives K.limit K.whole (λ x. x) result (spot self.new.bits.position self.new.nodes) self.new.bits.taken
+        ensures gives { IsTrue K.told → Gives K.limit K.whole (λ x. x) result (spot self.new.bits.position self.new.nodes) self.new.stop self.new.bits.taken
             (whole_at lo hi) (spot self.old.bits.position self.old.nodes) }
         ensures failed { IsErrOf result Fault.Failed → HasRisen K.faults (S.faults self.new.bits.source.now) }
     {

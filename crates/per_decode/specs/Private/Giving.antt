@@ -7,7 +7,9 @@ use Rattle.per_fields.specs.declared.stops.Why.TheVariants as reasons
 use Rattle.per_fields.specs.Reading.{Reader, stop_at}
 use Rattle.per_decode.specs.Answers.{is_short}
 use Rattle.per_decode.specs.declared.faults.Fault.{Fault}
-use Rattle.per_decode.specs.declared.faults.Fault.TheVariants.{Stopped, Short, TooLong, Failed, Memory}
+use Rattle.per_decode.specs.declared.faults.Fault.TheVariants as fault
+use Rattle.per_decode.specs.declared.errors.DecodeError.{DecodeError}
+use Rattle.per_decode.specs.declared.errors.DecodeError.TheVariants as error
 
 -- the bits of the octets that may be taken
 abbrev pub input : ℕ → List ℕ → List Bool
@@ -25,31 +27,59 @@ abbrev pub IsRead : {B : Type 0} → Result (B × Spot) Stop → Type 0
 IsRead (Ok x) = Unit {0}
 IsRead (Err stop) = ⊥
 
+-- a fault, with what of the stop belongs to it
+pub data Halt : Type 0 where
+  stopped : Stop → Halt
+  short : ℕ → Halt
+  too_long : ℕ → Halt
+  failed : Halt
+  memory : Halt
+
+abbrev pub halt_of : Fault → Stop → Halt
+halt_of fault.Stopped stop = stopped stop
+halt_of fault.Short stop = short stop.bit
+halt_of fault.TooLong stop = too_long stop.bit
+halt_of fault.Failed stop = failed
+halt_of fault.Memory stop = memory
+
+-- what the caller is told of it
+abbrev pub error_of : Halt → DecodeError
+error_of (stopped stop) = error.Bad stop.bit stop.why
+error_of (short bit) = error.Bad bit reasons.Short
+error_of (too_long bit) = error.TooLong
+error_of failed = error.Failed
+error_of memory = error.Memory
+
 module _ (limit : ℕ) (whole : List ℕ) where
   -- After a fault so many octets were taken, and none behind the bit at which reading ends; after one of the source not all that
   -- hold what is read. Where all octets were taken, there are no more of them, or no more may be taken.
-  abbrev pub FailsAt : {B : Type 0} → Fault → ℕ → Result (B × Spot) Stop → Type 0
-  FailsAt Memory taken read = 8 * taken ≤ end_of read + 7
-  FailsAt Failed taken read = (8 * taken ≤ end_of read + 7) × (IsRead read → 8 * taken < end_of read)
-  FailsAt (Short bit) taken read = (read ≡ Err (stop_at bit reasons.Short (8 * taken))) × (length whole < limit)
-  FailsAt (TooLong bit) taken read = (read ≡ Err (stop_at bit reasons.Short (8 * taken))) × (limit ≤ length whole)
-  FailsAt (Stopped stop) taken read = (read ≡ Err stop) × (8 * taken ≤ stop.end + 7) × (is_short stop.why ≡ false)
+  abbrev pub FailsAt : {B : Type 0} → Halt → ℕ → Result (B × Spot) Stop → Type 0
+  FailsAt memory taken read = 8 * taken ≤ end_of read + 7
+  FailsAt failed taken read = (8 * taken ≤ end_of read + 7) × (IsRead read → 8 * taken < end_of read)
+  FailsAt (short bit) taken read = (read ≡ Err (stop_at bit reasons.Short (8 * taken))) × (length whole < limit)
+  FailsAt (too_long bit) taken read = (read ≡ Err (stop_at bit reasons.Short (8 * taken))) × (limit ≤ length whole)
+  FailsAt (stopped stop) taken read = (read ≡ Err stop) × (8 * taken ≤ stop.end + 7) × (is_short stop.why ≡ false)
 
   -- the value that is read, and the spot behind it, or a fault
-  abbrev pub Shows : {A B : Type 0} → (A → B) → Result A Fault → Spot → ℕ → Result (B × Spot) Stop → Type 0
-  Shows view (Ok x) new taken found = found ≡ Ok (view x, new)
-  Shows view (Err fault) new taken found = FailsAt fault taken found
+  abbrev pub Shows : {A B : Type 0} → (A → B) → Result A Fault → Spot → Stop → ℕ → Result (B × Spot) Stop → Type 0
+  Shows view (Ok x) new stop taken found = found ≡ Ok (view x, new)
+  Shows view (Err fault) new stop taken found = FailsAt (halt_of fault stop) taken found
 
   -- a reader shows this from a spot on
-  abbrev pub Gives : {A B : Type 0} → (A → B) → Result A Fault → Spot → ℕ → Reader B → Spot → Type 0
-  Gives view result new taken read old = Shows view result new taken (read (input limit whole) old)
+  abbrev pub Gives : {A B : Type 0} → (A → B) → Result A Fault → Spot → Stop → ℕ → Reader B → Spot → Type 0
+  Gives view result new stop taken read old = Shows view result new stop taken (read (input limit whole) old)
+
+  -- the same of what the caller is told
+  abbrev pub Tells : {A B : Type 0} → (A → B) → Result A DecodeError → Spot → ℕ → Result (B × Spot) Stop → Type 0
+  Tells view (Ok x) new taken found = found ≡ Ok (view x, new)
+  Tells view (Err e) new taken found = (halt : Halt) × (error_of halt ≡ e) × FailsAt halt taken found
 
   -- what a reader from the first octet on gave, and how many octets were taken, as what it gave tells too
-  pub record Ended {A B : Type 0} (view : A → B) (octets_of : A → ℕ) (result : Result A Fault) (new : Option (List ℕ)) (read : Reader B) : Type 0 where
+  pub record Ended {A B : Type 0} (view : A → B) (octets_of : A → ℕ) (result : Result A DecodeError) (new : Option (List ℕ)) (read : Reader B) : Type 0 where
     pub taken : ℕ
     pub inside : taken ≤ length whole
     pub limited : taken ≤ limit
     pub rest : new ≡ Some (drop taken whole)
     pub end : Spot
     pub octets : IfOk result (λ x. (end.at ≡ 8 * taken) × (octets_of x ≡ taken))
-    pub gives : Gives view result end taken read (spot 0 0)
+    pub gives : Tells view result end taken (read (input limit whole) (spot 0 0))

@@ -2,8 +2,7 @@ use Rattle.std.proofs.Common.{arith, rules, sym, ◌∙◌, subst}
 use Rattle.std.proofs.lemmas.List.{drop_all}
 use Rattle.std.proofs.lemmas.Result.{err_from_is_err_and}
 use Rattle.per_fields.specs.Nodes.{flag_at}
-use Rattle.per_decode.specs.declared.faults.Fault.TheVariants.{Memory}
-use Rattle.per_decode.specs.Private.Giving.{input, spot, FailsAt}
+use Rattle.per_decode.specs.Private.Giving.{halt_of, memory, input, spot, FailsAt}
 use Rattle.per_decode.proofs.EndNodes.{sits-flag}
 use Rattle.per_decode.proofs.Loop.{here_split, each_more, each_done, each_fails, each_full}
 use Rattle.per_decode.proofs.Presence.{present_more, present_all}
@@ -17,8 +16,8 @@ returns-in_err-there-clause-gives g c = λ told.
     let run = c.parts.run in
     let i = stands_inside run.bits.position run.bits.taken run.bits.held run.bits.limit g.K.Origin.limit g.K.Origin.whole _ run.limited run.bits.behind run.bits.within (run.here told) in
     let k = each_fails flag_at c.parts.present X (spot run.bits.position run.nodes) c.part-item.result _ _ (here_split c.args.parts.now c.parts.part-index c.part-item.result c.parts-test.true c.part-item.is)
-    sits-flag g.K.Origin.limit g.K.Origin.whole c.in_err-there.field-0.0 c.presence_bit.new.run.bits.taken i (c.in_err-there.ensures.gives told) in
-    rw (p.1, p.2) (subst (FailsAt g.K.Origin.limit g.K.Origin.whole c.in_err-there.field-0.0 c.presence_bit.new.run.bits.taken) (c.parts.invariant.so_far told) k)
+    sits-flag g.K.Origin.limit g.K.Origin.whole (halt_of c.in_err-there.field-0.0 c.presence_bit.new.run.stop) c.presence_bit.new.run.bits.taken i (c.in_err-there.ensures.gives told) in
+    rw (p.1, p.2) (subst (FailsAt g.K.Origin.limit g.K.Origin.whole (halt_of c.in_err-there.field-0.0 c.presence_bit.new.run.stop) c.presence_bit.new.run.bits.taken) (c.parts.invariant.so_far told) k)
 
 pub returns-in_err-push-clause-gives : goal.returns-in_err-push-clause-gives
 returns-in_err-push-clause-gives g c = λ told.
@@ -29,7 +28,7 @@ returns-in_err-push-clause-gives g c = λ told.
     let i = stands_inside run.bits.position run.bits.taken run.bits.held run.bits.limit g.K.Origin.limit g.K.Origin.whole _ run.limited run.bits.behind run.bits.within (run.here told) in
     let k = each_full flag_at c.parts.present X (spot old.bits.position old.nodes) c.part-item.result _ _ (here_split c.args.parts.now c.parts.part-index c.part-item.result c.parts-test.true c.part-item.is)
     sits-flag g.K.Origin.limit g.K.Origin.whole c.in_ok-there.there (spot run.bits.position run.nodes) run.bits.taken (c.in_ok-there.ensures.gives told) i (omega (arith, c.in_ok-there.ensures.on.1)) in
-    rw (p.1, p.2) (subst (FailsAt g.K.Origin.limit g.K.Origin.whole Memory run.bits.taken) (c.parts.invariant.so_far told) k)
+    rw (p.1, p.2) (subst (FailsAt g.K.Origin.limit g.K.Origin.whole memory run.bits.taken) (c.parts.invariant.so_far told) k)
 
 pub parts-preserved : goal.parts-preserved
 parts-preserved g c =

@@ -16,7 +16,7 @@ use Rattle.asn_types.proofs.Chaining.{resolved-of-module, well-formed}
 use Rattle.asn_types.proofs.Counting.{replicate-drop, fits-from_kids}
 use Rattle.per_fields.specs.Fields.{fragments_at, counted_at, list_at}
 use Rattle.per_fields.specs.Nodes.{items_at, is_no_text}
-use Rattle.per_decode.specs.Private.Giving.{input, spot, end_of, FailsAt, Gives}
+use Rattle.per_decode.specs.Private.Giving.{halt_of, input, spot, end_of, FailsAt, Gives}
 use Rattle.per_decode.specs.Private.Bodies.{HasFields, IsNoText, fields_at, kid_at, node_of, many_at, FitAll}
 use Rattle.per_decode.proofs.Bodies.{node-deep, node-many, node-goes, fields_fail, text-body, body_gives, body_plain}
 use Rattle.per_decode.proofs.EndNodes.{sits-node}
@@ -39,20 +39,20 @@ use Rattle.per_decode.proofs.nodes.+nodes.Goals as goal
 pub node-returns-then-depth-gt-MOST_DEEP-clause-gives : goal.node-returns-then-depth-gt-MOST_DEEP-clause-gives
 node-returns-then-depth-gt-MOST_DEEP-clause-gives g t c = λ told.
     let run = c.args.run.now in
-    rw (c.stopped.ensures, c.position-begin.ensures)
+    rw (c.stopped.ensures.fault, c.stopped.ensures.stop, c.stopped.ensures.bits, c.position-begin.ensures)
     (node-deep c.args.module.now c.requires.known c.args.depth c.args.node.now c.requires.of (input g.K.Origin.limit g.K.Origin.whole) (spot run.bits.position run.nodes) c.if-depth-gt-MOST_DEEP.true, omega (arith, c.requires.in_step), refl)
 
 pub node-returns-then-run-ge-MOST_NODES-clause-gives : goal.node-returns-then-run-ge-MOST_NODES-clause-gives
 node-returns-then-run-ge-MOST_NODES-clause-gives g t c = λ told.
     let run = c.args.run.now in
-    rw (c.stopped-then-run-ge-MOST_NODES.ensures, c.position-begin.ensures)
+    rw (c.stopped-then-run-ge-MOST_NODES.ensures.fault, c.stopped-then-run-ge-MOST_NODES.ensures.stop, c.stopped-then-run-ge-MOST_NODES.ensures.bits, c.position-begin.ensures)
     (node-many c.args.module.now c.requires.known c.args.depth c.args.node.now c.requires.of (input g.K.Origin.limit g.K.Origin.whole) (spot run.bits.position run.nodes) c.if-depth-gt-MOST_DEEP.false c.if-run-ge-MOST_NODES.true, omega (arith, c.requires.in_step), refl)
 
 pub node-returns-clause-gives : goal.node-returns-clause-gives
 node-returns-clause-gives g t c = λ told.
     let run = c.args.run.now in
     let goes = node-goes c.args.module.now c.requires.known c.args.depth c.args.node.now c.requires.of (input g.K.Origin.limit g.K.Origin.whole) (spot run.bits.position run.nodes) c.if-depth-gt-MOST_DEEP.false c.if-run-ge-MOST_NODES.false in
-    shows_as g.K.Origin.limit g.K.Origin.whole (λ _. newest c.body.new.values.items) c.body.result _ _ _ _ goes (rw c.position-begin.ensures at (c.body.ensures.gives told))
+    shows_as g.K.Origin.limit g.K.Origin.whole (λ _. newest c.body.new.values.items) c.body.result _ _ _ _ _ goes (rw c.position-begin.ensures at (c.body.ensures.gives told))
 
 -- ITS FIELDS AND ITS RULES
 
@@ -71,7 +71,7 @@ body-returns-in-Utf8 g t c =
       gives = λ told.
           let old = c.args.run.now in
           let new = c.text.new.run in
-          shows_as g.K.Origin.limit g.K.Origin.whole (λ _. v) c.text.result _ _ _ _ (text-body M c.requires.known c.args.depth u c.requires.of c.args.begin (input g.K.Origin.limit g.K.Origin.whole) (spot old.bits.position old.nodes) _ _ _ is) (c.text.ensures.gives told);
+          shows_as g.K.Origin.limit g.K.Origin.whole (λ _. v) c.text.result _ _ _ _ _ (text-body M c.requires.known c.args.depth u c.requires.of c.args.begin (input g.K.Origin.limit g.K.Origin.whole) (spot old.bits.position old.nodes) _ _ _ is) (c.text.ensures.gives told);
       failed = search rules;
     }
 
@@ -104,8 +104,8 @@ body-returns-then-has_no_rules g t c =
           let old = c.args.run.now in
           let new = c.fields.new.run in
           let i = stands_inside old.bits.position old.bits.taken old.bits.held old.bits.limit g.K.Origin.limit g.K.Origin.whole _ old.limited old.bits.behind old.bits.within (old.here told) in
-          body_plain M c.requires.known c.args.depth c.args.node.now c.requires.of c.args.begin (spot old.bits.position old.nodes) (spot new.bits.position new.nodes) g.K.Origin.limit g.K.Origin.whole new.bits.taken v c.fields.result i own c.fields.ensures.text
-          (subst (λ u. Gives g.K.Origin.limit g.K.Origin.whole (λ _. v) c.fields.result (spot new.bits.position new.nodes) new.bits.taken (fields_at M c.args.depth u) (spot old.bits.position old.nodes)) c.requires.found (c.fields.ensures.gives told));
+          body_plain M c.requires.known c.args.depth c.args.node.now c.requires.of c.args.begin (spot old.bits.position old.nodes) (spot new.bits.position new.nodes) g.K.Origin.limit g.K.Origin.whole new.stop new.bits.taken v c.fields.result i own c.fields.ensures.text
+          (subst (λ u. Gives g.K.Origin.limit g.K.Origin.whole (λ _. v) c.fields.result (spot new.bits.position new.nodes) new.stop new.bits.taken (fields_at M c.args.depth u) (spot old.bits.position old.nodes)) c.requires.found (c.fields.ensures.gives told));
       failed = search rules;
     }
 
@@ -131,7 +131,7 @@ ruled-returns-in_err-fields g t c =
           let p = err_from_is_err_and c.from_residual.result c.from_residual.ensures.1 in
           let old = c.args.run.now in
           let i = stands_inside old.bits.position old.bits.taken old.bits.held old.bits.limit g.K.Origin.limit g.K.Origin.whole _ old.limited old.bits.behind old.bits.within (old.here told) in
-          rw (p.1, p.2) (fields_fail c.args.module.now c.requires.known c.args.depth c.args.node.now c.requires.of c.args.begin (input g.K.Origin.limit g.K.Origin.whole) (spot old.bits.position old.nodes) g.K.Origin.limit g.K.Origin.whole c.in_err-fields.field-0.0 c.fields.new.run.bits.taken i (rw c.requires.found at (c.in_err-fields.ensures.gives told)));
+          rw (p.1, p.2) (fields_fail c.args.module.now c.requires.known c.args.depth c.args.node.now c.requires.of c.args.begin (input g.K.Origin.limit g.K.Origin.whole) (spot old.bits.position old.nodes) g.K.Origin.limit g.K.Origin.whole (halt_of c.in_err-fields.field-0.0 c.fields.new.run.stop) c.fields.new.run.bits.taken i (rw c.requires.found at (c.in_err-fields.ensures.gives told)));
       failed = search rules;
     }
 
@@ -152,10 +152,10 @@ ruled-returns g t c =
           let old = c.args.run.now in
           let new = c.fields.new.run in
           let read = subst (λ x. fields_at M c.args.depth c.args.found.now (input g.K.Origin.limit g.K.Origin.whole) (spot old.bits.position old.nodes) ≡ Ok (x, spot new.bits.position new.nodes)) is (c.in_ok-fields.ensures.gives told) in
-          body_gives M c.requires.known c.args.depth c.args.node.now c.requires.of c.args.begin (spot old.bits.position old.nodes) v (spot new.bits.position new.nodes) g.K.Origin.limit g.K.Origin.whole new.bits.taken w c.owned.result
+          body_gives M c.requires.known c.args.depth c.args.node.now c.requires.of c.args.begin (spot old.bits.position old.nodes) v (spot new.bits.position new.nodes) g.K.Origin.limit g.K.Origin.whole c.owned.new.stop new.bits.taken w c.owned.result
           (subst (λ u. fields_at M c.args.depth u (input g.K.Origin.limit g.K.Origin.whole) (spot old.bits.position old.nodes) ≡ Ok (v, spot new.bits.position new.nodes)) c.requires.found read)
           (subst (λ (x : Rose ValueLabel). is_no_text (label_of x) ≡ false) is c.in_ok-fields.ensures.text)
-          (omega (arith, c.in_ok-fields.ensures.on.1)) same c.owned.ensures.ok (rw c.position.ensures at c.owned.ensures.err);
+          (omega (arith, c.in_ok-fields.ensures.on.1)) same c.owned.ensures.ok (rw c.position-end.ensures at c.owned.ensures.err);
       failed = search rules;
     }
 
@@ -220,7 +220,7 @@ pub fields-returns-in-Bool-clause-gives : goal.fields-returns-in-Bool-clause-giv
 fields-returns-in-Bool-clause-gives g t c = λ told.
     let e = ap (λ l. l.form) (sym c.label.ensures) ∙ c.in-Bool.is in
     let old = c.args.run.now in
-    shows_as g.K.Origin.limit g.K.Origin.whole (λ _. newest c.boolean.new.values.items) c.boolean.result _ _ _ _ (fields-bool c.args.module.now c.args.depth c.args.found.now (input g.K.Origin.limit g.K.Origin.whole) (spot old.bits.position old.nodes) e) (c.boolean.ensures.gives told)
+    shows_as g.K.Origin.limit g.K.Origin.whole (λ _. newest c.boolean.new.values.items) c.boolean.result _ _ _ _ _ (fields-bool c.args.module.now c.args.depth c.args.found.now (input g.K.Origin.limit g.K.Origin.whole) (spot old.bits.position old.nodes) e) (c.boolean.ensures.gives told)
 
 pub fields-returns-in-Int-clause-fits : goal.fields-returns-in-Int-clause-fits
 fields-returns-in-Int-clause-fits g t c =
@@ -231,7 +231,7 @@ pub fields-returns-in-Int-clause-gives : goal.fields-returns-in-Int-clause-gives
 fields-returns-in-Int-clause-gives g t c = λ told.
     let e = ap (λ l. l.form) (sym c.label.ensures) ∙ c.in-Int.is in
     let old = c.args.run.now in
-    shows_as g.K.Origin.limit g.K.Origin.whole (λ _. newest c.integer.new.values.items) c.integer.result _ _ _ _ (fields-int c.args.module.now c.args.depth c.args.found.now (input g.K.Origin.limit g.K.Origin.whole) (spot old.bits.position old.nodes) _ _ e) (c.integer.ensures.gives told)
+    shows_as g.K.Origin.limit g.K.Origin.whole (λ _. newest c.integer.new.values.items) c.integer.result _ _ _ _ _ (fields-int c.args.module.now c.args.depth c.args.found.now (input g.K.Origin.limit g.K.Origin.whole) (spot old.bits.position old.nodes) _ _ e) (c.integer.ensures.gives told)
 
 pub fields-returns-in-Numbers-clause-fits : goal.fields-returns-in-Numbers-clause-fits
 fields-returns-in-Numbers-clause-fits g t c =
@@ -242,7 +242,7 @@ pub fields-returns-in-Numbers-clause-gives : goal.fields-returns-in-Numbers-clau
 fields-returns-in-Numbers-clause-gives g t c = λ told.
     let e = ap (λ l. l.form) (sym c.label.ensures) ∙ c.in-Numbers.is in
     let old = c.args.run.now in
-    shows_as g.K.Origin.limit g.K.Origin.whole (λ _. newest c.enumerated.new.values.items) c.enumerated.result _ _ _ _ (fields-numbers c.args.module.now c.args.depth c.args.found.now (input g.K.Origin.limit g.K.Origin.whole) (spot old.bits.position old.nodes) _ e) (rw c.items.ensures at (c.enumerated.ensures.gives told))
+    shows_as g.K.Origin.limit g.K.Origin.whole (λ _. newest c.enumerated.new.values.items) c.enumerated.result _ _ _ _ _ (fields-numbers c.args.module.now c.args.depth c.args.found.now (input g.K.Origin.limit g.K.Origin.whole) (spot old.bits.position old.nodes) _ e) (rw c.items.ensures at (c.enumerated.ensures.gives told))
 
 pub fields-returns-in-Words-clause-fits : goal.fields-returns-in-Words-clause-fits
 fields-returns-in-Words-clause-fits g t c =
@@ -253,25 +253,25 @@ pub fields-returns-in-Words-clause-gives : goal.fields-returns-in-Words-clause-g
 fields-returns-in-Words-clause-gives g t c = λ told.
     let e = ap (λ l. l.form) (sym c.label.ensures) ∙ c.in-Words.is in
     let old = c.args.run.now in
-    shows_as g.K.Origin.limit g.K.Origin.whole (λ _. newest c.enumerated-in-Words.new.values.items) c.enumerated-in-Words.result _ _ _ _ (fields-words c.args.module.now c.args.depth c.args.found.now (input g.K.Origin.limit g.K.Origin.whole) (spot old.bits.position old.nodes) _ _ e) (rw c.items-in-Words.ensures at (c.enumerated-in-Words.ensures.gives told))
+    shows_as g.K.Origin.limit g.K.Origin.whole (λ _. newest c.enumerated-in-Words.new.values.items) c.enumerated-in-Words.result _ _ _ _ _ (fields-words c.args.module.now c.args.depth c.args.found.now (input g.K.Origin.limit g.K.Origin.whole) (spot old.bits.position old.nodes) _ _ e) (rw c.items-in-Words.ensures at (c.enumerated-in-Words.ensures.gives told))
 
 pub fields-returns-in-Sequence-clause-gives : goal.fields-returns-in-Sequence-clause-gives
 fields-returns-in-Sequence-clause-gives g t c = λ told.
     let e = ap (λ l. l.form) (sym c.label.ensures) ∙ c.in-Sequence.is in
     let old = c.args.run.now in
-    shows_as g.K.Origin.limit g.K.Origin.whole (λ _. newest c.sequence.new.values.items) c.sequence.result _ _ _ _ (fields-sequence c.args.module.now c.args.depth c.args.found.now (input g.K.Origin.limit g.K.Origin.whole) (spot old.bits.position old.nodes) _ e) (rw c.items-in-Sequence.ensures at (c.sequence.ensures.gives told))
+    shows_as g.K.Origin.limit g.K.Origin.whole (λ _. newest c.sequence.new.values.items) c.sequence.result _ _ _ _ _ (fields-sequence c.args.module.now c.args.depth c.args.found.now (input g.K.Origin.limit g.K.Origin.whole) (spot old.bits.position old.nodes) _ e) (rw c.items-in-Sequence.ensures at (c.sequence.ensures.gives told))
 
 pub fields-returns-in-Choice-clause-gives : goal.fields-returns-in-Choice-clause-gives
 fields-returns-in-Choice-clause-gives g t c = λ told.
     let e = ap (λ l. l.form) (sym c.label.ensures) ∙ c.in-Choice.is in
     let old = c.args.run.now in
-    shows_as g.K.Origin.limit g.K.Origin.whole (λ _. newest c.choice.new.values.items) c.choice.result _ _ _ _ (fields-choice c.args.module.now c.args.depth c.args.found.now (input g.K.Origin.limit g.K.Origin.whole) (spot old.bits.position old.nodes) _ e) (rw c.items-in-Choice.ensures at (c.choice.ensures.gives told))
+    shows_as g.K.Origin.limit g.K.Origin.whole (λ _. newest c.choice.new.values.items) c.choice.result _ _ _ _ _ (fields-choice c.args.module.now c.args.depth c.args.found.now (input g.K.Origin.limit g.K.Origin.whole) (spot old.bits.position old.nodes) _ e) (rw c.items-in-Choice.ensures at (c.choice.ensures.gives told))
 
 pub fields-returns-in-SequenceOf-clause-gives : goal.fields-returns-in-SequenceOf-clause-gives
 fields-returns-in-SequenceOf-clause-gives g t c = λ told.
     let e = ap (λ l. l.form) (sym c.label.ensures) ∙ c.in-SequenceOf.is in
     let old = c.args.run.now in
-    shows_as g.K.Origin.limit g.K.Origin.whole (λ _. newest c.sequence_of.new.values.items) c.sequence_of.result _ _ _ _ (fields-list c.args.module.now c.args.depth c.args.found.now (input g.K.Origin.limit g.K.Origin.whole) (spot old.bits.position old.nodes) _ _ _ e) (c.sequence_of.ensures.gives told)
+    shows_as g.K.Origin.limit g.K.Origin.whole (λ _. newest c.sequence_of.new.values.items) c.sequence_of.result _ _ _ _ _ (fields-list c.args.module.now c.args.depth c.args.found.now (input g.K.Origin.limit g.K.Origin.whole) (spot old.bits.position old.nodes) _ _ _ e) (c.sequence_of.ensures.gives told)
 
 -- A SEQUENCE
 
@@ -280,46 +280,46 @@ sequence-returns-in_err-count-clause-gives g t c = λ told.
     let p = err_from_is_err_and c.from_residual.result c.from_residual.ensures.1 in
     let old = c.args.run.now in
     let i = stands_inside old.bits.position old.bits.taken old.bits.held old.bits.limit g.K.Origin.limit g.K.Origin.whole _ old.limited old.bits.behind old.bits.within (old.here told) in
-    rw (p.1, p.2) (sequence_fails c.args.module.now c.args.depth (label_of c.args.found.now) (kids_of c.args.found.now) c.args.parts.now (input g.K.Origin.limit g.K.Origin.whole) (spot old.bits.position old.nodes) g.K.Origin.limit g.K.Origin.whole c.in_err-count.field-0.0 c.presence.new.run.bits.taken i (c.in_err-count.ensures.gives told))
+    rw (p.1, p.2) (sequence_fails c.args.module.now c.args.depth (label_of c.args.found.now) (kids_of c.args.found.now) c.args.parts.now (input g.K.Origin.limit g.K.Origin.whole) (spot old.bits.position old.nodes) g.K.Origin.limit g.K.Origin.whole (halt_of c.in_err-count.field-0.0 c.presence.new.run.stop) c.presence.new.run.bits.taken i (c.in_err-count.ensures.gives told))
 
-pub sequence-returns-in_err-kids-clause-gives : goal.sequence-returns-in_err-kids-clause-gives
-sequence-returns-in_err-kids-clause-gives g t c = λ told.
-    let p = err_from_is_err_and c.from_residual-in_err-kids.result c.from_residual-in_err-kids.ensures.1 in
+pub sequence-returns-in_err-components-clause-gives : goal.sequence-returns-in_err-components-clause-gives
+sequence-returns-in_err-components-clause-gives g t c = λ told.
+    let p = err_from_is_err_and c.from_residual-in_err-components.result c.from_residual-in_err-components.ensures.1 in
     let old = c.args.run.now in
     let mid = c.presence.new.run in
     let i = stands_inside mid.bits.position mid.bits.taken mid.bits.held mid.bits.limit g.K.Origin.limit g.K.Origin.whole _ mid.limited mid.bits.behind mid.bits.within (mid.here told) in
-    rw (p.1, p.2) (components_fail c.args.module.now c.args.depth (label_of c.args.found.now) (kids_of c.args.found.now) c.args.parts.now (input g.K.Origin.limit g.K.Origin.whole) (spot old.bits.position old.nodes) c.presence.new.present (spot mid.bits.position mid.nodes) (c.in_ok-count.ensures.gives told) g.K.Origin.limit g.K.Origin.whole c.in_err-kids.field-0.0 c.components.new.run.bits.taken i (rw c.items.ensures at (c.in_err-kids.ensures.gives told)))
+    rw (p.1, p.2) (components_fail c.args.module.now c.args.depth (label_of c.args.found.now) (kids_of c.args.found.now) c.args.parts.now (input g.K.Origin.limit g.K.Origin.whole) (spot old.bits.position old.nodes) c.presence.new.present (spot mid.bits.position mid.nodes) (c.in_ok-count.ensures.gives told) g.K.Origin.limit g.K.Origin.whole (halt_of c.in_err-components.field-0.0 c.components.new.run.stop) c.components.new.run.bits.taken i (rw c.items.ensures at (c.in_err-components.ensures.gives told)))
 
-pub sequence-returns-in_err-push-clause-gives : goal.sequence-returns-in_err-push-clause-gives
-sequence-returns-in_err-push-clause-gives g t c = λ told.
-    let p = err_from_is_err_and c.from_residual-in_err-push.result c.from_residual-in_err-push.ensures.1 in
+pub sequence-returns-in_err-put-clause-gives : goal.sequence-returns-in_err-put-clause-gives
+sequence-returns-in_err-put-clause-gives g t c = λ told.
+    let p = err_from_is_err_and c.from_residual-in_err-put.result c.from_residual-in_err-put.ensures.1 in
     let old = c.args.run.now in
     let mid = c.presence.new.run in
     let new = c.components.new.run in
-    let reads = sequence_reads c.args.module.now c.args.depth (label_of c.args.found.now) (kids_of c.args.found.now) c.args.parts.now (input g.K.Origin.limit g.K.Origin.whole) (spot old.bits.position old.nodes) c.presence.new.present (spot mid.bits.position mid.nodes) (c.in_ok-count.ensures.gives told) c.in_ok-kids.kids.items (spot new.bits.position new.nodes) (rw c.items.ensures at (c.in_ok-kids.ensures.gives told)) in
-    rw (p.1, p.2) (omega (arith, ap end_of reads, c.in_ok-kids.ensures.on.1))
+    let reads = sequence_reads c.args.module.now c.args.depth (label_of c.args.found.now) (kids_of c.args.found.now) c.args.parts.now (input g.K.Origin.limit g.K.Origin.whole) (spot old.bits.position old.nodes) c.presence.new.present (spot mid.bits.position mid.nodes) (c.in_ok-count.ensures.gives told) c.components.new.values.items (spot new.bits.position new.nodes) (rw c.items.ensures at (c.in_ok-components.ensures.gives told)) in
+    rw (p.1, p.2) (omega (arith, ap end_of reads, c.in_ok-components.ensures.on.1))
 
 pub sequence-returns-clause-pushed : goal.sequence-returns-clause-pushed
-sequence-returns-clause-pushed g t c = pushed-newest _ _ _ c.in_ok-push.ensures.items
+sequence-returns-clause-pushed g t c = pushed-newest _ _ _ c.in_ok-put.ensures.items
 
 pub sequence-returns-clause-count : goal.sequence-returns-clause-count
 sequence-returns-clause-count g t c =
-    rw (newest-pushed _ _ _ c.in_ok-push.ensures.items, c.join.ensures) (omega (arith, c.in_ok-kids.ensures.count, c.in_ok-count.ensures.nodes))
+    rw (newest-pushed _ _ _ c.in_ok-put.ensures.items, c.join.ensures) (omega (arith, c.in_ok-components.ensures.count, c.in_ok-count.ensures.nodes))
 
 pub sequence-returns-clause-text : goal.sequence-returns-clause-text
 sequence-returns-clause-text g t c =
-    rw (newest-pushed _ _ _ c.in_ok-push.ensures.items, c.join.ensures) refl
+    rw (newest-pushed _ _ _ c.in_ok-put.ensures.items, c.join.ensures) refl
 
 pub sequence-returns-clause-fits : goal.sequence-returns-clause-fits
 sequence-returns-clause-fits g t c =
-    rw (newest-pushed _ _ _ c.in_ok-push.ensures.items, c.join.ensures) (fit-sequence c.args.module.now c.args.depth c.args.found.now c.args.parts.now c.presence.new.present c.in_ok-kids.kids.items c.requires.form (rw c.items.ensures at c.in_ok-kids.ensures.fits))
+    rw (newest-pushed _ _ _ c.in_ok-put.ensures.items, c.join.ensures) (fit-sequence c.args.module.now c.args.depth c.args.found.now c.args.parts.now c.presence.new.present c.components.new.values.items c.requires.form (rw c.items.ensures at c.in_ok-components.ensures.fits))
 
 pub sequence-returns-clause-gives : goal.sequence-returns-clause-gives
 sequence-returns-clause-gives g t c = λ told.
     let old = c.args.run.now in
     let mid = c.presence.new.run in
     let new = c.components.new.run in
-    rw (newest-pushed _ _ _ c.in_ok-push.ensures.items, c.join.ensures) (sequence_reads c.args.module.now c.args.depth (label_of c.args.found.now) (kids_of c.args.found.now) c.args.parts.now (input g.K.Origin.limit g.K.Origin.whole) (spot old.bits.position old.nodes) c.presence.new.present (spot mid.bits.position mid.nodes) (c.in_ok-count.ensures.gives told) c.in_ok-kids.kids.items (spot new.bits.position new.nodes) (rw c.items.ensures at (c.in_ok-kids.ensures.gives told)))
+    rw (newest-pushed _ _ _ c.in_ok-put.ensures.items, c.join.ensures) (sequence_reads c.args.module.now c.args.depth (label_of c.args.found.now) (kids_of c.args.found.now) c.args.parts.now (input g.K.Origin.limit g.K.Origin.whole) (spot old.bits.position old.nodes) c.presence.new.present (spot mid.bits.position mid.nodes) (c.in_ok-count.ensures.gives told) c.components.new.values.items (spot new.bits.position new.nodes) (rw c.items.ensures at (c.in_ok-components.ensures.gives told)))
 
 -- ITS COMPONENTS
 
@@ -331,8 +331,8 @@ components-parts-init g t c =
       in_step = c.requires.in_step;
       on = omega arith;
       same = refl;
-      count = rw c.with_room-values.ensures (omega arith);
-      through = rw c.with_room-values.ensures (through_none c.args.module.now c.args.depth (label_of c.args.found.now) parts (kids_of c.args.found.now) c.args.present.now (IsTrue g.K.Origin.told) (input g.K.Origin.limit g.K.Origin.whole) _ (places_there (label_of c.args.found.now) 0 parts (kids_of c.args.found.now) c.args.present.now as_many c.requires.present));
+      count = rw c.requires.empty (omega arith);
+      through = rw c.requires.empty (through_none c.args.module.now c.args.depth (label_of c.args.found.now) parts (kids_of c.args.found.now) c.args.present.now (IsTrue g.K.Origin.told) (input g.K.Origin.limit g.K.Origin.whole) _ (places_there (label_of c.args.found.now) 0 parts (kids_of c.args.found.now) c.args.present.now as_many c.requires.present));
     }
 
 pub components-bounds-present-i : goal.components-bounds-present-i
@@ -376,7 +376,7 @@ components-returns-in_err-node-clause-gives g t c = λ told.
     let old = c.parts.run in
     let new = c.node.new.run in
     let j = stands_inside old.bits.position old.bits.taken old.bits.held old.bits.limit g.K.Origin.limit g.K.Origin.whole _ old.limited old.bits.behind old.bits.within (old.here told) in
-    rw (p.1, p.2) (through_fails c.args.module.now c.args.depth (label_of u) parts (kids_of u) flags (IsTrue g.K.Origin.told) (input g.K.Origin.limit g.K.Origin.whole) (spot c.args.run.now.bits.position c.args.run.now.nodes) i c.parts.values.items (spot old.bits.position old.nodes) there.0 kid is_part is_kid is_flag (λ p. sits-node c.args.module.now (below p.role c.args.depth) p.type) told g.K.Origin.limit g.K.Origin.whole c.in_err-node.field-0.0 new.bits.taken j (subst (FailsAt g.K.Origin.limit g.K.Origin.whole c.in_err-node.field-0.0 new.bits.taken) (k.read (input g.K.Origin.limit g.K.Origin.whole) (spot old.bits.position old.nodes)) (c.in_err-node.ensures.gives told)) c.parts.invariant.through)
+    rw (p.1, p.2) (through_fails c.args.module.now c.args.depth (label_of u) parts (kids_of u) flags (IsTrue g.K.Origin.told) (input g.K.Origin.limit g.K.Origin.whole) (spot c.args.run.now.bits.position c.args.run.now.nodes) i c.parts.values.items (spot old.bits.position old.nodes) there.0 kid is_part is_kid is_flag (λ p. sits-node c.args.module.now (below p.role c.args.depth) p.type) told g.K.Origin.limit g.K.Origin.whole (halt_of c.in_err-node.field-0.0 new.stop) new.bits.taken j (subst (FailsAt g.K.Origin.limit g.K.Origin.whole (halt_of c.in_err-node.field-0.0 new.stop) new.bits.taken) (k.read (input g.K.Origin.limit g.K.Origin.whole) (spot old.bits.position old.nodes)) (c.in_err-node.ensures.gives told)) c.parts.invariant.through)
 
 pub components-parts-preserved-then-not-present-i : goal.components-parts-preserved-then-not-present-i
 components-parts-preserved-then-not-present-i g t c =
@@ -479,7 +479,7 @@ choice-returns-in_err-index-clause-gives g t c = λ told.
     let p = err_from_is_err_and c.from_residual.result c.from_residual.ensures.1 in
     let old = c.args.run.now in
     let j = stands_inside old.bits.position old.bits.taken old.bits.held old.bits.limit g.K.Origin.limit g.K.Origin.whole _ old.limited old.bits.behind old.bits.within (old.here told) in
-    rw (p.1, p.2) (choice_fails c.args.module.now c.args.depth (label_of c.args.found.now) (kids_of c.args.found.now) c.args.parts.now (input g.K.Origin.limit g.K.Origin.whole) (spot old.bits.position old.nodes) g.K.Origin.limit g.K.Origin.whole c.in_err-index.field-0.0 c.number.new.self.bits.taken j (c.in_err-index.ensures.gives told))
+    rw (p.1, p.2) (choice_fails c.args.module.now c.args.depth (label_of c.args.found.now) (kids_of c.args.found.now) c.args.parts.now (input g.K.Origin.limit g.K.Origin.whole) (spot old.bits.position old.nodes) g.K.Origin.limit g.K.Origin.whole (halt_of c.in_err-index.field-0.0 c.number.new.self.stop) c.number.new.self.bits.taken j (c.in_err-index.ensures.gives told))
 
 pub choice-returns-in_err-node-clause-gives : goal.choice-returns-in_err-node-clause-gives
 choice-returns-in_err-node-clause-gives g t c = λ told.
@@ -495,11 +495,11 @@ choice-returns-in_err-node-clause-gives g t c = λ told.
     let mid = c.number.new.self in
     let new = c.node.new.run in
     let j = stands_inside mid.bits.position mid.bits.taken mid.bits.held mid.bits.limit g.K.Origin.limit g.K.Origin.whole _ mid.limited mid.bits.behind mid.bits.within (mid.here told) in
-    rw (p.1, p.2) (alternative_fails c.args.module.now c.args.depth (label_of c.args.found.now) (kids_of c.args.found.now) c.args.parts.now (input g.K.Origin.limit g.K.Origin.whole) (spot old.bits.position old.nodes) i (spot mid.bits.position mid.nodes) there.0 kid (c.in_ok-index.ensures.gives told) is_part c.kid-kid.ensures g.K.Origin.limit g.K.Origin.whole c.in_err-node.field-0.0 new.bits.taken j (subst (FailsAt g.K.Origin.limit g.K.Origin.whole c.in_err-node.field-0.0 new.bits.taken) (k.read (input g.K.Origin.limit g.K.Origin.whole) (spot mid.bits.position mid.nodes)) (c.in_err-node.ensures.gives told)))
+    rw (p.1, p.2) (alternative_fails c.args.module.now c.args.depth (label_of c.args.found.now) (kids_of c.args.found.now) c.args.parts.now (input g.K.Origin.limit g.K.Origin.whole) (spot old.bits.position old.nodes) i (spot mid.bits.position mid.nodes) there.0 kid (c.in_ok-index.ensures.gives told) is_part c.kid-kid.ensures g.K.Origin.limit g.K.Origin.whole (halt_of c.in_err-node.field-0.0 new.stop) new.bits.taken j (subst (FailsAt g.K.Origin.limit g.K.Origin.whole (halt_of c.in_err-node.field-0.0 new.stop) new.bits.taken) (k.read (input g.K.Origin.limit g.K.Origin.whole) (spot mid.bits.position mid.nodes)) (c.in_err-node.ensures.gives told)))
 
-pub choice-returns-in_err-push-clause-gives : goal.choice-returns-in_err-push-clause-gives
-choice-returns-in_err-push-clause-gives g t c = λ told.
-    let p = err_from_is_err_and c.from_residual-in_err-push.result c.from_residual-in_err-push.ensures.1 in
+pub choice-returns-in_err-put-clause-gives : goal.choice-returns-in_err-put-clause-gives
+choice-returns-in_err-put-clause-gives g t c = λ told.
+    let p = err_from_is_err_and c.from_residual-in_err-put.result c.from_residual-in_err-put.ensures.1 in
     let u = c.args.found.now in
     let parts = c.args.parts.now in
     let i = c.in_ok-index.field-0 in
@@ -514,15 +514,15 @@ choice-returns-in_err-push-clause-gives g t c = λ told.
     rw (p.1, p.2) (omega (arith, ap end_of reads, c.in_ok-node.ensures.on.1))
 
 pub choice-returns-clause-pushed : goal.choice-returns-clause-pushed
-choice-returns-clause-pushed g t c = pushed-newest _ _ _ c.in_ok-push.ensures.items
+choice-returns-clause-pushed g t c = pushed-newest _ _ _ c.in_ok-put.ensures.items
 
 pub choice-returns-clause-count : goal.choice-returns-clause-count
 choice-returns-clause-count g t c =
-    rw (newest-pushed _ _ _ c.in_ok-push.ensures.items, c.join.ensures, c.in_ok-node.ensures.pushed, c.with_room-kids.ensures) (omega (arith, c.in_ok-node.ensures.count, c.in_ok-index.ensures.nodes))
+    rw (newest-pushed _ _ _ c.in_ok-put.ensures.items, c.join.ensures, c.in_ok-node.ensures.pushed, c.with_room-kids.ensures) (omega (arith, c.in_ok-node.ensures.count, c.in_ok-index.ensures.nodes))
 
 pub choice-returns-clause-text : goal.choice-returns-clause-text
 choice-returns-clause-text g t c =
-    rw (newest-pushed _ _ _ c.in_ok-push.ensures.items, c.join.ensures) refl
+    rw (newest-pushed _ _ _ c.in_ok-put.ensures.items, c.join.ensures) refl
 
 pub choice-returns-clause-fits : goal.choice-returns-clause-fits
 choice-returns-clause-fits g t c =
@@ -536,7 +536,7 @@ choice-returns-clause-fits g t c =
     let old = c.args.run.now in
     let mid = c.number.new.self in
     let new = c.node.new.run in
-    rw (newest-pushed _ _ _ c.in_ok-push.ensures.items, c.join.ensures, c.in_ok-node.ensures.pushed, c.with_room-kids.ensures) (fit-choice c.args.module.now c.args.depth c.args.found.now parts i there.0 kid (newest c.node.new.values.items) c.requires.form is_part c.kid-kid.ensures (k.fits (newest c.node.new.values.items) c.in_ok-node.ensures.fits))
+    rw (newest-pushed _ _ _ c.in_ok-put.ensures.items, c.join.ensures, c.in_ok-node.ensures.pushed, c.with_room-kids.ensures) (fit-choice c.args.module.now c.args.depth c.args.found.now parts i there.0 kid (newest c.node.new.values.items) c.requires.form is_part c.kid-kid.ensures (k.fits (newest c.node.new.values.items) c.in_ok-node.ensures.fits))
 
 pub choice-returns-clause-gives : goal.choice-returns-clause-gives
 choice-returns-clause-gives g t c = λ told.
@@ -550,7 +550,7 @@ choice-returns-clause-gives g t c = λ told.
     let old = c.args.run.now in
     let mid = c.number.new.self in
     let new = c.node.new.run in
-    rw (newest-pushed _ _ _ c.in_ok-push.ensures.items, c.join.ensures, c.in_ok-node.ensures.pushed, c.with_room-kids.ensures) (choice_reads c.args.module.now c.args.depth (label_of c.args.found.now) (kids_of c.args.found.now) c.args.parts.now (input g.K.Origin.limit g.K.Origin.whole) (spot old.bits.position old.nodes) i (spot mid.bits.position mid.nodes) there.0 kid (c.in_ok-index.ensures.gives told) is_part c.kid-kid.ensures (newest c.node.new.values.items) (spot new.bits.position new.nodes) (sym (k.read (input g.K.Origin.limit g.K.Origin.whole) (spot mid.bits.position mid.nodes)) ∙ c.in_ok-node.ensures.gives told))
+    rw (newest-pushed _ _ _ c.in_ok-put.ensures.items, c.join.ensures, c.in_ok-node.ensures.pushed, c.with_room-kids.ensures) (choice_reads c.args.module.now c.args.depth (label_of c.args.found.now) (kids_of c.args.found.now) c.args.parts.now (input g.K.Origin.limit g.K.Origin.whole) (spot old.bits.position old.nodes) i (spot mid.bits.position mid.nodes) there.0 kid (c.in_ok-index.ensures.gives told) is_part c.kid-kid.ensures (newest c.node.new.values.items) (spot new.bits.position new.nodes) (sym (k.read (input g.K.Origin.limit g.K.Origin.whole) (spot mid.bits.position mid.nodes)) ∙ c.in_ok-node.ensures.gives told))
 
 -- A SEQUENCE OF
 
@@ -585,13 +585,13 @@ sequence_of-returns-in_err-items-clause-gives g t c = λ told.
     let old = c.args.run.now in
     let new = c.list.new.run in
     let j = stands_inside old.bits.position old.bits.taken old.bits.held old.bits.limit g.K.Origin.limit g.K.Origin.whole _ old.limited old.bits.behind old.bits.within (old.here told) in
-    let h = subst (λ n. FailsAt g.K.Origin.limit g.K.Origin.whole c.in_err-items.field-0.0 new.bits.taken (list_at c.args.min c.args.max (λ m. many_at c.args.module.now n m item) (input g.K.Origin.limit g.K.Origin.whole) (spot old.bits.position old.nodes))) k.inner_is (c.in_err-items.ensures.gives told) in
-    rw (p.1, p.2) (subst (λ o. FailsAt g.K.Origin.limit g.K.Origin.whole c.in_err-items.field-0.0 new.bits.taken (items_at (kid_at c.args.module.now c.args.depth) c.args.min c.args.max o (input g.K.Origin.limit g.K.Origin.whole) (spot old.bits.position old.nodes))) (sym is_place)
-    (list_fails c.args.module.now c.args.depth place c.args.min c.args.max (input g.K.Origin.limit g.K.Origin.whole) (spot old.bits.position old.nodes) g.K.Origin.limit g.K.Origin.whole c.in_err-items.field-0.0 new.bits.taken j h))
+    let h = subst (λ n. FailsAt g.K.Origin.limit g.K.Origin.whole (halt_of c.in_err-items.field-0.0 new.stop) new.bits.taken (list_at c.args.min c.args.max (λ m. many_at c.args.module.now n m item) (input g.K.Origin.limit g.K.Origin.whole) (spot old.bits.position old.nodes))) k.inner_is (c.in_err-items.ensures.gives told) in
+    rw (p.1, p.2) (subst (λ o. FailsAt g.K.Origin.limit g.K.Origin.whole (halt_of c.in_err-items.field-0.0 new.stop) new.bits.taken (items_at (kid_at c.args.module.now c.args.depth) c.args.min c.args.max o (input g.K.Origin.limit g.K.Origin.whole) (spot old.bits.position old.nodes))) (sym is_place)
+    (list_fails c.args.module.now c.args.depth place c.args.min c.args.max (input g.K.Origin.limit g.K.Origin.whole) (spot old.bits.position old.nodes) g.K.Origin.limit g.K.Origin.whole (halt_of c.in_err-items.field-0.0 new.stop) new.bits.taken j h))
 
-pub sequence_of-returns-in_err-push-clause-gives : goal.sequence_of-returns-in_err-push-clause-gives
-sequence_of-returns-in_err-push-clause-gives g t c = λ told.
-    let p = err_from_is_err_and c.from_residual-in_err-push.result c.from_residual-in_err-push.ensures.1 in
+pub sequence_of-returns-in_err-put-clause-gives : goal.sequence_of-returns-in_err-put-clause-gives
+sequence_of-returns-in_err-put-clause-gives g t c = λ told.
+    let p = err_from_is_err_and c.from_residual-in_err-put.result c.from_residual-in_err-put.ensures.1 in
     let u = c.args.found.now in
     let part = c.args.part.now in
     let item = c.kid-item.result.now in
@@ -607,15 +607,15 @@ sequence_of-returns-in_err-push-clause-gives g t c = λ told.
     rw (p.1, p.2) (omega (arith, ap end_of reads, c.in_ok-items.ensures.on.1))
 
 pub sequence_of-returns-clause-pushed : goal.sequence_of-returns-clause-pushed
-sequence_of-returns-clause-pushed g t c = pushed-newest _ _ _ c.in_ok-push.ensures.items
+sequence_of-returns-clause-pushed g t c = pushed-newest _ _ _ c.in_ok-put.ensures.items
 
 pub sequence_of-returns-clause-count : goal.sequence_of-returns-clause-count
 sequence_of-returns-clause-count g t c =
-    rw (newest-pushed _ _ _ c.in_ok-push.ensures.items, c.join.ensures) (omega (arith, c.in_ok-items.ensures.count))
+    rw (newest-pushed _ _ _ c.in_ok-put.ensures.items, c.join.ensures) (omega (arith, c.in_ok-items.ensures.count))
 
 pub sequence_of-returns-clause-text : goal.sequence_of-returns-clause-text
 sequence_of-returns-clause-text g t c =
-    rw (newest-pushed _ _ _ c.in_ok-push.ensures.items, c.join.ensures) refl
+    rw (newest-pushed _ _ _ c.in_ok-put.ensures.items, c.join.ensures) refl
 
 pub sequence_of-returns-clause-fits : goal.sequence_of-returns-clause-fits
 sequence_of-returns-clause-fits g t c =
@@ -628,7 +628,7 @@ sequence_of-returns-clause-fits g t c =
     let is_place : place_at (label_of u) 0 (Some part) (slice_get (kids_of u) 0) ≡ Some place = ap (λ o. place_at (label_of u) 0 (Some part) o) c.kid-item.ensures in
     let old = c.args.run.now in
     let new = c.list.new.run in
-    rw (newest-pushed _ _ _ c.in_ok-push.ensures.items, c.join.ensures) (fit-list c.args.module.now c.args.depth c.args.found.now part c.args.min c.args.max item c.in_ok-items.items.items c.requires.form c.kid-item.ensures c.in_ok-items.ensures.size.0 c.in_ok-items.ensures.size.1 (subst (λ n. FitAll c.args.module.now n item c.in_ok-items.items.items) k.inner_is c.in_ok-items.ensures.fits))
+    rw (newest-pushed _ _ _ c.in_ok-put.ensures.items, c.join.ensures) (fit-list c.args.module.now c.args.depth c.args.found.now part c.args.min c.args.max item c.in_ok-items.items.items c.requires.form c.kid-item.ensures c.in_ok-items.ensures.size.0 c.in_ok-items.ensures.size.1 (subst (λ n. FitAll c.args.module.now n item c.in_ok-items.items.items) k.inner_is c.in_ok-items.ensures.fits))
 
 pub sequence_of-returns-clause-gives : goal.sequence_of-returns-clause-gives
 sequence_of-returns-clause-gives g t c = λ told.
@@ -643,7 +643,7 @@ sequence_of-returns-clause-gives g t c = λ told.
     let new = c.list.new.run in
     let h = subst (λ n. (list_at c.args.min c.args.max (λ m. many_at c.args.module.now n m item) (input g.K.Origin.limit g.K.Origin.whole) (spot old.bits.position old.nodes)) ≡ Ok (c.in_ok-items.items.items, (spot new.bits.position new.nodes))) k.inner_is (c.in_ok-items.ensures.gives told) in
     let e = list_reads c.args.module.now c.args.depth place c.args.min c.args.max (input g.K.Origin.limit g.K.Origin.whole) (spot old.bits.position old.nodes) c.in_ok-items.items.items (spot new.bits.position new.nodes) h in
-    rw (newest-pushed _ _ _ c.in_ok-push.ensures.items, c.join.ensures) (subst (λ o. (items_at (kid_at c.args.module.now c.args.depth) c.args.min c.args.max o (input g.K.Origin.limit g.K.Origin.whole) (spot old.bits.position old.nodes)) ≡ Ok (node value.SequenceOf (roses_of c.in_ok-items.items.items), (spot new.bits.position new.nodes))) (sym is_place) e)
+    rw (newest-pushed _ _ _ c.in_ok-put.ensures.items, c.join.ensures) (subst (λ o. (items_at (kid_at c.args.module.now c.args.depth) c.args.min c.args.max o (input g.K.Origin.limit g.K.Origin.whole) (spot old.bits.position old.nodes)) ≡ Ok (node value.SequenceOf (roses_of c.in_ok-items.items.items), (spot new.bits.position new.nodes))) (sym is_place) e)
 
 -- THE ITEMS, by their count
 
@@ -652,23 +652,23 @@ list-returns-in_err-more-in-Some-clause-gives g t c = λ told.
     let p = err_from_is_err_and c.from_residual.result c.from_residual.ensures.1 in
     let old = c.args.run.now in
     let i = stands_inside old.bits.position old.bits.taken old.bits.held old.bits.limit g.K.Origin.limit g.K.Origin.whole _ old.limited old.bits.behind old.bits.within (old.here told) in
-    rw (p.1, p.2, c.in-Some.is) (count_fails c.args.module.now c.args.depth c.args.item.now c.args.min (input g.K.Origin.limit g.K.Origin.whole) (spot old.bits.position old.nodes) c.in-Some.most g.K.Origin.limit g.K.Origin.whole c.in_err-more-in-Some.field-0.0 c.number.new.self.bits.taken c.if-most-lt65536.true i (c.in_err-more-in-Some.ensures.gives told))
+    rw (p.1, p.2, c.in-Some.is) (count_fails c.args.module.now c.args.depth c.args.item.now c.args.min (input g.K.Origin.limit g.K.Origin.whole) (spot old.bits.position old.nodes) c.in-Some.most g.K.Origin.limit g.K.Origin.whole (halt_of c.in_err-more-in-Some.field-0.0 c.number.new.self.stop) c.number.new.self.bits.taken c.if-most-lt65536.true i (c.in_err-more-in-Some.ensures.gives told))
 
 pub list-returns-in_ok-more-in-Some-clause-gives : goal.list-returns-in_ok-more-in-Some-clause-gives
 list-returns-in_ok-more-in-Some-clause-gives g t c = λ told.
     let old = c.args.run.now in
     let mid = c.number.new.self in
-    rw c.in-Some.is (shows_as g.K.Origin.limit g.K.Origin.whole (λ vs. vs.items) c.items.result _ _ _ _ (count_told c.args.module.now c.args.depth c.args.item.now c.args.min (input g.K.Origin.limit g.K.Origin.whole) (spot old.bits.position old.nodes) c.in-Some.most c.in_ok-more-in-Some.field-0 (spot mid.bits.position mid.nodes) c.if-most-lt65536.true (c.in_ok-more-in-Some.ensures.gives told)) (rw c.new.ensures.items at (c.items.ensures.gives told)))
+    rw c.in-Some.is (shows_as g.K.Origin.limit g.K.Origin.whole (λ vs. vs.items) c.items.result _ _ _ _ _ (count_told c.args.module.now c.args.depth c.args.item.now c.args.min (input g.K.Origin.limit g.K.Origin.whole) (spot old.bits.position old.nodes) c.in-Some.most c.in_ok-more-in-Some.field-0 (spot mid.bits.position mid.nodes) c.if-most-lt65536.true (c.in_ok-more-in-Some.ensures.gives told)) (rw c.new.ensures.items at (c.items.ensures.gives told)))
 
 pub list-returns-else-most-lt65536-clause-gives : goal.list-returns-else-most-lt65536-clause-gives
 list-returns-else-most-lt65536-clause-gives g t c = λ told.
     let old = c.args.run.now in
-    rw c.in-Some.is (shows_as g.K.Origin.limit g.K.Origin.whole (λ vs. vs.items) c.fragments.result _ _ _ _ (list-large c.args.module.now c.args.depth c.args.item.now c.args.min (input g.K.Origin.limit g.K.Origin.whole) (spot old.bits.position old.nodes) c.in-Some.most c.if-most-lt65536.false) (c.fragments.ensures.gives told))
+    rw c.in-Some.is (shows_as g.K.Origin.limit g.K.Origin.whole (λ vs. vs.items) c.fragments.result _ _ _ _ _ (list-large c.args.module.now c.args.depth c.args.item.now c.args.min (input g.K.Origin.limit g.K.Origin.whole) (spot old.bits.position old.nodes) c.in-Some.most c.if-most-lt65536.false) (c.fragments.ensures.gives told))
 
 pub list-returns-in-None-clause-gives : goal.list-returns-in-None-clause-gives
 list-returns-in-None-clause-gives g t c = λ told.
     let old = c.args.run.now in
-    rw c.in-None.is (shows_as g.K.Origin.limit g.K.Origin.whole (λ vs. vs.items) c.fragments-in-None.result _ _ _ _ (list-none c.args.module.now c.args.depth c.args.item.now c.args.min (input g.K.Origin.limit g.K.Origin.whole) (spot old.bits.position old.nodes)) (c.fragments-in-None.ensures.gives told))
+    rw c.in-None.is (shows_as g.K.Origin.limit g.K.Origin.whole (λ vs. vs.items) c.fragments-in-None.result _ _ _ _ _ (list-none c.args.module.now c.args.depth c.args.item.now c.args.min (input g.K.Origin.limit g.K.Origin.whole) (spot old.bits.position old.nodes)) (c.fragments-in-None.ensures.gives told))
 
 -- ITEMS IN FRAGMENTS
 
@@ -677,8 +677,8 @@ fragments-returns-in_err-piece-clause-gives g t c = λ told.
     let p = err_from_is_err_and c.from_residual.result c.from_residual.ensures.1 in
     let old = c.fragments.run in
     let i = stands_inside old.bits.position old.bits.taken old.bits.held old.bits.limit g.K.Origin.limit g.K.Origin.whole _ old.limited old.bits.behind old.bits.within (old.here told) in
-    rw (p.1, p.2) (subst (FailsAt g.K.Origin.limit g.K.Origin.whole c.in_err-piece.field-0.0 c.count.new.self.bits.taken) (c.fragments.invariant.so_far told)
-    (turn_fails c.args.min c.args.max (λ n. many_at c.args.module.now c.args.depth n c.args.item.now) (steady-items c.args.module.now c.args.depth c.args.item.now) c.fragments.values.items c.fragments.before (length c.fragments.values.items) (input g.K.Origin.limit g.K.Origin.whole) (spot old.bits.position old.nodes) i g.K.Origin.limit g.K.Origin.whole c.in_err-piece.field-0.0 c.count.new.self.bits.taken (rw c.as_slice-total.ensures.value at (c.in_err-piece.ensures.gives told))))
+    rw (p.1, p.2) (subst (FailsAt g.K.Origin.limit g.K.Origin.whole (halt_of c.in_err-piece.field-0.0 c.count.new.self.stop) c.count.new.self.bits.taken) (c.fragments.invariant.so_far told)
+    (turn_fails c.args.min c.args.max (λ n. many_at c.args.module.now c.args.depth n c.args.item.now) (steady-items c.args.module.now c.args.depth c.args.item.now) c.fragments.values.items c.fragments.before (length c.fragments.values.items) (input g.K.Origin.limit g.K.Origin.whole) (spot old.bits.position old.nodes) i g.K.Origin.limit g.K.Origin.whole (halt_of c.in_err-piece.field-0.0 c.count.new.self.stop) c.count.new.self.bits.taken (rw c.as_slice-total.ensures.value at (c.in_err-piece.ensures.gives told))))
 
 pub fragments-returns-in-Last-clause-gives : goal.fragments-returns-in-Last-clause-gives
 fragments-returns-in-Last-clause-gives g t c = λ told.
@@ -686,7 +686,7 @@ fragments-returns-in-Last-clause-gives g t c = λ told.
     let mid = c.count.new.self in
     let i = stands_inside old.bits.position old.bits.taken old.bits.held old.bits.limit g.K.Origin.limit g.K.Origin.whole _ old.limited old.bits.behind old.bits.within (old.here told) in
     let e = turn_last c.args.min c.args.max (λ n. many_at c.args.module.now c.args.depth n c.args.item.now) (steady-items c.args.module.now c.args.depth c.args.item.now) c.fragments.values.items c.fragments.before (length c.fragments.values.items) (input g.K.Origin.limit g.K.Origin.whole) (spot old.bits.position old.nodes) i c.in-Last.n (spot mid.bits.position mid.nodes) (rw (c.as_slice-total.ensures.value, c.in-Last.is) at (c.in_ok-piece.ensures.gives told)) in
-    shows_as g.K.Origin.limit g.K.Origin.whole (λ vs. vs.items) c.items.result _ _ _ _ (sym (c.fragments.invariant.so_far told) ∙ e) (c.items.ensures.gives told)
+    shows_as g.K.Origin.limit g.K.Origin.whole (λ vs. vs.items) c.items.result _ _ _ _ _ (sym (c.fragments.invariant.so_far told) ∙ e) (c.items.ensures.gives told)
 
 pub fragments-returns-in_err-values-in-Units-clause-gives : goal.fragments-returns-in_err-values-in-Units-clause-gives
 fragments-returns-in_err-values-in-Units-clause-gives g t c = λ told.
@@ -694,8 +694,8 @@ fragments-returns-in_err-values-in-Units-clause-gives g t c = λ told.
     let old = c.fragments.run in
     let mid = c.count.new.self in
     let i = stands_inside old.bits.position old.bits.taken old.bits.held old.bits.limit g.K.Origin.limit g.K.Origin.whole _ old.limited old.bits.behind old.bits.within (old.here told) in
-    rw (p.1, p.2) (subst (FailsAt g.K.Origin.limit g.K.Origin.whole c.in_err-values-in-Units.field-0.0 c.items-in-Units.new.run.bits.taken) (c.fragments.invariant.so_far told)
-    (turn_off c.args.min c.args.max (λ n. many_at c.args.module.now c.args.depth n c.args.item.now) (steady-items c.args.module.now c.args.depth c.args.item.now) c.fragments.values.items c.fragments.before (length c.fragments.values.items) (input g.K.Origin.limit g.K.Origin.whole) (spot old.bits.position old.nodes) i c.in-Units.k (spot mid.bits.position mid.nodes) g.K.Origin.limit g.K.Origin.whole c.in_err-values-in-Units.field-0.0 c.items-in-Units.new.run.bits.taken (rw (c.as_slice-total.ensures.value, c.in-Units.is) at (c.in_ok-piece.ensures.gives told)) (c.in_err-values-in-Units.ensures.gives told)))
+    rw (p.1, p.2) (subst (FailsAt g.K.Origin.limit g.K.Origin.whole (halt_of c.in_err-values-in-Units.field-0.0 c.items-in-Units.new.run.stop) c.items-in-Units.new.run.bits.taken) (c.fragments.invariant.so_far told)
+    (turn_off c.args.min c.args.max (λ n. many_at c.args.module.now c.args.depth n c.args.item.now) (steady-items c.args.module.now c.args.depth c.args.item.now) c.fragments.values.items c.fragments.before (length c.fragments.values.items) (input g.K.Origin.limit g.K.Origin.whole) (spot old.bits.position old.nodes) i c.in-Units.k (spot mid.bits.position mid.nodes) g.K.Origin.limit g.K.Origin.whole (halt_of c.in_err-values-in-Units.field-0.0 c.items-in-Units.new.run.stop) c.items-in-Units.new.run.bits.taken (rw (c.as_slice-total.ensures.value, c.in-Units.is) at (c.in_ok-piece.ensures.gives told)) (c.in_err-values-in-Units.ensures.gives told)))
 
 pub fragments-fragments-preserved : goal.fragments-fragments-preserved
 fragments-fragments-preserved g t c =
@@ -731,8 +731,8 @@ items-returns-in_err-node-clause-gives g t c = λ told.
     let p = err_from_is_err_and c.from_residual.result c.from_residual.ensures.1 in
     let old = c.items.run in
     let i = stands_inside old.bits.position old.bits.taken old.bits.held old.bits.limit g.K.Origin.limit g.K.Origin.whole _ old.limited old.bits.behind old.bits.within (old.here told) in
-    let k = each_fails (node_of c.args.module.now c.args.depth c.args.item.now) c.items.values.items (input g.K.Origin.limit g.K.Origin.whole) (spot old.bits.position old.nodes) 0 _ _ (replicate-drop c.args.n c.items.counter 0 c.items-test.true) (λ n. sits-node c.args.module.now c.args.depth c.args.item.now) g.K.Origin.limit g.K.Origin.whole c.in_err-node.field-0.0 c.node.new.run.bits.taken i (c.in_err-node.ensures.gives told) in
-    rw (p.1, p.2) (subst (FailsAt g.K.Origin.limit g.K.Origin.whole c.in_err-node.field-0.0 c.node.new.run.bits.taken) (c.items.invariant.so_far told) k)
+    let k = each_fails (node_of c.args.module.now c.args.depth c.args.item.now) c.items.values.items (input g.K.Origin.limit g.K.Origin.whole) (spot old.bits.position old.nodes) 0 _ _ (replicate-drop c.args.n c.items.counter 0 c.items-test.true) (λ n. sits-node c.args.module.now c.args.depth c.args.item.now) g.K.Origin.limit g.K.Origin.whole (halt_of c.in_err-node.field-0.0 c.node.new.run.stop) c.node.new.run.bits.taken i (c.in_err-node.ensures.gives told) in
+    rw (p.1, p.2) (subst (FailsAt g.K.Origin.limit g.K.Origin.whole (halt_of c.in_err-node.field-0.0 c.node.new.run.stop) c.node.new.run.bits.taken) (c.items.invariant.so_far told) k)
 
 pub items-items-preserved : goal.items-items-preserved
 items-items-preserved g t c =

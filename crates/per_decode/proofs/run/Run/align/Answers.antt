@@ -18,7 +18,7 @@ returns-in-Err-clause-gives g c = λ told.
     let w : 8 * old.bits.taken - old.bits.position ≡ gap old.bits.position = omega (arith, c.requires.in_step) in
     let r : Result (Unit {0}) CursorError = Err c.in-Err.field-0 in
     let z = padding_held r (gap old.bits.position) old.bits.held (subst (λ n. old.bits.held < 2 ^ n) w old.bits.fits) c.in-Err.ensures.padding in
-    rw (c.stopped.ensures, c.position-begin.ensures, c.align.ensures.rest.1) (padding_err 0 0 old.bits.position old.bits.taken old.bits.held old.bits.limit old.nodes g.K.Origin.limit g.K.Origin.whole _ old.limited c.requires.in_step old.bits.behind old.bits.within (old.here told) z.1 old.bits.fits, omega (arith, c.requires.in_step), refl)
+    rw (c.stopped.ensures.fault, c.stopped.ensures.stop, c.position-begin.ensures, c.align.ensures.rest.1) (padding_err 0 0 old.bits.position old.bits.taken old.bits.held old.bits.limit old.nodes g.K.Origin.limit g.K.Origin.whole _ old.limited c.requires.in_step old.bits.behind old.bits.within (old.here told) z.1 old.bits.fits, omega (arith, c.requires.in_step), refl)
 
 pub invariant_of-self : goal.invariant_of-self
 invariant_of-self g c =

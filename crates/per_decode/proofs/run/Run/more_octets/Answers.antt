@@ -4,8 +4,7 @@ use Rattle.per_fields.specs.Reading.{octets_at}
 use Rattle.std.proofs.lemmas.List.{length-append}
 use Rattle.per_fields.specs.Fields.{fragments_at}
 use Rattle.per_decode.proofs.Loop.{with_front}
-use Rattle.per_decode.specs.declared.faults.Fault.TheVariants.{Memory}
-use Rattle.per_decode.specs.Private.Giving.{input, spot, FailsAt}
+use Rattle.per_decode.specs.Private.Giving.{halt_of, memory, input, spot, FailsAt}
 use Rattle.per_decode.specs.Private.Kept.{octets_more}
 use Rattle.per_decode.proofs.Ends.{sits-octets}
 use Rattle.per_decode.proofs.Turns.{turn_fails, turn_last, turn_more, items_fail, last_fail, joined_shows, turn_full}
@@ -18,24 +17,24 @@ returns-in_err-piece-clause-gives g c = λ told.
     let old = c.fragments.self in
     let i = stands_inside old.bits.position old.bits.taken old.bits.held old.bits.limit g.K.Origin.limit g.K.Origin.whole _ old.limited old.bits.behind old.bits.within (old.here told) in
     let k = turn_fails 0 None octets_at sits-octets c.fragments.text.items c.fragments.before (length c.fragments.text.items) (input g.K.Origin.limit g.K.Origin.whole) (spot old.bits.position old.nodes) i
-    g.K.Origin.limit g.K.Origin.whole c.in_err-piece.field-0.0 c.count.new.self.bits.taken (rw c.as_slice-total.ensures.value at (c.in_err-piece.ensures.gives told)) in
-    rw (p.1, p.2) (subst (FailsAt g.K.Origin.limit g.K.Origin.whole c.in_err-piece.field-0.0 c.count.new.self.bits.taken) (c.fragments.invariant.so_far told) k)
+    g.K.Origin.limit g.K.Origin.whole (halt_of c.in_err-piece.field-0.0 c.count.new.self.stop) c.count.new.self.bits.taken (rw c.as_slice-total.ensures.value at (c.in_err-piece.ensures.gives told)) in
+    rw (p.1, p.2) (subst (FailsAt g.K.Origin.limit g.K.Origin.whole (halt_of c.in_err-piece.field-0.0 c.count.new.self.stop) c.count.new.self.bits.taken) (c.fragments.invariant.so_far told) k)
 
 pub returns-in_err-last-in-Last-clause-gives : goal.returns-in_err-last-in-Last-clause-gives
 returns-in_err-last-in-Last-clause-gives g c = λ told.
     let old = c.fragments.self in
     let i = stands_inside old.bits.position old.bits.taken old.bits.held old.bits.limit g.K.Origin.limit g.K.Origin.whole _ old.limited old.bits.behind old.bits.within (old.here told) in
     let p = err_from_is_err_and c.from_residual-in_err-last-in-Last.result c.from_residual-in_err-last-in-Last.ensures.1 in
-    let k = last_fail 0 None octets_at sits-octets c.fragments.text.items c.fragments.before (length c.fragments.text.items) (input g.K.Origin.limit g.K.Origin.whole) (spot old.bits.position old.nodes) i c.in-Last.n _ g.K.Origin.limit g.K.Origin.whole c.in_err-last-in-Last.field-0.0 c.take_octets.new.self.bits.taken (rw (c.as_slice-total.ensures.value, c.in-Last.is) at (c.in_ok-piece.ensures.gives told)) (c.in_err-last-in-Last.ensures.gives told) in
-    rw (p.1, p.2) (subst (FailsAt g.K.Origin.limit g.K.Origin.whole c.in_err-last-in-Last.field-0.0 c.take_octets.new.self.bits.taken) (c.fragments.invariant.so_far told) k)
+    let k = last_fail 0 None octets_at sits-octets c.fragments.text.items c.fragments.before (length c.fragments.text.items) (input g.K.Origin.limit g.K.Origin.whole) (spot old.bits.position old.nodes) i c.in-Last.n _ g.K.Origin.limit g.K.Origin.whole (halt_of c.in_err-last-in-Last.field-0.0 c.take_octets.new.self.stop) c.take_octets.new.self.bits.taken (rw (c.as_slice-total.ensures.value, c.in-Last.is) at (c.in_ok-piece.ensures.gives told)) (c.in_err-last-in-Last.ensures.gives told) in
+    rw (p.1, p.2) (subst (FailsAt g.K.Origin.limit g.K.Origin.whole (halt_of c.in_err-last-in-Last.field-0.0 c.take_octets.new.self.stop) c.take_octets.new.self.bits.taken) (c.fragments.invariant.so_far told) k)
 
 pub returns-in_err-octets-in-Units-clause-gives : goal.returns-in_err-octets-in-Units-clause-gives
 returns-in_err-octets-in-Units-clause-gives g c = λ told.
     let old = c.fragments.self in
     let i = stands_inside old.bits.position old.bits.taken old.bits.held old.bits.limit g.K.Origin.limit g.K.Origin.whole _ old.limited old.bits.behind old.bits.within (old.here told) in
     let p = err_from_is_err_and c.from_residual-in_err-octets-in-Units.result c.from_residual-in_err-octets-in-Units.ensures.1 in
-    let k = items_fail 0 None octets_at sits-octets c.fragments.text.items c.fragments.before (length c.fragments.text.items) (input g.K.Origin.limit g.K.Origin.whole) (spot old.bits.position old.nodes) i c.in-Units.k _ g.K.Origin.limit g.K.Origin.whole c.in_err-octets-in-Units.field-0.0 c.take_octets-in-Units.new.self.bits.taken (rw (c.as_slice-total.ensures.value, c.in-Units.is) at (c.in_ok-piece.ensures.gives told)) (c.in_err-octets-in-Units.ensures.gives told) in
-    rw (p.1, p.2) (subst (FailsAt g.K.Origin.limit g.K.Origin.whole c.in_err-octets-in-Units.field-0.0 c.take_octets-in-Units.new.self.bits.taken) (c.fragments.invariant.so_far told) k)
+    let k = items_fail 0 None octets_at sits-octets c.fragments.text.items c.fragments.before (length c.fragments.text.items) (input g.K.Origin.limit g.K.Origin.whole) (spot old.bits.position old.nodes) i c.in-Units.k _ g.K.Origin.limit g.K.Origin.whole (halt_of c.in_err-octets-in-Units.field-0.0 c.take_octets-in-Units.new.self.stop) c.take_octets-in-Units.new.self.bits.taken (rw (c.as_slice-total.ensures.value, c.in-Units.is) at (c.in_ok-piece.ensures.gives told)) (c.in_err-octets-in-Units.ensures.gives told) in
+    rw (p.1, p.2) (subst (FailsAt g.K.Origin.limit g.K.Origin.whole (halt_of c.in_err-octets-in-Units.field-0.0 c.take_octets-in-Units.new.self.stop) c.take_octets-in-Units.new.self.bits.taken) (c.fragments.invariant.so_far told) k)
 
 pub returns-in-Last-clause-gives : goal.returns-in-Last-clause-gives
 returns-in-Last-clause-gives g c = λ told.
@@ -43,7 +42,7 @@ returns-in-Last-clause-gives g c = λ told.
     let new = c.take_octets.new.self in
     let i = stands_inside old.bits.position old.bits.taken old.bits.held old.bits.limit g.K.Origin.limit g.K.Origin.whole _ old.limited old.bits.behind old.bits.within (old.here told) in
     let e = turn_last 0 None octets_at sits-octets c.fragments.text.items c.fragments.before (length c.fragments.text.items) (input g.K.Origin.limit g.K.Origin.whole) (spot old.bits.position old.nodes) i c.in-Last.n _ (rw (c.as_slice-total.ensures.value, c.in-Last.is) at (c.in_ok-piece.ensures.gives told)) in
-    joined_shows g.K.Origin.limit g.K.Origin.whole (λ all. all.items) c.joined.result c.fragments.text.items c.in_ok-last-in-Last.last.items (spot new.bits.position new.nodes) new.bits.taken _
+    joined_shows g.K.Origin.limit g.K.Origin.whole (λ all. all.items) c.joined.result c.fragments.text.items c.in_ok-last-in-Last.last.items (spot new.bits.position new.nodes) new.stop new.bits.taken _
     (sym (c.fragments.invariant.so_far told) ∙ e ∙ ap (with_front c.fragments.text.items) (c.in_ok-last-in-Last.ensures.gives told)) (omega (arith, c.in_ok-last-in-Last.ensures.on.1)) c.joined.ensures.ok c.joined.ensures.memory
 
 pub returns-in_err-text-in-Units-clause-gives : goal.returns-in_err-text-in-Units-clause-gives
@@ -57,7 +56,7 @@ returns-in_err-text-in-Units-clause-gives g c = λ told.
     let full = turn_full 0 None octets_at sits-octets (c.fragments.text.items ++ got) c.in-Units.k (length c.fragments.text.items + c.in-Units.k * 16384) (input g.K.Origin.limit g.K.Origin.whole) (spot new.bits.position new.nodes)
     g.K.Origin.limit g.K.Origin.whole new.bits.taken j (omega (arith, c.in_ok-octets-in-Units.ensures.on.1)) in
     let e = turn_more 0 None octets_at sits-octets c.fragments.text.items c.fragments.before (length c.fragments.text.items) (input g.K.Origin.limit g.K.Origin.whole) (spot old.bits.position old.nodes) i c.in-Units.k _ got (spot new.bits.position new.nodes) (rw (c.as_slice-total.ensures.value, c.in-Units.is) at (c.in_ok-piece.ensures.gives told)) (c.in_ok-octets-in-Units.ensures.gives told) in
-    rw (p.1, p.2, c.in_err-text-in-Units.ensures.memory) (subst (FailsAt g.K.Origin.limit g.K.Origin.whole Memory new.bits.taken) (sym e ∙ c.fragments.invariant.so_far told) full)
+    rw (p.1, p.2, c.in_err-text-in-Units.ensures.memory) (subst (FailsAt g.K.Origin.limit g.K.Origin.whole memory new.bits.taken) (sym e ∙ c.fragments.invariant.so_far told) full)
 
 pub fragments-preserved : goal.fragments-preserved
 fragments-preserved g c =
