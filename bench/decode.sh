@@ -1,9 +1,10 @@
 #!/usr/bin/env bash
 # Measures decoding beside encoding. For each order: the least times, in microseconds, of `decode` to read its encoding and of
 # `encode` to write it again, which take turns in one process (the program crates/per_times, as the gate builds it or this
-# script does). The C library gives the memory of the value back to the system before the next turn, so that each decoding
-# takes it anew; with `kept` it keeps that memory, since the top of its heap is then given back only from 100 MB on. Then, where there is valgrind, the instructions that `to-xml` takes in
-# `decode` and `to-per` in `encode`: it counts, so that a run tells the same numbers again.
+# script does). What memory of the value the next turn has again is as the C library will; in the row `kept` it is told to keep
+# all. The row `first` is of the quickest of as many processes that make one turn each: the system gives each of them its memory
+# anew, page by page, while it decodes. Then, where there is valgrind, the instructions that `to-xml` takes in `decode` and
+# `to-per` in `encode`: it counts, so that a run tells the same numbers again.
 #
 #     bench/decode.sh          needs the program (`make run`), awk, and rt where the gate hasn't built crates/per_times
 #
@@ -35,15 +36,22 @@ row() {
     }'
 }
 
-# A line of times, of a process with this setting of the C library.
-time_row() {
-    local lines=$1 file=$2 setting=$3 how=$4
-    if ! GLIBC_TUNABLES=$setting "$times" "${TIMES:-20}" < "$file" > "$work/same" 2> "$work/least" ||
-        ! grep -q 'the same came back' "$work/same"; then
+# Tells the C library to give no memory back.
+keep=glibc.malloc.mmap_threshold=1000000000:glibc.malloc.trim_threshold=1000000000
+
+# The least times of so many turns in one process.
+turns() {
+    if ! "$times" "$1" < "$2" > "$work/same" 2> "$work/least" || ! grep -q 'the same came back' "$work/same"; then
         cat "$work/same" "$work/least" >&2
         exit 1
     fi
-    read -r decode encode < "$work/least"
+    cat "$work/least"
+}
+
+# A row of the times of decoding and encoding that stand on the input.
+time_row() {
+    local lines=$1 file=$2 how=$3
+    read -r decode encode
     row "$lines" "$(stat -c %s "$file")" "$decode" "$encode" "$how"
 }
 
@@ -54,8 +62,13 @@ for lines in ${LINES_OF:-10000 100000}; do
 done
 printf '%-8s %10s %12s %12s %6s\n' lines octets 'decode: us' 'encode: us' ratio
 for lines in ${LINES_OF:-10000 100000}; do
-    time_row "$lines" "$work/order-$lines.per" '' ''
-    time_row "$lines" "$work/order-$lines.per" glibc.malloc.top_pad=100000000 kept
+    file=$work/order-$lines.per
+    turns "${TIMES:-20}" "$file" > "$work/turns"
+    time_row "$lines" "$file" '' < "$work/turns"
+    GLIBC_TUNABLES=$keep turns "${TIMES:-20}" "$file" > "$work/turns"
+    time_row "$lines" "$file" kept < "$work/turns"
+    for _ in $(seq "${TIMES:-20}"); do turns 1 "$file"; done | sort -n | head -1 > "$work/turns"
+    time_row "$lines" "$file" first < "$work/turns"
 done
 command -v valgrind > /dev/null || exit 0
 printf '%-8s %10s %12s %12s %6s\n' lines octets 'decode: ir' 'encode: ir' ratio
