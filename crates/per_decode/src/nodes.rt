@@ -24,7 +24,7 @@ ghost use Rattle.per_decode.specs.Private.Newest.{newest};
 use crate::faults::{Fault, stopped};
 use crate::leaves::{boolean, enumerated, integer, presence};
 use crate::lengths::{MOST_UNITS, Piece, UNIT};
-use crate::room::{put, with_room};
+use crate::room::{put, trim, with_room};
 use crate::run::{Origin, Run};
 use crate::texts::text;
 use asn_types::{Component, Form, Module, Role, TypeLabel, own, resolve, role};
@@ -38,7 +38,7 @@ use xa_base::Source;
 const MOST_DEEP: u32 = 64;
 
 /// How many nodes a value may have.
-const MOST_NODES: u32 = 1_048_576;
+pub(crate) const MOST_NODES: u32 = 1_048_576;
 
 #[inline(always)]
 fn below(role: Role, depth: u32) -> u32
@@ -451,7 +451,8 @@ fn sequence_of<S: Source, K: Origin>(
 {
     let item = found.kid(0);
     let inner = below(role(found.label(), 0), depth);
-    let items = list(alloc, module, run, inner, item, min, max)?;
+    let mut items = list(alloc, module, run, inner, item, min, max)?;
+    trim(&mut items);
     put(values, Tree::join(ValueLabel::SequenceOf, items))?;
     Ok(())
 }

@@ -13,17 +13,11 @@ use label_tree::Tree;
 use simple_types::Class;
 use simple_values::is_at_most;
 
-fn is_visible(byte: u8) -> bool
-    ensures { result ≡ is_visible byte }
-{
-    matches!(byte, b'!'..=b'~')
-}
-
 #[inline(always)]
 fn are_visible(bytes: &[u8]) -> bool
     ensures { result ≡ list_all is_visible bytes.now }
 {
-    bytes.iter().all(|byte| is_visible(*byte))
+    bytes.iter().all(|byte| matches!(*byte, b'!'..=b'~'))
 }
 
 // Whether a text has visible ASCII characters alone, and is within the size of a type of any characters (`Class::Any`).

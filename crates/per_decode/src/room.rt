@@ -1,6 +1,7 @@
 //! Room in lists.
 ghost use Rattle.std.specs.Prelude.{◌≡◌, [], ◌∷◌, ◌++◌, ◌<◌, OnOk, vec_len, vec_capacity};
 
+use crate::nodes::MOST_NODES;
 use std::alloc::{AllocError, AllocFailed, Global};
 
 /// An empty list with room for so many entries. Where there is no memory for them, it has none, and pushing one tells it.
@@ -12,8 +13,8 @@ pub(crate) fn with_room<T>(alloc: Global, count: usize) -> Vec<T>
     list
 }
 
-// From so many entries on a list grows fourfold and not twofold, so that fewer of them are copied: in all at most four thirds
-// of those that it ends with, and not twice as many. For room that isn't used the system gives no memory.
+// From so many entries on a list that is full is made for sixteen times as many, though for no more than a value may have
+// nodes, and not for twice as many, so that few of them are copied. For room that isn't used the system gives no memory.
 const LONG: usize = 1_024;
 
 // Makes room in a list that has none.
@@ -23,7 +24,8 @@ fn grow<T>(list: &mut Vec<T>) -> Result<(), AllocError>
     ensures room { OnOk result (vec_len list.new < vec_capacity list.new) }
 {
     let len = list.len();
-    if LONG <= len && list.reserve(len.saturating_mul(3)).is_ok() {
+    let many = len.saturating_mul(16).min(MOST_NODES as usize);
+    if LONG <= len && len < many && list.reserve(many - len).is_ok() {
         return Ok(());
     }
     list.reserve(1)
@@ -39,4 +41,14 @@ pub(crate) fn put<T>(list: &mut Vec<T>, value: T) -> Result<(), AllocFailed<T>>
     }
     list.push_reserved(value);
     Ok(())
+}
+
+/// Gives back the room of a long list that is whole, where it fills no more than a quarter of it.
+#[inline(always)]
+pub(crate) fn trim<T>(list: &mut Vec<T>)
+    ensures { list.new.items ≡ list.old.items }
+{
+    if LONG < list.capacity() && list.len() <= list.capacity() / 4 {
+        list.shrink_to_fit();
+    }
 }

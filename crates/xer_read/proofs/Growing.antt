@@ -411,3 +411,8 @@ top-whole t l el whole old new former latter before after e h =
     (subst (λ b. elim b as (λ _. Type 0) [ true ↦ PartedMade (term_of t) f v gs | false ↦ PartsMade (more (occurs (term_of t) least most) none) f v gs ]) (sym o)
     (subst (λ q. PartsMade (more q none) f v gs) (seen-is t) p)))
     old new former latter before after e h
+
+-- what is known beside a value that is there, and of it
+pub if-both : {A E : Type 0} (r : Result A E) (C : Type 0) (P Q : A → Type 0) → (C → (x : A) → P x → Q x) → OnOk r C → IfOk r P → IfOk r Q
+if-both (Ok x) C P Q f c p = f c x p
+if-both (Err e) C P Q f c p = tt

@@ -179,7 +179,7 @@ fn fill_term(
                 &mut parts,
                 tally,
             )?;
-            Ok(parts.into_value(tally))
+            parts.into_value(tally)
         }
         ParticleKind::Choice => {
             let alternatives = particle.kids();

@@ -1,5 +1,5 @@
 //! The parts of a SEQUENCE, as they are put together.
-ghost use Rattle.std.specs.Prelude.{◌≡◌, ◌++◌, [], ◌∷◌, false, OnOk};
+ghost use Rattle.std.specs.Prelude.{◌≡◌, ◌++◌, [], ◌∷◌, false, IfOk, OnOk};
 ghost use Rattle.label_tree.specs.Rose.{node, roses_of};
 ghost use Rattle.xer_read.specs.Private.Tallied.{Counts, IsBuilt, PartAdded};
 
@@ -9,6 +9,9 @@ use label_tree::Tree;
 use simple_types::{Flags, ValueLabel};
 use std::alloc::Global;
 use xa_base::Memory;
+
+// So many flags lie in their value.
+const FEW: usize = 22;
 
 /// The first parts of a SEQUENCE: a flag for each, and the values of those that are present.
 #[derive(Drop)]
@@ -47,12 +50,22 @@ impl Parts {
         Ok(())
     }
 
-    /// The value of the SEQUENCE, which has no more parts.
-    pub(crate) fn into_value(self, tally: &mut Tally) -> Built
-        ensures counts { Counts 1 tally.old tally.new }
-        ensures built { IsBuilt tally.new result (node (ValueLabel.Sequence self.flags) (roses_of self.values.items)) }
+    /// The value of the SEQUENCE, which has no more parts. Flags that don't lie in their value are copied into a list of just
+    /// their number, since that to which they were put grew by doubling.
+    pub(crate) fn into_value(self, tally: &mut Tally) -> Result<Built, Memory>
+        ensures counts { OnOk result (Counts 1 tally.old tally.new) }
+        ensures built { IfOk result (λ made. IsBuilt tally.new made (node (ValueLabel.Sequence self.flags) (roses_of self.values.items))) }
     {
-        let Parts { flags, values, .. } = self;
-        Built::join(ValueLabel::Sequence { present: flags }, values, tally)
+        let Parts {
+            alloc,
+            flags,
+            values,
+        } = self;
+        let present = if flags.items().len() <= FEW {
+            flags
+        } else {
+            flags.copy(alloc)?
+        };
+        Ok(Built::join(ValueLabel::Sequence { present }, values, tally))
     }
 }

@@ -82,7 +82,8 @@ fn add_children(
     if nillable {
         let mut inner = Parts::new(alloc);
         fill_top(alloc, model, plan.places(), children, &mut inner, tally)?;
-        parts.add(inner.into_value(tally))
+        let value = inner.into_value(tally)?;
+        parts.add(value)
     } else {
         fill_top(alloc, model, plan.places(), children, parts, tally)
     }
@@ -105,7 +106,8 @@ fn add_rest(
         Rest::Text(value) => parts.add(value),
         Rest::Nothing => {
             if nillable {
-                parts.add(Parts::new(alloc).into_value(tally))
+                let inner = Parts::new(alloc).into_value(tally)?;
+                parts.add(inner)
             } else {
                 Ok(())
             }
@@ -142,7 +144,7 @@ fn make_complex(
     add_texts(declared.inside, texts, &mut parts, tally)?;
     add_attributes(alloc, set, declared.uses, attributes, &mut parts, tally)?;
     add_rest(alloc, declared.nillable, rest, &mut parts, tally)?;
-    Ok(parts.into_value(tally))
+    parts.into_value(tally)
 }
 
 /// The value of an element of this declaration, with these attributes and this content.

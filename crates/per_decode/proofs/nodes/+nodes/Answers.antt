@@ -611,7 +611,7 @@ sequence_of-returns-clause-pushed g t c = pushed-newest _ _ _ c.in_ok-put.ensure
 
 pub sequence_of-returns-clause-count : goal.sequence_of-returns-clause-count
 sequence_of-returns-clause-count g t c =
-    rw (newest-pushed _ _ _ c.in_ok-put.ensures.items, c.join.ensures) (omega (arith, c.in_ok-items.ensures.count))
+    rw (newest-pushed _ _ _ c.in_ok-put.ensures.items, c.join.ensures, c.trim.ensures) (omega (arith, c.in_ok-items.ensures.count))
 
 pub sequence_of-returns-clause-text : goal.sequence_of-returns-clause-text
 sequence_of-returns-clause-text g t c =
@@ -628,7 +628,7 @@ sequence_of-returns-clause-fits g t c =
     let is_place : place_at (label_of u) 0 (Some part) (slice_get (kids_of u) 0) ≡ Some place = ap (λ o. place_at (label_of u) 0 (Some part) o) c.kid-item.ensures in
     let old = c.args.run.now in
     let new = c.list.new.run in
-    rw (newest-pushed _ _ _ c.in_ok-put.ensures.items, c.join.ensures) (fit-list c.args.module.now c.args.depth c.args.found.now part c.args.min c.args.max item c.in_ok-items.items.items c.requires.form c.kid-item.ensures c.in_ok-items.ensures.size.0 c.in_ok-items.ensures.size.1 (subst (λ n. FitAll c.args.module.now n item c.in_ok-items.items.items) k.inner_is c.in_ok-items.ensures.fits))
+    rw (newest-pushed _ _ _ c.in_ok-put.ensures.items, c.join.ensures, c.trim.ensures) (fit-list c.args.module.now c.args.depth c.args.found.now part c.args.min c.args.max item c.in_ok-items.items.items c.requires.form c.kid-item.ensures c.in_ok-items.ensures.size.0 c.in_ok-items.ensures.size.1 (subst (λ n. FitAll c.args.module.now n item c.in_ok-items.items.items) k.inner_is c.in_ok-items.ensures.fits))
 
 pub sequence_of-returns-clause-gives : goal.sequence_of-returns-clause-gives
 sequence_of-returns-clause-gives g t c = λ told.
@@ -643,7 +643,7 @@ sequence_of-returns-clause-gives g t c = λ told.
     let new = c.list.new.run in
     let h = subst (λ n. (list_at c.args.min c.args.max (λ m. many_at c.args.module.now n m item) (input g.K.Origin.limit g.K.Origin.whole) (spot old.bits.position old.nodes)) ≡ Ok (c.in_ok-items.items.items, (spot new.bits.position new.nodes))) k.inner_is (c.in_ok-items.ensures.gives told) in
     let e = list_reads c.args.module.now c.args.depth place c.args.min c.args.max (input g.K.Origin.limit g.K.Origin.whole) (spot old.bits.position old.nodes) c.in_ok-items.items.items (spot new.bits.position new.nodes) h in
-    rw (newest-pushed _ _ _ c.in_ok-put.ensures.items, c.join.ensures) (subst (λ o. (items_at (kid_at c.args.module.now c.args.depth) c.args.min c.args.max o (input g.K.Origin.limit g.K.Origin.whole) (spot old.bits.position old.nodes)) ≡ Ok (node value.SequenceOf (roses_of c.in_ok-items.items.items), (spot new.bits.position new.nodes))) (sym is_place) e)
+    rw (newest-pushed _ _ _ c.in_ok-put.ensures.items, c.join.ensures, c.trim.ensures) (subst (λ o. (items_at (kid_at c.args.module.now c.args.depth) c.args.min c.args.max o (input g.K.Origin.limit g.K.Origin.whole) (spot old.bits.position old.nodes)) ≡ Ok (node value.SequenceOf (roses_of c.in_ok-items.items.items), (spot new.bits.position new.nodes))) (sym is_place) e)
 
 -- THE ITEMS, by their count
 

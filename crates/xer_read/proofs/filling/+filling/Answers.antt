@@ -1,5 +1,5 @@
 use Rattle.std.proofs.Common.{◌≡◌, ◌≤◌, ℕ, suc, length, true, ◌+◌, ◌-◌, false, [], ◌∷◌, ◌++◌, ap, arith, refl, sym, subst, ◌∙◌}
-use Rattle.label_tree.specs.Rose.{count_all, roses_of, label_of, kids_of, AllowedAll}
+use Rattle.label_tree.specs.Rose.{node, count_all, roses_of, label_of, kids_of, AllowedAll}
 use Rattle.label_tree.proofs.Kids.{kid-count-le}
 use Rattle.label_tree.proofs.Roses.{node_count-kids, allowed-kids}
 use Rattle.content_models.specs.Kids.{MayHave}
@@ -9,10 +9,11 @@ use Rattle.content_models.specs.Particle.{more, none, choice, sequence}
 use Rattle.content_models.specs.declared.particles.ParticleKind.TheVariants as kinds
 use Rattle.xer_read.specs.Private.Bounds.{is_once, is_optional}
 use Rattle.xer_read.specs.Private.Made.{Several, Standing, TermMade, PartsMade, ChosenMade}
-use Rattle.xer_read.specs.Private.Tallied.{PartAdded}
-use Rattle.xer_read.specs.Private.Growing.{term_of, Fills}
-use Rattle.xer_read.specs.Private.Places.{HeadIn, OthersWait, SomeWait, ParticlePlaced, TurnPlaced, OrderPlaced, OnePlaced, path_shown}
-use Rattle.xer_read.proofs.Growing.{on-ok, takes-as, none-gathered, gathered-more, several-done, term-by, absent-made, sequence-made, choice-made, element-made, fills-one, fills-absent, fills-none, fills-more, once-made, optional-made, several-made, stands-once, stands-several, once-alone, not-once, taken-as}
+use Rattle.simple_types.specs.declared.labels.ValueLabel.TheVariants as value
+use Rattle.xer_read.specs.Private.Tallied.{Counts, IsBuilt, PartAdded}
+use Rattle.xer_read.specs.Private.Growing.{term_of, Fills, Takes}
+use Rattle.xer_read.specs.Private.Places.{TermPlaced, HeadIn, OthersWait, SomeWait, ParticlePlaced, TurnPlaced, OrderPlaced, OnePlaced, path_shown}
+use Rattle.xer_read.proofs.Growing.{on-ok, if-both, takes-as, none-gathered, gathered-more, several-done, term-by, absent-made, sequence-made, choice-made, element-made, fills-one, fills-absent, fills-none, fills-more, once-made, optional-made, several-made, stands-once, stands-several, once-alone, not-once, taken-as}
 use Rattle.xer_read.proofs.Choosing.{numbered-few, inside-next, behind-next, first-size, table-sequence, table-choice, entry-within, numbered-within, kid-few, kid-fillable, kid-waits, kid-leaves, kid-made, kid-entry, entry-inside}
 use Rattle.xer_read.proofs.Stepping as step
 use Rattle.xer_read.proofs.Stepping.{kid-allowed}
@@ -410,14 +411,21 @@ fill_term-returns-in_ok-fill_parts-in-Sequence-clause-taken t c =
     let particle = c.args.particle.now in
     let ps = all_seen (roses_of c.kids.result.now) in
     let is : term_of particle ≡ sequence ps = term-by particle c.label.result.now c.kids.result.now kinds.Sequence c.label.ensures c.kids.ensures c.in-Sequence.is in
-    step.order-leaves (term_of particle) c.args.number (path_shown c.args.path.now.items) c.args.children.now ps (c.args.number + 1) c.fill_parts.new.children is (omega arith) c.in_ok-fill_parts-in-Sequence.ensures.taken
+    on-ok c.into_value.result (Counts 1 c.fill_parts.new.tally c.into_value.new.tally)
+    (OthersWait (TermPlaced (term_of particle) c.args.number (path_shown c.args.path.now.items) c.args.children.now) c.fill_parts.new.children)
+    (λ _. step.order-leaves (term_of particle) c.args.number (path_shown c.args.path.now.items) c.args.children.now ps (c.args.number + 1) c.fill_parts.new.children is (omega arith) c.in_ok-fill_parts-in-Sequence.ensures.taken)
+    c.into_value.ensures.counts
 
 pub fill_term-returns-in_ok-fill_parts-in-Sequence-clause-made : goal.fill_term-returns-in_ok-fill_parts-in-Sequence-clause-made
 fill_term-returns-in_ok-fill_parts-in-Sequence-clause-made t c =
     let particle = c.args.particle.now in
-    sequence-made particle (all_seen (roses_of c.kids.result.now)) (term-by particle c.label.result.now c.kids.result.now kinds.Sequence c.label.ensures c.kids.ensures c.in-Sequence.is)
+    if-both c.into_value.result (Counts 1 c.fill_parts.new.tally c.into_value.new.tally)
+    (λ made. IsBuilt c.into_value.new.tally made (node (value.Sequence c.fill_parts.new.parts.flags) (roses_of c.fill_parts.new.parts.values.items)))
+    (λ made. Takes (TermMade (term_of particle)) made c.args.children.now c.fill_parts.new.children c.args.tally.now c.into_value.new.tally)
+    (λ counted made built. sequence-made particle (all_seen (roses_of c.kids.result.now)) (term-by particle c.label.result.now c.kids.result.now kinds.Sequence c.label.ensures c.kids.ensures c.in-Sequence.is)
     c.args.children.now c.fill_parts.new.children c.new-parts.result c.fill_parts.new.parts c.args.tally.now c.fill_parts.new.tally c.into_value.new.tally
-    c.new-parts.ensures.flags c.new-parts.ensures.values c.in_ok-fill_parts-in-Sequence.ensures.made c.into_value.result c.into_value.ensures.counts c.into_value.ensures.built.0
+    c.new-parts.ensures.flags c.new-parts.ensures.values c.in_ok-fill_parts-in-Sequence.ensures.made made counted built.0)
+    c.into_value.ensures.counts c.into_value.ensures.built
 
 -- ---- one occurrence of a choice
 

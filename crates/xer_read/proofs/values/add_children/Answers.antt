@@ -8,14 +8,14 @@ use Rattle.xer_read.proofs.Growing.{on-ok}
 use Rattle.xer_read.proofs.Adding.{children-plain, children-inner}
 use Rattle.xer_read.proofs.values.add_children.Goals as goal
 
-pub returns-in_ok-fill_top : goal.returns-in_ok-fill_top
-returns-in_ok-fill_top c =
+pub returns-in_ok-value : goal.returns-in_ok-value
+returns-in_ok-value c =
     let p = seen c.args.model.now in
     rw c.if-nillable.true
-    (on-ok c.add.result (PartAdded c.into_value.result c.args.parts.now c.add.new.self)
+    (on-ok c.add.result (PartAdded c.in_ok-value.value c.args.parts.now c.add.new.self)
     ((gs : List Child) → Wait c.args.tally.now c.args.children gs → Adds (ChildrenMade true p gs) (child_nodes gs) c.args.parts.now c.add.new.self c.args.tally.now c.into_value.new.tally)
     (λ added. children-inner p c.args.children c.new-inner.result c.fill_top.new.parts c.args.parts.now c.add.new.self c.args.tally.now c.fill_top.new.tally c.into_value.new.tally
-    c.new-inner.ensures.flags c.new-inner.ensures.values c.in_ok-fill_top.ensures c.into_value.result c.into_value.ensures.counts c.into_value.ensures.built.0 added)
+    c.new-inner.ensures.flags c.new-inner.ensures.values c.in_ok-fill_top.ensures c.in_ok-value.value c.in_ok-value.ensures.counts c.in_ok-value.ensures.built.0 added)
     c.add.ensures)
 
 pub returns-else-nillable : goal.returns-else-nillable

@@ -29,16 +29,16 @@ returns-in-Text c =
     ((b : Beside) → RestStands tally (rest.Text c.in-Text.value) b → Adds (RestMade c.args.nillable b) (rest_nodes b) old new tally tally)
     (text-rest c.args.nillable old new tally c.in-Text.value) c.add.ensures)
 
-pub returns-then-nillable : goal.returns-then-nillable
-returns-then-nillable c =
+pub returns-in_ok-inner-in-Nothing : goal.returns-in_ok-inner-in-Nothing
+returns-in_ok-inner-in-Nothing c =
     let old = c.args.parts.now in
     let new = c.add-then-nillable.new.self in
     let before = c.args.tally.now in
     let after = c.into_value.new.tally in
     rw (c.in-Nothing.is, c.if-nillable.true)
-    (on-ok c.add-then-nillable.result (PartAdded c.into_value.result old new)
+    (on-ok c.add-then-nillable.result (PartAdded c.in_ok-inner-in-Nothing.inner old new)
     ((b : Beside) → RestStands before rest.Nothing b → Adds (RestMade true b) (rest_nodes b) old new before after)
-    (nothing-inner c.new.result old new before after c.into_value.result c.new.ensures.flags c.new.ensures.values c.into_value.ensures.counts c.into_value.ensures.built.0)
+    (nothing-inner c.new.result old new before after c.in_ok-inner-in-Nothing.inner c.new.ensures.flags c.new.ensures.values c.in_ok-inner-in-Nothing.ensures.counts c.in_ok-inner-in-Nothing.ensures.built.0)
     c.add-then-nillable.ensures)
 
 pub returns-else-nillable : goal.returns-else-nillable
