@@ -31,6 +31,9 @@ import sys
 import tempfile
 import xml.etree.ElementTree as tree
 
+# The greatest document, in bytes (docs/LIMITS.md).
+MOST = 16_777_216
+
 XSD = "http://www.w3.org/2001/XMLSchema"
 INSTANCE = "http://www.w3.org/2001/XMLSchema-instance"
 rng = random.Random()
@@ -1166,7 +1169,7 @@ class Cases:
         self.counts["documents"] += 1
         if there.stdout != due:
             told = there.stderr.decode() or there.stdout.hex()
-            self.is_wrong(number, document, f"to-per: {told}, due {due.hex()}")
+            self.is_wrong(number, document, f"to-per: {told[:1000]}, due {due.hex()[:1000]}")
             return True
         back = self.run("to-xml", root, octets=due)
         again = self.run("to-per", root, octets=back.stdout)
@@ -1220,6 +1223,9 @@ class Cases:
             schema.is_spaced = i % 3 == 2
             text, due = schema.document(element)
             document = text.encode()
+            # Lists of lists of long texts.
+            if len(document) > MOST:
+                continue
             if not self.there_and_back(number, root, document, due, is_clear):
                 return
             # White space around numbers is what xmllint takes otherwise.
