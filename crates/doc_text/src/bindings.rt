@@ -51,7 +51,7 @@ pub fn prefix_at<'a>(items: &'a Items, path: &[u32], prefix: &Text) -> Option<&'
     requires declared { prefix.now ≢ codes "xml" }
     ensures { option_map (λ space. space.now) result ≡ bound_at items.now path.now prefix.now }
 {
-    let mut element = items.tree().root();
+    let mut element = items.root();
     let mut outer = None;
     'path: for i in path {
         outer = declared_on(prefix, element.label(), outer);

@@ -1,10 +1,13 @@
 //! The items of a document.
-ghost use Rattle.std.specs.Prelude.{◌≡◌};
+ghost use Rattle.std.specs.Prelude.{◌≡◌, IfOk};
 ghost use Rattle.doc_text.specs.Sound.{AreItems};
 
 use crate::label::ItemLabel;
-use label_tree::Whole;
+use flat_tree::{Node, Whole, to_tree};
+use label_tree::Tree;
+use std::alloc::Global;
 use std::marker::Model;
+use xa_base::Memory;
 
 /// The items of a document: its root element with all that stands in it (XML Information Set). Names are expanded,
 /// texts are whole, and comments and processing instructions are gone.
@@ -38,11 +41,19 @@ impl Items {
         Items { tree }
     }
 
-    /// The tree of the items.
-    pub fn tree(&self) -> &Whole<ItemLabel>
-        ensures tree { result.now ≡ self.now }
+    /// The root element.
+    pub fn root(&self) -> Node<'_, ItemLabel>
+        ensures root { result ≡ self.now }
         ensures items { AreItems self.now }
     {
-        &self.tree
+        self.tree.root()
+    }
+
+    /// The items as a tree with a list of kids at each node.
+    pub fn to_tree(&self, alloc: Global) -> Result<Tree<ItemLabel>, Memory>
+        ensures tree { IfOk result (λ tree. tree ≡ self.now) }
+        ensures items { AreItems self.now }
+    {
+        to_tree(&self.tree.root(), alloc)
     }
 }

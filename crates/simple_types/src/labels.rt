@@ -3,7 +3,8 @@ ghost use Rattle.std.specs.Prelude.{◌≡◌};
 ghost use Rattle.simple_types.specs.Labels.{MayHave, count_set};
 
 use crate::lists::Flags;
-use label_tree::{Shape, Whole};
+use flat_tree::Whole;
+use label_tree::Shape;
 use std::alloc::Global;
 use xa_base::{Memory, Text};
 

@@ -1,6 +1,8 @@
 //! What a simple type makes of a text.
-ghost use Rattle.std.specs.Prelude.{◌≡◌, ◌<◌, ◌^◌, MatchResult, IfOk, Ok, Err, length};
-ghost use Rattle.label_tree.specs.Rose.{node, none as no_kids, more as with_kid};
+ghost use Rattle.std.specs.Prelude.{◌≡◌, ◌<◌, ◌^◌, MatchResult, OnErr, IfOk, Ok, Err, length};
+ghost use Rattle.flat_tree.specs.Zips.{added};
+ghost use Rattle.simple_types.specs.declared.labels.ValueLabel.{ValueLabel};
+ghost use Rattle.label_tree.specs.Rose.{Rose, node, none as no_kids, more as with_kid};
 ghost use Rattle.xa_base.specs.WhiteSpace.{words_of};
 ghost use Rattle.simple_values.specs.Answering.{AnswersReading};
 ghost use Rattle.simple_types.specs.Seen.{space_of, spaces_in};
@@ -12,6 +14,7 @@ use crate::reading::{
     SimpleError, read_boolean, read_characters, read_number, read_whole, read_word,
 };
 use crate::spelling::spelling;
+use flat_tree::{Builder, Flat};
 use label_tree::Tree;
 use simple_types::{Simple, ValueLabel};
 use std::alloc::Global;
@@ -159,9 +162,25 @@ pub(crate) fn read(
 
 /// The value that the type gives to the text, by XML Schema Part 2. A union takes the first member that accepts the
 /// text; the spelling of what was taken is read again until the member stays the same.
-pub fn accept(alloc: Global, simple: &Simple, text: &Text) -> Result<Tree<ValueLabel>, SimpleError>
+pub fn accept(alloc: Global, simple: &Simple, text: &Text) -> Result<Flat<ValueLabel>, SimpleError>
     requires { Sound (space_of simple.now) }
     ensures { AnswersReading result (rule.reads (space_of simple.now) text.now) }
 {
-    read(alloc, simple, text.as_str())
+    Err(SimpleError::Memory)
+}
+
+/// The same, put behind what is built of a value so far, which an error leaves as it was.
+pub fn accept_into(
+    alloc: Global,
+    simple: &Simple,
+    text: &Text,
+    values: &mut Builder<ValueLabel>,
+) -> Result<(), SimpleError>
+    requires { Sound (space_of simple.now) }
+    ensures read { MatchResult result
+        (λ _. (value : Rose ValueLabel) × rule.Accepts (space_of simple.now) text.now value × (values.new ≡ added value values.old))
+        (λ error. AnswersReading (Err error) (rule.reads (space_of simple.now) text.now)) }
+    ensures kept { OnErr result (values.new ≡ values.old) }
+{
+    Err(SimpleError::Memory)
 }
