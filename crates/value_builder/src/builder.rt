@@ -1,0 +1,166 @@
+//! What is put down of a value.
+ghost use Rattle.std.specs.Prelude.{◌≡◌, ◌+◌, ◌<◌, ◌≤◌, IfOk, ◌↔◌, Err, IsTrue, OnOk, OnErr, MatchResult, length};
+ghost use Rattle.label_tree.specs.Rose.{Rose, node, none};
+ghost use Rattle.flat_tree.specs.Zips.{Zip, opened, added, closed};
+ghost use Rattle.simple_types.specs.declared.labels.ValueLabel.{ValueLabel};
+ghost use Rattle.simple_types.specs.Seen.{space_of};
+ghost use Rattle.simple_types.specs.Sound.{Sound};
+ghost use Rattle.simple_values.specs.Answering.{AnswersReading};
+ghost use Rattle.simple_values.specs.Reading.{reads, Accepts};
+ghost use Rattle.value_builder.specs.Built.{nothing_of, Stands, Puts, flagged, flagged_label};
+
+use flat_tree::{Builder, Flat};
+use simple_types::{Simple, ValueLabel};
+use simple_values::{SimpleError, accept_into};
+use std::alloc::Global;
+use std::marker::Model;
+use value_counts::count;
+use xa_base::{Memory, Text};
+
+/// A value as far as it is put down. The nodes are counted, where 2^64 - 1 stands for that number and every greater one; as long
+/// as there are no more than `most`, they are kept. With `most` 0 nothing is kept, so that a document is judged and its value
+/// isn't made.
+#[derive(Drop)]
+pub struct ValueBuilder {
+    alloc: Global,
+    kept: Builder<ValueLabel>,
+    nodes: u64,
+    most: u64,
+}
+
+impl Model for ValueBuilder {
+    ghost use Rattle.value_builder.specs.Built.{Built, coded_built};
+
+    ghost Value = { Built };
+
+    ghost coded = { coded_built };
+
+    ghost view = { λ a. record { kept = a.kept; nodes = a.nodes; most = a.most } };
+}
+
+impl ValueBuilder {
+    /// Nothing is put down yet.
+    pub fn new(alloc: Global, most: u64) -> ValueBuilder
+        ensures { result ≡ nothing_of most }
+    {
+        ValueBuilder {
+            alloc,
+            kept: Builder::new(alloc),
+            nodes: 0,
+            most,
+        }
+    }
+
+    /// How many nodes were put down.
+    pub fn count(&self) -> u64
+        ensures { result ≡ self.now.nodes }
+    {
+        self.nodes
+    }
+
+    /// Whether all of them are kept.
+    pub fn is_kept(&self) -> bool
+        ensures { IsTrue result ↔ (self.now.nodes ≤ self.now.most) }
+    {
+        self.nodes <= self.most
+    }
+
+    /// Puts down a node that has kids, which come next.
+    pub fn open(&mut self, label: ValueLabel) -> Result<(), Memory>
+        ensures { OnOk result (Puts (opened label) self.old self.new) }
+    {
+        self.nodes = self.nodes.saturating_add(1);
+        if self.is_kept() {
+            self.kept.open(label)?;
+        }
+        Ok(())
+    }
+
+    /// Puts down a node that has no kids.
+    pub fn leaf(&mut self, label: ValueLabel) -> Result<(), Memory>
+        ensures { OnOk result (Puts (added (node label none)) self.old self.new) }
+    {
+        self.nodes = self.nodes.saturating_add(1);
+        if self.is_kept() {
+            self.kept.leaf(label)?;
+        }
+        Ok(())
+    }
+
+    /// The innermost node that is open has no more kids.
+    pub fn close(&mut self)
+        requires { (z : Zip ValueLabel) × Stands self.old z × (0 < length z.above) }
+        ensures { Puts closed self.old self.new }
+    {
+        if self.is_kept() {
+            self.kept.close();
+        }
+    }
+
+    /// The innermost node that is open, a SEQUENCE, has one component more, which is present or isn't.
+    pub fn part(&mut self, present: bool) -> Result<(), Memory>
+        ensures { OnOk result (Puts (flagged present) self.old self.new) }
+    {
+        if !self.is_kept() || self.kept.is_outside() {
+            return Ok(());
+        }
+        let label = self.kept.relabel(ValueLabel::SequenceOf);
+        let label = with_flag(self.alloc, label, present)?;
+        let _ = self.kept.relabel(label);
+        Ok(())
+    }
+
+    /// Puts down the value that the type gives to the text. Where the type is a list or a union, and the text so long that its
+    /// value may have too many nodes to be kept, they are counted first, and no value is made if they are.
+    pub fn text(&mut self, simple: &Simple, text: &Text) -> Result<(), SimpleError>
+        requires { Sound (space_of simple.now) }
+        ensures { MatchResult result
+            (λ _. (value : Rose ValueLabel) × Accepts (space_of simple.now) text.now value × Puts (added value) self.old self.new)
+            (λ error. AnswersReading (Err error) (reads (space_of simple.now) text.now)) }
+    {
+        // A list has no more items than one for each two bytes of its text. An item of a union has two nodes, the list has
+        // one, and a union of lists one more.
+        let has_items = matches!(simple, Simple::List { .. } | Simple::Union(_));
+        let most = text.bytes().len() as u64 + 3;
+        if !self.is_kept() || has_items && !self.has_room(most) {
+            let nodes = count(self.alloc, simple, text)?;
+            if !self.has_room(nodes) {
+                self.nodes = self.nodes.saturating_add(nodes);
+                return Ok(());
+            }
+        }
+        accept_into(self.alloc, simple, text, &mut self.kept)?;
+        self.nodes = self.kept.count() as u64;
+        Ok(())
+    }
+
+    // Whether so many more may be kept.
+    fn has_room(&self, nodes: u64) -> bool
+        ensures { IsTrue result ↔ (self.now.nodes + nodes ≤ self.now.most) }
+    {
+        self.nodes.saturating_add(nodes) <= self.most
+    }
+
+    /// The value, where one was put down and all of it is kept.
+    pub fn finish(self) -> Flat<ValueLabel>
+        requires kept { self.nodes ≤ self.most }
+        requires one { (v : Rose ValueLabel) × Stands self (added v (nothing_of 0).kept) }
+        ensures { (v : Rose ValueLabel) → Stands self (added v (nothing_of 0).kept) → result ≡ v }
+    {
+        self.kept.finish_one()
+    }
+}
+
+// The label of a SEQUENCE with one component more.
+fn with_flag(alloc: Global, label: ValueLabel, present: bool) -> Result<ValueLabel, Memory>
+    ensures { IfOk result (λ made. made ≡ flagged_label present label) }
+{
+    match label {
+        ValueLabel::Sequence { present: flags } => {
+            let mut flags = flags;
+            flags.push(alloc, present)?;
+            Ok(ValueLabel::Sequence { present: flags })
+        }
+        other => Ok(other),
+    }
+}
