@@ -6,7 +6,7 @@ ghost use Rattle.schema_faults.specs.Faults as faults;
 
 use crate::limits::level_inside;
 use crate::reasons::{reason_against, reason_against_text};
-use doc_text::{ItemLabel, Items};
+use doc_text::ItemLabel;
 use label_tree::Tree;
 use schema_rules::{
     ElementRole, NamespaceScope, Placement, Position, SchemaWhy, is_schema_name, own_attributes,
@@ -157,14 +157,16 @@ fn is_schema(label: &ItemLabel) -> bool
     }
 }
 
-/// The first fault of a schema document, in the order in which it is written. `None` where it is a schema.
+/// The first fault of a schema document with this root, in the order in which it is written. `None` where it is a schema.
 ///
 /// The time grows with the size of the document, and for each element and each reference with the logarithm of the
 /// number of bindings of the elements that are open.
-pub fn first_fault(alloc: Global, items: &Items) -> Result<Option<DocumentFault>, Memory>
-    ensures { IfOk result (λ found. found ≡ faults.first_fault (faults.reasons items.now)) }
+pub fn first_fault(
+    alloc: Global,
+    root: &Tree<ItemLabel>,
+) -> Result<Option<DocumentFault>, Memory>
+    ensures { IfOk result (λ found. found ≡ faults.first_fault (faults.reasons root.now)) }
 {
-    let root = items.tree().root();
     if !is_schema(root.label()) {
         return Ok(fault_if(root.label().place(), Some(SchemaWhy::NotASchema)));
     }

@@ -154,9 +154,10 @@ pub fn read_schema(alloc: Global, items: &Items, file: u32) -> Result<RawDoc, Sc
     // All of its components.
     ensures raw { IfOk result (λ doc. doc_of doc ≡ raw_of file items.now) }
 {
-    if let Some(DocumentFault { at, why }) = first_fault(alloc, items)? {
+    let root = items.to_tree(alloc)?;
+    if let Some(DocumentFault { at, why }) = first_fault(alloc, &root)? {
         return Err(SchemaError::Shown { at, why });
     }
-    let doc = components(alloc, items.tree().root(), file)?;
+    let doc = components(alloc, &root, file)?;
     Ok(doc)
 }
