@@ -1,6 +1,7 @@
 //! The first fault of a schema document.
-ghost use Rattle.std.specs.Prelude.{◌≡◌, IfOk};
-ghost use Rattle.label_tree.specs.Rose.{roses_of};
+ghost use Rattle.std.specs.Prelude.{◌≡◌, Some, IfOk, IfSome};
+ghost use Rattle.label_tree.specs.Rose.{Rose, label_of, roses_of};
+ghost use Rattle.doc_text.specs.declared.label.ItemLabel.{ItemLabel};
 ghost use Rattle.schema_rules.specs.Scopes.{bindings_in};
 ghost use Rattle.schema_faults.specs.Faults as faults;
 
@@ -154,6 +155,17 @@ fn is_schema(label: &ItemLabel) -> bool
             is_schema_name(name) && name.local.bytes() == b"schema".as_slice()
         }
         ItemLabel::Text { .. } => false,
+    }
+}
+
+/// The fault of a document whose root has this label, where that isn't the one of a schema.
+pub fn root_fault(label: &ItemLabel) -> Option<DocumentFault>
+    ensures { (root : Rose ItemLabel) → label_of root ≡ label.now → IfSome result (λ found. faults.first_fault (faults.reasons root) ≡ Some found) }
+{
+    if is_schema(label) {
+        None
+    } else {
+        fault_if(label.place(), Some(SchemaWhy::NotASchema))
     }
 }
 

@@ -7,5 +7,5 @@ mod limits;
 mod reasons;
 mod requirements;
 
-pub use faults::{DocumentFault, first_fault};
+pub use faults::{DocumentFault, first_fault, root_fault};
 pub use laws::{first_is_shown, one_answer};

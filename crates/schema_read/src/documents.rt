@@ -19,7 +19,7 @@ use crate::names::value_or_empty;
 use crate::reader::Reader;
 use doc_text::{ItemLabel, Items};
 use label_tree::Tree;
-use schema_faults::{DocumentFault, first_fault};
+use schema_faults::{DocumentFault, first_fault, root_fault};
 use schema_parts::RawDoc;
 use schema_rules::{NamespaceScope, is_counted, is_looked_into, own_attributes};
 use std::alloc::Global;
@@ -154,6 +154,10 @@ pub fn read_schema(alloc: Global, items: &Items, file: u32) -> Result<RawDoc, Sc
     // All of its components.
     ensures raw { IfOk result (λ doc. doc_of doc ≡ raw_of file items.now) }
 {
+    if let Some(DocumentFault { at, why }) = root_fault(items.root().label()) {
+        return Err(SchemaError::Shown { at, why });
+    }
+    // The parts below are read from lists of kids.
     let root = items.to_tree(alloc)?;
     if let Some(DocumentFault { at, why }) = first_fault(alloc, &root)? {
         return Err(SchemaError::Shown { at, why });
