@@ -1,17 +1,18 @@
 -- The code's steps as steps of states.
-use Rattle.std.proofs.Common.{◌≡◌, ℕ, ◌-◌, ◌≤◌, Bool, true, false, List, [], ◌∷◌, ◌++◌, length, map, take, reverse, None, refl, sym, ap, subst, ◌∙◌, arith, inl, inr, append_assoc}
+use Rattle.std.proofs.Common.{◌≡◌, ℕ, suc, ◌-◌, ◌≤◌, ◌<◌, Bool, true, false, cond, List, [], ◌∷◌, ◌++◌, length, map, take, reverse, None, refl, sym, ap, subst, ◌∙◌, arith, inl, inr, append_assoc}
 use Rattle.std.specs.Prelude.{nat_eq, nat_le, not, ◌==◌, ◌&&◌, encode_utf8, string_bytes}
 use Rattle.std.specs.List.{flat_map}
 use Rattle.std.proofs.lemmas.List.{length-append, length-map, length-reverse, reverse-append, reverse-reverse, take-append-le, take_all}
 use Rattle.std.proofs.lemmas.Bool.Decides.{eqb_tells}
 use Rattle.xa_base.specs.Namespaces.{xml_prefix, xml_space}
 use Rattle.xa_base.specs.WhiteSpace.{is_white_space}
+use Rattle.std.specs.Borrow.{Bor}
 use Rattle.label_tree.specs.Rose.{Rose, node, roses_of}
+use Rattle.flat_tree.specs.Zips as zips
 use Rattle.doc_pieces.specs.Pieces.{Tag, Declaration, Start, Empty, End, Comment, Instruction, CData, Reference, Character}
 use Rattle.xa_base.specs.declared.texts.Name.{Name}
 use Rattle.doc_text.specs.declared.label.ItemLabel.{ItemLabel}
 use Rattle.doc_text.specs.declared.label.ItemLabel.TheVariants.{Element}
-use Rattle.doc_text.specs.declared.builder.Frame.{Frame}
 use Rattle.doc_text.specs.declared.builder.Builder.{Builder}
 use Rattle.doc_text.specs.declared.tags.Head.{Head}
 use Rattle.doc_text.specs.declared.error.DocWhy.{DocWhy}
@@ -20,25 +21,30 @@ use Rattle.doc_text.specs.Namespaces.{bindings_of, attributes_of, element_name}
 use Rattle.doc_text.specs.Contexts.{Context, Open, is_innermost, is_outside, brackets_after, scope, tag_scope, start_reason, reason, end_tests}
 use Rattle.xa_base.specs.Limits.{is_empty}
 use Rattle.xa_base.specs.Entries.{first_true}
-use Rattle.doc_text.specs.Private.States.{Above, State, open_of, context, kids_of_state, entering, element_of, opened, emptied, closed, passed, added}
+use Rattle.doc_text.specs.Private.States.{Above, State, open_of, context, kids_of_state, entering, element_of, opened, emptied, closed, passed, written_on, added}
 use Rattle.doc_text.specs.Private.Entering.{Enters}
-use Rattle.doc_text.specs.Private.Building.{above_of, state, IsNamed, AreNamed, Scoped, Takes, Flushed, Shuts}
+use Rattle.doc_text.specs.Private.Building.{up_in, above_of, aboves, state, node_of, binding_count, IsNamed, AreNamed, Scoped, Takes, Flushed, Shuts, Kept}
 use Rattle.doc_text.proofs.Entered.{inside_is}
 use Rattle.doc_text.proofs.OpenNames.{named_tag, ends_named}
 use Rattle.doc_text.proofs.Telling.{some_innermost, innermost_is, is_empty-map, context-added}
 
-abbrev pub aboves : List Frame → List Above
-aboves fs = map above_of (reverse fs)
+pub aboves-push : (names : List (Bor (List ℕ))) (written : Bor (List ℕ)) (up : List (zips.Above ItemLabel)) → aboves (reverse (names ++ written ∷ [])) up ≡ above_of written.now up ∷ aboves (reverse names) (up_in up)
+aboves-push names written up = rw (reverse-append names (written ∷ [])) refl
 
-pub above-push : (fs : List Frame) (f : Frame) → aboves (fs ++ f ∷ []) ≡ above_of f ∷ aboves fs
-above-push fs f = rw (reverse-append fs (f ∷ [])) refl
+pub length-aboves : (names : List (Bor (List ℕ))) (up : List (zips.Above ItemLabel)) → length (aboves names up) ≡ length names
+length-aboves [] up = refl
+length-aboves (written ∷ names) up = omega (arith, length-aboves names (up_in up))
 
 pub is_empty-len : {A : Type 0} (xs : List A) → is_empty xs ≡ nat_eq (length xs) 0
 is_empty-len [] = refl
 is_empty-len (x ∷ xs) = elim (eqb_tells (length (x ∷ xs)) 0) [ inl e ↦ absurd (omega (arith, e.1)) | inr e ↦ sym e.0 ]
 
-pub is_empty-aboves : (fs : List Frame) → is_empty (aboves fs) ≡ nat_eq (length fs) 0
-is_empty-aboves fs = is_empty-len (aboves fs) ∙ ap (λ (n : ℕ). nat_eq n 0) (length-map (reverse fs) above_of ∙ length-reverse fs)
+pub is_empty-aboves : (names : List (Bor (List ℕ))) (up : List (zips.Above ItemLabel)) → is_empty (aboves (reverse names) up) ≡ nat_eq (length names) 0
+is_empty-aboves names up = is_empty-len (aboves (reverse names) up) ∙ ap (λ (n : ℕ). nat_eq n 0) (length-aboves (reverse names) up ∙ length-reverse names)
+
+-- both lists are others
+aboves_by : (names others : List (Bor (List ℕ))) (up more : List (zips.Above ItemLabel)) → names ≡ others → up ≡ more → aboves (reverse names) up ≡ aboves (reverse others) more
+aboves_by names others up more e f = rw (e, f) refl
 
 abbrev mk : List Above → List (Rose ItemLabel) → List ℕ → ℕ → Bool → Bool → ℕ → State
 mk above kids text text_at ended first brackets = record { above = above; kids = kids; text = text; text_at = text_at; ended = ended; first = first; brackets = brackets }
@@ -53,7 +59,7 @@ same_above : (w v : List ℕ) (m n : Name) (a b : List (Name × List ℕ)) (d e 
 same_above w v m n a b d e p q k l x1 x2 x3 x4 x5 x6 = rw (x1, x2, x3, x4, x5, x6) refl
 
 depth_is : (b : Builder) → length b.open.items ≡ length (context (state b)).elements
-depth_is b = sym (length-map (aboves b.open.items) open_of ∙ length-map (reverse b.open.items) above_of ∙ length-reverse b.open.items)
+depth_is b = sym (length-map (state b).above open_of ∙ length-aboves (reverse b.open.items) b.items.above ∙ length-reverse b.open.items)
 
 start_is : (tag : Tag) (c : Context) → start_reason tag (scope c) c.ended (length c.elements) ≡ reason (Start tag) c
 unfolding start_reason reason
@@ -94,37 +100,47 @@ entering_is b tag head written at before later scoped enters w e =
 
 -- before and behind the writing of the text, with other bindings
 pub record Mid (old mid : Builder) : Type 0 where
-  pub kids : mid.kids.items ≡ kids_of_state (state old)
+  pub kids : mid.items.kids ≡ kids_of_state (state old)
+  pub nodes : mid.items.above ≡ old.items.above
   pub text : string_bytes mid.text ≡ []
   pub place : mid.text_at ≡ old.text_at
   pub opens : mid.open.items ≡ old.open.items
   pub ends : mid.ended ≡ old.ended
 
-pub mid_of : (old early mid : Builder) → Flushed early mid → early.kids.items ≡ old.kids.items → string_bytes early.text ≡ string_bytes old.text → early.text_at ≡ old.text_at → early.open.items ≡ old.open.items → early.ended ≡ old.ended → Mid old mid
-mid_of old early mid f k t p o e = record {
-  kids = f.kids ∙ rw (k, t, p) refl;
+pub mid_of : (old early mid : Builder) → Flushed early mid → early.items ≡ old.items → string_bytes early.text ≡ string_bytes old.text → early.text_at ≡ old.text_at → early.open.items ≡ old.open.items → early.ended ≡ old.ended → Mid old mid
+mid_of old early mid f i t p o e = record {
+  kids = f.kids ∙ rw (i, t, p) refl;
+  nodes = f.same_above ∙ ap (λ (z : zips.Zip ItemLabel). z.above) i;
   text = f.text;
   place = f.same_place ∙ p;
   opens = f.same_open ∙ o;
   ends = f.same_end ∙ e;
 }
 
-pub start_takes : (old mid new : Builder) (f : Frame) (head : Head) (tag : Tag) (at : ℕ) → Scoped old → Enters (reverse old.scope) old.ended (length old.open.items) tag head → Mid old mid
-    → new.scope ≡ old.scope ++ reverse (bindings_of tag.attributes) → new.open.items ≡ mid.open.items ++ f ∷ [] → f.written.now ≡ tag.name → f.name ≡ head.name → f.attributes ≡ head.attributes → f.declares ≡ head.declares → f.at ≡ at → f.before.items ≡ mid.kids.items
-    → new.kids.items ≡ [] → string_bytes new.text ≡ string_bytes mid.text → new.text_at ≡ mid.text_at → new.ended ≡ mid.ended → new.first ≡ false → new.brackets ≡ 0 → Takes (Start tag) at old new
-start_takes old mid new f head tag at scoped enters m scope_is opens f1 f2 f3 f4 f5 f6 kids text place ends first brackets =
-    let above : aboves new.open.items ≡ entering tag (scope (context (state old))) at (kids_of_state (state old)) ∷ aboves old.open.items =
-    ap aboves opens ∙ above-push mid.open.items f ∙ ap (λ (a : Above). a ∷ aboves mid.open.items) (same_above _ _ _ _ _ _ _ _ _ _ _ _ f1 f2 f3 f4 f5 f6 ∙ entering_is old tag head tag.name at mid.kids.items (kids_of_state (state old)) scoped enters refl m.kids) ∙ ap (λ (fs : List Frame). entering tag (scope (context (state old))) at (kids_of_state (state old)) ∷ aboves fs) m.opens in
-    let steps : state new ≡ opened tag at (state old) = same_state _ _ _ _ _ _ _ _ _ _ _ _ _ _ above kids (text ∙ m.text) (place ∙ m.place) (ends ∙ m.ends) first brackets in
-    let own = bindings_of tag.attributes in
-    let flat = flat_map (λ (e : Open). e.declares) (map open_of (aboves old.open.items)) in
-    let inner : scope (context (opened tag at (state old))) ≡ own ++ scope (context (state old)) = append_assoc own flat ((xml_prefix, xml_space) ∷ []) in
+pub start_takes : (old mid new : Builder) (written : Bor (List ℕ)) (head : Head) (tag : Tag) (at : ℕ) → Scoped old → Enters (reverse old.scope) old.ended (length old.open.items) tag head → Mid old mid
+    → new.scope ≡ old.scope ++ reverse (bindings_of tag.attributes) → new.open.items ≡ mid.open.items ++ written ∷ [] → written.now ≡ tag.name → new.items ≡ zips.opened (Element head.name head.attributes head.declares at) mid.items
+    → string_bytes new.text ≡ string_bytes mid.text → new.text_at ≡ mid.text_at → new.ended ≡ mid.ended → new.first ≡ false → new.brackets ≡ 0 → Takes (Start tag) at old new
+start_takes old mid new written head tag at scoped enters m scope_is opens name_is items text place ends first brackets =
+    let kids = kids_of_state (state old) in
+    let outer = (state old).above in
+    let a = entering tag (scope (context (state old))) at kids in
+    let label = Element head.name head.attributes head.declares at in
+    let own : put written.now head.name head.attributes head.declares at mid.items.kids ≡ a = entering_is old tag head written.now at mid.items.kids kids scoped enters name_is m.kids in
+    let above : (state new).above ≡ a ∷ outer =
+    aboves_by _ _ _ _ opens (ap (λ (z : zips.Zip ItemLabel). z.above) items) ∙ aboves-push mid.open.items written (zips.opened label mid.items).above
+    ∙ ap (λ (x : Above). x ∷ aboves (reverse mid.open.items) mid.items.above) own ∙ ap (λ (xs : List Above). a ∷ xs) (aboves_by _ _ _ _ m.opens m.nodes) in
+    let steps : state new ≡ opened tag at (state old) = same_state _ _ _ _ _ _ _ _ _ _ _ _ _ _ above (ap (λ (z : zips.Zip ItemLabel). z.kids) items) (text ∙ m.text) (place ∙ m.place) (ends ∙ m.ends) first brackets in
+    let binds = bindings_of tag.attributes in
+    let flat = flat_map (λ (e : Open). e.declares) (map open_of outer) in
+    let inner : scope (context (opened tag at (state old))) ≡ binds ++ scope (context (state old)) = append_assoc binds flat ((xml_prefix, xml_space) ∷ []) in
+    let nodes : new.items.above ≡ node_of a ∷ old.items.above = ap (λ (z : zips.Zip ItemLabel). z.above) items ∙ ap (λ (x : Above). node_of x ∷ mid.items.above) own ∙ ap (λ (up : List (zips.Above ItemLabel)). node_of a ∷ up) m.nodes in
     record {
       none = sym (start_stops old tag (length old.open.items) scoped refl) ∙ enters.none;
       steps = steps;
       scoped = record {
-        scope_is = ap reverse scope_is ∙ inside_is old.scope own ∙ ap (λ (r : List (List ℕ × List ℕ)). own ++ r) scoped.scope_is ∙ sym inner ∙ ap (λ (s : State). scope (context s)) (sym steps);
-        named = subst (λ (s : State). AreNamed (context s).elements) (sym steps) (subst (IsNamed tag.name) (ap (λ (r : List (List ℕ × List ℕ)). own ++ r) scoped.scope_is ∙ sym inner) (named_tag tag (reverse old.scope) old.ended (length old.open.items) enters.none), scoped.named);
+        scope_is = ap reverse scope_is ∙ inside_is old.scope binds ∙ ap (λ (r : List (List ℕ × List ℕ)). binds ++ r) scoped.scope_is ∙ sym inner ∙ ap (λ (s : State). scope (context s)) (sym steps);
+        named = subst (λ (s : State). AreNamed (context s).elements) (sym steps) (subst (IsNamed tag.name) (ap (λ (r : List (List ℕ × List ℕ)). binds ++ r) scoped.scope_is ∙ sym inner) (named_tag tag (reverse old.scope) old.ended (length old.open.items) enters.none), scoped.named);
+        nodes = ap (map node_of) above ∙ ap (λ (up : List (zips.Above ItemLabel)). node_of a ∷ up) scoped.nodes ∙ sym nodes;
       };
     }
 
@@ -139,13 +155,15 @@ popped all own rest e =
 
 pub empty_takes : (old mid new : Builder) (head : Head) (tag : Tag) (at : ℕ) (all : List (List ℕ × List ℕ)) (count : ℕ) → Scoped old → Enters (reverse old.scope) old.ended (length old.open.items) tag head → Mid old mid
     → all ≡ old.scope ++ reverse (bindings_of tag.attributes) → new.scope ≡ take (length all - count) all → count ≡ length head.declares → new.open.items ≡ mid.open.items
-    → new.kids.items ≡ mid.kids.items ++ node (Element head.name head.attributes head.declares at) (roses_of []) ∷ [] → string_bytes new.text ≡ string_bytes mid.text → new.text_at ≡ mid.text_at → new.ended ≡ nat_eq (length mid.open.items) 0 → new.first ≡ false → new.brackets ≡ 0 → Takes (Empty tag) at old new
-empty_takes old mid new head tag at all count scoped enters m all_is scope_is count_is opens kids text place ends first brackets =
+    → new.items ≡ zips.added (node (Element head.name head.attributes head.declares at) (roses_of [])) mid.items → string_bytes new.text ≡ string_bytes mid.text → new.text_at ≡ mid.text_at → new.ended ≡ nat_eq (length mid.open.items) 0 → new.first ≡ false → new.brackets ≡ 0 → Takes (Empty tag) at old new
+empty_takes old mid new head tag at all count scoped enters m all_is scope_is count_is opens items text place ends first brackets =
     let s = state old in
     let element : node (Element head.name head.attributes head.declares at) (roses_of []) ≡ element_of (entering tag (scope (context s)) at []) [] = ap (λ (a : Above). element_of a []) (entering_is old tag head tag.name at [] [] scoped enters refl refl) in
-    let steps : state new ≡ emptied tag at s = same_state _ _ _ _ _ _ _ _ _ _ _ _ _ _ (ap aboves (opens ∙ m.opens))
-    (kids ∙ ap (λ (ks : List (Rose ItemLabel)). ks ++ node (Element head.name head.attributes head.declares at) (roses_of []) ∷ []) m.kids ∙ ap (λ (e : Rose ItemLabel). kids_of_state s ++ e ∷ []) element)
-    (text ∙ m.text) (place ∙ m.place) (ends ∙ ap (λ (fs : List Frame). nat_eq (length fs) 0) m.opens ∙ sym (is_empty-aboves old.open.items)) first brackets in
+    let nodes : new.items.above ≡ old.items.above = ap (λ (z : zips.Zip ItemLabel). z.above) items ∙ m.nodes in
+    let above : (state new).above ≡ s.above = aboves_by _ _ _ _ (opens ∙ m.opens) nodes in
+    let steps : state new ≡ emptied tag at s = same_state _ _ _ _ _ _ _ _ _ _ _ _ _ _ above
+    (ap (λ (z : zips.Zip ItemLabel). z.kids) items ∙ ap (λ (ks : List (Rose ItemLabel)). ks ++ node (Element head.name head.attributes head.declares at) (roses_of []) ∷ []) m.kids ∙ ap (λ (e : Rose ItemLabel). kids_of_state s ++ e ∷ []) element)
+    (text ∙ m.text) (place ∙ m.place) (ends ∙ ap (λ (names : List (Bor (List ℕ))). nat_eq (length names) 0) m.opens ∙ sym (is_empty-aboves old.open.items old.items.above)) first brackets in
     let back : reverse new.scope ≡ reverse old.scope = ap reverse (scope_is ∙ ap (λ (n : ℕ). take (length all - n) all) (count_is ∙ ap length enters.declares_are)) ∙ popped all (bindings_of tag.attributes) (reverse old.scope) (ap reverse all_is ∙ inside_is old.scope (bindings_of tag.attributes)) in
     record {
       none = sym (empty_stops old tag (length old.open.items) scoped refl) ∙ enters.none;
@@ -153,35 +171,66 @@ empty_takes old mid new head tag at all count scoped enters m all_is scope_is co
       scoped = record {
         scope_is = back ∙ scoped.scope_is ∙ ap (λ (t : State). scope (context t)) (sym steps);
         named = subst (λ (t : State). AreNamed (context t).elements) (sym steps) scoped.named;
+        nodes = ap (map node_of) above ∙ scoped.nodes ∙ sym nodes;
       };
     }
 
-closing_kids : (b : Builder) → string_bytes b.text ≡ [] → kids_of_state (state b) ≡ b.kids.items
+closing_kids : (b : Builder) → string_bytes b.text ≡ [] → kids_of_state (state b) ≡ b.items.kids
 closing_kids b e = rw e refl
 
-pub shuts : (old new : Builder) (f : Frame) (count : ℕ) → string_bytes old.text ≡ [] → old.open.items ≡ new.open.items ++ f ∷ [] → new.scope ≡ take (length old.scope - count) old.scope → count ≡ length f.declares
-    → new.kids.items ≡ f.before.items ++ node (Element f.name f.attributes f.declares f.at) (roses_of old.kids.items) ∷ [] → string_bytes new.text ≡ string_bytes old.text → new.text_at ≡ old.text_at → new.ended ≡ nat_eq (length new.open.items) 0 → new.first ≡ false → new.brackets ≡ 0 → Shuts old new
-shuts old new f count empty opens scope_is count_is kids text place ends first brackets =
-    let above : aboves old.open.items ≡ above_of f ∷ aboves new.open.items = ap aboves opens ∙ above-push new.open.items f in
-    let element : node (Element f.name f.attributes f.declares f.at) (roses_of old.kids.items) ≡ element_of (above_of f) (kids_of_state (state old)) = ap (λ (ks : List (Rose ItemLabel)). element_of (above_of f) ks) (sym (closing_kids old empty)) in
-    let steps : state new ≡ closed (above_of f ∷ aboves new.open.items) (state old) = same_state _ _ _ _ _ _ _ _ _ _ _ _ _ _ refl (kids ∙ ap (λ (e : Rose ItemLabel). f.before.items ++ e ∷ []) element) (text ∙ empty) place (ends ∙ sym (is_empty-aboves new.open.items)) first brackets in
-    let flat = flat_map (λ (e : Open). e.declares) (map open_of (aboves new.open.items)) in
-    record {
-      steps = steps ∙ ap (λ (a : List Above). closed a (state old)) (sym above);
-      scoped = λ scoped some. record {
-        scope_is =
-            ap reverse (scope_is ∙ ap (λ (n : ℕ). take (length old.scope - n) old.scope) count_is) ∙ popped old.scope f.declares (flat ++ (xml_prefix, xml_space) ∷ [])
-            (scoped.scope_is ∙ ap (λ (a : List Above). flat_map (λ (e : Open). e.declares) (map open_of a) ++ (xml_prefix, xml_space) ∷ []) above ∙ append_assoc f.declares flat ((xml_prefix, xml_space) ∷ []));
-        named = (subst (λ (a : List Above). AreNamed (map open_of a)) above scoped.named).1;
-      };
-    }
+last_of : (names : List (Bor (List ℕ))) → 0 < length names → (written : Bor (List ℕ)) × (names ≡ take (length names - 1) names ++ written ∷ [])
+last_of [] some = absurd (omega (arith, some))
+last_of (name ∷ []) some = (name, refl)
+last_of (name ∷ next ∷ names) some =
+    let last = last_of (next ∷ names) (omega arith) in
+    let count : length (name ∷ next ∷ names) - 1 ≡ suc (length (next ∷ names) - 1) = omega arith in
+    let front : take (length (name ∷ next ∷ names) - 1) (name ∷ next ∷ names) ≡ name ∷ take (length (next ∷ names) - 1) (next ∷ names) = ap (λ (n : ℕ). take n (name ∷ next ∷ names)) count in
+    (last.0, ap (λ (xs : List (Bor (List ℕ))). name ∷ xs) last.1 ∙ ap (λ (xs : List (Bor (List ℕ))). xs ++ last.0 ∷ []) (sym front))
 
-pub shuts_nothing : (old new : Builder) → string_bytes old.text ≡ [] → old.open.items ≡ [] → new.open.items ≡ [] → new.kids.items ≡ old.kids.items → string_bytes new.text ≡ string_bytes old.text → new.text_at ≡ old.text_at → new.ended ≡ true → new.first ≡ false → new.brackets ≡ 0 → Shuts old new
-shuts_nothing old new empty none opens kids text place ends first brackets =
-    let above : aboves old.open.items ≡ [] = ap aboves none in
+-- an element is open, so there is a name
+pub some_name : (b : Builder) → is_empty (state b).above ≡ false → 0 < length b.open.items
+some_name b inside = elim (eqb_tells (length b.open.items) 0) [
+  | inl e ↦ absurd (let clash : false ≡ true = sym inside ∙ is_empty-aboves b.open.items b.items.above ∙ e.0 in cc)
+  | inr e ↦ omega (arith, e.1)
+]
+
+some_of : (above : List Above) (up : List (zips.Above ItemLabel)) → map node_of above ≡ up → is_empty above ≡ false → 0 < length up
+some_of [] up e f = absurd cc
+some_of (a ∷ above) up e f = omega (arith, ap length e)
+
+-- and an open node
+pub some_node : (b : Builder) → Scoped b → is_empty (state b).above ≡ false → 0 < length b.items.above
+some_node b scoped inside = some_of (state b).above b.items.above scoped.nodes inside
+
+pub shuts : (old new : Builder) (count : ℕ) → Scoped old → string_bytes old.text ≡ [] → is_empty (state old).above ≡ false → new.open.items ≡ take (length old.open.items - 1) old.open.items → new.scope ≡ take (length old.scope - count) old.scope → count ≡ binding_count (zips.first_label old.items.above)
+    → new.items ≡ zips.closed old.items → string_bytes new.text ≡ string_bytes old.text → new.text_at ≡ old.text_at → new.ended ≡ nat_eq (length new.open.items) 0 → new.first ≡ false → new.brackets ≡ 0 → Shuts old new
+shuts old new count scoped empty inside shorter scope_is count_is items text place ends first brackets =
+    let last = last_of old.open.items (some_name old inside) in
+    let written = last.0 in
+    let opens : old.open.items ≡ new.open.items ++ written ∷ [] = last.1 ∙ ap (λ (names : List (Bor (List ℕ))). names ++ written ∷ []) (sym shorter) in
+    let a = above_of written.now old.items.above in
+    let names = reverse new.open.items in
+    let outer = aboves names (up_in old.items.above) in
+    let above : (state old).above ≡ a ∷ outer = ap (λ (ws : List (Bor (List ℕ))). aboves (reverse ws) old.items.above) opens ∙ aboves-push new.open.items written old.items.above in
+    let nodes : old.items.above ≡ node_of a ∷ map node_of outer = sym scoped.nodes ∙ ap (map node_of) above in
+    let shut : new.items ≡ zips.closed_in (node_of a ∷ map node_of outer) old.items.kids = items ∙ ap (λ (up : List (zips.Above ItemLabel)). zips.closed_in up old.items.kids) nodes in
+    let left : new.items.above ≡ map node_of outer = ap (λ (z : zips.Zip ItemLabel). z.above) shut in
+    let outer_is : (state new).above ≡ outer = ap (aboves names) (left ∙ sym (ap up_in nodes)) in
+    let kids : new.items.kids ≡ a.before ++ element_of a (kids_of_state (state old)) ∷ [] = ap (λ (z : zips.Zip ItemLabel). z.kids) shut ∙ ap (λ (ks : List (Rose ItemLabel)). a.before ++ element_of a ks ∷ []) (sym (closing_kids old empty)) in
+    let ended : new.ended ≡ is_empty outer = ends ∙ sym (is_empty-aboves new.open.items (up_in old.items.above)) in
+    let steps : state new ≡ closed (a ∷ outer) (state old) = same_state _ _ _ _ _ _ _ _ _ _ _ _ _ _ outer_is kids (text ∙ empty) place ended first brackets in
+    let binds : count ≡ length a.declares = count_is ∙ ap (λ (up : List (zips.Above ItemLabel)). binding_count (zips.first_label up)) nodes in
+    let flat = flat_map (λ (e : Open). e.declares) (map open_of outer) in
+    let back : reverse new.scope ≡ flat ++ (xml_prefix, xml_space) ∷ [] =
+    ap reverse (scope_is ∙ ap (λ (n : ℕ). take (length old.scope - n) old.scope) binds) ∙ popped old.scope a.declares (flat ++ (xml_prefix, xml_space) ∷ [])
+    (scoped.scope_is ∙ ap (λ (x : List Above). flat_map (λ (e : Open). e.declares) (map open_of x) ++ (xml_prefix, xml_space) ∷ []) above ∙ append_assoc a.declares flat ((xml_prefix, xml_space) ∷ [])) in
     record {
-      steps = same_state _ _ _ _ _ _ _ _ _ _ _ _ _ _ (ap aboves opens) (kids ∙ sym (closing_kids old empty)) (text ∙ empty) place ends first brackets ∙ ap (λ (a : List Above). closed a (state old)) (sym above);
-      scoped = λ scoped some. absurd (let yes : is_empty (aboves old.open.items) ≡ true = ap is_empty above in cc);
+      steps = steps ∙ ap (λ (x : List Above). closed x (state old)) (sym above);
+      scoped = record {
+        scope_is = back ∙ ap (λ (t : State). scope (context t)) (sym steps);
+        named = subst (λ (t : State). AreNamed (context t).elements) (sym steps) (subst (λ (x : List Above). AreNamed (map open_of x)) above scoped.named).1;
+        nodes = ap (map node_of) outer_is ∙ sym left;
+      };
     }
 
 closed-same : (a : List Above) (s t : State) → kids_of_state s ≡ kids_of_state t → s.text_at ≡ t.text_at → closed a s ≡ closed a t
@@ -192,31 +241,46 @@ not_true : (b : Bool) → (b ≡ true → ⊥) → b ≡ false
 not_true true f = absurd (f refl)
 not_true false f = refl
 
-pub end_takes : (old mid new : Builder) (written : List ℕ) (at : ℕ) → Scoped old → reason (End written) (context (state old)) ≡ None → Flushed old mid → Shuts mid new → Takes (End written) at old new
-end_takes old mid new written at scoped none flushed shut =
-    let above : aboves mid.open.items ≡ aboves old.open.items = ap aboves flushed.same_open in
-    let kids : kids_of_state (state mid) ≡ kids_of_state (state old) = closing_kids mid flushed.text ∙ flushed.kids in
-    let mid_scoped : Scoped mid = record {
+-- the characters are a node before the innermost element ends
+above_flushed : (old mid : Builder) → Flushed old mid → (state mid).above ≡ (state old).above
+above_flushed old mid flushed = aboves_by _ _ _ _ flushed.same_open flushed.same_above
+
+pub flushed_scoped : (old mid : Builder) → Scoped old → Flushed old mid → Scoped mid
+flushed_scoped old mid scoped flushed =
+    let above = above_flushed old mid flushed in
+    record {
       scope_is = ap reverse flushed.same_scope ∙ scoped.scope_is ∙ ap (λ (a : List Above). flat_map (λ (e : Open). e.declares) (map open_of a) ++ (xml_prefix, xml_space) ∷ []) (sym above);
       named = subst (λ (a : List Above). AreNamed (map open_of a)) (sym above) scoped.named;
-    } in
-    let some : is_empty (aboves old.open.items) ≡ false = not_true _ (some_innermost written (aboves old.open.items) (innermost_is written (context (state old)) none)) in
+      nodes = ap (map node_of) above ∙ scoped.nodes ∙ sym flushed.same_above;
+    }
+
+pub flushed_inside : (old mid : Builder) (written : List ℕ) → reason (End written) (context (state old)) ≡ None → Flushed old mid → is_empty (state mid).above ≡ false
+flushed_inside old mid written none flushed = ap is_empty (above_flushed old mid flushed) ∙ not_true _ (some_innermost written (state old).above (innermost_is written (context (state old)) none))
+
+pub end_takes : (old mid new : Builder) (written : List ℕ) (at : ℕ) → reason (End written) (context (state old)) ≡ None → Flushed old mid → Shuts mid new → Takes (End written) at old new
+end_takes old mid new written at none flushed shut =
+    let above = above_flushed old mid flushed in
+    let kids : kids_of_state (state mid) ≡ kids_of_state (state old) = closing_kids mid flushed.text ∙ flushed.kids in
     record {
       none = none;
-      steps = shut.steps ∙ closed-same (aboves mid.open.items) (state mid) (state old) kids flushed.same_place ∙ ap (λ (a : List Above). closed a (state old)) above;
-      scoped = shut.scoped mid_scoped (ap is_empty above ∙ some);
+      steps = shut.steps ∙ closed-same (state mid).above (state mid) (state old) kids flushed.same_place ∙ ap (λ (a : List Above). closed a (state old)) above;
+      scoped = shut.scoped;
     }
 
 pub outside_is : (b : Builder) (result : Bool) → result ≡ nat_eq (length b.open.items) 0 → result ≡ is_outside (context (state b))
-outside_is b result e = e ∙ sym (is_empty-map open_of (aboves b.open.items) ∙ is_empty-aboves b.open.items)
+outside_is b result e = e ∙ sym (is_empty-map open_of (state b).above ∙ is_empty-aboves b.open.items b.items.above)
 
-rescoped : (old new : Builder) (s : State) → Scoped old → state new ≡ s → new.scope ≡ old.scope → (context s).elements ≡ (context (state old)).elements → Scoped new
+above_kept : (old new : Builder) → Kept old new → (state new).above ≡ (state old).above
+above_kept old new kept = aboves_by _ _ _ _ kept.names (ap (λ (z : zips.Zip ItemLabel). z.above) kept.items)
+
+rescoped : (old new : Builder) (s : State) → Scoped old → state new ≡ s → Kept old new → (context s).elements ≡ (context (state old)).elements → Scoped new
 rescoped old new s scoped steps same kept = record {
-  scope_is = ap reverse same ∙ scoped.scope_is ∙ ap (λ (es : List Open). flat_map (λ (e : Open). e.declares) es ++ (xml_prefix, xml_space) ∷ []) (sym kept) ∙ ap (λ (t : State). scope (context t)) (sym steps);
+  scope_is = ap reverse same.scope ∙ scoped.scope_is ∙ ap (λ (es : List Open). flat_map (λ (e : Open). e.declares) es ++ (xml_prefix, xml_space) ∷ []) (sym kept) ∙ ap (λ (t : State). scope (context t)) (sym steps);
   named = subst (λ (t : State). AreNamed (context t).elements) (sym steps) (subst AreNamed (sym kept) scoped.named);
+  nodes = ap (map node_of) (above_kept old new same) ∙ scoped.nodes ∙ sym (ap (λ (z : zips.Zip ItemLabel). z.above) same.items);
 }
 
-pub declaration_takes : (old new : Builder) (at : ℕ) → Scoped old → reason Declaration (context (state old)) ≡ None → state new ≡ passed (state old) → new.scope ≡ old.scope → Takes Declaration at old new
+pub declaration_takes : (old new : Builder) (at : ℕ) → Scoped old → reason Declaration (context (state old)) ≡ None → state new ≡ passed (state old) → Kept old new → Takes Declaration at old new
 declaration_takes old new at scoped none steps same = record { none = none; steps = steps; scoped = rescoped old new (passed (state old)) scoped steps same refl }
 
 no_comment : (c : Context) → reason Comment c ≡ None
@@ -227,30 +291,38 @@ no_instruction : (c : Context) → reason Instruction c ≡ None
 unfolding reason
 no_instruction c = refl
 
-pub comment_takes : (old new : Builder) (at : ℕ) → Scoped old → state new ≡ passed (state old) → new.scope ≡ old.scope → Takes Comment at old new
+pub comment_takes : (old new : Builder) (at : ℕ) → Scoped old → state new ≡ passed (state old) → Kept old new → Takes Comment at old new
 comment_takes old new at scoped steps same = record { none = no_comment (context (state old)); steps = steps; scoped = rescoped old new (passed (state old)) scoped steps same refl }
 
-pub instruction_takes : (old new : Builder) (at : ℕ) → Scoped old → state new ≡ passed (state old) → new.scope ≡ old.scope → Takes Instruction at old new
+pub instruction_takes : (old new : Builder) (at : ℕ) → Scoped old → state new ≡ passed (state old) → Kept old new → Takes Instruction at old new
 instruction_takes old new at scoped steps same = record { none = no_instruction (context (state old)); steps = steps; scoped = rescoped old new (passed (state old)) scoped steps same refl }
 
 kept_open : (text : List ℕ) (at n : ℕ) (s : State) → (context (added text at n s)).elements ≡ (context s).elements
 kept_open text at n s = ap (λ (c : Context). c.elements) (context-added text at n s s.above refl)
 
-pub add_scoped : (old new : Builder) (text : List ℕ) (at n : ℕ) → Scoped old → state new ≡ added text at n (state old) → new.scope ≡ old.scope → Scoped new
+pub add_scoped : (old new : Builder) (text : List ℕ) (at n : ℕ) → Scoped old → state new ≡ added text at n (state old) → Kept old new → Scoped new
 add_scoped old new text at n scoped steps same = rescoped old new (added text at n (state old)) scoped steps same (kept_open text at n (state old))
+
+-- characters in an element
+pub adds : (b : Builder) (text later : List ℕ) (at place n : ℕ) → nat_eq (length b.open.items) 0 ≡ false → later ≡ string_bytes b.text ++ text → place ≡ cond (is_empty (string_bytes b.text)) at b.text_at → mk (state b).above (state b).kids later place b.ended false n ≡ added text at n (state b)
+adds b text later at place n some later_is place_is =
+    let s = state b in
+    let inside : is_empty s.above ≡ false = is_empty-aboves b.open.items b.items.above ∙ some in
+    let same : added text at n s ≡ written_on text at n s = rw inside refl in
+    same_state _ _ _ _ _ _ _ _ _ _ _ _ _ _ refl refl later_is place_is refl refl refl ∙ sym same
 
 pub cdata_stops : (b : Builder) (text : List ℕ) → reason (CData text) (context (state b)) ≡ first_true ((is_outside (context (state b)), why.TextOutside) ∷ [])
 unfolding reason
 cdata_stops b text = refl
 
-pub cdata_takes : (old new : Builder) (text : List ℕ) (at : ℕ) → Scoped old → first_true ((is_outside (context (state old)), why.TextOutside) ∷ []) ≡ None → state new ≡ added text at 0 (state old) → new.scope ≡ old.scope → Takes (CData text) at old new
+pub cdata_takes : (old new : Builder) (text : List ℕ) (at : ℕ) → Scoped old → first_true ((is_outside (context (state old)), why.TextOutside) ∷ []) ≡ None → state new ≡ added text at 0 (state old) → Kept old new → Takes (CData text) at old new
 cdata_takes old new text at scoped none steps same = record { none = cdata_stops old text ∙ none; steps = steps; scoped = rescoped old new (added text at 0 (state old)) scoped steps same (kept_open text at 0 (state old)) }
 
 pub reference_stops : (b : Builder) (code : ℕ) → reason (Reference code) (context (state b)) ≡ first_true ((is_outside (context (state b)), why.TextOutside) ∷ [])
 unfolding reason
 reference_stops b code = refl
 
-pub reference_takes : (old new : Builder) (code at : ℕ) → Scoped old → first_true ((is_outside (context (state old)), why.TextOutside) ∷ []) ≡ None → state new ≡ added (encode_utf8 code) at 0 (state old) → new.scope ≡ old.scope → Takes (Reference code) at old new
+pub reference_takes : (old new : Builder) (code at : ℕ) → Scoped old → first_true ((is_outside (context (state old)), why.TextOutside) ∷ []) ≡ None → state new ≡ added (encode_utf8 code) at 0 (state old) → Kept old new → Takes (Reference code) at old new
 reference_takes old new code at scoped none steps same = record { none = reference_stops old code ∙ none; steps = steps; scoped = rescoped old new (added (encode_utf8 code) at 0 (state old)) scoped steps same (kept_open (encode_utf8 code) at 0 (state old)) }
 
 abbrev pub character_tests : Builder → ℕ → List (Bool × DocWhy)
@@ -260,7 +332,7 @@ pub character_stops : (b : Builder) (code : ℕ) → reason (Character code) (co
 unfolding reason
 character_stops b code = refl
 
-pub character_takes : (old new : Builder) (code at n : ℕ) → Scoped old → first_true (character_tests old code) ≡ None → n ≡ brackets_after code old.brackets → state new ≡ added (encode_utf8 code) at n (state old) → new.scope ≡ old.scope → Takes (Character code) at old new
+pub character_takes : (old new : Builder) (code at n : ℕ) → Scoped old → first_true (character_tests old code) ≡ None → n ≡ brackets_after code old.brackets → state new ≡ added (encode_utf8 code) at n (state old) → Kept old new → Takes (Character code) at old new
 character_takes old new code at n scoped none count steps same = record {
   none = character_stops old code ∙ none;
   steps = steps ∙ ap (λ (m : ℕ). added (encode_utf8 code) at m (state old)) count;

@@ -1,6 +1,6 @@
 -- The code's loop over pieces.
-use Rattle.std.proofs.Common.{◌≡◌, ◌≢◌, ℕ, ◌≤◌, ◌<◌, Bool, true, false, List, [], ◌∷◌, ◌++◌, length, take, drop, refl, sym, ap, subst, ◌∙◌, arith}
-use Rattle.std.proofs.lemmas.List.{length-append, nil_from_length}
+use Rattle.std.proofs.Common.{◌≡◌, ◌≢◌, ℕ, ◌≤◌, ◌<◌, true, false, List, [], ◌∷◌, length, map, take, drop, sym, ap, subst, ◌∙◌, arith}
+use Rattle.std.proofs.lemmas.List.{nil_from_length}
 use Rattle.label_tree.specs.Rose.{Rose}
 use Rattle.doc_pieces.specs.Pieces.{Piece, Begins, NoPieceAt}
 use Rattle.doc_pieces.specs.Reasons.{NoneReason, IsPlainRun}
@@ -16,7 +16,7 @@ use Rattle.xa_base.specs.Limits.{is_empty}
 use Rattle.doc_text.specs.Documents.{why_of, BrokenAt, Refuses}
 use Rattle.doc_text.specs.Private.States.{State, context, open_of, added}
 use Rattle.doc_text.specs.Private.Entering.{Stopped}
-use Rattle.doc_text.specs.Private.Building.{state, Takes}
+use Rattle.doc_text.specs.Private.Building.{state, node_of, Scoped, Takes}
 use Rattle.doc_text.proofs.Telling.{is_empty-map}
 use Rattle.doc_text.proofs.Known.{laws}
 use Rattle.doc_text.proofs.Reaching.{place_of, stops, stops_where_none, is_unfinished}
@@ -53,19 +53,15 @@ takes_plain bytes rest text behind old new n at stands at_is more within inside 
 at_end : (bytes rest : List ℕ) (s : State) → Stands bytes rest s → length rest ≡ 0 → Stands bytes [] s
 at_end bytes rest s stands e = subst (λ (r : List ℕ). Stands bytes r s) (nil_from_length rest e) stands
 
-pub last_kid : (bytes rest : List ℕ) (b : Builder) (root : Rose ItemLabel) (kids : List (Rose ItemLabel)) → length bytes ≤ 16777216 → Stands bytes rest (state b) → length rest ≡ 0 → b.ended ≡ true → b.kids.items ≡ kids ++ root ∷ [] → DocOfItems bytes root
-last_kid bytes rest b root kids short stands over ended kids_are =
-    let here = at_end bytes rest (state b) stands over in
-    let r = here.good.one ended in
-    let none : kids ≡ [] = nil_from_length kids (omega (arith, ap length kids_are, length-append kids (root ∷ []), ap length r.kids)) in
-    ends_whole bytes (state b) root (omega (arith, short)) here ended (kids_are ∙ ap (λ (k : List (Rose ItemLabel)). k ++ root ∷ []) none)
+-- at the end of a document no node is open, and there is one
+pub has_closed : (bytes rest : List ℕ) (b : Builder) → Stands bytes rest (state b) → Scoped b → b.ended ≡ true → b.items.above ≡ []
+has_closed bytes rest b stands scoped ended = sym scoped.nodes ∙ ap (map node_of) (stands.good.one ended).above
+
+pub has_one : (bytes rest : List ℕ) (b : Builder) → Stands bytes rest (state b) → b.ended ≡ true → length b.items.kids ≡ 1
+has_one bytes rest b stands ended = ap length (stands.good.one ended).kids
+
+pub is_root : (bytes rest : List ℕ) (b : Builder) (root : Rose ItemLabel) → length bytes ≤ 16777216 → Stands bytes rest (state b) → length rest ≡ 0 → b.ended ≡ true → b.items.kids ≡ root ∷ [] → DocOfItems bytes root
+is_root bytes rest b root short stands over ended kids = ends_whole bytes (state b) root (omega (arith, short)) (at_end bytes rest (state b) stands over) ended kids
 
 pub unfinished : (bytes rest : List ℕ) (b : Builder) (at : ℕ) → Stands bytes rest (state b) → length rest ≡ 0 → at ≡ length bytes → b.ended ≡ false → BrokenAt bytes at why.Unfinished
 unfinished bytes rest b at stands over at_is open_still = let here = at_end bytes rest (state b) stands over in is_unfinished bytes (state b) at here.utf8 here.reaches at_is open_still
-
-no_last : (b : Bool) → (b ≡ true → ⊥) → b ≡ false
-no_last true f = absurd (f refl)
-no_last false f = refl
-
-pub not_ended : (bytes rest : List ℕ) (b : Builder) → Stands bytes rest (state b) → length b.kids.items ≡ 0 → b.ended ≡ false
-not_ended bytes rest b stands none = no_last b.ended (λ e. (let r = stands.good.one e in omega (arith, none, ap length r.kids)))

@@ -1,5 +1,5 @@
 -- Where a piece of a document stands, and the reasons that may stand against it.
-use Rattle.std.specs.Prelude.{◌==◌, ◌+◌, ℕ, Bool, true, false, ◌&&◌, ◌||◌, not, nat_le, min, List, [], ◌∷◌, ◌++◌, length, map, bytes_eq, Option, Some, None, if◌then◌else◌}
+use Rattle.std.specs.Prelude.{◌==◌, ◌+◌, ℕ, Bool, true, false, ◌&&◌, ◌||◌, not, nat_le, min, List, [], ◌∷◌, ◌++◌, length, map, bytes_eq, Option, if◌then◌else◌}
 use Rattle.std.specs.List.{list_any, flat_map}
 use Rattle.xa_base.specs.Entries.{first_true}
 use Rattle.xa_base.specs.Limits.{is_short_space, is_empty}

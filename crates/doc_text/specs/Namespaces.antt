@@ -1,10 +1,10 @@
 -- What names stand for, by Namespaces in XML 1.0.
-use Rattle.std.specs.Prelude.{◌==◌, ◌+◌, ℕ, Bool, true, false, ◌&&◌, ◌||◌, not, nat_le, List, [], ◌∷◌, length, take, drop, map, filter, bytes_eq, Option, Some, None, if◌then◌else◌}
-use Rattle.std.specs.List.{prefix_len, list_any}
+use Rattle.std.specs.Prelude.{ℕ, Bool, true, false, ◌&&◌, ◌||◌, not, List, [], ◌∷◌, map, filter, bytes_eq, Option, Some, None, if◌then◌else◌}
+use Rattle.std.specs.List.{list_any}
 use Rattle.std.specs.Option.{is_some}
 use Rattle.xa_base.specs.declared.texts.Name.{Name}
 use Rattle.xa_base.specs.Entries.{beside}
-use Rattle.xa_base.specs.Limits.{is_empty, spells_ncname, is_short_part}
+use Rattle.xa_base.specs.Limits.{is_empty, is_short_part}
 use Rattle.xa_base.specs.Namespaces.{xml_prefix, xmlns_prefix, xml_space, xmlns_space}
 use Rattle.doc_pieces.specs.QNames.{prefix_of, local_of}
 use Rattle.doc_text.specs.Sound.{has_name}

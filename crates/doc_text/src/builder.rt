@@ -1,6 +1,8 @@
 //! What a reader has so far, and its step at each piece.
 ghost use Rattle.std.specs.Prelude.{if◌then◌else◌, cond, not, true, false, string_bytes, nat_le, encode_utf8, ◌≡◌, ◌==◌, ◌<◌, ◌≤◌, ◌&&◌, ◌∷◌, [], reverse, take, IfOk, IfErr, IsUtf8, OnOk, length};
 ghost use Rattle.xa_base.specs.WhiteSpace.{is_white_space};
+ghost use Rattle.xa_base.specs.Limits.{is_empty};
+ghost use Rattle.flat_tree.specs.Zips.{first_label};
 ghost use Rattle.doc_pieces.specs.Pieces as pieces;
 ghost use Rattle.doc_pieces.specs.Found.{seen, tag_seen, bytes_of};
 ghost use Rattle.std.specs.List.{prefix_len};
@@ -10,43 +12,27 @@ ghost use Rattle.xa_base.specs.Entries.{first_true};
 ghost use Rattle.doc_text.specs.Private.States.{context, nothing, added, passed};
 ghost use Rattle.doc_text.specs.Private.Entering.{Stopped, have_utf8};
 ghost use Rattle.doc_text.specs.declared.error.DocWhy.TheVariants as why;
-ghost use Rattle.doc_text.specs.Private.Building.{state, Scoped, Takes, Begins, Flushed, Shuts, GivesUtf8};
+ghost use Rattle.doc_text.specs.Private.Building.{state, binding_count, Scoped, Takes, Begins, Flushed, Shuts, Kept, GivesUtf8};
 
 use crate::error::{DocError, DocWhy};
-use crate::label::{Absent, Attributes, Bindings, ItemLabel};
+use crate::label::{Absent, ItemLabel};
 use crate::names::is_long;
 use crate::scope::BindingsInScope;
-use crate::short_lists::push;
 use crate::tags::{enter, is_unbound, value_of};
 use doc_pieces::{Element, Found, is_qname, plain_run, prefix_of};
-use label_tree::Tree;
+use flat_tree::Flat;
 use std::alloc::Global;
-use std::mem;
-use xa_base::{Memory, Name, Text, utf8_text};
-
-// For how many kids there is room where an element has a first one and doesn't end behind it.
-const FEW: usize = 2;
-
-/// An element that is open, with what stands before it beside it.
-#[derive(Drop)]
-pub(crate) struct Frame<'a> {
-    written: &'a [u8],
-    name: Name,
-    attributes: Attributes,
-    declares: Bindings,
-    at: u64,
-    before: Vec<Tree<ItemLabel>>,
-}
+use xa_base::{Memory, Text, utf8_text};
 
 #[derive(Drop)]
 pub(crate) struct Builder<'a> {
     alloc: Global,
     absent: Absent,
     scope: BindingsInScope<'a>,
-    // The elements that are open, the innermost last.
-    open: Vec<Frame<'a>>,
-    // What stands in the innermost of them, or outside.
-    pub(crate) kids: Vec<Tree<ItemLabel>>,
+    // The nodes so far. Those that are open are the elements that are open.
+    items: flat_tree::Builder<ItemLabel>,
+    // The names of these as written, the innermost last.
+    open: Vec<&'a [u8]>,
     // The characters behind these, which are no node yet.
     text: String,
     text_at: u64,
@@ -93,8 +79,8 @@ impl<'a> Builder<'a> {
             alloc,
             absent,
             scope,
+            items: flat_tree::Builder::new(alloc),
             open: Vec::new(alloc),
-            kids: Vec::new(alloc),
             text: String::new(alloc),
             text_at: 0,
             ended: false,
@@ -103,10 +89,9 @@ impl<'a> Builder<'a> {
         })
     }
 
-    // Makes a node of the characters so far. `room` says how many kids an element has that has any.
+    // Makes a node of the characters so far.
     #[inline(always)]
-    fn flush(&mut self, room: usize) -> Result<(), Memory>
-        requires { 1 ≤ room }
+    fn flush(&mut self) -> Result<(), Memory>
         ensures { OnOk result (Flushed self.old self.new) }
     {
         if self.text.is_empty() {
@@ -117,7 +102,7 @@ impl<'a> Builder<'a> {
             text,
             at: self.text_at,
         };
-        push(&mut self.kids, room, Tree::leaf(self.alloc, label))?;
+        self.items.leaf(label)?;
         self.text.clear();
         Ok(())
     }
@@ -141,16 +126,14 @@ impl<'a> Builder<'a> {
             Ok(head) => head,
             Err(error) => return Err(error),
         };
-        self.flush(FEW)?;
-        let before = mem::replace(&mut self.kids, Vec::new(self.alloc));
-        self.open.push(Frame {
-            written: tag.name,
+        self.flush()?;
+        self.items.open(ItemLabel::Element {
             name: head.name,
             attributes: head.attributes,
             declares: head.declares,
             at,
-            before,
         })?;
+        self.open.push(tag.name)?;
         self.first = false;
         self.brackets = 0;
         Ok(())
@@ -176,14 +159,13 @@ impl<'a> Builder<'a> {
             Err(error) => return Err(error),
         };
         self.scope.leave(head.declares.items().len());
-        self.flush(FEW)?;
-        let label = ItemLabel::Element {
+        self.flush()?;
+        self.items.leaf(ItemLabel::Element {
             name: head.name,
             attributes: head.attributes,
             declares: head.declares,
             at,
-        };
-        push(&mut self.kids, FEW, Tree::leaf(self.alloc, label))?;
+        })?;
         self.ended = self.open.is_empty();
         self.first = false;
         self.brackets = 0;
@@ -195,7 +177,7 @@ impl<'a> Builder<'a> {
         ensures { result ≡ is_innermost written.now (context (state self.now)).elements }
     {
         match self.open.last() {
-            Some(frame) => frame.written == written,
+            Some(innermost) => *innermost == written,
             None => false,
         }
     }
@@ -218,41 +200,31 @@ impl<'a> Builder<'a> {
         }
     }
 
-    // Ends the innermost element, behind whose kids no characters stand.
-    fn close(&mut self) -> Result<(), Memory>
-        requires { string_bytes self.old.text ≡ [] }
-        ensures { OnOk result (Shuts self.old self.new) }
+    // How many namespaces the innermost element binds.
+    fn binding_count(&self) -> usize
+        ensures { result ≡ binding_count (first_label self.now.items.above) }
     {
-        let Some(
-            Frame {
-                written: _,
-                name,
-                attributes,
-                declares,
-                at,
-                before,
-            },
-        ) = self.open.pop()
-        else {
-            self.ended = true;
-            self.first = false;
-            self.brackets = 0;
-            return Ok(());
-        };
-        self.scope.leave(declares.items().len());
-        let mut kids = mem::replace(&mut self.kids, before);
-        kids.shrink_to_fit();
-        let label = ItemLabel::Element {
-            name,
-            attributes,
-            declares,
-            at,
-        };
-        push(&mut self.kids, FEW, Tree::join(label, kids))?;
+        match self.items.innermost() {
+            Some(ItemLabel::Element { declares, .. }) => declares.items().len(),
+            _ => 0,
+        }
+    }
+
+    // Ends the innermost element, behind whose kids no characters stand.
+    fn close(&mut self)
+        requires scoped { Scoped self.old }
+        requires text { string_bytes self.old.text ≡ [] }
+        requires inside { is_empty (state self.old).above ≡ false }
+        ensures { Shuts self.old self.new }
+    {
+        let count = self.binding_count();
+        self.scope.leave(count);
+        let outer = self.open.as_slice().len() - 1;
+        self.open.truncate(outer);
+        self.items.close();
         self.ended = self.open.is_empty();
         self.first = false;
         self.brackets = 0;
-        Ok(())
     }
 
     fn end(&mut self, written: &'a [u8], at: u64) -> Result<(), DocError>
@@ -263,8 +235,8 @@ impl<'a> Builder<'a> {
         if let Some(why) = self.end_reason(written) {
             return Err(DocError::Syntax { at, why });
         }
-        self.flush(1)?;
-        self.close()?;
+        self.flush()?;
+        self.close();
         Ok(())
     }
 
@@ -285,7 +257,7 @@ impl<'a> Builder<'a> {
     // Adds characters to the text, or leaves them out outside the root.
     pub(crate) fn add(&mut self, text: &str, at: u64, brackets: u8) -> Result<(), Memory>
         ensures state { OnOk result (state self.new ≡ added text.now at brackets (state self.old)) }
-        ensures scope { OnOk result (self.new.scope ≡ self.old.scope) }
+        ensures kept { OnOk result (Kept self.old self.new) }
     {
         self.first = false;
         self.brackets = brackets;
@@ -299,10 +271,19 @@ impl<'a> Builder<'a> {
 
     fn pass(&mut self)
         ensures state { state self.new ≡ passed (state self.old) }
-        ensures scope { self.new.scope ≡ self.old.scope }
+        ensures kept { Kept self.old self.new }
     {
         self.first = false;
         self.brackets = 0;
+    }
+
+    // The root, which has ended.
+    pub(crate) fn finish(self) -> Flat<ItemLabel>
+        requires closed { self.items.above ≡ [] }
+        requires one { length self.items.kids ≡ 1 }
+        ensures { self.entry.items.kids ≡ result ∷ [] }
+    {
+        self.items.finish_one()
     }
 
     // Whether no element is open.
@@ -372,7 +353,7 @@ impl<'a> Builder<'a> {
 
     fn add_char(&mut self, c: char, at: u64, brackets: u8) -> Result<(), Memory>
         ensures state { OnOk result (state self.new ≡ added (encode_utf8 c) at brackets (state self.old)) }
-        ensures scope { OnOk result (self.new.scope ≡ self.old.scope) }
+        ensures kept { OnOk result (Kept self.old self.new) }
     {
         let mut buffer = [0; 4];
         self.add(c.encode_utf8(&mut buffer), at, brackets)

@@ -11,7 +11,7 @@ use crate::error::{DocError, DocWhy};
 use crate::items::Items;
 use crate::label::ItemLabel;
 use doc_pieces::{NoneWhy, read_piece, why_none};
-use label_tree::{Tree, Whole};
+use flat_tree::{Flat, Whole};
 use std::alloc::Global;
 use xa_base::utf8_text;
 
@@ -40,6 +40,55 @@ fn why(none: NoneWhy) -> DocWhy
     }
 }
 
+// The items that the tree is, which keeps what items keep.
+fn seal(root: Flat<ItemLabel>) -> Items
+    requires { AreItems root }
+    ensures { result ≡ root }
+{
+    Items::of(Whole::of(root))
+}
+
+// The items of a document that is UTF-8.
+fn read_utf8(alloc: Global, bytes: &[u8]) -> Result<Items, DocError>
+    requires short { length bytes.now ≤ 16777216 }
+    requires utf8 { IsUtf8 bytes.now }
+    ensures ok { IfOk result (DocOf bytes.now) }
+    ensures err { IfErr result (Refuses bytes.now) }
+    ensures places { IfOk result (λ items. Ascend 0 16777216 (tokens items)) }
+{
+    let mut builder = Builder::new(alloc)?;
+    let mut rest = skip_mark(bytes);
+    'pieces: while !rest.is_empty() {
+        let at = (bytes.len() - rest.len()) as u64;
+        let plain = builder.plain_len(rest);
+        if plain > 0 {
+            let (text, behind) = rest.split_at(plain);
+            builder.add(utf8_text(text), at, 0)?;
+            rest = behind;
+            continue;
+        }
+        let Some((found, behind)) = read_piece(alloc, rest)? else {
+            let cause = why_none(rest, builder.first);
+            return Err(DocError::Syntax {
+                at,
+                why: why(cause),
+            });
+        };
+        match builder.take(found, at) {
+            Ok(_) => {}
+            Err(error) => return Err(error),
+        }
+        rest = behind;
+    }
+    if !builder.ended {
+        return Err(DocError::Syntax {
+            at: bytes.len() as u64,
+            why: DocWhy::Unfinished,
+        });
+    }
+    Ok(seal(builder.finish()))
+}
+
 /// The items of a document, by XML 1.0 (fifth edition) and Namespaces in XML 1.0, or its first fault. Where the bytes
 /// aren't UTF-8 that is the fault; else it is that of the leftmost place, and at one place the first reason in the
 /// order of `DocWhy`. Places are in bytes from 0, and a byte order mark counts.
@@ -49,5 +98,11 @@ pub fn read_document(alloc: Global, bytes: &[u8]) -> Result<Items, DocError>
     ensures err { IfErr result (Refuses bytes.now) }
     ensures places { IfOk result (λ items. Ascend 0 16777216 (tokens items)) }
 {
-    Err(DocError::Memory)
+    if let Err(fault) = simdutf8::compat::from_utf8(bytes) {
+        return Err(DocError::Syntax {
+            at: fault.valid_up_to() as u64,
+            why: DocWhy::NotUtf8,
+        });
+    }
+    read_utf8(alloc, bytes)
 }

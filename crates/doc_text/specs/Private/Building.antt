@@ -1,30 +1,84 @@
 -- What a reader of the code has so far, as a state.
-use Rattle.std.specs.Prelude.{◌≡◌, ℕ, true, false, List, [], ◌∷◌, ◌++◌, map, reverse, None, string_bytes, IsUtf8}
+use Rattle.std.specs.Prelude.{◌≡◌, ℕ, true, false, List, [], ◌∷◌, ◌++◌, length, map, reverse, Option, Some, None, string_bytes, IsUtf8}
+use Rattle.std.specs.Borrow.{Bor}
+use Rattle.xa_base.specs.declared.texts.Name.{Name}
 use Rattle.xa_base.specs.Namespaces.{xml_prefix, xml_space}
+use Rattle.label_tree.specs.Rose.{Rose}
+use Rattle.flat_tree.specs.Zips as zips
 use Rattle.doc_pieces.specs.Pieces.{Piece, Declaration, Start, Empty, End, Comment, Instruction, CData, Reference, Character}
-use Rattle.doc_text.specs.declared.builder.Frame.{Frame}
+use Rattle.doc_text.specs.declared.label.ItemLabel.{ItemLabel}
+use Rattle.doc_text.specs.declared.label.ItemLabel.TheVariants.{Element, Text}
 use Rattle.doc_text.specs.declared.builder.Builder.{Builder}
 use Rattle.std.specs.List.{flat_map}
+use Rattle.doc_text.specs.Labels.{item_place}
 use Rattle.doc_text.specs.Namespaces.{is_long, is_unbound}
 use Rattle.doc_pieces.specs.QNames.{prefix_of, is_qname}
 use Rattle.doc_text.specs.Contexts.{Open, scope, reason}
-use Rattle.xa_base.specs.Limits.{is_empty}
 use Rattle.doc_text.specs.Private.Entering.{have_utf8}
 use Rattle.doc_text.specs.Private.States.{Above, State, nothing, context, kids_of_state, closed, step}
 
-abbrev pub above_of : Frame → Above
-above_of f = record { written = f.written.now; name = f.name; attributes = f.attributes; declares = f.declares; at = f.at; before = f.before.items }
+-- ---- an element that is open, by its written name and the open nodes from its own on
+
+-- the label of the first, or else one without a name
+abbrev pub label_in : List (zips.Above ItemLabel) → ItemLabel
+label_in [] = Text [] 0
+label_in (a ∷ up) = a.label
+
+abbrev pub before_in : List (zips.Above ItemLabel) → List (Rose ItemLabel)
+before_in [] = []
+before_in (a ∷ up) = a.before
+
+abbrev pub up_in : List (zips.Above ItemLabel) → List (zips.Above ItemLabel)
+up_in [] = []
+up_in (a ∷ up) = up
+
+abbrev pub name_of : ItemLabel → Name
+name_of (Element name attributes declares at) = name
+name_of (Text text at) = record { space = []; local = [] }
+
+abbrev pub attributes_in : ItemLabel → List (Name × List ℕ)
+attributes_in (Element name attributes declares at) = attributes
+attributes_in (Text text at) = []
+
+abbrev pub declares_in : ItemLabel → List (List ℕ × List ℕ)
+declares_in (Element name attributes declares at) = declares
+declares_in (Text text at) = []
+
+abbrev pub above_of : List ℕ → List (zips.Above ItemLabel) → Above
+above_of written up = record {
+  written = written;
+  name = name_of (label_in up);
+  attributes = attributes_in (label_in up);
+  declares = declares_in (label_in up);
+  at = item_place (label_in up);
+  before = before_in up;
+}
+
+-- the names as written stand beside the open nodes, the innermost first
+abbrev pub aboves : List (Bor (List ℕ)) → List (zips.Above ItemLabel) → List Above
+aboves [] up = []
+aboves (written ∷ names) up = above_of written.now up ∷ aboves names (up_in up)
 
 abbrev pub state : Builder → State
 state b = record {
-  above = map above_of (reverse b.open.items);
-  kids = b.kids.items;
+  above = aboves (reverse b.open.items) b.items.above;
+  kids = b.items.kids;
   text = string_bytes b.text;
   text_at = b.text_at;
   ended = b.ended;
   first = b.first;
   brackets = b.brackets;
 }
+
+-- the node of an element that is open
+abbrev pub node_of : Above → zips.Above ItemLabel
+node_of a = record { label = Element a.name a.attributes a.declares a.at; before = a.before }
+
+-- how many namespaces a label binds
+abbrev pub binding_count : Option ItemLabel → ℕ
+binding_count None = 0
+binding_count (Some (Element name attributes declares at)) = length declares
+binding_count (Some (Text text at)) = 0
 
 -- nothing speaks against a name where these bindings are in scope
 pub record IsNamed (written : List ℕ) (inside : List (List ℕ × List ℕ)) : Type 0 where
@@ -37,10 +91,11 @@ abbrev pub AreNamed : List Open → Type 0
 AreNamed [] = Unit {0}
 AreNamed (e ∷ es) = IsNamed e.written (flat_map (λ o. o.declares) (e ∷ es) ++ (xml_prefix, xml_space) ∷ []) × AreNamed es
 
--- the bindings at hand are those in scope, and the elements that are open have been tested
+-- the bindings at hand are those in scope, the elements that are open have been tested, and the open nodes are these
 pub record Scoped (b : Builder) : Type 0 where
   pub scope_is : reverse b.scope ≡ scope (context (state b))
   pub named : AreNamed (context (state b)).elements
+  pub nodes : map node_of (state b).above ≡ b.items.above
 
 -- nothing speaks against the piece, and the reader has taken its step
 pub record Takes (p : Piece) (at : ℕ) (old new : Builder) : Type 0 where
@@ -55,7 +110,8 @@ pub record Begins (b : Builder) : Type 0 where
 
 -- the characters are a node, and nothing else has changed
 pub record Flushed (old new : Builder) : Type 0 where
-  pub kids : new.kids.items ≡ kids_of_state (state old)
+  pub kids : new.items.kids ≡ kids_of_state (state old)
+  pub same_above : new.items.above ≡ old.items.above
   pub text : string_bytes new.text ≡ []
   pub same_place : new.text_at ≡ old.text_at
   pub same_open : new.open.items ≡ old.open.items
@@ -65,7 +121,13 @@ pub record Flushed (old new : Builder) : Type 0 where
 -- the innermost element has ended
 pub record Shuts (old new : Builder) : Type 0 where
   pub steps : state new ≡ closed (state old).above (state old)
-  pub scoped : Scoped old → is_empty (state old).above ≡ false → Scoped new
+  pub scoped : Scoped new
+
+-- neither the bindings nor the nodes have changed
+pub record Kept (old new : Builder) : Type 0 where
+  pub scope : new.scope ≡ old.scope
+  pub items : new.items ≡ old.items
+  pub names : new.open.items ≡ old.open.items
 
 -- what a piece gives to texts and values is UTF-8
 abbrev pub GivesUtf8 : Piece → Type 0
