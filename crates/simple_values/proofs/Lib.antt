@@ -4,6 +4,7 @@ pub mod Decimals
 pub mod OwnSpellings
 pub mod Places
 pub mod Readings
+pub mod SideBySide
 pub mod Spellings
 pub mod WholeNumbers
 pub mod XmlTexts

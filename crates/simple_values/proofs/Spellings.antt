@@ -1,12 +1,11 @@
 -- How spellings are put together.
-use Rattle.std.proofs.Common.{true, false, ltb, Option, ℤ, ◌≡◌, ℕ, zero, suc, ◌+◌, ◌<◌, ◌≤◌, List, [], ◌∷◌, ◌++◌, refl, sym, ap, ◌∙◌, arith, Some, None, length, drop, get_or, append_assoc}
+use Rattle.std.proofs.Common.{true, false, ltb, Option, ℤ, ◌≡◌, ℕ, zero, suc, ◌≤◌, List, [], ◌∷◌, ◌++◌, refl, sym, ap, ◌∙◌, arith, Some, None, length, get_or, append_assoc}
 use Rattle.std.specs.Prelude.{map, slice_get}
 use Rattle.std.specs.List.{join_with_byte}
 use Rattle.std.proofs.lemmas.List.{append-nil}
 use Rattle.std.proofs.lemmas.Option.{none-some, same_Some}
 use Rattle.std.proofs.lemmas.Bool.{ltb-true, ltb-false, lt-ltb, le-ltb}
 use Rattle.simple_types.specs.declared.labels.ValueLabel.TheVariants as label
-use Rattle.std.proofs.Math.Seq.{drop-cons, drop-length}
 use Rattle.label_tree.specs.Rose.{Rose, label_of, kids_of}
 use Rattle.simple_types.specs.declared.labels.ValueLabel.{ValueLabel}
 use Rattle.simple_types.specs.declared.simples.Simple.{Simple}
@@ -25,17 +24,10 @@ join-behind x [] = sym (append-nil x)
 join-behind x (y ∷ ys) = ap (λ l. x ++ 0x20 ∷ l) (join-behind y ys)
 
 -- one more item is written
-pub behind_more : {X : Type 0} (spell : X → List ℕ) (values : List X) (i : ℕ) (d : X) (out : List ℕ) → i < length values
-    → ((out ++ 0x20 ∷ []) ++ spell (get_or values i d)) ++ behind (map spell (drop (i + 1) values)) ≡ out ++ behind (map spell (drop i values))
-behind_more spell values i d out below =
-    let cut : drop i values ≡ get_or values i d ∷ drop (suc i) values = drop-cons values i d below in
-    let same : i + 1 ≡ suc i = omega arith in
-    let next : drop (i + 1) values ≡ drop (suc i) values = ap (λ n. drop n values) same in
-    rw (cut, next) (append_assoc (out ++ 0x20 ∷ []) (spell (get_or values i d)) (behind (map spell (drop (suc i) values)))
-    ∙ append_assoc out (0x20 ∷ []) (spell (get_or values i d) ++ behind (map spell (drop (suc i) values))))
-
-pub behind_all : {X : Type 0} (spell : X → List ℕ) (values : List X) (out : List ℕ) → out ++ behind (map spell (drop (length values) values)) ≡ out
-behind_all spell values out = rw (drop-length values) (append-nil out)
+pub behind_more : {X : Type 0} (spell : X → List ℕ) (value : X) (later : List X) (out : List ℕ)
+    → ((out ++ 0x20 ∷ []) ++ spell value) ++ behind (map spell later) ≡ out ++ behind (map spell (value ∷ later))
+behind_more spell value later out =
+    append_assoc (out ++ 0x20 ∷ []) (spell value) (behind (map spell later)) ∙ append_assoc out (0x20 ∷ []) (spell value ++ behind (map spell later))
 
 -- what `get` finds
 pub found_at : {X : Type 0} (xs : List X) (i : ℕ) (x : X) → true ≡ ltb i (length xs) → x ≡ get_or xs i x → slice_get xs i ≡ Some x

@@ -1,5 +1,5 @@
 -- What a type accepts is spelled in XML characters.
-use Rattle.std.proofs.Common.{◌≡◌, ℕ, zero, suc, ◌<◌, ◌≤◌, ◌+◌, ◌^◌, Bool, true, false, ◌&&◌, List, [], ◌∷◌, ◌++◌, take, drop, length, get_or, refl, sym, ap, ◌∙◌, subst, arith, Option, Ok, Err, inl, inr}
+use Rattle.std.proofs.Common.{◌≡◌, ℕ, zero, suc, ◌<◌, ◌≤◌, ◌^◌, Bool, true, false, ◌&&◌, List, [], ◌∷◌, ◌++◌, take, drop, length, get_or, refl, sym, ap, ◌∙◌, subst, arith, Option, Ok, inl, inr}
 use Rattle.std.specs.Prelude.{nat_le, nat_lt, ℤ, pos, negsuc, map, position, bytes_eq, IsUtf8, chars}
 use Rattle.std.specs.List.{join_with_byte, list_all, All}
 use Rattle.std.specs.Str.{IsAscii, IsCharBoundary}
@@ -25,7 +25,7 @@ use Rattle.simple_types.specs.declared.labels.ValueLabel.TheVariants as label
 use Rattle.simple_types.specs.Space.{Space, Spaces, none, more, Booleans, Wholes, Numbers, Words, Characters, ListOf, UnionOf, count_members}
 use Rattle.simple_types.specs.Sound.{Sound, AreSound, AreWords}
 use Rattle.simple_values.specs.Lexical.{boolean_of, boolean_text, whole_number, is_128_bits, in_class, is_at_most}
-use Rattle.simple_values.specs.Reading.{Reading, Taking, leaf, read_boolean, boolean_from, read_whole, read_number, read_word, read_characters, read_each, list_within, has_characters, spelled_boolean, spelled_whole, spelled_number, spelled_word, spelled_text, reads, taken_by, spelled, spelled_by, Holds}
+use Rattle.simple_values.specs.Reading.{Reading, Taking, read_characters, read_each, has_characters, spelled_word, reads, taken_by, spelled, spelled_by, Holds}
 use Rattle.simple_values.proofs.Again.{is_whole, is_number, is_item, is_read, is_list, is_boolean, characters_spelled}
 use Rattle.simple_values.proofs.Decimals.{numeral_from, short}
 use Rattle.simple_values.proofs.OwnSpellings.{which, settles_so}

@@ -1,6 +1,6 @@
 -- Which texts write a truth value, a whole number or a name, and their one canonical spelling, by XML Schema Part 2.
 -- A text is the list of its bytes after its white space was treated.
-use Rattle.std.specs.Prelude.{ℕ, Bool, true, false, ◌&&◌, ◌||◌, nat_le, nat_lt, ◌==◌, ◌^◌, ℤ, pos, negsuc, Option, Some, None, List, [], ◌∷◌, length, take, bytes_eq, codes, if◌then◌else◌}
+use Rattle.std.specs.Prelude.{ℕ, Bool, true, false, ◌&&◌, ◌||◌, nat_le, nat_lt, ◌==◌, ◌^◌, ℤ, pos, negsuc, Option, Some, None, List, [], ◌∷◌, length, take, codes, if◌then◌else◌}
 use Rattle.std.specs.Prelude.{int_le}
 use Rattle.std.specs.List.{list_all, slice_split, position_or_len}
 use Rattle.std.specs.Str.{chars}

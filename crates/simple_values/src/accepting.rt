@@ -1,60 +1,105 @@
 //! What a simple type makes of a text.
-ghost use Rattle.std.specs.Prelude.{◌≡◌, ◌<◌, ◌^◌, MatchResult, OnErr, IfOk, Ok, Err, length};
-ghost use Rattle.flat_tree.specs.Zips.{added};
+ghost use Rattle.std.specs.Prelude.{◌≡◌, ◌<◌, ◌-◌, ◌^◌, ◌&&◌, ℕ, List, MatchResult, OnOk, OnErr, IfOk, Ok, Err, length, min as lesser, nat_le};
+ghost use Rattle.simple_values.specs.Lexical.{is_at_most};
+ghost use Rattle.flat_tree.specs.Zips.{added, added_all};
 ghost use Rattle.simple_types.specs.declared.labels.ValueLabel.{ValueLabel};
 ghost use Rattle.label_tree.specs.Rose.{Rose, node, none as no_kids, more as with_kid};
 ghost use Rattle.xa_base.specs.WhiteSpace.{words_of};
-ghost use Rattle.simple_values.specs.Answering.{AnswersReading};
+ghost use Rattle.simple_values.specs.Answering.{AnswersReading, AnswersLeaf};
 ghost use Rattle.simple_types.specs.Seen.{space_of, spaces_in};
 ghost use Rattle.simple_types.specs.Sound.{Sound, AreSound};
 ghost use Rattle.simple_values.specs.Reading as rule;
 
-use crate::classes::is_at_most;
 use crate::reading::{
     SimpleError, read_boolean, read_characters, read_number, read_whole, read_word,
 };
 use crate::spelling::spelling;
-use flat_tree::{Builder, Flat};
-use label_tree::Tree;
+use flat_tree::{Builder, Flat, Node};
 use simple_types::{Simple, ValueLabel};
-use std::alloc::Global;
+use std::alloc::{AllocError, Global};
 use xa_base::{Text, first_word};
 
-// The values of the words, as the item type reads them.
-#[cycle(accepting)]
-fn read_each(alloc: Global, item: &Simple, text: &str) -> Result<Vec<Tree<ValueLabel>>, SimpleError>
-    requires { Sound (space_of item.now) }
-    ensures { MatchResult result
-        (λ values. rule.read_each (rule.reads (space_of item.now)) (words_of text.now) ≡ Ok values.items)
-        (λ error. AnswersReading (Err error) (rule.read_each (rule.reads (space_of item.now)) (words_of text.now))) }
+// Puts a value without parts, of which the label was read.
+fn put(
+    label: Result<ValueLabel, SimpleError>,
+    values: &mut Builder<ValueLabel>,
+) -> Result<(), SimpleError>
+    ensures read { (due : rule.Reading) → AnswersLeaf label due → MatchResult result
+        (λ _. (value : Rose ValueLabel) × (due ≡ Ok value) × (values.new ≡ added value values.old))
+        (λ error. AnswersReading (Err error) due) }
+    ensures kept { OnErr result (values.new ≡ values.old) }
 {
-    let mut values = Vec::new(alloc);
+    values.leaf(label?)?;
+    Ok(())
+}
+
+// Puts the values of the words, as the item type reads them, and says how many they are. 2^64 - 1 stands for that number
+// and every greater one.
+#[cycle(accepting)]
+fn put_each(
+    alloc: Global,
+    item: &Simple,
+    text: &str,
+    values: &mut Builder<ValueLabel>,
+) -> Result<u64, SimpleError>
+    requires { Sound (space_of item.now) }
+    ensures read { MatchResult result
+        (λ count. (read : List (Rose ValueLabel)) × (rule.read_each (rule.reads (space_of item.now)) (words_of text.now) ≡ Ok read)
+        × (count ≡ lesser (length read) (2 ^ 64 - 1)) × (values.new ≡ added_all read values.old))
+        (λ error. AnswersReading (Err error) (rule.read_each (rule.reads (space_of item.now)) (words_of text.now))) }
+    ensures above { values.new.above ≡ values.old.above }
+{
+    let mut count: u64 = 0;
     let mut rest = text;
     'words: while let Some((word, behind)) = first_word(rest) {
-        let value = read(alloc, item, word)?;
-        values.push(value)?;
+        put_value(alloc, item, word, values)?;
+        count = count.saturating_add(1);
         rest = behind;
     }
-    Ok(values)
+    Ok(count)
+}
+
+// Whether a list may have so many items.
+fn are_within(count: u64, min: u32, max: Option<u32>) -> bool
+    ensures { (n : ℕ) → count ≡ lesser n (2 ^ 64 - 1) → result ≡ (nat_le min n && is_at_most n max) }
+{
+    let within = match max {
+        Some(most) => count <= u64::from(most),
+        None => true,
+    };
+    u64::from(min) <= count && within
 }
 
 #[cycle(accepting)]
-fn read_list(
+fn put_list(
     alloc: Global,
     item: &Simple,
     min: u32,
     max: Option<u32>,
     text: &str,
-) -> Result<Tree<ValueLabel>, SimpleError>
+    values: &mut Builder<ValueLabel>,
+) -> Result<(), SimpleError>
     requires { Sound (space_of item.now) }
-    ensures { AnswersReading result (rule.list_within min max (rule.read_each (rule.reads (space_of item.now)) (words_of text.now))) }
+    ensures read { MatchResult result
+        (λ _. (value : Rose ValueLabel) × (rule.list_within min max (rule.read_each (rule.reads (space_of item.now)) (words_of text.now)) ≡ Ok value) × (values.new ≡ added value values.old))
+        (λ error. AnswersReading (Err error) (rule.list_within min max (rule.read_each (rule.reads (space_of item.now)) (words_of text.now)))) }
+    ensures kept { OnErr result (values.new ≡ values.old) }
 {
-    let values = read_each(alloc, item, text)?;
-    let count = values.len();
-    if min as usize <= count && is_at_most(count, max) {
-        Ok(Tree::join(ValueLabel::SequenceOf, values))
-    } else {
-        Err(SimpleError::BadText)
+    values.open(ValueLabel::SequenceOf)?;
+    match put_each(alloc, item, text, values) {
+        Ok(count) => {
+            if are_within(count, min, max) {
+                values.close();
+                Ok(())
+            } else {
+                values.cancel();
+                Err(SimpleError::BadText)
+            }
+        }
+        Err(error) => {
+            values.cancel();
+            Err(error)
+        }
     }
 }
 
@@ -64,7 +109,7 @@ fn take(
     alloc: Global,
     members: &[Simple],
     text: &str,
-) -> Result<(usize, Tree<ValueLabel>), SimpleError>
+) -> Result<(usize, Flat<ValueLabel>), SimpleError>
     requires { AreSound (spaces_in members.now) }
     ensures bound { IfOk result (λ taken. taken.0 < length members.now) }
     ensures taken { MatchResult result
@@ -88,8 +133,8 @@ fn take_again(
     alloc: Global,
     members: &[Simple],
     member: usize,
-    value: &Tree<ValueLabel>,
-) -> Result<(usize, Tree<ValueLabel>), SimpleError>
+    value: &Node<'_, ValueLabel>,
+) -> Result<(usize, Flat<ValueLabel>), SimpleError>
     requires sound { AreSound (spaces_in members.now) }
     requires member { member < length members.now }
     ensures bound { IfOk result (λ taken. taken.0 < length members.now) }
@@ -101,32 +146,49 @@ fn take_again(
     take(alloc, members, spelled.as_str())
 }
 
-fn choice(
-    alloc: Global,
+// Puts the value of a union, of which a member gave this.
+fn put_choice(
     member: usize,
-    value: Tree<ValueLabel>,
-) -> Result<Tree<ValueLabel>, SimpleError>
+    value: Flat<ValueLabel>,
+    values: &mut Builder<ValueLabel>,
+) -> Result<(), AllocError>
     requires { member < 2 ^ 32 }
-    ensures { MatchResult result
-        (λ made. made ≡ node (ValueLabel.Choice member) (with_kid value no_kids))
-        (λ error. error ≡ SimpleError.Memory) }
+    ensures put { OnOk result (values.new ≡ added (node (ValueLabel.Choice member) (with_kid value no_kids)) values.old) }
+    ensures kept { OnErr result (values.new ≡ values.old) }
 {
-    let chosen = vec![in alloc; value]?;
-    Ok(Tree::join(ValueLabel::Choice(member as u32), chosen))
+    values.open(ValueLabel::Choice(member as u32))?;
+    match values.append(value.into_trees()) {
+        Ok(()) => {
+            values.close();
+            Ok(())
+        }
+        Err(error) => {
+            values.cancel();
+            Err(error)
+        }
+    }
 }
 
+// The member that keeps the value of a text, and that value.
 #[cycle(accepting)]
-fn settle(alloc: Global, members: &[Simple], text: &str) -> Result<Tree<ValueLabel>, SimpleError>
+fn settle(
+    alloc: Global,
+    members: &[Simple],
+    text: &str,
+) -> Result<(usize, Flat<ValueLabel>), SimpleError>
     requires sound { AreSound (spaces_in members.now) }
     requires counted { length members.now < 2 ^ 32 }
-    ensures { AnswersReading result (rule.settled (rule.taken_by (spaces_in members.now)) (rule.spelled_by (spaces_in members.now)) (length members.now) text.now) }
+    ensures bound { IfOk result (λ settled. settled.0 < length members.now) }
+    ensures settled { MatchResult result
+        (λ settled. rule.settled (rule.taken_by (spaces_in members.now)) (rule.spelled_by (spaces_in members.now)) (length members.now) text.now ≡ Ok (node (ValueLabel.Choice settled.0) (with_kid settled.1 no_kids)))
+        (λ error. AnswersReading (Err error) (rule.settled (rule.taken_by (spaces_in members.now)) (rule.spelled_by (spaces_in members.now)) (length members.now) text.now)) }
 {
     let (mut member, mut value) = take(alloc, members, text)?;
     let mut turns = members.len();
     'turns: while 0 < turns {
-        let (next, again) = take_again(alloc, members, member, &value)?;
+        let (next, again) = take_again(alloc, members, member, &value.root())?;
         if next == member {
-            return choice(alloc, member, value);
+            return Ok((member, value));
         }
         member = next;
         value = again;
@@ -136,28 +198,71 @@ fn settle(alloc: Global, members: &[Simple], text: &str) -> Result<Tree<ValueLab
 }
 
 #[cycle(accepting)]
-pub(crate) fn read(
+fn put_union(
+    alloc: Global,
+    members: &[Simple],
+    text: &str,
+    values: &mut Builder<ValueLabel>,
+) -> Result<(), SimpleError>
+    requires sound { AreSound (spaces_in members.now) }
+    requires counted { length members.now < 2 ^ 32 }
+    ensures read { MatchResult result
+        (λ _. (value : Rose ValueLabel) × (rule.settled (rule.taken_by (spaces_in members.now)) (rule.spelled_by (spaces_in members.now)) (length members.now) text.now ≡ Ok value) × (values.new ≡ added value values.old))
+        (λ error. AnswersReading (Err error) (rule.settled (rule.taken_by (spaces_in members.now)) (rule.spelled_by (spaces_in members.now)) (length members.now) text.now)) }
+    ensures kept { OnErr result (values.new ≡ values.old) }
+{
+    let (member, value) = settle(alloc, members, text)?;
+    put_choice(member, value, values)?;
+    Ok(())
+}
+
+#[cycle(accepting)]
+fn put_value(
     alloc: Global,
     simple: &Simple,
     text: &str,
-) -> Result<Tree<ValueLabel>, SimpleError>
+    values: &mut Builder<ValueLabel>,
+) -> Result<(), SimpleError>
     requires { Sound (space_of simple.now) }
-    ensures { AnswersReading result (rule.reads (space_of simple.now) text.now) }
+    ensures read { MatchResult result
+        (λ _. (value : Rose ValueLabel) × rule.Accepts (space_of simple.now) text.now value × (values.new ≡ added value values.old))
+        (λ error. AnswersReading (Err error) (rule.reads (space_of simple.now) text.now)) }
+    ensures kept { OnErr result (values.new ≡ values.old) }
 {
     match simple {
-        Simple::Bool => read_boolean(alloc, text),
-        Simple::Whole { lo, hi } => read_whole(alloc, *lo, *hi, text),
-        Simple::Numbers(numbers) => read_number(alloc, numbers.items(), text),
-        Simple::Words { space, words } => read_word(alloc, *space, words.items(), text),
+        Simple::Bool => put(read_boolean(text), values),
+        Simple::Whole { lo, hi } => put(read_whole(*lo, *hi, text), values),
+        Simple::Numbers(numbers) => put(read_number(numbers.items(), text), values),
+        Simple::Words { space, words } => {
+            put(read_word(alloc, *space, words.items(), text), values)
+        }
         Simple::Chars {
             space,
             min,
             max,
             class,
-        } => read_characters(alloc, *space, *min, *max, *class, text),
-        Simple::List { item, min, max } => read_list(alloc, item, *min, *max, text),
-        Simple::Union(members) => settle(alloc, members.items(), text),
+        } => put(
+            read_characters(alloc, *space, *min, *max, *class, text),
+            values,
+        ),
+        Simple::List { item, min, max } => put_list(alloc, item, *min, *max, text, values),
+        Simple::Union(members) => put_union(alloc, members.items(), text, values),
     }
+}
+
+/// The value of a text, as a tree of its own.
+#[cycle(accepting)]
+pub(crate) fn read(
+    alloc: Global,
+    simple: &Simple,
+    text: &str,
+) -> Result<Flat<ValueLabel>, SimpleError>
+    requires { Sound (space_of simple.now) }
+    ensures { AnswersReading result (rule.reads (space_of simple.now) text.now) }
+{
+    let mut values = Builder::new(alloc);
+    put_value(alloc, simple, text, &mut values)?;
+    Ok(values.finish_one())
 }
 
 /// The value that the type gives to the text, by XML Schema Part 2. A union takes the first member that accepts the
@@ -166,7 +271,7 @@ pub fn accept(alloc: Global, simple: &Simple, text: &Text) -> Result<Flat<ValueL
     requires { Sound (space_of simple.now) }
     ensures { AnswersReading result (rule.reads (space_of simple.now) text.now) }
 {
-    Err(SimpleError::Memory)
+    read(alloc, simple, text.as_str())
 }
 
 /// The same, put behind what is built of a value so far, which an error leaves as it was.
@@ -182,5 +287,5 @@ pub fn accept_into(
         (λ error. AnswersReading (Err error) (rule.reads (space_of simple.now) text.now)) }
     ensures kept { OnErr result (values.new ≡ values.old) }
 {
-    Err(SimpleError::Memory)
+    put_value(alloc, simple, text.as_str(), values)
 }

@@ -8,9 +8,9 @@ use crate::accepting::read;
 use crate::reading::SimpleError;
 use crate::spelling::spelling;
 use flat_tree::Node;
-use label_tree::Tree;
 use simple_types::{Simple, ValueLabel};
 use std::alloc::Global;
+use std::iter::Iterator;
 use xa_base::Memory;
 
 fn same_flags(a: &[bool], b: &[bool]) -> bool
@@ -43,27 +43,25 @@ fn same_label(a: &ValueLabel, b: &ValueLabel) -> bool
     }
 }
 
-#[cycle(same)]
-fn are_same(a: &[Tree<ValueLabel>], b: &[Tree<ValueLabel>]) -> bool
+// Whether two values are equal.
+fn is_same(a: &Node<'_, ValueLabel>, b: &Node<'_, ValueLabel>) -> bool
     ensures { IsTrue result ↔ (a.now ≡ b.now) }
 {
-    if a.len() != b.len() {
+    if !same_label(a.label(), b.label()) {
         return false;
     }
-    'kids: for i in 0..a.len() {
-        if !is_same(&a[i], &b[i]) {
-            return false;
+    let mut others = b.kids();
+    'kids: for kid in a.kids() {
+        match others.next() {
+            None => return false,
+            Some(other) => {
+                if !is_same(&kid, &other) {
+                    return false;
+                }
+            }
         }
     }
-    true
-}
-
-// Whether two values are equal.
-#[cycle(same)]
-fn is_same(a: &Tree<ValueLabel>, b: &Tree<ValueLabel>) -> bool
-    ensures { IsTrue result ↔ (a.now ≡ b.now) }
-{
-    same_label(a.label(), b.label()) && are_same(a.kids(), b.kids())
+    others.is_empty()
 }
 
 /// Whether the value is the one that its own spelling gives.
@@ -71,5 +69,10 @@ pub fn holds(alloc: Global, simple: &Simple, value: &Node<'_, ValueLabel>) -> Re
     requires { Sound (space_of simple.now) }
     ensures { IfOk result (λ b. IsTrue b ↔ Holds (space_of simple.now) value.now) }
 {
-    Err(Memory)
+    let text = spelling(alloc, simple, value)?;
+    match read(alloc, simple, text.as_str()) {
+        Ok(again) => Ok(is_same(&again.root(), value)),
+        Err(SimpleError::Memory) => Err(Memory),
+        Err(_) => Ok(false),
+    }
 }

@@ -4,15 +4,14 @@ ghost use Rattle.std.specs.List.Sorted.{IsStrictlySortedBy};
 ghost use Rattle.std.specs.Ordering.{nat_cmp, int_cmp, int_eq};
 ghost use Rattle.std.specs.Cmp.Lexicographic.{slice_cmp};
 ghost use Rattle.xa_base.specs.WhiteSpace.{treated};
-ghost use Rattle.simple_values.specs.Answering.{AnswersReading};
+ghost use Rattle.simple_values.specs.Answering.{AnswersReading, AnswersLeaf};
 ghost use Rattle.simple_values.specs.Lexical as lexical;
 ghost use Rattle.simple_values.specs.Reading as rule;
 
 use crate::classes::has_characters;
 use crate::numbers::{Whole, collapsed_boolean, collapsed_number, only_word};
-use label_tree::Tree;
 use simple_types::{Class, ValueLabel};
-use std::alloc::{AllocFailed, Global};
+use std::alloc::{AllocError, Global};
 use thiserror::Error;
 use xa_base::{Memory, Text, WhiteSpace, is_treated, treat};
 
@@ -38,21 +37,21 @@ impl From<Memory> for SimpleError {
     }
 }
 
-impl<T: Drop> From<AllocFailed<T>> for SimpleError {
+impl From<AllocError> for SimpleError {
     ghost use Rattle.simple_values.specs.declared.reading.SimpleError.{SimpleError};
 
     ghost from_gives = { λ failed error. error ≡ SimpleError.Memory };
 
-    fn from(_: AllocFailed<T>) -> SimpleError {
+    fn from(_: AllocError) -> SimpleError {
         SimpleError::Memory
     }
 }
 
-pub(crate) fn read_boolean(alloc: Global, text: &str) -> Result<Tree<ValueLabel>, SimpleError>
-    ensures { AnswersReading result (rule.read_boolean (treated WhiteSpace.Collapse text.now)) }
+pub(crate) fn read_boolean(text: &str) -> Result<ValueLabel, SimpleError>
+    ensures { AnswersLeaf result (rule.read_boolean (treated WhiteSpace.Collapse text.now)) }
 {
     match collapsed_boolean(text) {
-        Some(b) => Ok(Tree::leaf(alloc, ValueLabel::Bool(b))),
+        Some(b) => Ok(ValueLabel::Bool(b)),
         None => Err(SimpleError::BadText),
     }
 }
@@ -83,12 +82,11 @@ fn outside(bound: Option<i128>) -> SimpleError
 }
 
 pub(crate) fn read_whole(
-    alloc: Global,
     lo: Option<i128>,
     hi: Option<i128>,
     text: &str,
-) -> Result<Tree<ValueLabel>, SimpleError>
-    ensures { AnswersReading result (rule.read_whole lo hi (treated WhiteSpace.Collapse text.now)) }
+) -> Result<ValueLabel, SimpleError>
+    ensures { AnswersLeaf result (rule.read_whole lo hi (treated WhiteSpace.Collapse text.now)) }
 {
     match collapsed_number(text) {
         None => Err(SimpleError::BadText),
@@ -96,7 +94,7 @@ pub(crate) fn read_whole(
         Some(Whole::Below) => Err(outside(lo)),
         Some(Whole::Within(n)) => {
             if is_within(lo, hi, n) {
-                Ok(Tree::leaf(alloc, ValueLabel::Int(n)))
+                Ok(ValueLabel::Int(n))
             } else {
                 Err(SimpleError::BadText)
             }
@@ -137,26 +135,22 @@ pub fn place_of_word(words: &[Text], word: &Text) -> Option<u32>
     place_of_text(words, word.as_str())
 }
 
-fn item(alloc: Global, place: Option<u32>) -> Result<Tree<ValueLabel>, SimpleError>
-    ensures { AnswersReading result (rule.item_at place) }
+fn item(place: Option<u32>) -> Result<ValueLabel, SimpleError>
+    ensures { AnswersLeaf result (rule.item_at place) }
 {
     match place {
-        Some(i) => Ok(Tree::leaf(alloc, ValueLabel::Enum(i))),
+        Some(i) => Ok(ValueLabel::Enum(i)),
         None => Err(SimpleError::BadText),
     }
 }
 
-pub(crate) fn read_number(
-    alloc: Global,
-    numbers: &[i128],
-    text: &str,
-) -> Result<Tree<ValueLabel>, SimpleError>
+pub(crate) fn read_number(numbers: &[i128], text: &str) -> Result<ValueLabel, SimpleError>
     requires sorted { IsStrictlySortedBy int_cmp numbers.now }
     requires count { length numbers.now < 2 ^ 32 }
-    ensures { AnswersReading result (rule.read_number numbers.now (treated WhiteSpace.Collapse text.now)) }
+    ensures { AnswersLeaf result (rule.read_number numbers.now (treated WhiteSpace.Collapse text.now)) }
 {
     match collapsed_number(text) {
-        Some(Whole::Within(n)) => item(alloc, place_of(numbers, n)),
+        Some(Whole::Within(n)) => item(place_of(numbers, n)),
         Some(Whole::Above | Whole::Below) => Err(SimpleError::BadText),
         None => Err(SimpleError::BadText),
     }
@@ -192,16 +186,16 @@ pub(crate) fn read_word(
     space: WhiteSpace,
     words: &[Text],
     text: &str,
-) -> Result<Tree<ValueLabel>, SimpleError>
+) -> Result<ValueLabel, SimpleError>
     requires sorted { IsStrictlySortedBy (slice_cmp nat_cmp) words.now }
     requires count { length words.now < 2 ^ 32 }
-    ensures { AnswersReading result (rule.read_word words.now (treated space text.now)) }
+    ensures { AnswersLeaf result (rule.read_word words.now (treated space text.now)) }
 {
     match treated_part(space, text) {
-        Some(word) => item(alloc, place_of_text(words, word)),
+        Some(word) => item(place_of_text(words, word)),
         None => {
             let made = treated(alloc, space, text)?;
-            item(alloc, place_of_word(words, &made))
+            item(place_of_word(words, &made))
         }
     }
 }
@@ -213,12 +207,12 @@ pub(crate) fn read_characters(
     max: Option<u32>,
     class: Class,
     text: &str,
-) -> Result<Tree<ValueLabel>, SimpleError>
-    ensures { AnswersReading result (rule.read_characters min max class (treated space text.now)) }
+) -> Result<ValueLabel, SimpleError>
+    ensures { AnswersLeaf result (rule.read_characters min max class (treated space text.now)) }
 {
     let made = treated(alloc, space, text)?;
     if has_characters(min, max, class, made.as_str()) {
-        Ok(Tree::leaf(alloc, ValueLabel::Utf8(made)))
+        Ok(ValueLabel::Utf8(made))
     } else {
         Err(SimpleError::BadText)
     }

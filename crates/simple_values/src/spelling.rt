@@ -7,11 +7,11 @@ ghost use Rattle.simple_types.specs.Seen.{space_of, spaces_in};
 ghost use Rattle.simple_values.specs.Reading.{spelled, spelled_boolean, spelled_whole, spelled_number, spelled_word, spelled_text, choice_at, Holds};
 ghost use Rattle.simple_types.specs.Sound.{Sound};
 
+use flat_tree::{Kids, Node};
 use itoa::Buffer;
-use flat_tree::Node;
-use label_tree::Tree;
 use simple_types::{Simple, ValueLabel};
 use std::alloc::Global;
+use std::iter::Iterator;
 use xa_base::{Memory, Text};
 
 fn write_boolean(out: &mut String, label: &ValueLabel) -> Result<(), Memory>
@@ -67,30 +67,31 @@ fn write_text(out: &mut String, label: &ValueLabel) -> Result<(), Memory>
 
 // The items' spellings with a space between each two.
 #[cycle(spelling)]
-fn write_items(out: &mut String, item: &Simple, values: &[Tree<ValueLabel>]) -> Result<(), Memory>
+fn write_items(out: &mut String, item: &Simple, values: &Kids<'_, ValueLabel>) -> Result<(), Memory>
     ensures { OnOk result (string_bytes out.new ≡ string_bytes out.old ++ join_with_byte 0x20 (map (spelled (space_of item.now)) values.now)) }
 {
-    let Some((first, further)) = values.split_first() else {
+    let mut further = values.again();
+    let Some(first) = further.next() else {
         return Ok(());
     };
-    write_spelling(out, item, first)?;
+    write_spelling(out, item, &first)?;
     'items: for value in further {
         out.push(' ')?;
-        write_spelling(out, item, value)?;
+        write_spelling(out, item, &value)?;
     }
     Ok(())
 }
 
 // The alternative that a value chooses, and the value of it.
-fn choice_of(value: &Tree<ValueLabel>) -> Option<(u32, &Tree<ValueLabel>)>
+fn choice_of<'a>(value: &Node<'a, ValueLabel>) -> Option<(u32, Node<'a, ValueLabel>)>
     ensures { MatchOption result
         (choice_at (label_of value.now) (kids_of value.now) ≡ None)
-        (λ choice. choice_at (label_of value.now) (kids_of value.now) ≡ Some (choice.0, choice.1.now)) }
+        (λ choice. choice_at (label_of value.now) (kids_of value.now) ≡ Some (choice.0, choice.1)) }
 {
     let ValueLabel::Choice(i) = value.label() else {
         return None;
     };
-    let chosen = value.kids().first()?;
+    let chosen = value.kids().next()?;
     Some((*i, chosen))
 }
 
@@ -98,7 +99,7 @@ fn choice_of(value: &Tree<ValueLabel>) -> Option<(u32, &Tree<ValueLabel>)>
 fn write_chosen(
     out: &mut String,
     members: &[Simple],
-    value: &Tree<ValueLabel>,
+    value: &Node<'_, ValueLabel>,
 ) -> Result<(), Memory>
     ensures { OnOk result (string_bytes out.new ≡ string_bytes out.old ++ spelled (UnionOf (spaces_in members.now)) value.now) }
 {
@@ -106,7 +107,7 @@ fn write_chosen(
         return Ok(());
     };
     match members.get(i as usize) {
-        Some(member) => write_spelling(out, member, chosen),
+        Some(member) => write_spelling(out, member, &chosen),
         None => Ok(()),
     }
 }
@@ -116,7 +117,7 @@ fn write_chosen(
 pub(crate) fn write_spelling(
     out: &mut String,
     simple: &Simple,
-    value: &Tree<ValueLabel>,
+    value: &Node<'_, ValueLabel>,
 ) -> Result<(), Memory>
     ensures { OnOk result (string_bytes out.new ≡ string_bytes out.old ++ spelled (space_of simple.now) value.now) }
 {
@@ -127,7 +128,7 @@ pub(crate) fn write_spelling(
         Simple::Numbers(numbers) => write_number(out, numbers.items(), label),
         Simple::Words { words, .. } => write_word(out, words.items(), label),
         Simple::Chars { .. } => write_text(out, label),
-        Simple::List { item, .. } => write_items(out, item, value.kids()),
+        Simple::List { item, .. } => write_items(out, item, &value.kids()),
         Simple::Union(members) => write_chosen(out, members.items(), value),
     }
 }
@@ -136,7 +137,7 @@ pub(crate) fn write_spelling(
 pub(crate) fn spelling(
     alloc: Global,
     simple: &Simple,
-    value: &Tree<ValueLabel>,
+    value: &Node<'_, ValueLabel>,
 ) -> Result<Text, Memory>
     ensures { IfOk result (λ text. text ≡ spelled (space_of simple.now) value.now) }
 {
@@ -152,5 +153,5 @@ pub fn spell(alloc: Global, simple: &Simple, value: &Node<'_, ValueLabel>) -> Re
     requires holds { Holds (space_of simple.now) value.now }
     ensures { IfOk result (λ text. text ≡ spelled (space_of simple.now) value.now) }
 {
-    Err(Memory)
+    spelling(alloc, simple, value)
 }

@@ -27,7 +27,7 @@ pub fn count(alloc: Global, simple: &Simple, text: &Text) -> Result<u64, SimpleE
         Simple::Union(members) => count_union(alloc, members.items(), text),
         _ => {
             let value = accept(alloc, simple, text)?;
-            Ok(value.count())
+            Ok(value.root().count())
         }
     }
 }

@@ -9,7 +9,7 @@ ghost use Rattle.simple_types.specs.Seen.{space_of};
 ghost use Rattle.simple_types.specs.Sound.{Sound};
 ghost use Rattle.value_counts.specs.Private.Kept.{AreCounted};
 
-use label_tree::Tree;
+use flat_tree::{Flat, Node};
 use simple_types::{Simple, ValueLabel};
 use simple_values::{SimpleError, accept};
 use std::alloc::Global;
@@ -32,7 +32,7 @@ impl Items {
     }
 
     /// One more, with this value.
-    pub(crate) fn add(&mut self, value: &Tree<ValueLabel>)
+    pub(crate) fn add(&mut self, value: &Node<'_, ValueLabel>)
         ensures { (values : List (Rose ValueLabel)) → AreCounted values self.old → AreCounted (values ++ value.now ∷ []) self.new }
     {
         self.count = self.count.saturating_add(1);
@@ -70,7 +70,7 @@ pub(crate) fn read_item(
     alloc: Global,
     item: &Simple,
     word: &str,
-) -> Result<Tree<ValueLabel>, SimpleError>
+) -> Result<Flat<ValueLabel>, SimpleError>
     requires { Sound (space_of item.now) }
     ensures { AnswersReading result (reads (space_of item.now) word.now) }
 {

@@ -12,7 +12,7 @@ ghost use Rattle.value_counts.specs.Private.Kept.{AreCounted, IsSpelledBy, IsCou
 
 use crate::items::{Items, read_item};
 use crate::unions::Kept;
-use label_tree::Tree;
+use flat_tree::Node;
 use simple_types::{Simple, ValueLabel};
 use simple_values::{SimpleError, spell};
 use std::alloc::Global;
@@ -29,7 +29,7 @@ fn count_items(alloc: Global, item: &Simple, text: &str) -> Result<Items, Simple
     let mut rest = text;
     'words: while let Some((word, behind)) = first_word(rest) {
         let value = read_item(alloc, item, word)?;
-        items.add(&value);
+        items.add(&value.root());
         rest = behind;
     }
     Ok(items)
@@ -74,7 +74,7 @@ fn write_item(
     spelling: &mut String,
     item: &Simple,
     items: &Items,
-    value: &Tree<ValueLabel>,
+    value: &Node<'_, ValueLabel>,
 ) -> Result<(), Memory>
     requires sound { Sound (space_of item.now) }
     requires holds { Holds (space_of item.now) value.now }
@@ -99,8 +99,8 @@ fn spell_items(alloc: Global, item: &Simple, text: &str) -> Result<(Items, Strin
     let mut rest = text;
     'words: while let Some((word, behind)) = first_word(rest) {
         let value = read_item(alloc, item, word)?;
-        write_item(alloc, &mut spelling, item, &items, &value)?;
-        items.add(&value);
+        write_item(alloc, &mut spelling, item, &items, &value.root())?;
+        items.add(&value.root());
         rest = behind;
     }
     Ok((items, spelling))

@@ -31,9 +31,9 @@ fn keep(alloc: Global, member: &Simple, text: &Text) -> Result<Kept, SimpleError
         Simple::List { item, min, max } => keep_list(alloc, item, *min, *max, text.as_str()),
         _ => {
             let value = accept(alloc, member, text)?;
-            let spelling = spell(alloc, member, &value)?;
+            let spelling = spell(alloc, member, &value.root())?;
             Ok(Kept {
-                nodes: value.count(),
+                nodes: value.root().count(),
                 spelling,
             })
         }

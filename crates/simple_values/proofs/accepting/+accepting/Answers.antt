@@ -11,66 +11,41 @@ use Rattle.simple_types.proofs.Members.{member_sound, count_in, part_member}
 use Rattle.simple_values.proofs.Readings.{takes, finds_wide, passes, none_takes, spelled_member, turn_further, reads-Bool, reads-Whole, reads-Numbers, reads-Words, reads-Chars, reads-ListOf, reads-UnionOf, sound-Numbers, sound-Words}
 use Rattle.simple_values.proofs.accepting.+accepting.Goals as goal
 
-pub read-read_number-requires-clause-sorted : goal.read-read_number-requires-clause-sorted
-read-read_number-requires-clause-sorted t c =
+pub put_value-read_number-requires-clause-sorted : goal.put_value-read_number-requires-clause-sorted
+put_value-read_number-requires-clause-sorted t c =
     let known = sound-Numbers c.args.simple.now c.in-Numbers.numbers c.in-Numbers.is c.requires.1.1 in
     rw c.items.ensures known.1
 
-pub read-read_number-requires-clause-count : goal.read-read_number-requires-clause-count
-read-read_number-requires-clause-count t c =
+pub put_value-read_number-requires-clause-count : goal.put_value-read_number-requires-clause-count
+put_value-read_number-requires-clause-count t c =
     let known = sound-Numbers c.args.simple.now c.in-Numbers.numbers c.in-Numbers.is c.requires.1.1 in
     rw c.items.ensures known.0.1
 
-pub read-read_word-requires-clause-sorted : goal.read-read_word-requires-clause-sorted
-read-read_word-requires-clause-sorted t c =
+pub put_value-read_word-requires-clause-sorted : goal.put_value-read_word-requires-clause-sorted
+put_value-read_word-requires-clause-sorted t c =
     let known = sound-Words c.args.simple.now c.in-Words.space c.in-Words.words c.in-Words.is c.requires.1.1 in
     rw c.items-in-Words.ensures known.1
 
-pub read-read_word-requires-clause-count : goal.read-read_word-requires-clause-count
-read-read_word-requires-clause-count t c =
+pub put_value-read_word-requires-clause-count : goal.put_value-read_word-requires-clause-count
+put_value-read_word-requires-clause-count t c =
     let known = sound-Words c.args.simple.now c.in-Words.space c.in-Words.words c.in-Words.is c.requires.1.1 in
     rw c.items-in-Words.ensures known.0.1
 
-pub read-read_list-requires : goal.read-read_list-requires
-read-read_list-requires t c =
+pub put_value-put_list-requires : goal.put_value-put_list-requires
+put_value-put_list-requires t c =
     let is = list_is c.args.simple.now c.in-List.item c.in-List.min c.in-List.max c.deref.result.now c.in-List.is c.deref.ensures in
     let parts = ap count_parts is in
     let d = c.requires.1.0 in
     let known = subst Sound is c.requires.1.1 in
     (omega (arith, d, parts), known.0)
 
-pub read-settle-requires : goal.read-settle-requires
-read-settle-requires t c =
+pub put_value-put_union-requires : goal.put_value-put_union-requires
+put_value-put_union-requires t c =
     let is = union_is c.args.simple.now c.in-Union.members c.items-in-Union.result.now c.in-Union.is c.items-in-Union.ensures in
     let parts = ap count_parts is in
     let d = c.requires.1.0 in
     let known = subst Sound is c.requires.1.1 in
     (omega (arith, d, parts), (known.1, rw (sym (count_in c.items-in-Union.result.now)) known.0.1))
-
-pub read-returns-in-List : goal.read-returns-in-List
-read-returns-in-List t c =
-    let is = list_is c.args.simple.now c.in-List.item c.in-List.min c.in-List.max c.deref.result.now c.in-List.is c.deref.ensures in
-    rw (is, reads-ListOf (space_of c.deref.result.now) c.in-List.min c.in-List.max c.args.text.now) c.read_list.ensures
-
-pub read-returns-in-Union : goal.read-returns-in-Union
-read-returns-in-Union t c =
-    let is = union_is c.args.simple.now c.in-Union.members c.items-in-Union.result.now c.in-Union.is c.items-in-Union.ensures in
-    rw (is, reads-UnionOf (spaces_in c.items-in-Union.result.now) c.args.text.now, count_in c.items-in-Union.result.now) c.settle.ensures
-
-pub read-returns-in-Bool : goal.read-returns-in-Bool
-read-returns-in-Bool t c = rw (reads-Bool c.args.simple.now c.args.text.now c.in-Bool.is) c.read_boolean.ensures
-
-pub read-returns-in-Whole : goal.read-returns-in-Whole
-read-returns-in-Whole t c = rw (reads-Whole c.args.simple.now c.args.text.now c.in-Whole.lo c.in-Whole.hi c.in-Whole.is) c.read_whole.ensures
-
-pub read-returns-in-Numbers : goal.read-returns-in-Numbers
-read-returns-in-Numbers t c = rw (reads-Numbers c.args.simple.now c.args.text.now c.in-Numbers.numbers c.in-Numbers.is, sym c.items.ensures) c.read_number.ensures
-
-pub read-returns-in-Words : goal.read-returns-in-Words
-read-returns-in-Words t c = rw (reads-Words c.args.simple.now c.args.text.now c.in-Words.space c.in-Words.words c.in-Words.is, sym c.items-in-Words.ensures) c.read_word.ensures
-
-pub read-returns-in-Chars : goal.read-returns-in-Chars
-read-returns-in-Chars t c = rw (reads-Chars c.args.simple.now c.args.text.now c.in-Chars.space c.in-Chars.min c.in-Chars.max c.in-Chars.class c.in-Chars.is) c.read_characters.ensures
 
 pub take-read-requires : goal.take-read-requires
 take-read-requires t c =
@@ -105,7 +80,7 @@ settle-turns-preserved t c =
     let other : (c.in_ok-next.next == c.turns.member) ≡ false = grind (arith, nat_tests) in
     record {
       member = c.in_ok-next.ensures.bound;
-      so_far = c.turns.invariant.so_far ∙ turn_further (taken_by ss) (spelled_by ss) (c.turns.member, c.turns.value) c.turns.turns (c.in_ok-next.next, c.in_ok-next.again) c.turns-test.true c.in_ok-next.ensures.taken other;
+      so_far = c.turns.invariant.so_far ∙ turn_further (taken_by ss) (spelled_by ss) (c.turns.member, c.turns.value) c.turns.turns (c.in_ok-next.next, c.in_ok-next.again) c.turns-test.true (rw (sym c.root.ensures) c.in_ok-next.ensures.taken) other;
     }
 
 pub take_again-returns-clause-taken : goal.take_again-returns-clause-taken
@@ -122,3 +97,28 @@ take-returns-in-Err-TooWide-clause-taken t c =
     let text = c.args.text.now in
     let refused = subst (λ e. AnswersReading (Err e) (reads (space_of c.index-members-i.result) text)) c.in-Err-TooWide.field-0-is c.in-Err-TooWide.ensures in
     finds_wide members text c.members.i c.index-members-i.result c.members-test.true c.members.invariant (ap (λ m. reads (space_of m) text) (sym c.index-members-i.is) ∙ refused)
+
+pub put_value-returns-in-Bool-clause-read : goal.put_value-returns-in-Bool-clause-read
+put_value-returns-in-Bool-clause-read t c = rw (reads-Bool c.args.simple.now c.args.text.now c.in-Bool.is) (c.put.ensures.read _ c.read_boolean.ensures)
+
+pub put_value-returns-in-Whole-clause-read : goal.put_value-returns-in-Whole-clause-read
+put_value-returns-in-Whole-clause-read t c = rw (reads-Whole c.args.simple.now c.args.text.now c.in-Whole.lo c.in-Whole.hi c.in-Whole.is) (c.put-in-Whole.ensures.read _ c.read_whole.ensures)
+
+pub put_value-returns-in-Numbers-clause-read : goal.put_value-returns-in-Numbers-clause-read
+put_value-returns-in-Numbers-clause-read t c = rw (reads-Numbers c.args.simple.now c.args.text.now c.in-Numbers.numbers c.in-Numbers.is, sym c.items.ensures) (c.put-in-Numbers.ensures.read _ c.read_number.ensures)
+
+pub put_value-returns-in-Words-clause-read : goal.put_value-returns-in-Words-clause-read
+put_value-returns-in-Words-clause-read t c = rw (reads-Words c.args.simple.now c.args.text.now c.in-Words.space c.in-Words.words c.in-Words.is, sym c.items-in-Words.ensures) (c.put-in-Words.ensures.read _ c.read_word.ensures)
+
+pub put_value-returns-in-Chars-clause-read : goal.put_value-returns-in-Chars-clause-read
+put_value-returns-in-Chars-clause-read t c = rw (reads-Chars c.args.simple.now c.args.text.now c.in-Chars.space c.in-Chars.min c.in-Chars.max c.in-Chars.class c.in-Chars.is) (c.put-in-Chars.ensures.read _ c.read_characters.ensures)
+
+pub put_value-returns-in-List-clause-read : goal.put_value-returns-in-List-clause-read
+put_value-returns-in-List-clause-read t c =
+    let is = list_is c.args.simple.now c.in-List.item c.in-List.min c.in-List.max c.deref.result.now c.in-List.is c.deref.ensures in
+    rw (is, reads-ListOf (space_of c.deref.result.now) c.in-List.min c.in-List.max c.args.text.now) c.put_list.ensures.read
+
+pub put_value-returns-in-Union-clause-read : goal.put_value-returns-in-Union-clause-read
+put_value-returns-in-Union-clause-read t c =
+    let is = union_is c.args.simple.now c.in-Union.members c.items-in-Union.result.now c.in-Union.is c.items-in-Union.ensures in
+    rw (is, reads-UnionOf (spaces_in c.items-in-Union.result.now) c.args.text.now, count_in c.items-in-Union.result.now) c.put_union.ensures.read

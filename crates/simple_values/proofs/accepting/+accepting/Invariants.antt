@@ -1,37 +1,49 @@
-use Rattle.std.proofs.Common.{◌≡◌, ◌+◌, ◌*◌, ◌<◌, length, drop, IsUtf8}
+use Rattle.std.proofs.Common.{◌≡◌, ◌+◌, ◌*◌, ◌-◌, ◌^◌, ◌<◌, List, length, drop, min, IsUtf8}
+use Rattle.label_tree.specs.Rose.{Rose}
+use Rattle.flat_tree.specs.Zips.{added_all}
 use Rattle.xa_base.specs.WhiteSpace.{words_of}
+use Rattle.simple_types.specs.declared.labels.ValueLabel.{ValueLabel}
 use Rattle.simple_types.specs.Space.{count_parts, count_all_parts}
 use Rattle.simple_types.specs.Seen.{space_of, spaces_in}
 use Rattle.simple_values.specs.Reading.{reads, read_each, taken_by, spelled_by, goes_on}
 use Rattle.simple_values.proofs.Readings.{behind_values, shifted}
 use Rattle.simple_values.proofs.accepting.+accepting.Given as goal
 
+abbrev pub decreases-put_value : goal.decreases-put_value
+decreases-put_value l = 6 * count_parts (space_of l.simple.now)
+
 abbrev pub decreases-read : goal.decreases-read
-decreases-read l = 4 * count_parts (space_of l.simple.now)
+decreases-read l = 6 * count_parts (space_of l.simple.now) + 1
 
-abbrev pub decreases-read_list : goal.decreases-read_list
-decreases-read_list l = 4 * count_parts (space_of l.item.now) + 2
+abbrev pub decreases-put_list : goal.decreases-put_list
+decreases-put_list l = 6 * count_parts (space_of l.item.now) + 2
 
-abbrev pub decreases-read_each : goal.decreases-read_each
-decreases-read_each l = 4 * count_parts (space_of l.item.now) + 1
+abbrev pub decreases-put_each : goal.decreases-put_each
+decreases-put_each l = 6 * count_parts (space_of l.item.now) + 1
+
+abbrev pub decreases-put_union : goal.decreases-put_union
+decreases-put_union l = 6 * count_all_parts (spaces_in l.members.now) + 5
 
 abbrev pub decreases-settle : goal.decreases-settle
-decreases-settle l = 4 * count_all_parts (spaces_in l.members.now) + 3
+decreases-settle l = 6 * count_all_parts (spaces_in l.members.now) + 4
 
 abbrev pub decreases-take_again : goal.decreases-take_again
-decreases-take_again l = 4 * count_all_parts (spaces_in l.members.now) + 2
+decreases-take_again l = 6 * count_all_parts (spaces_in l.members.now) + 3
 
 abbrev pub decreases-take : goal.decreases-take
-decreases-take l = 4 * count_all_parts (spaces_in l.members.now) + 1
+decreases-take l = 6 * count_all_parts (spaces_in l.members.now) + 2
 
-abbrev pub invariant-read_each-words : goal.invariant-read_each-words
-invariant-read_each-words l = record {
+abbrev pub invariant-put_each-words : goal.invariant-put_each-words
+invariant-put_each-words l = record {
   text : IsUtf8 l.rest;
-  so_far : read_each (reads (space_of l.item)) (words_of l.initial.rest) ≡ behind_values l.values.items (read_each (reads (space_of l.item)) (words_of l.rest));
+  so_far : (read : List (Rose ValueLabel))
+      × (read_each (reads (space_of l.item)) (words_of l.text) ≡ behind_values read (read_each (reads (space_of l.item)) (words_of l.rest)))
+      × (l.count ≡ min (length read) (2 ^ 64 - 1))
+      × (l.values ≡ added_all read l.fn.values);
 }
 
-abbrev pub decreases-read_each-words : goal.decreases-read_each-words
-decreases-read_each-words l = length (words_of l.rest)
+abbrev pub decreases-put_each-words : goal.decreases-put_each-words
+decreases-put_each-words l = length (words_of l.rest)
 
 abbrev pub invariant-take-members : goal.invariant-take-members
 invariant-take-members l =

@@ -1,7 +1,6 @@
-use Rattle.std.proofs.Common.{◌≡◌, ◌+◌, ◌++◌, [], ◌∷◌, drop, sym, ap, ◌∙◌, arith, get_or, append_assoc}
+use Rattle.std.proofs.Common.{◌≡◌, ◌++◌, [], ◌∷◌, sym, ap, ◌∙◌, arith, append_assoc}
 use Rattle.std.specs.Prelude.{string_bytes, map}
 use Rattle.std.specs.List.{join_with_byte}
-use Rattle.std.proofs.Math.ListN.{drop_of_length-le}
 use Rattle.std.proofs.lemmas.Str.{encode_ascii}
 use Rattle.std.proofs.lemmas.List.{append-nil}
 use Rattle.simple_types.specs.Space.{count_parts}
@@ -58,30 +57,6 @@ write_spelling-write_chosen-requires t c =
     let d = c.decreases in
     (omega (arith, d, is), tt)
 
-pub write_items-returns : goal.write_items-returns
-write_items-returns t c =
-    let sp = spelled (space_of c.args.item.now) in
-    let further = c.in-Some.further.now in
-    let left : drop c.items.value-index further ≡ [] = drop_of_length-le further c.items-test.false in
-    let parts : string_bytes c.items.out ≡ string_bytes c.write_spelling.new.out ++ behind (map sp further) =
-    sym (append-nil (string_bytes c.items.out)) ∙ ap (λ l. string_bytes c.items.out ++ behind (map sp l)) (sym left) ∙ c.items.invariant in
-    let joined : sp c.in-Some.first.now ++ behind (map sp further) ≡ join_with_byte 0x20 (map sp c.args.values.now) =
-    sym (join-behind (sp c.in-Some.first.now) (map sp further)) ∙ ap (λ vs. join_with_byte 0x20 (map sp vs)) (sym c.in-Some.ensures.cases.0) in
-    parts ∙ ap (λ l. l ++ behind (map sp further)) c.in_ok-write_spelling.ensures
-    ∙ append_assoc (string_bytes c.args.out.now) (sp c.in-Some.first.now) (behind (map sp further)) ∙ ap (λ l. string_bytes c.args.out.now ++ l) joined
-
-pub write_items-items-preserved : goal.write_items-items-preserved
-write_items-items-preserved t c =
-    let sp = spelled (space_of c.args.item.now) in
-    let further = c.in-Some.further.now in
-    let value = c.value-item.result in
-    let at = c.items.value-index in
-    let spaced : string_bytes c.push.new.self ≡ string_bytes c.items.out ++ 0x20 ∷ [] =
-    c.in_ok-push.ensures.bytes ∙ ap (λ l. string_bytes c.items.out ++ l) (encode_ascii 32 (omega arith)) in
-    let written : string_bytes c.write_spelling-in-items.new.out ≡ (string_bytes c.items.out ++ 0x20 ∷ []) ++ sp (get_or further at value) =
-    c.in_ok-write_spelling-2.ensures ∙ ap (λ l. l ++ sp value) spaced ∙ ap (λ v. (string_bytes c.items.out ++ 0x20 ∷ []) ++ sp v) c.value-item.is in
-    ap (λ l. l ++ behind (map sp (drop (at + 1) further))) written ∙ behind_more sp further at value (string_bytes c.items.out) c.items-test.true ∙ c.items.invariant
-
 pub write_chosen-returns-in_default : goal.write_chosen-returns-in_default
 write_chosen-returns-in_default t c =
     rw (spelled-UnionOf (spaces_in c.args.members.now) c.args.value.now, c.in_default.ensures) (sym (append-nil (string_bytes c.args.out.now)))
@@ -98,9 +73,37 @@ pub write_chosen-returns-in-Some-get : goal.write_chosen-returns-in-Some-get
 write_chosen-returns-in-Some-get t c =
     let at = c.in-Some-get.ensures.lookup in
     let found = found_at c.args.members.now c.in-Some.i c.in-Some-get.member.now at.0 at.1 in
-    rw (spelled-UnionOf (spaces_in c.args.members.now) c.args.value.now, c.in-Some.ensures, spelled_by_member c.in-Some-get.member.now c.args.members.now c.in-Some.i c.in-Some.chosen.now found) c.write_spelling.ensures
+    rw (spelled-UnionOf (spaces_in c.args.members.now) c.args.value.now, c.in-Some.ensures, spelled_by_member c.in-Some-get.member.now c.args.members.now c.in-Some.i c.in-Some.chosen found) c.write_spelling.ensures
 
 pub write_chosen-returns-in-None : goal.write_chosen-returns-in-None
 write_chosen-returns-in-None t c =
     let missed = missed_at c.args.members.now c.in-Some.i c.in-None.ensures.lookup.0 in
-    rw (spelled-UnionOf (spaces_in c.args.members.now) c.args.value.now, c.in-Some.ensures, spelled_by_none c.args.members.now c.in-Some.i c.in-Some.chosen.now missed) (sym (append-nil (string_bytes c.args.out.now)))
+    rw (spelled-UnionOf (spaces_in c.args.members.now) c.args.value.now, c.in-Some.ensures, spelled_by_none c.args.members.now c.in-Some.i c.in-Some.chosen missed) (sym (append-nil (string_bytes c.args.out.now)))
+
+pub write_items-items-init : goal.write_items-items-init
+write_items-items-init t c =
+    let sp = spelled (space_of c.args.item.now) in
+    let first = c.in-Some.first in
+    let further = c.into_iter-value-iterator.result in
+    let all : first ∷ further ≡ c.args.values.now =
+    ap (λ vs. first ∷ vs) c.into_iter-value-iterator.ensures.into_iter_gives ∙ sym c.in-Some.ensures.steps ∙ c.again-further.ensures in
+    ap (λ l. l ++ behind (map sp further)) c.in_ok-write_spelling.ensures
+    ∙ append_assoc (string_bytes c.args.out.now) (sp first) (behind (map sp further))
+    ∙ ap (λ l. string_bytes c.args.out.now ++ l) (sym (join-behind (sp first) (map sp further)) ∙ ap (λ vs. join_with_byte 0x20 (map sp vs)) all)
+
+pub write_items-items-preserved : goal.write_items-items-preserved
+write_items-items-preserved t c =
+    let sp = spelled (space_of c.args.item.now) in
+    let value = c.in-Some-value.value in
+    let later = c.next-in-items.new.self in
+    let spaced : string_bytes c.push.new.self ≡ string_bytes c.items.out ++ 0x20 ∷ [] =
+    c.in_ok-push.ensures.bytes ∙ ap (λ l. string_bytes c.items.out ++ l) (encode_ascii 32 (omega arith)) in
+    let written : string_bytes c.write_spelling-in-items.new.out ≡ (string_bytes c.items.out ++ 0x20 ∷ []) ++ sp value =
+    c.in_ok-write_spelling-2.ensures ∙ ap (λ l. l ++ sp value) spaced in
+    ap (λ l. l ++ behind (map sp later)) written ∙ behind_more sp value later (string_bytes c.items.out)
+    ∙ ap (λ vs. string_bytes c.items.out ++ behind (map sp vs)) (sym c.in-Some-value.ensures.steps) ∙ c.items.invariant
+
+pub write_items-returns : goal.write_items-returns
+write_items-returns t c =
+    let sp = spelled (space_of c.args.item.now) in
+    sym (append-nil (string_bytes c.items.out)) ∙ ap (λ vs. string_bytes c.items.out ++ behind (map sp vs)) (sym c.in-None.ensures.steps.0) ∙ c.items.invariant

@@ -1,5 +1,6 @@
-use Rattle.std.proofs.Common.{◌≡◌, ◌++◌, ◌+◌, ◌*◌, drop, string_bytes}
+use Rattle.std.proofs.Common.{◌≡◌, ◌++◌, ◌+◌, ◌*◌, string_bytes}
 use Rattle.std.specs.Prelude.{map}
+use Rattle.std.specs.List.{join_with_byte}
 use Rattle.simple_types.specs.Space.{count_parts, count_all_parts}
 use Rattle.simple_types.specs.Seen.{space_of, spaces_in}
 use Rattle.simple_values.specs.Reading.{spelled}
@@ -17,4 +18,4 @@ decreases-write_chosen l = 2 * count_all_parts (spaces_in l.members.now) + 1
 
 abbrev pub invariant-write_items-items : goal.invariant-write_items-items
 invariant-write_items-items l =
-    string_bytes l.out ++ behind (map (spelled (space_of l.item)) (drop l.value-index l.further)) ≡ string_bytes l.initial.out ++ behind (map (spelled (space_of l.item)) l.further)
+    string_bytes l.out ++ behind (map (spelled (space_of l.item)) l.value-iterator) ≡ string_bytes l.fn.out ++ join_with_byte 0x20 (map (spelled (space_of l.item)) l.values)

@@ -12,7 +12,7 @@ keep_list-requires c =
     known.0
 
 pub spell-requires : goal.spell-requires
-spell-requires c = record { sound = c.requires; holds = holds_again (space_of c.args.member.now) c.requires _ c.in_ok-value-in_default.value c.in_ok-value-in_default.ensures }
+spell-requires c = record { sound = c.requires; holds = rw c.root.ensures (holds_again (space_of c.args.member.now) c.requires _ c.in_ok-value-in_default.value c.in_ok-value-in_default.ensures) }
 
 pub returns-in-List : goal.returns-in-List
 returns-in-List c =
