@@ -10,7 +10,6 @@ use flat_tree::Node;
 use itoa::Buffer;
 use std::alloc::{AllocError, Global};
 use std::collections::BTreeMap;
-use std::iter::Iterator;
 use std::marker::Model;
 use xa_base::{XML_SPACE, XSI_SPACE};
 

@@ -10,7 +10,6 @@ use crate::prefixes::{Prefix, Prefixes, Qualifier};
 use doc_text::{Attributes, ItemLabel, Items};
 use flat_tree::Node;
 use std::alloc::{AllocError, Global};
-use std::iter::Iterator;
 use xa_base::{Memory, Name, Text};
 
 const XML_DECLARATION: &[u8] = b"<?xml version=\"1.0\" encoding=\"UTF-8\"?>\n";
