@@ -1,13 +1,12 @@
 -- What the steps of writing give.
-use Rattle.std.proofs.Common.{Result, Ok, Err, Bor, map, subst, ◌≡◌, ℕ, ◌+◌, ◌<◌, ◌≤◌, List, [], ◌∷◌, ◌++◌, length, drop, get_or, refl, sym, ◌∙◌, ap, arith, append_assoc}
+use Rattle.std.proofs.Common.{Result, Ok, Err, Bool, true, false, true≢false, Bor, map, subst, ◌≡◌, ℕ, ◌+◌, ◌<◌, List, [], ◌∷◌, ◌++◌, length, drop, get_or, refl, sym, ◌∙◌, ap, arith, append_assoc}
 use Rattle.std.specs.Prelude.{OnOk, IfOk, ◌^◌}
 use Rattle.std.specs.Global.{Vec}
 use Rattle.std.specs.List.{flat_map}
-use Rattle.std.proofs.lemmas.List.{drop_more, drop_all, append-nil}
+use Rattle.std.proofs.lemmas.List.{drop_more, append-nil}
 use Rattle.xa_base.specs.declared.texts.Name.{Name}
 use Rattle.label_tree.specs.Rose.{Rose, node, roses_of, label_of, kids_of}
 use Rattle.label_tree.proofs.Roses.{roses_of-list_of, node-parts}
-use Rattle.label_tree.proofs.Kids.{roses_of-drop}
 use Rattle.doc_text.specs.declared.label.ItemLabel.{ItemLabel}
 use Rattle.doc_text.specs.declared.label.ItemLabel.TheVariants.{Element, Text}
 use Rattle.doc_text.specs.Sound.{AreItems}
@@ -66,15 +65,6 @@ bind-label t before after label kids is below bound =
     ∙ ap (λ k. with_spaces before (label_spaces (label_of t) ++ all_spaces (roses_of k))) below
     ∙ ap (with_spaces before) (sym (spaces-kids t))
 
-pub bind-kid : (before after whole : List (List ℕ × List ℕ)) (kids : List (Rose ItemLabel)) (i : ℕ) (kid : Rose ItemLabel)
-    → i < length kids → kid ≡ get_or kids i kid → after ≡ with_spaces before (spaces kid)
-    → with_spaces before (all_spaces (roses_of (drop i kids))) ≡ whole → with_spaces after (all_spaces (roses_of (drop (i + 1) kids))) ≡ whole
-bind-kid before after whole kids i kid at here is so_far =
-    ap (λ t. with_spaces t (all_spaces (roses_of (drop (i + 1) kids)))) is
-    ∙ sym (with_spaces-append before (spaces kid) (all_spaces (roses_of (drop (i + 1) kids))))
-    ∙ ap (λ ks. with_spaces before (all_spaces ks)) (sym (roses_of-drop kids i kid at here))
-    ∙ so_far
-
 -- ---- writing
 
 pub write-item : {A : Type 0} (f : A → List ℕ) (before after whole : List ℕ) (xs : List A) (i : ℕ) (x : A)
@@ -93,15 +83,6 @@ write-entry before after whole xs i d at is so_far =
     ap (λ o. o ++ flat_map written_declaration (map entry_of (drop (i + 1) xs))) is
     ∙ append_assoc before (written_declaration (entry_of (get_or xs i d))) (flat_map written_declaration (map entry_of (drop (i + 1) xs)))
     ∙ ap (λ ys. before ++ flat_map written_declaration (map entry_of ys)) (sym (drop_more xs i d at))
-    ∙ so_far
-
-pub write-kid : (table : List (List ℕ × List ℕ)) (before after whole : List ℕ) (kids : List (Rose ItemLabel)) (i : ℕ) (kid : Rose ItemLabel)
-    → i < length kids → kid ≡ get_or kids i kid → after ≡ before ++ spelled table [] kid
-    → before ++ all_spelled table (roses_of (drop i kids)) ≡ whole → after ++ all_spelled table (roses_of (drop (i + 1) kids)) ≡ whole
-write-kid table before after whole kids i kid at here is so_far =
-    ap (λ o. o ++ all_spelled table (roses_of (drop (i + 1) kids))) is
-    ∙ append_assoc before (spelled table [] kid) (all_spelled table (roses_of (drop (i + 1) kids)))
-    ∙ ap (λ ys. before ++ all_spelled table ys) (sym (roses_of-drop kids i kid at here))
     ∙ so_far
 
 tree-parts : (t : Rose ItemLabel) (label : ItemLabel) (kids : List (Rose ItemLabel)) → label ≡ label_of t → kids ≡ kids_of t → t ≡ node label (roses_of kids)
@@ -140,13 +121,17 @@ module _ (table : List (List ℕ × List ℕ)) (declarations : List ℕ) (t : Ro
 regroup : (old start all end : List ℕ) → (((old ++ start) ++ 62 ∷ []) ++ all) ++ end ≡ old ++ (start ++ 62 ∷ all ++ end)
 regroup old start all end = simp append_assoc
 
--- an element with kids, all of which are written
-pub written-kids : (table : List (List ℕ × List ℕ)) (old start end before out : List ℕ) (kids : List (Rose ItemLabel)) (i : ℕ)
-    → length kids ≤ i → before ≡ (old ++ start) ++ 62 ∷ [] → out ++ all_spelled table (roses_of (drop i kids)) ≡ before ++ all_spelled table (roses_of kids)
+-- there are kids
+pub some_kids : (b : Bool) (kids : List (Rose ItemLabel)) → (kids ≡ [] → b ≡ true) → b ≡ false → 0 < length kids
+some_kids b [] f e = absurd (true≢false (sym (f refl) ∙ e))
+some_kids b (k ∷ ks) f e = omega arith
+
+-- an element with kids, of which none are left to be written
+pub written-kids : (table : List (List ℕ × List ℕ)) (old start end before out : List ℕ) (kids left : List (Rose ItemLabel))
+    → left ≡ [] → before ≡ (old ++ start) ++ 62 ∷ [] → out ++ all_spelled table (roses_of left) ≡ before ++ all_spelled table (roses_of kids)
     → out ++ end ≡ old ++ (start ++ 62 ∷ all_spelled table (roses_of kids) ++ end)
-written-kids table old start end before out kids i past was so_far =
-    let left : drop i kids ≡ [] = drop_all i kids past in
-    let done : out ≡ before ++ all_spelled table (roses_of kids) = sym (append-nil out) ∙ ap (λ ks. out ++ all_spelled table (roses_of ks)) (sym left) ∙ so_far in
+written-kids table old start end before out kids left past was so_far =
+    let done : out ≡ before ++ all_spelled table (roses_of kids) = sym (append-nil out) ∙ ap (λ ks. out ++ all_spelled table (roses_of ks)) (sym past) ∙ so_far in
     ap (λ o. o ++ end) (done ∙ ap (λ b. b ++ all_spelled table (roses_of kids)) was) ∙ regroup old start (all_spelled table (roses_of kids)) end
 
 -- a whole document

@@ -6,8 +6,8 @@ ghost use Rattle.doc_written.specs.Spaces.{attribute_spaces, label_spaces, space
 ghost use Rattle.doc_write.specs.Private.Binding.{prefix_text, qualifier_text, before_local, entry_of, next_prefix, is_bound, with_space, with_spaces};
 
 use doc_text::{Attributes, ItemLabel};
+use flat_tree::Node;
 use itoa::Buffer;
-use label_tree::Tree;
 use std::alloc::{AllocError, Global};
 use std::collections::BTreeMap;
 use std::marker::Model;
@@ -141,13 +141,12 @@ impl<'a> Prefixes<'a> {
     }
 
     // The namespaces of all names of the tree.
-    pub(crate) fn bind_tree(&mut self, tree: &'a Tree<ItemLabel>) -> Result<(), AllocError>
+    pub(crate) fn bind_tree(&mut self, tree: &Node<'a, ItemLabel>) -> Result<(), AllocError>
         ensures { OnOk result (self.new ≡ with_spaces self.old (spaces tree.now)) }
     {
         self.bind_label(tree.label())?;
-        let kids = tree.kids();
-        'kids: for kid in kids {
-            self.bind_tree(kid)?;
+        'kids: for kid in tree.kids() {
+            self.bind_tree(&kid)?;
         }
         Ok(())
     }

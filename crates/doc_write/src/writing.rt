@@ -8,7 +8,7 @@ ghost use Rattle.doc_write.specs.Private.Binding.{prefix_text, entry_of, named};
 
 use crate::prefixes::{Prefix, Prefixes, Qualifier};
 use doc_text::{Attributes, ItemLabel, Items};
-use label_tree::Tree;
+use flat_tree::Node;
 use std::alloc::{AllocError, Global};
 use xa_base::{Memory, Name, Text};
 
@@ -165,7 +165,7 @@ fn write_tree(
     out: &mut Vec<u8>,
     prefixes: &Prefixes<'_>,
     declared: &[(&[u8], Prefix)],
-    tree: &Tree<ItemLabel>,
+    tree: &Node<'_, ItemLabel>,
 ) -> Result<(), AllocError>
     ensures { OnOk result (out.new.items ≡ out.old.items ++ spelled prefixes.now (flat_map written_declaration (map entry_of declared.now)) tree.now) }
 {
@@ -184,7 +184,7 @@ fn write_tree(
             }
             out.push(b'>')?;
             'kids: for kid in kids {
-                write_tree(out, prefixes, &[], kid)?;
+                write_tree(out, prefixes, &[], &kid)?;
             }
             write_end(out, qualifier, name)
         }
@@ -192,7 +192,7 @@ fn write_tree(
 }
 
 // The text of a document whose root is this tree.
-fn write_root(alloc: Global, root: &Tree<ItemLabel>) -> Result<Vec<u8>, Memory>
+fn write_root(alloc: Global, root: &Node<'_, ItemLabel>) -> Result<Vec<u8>, Memory>
     ensures { IfOk result (λ text. text.items ≡ written root.now) }
 {
     let mut prefixes = Prefixes::new(alloc);
@@ -210,5 +210,5 @@ pub fn write_document(alloc: Global, items: &Items) -> Result<Vec<u8>, Memory>
     ensures written { IfOk result (λ text. text.items ≡ written items.now) }
     ensures read_back { IfOk result (λ text. ReadsAs text.items items.now) }
 {
-    write_root(alloc, items.tree().root())
+    write_root(alloc, &items.root())
 }

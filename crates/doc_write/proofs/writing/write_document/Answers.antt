@@ -1,4 +1,4 @@
-use Rattle.std.proofs.Common.{◌≡◌, rules}
+use Rattle.std.proofs.Common.{◌≡◌}
 use Rattle.doc_written.specs.Written.{written}
 use Rattle.doc_written.specs.ReadBack.{ReadsAs}
 use Rattle.doc_write.proofs.Written.{IfOk-map, vec_short, reads_back}
@@ -6,5 +6,5 @@ use Rattle.doc_write.proofs.writing.write_document.Goals as goal
 
 pub returns-clause-read_back : goal.returns-clause-read_back
 returns-clause-read_back c =
-    IfOk-map (λ text. text.items ≡ written c.root.result.now) (λ text. ReadsAs text.items c.args.items.now)
-    (λ text is. reads_back c.root.result.now c.args.items.now text.items (search rules) c.tree.ensures.items is (vec_short text)) c.write_root.result c.write_root.ensures
+    IfOk-map (λ text. text.items ≡ written c.root.result) (λ text. ReadsAs text.items c.args.items.now)
+    (λ text is. reads_back c.root.result c.args.items.now text.items c.root.ensures.root c.root.ensures.items is (vec_short text)) c.write_root.result c.write_root.ensures

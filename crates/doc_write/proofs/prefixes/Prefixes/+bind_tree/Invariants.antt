@@ -1,5 +1,5 @@
-use Rattle.std.proofs.Common.{◌≡◌, drop}
-use Rattle.label_tree.specs.Rose.{node_count, roses_of}
+use Rattle.std.proofs.Common.{◌≡◌, suc, ◌≤◌}
+use Rattle.label_tree.specs.Rose.{node_count, count_all, roses_of}
 use Rattle.doc_written.specs.Spaces.{spaces, all_spaces}
 use Rattle.doc_write.specs.Private.Binding.{with_spaces}
 use Rattle.doc_write.proofs.prefixes.Prefixes.+bind_tree.Given as goal
@@ -9,5 +9,7 @@ decreases-bind_tree l = node_count l.tree.now
 
 -- what is bound, with what is still to be bound
 abbrev pub invariant-kids : goal.invariant-kids
-invariant-kids l =
-    with_spaces l.self (all_spaces (roses_of (drop l.kid-index l.kids))) ≡ with_spaces l.fn.self (spaces l.tree)
+invariant-kids l = record {
+  bound : with_spaces l.self (all_spaces (roses_of l.kid-iterator)) ≡ with_spaces l.fn.self (spaces l.tree);
+  fewer : suc (count_all (roses_of l.kid-iterator)) ≤ node_count l.tree;
+}
