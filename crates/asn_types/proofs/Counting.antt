@@ -4,7 +4,6 @@ use Rattle.std.specs.Prelude.{map, replicate, IfOk}
 use Rattle.std.proofs.lemmas.List.{drop_more}
 use Rattle.label_tree.specs.Rose.{Rose, node, Roses, none, more, roses_of, list_of, label_of, kids_of, length_all}
 use Rattle.label_tree.proofs.Roses.{roses_of-list_of, length-list_of}
-use Rattle.label_tree.proofs.Kids.{roses_of-drop}
 use Rattle.simple_types.specs.declared.labels.ValueLabel.{ValueLabel}
 use Rattle.asn_types.specs.declared.modules.Assignment.{Assignment}
 use Rattle.asn_types.specs.declared.places.ComponentPlace as code
@@ -69,21 +68,14 @@ module _ (M : List Assignment) where
   count_in-[] none = refl
   count_in-[] (more v vs) = refl
 
-  -- no more are counted where the places or the values end
-  pub ends : (ps : List code.ComponentPlace) (vs : List (Rose ValueLabel)) (i : ℕ) → min (length ps) (length vs) ≤ i → count_in M (map place_seen (drop i ps)) (roses_of (drop i vs)) ≡ 0
-  ends [] vs i past = ap (λ qs. count_in M (map place_seen qs) (roses_of (drop i vs))) (drop-past i [] (omega arith)) ∙ count_in-[] (roses_of (drop i vs))
-  ends (p ∷ ps) [] i past = ap (λ ws. count_in M (map place_seen (drop i (p ∷ ps))) (roses_of ws)) (drop-past i [] (omega arith)) ∙ count_in-none (map place_seen (drop i (p ∷ ps)))
-  ends (p ∷ ps) (v ∷ vs) zero past = absurd (omega arith)
-  ends (p ∷ ps) (v ∷ vs) (suc i) past = ends ps vs i (omega arith)
-
   -- one more of what is left is counted
-  pub count_step : (p : ComponentPlace) (ps qs : List ComponentPlace) (v : Rose ValueLabel) (vs : List (Rose ValueLabel)) (i count whole : ℕ) → i < length vs → v ≡ get_or vs i v → ps ≡ p ∷ qs
-      → whole ≡ min (count + count_in M ps (roses_of (drop i vs))) (2 ^ 64 - 1)
-      → whole ≡ min (min (count + min (counted p.role (child_count M p.type v)) (2 ^ 64 - 1)) (2 ^ 64 - 1) + count_in M qs (roses_of (drop (i + 1) vs))) (2 ^ 64 - 1)
-  count_step p ps qs v vs i count whole less here is so_far =
-      let first = ap (λ ks. count_in M ks (roses_of (drop i vs))) is ∙ ap (count_in M (p ∷ qs)) (roses_of-drop vs i v less here) ∙ count_in-more p qs v (roses_of (drop (i + 1) vs)) in
+  pub count_step : (p : ComponentPlace) (ps qs : List ComponentPlace) (v : Rose ValueLabel) (vs ws : List (Rose ValueLabel)) (count whole : ℕ) → vs ≡ v ∷ ws → ps ≡ p ∷ qs
+      → whole ≡ min (count + count_in M ps (roses_of vs)) (2 ^ 64 - 1)
+      → whole ≡ min (min (count + min (counted p.role (child_count M p.type v)) (2 ^ 64 - 1)) (2 ^ 64 - 1) + count_in M qs (roses_of ws)) (2 ^ 64 - 1)
+  count_step p ps qs v vs ws count whole next is so_far =
+      let first = ap (λ ks. count_in M ks (roses_of vs)) is ∙ ap (λ us. count_in M (p ∷ qs) (roses_of us)) next ∙ count_in-more p qs v (roses_of ws) in
       so_far ∙ ap (λ k. min (count + k) (2 ^ 64 - 1)) first
-      ∙ add_shown count (counted p.role (child_count M p.type v)) (count_in M qs (roses_of (drop (i + 1) vs))) (2 ^ 64 - 1)
+      ∙ add_shown count (counted p.role (child_count M p.type v)) (count_in M qs (roses_of ws)) (2 ^ 64 - 1)
 
   -- values that fit, by their kids
   pub fits-kids : (depth : ℕ) (t : Rose TypeLabel) (v : Rose ValueLabel) → FitsAt M depth t v → (depth ≤ 64) × FitKids M depth (resolve M t) v × Own M t v
@@ -100,27 +92,30 @@ module _ (M : List Assignment) where
       let long = subst (λ n. FitPlaces M depth (places (resolve M t) l n) vs) (length-list_of vs) back in
       (deep, long, own)
 
-  pub fit_each-length : (depth : ℕ) (ps : List ComponentPlace) (vs : List (Rose ValueLabel)) → FitEach M depth ps (roses_of vs) → length ps ≡ length vs
+  -- the places and the values end together
+  pub fit_end : (depth : ℕ) (vs : List (Rose ValueLabel)) → FitEach M depth [] (roses_of vs) → vs ≡ []
   unfolding FitEach
-  fit_each-length depth [] [] h = refl
-  fit_each-length depth [] (v ∷ vs) h = absurd h
-  fit_each-length depth (p ∷ ps) [] h = absurd h
-  fit_each-length depth (p ∷ ps) (v ∷ vs) h = ap suc (fit_each-length depth ps vs h.1)
+  fit_end depth [] h = refl
+  fit_end depth (v ∷ vs) h = absurd h
+
+  pub none_fits : (depth : ℕ) (p : ComponentPlace) (ps : List ComponentPlace) → FitEach M depth (p ∷ ps) none → ⊥
+  unfolding FitEach
+  none_fits depth p ps h = h
 
   pub fit_none : (depth : ℕ) → FitEach M depth [] none
   unfolding FitEach
   fit_none depth = tt
 
-  module _ (depth : ℕ) (p : ComponentPlace) (ps qs : List ComponentPlace) (v : Rose ValueLabel) (vs : List (Rose ValueLabel)) (i : ℕ) (less : i < length vs) (here : v ≡ get_or vs i v) (is : ps ≡ p ∷ qs) where
-    pub fit-split : FitEach M depth ps (roses_of (drop i vs)) → FitsAt M (below p.role depth) p.type v × FitEach M depth qs (roses_of (drop (i + 1) vs))
+  module _ (depth : ℕ) (p : ComponentPlace) (ps qs : List ComponentPlace) (v : Rose ValueLabel) (vs ws : List (Rose ValueLabel)) (next : vs ≡ v ∷ ws) (is : ps ≡ p ∷ qs) where
+    pub fit-split : FitEach M depth ps (roses_of vs) → FitsAt M (below p.role depth) p.type v × FitEach M depth qs (roses_of ws)
     unfolding FitEach
-    fit-split h = subst (FitEach M depth (p ∷ qs)) (roses_of-drop vs i v less here) (subst (λ ks. FitEach M depth ks (roses_of (drop i vs))) is h)
+    fit-split h = subst (λ us. FitEach M depth (p ∷ qs) (roses_of us)) next (subst (λ ks. FitEach M depth ks (roses_of vs)) is h)
 
-    pub fit-join : FitsAt M (below p.role depth) p.type v → FitEach M depth qs (roses_of (drop (i + 1) vs)) → FitEach M depth ps (roses_of (drop i vs))
+    pub fit-join : FitsAt M (below p.role depth) p.type v → FitEach M depth qs (roses_of ws) → FitEach M depth ps (roses_of vs)
     unfolding FitEach
     fit-join one others =
-        let both : FitEach M depth (p ∷ qs) (more v (roses_of (drop (i + 1) vs))) = (one, others) in
-        subst (λ ks. FitEach M depth ks (roses_of (drop i vs))) (sym is) (subst (FitEach M depth (p ∷ qs)) (sym (roses_of-drop vs i v less here)) both)
+        let both : FitEach M depth (p ∷ qs) (more v (roses_of ws)) = (one, others) in
+        subst (λ ks. FitEach M depth ks (roses_of vs)) (sym is) (subst (λ us. FitEach M depth (p ∷ qs) (roses_of us)) (sym next) both)
 
   pub places-first : (p : ComponentPlace) (ps qs : List ComponentPlace) → ps ≡ p ∷ qs → ArePlaces M ps → AreWellFormed M p.type × ArePlaces M qs
   places-first p ps qs is h = subst (ArePlaces M) is h

@@ -13,10 +13,12 @@ use crate::resolving::resolve;
 use crate::roles::Role;
 use crate::simples::simple_at;
 use crate::types::{Form, TypeLabel};
+use flat_tree::{Kids, Node};
 use label_tree::Tree;
 use simple_types::ValueLabel;
 use simple_values::{has_characters, holds};
 use std::alloc::Global;
+use std::iter::Iterator;
 use xa_base::{Memory, is_treated};
 
 // Whether a text keeps the rules of its type.
@@ -39,7 +41,7 @@ fn is_text_of(label: &TypeLabel, value: &ValueLabel) -> bool
 fn is_spelled(
     alloc: Global,
     node: &Tree<TypeLabel>,
-    value: &Tree<ValueLabel>,
+    value: &Node<'_, ValueLabel>,
 ) -> Result<bool, Memory>
     requires { IsSimple node.now }
     ensures { IfOk result (λ b. IsTrue b ↔ rule.IsSpelled node.now value.now) }
@@ -54,7 +56,7 @@ fn count_at(
     alloc: Global,
     module: &Module,
     place: &ComponentPlace,
-    value: &Tree<ValueLabel>,
+    value: &Node<'_, ValueLabel>,
 ) -> Result<u64, Memory>
     ensures { IfOk result (λ n. n ≡ min (rule.counted place.now.role (rule.child_count module.now place.now.node.now value.now)) (2 ^ 64 - 1)) }
 {
@@ -71,13 +73,17 @@ fn count_each(
     alloc: Global,
     module: &Module,
     places: &[ComponentPlace],
-    values: &[Tree<ValueLabel>],
+    values: &Kids<'_, ValueLabel>,
 ) -> Result<u64, Memory>
     ensures { IfOk result (λ n. n ≡ min (rule.count_in module.now (map place_seen places.now) (roses_of values.now)) (2 ^ 64 - 1)) }
 {
     let mut count: u64 = 0;
-    'values: for i in 0..places.len().min(values.len()) {
-        count = count.saturating_add(count_at(alloc, module, &places[i], &values[i])?);
+    let mut left = values.again();
+    'places: for place in places {
+        let Some(value) = left.next() else {
+            return Ok(count);
+        };
+        count = count.saturating_add(count_at(alloc, module, place, &value)?);
     }
     Ok(count)
 }
@@ -87,13 +93,13 @@ fn count_all(
     alloc: Global,
     module: &Module,
     place: &ComponentPlace,
-    values: &[Tree<ValueLabel>],
+    values: &Kids<'_, ValueLabel>,
 ) -> Result<u64, Memory>
     ensures { IfOk result (λ n. n ≡ min (rule.count_in module.now (replicate (length values.now) (place_seen place.now)) (roses_of values.now)) (2 ^ 64 - 1)) }
 {
     let mut count: u64 = 0;
-    'values: for value in values {
-        count = count.saturating_add(count_at(alloc, module, place, value)?);
+    'values: for value in values.again() {
+        count = count.saturating_add(count_at(alloc, module, place, &value)?);
     }
     Ok(count)
 }
@@ -105,27 +111,27 @@ fn child_count(
     alloc: Global,
     module: &Module,
     node: &Tree<TypeLabel>,
-    value: &Tree<ValueLabel>,
+    value: &Node<'_, ValueLabel>,
 ) -> Result<u64, Memory>
     ensures { IfOk result (λ n. n ≡ min (rule.child_count module.now node.now value.now) (2 ^ 64 - 1)) }
 {
     let values = value.kids();
     match find_places(alloc, resolve(module, node), value.label(), values.len())? {
-        Some(Places::Each(places)) => count_each(alloc, module, &places, values),
-        Some(Places::All(place)) => count_all(alloc, module, &place, values),
+        Some(Places::Each(places)) => count_each(alloc, module, &places, &values),
+        Some(Places::All(place)) => count_all(alloc, module, &place, &values),
         None => Ok(0),
     }
 }
 
 // How many items the first part has, where it is present.
-fn first_count(label: &ValueLabel, values: &[Tree<ValueLabel>]) -> usize
+fn first_count(label: &ValueLabel, values: &Kids<'_, ValueLabel>) -> usize
     ensures { result ≡ rule.first_count label.now values.now }
 {
     match label {
         ValueLabel::Sequence { present } => match present.items() {
-            [true, ..] => match values {
-                [first, ..] => first.kids().len(),
-                [] => 0,
+            [true, ..] => match values.again().next() {
+                Some(first) => first.kid_count(),
+                None => 0,
             },
             _ => 0,
         },
@@ -151,11 +157,11 @@ fn has_texts(
     alloc: Global,
     module: &Module,
     node: &Tree<TypeLabel>,
-    value: &Tree<ValueLabel>,
+    value: &Node<'_, ValueLabel>,
 ) -> Result<bool, Memory>
     ensures { IfOk result (λ b. IsTrue b ↔ rule.HasTextCount module.now (label_of node.now) node.now value.now) }
 {
-    let texts = first_count(value.label(), value.kids()) as u64;
+    let texts = first_count(value.label(), &value.kids()) as u64;
     if node.label().marks.has_use_nil() && is_last_absent(value.label()) {
         return Ok(texts == 0);
     }
@@ -170,7 +176,7 @@ pub(crate) fn own_at(
     alloc: Global,
     module: &Module,
     node: &Tree<TypeLabel>,
-    value: &Tree<ValueLabel>,
+    value: &Node<'_, ValueLabel>,
 ) -> Result<bool, Memory>
     requires { AreWellFormed module.now node.now }
     ensures { IfOk result (λ b. IsTrue b ↔ rule.OwnAt module.now (label_of node.now) node.now value.now) }
@@ -198,7 +204,7 @@ pub fn own(
     alloc: Global,
     module: &Module,
     node: &Tree<TypeLabel>,
-    value: &Tree<ValueLabel>,
+    value: &Node<'_, ValueLabel>,
 ) -> Result<bool, Memory>
     requires { IsOf module.now node.now }
     ensures { IfOk result (λ b. IsTrue b ↔ rule.Own module.now node.now value.now) }

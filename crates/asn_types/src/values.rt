@@ -11,16 +11,18 @@ use crate::resolving::resolve;
 use crate::roles::Role;
 use crate::rules::own_at;
 use crate::types::TypeLabel;
+use flat_tree::{Kids, Node};
 use label_tree::Tree;
 use simple_types::{Value, ValueLabel};
 use std::alloc::Global;
+use std::iter::Iterator;
 use xa_base::Memory;
 
 /// How many elements may stand in one another.
 const MOST_DEEP: u32 = 64;
 
 /// How many nodes a value may have.
-const MOST_NODES: u64 = 1_048_576;
+const MOST_NODES: usize = 1_048_576;
 
 fn below(role: Role, depth: u32) -> u32
     requires { depth ≤ 64 }
@@ -38,28 +40,22 @@ fn fit_each(
     module: &Module,
     depth: u32,
     places: &[ComponentPlace],
-    values: &[Tree<ValueLabel>],
+    values: &Kids<'_, ValueLabel>,
 ) -> Result<bool, Memory>
     requires depth { depth ≤ 64 }
     requires places { ArePlaces module.now (map place_seen places.now) }
     ensures { IfOk result (λ b. IsTrue b ↔ rule.FitEach module.now depth (map place_seen places.now) (roses_of values.now)) }
 {
-    if places.len() != values.len() {
-        return Ok(false);
-    }
-    'values: for i in 0..values.len() {
-        let place = &places[i];
-        if !fits_at(
-            alloc,
-            module,
-            below(place.role, depth),
-            place.node,
-            &values[i],
-        )? {
+    let mut left = values.again();
+    'places: for place in places {
+        let Some(value) = left.next() else {
+            return Ok(false);
+        };
+        if !fits_at(alloc, module, below(place.role, depth), place.node, &value)? {
             return Ok(false);
         }
     }
-    Ok(true)
+    Ok(left.is_empty())
 }
 
 #[cycle(fitting)]
@@ -68,15 +64,15 @@ fn fit_all(
     module: &Module,
     depth: u32,
     place: &ComponentPlace,
-    values: &[Tree<ValueLabel>],
+    values: &Kids<'_, ValueLabel>,
 ) -> Result<bool, Memory>
     requires depth { depth ≤ 64 }
     requires places { ArePlaces module.now (replicate (length values.now) (place_seen place.now)) }
     ensures { IfOk result (λ b. IsTrue b ↔ rule.FitEach module.now depth (replicate (length values.now) (place_seen place.now)) (roses_of values.now)) }
 {
     let depth = below(place.role, depth);
-    'values: for value in values {
-        if !fits_at(alloc, module, depth, place.node, value)? {
+    'values: for value in values.again() {
+        if !fits_at(alloc, module, depth, place.node, &value)? {
             return Ok(false);
         }
     }
@@ -90,7 +86,7 @@ fn fit_kids(
     module: &Module,
     depth: u32,
     node: &Tree<TypeLabel>,
-    value: &Tree<ValueLabel>,
+    value: &Node<'_, ValueLabel>,
 ) -> Result<bool, Memory>
     requires depth { depth ≤ 64 }
     requires node { AreWellFormed module.now node.now }
@@ -98,8 +94,8 @@ fn fit_kids(
 {
     let values = value.kids();
     match find_places(alloc, node, value.label(), values.len())? {
-        Some(Places::Each(places)) => fit_each(alloc, module, depth, &places, values),
-        Some(Places::All(place)) => fit_all(alloc, module, depth, &place, values),
+        Some(Places::Each(places)) => fit_each(alloc, module, depth, &places, &values),
+        Some(Places::All(place)) => fit_all(alloc, module, depth, &place, &values),
         None => Ok(false),
     }
 }
@@ -111,7 +107,7 @@ fn fits_at(
     module: &Module,
     depth: u32,
     node: &Tree<TypeLabel>,
-    value: &Tree<ValueLabel>,
+    value: &Node<'_, ValueLabel>,
 ) -> Result<bool, Memory>
     requires node { AreWellFormed module.now node.now }
     ensures { IfOk result (λ b. IsTrue b ↔ rule.FitsAt module.now depth node.now value.now) }
@@ -143,5 +139,5 @@ pub fn is_value(alloc: Global, module: &Module, t: u32, value: &Value) -> Result
         return Ok(false);
     }
     let body = module.assignment(t).body.root();
-    fits_at(alloc, module, 1, body, value.root())
+    fits_at(alloc, module, 1, body, &value.root())
 }

@@ -17,16 +17,18 @@ decreases-count_each l = 3 * count_all (roses_of l.values.now) + 2
 abbrev pub decreases-count_all : goal.decreases-count_all
 decreases-count_all l = 3 * count_all (roses_of l.values.now) + 2
 
-abbrev pub invariant-count_each-values : goal.invariant-count_each-values
-invariant-count_each-values l = record {
+abbrev pub invariant-count_each-places : goal.invariant-count_each-places
+invariant-count_each-places l = record {
   fits : l.count ≤ 2 ^ 64 - 1;
   so_far : min (count_in l.«module» (map place_seen l.places) (roses_of l.values)) (2 ^ 64 - 1)
-      ≡ min (l.count + count_in l.«module» (map place_seen (drop l.i l.places)) (roses_of (drop l.i l.values))) (2 ^ 64 - 1);
+      ≡ min (l.count + count_in l.«module» (map place_seen (drop l.place-index l.places)) (roses_of l.left)) (2 ^ 64 - 1);
+  fewer : count_all (roses_of l.left) ≤ count_all (roses_of l.values);
 }
 
 abbrev pub invariant-count_all-values : goal.invariant-count_all-values
 invariant-count_all-values l = record {
   fits : l.count ≤ 2 ^ 64 - 1;
   so_far : min (count_in l.«module» (replicate (length l.values) (place_seen l.place)) (roses_of l.values)) (2 ^ 64 - 1)
-      ≡ min (l.count + count_in l.«module» (replicate (length l.values - l.value-index) (place_seen l.place)) (roses_of (drop l.value-index l.values))) (2 ^ 64 - 1);
+      ≡ min (l.count + count_in l.«module» (replicate (length l.value-iterator) (place_seen l.place)) (roses_of l.value-iterator)) (2 ^ 64 - 1);
+  fewer : count_all (roses_of l.value-iterator) ≤ count_all (roses_of l.values);
 }

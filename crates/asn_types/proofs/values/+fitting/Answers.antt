@@ -1,111 +1,108 @@
-use Rattle.std.proofs.Common.{◌≡◌, ◌+◌, ◌-◌, ◌<◌, ◌≤◌, Some, [], length, drop, refl, sym, ◌∙◌, ap, subst, arith}
+use Rattle.std.proofs.Common.{◌+◌, Some, [], length, drop, refl, sym, ◌∙◌, ap, subst, arith}
 use Rattle.std.specs.Prelude.{◌↔◌, IsTrue, map, replicate}
-use Rattle.std.proofs.lemmas.List.{length-map}
-use Rattle.label_tree.specs.Rose.{roses_of, label_of}
+use Rattle.label_tree.specs.Rose.{roses_of, label_of, count_all, none}
 use Rattle.label_tree.proofs.Roses.{node_count-kids}
-use Rattle.label_tree.proofs.Kids.{kid-count-le}
 use Rattle.asn_types.specs.Modules.{AreWellFormed}
 use Rattle.asn_types.specs.Private.Placing.{place_seen, Found, ArePlaces, FitKids}
 use Rattle.asn_types.specs.Values.{places, FitsAt, FitEach, OwnAt}
 use Rattle.asn_types.proofs.Belonging.{places-belong}
-use Rattle.asn_types.proofs.Counting.{if_ok, places-drop, replicate-drop, drop-past, fits-kids, fits-from_kids, fit_each-length, fit_none, fit-split, fit-join, places-first}
+use Rattle.asn_types.proofs.Counting.{if_ok, places-drop, drop-past, fits-kids, fits-from_kids, fit_none, fit_end, none_fits, fit-split, fit-join, places-first}
 use Rattle.asn_types.proofs.Inside.{follow-well_formed}
 use Rattle.asn_types.proofs.Simpling.{true_is_false}
 use Rattle.asn_types.proofs.values.+fitting.Goals as goal
-
-pub fit_each-returns-then-places-values : goal.fit_each-returns-then-places-values
-fit_each-returns-then-places-values t c =
-    let ps = c.args.places.now in
-    let vs = c.args.values.now in (
-      (λ bad. absurd (true_is_false (sym bad))),
-      (λ fit. absurd (c.if-places-values.true (sym (length-map ps place_seen) ∙ fit_each-length c.args.module.now c.args.depth (map place_seen ps) vs fit))),
-    )
 
 pub fit_each-fits_at-requires : goal.fit_each-fits_at-requires
 fit_each-fits_at-requires t c =
     let m = c.args.module.now in
     let ps = c.args.places.now in
-    let i = c.values.i in
-    let p = c.index-places-i.result in
-    let in_places : i < length ps = omega (arith, c.values-test.true, c.if-places-values.false) in
+    let i = c.places.place-index in
+    let p = c.place-item.result in
     let d = c.decreases in
-    let k = kid-count-le c.args.values.now i c.index-values-i.result c.values-test.true c.index-values-i.is in
-    let first = places-first m (place_seen p) (map place_seen (drop i ps)) (map place_seen (drop (i + 1) ps)) (places-drop ps i p in_places c.index-places-i.is) c.values.invariant.places in
-    (omega (arith, d, k), first.0)
+    let k = ap (λ us. count_all (roses_of us)) c.in-Some.ensures.steps in
+    let first = places-first m (place_seen p) (map place_seen (drop i ps)) (map place_seen (drop (i + 1) ps)) (places-drop ps i p c.places-test.true c.place-item.is) c.places.invariant.wait in
+    (omega (arith, d, k, c.places.invariant.fewer), first.0)
+
+pub fit_each-returns-in_default : goal.fit_each-returns-in_default
+fit_each-returns-in_default t c =
+    let m = c.args.module.now in
+    let depth = c.args.depth in
+    let ps = c.args.places.now in
+    let i = c.places.place-index in
+    let p = c.place-item.result in (
+      (λ bad. absurd (true_is_false (sym bad))),
+      (λ fit.
+          let due = subst (λ us. FitEach m depth (map place_seen (drop i ps)) (roses_of us)) c.in_default.ensures.steps.0 (c.places.invariant.due.0 fit) in
+          absurd (none_fits m depth (place_seen p) (map place_seen (drop (i + 1) ps)) (subst (λ ks. FitEach m depth ks none) (places-drop ps i p c.places-test.true c.place-item.is) due))),
+    )
 
 pub fit_each-returns-then-not-branch : goal.fit_each-returns-then-not-branch
 fit_each-returns-then-not-branch t c =
     let m = c.args.module.now in
     let ps = c.args.places.now in
-    let vs = c.args.values.now in
-    let i = c.values.i in
-    let p = c.index-places-i.result in
-    let v = c.index-values-i.result in
-    let in_places : i < length ps = omega (arith, c.values-test.true, c.if-places-values.false) in (
+    let i = c.places.place-index in
+    let p = c.place-item.result in
+    let v = c.in-Some.value in (
       (λ bad. absurd (true_is_false (sym bad))),
       (λ fit.
-          let split = fit-split m c.args.depth (place_seen p) (map place_seen (drop i ps)) (map place_seen (drop (i + 1) ps)) v vs i c.values-test.true c.index-values-i.is
-          (places-drop ps i p in_places c.index-places-i.is) (c.values.invariant.left.0 fit) in
+          let split = fit-split m c.args.depth (place_seen p) (map place_seen (drop i ps)) (map place_seen (drop (i + 1) ps)) v c.places.left c.next.new.self c.in-Some.ensures.steps
+          (places-drop ps i p c.places-test.true c.place-item.is) (c.places.invariant.due.0 fit) in
           let one = c.in_ok-fits_at.ensures.1 (subst (λ d. FitsAt m d p.node.now v) (sym c.below.ensures) split.0) in
           absurd (true_is_false (sym one ∙ c.if-not-branch.true))),
     )
 
-pub fit_each-values-preserved : goal.fit_each-values-preserved
-fit_each-values-preserved t c =
+pub fit_each-places-preserved : goal.fit_each-places-preserved
+fit_each-places-preserved t c =
     let m = c.args.module.now in
     let depth = c.args.depth in
     let ps = c.args.places.now in
-    let vs = c.args.values.now in
-    let i = c.values.i in
-    let p = c.index-places-i.result in
-    let v = c.index-values-i.result in
-    let in_places : i < length ps = omega (arith, c.values-test.true, c.if-places-values.false) in
-    let is = places-drop ps i p in_places c.index-places-i.is in
+    let i = c.places.place-index in
+    let p = c.place-item.result in
+    let v = c.in-Some.value in
+    let next = c.in-Some.ensures.steps in
+    let is = places-drop ps i p c.places-test.true c.place-item.is in
     let one = subst (λ d. FitsAt m d p.node.now v) c.below.ensures (c.in_ok-fits_at.ensures.0 c.if-not-branch.false) in
     let now = map place_seen (drop i ps) in
     let later = map place_seen (drop (i + 1) ps) in
+    let k = ap (λ us. count_all (roses_of us)) next in
     record {
-      left = (
-        (λ fit. (fit-split m depth (place_seen p) now later v vs i c.values-test.true c.index-values-i.is is (c.values.invariant.left.0 fit)).1),
-        (λ others. c.values.invariant.left.1 (fit-join m depth (place_seen p) now later v vs i c.values-test.true c.index-values-i.is is one others)),
+      due = (
+        (λ fit. (fit-split m depth (place_seen p) now later v c.places.left c.next.new.self next is (c.places.invariant.due.0 fit)).1),
+        (λ others. c.places.invariant.due.1 (fit-join m depth (place_seen p) now later v c.places.left c.next.new.self next is one others)),
       );
-      places = (places-first m (place_seen p) now later is c.values.invariant.places).1;
+      wait = (places-first m (place_seen p) now later is c.places.invariant.wait).1;
+      fewer = omega (arith, k, c.places.invariant.fewer);
     }
 
 pub fit_each-returns : goal.fit_each-returns
 fit_each-returns t c =
     let m = c.args.module.now in
     let depth = c.args.depth in
-    let ps = c.args.places.now in
-    let vs = c.args.values.now in
-    let i = c.values.i in
-    let in_places : length ps ≤ i = omega (arith, c.values-test.false, c.if-places-values.false) in
-    let done = subst (λ qs. FitEach m depth (map place_seen qs) (roses_of (drop i vs))) (sym (drop-past i ps in_places))
-    (subst (λ ws. FitEach m depth [] (roses_of ws)) (sym (drop-past i vs c.values-test.false)) (fit_none m depth)) in
-    ((λ _. c.values.invariant.left.1 done), (λ _. refl))
+    let past = drop-past c.places.place-index c.args.places.now c.places-test.false in (
+      (λ empty. c.places.invariant.due.1 (subst (λ qs. FitEach m depth (map place_seen qs) (roses_of c.places.left)) (sym past)
+          (subst (λ us. FitEach m depth [] (roses_of us)) (sym (c.is_empty.ensures.0 empty)) (fit_none m depth)))),
+      (λ fit. c.is_empty.ensures.1 (fit_end m depth c.places.left (subst (λ qs. FitEach m depth (map place_seen qs) (roses_of c.places.left)) past (c.places.invariant.due.0 fit)))),
+    )
 
 pub fit_all-fits_at-requires : goal.fit_all-fits_at-requires
 fit_all-fits_at-requires t c =
     let m = c.args.module.now in
-    let vs = c.args.values.now in
-    let i = c.values.value-index in
     let p = place_seen c.args.place.now in
+    let next = c.in-Some.ensures.steps in
     let d = c.decreases in
-    let k = kid-count-le vs i c.value-item.result c.values-test.true c.value-item.is in
-    let first = places-first m p (replicate (length vs - i) p) (replicate (length vs - (i + 1)) p) (replicate-drop (length vs) i p c.values-test.true) c.values.invariant.places in
-    (omega (arith, d, k), first.0)
+    let k = ap (λ us. count_all (roses_of us)) next in
+    let first = places-first m p (replicate (length c.values.value-iterator) p) (replicate (length c.next.new.self) p) (ap (λ us. replicate (length us) p) next) c.values.invariant.wait in
+    (omega (arith, d, k, c.values.invariant.fewer), first.0)
 
 pub fit_all-returns-then-not-branch : goal.fit_all-returns-then-not-branch
 fit_all-returns-then-not-branch t c =
     let m = c.args.module.now in
-    let vs = c.args.values.now in
-    let i = c.values.value-index in
     let p = place_seen c.args.place.now in
-    let v = c.value-item.result in (
+    let next = c.in-Some.ensures.steps in
+    let v = c.in-Some.value in (
       (λ bad. absurd (true_is_false (sym bad))),
       (λ fit.
-          let split = fit-split m c.args.depth p (replicate (length vs - i) p) (replicate (length vs - (i + 1)) p) v vs i c.values-test.true c.value-item.is
-          (replicate-drop (length vs) i p c.values-test.true) (c.values.invariant.left.0 fit) in
+          let split = fit-split m c.args.depth p (replicate (length c.values.value-iterator) p) (replicate (length c.next.new.self) p) v c.values.value-iterator c.next.new.self next
+          (ap (λ us. replicate (length us) p) next) (c.values.invariant.due.0 fit) in
           let one = c.in_ok-fits_at.ensures.1 (subst (λ d. FitsAt m d c.args.place.now.node.now v) (sym c.below-depth.ensures) split.0) in
           absurd (true_is_false (sym one ∙ c.if-not-branch.true))),
     )
@@ -114,51 +111,49 @@ pub fit_all-values-preserved : goal.fit_all-values-preserved
 fit_all-values-preserved t c =
     let m = c.args.module.now in
     let depth = c.args.depth in
-    let vs = c.args.values.now in
-    let i = c.values.value-index in
     let p = place_seen c.args.place.now in
-    let v = c.value-item.result in
-    let now = replicate (length vs - i) p in
-    let later = replicate (length vs - (i + 1)) p in
-    let is = replicate-drop (length vs) i p c.values-test.true in
+    let next = c.in-Some.ensures.steps in
+    let v = c.in-Some.value in
+    let now = replicate (length c.values.value-iterator) p in
+    let later = replicate (length c.next.new.self) p in
+    let is = ap (λ us. replicate (length us) p) next in
+    let k = ap (λ us. count_all (roses_of us)) next in
     let one = subst (λ d. FitsAt m d c.args.place.now.node.now v) c.below-depth.ensures (c.in_ok-fits_at.ensures.0 c.if-not-branch.false) in
     record {
-      left = (
-        (λ fit. (fit-split m depth p now later v vs i c.values-test.true c.value-item.is is (c.values.invariant.left.0 fit)).1),
-        (λ others. c.values.invariant.left.1 (fit-join m depth p now later v vs i c.values-test.true c.value-item.is is one others)),
+      due = (
+        (λ fit. (fit-split m depth p now later v c.values.value-iterator c.next.new.self next is (c.values.invariant.due.0 fit)).1),
+        (λ others. c.values.invariant.due.1 (fit-join m depth p now later v c.values.value-iterator c.next.new.self next is one others)),
       );
-      places = (places-first m p now later is c.values.invariant.places).1;
+      wait = (places-first m p now later is c.values.invariant.wait).1;
+      fewer = omega (arith, k, c.values.invariant.fewer);
     }
 
 pub fit_all-returns : goal.fit_all-returns
 fit_all-returns t c =
     let m = c.args.module.now in
-    let depth = c.args.depth in
-    let vs = c.args.values.now in
-    let i = c.values.value-index in
     let p = place_seen c.args.place.now in
-    let none : length vs - i ≡ 0 = omega (arith, c.values-test.false) in
-    let done = subst (λ n. FitEach m depth (replicate n p) (roses_of (drop i vs))) (sym none)
-    (subst (λ ws. FitEach m depth [] (roses_of ws)) (sym (drop-past i vs c.values-test.false)) (fit_none m depth)) in
-    ((λ _. c.values.invariant.left.1 done), (λ _. refl))
+    let done = subst (λ us. FitEach m c.args.depth (replicate (length us) p) (roses_of us)) (sym c.in-None.ensures.steps.0) (fit_none m c.args.depth) in
+    ((λ _. c.values.invariant.due.1 done), (λ _. refl))
 
 pub fit_kids-fit_each-requires : goal.fit_kids-fit_each-requires
 fit_kids-fit_each-requires t c =
     let m = c.args.module.now in
-    let ks = c.kids-values.result.now in
+    let ks = c.kids-values.result in
     let d = c.decreases in
     let k = node_count-kids c.args.value.now in
-    let is = subst (λ o. Found (length ks) o (places c.args.node.now c.label.result.now (length ks))) (c.in-Some-Each.is ∙ ap Some c.in-Some-Each.field-0-is) c.in_ok-places.ensures in
+    let found = subst (λ n. Found n c.in_ok-places.field-0 (places c.args.node.now c.label.result.now n)) c.len.ensures c.in_ok-places.ensures in
+    let is = subst (λ o. Found (length ks) o (places c.args.node.now c.label.result.now (length ks))) (c.in-Some-Each.is ∙ ap Some c.in-Some-Each.field-0-is) found in
     let belong = places-belong m c.args.node.now c.label.result.now (length ks) (map place_seen c.in-Some-Each.places.items) c.requires.node is in
     (rw c.kids-values.ensures (omega (arith, d, k)), (c.requires.depth, subst (λ ps. ArePlaces m (map place_seen ps)) (sym c.deref.ensures.value) belong))
 
 pub fit_kids-fit_all-requires : goal.fit_kids-fit_all-requires
 fit_kids-fit_all-requires t c =
     let m = c.args.module.now in
-    let ks = c.kids-values.result.now in
+    let ks = c.kids-values.result in
     let d = c.decreases in
     let k = node_count-kids c.args.value.now in
-    let is = subst (λ o. Found (length ks) o (places c.args.node.now c.label.result.now (length ks))) (c.in-Some-All.is ∙ ap Some c.in-Some-All.field-0-is) c.in_ok-places.ensures in
+    let found = subst (λ n. Found n c.in_ok-places.field-0 (places c.args.node.now c.label.result.now n)) c.len.ensures c.in_ok-places.ensures in
+    let is = subst (λ o. Found (length ks) o (places c.args.node.now c.label.result.now (length ks))) (c.in-Some-All.is ∙ ap Some c.in-Some-All.field-0-is) found in
     let belong = places-belong m c.args.node.now c.label.result.now (length ks) (replicate (length ks) (place_seen c.in-Some-All.place)) c.requires.node is in
     (rw c.kids-values.ensures (omega (arith, d, k)), (c.requires.depth, belong))
 

@@ -1,4 +1,4 @@
-use Rattle.std.proofs.Common.{◌↔◌, ◌+◌, ◌-◌, ◌*◌, length, drop}
+use Rattle.std.proofs.Common.{◌↔◌, ◌+◌, ◌*◌, ◌≤◌, length, drop}
 use Rattle.std.specs.Prelude.{map, replicate}
 use Rattle.label_tree.specs.Rose.{node_count, count_all, roses_of}
 use Rattle.asn_types.specs.Private.Placing.{place_seen, ArePlaces}
@@ -17,15 +17,17 @@ decreases-fit_each l = 3 * count_all (roses_of l.values.now) + 2
 abbrev pub decreases-fit_all : goal.decreases-fit_all
 decreases-fit_all l = 3 * count_all (roses_of l.values.now) + 2
 
-abbrev pub invariant-fit_each-values : goal.invariant-fit_each-values
-invariant-fit_each-values l = record {
-  left : FitEach l.«module» l.depth (map place_seen l.places) (roses_of l.values) ↔ FitEach l.«module» l.depth (map place_seen (drop l.i l.places)) (roses_of (drop l.i l.values));
-  places : ArePlaces l.«module» (map place_seen (drop l.i l.places));
+abbrev pub invariant-fit_each-places : goal.invariant-fit_each-places
+invariant-fit_each-places l = record {
+  due : FitEach l.«module» l.depth (map place_seen l.places) (roses_of l.values) ↔ FitEach l.«module» l.depth (map place_seen (drop l.place-index l.places)) (roses_of l.left);
+  wait : ArePlaces l.«module» (map place_seen (drop l.place-index l.places));
+  fewer : count_all (roses_of l.left) ≤ count_all (roses_of l.values);
 }
 
 abbrev pub invariant-fit_all-values : goal.invariant-fit_all-values
 invariant-fit_all-values l = record {
-  left : FitEach l.«module» l.fn.depth (replicate (length l.values) (place_seen l.place)) (roses_of l.values)
-      ↔ FitEach l.«module» l.fn.depth (replicate (length l.values - l.value-index) (place_seen l.place)) (roses_of (drop l.value-index l.values));
-  places : ArePlaces l.«module» (replicate (length l.values - l.value-index) (place_seen l.place));
+  due : FitEach l.«module» l.fn.depth (replicate (length l.values) (place_seen l.place)) (roses_of l.values)
+      ↔ FitEach l.«module» l.fn.depth (replicate (length l.value-iterator) (place_seen l.place)) (roses_of l.value-iterator);
+  wait : ArePlaces l.«module» (replicate (length l.value-iterator) (place_seen l.place));
+  fewer : count_all (roses_of l.value-iterator) ≤ count_all (roses_of l.values);
 }
