@@ -4,6 +4,7 @@ ghost use Rattle.asn_types.specs.Parts.{parts_of};
 ghost use Rattle.layer_tests.specs.Chained.{plain, four_references};
 
 use asn_types::{Assignment, Form, Marks, Module, TypeLabel, follow_reference, is_value, resolve};
+use flat_tree::Builder;
 use label_tree::{Tree, Whole};
 use per_decode::decode;
 use per_encode::encode;
@@ -66,8 +67,9 @@ fn four_references_are_followed<R: Abort + AllocGlobal>(rt: &R) -> Result<(), Fa
 fn a_value_behind_four_references_is_encoded<R: Abort + AllocGlobal>(rt: &R) -> Result<(), Fail> {
     let module = four_behind_one_another(rt.alloc())?;
     for (truth, octet) in [(false, 0x00), (true, 0x80)] {
-        let label = ValueLabel::Bool(truth);
-        let Ok(value) = Whole::seal(Tree::leaf(rt.alloc(), label)) else {
+        let mut nodes = Builder::new(rt.alloc());
+        nodes.leaf(ValueLabel::Bool(truth))?;
+        let Ok(value) = Value::seal(nodes.finish_one()) else {
             return Err("no value")?;
         };
         let fits = is_value(rt.alloc(), &module, 0, &value)?;
