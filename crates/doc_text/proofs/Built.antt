@@ -194,14 +194,6 @@ some_name b inside = elim (eqb_tells (length b.open.items) 0) [
   | inr e ↦ omega (arith, e.1)
 ]
 
-some_of : (above : List Above) (up : List (zips.Above ItemLabel)) → map node_of above ≡ up → is_empty above ≡ false → 0 < length up
-some_of [] up e f = absurd cc
-some_of (a ∷ above) up e f = omega (arith, ap length e)
-
--- and an open node
-pub some_node : (b : Builder) → Scoped b → is_empty (state b).above ≡ false → 0 < length b.items.above
-some_node b scoped inside = some_of (state b).above b.items.above scoped.nodes inside
-
 pub shuts : (old new : Builder) (count : ℕ) → Scoped old → string_bytes old.text ≡ [] → is_empty (state old).above ≡ false → new.open.items ≡ take (length old.open.items - 1) old.open.items → new.scope ≡ take (length old.scope - count) old.scope → count ≡ binding_count (zips.first_label old.items.above)
     → new.items ≡ zips.closed old.items → string_bytes new.text ≡ string_bytes old.text → new.text_at ≡ old.text_at → new.ended ≡ nat_eq (length new.open.items) 0 → new.first ≡ false → new.brackets ≡ 0 → Shuts old new
 shuts old new count scoped empty inside shorter scope_is count_is items text place ends first brackets =
