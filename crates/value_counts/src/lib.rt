@@ -5,8 +5,5 @@
 #![tactic(auto)]
 
 mod counting;
-mod items;
-mod lists;
-mod unions;
 
 pub use counting::count;
