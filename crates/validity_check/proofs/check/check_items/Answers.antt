@@ -1,4 +1,4 @@
-use Rattle.std.proofs.Common.{◌≡◌, ◌<◌, ◌^◌, true, false, sym, ◌∙◌, subst}
+use Rattle.std.proofs.Common.{◌≡◌, ◌<◌, ◌^◌, true, false, sym, subst}
 use Rattle.std.specs.Prelude.{Some, MatchResult}
 use Rattle.label_tree.specs.Rose.{label_of, node_count}
 use Rattle.doc_text.specs.Labels.{item_place}
