@@ -1,5 +1,5 @@
 -- How many elements there are in the first kids.
-use Rattle.std.proofs.Common.{◌≡◌, ℕ, zero, suc, ◌+◌, ◌≤◌, length, List, [], ◌∷◌, Option, Some, None, refl, sym, ap, arith}
+use Rattle.std.proofs.Common.{◌≡◌, ℕ, zero, suc, ◌+◌, ◌≤◌, length, List, [], ◌∷◌, ◌++◌, Option, Some, None, refl, sym, ap, arith, length-append}
 use Rattle.std.specs.Prelude.{Result, Ok, Err, MatchResult, OnOk}
 use Rattle.xa_base.specs.declared.texts.Name.{Name}
 use Rattle.label_tree.specs.Rose.{Rose, node, Roses, roses_of, label_of, kids_of, node_count, count_all}
@@ -65,6 +65,10 @@ text-without (rose.more (node (Text others c) ks) ts) words e = by (only_text ts
     by : (o : Option (List ℕ)) → only_text ts ≡ o → put_before others o ≡ Some words → ((w : List ℕ) → only_text ts ≡ Some w → elements_in ts ≡ 0) → elements_in (rose.more (node (Text others c) ks) ts) ≡ 0
     by None q k further = absurd (cc)
     by (Some w) q k further = let e = further w q in omega (arith, e)
+
+-- where no kid is left all have been yielded
+pub all_yielded : {A : Type 0} (kids before left : List A) → before ++ left ≡ kids → left ≡ [] → length kids ≤ length before
+all_yielded kids before left all end = omega (arith, ap length all, length-append before left, ap length end)
 
 pub all-counted : (ts : List (Rose ItemLabel)) (i : ℕ) → length ts ≤ i → elements_in (front i (roses_of ts)) ≡ elements_in (roses_of ts)
 all-counted ts i past = ap elements_in (front_long ts i past)

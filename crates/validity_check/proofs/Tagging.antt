@@ -134,12 +134,12 @@ module _ (s : Set) (d : ℕ) (a : Asked) (ys : List (Name × List ℕ)) (n : Nam
           let there = subst (λ k. NilFault (asked_at (parts_of s)) k (asked_at (parts_of s) d).inside (roses_of (kids_of t)) place at why) (sym well.nil_is) here in
           inner_fault (asked_at (parts_of s)) d n xs declares place t is well.plain not_bad well.right well.stand at why there
 
-    pub nil_judged : {X : Type 0} → IsGoodTag a ys true → (kids : List (Rose ItemLabel)) → kids ≡ kids_of t → (r : Result X CheckError)
-        → MatchResult r (λ _. roses_of kids ≡ none) (Tells (FirstKid (roses_of kids) (λ _. NilWithContent)))
-        → MatchResult r (λ _. IsValidBy s d t) (Tells (FaultBy (asked_at (parts_of s)) d t))
-    nil_judged good kids are (Ok x) h = kept_inside true good kids are none (h, refl)
-    nil_judged good kids are (Err (Invalid at why)) h = refused_inside true good kids are at why h
-    nil_judged good kids are (Err Memory) h = tt
+    pub nil_kept : IsGoodTag a ys true → (kids : List (Rose ItemLabel)) → kids ≡ kids_of t → roses_of kids ≡ none → IsValidBy s d t
+    nil_kept good kids are h = kept_inside true good kids are none (h, refl)
+
+    pub nil_refused : IsGoodTag a ys true → (kids : List (Rose ItemLabel)) → kids ≡ kids_of t → (at : ℕ) (why : InvalidWhy) → FirstKid (roses_of kids) (λ _. NilWithContent) at why
+        → FaultBy (asked_at (parts_of s)) d t at why
+    nil_refused good kids are at why h = refused_inside true good kids are at why h
 
     content_judged : (c : Inside) (ts : Roses ItemLabel) → IsValidInside (asked_at (parts_of s)) c ts → (vs : Roses Plain) × ContentValid (asked_at (parts_of s)) c ts vs
     content_judged nothing ts h = (none, (h, refl))

@@ -63,12 +63,11 @@ pub fn check_items<L: Ledger>(
 {
     let _ = set.element_count();
     let mut plans = Plans::new(alloc, set)?;
-    let tree = items.tree();
-    let item = tree.root();
+    let item = items.root();
     let label = item.label();
     let declared = set.element(root);
     match check_name(label, &declared.name) {
         Err(error) => Err(error),
-        Ok(()) => check_element(set, &mut plans, root, item, steps),
+        Ok(()) => check_element(set, &mut plans, root, &item, steps),
     }
 }

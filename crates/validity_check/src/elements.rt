@@ -27,7 +27,7 @@ use crate::tags::check_tag;
 use attribute_faults::text_fault;
 use content_match::{Matcher, Plan};
 use doc_text::ItemLabel;
-use label_tree::Tree;
+use flat_tree::{Kids, Node};
 use schema_parts::SchemaSet;
 use simple_types::Simple;
 use std::alloc::Global;
@@ -40,13 +40,13 @@ fn check_text(
     alloc: Global,
     simple: &Simple,
     at: u64,
-    kids: &[Tree<ItemLabel>],
+    kids: Kids<'_, ItemLabel>,
 ) -> Result<(), CheckError>
     requires simple { Sound (space_of simple.now) }
-    requires sound { are_sound (roses_of kids.now) ≡ true }
+    requires sound { are_sound (roses_of kids) ≡ true }
     ensures { MatchResult result
-        (λ _. IsSpelled (space_of simple.now) (roses_of kids.now))
-        (Tells (TextFault (space_of simple.now) (roses_of kids.now) at)) }
+        (λ _. IsSpelled (space_of simple.now) (roses_of kids.entry))
+        (Tells (TextFault (space_of simple.now) (roses_of kids.entry) at)) }
 {
     let empty = Text::empty();
     let text = only_text(kids, &empty)?;
@@ -83,7 +83,7 @@ fn check_kid<L: Ledger>(
     plans: &mut Plans,
     matcher: &mut Matcher,
     mixed: bool,
-    kid: &Tree<ItemLabel>,
+    kid: &Node<'_, ItemLabel>,
     steps: &mut Steps<L>,
 ) -> Result<(), CheckError>
     requires linked { IsLinked set.now }
@@ -139,25 +139,25 @@ fn check_kids<L: Ledger>(
     plan: &Plan,
     mixed: bool,
     at: u64,
-    kids: &[Tree<ItemLabel>],
+    kids: Kids<'_, ItemLabel>,
     steps: &mut Steps<L>,
 ) -> Result<(), CheckError>
     requires linked { IsLinked set.now }
     requires plans { plans.old ≡ set.now }
     requires named { AreNamed set.now plan.now }
     requires levels { levels plan.now ≤ 17 }
-    requires sound { are_sound (roses_of kids.now) ≡ true }
-    requires few { count_all (roses_of kids.now) < 2 ^ 31 }
+    requires sound { are_sound (roses_of kids) ≡ true }
+    requires few { count_all (roses_of kids) < 2 ^ 31 }
     ensures same { plans.new ≡ set.now }
     ensures judged { MatchResult result
-        (λ _. AreValidKids (asked_at (parts_of set.now)) mixed plan.now (roses_of kids.now))
-        (Tells (KidsFault (asked_at (parts_of set.now)) mixed plan.now (roses_of kids.now) at)) }
-    ensures most { steps.new ≤ steps.old + (144 * elements_in (roses_of kids.now) + 72) }
-    ensures least { OnOk result (steps.old + elements_in (roses_of kids.now) ≤ steps.new) }
+        (λ _. AreValidKids (asked_at (parts_of set.now)) mixed plan.now (roses_of kids.entry))
+        (Tells (KidsFault (asked_at (parts_of set.now)) mixed plan.now (roses_of kids.entry) at)) }
+    ensures most { steps.new ≤ steps.old + (144 * elements_in (roses_of kids.entry) + 72) }
+    ensures least { OnOk result (steps.old + elements_in (roses_of kids.entry) ≤ steps.new) }
 {
     let mut matcher = Matcher::start(plan)?;
     for kid in kids {
-        check_kid(set, plans, &mut matcher, mixed, kid, steps)?;
+        check_kid(set, plans, &mut matcher, mixed, &kid, steps)?;
     }
     finish(&matcher, at, steps)
 }
@@ -169,23 +169,26 @@ fn check_inside<L: Ledger>(
     plans: &mut Plans,
     inside: Inside,
     at: u64,
-    kids: &[Tree<ItemLabel>],
+    kids: Kids<'_, ItemLabel>,
     steps: &mut Steps<L>,
 ) -> Result<(), CheckError>
     requires linked { IsLinked set.now }
     requires plans { plans.old ≡ set.now }
     requires inside { IsFittingInside set.now inside }
-    requires sound { are_sound (roses_of kids.now) ≡ true }
-    requires few { count_all (roses_of kids.now) < 2 ^ 31 }
+    requires sound { are_sound (roses_of kids) ≡ true }
+    requires few { count_all (roses_of kids) < 2 ^ 31 }
     ensures same { plans.new ≡ set.now }
     ensures judged { MatchResult result
-        (λ _. IsValidInside (asked_at (parts_of set.now)) (inside_told inside.entry) (roses_of kids.now))
-        (Tells (InsideFault (asked_at (parts_of set.now)) (inside_told inside.entry) (roses_of kids.now) at)) }
-    ensures most { steps.new ≤ steps.old + (144 * elements_in (roses_of kids.now) + 72) }
-    ensures least { OnOk result (steps.old + elements_in (roses_of kids.now) ≤ steps.new) }
+        (λ _. IsValidInside (asked_at (parts_of set.now)) (inside_told inside.entry) (roses_of kids.entry))
+        (Tells (InsideFault (asked_at (parts_of set.now)) (inside_told inside.entry) (roses_of kids.entry) at)) }
+    ensures most { steps.new ≤ steps.old + (144 * elements_in (roses_of kids.entry) + 72) }
+    ensures least { OnOk result (steps.old + elements_in (roses_of kids.entry) ≤ steps.new) }
 {
     match inside {
-        Inside::Nothing => check_no_content(kids),
+        Inside::Nothing => {
+            check_no_content(kids)?;
+            Ok(())
+        }
         Inside::Simple(simple) => check_text(plans.alloc(), simple, at, kids),
         Inside::Children {
             mixed,
@@ -204,7 +207,7 @@ pub(crate) fn check_element<L: Ledger>(
     set: &SchemaSet,
     plans: &mut Plans,
     decl: u32,
-    item: &Tree<ItemLabel>,
+    item: &Node<'_, ItemLabel>,
     steps: &mut Steps<L>,
 ) -> Result<(), CheckError>
     requires linked { IsLinked set.now }
@@ -229,7 +232,8 @@ pub(crate) fn check_element<L: Ledger>(
                 Err(error) => Err(error),
                 Ok(nil) => {
                     if nil {
-                        check_empty(kids)
+                        check_empty(kids)?;
+                        Ok(())
                     } else {
                         check_inside(set, plans, declared.inside, *at, kids, steps)
                     }

@@ -14,7 +14,7 @@ mod tags;
 
 pub use check::check_items;
 pub use declarations::{Declared, Inside, declared_of};
-pub use error::CheckError;
+pub use error::{CheckError, Fault};
 pub use kids::{check_empty, check_no_content, only_text};
 pub use plans::Plans;
 pub use tags::{check_tag, nil_of, special};

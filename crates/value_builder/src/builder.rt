@@ -25,7 +25,7 @@ pub struct ValueBuilder {
     alloc: Global,
     kept: Builder<ValueLabel>,
     nodes: u64,
-    most: u64,
+    most: u32,
 }
 
 impl Model for ValueBuilder {
@@ -40,7 +40,7 @@ impl Model for ValueBuilder {
 
 impl ValueBuilder {
     /// Nothing is put down yet.
-    pub fn new(alloc: Global, most: u64) -> ValueBuilder
+    pub fn new(alloc: Global, most: u32) -> ValueBuilder
         ensures { result ≡ nothing_of most }
     {
         ValueBuilder {
@@ -62,7 +62,7 @@ impl ValueBuilder {
     pub fn is_kept(&self) -> bool
         ensures { IsTrue result ↔ (self.now.nodes ≤ self.now.most) }
     {
-        self.nodes <= self.most
+        self.nodes <= u64::from(self.most)
     }
 
     /// Puts down a node that has kids, which come next.
@@ -138,7 +138,7 @@ impl ValueBuilder {
     fn has_room(&self, nodes: u64) -> bool
         ensures { IsTrue result ↔ (self.now.nodes + nodes ≤ self.now.most) }
     {
-        self.nodes.saturating_add(nodes) <= self.most
+        self.nodes.saturating_add(nodes) <= u64::from(self.most)
     }
 
     /// The value, where one was put down and all of it is kept.

@@ -1,4 +1,4 @@
-use Rattle.std.proofs.Common.{◌≡◌, ◌<◌, ◌^◌, true, false, sym, ◌∙◌, subst}
+use Rattle.std.proofs.Common.{◌≡◌, ◌<◌, ◌^◌, true, false, sym, subst}
 use Rattle.std.specs.Prelude.{Some, MatchResult}
 use Rattle.label_tree.specs.Rose.{label_of, node_count}
 use Rattle.doc_text.specs.Labels.{item_place}
@@ -14,24 +14,22 @@ use Rattle.validity_check.proofs.check.check_items.Goals as goal
 
 pub check_element-requires-clause-element : goal.check_element-requires-clause-element
 check_element-requires-clause-element g c =
-    subst (λ x. is_text (label_of x) ≡ false) (sym (c.root-item.ensures.root ∙ c.tree-tree.ensures.tree)) (element_label c.args.items.now c.tree-tree.ensures.items.element)
+    subst (λ x. is_text (label_of x) ≡ false) (sym c.root-item.ensures.root) (element_label c.args.items.now c.root-item.ensures.items.element)
 
 pub check_element-requires-clause-sound : goal.check_element-requires-clause-sound
-check_element-requires-clause-sound g c = subst (λ x. is_sound x ≡ true) (sym (c.root-item.ensures.root ∙ c.tree-tree.ensures.tree)) c.tree-tree.ensures.items.sound
+check_element-requires-clause-sound g c = subst (λ x. is_sound x ≡ true) (sym c.root-item.ensures.root) c.root-item.ensures.items.sound
 
 pub check_element-requires-clause-few : goal.check_element-requires-clause-few
-check_element-requires-clause-few g c = subst (λ x. node_count x < 2 ^ 31) (sym (c.root-item.ensures.root ∙ c.tree-tree.ensures.tree)) c.tree-tree.ensures.items.few
+check_element-requires-clause-few g c = subst (λ x. node_count x < 2 ^ 31) (sym c.root-item.ensures.root) c.root-item.ensures.items.few
 
 pub returns-in-Err-clause-judged : goal.returns-in-Err-clause-judged
 returns-in-Err-clause-judged g c =
-    let is = c.root-item.ensures.root ∙ c.tree-tree.ensures.tree in
-    subst (λ x. Tells (FirstFault (parts_of c.args.set.now) c.args.root x) c.in-Err.error) is
-    (root_refused c.args.set.now c.args.root c.element-declared.result.now c.element-declared.ensures c.root-item.result.now c.in-Err.error
+    subst (λ x. Tells (FirstFault (parts_of c.args.set.now) c.args.root x) c.in-Err.error) c.root-item.ensures.root
+    (root_refused c.args.set.now c.args.root c.element-declared.result.now c.element-declared.ensures c.root-item.result c.in-Err.error
     (subst (λ l. Tells (At (item_place l) WrongRoot (HasName (Some c.element-declared.result.now.name) l → ⊥)) c.in-Err.error) c.label-label.ensures c.in-Err.ensures))
 
 pub returns-clause-judged : goal.returns-clause-judged
 returns-clause-judged g c =
-    let is = c.root-item.ensures.root ∙ c.tree-tree.ensures.tree in
-    subst (λ x. MatchResult c.check_element.result (λ _. IsValid c.args.set.now c.args.root x) (Tells (FirstFault (parts_of c.args.set.now) c.args.root x))) is
-    (root_judged c.args.set.now c.args.root c.element-declared.result.now c.element-declared.ensures c.root-item.result.now
+    subst (λ x. MatchResult c.check_element.result (λ _. IsValid c.args.set.now c.args.root x) (Tells (FirstFault (parts_of c.args.set.now) c.args.root x))) c.root-item.ensures.root
+    (root_judged c.args.set.now c.args.root c.element-declared.result.now c.element-declared.ensures c.root-item.result
     (subst (λ l. HasName (Some c.element-declared.result.now.name) l) c.label-label.ensures c.in-Ok.ensures) c.check_element.result c.check_element.ensures.judged)

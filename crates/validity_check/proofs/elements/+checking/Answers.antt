@@ -1,22 +1,23 @@
-use Rattle.std.proofs.Common.{◌≡◌, ◌+◌, ◌≤◌, true, sym, ◌∙◌, ap, subst, arith, add-one}
+use Rattle.std.proofs.Common.{◌≡◌, ◌+◌, ◌≤◌, length, true, sym, ◌∙◌, ap, subst, arith, add-one}
 use Rattle.std.proofs.lemmas.Result.{err_from_is_err_and}
-use Rattle.label_tree.specs.Rose.{roses_of, none, count_all}
+use Rattle.label_tree.specs.Rose.{roses_of, count_all}
+use Rattle.flat_tree.proofs.Cursors.{kid_within, kid_read, all_after}
+use Rattle.flat_tree.proofs.Cursors.{one_more as more_yielded}
 use Rattle.simple_types.specs.Seen.{space_of}
 use Rattle.doc_text.specs.Sound.{is_text, are_sound}
 use Rattle.content_match.specs.Taking.{levels}
 use Rattle.content_models.specs.Seen.{seen}
 use Rattle.schema_parts.specs.SetParts.{parts_of}
 use Rattle.validity.proofs.Reading.{kid_count, count-kids, kid_here}
-use Rattle.validity.specs.Faults.{FirstKid}
-use Rattle.validity.specs.declared.why.InvalidWhy.TheVariants.{NilWithContent}
 use Rattle.validity_check.specs.Answers.{Tells, IsSpelled, TextFault}
 use Rattle.validity_check.specs.Counts.{element_count, elements_in}
 use Rattle.validity_check.specs.Told.{told, IsFittingInside, AreNamed}
-use Rattle.validity_check.proofs.Counting.{one_more, up_to, fewer, element_counts, at_least_length, match-ok, on-ok, always-ok, text-without, all-counted}
+use Rattle.validity_check.proofs.Counting.{one_more, all_yielded, up_to, fewer, element_counts, at_least_length, match-ok, on-ok, always-ok, text-without, all-counted}
+use Rattle.validity_check.specs.Walked.{Walked}
 use Rattle.validity_check.proofs.Shape.{kid_sound, kids_sound}
 use Rattle.validity_check.proofs.Leaves.{model_named}
 use Rattle.validity_check.proofs.Levels.{model_levels}
-use Rattle.validity_check.proofs.Tagging.{tag_refused, nil_judged, inside_judged}
+use Rattle.validity_check.proofs.Tagging.{tag_refused, nil_kept, nil_refused, inside_judged}
 use Rattle.validity_check.proofs.Walking.{none_walked, leaf_declared, end_judged, text_judged, name_refused, kid_judged}
 use Rattle.validity_check.proofs.elements.+checking.Goals as goal
 
@@ -79,8 +80,9 @@ check_kid-returns-in-Ok-clause-most g t c =
 
 pub check_kids-loop-kid-init : goal.check_kids-loop-kid-init
 check_kids-loop-kid-init g t c = record {
+  all = c.into_iter-kid-iterator.ensures.into_iter_gives;
   plans = c.requires.plans;
-  walked = none_walked c.args.set.now c.args.mixed c.args.plan.now c.args.kids.now c.in_ok-matcher.matcher c.in_ok-matcher.ensures.plan c.in_ok-matcher.ensures.took;
+  walked = none_walked c.args.set.now c.args.mixed c.args.plan.now c.args.kids c.in_ok-matcher.matcher c.in_ok-matcher.ensures.plan c.in_ok-matcher.ensures.took;
   most = omega arith;
   least = omega arith;
 }
@@ -89,10 +91,11 @@ pub check_kids-check_kid-requires : goal.check_kids-check_kid-requires
 check_kids-check_kid-requires g t c κs within =
     let d = c.decreases in
     let w = c.loop-kid.invariant.walked in
-    let below = c.loop-kid-test.true in
-    let here = kid_here c.args.kids.now c.loop-kid.kid-index c.kid-item.result below c.kid-item.is in
-    let k = kid_count c.args.kids.now c.loop-kid.kid-index c.kid-item.result below c.kid-item.is in
-    let long = at_least_length c.args.kids.now in
+    let below = kid_within c.args.kids c.loop-kid.yielded c.loop-kid.kid-iterator c.loop-kid.invariant.all c.in-Some.kid c.next.new.self c.in-Some.ensures.steps in
+    let read = kid_read c.args.kids c.loop-kid.yielded c.loop-kid.kid-iterator c.loop-kid.invariant.all c.in-Some.kid c.next.new.self c.in-Some.ensures.steps in
+    let here = kid_here c.args.kids (length c.loop-kid.yielded) c.in-Some.kid below read in
+    let k = kid_count c.args.kids (length c.loop-kid.yielded) c.in-Some.kid below read in
+    let long = at_least_length c.args.kids in
     let few = c.requires.few in
     let count = w.took.count in
     let taken = w.few in (
@@ -109,7 +112,7 @@ check_kids-check_kid-requires g t c κs within =
                 subst (λ q. levels q ≤ 17) (sym w.particle) c.requires.levels,
                 (
                   omega (arith, below, long, few, count, taken),
-                  ((w.us, w.took), (kid_sound (roses_of c.args.kids.now) c.loop-kid.kid-index c.kid-item.result c.requires.sound here, omega (arith, k, few))),
+                  ((w.us, w.took), (kid_sound (roses_of c.args.kids) (length c.loop-kid.yielded) c.in-Some.kid c.requires.sound here, omega (arith, k, few))),
                 ),
               ),
             ),
@@ -120,31 +123,36 @@ check_kids-check_kid-requires g t c κs within =
 
 pub check_kids-loop-kid-preserved : goal.check_kids-loop-kid-preserved
 check_kids-loop-kid-preserved g t c =
-    let below = c.loop-kid-test.true in
-    let here = kid_here c.args.kids.now c.loop-kid.kid-index c.kid-item.result below c.kid-item.is in
-    let more = one_more (roses_of c.args.kids.now) c.loop-kid.kid-index c.kid-item.result here in
+    let below = kid_within c.args.kids c.loop-kid.yielded c.loop-kid.kid-iterator c.loop-kid.invariant.all c.in-Some.kid c.next.new.self c.in-Some.ensures.steps in
+    let read = kid_read c.args.kids c.loop-kid.yielded c.loop-kid.kid-iterator c.loop-kid.invariant.all c.in-Some.kid c.next.new.self c.in-Some.ensures.steps in
+    let here = kid_here c.args.kids (length c.loop-kid.yielded) c.in-Some.kid below read in
+    let counted = one_more (roses_of c.args.kids) (length c.loop-kid.yielded) c.in-Some.kid here in
+    let further = more_yielded c.args.kids c.loop-kid.yielded c.loop-kid.kid-iterator c.loop-kid.invariant.all c.in-Some.kid c.next.new.self c.in-Some.ensures.steps ∙ add-one (length c.loop-kid.yielded) in
     let so_far = c.loop-kid.invariant.most in
     let m = c.in_ok-check_kid.ensures.most in
+    let least = c.loop-kid.invariant.least in
+    let l = c.in_ok-check_kid.ensures.least in
     record {
+      all = all_after c.args.kids c.loop-kid.yielded c.loop-kid.kid-iterator c.loop-kid.invariant.all c.in-Some.kid c.next.new.self c.in-Some.ensures.steps;
       plans = c.in_ok-check_kid.ensures.same;
-      walked = c.in_ok-check_kid.ensures.judged c.args.plan.now c.args.kids.now c.args.at c.loop-kid.kid-index below c.kid-item.is c.loop-kid.invariant.walked;
-      most = rw add-one (omega (arith, more, so_far, m));
-      least =
-          let least = c.loop-kid.invariant.least in
-          let l = c.in_ok-check_kid.ensures.least in
-          rw add-one (omega (arith, more, least, l));
+      walked =
+          subst (λ n. Walked c.args.set.now c.args.mixed c.args.plan.now c.args.kids n c.check_kid.new.matcher) (sym (more_yielded c.args.kids c.loop-kid.yielded c.loop-kid.kid-iterator c.loop-kid.invariant.all c.in-Some.kid c.next.new.self c.in-Some.ensures.steps))
+          (c.in_ok-check_kid.ensures.judged c.args.plan.now c.args.kids c.args.at (length c.loop-kid.yielded) below read c.loop-kid.invariant.walked);
+      most = rw further (omega (arith, counted, so_far, m));
+      least = rw further (omega (arith, counted, least, l));
     }
 
 pub check_kids-returns-clause-judged : goal.check_kids-returns-clause-judged
 check_kids-returns-clause-judged g t c =
     let w = c.loop-kid.invariant.walked in
-    end_judged c.args.set.now c.args.mixed c.args.plan.now c.args.kids.now c.args.at c.loop-kid.kid-index c.loop-kid.matcher w c.loop-kid-test.false c.finish.result (c.finish.ensures.finished w.us w.took)
+    let past = all_yielded c.args.kids c.loop-kid.yielded c.loop-kid.kid-iterator c.loop-kid.invariant.all c.in-None.ensures.steps.0 in
+    end_judged c.args.set.now c.args.mixed c.args.plan.now c.args.kids c.args.at (length c.loop-kid.yielded) c.loop-kid.matcher w past c.finish.result (c.finish.ensures.finished w.us w.took)
 
 pub check_kids-returns-clause-most : goal.check_kids-returns-clause-most
 check_kids-returns-clause-most g t c =
     let l : levels c.loop-kid.matcher.particle ≤ 17 = subst (λ q. levels q ≤ 17) (sym c.loop-kid.invariant.walked.particle) c.requires.levels in
     let so_far = c.loop-kid.invariant.most in
-    let all = fewer (roses_of c.args.kids.now) c.loop-kid.kid-index in
+    let all = fewer (roses_of c.args.kids) (length c.loop-kid.yielded) in
     let s = c.finish.ensures.ticks.1 in
     omega (arith, l, so_far, all, s)
 
@@ -200,25 +208,38 @@ check_element-returns-in-Err-clause-judged g t c =
     tag_refused c.args.set.now c.args.decl (told (parts_of c.args.set.now) c.declared_of-declared.result) c.items.result.now c.in-Element.name c.in-Element.attributes c.in-Element.declares c.in-Element.at
     c.args.item.now (sym c.label.ensures ∙ c.in-Element.is) c.declared_of-declared.ensures.asked c.items.ensures c.in-Err.error c.in-Err.ensures
 
-pub check_element-returns-then-nil-clause-judged : goal.check_element-returns-then-nil-clause-judged
-check_element-returns-then-nil-clause-judged g t c =
-    nil_judged c.args.set.now c.args.decl (told (parts_of c.args.set.now) c.declared_of-declared.result) c.items.result.now c.in-Element.name c.in-Element.attributes c.in-Element.declares c.in-Element.at
+pub check_element-returns-in_ok-check_empty-in-Ok-clause-judged : goal.check_element-returns-in_ok-check_empty-in-Ok-clause-judged
+check_element-returns-in_ok-check_empty-in-Ok-clause-judged g t c =
+    nil_kept c.args.set.now c.args.decl (told (parts_of c.args.set.now) c.declared_of-declared.result) c.items.result.now c.in-Element.name c.in-Element.attributes c.in-Element.declares c.in-Element.at
     c.args.item.now (sym c.label.ensures ∙ c.in-Element.is) c.declared_of-declared.ensures.asked c.items.ensures
-    (rw c.if-nil.true at c.in-Ok.ensures) c.kids-kids.result.now c.kids-kids.ensures c.check_empty.result c.check_empty.ensures
+    (rw c.if-nil.true at c.in-Ok.ensures) c.kids-kids.result c.kids-kids.ensures c.in_ok-check_empty-in-Ok.ensures
+
+pub check_element-returns-in_err-check_empty-in-Ok-clause-judged : goal.check_element-returns-in_err-check_empty-in-Ok-clause-judged
+check_element-returns-in_err-check_empty-in-Ok-clause-judged g t c =
+    let p = err_from_is_err_and c.from_residual.result c.from_residual.ensures.1 in
+    rw (p.1, p.2)
+    (nil_refused c.args.set.now c.args.decl (told (parts_of c.args.set.now) c.declared_of-declared.result) c.items.result.now c.in-Element.name c.in-Element.attributes c.in-Element.declares c.in-Element.at
+    c.args.item.now (sym c.label.ensures ∙ c.in-Element.is) c.declared_of-declared.ensures.asked c.items.ensures
+    (rw c.if-nil.true at c.in-Ok.ensures) c.kids-kids.result c.kids-kids.ensures c.in_err-check_empty-in-Ok.field-0.0.at c.in_err-check_empty-in-Ok.field-0.0.why c.in_err-check_empty-in-Ok.ensures)
 
 pub check_element-returns-else-nil-clause-judged : goal.check_element-returns-else-nil-clause-judged
 check_element-returns-else-nil-clause-judged g t c =
     inside_judged c.args.set.now c.args.decl (told (parts_of c.args.set.now) c.declared_of-declared.result) c.items.result.now c.in-Element.name c.in-Element.attributes c.in-Element.declares c.in-Element.at
     c.args.item.now (sym c.label.ensures ∙ c.in-Element.is) c.declared_of-declared.ensures.asked c.items.ensures
-    (rw c.if-nil.false at c.in-Ok.ensures) c.kids-kids.result.now c.kids-kids.ensures c.check_inside.result c.check_inside.ensures.judged
+    (rw c.if-nil.false at c.in-Ok.ensures) c.kids-kids.result c.kids-kids.ensures c.check_inside.result c.check_inside.ensures.judged
 
 pub check_element-returns-in-Err-clause-most : goal.check_element-returns-in-Err-clause-most
 check_element-returns-in-Err-clause-most g t c =
     let n = element_counts c.args.item.now c.in-Element.name c.in-Element.attributes c.in-Element.declares c.in-Element.at (sym c.label.ensures ∙ c.in-Element.is) in
     omega (arith, n)
 
-pub check_element-returns-then-nil-clause-most : goal.check_element-returns-then-nil-clause-most
-check_element-returns-then-nil-clause-most g t c =
+pub check_element-returns-in_ok-check_empty-in-Ok-clause-most : goal.check_element-returns-in_ok-check_empty-in-Ok-clause-most
+check_element-returns-in_ok-check_empty-in-Ok-clause-most g t c =
+    let n = element_counts c.args.item.now c.in-Element.name c.in-Element.attributes c.in-Element.declares c.in-Element.at (sym c.label.ensures ∙ c.in-Element.is) in
+    omega (arith, n)
+
+pub check_element-returns-in_err-check_empty-in-Ok-clause-most : goal.check_element-returns-in_err-check_empty-in-Ok-clause-most
+check_element-returns-in_err-check_empty-in-Ok-clause-most g t c =
     let n = element_counts c.args.item.now c.in-Element.name c.in-Element.attributes c.in-Element.declares c.in-Element.at (sym c.label.ensures ∙ c.in-Element.is) in
     omega (arith, n)
 
@@ -233,40 +254,44 @@ pub check_kids-returns-in_err-check_kid-clause-judged :
     goal.check_kids-returns-in_err-check_kid-clause-judged
 check_kids-returns-in_err-check_kid-clause-judged g t c =
     let p = err_from_is_err_and c.from_residual-in_err-check_kid.result c.from_residual-in_err-check_kid.ensures.1 in
-    rw (p.1, p.2)
-    (c.in_err-check_kid.ensures.judged c.args.plan.now c.args.kids.now c.args.at c.loop-kid.kid-index c.loop-kid-test.true c.kid-item.is c.loop-kid.invariant.walked)
+    let below = kid_within c.args.kids c.loop-kid.yielded c.loop-kid.kid-iterator c.loop-kid.invariant.all c.in-Some.kid c.next.new.self c.in-Some.ensures.steps in
+    let read = kid_read c.args.kids c.loop-kid.yielded c.loop-kid.kid-iterator c.loop-kid.invariant.all c.in-Some.kid c.next.new.self c.in-Some.ensures.steps in
+    rw (p.1, p.2) (c.in_err-check_kid.ensures.judged c.args.plan.now c.args.kids c.args.at (length c.loop-kid.yielded) below read c.loop-kid.invariant.walked)
 
 pub check_kids-returns-in_err-check_kid-clause-most :
     goal.check_kids-returns-in_err-check_kid-clause-most
 check_kids-returns-in_err-check_kid-clause-most g t c =
-    let here = kid_here c.args.kids.now c.loop-kid.kid-index c.kid-item.result c.loop-kid-test.true c.kid-item.is in
-    let all = up_to (roses_of c.args.kids.now) c.loop-kid.kid-index c.kid-item.result here in
+    let below = kid_within c.args.kids c.loop-kid.yielded c.loop-kid.kid-iterator c.loop-kid.invariant.all c.in-Some.kid c.next.new.self c.in-Some.ensures.steps in
+    let read = kid_read c.args.kids c.loop-kid.yielded c.loop-kid.kid-iterator c.loop-kid.invariant.all c.in-Some.kid c.next.new.self c.in-Some.ensures.steps in
+    let here = kid_here c.args.kids (length c.loop-kid.yielded) c.in-Some.kid below read in
+    let all = up_to (roses_of c.args.kids) (length c.loop-kid.yielded) c.in-Some.kid here in
     let so_far = c.loop-kid.invariant.most in
     let m = c.in_err-check_kid.ensures.most in
     omega (arith, all, so_far, m)
 
-pub check_element-returns-then-nil-clause-least : goal.check_element-returns-then-nil-clause-least
-check_element-returns-then-nil-clause-least g t c =
+pub check_element-returns-in_ok-check_empty-in-Ok-clause-least : goal.check_element-returns-in_ok-check_empty-in-Ok-clause-least
+check_element-returns-in_ok-check_empty-in-Ok-clause-least g t c =
     let n = element_counts c.args.item.now c.in-Element.name c.in-Element.attributes c.in-Element.declares c.in-Element.at (sym c.label.ensures ∙ c.in-Element.is) in
     let same = ap (λ ks. elements_in (roses_of ks)) c.kids-kids.ensures in
-    match-ok c.check_empty.result (λ _. roses_of c.kids-kids.result.now ≡ none) (Tells (FirstKid (roses_of c.kids-kids.result.now) (λ _. NilWithContent)))
-    (c.args.steps.now + element_count c.args.item.now ≤ c.args.steps.now + 1) (λ v h. let empty = ap elements_in h in omega (arith, n, same, empty)) c.check_empty.ensures
+    let empty = ap elements_in c.in_ok-check_empty-in-Ok.ensures in
+    omega (arith, n, same, empty)
 
 pub check_element-returns-else-nil-clause-least : goal.check_element-returns-else-nil-clause-least
 check_element-returns-else-nil-clause-least g t c =
     let n = element_counts c.args.item.now c.in-Element.name c.in-Element.attributes c.in-Element.declares c.in-Element.at (sym c.label.ensures ∙ c.in-Element.is) in
     let same = ap (λ ks. elements_in (roses_of ks)) c.kids-kids.ensures in
-    on-ok c.check_inside.result (c.args.steps.now + elements_in (roses_of c.kids-kids.result.now) ≤ c.check_inside.new.steps) (c.args.steps.now + element_count c.args.item.now ≤ c.check_inside.new.steps + 1)
+    on-ok c.check_inside.result (c.args.steps.now + elements_in (roses_of c.kids-kids.result) ≤ c.check_inside.new.steps) (c.args.steps.now + element_count c.args.item.now ≤ c.check_inside.new.steps + 1)
     (λ h. omega (arith, n, same, h)) c.check_inside.ensures.least
 
 pub check_inside-returns-in-Simple-clause-least : goal.check_inside-returns-in-Simple-clause-least
 check_inside-returns-in-Simple-clause-least g t c =
-    match-ok c.check_text.result (λ _. IsSpelled (space_of c.in-Simple.simple.now) (roses_of c.args.kids.now)) (Tells (TextFault (space_of c.in-Simple.simple.now) (roses_of c.args.kids.now) c.args.at))
-    (c.args.steps.now + elements_in (roses_of c.args.kids.now) ≤ c.args.steps.now) (λ v h. let empty = text-without (roses_of c.args.kids.now) h.1.0 h.1.1 in omega (arith, empty)) c.check_text.ensures
+    match-ok c.check_text.result (λ _. IsSpelled (space_of c.in-Simple.simple.now) (roses_of c.args.kids)) (Tells (TextFault (space_of c.in-Simple.simple.now) (roses_of c.args.kids) c.args.at))
+    (c.args.steps.now + elements_in (roses_of c.args.kids) ≤ c.args.steps.now) (λ v h. let empty = text-without (roses_of c.args.kids) h.1.0 h.1.1 in omega (arith, empty)) c.check_text.ensures
 
 pub check_kids-returns-clause-least : goal.check_kids-returns-clause-least
 check_kids-returns-clause-least g t c =
     let so_far = c.loop-kid.invariant.least in
-    let all = all-counted c.args.kids.now c.loop-kid.kid-index c.loop-kid-test.false in
+    let past = all_yielded c.args.kids c.loop-kid.yielded c.loop-kid.kid-iterator c.loop-kid.invariant.all c.in-None.ensures.steps.0 in
+    let all = all-counted c.args.kids (length c.loop-kid.yielded) past in
     let s = c.finish.ensures.ticks.0 in
-    always-ok c.finish.result (c.args.steps.now + elements_in (roses_of c.args.kids.now) ≤ c.finish.new.steps) (omega (arith, so_far, all, s))
+    always-ok c.finish.result (c.args.steps.now + elements_in (roses_of c.args.kids) ≤ c.finish.new.steps) (omega (arith, so_far, all, s))
