@@ -1,4 +1,4 @@
-use Rattle.std.proofs.Common.{refl, ◌∙◌}
+use Rattle.std.proofs.Common.{refl}
 use Rattle.per_fields.specs.Nodes.{bool_at}
 use Rattle.per_decode.proofs.Newest.{newest-pushed, pushed-newest}
 use Rattle.per_decode.proofs.leaves.boolean.Goals as goal

@@ -1,4 +1,4 @@
-use Rattle.std.proofs.Common.{refl, arith, ◌∙◌}
+use Rattle.std.proofs.Common.{refl, arith}
 use Rattle.per_fields.specs.Nodes.{enum_at}
 use Rattle.per_decode.proofs.Newest.{newest-pushed, pushed-newest}
 use Rattle.per_decode.proofs.leaves.enumerated.Goals as goal
