@@ -29,6 +29,11 @@ pub count-push : (vs : List (Rose ValueLabel)) (v : Rose ValueLabel) → count_a
 count-push [] v = omega arith
 count-push (w ∷ vs) v = omega (arith, count-push vs v)
 
+-- there are no more trees than nodes
+pub length-count : (vs : List (Rose ValueLabel)) → length vs ≤ count_all (roses_of vs)
+length-count [] = omega arith
+length-count (node l us ∷ vs) = omega (arith, length-count vs)
+
 module _ (M : List Assignment) (depth : ℕ) where
   pub each-push : (ps : List ComponentPlace) (p : ComponentPlace) (vs : List (Rose ValueLabel)) (v : Rose ValueLabel) → FitEach M depth ps (roses_of vs) → FitsAt M (below p.role depth) p.type v
       → FitEach M depth (ps ++ p ∷ []) (roses_of (vs ++ v ∷ []))

@@ -1,5 +1,5 @@
 -- The fields of a node, by the form of its type.
-use Rattle.std.proofs.Common.{◌≡◌, ℕ, zero, suc, ◌-◌, ◌≤◌, Bool, List, [], ◌∷◌, length, refl, sym, ap, ◌∙◌, subst, arith, Option, Some, None, Result, Ok, Err}
+use Rattle.std.proofs.Common.{◌≡◌, ℕ, zero, suc, ◌+◌, ◌-◌, ◌*◌, ◌≤◌, Bool, List, [], ◌∷◌, length, refl, sym, ap, ◌∙◌, subst, arith, Option, Some, None, Result, Ok, Err}
 use Rattle.std.specs.Prelude.{replicate, slice_get, ℤ}
 use Rattle.label_tree.specs.Rose.{Rose, node, roses_of, label_of, kids_of}
 use Rattle.simple_types.specs.declared.labels.ValueLabel.{ValueLabel}
@@ -15,7 +15,7 @@ use Rattle.per_fields.specs.Reading.{◌>>=◌, Reader, each_at}
 use Rattle.per_fields.specs.Fields.{number_at, list_at}
 use Rattle.per_fields.specs.Nodes.{flag_at, bool_at, int_at, enum_at, sequence_at, choice_at, items_at, content_at, kids_at}
 use Rattle.per_decode.specs.declared.faults.Fault.{Fault}
-use Rattle.per_decode.specs.Private.Giving.{Halt, FailsAt, Shows}
+use Rattle.per_decode.specs.Private.Giving.{Halt, memory, FailsAt, Shows}
 use Rattle.per_decode.specs.Private.Bodies.{kid_at, fields_at, kids_read, many_at, item_place}
 use Rattle.per_decode.proofs.Ends.{Sits, SteadyReader, sits-each, fails_first, sits-number}
 use Rattle.per_decode.proofs.EndNodes.{sits-node, sits-kids, sits-flags}
@@ -94,6 +94,10 @@ module _ (M : List Assignment) (depth : ℕ) where
           subst (FailsAt limit whole e taken) (sym sequence_is)
           (fails_first limit whole e taken X (kids_read M depth (present_from l 0 parts ts flags) X r) (λ vs. Ok (node (value.Sequence flags) (roses_of vs.0), vs.1)) (sits-read (present_from l 0 parts ts flags) inside).inside (λ vs i. record { later = omega arith; inside = i }) h)
 
+      -- want of memory behind the presence bits
+      pub components_full : (limit : ℕ) (whole : List ℕ) (taken : ℕ) → r.at ≤ length X → 8 * taken ≤ r.at + 7 → FailsAt limit whole memory taken (sequence_at (kid_at M depth) l ts parts X s)
+      components_full limit whole taken inside step = components_fail limit whole memory taken inside (omega (arith, (sits-read (present_from l 0 parts ts flags) inside).later, step))
+
   -- A CHOICE
   module _ (l : TypeLabel) (ts : List (Rose TypeLabel)) (parts : List Component) (X : List Bool) (s : Spot) where
     pub choice_fails : (limit : ℕ) (whole : List ℕ) (e : Halt) (taken : ℕ) → s.at ≤ length X → FailsAt limit whole e taken (number_at (length parts - 1) X s) → FailsAt limit whole e taken (choice_at (kid_at M depth) l ts parts X s)
@@ -124,6 +128,10 @@ module _ (M : List Assignment) (depth : ℕ) where
       alternative_fails limit whole e taken inside h =
           subst (FailsAt limit whole e taken) (sym choice_is)
           (fails_first limit whole e taken X (kid_at M depth (place_of l i part kid) X r) (λ v. Ok (node (value.Choice i) (roses_of (v.0 ∷ [])), v.1)) (steady-kid (place_of l i part kid) X r inside).inside (λ v j. record { later = omega arith; inside = j }) h)
+
+      -- want of memory behind the index
+      pub alternative_full : (limit : ℕ) (whole : List ℕ) (taken : ℕ) → r.at ≤ length X → 8 * taken ≤ r.at + 7 → FailsAt limit whole memory taken (choice_at (kid_at M depth) l ts parts X s)
+      alternative_full limit whole taken inside step = alternative_fails limit whole memory taken inside (omega (arith, (steady-kid (place_of l i part kid) X r inside).later, step))
 
   -- THE ITEMS OF A SEQUENCE OF: one place again and again is one type again and again
   module _ (p : ComponentPlace) where

@@ -1,5 +1,5 @@
 -- The items of a SEQUENCE OF, by their count.
-use Rattle.std.proofs.Common.{◌≡◌, ℕ, ◌+◌, ◌-◌, ◌<◌, ◌≤◌, Bool, true, false, List, [], ◌++◌, length, refl, sym, ap, ◌∙◌, subst, arith, Option, Some, None, Result, Ok, Err}
+use Rattle.std.proofs.Common.{◌≡◌, ℕ, ◌+◌, ◌-◌, ◌*◌, ◌<◌, ◌≤◌, Bool, true, false, List, [], ◌++◌, length, refl, sym, ap, ◌∙◌, subst, arith, Option, Some, None, Result, Ok, Err}
 use Rattle.std.specs.Prelude.{replicate}
 use Rattle.std.proofs.lemmas.Bool.{lt-ltb, le-ltb}
 use Rattle.label_tree.specs.Rose.{Rose, node, roses_of}
@@ -13,7 +13,7 @@ use Rattle.per_fields.specs.declared.stops.Stop.{Stop}
 use Rattle.per_fields.specs.Reading.{◌>>=◌}
 use Rattle.per_fields.specs.Fields.{number_at, sized_at, counted_at, list_at}
 use Rattle.per_fields.specs.Nodes.{items_at}
-use Rattle.per_decode.specs.Private.Giving.{Halt, FailsAt}
+use Rattle.per_decode.specs.Private.Giving.{Halt, memory, FailsAt}
 use Rattle.per_decode.specs.Private.Bodies.{kid_at, node_of, many_at, more_at}
 use Rattle.per_decode.proofs.Ends.{SteadyReader, sits-each, sits-list, fails_first, sits-number}
 use Rattle.per_decode.proofs.EndNodes.{sits-node}
@@ -62,6 +62,12 @@ module _ (M : List Assignment) (depth : ℕ) (p : ComponentPlace) (least : ℕ) 
       subst (FailsAt limit whole e taken) (sym (items_are M depth p least most X s))
       (fails_first limit whole e taken X listed (λ vs. Ok (node value.SequenceOf (roses_of vs.0), vs.1))
       (sits-list least most (λ n. many_at M (below p.role depth) n p.type) (steady-items M (below p.role depth) p.type) X s inside).inside (λ vs i. record { later = omega arith; inside = i }) h)
+
+  -- want of memory before the count
+  pub list_full : (limit : ℕ) (whole : List ℕ) (taken : ℕ) → s.at ≤ length X → 8 * taken ≤ s.at + 7 → FailsAt limit whole memory taken (items_at (kid_at M depth) least most (Some p) X s)
+  list_full limit whole taken inside step =
+      list_fails limit whole memory taken inside
+      (omega (arith, (sits-list least most (λ n. many_at M (below p.role depth) n p.type) (steady-items M (below p.role depth) p.type) X s inside).later, step))
 
   pub list_reads : (vs : List (Rose ValueLabel)) (q : Spot) → list_at least most (λ n. many_at M (below p.role depth) n p.type) X s ≡ Ok (vs, q)
       → items_at (kid_at M depth) least most (Some p) X s ≡ Ok (node value.SequenceOf (roses_of vs), q)

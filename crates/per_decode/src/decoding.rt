@@ -15,11 +15,11 @@ use crate::decoded::Decoded;
 use crate::errors::DecodeError;
 use crate::faults::Fault;
 use crate::nodes::node;
-use crate::room::with_room;
 use crate::run::{Origin, Run};
 use asn_types::{Module, TypeLabel, resolve};
 use bit_cursor::BitSource;
-use label_tree::{Tree, Whole};
+use flat_tree::{Builder, Flat, Whole};
+use label_tree::Tree;
 use per_fields::{Stop, Why};
 use simple_types::ValueLabel;
 use std::alloc::Global;
@@ -54,7 +54,7 @@ fn complete<S: Source, K: Origin>(
     module: &Module,
     run: &mut Run<S, K>,
     body: &Tree<TypeLabel>,
-) -> Result<(Tree<ValueLabel>, u64), Fault>
+) -> Result<(Flat<ValueLabel>, u64), Fault>
     requires known { IsKnown module.now }
     requires of { IsOf module.now body.now }
     requires in_step { IsInStep run.old.bits.position run.old.bits.taken }
@@ -67,14 +67,11 @@ fn complete<S: Source, K: Origin>(
         (complete_at module.now body.now) (spot run.old.bits.position run.old.nodes) }
     ensures failed { IsErrOf result Fault.Failed → HasRisen K.faults (S.faults run.new.bits.source.now) }
 {
-    let mut values = with_room(alloc, 1);
+    let mut values = Builder::new(alloc);
     let found = resolve(module, body);
     node(alloc, module, run, 1, body, found, &mut values)?;
     last(run)?;
-    match values.pop() {
-        Some(value) => Ok((value, run.position() / 8)),
-        None => unreachable!(),
-    }
+    Ok((values.finish_one(), run.position() / 8))
 }
 
 // What a fault is to the caller.
@@ -103,7 +100,7 @@ fn decode_from<S: Source, K: Origin>(
     body: &Tree<TypeLabel>,
     source: &mut S,
     limit: u64,
-) -> Result<(Tree<ValueLabel>, u64), DecodeError>
+) -> Result<(Flat<ValueLabel>, u64), DecodeError>
     requires known { IsKnown module.now }
     requires of { IsOf module.now body.now }
     requires small { limit ≤ 2 ^ 32 }

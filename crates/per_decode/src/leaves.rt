@@ -1,6 +1,7 @@
 //! The fields of nodes without kids.
 ghost use Rattle.std.specs.Prelude.{◌≡◌, ℕ, [], ◌∷◌, ◌++◌, ◌<◌, ◌≤◌, ◌+◌, ◌-◌, ◌*◌, ◌^◌, ℤ, Bool, true, false, List, IfOk, OnOk, IsErrOf, IsTrue};
 ghost use Rattle.label_tree.specs.Rose.{node, none};
+ghost use Rattle.flat_tree.specs.Zips.{added};
 ghost use Rattle.bit_cursor.specs.Cursors.{IsInStep};
 ghost use Rattle.xa_base.specs.Faults.{HasRisen};
 ghost use Rattle.simple_types.specs.Sound.{AreBounds};
@@ -14,10 +15,9 @@ ghost use Rattle.per_decode.specs.Private.Giving.{Gives, spot};
 ghost use Rattle.per_decode.specs.Private.Newest.{newest};
 
 use crate::faults::Fault;
-use crate::room::put;
 use crate::run::{Origin, Run};
 use asn_types::Component;
-use label_tree::Tree;
+use flat_tree::Builder;
 use simple_types::{Flags, ValueLabel};
 use std::alloc::Global;
 use xa_base::Source;
@@ -25,23 +25,22 @@ use xa_base::Source;
 /// A BOOLEAN.
 #[tactic(auto, unfolding(per_fields::specs::Nodes::bool_at))]
 pub(crate) fn boolean<S: Source, K: Origin>(
-    alloc: Global,
     run: &mut Run<S, K>,
-    values: &mut Vec<Tree<ValueLabel>>,
+    values: &mut Builder<ValueLabel>,
 ) -> Result<(), Fault>
     requires in_step { IsInStep run.old.bits.position run.old.bits.taken }
     ensures same_reference { run.new.bits.source.ghost_name ≡ run.old.bits.source.ghost_name }
     ensures on { OnOk result (GoesOn run.old.bits.position run.new.bits.position run.new.bits.taken) }
     ensures nodes { run.new.nodes ≡ run.old.nodes }
-    ensures pushed { OnOk result (values.new.items ≡ values.old.items ++ newest values.new.items ∷ []) }
-    ensures leaf { OnOk result ((b : Bool) × (newest values.new.items ≡ node (value.Bool b) none)) }
-    ensures gives { IsTrue K.told → Gives K.limit K.whole (λ _. newest values.new.items) result (spot run.new.bits.position run.new.nodes) run.new.stop run.new.bits.taken
+    ensures pushed { OnOk result (values.new ≡ added (newest values.new.kids) values.old) }
+    ensures leaf { OnOk result ((b : Bool) × (newest values.new.kids ≡ node (value.Bool b) none)) }
+    ensures gives { IsTrue K.told → Gives K.limit K.whole (λ _. newest values.new.kids) result (spot run.new.bits.position run.new.nodes) run.new.stop run.new.bits.taken
         (bool_at) (spot run.old.bits.position run.old.nodes) }
     ensures failed { IsErrOf result Fault.Failed → HasRisen K.faults (S.faults run.new.bits.source.now) }
 {
     let begin = run.position();
     let bit = run.take_bits(begin, 1)?;
-    put(values, Tree::leaf(alloc, ValueLabel::Bool(bit == 1)))?;
+    values.leaf(ValueLabel::Bool(bit == 1))?;
     Ok(())
 }
 
@@ -53,21 +52,21 @@ pub(crate) fn integer<S: Source, K: Origin>(
     run: &mut Run<S, K>,
     lo: Option<i128>,
     hi: Option<i128>,
-    values: &mut Vec<Tree<ValueLabel>>,
+    values: &mut Builder<ValueLabel>,
 ) -> Result<(), Fault>
     requires bounds { AreBounds lo hi }
     requires in_step { IsInStep run.old.bits.position run.old.bits.taken }
     ensures same_reference { run.new.bits.source.ghost_name ≡ run.old.bits.source.ghost_name }
     ensures on { OnOk result (GoesOn run.old.bits.position run.new.bits.position run.new.bits.taken) }
     ensures nodes { run.new.nodes ≡ run.old.nodes }
-    ensures pushed { OnOk result (values.new.items ≡ values.old.items ++ newest values.new.items ∷ []) }
-    ensures leaf { OnOk result ((z : ℤ) × (newest values.new.items ≡ node (value.Int z) none) × (is_128_bits z ≡ true) × (is_from lo z ≡ true) × (is_to hi z ≡ true)) }
-    ensures gives { IsTrue K.told → Gives K.limit K.whole (λ _. newest values.new.items) result (spot run.new.bits.position run.new.nodes) run.new.stop run.new.bits.taken
+    ensures pushed { OnOk result (values.new ≡ added (newest values.new.kids) values.old) }
+    ensures leaf { OnOk result ((z : ℤ) × (newest values.new.kids ≡ node (value.Int z) none) × (is_128_bits z ≡ true) × (is_from lo z ≡ true) × (is_to hi z ≡ true)) }
+    ensures gives { IsTrue K.told → Gives K.limit K.whole (λ _. newest values.new.kids) result (spot run.new.bits.position run.new.nodes) run.new.stop run.new.bits.taken
         (int_at lo hi) (spot run.old.bits.position run.old.nodes) }
     ensures failed { IsErrOf result Fault.Failed → HasRisen K.faults (S.faults run.new.bits.source.now) }
 {
     let z = run.whole(alloc, lo, hi)?;
-    put(values, Tree::leaf(alloc, ValueLabel::Int(z)))?;
+    values.leaf(ValueLabel::Int(z))?;
     Ok(())
 }
 
@@ -77,7 +76,7 @@ pub(crate) fn enumerated<S: Source, K: Origin>(
     alloc: Global,
     run: &mut Run<S, K>,
     items: usize,
-    values: &mut Vec<Tree<ValueLabel>>,
+    values: &mut Builder<ValueLabel>,
 ) -> Result<(), Fault>
     requires some { 1 ≤ items }
     requires few { items < 2 ^ 32 }
@@ -85,14 +84,14 @@ pub(crate) fn enumerated<S: Source, K: Origin>(
     ensures same_reference { run.new.bits.source.ghost_name ≡ run.old.bits.source.ghost_name }
     ensures on { OnOk result (GoesOn run.old.bits.position run.new.bits.position run.new.bits.taken) }
     ensures nodes { run.new.nodes ≡ run.old.nodes }
-    ensures pushed { OnOk result (values.new.items ≡ values.old.items ++ newest values.new.items ∷ []) }
-    ensures leaf { OnOk result ((i : ℕ) × (newest values.new.items ≡ node (value.Enum i) none) × (i < items)) }
-    ensures gives { IsTrue K.told → Gives K.limit K.whole (λ _. newest values.new.items) result (spot run.new.bits.position run.new.nodes) run.new.stop run.new.bits.taken
+    ensures pushed { OnOk result (values.new ≡ added (newest values.new.kids) values.old) }
+    ensures leaf { OnOk result ((i : ℕ) × (newest values.new.kids ≡ node (value.Enum i) none) × (i < items)) }
+    ensures gives { IsTrue K.told → Gives K.limit K.whole (λ _. newest values.new.kids) result (spot run.new.bits.position run.new.nodes) run.new.stop run.new.bits.taken
         (enum_at items) (spot run.old.bits.position run.old.nodes) }
     ensures failed { IsErrOf result Fault.Failed → HasRisen K.faults (S.faults run.new.bits.source.now) }
 {
     let item = run.number(alloc, (items - 1) as u128)?;
-    put(values, Tree::leaf(alloc, ValueLabel::Enum(item as u32)))?;
+    values.leaf(ValueLabel::Enum(item as u32))?;
     Ok(())
 }
 
@@ -117,14 +116,14 @@ fn presence_bit<S: Source, K: Origin>(run: &mut Run<S, K>, part: &Component) -> 
     Ok(true)
 }
 
-/// Which components are there, and how many.
+/// Which components are there.
 #[inline(always)]
 pub(crate) fn presence<S: Source, K: Origin>(
     alloc: Global,
     run: &mut Run<S, K>,
     parts: &[Component],
     present: &mut Flags,
-) -> Result<usize, Fault>
+) -> Result<(), Fault>
     requires none { present.old ≡ [] }
     requires in_step { IsInStep run.old.bits.position run.old.bits.taken }
     ensures same_reference { run.new.bits.source.ghost_name ≡ run.old.bits.source.ghost_name }
@@ -135,11 +134,9 @@ pub(crate) fn presence<S: Source, K: Origin>(
         (each_at flag_at parts.now) (spot run.old.bits.position run.old.nodes) }
     ensures failed { IsErrOf result Fault.Failed → HasRisen K.faults (S.faults run.new.bits.source.now) }
 {
-    let mut count = 0;
     'parts: for part in parts {
         let there = presence_bit(run, part)?;
         present.push(alloc, there)?;
-        count += usize::from(there);
     }
-    Ok(count)
+    Ok(())
 }

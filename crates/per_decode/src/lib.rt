@@ -10,7 +10,6 @@ mod lengths;
 mod nodes;
 mod numbers;
 mod plain;
-mod room;
 mod run;
 mod texts;
 mod wholes;

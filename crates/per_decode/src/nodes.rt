@@ -3,6 +3,7 @@ ghost use Rattle.std.specs.Prelude.{◌≡◌, ℕ, [], ◌∷◌, ◌++◌, ◌
 ghost use Rattle.simple_types.specs.declared.labels.ValueLabel.{ValueLabel};
 ghost use Rattle.asn_types.specs.Modules.{AreWellFormed};
 ghost use Rattle.label_tree.specs.Rose.{Rose, label_of, kids_of, roses_of, node_count, count_all};
+ghost use Rattle.flat_tree.specs.Zips.{added};
 ghost use Rattle.bit_cursor.specs.Cursors.{IsInStep};
 ghost use Rattle.xa_base.specs.Faults.{HasRisen};
 ghost use Rattle.asn_types.specs.declared.types.Form.TheVariants as form;
@@ -24,10 +25,10 @@ ghost use Rattle.per_decode.specs.Private.Newest.{newest};
 use crate::faults::{Fault, stopped};
 use crate::leaves::{boolean, enumerated, integer, presence};
 use crate::lengths::{MOST_UNITS, Piece, UNIT};
-use crate::room::{put, trim, with_room};
 use crate::run::{Origin, Run};
 use crate::texts::text;
 use asn_types::{Component, Form, Module, Role, TypeLabel, own, resolve, role};
+use flat_tree::{Builder, Flat};
 use label_tree::Tree;
 use per_fields::{Stop, Why};
 use simple_types::{Flags, ValueLabel};
@@ -38,7 +39,7 @@ use xa_base::Source;
 const MOST_DEEP: u32 = 64;
 
 /// How many nodes a value may have.
-pub(crate) const MOST_NODES: u32 = 1_048_576;
+const MOST_NODES: u32 = 1_048_576;
 
 #[inline(always)]
 fn below(role: Role, depth: u32) -> u32
@@ -103,26 +104,26 @@ fn has_no_rules(module: &Module, found: &Tree<TypeLabel>) -> bool
     }
 }
 
-/// Puts a value whose fields were all read, from a bit to another, behind others, where it keeps the rules of its node.
+// Puts a value whose fields were all read, from a bit to another, behind others, where it keeps the rules of its node.
 #[inline(always)]
-pub(crate) fn owned(
+fn owned(
     alloc: Global,
     module: &Module,
     node: &Tree<TypeLabel>,
-    value: Tree<ValueLabel>,
+    value: Flat<ValueLabel>,
     begin: u64,
     end: u64,
     stop: &mut Stop,
-    values: &mut Vec<Tree<ValueLabel>>,
+    values: &mut Builder<ValueLabel>,
 ) -> Result<(), Fault>
     requires known { bodies.IsKnown module.now }
     requires of { IsOf module.now node.now }
-    ensures pushed { OnOk result (values.new.items ≡ values.old.items ++ value ∷ []) }
+    ensures pushed { OnOk result (values.new ≡ added value values.old) }
     ensures ok { OnOk result (Own module.now node.now value) }
     ensures err { IfErr result (λ fault. (fault ≡ Fault.Memory) ⊎ ((fault ≡ Fault.Stopped) × (stop.new ≡ record { bit = begin; why = Why.NotAValue; end = end }) × (Own module.now node.now value → ⊥))) }
 {
-    if own(alloc, module, node, &value)? {
-        put(values, value)?;
+    if own(alloc, module, node, &value.root())? {
+        values.append(value.into_trees())?;
         Ok(())
     } else {
         Err(stopped(stop, begin, Why::NotAValue, end))
@@ -139,7 +140,7 @@ pub(crate) fn node<S: Source, K: Origin>(
     depth: u32,
     node: &Tree<TypeLabel>,
     found: &Tree<TypeLabel>,
-    values: &mut Vec<Tree<ValueLabel>>,
+    values: &mut Builder<ValueLabel>,
 ) -> Result<(), Fault>
     requires depth { depth ≤ 65 }
     requires known { bodies.IsKnown module.now }
@@ -148,10 +149,10 @@ pub(crate) fn node<S: Source, K: Origin>(
     requires in_step { IsInStep run.old.bits.position run.old.bits.taken }
     ensures same_reference { run.new.bits.source.ghost_name ≡ run.old.bits.source.ghost_name }
     ensures on { OnOk result (GoesOn run.old.bits.position run.new.bits.position run.new.bits.taken) }
-    ensures pushed { OnOk result (values.new.items ≡ values.old.items ++ newest values.new.items ∷ []) }
-    ensures count { OnOk result (run.new.nodes ≡ run.old.nodes + node_count (newest values.new.items)) }
-    ensures fits { OnOk result (FitsAt module.now depth node.now (newest values.new.items)) }
-    ensures gives { IsTrue K.told → Gives K.limit K.whole (λ _. newest values.new.items) result (spot run.new.bits.position run.new.nodes) run.new.stop run.new.bits.taken
+    ensures pushed { OnOk result (values.new ≡ added (newest values.new.kids) values.old) }
+    ensures count { OnOk result (run.new.nodes ≡ run.old.nodes + node_count (newest values.new.kids)) }
+    ensures fits { OnOk result (FitsAt module.now depth node.now (newest values.new.kids)) }
+    ensures gives { IsTrue K.told → Gives K.limit K.whole (λ _. newest values.new.kids) result (spot run.new.bits.position run.new.nodes) run.new.stop run.new.bits.taken
         (node_read module.now depth node.now) (spot run.old.bits.position run.old.nodes) }
     ensures failed { IsErrOf result Fault.Failed → HasRisen K.faults (S.faults run.new.bits.source.now) }
 {
@@ -177,7 +178,7 @@ fn body<S: Source, K: Origin>(
     node: &Tree<TypeLabel>,
     found: &Tree<TypeLabel>,
     begin: u64,
-    values: &mut Vec<Tree<ValueLabel>>,
+    values: &mut Builder<ValueLabel>,
 ) -> Result<(), Fault>
     requires depth { depth ≤ 64 }
     requires known { bodies.IsKnown module.now }
@@ -186,10 +187,10 @@ fn body<S: Source, K: Origin>(
     requires in_step { IsInStep run.old.bits.position run.old.bits.taken }
     ensures same_reference { run.new.bits.source.ghost_name ≡ run.old.bits.source.ghost_name }
     ensures on { OnOk result (GoesOn run.old.bits.position run.new.bits.position run.new.bits.taken) }
-    ensures pushed { OnOk result (values.new.items ≡ values.old.items ++ newest values.new.items ∷ []) }
-    ensures count { OnOk result (run.new.nodes + 1 ≡ run.old.nodes + node_count (newest values.new.items)) }
-    ensures fits { OnOk result (FitsAt module.now depth node.now (newest values.new.items)) }
-    ensures gives { IsTrue K.told → Gives K.limit K.whole (λ _. newest values.new.items) result (spot run.new.bits.position run.new.nodes) run.new.stop run.new.bits.taken
+    ensures pushed { OnOk result (values.new ≡ added (newest values.new.kids) values.old) }
+    ensures count { OnOk result (run.new.nodes + 1 ≡ run.old.nodes + node_count (newest values.new.kids)) }
+    ensures fits { OnOk result (FitsAt module.now depth node.now (newest values.new.kids)) }
+    ensures gives { IsTrue K.told → Gives K.limit K.whole (λ _. newest values.new.kids) result (spot run.new.bits.position run.new.nodes) run.new.stop run.new.bits.taken
         (bodies.body_at module.now depth begin (resolve module.now node.now)) (spot run.old.bits.position run.old.nodes) }
     ensures failed { IsErrOf result Fault.Failed → HasRisen K.faults (S.faults run.new.bits.source.now) }
 {
@@ -213,7 +214,7 @@ fn ruled<S: Source, K: Origin>(
     node: &Tree<TypeLabel>,
     found: &Tree<TypeLabel>,
     begin: u64,
-    values: &mut Vec<Tree<ValueLabel>>,
+    values: &mut Builder<ValueLabel>,
 ) -> Result<(), Fault>
     requires depth { depth ≤ 64 }
     requires known { bodies.IsKnown module.now }
@@ -223,31 +224,26 @@ fn ruled<S: Source, K: Origin>(
     requires in_step { IsInStep run.old.bits.position run.old.bits.taken }
     ensures same_reference { run.new.bits.source.ghost_name ≡ run.old.bits.source.ghost_name }
     ensures on { OnOk result (GoesOn run.old.bits.position run.new.bits.position run.new.bits.taken) }
-    ensures pushed { OnOk result (values.new.items ≡ values.old.items ++ newest values.new.items ∷ []) }
-    ensures count { OnOk result (run.new.nodes + 1 ≡ run.old.nodes + node_count (newest values.new.items)) }
-    ensures fits { OnOk result (FitsAt module.now depth node.now (newest values.new.items)) }
-    ensures gives { IsTrue K.told → Gives K.limit K.whole (λ _. newest values.new.items) result (spot run.new.bits.position run.new.nodes) run.new.stop run.new.bits.taken
+    ensures pushed { OnOk result (values.new ≡ added (newest values.new.kids) values.old) }
+    ensures count { OnOk result (run.new.nodes + 1 ≡ run.old.nodes + node_count (newest values.new.kids)) }
+    ensures fits { OnOk result (FitsAt module.now depth node.now (newest values.new.kids)) }
+    ensures gives { IsTrue K.told → Gives K.limit K.whole (λ _. newest values.new.kids) result (spot run.new.bits.position run.new.nodes) run.new.stop run.new.bits.taken
         (bodies.body_at module.now depth begin (resolve module.now node.now)) (spot run.old.bits.position run.old.nodes) }
     ensures failed { IsErrOf result Fault.Failed → HasRisen K.faults (S.faults run.new.bits.source.now) }
 {
-    let mut read = with_room(alloc, 1);
+    let mut read = Builder::new(alloc);
     fields(alloc, module, run, depth, found, &mut read)?;
-    match read.pop() {
-        Some(value) => {
-            let end = run.position();
-            owned(
-                alloc,
-                module,
-                node,
-                value,
-                begin,
-                end,
-                &mut run.stop,
-                values,
-            )
-        }
-        None => unreachable!(),
-    }
+    let end = run.position();
+    owned(
+        alloc,
+        module,
+        node,
+        read.finish_one(),
+        begin,
+        end,
+        &mut run.stop,
+        values,
+    )
 }
 
 // The fields and the kids of a node of a type that is neither a text nor a reference.
@@ -259,7 +255,7 @@ fn fields<S: Source, K: Origin>(
     run: &mut Run<S, K>,
     depth: u32,
     found: &Tree<TypeLabel>,
-    values: &mut Vec<Tree<ValueLabel>>,
+    values: &mut Builder<ValueLabel>,
 ) -> Result<(), Fault>
     requires depth { depth ≤ 64 }
     requires known { bodies.IsKnown module.now }
@@ -268,16 +264,16 @@ fn fields<S: Source, K: Origin>(
     requires in_step { IsInStep run.old.bits.position run.old.bits.taken }
     ensures same_reference { run.new.bits.source.ghost_name ≡ run.old.bits.source.ghost_name }
     ensures on { OnOk result (GoesOn run.old.bits.position run.new.bits.position run.new.bits.taken) }
-    ensures pushed { OnOk result (values.new.items ≡ values.old.items ++ newest values.new.items ∷ []) }
-    ensures count { OnOk result (run.new.nodes + 1 ≡ run.old.nodes + node_count (newest values.new.items)) }
-    ensures fits { OnOk result (FitKids module.now depth found.now (newest values.new.items)) }
-    ensures text { OnOk result (is_no_text (label_of (newest values.new.items)) ≡ false) }
-    ensures gives { IsTrue K.told → Gives K.limit K.whole (λ _. newest values.new.items) result (spot run.new.bits.position run.new.nodes) run.new.stop run.new.bits.taken
+    ensures pushed { OnOk result (values.new ≡ added (newest values.new.kids) values.old) }
+    ensures count { OnOk result (run.new.nodes + 1 ≡ run.old.nodes + node_count (newest values.new.kids)) }
+    ensures fits { OnOk result (FitKids module.now depth found.now (newest values.new.kids)) }
+    ensures text { OnOk result (is_no_text (label_of (newest values.new.kids)) ≡ false) }
+    ensures gives { IsTrue K.told → Gives K.limit K.whole (λ _. newest values.new.kids) result (spot run.new.bits.position run.new.nodes) run.new.stop run.new.bits.taken
         (bodies.fields_at module.now depth found.now) (spot run.old.bits.position run.old.nodes) }
     ensures failed { IsErrOf result Fault.Failed → HasRisen K.faults (S.faults run.new.bits.source.now) }
 {
     match &found.label().form {
-        Form::Bool => boolean(alloc, run, values),
+        Form::Bool => boolean(run, values),
         Form::Int { lo, hi } => integer(alloc, run, *lo, *hi, values),
         Form::Numbers { numbers } => enumerated(alloc, run, numbers.items().len(), values),
         Form::Words { words, .. } => enumerated(alloc, run, words.items().len(), values),
@@ -309,7 +305,7 @@ fn sequence<S: Source, K: Origin>(
     depth: u32,
     found: &Tree<TypeLabel>,
     parts: &[Component],
-    values: &mut Vec<Tree<ValueLabel>>,
+    values: &mut Builder<ValueLabel>,
 ) -> Result<(), Fault>
     requires depth { depth ≤ 64 }
     requires known { bodies.IsKnown module.now }
@@ -318,17 +314,20 @@ fn sequence<S: Source, K: Origin>(
     requires in_step { IsInStep run.old.bits.position run.old.bits.taken }
     ensures same_reference { run.new.bits.source.ghost_name ≡ run.old.bits.source.ghost_name }
     ensures on { OnOk result (GoesOn run.old.bits.position run.new.bits.position run.new.bits.taken) }
-    ensures pushed { OnOk result (values.new.items ≡ values.old.items ++ newest values.new.items ∷ []) }
-    ensures count { OnOk result (run.new.nodes + 1 ≡ run.old.nodes + node_count (newest values.new.items)) }
-    ensures fits { OnOk result (FitKids module.now depth found.now (newest values.new.items)) }
-    ensures text { OnOk result (is_no_text (label_of (newest values.new.items)) ≡ false) }
-    ensures gives { IsTrue K.told → Gives K.limit K.whole (λ _. newest values.new.items) result (spot run.new.bits.position run.new.nodes) run.new.stop run.new.bits.taken
+    ensures pushed { OnOk result (values.new ≡ added (newest values.new.kids) values.old) }
+    ensures count { OnOk result (run.new.nodes + 1 ≡ run.old.nodes + node_count (newest values.new.kids)) }
+    ensures fits { OnOk result (FitKids module.now depth found.now (newest values.new.kids)) }
+    ensures text { OnOk result (is_no_text (label_of (newest values.new.kids)) ≡ false) }
+    ensures gives { IsTrue K.told → Gives K.limit K.whole (λ _. newest values.new.kids) result (spot run.new.bits.position run.new.nodes) run.new.stop run.new.bits.taken
         (sequence_at (bodies.kid_at module.now depth) (label_of found.now) (kids_of found.now) parts.now) (spot run.old.bits.position run.old.nodes) }
     ensures failed { IsErrOf result Fault.Failed → HasRisen K.faults (S.faults run.new.bits.source.now) }
 {
     let mut present = Flags::none();
-    let count = presence(alloc, run, parts, &mut present)?;
-    let mut kids = with_room(alloc, count);
+    presence(alloc, run, parts, &mut present)?;
+    // The flags stand in the label once the components, which are told by them, are read.
+    values.open(ValueLabel::Sequence {
+        present: Flags::none(),
+    })?;
     components(
         alloc,
         module,
@@ -337,13 +336,14 @@ fn sequence<S: Source, K: Origin>(
         found,
         parts,
         present.items(),
-        &mut kids,
+        values,
     )?;
-    put(values, Tree::join(ValueLabel::Sequence { present }, kids))?;
+    let _none = values.relabel(ValueLabel::Sequence { present });
+    values.close();
     Ok(())
 }
 
-// The components of a SEQUENCE that are present, put into a list that is empty.
+// The components of a SEQUENCE that are present, put into a node that has no kids yet.
 #[inline(always)]
 #[cycle(nodes)]
 fn components<S: Source, K: Origin>(
@@ -354,20 +354,21 @@ fn components<S: Source, K: Origin>(
     found: &Tree<TypeLabel>,
     parts: &[Component],
     present: &[bool],
-    values: &mut Vec<Tree<ValueLabel>>,
+    values: &mut Builder<ValueLabel>,
 ) -> Result<(), Fault>
     requires depth { depth ≤ 64 }
     requires known { bodies.IsKnown module.now }
     requires of { IsOf module.now found.now }
     requires form { (label_of found.now).form ≡ form.Sequence parts.now }
     requires present { Present parts.now present.now }
-    requires empty { values.old.items ≡ [] }
+    requires empty { values.old.kids ≡ [] }
     requires in_step { IsInStep run.old.bits.position run.old.bits.taken }
     ensures same_reference { run.new.bits.source.ghost_name ≡ run.old.bits.source.ghost_name }
     ensures on { OnOk result (GoesOn run.old.bits.position run.new.bits.position run.new.bits.taken) }
-    ensures count { OnOk result (run.new.nodes ≡ run.old.nodes + count_all (roses_of values.new.items)) }
-    ensures fits { OnOk result (bodies.FitSome module.now depth (present_from (label_of found.now) 0 parts.now (kids_of found.now) present.now) (roses_of values.new.items)) }
-    ensures gives { IsTrue K.told → Gives K.limit K.whole (λ _. values.new.items) result (spot run.new.bits.position run.new.nodes) run.new.stop run.new.bits.taken
+    ensures above { OnOk result (values.new.above ≡ values.old.above) }
+    ensures count { OnOk result (run.new.nodes ≡ run.old.nodes + count_all (roses_of values.new.kids)) }
+    ensures fits { OnOk result (bodies.FitSome module.now depth (present_from (label_of found.now) 0 parts.now (kids_of found.now) present.now) (roses_of values.new.kids)) }
+    ensures gives { IsTrue K.told → Gives K.limit K.whole (λ _. values.new.kids) result (spot run.new.bits.position run.new.nodes) run.new.stop run.new.bits.taken
         (bodies.kids_read module.now depth (present_from (label_of found.now) 0 parts.now (kids_of found.now) present.now)) (spot run.old.bits.position run.old.nodes) }
     ensures failed { IsErrOf result Fault.Failed → HasRisen K.faults (S.faults run.new.bits.source.now) }
 {
@@ -393,7 +394,7 @@ fn choice<S: Source, K: Origin>(
     depth: u32,
     found: &Tree<TypeLabel>,
     parts: &[Component],
-    values: &mut Vec<Tree<ValueLabel>>,
+    values: &mut Builder<ValueLabel>,
 ) -> Result<(), Fault>
     requires depth { depth ≤ 64 }
     requires known { bodies.IsKnown module.now }
@@ -402,11 +403,11 @@ fn choice<S: Source, K: Origin>(
     requires in_step { IsInStep run.old.bits.position run.old.bits.taken }
     ensures same_reference { run.new.bits.source.ghost_name ≡ run.old.bits.source.ghost_name }
     ensures on { OnOk result (GoesOn run.old.bits.position run.new.bits.position run.new.bits.taken) }
-    ensures pushed { OnOk result (values.new.items ≡ values.old.items ++ newest values.new.items ∷ []) }
-    ensures count { OnOk result (run.new.nodes + 1 ≡ run.old.nodes + node_count (newest values.new.items)) }
-    ensures fits { OnOk result (FitKids module.now depth found.now (newest values.new.items)) }
-    ensures text { OnOk result (is_no_text (label_of (newest values.new.items)) ≡ false) }
-    ensures gives { IsTrue K.told → Gives K.limit K.whole (λ _. newest values.new.items) result (spot run.new.bits.position run.new.nodes) run.new.stop run.new.bits.taken
+    ensures pushed { OnOk result (values.new ≡ added (newest values.new.kids) values.old) }
+    ensures count { OnOk result (run.new.nodes + 1 ≡ run.old.nodes + node_count (newest values.new.kids)) }
+    ensures fits { OnOk result (FitKids module.now depth found.now (newest values.new.kids)) }
+    ensures text { OnOk result (is_no_text (label_of (newest values.new.kids)) ≡ false) }
+    ensures gives { IsTrue K.told → Gives K.limit K.whole (λ _. newest values.new.kids) result (spot run.new.bits.position run.new.nodes) run.new.stop run.new.bits.taken
         (choice_at (bodies.kid_at module.now depth) (label_of found.now) (kids_of found.now) parts.now) (spot run.old.bits.position run.old.nodes) }
     ensures failed { IsErrOf result Fault.Failed → HasRisen K.faults (S.faults run.new.bits.source.now) }
 {
@@ -414,9 +415,9 @@ fn choice<S: Source, K: Origin>(
     let kid = found.kid(index as usize);
     let to = resolve(module, kid);
     let inner = part_depth(found, index, to, depth);
-    let mut kids = with_room(alloc, 1);
-    node(alloc, module, run, inner, kid, to, &mut kids)?;
-    put(values, Tree::join(ValueLabel::Choice(index), kids))?;
+    values.open(ValueLabel::Choice(index))?;
+    node(alloc, module, run, inner, kid, to, values)?;
+    values.close();
     Ok(())
 }
 
@@ -432,7 +433,7 @@ fn sequence_of<S: Source, K: Origin>(
     part: &Component,
     min: u32,
     max: Option<u32>,
-    values: &mut Vec<Tree<ValueLabel>>,
+    values: &mut Builder<ValueLabel>,
 ) -> Result<(), Fault>
     requires depth { depth ≤ 64 }
     requires known { bodies.IsKnown module.now }
@@ -441,19 +442,19 @@ fn sequence_of<S: Source, K: Origin>(
     requires in_step { IsInStep run.old.bits.position run.old.bits.taken }
     ensures same_reference { run.new.bits.source.ghost_name ≡ run.old.bits.source.ghost_name }
     ensures on { OnOk result (GoesOn run.old.bits.position run.new.bits.position run.new.bits.taken) }
-    ensures pushed { OnOk result (values.new.items ≡ values.old.items ++ newest values.new.items ∷ []) }
-    ensures count { OnOk result (run.new.nodes + 1 ≡ run.old.nodes + node_count (newest values.new.items)) }
-    ensures fits { OnOk result (FitKids module.now depth found.now (newest values.new.items)) }
-    ensures text { OnOk result (is_no_text (label_of (newest values.new.items)) ≡ false) }
-    ensures gives { IsTrue K.told → Gives K.limit K.whole (λ _. newest values.new.items) result (spot run.new.bits.position run.new.nodes) run.new.stop run.new.bits.taken
+    ensures pushed { OnOk result (values.new ≡ added (newest values.new.kids) values.old) }
+    ensures count { OnOk result (run.new.nodes + 1 ≡ run.old.nodes + node_count (newest values.new.kids)) }
+    ensures fits { OnOk result (FitKids module.now depth found.now (newest values.new.kids)) }
+    ensures text { OnOk result (is_no_text (label_of (newest values.new.kids)) ≡ false) }
+    ensures gives { IsTrue K.told → Gives K.limit K.whole (λ _. newest values.new.kids) result (spot run.new.bits.position run.new.nodes) run.new.stop run.new.bits.taken
         (items_at (bodies.kid_at module.now depth) min max (bodies.item_place found.now part.now)) (spot run.old.bits.position run.old.nodes) }
     ensures failed { IsErrOf result Fault.Failed → HasRisen K.faults (S.faults run.new.bits.source.now) }
 {
     let item = found.kid(0);
     let inner = below(role(found.label(), 0), depth);
-    let mut items = list(alloc, module, run, inner, item, min, max)?;
-    trim(&mut items);
-    put(values, Tree::join(ValueLabel::SequenceOf, items))?;
+    values.open(ValueLabel::SequenceOf)?;
+    list(alloc, module, run, inner, item, min, max, values)?;
+    values.close();
     Ok(())
 }
 
@@ -467,18 +468,21 @@ fn list<S: Source, K: Origin>(
     item: &Tree<TypeLabel>,
     min: u32,
     max: Option<u32>,
-) -> Result<Vec<Tree<ValueLabel>>, Fault>
+    values: &mut Builder<ValueLabel>,
+) -> Result<(), Fault>
     requires depth { depth ≤ 65 }
     requires known { bodies.IsKnown module.now }
     requires of { IsOf module.now item.now }
     requires sizes { AreSizes min max }
+    requires empty { values.old.kids ≡ [] }
     requires in_step { IsInStep run.old.bits.position run.old.bits.taken }
     ensures same_reference { run.new.bits.source.ghost_name ≡ run.old.bits.source.ghost_name }
     ensures on { OnOk result (GoesOn run.old.bits.position run.new.bits.position run.new.bits.taken) }
-    ensures count { IfOk result (λ vs. run.new.nodes ≡ run.old.nodes + count_all (roses_of vs.items)) }
-    ensures fits { IfOk result (λ vs. bodies.FitAll module.now depth item.now vs.items) }
-    ensures size { IfOk result (λ vs. (min ≤ length vs.items) × (is_at_most (length vs.items) max ≡ true)) }
-    ensures gives { IsTrue K.told → Gives K.limit K.whole (λ vs. vs.items) result (spot run.new.bits.position run.new.nodes) run.new.stop run.new.bits.taken
+    ensures above { OnOk result (values.new.above ≡ values.old.above) }
+    ensures count { OnOk result (run.new.nodes ≡ run.old.nodes + count_all (roses_of values.new.kids)) }
+    ensures fits { OnOk result (bodies.FitAll module.now depth item.now values.new.kids) }
+    ensures size { OnOk result ((min ≤ length values.new.kids) × (is_at_most (length values.new.kids) max ≡ true)) }
+    ensures gives { IsTrue K.told → Gives K.limit K.whole (λ _. values.new.kids) result (spot run.new.bits.position run.new.nodes) run.new.stop run.new.bits.taken
         (list_at min max (λ n. bodies.many_at module.now depth n item.now)) (spot run.old.bits.position run.old.nodes) }
     ensures failed { IsErrOf result Fault.Failed → HasRisen K.faults (S.faults run.new.bits.source.now) }
 {
@@ -486,12 +490,12 @@ fn list<S: Source, K: Origin>(
         Some(most) => {
             if most < 65_536 {
                 let more = run.number(alloc, (most - min) as u128)? as u32;
-                items(alloc, module, run, depth, item, Vec::new(alloc), min + more)
+                items(alloc, module, run, depth, item, min + more, values)
             } else {
-                fragments(alloc, module, run, depth, item, min, max)
+                fragments(alloc, module, run, depth, item, min, max, values)
             }
         }
-        None => fragments(alloc, module, run, depth, item, min, None),
+        None => fragments(alloc, module, run, depth, item, min, None, values),
     }
 }
 
@@ -505,29 +509,32 @@ fn fragments<S: Source, K: Origin>(
     item: &Tree<TypeLabel>,
     min: u32,
     max: Option<u32>,
-) -> Result<Vec<Tree<ValueLabel>>, Fault>
+    values: &mut Builder<ValueLabel>,
+) -> Result<(), Fault>
     requires depth { depth ≤ 65 }
     requires known { bodies.IsKnown module.now }
     requires of { IsOf module.now item.now }
+    requires empty { values.old.kids ≡ [] }
     requires in_step { IsInStep run.old.bits.position run.old.bits.taken }
     ensures same_reference { run.new.bits.source.ghost_name ≡ run.old.bits.source.ghost_name }
     ensures on { OnOk result (GoesOn run.old.bits.position run.new.bits.position run.new.bits.taken) }
-    ensures count { IfOk result (λ vs. run.new.nodes ≡ run.old.nodes + count_all (roses_of vs.items)) }
-    ensures fits { IfOk result (λ vs. bodies.FitAll module.now depth item.now vs.items) }
-    ensures size { IfOk result (λ vs. (min ≤ length vs.items) × (is_at_most (length vs.items) max ≡ true)) }
-    ensures gives { IsTrue K.told → Gives K.limit K.whole (λ vs. vs.items) result (spot run.new.bits.position run.new.nodes) run.new.stop run.new.bits.taken
+    ensures above { OnOk result (values.new.above ≡ values.old.above) }
+    ensures count { OnOk result (run.new.nodes ≡ run.old.nodes + count_all (roses_of values.new.kids)) }
+    ensures fits { OnOk result (bodies.FitAll module.now depth item.now values.new.kids) }
+    ensures size { OnOk result ((min ≤ length values.new.kids) × (is_at_most (length values.new.kids) max ≡ true)) }
+    ensures gives { IsTrue K.told → Gives K.limit K.whole (λ _. values.new.kids) result (spot run.new.bits.position run.new.nodes) run.new.stop run.new.bits.taken
         (counted_at min max (λ n. bodies.many_at module.now depth n item.now)) (spot run.old.bits.position run.old.nodes) }
     ensures failed { IsErrOf result Fault.Failed → HasRisen K.faults (S.faults run.new.bits.source.now) }
 {
-    let mut values = Vec::new(alloc);
+    let mut total: usize = 0;
     let mut before = MOST_UNITS;
     'fragments: loop {
-        let total = values.as_slice().len();
         let piece = run.count(min, max, before, total)?;
         match piece {
-            Piece::Last(n) => return items(alloc, module, run, depth, item, values, n),
+            Piece::Last(n) => return items(alloc, module, run, depth, item, n, values),
             Piece::Units(k) => {
-                values = items(alloc, module, run, depth, item, values, k * UNIT)?;
+                items(alloc, module, run, depth, item, k * UNIT, values)?;
+                total += (k * UNIT) as usize;
                 before = k;
             }
         }
@@ -543,26 +550,27 @@ fn items<S: Source, K: Origin>(
     run: &mut Run<S, K>,
     depth: u32,
     item: &Tree<TypeLabel>,
-    mut values: Vec<Tree<ValueLabel>>,
     n: u32,
-) -> Result<Vec<Tree<ValueLabel>>, Fault>
+    values: &mut Builder<ValueLabel>,
+) -> Result<(), Fault>
     requires depth { depth ≤ 65 }
     requires known { bodies.IsKnown module.now }
     requires of { IsOf module.now item.now }
-    requires fit { bodies.FitAll module.now depth item.now values.items }
+    requires fit { bodies.FitAll module.now depth item.now values.old.kids }
     requires in_step { IsInStep run.old.bits.position run.old.bits.taken }
     ensures same_reference { run.new.bits.source.ghost_name ≡ run.old.bits.source.ghost_name }
     ensures on { OnOk result (GoesOn run.old.bits.position run.new.bits.position run.new.bits.taken) }
-    ensures count { IfOk result (λ vs. run.new.nodes + count_all (roses_of values.items) ≡ run.old.nodes + count_all (roses_of vs.items)) }
-    ensures fits { IfOk result (λ vs. bodies.FitAll module.now depth item.now vs.items) }
-    ensures size { IfOk result (λ vs. length vs.items ≡ length values.items + n) }
-    ensures gives { IsTrue K.told → Gives K.limit K.whole (λ vs. vs.items) result (spot run.new.bits.position run.new.nodes) run.new.stop run.new.bits.taken
-        (bodies.more_at module.now depth n item.now values.items) (spot run.old.bits.position run.old.nodes) }
+    ensures above { OnOk result (values.new.above ≡ values.old.above) }
+    ensures count { OnOk result (run.new.nodes + count_all (roses_of values.old.kids) ≡ run.old.nodes + count_all (roses_of values.new.kids)) }
+    ensures fits { OnOk result (bodies.FitAll module.now depth item.now values.new.kids) }
+    ensures size { OnOk result (length values.new.kids ≡ length values.old.kids + n) }
+    ensures gives { IsTrue K.told → Gives K.limit K.whole (λ _. values.new.kids) result (spot run.new.bits.position run.new.nodes) run.new.stop run.new.bits.taken
+        (bodies.more_at module.now depth n item.now values.old.kids) (spot run.old.bits.position run.old.nodes) }
     ensures failed { IsErrOf result Fault.Failed → HasRisen K.faults (S.faults run.new.bits.source.now) }
 {
     let found = resolve(module, item);
     'items: for _ in 0..n {
-        node(alloc, module, run, depth, item, found, &mut values)?;
+        node(alloc, module, run, depth, item, found, values)?;
     }
-    Ok(values)
+    Ok(())
 }

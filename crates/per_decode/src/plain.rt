@@ -1,17 +1,19 @@
-//! Texts of visible ASCII characters, which keep the rules of most types without their characters being told apart.
-ghost use Rattle.std.specs.Prelude.{◌≡◌, IsTrue};
+//! The rules of texts. Those of visible ASCII characters keep the rules of most types without their characters being told
+//! apart.
+ghost use Rattle.std.specs.Prelude.{◌≡◌, ◌↔◌, IsTrue};
 ghost use Rattle.std.specs.List.{list_all};
 ghost use Rattle.label_tree.specs.Rose.{label_of};
 ghost use Rattle.asn_types.specs.Modules.{AreWellFormed};
 ghost use Rattle.asn_types.specs.Values.{IsTextOf, OwnAt};
 ghost use Rattle.simple_types.specs.declared.labels.ValueLabel.TheVariants as value;
 ghost use Rattle.per_decode.specs.Private.Visible.{is_visible};
-ghost use Rattle.per_decode.specs.Private.Bodies.{text_leaf};
+ghost use Rattle.per_decode.specs.Private.Bodies.{IsText, text_leaf};
 
 use asn_types::{Form, Module, TypeLabel};
 use label_tree::Tree;
 use simple_types::Class;
-use simple_values::is_at_most;
+use simple_values::{has_characters, is_at_most};
+use xa_base::{Text, is_treated};
 
 #[inline(always)]
 fn are_visible(bytes: &[u8]) -> bool
@@ -47,5 +49,21 @@ pub(crate) fn is_plain(module: &Module, found: &Tree<TypeLabel>, bytes: &[u8]) -
     match &label.form {
         Form::Utf8 { .. } => is_plain_text(label, bytes),
         _ => false,
+    }
+}
+
+/// Whether a text keeps the rules of a type of texts, which is no reference.
+pub(crate) fn keeps_rules(module: &Module, found: &Tree<TypeLabel>, text: &Text) -> bool
+    requires well_formed { AreWellFormed module.now found.now }
+    requires text { IsText (label_of found.now).form }
+    ensures { IsTrue result ↔ OwnAt module.now (label_of found.now) found.now (text_leaf text.now) }
+{
+    let label = found.label();
+    match &label.form {
+        Form::Utf8 { min, max, class } => {
+            has_characters(*min, *max, *class, text.as_str())
+                && is_treated(label.marks.white_space(), text)
+        }
+        _ => unreachable!(),
     }
 }

@@ -1,25 +1,27 @@
 //! Nodes of text.
 ghost use Rattle.std.specs.Prelude.{◌≡◌, ℕ, [], ◌∷◌, ◌++◌, ◌<◌, ◌≤◌, ◌+◌, ◌-◌, ◌*◌, ◌^◌, List, None, IsUtf8, take, ◌⊎◌, ◌%◌, IfErr, OnOk, IsErrOf, IsTrue};
+ghost use Rattle.flat_tree.specs.Zips.{added};
+ghost use Rattle.label_tree.specs.Rose.{label_of};
 ghost use Rattle.bit_cursor.specs.Cursors.{IsInStep};
 ghost use Rattle.xa_base.specs.Faults.{HasRisen};
-ghost use Rattle.asn_types.specs.Refs.{IsOf, resolve};
+ghost use Rattle.asn_types.specs.Refs.{IsOf};
+ghost use Rattle.asn_types.specs.Refs as refs;
 ghost use Rattle.asn_types.specs.Values.{Own};
 ghost use Rattle.per_fields.specs.Reading.{octets_at};
 ghost use Rattle.per_fields.specs.Fields.{counted_at};
 ghost use Rattle.per_decode.specs.Private.Standing.{GoesOn};
 ghost use Rattle.per_decode.specs.Private.Giving.{Gives, spot};
-ghost use Rattle.per_decode.specs.Private.Bodies.{IsKnown, text_leaf, kept_by};
+ghost use Rattle.per_decode.specs.Private.Bodies.{IsKnown, IsText, text_leaf, kept_by};
 ghost use Rattle.per_decode.specs.Private.Newest.{newest};
 ghost use Rattle.per_decode.specs.Private.Kept.{octets_behind};
 ghost use Rattle.per_decode.specs.Private.Pieces.{piece_of, IsPiece};
 
 use crate::faults::{Fault, stopped};
 use crate::lengths::{MOST_UNITS, Piece};
-use crate::nodes::owned;
-use crate::plain::is_plain;
-use crate::room::put;
+use crate::plain::{is_plain, keeps_rules};
 use crate::run::{Origin, Run};
-use asn_types::{Module, TypeLabel};
+use asn_types::{Module, TypeLabel, resolve};
+use flat_tree::Builder;
 use label_tree::Tree;
 use per_fields::{Stop, Why};
 use simple_types::ValueLabel;
@@ -35,20 +37,21 @@ pub(crate) fn text<S: Source, K: Origin>(
     node: &Tree<TypeLabel>,
     found: &Tree<TypeLabel>,
     begin: u64,
-    values: &mut Vec<Tree<ValueLabel>>,
+    values: &mut Builder<ValueLabel>,
 ) -> Result<(), Fault>
     requires known { IsKnown module.now }
     requires of { IsOf module.now node.now }
-    requires found { found.now ≡ resolve module.now node.now }
+    requires text { IsText (label_of (refs.resolve module.now node.now)).form }
+    requires found { found.now ≡ refs.resolve module.now node.now }
     requires in_step { IsInStep run.old.bits.position run.old.bits.taken }
     ensures same_reference { run.new.bits.source.ghost_name ≡ run.old.bits.source.ghost_name }
     ensures on { OnOk result (GoesOn run.old.bits.position run.new.bits.position run.new.bits.taken) }
     ensures nodes { run.new.nodes ≡ run.old.nodes }
-    ensures pushed { OnOk result (values.new.items ≡ values.old.items ++ newest values.new.items ∷ []) }
-    ensures leaf { OnOk result ((text : List ℕ) × (newest values.new.items ≡ text_leaf text)) }
-    ensures own { OnOk result (Own module.now node.now (newest values.new.items)) }
-    ensures gives { IsTrue K.told → Gives K.limit K.whole (λ _. newest values.new.items) result (spot run.new.bits.position run.new.nodes) run.new.stop run.new.bits.taken
-        (kept_by module.now begin (resolve module.now node.now) (counted_at 0 None octets_at)) (spot run.old.bits.position run.old.nodes) }
+    ensures pushed { OnOk result (values.new ≡ added (newest values.new.kids) values.old) }
+    ensures leaf { OnOk result ((text : List ℕ) × (newest values.new.kids ≡ text_leaf text)) }
+    ensures own { OnOk result (Own module.now node.now (newest values.new.kids)) }
+    ensures gives { IsTrue K.told → Gives K.limit K.whole (λ _. newest values.new.kids) result (spot run.new.bits.position run.new.nodes) run.new.stop run.new.bits.taken
+        (kept_by module.now begin (refs.resolve module.now node.now) (counted_at 0 None octets_at)) (spot run.old.bits.position run.old.nodes) }
     ensures failed { IsErrOf result Fault.Failed → HasRisen K.faults (S.faults run.new.bits.source.now) }
 {
     let piece = run.count(0, None, MOST_UNITS, 0)?;
@@ -70,22 +73,23 @@ fn short_text<S: Source, K: Origin>(
     found: &Tree<TypeLabel>,
     begin: u64,
     n: u32,
-    values: &mut Vec<Tree<ValueLabel>>,
+    values: &mut Builder<ValueLabel>,
 ) -> Result<(), Fault>
     requires few { n ≤ 22 }
     requires known { IsKnown module.now }
     requires of { IsOf module.now node.now }
-    requires found { found.now ≡ resolve module.now node.now }
+    requires text { IsText (label_of (refs.resolve module.now node.now)).form }
+    requires found { found.now ≡ refs.resolve module.now node.now }
     requires aligned { run.old.bits.position % 8 ≡ 0 }
     requires in_step { IsInStep run.old.bits.position run.old.bits.taken }
     ensures same_reference { run.new.bits.source.ghost_name ≡ run.old.bits.source.ghost_name }
     ensures on { OnOk result (GoesOn run.old.bits.position run.new.bits.position run.new.bits.taken) }
     ensures nodes { run.new.nodes ≡ run.old.nodes }
-    ensures pushed { OnOk result (values.new.items ≡ values.old.items ++ newest values.new.items ∷ []) }
-    ensures leaf { OnOk result ((text : List ℕ) × (newest values.new.items ≡ text_leaf text)) }
-    ensures own { OnOk result (Own module.now node.now (newest values.new.items)) }
-    ensures gives { IsTrue K.told → Gives K.limit K.whole (λ _. newest values.new.items) result (spot run.new.bits.position run.new.nodes) run.new.stop run.new.bits.taken
-        (kept_by module.now begin (resolve module.now node.now) (octets_at n)) (spot run.old.bits.position run.old.nodes) }
+    ensures pushed { OnOk result (values.new ≡ added (newest values.new.kids) values.old) }
+    ensures leaf { OnOk result ((text : List ℕ) × (newest values.new.kids ≡ text_leaf text)) }
+    ensures own { OnOk result (Own module.now node.now (newest values.new.kids)) }
+    ensures gives { IsTrue K.told → Gives K.limit K.whole (λ _. newest values.new.kids) result (spot run.new.bits.position run.new.nodes) run.new.stop run.new.bits.taken
+        (kept_by module.now begin (refs.resolve module.now node.now) (octets_at n)) (spot run.old.bits.position run.old.nodes) }
     ensures failed { IsErrOf result Fault.Failed → HasRisen K.faults (S.faults run.new.bits.source.now) }
 {
     let mut bytes = [0u8; ROOM];
@@ -114,21 +118,22 @@ fn long_text<S: Source, K: Origin>(
     node: &Tree<TypeLabel>,
     begin: u64,
     first: Piece,
-    values: &mut Vec<Tree<ValueLabel>>,
+    values: &mut Builder<ValueLabel>,
 ) -> Result<(), Fault>
     requires piece { IsPiece first }
     requires known { IsKnown module.now }
     requires of { IsOf module.now node.now }
+    requires text { IsText (label_of (refs.resolve module.now node.now)).form }
     requires aligned { run.old.bits.position % 8 ≡ 0 }
     requires in_step { IsInStep run.old.bits.position run.old.bits.taken }
     ensures same_reference { run.new.bits.source.ghost_name ≡ run.old.bits.source.ghost_name }
     ensures on { OnOk result (GoesOn run.old.bits.position run.new.bits.position run.new.bits.taken) }
     ensures nodes { run.new.nodes ≡ run.old.nodes }
-    ensures pushed { OnOk result (values.new.items ≡ values.old.items ++ newest values.new.items ∷ []) }
-    ensures leaf { OnOk result ((text : List ℕ) × (newest values.new.items ≡ text_leaf text)) }
-    ensures own { OnOk result (Own module.now node.now (newest values.new.items)) }
-    ensures gives { IsTrue K.told → Gives K.limit K.whole (λ _. newest values.new.items) result (spot run.new.bits.position run.new.nodes) run.new.stop run.new.bits.taken
-        (kept_by module.now begin (resolve module.now node.now) (octets_behind (piece_of first))) (spot run.old.bits.position run.old.nodes) }
+    ensures pushed { OnOk result (values.new ≡ added (newest values.new.kids) values.old) }
+    ensures leaf { OnOk result ((text : List ℕ) × (newest values.new.kids ≡ text_leaf text)) }
+    ensures own { OnOk result (Own module.now node.now (newest values.new.kids)) }
+    ensures gives { IsTrue K.told → Gives K.limit K.whole (λ _. newest values.new.kids) result (spot run.new.bits.position run.new.nodes) run.new.stop run.new.bits.taken
+        (kept_by module.now begin (refs.resolve module.now node.now) (octets_behind (piece_of first))) (spot run.old.bits.position run.old.nodes) }
     ensures failed { IsErrOf result Fault.Failed → HasRisen K.faults (S.faults run.new.bits.source.now) }
 {
     let octets = run.octets_behind(alloc, first)?;
@@ -158,13 +163,14 @@ fn few_octets(
     begin: u64,
     end: u64,
     stop: &mut Stop,
-    values: &mut Vec<Tree<ValueLabel>>,
+    values: &mut Builder<ValueLabel>,
 ) -> Result<(), Fault>
     requires few { count ≤ 22 }
     requires known { IsKnown module.now }
     requires of { IsOf module.now node.now }
-    requires found { found.now ≡ resolve module.now node.now }
-    ensures pushed { OnOk result (values.new.items ≡ values.old.items ++ text_leaf (take count bytes.now) ∷ []) }
+    requires text { IsText (label_of (refs.resolve module.now node.now)).form }
+    requires found { found.now ≡ refs.resolve module.now node.now }
+    ensures pushed { OnOk result (values.new ≡ added (text_leaf (take count bytes.now)) values.old) }
     ensures ok { OnOk result (IsUtf8 (take count bytes.now) × Own module.now node.now (text_leaf (take count bytes.now))) }
     ensures err { IfErr result (λ fault. (fault ≡ Fault.Memory)
         ⊎ ((fault ≡ Fault.Stopped) × (stop.new ≡ record { bit = begin; why = Why.NotUtf8; end = end }) × (IsUtf8 (take count bytes.now) → ⊥))
@@ -173,19 +179,10 @@ fn few_octets(
     match Text::of_ascii(*bytes, count) {
         Some(text) => {
             if is_plain(module, found, &bytes[..count]) {
-                put(values, Tree::leaf(alloc, ValueLabel::Utf8(text)))?;
+                values.leaf(ValueLabel::Utf8(text))?;
                 return Ok(());
             }
-            owned(
-                alloc,
-                module,
-                node,
-                Tree::leaf(alloc, ValueLabel::Utf8(text)),
-                begin,
-                end,
-                stop,
-                values,
-            )
+            owned_text(module, node, text, begin, end, stop, values)
         }
         None => copied_text(
             alloc,
@@ -210,28 +207,46 @@ fn copied_text(
     begin: u64,
     end: u64,
     stop: &mut Stop,
-    values: &mut Vec<Tree<ValueLabel>>,
+    values: &mut Builder<ValueLabel>,
 ) -> Result<(), Fault>
     requires known { IsKnown module.now }
     requires of { IsOf module.now node.now }
-    ensures pushed { OnOk result (values.new.items ≡ values.old.items ++ text_leaf octets.now ∷ []) }
+    requires text { IsText (label_of (refs.resolve module.now node.now)).form }
+    ensures pushed { OnOk result (values.new ≡ added (text_leaf octets.now) values.old) }
     ensures ok { OnOk result (IsUtf8 octets.now × Own module.now node.now (text_leaf octets.now)) }
     ensures err { IfErr result (λ fault. (fault ≡ Fault.Memory)
         ⊎ ((fault ≡ Fault.Stopped) × (stop.new ≡ record { bit = begin; why = Why.NotUtf8; end = end }) × (IsUtf8 octets.now → ⊥))
         ⊎ ((fault ≡ Fault.Stopped) × (stop.new ≡ record { bit = begin; why = Why.NotAValue; end = end }) × IsUtf8 octets.now × (Own module.now node.now (text_leaf octets.now) → ⊥))) }
 {
     match Text::of(alloc, octets) {
-        Ok(text) => owned(
-            alloc,
-            module,
-            node,
-            Tree::leaf(alloc, ValueLabel::Utf8(text)),
-            begin,
-            end,
-            stop,
-            values,
-        ),
+        Ok(text) => owned_text(module, node, text, begin, end, stop, values),
         Err(TextError::NotUtf8) => Err(stopped(stop, begin, Why::NotUtf8, end)),
         Err(TextError::Memory) => Err(Fault::Memory),
+    }
+}
+
+// Puts a text that was read, from a bit to another, behind others, where it keeps the rules of its node.
+fn owned_text(
+    module: &Module,
+    node: &Tree<TypeLabel>,
+    text: Text,
+    begin: u64,
+    end: u64,
+    stop: &mut Stop,
+    values: &mut Builder<ValueLabel>,
+) -> Result<(), Fault>
+    requires known { IsKnown module.now }
+    requires of { IsOf module.now node.now }
+    requires text { IsText (label_of (refs.resolve module.now node.now)).form }
+    ensures pushed { OnOk result (values.new ≡ added (text_leaf text) values.old) }
+    ensures ok { OnOk result (Own module.now node.now (text_leaf text)) }
+    ensures err { IfErr result (λ fault. (fault ≡ Fault.Memory)
+        ⊎ ((fault ≡ Fault.Stopped) × (stop.new ≡ record { bit = begin; why = Why.NotAValue; end = end }) × (Own module.now node.now (text_leaf text) → ⊥))) }
+{
+    if keeps_rules(module, resolve(module, node), &text) {
+        values.leaf(ValueLabel::Utf8(text))?;
+        Ok(())
+    } else {
+        Err(stopped(stop, begin, Why::NotAValue, end))
     }
 }

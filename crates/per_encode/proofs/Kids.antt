@@ -1,7 +1,6 @@
 -- The kids of a value that fits, by the form of its type.
-use Rattle.std.proofs.Common.{◌≡◌, ℕ, zero, suc, ◌+◌, ◌-◌, ◌<◌, ◌≤◌, Bool, true, false, cond, leb, ◌&&◌, Option, Some, None, List, [], ◌∷◌, ◌++◌, length, get_or, take, drop, refl, sym, ap, ◌∙◌, subst, arith, inl, inr}
+use Rattle.std.proofs.Common.{◌≡◌, ℕ, zero, suc, ◌+◌, ◌-◌, ◌<◌, ◌≤◌, Bool, true, false, cond, leb, ◌&&◌, Option, Some, None, List, [], ◌∷◌, ◌++◌, length, get_or, drop, refl, sym, ap, ◌∙◌, subst, arith}
 use Rattle.std.specs.Prelude.{map, replicate, slice_get, ℤ}
-use Rattle.std.proofs.lemmas.Bool.{cases_lt}
 use Rattle.std.proofs.lemmas.List.{drop_more, append-nil}
 use Rattle.std.proofs.lemmas.Option.{slice_get_within}
 use Rattle.label_tree.specs.Rose.{Rose, node, Roses, none, more, roses_of, list_of, label_of, kids_of, length_all}
@@ -267,11 +266,6 @@ all_of-drop P xs zero h = h
 all_of-drop P [] (suc i) h = h
 all_of-drop P (x ∷ xs) (suc i) h = all_of-drop P xs i h.1
 
-pub all_of-take : {A : Type 0} (P : A → Type 0) (xs : List A) (i : ℕ) → AllOf P xs → AllOf P (take i xs)
-all_of-take P xs zero h = tt
-all_of-take P [] (suc i) h = tt
-all_of-take P (x ∷ xs) (suc i) h = (h.0, all_of-take P xs i h.1)
-
 -- the first of what is left
 pub left_first : {A : Type 0} (xs : List A) (i : ℕ) (x : A) → i < length xs → x ≡ get_or xs i x → drop i xs ≡ x ∷ drop (i + 1) xs
 left_first xs i x less here = drop_more xs i x less ∙ ap (λ y. y ∷ drop (i + 1) xs) (sym here)
@@ -293,16 +287,21 @@ module _ (ts : List (Rose TypeLabel)) (flags : List Bool) (i : ℕ) (less : i < 
       ap (λ us. chosen us (drop i flags)) (t.1 ∙ ap (λ j. t.0 ∷ drop j ts) e)
       ∙ ap (λ fs. chosen (t.0 ∷ drop (i + 1) ts) fs) (drop_more flags i false less ∙ ap (λ f. f ∷ drop (i + 1) flags) off)
 
+  pub left_due : length flags ≤ length ts → get_or flags i false ≡ true → (t : Rose TypeLabel) × (chosen (drop i ts) (drop i flags) ≡ t ∷ chosen (drop (i + 1) ts) (drop (i + 1) flags))
+  left_due types on =
+      let t = left_some ts i (omega (arith, less, types)) in
+      let e : suc i ≡ i + 1 = omega arith in (
+        t.0,
+        ap (λ us. chosen us (drop i flags)) (t.1 ∙ ap (λ j. t.0 ∷ drop j ts) e)
+            ∙ ap (λ fs. chosen (t.0 ∷ drop (i + 1) ts) fs) (drop_more flags i false less ∙ ap (λ f. f ∷ drop (i + 1) flags) on),
+      )
+
   pub left_present : (t : Rose TypeLabel) → i < length ts → t ≡ get_or ts i t → get_or flags i false ≡ true → chosen (drop i ts) (drop i flags) ≡ t ∷ chosen (drop (i + 1) ts) (drop (i + 1) flags)
   left_present t inside here on =
       ap (λ us. chosen us (drop i flags)) (left_first ts i t inside here)
       ∙ ap (λ fs. chosen (t ∷ drop (i + 1) ts) fs) (drop_more flags i false less ∙ ap (λ f. f ∷ drop (i + 1) flags) on)
 
 module _ (M : List Assignment) where
-  -- where a type is left, a value is left
-  pub kid_left : (t : Rose TypeLabel) (ts : List (Rose TypeLabel)) (vs : List (Rose ValueLabel)) (i : ℕ) → AllFit M (t ∷ ts) (drop i vs) → i < length vs
-  kid_left t ts vs i h = elim (cases_lt i (length vs)) [ inl less ↦ less | inr past ↦ absurd (subst (AllFit M (t ∷ ts)) (drop-past i vs past) h) ]
-
   pub kid_first : (t : Rose TypeLabel) (ts : List (Rose TypeLabel)) (vs ws : List (Rose ValueLabel)) (v : Rose ValueLabel) → vs ≡ v ∷ ws → AllFit M (t ∷ ts) vs → FitsSomewhere M t v × AllFit M ts ws
   kid_first t ts vs ws v is h = subst (AllFit M (t ∷ ts)) is h
 

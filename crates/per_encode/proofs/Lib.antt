@@ -1,3 +1,4 @@
 pub mod Puts
 pub mod Kids
 pub mod Bits
+pub mod Taken

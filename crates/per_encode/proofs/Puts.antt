@@ -1,5 +1,5 @@
 -- What was put, one behind the other, and in fragments.
-use Rattle.std.proofs.Common.{◌≡◌, ℕ, ◌+◌, ◌-◌, ◌*◌, ◌%◌, ◌<◌, ◌≤◌, Bool, true, false, cond, ltb, List, [], ◌∷◌, ◌++◌, length, refl, sym, ap, ◌∙◌, arith, append_assoc, take, drop, Result, Ok, Err, map}
+use Rattle.std.proofs.Common.{◌≡◌, ℕ, ◌+◌, ◌-◌, ◌*◌, ◌%◌, ◌<◌, ◌≤◌, Bool, true, false, cond, ltb, List, [], ◌∷◌, ◌++◌, length, refl, sym, ap, ◌∙◌, subst, arith, append_assoc, take, drop, Result, Ok, Err, map}
 use Rattle.std.specs.Prelude.{OnOk, ℤ}
 use Rattle.std.proofs.lemmas.List.{length-append, length-drop, drop-drop, length-replicate, append-nil, take_rest}
 use Rattle.bit_cursor.specs.Bits.{bits, gap, padding}
@@ -46,38 +46,53 @@ unfolding in_turn
 nothing_left sink p = append-nil sink
 
 -- a fragment was put: what is left behind it makes the whole
-pub fragment_put : {A : Type 0} (f : A → Writer) (xs : List A) (at k : ℕ) (old sink mid new : List Bool) → 16384 ≤ length xs - at → units_of (length xs - at) ≡ k
-    → mid ≡ sink ++ head_bits (Units k) (length sink) → new ≡ mid ++ in_turn (map f (take (at + k * 16384 - at) (drop at xs))) (length mid)
-    → sink ++ counted_bits (map f (drop at xs)) (length sink) ≡ old → new ++ counted_bits (map f (drop (at + k * 16384) xs)) (length new) ≡ old
-fragment_put f xs at k old sink mid new long is head items so_far =
-    let ys = drop at xs in
-    let ws = map f ys in
+pub fragment_taken : {A : Type 0} (f : A → Writer) (xs : List A) (k : ℕ) (old sink mid new : List Bool) → 16384 ≤ length xs → units_of (length xs) ≡ k
+    → mid ≡ sink ++ head_bits (Units k) (length sink) → new ≡ mid ++ in_turn (map f (take (k * 16384) xs)) (length mid)
+    → sink ++ counted_bits (map f xs) (length sink) ≡ old → new ++ counted_bits (map f (drop (k * 16384) xs)) (length new) ≡ old
+fragment_taken f xs k old sink mid new long is head items so_far =
+    let ws = map f xs in
     let p = length sink in
-    let m : length ws ≡ length xs - at = map-length f ys ∙ length-drop at xs in
-    let z : at + k * 16384 - at ≡ k * 16384 = omega arith in
+    let m : length ws ≡ length xs = map-length f xs in
     let us = take (k * 16384) ws in
-    let rest = map f (drop (at + k * 16384) xs) in
+    let rest = map f (drop (k * 16384) xs) in
     let whole = new ++ counted_bits rest (length new) in
-    let first : new ≡ mid ++ in_turn us (length mid) =
-    items ∙ ap (λ j. mid ++ in_turn (map f (take j ys)) (length mid)) z ∙ ap (λ vs. mid ++ in_turn vs (length mid)) (sym (map-take f (k * 16384) ys)) in
-    let d : rest ≡ drop (k * 16384) ws = ap (map f) (sym (drop-drop (k * 16384) at xs)) ∙ sym (map-drop f (k * 16384) ys) in
+    let first : new ≡ mid ++ in_turn us (length mid) = items ∙ ap (λ vs. mid ++ in_turn vs (length mid)) (sym (map-take f (k * 16384) xs)) in
+    let d : rest ≡ drop (k * 16384) ws = sym (map-drop f (k * 16384) xs) in
     let behind : whole ≡ mid ++ then_bits (in_turn us (length mid)) (counted_bits rest) (length mid) = then_written mid new whole (in_turn us (length mid)) (counted_bits rest) first refl in
     then_written sink mid whole (head_bits (Units k) p) (λ r. then_bits (in_turn us r) (counted_bits rest) r) head behind
     ∙ ap (λ vs. sink ++ then_bits (head_bits (Units k) p) (λ r. then_bits (in_turn us r) (counted_bits vs) r) p) d
     ∙ ap (λ bs. sink ++ bs) (sym (counted-more ws p k (omega (arith, long, m)) (ap units_of m ∙ is))) ∙ so_far
 
 -- the last length and what stands behind it were put
+pub last_taken : {A : Type 0} (f : A → Writer) (xs : List A) (old sink mid new : List Bool) → length xs < 16384
+    → sink ++ counted_bits (map f xs) (length sink) ≡ old → mid ≡ sink ++ head_bits (Last (length xs)) (length sink)
+    → new ≡ mid ++ in_turn (map f xs) (length mid) → new ≡ old
+last_taken f xs old sink mid new short so_far head items =
+    let ws = map f xs in
+    let p = length sink in
+    let m : length ws ≡ length xs = map-length f xs in
+    then_written sink mid new (head_bits (Last (length xs)) p) (in_turn ws) head items
+    ∙ ap (λ n. sink ++ then_bits (head_bits (Last n) p) (in_turn ws) p) (sym m)
+    ∙ ap (λ bs. sink ++ bs) (sym (counted-last ws p (omega (arith, short, m)))) ∙ so_far
+
+-- the same of a list from a number on
+pub fragment_put : {A : Type 0} (f : A → Writer) (xs : List A) (at k : ℕ) (old sink mid new : List Bool) → 16384 ≤ length xs - at → units_of (length xs - at) ≡ k
+    → mid ≡ sink ++ head_bits (Units k) (length sink) → new ≡ mid ++ in_turn (map f (take (at + k * 16384 - at) (drop at xs))) (length mid)
+    → sink ++ counted_bits (map f (drop at xs)) (length sink) ≡ old → new ++ counted_bits (map f (drop (at + k * 16384) xs)) (length new) ≡ old
+fragment_put f xs at k old sink mid new long is head items so_far =
+    let ys = drop at xs in
+    let n : length ys ≡ length xs - at = length-drop at xs in
+    let z : at + k * 16384 - at ≡ k * 16384 = omega arith in
+    subst (λ zs. new ++ counted_bits (map f zs) (length new) ≡ old) (drop-drop (k * 16384) at xs)
+    (fragment_taken f ys k old sink mid new (omega (arith, long, n)) (ap units_of n ∙ is) head (items ∙ ap (λ j. mid ++ in_turn (map f (take j ys)) (length mid)) z) so_far)
+
 pub last_put : {A : Type 0} (f : A → Writer) (xs : List A) (at : ℕ) (old sink mid new : List Bool) → length xs - at < 16384
     → sink ++ counted_bits (map f (drop at xs)) (length sink) ≡ old → mid ≡ sink ++ head_bits (Last (length xs - at)) (length sink)
     → new ≡ mid ++ in_turn (map f (take (length xs - at) (drop at xs))) (length mid) → new ≡ old
 last_put f xs at old sink mid new short so_far head put =
-    let items : new ≡ mid ++ in_turn (map f (drop at xs)) (length mid) = put ∙ ap (λ ys. mid ++ in_turn (map f ys) (length mid)) (take_rest xs at) in
-    let ws = map f (drop at xs) in
-    let p = length sink in
-    let m : length ws ≡ length xs - at = map-length f (drop at xs) ∙ length-drop at xs in
-    then_written sink mid new (head_bits (Last (length xs - at)) p) (in_turn ws) head items
-    ∙ ap (λ n. sink ++ then_bits (head_bits (Last n) p) (in_turn ws) p) (sym m)
-    ∙ ap (λ bs. sink ++ bs) (sym (counted-last ws p (omega (arith, short, m)))) ∙ so_far
+    let n : length (drop at xs) ≡ length xs - at = length-drop at xs in
+    last_taken f (drop at xs) old sink mid new (omega (arith, short, n)) so_far (head ∙ ap (λ j. sink ++ head_bits (Last j) (length sink)) (sym n))
+    (put ∙ ap (λ ys. mid ++ in_turn (map f ys) (length mid)) (take_rest xs at))
 
 -- octets behind their length
 pub counted_put : (old a b new head octets : List Bool) → a ≡ old ++ padding (length old) → b ≡ a ++ head → new ≡ b ++ octets → new ≡ old ++ (padding (length old) ++ (head ++ octets))

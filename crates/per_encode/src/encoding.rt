@@ -33,6 +33,6 @@ pub fn encode(alloc: Global, module: &Module, t: u32, value: &Value) -> Result<V
     let mut sink = BitSink::new(alloc);
     let body = module.assignment(t).body.root();
     let root = value.root();
-    put_node(&mut sink, module, body, root)?;
+    put_node(&mut sink, module, body, &root)?;
     whole_octets(sink)
 }

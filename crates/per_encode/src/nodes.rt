@@ -1,5 +1,5 @@
 //! The nodes of a value.
-ghost use Rattle.std.specs.Prelude.{◌≡◌, ◌≤◌, ◌++◌, OnOk, map, length, true};
+ghost use Rattle.std.specs.Prelude.{◌≡◌, ◌≤◌, ◌++◌, OnOk, map, length, take, drop, true};
 ghost use Rattle.simple_values.specs.Lexical.{is_at_most};
 ghost use Rattle.per_fields.specs.Codec.{AllOf};
 ghost use Rattle.per_fields.specs.Fields.{in_turn, counted_bits, list_bits};
@@ -13,6 +13,7 @@ use crate::texts::put_text;
 use crate::whole_numbers::put_whole;
 use asn_types::{Form, Module, TypeLabel, resolve};
 use bit_cursor::BitSink;
+use flat_tree::{Kids, Node};
 use label_tree::Tree;
 use simple_types::ValueLabel;
 use xa_base::Memory;
@@ -24,35 +25,43 @@ fn put_parts(
     module: &Module,
     types: &[Tree<TypeLabel>],
     present: &[bool],
-    values: &[Tree<ValueLabel>],
+    values: &Kids<'_, ValueLabel>,
 ) -> Result<(), Memory>
     requires types { length present.now ≤ length types.now }
     requires fit { AllFit module.now (chosen types.now present.now) values.now }
     ensures { OnOk result (sink.new ≡ sink.old ++ in_turn (writers module.now (chosen types.now present.now) values.now) (length sink.old)) }
 {
-    let mut next: usize = 0;
+    let mut left = values.again();
     'parts: for i in 0..present.len() {
         if present[i] {
-            put_node(sink, module, &types[i], &values[next])?;
-            next += 1;
+            match left.next() {
+                Some(value) => put_node(sink, module, &types[i], &value)?,
+                None => unreachable!(),
+            }
         }
     }
     Ok(())
 }
 
-// Items, one behind the other.
+// So many items, one behind the other, which it takes.
 #[cycle(encoding)]
 fn put_items(
     sink: &mut BitSink,
     module: &Module,
     node: &Tree<TypeLabel>,
-    values: &[Tree<ValueLabel>],
+    values: &mut Kids<'_, ValueLabel>,
+    n: usize,
 ) -> Result<(), Memory>
-    requires { AllOf (FitsSomewhere module.now node.now) values.now }
-    ensures { OnOk result (sink.new ≡ sink.old ++ in_turn (map (per module.now node.now) values.now) (length sink.old)) }
+    requires within { n ≤ length values.old }
+    requires fit { AllOf (FitsSomewhere module.now node.now) values.old }
+    ensures sink { OnOk result (sink.new ≡ sink.old ++ in_turn (map (per module.now node.now) (take n values.old)) (length sink.old)) }
+    ensures rest { OnOk result (values.new ≡ drop n values.old) }
 {
-    'items: for value in values {
-        put_node(sink, module, node, value)?;
+    'items: for _ in 0..n {
+        match values.next() {
+            Some(value) => put_node(sink, module, node, &value)?,
+            None => unreachable!(),
+        }
     }
     Ok(())
 }
@@ -63,20 +72,21 @@ fn put_fragments(
     sink: &mut BitSink,
     module: &Module,
     node: &Tree<TypeLabel>,
-    values: &[Tree<ValueLabel>],
+    values: &Kids<'_, ValueLabel>,
 ) -> Result<(), Memory>
     requires { AllOf (FitsSomewhere module.now node.now) values.now }
     ensures { OnOk result (sink.new ≡ sink.old ++ counted_bits (map (per module.now node.now) values.now) (length sink.old)) }
 {
-    let mut at: usize = 0;
-    'fragments: while UNIT <= values.len() - at {
-        let units = ((values.len() - at) / UNIT).min(4);
+    let mut left = values.again();
+    let mut count = left.len();
+    'fragments: while UNIT <= count {
+        let units = (count / UNIT).min(4);
         put_units(sink, units)?;
-        put_items(sink, module, node, &values[at..at + units * UNIT])?;
-        at += units * UNIT;
+        put_items(sink, module, node, &mut left, units * UNIT)?;
+        count -= units * UNIT;
     }
-    put_last_length(sink, values.len() - at)?;
-    put_items(sink, module, node, &values[at..])
+    put_last_length(sink, count)?;
+    put_items(sink, module, node, &mut left, count)
 }
 
 // The items of a SEQUENCE OF behind their count (clause 20).
@@ -88,7 +98,7 @@ fn put_list(
     node: &Tree<TypeLabel>,
     min: u32,
     max: Option<u32>,
-    values: &[Tree<ValueLabel>],
+    values: &Kids<'_, ValueLabel>,
 ) -> Result<(), Memory>
     requires least { min ≤ length values.now }
     requires most { is_at_most (length values.now) max ≡ true }
@@ -97,9 +107,10 @@ fn put_list(
 {
     match max {
         Some(max) if max < 65_536 => {
-            let count = values.len() - min as usize;
-            put_number(sink, u128::from(max - min), count as u128)?;
-            put_items(sink, module, node, values)
+            let count = values.len();
+            put_number(sink, u128::from(max - min), (count - min as usize) as u128)?;
+            let mut left = values.again();
+            put_items(sink, module, node, &mut left, count)
         }
         _ => put_fragments(sink, module, node, values),
     }
@@ -111,7 +122,7 @@ fn put_content(
     sink: &mut BitSink,
     module: &Module,
     node: &Tree<TypeLabel>,
-    value: &Tree<ValueLabel>,
+    value: &Node<'_, ValueLabel>,
 ) -> Result<(), Memory>
     requires { KidsFit module.now node.now value.now }
     ensures { OnOk result (sink.new ≡ sink.old ++ resolved_bits module.now node.now value.now (length sink.old)) }
@@ -145,7 +156,7 @@ fn put_content(
                 let types = node.kids();
                 let values = value.kids();
                 put_flags(sink, components, present)?;
-                put_parts(sink, module, types, present, values)
+                put_parts(sink, module, types, present, &values)
             }
             _ => unreachable!(),
         },
@@ -155,7 +166,7 @@ fn put_content(
                 put_index(sink, alternatives.len(), *i)?;
                 let alternative = node.kid(*i as usize);
                 let inner = value.kid(0);
-                put_node(sink, module, alternative, inner)
+                put_node(sink, module, alternative, &inner)
             }
             _ => unreachable!(),
         },
@@ -163,7 +174,7 @@ fn put_content(
             ValueLabel::SequenceOf => {
                 let item = node.kid(0);
                 let items = value.kids();
-                put_list(sink, module, item, *min, *max, items)
+                put_list(sink, module, item, *min, *max, &items)
             }
             _ => unreachable!(),
         },
@@ -177,7 +188,7 @@ pub(crate) fn put_node(
     sink: &mut BitSink,
     module: &Module,
     node: &Tree<TypeLabel>,
-    value: &Tree<ValueLabel>,
+    value: &Node<'_, ValueLabel>,
 ) -> Result<(), Memory>
     requires { FitsSomewhere module.now node.now value.now }
     ensures { OnOk result (sink.new ≡ sink.old ++ per module.now node.now value.now (length sink.old)) }

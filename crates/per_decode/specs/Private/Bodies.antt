@@ -36,6 +36,11 @@ abbrev pub IsNoText : Form → Type 0
 IsNoText (form.Utf8 least most class) = ⊥
 IsNoText _ = Unit {0}
 
+-- a text
+abbrev pub IsText : Form → Type 0
+IsText (form.Utf8 least most class) = Unit {0}
+IsText _ = ⊥
+
 -- no kids, and no reference
 abbrev pub is_leaf : Form → Bool
 is_leaf form.Bool = true

@@ -1,4 +1,4 @@
--- The value that was read onto a list.
+-- The value that was read behind others.
 use Rattle.std.specs.Prelude.{List, [], ◌∷◌, false}
 use Rattle.label_tree.specs.Rose.{Rose, node, none}
 use Rattle.simple_types.specs.declared.labels.ValueLabel.{ValueLabel}

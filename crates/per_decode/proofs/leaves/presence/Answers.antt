@@ -1,4 +1,4 @@
-use Rattle.std.proofs.Common.{arith, rules, sym, ◌∙◌, subst}
+use Rattle.std.proofs.Common.{arith, sym, ◌∙◌, subst}
 use Rattle.std.proofs.lemmas.List.{drop_all}
 use Rattle.std.proofs.lemmas.Result.{err_from_is_err_and}
 use Rattle.per_fields.specs.Nodes.{flag_at}
@@ -37,7 +37,6 @@ parts-preserved g c =
     record {
       in_step = c.in_ok-there.ensures.on.1;
       on = omega (arith, c.in_ok-there.ensures.on.0, c.parts.invariant.on);
-      few = search rules;
       nodes = c.presence_bit.ensures.nodes ∙ c.parts.invariant.nodes;
       same = c.presence_bit.ensures.same_reference ∙ c.parts.invariant.same;
       present = rw c.in_ok-push.ensures (present_more c.args.parts.now c.parts.part-index c.parts.present c.part-item.result c.in_ok-there.there c.parts-test.true c.part-item.is c.parts.invariant.present c.in_ok-there.ensures.there);

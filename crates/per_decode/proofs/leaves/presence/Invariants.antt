@@ -11,7 +11,6 @@ abbrev pub invariant-parts : goal.invariant-parts
 invariant-parts g l = record {
   in_step : IsInStep l.run.bits.position l.run.bits.taken;
   on : l.fn.run.bits.position ≤ l.run.bits.position;
-  few : l.count ≤ l.part-index;
   nodes : l.run.nodes ≡ l.fn.run.nodes;
   same : l.run.bits.source.ghost_name ≡ l.fn.run.bits.source.ghost_name;
   present : Present (take l.part-index l.parts) l.present;

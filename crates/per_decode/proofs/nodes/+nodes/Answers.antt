@@ -2,6 +2,7 @@ use Rattle.std.proofs.Common.{rules, arith, refl, sym, ap, ◌∙◌, subst, ◌
 use Rattle.std.specs.Prelude.{slice_get}
 use Rattle.std.proofs.lemmas.List.{length-append, drop_all}
 use Rattle.std.proofs.lemmas.Result.{err_from_is_err_and, on_ok_weaker}
+use Rattle.flat_tree.specs.Zips.{closed}
 use Rattle.label_tree.specs.Rose.{Rose, node, label_of, kids_of, roses_of}
 use Rattle.simple_types.specs.declared.labels.ValueLabel.TheVariants as value
 use Rattle.asn_types.specs.declared.types.Form.TheVariants as form
@@ -16,17 +17,17 @@ use Rattle.asn_types.proofs.Chaining.{resolved-of-module, well-formed}
 use Rattle.asn_types.proofs.Counting.{replicate-drop, fits-from_kids}
 use Rattle.per_fields.specs.Fields.{fragments_at, counted_at, list_at}
 use Rattle.per_fields.specs.Nodes.{items_at, is_no_text}
-use Rattle.per_decode.specs.Private.Giving.{halt_of, input, spot, end_of, FailsAt, Gives}
+use Rattle.per_decode.specs.Private.Giving.{halt_of, memory, input, spot, FailsAt, Gives}
 use Rattle.per_decode.specs.Private.Bodies.{HasFields, IsNoText, fields_at, kid_at, node_of, many_at, FitAll}
 use Rattle.per_decode.proofs.Bodies.{node-deep, node-many, node-goes, fields_fail, text-body, body_gives, body_plain}
 use Rattle.per_decode.proofs.EndNodes.{sits-node}
-use Rattle.per_decode.proofs.Fitting.{count-push, all-push, own_fits, own_counts, text_fits, fit-bool, fit-int, fit-numbers, fit-words, fit-sequence, fit-choice, fit-list}
-use Rattle.per_decode.proofs.Forms.{shows_as, fields-bool, fields-int, fields-numbers, fields-words, fields-sequence, fields-choice, fields-list, sequence_fails, sequence_reads, components_fail, choice_fails, choice_reads, alternative_fails}
-use Rattle.per_decode.proofs.Lists.{steady-items, list-none, list-large, count_fails, count_told, list_fails, list_reads}
+use Rattle.per_decode.proofs.Fitting.{length-count, count-push, all-push, own_fits, own_counts, text_fits, fit-bool, fit-int, fit-numbers, fit-words, fit-sequence, fit-choice, fit-list}
+use Rattle.per_decode.proofs.Forms.{shows_as, fields-bool, fields-int, fields-numbers, fields-words, fields-sequence, fields-choice, fields-list, sequence_fails, sequence_reads, components_fail, components_full, choice_fails, choice_reads, alternative_fails, alternative_full}
+use Rattle.per_decode.proofs.Lists.{steady-items, list-none, list-large, count_fails, count_told, list_fails, list_full, list_reads}
 use Rattle.per_decode.proofs.Loop.{with_front, each_more, each_fails, each_done, through_none, through_skip, through_more, through_fails, through_end, through_fit}
 use Rattle.per_decode.specs.Private.Newest.{newest}
 use Rattle.per_decode.proofs.NoKids.{needs, needs-kids, needs-resolved, inner_here}
-use Rattle.per_decode.proofs.Newest.{newest-pushed, newest-told, pushed-newest, pushed-told}
+use Rattle.per_decode.proofs.Newest.{newest-pushed, newest-told, pushed-newest, pushed-told, closed-list, closed-one, closed-labeled}
 use Rattle.per_decode.proofs.Parts.{kids-parts, bounds_ordered, numbers_counted, words_counted, components_few, alternatives_counted, sizes_ordered, got, got_split, flag_split, copies-none, part_there, kid_here}
 use Rattle.per_decode.proofs.Presence.{present-length, places_there}
 use Rattle.per_decode.proofs.Standing.{stands_inside}
@@ -52,7 +53,7 @@ pub node-returns-clause-gives : goal.node-returns-clause-gives
 node-returns-clause-gives g t c = λ told.
     let run = c.args.run.now in
     let goes = node-goes c.args.module.now c.requires.known c.args.depth c.args.node.now c.requires.of (input g.K.Origin.limit g.K.Origin.whole) (spot run.bits.position run.nodes) c.if-depth-gt-MOST_DEEP.false c.if-run-ge-MOST_NODES.false in
-    shows_as g.K.Origin.limit g.K.Origin.whole (λ _. newest c.body.new.values.items) c.body.result _ _ _ _ _ goes (rw c.position-begin.ensures at (c.body.ensures.gives told))
+    shows_as g.K.Origin.limit g.K.Origin.whole (λ _. newest c.body.new.values.kids) c.body.result _ _ _ _ _ goes (rw c.position-begin.ensures at (c.body.ensures.gives told))
 
 -- ITS FIELDS AND ITS RULES
 
@@ -60,7 +61,7 @@ pub body-returns-in-Utf8 : goal.body-returns-in-Utf8
 body-returns-in-Utf8 g t c =
     let M = c.args.module.now in
     let u = c.args.node.now in
-    let v = newest c.text.new.values.items in
+    let v = newest c.text.new.values.kids in
     let is : (label_of (resolve M u)).form ≡ form.Utf8 c.in-Utf8.min c.in-Utf8.max c.in-Utf8.class = ap (λ (u : Rose TypeLabel). (label_of u).form) (sym c.requires.found) ∙ ap (λ (l : TypeLabel). l.form) (sym c.label.ensures) ∙ c.in-Utf8.is in
     record {
       same_reference = search rules;
@@ -93,7 +94,7 @@ pub body-returns-then-has_no_rules : goal.body-returns-then-has_no_rules
 body-returns-then-has_no_rules g t c =
     let M = c.args.module.now in
     let own = subst (λ u. (v : Rose ValueLabel) → OwnAt M (label_of u) u v) c.requires.found (c.has_no_rules.ensures.own c.if-has_no_rules.true) in
-    let v = newest c.fields.new.values.items in
+    let v = newest c.fields.new.values.kids in
     record {
       same_reference = search rules;
       on = search rules;
@@ -138,16 +139,16 @@ ruled-returns-in_err-fields g t c =
 pub ruled-returns : goal.ruled-returns
 ruled-returns g t c =
     let M = c.args.module.now in
-    let v = c.in-Some.value in
-    let w = newest c.owned.new.values.items in
-    let is : newest c.fields.new.values.items ≡ v = newest-pushed _ _ _ c.in-Some.ensures.items in
+    let v = c.finish_one.result in
+    let w = newest c.owned.new.values.kids in
+    let is : newest c.fields.new.values.kids ≡ v = ap newest c.finish_one.ensures in
     let same = newest-told c.owned.result _ _ v c.owned.ensures.pushed in
     record {
       same_reference = search rules;
       on = search rules;
       pushed = pushed-told c.owned.result _ _ v c.owned.ensures.pushed;
       count = own_counts _ _ v w c.owned.result (rw is at c.in_ok-fields.ensures.count) same;
-      fits = own_fits M c.args.depth c.args.node.now v w c.owned.result c.requires.depth (subst (FitKids M c.args.depth (resolve M c.args.node.now)) is (subst (λ u. FitKids M c.args.depth u (newest c.fields.new.values.items)) c.requires.found c.in_ok-fields.ensures.fits)) same c.owned.ensures.ok;
+      fits = own_fits M c.args.depth c.args.node.now v w c.owned.result c.requires.depth (subst (FitKids M c.args.depth (resolve M c.args.node.now)) is (subst (λ u. FitKids M c.args.depth u (newest c.fields.new.values.kids)) c.requires.found c.in_ok-fields.ensures.fits)) same c.owned.ensures.ok;
       gives = λ told.
           let old = c.args.run.now in
           let new = c.fields.new.run in
@@ -220,7 +221,7 @@ pub fields-returns-in-Bool-clause-gives : goal.fields-returns-in-Bool-clause-giv
 fields-returns-in-Bool-clause-gives g t c = λ told.
     let e = ap (λ l. l.form) (sym c.label.ensures) ∙ c.in-Bool.is in
     let old = c.args.run.now in
-    shows_as g.K.Origin.limit g.K.Origin.whole (λ _. newest c.boolean.new.values.items) c.boolean.result _ _ _ _ _ (fields-bool c.args.module.now c.args.depth c.args.found.now (input g.K.Origin.limit g.K.Origin.whole) (spot old.bits.position old.nodes) e) (c.boolean.ensures.gives told)
+    shows_as g.K.Origin.limit g.K.Origin.whole (λ _. newest c.boolean.new.values.kids) c.boolean.result _ _ _ _ _ (fields-bool c.args.module.now c.args.depth c.args.found.now (input g.K.Origin.limit g.K.Origin.whole) (spot old.bits.position old.nodes) e) (c.boolean.ensures.gives told)
 
 pub fields-returns-in-Int-clause-fits : goal.fields-returns-in-Int-clause-fits
 fields-returns-in-Int-clause-fits g t c =
@@ -231,7 +232,7 @@ pub fields-returns-in-Int-clause-gives : goal.fields-returns-in-Int-clause-gives
 fields-returns-in-Int-clause-gives g t c = λ told.
     let e = ap (λ l. l.form) (sym c.label.ensures) ∙ c.in-Int.is in
     let old = c.args.run.now in
-    shows_as g.K.Origin.limit g.K.Origin.whole (λ _. newest c.integer.new.values.items) c.integer.result _ _ _ _ _ (fields-int c.args.module.now c.args.depth c.args.found.now (input g.K.Origin.limit g.K.Origin.whole) (spot old.bits.position old.nodes) _ _ e) (c.integer.ensures.gives told)
+    shows_as g.K.Origin.limit g.K.Origin.whole (λ _. newest c.integer.new.values.kids) c.integer.result _ _ _ _ _ (fields-int c.args.module.now c.args.depth c.args.found.now (input g.K.Origin.limit g.K.Origin.whole) (spot old.bits.position old.nodes) _ _ e) (c.integer.ensures.gives told)
 
 pub fields-returns-in-Numbers-clause-fits : goal.fields-returns-in-Numbers-clause-fits
 fields-returns-in-Numbers-clause-fits g t c =
@@ -242,7 +243,7 @@ pub fields-returns-in-Numbers-clause-gives : goal.fields-returns-in-Numbers-clau
 fields-returns-in-Numbers-clause-gives g t c = λ told.
     let e = ap (λ l. l.form) (sym c.label.ensures) ∙ c.in-Numbers.is in
     let old = c.args.run.now in
-    shows_as g.K.Origin.limit g.K.Origin.whole (λ _. newest c.enumerated.new.values.items) c.enumerated.result _ _ _ _ _ (fields-numbers c.args.module.now c.args.depth c.args.found.now (input g.K.Origin.limit g.K.Origin.whole) (spot old.bits.position old.nodes) _ e) (rw c.items.ensures at (c.enumerated.ensures.gives told))
+    shows_as g.K.Origin.limit g.K.Origin.whole (λ _. newest c.enumerated.new.values.kids) c.enumerated.result _ _ _ _ _ (fields-numbers c.args.module.now c.args.depth c.args.found.now (input g.K.Origin.limit g.K.Origin.whole) (spot old.bits.position old.nodes) _ e) (rw c.items.ensures at (c.enumerated.ensures.gives told))
 
 pub fields-returns-in-Words-clause-fits : goal.fields-returns-in-Words-clause-fits
 fields-returns-in-Words-clause-fits g t c =
@@ -253,34 +254,34 @@ pub fields-returns-in-Words-clause-gives : goal.fields-returns-in-Words-clause-g
 fields-returns-in-Words-clause-gives g t c = λ told.
     let e = ap (λ l. l.form) (sym c.label.ensures) ∙ c.in-Words.is in
     let old = c.args.run.now in
-    shows_as g.K.Origin.limit g.K.Origin.whole (λ _. newest c.enumerated-in-Words.new.values.items) c.enumerated-in-Words.result _ _ _ _ _ (fields-words c.args.module.now c.args.depth c.args.found.now (input g.K.Origin.limit g.K.Origin.whole) (spot old.bits.position old.nodes) _ _ e) (rw c.items-in-Words.ensures at (c.enumerated-in-Words.ensures.gives told))
+    shows_as g.K.Origin.limit g.K.Origin.whole (λ _. newest c.enumerated-in-Words.new.values.kids) c.enumerated-in-Words.result _ _ _ _ _ (fields-words c.args.module.now c.args.depth c.args.found.now (input g.K.Origin.limit g.K.Origin.whole) (spot old.bits.position old.nodes) _ _ e) (rw c.items-in-Words.ensures at (c.enumerated-in-Words.ensures.gives told))
 
 pub fields-returns-in-Sequence-clause-gives : goal.fields-returns-in-Sequence-clause-gives
 fields-returns-in-Sequence-clause-gives g t c = λ told.
     let e = ap (λ l. l.form) (sym c.label.ensures) ∙ c.in-Sequence.is in
     let old = c.args.run.now in
-    shows_as g.K.Origin.limit g.K.Origin.whole (λ _. newest c.sequence.new.values.items) c.sequence.result _ _ _ _ _ (fields-sequence c.args.module.now c.args.depth c.args.found.now (input g.K.Origin.limit g.K.Origin.whole) (spot old.bits.position old.nodes) _ e) (rw c.items-in-Sequence.ensures at (c.sequence.ensures.gives told))
+    shows_as g.K.Origin.limit g.K.Origin.whole (λ _. newest c.sequence.new.values.kids) c.sequence.result _ _ _ _ _ (fields-sequence c.args.module.now c.args.depth c.args.found.now (input g.K.Origin.limit g.K.Origin.whole) (spot old.bits.position old.nodes) _ e) (rw c.items-in-Sequence.ensures at (c.sequence.ensures.gives told))
 
 pub fields-returns-in-Choice-clause-gives : goal.fields-returns-in-Choice-clause-gives
 fields-returns-in-Choice-clause-gives g t c = λ told.
     let e = ap (λ l. l.form) (sym c.label.ensures) ∙ c.in-Choice.is in
     let old = c.args.run.now in
-    shows_as g.K.Origin.limit g.K.Origin.whole (λ _. newest c.choice.new.values.items) c.choice.result _ _ _ _ _ (fields-choice c.args.module.now c.args.depth c.args.found.now (input g.K.Origin.limit g.K.Origin.whole) (spot old.bits.position old.nodes) _ e) (rw c.items-in-Choice.ensures at (c.choice.ensures.gives told))
+    shows_as g.K.Origin.limit g.K.Origin.whole (λ _. newest c.choice.new.values.kids) c.choice.result _ _ _ _ _ (fields-choice c.args.module.now c.args.depth c.args.found.now (input g.K.Origin.limit g.K.Origin.whole) (spot old.bits.position old.nodes) _ e) (rw c.items-in-Choice.ensures at (c.choice.ensures.gives told))
 
 pub fields-returns-in-SequenceOf-clause-gives : goal.fields-returns-in-SequenceOf-clause-gives
 fields-returns-in-SequenceOf-clause-gives g t c = λ told.
     let e = ap (λ l. l.form) (sym c.label.ensures) ∙ c.in-SequenceOf.is in
     let old = c.args.run.now in
-    shows_as g.K.Origin.limit g.K.Origin.whole (λ _. newest c.sequence_of.new.values.items) c.sequence_of.result _ _ _ _ _ (fields-list c.args.module.now c.args.depth c.args.found.now (input g.K.Origin.limit g.K.Origin.whole) (spot old.bits.position old.nodes) _ _ _ e) (c.sequence_of.ensures.gives told)
+    shows_as g.K.Origin.limit g.K.Origin.whole (λ _. newest c.sequence_of.new.values.kids) c.sequence_of.result _ _ _ _ _ (fields-list c.args.module.now c.args.depth c.args.found.now (input g.K.Origin.limit g.K.Origin.whole) (spot old.bits.position old.nodes) _ _ _ e) (c.sequence_of.ensures.gives told)
 
 -- A SEQUENCE
 
-pub sequence-returns-in_err-count-clause-gives : goal.sequence-returns-in_err-count-clause-gives
-sequence-returns-in_err-count-clause-gives g t c = λ told.
+pub sequence-returns-in_err-presence-clause-gives : goal.sequence-returns-in_err-presence-clause-gives
+sequence-returns-in_err-presence-clause-gives g t c = λ told.
     let p = err_from_is_err_and c.from_residual.result c.from_residual.ensures.1 in
     let old = c.args.run.now in
     let i = stands_inside old.bits.position old.bits.taken old.bits.held old.bits.limit g.K.Origin.limit g.K.Origin.whole _ old.limited old.bits.behind old.bits.within (old.here told) in
-    rw (p.1, p.2) (sequence_fails c.args.module.now c.args.depth (label_of c.args.found.now) (kids_of c.args.found.now) c.args.parts.now (input g.K.Origin.limit g.K.Origin.whole) (spot old.bits.position old.nodes) g.K.Origin.limit g.K.Origin.whole (halt_of c.in_err-count.field-0.0 c.presence.new.run.stop) c.presence.new.run.bits.taken i (c.in_err-count.ensures.gives told))
+    rw (p.1, p.2) (sequence_fails c.args.module.now c.args.depth (label_of c.args.found.now) (kids_of c.args.found.now) c.args.parts.now (input g.K.Origin.limit g.K.Origin.whole) (spot old.bits.position old.nodes) g.K.Origin.limit g.K.Origin.whole (halt_of c.in_err-presence.field-0.0 c.presence.new.run.stop) c.presence.new.run.bits.taken i (c.in_err-presence.ensures.gives told))
 
 pub sequence-returns-in_err-components-clause-gives : goal.sequence-returns-in_err-components-clause-gives
 sequence-returns-in_err-components-clause-gives g t c = λ told.
@@ -288,38 +289,37 @@ sequence-returns-in_err-components-clause-gives g t c = λ told.
     let old = c.args.run.now in
     let mid = c.presence.new.run in
     let i = stands_inside mid.bits.position mid.bits.taken mid.bits.held mid.bits.limit g.K.Origin.limit g.K.Origin.whole _ mid.limited mid.bits.behind mid.bits.within (mid.here told) in
-    rw (p.1, p.2) (components_fail c.args.module.now c.args.depth (label_of c.args.found.now) (kids_of c.args.found.now) c.args.parts.now (input g.K.Origin.limit g.K.Origin.whole) (spot old.bits.position old.nodes) c.presence.new.present (spot mid.bits.position mid.nodes) (c.in_ok-count.ensures.gives told) g.K.Origin.limit g.K.Origin.whole (halt_of c.in_err-components.field-0.0 c.components.new.run.stop) c.components.new.run.bits.taken i (rw c.items.ensures at (c.in_err-components.ensures.gives told)))
+    rw (p.1, p.2) (components_fail c.args.module.now c.args.depth (label_of c.args.found.now) (kids_of c.args.found.now) c.args.parts.now (input g.K.Origin.limit g.K.Origin.whole) (spot old.bits.position old.nodes) c.presence.new.present (spot mid.bits.position mid.nodes) (c.in_ok-presence.ensures.gives told) g.K.Origin.limit g.K.Origin.whole (halt_of c.in_err-components.field-0.0 c.components.new.run.stop) c.components.new.run.bits.taken i (rw c.items.ensures at (c.in_err-components.ensures.gives told)))
 
-pub sequence-returns-in_err-put-clause-gives : goal.sequence-returns-in_err-put-clause-gives
-sequence-returns-in_err-put-clause-gives g t c = λ told.
-    let p = err_from_is_err_and c.from_residual-in_err-put.result c.from_residual-in_err-put.ensures.1 in
+pub sequence-returns-in_err-open-clause-gives : goal.sequence-returns-in_err-open-clause-gives
+sequence-returns-in_err-open-clause-gives g t c = λ told.
+    let p = err_from_is_err_and c.from_residual-in_err-open.result c.from_residual-in_err-open.ensures.1 in
     let old = c.args.run.now in
     let mid = c.presence.new.run in
-    let new = c.components.new.run in
-    let reads = sequence_reads c.args.module.now c.args.depth (label_of c.args.found.now) (kids_of c.args.found.now) c.args.parts.now (input g.K.Origin.limit g.K.Origin.whole) (spot old.bits.position old.nodes) c.presence.new.present (spot mid.bits.position mid.nodes) (c.in_ok-count.ensures.gives told) c.components.new.values.items (spot new.bits.position new.nodes) (rw c.items.ensures at (c.in_ok-components.ensures.gives told)) in
-    rw (p.1, p.2) (omega (arith, ap end_of reads, c.in_ok-components.ensures.on.1))
+    let i = stands_inside mid.bits.position mid.bits.taken mid.bits.held mid.bits.limit g.K.Origin.limit g.K.Origin.whole _ mid.limited mid.bits.behind mid.bits.within (mid.here told) in
+    rw (p.1, p.2) (components_full c.args.module.now c.args.depth (label_of c.args.found.now) (kids_of c.args.found.now) c.args.parts.now (input g.K.Origin.limit g.K.Origin.whole) (spot old.bits.position old.nodes) c.presence.new.present (spot mid.bits.position mid.nodes) (c.in_ok-presence.ensures.gives told) g.K.Origin.limit g.K.Origin.whole mid.bits.taken i (omega (arith, c.in_ok-presence.ensures.on.1)))
 
 pub sequence-returns-clause-pushed : goal.sequence-returns-clause-pushed
-sequence-returns-clause-pushed g t c = pushed-newest _ _ _ c.in_ok-put.ensures.items
+sequence-returns-clause-pushed g t c = pushed-newest _ _ _ (c.close.ensures ∙ ap closed c.relabel-none.ensures.relabeled ∙ closed-labeled _ _ _ _ _ c.in_ok-open.ensures.ok c.in_ok-components.ensures.above)
 
 pub sequence-returns-clause-count : goal.sequence-returns-clause-count
 sequence-returns-clause-count g t c =
-    rw (newest-pushed _ _ _ c.in_ok-put.ensures.items, c.join.ensures) (omega (arith, c.in_ok-components.ensures.count, c.in_ok-count.ensures.nodes))
+    rw (newest-pushed _ _ _ (c.close.ensures ∙ ap closed c.relabel-none.ensures.relabeled ∙ closed-labeled _ _ _ _ _ c.in_ok-open.ensures.ok c.in_ok-components.ensures.above)) (omega (arith, c.in_ok-components.ensures.count, c.in_ok-presence.ensures.nodes))
 
 pub sequence-returns-clause-text : goal.sequence-returns-clause-text
 sequence-returns-clause-text g t c =
-    rw (newest-pushed _ _ _ c.in_ok-put.ensures.items, c.join.ensures) refl
+    rw (newest-pushed _ _ _ (c.close.ensures ∙ ap closed c.relabel-none.ensures.relabeled ∙ closed-labeled _ _ _ _ _ c.in_ok-open.ensures.ok c.in_ok-components.ensures.above)) refl
 
 pub sequence-returns-clause-fits : goal.sequence-returns-clause-fits
 sequence-returns-clause-fits g t c =
-    rw (newest-pushed _ _ _ c.in_ok-put.ensures.items, c.join.ensures) (fit-sequence c.args.module.now c.args.depth c.args.found.now c.args.parts.now c.presence.new.present c.components.new.values.items c.requires.form (rw c.items.ensures at c.in_ok-components.ensures.fits))
+    rw (newest-pushed _ _ _ (c.close.ensures ∙ ap closed c.relabel-none.ensures.relabeled ∙ closed-labeled _ _ _ _ _ c.in_ok-open.ensures.ok c.in_ok-components.ensures.above)) (fit-sequence c.args.module.now c.args.depth c.args.found.now c.args.parts.now c.presence.new.present c.components.new.values.kids c.requires.form (rw c.items.ensures at c.in_ok-components.ensures.fits))
 
 pub sequence-returns-clause-gives : goal.sequence-returns-clause-gives
 sequence-returns-clause-gives g t c = λ told.
     let old = c.args.run.now in
     let mid = c.presence.new.run in
     let new = c.components.new.run in
-    rw (newest-pushed _ _ _ c.in_ok-put.ensures.items, c.join.ensures) (sequence_reads c.args.module.now c.args.depth (label_of c.args.found.now) (kids_of c.args.found.now) c.args.parts.now (input g.K.Origin.limit g.K.Origin.whole) (spot old.bits.position old.nodes) c.presence.new.present (spot mid.bits.position mid.nodes) (c.in_ok-count.ensures.gives told) c.components.new.values.items (spot new.bits.position new.nodes) (rw c.items.ensures at (c.in_ok-components.ensures.gives told)))
+    rw (newest-pushed _ _ _ (c.close.ensures ∙ ap closed c.relabel-none.ensures.relabeled ∙ closed-labeled _ _ _ _ _ c.in_ok-open.ensures.ok c.in_ok-components.ensures.above)) (sequence_reads c.args.module.now c.args.depth (label_of c.args.found.now) (kids_of c.args.found.now) c.args.parts.now (input g.K.Origin.limit g.K.Origin.whole) (spot old.bits.position old.nodes) c.presence.new.present (spot mid.bits.position mid.nodes) (c.in_ok-presence.ensures.gives told) c.components.new.values.kids (spot new.bits.position new.nodes) (rw c.items.ensures at (c.in_ok-components.ensures.gives told)))
 
 -- ITS COMPONENTS
 
@@ -331,6 +331,7 @@ components-parts-init g t c =
       in_step = c.requires.in_step;
       on = omega arith;
       same = refl;
+      above = refl;
       count = rw c.requires.empty (omega arith);
       through = rw c.requires.empty (through_none c.args.module.now c.args.depth (label_of c.args.found.now) parts (kids_of c.args.found.now) c.args.present.now (IsTrue g.K.Origin.told) (input g.K.Origin.limit g.K.Origin.whole) _ (places_there (label_of c.args.found.now) 0 parts (kids_of c.args.found.now) c.args.present.now as_many c.requires.present));
     }
@@ -376,7 +377,7 @@ components-returns-in_err-node-clause-gives g t c = λ told.
     let old = c.parts.run in
     let new = c.node.new.run in
     let j = stands_inside old.bits.position old.bits.taken old.bits.held old.bits.limit g.K.Origin.limit g.K.Origin.whole _ old.limited old.bits.behind old.bits.within (old.here told) in
-    rw (p.1, p.2) (through_fails c.args.module.now c.args.depth (label_of u) parts (kids_of u) flags (IsTrue g.K.Origin.told) (input g.K.Origin.limit g.K.Origin.whole) (spot c.args.run.now.bits.position c.args.run.now.nodes) i c.parts.values.items (spot old.bits.position old.nodes) there.0 kid is_part is_kid is_flag (λ p. sits-node c.args.module.now (below p.role c.args.depth) p.type) told g.K.Origin.limit g.K.Origin.whole (halt_of c.in_err-node.field-0.0 new.stop) new.bits.taken j (subst (FailsAt g.K.Origin.limit g.K.Origin.whole (halt_of c.in_err-node.field-0.0 new.stop) new.bits.taken) (k.read (input g.K.Origin.limit g.K.Origin.whole) (spot old.bits.position old.nodes)) (c.in_err-node.ensures.gives told)) c.parts.invariant.through)
+    rw (p.1, p.2) (through_fails c.args.module.now c.args.depth (label_of u) parts (kids_of u) flags (IsTrue g.K.Origin.told) (input g.K.Origin.limit g.K.Origin.whole) (spot c.args.run.now.bits.position c.args.run.now.nodes) i c.parts.values.kids (spot old.bits.position old.nodes) there.0 kid is_part is_kid is_flag (λ p. sits-node c.args.module.now (below p.role c.args.depth) p.type) told g.K.Origin.limit g.K.Origin.whole (halt_of c.in_err-node.field-0.0 new.stop) new.bits.taken j (subst (FailsAt g.K.Origin.limit g.K.Origin.whole (halt_of c.in_err-node.field-0.0 new.stop) new.bits.taken) (k.read (input g.K.Origin.limit g.K.Origin.whole) (spot old.bits.position old.nodes)) (c.in_err-node.ensures.gives told)) c.parts.invariant.through)
 
 pub components-parts-preserved-then-not-present-i : goal.components-parts-preserved-then-not-present-i
 components-parts-preserved-then-not-present-i g t c =
@@ -395,8 +396,9 @@ components-parts-preserved-then-not-present-i g t c =
       in_step = c.parts.invariant.in_step;
       on = c.parts.invariant.on;
       same = c.parts.invariant.same;
+      above = c.parts.invariant.above;
       count = c.parts.invariant.count;
-      through = through_skip c.args.module.now c.args.depth (label_of u) parts (kids_of u) flags (IsTrue g.K.Origin.told) (input g.K.Origin.limit g.K.Origin.whole) (spot c.args.run.now.bits.position c.args.run.now.nodes) i c.parts.values.items (spot old.bits.position old.nodes) there.0 kid.0 is_part is_kid is_flag c.parts.invariant.through;
+      through = through_skip c.args.module.now c.args.depth (label_of u) parts (kids_of u) flags (IsTrue g.K.Origin.told) (input g.K.Origin.limit g.K.Origin.whole) (spot c.args.run.now.bits.position c.args.run.now.nodes) i c.parts.values.kids (spot old.bits.position old.nodes) there.0 kid.0 is_part is_kid is_flag c.parts.invariant.through;
     }
 
 pub components-parts-preserved : goal.components-parts-preserved
@@ -413,13 +415,15 @@ components-parts-preserved g t c =
     let is_flag = flag_split flags i true (omega (arith, present-length parts flags c.requires.present, c.parts-test.true)) c.if-not-present-i.false in
     let old = c.parts.run in
     let new = c.node.new.run in
+    let pushed = ap (λ z. z.kids) c.in_ok-node.ensures.pushed in
     record {
       in_step = c.in_ok-node.ensures.on.1;
       on = omega (arith, c.in_ok-node.ensures.on.0, c.parts.invariant.on);
       same = c.node.ensures.same_reference ∙ c.parts.invariant.same;
-      count = rw c.in_ok-node.ensures.pushed (omega (arith, c.in_ok-node.ensures.count, c.parts.invariant.count, count-push c.parts.values.items (newest c.node.new.values.items)));
-      through = rw c.in_ok-node.ensures.pushed (through_more c.args.module.now c.args.depth (label_of u) parts (kids_of u) flags (IsTrue g.K.Origin.told) (input g.K.Origin.limit g.K.Origin.whole) (spot c.args.run.now.bits.position c.args.run.now.nodes) i c.parts.values.items (spot old.bits.position old.nodes) there.0 kid is_part is_kid is_flag (newest c.node.new.values.items) (spot new.bits.position new.nodes)
-          (k.fits (newest c.node.new.values.items) c.in_ok-node.ensures.fits) (λ told. sym (k.read (input g.K.Origin.limit g.K.Origin.whole) (spot old.bits.position old.nodes)) ∙ c.in_ok-node.ensures.gives told) c.parts.invariant.through);
+      above = ap (λ z. z.above) c.in_ok-node.ensures.pushed ∙ c.parts.invariant.above;
+      count = rw pushed (omega (arith, c.in_ok-node.ensures.count, c.parts.invariant.count, count-push c.parts.values.kids (newest c.node.new.values.kids)));
+      through = rw pushed (through_more c.args.module.now c.args.depth (label_of u) parts (kids_of u) flags (IsTrue g.K.Origin.told) (input g.K.Origin.limit g.K.Origin.whole) (spot c.args.run.now.bits.position c.args.run.now.nodes) i c.parts.values.kids (spot old.bits.position old.nodes) there.0 kid is_part is_kid is_flag (newest c.node.new.values.kids) (spot new.bits.position new.nodes)
+          (k.fits (newest c.node.new.values.kids) c.in_ok-node.ensures.fits) (λ told. sym (k.read (input g.K.Origin.limit g.K.Origin.whole) (spot old.bits.position old.nodes)) ∙ c.in_ok-node.ensures.gives told) c.parts.invariant.through);
     }
 
 pub components-returns-clause-gives : goal.components-returns-clause-gives
@@ -427,14 +431,14 @@ components-returns-clause-gives g t c = λ told.
     let u = c.args.found.now in
     let parts = c.args.parts.now in
     let flags = c.args.present.now in
-    through_end c.args.module.now c.args.depth (label_of u) parts (kids_of u) flags (IsTrue g.K.Origin.told) (input g.K.Origin.limit g.K.Origin.whole) (spot c.args.run.now.bits.position c.args.run.now.nodes) c.parts.i c.parts.values.items (spot c.parts.run.bits.position c.parts.run.nodes) (drop_all c.parts.i parts c.parts-test.false) c.parts.invariant.through told
+    through_end c.args.module.now c.args.depth (label_of u) parts (kids_of u) flags (IsTrue g.K.Origin.told) (input g.K.Origin.limit g.K.Origin.whole) (spot c.args.run.now.bits.position c.args.run.now.nodes) c.parts.i c.parts.values.kids (spot c.parts.run.bits.position c.parts.run.nodes) (drop_all c.parts.i parts c.parts-test.false) c.parts.invariant.through told
 
 pub components-returns-clause-fits : goal.components-returns-clause-fits
 components-returns-clause-fits g t c =
     let u = c.args.found.now in
     let parts = c.args.parts.now in
     let flags = c.args.present.now in
-    through_fit c.args.module.now c.args.depth (label_of u) parts (kids_of u) flags (IsTrue g.K.Origin.told) (input g.K.Origin.limit g.K.Origin.whole) (spot c.args.run.now.bits.position c.args.run.now.nodes) c.parts.i c.parts.values.items (spot c.parts.run.bits.position c.parts.run.nodes) (drop_all c.parts.i parts c.parts-test.false) c.parts.invariant.through
+    through_fit c.args.module.now c.args.depth (label_of u) parts (kids_of u) flags (IsTrue g.K.Origin.told) (input g.K.Origin.limit g.K.Origin.whole) (spot c.args.run.now.bits.position c.args.run.now.nodes) c.parts.i c.parts.values.kids (spot c.parts.run.bits.position c.parts.run.nodes) (drop_all c.parts.i parts c.parts-test.false) c.parts.invariant.through
 
 -- A CHOICE
 
@@ -497,9 +501,9 @@ choice-returns-in_err-node-clause-gives g t c = λ told.
     let j = stands_inside mid.bits.position mid.bits.taken mid.bits.held mid.bits.limit g.K.Origin.limit g.K.Origin.whole _ mid.limited mid.bits.behind mid.bits.within (mid.here told) in
     rw (p.1, p.2) (alternative_fails c.args.module.now c.args.depth (label_of c.args.found.now) (kids_of c.args.found.now) c.args.parts.now (input g.K.Origin.limit g.K.Origin.whole) (spot old.bits.position old.nodes) i (spot mid.bits.position mid.nodes) there.0 kid (c.in_ok-index.ensures.gives told) is_part c.kid-kid.ensures g.K.Origin.limit g.K.Origin.whole (halt_of c.in_err-node.field-0.0 new.stop) new.bits.taken j (subst (FailsAt g.K.Origin.limit g.K.Origin.whole (halt_of c.in_err-node.field-0.0 new.stop) new.bits.taken) (k.read (input g.K.Origin.limit g.K.Origin.whole) (spot mid.bits.position mid.nodes)) (c.in_err-node.ensures.gives told)))
 
-pub choice-returns-in_err-put-clause-gives : goal.choice-returns-in_err-put-clause-gives
-choice-returns-in_err-put-clause-gives g t c = λ told.
-    let p = err_from_is_err_and c.from_residual-in_err-put.result c.from_residual-in_err-put.ensures.1 in
+pub choice-returns-in_err-open-clause-gives : goal.choice-returns-in_err-open-clause-gives
+choice-returns-in_err-open-clause-gives g t c = λ told.
+    let p = err_from_is_err_and c.from_residual-in_err-open.result c.from_residual-in_err-open.ensures.1 in
     let u = c.args.found.now in
     let parts = c.args.parts.now in
     let i = c.in_ok-index.field-0 in
@@ -509,20 +513,19 @@ choice-returns-in_err-put-clause-gives g t c = λ told.
     let is_part = subst (λ f. slice_get (parts_of f) i ≡ Some there.0) c.requires.form there.1 in
     let old = c.args.run.now in
     let mid = c.number.new.self in
-    let new = c.node.new.run in
-    let reads = choice_reads c.args.module.now c.args.depth (label_of c.args.found.now) (kids_of c.args.found.now) c.args.parts.now (input g.K.Origin.limit g.K.Origin.whole) (spot old.bits.position old.nodes) i (spot mid.bits.position mid.nodes) there.0 kid (c.in_ok-index.ensures.gives told) is_part c.kid-kid.ensures (newest c.node.new.values.items) (spot new.bits.position new.nodes) (sym (k.read (input g.K.Origin.limit g.K.Origin.whole) (spot mid.bits.position mid.nodes)) ∙ c.in_ok-node.ensures.gives told) in
-    rw (p.1, p.2) (omega (arith, ap end_of reads, c.in_ok-node.ensures.on.1))
+    let j = stands_inside mid.bits.position mid.bits.taken mid.bits.held mid.bits.limit g.K.Origin.limit g.K.Origin.whole _ mid.limited mid.bits.behind mid.bits.within (mid.here told) in
+    rw (p.1, p.2) (alternative_full c.args.module.now c.args.depth (label_of c.args.found.now) (kids_of c.args.found.now) c.args.parts.now (input g.K.Origin.limit g.K.Origin.whole) (spot old.bits.position old.nodes) i (spot mid.bits.position mid.nodes) there.0 kid (c.in_ok-index.ensures.gives told) is_part c.kid-kid.ensures g.K.Origin.limit g.K.Origin.whole mid.bits.taken j (omega (arith, c.in_ok-index.ensures.on.1)))
 
 pub choice-returns-clause-pushed : goal.choice-returns-clause-pushed
-choice-returns-clause-pushed g t c = pushed-newest _ _ _ c.in_ok-put.ensures.items
+choice-returns-clause-pushed g t c = pushed-newest _ _ _ (c.close.ensures ∙ closed-one _ _ _ _ _ c.in_ok-open.ensures.ok c.in_ok-node.ensures.pushed)
 
 pub choice-returns-clause-count : goal.choice-returns-clause-count
 choice-returns-clause-count g t c =
-    rw (newest-pushed _ _ _ c.in_ok-put.ensures.items, c.join.ensures, c.in_ok-node.ensures.pushed, c.with_room-kids.ensures) (omega (arith, c.in_ok-node.ensures.count, c.in_ok-index.ensures.nodes))
+    rw (newest-pushed _ _ _ (c.close.ensures ∙ closed-one _ _ _ _ _ c.in_ok-open.ensures.ok c.in_ok-node.ensures.pushed)) (omega (arith, c.in_ok-node.ensures.count, c.in_ok-index.ensures.nodes))
 
 pub choice-returns-clause-text : goal.choice-returns-clause-text
 choice-returns-clause-text g t c =
-    rw (newest-pushed _ _ _ c.in_ok-put.ensures.items, c.join.ensures) refl
+    rw (newest-pushed _ _ _ (c.close.ensures ∙ closed-one _ _ _ _ _ c.in_ok-open.ensures.ok c.in_ok-node.ensures.pushed)) refl
 
 pub choice-returns-clause-fits : goal.choice-returns-clause-fits
 choice-returns-clause-fits g t c =
@@ -536,7 +539,7 @@ choice-returns-clause-fits g t c =
     let old = c.args.run.now in
     let mid = c.number.new.self in
     let new = c.node.new.run in
-    rw (newest-pushed _ _ _ c.in_ok-put.ensures.items, c.join.ensures, c.in_ok-node.ensures.pushed, c.with_room-kids.ensures) (fit-choice c.args.module.now c.args.depth c.args.found.now parts i there.0 kid (newest c.node.new.values.items) c.requires.form is_part c.kid-kid.ensures (k.fits (newest c.node.new.values.items) c.in_ok-node.ensures.fits))
+    rw (newest-pushed _ _ _ (c.close.ensures ∙ closed-one _ _ _ _ _ c.in_ok-open.ensures.ok c.in_ok-node.ensures.pushed)) (fit-choice c.args.module.now c.args.depth c.args.found.now parts i there.0 kid (newest c.node.new.values.kids) c.requires.form is_part c.kid-kid.ensures (k.fits (newest c.node.new.values.kids) c.in_ok-node.ensures.fits))
 
 pub choice-returns-clause-gives : goal.choice-returns-clause-gives
 choice-returns-clause-gives g t c = λ told.
@@ -550,7 +553,7 @@ choice-returns-clause-gives g t c = λ told.
     let old = c.args.run.now in
     let mid = c.number.new.self in
     let new = c.node.new.run in
-    rw (newest-pushed _ _ _ c.in_ok-put.ensures.items, c.join.ensures, c.in_ok-node.ensures.pushed, c.with_room-kids.ensures) (choice_reads c.args.module.now c.args.depth (label_of c.args.found.now) (kids_of c.args.found.now) c.args.parts.now (input g.K.Origin.limit g.K.Origin.whole) (spot old.bits.position old.nodes) i (spot mid.bits.position mid.nodes) there.0 kid (c.in_ok-index.ensures.gives told) is_part c.kid-kid.ensures (newest c.node.new.values.items) (spot new.bits.position new.nodes) (sym (k.read (input g.K.Origin.limit g.K.Origin.whole) (spot mid.bits.position mid.nodes)) ∙ c.in_ok-node.ensures.gives told))
+    rw (newest-pushed _ _ _ (c.close.ensures ∙ closed-one _ _ _ _ _ c.in_ok-open.ensures.ok c.in_ok-node.ensures.pushed)) (choice_reads c.args.module.now c.args.depth (label_of c.args.found.now) (kids_of c.args.found.now) c.args.parts.now (input g.K.Origin.limit g.K.Origin.whole) (spot old.bits.position old.nodes) i (spot mid.bits.position mid.nodes) there.0 kid (c.in_ok-index.ensures.gives told) is_part c.kid-kid.ensures (newest c.node.new.values.kids) (spot new.bits.position new.nodes) (sym (k.read (input g.K.Origin.limit g.K.Origin.whole) (spot mid.bits.position mid.nodes)) ∙ c.in_ok-node.ensures.gives told))
 
 -- A SEQUENCE OF
 
@@ -570,11 +573,11 @@ sequence_of-list-requires g t c =
     let is_place : place_at (label_of u) 0 (Some part) (slice_get (kids_of u) 0) ≡ Some place = ap (λ o. place_at (label_of u) 0 (Some part) o) c.kid-item.ensures in
     let old = c.args.run.now in
     let d = c.decreases in
-    (λ κs h. (omega (arith, d, k.fewer), (h.0, (h.1, (c.below-inner.ensures.few, (c.requires.known, (k.of_module, (sizes_ordered c.args.module.now c.requires.known c.args.found.now c.requires.of part _ _ c.requires.form, c.requires.in_step))))))))
+    (λ κs h. (omega (arith, d, k.fewer), (h.0, (h.1, (c.below-inner.ensures.few, (c.requires.known, (k.of_module, (sizes_ordered c.args.module.now c.requires.known c.args.found.now c.requires.of part _ _ c.requires.form, (ap (λ z. z.kids) c.in_ok-open.ensures.ok, c.requires.in_step)))))))))
 
-pub sequence_of-returns-in_err-items-clause-gives : goal.sequence_of-returns-in_err-items-clause-gives
-sequence_of-returns-in_err-items-clause-gives g t c = λ told.
-    let p = err_from_is_err_and c.from_residual.result c.from_residual.ensures.1 in
+pub sequence_of-returns-in_err-list-clause-gives : goal.sequence_of-returns-in_err-list-clause-gives
+sequence_of-returns-in_err-list-clause-gives g t c = λ told.
+    let p = err_from_is_err_and c.from_residual-in_err-list.result c.from_residual-in_err-list.ensures.1 in
     let u = c.args.found.now in
     let part = c.args.part.now in
     let item = c.kid-item.result.now in
@@ -585,13 +588,13 @@ sequence_of-returns-in_err-items-clause-gives g t c = λ told.
     let old = c.args.run.now in
     let new = c.list.new.run in
     let j = stands_inside old.bits.position old.bits.taken old.bits.held old.bits.limit g.K.Origin.limit g.K.Origin.whole _ old.limited old.bits.behind old.bits.within (old.here told) in
-    let h = subst (λ n. FailsAt g.K.Origin.limit g.K.Origin.whole (halt_of c.in_err-items.field-0.0 new.stop) new.bits.taken (list_at c.args.min c.args.max (λ m. many_at c.args.module.now n m item) (input g.K.Origin.limit g.K.Origin.whole) (spot old.bits.position old.nodes))) k.inner_is (c.in_err-items.ensures.gives told) in
-    rw (p.1, p.2) (subst (λ o. FailsAt g.K.Origin.limit g.K.Origin.whole (halt_of c.in_err-items.field-0.0 new.stop) new.bits.taken (items_at (kid_at c.args.module.now c.args.depth) c.args.min c.args.max o (input g.K.Origin.limit g.K.Origin.whole) (spot old.bits.position old.nodes))) (sym is_place)
-    (list_fails c.args.module.now c.args.depth place c.args.min c.args.max (input g.K.Origin.limit g.K.Origin.whole) (spot old.bits.position old.nodes) g.K.Origin.limit g.K.Origin.whole (halt_of c.in_err-items.field-0.0 new.stop) new.bits.taken j h))
+    let h = subst (λ n. FailsAt g.K.Origin.limit g.K.Origin.whole (halt_of c.in_err-list.field-0.0 new.stop) new.bits.taken (list_at c.args.min c.args.max (λ m. many_at c.args.module.now n m item) (input g.K.Origin.limit g.K.Origin.whole) (spot old.bits.position old.nodes))) k.inner_is (c.in_err-list.ensures.gives told) in
+    rw (p.1, p.2) (subst (λ o. FailsAt g.K.Origin.limit g.K.Origin.whole (halt_of c.in_err-list.field-0.0 new.stop) new.bits.taken (items_at (kid_at c.args.module.now c.args.depth) c.args.min c.args.max o (input g.K.Origin.limit g.K.Origin.whole) (spot old.bits.position old.nodes))) (sym is_place)
+    (list_fails c.args.module.now c.args.depth place c.args.min c.args.max (input g.K.Origin.limit g.K.Origin.whole) (spot old.bits.position old.nodes) g.K.Origin.limit g.K.Origin.whole (halt_of c.in_err-list.field-0.0 new.stop) new.bits.taken j h))
 
-pub sequence_of-returns-in_err-put-clause-gives : goal.sequence_of-returns-in_err-put-clause-gives
-sequence_of-returns-in_err-put-clause-gives g t c = λ told.
-    let p = err_from_is_err_and c.from_residual-in_err-put.result c.from_residual-in_err-put.ensures.1 in
+pub sequence_of-returns-in_err-open-clause-gives : goal.sequence_of-returns-in_err-open-clause-gives
+sequence_of-returns-in_err-open-clause-gives g t c = λ told.
+    let p = err_from_is_err_and c.from_residual.result c.from_residual.ensures.1 in
     let u = c.args.found.now in
     let part = c.args.part.now in
     let item = c.kid-item.result.now in
@@ -600,22 +603,20 @@ sequence_of-returns-in_err-put-clause-gives g t c = λ told.
     let place = place_of (label_of u) 0 part item in
     let is_place : place_at (label_of u) 0 (Some part) (slice_get (kids_of u) 0) ≡ Some place = ap (λ o. place_at (label_of u) 0 (Some part) o) c.kid-item.ensures in
     let old = c.args.run.now in
-    let new = c.list.new.run in
-    let h = subst (λ n. (list_at c.args.min c.args.max (λ m. many_at c.args.module.now n m item) (input g.K.Origin.limit g.K.Origin.whole) (spot old.bits.position old.nodes)) ≡ Ok (c.in_ok-items.items.items, (spot new.bits.position new.nodes))) k.inner_is (c.in_ok-items.ensures.gives told) in
-    let e = list_reads c.args.module.now c.args.depth place c.args.min c.args.max (input g.K.Origin.limit g.K.Origin.whole) (spot old.bits.position old.nodes) c.in_ok-items.items.items (spot new.bits.position new.nodes) h in
-    let reads = subst (λ o. (items_at (kid_at c.args.module.now c.args.depth) c.args.min c.args.max o (input g.K.Origin.limit g.K.Origin.whole) (spot old.bits.position old.nodes)) ≡ Ok (node value.SequenceOf (roses_of c.in_ok-items.items.items), (spot new.bits.position new.nodes))) (sym is_place) e in
-    rw (p.1, p.2) (omega (arith, ap end_of reads, c.in_ok-items.ensures.on.1))
+    let j = stands_inside old.bits.position old.bits.taken old.bits.held old.bits.limit g.K.Origin.limit g.K.Origin.whole _ old.limited old.bits.behind old.bits.within (old.here told) in
+    rw (p.1, p.2) (subst (λ o. FailsAt g.K.Origin.limit g.K.Origin.whole memory old.bits.taken (items_at (kid_at c.args.module.now c.args.depth) c.args.min c.args.max o (input g.K.Origin.limit g.K.Origin.whole) (spot old.bits.position old.nodes))) (sym is_place)
+    (list_full c.args.module.now c.args.depth place c.args.min c.args.max (input g.K.Origin.limit g.K.Origin.whole) (spot old.bits.position old.nodes) g.K.Origin.limit g.K.Origin.whole old.bits.taken j (omega (arith, c.requires.in_step))))
 
 pub sequence_of-returns-clause-pushed : goal.sequence_of-returns-clause-pushed
-sequence_of-returns-clause-pushed g t c = pushed-newest _ _ _ c.in_ok-put.ensures.items
+sequence_of-returns-clause-pushed g t c = pushed-newest _ _ _ (c.close.ensures ∙ closed-list _ _ _ _ c.in_ok-open.ensures.ok c.in_ok-list.ensures.above)
 
 pub sequence_of-returns-clause-count : goal.sequence_of-returns-clause-count
 sequence_of-returns-clause-count g t c =
-    rw (newest-pushed _ _ _ c.in_ok-put.ensures.items, c.join.ensures, c.trim.ensures) (omega (arith, c.in_ok-items.ensures.count))
+    rw (newest-pushed _ _ _ (c.close.ensures ∙ closed-list _ _ _ _ c.in_ok-open.ensures.ok c.in_ok-list.ensures.above)) (omega (arith, c.in_ok-list.ensures.count))
 
 pub sequence_of-returns-clause-text : goal.sequence_of-returns-clause-text
 sequence_of-returns-clause-text g t c =
-    rw (newest-pushed _ _ _ c.in_ok-put.ensures.items, c.join.ensures) refl
+    rw (newest-pushed _ _ _ (c.close.ensures ∙ closed-list _ _ _ _ c.in_ok-open.ensures.ok c.in_ok-list.ensures.above)) refl
 
 pub sequence_of-returns-clause-fits : goal.sequence_of-returns-clause-fits
 sequence_of-returns-clause-fits g t c =
@@ -628,7 +629,7 @@ sequence_of-returns-clause-fits g t c =
     let is_place : place_at (label_of u) 0 (Some part) (slice_get (kids_of u) 0) ≡ Some place = ap (λ o. place_at (label_of u) 0 (Some part) o) c.kid-item.ensures in
     let old = c.args.run.now in
     let new = c.list.new.run in
-    rw (newest-pushed _ _ _ c.in_ok-put.ensures.items, c.join.ensures, c.trim.ensures) (fit-list c.args.module.now c.args.depth c.args.found.now part c.args.min c.args.max item c.in_ok-items.items.items c.requires.form c.kid-item.ensures c.in_ok-items.ensures.size.0 c.in_ok-items.ensures.size.1 (subst (λ n. FitAll c.args.module.now n item c.in_ok-items.items.items) k.inner_is c.in_ok-items.ensures.fits))
+    rw (newest-pushed _ _ _ (c.close.ensures ∙ closed-list _ _ _ _ c.in_ok-open.ensures.ok c.in_ok-list.ensures.above)) (fit-list c.args.module.now c.args.depth c.args.found.now part c.args.min c.args.max item c.list.new.values.kids c.requires.form c.kid-item.ensures c.in_ok-list.ensures.size.0 c.in_ok-list.ensures.size.1 (subst (λ n. FitAll c.args.module.now n item c.list.new.values.kids) k.inner_is c.in_ok-list.ensures.fits))
 
 pub sequence_of-returns-clause-gives : goal.sequence_of-returns-clause-gives
 sequence_of-returns-clause-gives g t c = λ told.
@@ -641,9 +642,9 @@ sequence_of-returns-clause-gives g t c = λ told.
     let is_place : place_at (label_of u) 0 (Some part) (slice_get (kids_of u) 0) ≡ Some place = ap (λ o. place_at (label_of u) 0 (Some part) o) c.kid-item.ensures in
     let old = c.args.run.now in
     let new = c.list.new.run in
-    let h = subst (λ n. (list_at c.args.min c.args.max (λ m. many_at c.args.module.now n m item) (input g.K.Origin.limit g.K.Origin.whole) (spot old.bits.position old.nodes)) ≡ Ok (c.in_ok-items.items.items, (spot new.bits.position new.nodes))) k.inner_is (c.in_ok-items.ensures.gives told) in
-    let e = list_reads c.args.module.now c.args.depth place c.args.min c.args.max (input g.K.Origin.limit g.K.Origin.whole) (spot old.bits.position old.nodes) c.in_ok-items.items.items (spot new.bits.position new.nodes) h in
-    rw (newest-pushed _ _ _ c.in_ok-put.ensures.items, c.join.ensures, c.trim.ensures) (subst (λ o. (items_at (kid_at c.args.module.now c.args.depth) c.args.min c.args.max o (input g.K.Origin.limit g.K.Origin.whole) (spot old.bits.position old.nodes)) ≡ Ok (node value.SequenceOf (roses_of c.in_ok-items.items.items), (spot new.bits.position new.nodes))) (sym is_place) e)
+    let h = subst (λ n. (list_at c.args.min c.args.max (λ m. many_at c.args.module.now n m item) (input g.K.Origin.limit g.K.Origin.whole) (spot old.bits.position old.nodes)) ≡ Ok (c.list.new.values.kids, (spot new.bits.position new.nodes))) k.inner_is (c.in_ok-list.ensures.gives told) in
+    let e = list_reads c.args.module.now c.args.depth place c.args.min c.args.max (input g.K.Origin.limit g.K.Origin.whole) (spot old.bits.position old.nodes) c.list.new.values.kids (spot new.bits.position new.nodes) h in
+    rw (newest-pushed _ _ _ (c.close.ensures ∙ closed-list _ _ _ _ c.in_ok-open.ensures.ok c.in_ok-list.ensures.above)) (subst (λ o. (items_at (kid_at c.args.module.now c.args.depth) c.args.min c.args.max o (input g.K.Origin.limit g.K.Origin.whole) (spot old.bits.position old.nodes)) ≡ Ok (node value.SequenceOf (roses_of c.list.new.values.kids), (spot new.bits.position new.nodes))) (sym is_place) e)
 
 -- THE ITEMS, by their count
 
@@ -658,19 +659,26 @@ pub list-returns-in_ok-more-in-Some-clause-gives : goal.list-returns-in_ok-more-
 list-returns-in_ok-more-in-Some-clause-gives g t c = λ told.
     let old = c.args.run.now in
     let mid = c.number.new.self in
-    rw c.in-Some.is (shows_as g.K.Origin.limit g.K.Origin.whole (λ vs. vs.items) c.items.result _ _ _ _ _ (count_told c.args.module.now c.args.depth c.args.item.now c.args.min (input g.K.Origin.limit g.K.Origin.whole) (spot old.bits.position old.nodes) c.in-Some.most c.in_ok-more-in-Some.field-0 (spot mid.bits.position mid.nodes) c.if-most-lt65536.true (c.in_ok-more-in-Some.ensures.gives told)) (rw c.new.ensures.items at (c.items.ensures.gives told)))
+    rw c.in-Some.is (shows_as g.K.Origin.limit g.K.Origin.whole (λ _. c.items.new.values.kids) c.items.result _ _ _ _ _ (count_told c.args.module.now c.args.depth c.args.item.now c.args.min (input g.K.Origin.limit g.K.Origin.whole) (spot old.bits.position old.nodes) c.in-Some.most c.in_ok-more-in-Some.field-0 (spot mid.bits.position mid.nodes) c.if-most-lt65536.true (c.in_ok-more-in-Some.ensures.gives told)) (rw c.requires.empty at (c.items.ensures.gives told)))
 
 pub list-returns-else-most-lt65536-clause-gives : goal.list-returns-else-most-lt65536-clause-gives
 list-returns-else-most-lt65536-clause-gives g t c = λ told.
     let old = c.args.run.now in
-    rw c.in-Some.is (shows_as g.K.Origin.limit g.K.Origin.whole (λ vs. vs.items) c.fragments.result _ _ _ _ _ (list-large c.args.module.now c.args.depth c.args.item.now c.args.min (input g.K.Origin.limit g.K.Origin.whole) (spot old.bits.position old.nodes) c.in-Some.most c.if-most-lt65536.false) (c.fragments.ensures.gives told))
+    rw c.in-Some.is (shows_as g.K.Origin.limit g.K.Origin.whole (λ _. c.fragments.new.values.kids) c.fragments.result _ _ _ _ _ (list-large c.args.module.now c.args.depth c.args.item.now c.args.min (input g.K.Origin.limit g.K.Origin.whole) (spot old.bits.position old.nodes) c.in-Some.most c.if-most-lt65536.false) (c.fragments.ensures.gives told))
 
 pub list-returns-in-None-clause-gives : goal.list-returns-in-None-clause-gives
 list-returns-in-None-clause-gives g t c = λ told.
     let old = c.args.run.now in
-    rw c.in-None.is (shows_as g.K.Origin.limit g.K.Origin.whole (λ vs. vs.items) c.fragments-in-None.result _ _ _ _ _ (list-none c.args.module.now c.args.depth c.args.item.now c.args.min (input g.K.Origin.limit g.K.Origin.whole) (spot old.bits.position old.nodes)) (c.fragments-in-None.ensures.gives told))
+    rw c.in-None.is (shows_as g.K.Origin.limit g.K.Origin.whole (λ _. c.fragments-in-None.new.values.kids) c.fragments-in-None.result _ _ _ _ _ (list-none c.args.module.now c.args.depth c.args.item.now c.args.min (input g.K.Origin.limit g.K.Origin.whole) (spot old.bits.position old.nodes)) (c.fragments-in-None.ensures.gives told))
 
 -- ITEMS IN FRAGMENTS
+
+pub fragments-count-requires-clause-few : goal.fragments-count-requires-clause-few
+fragments-count-requires-clause-few g t c = omega (arith, length-count c.fragments.values.kids, c.fragments.invariant.counted, c.fragments.invariant.count, c.fragments.run.few)
+
+pub fragments-overflow_add-total : goal.fragments-overflow_add-total
+fragments-overflow_add-total g t c =
+    omega (arith, length-count c.items-in-Units.new.values.kids, c.fragments.invariant.counted, c.fragments.invariant.count, c.in_ok-items-in-Units.ensures.size, c.in_ok-items-in-Units.ensures.count, c.count.ensures.nodes, c.items-in-Units.new.run.few)
 
 pub fragments-returns-in_err-piece-clause-gives : goal.fragments-returns-in_err-piece-clause-gives
 fragments-returns-in_err-piece-clause-gives g t c = λ told.
@@ -678,42 +686,44 @@ fragments-returns-in_err-piece-clause-gives g t c = λ told.
     let old = c.fragments.run in
     let i = stands_inside old.bits.position old.bits.taken old.bits.held old.bits.limit g.K.Origin.limit g.K.Origin.whole _ old.limited old.bits.behind old.bits.within (old.here told) in
     rw (p.1, p.2) (subst (FailsAt g.K.Origin.limit g.K.Origin.whole (halt_of c.in_err-piece.field-0.0 c.count.new.self.stop) c.count.new.self.bits.taken) (c.fragments.invariant.so_far told)
-    (turn_fails c.args.min c.args.max (λ n. many_at c.args.module.now c.args.depth n c.args.item.now) (steady-items c.args.module.now c.args.depth c.args.item.now) c.fragments.values.items c.fragments.before (length c.fragments.values.items) (input g.K.Origin.limit g.K.Origin.whole) (spot old.bits.position old.nodes) i g.K.Origin.limit g.K.Origin.whole (halt_of c.in_err-piece.field-0.0 c.count.new.self.stop) c.count.new.self.bits.taken (rw c.as_slice-total.ensures.value at (c.in_err-piece.ensures.gives told))))
+    (turn_fails c.args.min c.args.max (λ n. many_at c.args.module.now c.args.depth n c.args.item.now) (steady-items c.args.module.now c.args.depth c.args.item.now) c.fragments.values.kids c.fragments.before (length c.fragments.values.kids) (input g.K.Origin.limit g.K.Origin.whole) (spot old.bits.position old.nodes) i g.K.Origin.limit g.K.Origin.whole (halt_of c.in_err-piece.field-0.0 c.count.new.self.stop) c.count.new.self.bits.taken (rw c.fragments.invariant.counted at (c.in_err-piece.ensures.gives told))))
 
 pub fragments-returns-in-Last-clause-gives : goal.fragments-returns-in-Last-clause-gives
 fragments-returns-in-Last-clause-gives g t c = λ told.
     let old = c.fragments.run in
     let mid = c.count.new.self in
     let i = stands_inside old.bits.position old.bits.taken old.bits.held old.bits.limit g.K.Origin.limit g.K.Origin.whole _ old.limited old.bits.behind old.bits.within (old.here told) in
-    let e = turn_last c.args.min c.args.max (λ n. many_at c.args.module.now c.args.depth n c.args.item.now) (steady-items c.args.module.now c.args.depth c.args.item.now) c.fragments.values.items c.fragments.before (length c.fragments.values.items) (input g.K.Origin.limit g.K.Origin.whole) (spot old.bits.position old.nodes) i c.in-Last.n (spot mid.bits.position mid.nodes) (rw (c.as_slice-total.ensures.value, c.in-Last.is) at (c.in_ok-piece.ensures.gives told)) in
-    shows_as g.K.Origin.limit g.K.Origin.whole (λ vs. vs.items) c.items.result _ _ _ _ _ (sym (c.fragments.invariant.so_far told) ∙ e) (c.items.ensures.gives told)
+    let e = turn_last c.args.min c.args.max (λ n. many_at c.args.module.now c.args.depth n c.args.item.now) (steady-items c.args.module.now c.args.depth c.args.item.now) c.fragments.values.kids c.fragments.before (length c.fragments.values.kids) (input g.K.Origin.limit g.K.Origin.whole) (spot old.bits.position old.nodes) i c.in-Last.n (spot mid.bits.position mid.nodes) (rw (c.fragments.invariant.counted, c.in-Last.is) at (c.in_ok-piece.ensures.gives told)) in
+    shows_as g.K.Origin.limit g.K.Origin.whole (λ _. c.items.new.values.kids) c.items.result _ _ _ _ _ (sym (c.fragments.invariant.so_far told) ∙ e) (c.items.ensures.gives told)
 
-pub fragments-returns-in_err-values-in-Units-clause-gives : goal.fragments-returns-in_err-values-in-Units-clause-gives
-fragments-returns-in_err-values-in-Units-clause-gives g t c = λ told.
-    let p = err_from_is_err_and c.from_residual-in_err-values-in-Units.result c.from_residual-in_err-values-in-Units.ensures.1 in
+pub fragments-returns-in_err-items-in-Units-clause-gives : goal.fragments-returns-in_err-items-in-Units-clause-gives
+fragments-returns-in_err-items-in-Units-clause-gives g t c = λ told.
+    let p = err_from_is_err_and c.from_residual-in_err-items-in-Units.result c.from_residual-in_err-items-in-Units.ensures.1 in
     let old = c.fragments.run in
     let mid = c.count.new.self in
     let i = stands_inside old.bits.position old.bits.taken old.bits.held old.bits.limit g.K.Origin.limit g.K.Origin.whole _ old.limited old.bits.behind old.bits.within (old.here told) in
-    rw (p.1, p.2) (subst (FailsAt g.K.Origin.limit g.K.Origin.whole (halt_of c.in_err-values-in-Units.field-0.0 c.items-in-Units.new.run.stop) c.items-in-Units.new.run.bits.taken) (c.fragments.invariant.so_far told)
-    (turn_off c.args.min c.args.max (λ n. many_at c.args.module.now c.args.depth n c.args.item.now) (steady-items c.args.module.now c.args.depth c.args.item.now) c.fragments.values.items c.fragments.before (length c.fragments.values.items) (input g.K.Origin.limit g.K.Origin.whole) (spot old.bits.position old.nodes) i c.in-Units.k (spot mid.bits.position mid.nodes) g.K.Origin.limit g.K.Origin.whole (halt_of c.in_err-values-in-Units.field-0.0 c.items-in-Units.new.run.stop) c.items-in-Units.new.run.bits.taken (rw (c.as_slice-total.ensures.value, c.in-Units.is) at (c.in_ok-piece.ensures.gives told)) (c.in_err-values-in-Units.ensures.gives told)))
+    rw (p.1, p.2) (subst (FailsAt g.K.Origin.limit g.K.Origin.whole (halt_of c.in_err-items-in-Units.field-0.0 c.items-in-Units.new.run.stop) c.items-in-Units.new.run.bits.taken) (c.fragments.invariant.so_far told)
+    (turn_off c.args.min c.args.max (λ n. many_at c.args.module.now c.args.depth n c.args.item.now) (steady-items c.args.module.now c.args.depth c.args.item.now) c.fragments.values.kids c.fragments.before (length c.fragments.values.kids) (input g.K.Origin.limit g.K.Origin.whole) (spot old.bits.position old.nodes) i c.in-Units.k (spot mid.bits.position mid.nodes) g.K.Origin.limit g.K.Origin.whole (halt_of c.in_err-items-in-Units.field-0.0 c.items-in-Units.new.run.stop) c.items-in-Units.new.run.bits.taken (rw (c.fragments.invariant.counted, c.in-Units.is) at (c.in_ok-piece.ensures.gives told)) (c.in_err-items-in-Units.ensures.gives told)))
 
 pub fragments-fragments-preserved : goal.fragments-fragments-preserved
 fragments-fragments-preserved g t c =
     let old = c.fragments.run in
     let mid = c.count.new.self in
     let new = c.items-in-Units.new.run in
-    let front = c.fragments.values.items in
-    let all = c.in_ok-values-in-Units.values.items in
-    let long : length front + c.in-Units.k * 16384 ≡ length all = omega (arith, c.in_ok-values-in-Units.ensures.size) in
+    let front = c.fragments.values.kids in
+    let all = c.items-in-Units.new.values.kids in
+    let long : length front + c.in-Units.k * 16384 ≡ length all = omega (arith, c.in_ok-items-in-Units.ensures.size) in
     record {
-      in_step = c.in_ok-values-in-Units.ensures.on.1;
-      on = omega (arith, c.in_ok-values-in-Units.ensures.on.0, c.in_ok-piece.ensures.on.0, c.fragments.invariant.on);
+      counted = omega (arith, c.fragments.invariant.counted, long);
+      in_step = c.in_ok-items-in-Units.ensures.on.1;
+      on = omega (arith, c.in_ok-items-in-Units.ensures.on.0, c.in_ok-piece.ensures.on.0, c.fragments.invariant.on);
       same = c.items-in-Units.ensures.same_reference ∙ c.count.ensures.same_reference ∙ c.fragments.invariant.same;
-      count = omega (arith, c.in_ok-values-in-Units.ensures.count, c.count.ensures.nodes, c.fragments.invariant.count);
-      fit = c.in_ok-values-in-Units.ensures.fits;
+      above = c.in_ok-items-in-Units.ensures.above ∙ c.fragments.invariant.above;
+      count = omega (arith, c.in_ok-items-in-Units.ensures.count, c.count.ensures.nodes, c.fragments.invariant.count);
+      fit = c.in_ok-items-in-Units.ensures.fits;
       so_far = λ told.
           let i = stands_inside old.bits.position old.bits.taken old.bits.held old.bits.limit g.K.Origin.limit g.K.Origin.whole _ old.limited old.bits.behind old.bits.within (old.here told) in
-          let e = turn_on c.args.min c.args.max (λ n. many_at c.args.module.now c.args.depth n c.args.item.now) (steady-items c.args.module.now c.args.depth c.args.item.now) c.fragments.values.items c.fragments.before (length c.fragments.values.items) (input g.K.Origin.limit g.K.Origin.whole) (spot old.bits.position old.nodes) i c.in-Units.k (spot mid.bits.position mid.nodes) all (spot new.bits.position new.nodes) (rw (c.as_slice-total.ensures.value, c.in-Units.is) at (c.in_ok-piece.ensures.gives told)) (c.in_ok-values-in-Units.ensures.gives told) in
+          let e = turn_on c.args.min c.args.max (λ n. many_at c.args.module.now c.args.depth n c.args.item.now) (steady-items c.args.module.now c.args.depth c.args.item.now) c.fragments.values.kids c.fragments.before (length c.fragments.values.kids) (input g.K.Origin.limit g.K.Origin.whole) (spot old.bits.position old.nodes) i c.in-Units.k (spot mid.bits.position mid.nodes) all (spot new.bits.position new.nodes) (rw (c.fragments.invariant.counted, c.in-Units.is) at (c.in_ok-piece.ensures.gives told)) (c.in_ok-items-in-Units.ensures.gives told) in
           subst (λ n. with_front all (fragments_at c.args.min c.args.max (λ m. many_at c.args.module.now c.args.depth m c.args.item.now) (suc (length (input g.K.Origin.limit g.K.Origin.whole))) c.in-Units.k n (input g.K.Origin.limit g.K.Origin.whole) (spot new.bits.position new.nodes)) ≡ counted_at c.args.min c.args.max (λ m. many_at c.args.module.now c.args.depth m c.args.item.now) (input g.K.Origin.limit g.K.Origin.whole) (spot c.args.run.now.bits.position c.args.run.now.nodes))
           long (sym e ∙ c.fragments.invariant.so_far told);
     }
@@ -731,7 +741,7 @@ items-returns-in_err-node-clause-gives g t c = λ told.
     let p = err_from_is_err_and c.from_residual.result c.from_residual.ensures.1 in
     let old = c.items.run in
     let i = stands_inside old.bits.position old.bits.taken old.bits.held old.bits.limit g.K.Origin.limit g.K.Origin.whole _ old.limited old.bits.behind old.bits.within (old.here told) in
-    let k = each_fails (node_of c.args.module.now c.args.depth c.args.item.now) c.items.values.items (input g.K.Origin.limit g.K.Origin.whole) (spot old.bits.position old.nodes) 0 _ _ (replicate-drop c.args.n c.items.counter 0 c.items-test.true) (λ n. sits-node c.args.module.now c.args.depth c.args.item.now) g.K.Origin.limit g.K.Origin.whole (halt_of c.in_err-node.field-0.0 c.node.new.run.stop) c.node.new.run.bits.taken i (c.in_err-node.ensures.gives told) in
+    let k = each_fails (node_of c.args.module.now c.args.depth c.args.item.now) c.items.values.kids (input g.K.Origin.limit g.K.Origin.whole) (spot old.bits.position old.nodes) 0 _ _ (replicate-drop c.args.n c.items.counter 0 c.items-test.true) (λ n. sits-node c.args.module.now c.args.depth c.args.item.now) g.K.Origin.limit g.K.Origin.whole (halt_of c.in_err-node.field-0.0 c.node.new.run.stop) c.node.new.run.bits.taken i (c.in_err-node.ensures.gives told) in
     rw (p.1, p.2) (subst (FailsAt g.K.Origin.limit g.K.Origin.whole (halt_of c.in_err-node.field-0.0 c.node.new.run.stop) c.node.new.run.bits.taken) (c.items.invariant.so_far told) k)
 
 pub items-items-preserved : goal.items-items-preserved
@@ -740,20 +750,22 @@ items-items-preserved g t c =
     let item = c.args.item.now in
     let old = c.items.run in
     let new = c.node.new.run in
-    let front = c.items.values.items in
-    let v = newest c.node.new.values.items in
+    let front = c.items.values.kids in
+    let v = newest c.node.new.values.kids in
+    let pushed = ap (λ z. z.kids) c.in_ok-node.ensures.pushed in
     record {
       in_step = c.in_ok-node.ensures.on.1;
       on = omega (arith, c.in_ok-node.ensures.on.0, c.items.invariant.on);
       same = c.node.ensures.same_reference ∙ c.items.invariant.same;
-      count = rw c.in_ok-node.ensures.pushed (omega (arith, c.in_ok-node.ensures.count, c.items.invariant.count, count-push front v));
-      size = rw c.in_ok-node.ensures.pushed (omega (arith, c.items.invariant.size, length-append front (v ∷ [])));
-      fit = rw c.in_ok-node.ensures.pushed (all-push M c.args.depth item front v c.items.invariant.fit c.in_ok-node.ensures.fits);
-      so_far = λ told. rw c.in_ok-node.ensures.pushed (
+      above = ap (λ z. z.above) c.in_ok-node.ensures.pushed ∙ c.items.invariant.above;
+      count = rw pushed (omega (arith, c.in_ok-node.ensures.count, c.items.invariant.count, count-push front v));
+      size = rw pushed (omega (arith, c.items.invariant.size, length-append front (v ∷ [])));
+      fit = rw pushed (all-push M c.args.depth item front v c.items.invariant.fit c.in_ok-node.ensures.fits);
+      so_far = λ told. rw pushed (
           sym (each_more (node_of M c.args.depth item) front (input g.K.Origin.limit g.K.Origin.whole) (spot old.bits.position old.nodes) 0 _ _ (replicate-drop c.args.n c.items.counter 0 c.items-test.true) v (spot new.bits.position new.nodes) (c.in_ok-node.ensures.gives told)) ∙ c.items.invariant.so_far told);
     }
 
 pub items-returns-clause-gives : goal.items-returns-clause-gives
 items-returns-clause-gives g t c = λ told.
     let run = c.items.run in
-    sym (c.items.invariant.so_far told) ∙ each_done (node_of c.args.module.now c.args.depth c.args.item.now) c.items.values.items (input g.K.Origin.limit g.K.Origin.whole) (spot run.bits.position run.nodes) _ (copies-none c.args.n c.items.counter 0 c.items-test.false)
+    sym (c.items.invariant.so_far told) ∙ each_done (node_of c.args.module.now c.args.depth c.args.item.now) c.items.values.kids (input g.K.Origin.limit g.K.Origin.whole) (spot run.bits.position run.nodes) _ (copies-none c.args.n c.items.counter 0 c.items-test.false)

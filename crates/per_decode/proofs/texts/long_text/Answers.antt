@@ -36,8 +36,8 @@ returns-clause-gives g c = λ told.
     let t = c.args.node.now in
     let octets = c.deref.result.now in
     let e : octets ≡ c.in_ok-octets.octets.items = search rules in
-    shows_as g.K.Origin.limit g.K.Origin.whole (λ _. newest c.copied_text.new.values.items) c.copied_text.result _ _ _ _ _
+    shows_as g.K.Origin.limit g.K.Origin.whole (λ _. newest c.copied_text.new.values.kids) c.copied_text.result _ _ _ _ _
     (kept_read M c.args.begin (resolve M t) (octets_behind (piece_of c.args.first)) (input g.K.Origin.limit g.K.Origin.whole) (spot old.bits.position old.nodes) octets (spot new.bits.position new.nodes)
     (c.in_ok-octets.ensures.gives told ∙ ap (λ os. Ok (os, spot new.bits.position new.nodes)) (sym e)))
-    (text_shows M c.requires.known c.args.begin t c.requires.of octets (spot new.bits.position new.nodes) g.K.Origin.limit g.K.Origin.whole c.copied_text.new.stop new.bits.taken (newest c.copied_text.new.values.items) c.copied_text.result
+    (text_shows M c.requires.known c.args.begin t c.requires.of octets (spot new.bits.position new.nodes) g.K.Origin.limit g.K.Origin.whole c.copied_text.new.stop new.bits.taken (newest c.copied_text.new.values.kids) c.copied_text.result
     (omega (arith, c.in_ok-octets.ensures.on.1)) (newest-told c.copied_text.result _ _ _ c.copied_text.ensures.pushed) c.copied_text.ensures.ok (rw c.position-end.ensures at c.copied_text.ensures.err))

@@ -33,7 +33,7 @@ returns-clause-gives g c = λ told.
     let new = c.fill_few.new.self in
     let M = c.args.module.now in
     let t = c.args.node.now in
-    subst (Shows g.K.Origin.limit g.K.Origin.whole (λ _. newest c.few_octets.new.values.items) c.few_octets.result (spot new.bits.position new.nodes) c.few_octets.new.stop new.bits.taken)
+    subst (Shows g.K.Origin.limit g.K.Origin.whole (λ _. newest c.few_octets.new.values.kids) c.few_octets.result (spot new.bits.position new.nodes) c.few_octets.new.stop new.bits.taken)
     (sym (kept_read M c.args.begin (resolve M t) (octets_at c.args.n) (input g.K.Origin.limit g.K.Origin.whole) (spot old.bits.position old.nodes) _ (spot new.bits.position new.nodes) (c.in_ok-fill_few.ensures.gives told)))
-    (text_shows M c.requires.known c.args.begin t c.requires.of _ (spot new.bits.position new.nodes) g.K.Origin.limit g.K.Origin.whole c.few_octets.new.stop new.bits.taken (newest c.few_octets.new.values.items) c.few_octets.result
+    (text_shows M c.requires.known c.args.begin t c.requires.of _ (spot new.bits.position new.nodes) g.K.Origin.limit g.K.Origin.whole c.few_octets.new.stop new.bits.taken (newest c.few_octets.new.values.kids) c.few_octets.result
     (omega (arith, c.in_ok-fill_few.ensures.on.1)) (newest-told c.few_octets.result _ _ _ c.few_octets.ensures.pushed) c.few_octets.ensures.ok (rw c.position-end.ensures at c.few_octets.ensures.err))

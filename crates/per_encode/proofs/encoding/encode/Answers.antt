@@ -19,8 +19,8 @@ returns c =
     let a = c.assignment.result.now in
     let s = c.put_node.new.sink in
     let put : s ≡ per M a.body v 0 =
-    c.in_ok-put_node.ensures ∙ ap (λ bs. bs ++ per M c.root-body.result.now c.root-root.result.now (length bs)) c.new-sink.ensures
-    ∙ ap (λ u. per M u c.root-root.result.now 0) c.root-body.ensures.root ∙ ap (λ w. per M a.body w 0) c.root-root.ensures.root in
+    c.in_ok-put_node.ensures ∙ ap (λ bs. bs ++ per M c.root-body.result.now c.root-root.result (length bs)) c.new-sink.ensures
+    ∙ ap (λ u. per M u c.root-root.result 0) c.root-body.ensures.root ∙ ap (λ w. per M a.body w 0) c.root-root.ensures.root in
     if_ok (λ octets. octet_bits octets.items ≡ completed s) (λ octets. octet_bits octets.items ≡ complete M c.args.t v) c.whole_octets.result
     (λ octets e. e ∙ ap completed put ∙ complete-root M v c.args.t a c.assignment.ensures.assignment)
     c.whole_octets.ensures

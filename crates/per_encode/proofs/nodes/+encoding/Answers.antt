@@ -1,103 +1,32 @@
-use Rattle.std.proofs.Common.{rules, ◌≡◌, ◌++◌, ◌+◌, ◌-◌, ◌*◌, ◌∷◌, length, map, drop, leb, sym, ap, ◌∙◌, subst, arith, FitsSigned}
+use Rattle.std.proofs.Common.{rules, ◌≡◌, ◌++◌, ◌+◌, ◌-◌, ◌*◌, ◌∷◌, length, map, take, drop, leb, sym, ap, ◌∙◌, subst, arith, FitsSigned}
 use Rattle.std.specs.Int.{w128}
 use Rattle.std.proofs.lemmas.Int.{to_z-of_z}
 use Rattle.std.proofs.lemmas.Bool.{leb-true}
 use Rattle.std.proofs.lemmas.Option.{slice_get_within}
 use Rattle.bit_cursor.specs.Bits.{bits}
-use Rattle.label_tree.specs.Rose.{kids_of}
+use Rattle.std.proofs.lemmas.List.{length-drop}
+use Rattle.label_tree.specs.Rose.{kids_of, roses_of, count_all}
 use Rattle.label_tree.proofs.Roses.{node_count-kids}
-use Rattle.label_tree.proofs.Kids.{kid-count-le, count_all-take-le, count_all-drop-le, node_count-got}
+use Rattle.label_tree.proofs.Kids.{count_all-drop-le, node_count-got}
 use Rattle.simple_types.specs.declared.labels.ValueLabel.TheVariants as value
 use Rattle.simple_values.specs.Lexical.{is_at_most}
 use Rattle.asn_types.specs.declared.types.Form.TheVariants as form
-use Rattle.asn_types.proofs.Counting.{drop-past}
-use Rattle.per_fields.specs.Fields.{in_turn, number_bits, whole_bits, counted_bits, list_bits}
+use Rattle.per_fields.specs.Codec.{AllOf}
+use Rattle.per_fields.specs.Private.Heads.{head_bits}
+use Rattle.per_fields.specs.Fields.{Last, units_of, in_turn, number_bits, whole_bits, counted_bits, list_bits}
 use Rattle.per_fields.specs.Encoding.{octet_writer, flag_bits, per}
 use Rattle.per_encode.specs.Private.Kids.{FitsSomewhere, AllFit, KidsFit, chosen, writers, resolved_bits}
-use Rattle.per_encode.proofs.Puts.{on_ok, then_written, turn_taken, nothing_left, fragment_put, last_put}
+use Rattle.per_encode.proofs.Puts.{on_ok, then_written, turn_taken, nothing_left, fragment_taken, last_taken}
+use Rattle.per_encode.proofs.Taken.{take_first, drop_first, take_none, drop_none, take_all}
 use Rattle.per_encode.proofs.Bits.{one_bit}
-use Rattle.per_encode.proofs.Kids.{left_first, first_fits, left_present, left_absent, kid_left, kid_first, none_left, kids_fit, per-resolved, all_of-take, all_of-drop, both, Is, bool-bits, int-bits, number-bits, word-bits, text-bits, sequence_here, sequence-bits, choice_here, choice_kid, choice-bits, list_here, list_item, list-bits}
+use Rattle.per_encode.proofs.Kids.{first_fits, left_due, left_present, left_absent, kid_first, none_left, kids_fit, per-resolved, all_of-drop, both, Is, bool-bits, int-bits, number-bits, word-bits, text-bits, sequence_here, sequence-bits, choice_here, choice_kid, choice-bits, list_here, list_item, list-bits}
 use Rattle.per_encode.proofs.nodes.+encoding.Goals as goal
-use Rattle.per_encode.proofs.nodes.+encoding.Goals.{put_parts-then-present-i+in_ok-put_node, put_parts-else-present-i}
-
-pub put_items-put_node-requires : goal.put_items-put_node-requires
-put_items-put_node-requires t c =
-    let M = c.args.module.now in
-    let node = c.args.node.now in
-    let vs = c.args.values.now in
-    let i = c.items.value-index in
-    let v = c.value-item.result in
-    let d = c.decreases in
-    let k = kid-count-le vs i v c.items-test.true c.value-item.is in
-    (omega (arith, d, k), (first_fits (FitsSomewhere M node) (drop i vs) (drop (i + 1) vs) v (left_first vs i v c.items-test.true c.value-item.is) c.items.invariant.fit).0)
-
-pub put_items-items-preserved : goal.put_items-items-preserved
-put_items-items-preserved t c =
-    let M = c.args.module.now in
-    let node = c.args.node.now in
-    let vs = c.args.values.now in
-    let i = c.items.value-index in
-    let v = c.value-item.result in
-    let sink = c.items.sink in
-    let next = left_first vs i v c.items-test.true c.value-item.is in
-    record {
-      fit = (first_fits (FitsSomewhere M node) (drop i vs) (drop (i + 1) vs) v next c.items.invariant.fit).1;
-      whole = turn_taken (c.args.sink.now ++ in_turn (map (per M node) vs) (length c.args.sink.now)) sink c.put_node.new.sink (per M node v) (map (per M node) (drop (i + 1) vs))
-          (sym (ap (λ xs. sink ++ in_turn (map (per M node) xs) (length sink)) next) ∙ c.items.invariant.whole) c.in_ok-put_node.ensures;
-    }
-
-pub put_items-returns : goal.put_items-returns
-put_items-returns t c =
-    let M = c.args.module.now in
-    let node = c.args.node.now in
-    let vs = c.args.values.now in
-    let i = c.items.value-index in
-    let sink = c.items.sink in
-    sym (nothing_left sink (length sink)) ∙ sym (ap (λ xs. sink ++ in_turn (map (per M node) xs) (length sink)) (drop-past i vs c.items-test.false)) ∙ c.items.invariant.whole
+use Rattle.per_encode.proofs.nodes.+encoding.Goals.{put_parts-then-present-i+in-Some+in_ok-put_node-in-Some, put_parts-else-present-i}
 
 pub put_node-put_content-requires : goal.put_node-put_content-requires
 put_node-put_content-requires t c =
     let d = c.decreases in
     (omega (arith, d), subst (λ u. KidsFit c.args.module.now u c.args.value.now) (sym c.resolve.ensures) (kids_fit c.args.module.now c.args.node.now c.args.value.now c.requires))
-
-pub put_fragments-put_items-requires : goal.put_fragments-put_items-requires
-put_fragments-put_items-requires t c =
-    let P = FitsSomewhere c.args.module.now c.args.node.now in
-    let vs = c.args.values.now in
-    let at = c.fragments.at in
-    let n = at + c.min-units.result * 16384 - at in
-    let d = c.decreases in
-    (omega (arith, d, count_all-take-le (drop at vs) n, count_all-drop-le vs at), all_of-take P (drop at vs) n (all_of-drop P vs at c.requires))
-
-pub put_fragments-fragments-preserved : goal.put_fragments-fragments-preserved
-put_fragments-fragments-preserved t c =
-    let f = per c.args.module.now c.args.node.now in
-    let vs = c.args.values.now in
-    let old = c.args.sink.now ++ counted_bits (map f vs) (length c.args.sink.now) in
-    record {
-      inside = omega (arith, c.min-units.ensures, c.fragments-test.true);
-      whole = fragment_put f vs c.fragments.at c.min-units.result old c.fragments.sink c.put_units.new.sink c.put_items.new.sink c.fragments-test.true (omega (arith, c.min-units.ensures))
-          c.in_ok-put_units.ensures c.in_ok-put_items.ensures c.fragments.invariant.whole;
-    }
-
-pub put_fragments-put_items-requires-2 : goal.put_fragments-put_items-requires-2
-put_fragments-put_items-requires-2 t c =
-    let P = FitsSomewhere c.args.module.now c.args.node.now in
-    let vs = c.args.values.now in
-    let at = c.fragments.at in
-    let n = length vs - at in
-    let d = c.decreases in
-    (omega (arith, d, count_all-take-le (drop at vs) n, count_all-drop-le vs at), all_of-take P (drop at vs) n (all_of-drop P vs at c.requires))
-
-pub put_fragments-returns : goal.put_fragments-returns
-put_fragments-returns t c =
-    let f = per c.args.module.now c.args.node.now in
-    let vs = c.args.values.now in
-    let old = c.args.sink.now ++ counted_bits (map f vs) (length c.args.sink.now) in
-    on_ok c.put_items-2.result
-    (λ e. last_put f vs c.fragments.at old c.fragments.sink c.put_last_length.new.sink c.put_items-2.new.sink (omega (arith, c.fragments-test.false)) c.fragments.invariant.whole
-    c.in_ok-put_last_length.ensures e)
-    c.put_items-2.ensures
 
 pub put_node-returns : goal.put_node-returns
 put_node-returns t c =
@@ -164,8 +93,8 @@ put_content-put_node-requires t c =
     let i = c.in-Choice-label.i in
     let is : Is M u v (form.Choice parts) (value.Choice i) = (ap (λ l. l.form) (sym c.label.ensures) ∙ c.in-Choice.is, sym c.label-label.ensures ∙ c.in-Choice-label.is) in
     let d = c.decreases in
-    let n = node_count-got v 0 c.kid-inner.result.now c.kid-inner.ensures in
-    (omega (arith, d, n), (choice_kid M u v parts i c.kid-alternative.result.now c.kid-inner.result.now (choice_here M u v parts i is c.requires) c.kid-alternative.ensures c.kid-inner.ensures).0)
+    let n = node_count-got v 0 c.kid-inner.result c.kid-inner.ensures in
+    (omega (arith, d, n), (choice_kid M u v parts i c.kid-alternative.result.now c.kid-inner.result (choice_here M u v parts i is c.requires) c.kid-alternative.ensures c.kid-inner.ensures).0)
 
 pub put_content-put_list-requires : goal.put_content-put_list-requires
 put_content-put_list-requires t c =
@@ -260,7 +189,7 @@ put_content-returns-in_ok-put_flags-in-Sequence-label t c =
     let sink = c.args.sink.now in
     let p = length sink in
     on_ok c.put_parts.result (λ e. then_written sink mid c.put_parts.new.sink (flag_bits parts flags) (in_turn (writers M (chosen (kids_of u) flags) (kids_of v))) put
-    (e ∙ ap (λ ts. mid ++ in_turn (writers M ts c.kids-values.result.now) (length mid)) kept ∙ ap (λ vs. mid ++ in_turn (writers M (chosen (kids_of u) flags) vs) (length mid)) c.kids-values.ensures)
+    (e ∙ ap (λ ts. mid ++ in_turn (writers M ts c.kids-values.result) (length mid)) kept ∙ ap (λ vs. mid ++ in_turn (writers M (chosen (kids_of u) flags) vs) (length mid)) c.kids-values.ensures)
     ∙ ap (λ bs. sink ++ bs) (sym (sequence-bits M u v parts flags is c.requires p))) c.put_parts.ensures
 
 pub put_content-returns-in_ok-put_index-in-Choice-label : goal.put_content-returns-in_ok-put_index-in-Choice-label
@@ -273,7 +202,7 @@ put_content-returns-in_ok-put_index-in-Choice-label t c =
     let is : Is M u v (form.Choice parts) (value.Choice i) = (ap (λ l. l.form) (sym c.label.ensures) ∙ c.in-Choice.is, sym c.label-label.ensures ∙ c.in-Choice-label.is) in
     let mid = c.put_index-in-Choice-label.new.sink in
     let a = c.kid-alternative.result.now in
-    let w = c.kid-inner.result.now in
+    let w = c.kid-inner.result in
     let n = number_bits (length parts - 1) i (length c.args.sink.now) in
     let put : mid ≡ c.args.sink.now ++ n = c.in_ok-put_index-in-Choice-label.ensures ∙ ap (λ cs. c.args.sink.now ++ number_bits (length cs - 1) i (length c.args.sink.now)) c.items-alternatives.ensures in
     let sink = c.args.sink.now in
@@ -294,64 +223,144 @@ put_content-returns-in-SequenceOf-label t c =
     let p = length sink in
     on_ok c.put_list.result (λ e. e ∙ ap (λ vs. sink ++ list_bits least most (map (per M item) vs) p) c.kids-items.ensures ∙ ap (λ bs. sink ++ bs) (sym (list-bits M u v part least most item is c.requires c.kid-item.ensures p))) c.put_list.ensures
 
+pub put_items-put_node-requires : goal.put_items-put_node-requires
+put_items-put_node-requires t c =
+    let M = c.args.module.now in
+    let e = c.in-Some.ensures.steps in
+    let d = c.decreases in
+    (omega (arith, d, c.items.invariant.fewer, ap (λ vs. count_all (roses_of vs)) e), (first_fits (FitsSomewhere M c.args.node.now) _ _ _ e c.items.invariant.fit).0)
+
+pub put_items-items-preserved : goal.put_items-items-preserved
+put_items-items-preserved t c =
+    let M = c.args.module.now in
+    let node = c.args.node.now in
+    let f = per M node in
+    let vs = c.items.values in
+    let later = c.next.new.self in
+    let v = c.in-Some.value in
+    let i = c.items.counter in
+    let n = c.args.n in
+    let sink = c.items.sink in
+    let old = c.args.sink.now ++ in_turn (map f (take n c.args.values.now)) (length c.args.sink.now) in
+    let e = c.in-Some.ensures.steps in
+    record {
+      within = omega (arith, c.items.invariant.within, ap length e, c.items-test.true);
+      fit = (first_fits (FitsSomewhere M node) _ _ _ e c.items.invariant.fit).1;
+      whole = turn_taken old sink c.put_node.new.sink (per M node v) (map f (take (n - (i + 1)) later))
+          (sym (ap (λ xs. sink ++ in_turn (map f xs) (length sink)) (take_first vs later v n i e c.items-test.true)) ∙ c.items.invariant.whole) c.in_ok-put_node-in-Some.ensures;
+      rest = sym (drop_first vs later v n i e c.items-test.true) ∙ c.items.invariant.rest;
+      fewer = omega (arith, c.items.invariant.fewer, ap (λ us. count_all (roses_of us)) e);
+    }
+
+pub put_items-returns-clause-sink : goal.put_items-returns-clause-sink
+put_items-returns-clause-sink t c =
+    let f = per c.args.module.now c.args.node.now in
+    let sink = c.items.sink in
+    sym (nothing_left sink (length sink)) ∙ sym (ap (λ xs. sink ++ in_turn (map f xs) (length sink)) (take_none c.items.values c.args.n c.items.counter c.items-test.false)) ∙ c.items.invariant.whole
+
+pub put_items-returns-clause-rest : goal.put_items-returns-clause-rest
+put_items-returns-clause-rest t c = sym (drop_none c.items.values c.args.n c.items.counter c.items-test.false) ∙ c.items.invariant.rest
+
+pub put_fragments-put_items-requires : goal.put_fragments-put_items-requires
+put_fragments-put_items-requires t c =
+    let d = c.decreases in
+    (omega (arith, d, c.fragments.invariant.fewer), (omega (arith, c.fragments.invariant.counted, c.fragments-test.true, c.min-units.ensures), c.fragments.invariant.fit))
+
+pub put_fragments-fragments-preserved : goal.put_fragments-fragments-preserved
+put_fragments-fragments-preserved t c =
+    let M = c.args.module.now in
+    let node = c.args.node.now in
+    let f = per M node in
+    let vs = c.fragments.left in
+    let k = c.min-units.result in
+    let old = c.args.sink.now ++ counted_bits (map f c.args.values.now) (length c.args.sink.now) in
+    let counted = c.fragments.invariant.counted in
+    let rest = c.in_ok-put_items.ensures.rest in
+    record {
+      counted = omega (arith, counted, ap length rest, length-drop (k * 16384) vs);
+      fit = subst (AllOf (FitsSomewhere M node)) (sym rest) (all_of-drop (FitsSomewhere M node) vs (k * 16384) c.fragments.invariant.fit);
+      whole = subst (λ us. c.put_items.new.sink ++ counted_bits (map f us) (length c.put_items.new.sink) ≡ old) (sym rest)
+          (fragment_taken f vs k old c.fragments.sink c.put_units.new.sink c.put_items.new.sink (omega (arith, counted, c.fragments-test.true)) (ap units_of (sym counted) ∙ omega (arith, c.min-units.ensures))
+          c.in_ok-put_units.ensures c.in_ok-put_items.ensures.sink c.fragments.invariant.whole);
+      fewer = omega (arith, c.fragments.invariant.fewer, ap (λ us. count_all (roses_of us)) rest, count_all-drop-le vs (k * 16384));
+    }
+
+pub put_fragments-put_items-requires-2 : goal.put_fragments-put_items-requires-2
+put_fragments-put_items-requires-2 t c =
+    let d = c.decreases in
+    (omega (arith, d, c.fragments.invariant.fewer), (omega (arith, c.fragments.invariant.counted), c.fragments.invariant.fit))
+
+pub put_fragments-returns : goal.put_fragments-returns
+put_fragments-returns t c =
+    let f = per c.args.module.now c.args.node.now in
+    let vs = c.fragments.left in
+    let old = c.args.sink.now ++ counted_bits (map f c.args.values.now) (length c.args.sink.now) in
+    let counted = c.fragments.invariant.counted in
+    let mid = c.put_last_length.new.sink in
+    on_ok c.put_items-2.result
+    (λ e. last_taken f vs old c.fragments.sink mid c.put_items-2.new.sink (omega (arith, counted, c.fragments-test.false)) c.fragments.invariant.whole
+    (c.in_ok-put_last_length.ensures ∙ ap (λ n. c.fragments.sink ++ head_bits (Last n) (length c.fragments.sink)) counted)
+    (e ∙ ap (λ us. mid ++ in_turn (map f us) (length mid)) (ap (λ n. take n vs) counted ∙ take_all vs)))
+    c.put_items-2.ensures.sink
+
+pub put_parts-unreachable-requires : goal.put_parts-unreachable-requires
+put_parts-unreachable-requires t c =
+    let M = c.args.module.now in
+    let due = left_due c.args.types.now c.args.present.now c.parts.i c.parts-test.true c.requires.types c.if-present-i.true in
+    let none = c.in-None.ensures.steps.0 in
+    absurd (subst (AllFit M (due.0 ∷ _)) none (subst (λ us. AllFit M us c.parts.left) due.1 c.parts.invariant.fit))
+
 pub put_parts-put_node-requires : goal.put_parts-put_node-requires
 put_parts-put_node-requires t c =
     let M = c.args.module.now in
     let ts = c.args.types.now in
     let flags = c.args.present.now in
-    let vs = c.args.values.now in
     let i = c.parts.i in
-    let next = c.parts.next in
     let a = c.index-types-i.result in
-    let w = c.index-values-next.result in
     let rest = chosen (drop (i + 1) ts) (drop (i + 1) flags) in
     let here = left_present ts flags i c.parts-test.true a (omega (arith, c.parts-test.true, c.requires.types)) c.index-types-i.is c.if-present-i.true in
-    let fit = subst (λ us. AllFit M us (drop next vs)) here c.parts.invariant.fit in
-    let within = kid_left M a rest vs next fit in
-    let first = left_first vs next w within c.index-values-next.is in
+    let fit = subst (λ us. AllFit M us c.parts.left) here c.parts.invariant.fit in
+    let e = c.in-Some.ensures.steps in
     let d = c.decreases in
-    let k = kid-count-le vs next w within c.index-values-next.is in
-    (omega (arith, d, k), (kid_first M a rest (drop next vs) (drop (next + 1) vs) w first fit).0)
+    (omega (arith, d, c.parts.invariant.fewer, ap (λ vs. count_all (roses_of vs)) e), (kid_first M a rest c.parts.left c.next.new.self c.in-Some.value e fit).0)
 
 pub put_parts-parts-preserved : goal.put_parts-parts-preserved
 put_parts-parts-preserved t c =
     let M = c.args.module.now in
     let ts = c.args.types.now in
     let flags = c.args.present.now in
-    let vs = c.args.values.now in
+    let vs = c.parts.left in
     let i = c.parts.i in
-    let next = c.parts.next in
     let sink = c.parts.sink in
     let rest = chosen (drop (i + 1) ts) (drop (i + 1) flags) in
-    let old = c.args.sink.now ++ in_turn (writers M (chosen ts flags) vs) (length c.args.sink.now) in
-    let sink' = c.if-present-i.sink in
-    let next' = c.if-present-i.next in
+    let old = c.args.sink.now ++ in_turn (writers M (chosen ts flags) c.args.values.now) (length c.args.sink.now) in
     elim c.if-present-i.branch [
-      | put_parts-then-present-i+in_ok-put_node b ↦ (
+      | put_parts-then-present-i+in-Some+in_ok-put_node-in-Some b ↦ (
           let a = b.index-types-i.result in
-          let w = b.index-values-next.result in
-          let here = left_present ts flags i c.parts-test.true a (omega (arith, c.parts-test.true, c.requires.types)) b.index-types-i.is b.if-present-i.true in
-          let fit = subst (λ us. AllFit M us (drop next vs)) here c.parts.invariant.fit in
-          let within = kid_left M a rest vs next fit in
-          let first = left_first vs next w within b.index-values-next.is in
-          let others = (kid_first M a rest (drop next vs) (drop (next + 1) vs) w first fit).1 in
-          let now : sink ++ in_turn (per M a w ∷ writers M rest (drop (next + 1) vs)) (length sink) ≡ old =
-          sym (ap (λ us. sink ++ in_turn (writers M us (drop next vs)) (length sink)) here ∙ ap (λ ws. sink ++ in_turn (writers M (a ∷ rest) ws) (length sink)) first) ∙ c.parts.invariant.whole in
+          let w = b.in-Some.value in
+          let later = b.next.new.self in
           let new = b.put_node.new.sink in
-          let put = turn_taken old sink new (per M a w) (writers M rest (drop (next + 1) vs)) now b.in_ok-put_node.ensures in
+          let first = b.in-Some.ensures.steps in
+          let here = left_present ts flags i c.parts-test.true a (omega (arith, c.parts-test.true, c.requires.types)) b.index-types-i.is b.if-present-i.true in
+          let fit = (kid_first M a rest vs later w first (subst (λ us. AllFit M us vs) here c.parts.invariant.fit)).1 in
+          let now : sink ++ in_turn (per M a w ∷ writers M rest later) (length sink) ≡ old =
+          sym (ap (λ us. sink ++ in_turn (writers M us vs) (length sink)) here ∙ ap (λ ws. sink ++ in_turn (writers M (a ∷ rest) ws) (length sink)) first) ∙ c.parts.invariant.whole in
+          let put = turn_taken old sink new (per M a w) (writers M rest later) now b.in_ok-put_node-in-Some.ensures in
           record {
-            fit = subst (λ j. AllFit M rest (drop j vs)) (sym b.next-is) others;
-            whole = subst (λ s. s ++ in_turn (writers M rest (drop next' vs)) (length s) ≡ old) (sym b.sink-is)
-                (subst (λ j. new ++ in_turn (writers M rest (drop j vs)) (length new) ≡ old) (sym b.next-is) put);
+            fit = subst (λ ks. AllFit M rest ks) (sym b.left-is) fit;
+            whole = subst (λ s. s ++ in_turn (writers M rest c.if-present-i.left) (length s) ≡ old) (sym b.sink-is)
+                (subst (λ ks. new ++ in_turn (writers M rest ks) (length new) ≡ old) (sym b.left-is) put);
+            fewer = omega (arith, c.parts.invariant.fewer, ap (λ ks. count_all (roses_of ks)) first, ap (λ ks. count_all (roses_of ks)) b.left-is);
           })
       | put_parts-else-present-i b ↦ (
           let here = left_absent ts flags i c.parts-test.true c.requires.types b.if-present-i.false in
-          let fit = subst (λ us. AllFit M us (drop next vs)) here c.parts.invariant.fit in
-          let put : sink ++ in_turn (writers M rest (drop next vs)) (length sink) ≡ old = sym (ap (λ us. sink ++ in_turn (writers M us (drop next vs)) (length sink)) here) ∙ c.parts.invariant.whole in
+          let fit = subst (λ us. AllFit M us vs) here c.parts.invariant.fit in
+          let put : sink ++ in_turn (writers M rest vs) (length sink) ≡ old = sym (ap (λ us. sink ++ in_turn (writers M us vs) (length sink)) here) ∙ c.parts.invariant.whole in
           record {
-            fit = subst (λ j. AllFit M rest (drop j vs)) (sym b.next-is) fit;
-            whole = subst (λ s. s ++ in_turn (writers M rest (drop next' vs)) (length s) ≡ old) (sym b.sink-is)
-                (subst (λ j. sink ++ in_turn (writers M rest (drop j vs)) (length sink) ≡ old) (sym b.next-is) put);
+            fit = subst (λ ks. AllFit M rest ks) (sym b.left-is) fit;
+            whole = subst (λ s. s ++ in_turn (writers M rest c.if-present-i.left) (length s) ≡ old) (sym b.sink-is)
+                (subst (λ ks. sink ++ in_turn (writers M rest ks) (length sink) ≡ old) (sym b.left-is) put);
+            fewer = omega (arith, c.parts.invariant.fewer, ap (λ ks. count_all (roses_of ks)) b.left-is);
           })
     ]
 
@@ -360,7 +369,6 @@ put_parts-returns t c =
     let M = c.args.module.now in
     let ts = c.args.types.now in
     let flags = c.args.present.now in
-    let vs = c.args.values.now in
     let sink = c.parts.sink in
-    let none = none_left M ts flags c.parts.i (drop c.parts.next vs) c.parts-test.false in
+    let none = none_left M ts flags c.parts.i c.parts.left c.parts-test.false in
     sym (nothing_left sink (length sink)) ∙ sym (ap (λ ws. sink ++ in_turn ws (length sink)) none) ∙ c.parts.invariant.whole

@@ -1,4 +1,4 @@
-use Rattle.std.proofs.Common.{◌≡◌, ◌+◌, ◌-◌, ◌*◌, ◌≤◌, ◌++◌, length, drop, map}
+use Rattle.std.proofs.Common.{◌≡◌, ◌+◌, ◌-◌, ◌*◌, ◌≤◌, ◌++◌, length, take, drop, map}
 use Rattle.label_tree.specs.Rose.{node_count, count_all, roses_of}
 use Rattle.per_fields.specs.Codec.{AllOf}
 use Rattle.per_fields.specs.Fields.{in_turn, counted_bits}
@@ -28,24 +28,30 @@ abbrev pub invariant-put_parts-parts : goal.invariant-put_parts-parts
 invariant-put_parts-parts l =
     let M = l.«module» in
     record {
-      fit : AllFit M (chosen (drop l.i l.types) (drop l.i l.present)) (drop l.next l.values);
-      whole : l.sink ++ in_turn (writers M (chosen (drop l.i l.types) (drop l.i l.present)) (drop l.next l.values)) (length l.sink)
+      fit : AllFit M (chosen (drop l.i l.types) (drop l.i l.present)) l.left;
+      whole : l.sink ++ in_turn (writers M (chosen (drop l.i l.types) (drop l.i l.present)) l.left) (length l.sink)
           ≡ l.fn.sink ++ in_turn (writers M (chosen l.types l.present) l.values) (length l.fn.sink);
+      fewer : count_all (roses_of l.left) ≤ count_all (roses_of l.values);
     }
 
 abbrev pub invariant-put_items-items : goal.invariant-put_items-items
 invariant-put_items-items l = record {
-  fit : AllOf (FitsSomewhere l.«module» l.node) (drop l.value-index l.values);
-  whole : l.sink ++ in_turn (map (per l.«module» l.node) (drop l.value-index l.values)) (length l.sink)
-      ≡ l.fn.sink ++ in_turn (map (per l.«module» l.node) l.values) (length l.fn.sink);
+  within : l.n - l.counter ≤ length l.values;
+  fit : AllOf (FitsSomewhere l.«module» l.node) l.values;
+  whole : l.sink ++ in_turn (map (per l.«module» l.node) (take (l.n - l.counter) l.values)) (length l.sink)
+      ≡ l.fn.sink ++ in_turn (map (per l.«module» l.node) (take l.n l.fn.values)) (length l.fn.sink);
+  rest : drop (l.n - l.counter) l.values ≡ drop l.n l.fn.values;
+  fewer : count_all (roses_of l.values) ≤ count_all (roses_of l.fn.values);
 }
 
 abbrev pub invariant-put_fragments-fragments : goal.invariant-put_fragments-fragments
 invariant-put_fragments-fragments l = record {
-  inside : l.at ≤ length l.values;
-  whole : l.sink ++ counted_bits (map (per l.«module» l.node) (drop l.at l.values)) (length l.sink)
+  counted : l.count ≡ length l.left;
+  fit : AllOf (FitsSomewhere l.«module» l.node) l.left;
+  whole : l.sink ++ counted_bits (map (per l.«module» l.node) l.left) (length l.sink)
       ≡ l.fn.sink ++ counted_bits (map (per l.«module» l.node) l.values) (length l.fn.sink);
+  fewer : count_all (roses_of l.left) ≤ count_all (roses_of l.values);
 }
 
 abbrev pub decreases-put_fragments-fragments : goal.decreases-put_fragments-fragments
-decreases-put_fragments-fragments l = length l.values - l.at
+decreases-put_fragments-fragments l = l.count
