@@ -1,54 +1,28 @@
 -- What stands in an element, one thing after another.
-use Rattle.std.proofs.Common.{◌≡◌, ℕ, zero, suc, Bool, true, false, List, [], ◌∷◌, ◌++◌, length, Some, None, refl, sym, ◌∙◌, ap, subst, append_assoc}
-use Rattle.std.specs.Prelude.{◌==◌, slice_get, map, Result, Ok, Err, OnOk}
-use Rattle.std.proofs.lemmas.List.{append-nil}
+use Rattle.std.proofs.Common.{◌≡◌, ℕ, zero, suc, ◌+◌, ◌<◌, Bool, true, false, List, [], ◌∷◌, ◌++◌, length, drop, refl, sym, ◌∙◌, ap, subst, append_assoc, length-append, arith, IsUtf8}
+use Rattle.std.specs.Prelude.{◌==◌, map, Result, Ok, Err, OnOk}
+use Rattle.std.proofs.lemmas.Bool.{eqb-true}
+use Rattle.std.proofs.lemmas.List.{append-nil, drop-map, length-map, length_push, same_from_push}
 use Rattle.xa_base.specs.declared.texts.Name.{Name}
 use Rattle.label_tree.specs.Rose.{Rose, node, Roses, none, more, roses_of}
 use Rattle.label_tree.proofs.Roses.{roses_of-list_of}
+use Rattle.flat_tree.specs.Zips.{Zip, Above, added, added_all, closed, relabeled, relabeled_in}
+use Rattle.simple_types.specs.declared.labels.ValueLabel.{ValueLabel}
 use Rattle.doc_text.specs.declared.label.ItemLabel.{ItemLabel}
-use Rattle.doc_text.specs.declared.label.ItemLabel.TheVariants.{Text}
-use Rattle.plain_items.specs.Plain.{Plain, element}
+use Rattle.doc_text.specs.declared.label.ItemLabel.TheVariants.{Element, Text}
+use Rattle.plain_items.specs.Plain.{Plain}
 use Rattle.plain_items.specs.Mixing.{text_before, interleaved}
-use Rattle.xer_items.specs.Items.{Given, nothing, joined, both, element_of, with_nil}
+use Rattle.xer_items.specs.Items.{Given, given, nothing, joined, both, element_of, with_nil}
 use Rattle.xer_write.specs.declared.contents.Contents.{Contents}
-use Rattle.plain_items.specs.Unplaced.{unplaced_label, unplaced, all_unplaced}
+use Rattle.xer_write.specs.declared.contents.Outer.{Outer}
+use Rattle.plain_items.specs.Unplaced.{unplaced, all_unplaced}
 use Rattle.xer_write.specs.Private.Utf8.{AreUtf8, ItemIsUtf8, ItemsAreUtf8}
-use Rattle.xer_write.specs.Private.Gaining.{items_in, Has, Gains, text_item, text_at, with_texts_before}
+use Rattle.xer_write.specs.Private.Gaining.{items_in, value_text, levels, Puts, GainsIn, Gains, MakesRoom, Opens, text_item, text_at, first_text, with_texts_before, through, left_behind}
+use Rattle.xer_write.specs.Private.Giving.{mixed_gives}
 
 pub items_in-joined : (a b : Roses Plain) → items_in (joined a b) ≡ items_in a ++ items_in b
 items_in-joined none b = refl
 items_in-joined (more item items) b = ap (λ s. unplaced item ∷ s) (items_in-joined items b)
-
-pub gains-nothing : (c : Contents) → Gains c c nothing
-gains-nothing c = record { attributes = sym (append-nil c.attributes.items); kids = sym (append-nil c.kids.items); utf8 = λ u. u }
-
-pub gains-both : (a b c : Contents) (g h : Given) → Gains a b g → Gains b c h → Gains a c (both g h)
-gains-both a b c g h one other = record {
-  attributes = other.attributes ∙ ap (λ s. s ++ h.attributes) one.attributes ∙ append_assoc a.attributes.items g.attributes h.attributes;
-  kids = other.kids ∙ ap (λ s. s ++ items_in h.kids) one.kids ∙ append_assoc a.kids.items (items_in g.kids) (items_in h.kids)
-      ∙ ap (λ s. a.kids.items ++ s) (sym (items_in-joined g.kids h.kids));
-  utf8 = λ u. other.utf8 (one.utf8 u);
-}
-
--- what was gained where nothing stood
-pub has-gained : (old new : Contents) (g : Given) → Has old nothing → Gains old new g → Has new g
-has-gained old new g empty gains = record {
-  attributes = gains.attributes ∙ ap (λ s. s ++ g.attributes) empty.attributes;
-  kids = gains.kids ∙ ap (λ s. s ++ items_in g.kids) empty.kids;
-  utf8 = gains.utf8 empty.utf8;
-}
-
--- the element of what was given
-pub element-is : (c : Contents) (name : Name) (g : Given) → Has c g → node (unplaced_label (element name c.attributes.items)) (roses_of c.kids.items) ≡ unplaced (element_of name g)
-element-is c name g has =
-    ap (λ s. node (unplaced_label (element name s)) (roses_of c.kids.items)) has.attributes
-    ∙ ap (λ s. node (unplaced_label (element name g.attributes)) (roses_of s)) has.kids
-    ∙ ap (λ s. node (unplaced_label (element name g.attributes)) s) (roses_of-list_of (all_unplaced g.kids))
-
--- nil stands before all attributes
-pub nil-both : (b : Bool) (g : Given) → both (with_nil b nothing) g ≡ with_nil b g
-nil-both true g = refl
-nil-both false g = refl
 
 -- ---- texts between kids
 
@@ -70,27 +44,77 @@ interleaved-is (words ∷ texts) (more item items) =
     ∙ ap (λ s. text_item words ++ unplaced item ∷ s) (interleaved-is texts items)
     ∙ sym (append_assoc (text_item words) (unplaced item ∷ with_texts_before texts (items_in items)) (text_at texts (length (items_in items))))
 
--- one more kid
-pub texts_before-push : (texts : List (List ℕ)) (items : List (Rose ItemLabel)) (item : Rose ItemLabel)
-    → with_texts_before texts (items ++ item ∷ []) ≡ (with_texts_before texts items ++ text_at texts (length items)) ++ item ∷ []
-texts_before-push [] [] item = refl
-texts_before-push [] (x ∷ items) item = ap (λ s. s ++ item ∷ []) (sym (append-nil (x ∷ items)))
-texts_before-push (words ∷ texts) [] item = refl
-texts_before-push (words ∷ texts) (x ∷ items) item =
-    ap (λ s. text_item words ++ x ∷ s) (texts_before-push texts items item)
-    ∙ sym (ap (λ s. s ++ item ∷ []) (append_assoc (text_item words) (x ∷ with_texts_before texts items) (text_at texts (length items)))
-    ∙ append_assoc (text_item words) (x ∷ with_texts_before texts items ++ text_at texts (length items)) (item ∷ []))
+pub text_item-first : (texts : List (List ℕ)) → text_item (first_text texts) ≡ text_at texts 0
+text_item-first [] = refl
+text_item-first (words ∷ texts) = refl
 
--- the text with a number, as `get` finds it
-pub text_at-map : {X : Type 0} (f : X → List ℕ) (xs : List X) (i : ℕ) (x : X) → slice_get xs i ≡ Some x → text_at (map f xs) i ≡ text_item (f x)
-text_at-map f [] i x got = absurd (cc)
-text_at-map f (y ∷ ys) zero x got = let same : y ≡ x = cc in ap (λ z. text_item (f z)) same
-text_at-map f (y ∷ ys) (suc i) x got = text_at-map f ys i x got
+drop-all : {A : Type 0} (a b n : ℕ) (xs : List A) → a + b ≡ n → drop b (drop a xs) ≡ drop n xs
+drop-all zero b n xs e = ap (λ k. drop k xs) (omega (arith, e))
+drop-all (suc a) b zero xs e = absurd (omega (arith, e))
+drop-all (suc a) zero (suc n) [] e = refl
+drop-all (suc a) (suc b) (suc n) [] e = refl
+drop-all (suc a) b (suc n) (x ∷ xs) e = drop-all a b n xs (omega (arith, e))
 
-pub text_at-past : {X : Type 0} (f : X → List ℕ) (xs : List X) (i : ℕ) → slice_get xs i ≡ None → text_at (map f xs) i ≡ []
-text_at-past f [] i past = refl
-text_at-past f (y ∷ ys) zero past = absurd (cc)
-text_at-past f (y ∷ ys) (suc i) past = text_at-past f ys i past
+text_at-drop : (n : ℕ) (texts : List (List ℕ)) → text_at (drop n texts) 0 ≡ text_at texts n
+text_at-drop zero texts = refl
+text_at-drop (suc n) [] = refl
+text_at-drop (suc n) (words ∷ texts) = text_at-drop n texts
+
+-- ---- items on their way out
+
+without_texts : (items : List (Rose ItemLabel)) → with_texts_before [] items ≡ items
+without_texts [] = refl
+without_texts (item ∷ items) = refl
+
+with_one : (texts : List (List ℕ)) (item : Rose ItemLabel) → with_texts_before texts (item ∷ []) ≡ text_at texts 0 ++ item ∷ []
+with_one [] item = refl
+with_one (words ∷ texts) item = refl
+
+with_texts-append : (texts : List (List ℕ)) (a b : List (Rose ItemLabel)) → with_texts_before texts (a ++ b) ≡ with_texts_before texts a ++ with_texts_before (drop (length a) texts) b
+with_texts-append texts [] b = refl
+with_texts-append [] (x ∷ a) b = ap (λ s. (x ∷ a) ++ s) (sym (without_texts b))
+with_texts-append (words ∷ texts) (x ∷ a) b =
+    ap (λ s. text_item words ++ x ∷ s) (with_texts-append texts a b)
+    ∙ sym (append_assoc (text_item words) (x ∷ with_texts_before texts a) (with_texts_before (drop (length a) texts) b))
+
+pub through-none : (ls : List (List (List ℕ))) → through ls [] ≡ []
+through-none [] = refl
+through-none (texts ∷ ls) = ap (with_texts_before texts) (through-none ls)
+
+pub left-none : (ls : List (List (List ℕ))) → left_behind ls [] ≡ ls
+left-none [] = refl
+left-none (texts ∷ ls) = ap (λ s. drop (length s) texts ∷ left_behind ls []) (through-none ls) ∙ ap (λ s. texts ∷ s) (left-none ls)
+
+pub through-append : (ls : List (List (List ℕ))) (a b : List (Rose ItemLabel)) → through ls (a ++ b) ≡ through ls a ++ through (left_behind ls a) b
+through-append [] a b = refl
+through-append (texts ∷ ls) a b =
+    ap (with_texts_before texts) (through-append ls a b) ∙ with_texts-append texts (through ls a) (through (left_behind ls a) b)
+
+pub left-append : (ls : List (List (List ℕ))) (a b : List (Rose ItemLabel)) → left_behind ls (a ++ b) ≡ left_behind (left_behind ls a) b
+left-append [] a b = refl
+left-append (texts ∷ ls) a b =
+    let one = through ls a in
+    let other = through (left_behind ls a) b in
+    ap (λ s. drop (length s) texts ∷ left_behind ls (a ++ b)) (through-append ls a b)
+    ∙ ap (λ n. drop n texts ∷ left_behind ls (a ++ b)) (length-append one other)
+    ∙ ap (λ s. s ∷ left_behind ls (a ++ b)) (sym (drop-all (length one) (length other) (length one + length other) texts refl))
+    ∙ ap (λ s. drop (length other) (drop (length one) texts) ∷ s) (left-append ls a b)
+
+-- the innermost level is the last
+pub through-last : (ls : List (List (List ℕ))) (texts : List (List ℕ)) (items : List (Rose ItemLabel)) → through (ls ++ texts ∷ []) items ≡ through ls (with_texts_before texts items)
+through-last [] texts items = refl
+through-last (words ∷ ls) texts items = ap (with_texts_before words) (through-last ls texts items)
+
+pub left-last : (ls : List (List (List ℕ))) (texts : List (List ℕ)) (items : List (Rose ItemLabel))
+    → left_behind (ls ++ texts ∷ []) items ≡ left_behind ls (with_texts_before texts items) ++ drop (length items) texts ∷ []
+left-last [] texts items = refl
+left-last (words ∷ ls) texts items =
+    ap (λ s. drop (length s) words ∷ left_behind (ls ++ texts ∷ []) items) (through-last ls texts items)
+    ∙ ap (λ s. drop (length (through ls (with_texts_before texts items))) words ∷ s) (left-last ls texts items)
+
+pub left-length : (ls : List (List (List ℕ))) (items : List (Rose ItemLabel)) → length (left_behind ls items) ≡ length ls
+left-length [] items = refl
+left-length (texts ∷ ls) items = ap suc (left-length ls items)
 
 -- ---- UTF-8
 
@@ -109,23 +133,212 @@ pub items_utf8-front : (a b : List (Rose ItemLabel)) → ItemsAreUtf8 (roses_of 
 items_utf8-front [] b u = (tt, u)
 items_utf8-front (x ∷ a) b u = let rest = items_utf8-front a b u.1 in ((u.0, rest.0), rest.1)
 
--- ---- mixed content, one more kid and the last text
+-- ---- items that were put
 
-pub mixed-step : (old : List (Rose ItemLabel)) (texts : List (List ℕ)) (items : List (Rose ItemLabel)) (item : Rose ItemLabel) (n : ℕ) → n ≡ length items
-    → ((old ++ with_texts_before texts items) ++ text_at texts n) ++ item ∷ [] ≡ old ++ with_texts_before texts (items ++ item ∷ [])
-mixed-step old texts items item n e =
-    ap (λ k. ((old ++ with_texts_before texts items) ++ text_at texts k) ++ item ∷ []) e
-    ∙ ap (λ s. s ++ item ∷ []) (append_assoc old (with_texts_before texts items) (text_at texts (length items)))
-    ∙ append_assoc old (with_texts_before texts items ++ text_at texts (length items)) (item ∷ [])
-    ∙ ap (λ s. old ++ s) (sym (texts_before-push texts items item))
+nothing_more : (z : Zip ItemLabel) → z ≡ added_all [] z
+nothing_more z = ap (λ ks. record { above = z.above; kids = ks }) (sym (append-nil z.kids))
 
-pub mixed-end : (old : List (Rose ItemLabel)) (texts : List (List ℕ)) (items : List (Rose ItemLabel)) (k : Roses Plain) (n : ℕ) → n ≡ length items → items ≡ items_in k
-    → (old ++ with_texts_before texts items) ++ text_at texts n ≡ old ++ items_in (interleaved texts k)
-mixed-end old texts items k n e same =
-    ap (λ j. (old ++ with_texts_before texts items) ++ text_at texts j) e
-    ∙ append_assoc old (with_texts_before texts items) (text_at texts (length items))
-    ∙ ap (λ s. old ++ (with_texts_before texts s ++ text_at texts (length s))) same
-    ∙ ap (λ s. old ++ s) (sym (interleaved-is texts k))
+pub puts-none : (ls : List (List (List ℕ))) (z : Zip ItemLabel) → Puts ls ls z z []
+puts-none ls z = record {
+  texts = sym (left-none ls);
+  builder = nothing_more z ∙ ap (λ s. added_all s z) (sym (through-none ls));
+  utf8 = subst (λ s. ItemsAreUtf8 (roses_of s)) (sym (through-none ls)) tt;
+}
+
+pub puts-both : (ks ls ms : List (List (List ℕ))) (a b c : Zip ItemLabel) (items others : List (Rose ItemLabel)) → Puts ks ls a b items → Puts ls ms b c others → Puts ks ms a c (items ++ others)
+puts-both ks ls ms a b c items others one other =
+    let first = through ks items in
+    let second : through ls others ≡ through (left_behind ks items) others = ap (λ x. through x others) one.texts in
+    let all : first ++ through ls others ≡ through ks (items ++ others) = ap (λ s. first ++ s) second ∙ sym (through-append ks items others) in
+    record {
+      texts = other.texts ∙ ap (λ x. left_behind x others) one.texts ∙ sym (left-append ks items others);
+      builder = other.builder ∙ ap (added_all (through ls others)) one.builder
+          ∙ ap (λ s. record { above = a.above; kids = s }) (append_assoc a.kids first (through ls others))
+          ∙ ap (λ s. added_all s a) all;
+      utf8 = subst (λ s. ItemsAreUtf8 (roses_of s)) all (items_utf8-append first (through ls others) one.utf8 other.utf8);
+    }
+
+pub puts-as : (ks ls : List (List (List ℕ))) (a b : Zip ItemLabel) (items others : List (Rose ItemLabel)) → items ≡ others → Puts ks ls a b items → Puts ks ls a b others
+puts-as ks ls a b items others same puts = subst (Puts ks ls a b) same puts
+
+puts-same : (ks ks2 ls ls2 : List (List (List ℕ))) (a a2 b b2 : Zip ItemLabel) (items : List (Rose ItemLabel)) → ks ≡ ks2 → ls ≡ ls2 → a ≡ a2 → b ≡ b2 → Puts ks ls a b items → Puts ks2 ls2 a2 b2 items
+puts-same ks ks2 ls ls2 a a2 b b2 items ek el ea eb puts =
+    subst (λ x. Puts x ls2 a2 b2 items) ek (subst (λ x. Puts ks x a2 b2 items) el (subst (λ x. Puts ks ls x b2 items) ea (subst (λ x. Puts ks ls a x items) eb puts)))
+
+-- one item where no texts are due
+pub puts-one : (a : Zip ItemLabel) (item : Rose ItemLabel) → ItemIsUtf8 item → Puts [] [] a (added item a) (item ∷ [])
+puts-one a item u = record { texts = refl; builder = refl; utf8 = (u, tt) }
+
+-- the texts of one more level: the one that is next stands before the item
+pub puts-inner : (ks ls : List (List (List ℕ))) (texts : List (List ℕ)) (a b : Zip ItemLabel) (item : Rose ItemLabel) → Puts ks ls a b (text_item (first_text texts) ++ item ∷ [])
+    → Puts (ks ++ texts ∷ []) (ls ++ drop 1 texts ∷ []) a b (item ∷ [])
+puts-inner ks ls texts a b item puts =
+    let same : text_item (first_text texts) ++ item ∷ [] ≡ with_texts_before texts (item ∷ []) = ap (λ s. s ++ item ∷ []) (text_item-first texts) ∙ sym (with_one texts item) in
+    let all : through ks (text_item (first_text texts) ++ item ∷ []) ≡ through (ks ++ texts ∷ []) (item ∷ []) = ap (through ks) same ∙ sym (through-last ks texts (item ∷ [])) in
+    record {
+      texts = ap (λ s. s ++ drop 1 texts ∷ []) (puts.texts ∙ ap (left_behind ks) same) ∙ sym (left-last ks texts (item ∷ []));
+      builder = puts.builder ∙ ap (λ s. added_all s a) all;
+      utf8 = subst (λ s. ItemsAreUtf8 (roses_of s)) all puts.utf8;
+    }
+
+-- what was put into a mixed type, and the text behind it
+pub puts-mixed : (ks ms : List (List (List ℕ))) (texts : List (List ℕ)) (a b c : Zip ItemLabel) (kids : Roses Plain)
+    → Puts (ks ++ texts ∷ []) (left_behind ks (with_texts_before texts (items_in kids)) ++ drop (length (items_in kids)) texts ∷ []) a b (items_in kids)
+    → Puts (left_behind ks (with_texts_before texts (items_in kids))) ms b c (text_item (first_text (drop (length (items_in kids)) texts)))
+    → Puts ks ms a c (items_in (interleaved texts kids))
+puts-mixed ks ms texts a b c kids inner last =
+    let items = items_in kids in
+    let before = with_texts_before texts items in
+    let out : through (ks ++ texts ∷ []) items ≡ through ks before = through-last ks texts items in
+    let first : Puts ks (left_behind ks before) a b before = record {
+      texts = refl;
+      builder = inner.builder ∙ ap (λ s. added_all s a) out;
+      utf8 = subst (λ s. ItemsAreUtf8 (roses_of s)) out inner.utf8;
+    } in
+    let behind : text_item (first_text (drop (length items) texts)) ≡ text_at texts (length items) = text_item-first (drop (length items) texts) ∙ text_at-drop (length items) texts in
+    puts-as ks ms a c (before ++ text_item (first_text (drop (length items) texts))) (items_in (interleaved texts kids))
+    (ap (λ s. before ++ s) behind ∙ sym (interleaved-is texts kids))
+    (puts-both ks (left_behind ks before) ms a b c before (text_item (first_text (drop (length items) texts))) first last)
+
+pub still_open : (l : ItemLabel) (up : List (Above ItemLabel)) → 0 < length up → 0 < length (relabeled_in l up)
+still_open l [] some = some
+still_open l (a ∷ up) some = some
+
+-- ---- what was gained
+
+pub gains-nothing : (c : Contents) → Gains c c nothing
+gains-nothing c = record { attributes = sym (append-nil c.attributes.items); puts = puts-none (levels c) c.builder; utf8 = tt }
+
+pub gains-both : (a b c : Contents) (g h : Given) → Gains a b g → Gains b c h → Gains a c (both g h)
+gains-both a b c g h one other = record {
+  attributes = other.attributes ∙ ap (λ s. s ++ h.attributes) one.attributes ∙ append_assoc a.attributes.items g.attributes h.attributes;
+  puts = puts-as (levels a) (levels c) a.builder c.builder (items_in g.kids ++ items_in h.kids) (items_in (joined g.kids h.kids)) (sym (items_in-joined g.kids h.kids))
+      (puts-both (levels a) (levels b) (levels c) a.builder b.builder c.builder (items_in g.kids) (items_in h.kids) one.puts other.puts);
+  utf8 = are_utf8-append g.attributes h.attributes one.utf8 other.utf8;
+}
+
+pub gains-empty : (c : Contents) (words : List ℕ) → (length words == 0) ≡ true → Gains c c (given [] (text_before words none))
+gains-empty c [] e = gains-nothing c
+gains-empty c (b ∷ bs) e = let none_there = eqb-true (length (b ∷ bs)) 0 e in absurd (omega (arith, none_there))
+
+pub gains-text : (old room new : Contents) (words : List ℕ) → (length words == 0) ≡ false → IsUtf8 words → MakesRoom old room → new.attributes.items ≡ room.attributes.items → levels new ≡ levels room
+    → new.builder ≡ added (node (Text words 0) none) room.builder → Gains old new (given [] (text_before words none))
+gains-text old room new words some u makes ea el eb =
+    let item = node (Text words 0) none in
+    record {
+      attributes = ea ∙ makes.attributes ∙ sym (append-nil old.attributes.items);
+      puts = puts-as (levels old) (levels new) old.builder new.builder (item ∷ []) (text_item words) (sym (text_item-some words some))
+          (puts-same (levels old) (levels old) (levels room) (levels new) old.builder old.builder (added item room.builder) new.builder (item ∷ []) refl (sym el) refl (sym eb) (makes.puts item (u, tt)));
+      utf8 = tt;
+    }
+
+-- the texts are as many levels as before
+pub gains-length : (old new : Contents) (g : Given) → Gains old new g → length new.texts.items ≡ length old.texts.items
+gains-length old new g gains =
+    sym (length-map new.texts.items (λ texts. map value_text texts)) ∙ ap length gains.puts.texts ∙ left-length (levels old) (items_in g.kids) ∙ length-map old.texts.items (λ texts. map value_text texts)
+
+-- a level more
+levels-last : (outer : List (List (Rose ValueLabel))) (texts : List (Rose ValueLabel))
+    → map (λ texts. map value_text texts) (outer ++ texts ∷ []) ≡ map (λ texts. map value_text texts) outer ++ map value_text texts ∷ []
+levels-last [] texts = refl
+levels-last (words ∷ outer) texts = ap (λ s. map value_text words ∷ s) (levels-last outer texts)
+
+-- the texts of each level, from the outermost on
+pub room-made : (old popped next room new : Contents) (texts left : List (Rose ValueLabel))
+    → old.texts.items ≡ popped.texts.items ++ texts ∷ [] → popped.attributes.items ≡ old.attributes.items → popped.builder ≡ old.builder
+    → Gains popped next (given [] (text_before (first_text (map value_text texts)) none)) → left ≡ drop 1 texts → MakesRoom next room
+    → new.texts.items ≡ room.texts.items ++ left ∷ [] → new.attributes.items ≡ room.attributes.items → new.builder ≡ room.builder → MakesRoom old new
+room-made old popped next room new texts left popped_texts popped_attributes popped_builder gains left_is makes new_texts new_attributes new_builder =
+    let words = map value_text texts in
+    let before : levels popped ++ words ∷ [] ≡ levels old = sym (ap (λ (s : List (List (Rose ValueLabel))). map (λ texts. map value_text texts) s) popped_texts ∙ levels-last popped.texts.items texts) in
+    let after : levels room ++ drop 1 words ∷ [] ≡ levels new =
+    ap (λ s. levels room ++ s ∷ []) (drop-map value_text 1 texts ∙ ap (map value_text) (sym left_is))
+    ∙ sym (ap (λ (s : List (List (Rose ValueLabel))). map (λ texts. map value_text texts) s) new_texts ∙ levels-last room.texts.items left) in
+    record {
+      attributes = new_attributes ∙ makes.attributes ∙ gains.attributes ∙ append-nil popped.attributes.items ∙ popped_attributes;
+      puts = λ item u.
+          puts-same (levels popped ++ words ∷ []) (levels old) (levels room ++ drop 1 words ∷ []) (levels new) popped.builder old.builder (added item room.builder) (added item new.builder) (item ∷ [])
+          before after popped_builder (ap (added item) (sym new_builder))
+          (puts-inner (levels popped) (levels room) words popped.builder (added item room.builder) item
+          (puts-both (levels popped) (levels next) (levels room) popped.builder next.builder (added item room.builder) (text_item (first_text words)) (item ∷ []) gains.puts (makes.puts item u)));
+    }
+
+-- ---- elements
+
+pub element-gained : (old begun mid new : Contents) (outer : Outer) (name : Name) (g : Given) → Opens old begun outer → Gains begun mid g
+    → new.builder ≡ closed (relabeled (Element name mid.attributes.items [] 0) mid.builder) → new.attributes.items ≡ outer.attributes.items → new.texts.items ≡ outer.texts.items
+    → Gains old new (given [] (more (element_of name g) none))
+element-gained old begun mid new outer name g opens gains eb ea et =
+    let items = items_in g.kids in
+    let top = unplaced (element_of name g) in
+    let outside = opens.outside in
+    let none_before : levels begun ≡ [] = ap (λ (s : List (List (Rose ValueLabel))). map (λ texts. map value_text texts) s) opens.texts in
+    let inner : Puts [] (levels mid) begun.builder mid.builder items = subst (λ ls. Puts ls (levels mid) begun.builder mid.builder items) none_before gains.puts in
+    let attributes : mid.attributes.items ≡ g.attributes = gains.attributes ∙ ap (λ s. s ++ g.attributes) opens.attributes in
+    let built : new.builder ≡ added (node (Element name mid.attributes.items [] 0) (roses_of items)) outside =
+    eb ∙ ap (λ z. closed (relabeled (Element name mid.attributes.items [] 0) z)) (inner.builder ∙ ap (added_all items) opens.builder) in
+    let same : node (Element name mid.attributes.items [] 0) (roses_of items) ≡ top =
+    ap (λ s. node (Element name s [] 0) (roses_of items)) attributes ∙ ap (λ s. node (Element name g.attributes [] 0) s) (roses_of-list_of (all_unplaced g.kids)) in
+    let utf8 : ItemIsUtf8 top = (gains.utf8, subst ItemsAreUtf8 (roses_of-list_of (all_unplaced g.kids)) inner.utf8) in
+    let left : map (λ texts. map value_text texts) outer.texts.items ≡ levels new = sym (ap (λ (s : List (List (Rose ValueLabel))). map (λ texts. map value_text texts) s) et) in
+    record {
+      attributes = ea ∙ opens.outer_attributes ∙ sym (append-nil old.attributes.items);
+      puts = puts-same (levels old) (levels old) (map (λ texts. map value_text texts) outer.texts.items) (levels new) old.builder old.builder (added top outside) new.builder (top ∷ [])
+          refl left refl (sym (built ∙ ap (λ t. added t outside) same)) (opens.puts top utf8);
+      utf8 = tt;
+    }
+
+pub element-open : (old begun mid : Contents) (outer : Outer) (g : Given) → Opens old begun outer → Gains begun mid g → 0 < length mid.builder.above
+element-open old begun mid outer g opens gains =
+    subst (λ (z : Zip ItemLabel). 0 < length z.above) (sym (gains.puts.builder ∙ ap (added_all (through (levels begun) (items_in g.kids))) opens.builder)) (omega arith)
+
+-- ---- mixed types
+
+pub mixed-ended : (old popped new : Contents) (texts : List (Rose ValueLabel)) → old.texts.items ≡ popped.texts.items ++ texts ∷ [] → popped.attributes.items ≡ old.attributes.items → popped.builder ≡ old.builder
+    → Gains popped new (given [] (text_before (first_text (map value_text texts)) none)) → (outer : List (List (List ℕ))) (words : List (List ℕ)) → levels old ≡ outer ++ words ∷ []
+    → GainsIn outer old new (given [] (text_before (first_text words) none))
+mixed-ended old popped new texts et ea eb gains outer words is =
+    let there : levels old ≡ levels popped ++ map value_text texts ∷ [] = ap (λ (s : List (List (Rose ValueLabel))). map (λ texts. map value_text texts) s) et ∙ levels-last popped.texts.items texts in
+    let same = same_from_push (levels popped) outer (map value_text texts) words (sym there ∙ is) in
+    let next : text_item (first_text (map value_text texts)) ≡ text_item (first_text words) = ap (λ s. text_item (first_text s)) same.1 in
+    record {
+      attributes = gains.attributes ∙ ap (λ s. s ++ []) ea;
+      puts = puts-as outer (levels new) old.builder new.builder (text_item (first_text (map value_text texts))) (text_item (first_text words)) next
+          (puts-same (levels popped) outer (levels new) (levels new) popped.builder old.builder new.builder new.builder (text_item (first_text (map value_text texts))) same.0 refl eb refl gains.puts);
+      utf8 = tt;
+    }
+
+pub no-level : (old : Contents) → length old.texts.items ≡ 0 → (outer : List (List (List ℕ))) (words : List (List ℕ)) → levels old ≡ outer ++ words ∷ [] → ⊥
+no-level old none_there outer words is =
+    let count : length (levels old) ≡ length old.texts.items = length-map old.texts.items (λ texts. map value_text texts) in
+    absurd (omega (arith, count, none_there, ap length is, length_push outer words))
+
+pub mixed-gained : (old begun mid new : Contents) (texts : List (Rose ValueLabel)) (g : Given) → begun.builder ≡ old.builder → begun.attributes.items ≡ old.attributes.items → begun.texts.items ≡ old.texts.items ++ texts ∷ []
+    → Gains begun mid g → ((outer : List (List (List ℕ))) (words : List (List ℕ)) → levels mid ≡ outer ++ words ∷ [] → GainsIn outer mid new (given [] (text_before (first_text words) none)))
+    → Gains old new (mixed_gives (map value_text texts) g)
+mixed-gained old begun mid new texts g eb ea et gains ends =
+    let words = map value_text texts in
+    let items = items_in g.kids in
+    let before = with_texts_before words items in
+    let level : levels begun ≡ levels old ++ words ∷ [] = ap (λ (s : List (List (Rose ValueLabel))). map (λ texts. map value_text texts) s) et ∙ levels-last old.texts.items texts in
+    let inner : Puts (levels old ++ words ∷ []) (levels mid) old.builder mid.builder items =
+    puts-same (levels begun) (levels old ++ words ∷ []) (levels mid) (levels mid) begun.builder old.builder mid.builder mid.builder items level refl eb refl gains.puts in
+    let left : levels mid ≡ left_behind (levels old) before ++ drop (length items) words ∷ [] = inner.texts ∙ left-last (levels old) words items in
+    let last = ends (left_behind (levels old) before) (drop (length items) words) left in
+    record {
+      attributes = last.attributes ∙ append-nil mid.attributes.items ∙ gains.attributes ∙ ap (λ s. s ++ g.attributes) ea;
+      puts = puts-mixed (levels old) (levels new) words old.builder mid.builder new.builder g.kids (subst (λ ls. Puts (levels old ++ words ∷ []) ls old.builder mid.builder items) left inner) last.puts;
+      utf8 = gains.utf8;
+    }
+
+pub gains-no-nil : (c : Contents) (b : Bool) → b ≡ false → Gains c c (with_nil b nothing)
+gains-no-nil c true e = absurd (cc)
+gains-no-nil c false e = gains-nothing c
+
+-- nil stands before all attributes
+pub nil-both : (b : Bool) (g : Given) → both (with_nil b nothing) g ≡ with_nil b g
+nil-both true g = refl
+nil-both false g = refl
 
 -- ---- what is known where all went well
 

@@ -1,12 +1,11 @@
 -- What values give, as the code finds it.
-use Rattle.std.proofs.Common.{◌≡◌, ℕ, suc, ◌+◌, ◌-◌, ◌<◌, ◌≤◌, ◌^◌, Bool, true, false, cond, Option, Some, None, List, [], ◌∷◌, length, get_or, drop, refl, sym, ◌∙◌, ap, subst, arith}
+use Rattle.std.proofs.Common.{◌≡◌, ℕ, suc, ◌+◌, ◌<◌, ◌≤◌, ◌^◌, Bool, true, false, cond, Option, Some, None, List, [], ◌∷◌, length, get_or, drop, refl, sym, ◌∙◌, ap, subst, arith}
 use Rattle.std.specs.Prelude.{◌||◌, ◌&&◌, replicate, slice_get, nat_le}
 use Rattle.std.specs.Option.{is_some}
 use Rattle.label_tree.specs.Rose.{Rose, node, Roses, none, more, roses_of, list_of, label_of, kids_of, length_all, Allowed, AllowedAll}
 use Rattle.std.proofs.lemmas.List.{drop_more, length-drop}
 use Rattle.std.proofs.lemmas.Option.{get_or_from_slice_get}
 use Rattle.label_tree.proofs.Roses.{roses_of-list_of, length-list_of}
-use Rattle.label_tree.proofs.Kids.{roses_of-drop}
 use Rattle.simple_types.specs.declared.labels.ValueLabel.{ValueLabel}
 use Rattle.simple_types.specs.declared.labels.ValueLabel.TheVariants as value
 use Rattle.simple_values.specs.Lexical.{is_at_most}
@@ -26,7 +25,7 @@ use Rattle.asn_types.specs.Spaces.{space_at}
 use Rattle.asn_types.specs.Values.{ComponentPlace, place_of, put_first, present_from, place_at, alone, repeated, places_in, places}
 use Rattle.asn_types.proofs.Chaining.{well-formed, parts-of-module, have-parts, resolved-of-module}
 use Rattle.asn_types.proofs.Inside.{body-of}
-use Rattle.asn_types.proofs.Counting.{replicate-drop, drop-past}
+use Rattle.asn_types.proofs.Counting.{drop-past}
 use Rattle.plain_items.specs.Mixing.{text_before}
 use Rattle.xa_base.specs.declared.texts.Name.{Name}
 use Rattle.asn_types.specs.Names.{name_of_part}
@@ -333,18 +332,15 @@ module _ (M : List Assignment) (l : TypeLabel) (parts : List Component) (ts : Li
 
 -- ---- the items of a SEQUENCE OF
 
-abbrev pub items_from : List Assignment → ComponentPlace → List (Rose ValueLabel) → ℕ → Given
-items_from M p vs i = gathered M (replicate (length vs - i) p) (roses_of (drop i vs))
+abbrev pub items_give : List Assignment → ComponentPlace → List (Rose ValueLabel) → Given
+items_give M p vs = gathered M (replicate (length vs) p) (roses_of vs)
 
-module _ (M : List Assignment) (p : ComponentPlace) (vs : List (Rose ValueLabel)) where
-  pub items-step : (i : ℕ) (v : Rose ValueLabel) → i < length vs → v ≡ get_or vs i v → items_from M p vs i ≡ both (place_gives M p v) (items_from M p vs (i + 1))
-  items-step i v within here =
-      ap (λ ps. gathered M ps (roses_of (drop i vs))) (replicate-drop (length vs) i p within)
-      ∙ ap (λ ws. gathered M (p ∷ replicate (length vs - (i + 1)) p) ws) (roses_of-drop vs i v within here)
-      ∙ gathered-more M p (replicate (length vs - (i + 1)) p) v (roses_of (drop (i + 1) vs))
+module _ (M : List Assignment) (p : ComponentPlace) where
+  pub items-step : (vs : List (Rose ValueLabel)) (v : Rose ValueLabel) (later : List (Rose ValueLabel)) → vs ≡ v ∷ later → items_give M p vs ≡ both (place_gives M p v) (items_give M p later)
+  items-step vs v later is = ap (items_give M p) is ∙ gathered-more M p (replicate (length later) p) v (roses_of later)
 
-  pub items-end : (i : ℕ) → length vs ≤ i → items_from M p vs i ≡ nothing
-  items-end i past = ap (λ ws. gathered M (replicate (length vs - i) p) (roses_of ws)) (drop-past i vs past) ∙ gathered-none M (replicate (length vs - i) p)
+  pub items-end : (vs : List (Rose ValueLabel)) → vs ≡ [] → items_give M p vs ≡ nothing
+  items-end vs is = ap (items_give M p) is ∙ gathered-none M []
 
 -- ---- a value at a place, by its role
 

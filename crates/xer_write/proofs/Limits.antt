@@ -1,7 +1,7 @@
 -- The items of a value keep what the items of a document keep: texts have no kids, elements stand within 64 levels, and
 -- there are few nodes.
 use Rattle.std.proofs.Common.{◌≡◌, ℕ, suc, ◌+◌, ◌≤◌, Bool, true, false, Option, Some, None, List, [], ◌∷◌, refl, sym, ◌∙◌, ap, subst, arith}
-use Rattle.std.specs.Prelude.{slice_get, ◌&&◌, not, IsSomeAnd, IsUtf8}
+use Rattle.std.specs.Prelude.{map, slice_get, ◌&&◌, not, IsSomeAnd, IsUtf8}
 use Rattle.std.specs.Option.{option_map}
 use Rattle.std.proofs.lemmas.Str.{is_utf8-from_IsUtf8}
 use Rattle.std.specs.List.{list_all}
@@ -31,8 +31,9 @@ use Rattle.xer_items.specs.Spelling.{is_textual}
 use Rattle.asn_types.specs.Names.{name_told, name_of_part}
 use Rattle.xer_items.specs.Items.{Given, given, nothing, joined, element_of, texts_of, with_texts, completed, placed, inside, gathered, root_of, Xer}
 use Rattle.xer_write.specs.declared.contents.Contents.{Contents}
-use Rattle.xer_write.specs.Private.Gaining.{Has, Gains}
-use Rattle.xer_write.proofs.Gaining.{has-gained}
+use Rattle.flat_tree.specs.Zips.{added}
+use Rattle.flat_tree.specs.Zips.{nothing as outside}
+use Rattle.xer_write.specs.Private.Gaining.{levels, value_text, Puts, Gains}
 use Rattle.xer_items.proofs.Sizes.{nil-kids, inside-size}
 use Rattle.xer_items.specs.Sound.{HasCharacters, AreSoundAttributes, IsSoundLabel, is_text, begins_with_text, IsSound, AreSound}
 use Rattle.plain_items.specs.Unplaced.{unplaced_label, unplaced, all_unplaced}
@@ -196,11 +197,17 @@ root-items M t a v at value sound utf8 =
     }
 
 -- as the code makes it
-pub root-made : (M : List Assignment) (a : Assignment) (v : Rose ValueLabel) (X Y : Contents) (u : Rose TypeLabel) (w : Rose ValueLabel) (name : Name) (root : Rose ItemLabel)
-    → u ≡ a.body → w ≡ v → Has X nothing → Gains X Y (inside M u w) → name ≡ name_told a.reference a.marks
-    → ((g : Given) → Has Y g → (root ≡ unplaced (element_of name g)) × ItemIsUtf8 root) → (root ≡ unplaced (root_of M a v)) × ItemIsUtf8 (unplaced (root_of M a v))
-root-made M a v X Y u w name root eu ew empty gains en made =
-    let there : Gains X Y (inside M a.body v) = subst (λ z. Gains X Y (inside M z v)) eu (subst (λ z. Gains X Y (inside M u z)) ew gains) in
-    let it = made (inside M a.body v) (has-gained X Y (inside M a.body v) empty there) in
-    let whole : root ≡ unplaced (root_of M a v) = it.0 ∙ ap (λ n. unplaced (element_of n (inside M a.body v))) en in
-    (whole, subst ItemIsUtf8 whole it.1)
+pub root-made : (M : List Assignment) (a : Assignment) (v : Rose ValueLabel) (X Y : Contents) (u : Rose TypeLabel) (w : Rose ValueLabel) (name : Name)
+    → u ≡ a.body → w ≡ v → X.builder ≡ outside → X.texts.items ≡ [] → name ≡ name_told a.reference a.marks
+    → Gains X Y (given [] (more (element_of name (inside M u w)) none))
+    → (Y.builder ≡ added (unplaced (root_of M a v)) outside) × ItemIsUtf8 (unplaced (root_of M a v))
+root-made M a v X Y u w name eu ew empty outer en gains =
+    let top = unplaced (element_of name (inside M u w)) in
+    let whole : top ≡ unplaced (root_of M a v) =
+    ap (λ z. unplaced (element_of name (inside M z w))) eu ∙ ap (λ z. unplaced (element_of name (inside M a.body z))) ew ∙ ap (λ n. unplaced (element_of n (inside M a.body v))) en in
+    let none_before : levels X ≡ [] = ap (λ (s : List (List (Rose ValueLabel))). map (λ texts. map value_text texts) s) outer in
+    let puts : Puts [] (levels Y) X.builder Y.builder (top ∷ []) = subst (λ ls. Puts ls (levels Y) X.builder Y.builder (top ∷ [])) none_before gains.puts in
+    (puts.builder ∙ ap (added top) empty ∙ ap (λ z. added z outside) whole, subst ItemIsUtf8 whole puts.utf8.0)
+
+pub only-item : (x y : Rose ItemLabel) → x ∷ [] ≡ y ∷ [] → x ≡ y
+only-item x y e = cc

@@ -18,11 +18,10 @@ use Rattle.asn_types.specs.Parts.{parts_of}
 use Rattle.asn_types.specs.Roles.{role_of}
 use Rattle.asn_types.specs.Values.{ComponentPlace, place_of, place_at, alone, repeated, is_last_absent}
 use Rattle.plain_items.specs.Plain.{Plain}
-use Rattle.plain_items.specs.Mixing.{interleaved}
 use Rattle.xer_items.specs.Items.{Given, given, nothing, joined, both, gathered, texts_of, with_texts, with_nil}
 use Rattle.xer_write.specs.declared.contents.Contents.{Contents}
 use Rattle.xer_write.specs.Private.Gaining.{Gains}
-use Rattle.xer_write.specs.Private.Giving.{may_be_present, place_gives, places_give, parts_give, type_gives}
+use Rattle.xer_write.specs.Private.Giving.{may_be_present, place_gives, places_give, parts_give, mixed_gives, type_gives}
 use Rattle.xer_write.proofs.Gaining.{gains-both, nil-both}
 use Rattle.xer_write.proofs.Giving.{fit_from, gathered-more, gathered-[], give-none, choice-give, items-give}
 
@@ -38,7 +37,7 @@ nil-then M t v A B C l k el ek one two =
     (subst (λ y. Gains A B (with_nil (has_use_nil l.marks && is_last_absent y) nothing)) ek one) in
     subst (Gains A C) (nil-both nil inner) (gains-both A B C (with_nil nil nothing) inner first two)
 
-pub with-embed : (b : Bool) (texts : List (List ℕ)) (g : Given) → b ≡ true → given g.attributes (interleaved texts g.kids) ≡ with_texts b texts g
+pub with-embed : (b : Bool) (texts : List (List ℕ)) (g : Given) → b ≡ true → mixed_gives texts g ≡ with_texts b texts g
 with-embed true texts g e = refl
 with-embed false texts g e = absurd (cc)
 
@@ -101,9 +100,8 @@ module _ (M : List Assignment) where
   give-empty found [] past = give-none M found
   give-empty found (x ∷ xs) past = absurd (cc)
 
-  pub give-short : (found : Option (List ComponentPlace)) (vs : List (Rose ValueLabel)) → length vs ≡ 0 → places_give M found vs ≡ nothing
-  give-short found [] short = give-none M found
-  give-short found (x ∷ xs) short = absurd (omega (arith, short))
+  pub give-short : (found : Option (List ComponentPlace)) (vs : List (Rose ValueLabel)) → vs ≡ [] → places_give M found vs ≡ nothing
+  give-short found vs short = ap (places_give M found) short ∙ give-none M found
 
   pub give-missing : (found : Option (List ComponentPlace)) (vs : List (Rose ValueLabel)) → is_some found ≡ false → places_give M found vs ≡ nothing
   give-missing None vs e = refl

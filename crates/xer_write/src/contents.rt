@@ -1,23 +1,26 @@
-//! What stands in an element, as it is gathered.
-ghost use Rattle.std.specs.Prelude.{◌≡◌, ◌∷◌, [], ◌++◌, IfOk, OnOk, codes, length, map};
-ghost use Rattle.label_tree.specs.Rose.{none, more, roses_of};
-ghost use Rattle.plain_items.specs.Mixing.{text_before, interleaved};
-ghost use Rattle.xer_items.specs.Items.{Given, given, nothing, nil_name, element_of};
-ghost use Rattle.plain_items.specs.Unplaced.{unplaced};
-ghost use Rattle.xer_write.specs.Private.Utf8.{ItemIsUtf8, ItemsAreUtf8};
-ghost use Rattle.xer_write.specs.Private.Gaining.{IsUtf8Contents, Has, Gains, value_text, text_at, with_texts_before};
+//! Items as they are put down, and what stands in the innermost element so far.
+ghost use Rattle.std.specs.Prelude.{◌≡◌, ◌<◌, ◌∷◌, [], ◌++◌, ℕ, List, IfOk, OnOk, codes, drop, length, map};
+ghost use Rattle.label_tree.specs.Rose.{none};
+ghost use Rattle.flat_tree.specs.Zips.{closed, nothing, relabeled};
+ghost use Rattle.doc_text.specs.declared.label.ItemLabel.TheVariants as item;
+ghost use Rattle.plain_items.specs.Mixing.{text_before};
+ghost use Rattle.xer_items.specs.Items.{given, nil_name};
+ghost use Rattle.xer_write.specs.Private.Gaining.{Gains, GainsIn, MakesRoom, Opens, first_text, levels, value_text};
 
 use crate::spelling::value_text;
 use doc_text::{Attributes, Bindings, ItemLabel};
-use label_tree::{Shape, Tree};
+use flat_tree::{Builder, Flat, Kids};
+use label_tree::Shape;
 use simple_types::ValueLabel;
 use std::alloc::Global;
+use std::iter::Iterator;
 use std::marker::Model;
+use std::mem;
 use xa_base::{Memory, Name, Text, XSI_SPACE};
 
 /// An element without attributes and bindings. Copies of its empty lists share them, so that they take no memory.
 #[derive(Drop)]
-pub(crate) struct Blank {
+struct Blank {
     label: ItemLabel,
 }
 
@@ -33,7 +36,7 @@ impl Model for Blank {
 }
 
 impl Blank {
-    pub(crate) fn new(alloc: Global) -> Result<Blank, Memory> {
+    fn new(alloc: Global) -> Result<Blank, Memory> {
         let attributes = Attributes::of(Vec::new(alloc))?;
         let declares = Bindings::of(Vec::new(alloc))?;
         let name = Name {
@@ -62,6 +65,25 @@ impl Blank {
             ItemLabel::Text { .. } => unreachable!(),
         }
     }
+
+    // An element of this name with these attributes.
+    fn element(
+        &self,
+        alloc: Global,
+        name: Name,
+        attributes: Vec<(Name, Text)>,
+    ) -> Result<ItemLabel, Memory>
+        ensures { IfOk result (λ label. label ≡ item.Element name attributes.items [] 0) }
+    {
+        let (none, declares) = self.lists(alloc)?;
+        let attributes = attributes_of(attributes, none)?;
+        Ok(ItemLabel::Element {
+            name,
+            attributes,
+            declares,
+            at: 0,
+        })
+    }
 }
 
 // These attributes, and the empty list where there are none.
@@ -76,33 +98,49 @@ fn attributes_of(entries: Vec<(Name, Text)>, none: Attributes) -> Result<Attribu
     }
 }
 
-/// The attributes and the kids of an element so far.
+/// The items so far, with the attributes of the innermost open element, and the texts that are to stand before its
+/// next items.
 #[derive(Drop)]
 pub(crate) struct Contents<'a> {
+    builder: Builder<ItemLabel>,
     attributes: Vec<(Name, Text)>,
-    kids: Vec<Tree<ItemLabel>>,
-    blank: &'a Blank,
+    // Of each mixed type of which a value is being put into the element the texts that are left, of the innermost last.
+    texts: Vec<Kids<'a, ValueLabel>>,
+    blank: Blank,
+}
+
+/// What an element has so far, while one in it is open.
+#[derive(Drop)]
+pub(crate) struct Outer<'a> {
+    attributes: Vec<(Name, Text)>,
+    texts: Vec<Kids<'a, ValueLabel>>,
 }
 
 impl<'a> Contents<'a> {
-    /// Nothing so far, with room for so many kids where there is memory for it.
-    pub(crate) fn new(alloc: Global, blank: &'a Blank, room: usize) -> Contents<'a>
-        ensures { Has result nothing }
+    /// Nothing so far.
+    pub(crate) fn new(alloc: Global) -> Result<Contents<'a>, Memory>
+        ensures builder { IfOk result (λ out. out.builder ≡ nothing) }
+        ensures texts { IfOk result (λ out. out.texts.items ≡ []) }
     {
-        let mut kids = Vec::new(alloc);
-        let _ = kids.reserve_exact(room);
-        Contents {
+        let blank = Blank::new(alloc)?;
+        Ok(Contents {
+            builder: Builder::new(alloc),
             attributes: Vec::new(alloc),
-            kids,
+            texts: Vec::new(alloc),
             blank,
-        }
+        })
     }
 
-    /// The element of which all others take their empty lists.
-    pub(crate) fn blank(&self) -> &'a Blank {
-        self.blank
+    /// The tree, where there is one, and no element is open.
+    pub(crate) fn into_tree(self) -> Flat<ItemLabel>
+        requires closed { self.builder.above ≡ [] }
+        requires one { length self.builder.kids ≡ 1 }
+        ensures { self.entry.builder.kids ≡ result ∷ [] }
+    {
+        self.builder.finish_one()
     }
 
+    /// Adds an attribute to the innermost open element.
     pub(crate) fn add_attribute(&mut self, name: Name, text: Text) -> Result<(), Memory>
         ensures { OnOk result (Gains self.old self.new (given ((name, text) ∷ []) none)) }
     {
@@ -123,108 +161,105 @@ impl<'a> Contents<'a> {
     }
 
     /// Adds a text, unless it is empty.
+    #[cycle(texts)]
     pub(crate) fn add_text(&mut self, alloc: Global, text: Text) -> Result<(), Memory>
         ensures { OnOk result (Gains self.old self.new (given [] (text_before text none))) }
     {
         if text.as_str().is_empty() {
             return Ok(());
         }
-        let label = ItemLabel::Text { text, at: 0 };
-        self.kids.push(Tree::leaf(alloc, label))?;
+        self.make_room(alloc)?;
+        self.builder.leaf(ItemLabel::Text { text, at: 0 })?;
         Ok(())
     }
 
-    /// Adds an element of this name in which this stands.
-    pub(crate) fn add_element(
+    // Adds the next of these texts, if there is one, and hands back those that are left.
+    #[cycle(texts)]
+    fn add_next(
+        &mut self,
+        alloc: Global,
+        texts: Kids<'a, ValueLabel>,
+    ) -> Result<Kids<'a, ValueLabel>, Memory>
+        ensures left { IfOk result (λ left. left ≡ drop 1 texts.entry) }
+        ensures gains { OnOk result (Gains self.old self.new (given [] (text_before (first_text (map value_text texts.entry)) none))) }
+    {
+        let mut texts = texts;
+        if let Some(value) = texts.next() {
+            let text = value_text(alloc, &value)?;
+            self.add_text(alloc, text)?;
+        }
+        Ok(texts)
+    }
+
+    // Adds the texts that stand before the next item.
+    #[cycle(texts)]
+    fn make_room(&mut self, alloc: Global) -> Result<(), Memory>
+        ensures { OnOk result (MakesRoom self.old self.new) }
+    {
+        let Some(texts) = self.texts.pop() else {
+            return Ok(());
+        };
+        let left = self.add_next(alloc, texts)?;
+        self.make_room(alloc)?;
+        self.texts.push(left)?;
+        Ok(())
+    }
+
+    /// Begins an element, which gets its name and its attributes at its end. Hands back what the element that it stands
+    /// in has so far.
+    pub(crate) fn begin_element(&mut self, alloc: Global) -> Result<Outer<'a>, Memory>
+        ensures { IfOk result (λ outer. Opens self.old self.new outer) }
+    {
+        self.make_room(alloc)?;
+        let text = Text::empty();
+        self.builder.open(ItemLabel::Text { text, at: 0 })?;
+        let attributes = mem::replace(&mut self.attributes, Vec::new(alloc));
+        let texts = mem::replace(&mut self.texts, Vec::new(alloc));
+        Ok(Outer { attributes, texts })
+    }
+
+    /// Ends the innermost open element, which gets this name.
+    pub(crate) fn end_element(
         &mut self,
         alloc: Global,
         name: Name,
-        inner: Contents<'_>,
+        outer: Outer<'a>,
     ) -> Result<(), Memory>
-        ensures { OnOk result ((g : Given) → Has inner.entry g → Gains self.old self.new (given [] (more (element_of name g) none))) }
+        requires { 0 < length self.old.builder.above }
+        ensures builder { OnOk result (self.new.builder ≡ closed (relabeled (item.Element name self.old.attributes.items [] 0) self.old.builder)) }
+        ensures attributes { OnOk result (self.new.attributes.items ≡ outer.entry.attributes.items) }
+        ensures texts { OnOk result (self.new.texts.items ≡ outer.entry.texts.items) }
     {
-        self.kids.push(inner.into_element(alloc, name)?)?;
+        let Outer { attributes, texts } = outer;
+        let own = mem::replace(&mut self.attributes, attributes);
+        self.texts = texts;
+        let label = self.blank.element(alloc, name, own)?;
+        let _ = self.builder.relabel(label);
+        self.builder.close();
         Ok(())
     }
 
-    /// The element of this name in which this stands.
-    pub(crate) fn into_element(self, alloc: Global, name: Name) -> Result<Tree<ItemLabel>, Memory>
-        ensures { IfOk result (λ tree. (g : Given) → Has self.entry g → (tree ≡ unplaced (element_of name g)) × ItemIsUtf8 tree) }
+    /// Has these texts stand before the next items that are added, each before one, until `end_mixed`.
+    pub(crate) fn begin_mixed(&mut self, texts: Kids<'a, ValueLabel>) -> Result<(), Memory>
+        ensures builder { OnOk result (self.new.builder ≡ self.old.builder) }
+        ensures attributes { OnOk result (self.new.attributes.items ≡ self.old.attributes.items) }
+        ensures texts { OnOk result (self.new.texts.items ≡ self.old.texts.items ++ texts.entry ∷ []) }
     {
-        let Contents {
-            attributes,
-            mut kids,
-            blank,
-        } = self;
-        kids.shrink_to_fit();
-        let (none, declares) = blank.lists(alloc)?;
-        let attributes = attributes_of(attributes, none)?;
-        let label = ItemLabel::Element {
-            name,
-            attributes,
-            declares,
-            at: 0,
-        };
-        Ok(Tree::join(label, kids))
+        self.texts.push(texts)?;
+        Ok(())
     }
 
-    // Adds the text with this number, if there is one.
-    fn add_text_at(
-        &mut self,
-        alloc: Global,
-        texts: &[Tree<ValueLabel>],
-        i: usize,
-    ) -> Result<(), Memory>
-        ensures attributes { OnOk result (self.new.attributes.items ≡ self.old.attributes.items) }
-        ensures kids { OnOk result (self.new.kids.items ≡ self.old.kids.items ++ text_at (map value_text texts.now) i) }
-        ensures utf8 { OnOk result (IsUtf8Contents self.old → IsUtf8Contents self.new) }
+    /// Adds the text that is next, and takes away those that are left.
+    pub(crate) fn end_mixed(&mut self, alloc: Global) -> Result<(), Memory>
+        ensures { OnOk result ((outer : List (List (List ℕ))) (texts : List (List ℕ)) → levels self.old ≡ outer ++ texts ∷ []
+            → GainsIn outer self.old self.new (given [] (text_before (first_text texts) none))) }
     {
-        match texts.get(i) {
-            Some(value) => {
-                let text = value_text(alloc, value)?;
-                self.add_text(alloc, text)
+        match self.texts.pop() {
+            Some(texts) => {
+                let _ = self.add_next(alloc, texts)?;
+                Ok(())
             }
             None => Ok(()),
         }
-    }
-
-    // Adds these kids, each with the text of its number before it, and tells how many they are.
-    fn add_kids(
-        &mut self,
-        alloc: Global,
-        texts: &[Tree<ValueLabel>],
-        kids: Vec<Tree<ItemLabel>>,
-    ) -> Result<usize, Memory>
-        ensures attributes { OnOk result (self.new.attributes.items ≡ self.old.attributes.items) }
-        ensures kids { OnOk result (self.new.kids.items ≡ self.old.kids.items ++ with_texts_before (map value_text texts.now) kids.items) }
-        ensures count { IfOk result (λ count. count ≡ length kids.items) }
-        ensures utf8 { OnOk result (IsUtf8Contents self.old → ItemsAreUtf8 (roses_of kids.items) → IsUtf8Contents self.new) }
-    {
-        let mut count: usize = 0;
-        'kids: for kid in kids {
-            self.add_text_at(alloc, texts, count)?;
-            self.kids.push(kid)?;
-            count += 1;
-        }
-        Ok(count)
-    }
-
-    /// Adds what stands in a mixed element: the texts before, between and behind its kids.
-    pub(crate) fn add_mixed(
-        &mut self,
-        alloc: Global,
-        texts: &[Tree<ValueLabel>],
-        inner: Contents<'_>,
-    ) -> Result<(), Memory>
-        ensures { OnOk result ((g : Given) → Has inner.entry g → Gains self.old self.new (given g.attributes (interleaved (map value_text texts.now) g.kids))) }
-    {
-        let Contents {
-            mut attributes,
-            kids,
-            ..
-        } = inner;
-        self.attributes.append(&mut attributes)?;
-        let count = self.add_kids(alloc, texts, kids)?;
-        self.add_text_at(alloc, texts, count)
     }
 }

@@ -1,22 +1,24 @@
 //! What a value gives to the element that it stands in.
-ghost use Rattle.std.specs.Prelude.{◌≡◌, ◌&&◌, true, false, OnOk, length, map, replicate};
-ghost use Rattle.label_tree.specs.Rose.{label_of, kids_of, roses_of};
+ghost use Rattle.std.specs.Prelude.{◌≡◌, ◌&&◌, [], true, false, OnOk, MatchOption, length, map, replicate};
+ghost use Rattle.label_tree.specs.Rose.{none, more, label_of, kids_of, roses_of};
 ghost use Rattle.asn_types.specs.Marks.{has_use_nil};
 ghost use Rattle.asn_types.specs.Values as rule;
 ghost use Rattle.asn_types.specs.declared.types.Form.TheVariants as form;
-ghost use Rattle.xer_items.specs.Items.{nothing, with_nil, inside, gathered, texts_of};
+ghost use Rattle.xer_items.specs.Items.{given, nothing, with_nil, element_of, inside, gathered, texts_of};
 ghost use Rattle.xer_items.specs.Spelling.{is_textual};
 ghost use Rattle.xer_write.specs.Private.Gaining.{Gains, value_text};
-ghost use Rattle.xer_write.specs.Private.Giving.{IsTypeIn, may_be_present, place_seen, place_gives, places_give, parts_give, type_gives};
+ghost use Rattle.xer_write.specs.Private.Giving.{IsTypeIn, may_be_present, place_seen, place_gives, places_give, parts_give, mixed_gives, type_gives};
 
 use crate::contents::Contents;
 use crate::spelling::{is_textual, spelling};
 use asn_types::{Component, Form, Module, Role, TypeLabel, resolve, role};
+use flat_tree::{Kids, Node};
 use label_tree::Tree;
 use simple_types::ValueLabel;
 use simple_values::is_at_most;
 use std::alloc::Global;
-use xa_base::Memory;
+use std::iter::Iterator;
+use xa_base::{Memory, Name};
 
 /// Where a kid of a value stands: the part, its role, and its type.
 #[derive(Drop)]
@@ -40,18 +42,20 @@ fn is_last_absent(label: &ValueLabel) -> bool
 }
 
 // The texts of the first part, where it is present.
-fn texts_of(value: &Tree<ValueLabel>) -> &[Tree<ValueLabel>]
-    ensures { map value_text result.now ≡ texts_of (label_of value.now) (roses_of (kids_of value.now)) }
+fn texts_of<'a>(value: &Node<'a, ValueLabel>) -> Option<Kids<'a, ValueLabel>>
+    ensures { MatchOption result
+        (texts_of (label_of value.now) (roses_of (kids_of value.now)) ≡ [])
+        (λ texts. texts_of (label_of value.now) (roses_of (kids_of value.now)) ≡ map value_text texts) }
 {
     match value.label() {
         ValueLabel::Sequence { present } => match present.items() {
-            [true, ..] => match value.kids() {
-                [first, ..] => first.kids(),
-                [] => &[],
-            },
-            _ => &[],
+            [true, ..] => {
+                let first = value.kids().next()?;
+                Some(first.kids())
+            }
+            _ => None,
         },
-        _ => &[],
+        _ => None,
     }
 }
 
@@ -88,12 +92,12 @@ fn add_nil_if(
 
 // Adds what the value at a place gives.
 #[cycle(gathering)]
-fn gather_at(
+fn gather_at<'a>(
     alloc: Global,
     module: &Module,
     place: &Place,
-    value: &Tree<ValueLabel>,
-    out: &mut Contents<'_>,
+    value: &Node<'a, ValueLabel>,
+    out: &mut Contents<'a>,
 ) -> Result<(), Memory>
     requires { IsTypeIn module.now place.now.node.now }
     ensures { OnOk result (Gains out.old out.new (place_gives module.now (place_seen place.now) value.now)) }
@@ -105,11 +109,8 @@ fn gather_at(
             out.add_attribute(attribute, text)
         }
         Role::Element => {
-            let room = value.kids().len().max(1);
-            let mut inner = Contents::new(alloc, out.blank(), room);
-            gather(alloc, module, place.node, value, &mut inner)?;
             let name = place.part.name(alloc)?;
-            out.add_element(alloc, name, inner)
+            gather_element(alloc, module, place.node, value, name, out)
         }
         Role::Group => gather(alloc, module, place.node, value, out),
         Role::Content => gather(alloc, module, place.node, value, out),
@@ -119,24 +120,24 @@ fn gather_at(
 
 // Adds what the components of a SEQUENCE give that are present.
 #[cycle(gathering)]
-fn gather_present(
+fn gather_present<'a>(
     alloc: Global,
     module: &Module,
     node: &Tree<TypeLabel>,
     parts: &[Component],
     present: &[bool],
-    values: &[Tree<ValueLabel>],
-    out: &mut Contents<'_>,
+    values: &Kids<'a, ValueLabel>,
+    out: &mut Contents<'a>,
 ) -> Result<(), Memory>
     requires node { IsTypeIn module.now node.now }
     requires form { (label_of node.now).form ≡ form.Sequence parts.now }
     requires present { may_be_present parts.now present.now ≡ true }
     ensures { OnOk result (Gains out.old out.new (places_give module.now (rule.present_from (label_of node.now) 0 parts.now (kids_of node.now) present.now) values.now)) }
 {
-    let mut left = values;
+    let mut left = values.again();
     'parts: for i in 0..parts.len() {
         if present[i] {
-            let Some((value, others)) = left.split_first() else {
+            let Some(value) = left.next() else {
                 return Ok(());
             };
             let place = Place {
@@ -144,8 +145,7 @@ fn gather_present(
                 part: &parts[i],
                 node: node.kid(i),
             };
-            gather_at(alloc, module, &place, value, out)?;
-            left = others;
+            gather_at(alloc, module, &place, &value, out)?;
         }
     }
     Ok(())
@@ -153,13 +153,13 @@ fn gather_present(
 
 // Adds what the value of a SEQUENCE gives.
 #[cycle(gathering)]
-fn gather_sequence(
+fn gather_sequence<'a>(
     alloc: Global,
     module: &Module,
     node: &Tree<TypeLabel>,
     parts: &[Component],
-    value: &Tree<ValueLabel>,
-    out: &mut Contents<'_>,
+    value: &Node<'a, ValueLabel>,
+    out: &mut Contents<'a>,
 ) -> Result<(), Memory>
     requires node { IsTypeIn module.now node.now }
     requires form { (label_of node.now).form ≡ form.Sequence parts.now }
@@ -169,7 +169,7 @@ fn gather_sequence(
         ValueLabel::Sequence { present } => {
             let present = present.items();
             if may_be_present(parts, present) {
-                gather_present(alloc, module, node, parts, present, value.kids(), out)
+                gather_present(alloc, module, node, parts, present, &value.kids(), out)
             } else {
                 Ok(())
             }
@@ -180,13 +180,13 @@ fn gather_sequence(
 
 // Adds what the chosen value of a CHOICE gives.
 #[cycle(gathering)]
-fn gather_choice(
+fn gather_choice<'a>(
     alloc: Global,
     module: &Module,
     node: &Tree<TypeLabel>,
     parts: &[Component],
-    value: &Tree<ValueLabel>,
-    out: &mut Contents<'_>,
+    value: &Node<'a, ValueLabel>,
+    out: &mut Contents<'a>,
 ) -> Result<(), Memory>
     requires node { IsTypeIn module.now node.now }
     requires form { (label_of node.now).form ≡ form.Choice parts.now }
@@ -198,7 +198,7 @@ fn gather_choice(
     let Some(part) = parts.get(*i as usize) else {
         return Ok(());
     };
-    let Some(chosen) = value.kids().first() else {
+    let Some(chosen) = value.kids().next() else {
         return Ok(());
     };
     let place = Place {
@@ -206,38 +206,38 @@ fn gather_choice(
         part,
         node: node.kid(*i as usize),
     };
-    gather_at(alloc, module, &place, chosen, out)
+    gather_at(alloc, module, &place, &chosen, out)
 }
 
 // Adds what the items of a SEQUENCE OF give, which all stand at one place.
 #[cycle(gathering)]
-fn gather_items(
+fn gather_items<'a>(
     alloc: Global,
     module: &Module,
     place: &Place,
-    values: &[Tree<ValueLabel>],
-    out: &mut Contents<'_>,
+    values: &Kids<'a, ValueLabel>,
+    out: &mut Contents<'a>,
 ) -> Result<(), Memory>
     requires { IsTypeIn module.now place.now.node.now }
     ensures { OnOk result (Gains out.old out.new (gathered module.now (replicate (length values.now) (place_seen place.now)) (roses_of values.now))) }
 {
-    'values: for value in values {
-        gather_at(alloc, module, place, value, out)?;
+    'values: for value in values.again() {
+        gather_at(alloc, module, place, &value, out)?;
     }
     Ok(())
 }
 
 // Adds what the value of a SEQUENCE OF gives.
 #[cycle(gathering)]
-fn gather_sequence_of(
+fn gather_sequence_of<'a>(
     alloc: Global,
     module: &Module,
     node: &Tree<TypeLabel>,
     part: &Component,
     min: u32,
     max: Option<u32>,
-    value: &Tree<ValueLabel>,
-    out: &mut Contents<'_>,
+    value: &Node<'a, ValueLabel>,
+    out: &mut Contents<'a>,
 ) -> Result<(), Memory>
     requires node { IsTypeIn module.now node.now }
     requires form { (label_of node.now).form ≡ form.SequenceOf part.now min max }
@@ -247,7 +247,8 @@ fn gather_sequence_of(
         return Ok(());
     };
     let values = value.kids();
-    if values.len() < min as usize || !is_at_most(values.len(), max) {
+    let count = values.len();
+    if count < min as usize || !is_at_most(count, max) {
         return Ok(());
     }
     let place = Place {
@@ -255,17 +256,17 @@ fn gather_sequence_of(
         part,
         node: node.kid(0),
     };
-    gather_items(alloc, module, &place, values, out)
+    gather_items(alloc, module, &place, &values, out)
 }
 
 // Adds what the kids of a value give, whose type is no reference. It is nothing where the value isn't of the type.
 #[cycle(gathering)]
-fn gather_kids(
+fn gather_kids<'a>(
     alloc: Global,
     module: &Module,
     node: &Tree<TypeLabel>,
-    value: &Tree<ValueLabel>,
-    out: &mut Contents<'_>,
+    value: &Node<'a, ValueLabel>,
+    out: &mut Contents<'a>,
 ) -> Result<(), Memory>
     requires node { IsTypeIn module.now node.now }
     requires parts { is_textual (label_of node.now) ≡ false }
@@ -283,14 +284,33 @@ fn gather_kids(
     }
 }
 
-// Adds what a value gives whose type is no reference and no text, by the instructions on the type.
+// Adds what the kids of a value give, with these texts before, between and behind them.
 #[cycle(gathering)]
-fn gather_parts(
+fn gather_mixed<'a>(
     alloc: Global,
     module: &Module,
     node: &Tree<TypeLabel>,
-    value: &Tree<ValueLabel>,
-    out: &mut Contents<'_>,
+    value: &Node<'a, ValueLabel>,
+    texts: Kids<'a, ValueLabel>,
+    out: &mut Contents<'a>,
+) -> Result<(), Memory>
+    requires node { IsTypeIn module.now node.now }
+    requires parts { is_textual (label_of node.now) ≡ false }
+    ensures { OnOk result (Gains out.old out.new (mixed_gives (map value_text texts.entry) (parts_give module.now node.now value.now))) }
+{
+    out.begin_mixed(texts)?;
+    gather_kids(alloc, module, node, value, out)?;
+    out.end_mixed(alloc)
+}
+
+// Adds what a value gives whose type is no reference and no text, by the instructions on the type.
+#[cycle(gathering)]
+fn gather_parts<'a>(
+    alloc: Global,
+    module: &Module,
+    node: &Tree<TypeLabel>,
+    value: &Node<'a, ValueLabel>,
+    out: &mut Contents<'a>,
 ) -> Result<(), Memory>
     requires node { IsTypeIn module.now node.now }
     requires parts { is_textual (label_of node.now) ≡ false }
@@ -298,22 +318,23 @@ fn gather_parts(
 {
     add_nil_if(alloc, node.label(), value.label(), out)?;
     if node.label().marks.has_embed_values() {
-        let mut inner = Contents::new(alloc, out.blank(), value.kids().len());
-        gather_kids(alloc, module, node, value, &mut inner)?;
-        out.add_mixed(alloc, texts_of(value), inner)
+        match texts_of(value) {
+            Some(texts) => gather_mixed(alloc, module, node, value, texts, out),
+            None => gather_kids(alloc, module, node, value, out),
+        }
     } else {
         gather_kids(alloc, module, node, value, out)
     }
 }
 
-/// Adds what a value of the type gives to the element that it stands in.
+// Adds what a value of the type gives to the element that it stands in.
 #[cycle(gathering)]
-pub(crate) fn gather(
+fn gather<'a>(
     alloc: Global,
     module: &Module,
     node: &Tree<TypeLabel>,
-    value: &Tree<ValueLabel>,
-    out: &mut Contents<'_>,
+    value: &Node<'a, ValueLabel>,
+    out: &mut Contents<'a>,
 ) -> Result<(), Memory>
     requires { IsTypeIn module.now node.now }
     ensures { OnOk result (Gains out.old out.new (inside module.now node.now value.now)) }
@@ -325,4 +346,22 @@ pub(crate) fn gather(
     } else {
         gather_parts(alloc, module, found, value, out)
     }
+}
+
+/// Adds an element of this name, in which stands what a value of the type gives.
+#[cycle(gathering)]
+pub(crate) fn gather_element<'a>(
+    alloc: Global,
+    module: &Module,
+    node: &Tree<TypeLabel>,
+    value: &Node<'a, ValueLabel>,
+    name: Name,
+    out: &mut Contents<'a>,
+) -> Result<(), Memory>
+    requires { IsTypeIn module.now node.now }
+    ensures { OnOk result (Gains out.old out.new (given [] (more (element_of name (inside module.now node.now value.now)) none))) }
+{
+    let outer = out.begin_element(alloc)?;
+    gather(alloc, module, node, value, out)?;
+    out.end_element(alloc, name, outer)
 }

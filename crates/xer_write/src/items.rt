@@ -7,11 +7,11 @@ ghost use Rattle.xer_items.specs.Items.{Xer};
 ghost use Rattle.asn_types.specs.Values.{In};
 ghost use Rattle.xer_items.specs.Sound.{IsSound};
 
-use crate::contents::{Blank, Contents};
-use crate::gathering::gather;
+use crate::contents::Contents;
+use crate::gathering::gather_element;
 use asn_types::Module;
 use doc_text::Items;
-use label_tree::Whole;
+use flat_tree::Whole;
 use simple_types::Value;
 use std::alloc::Global;
 use xa_base::Memory;
@@ -31,11 +31,15 @@ pub fn items_of(alloc: Global, module: &Module, t: u32, value: &Value) -> Result
     ensures { IfOk result (λ items. (b : Rose Plain) × (Xer module.now t value.now ≡ Some b) × (items ≡ unplaced b)) }
 {
     let assignment = module.assignment(t);
-    let top = value.root();
-    let blank = Blank::new(alloc)?;
-    let mut inner = Contents::new(alloc, &blank, top.kids().len());
-    gather(alloc, module, assignment.body.root(), top, &mut inner)?;
+    let mut out = Contents::new(alloc)?;
     let name = assignment.name(alloc)?;
-    let root = inner.into_element(alloc, name)?;
-    Ok(Items::of(Whole::of(root)))
+    gather_element(
+        alloc,
+        module,
+        assignment.body.root(),
+        &value.root(),
+        name,
+        &mut out,
+    )?;
+    Ok(Items::of(Whole::of(out.into_tree())))
 }

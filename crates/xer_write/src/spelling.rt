@@ -10,10 +10,12 @@ ghost use Rattle.xer_items.specs.Spelling as textual;
 ghost use Rattle.xer_write.specs.Private.Gaining.{value_text};
 
 use asn_types::{Form, TypeLabel};
+use flat_tree::{Kids, Node};
 use itoa::Buffer;
 use label_tree::Tree;
 use simple_types::ValueLabel;
 use std::alloc::Global;
+use std::iter::Iterator;
 use xa_base::{Memory, Text};
 
 // Whether the type has no parts.
@@ -107,7 +109,7 @@ fn whole_text(alloc: Global, label: &ValueLabel) -> Result<Text, Memory>
 }
 
 /// The text of a UTF8String.
-pub(crate) fn value_text(alloc: Global, value: &Tree<ValueLabel>) -> Result<Text, Memory>
+pub(crate) fn value_text(alloc: Global, value: &Node<'_, ValueLabel>) -> Result<Text, Memory>
     ensures { IfOk result (λ text. text ≡ value_text value.now) }
 {
     match value.label() {
@@ -121,32 +123,33 @@ pub(crate) fn value_text(alloc: Global, value: &Tree<ValueLabel>) -> Result<Text
 fn write_items(
     out: &mut String,
     item: &Tree<TypeLabel>,
-    values: &[Tree<ValueLabel>],
+    values: &Kids<'_, ValueLabel>,
 ) -> Result<(), Memory>
     requires { Allowed MayHave item.now }
     ensures { OnOk result (string_bytes out.new ≡ string_bytes out.old ++ join_with_byte 0x20 (map (spelled (space_at item.now)) values.now)) }
 {
-    let Some((first, further)) = values.split_first() else {
+    let mut further = values.again();
+    let Some(first) = further.next() else {
         return Ok(());
     };
-    write_spelling(out, item, first)?;
+    write_spelling(out, item, &first)?;
     'items: for value in further {
         out.push(' ')?;
-        write_spelling(out, item, value)?;
+        write_spelling(out, item, &value)?;
     }
     Ok(())
 }
 
 // The alternative that a value chooses, and the value of it.
-fn choice_of(value: &Tree<ValueLabel>) -> Option<(u32, &Tree<ValueLabel>)>
+fn choice_of<'a>(value: &Node<'a, ValueLabel>) -> Option<(u32, Node<'a, ValueLabel>)>
     ensures { MatchOption result
         (choice_at (label_of value.now) (kids_of value.now) ≡ None)
-        (λ choice. choice_at (label_of value.now) (kids_of value.now) ≡ Some (choice.0, choice.1.now)) }
+        (λ choice. choice_at (label_of value.now) (kids_of value.now) ≡ Some choice) }
 {
     let ValueLabel::Choice(i) = value.label() else {
         return None;
     };
-    let chosen = value.kids().first()?;
+    let chosen = value.kids().next()?;
     Some((*i, chosen))
 }
 
@@ -154,7 +157,7 @@ fn choice_of(value: &Tree<ValueLabel>) -> Option<(u32, &Tree<ValueLabel>)>
 fn write_chosen(
     out: &mut String,
     members: &[Tree<TypeLabel>],
-    value: &Tree<ValueLabel>,
+    value: &Node<'_, ValueLabel>,
 ) -> Result<(), Memory>
     requires { AllowedAll MayHave (roses_of members.now) }
     ensures { OnOk result (string_bytes out.new ≡ string_bytes out.old ++ spelled (UnionOf (spaces_at (roses_of members.now))) value.now) }
@@ -163,7 +166,7 @@ fn write_chosen(
         return Ok(());
     };
     match members.get(i as usize) {
-        Some(member) => write_spelling(out, member, chosen),
+        Some(member) => write_spelling(out, member, &chosen),
         None => Ok(()),
     }
 }
@@ -173,7 +176,7 @@ fn write_chosen(
 fn write_spelling(
     out: &mut String,
     node: &Tree<TypeLabel>,
-    value: &Tree<ValueLabel>,
+    value: &Node<'_, ValueLabel>,
 ) -> Result<(), Memory>
     requires { Allowed MayHave node.now }
     ensures { OnOk result (string_bytes out.new ≡ string_bytes out.old ++ spelled (space_at node.now) value.now) }
@@ -185,7 +188,7 @@ fn write_spelling(
         Form::Numbers { numbers } => write_number(out, numbers.items(), label),
         Form::Words { words, .. } => write_word(out, words.items(), label),
         Form::Utf8 { .. } => write_text(out, label),
-        Form::SequenceOf { .. } => write_items(out, node.kid(0), value.kids()),
+        Form::SequenceOf { .. } => write_items(out, node.kid(0), &value.kids()),
         Form::Choice { .. } => write_chosen(out, node.kids(), value),
         Form::Sequence { .. } => write_boolean(out, label),
         Form::Ref { .. } => write_boolean(out, label),
@@ -197,7 +200,7 @@ fn write_spelling(
 pub(crate) fn spelling(
     alloc: Global,
     node: &Tree<TypeLabel>,
-    value: &Tree<ValueLabel>,
+    value: &Node<'_, ValueLabel>,
 ) -> Result<Text, Memory>
     requires { Allowed MayHave node.now }
     ensures { IfOk result (λ text. text ≡ spelled (space_at node.now) value.now) }

@@ -1,34 +1,21 @@
 -- What the code has of what stands in an element.
-use Rattle.std.specs.Prelude.{◌≡◌, ℕ, List, [], ◌∷◌, ◌++◌, Option, Some, None, slice_get}
+use Rattle.std.specs.Prelude.{◌≡◌, ℕ, List, [], ◌∷◌, ◌++◌, Option, Some, None, drop, length, map, slice_get}
 use Rattle.label_tree.specs.Rose.{Rose, Roses, none, roses_of, list_of, label_of}
+use Rattle.flat_tree.specs.Zips.{Zip, added, added_all, opened}
 use Rattle.simple_types.specs.declared.labels.ValueLabel.{ValueLabel}
 use Rattle.simple_values.specs.Reading.{spelled_text}
 use Rattle.doc_text.specs.declared.label.ItemLabel.{ItemLabel}
+use Rattle.doc_text.specs.declared.label.ItemLabel.TheVariants.{Text}
 use Rattle.plain_items.specs.Plain.{Plain}
 use Rattle.plain_items.specs.Mixing.{text_before}
 use Rattle.xer_items.specs.Items.{Given}
 use Rattle.xer_write.specs.declared.contents.Contents.{Contents}
+use Rattle.xer_write.specs.declared.contents.Outer.{Outer}
 use Rattle.plain_items.specs.Unplaced.{all_unplaced}
-use Rattle.xer_write.specs.Private.Utf8.{AreUtf8, ItemsAreUtf8}
+use Rattle.xer_write.specs.Private.Utf8.{AreUtf8, ItemIsUtf8, ItemsAreUtf8}
 
 abbrev pub items_in : Roses Plain → List (Rose ItemLabel)
 items_in items = list_of (all_unplaced items)
-
-pub record IsUtf8Contents (c : Contents) : Type 0 where
-  pub attributes : AreUtf8 c.attributes.items
-  pub kids : ItemsAreUtf8 (roses_of c.kids.items)
-
--- just what was given
-pub record Has (c : Contents) (g : Given) : Type 0 where
-  pub attributes : c.attributes.items ≡ g.attributes
-  pub kids : c.kids.items ≡ items_in g.kids
-  pub utf8 : IsUtf8Contents c
-
--- what was given stands behind what was there
-pub record Gains (old new : Contents) (g : Given) : Type 0 where
-  pub attributes : new.attributes.items ≡ old.attributes.items ++ g.attributes
-  pub kids : new.kids.items ≡ old.kids.items ++ items_in g.kids
-  pub utf8 : IsUtf8Contents old → IsUtf8Contents new
 
 abbrev pub value_text : Rose ValueLabel → List ℕ
 value_text v = spelled_text (label_of v)
@@ -45,8 +32,59 @@ text_item_of (Some words) = text_item words
 abbrev pub text_at : List (List ℕ) → ℕ → List (Rose ItemLabel)
 text_at texts i = text_item_of (slice_get texts i)
 
+-- the text that is next, which is empty where none is
+abbrev pub first_text : List (List ℕ) → List ℕ
+first_text [] = []
+first_text (words ∷ texts) = words
+
 -- items, each with the text of its number before it
 abbrev pub with_texts_before : List (List ℕ) → List (Rose ItemLabel) → List (Rose ItemLabel)
 with_texts_before texts [] = []
 with_texts_before [] (item ∷ items) = item ∷ items
 with_texts_before (words ∷ texts) (item ∷ items) = text_item words ++ item ∷ with_texts_before texts items
+
+-- The items that come of items put into a mixed type, and it into another: each type has its texts stand before them, the
+-- innermost type first. It is the last here.
+abbrev pub through : List (List (List ℕ)) → List (Rose ItemLabel) → List (Rose ItemLabel)
+through [] items = items
+through (texts ∷ inner) items = with_texts_before texts (through inner items)
+
+-- the texts that are left then
+abbrev pub left_behind : List (List (List ℕ)) → List (Rose ItemLabel) → List (List (List ℕ))
+left_behind [] items = []
+left_behind (texts ∷ inner) items = drop (length (through inner items)) texts ∷ left_behind inner items
+
+-- ---- what the code has
+
+abbrev pub levels : Contents → List (List (List ℕ))
+levels c = map (λ texts. map value_text texts) c.texts.items
+
+-- these items were put behind those that were there, with the texts that stand before them
+pub record Puts (before after : List (List (List ℕ))) (old new : Zip ItemLabel) (items : List (Rose ItemLabel)) : Type 0 where
+  pub texts : after ≡ left_behind before items
+  pub builder : new ≡ added_all (through before items) old
+  pub utf8 : ItemsAreUtf8 (roses_of (through before items))
+
+-- what was given stands behind what was there, where these texts are to stand before items
+pub record GainsIn (before : List (List (List ℕ))) (old new : Contents) (g : Given) : Type 0 where
+  pub attributes : new.attributes.items ≡ old.attributes.items ++ g.attributes
+  pub puts : Puts before (levels new) old.builder new.builder (items_in g.kids)
+  pub utf8 : AreUtf8 g.attributes
+
+abbrev pub Gains : Contents → Contents → Given → Type 0
+Gains old new g = GainsIn (levels old) old new g
+
+-- whatever item is added now, the texts before it are there
+pub record MakesRoom (old new : Contents) : Type 0 where
+  pub attributes : new.attributes.items ≡ old.attributes.items
+  pub puts : (item : Rose ItemLabel) → ItemIsUtf8 item → Puts (levels old) (levels new) old.builder (added item new.builder) (item ∷ [])
+
+-- an element is open, in which nothing stands
+pub record Opens (old new : Contents) (outer : Outer) : Type 0 where
+  pub attributes : new.attributes.items ≡ []
+  pub texts : new.texts.items ≡ []
+  pub outer_attributes : outer.attributes.items ≡ old.attributes.items
+  pub outside : Zip ItemLabel
+  pub builder : new.builder ≡ opened (Text [] 0) outside
+  pub puts : (item : Rose ItemLabel) → ItemIsUtf8 item
+      → Puts (levels old) (map (λ texts. map value_text texts) outer.texts.items) old.builder (added item outside) (item ∷ [])

@@ -1,5 +1,5 @@
 -- What values give, as the code finds it.
-use Rattle.std.specs.Prelude.{Bool, true, false, ◌&&◌, ◌||◌, length, List, [], ◌∷◌, Option, None, Some}
+use Rattle.std.specs.Prelude.{ℕ, Bool, true, false, ◌&&◌, ◌||◌, length, List, [], ◌∷◌, Option, None, Some}
 use Rattle.label_tree.specs.Rose.{Rose, label_of, kids_of, roses_of}
 use Rattle.simple_types.specs.declared.labels.ValueLabel.{ValueLabel}
 use Rattle.asn_types.specs.declared.types.Component.{Component}
@@ -8,7 +8,8 @@ use Rattle.asn_types.specs.declared.modules.Assignment.{Assignment}
 use Rattle.asn_types.specs.Modules.{IsModule}
 use Rattle.asn_types.specs.Refs.{IsOf}
 use Rattle.asn_types.specs.Values.{ComponentPlace, places}
-use Rattle.xer_items.specs.Items.{Given, nothing, completed, placed, inside, gathered}
+use Rattle.plain_items.specs.Mixing.{interleaved}
+use Rattle.xer_items.specs.Items.{Given, given, nothing, completed, placed, inside, gathered}
 use Rattle.xer_write.specs.declared.gathering.Place.{Place}
 
 -- a flag for each component, where each that is absent is optional
@@ -23,6 +24,10 @@ place_seen place = record { role = place.role; part = place.part.now; type = pla
 -- the type stands in the module
 abbrev pub IsTypeIn : List Assignment → Rose TypeLabel → Type 0
 IsTypeIn M t = IsModule M × IsOf M t
+
+-- with texts before, between and behind the child elements
+abbrev pub mixed_gives : List (List ℕ) → Given → Given
+mixed_gives texts g = given g.attributes (interleaved texts g.kids)
 
 module _ (M : List Assignment) where
   -- a value at a place

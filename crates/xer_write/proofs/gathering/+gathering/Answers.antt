@@ -1,9 +1,8 @@
-use Rattle.std.proofs.Common.{◌≡◌, ℕ, ◌+◌, ◌-◌, ◌<◌, ◌≤◌, false, true, OnOk, List, [], ◌∷◌, length, refl, sym, ap, subst, ◌∙◌, arith}
+use Rattle.std.proofs.Common.{◌≡◌, ℕ, ◌+◌, ◌<◌, ◌≤◌, false, true, OnOk, List, [], ◌∷◌, length, refl, sym, ap, subst, ◌∙◌, arith}
 use Rattle.std.specs.Prelude.{◌&&◌, nat_le, replicate, slice_get}
 use Rattle.std.proofs.lemmas.Bool.{ltb-true}
 use Rattle.label_tree.specs.Rose.{none, label_of, kids_of, roses_of, count_all, Allowed}
 use Rattle.label_tree.proofs.Roses.{node_count-kids}
-use Rattle.label_tree.proofs.Kids.{kid-count-le}
 use Rattle.simple_values.specs.Lexical.{is_at_most}
 use Rattle.simple_values.specs.Reading.{spelled}
 use Rattle.simple_values.proofs.Spellings.{found_at, missed_at}
@@ -13,16 +12,16 @@ use Rattle.asn_types.specs.Parts.{MayHave, parts_of}
 use Rattle.asn_types.specs.Refs.{resolve}
 use Rattle.asn_types.specs.Spaces.{space_at}
 use Rattle.asn_types.specs.Values.{place_of, present_from}
-use Rattle.plain_items.specs.Mixing.{text_before, interleaved}
-use Rattle.xer_items.specs.Items.{given, nothing, both, inside, gathered, texts_of}
+use Rattle.plain_items.specs.Mixing.{text_before}
+use Rattle.xer_items.specs.Items.{given, nothing, both, inside, gathered, texts_of, with_texts}
 use Rattle.xer_items.specs.Spelling.{is_textual}
 use Rattle.xer_write.specs.Private.Gaining.{Gains}
-use Rattle.xer_write.specs.Private.Giving.{IsTypeIn, may_be_present, place_seen, place_gives, places_give, parts_give, type_gives}
-use Rattle.xer_write.proofs.Gaining.{gains-nothing, gains-both, has-gained, on_ok}
-use Rattle.xer_write.proofs.Giving.{found-in, kid-in, have-kids, few-parts, allowed-of, inside-text, inside-parts, sequence-give, sequence-other, choice-other, items-other, reference-other, present-some, fit-length, fit-step, give-present, found-absent, give-end, found_from, items_from, items-step, items-end, at-attribute, at-element, at-group, at-content, at-other}
+use Rattle.xer_write.specs.Private.Giving.{IsTypeIn, may_be_present, place_seen, place_gives, places_give, parts_give, mixed_gives, type_gives}
+use Rattle.xer_write.proofs.Gaining.{gains-nothing, gains-both, mixed-gained, element-gained, element-open, on_ok, on_ok-three}
+use Rattle.xer_write.proofs.Giving.{found-in, kid-in, have-kids, few-parts, allowed-of, inside-text, inside-parts, sequence-give, sequence-other, choice-other, items-other, reference-other, present-some, fit-length, fit-step, give-present, found-absent, give-end, found_from, items_give, items-step, items-end, at-attribute, at-element, at-group, at-content, at-other}
 use Rattle.xer_write.proofs.Parts.{nil-then, with-embed, without-embed, some-at, slice-at, kid-count, flag-at, role-is, give-short, give-missing, choice-made, choice-missed, choice-empty, items-made, items-missed, too-few, too-many}
 use Rattle.xer_write.proofs.gathering.+gathering.Goals as goal
-use Rattle.xer_write.proofs.gathering.+gathering.Goals.{gather_present-then-present-i+in-Some+in_ok-gather_at, gather_present-else-present-i, gather_sequence_of-then-values-min-via-then-values-min, gather_sequence_of-then-values-min-via-else-values-min+then-not-is_at_most}
+use Rattle.xer_write.proofs.gathering.+gathering.Goals.{gather_present-then-present-i+in-Some+in_ok-gather_at, gather_present-else-present-i, gather_sequence_of-then-count-min-via-then-count-min, gather_sequence_of-then-count-min-via-else-count-min+then-not-is_at_most}
 
 -- ---- any type
 
@@ -71,11 +70,11 @@ gather_at-spelling-requires t c =
     let h = found-in m u c.requires in
     subst (Allowed MayHave) (sym c.resolve.ensures) (allowed-of m h.0 (resolve m u) h.1)
 
+pub gather_at-gather_element-requires : goal.gather_at-gather_element-requires
+gather_at-gather_element-requires t c = let d = c.decreases in (omega (arith, d), c.requires)
+
 pub gather_at-gather-requires : goal.gather_at-gather-requires
 gather_at-gather-requires t c = let d = c.decreases in (omega (arith, d), c.requires)
-
-pub gather_at-gather-requires-in-Group : goal.gather_at-gather-requires-in-Group
-gather_at-gather-requires-in-Group t c = let d = c.decreases in (omega (arith, d), c.requires)
 
 pub gather_at-gather-requires-in-Content : goal.gather_at-gather-requires-in-Content
 gather_at-gather-requires-in-Content t c = let d = c.decreases in (omega (arith, d), c.requires)
@@ -94,14 +93,13 @@ gather_at-returns-in_ok-name-in-Element t c =
     let m = c.args.module.now in
     let p = place_seen c.args.place.now in
     let v = c.args.value.now in
-    let have = has-gained c.new-inner.result c.gather.new.out (inside m p.type v) c.new-inner.ensures c.in_ok-gather-in-Element.ensures in
     let same = at-element m p v c.in-Element.is c.in_ok-name-in-Element.name c.in_ok-name-in-Element.ensures in
-    on_ok c.add_element.result _ _ (λ f. subst (λ g. Gains c.args.out.now c.add_element.new.self g) same (f (inside m p.type v) have)) c.add_element.ensures
+    subst (λ g. OnOk c.gather_element.result (Gains c.args.out.now c.gather_element.new.out g)) same c.gather_element.ensures
 
 pub gather_at-returns-in-Group : goal.gather_at-returns-in-Group
 gather_at-returns-in-Group t c =
     let same = at-group c.args.module.now (place_seen c.args.place.now) c.args.value.now c.in-Group.is in
-    subst (λ g. OnOk c.gather-in-Group.result (Gains c.args.out.now c.gather-in-Group.new.out g)) same c.gather-in-Group.ensures
+    subst (λ g. OnOk c.gather.result (Gains c.args.out.now c.gather.new.out g)) same c.gather.ensures
 
 pub gather_at-returns-in-Content : goal.gather_at-returns-in-Content
 gather_at-returns-in-Content t c =
@@ -115,31 +113,41 @@ gather_at-returns-in_default t c =
 
 -- ---- the items of a SEQUENCE OF
 
+pub gather_items-values-init : goal.gather_items-values-init
+gather_items-values-init t c =
+    let m = c.args.module.now in
+    let p = place_seen c.args.place.now in
+    let o = c.args.out.now in
+    let same : c.into_iter-value-iterator.result ≡ c.args.values.now = cc (c.into_iter-value-iterator.ensures.into_iter_gives, c.again-value-items.ensures) in
+    let count = ap (λ vs. count_all (roses_of vs)) same in
+    record { small = omega (arith, count); gains = λ new h. subst (λ vs. Gains o new (items_give m p vs)) same h }
+
 pub gather_items-gather_at-requires : goal.gather_items-gather_at-requires
 gather_items-gather_at-requires t c =
     let d = c.decreases in
-    let k = kid-count-le c.args.values.now c.values.value-index c.value-item.result c.values-test.true c.value-item.is in
-    (omega (arith, d, k), c.requires)
+    let count = ap (λ vs. count_all (roses_of vs)) c.in-Some.ensures.steps in
+    let small = c.values.invariant.small in
+    (omega (arith, d, count, small), c.requires)
 
 pub gather_items-values-preserved : goal.gather_items-values-preserved
 gather_items-values-preserved t c =
     let m = c.args.module.now in
     let p = place_seen c.args.place.now in
-    let vs = c.args.values.now in
-    let i = c.values.value-index in
-    λ new h. c.values.invariant new
-    (subst (Gains c.values.out new) (sym (items-step m p vs i c.value-item.result c.values-test.true c.value-item.is))
-    (gains-both c.values.out c.gather_at.new.out new (place_gives m p c.value-item.result) (items_from m p vs (i + 1)) c.in_ok-gather_at.ensures h))
+    let v = c.in-Some.value in
+    let later = c.next.new.self in
+    let count = ap (λ vs. count_all (roses_of vs)) c.in-Some.ensures.steps in
+    let small = c.values.invariant.small in
+    record {
+      small = omega (arith, count, small);
+      gains = λ new h. c.values.invariant.gains new
+          (subst (Gains c.values.out new) (sym (items-step m p c.values.value-iterator v later c.in-Some.ensures.steps))
+          (gains-both c.values.out c.gather_at.new.out new (place_gives m p v) (items_give m p later) c.in_ok-gather_at.ensures h));
+    }
 
 pub gather_items-returns : goal.gather_items-returns
 gather_items-returns t c =
-    let m = c.args.module.now in
-    let p = place_seen c.args.place.now in
-    let vs = c.args.values.now in
     let o = c.values.out in
-    let all = c.values.invariant o (subst (Gains o o) (sym (items-end m p vs c.values.value-index c.values-test.false)) (gains-nothing o)) in
-    let whole : length vs - 0 ≡ length vs = omega arith in
-    subst (λ n. Gains c.args.out.now o (gathered m (replicate n p) (roses_of vs))) whole all
+    c.values.invariant.gains o (subst (Gains o o) (sym (items-end c.args.module.now (place_seen c.args.place.now) c.values.value-iterator c.in-None.ensures.steps.0)) (gains-nothing o))
 
 -- ---- CHOICE
 
@@ -156,11 +164,11 @@ gather_choice-returns-in_default-get t c =
     (missed_at c.args.parts.now c.in-Choice.i c.in_default-get.ensures.lookup.0) in
     subst (Gains o o) (sym same) (gains-nothing o)
 
-pub gather_choice-returns-in_default-first : goal.gather_choice-returns-in_default-first
-gather_choice-returns-in_default-first t c =
+pub gather_choice-returns-in_default-next : goal.gather_choice-returns-in_default-next
+gather_choice-returns-in_default-next t c =
     let o = c.args.out.now in
     let same = choice-empty c.args.module.now c.args.node.now c.args.value.now c.args.parts.now c.in-Choice.i c.requires.form (sym c.label.ensures ∙ c.in-Choice.is)
-    (c.in_default-first.ensures.value ∙ ap (λ ks. slice_get ks 0) c.kids.ensures) in
+    (sym (ap (λ ks. slice_get ks 0) (sym c.kids.ensures ∙ c.in_default-next.ensures.steps.0))) in
     subst (Gains o o) (sym same) (gains-nothing o)
 
 pub gather_choice-role-requires : goal.gather_choice-role-requires
@@ -178,7 +186,7 @@ gather_choice-kid-requires t c =
 pub gather_choice-gather_at-requires : goal.gather_choice-gather_at-requires
 gather_choice-gather_at-requires t c =
     let d = c.decreases in
-    let k = kid-count (kids_of c.args.value.now) 0 c.in-Some-first.chosen.now (sym (c.in-Some-first.ensures.value ∙ ap (λ ks. slice_get ks 0) c.kids.ensures)) in
+    let k = kid-count (kids_of c.args.value.now) 0 c.in-Some-next.chosen (ap (λ ks. slice_get ks 0) (sym c.kids.ensures ∙ c.in-Some-next.ensures.steps)) in
     (omega (arith, d, k), kid-in c.args.module.now c.args.node.now c.in-Choice.i c.kid.result.now c.kid.ensures c.requires.node)
 
 pub gather_choice-returns : goal.gather_choice-returns
@@ -187,8 +195,8 @@ gather_choice-returns t c =
     let i = c.in-Choice.i in
     let part = c.in-Some.part.now in
     let found = found_at parts i part c.in-Some.ensures.lookup.0 c.in-Some.ensures.lookup.1 in
-    let same = choice-made c.args.module.now c.args.node.now c.args.value.now parts i c.role.result part c.kid.result.now c.in-Some-first.chosen.now c.requires.form (sym c.label.ensures ∙ c.in-Choice.is) found c.kid.ensures
-    (c.in-Some-first.ensures.value ∙ ap (λ ks. slice_get ks 0) c.kids.ensures)
+    let same = choice-made c.args.module.now c.args.node.now c.args.value.now parts i c.role.result part c.kid.result.now c.in-Some-next.chosen c.requires.form (sym c.label.ensures ∙ c.in-Choice.is) found c.kid.ensures
+    (sym (ap (λ ks. slice_get ks 0) (sym c.kids.ensures ∙ c.in-Some-next.ensures.steps)))
     (role-is (label_of c.args.node.now) c.label-2.result.now c.role.result parts i part c.label-2.ensures (ap parts_of c.requires.form) found c.role.ensures) in
     subst (λ g. OnOk c.gather_at.result (Gains c.args.out.now c.gather_at.new.out g)) same c.gather_at.ensures
 
@@ -223,22 +231,40 @@ gather_kids-returns-in_default t c =
 
 -- ---- the instructions on a type
 
-pub gather_parts-returns-in_ok-gather_kids : goal.gather_parts-returns-in_ok-gather_kids
-gather_parts-returns-in_ok-gather_kids t c =
+pub gather_parts-gather_mixed-requires : goal.gather_parts-gather_mixed-requires
+gather_parts-gather_mixed-requires t c = let d = c.decreases in (omega (arith, d), (c.requires.node, c.requires.parts))
+
+pub gather_parts-returns-in-Some : goal.gather_parts-returns-in-Some
+gather_parts-returns-in-Some t c =
     let m = c.args.module.now in
     let u = c.args.node.now in
     let v = c.args.value.now in
     let g = parts_give m u v in
     let before = c.add_nil_if.new.out in
-    let after = c.add_mixed.new.self in
+    let after = c.gather_mixed.new.out in
     let b = has_embed_values (label_of u).marks in
     let ts = texts_of (label_of v) (roses_of (kids_of v)) in
     let mixed : b ≡ true = ap (λ l. has_embed_values l.marks) (sym c.label-3.ensures) ∙ sym c.has_embed_values.ensures ∙ c.if-has_embed_values.true in
-    let have = has-gained c.new-inner.result c.gather_kids.new.out g c.new-inner.ensures c.in_ok-gather_kids.ensures in
-    let same = ap (λ x. given g.attributes (interleaved x g.kids)) c.texts_of.ensures ∙ with-embed b ts g mixed in
-    on_ok c.add_mixed.result _ _ (λ f. nil-then m u v c.args.out.now before after c.label.result.now c.label-2.result.now c.label.ensures c.label-2.ensures c.in_ok-add_nil_if.ensures
-    (subst (Gains before after) same (f g have)))
-    c.add_mixed.ensures
+    let same = ap (λ x. mixed_gives x g) (sym c.in-Some.ensures) ∙ with-embed b ts g mixed in
+    on_ok c.gather_mixed.result _ _ (λ f. nil-then m u v c.args.out.now before after c.label.result.now c.label-2.result.now c.label.ensures c.label-2.ensures c.in_ok-add_nil_if.ensures
+    (subst (Gains before after) same f))
+    c.gather_mixed.ensures
+
+pub gather_parts-returns-in-None : goal.gather_parts-returns-in-None
+gather_parts-returns-in-None t c =
+    let m = c.args.module.now in
+    let u = c.args.node.now in
+    let v = c.args.value.now in
+    let g = parts_give m u v in
+    let before = c.add_nil_if.new.out in
+    let after = c.gather_kids.new.out in
+    let b = has_embed_values (label_of u).marks in
+    let ts = texts_of (label_of v) (roses_of (kids_of v)) in
+    let mixed : b ≡ true = ap (λ l. has_embed_values l.marks) (sym c.label-3.ensures) ∙ sym c.has_embed_values.ensures ∙ c.if-has_embed_values.true in
+    let same : g ≡ with_texts b ts g = ap (λ x. mixed_gives x g) (sym c.in-None.ensures) ∙ with-embed b ts g mixed in
+    on_ok c.gather_kids.result _ _ (λ f. nil-then m u v c.args.out.now before after c.label.result.now c.label-2.result.now c.label.ensures c.label-2.ensures c.in_ok-add_nil_if.ensures
+    (subst (Gains before after) same f))
+    c.gather_kids.ensures
 
 pub gather_parts-returns-else-has_embed_values : goal.gather_parts-returns-else-has_embed_values
 gather_parts-returns-else-has_embed_values t c =
@@ -255,6 +281,34 @@ gather_parts-returns-else-has_embed_values t c =
     (subst (Gains before after) (without-embed b ts g unmixed) f))
     c.gather_kids-else-has_embed_values.ensures
 
+-- ---- mixed types and elements
+
+pub gather_mixed-gather_kids-requires : goal.gather_mixed-gather_kids-requires
+gather_mixed-gather_kids-requires t c = let d = c.decreases in (omega (arith, d), (c.requires.node, c.requires.parts))
+
+pub gather_mixed-returns : goal.gather_mixed-returns
+gather_mixed-returns t c =
+    let g = parts_give c.args.module.now c.args.node.now c.args.value.now in
+    let begun = c.in_ok-begin_mixed.ensures in
+    on_ok c.end_mixed.result _ _
+    (λ ends. mixed-gained c.args.out.now c.begin_mixed.new.self c.gather_kids.new.out c.end_mixed.new.self c.args.texts g begun.builder begun.attributes begun.texts c.in_ok-gather_kids.ensures ends)
+    c.end_mixed.ensures
+
+pub gather_element-gather-requires : goal.gather_element-gather-requires
+gather_element-gather-requires t c = let d = c.decreases in (omega (arith, d), c.requires)
+
+pub gather_element-end_element-requires : goal.gather_element-end_element-requires
+gather_element-end_element-requires t c =
+    let g = inside c.args.module.now c.args.node.now c.args.value.now in
+    element-open c.args.out.now c.begin_element.new.self c.gather.new.out c.in_ok-outer.outer g c.in_ok-outer.ensures c.in_ok-gather.ensures
+
+pub gather_element-returns : goal.gather_element-returns
+gather_element-returns t c =
+    let g = inside c.args.module.now c.args.node.now c.args.value.now in
+    on_ok-three c.end_element.result _ _ _ _
+    (λ builder attributes texts. element-gained c.args.out.now c.begin_element.new.self c.gather.new.out c.end_element.new.self c.in_ok-outer.outer c.args.name g c.in_ok-outer.ensures c.in_ok-gather.ensures builder attributes texts)
+    c.end_element.ensures.builder c.end_element.ensures.attributes c.end_element.ensures.texts
+
 -- ---- SEQUENCE
 
 pub gather_present-bounds-present-i : goal.gather_present-bounds-present-i
@@ -265,7 +319,7 @@ gather_present-returns-in_default t c =
     let m = c.args.module.now in
     let o = c.parts.out in
     let found = found_from (label_of c.args.node.now) c.args.parts.now (kids_of c.args.node.now) c.args.present.now c.parts.i in
-    let none_left : places_give m found c.parts.left.now ≡ nothing = give-short m found c.parts.left.now c.in_default.ensures.cases in
+    let none_left : places_give m found c.parts.left ≡ nothing = give-short m found c.parts.left c.in_default.ensures.steps.0 in
     c.parts.invariant.gains o (subst (Gains o o) (sym none_left) (gains-nothing o))
 
 pub gather_present-overflow_cast-i : goal.gather_present-overflow_cast-i
@@ -287,7 +341,7 @@ gather_present-kid-requires t c =
 pub gather_present-gather_at-requires : goal.gather_present-gather_at-requires
 gather_present-gather_at-requires t c =
     let d = c.decreases in
-    let e = ap (λ vs. count_all (roses_of vs)) c.in-Some.ensures.cases.0 in
+    let e = ap (λ vs. count_all (roses_of vs)) c.in-Some.ensures.steps in
     let small = c.parts.invariant.small in
     (omega (arith, d, e, small), kid-in c.args.module.now c.args.node.now c.parts.i c.kid.result.now c.kid.ensures c.requires.node)
 
@@ -309,19 +363,19 @@ gather_present-parts-preserved t c =
       | gather_present-then-present-i+in-Some+in_ok-gather_at w ↦
           let part = w.index-parts-i.result in
           let kid = w.kid.result.now in
-          let v = w.in-Some.value.now in
-          let others = w.in-Some.others.now in
+          let v = w.in-Some.value in
+          let others = w.next.new.self in
           let after = w.gather_at.new.out in
           let flag = flag-at flags i true flagged w.if-present-i.true in
-          let left_is = w.in-Some.ensures.cases.0 in
-          let now_is = ap (λ (b : _). b.now) w.left-is in
+          let left_is = w.in-Some.ensures.steps in
+          let now_is = w.left-is in
           let count = ap (λ vs. count_all (roses_of vs)) left_is in
           let less = ap (λ vs. count_all (roses_of vs)) now_is in
           let small = so_far.small in
           let role = role-is l w.label.result.now w.role.result parts i part w.label.ensures (ap parts_of c.requires.form) (slice-at parts i part c.parts-test.true w.index-parts-i.is) w.role.ensures in
           let p = place_of l i part kid in
           let one : Gains c.parts.out after (place_gives m p v) = subst (λ r. Gains c.parts.out after (place_gives m (record { role = r; part = part; type = kid }) v)) role w.in_ok-gather_at.ensures in
-          let step : places_give m (found i) c.parts.left.now ≡ both (place_gives m p v) (places_give m (found (i + 1)) others) =
+          let step : places_give m (found i) c.parts.left ≡ both (place_gives m p v) (places_give m (found (i + 1)) others) =
           ap (places_give m (found i)) left_is ∙ give-present m l parts ts flags same i part kid c.parts-test.true w.index-parts-i.is w.kid.ensures true flag so_far.fit refl v others in
           record {
             fit = fit-step m l parts ts flags same i part kid c.parts-test.true w.index-parts-i.is w.kid.ensures true flag so_far.fit;
@@ -336,7 +390,7 @@ gather_present-parts-preserved t c =
           let k = some-at ts i (omega (arith, c.parts-test.true, same)) in
           let got = slice-at ts i k.0 (omega (arith, c.parts-test.true, same)) k.1 in
           let flag = flag-at flags i false flagged w.if-present-i.false in
-          let now_is = ap (λ (b : _). b.now) w.left-is in
+          let now_is = w.left-is in
           let less = ap (λ vs. count_all (roses_of vs)) now_is in
           let small = so_far.small in
           let step = found-absent m l parts ts flags same i x.0 k.0 c.parts-test.true x.1 got false flag so_far.fit refl in
@@ -344,9 +398,9 @@ gather_present-parts-preserved t c =
             fit = fit-step m l parts ts flags same i x.0 k.0 c.parts-test.true x.1 got false flag so_far.fit;
             small = omega (arith, less, small);
             gains = λ new h.
-                let rest : Gains c.parts.out new (places_give m (found (i + 1)) c.parts.left.now) =
-                subst (λ o. Gains o new (places_give m (found (i + 1)) c.parts.left.now)) w.out-is (subst (λ vs. Gains c.if-present-i.out new (places_give m (found (i + 1)) vs)) now_is h) in
-                so_far.gains new (subst (λ o. Gains c.parts.out new (places_give m o c.parts.left.now)) (sym step) rest);
+                let rest : Gains c.parts.out new (places_give m (found (i + 1)) c.parts.left) =
+                subst (λ o. Gains o new (places_give m (found (i + 1)) c.parts.left)) w.out-is (subst (λ vs. Gains c.if-present-i.out new (places_give m (found (i + 1)) vs)) now_is h) in
+                so_far.gains new (subst (λ o. Gains c.parts.out new (places_give m o c.parts.left)) (sym step) rest);
           }
     ]
 
@@ -356,7 +410,7 @@ gather_present-returns t c =
     let u = c.args.node.now in
     let o = c.parts.out in
     let same : length (kids_of u) ≡ length c.args.parts.now = have-kids m u c.requires.node ∙ ap (λ f. length (parts_of f)) c.requires.form in
-    let end = give-end m (label_of u) c.args.parts.now (kids_of u) c.args.present.now same c.parts.i c.parts-test.false c.requires.present c.parts.left.now in
+    let end = give-end m (label_of u) c.args.parts.now (kids_of u) c.args.present.now same c.parts.i c.parts-test.false c.requires.present c.parts.left in
     c.parts.invariant.gains o (subst (Gains o o) (sym end) (gains-nothing o))
 
 pub gather_sequence-gather_present-requires : goal.gather_sequence-gather_present-requires
@@ -370,7 +424,7 @@ gather_sequence-returns-then-may_be_present t c =
     let u = c.args.node.now in
     let v = c.args.value.now in
     let parts = c.args.parts.now in
-    let same = ap (λ fs. places_give m (present_from (label_of u) 0 parts (kids_of u) fs) c.kids.result.now) c.items-present.ensures
+    let same = ap (λ fs. places_give m (present_from (label_of u) 0 parts (kids_of u) fs) c.kids.result) c.items-present.ensures
     ∙ ap (places_give m (present_from (label_of u) 0 parts (kids_of u) c.in-Sequence.present)) c.kids.ensures
     ∙ sym (sequence-give m u v parts c.in-Sequence.present c.requires.form (sym c.label.ensures ∙ c.in-Sequence.is)) in
     subst (λ g. OnOk c.gather_present.result (Gains c.args.out.now c.gather_present.new.out g)) same c.gather_present.ensures
@@ -403,16 +457,16 @@ gather_sequence_of-returns-in_default t c =
     let same = items-other c.args.module.now c.args.node.now c.args.value.now c.args.part.now c.args.min c.args.max c.requires.form (λ e. c.in_default.not-SequenceOf (c.label.ensures ∙ e)) in
     subst (Gains o o) (sym same) (gains-nothing o)
 
-pub gather_sequence_of-returns-then-values-min : goal.gather_sequence_of-returns-then-values-min
-gather_sequence_of-returns-then-values-min t c =
+pub gather_sequence_of-returns-then-count-min : goal.gather_sequence_of-returns-then-count-min
+gather_sequence_of-returns-then-count-min t c =
     let o = c.args.out.now in
     let v = c.args.value.now in
-    let long = ap length c.kids-values.ensures in
+    let long = c.len-count.ensures ∙ ap length c.kids-values.ensures in
     let test : (nat_le c.args.min (length (kids_of v)) && is_at_most (length (kids_of v)) c.args.max) ≡ false =
-    elim c.then-values-min.branch [
-      | gather_sequence_of-then-values-min-via-then-values-min w ↦
-          too-few c.args.min (length (kids_of v)) (is_at_most (length (kids_of v)) c.args.max) (let few = w.if-values-min.true in omega (arith, few, long))
-      | gather_sequence_of-then-values-min-via-else-values-min+then-not-is_at_most w ↦
+    elim c.then-count-min.branch [
+      | gather_sequence_of-then-count-min-via-then-count-min w ↦
+          too-few c.args.min (length (kids_of v)) (is_at_most (length (kids_of v)) c.args.max) (let few = w.if-count-min.true in omega (arith, few, long))
+      | gather_sequence_of-then-count-min-via-else-count-min+then-not-is_at_most w ↦
           too-many (nat_le c.args.min (length (kids_of v))) (is_at_most (length (kids_of v)) c.args.max)
           (ap (λ n. is_at_most n c.args.max) (sym long) ∙ sym w.is_at_most.ensures ∙ w.if-not-is_at_most.true)
     ] in
@@ -440,16 +494,9 @@ gather_sequence_of-returns t c =
     let u = c.args.node.now in
     let v = c.args.value.now in
     let part = c.args.part.now in
-    let vs = c.kids-values.result.now in
-    let low : c.args.min ≤ length (kids_of v) = let enough = c.if-values-min.false in let long = ap length c.kids-values.ensures in omega (arith, enough, long) in
-    let high : is_at_most (length (kids_of v)) c.args.max ≡ true = ap (λ ks. is_at_most (length ks) c.args.max) (sym c.kids-values.ensures) ∙ sym c.is_at_most.ensures ∙ c.if-not-is_at_most.false in
+    let low : c.args.min ≤ length (kids_of v) = let enough = c.if-count-min.false in let long = c.len-count.ensures ∙ ap length c.kids-values.ensures in omega (arith, enough, long) in
+    let high : is_at_most (length (kids_of v)) c.args.max ≡ true = ap (λ n. is_at_most n c.args.max) (sym (c.len-count.ensures ∙ ap length c.kids-values.ensures)) ∙ sym c.is_at_most.ensures ∙ c.if-not-is_at_most.false in
     let role = role-is (label_of u) c.label-2.result.now c.role.result (part ∷ []) 0 part c.label-2.ensures (ap parts_of c.requires.form) refl c.role.ensures in
     let same = ap (λ ks. gathered m (replicate (length ks) (record { role = c.role.result; part = part; type = c.kid.result.now })) (roses_of ks)) c.kids-values.ensures
     ∙ items-made m u v part c.args.min c.args.max c.role.result c.kid.result.now c.requires.form (sym c.label.ensures ∙ c.in-SequenceOf.is) c.kid.ensures low high role in
     subst (λ g. OnOk c.gather_items.result (Gains c.args.out.now c.gather_items.new.out g)) same c.gather_items.ensures
-
-pub gather_parts-gather_kids-requires : goal.gather_parts-gather_kids-requires
-gather_parts-gather_kids-requires t c = let d = c.decreases in (omega (arith, d), (c.requires.node, c.requires.parts))
-
-pub gather_parts-gather_kids-requires-else-has_embed_values : goal.gather_parts-gather_kids-requires-else-has_embed_values
-gather_parts-gather_kids-requires-else-has_embed_values t c = let d = c.decreases in (omega (arith, d), (c.requires.node, c.requires.parts))

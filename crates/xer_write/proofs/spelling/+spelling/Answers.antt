@@ -1,7 +1,6 @@
-use Rattle.std.proofs.Common.{◌≡◌, ◌++◌, [], drop, sym, ap, subst, ◌∙◌, arith, append_assoc}
+use Rattle.std.proofs.Common.{◌≡◌, ◌++◌, sym, ap, subst, ◌∙◌, arith, append_assoc}
 use Rattle.std.specs.Prelude.{string_bytes, map}
 use Rattle.std.specs.List.{join_with_byte}
-use Rattle.std.proofs.Math.ListN.{drop_of_length-le}
 use Rattle.std.proofs.lemmas.List.{append-nil}
 use Rattle.label_tree.specs.Rose.{roses_of, AllowedAll}
 use Rattle.label_tree.proofs.Roses.{node_count-kids, allowed-kids}
@@ -76,14 +75,14 @@ write_spelling-write_chosen-requires t c =
 pub write_items-returns : goal.write_items-returns
 write_items-returns t c =
     let sp = spelled (space_at c.args.item.now) in
-    let further = c.in-Some.further.now in
-    let left : drop c.items.value-index further ≡ [] = drop_of_length-le further c.items-test.false in
+    let further = c.next.new.self in
+    let begun = ap (λ vs. string_bytes c.write_spelling.new.out ++ behind (map sp vs)) c.into_iter-value-iterator.ensures.into_iter_gives in
     let parts : string_bytes c.items.out ≡ string_bytes c.write_spelling.new.out ++ behind (map sp further) =
-    sym (append-nil (string_bytes c.items.out)) ∙ ap (λ l. string_bytes c.items.out ++ behind (map sp l)) (sym left) ∙ c.items.invariant in
-    let joined : sp c.in-Some.first.now ++ behind (map sp further) ≡ join_with_byte 0x20 (map sp c.args.values.now) =
-    sym (join-behind (sp c.in-Some.first.now) (map sp further)) ∙ ap (λ vs. join_with_byte 0x20 (map sp vs)) (sym c.in-Some.ensures.cases.0) in
+    sym (append-nil (string_bytes c.items.out)) ∙ ap (λ vs. string_bytes c.items.out ++ behind (map sp vs)) (sym c.in-None.ensures.steps.0) ∙ c.items.invariant ∙ begun in
+    let joined : sp c.in-Some.first ++ behind (map sp further) ≡ join_with_byte 0x20 (map sp c.args.values.now) =
+    sym (join-behind (sp c.in-Some.first) (map sp further)) ∙ ap (λ vs. join_with_byte 0x20 (map sp vs)) (sym c.in-Some.ensures.steps ∙ c.again-further.ensures) in
     parts ∙ ap (λ l. l ++ behind (map sp further)) c.in_ok-write_spelling.ensures
-    ∙ append_assoc (string_bytes c.args.out.now) (sp c.in-Some.first.now) (behind (map sp further)) ∙ ap (λ l. string_bytes c.args.out.now ++ l) joined
+    ∙ append_assoc (string_bytes c.args.out.now) (sp c.in-Some.first) (behind (map sp further)) ∙ ap (λ l. string_bytes c.args.out.now ++ l) joined
 
 pub write_chosen-returns-in_default : goal.write_chosen-returns-in_default
 write_chosen-returns-in_default t c =
@@ -101,9 +100,9 @@ pub write_chosen-returns-in-Some-get : goal.write_chosen-returns-in-Some-get
 write_chosen-returns-in-Some-get t c =
     let at = c.in-Some-get.ensures.lookup in
     let found = found_at c.args.members.now c.in-Some.i c.in-Some-get.member.now at.0 at.1 in
-    rw (spelled-union c.args.members.now c.args.value.now, c.in-Some.ensures, by-member c.args.members.now c.in-Some.i c.in-Some-get.member.now c.in-Some.chosen.now found) c.write_spelling.ensures
+    rw (spelled-union c.args.members.now c.args.value.now, c.in-Some.ensures, by-member c.args.members.now c.in-Some.i c.in-Some-get.member.now c.in-Some.chosen found) c.write_spelling.ensures
 
 pub write_chosen-returns-in-None : goal.write_chosen-returns-in-None
 write_chosen-returns-in-None t c =
     let missed = missed_at c.args.members.now c.in-Some.i c.in-None.ensures.lookup.0 in
-    rw (spelled-union c.args.members.now c.args.value.now, c.in-Some.ensures, by-none c.args.members.now c.in-Some.i c.in-Some.chosen.now missed) (sym (append-nil (string_bytes c.args.out.now)))
+    rw (spelled-union c.args.members.now c.args.value.now, c.in-Some.ensures, by-none c.args.members.now c.in-Some.i c.in-Some.chosen missed) (sym (append-nil (string_bytes c.args.out.now)))

@@ -1,4 +1,4 @@
-use Rattle.std.proofs.Common.{◌≡◌, ◌++◌, ◌+◌, ◌*◌, drop, string_bytes}
+use Rattle.std.proofs.Common.{◌≡◌, ◌++◌, ◌+◌, ◌*◌, string_bytes}
 use Rattle.std.specs.Prelude.{map}
 use Rattle.label_tree.specs.Rose.{node_count, count_all, roses_of}
 use Rattle.simple_values.specs.Reading.{spelled}
@@ -17,4 +17,4 @@ decreases-write_chosen l = 2 * count_all (roses_of l.members.now) + 1
 
 abbrev pub invariant-write_items-items : goal.invariant-write_items-items
 invariant-write_items-items l =
-    string_bytes l.out ++ behind (map (spelled (space_at l.item)) (drop l.value-index l.further)) ≡ string_bytes l.initial.out ++ behind (map (spelled (space_at l.item)) l.further)
+    string_bytes l.out ++ behind (map (spelled (space_at l.item)) l.value-iterator) ≡ string_bytes l.initial.out ++ behind (map (spelled (space_at l.item)) l.initial.value-iterator)

@@ -1,0 +1,8 @@
+use Rattle.std.proofs.Common.{◌<◌, length, sym, subst}
+use Rattle.flat_tree.specs.Zips.{Zip}
+use Rattle.doc_text.specs.declared.label.ItemLabel.{ItemLabel}
+use Rattle.xer_write.proofs.Gaining.{still_open}
+use Rattle.xer_write.proofs.contents.Contents.end_element.Goals as goal
+
+pub close-requires : goal.close-requires
+close-requires c = subst (λ (z : Zip ItemLabel). 0 < length z.above) (sym c.relabel.ensures.relabeled) (still_open c.in_ok-label.label c.args.self.now.builder.above c.requires)
