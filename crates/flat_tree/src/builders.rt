@@ -90,6 +90,7 @@ impl<L> Builder<L> {
     }
 
     /// Closes the innermost open node.
+    #[inline(always)]
     pub fn close(&mut self)
         requires { 0 < length self.old.above }
         ensures { self.new ≡ closed self.old }
@@ -126,6 +127,7 @@ impl<L> Builder<L> {
 
 impl<L: Drop> Builder<L> {
     /// Adds a node, which is open.
+    #[inline(always)]
     pub fn open(&mut self, label: L) -> Result<(), AllocError>
         ensures ok { OnOk result (self.new ≡ opened label self.old) }
         ensures err { OnErr result (self.new ≡ self.old) }
@@ -137,6 +139,7 @@ impl<L: Drop> Builder<L> {
     }
 
     /// Adds a node with no kids.
+    #[inline(always)]
     pub fn leaf(&mut self, label: L) -> Result<(), AllocError>
         ensures ok { OnOk result (self.new ≡ added (node label none) self.old) }
         ensures err { OnErr result (self.new ≡ self.old) }
