@@ -1,5 +1,5 @@
 //! What a simple type makes of a text.
-ghost use Rattle.std.specs.Prelude.{◌≡◌, ◌<◌, ◌-◌, ◌^◌, ◌&&◌, ℕ, List, MatchResult, OnOk, OnErr, IfOk, Ok, Err, length, min as lesser, nat_le};
+ghost use Rattle.std.specs.Prelude.{◌≡◌, ◌<◌, ◌-◌, ◌^◌, ◌&&◌, ℕ, List, MatchResult, OnOk, OnErr, IfOk, IfSome, Ok, Err, length, min as lesser, nat_le};
 ghost use Rattle.simple_values.specs.Lexical.{is_at_most};
 ghost use Rattle.flat_tree.specs.Zips.{added, added_all};
 ghost use Rattle.simple_types.specs.declared.labels.ValueLabel.{ValueLabel};
@@ -288,4 +288,41 @@ pub fn accept_into(
     ensures kept { OnErr result (values.new ≡ values.old) }
 {
     put_value(alloc, simple, text.as_str(), values)
+}
+
+fn alone(label: Result<ValueLabel, SimpleError>) -> Result<Option<ValueLabel>, SimpleError>
+    ensures { (due : rule.Reading) → AnswersLeaf label due → MatchResult result
+        (λ found. IfSome found (λ label. due ≡ Ok (node label no_kids)))
+        (λ error. AnswersReading (Err error) due) }
+{
+    Ok(Some(label?))
+}
+
+/// The label of the value that the type gives to the text, where the type has no parts, so that this node is the whole value.
+/// `None` where the type is a list or a union, of which nothing is read.
+pub fn accept_label(
+    alloc: Global,
+    simple: &Simple,
+    text: &Text,
+) -> Result<Option<ValueLabel>, SimpleError>
+    requires { Sound (space_of simple.now) }
+    ensures { MatchResult result
+        (λ found. IfSome found (λ label. rule.Accepts (space_of simple.now) text.now (node label no_kids)))
+        (λ error. AnswersReading (Err error) (rule.reads (space_of simple.now) text.now)) }
+{
+    let text = text.as_str();
+    match simple {
+        Simple::Bool => alone(read_boolean(text)),
+        Simple::Whole { lo, hi } => alone(read_whole(*lo, *hi, text)),
+        Simple::Numbers(numbers) => alone(read_number(numbers.items(), text)),
+        Simple::Words { space, words } => alone(read_word(alloc, *space, words.items(), text)),
+        Simple::Chars {
+            space,
+            min,
+            max,
+            class,
+        } => alone(read_characters(alloc, *space, *min, *max, *class, text)),
+        Simple::List { .. } => Ok(None),
+        Simple::Union(_) => Ok(None),
+    }
 }

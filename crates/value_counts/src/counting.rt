@@ -10,7 +10,7 @@ ghost use Rattle.simple_values.specs.Reading.{reads, Accepts};
 use crate::lists::count_list;
 use crate::unions::count_union;
 use simple_types::Simple;
-use simple_values::{SimpleError, accept};
+use simple_values::{SimpleError, accept, accept_label};
 use std::alloc::Global;
 use xa_base::Text;
 
@@ -26,6 +26,9 @@ pub fn count(alloc: Global, simple: &Simple, text: &Text) -> Result<u64, SimpleE
         Simple::List { item, min, max } => count_list(alloc, item, *min, *max, text.as_str()),
         Simple::Union(members) => count_union(alloc, members.items(), text),
         _ => {
+            if accept_label(alloc, simple, text)?.is_some() {
+                return Ok(1);
+            }
             let value = accept(alloc, simple, text)?;
             Ok(value.root().count())
         }
