@@ -27,7 +27,7 @@ abbrev mutual
   pub Reached : Bool → Particle → Spot → List Child → ℕ → Zip ValueLabel → Zip ValueLabel → Type 0
   Reached in_choice (occurs t least most) (at i s) gs d before now =
       elim (is_single in_choice least most) as (λ _. Type 0) [
-        true ↦ (i ≡ 0) × TermReached t s gs d before now
+        | true ↦ (i ≡ 0) × TermReached t s gs d before now
         | false ↦ (vs : List (Rose ValueLabel)) × (a : List Child) × (b : List Child) × (gs ≡ a ++ b) × Before (TermMade t) most i vs a
             × TermReached t s b d (added_all vs (opened value.SequenceOf before)) now
       ]
@@ -63,7 +63,7 @@ PartedReached _ s gs d before now = ⊥
 abbrev pub TopReached : Particle → Spot → List Child → ℕ → Zip ValueLabel → Zip ValueLabel → Type 0
 TopReached (occurs t least most) s gs d before now =
     elim (is_parted t least most) as (λ _. Type 0) [
-      true ↦ PartedReached t s gs d before now
+      | true ↦ PartedReached t s gs d before now
       | false ↦ OrderReached (more (occurs t least most) none) (inside 0 s) gs d before now
     ]
 
