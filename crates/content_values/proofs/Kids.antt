@@ -1,10 +1,13 @@
 -- The particles of a group by their places, as the code has them.
-use Rattle.std.proofs.Common.{◌≡◌, ℕ, zero, suc, ◌+◌, ◌-◌, ◌<◌, ◌≤◌, Bool, true, false, ◌&&◌, ◌||◌, not, cond, List, [], ◌∷◌, ◌++◌, length, get_or, take, drop, Option, Some, None, refl, sym, ◌∙◌, ap, subst, arith, get_or-drop, length-drop}
+use Rattle.std.proofs.Common.{◌≡◌, ℕ, zero, suc, ◌+◌, ◌-◌, ◌<◌, ◌≤◌, Bool, true, false, ◌&&◌, ◌||◌, ◌==◌, ◌⊎◌, inl, inr, not, cond, List, [], ◌∷◌, ◌++◌, length, get_or, take, drop, Option, Some, None, refl, sym, ◌∙◌, ap, subst, arith, get_or-drop, length-drop}
+use Rattle.std.specs.Prelude.{Result, Ok, Err, OnOk, slice_get}
+use Rattle.std.proofs.lemmas.Option.{get_or_from_slice_get, slice_get_read}
 use Rattle.std.proofs.lemmas.List.{take-append-drop, drop_more, length-take-le}
 use Rattle.label_tree.specs.Rose.{Rose, node, roses_of, label_of, kids_of}
 use Rattle.label_tree.specs.Rose as rose
 use Rattle.label_tree.proofs.Roses.{roses_of-list_of}
-use Rattle.flat_tree.specs.Zips.{Zip}
+use Rattle.label_tree.proofs.Kids.{roses_of-drop}
+use Rattle.flat_tree.specs.Zips.{Zip, added}
 use Rattle.xa_base.specs.declared.texts.Name.{Name}
 use Rattle.simple_types.specs.declared.labels.ValueLabel.{ValueLabel}
 use Rattle.simple_types.specs.declared.labels.ValueLabel.TheVariants as value
@@ -16,11 +19,12 @@ use Rattle.content_models.specs.Clear.{is_zero, empties, empties_term, all_empty
 use Rattle.content_spots.specs.Spots.{Spot, at, Inner, here, inside, enter, enter_term, enter_order, enter_one, finishes, finishes_term, finishes_order, finishes_one, may_stop, next, next_term, next_order, next_one}
 use Rattle.content_spots.proofs.Entering.{both_true}
 use Rattle.value_builder.specs.Built.{flagged, with_parts}
-use Rattle.value_builder.proofs.Parts.{parts-none, parts-more}
+use Rattle.value_builder.proofs.Parts.{parts-none, parts-more, part-present, part-absent}
 use Rattle.content_values.specs.Bounds.{is_once, is_optional, is_single}
-use Rattle.content_values.specs.Private.Empty.{term_of, may_be_left_out, empty_flags, empty_values, empty_value, empty_term, emptied}
+use Rattle.content_values.specs.Private.Empty.{term_of, may_be_left_out, empty_flags, empty_values, empty_value, empty_term, empty_chosen, emptied}
 use Rattle.content_values.specs.Private.Moves.{turn_in, inner_in, items_opened, items_closed, entered, entered_term, entered_order, entered_one, ended, ended_term, ended_order, ended_one, moved, moved_term, moved_order, moved_one}
 use Rattle.content_values.proofs.Inverting as invert
+use Rattle.content_values.proofs.Reaching.{same-turn, other-turn}
 
 -- ---- particles as they are seen
 
@@ -324,3 +328,95 @@ module _ (ts : List (Rose ParticleLabel)) (j : ℕ) (old : Rose ParticleLabel) (
         → moved_order (kids_seen ts) (inside j s) (inside k u) z
           ≡ entered false (seen new) u (flagged true (emptied (kids_seen (take (k - (j + 1)) (drop (j + 1) ts))) (ended false (seen old) s z)))
     over-left s u z = left-at s (k - (j + 1)) k u z number ∙ order-entered-at (drop (j + 1) ts) (k - (j + 1)) new new-within new-there u (ended false (seen old) s z)
+
+-- ---- for the code
+
+pub on-ok : {X E : Type 0} (r : Result X E) (P Q : Type 0) → (P → Q) → OnOk r P → OnOk r Q
+on-ok (Ok x) P Q f h = f h
+on-ok (Err e) P Q f h = h
+
+pub kid-there : (ts : List (Rose ParticleLabel)) (k : ℕ) → k < length ts → (kid : Rose ParticleLabel) × (kid ≡ get_or ts k kid)
+kid-there [] k h = absurd (omega arith)
+kid-there (t ∷ ts) zero h = (t, refl)
+kid-there (t ∷ ts) (suc k) h = kid-there ts k (omega arith)
+
+pub part-kept : (p : Particle) → may_be_left_out p ≡ false → (z : Zip ValueLabel) → added (empty_value p) (flagged true z) ≡ emptied (more p none) z
+part-kept p e z = part-present (empty_value p) z ∙ ap (λ b. with_parts (not b ∷ []) (cond b [] (empty_value p ∷ [])) z) (sym e)
+
+pub part-left : (p : Particle) → may_be_left_out p ≡ true → (z : Zip ValueLabel) → flagged false z ≡ emptied (more p none) z
+part-left p e z = part-absent z ∙ ap (λ b. with_parts (not b ∷ []) (cond b [] (empty_value p ∷ [])) z) (sym e)
+
+pub entered-by : (b : Bool) (t : Rose ParticleLabel) (l : ParticleLabel) (s : Spot) → l ≡ label_of t → (z : Zip ValueLabel)
+    → entered_term (term_of t) (inner_in s) (items_opened (is_single b l.min l.max) z) ≡ entered b (seen t) s z
+entered-by b t l s e z = ap (λ (m : ParticleLabel). entered_term (term_of t) (inner_in s) (items_opened (is_single b m.min m.max) z)) e ∙ sym (entered-seen b t s z)
+
+pub ended-by : (b : Bool) (t : Rose ParticleLabel) (l : ParticleLabel) (s : Spot) → l ≡ label_of t → (z : Zip ValueLabel)
+    → items_closed (is_single b l.min l.max) (ended_term (term_of t) (inner_in s) z) ≡ ended b (seen t) s z
+ended-by b t l s e z = ap (λ (m : ParticleLabel). items_closed (is_single b m.min m.max) (ended_term (term_of t) (inner_in s) z)) e ∙ sym (ended-seen b t s z)
+
+-- no way ends at a group
+pub no-order-here : (ps : Particles) → finishes_order ps here ≡ true → ⊥
+no-order-here none e = cc
+no-order-here (more p ps) e = cc
+
+pub no-one-here : (ps : Particles) → finishes_one ps here ≡ true → ⊥
+no-one-here none e = cc
+no-one-here (more p ps) e = cc
+
+pub kid-get : (ts : List (Rose ParticleLabel)) (k : ℕ) (kid : Rose ParticleLabel) → k < length ts → kid ≡ get_or ts k kid → slice_get ts k ≡ Some kid
+kid-get ts k kid h e = slice_get_read ts (length ts) k kid refl h e
+
+pub kid-got : (ts : List (Rose ParticleLabel)) (k : ℕ) (kid : Rose ParticleLabel) → slice_get ts k ≡ Some kid → kid ≡ get_or ts k kid
+kid-got ts k kid e = sym (get_or_from_slice_get ts k kid kid e)
+
+pub same-kid : (ts : List (Rose ParticleLabel)) (k : ℕ) (a b : Rose ParticleLabel) → k < length ts → a ≡ get_or ts k a → b ≡ get_or ts k b → a ≡ b
+same-kid [] k a b h e f = absurd (omega arith)
+same-kid (t ∷ ts) zero a b h e f = e ∙ sym f
+same-kid (t ∷ ts) (suc k) a b h e f = same-kid ts k a b (omega arith) e f
+
+all-empty-each : (kid : Rose ParticleLabel) (front behind : List (Rose ParticleLabel)) → all_empty (kids_seen (front ++ kid ∷ behind)) ≡ true → empties (seen kid) ≡ true
+all-empty-each kid [] behind e = (both_true (empties (seen kid)) (all_empty (kids_seen behind)) e).0
+all-empty-each kid (t ∷ front) behind e = all-empty-each kid front behind (both_true (empties (seen t)) (all_empty (kids_seen (front ++ kid ∷ behind))) e).1
+
+module _ (ts : List (Rose ParticleLabel)) (k : ℕ) (kid : Rose ParticleLabel) (within : k < length ts) (there : kid ≡ get_or ts k kid) where
+  pub all-empty-at : all_empty (kids_seen ts) ≡ true → empties (seen kid) ≡ true
+  all-empty-at = at-kid ts k kid within there (λ front behind us n. all_empty (kids_seen us) ≡ true → empties (seen kid) ≡ true) (all-empty-each kid)
+
+  -- the first alternative that is left
+  pub chosen-here : empties (seen kid) ≡ true → empty_chosen (kids_seen (drop k ts)) ≡ empty_value (seen kid)
+  chosen-here e =
+      ap (λ us. empty_chosen (all_seen us)) (roses_of-drop ts k kid within there) ∙ ap (λ b. cond b (empty_value (seen kid)) (empty_chosen (kids_seen (drop (k + 1) ts)))) e
+
+-- ---- the same occurrence, or the next
+
+pub stays : (t : Term) (most : Option ℕ) (i : ℕ) (s : Inner) (a : Name) (j : ℕ) (u : Inner) → invert.Onwards t most i s a j u → i ≡ j → next_term t s a ≡ Some u
+stays t most i s a j u (inl h) e = h.1
+stays t most i s a j u (inr h) e = let n = h.0 in absurd (omega arith)
+
+pub goes : (t : Term) (most : Option ℕ) (i : ℕ) (s : Inner) (a : Name) (j : ℕ) (u : Inner) → invert.Onwards t most i s a j u → (i ≡ j → ⊥)
+    → (j ≡ suc i) × (finishes_term t s ≡ true) × (enter_term t a ≡ Some u)
+goes t most i s a j u (inl h) n = absurd (n (sym h.0))
+goes t most i s a j u (inr h) n = (h.0, h.1, h.3)
+
+moved-as : (t : Term) (least : ℕ) (most : Option ℕ) (s u : Spot) (z : Zip ValueLabel)
+    → moved (occurs t least most) s u z
+      ≡ cond (turn_in s == turn_in u) (moved_term t (inner_in s) (inner_in u) z) (entered_term t (inner_in u) (ended_term t (inner_in s) z))
+moved-as t least most (at i s) (at j u) z = refl
+
+moved-seen : (t : Rose ParticleLabel) (s u : Spot) (z : Zip ValueLabel)
+    → moved (seen t) s u z
+      ≡ cond (turn_in s == turn_in u) (moved_term (term_of t) (inner_in s) (inner_in u) z) (entered_term (term_of t) (inner_in u) (ended_term (term_of t) (inner_in s) z))
+moved-seen t s u z = ap (λ p. moved p s u z) (seen-is t) ∙ moved-as (term_of t) (label_of t).min (label_of t).max s u z
+
+pub moved-stays : (t : Rose ParticleLabel) (s u : Spot) (z : Zip ValueLabel) → turn_in s ≡ turn_in u → moved_term (term_of t) (inner_in s) (inner_in u) z ≡ moved (seen t) s u z
+moved-stays t s u z e =
+    sym (moved-seen t s u z
+    ∙ ap (λ b. cond b (moved_term (term_of t) (inner_in s) (inner_in u) z) (entered_term (term_of t) (inner_in u) (ended_term (term_of t) (inner_in s) z)))
+    (ap (λ n. turn_in s == n) (sym e) ∙ same-turn (turn_in s)))
+
+pub moved-goes : (t : Rose ParticleLabel) (s u : Spot) (z : Zip ValueLabel) → turn_in u ≡ suc (turn_in s)
+    → entered_term (term_of t) (inner_in u) (ended_term (term_of t) (inner_in s) z) ≡ moved (seen t) s u z
+moved-goes t s u z e =
+    sym (moved-seen t s u z
+    ∙ ap (λ b. cond b (moved_term (term_of t) (inner_in s) (inner_in u) z) (entered_term (term_of t) (inner_in u) (ended_term (term_of t) (inner_in s) z)))
+    (ap (λ n. turn_in s == n) e ∙ other-turn (turn_in s)))

@@ -4,3 +4,4 @@ pub mod Kids
 pub mod Leaves
 pub mod Reaching
 pub mod Topping
+pub mod Tops

@@ -197,10 +197,10 @@ mutual
 
 -- ---- from one leaf of a particle to the next
 
-same-turn : (i : ℕ) → (i == i) ≡ true
+pub same-turn : (i : ℕ) → (i == i) ≡ true
 same-turn i = grind arith
 
-other-turn : (i : ℕ) → (i == suc i) ≡ false
+pub other-turn : (i : ℕ) → (i == suc i) ≡ false
 other-turn i = grind arith
 
 right-part : (x y c n : Bool) → ((x && c) || ((y && c) && n)) ≡ true → c ≡ true

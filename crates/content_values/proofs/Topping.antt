@@ -7,7 +7,6 @@ use Rattle.simple_types.specs.declared.labels.ValueLabel.{ValueLabel}
 use Rattle.content_models.specs.Particle.{Particle, occurs, Term, element, sequence, choice, Particles, none, more}
 use Rattle.content_models.specs.Clear.{empties, all_empty}
 use Rattle.content_spots.specs.Spots.{Spot, at, inside, may_repeat, may_stop, enter, next, finishes, finishes_order}
-use Rattle.content_spots.specs.Laws.{step_from, may_end}
 use Rattle.content_spots.proofs.Entering.{both_true}
 use Rattle.value_builder.specs.Built.{flagged, with_parts}
 use Rattle.value_builder.proofs.Parts.{part-present}
@@ -83,17 +82,6 @@ top-moves (occurs t least most) a s u gs before now k (front, last, way, e, r, n
     go true p q = parted-moves t least most a s u front last before way p k q h
     go false p q = move-reached false (occurs t least most) a s u front last (flagged true before) way k.0 k.1 q h
 
--- from before the first leaf, or from one
-pub top-steps : (p : Particle) (o : Option Spot) (a : Name) (u : Spot) (gs : List Child) (before now : Zip ValueLabel) (f : Zip ValueLabel → Zip ValueLabel) → IsFillable p
-    → Put p o gs before now → step_from p o a ≡ Some u → (o ≡ None → f now ≡ top_entered p u now) → ((s : Spot) → o ≡ Some s → f now ≡ top_moved p s u now)
-    → (d : ℕ) × TopReached p u gs d before (f now)
-top-steps p None a u gs before now f k h e first later =
-    let x = top-enters p a u before k e in
-    rw (first refl, h.0, h.1) x
-top-steps p (Some s) a u gs before now f k h e first later =
-    let x = top-moves p a s u gs before now k h e in
-    rw (later s refl) x
-
 -- ---- behind the last leaf
 
 parted-ends : (t : Term) (least : ℕ) (most : Option ℕ) (s : Spot) (front : List Child) (last : Child) (before way : Zip ValueLabel) → is_parted t least most ≡ true
@@ -141,14 +129,3 @@ top-empty (occurs t least most) before k h = go (is_parted t least most) refl
             × (cond parted (order_emptied t before) (emptied (more (occurs t least most) none) before) ≡ with_parts flags vs before)
     go true p = parted-empty t least most before p k h
     go false p = (empty_flags (more (occurs t least most) none), empty_values (more (occurs t least most) none), part-empty-alone (occurs t least most) k.1 h, refl)
-
--- from before the first leaf, or from the last
-pub top-made : (p : Particle) (o : Option Spot) (gs : List Child) (before now : Zip ValueLabel) (f : Zip ValueLabel → Zip ValueLabel) → IsFillable p
-    → Put p o gs before now → may_end p o ≡ true → (o ≡ None → f now ≡ top_emptied p now) → ((s : Spot) → o ≡ Some s → f now ≡ top_ended p s now)
-    → (flags : List Bool) × (vs : List (Rose ValueLabel)) × TopMade p flags vs gs × (f now ≡ with_parts flags vs before)
-top-made p None gs before now f k h e first later =
-    let x = top-empty p before k e in
-    rw (first refl, h.0, h.1) x
-top-made p (Some s) gs before now f k h e first later =
-    let x = top-ends p s gs before now k h e in
-    rw (later s refl) x
