@@ -2,6 +2,7 @@
 use Rattle.std.proofs.Common.{◌≡◌, ℕ, zero, suc, ◌+◌, ◌-◌, ◌<◌, ◌≤◌, Bool, true, false, ◌&&◌, ◌||◌, ◌==◌, ◌⊎◌, inl, inr, not, cond, List, [], ◌∷◌, ◌++◌, length, get_or, take, drop, Option, Some, None, refl, sym, ◌∙◌, ap, subst, arith, get_or-drop, length-drop}
 use Rattle.std.specs.Prelude.{Result, Ok, Err, OnOk, slice_get}
 use Rattle.std.proofs.lemmas.Option.{get_or_from_slice_get, slice_get_read}
+use Rattle.std.proofs.Math.Seq.{take-length}
 use Rattle.std.proofs.lemmas.List.{take-append-drop, drop_more, length-take-le}
 use Rattle.label_tree.specs.Rose.{Rose, node, roses_of, label_of, kids_of}
 use Rattle.label_tree.specs.Rose as rose
@@ -296,7 +297,7 @@ module _ (ts : List (Rose ParticleLabel)) (j : ℕ) (old : Rose ParticleLabel) (
   leaves-at a s i k u =
       at-kid ts j old within there
       (λ front behind us n. k ≡ suc (i + n) → next_order (kids_seen us) (inside n s) a ≡ Some (inside k u)
-          → (finishes (seen old) s ≡ true) × (enter_order (kids_seen behind) a ≡ Some (inside i u)))
+      → (finishes (seen old) s ≡ true) × (enter_order (kids_seen behind) a ≡ Some (inside i u)))
       (λ front behind. order-leaves old a s i u front behind k)
 
   left-at : (s : Spot) (i k : ℕ) (u : Spot) (z : Zip ValueLabel) → k ≡ suc (i + j)
@@ -326,7 +327,7 @@ module _ (ts : List (Rose ParticleLabel)) (j : ℕ) (old : Rose ParticleLabel) (
 
     pub over-left : (s u : Spot) (z : Zip ValueLabel)
         → moved_order (kids_seen ts) (inside j s) (inside k u) z
-          ≡ entered false (seen new) u (flagged true (emptied (kids_seen (take (k - (j + 1)) (drop (j + 1) ts))) (ended false (seen old) s z)))
+        ≡ entered false (seen new) u (flagged true (emptied (kids_seen (take (k - (j + 1)) (drop (j + 1) ts))) (ended false (seen old) s z)))
     over-left s u z = left-at s (k - (j + 1)) k u z number ∙ order-entered-at (drop (j + 1) ts) (k - (j + 1)) new new-within new-there u (ended false (seen old) s z)
 
 -- ---- for the code
@@ -400,12 +401,12 @@ goes t most i s a j u (inr h) n = (h.0, h.1, h.3)
 
 moved-as : (t : Term) (least : ℕ) (most : Option ℕ) (s u : Spot) (z : Zip ValueLabel)
     → moved (occurs t least most) s u z
-      ≡ cond (turn_in s == turn_in u) (moved_term t (inner_in s) (inner_in u) z) (entered_term t (inner_in u) (ended_term t (inner_in s) z))
+    ≡ cond (turn_in s == turn_in u) (moved_term t (inner_in s) (inner_in u) z) (entered_term t (inner_in u) (ended_term t (inner_in s) z))
 moved-as t least most (at i s) (at j u) z = refl
 
 moved-seen : (t : Rose ParticleLabel) (s u : Spot) (z : Zip ValueLabel)
     → moved (seen t) s u z
-      ≡ cond (turn_in s == turn_in u) (moved_term (term_of t) (inner_in s) (inner_in u) z) (entered_term (term_of t) (inner_in u) (ended_term (term_of t) (inner_in s) z))
+    ≡ cond (turn_in s == turn_in u) (moved_term (term_of t) (inner_in s) (inner_in u) z) (entered_term (term_of t) (inner_in u) (ended_term (term_of t) (inner_in s) z))
 moved-seen t s u z = ap (λ p. moved p s u z) (seen-is t) ∙ moved-as (term_of t) (label_of t).min (label_of t).max s u z
 
 pub moved-stays : (t : Rose ParticleLabel) (s u : Spot) (z : Zip ValueLabel) → turn_in s ≡ turn_in u → moved_term (term_of t) (inner_in s) (inner_in u) z ≡ moved (seen t) s u z
@@ -420,3 +421,7 @@ moved-goes t s u z e =
     sym (moved-seen t s u z
     ∙ ap (λ b. cond b (moved_term (term_of t) (inner_in s) (inner_in u) z) (entered_term (term_of t) (inner_in u) (ended_term (term_of t) (inner_in s) z)))
     (ap (λ n. turn_in s == n) e ∙ other-turn (turn_in s)))
+
+-- all that is left of a list, as a slice to its end has it
+pub rest-is : (ts : List (Rose ParticleLabel)) (n : ℕ) → take (length ts - n) (drop n ts) ≡ drop n ts
+rest-is ts n = ap (λ k. take k (drop n ts)) (sym (length-drop n ts)) ∙ take-length (drop n ts)

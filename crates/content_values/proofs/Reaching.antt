@@ -28,7 +28,7 @@ use Rattle.content_values.proofs.Inverting as invert
 abbrev pub ReachedBy : Term → Option ℕ → ℕ → Inner → Bool → List Child → ℕ → Zip ValueLabel → Zip ValueLabel → Type 0
 ReachedBy t most i s single gs d before now =
     elim single as (λ _. Type 0) [
-      true ↦ (i ≡ 0) × TermReached t s gs d before now
+      | true ↦ (i ≡ 0) × TermReached t s gs d before now
       | false ↦ (vs : List (Rose ValueLabel)) × (a : List Child) × (b : List Child) × (gs ≡ a ++ b) × Before (TermMade t) most i vs a
           × TermReached t s b d (added_all vs (opened value.SequenceOf before)) now
     ]
@@ -276,7 +276,7 @@ mutual
       go (inr h) ih =
           let n = enter_term-reached t a u m.1 k.1 h.3 in
           let x = items-repeated t least most i s u n.0 gs g before way (is_single b least most) (single-most b least most)
-              (λ zs y q. end_term-reached t s zs g y way k.1 q h.1) n.1 h.2 r in
+          (λ zs y q. end_term-reached t s zs g y way k.1 q h.1) n.1 h.2 r in
           let goes = ap (λ c. cond c (moved_term t s u (added g.value way)) (entered_term t u (ended_term t s (added g.value way)))) (other-turn i) in
           subst (λ n. Moves b (occurs t least most) (at i s) (at n u) gs g before way) (sym h.0)
           (n.0, subst (λ y. ReachedBy t most (suc i) u (is_single b least most) (gs ++ g ∷ []) n.0 before y) (sym goes) x)

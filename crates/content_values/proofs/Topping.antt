@@ -23,7 +23,7 @@ use Rattle.content_values.proofs.Reaching.{front-made, single-most, enter-reache
 abbrev pub TopBy : Term → ℕ → Option ℕ → Bool → Spot → List Child → ℕ → Zip ValueLabel → Zip ValueLabel → Type 0
 TopBy t least most parted s gs d before now =
     elim parted as (λ _. Type 0) [
-      true ↦ PartedReached t s gs d before now
+      | true ↦ PartedReached t s gs d before now
       | false ↦ OrderReached (more (occurs t least most) none) (inside 0 s) gs d before now
     ]
 
@@ -78,7 +78,7 @@ top-moves (occurs t least most) a s u gs before now k (front, last, way, e, r, n
   where
     go : (parted : Bool) → is_parted t least most ≡ parted → TopBy t least most parted s front last.decl before way
         → (d : ℕ) × TopBy t least most parted u (front ++ last ∷ []) d before
-            (cond parted (order_moved t (inner_in s) (inner_in u) (added last.value way)) (moved (occurs t least most) s u (added last.value way)))
+        (cond parted (order_moved t (inner_in s) (inner_in u) (added last.value way)) (moved (occurs t least most) s u (added last.value way)))
     go true p q = parted-moves t least most a s u front last before way p k q h
     go false p q = move-reached false (occurs t least most) a s u front last (flagged true before) way k.0 k.1 q h
 
@@ -102,7 +102,7 @@ top-ends (occurs t least most) s gs before now k (front, last, way, e, r, n) h =
   where
     go : (parted : Bool) → is_parted t least most ≡ parted → TopBy t least most parted s front last.decl before way
         → (flags : List Bool) × (vs : List (Rose ValueLabel)) × MadeBy t least most parted flags vs (front ++ last ∷ [])
-            × (cond parted (order_ended t (inner_in s) (added last.value way)) (ended false (occurs t least most) s (added last.value way)) ≡ with_parts flags vs before)
+        × (cond parted (order_ended t (inner_in s) (added last.value way)) (ended false (occurs t least most) s (added last.value way)) ≡ with_parts flags vs before)
     go true p q = parted-ends t least most s front last before way p k q h
     go false p q =
         let x = end-reached false (occurs t least most) s front last (flagged true before) way k.1 q h in (
@@ -126,6 +126,6 @@ top-empty (occurs t least most) before k h = go (is_parted t least most) refl
   where
     go : (parted : Bool) → is_parted t least most ≡ parted
         → (flags : List Bool) × (vs : List (Rose ValueLabel)) × MadeBy t least most parted flags vs []
-            × (cond parted (order_emptied t before) (emptied (more (occurs t least most) none) before) ≡ with_parts flags vs before)
+        × (cond parted (order_emptied t before) (emptied (more (occurs t least most) none) before) ≡ with_parts flags vs before)
     go true p = parted-empty t least most before p k h
     go false p = (empty_flags (more (occurs t least most) none), empty_values (more (occurs t least most) none), part-empty-alone (occurs t least most) k.1 h, refl)

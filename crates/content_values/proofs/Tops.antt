@@ -1,5 +1,5 @@
 -- A content model as the code has it.
-use Rattle.std.proofs.Common.{◌≡◌, ℕ, suc, ◌<◌, ◌⊎◌, inl, inr, Bool, true, false, ◌==◌, cond, List, [], ◌∷◌, Option, Some, None, refl, sym, ◌∙◌, ap, subst, arith}
+use Rattle.std.proofs.Common.{◌≡◌, ℕ, suc, ◌<◌, ◌⊎◌, inl, inr, Bool, true, false, ◌==◌, cond, List, [], ◌∷◌, length, Option, Some, None, refl, sym, ◌∙◌, ap, subst, arith}
 use Rattle.std.specs.Prelude.{Result, OnOk}
 use Rattle.std.proofs.lemmas.Bool.{eqb-true, ltb-true}
 use Rattle.label_tree.specs.Rose.{Rose, label_of, kids_of}
@@ -139,6 +139,14 @@ pub now-none : (us : List Turn) (ks : List ℕ) → us ≡ [] → spot_now us ks
 now-none [] ks e = refl
 now-none (u ∷ us) ks e = absurd (cc)
 
+pub turns-none : (us : List Turn) → true ≡ (length us == 0) → us ≡ []
+turns-none [] e = refl
+turns-none (u ∷ us) e = absurd (let n = eqb-true (suc (length us)) 0 (sym e) in omega arith)
+
+pub turns-some : (us : List Turn) → false ≡ (length us == 0) → us ≡ [] → ⊥
+turns-some [] e h = cc
+turns-some (u ∷ us) e h = cc
+
 -- ---- what the two calls promise
 
 -- the way to the next leaf is open
@@ -149,10 +157,10 @@ Promised p o q old new =
 
 pub first-promised : (p : Particle) (o q : Option Spot) (u : Spot) (a : Name) (old new : Built) → IsFillable p → o ≡ None → q ≡ Some u → step_from p o a ≡ Some u
     → Puts (top_entered p u) old new → Promised p o q old new
-first-promised p o q u a old new k none to e puts gs before now s put stands is =
+first-promised p o q u a old new k start to e puts gs before now s put stands is =
     let same : u ≡ s = cc in
-    let h = subst (λ x. Put p x gs before now) none put in
-    let x = top-enters p a u before k (subst (λ x. step_from p x a ≡ Some u) none e) in
+    let h = subst (λ x. Put p x gs before now) start put in
+    let x = top-enters p a u before k (subst (λ x. step_from p x a ≡ Some u) start e) in
     subst (λ v. (d : ℕ) × (way : Zip ValueLabel) × TopReached p v gs d before way × Stands new way) same
     (x.0, top_entered p u now, rw (h.0, h.1) x.1, puts.stands now stands)
 
@@ -180,7 +188,7 @@ last-finished p o f old new k some e puts gs before now put stands =
 
 pub none-finished : (p : Particle) (o : Option Spot) (old new : Built) → IsFillable p → o ≡ None → may_end p o ≡ true
     → Puts (top_emptied p) old new → Finished p o old new
-none-finished p o old new k none e puts gs before now put stands =
-    let h = subst (λ x. Put p x gs before now) none put in
-    let x = top-empty p before k (subst (λ x. may_end p x ≡ true) none e) in
+none-finished p o old new k start e puts gs before now put stands =
+    let h = subst (λ x. Put p x gs before now) start put in
+    let x = top-empty p before k (subst (λ x. may_end p x ≡ true) start e) in
     (x.0, x.1, subst (λ zs. TopMade p x.0 x.1 zs) (sym h.0) x.2, subst (λ z. Stands new z) (ap (top_emptied p) h.1 ∙ x.3) (puts.stands now stands))

@@ -39,7 +39,6 @@ pub fn put_step(
     requires fillable { IsFillable (seen model.now) }
     requires few { node_count model.now < 2 ^ 31 }
     requires step { (a : Name) × (s : Spot) × (step_from (seen model.now) (spot_now from.turns.now from.kids.now) a ≡ Some s) × (spot_now to.turns.now to.kids.now ≡ Some s) }
-    requires put { (gs : List Child) × (before : Zip ValueLabel) × (now : Zip ValueLabel) × Put (seen model.now) (spot_now from.turns.now from.kids.now) gs before now × Stands values.old now }
     ensures most { OnOk result (values.new.most ≡ values.old.most) }
     ensures reached { OnOk result ((gs : List Child) (before now : Zip ValueLabel) (s : Spot) → Put (seen model.now) (spot_now from.entry.turns.now from.entry.kids.now) gs before now → Stands values.old now
         → spot_now to.entry.turns.now to.entry.kids.now ≡ Some s → (d : ℕ) × (way : Zip ValueLabel) × TopReached (seen model.now) s gs d before way × Stands values.new way) }
@@ -56,7 +55,6 @@ pub fn put_end(model: &Particle, from: Path<'_>, values: &mut ValueBuilder) -> R
     requires fillable { IsFillable (seen model.now) }
     requires few { node_count model.now < 2 ^ 31 }
     requires ends { may_end (seen model.now) (spot_now from.turns.now from.kids.now) ≡ true }
-    requires put { (gs : List Child) × (before : Zip ValueLabel) × (now : Zip ValueLabel) × Put (seen model.now) (spot_now from.turns.now from.kids.now) gs before now × Stands values.old now }
     ensures most { OnOk result (values.new.most ≡ values.old.most) }
     ensures made { OnOk result ((gs : List Child) (before now : Zip ValueLabel) → Put (seen model.now) (spot_now from.entry.turns.now from.entry.kids.now) gs before now → Stands values.old now
         → (flags : List Bool) × (vs : List (Rose ValueLabel)) × TopMade (seen model.now) flags vs gs × Stands values.new (with_parts flags vs before)) }

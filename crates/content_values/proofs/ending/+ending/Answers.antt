@@ -1,4 +1,5 @@
 use Rattle.std.proofs.Common.{◌≡◌, ◌<◌, ◌≤◌, ◌+◌, ◌∷◌, [], true, false, length, drop, refl, sym, ◌∙◌, ap, subst, arith}
+use Rattle.std.specs.Prelude.{OnOk}
 use Rattle.label_tree.specs.Rose.{roses_of, node_count, count_all, kids_of}
 use Rattle.label_tree.proofs.Roses.{node_count-kids}
 use Rattle.label_tree.proofs.Kids.{kid-count-le, count_all-drop-le}
@@ -13,7 +14,7 @@ use Rattle.value_builder.proofs.Putting.{puts-then, puts-both, puts-as}
 use Rattle.content_values.specs.Bounds.{is_single}
 use Rattle.content_values.specs.Private.Empty.{term_of, emptied}
 use Rattle.content_values.specs.Private.Moves.{inner_in, items_closed, ended, ended_term, ended_order, ended_one}
-use Rattle.content_values.proofs.Kids.{kids_seen, term-by, finishes-seen, ended-by, order-ends-within, order-ends-at, order-ended-at, one-ends-within, one-ends-at, one-ended-at, on-ok, kid-there, no-order-here, no-one-here}
+use Rattle.content_values.proofs.Kids.{kids_seen, term-by, finishes-seen, ended-by, order-ends-within, order-ends-at, order-ended-at, one-ends-within, one-ends-at, one-ended-at, on-ok, kid-there, no-order-here, no-one-here, rest-is}
 use Rattle.content_values.proofs.ending.+ending.Goals as goal
 
 pub end-returns : goal.end-returns
@@ -53,20 +54,20 @@ pub end_order-slice_bounds-put_empty_parts-count : goal.end_order-slice_bounds-p
 end_order-slice_bounds-put_empty_parts-count t c =
     let low = c.in-Some.lower in
     let h = order-ends-within c.args.particles.now low.kid (spot_of low.path.turns.now low.path.kids.now)
-        (subst (λ s. finishes_order (kids_seen c.args.particles.now) s ≡ true) c.in-Some.ensures.0 c.requires.done) in
+    (subst (λ s. finishes_order (kids_seen c.args.particles.now) s ≡ true) c.in-Some.ensures.0 c.requires.done) in
     omega arith
 
 pub end_order-slice_bounds-put_empty_parts-start : goal.end_order-slice_bounds-put_empty_parts-start
 end_order-slice_bounds-put_empty_parts-start t c =
     let low = c.in-Some.lower in
     let h = order-ends-within c.args.particles.now low.kid (spot_of low.path.turns.now low.path.kids.now)
-        (subst (λ s. finishes_order (kids_seen c.args.particles.now) s ≡ true) c.in-Some.ensures.0 c.requires.done) in
+    (subst (λ s. finishes_order (kids_seen c.args.particles.now) s ≡ true) c.in-Some.ensures.0 c.requires.done) in
     omega arith
 
 pub end_order-put_empty_parts-requires-clause-few : goal.end_order-put_empty_parts-requires-clause-few
 end_order-put_empty_parts-requires-clause-few t c =
     let few = c.requires.few in
-    omega (arith, count_all-drop-le c.args.particles.now (c.in-Some.lower.kid + 1))
+    rw (rest-is c.args.particles.now (c.in-Some.lower.kid + 1)) (omega (arith, few, count_all-drop-le c.args.particles.now (c.in-Some.lower.kid + 1)))
 
 pub end_order-put_empty_parts-requires-clause-empty : goal.end_order-put_empty_parts-requires-clause-empty
 end_order-put_empty_parts-requires-clause-empty t c =
@@ -75,7 +76,7 @@ end_order-put_empty_parts-requires-clause-empty t c =
     let s = spot_of low.path.turns.now low.path.kids.now in
     let e = subst (λ s. finishes_order (kids_seen ts) s ≡ true) c.in-Some.ensures.0 c.requires.done in
     let h = order-ends-within ts low.kid s e in
-    (order-ends-at ts low.kid c.index-particles-kid.result h c.index-particles-kid.is s e).1
+    rw (rest-is ts (low.kid + 1)) (order-ends-at ts low.kid c.index-particles-kid.result h c.index-particles-kid.is s e).1
 
 pub end_order-returns : goal.end_order-returns
 end_order-returns t c =
@@ -90,7 +91,7 @@ end_order-returns t c =
     (λ put. puts-then (ended false (seen kid) s) (emptied (kids_seen (drop (low.kid + 1) ts))) (ended_order (kids_seen ts) inner) _ _ _
     (λ z. sym (ap (λ i. ended_order (kids_seen ts) i z) c.in-Some.ensures.0 ∙ order-ended-at ts low.kid kid h c.index-particles-kid.is s z))
     c.in_ok-end-in-Some.ensures put)
-    c.put_empty_parts.ensures
+    (subst (λ us. OnOk c.put_empty_parts.result (Puts (emptied (kids_seen us)) c.end.new.values c.put_empty_parts.new.values)) (rest-is ts (low.kid + 1)) c.put_empty_parts.ensures)
 
 pub end_term-end_order-requires : goal.end_term-end_order-requires
 end_term-end_order-requires t c =
