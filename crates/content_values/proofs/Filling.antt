@@ -1,5 +1,5 @@
 -- Particles of which no child element is have the empty parts.
-use Rattle.std.proofs.Common.{◌≡◌, ℕ, zero, suc, ◌⊎◌, inl, inr, Bool, true, false, not, ◌&&◌, ◌||◌, cond, nat_le, List, [], ◌∷◌, ◌++◌, length, Option, Some, None, refl, sym, ◌∙◌, ap, subst}
+use Rattle.std.proofs.Common.{◌≡◌, ℕ, zero, suc, inl, inr, Bool, true, false, not, ◌&&◌, ◌||◌, cond, nat_le, List, [], ◌∷◌, Option, Some, None, refl, sym, subst}
 use Rattle.std.proofs.Math.Dec.{leb-zero}
 use Rattle.label_tree.specs.Rose.{Rose, node, roses_of}
 use Rattle.label_tree.specs.Rose as rose
@@ -9,8 +9,8 @@ use Rattle.simple_values.specs.Lexical.{is_at_most}
 use Rattle.content_models.specs.Particle.{Particle, occurs, Term, element, sequence, choice, Particles, none, more}
 use Rattle.content_models.specs.Clear.{is_zero, empties, empties_term, all_empty, any_empty, Rule1}
 use Rattle.content_spots.proofs.Entering.{both_true}
-use Rattle.content_values.specs.Bounds.{is_once, is_optional, is_single}
-use Rattle.content_values.specs.Made.{Child, Each, Several, Standing, TermMade, PartsMade, ChosenMade}
+use Rattle.content_values.specs.Bounds.{is_once, is_optional}
+use Rattle.content_values.specs.Made.{Child, Several, Standing, TermMade, PartsMade, ChosenMade}
 use Rattle.content_values.specs.Reached.{KeepsRule1, TermKeepsRule1, AllKeepRule1}
 use Rattle.content_values.specs.Private.Empty.{empty_flags, empty_values, empty_value, empty_term, empty_place, empty_chosen}
 

@@ -1,7 +1,7 @@
 -- Where a step comes from and where it leads.
 use Rattle.std.proofs.Common.{◌≡◌, ℕ, zero, suc, ◌⊎◌, inl, inr, Bool, true, false, ◌&&◌, cond, Option, Some, None, refl, sym, ◌∙◌, ap}
 use Rattle.xa_base.specs.declared.texts.Name.{Name}
-use Rattle.content_models.specs.Particle.{Particle, occurs, Term, element, sequence, choice, Particles, none, more}
+use Rattle.content_models.specs.Particle.{Particle, occurs, Term, Particles, none, more}
 use Rattle.content_models.specs.Clear.{empties}
 use Rattle.content_spots.specs.Spots.{Spot, at, Inner, here, inside, over, or_else, first_kid, next_kid, may_repeat, enter, enter_term, enter_order, enter_one, finishes, finishes_term, next, next_term, next_order, next_one}
 use Rattle.content_spots.proofs.Entering.{over_some, or_else_some, cond_some}

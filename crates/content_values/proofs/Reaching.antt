@@ -1,5 +1,5 @@
 -- From what was put down at one leaf to what is put down at the next.
-use Rattle.std.proofs.Common.{◌≡◌, ℕ, zero, suc, ◌≤◌, ◌<◌, ◌⊎◌, inl, inr, Bool, true, false, not, ◌&&◌, ◌||◌, ◌==◌, cond, nat_le, nat_lt, List, [], ◌∷◌, ◌++◌, length, Option, Some, None, refl, sym, ◌∙◌, ap, subst, append_assoc, append-nil, arith}
+use Rattle.std.proofs.Common.{◌≡◌, ℕ, zero, suc, ◌<◌, inl, inr, Bool, true, false, not, ◌&&◌, ◌||◌, ◌==◌, cond, nat_le, List, [], ◌∷◌, ◌++◌, length, Option, Some, None, refl, sym, ◌∙◌, ap, subst, append_assoc, append-nil, arith}
 use Rattle.std.proofs.lemmas.Bool.{eqb-true, le-leb, ltb-true}
 use Rattle.label_tree.specs.Rose.{Rose, node, roses_of}
 use Rattle.label_tree.specs.Rose as rose
@@ -16,8 +16,8 @@ use Rattle.content_spots.specs.Spots.{Spot, at, Inner, here, inside, may_repeat,
 use Rattle.content_spots.proofs.Entering.{cond_some, both_true}
 use Rattle.value_builder.specs.Built.{flagged, with_parts}
 use Rattle.value_builder.proofs.Parts.{parts-present, parts-more, part-present}
-use Rattle.content_values.specs.Bounds.{is_once, is_optional, is_single}
-use Rattle.content_values.specs.Made.{Child, Each, Several, Standing, TermMade, PartsMade, ChosenMade}
+use Rattle.content_values.specs.Bounds.{is_single}
+use Rattle.content_values.specs.Made.{Child, Each, Standing, TermMade, PartsMade, ChosenMade}
 use Rattle.content_values.specs.Reached.{Before, Reached, TermReached, OrderReached, OneReached, KeepsRule1, TermKeepsRule1, AllKeepRule1}
 use Rattle.content_values.specs.Private.Empty.{empty_flags, empty_values, emptied}
 use Rattle.content_values.specs.Private.Moves.{items_opened, items_closed, entered, entered_term, entered_order, entered_one, ended, ended_term, ended_order, ended_one, moved, moved_term, moved_order, moved_one}

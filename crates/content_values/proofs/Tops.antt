@@ -1,6 +1,5 @@
 -- A content model as the code has it.
-use Rattle.std.proofs.Common.{◌≡◌, ℕ, suc, ◌<◌, ◌⊎◌, inl, inr, Bool, true, false, ◌==◌, cond, List, [], ◌∷◌, length, Option, Some, None, refl, sym, ◌∙◌, ap, subst, arith}
-use Rattle.std.specs.Prelude.{Result, OnOk}
+use Rattle.std.proofs.Common.{◌≡◌, ℕ, suc, ◌<◌, inl, inr, Bool, true, false, ◌==◌, cond, List, [], ◌∷◌, length, Option, Some, None, refl, sym, ◌∙◌, ap, subst, arith}
 use Rattle.std.proofs.lemmas.Bool.{eqb-true, ltb-true}
 use Rattle.label_tree.specs.Rose.{Rose, label_of, kids_of}
 use Rattle.flat_tree.specs.Zips.{Zip}
@@ -12,7 +11,7 @@ use Rattle.content_models.specs.declared.particles.ParticleLabel.{ParticleLabel}
 use Rattle.content_models.specs.Seen.{seen, term_seen}
 use Rattle.content_models.specs.Particle.{Particle, occurs, Term, element, sequence, choice, Particles, none, more}
 use Rattle.content_models.specs.Clear.{empties, empties_term, all_empty}
-use Rattle.content_spots.specs.Spots.{Spot, Inner, may_repeat, enter, enter_term, enter_order, finishes, finishes_term, finishes_order, next, next_term, next_order}
+use Rattle.content_spots.specs.Spots.{Spot, may_repeat, enter, enter_term, enter_order, finishes, finishes_term, finishes_order, next, next_term, next_order}
 use Rattle.content_spots.specs.Laws.{step_from, may_end}
 use Rattle.content_spots.proofs.Entering.{both_true}
 use Rattle.content_match.specs.Private.Standing.{spot_of, spot_now}

@@ -1,7 +1,7 @@
 -- What is put down of a content model's value when the way to a leaf is open: the child elements before it stand in their
 -- parts, and each group on the way is begun, with empty parts for what stands empty before the leaf. The child element at the
 -- leaf comes next.
-use Rattle.std.specs.Prelude.{◌≡◌, ℕ, zero, suc, ◌⊎◌, Bool, true, false, List, [], ◌∷◌, ◌++◌, length, Option, Some, None}
+use Rattle.std.specs.Prelude.{◌≡◌, ℕ, zero, suc, Bool, true, false, List, [], ◌∷◌, ◌++◌, length, Option, Some, None}
 use Rattle.label_tree.specs.Rose.{Rose}
 use Rattle.flat_tree.specs.Zips.{Zip, opened, added, added_all}
 use Rattle.simple_types.specs.declared.labels.ValueLabel.{ValueLabel}

@@ -1,5 +1,5 @@
 -- What is put down, step by step.
-use Rattle.std.proofs.Common.{◌≡◌, ℕ, ◌+◌, ◌-◌, ◌^◌, ◌<◌, ◌≤◌, min, ◌∙◌, ap, arith, refl, sym, subst}
+use Rattle.std.proofs.Common.{◌≡◌, ℕ, ◌+◌, ◌-◌, ◌^◌, ◌≤◌, min, ◌∙◌, ap, arith, refl, sym, subst}
 use Rattle.label_tree.specs.Rose.{Rose, node_count, shown_count}
 use Rattle.flat_tree.specs.Zips.{Zip, zip_count, added}
 use Rattle.simple_types.specs.declared.labels.ValueLabel.{ValueLabel}

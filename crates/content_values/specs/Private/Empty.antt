@@ -1,5 +1,5 @@
 -- The parts for particles that stand empty.
-use Rattle.std.specs.Prelude.{ℕ, suc, Bool, true, false, not, cond, List, [], ◌∷◌}
+use Rattle.std.specs.Prelude.{ℕ, suc, Bool, not, cond, List, [], ◌∷◌}
 use Rattle.label_tree.specs.Rose.{Rose, node, label_of, kids_of, roses_of}
 use Rattle.label_tree.specs.Rose as rose
 use Rattle.flat_tree.specs.Zips.{Zip}

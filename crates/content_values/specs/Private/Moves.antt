@@ -1,6 +1,5 @@
 -- What is put down on the way from one leaf to the next.
-use Rattle.std.specs.Prelude.{◌≡◌, ℕ, zero, suc, ◌==◌, Bool, true, false, cond, List, [], Option, Some, None}
-use Rattle.label_tree.specs.Rose.{Rose}
+use Rattle.std.specs.Prelude.{ℕ, zero, suc, ◌==◌, Bool, true, false, cond, []}
 use Rattle.flat_tree.specs.Zips.{Zip, opened, closed}
 use Rattle.simple_types.specs.declared.labels.ValueLabel.{ValueLabel}
 use Rattle.simple_types.specs.declared.labels.ValueLabel.TheVariants as value

@@ -1,4 +1,4 @@
-use Rattle.std.proofs.Common.{◌≡◌, ◌<◌, ◌≤◌, ◌+◌, ◌∷◌, [], true, false, cond, take, refl, sym, ◌∙◌, ap, subst, arith}
+use Rattle.std.proofs.Common.{◌≡◌, ◌+◌, [], true, cond, take, sym, ◌∙◌, ap, subst, arith}
 use Rattle.label_tree.specs.Rose.{node, roses_of, node_count, count_all, label_of}
 use Rattle.label_tree.specs.Rose as rose
 use Rattle.label_tree.proofs.Roses.{node_count-kids, length-le-count_all}
@@ -12,7 +12,7 @@ use Rattle.content_models.specs.declared.particles.ParticleKind.TheVariants as k
 use Rattle.value_builder.specs.Built.{Puts, flagged}
 use Rattle.value_builder.proofs.Putting.{puts-then, puts-both, puts-as}
 use Rattle.content_values.specs.Bounds.{is_once, is_optional}
-use Rattle.content_values.specs.Private.Empty.{term_of, emptied, empty_value, empty_term, empty_place, empty_chosen}
+use Rattle.content_values.specs.Private.Empty.{term_of, emptied, empty_value, empty_term, empty_place}
 use Rattle.content_values.proofs.Filling.{once-empty}
 use Rattle.content_values.proofs.Kids.{kids_seen, term-by, empties-seen, empty_value-seen, left_out-seen, all-empty-at, emptied-push, part-kept, on-ok, kid-get}
 use Rattle.content_values.proofs.emptying.+emptying.Goals as goal

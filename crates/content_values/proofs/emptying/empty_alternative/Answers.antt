@@ -1,4 +1,4 @@
-use Rattle.std.proofs.Common.{◌≡◌, true, sym, ◌∙◌, ap, subst}
+use Rattle.std.proofs.Common.{◌≡◌, true, sym, ◌∙◌, subst}
 use Rattle.content_models.specs.Clear.{empties}
 use Rattle.content_models.specs.Seen.{seen}
 use Rattle.content_values.specs.Private.Empty.{empty_chosen, empty_value}

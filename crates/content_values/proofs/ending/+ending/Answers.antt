@@ -1,20 +1,20 @@
-use Rattle.std.proofs.Common.{◌≡◌, ◌<◌, ◌≤◌, ◌+◌, ◌∷◌, [], true, false, length, drop, refl, sym, ◌∙◌, ap, subst, arith}
+use Rattle.std.proofs.Common.{◌≡◌, ◌+◌, true, false, drop, refl, sym, ◌∙◌, ap, subst, arith}
 use Rattle.std.specs.Prelude.{OnOk}
-use Rattle.label_tree.specs.Rose.{roses_of, node_count, count_all, kids_of}
+use Rattle.label_tree.specs.Rose.{roses_of, count_all, kids_of}
 use Rattle.label_tree.proofs.Roses.{node_count-kids}
 use Rattle.label_tree.proofs.Kids.{kid-count-le, count_all-drop-le}
 use Rattle.flat_tree.specs.Zips.{closed}
 use Rattle.content_models.specs.Seen.{seen}
-use Rattle.content_models.specs.Particle.{sequence, choice, Particles, none, more}
+use Rattle.content_models.specs.Particle.{sequence, choice}
 use Rattle.content_models.specs.declared.particles.ParticleKind.TheVariants as kinds
 use Rattle.content_spots.specs.Spots.{finishes_term, finishes_order, finishes_one, here, inside}
 use Rattle.content_match.specs.Private.Standing.{spot_of}
 use Rattle.value_builder.specs.Built.{Puts}
-use Rattle.value_builder.proofs.Putting.{puts-then, puts-both, puts-as}
+use Rattle.value_builder.proofs.Putting.{puts-then}
 use Rattle.content_values.specs.Bounds.{is_single}
 use Rattle.content_values.specs.Private.Empty.{term_of, emptied}
-use Rattle.content_values.specs.Private.Moves.{inner_in, items_closed, ended, ended_term, ended_order, ended_one}
-use Rattle.content_values.proofs.Kids.{kids_seen, term-by, finishes-seen, ended-by, order-ends-within, order-ends-at, order-ended-at, one-ends-within, one-ends-at, one-ended-at, on-ok, kid-there, no-order-here, no-one-here, rest-is}
+use Rattle.content_values.specs.Private.Moves.{inner_in, items_closed, ended, ended_term, ended_order}
+use Rattle.content_values.proofs.Kids.{kids_seen, term-by, finishes-seen, ended-by, order-ends-within, order-ends-at, order-ended-at, one-ends-within, one-ends-at, one-ended-at, on-ok, no-order-here, no-one-here, rest-is}
 use Rattle.content_values.proofs.ending.+ending.Goals as goal
 
 pub end-returns : goal.end-returns

@@ -1,6 +1,6 @@
-use Rattle.std.proofs.Common.{◌≡◌, ◌<◌, ◌≤◌, ◌+◌, ◌∷◌, [], true, false, Some, length, take, refl, sym, ◌∙◌, ap, subst, arith}
+use Rattle.std.proofs.Common.{◌≡◌, true, false, Some, take, refl, sym, ◌∙◌, ap, subst, arith}
 use Rattle.std.proofs.lemmas.List.{length-take}
-use Rattle.label_tree.specs.Rose.{roses_of, node_count, count_all, kids_of}
+use Rattle.label_tree.specs.Rose.{roses_of, count_all, kids_of}
 use Rattle.label_tree.proofs.Roses.{node_count-kids}
 use Rattle.label_tree.proofs.Kids.{kid-count-le, count_all-take-le}
 use Rattle.flat_tree.specs.Zips.{opened}
@@ -8,13 +8,13 @@ use Rattle.simple_types.specs.declared.labels.ValueLabel.TheVariants as value
 use Rattle.content_models.specs.Seen.{seen}
 use Rattle.content_models.specs.Particle.{sequence, choice}
 use Rattle.content_models.specs.declared.particles.ParticleKind.TheVariants as kinds
-use Rattle.content_spots.specs.Spots.{enter_term, enter_order, enter_one, inside}
+use Rattle.content_spots.specs.Spots.{enter_term, enter_one, inside}
 use Rattle.content_match.specs.Private.Standing.{spot_of}
-use Rattle.value_builder.specs.Built.{Puts, flagged}
-use Rattle.value_builder.proofs.Putting.{puts-then, puts-both, puts-as}
+use Rattle.value_builder.specs.Built.{flagged}
+use Rattle.value_builder.proofs.Putting.{puts-then, puts-both}
 use Rattle.content_values.specs.Bounds.{is_single}
 use Rattle.content_values.specs.Private.Empty.{term_of, emptied}
-use Rattle.content_values.specs.Private.Moves.{inner_in, items_opened, entered, entered_term, entered_order, entered_one}
+use Rattle.content_values.specs.Private.Moves.{inner_in, items_opened, entered, entered_term, entered_order}
 use Rattle.content_values.proofs.Inverting.{enter_order-here, enter_one-here}
 use Rattle.content_values.proofs.Kids.{kids_seen, term-by, enter-seen, entered-by, order-within, order-enters-at, order-entered-at, one-within, one-enters-at, one-entered-at, on-ok, kid-there}
 use Rattle.content_values.proofs.entering.+entering.Goals as goal

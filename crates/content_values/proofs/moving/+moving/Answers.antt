@@ -1,16 +1,15 @@
-use Rattle.std.proofs.Common.{◌≡◌, ◌<◌, ◌≤◌, ◌+◌, ◌∷◌, [], true, false, Some, length, refl, sym, ◌∙◌, ap, subst, arith}
-use Rattle.label_tree.specs.Rose.{roses_of, node_count, count_all, kids_of, label_of}
+use Rattle.std.proofs.Common.{◌≡◌, ◌<◌, Some, length, refl, sym, ◌∙◌, ap, subst, arith}
+use Rattle.label_tree.specs.Rose.{roses_of, count_all, kids_of, label_of}
 use Rattle.label_tree.proofs.Roses.{node_count-kids}
 use Rattle.label_tree.proofs.Kids.{kid-count-le}
 use Rattle.content_models.specs.Seen.{seen}
 use Rattle.content_models.specs.Particle.{sequence, choice}
 use Rattle.content_models.specs.declared.particles.ParticleKind.TheVariants as kinds
-use Rattle.content_spots.specs.Spots.{next_term, next_order, next_one, here, inside}
+use Rattle.content_spots.specs.Spots.{next_term, next_order, next_one, inside}
 use Rattle.content_match.specs.Private.Standing.{spot_of}
-use Rattle.value_builder.specs.Built.{Puts}
 use Rattle.value_builder.proofs.Putting.{puts-then, puts-as}
 use Rattle.content_values.specs.Private.Empty.{term_of}
-use Rattle.content_values.specs.Private.Moves.{turn_in, inner_in, entered_term, ended_term, moved, moved_term, moved_order, moved_one}
+use Rattle.content_values.specs.Private.Moves.{turn_in, inner_in, entered_term, ended_term, moved, moved_term, moved_order}
 use Rattle.content_values.proofs.Inverting as invert
 use Rattle.content_values.proofs.Kids.{kids_seen, term-by, next-seen, stays, goes, moved-stays, moved-goes, order-moves-within, order-stays-at, order-stayed-at, one-moves-within, one-moves-at, one-moved-at, on-ok}
 use Rattle.content_values.proofs.moving.+moving.Goals as goal

@@ -1,11 +1,10 @@
-use Rattle.std.proofs.Common.{◌≡◌, ◌<◌, ◌≤◌, ◌+◌, ◌-◌, ◌∷◌, [], true, false, Some, length, take, drop, refl, sym, ◌∙◌, ap, subst, arith}
-use Rattle.std.proofs.lemmas.List.{length-take, length-drop}
-use Rattle.label_tree.specs.Rose.{roses_of, node_count, count_all}
+use Rattle.std.proofs.Common.{◌<◌, ◌+◌, ◌-◌, true, false, length, take, drop, sym, arith}
+use Rattle.std.proofs.lemmas.List.{length-take}
 use Rattle.label_tree.proofs.Kids.{kid-count-le, count_all-take-le, count_all-drop-le}
 use Rattle.content_models.specs.Seen.{seen}
 use Rattle.content_spots.specs.Spots.{inside}
 use Rattle.content_match.specs.Private.Standing.{spot_of}
-use Rattle.value_builder.specs.Built.{Puts, flagged}
+use Rattle.value_builder.specs.Built.{flagged}
 use Rattle.value_builder.proofs.Putting.{puts-then, puts-both}
 use Rattle.content_values.specs.Private.Empty.{emptied}
 use Rattle.content_values.specs.Private.Moves.{entered, ended, moved_order}

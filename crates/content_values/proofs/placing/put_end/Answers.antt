@@ -1,4 +1,4 @@
-use Rattle.std.proofs.Common.{◌≡◌, ◌<◌, [], Some, None, true, refl, sym, ◌∙◌, ap, subst}
+use Rattle.std.proofs.Common.{◌≡◌, ◌<◌, true, sym, subst}
 use Rattle.label_tree.specs.Rose.{node_count}
 use Rattle.content_models.specs.Seen.{seen}
 use Rattle.content_models.specs.Clear.{empties}

@@ -1,9 +1,8 @@
-use Rattle.std.proofs.Common.{◌≡◌, ◌<◌, true, false, refl, sym, ◌∙◌, ap, arith}
-use Rattle.label_tree.specs.Rose.{roses_of, node_count, count_all}
+use Rattle.std.proofs.Common.{true, false, sym, ◌∙◌, arith}
 use Rattle.label_tree.proofs.Roses.{node_count-kids}
 use Rattle.content_models.specs.Seen.{seen}
 use Rattle.content_match.specs.Private.Standing.{spot_of}
-use Rattle.value_builder.specs.Built.{Puts, flagged}
+use Rattle.value_builder.specs.Built.{flagged}
 use Rattle.value_builder.proofs.Putting.{puts-then, puts-as}
 use Rattle.content_values.specs.Private.Moves.{inner_in, entered, entered_order, top_entered}
 use Rattle.content_values.proofs.Kids.{kids_seen, enter-seen, on-ok}

@@ -1,9 +1,7 @@
-use Rattle.std.proofs.Common.{◌≡◌, ◌<◌, true, false, refl, sym, ◌∙◌, ap, arith}
-use Rattle.label_tree.specs.Rose.{roses_of, node_count, count_all}
+use Rattle.std.proofs.Common.{true, false, sym, ◌∙◌, arith}
 use Rattle.label_tree.proofs.Roses.{node_count-kids}
 use Rattle.content_models.specs.Seen.{seen}
 use Rattle.content_models.specs.Particle.{more, none}
-use Rattle.value_builder.specs.Built.{Puts}
 use Rattle.value_builder.proofs.Putting.{puts-as}
 use Rattle.content_values.specs.Private.Empty.{emptied}
 use Rattle.content_values.specs.Private.Moves.{top_emptied}

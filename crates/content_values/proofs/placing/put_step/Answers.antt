@@ -1,4 +1,4 @@
-use Rattle.std.proofs.Common.{◌≡◌, ◌<◌, [], Some, None, refl, sym, ◌∙◌, ap, subst}
+use Rattle.std.proofs.Common.{◌≡◌, ◌<◌, Some, sym, ◌∙◌, ap, subst}
 use Rattle.label_tree.specs.Rose.{node_count}
 use Rattle.content_models.specs.Seen.{seen}
 use Rattle.content_spots.specs.Spots.{enter, next}
