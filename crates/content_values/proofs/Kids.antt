@@ -20,7 +20,7 @@ use Rattle.content_models.specs.Clear.{is_zero, empties, empties_term, all_empty
 use Rattle.content_spots.specs.Spots.{Spot, at, Inner, here, inside, enter, enter_term, enter_order, enter_one, finishes, finishes_term, finishes_order, finishes_one, may_stop, next, next_term, next_order, next_one}
 use Rattle.content_spots.proofs.Entering.{both_true}
 use Rattle.value_builder.specs.Built.{flagged, with_parts}
-use Rattle.value_builder.proofs.Parts.{parts-none, parts-more, part-present, part-absent}
+use Rattle.value_builder.proofs.Parts.{parts-none, parts-more, part-present}
 use Rattle.content_values.specs.Bounds.{is_once, is_optional, is_single}
 use Rattle.content_values.specs.Private.Empty.{term_of, may_be_left_out, empty_flags, empty_values, empty_value, empty_term, empty_chosen, emptied}
 use Rattle.content_values.specs.Private.Moves.{turn_in, inner_in, items_opened, items_closed, entered, entered_term, entered_order, entered_one, ended, ended_term, ended_order, ended_one, moved, moved_term, moved_order, moved_one}
@@ -54,9 +54,6 @@ empty_value-seen t = ap empty_value (seen-is t)
 
 pub left_out-seen : (t : Rose ParticleLabel) → may_be_left_out (seen t) ≡ is_optional (label_of t).min (label_of t).max
 left_out-seen t = ap may_be_left_out (seen-is t)
-
-at-is : (s : Spot) → s ≡ at (turn_in s) (inner_in s)
-at-is (at i s) = refl
 
 pub enter-seen : (t : Rose ParticleLabel) (a : Name) (s : Spot) → enter (seen t) a ≡ Some s → enter_term (term_of t) a ≡ Some (inner_in s)
 enter-seen t a (at i s) e = (invert.enter-term (term_of t) (label_of t).min (label_of t).max a i s (sym (ap (λ p. enter p a) (seen-is t)) ∙ e)).1
@@ -343,9 +340,6 @@ kid-there (t ∷ ts) (suc k) h = kid-there ts k (omega arith)
 
 pub part-kept : (p : Particle) → may_be_left_out p ≡ false → (z : Zip ValueLabel) → added (empty_value p) (flagged true z) ≡ emptied (more p none) z
 part-kept p e z = part-present (empty_value p) z ∙ ap (λ b. with_parts (not b ∷ []) (cond b [] (empty_value p ∷ [])) z) (sym e)
-
-pub part-left : (p : Particle) → may_be_left_out p ≡ true → (z : Zip ValueLabel) → flagged false z ≡ emptied (more p none) z
-part-left p e z = part-absent z ∙ ap (λ b. with_parts (not b ∷ []) (cond b [] (empty_value p ∷ [])) z) (sym e)
 
 pub entered-by : (b : Bool) (t : Rose ParticleLabel) (l : ParticleLabel) (s : Spot) → l ≡ label_of t → (z : Zip ValueLabel)
     → entered_term (term_of t) (inner_in s) (items_opened (is_single b l.min l.max) z) ≡ entered b (seen t) s z
