@@ -106,7 +106,7 @@ fn put_with_text(
 ) -> Result<(), Memory>
     ensures { OnOk result (builder.new ≡ added (node label (roses_of (text_item text))) builder.old) }
 {
-    if text.as_str().is_empty() {
+    if text.bytes().is_empty() {
         builder.leaf(label)?;
         return Ok(());
     }
