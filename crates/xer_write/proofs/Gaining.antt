@@ -288,6 +288,29 @@ element-gained old begun mid new outer name g opens gains eb ea et =
       utf8 = tt;
     }
 
+text-utf8 : (words : List ℕ) → IsUtf8 words → ItemsAreUtf8 (all_unplaced (text_before words none))
+text-utf8 [] u = tt
+text-utf8 (b ∷ bs) u = ((u, tt), tt)
+
+pub text_item-empty : (words : List ℕ) → (length words == 0) ≡ true → text_item words ≡ []
+text_item-empty [] e = refl
+text_item-empty (b ∷ bs) e = let none_there = eqb-true (length (b ∷ bs)) 0 e in absurd (omega (arith, none_there))
+
+-- an element in which just a text stands
+pub text-element-gained : (old room new : Contents) (name : Name) (label : ItemLabel) (words : List ℕ) → IsUtf8 words → MakesRoom old room → new.attributes.items ≡ room.attributes.items → levels new ≡ levels room
+    → label ≡ Element name [] [] 0 → new.builder ≡ added (node label (roses_of (text_item words))) room.builder
+    → Gains old new (given [] (more (element_of name (given [] (text_before words none))) none))
+text-element-gained old room new name label words u makes ea el is eb =
+    let top = unplaced (element_of name (given [] (text_before words none))) in
+    let same : node label (roses_of (text_item words)) ≡ top =
+    ap (λ l. node l (roses_of (text_item words))) is ∙ ap (λ s. node (Element name [] [] 0) s) (roses_of-list_of (all_unplaced (text_before words none))) in
+    record {
+      attributes = ea ∙ makes.attributes ∙ sym (append-nil old.attributes.items);
+      puts = puts-same (levels old) (levels old) (levels room) (levels new) old.builder old.builder (added top room.builder) new.builder (top ∷ []) refl (sym el) refl
+          (sym (eb ∙ ap (λ t. added t room.builder) same)) (makes.puts top (tt, text-utf8 words u));
+      utf8 = tt;
+    }
+
 pub element-open : (old begun mid : Contents) (outer : Outer) (g : Given) → Opens old begun outer → Gains begun mid g → 0 < length mid.builder.above
 element-open old begun mid outer g opens gains =
     subst (λ (z : Zip ItemLabel). 0 < length z.above) (sym (gains.puts.builder ∙ ap (added_all (through (levels begun) (items_in g.kids))) opens.builder)) (omega arith)

@@ -1,11 +1,11 @@
 //! Items as they are put down, and what stands in the innermost element so far.
 ghost use Rattle.std.specs.Prelude.{◌≡◌, ◌<◌, ◌∷◌, [], ◌++◌, ℕ, List, IfOk, OnOk, codes, drop, length, map};
-ghost use Rattle.label_tree.specs.Rose.{none};
-ghost use Rattle.flat_tree.specs.Zips.{closed, nothing, relabeled};
+ghost use Rattle.label_tree.specs.Rose.{node, none, more, roses_of};
+ghost use Rattle.flat_tree.specs.Zips.{added, closed, nothing, relabeled};
 ghost use Rattle.doc_text.specs.declared.label.ItemLabel.TheVariants as item;
 ghost use Rattle.plain_items.specs.Mixing.{text_before};
-ghost use Rattle.xer_items.specs.Items.{given, nil_name};
-ghost use Rattle.xer_write.specs.Private.Gaining.{Gains, GainsIn, MakesRoom, Opens, first_text, levels, value_text};
+ghost use Rattle.xer_items.specs.Items.{given, nil_name, element_of};
+ghost use Rattle.xer_write.specs.Private.Gaining.{Gains, GainsIn, MakesRoom, Opens, first_text, levels, text_item, value_text};
 
 use crate::spelling::value_text;
 use doc_text::{Attributes, Bindings, ItemLabel};
@@ -96,6 +96,24 @@ fn attributes_of(entries: Vec<(Name, Text)>, none: Attributes) -> Result<Attribu
     } else {
         Attributes::of(entries)
     }
+}
+
+// Adds an element in which a text stands, or nothing, where it is empty.
+fn put_with_text(
+    builder: &mut Builder<ItemLabel>,
+    label: ItemLabel,
+    text: Text,
+) -> Result<(), Memory>
+    ensures { OnOk result (builder.new ≡ added (node label (roses_of (text_item text))) builder.old) }
+{
+    if text.bytes().is_empty() {
+        builder.leaf(label)?;
+        return Ok(());
+    }
+    builder.open(label)?;
+    builder.leaf(ItemLabel::Text { text, at: 0 })?;
+    builder.close();
+    Ok(())
 }
 
 /// The items so far, with the attributes of the innermost open element, and the texts that are to stand before its
@@ -203,6 +221,22 @@ impl<'a> Contents<'a> {
         self.make_room(alloc)?;
         self.texts.push(left)?;
         Ok(())
+    }
+
+    /// Adds an element of this name in which a text stands, or nothing, where it is empty.
+    pub(crate) fn add_text_element(
+        &mut self,
+        alloc: Global,
+        name: Name,
+        text: Text,
+    ) -> Result<(), Memory>
+        ensures { OnOk result (Gains self.old self.new (given [] (more (element_of name (given [] (text_before text none))) none))) }
+    {
+        // A text is UTF-8, as is known once it was read.
+        let _ = text.as_str();
+        self.make_room(alloc)?;
+        let label = self.blank.element(alloc, name, Vec::new(alloc))?;
+        put_with_text(&mut self.builder, label, text)
     }
 
     /// Begins an element, which gets its name and its attributes at its end. Hands back what the element that it stands

@@ -361,7 +361,12 @@ pub(crate) fn gather_element<'a>(
     requires { IsTypeIn module.now node.now }
     ensures { OnOk result (Gains out.old out.new (given [] (more (element_of name (inside module.now node.now value.now)) none))) }
 {
+    let found = resolve(module, node);
+    if is_textual(found.label()) {
+        let text = spelling(alloc, found, value)?;
+        return out.add_text_element(alloc, name, text);
+    }
     let outer = out.begin_element(alloc)?;
-    gather(alloc, module, node, value, out)?;
+    gather_parts(alloc, module, found, value, out)?;
     out.end_element(alloc, name, outer)
 }

@@ -1,7 +1,7 @@
 use Rattle.std.proofs.Common.{◌≡◌, ℕ, ◌+◌, ◌<◌, ◌≤◌, false, true, OnOk, List, [], ◌∷◌, length, refl, sym, ap, subst, ◌∙◌, arith}
 use Rattle.std.specs.Prelude.{◌&&◌, nat_le, replicate, slice_get}
 use Rattle.std.proofs.lemmas.Bool.{ltb-true}
-use Rattle.label_tree.specs.Rose.{none, label_of, kids_of, roses_of, count_all, Allowed}
+use Rattle.label_tree.specs.Rose.{none, more, label_of, kids_of, roses_of, count_all, Allowed}
 use Rattle.label_tree.proofs.Roses.{node_count-kids}
 use Rattle.simple_values.specs.Lexical.{is_at_most}
 use Rattle.simple_values.specs.Reading.{spelled}
@@ -13,7 +13,7 @@ use Rattle.asn_types.specs.Refs.{resolve}
 use Rattle.asn_types.specs.Spaces.{space_at}
 use Rattle.asn_types.specs.Values.{place_of, present_from}
 use Rattle.plain_items.specs.Mixing.{text_before}
-use Rattle.xer_items.specs.Items.{given, nothing, both, inside, gathered, texts_of, with_texts}
+use Rattle.xer_items.specs.Items.{given, nothing, both, element_of, gathered, texts_of, with_texts}
 use Rattle.xer_items.specs.Spelling.{is_textual}
 use Rattle.xer_write.specs.Private.Gaining.{Gains}
 use Rattle.xer_write.specs.Private.Giving.{IsTypeIn, may_be_present, place_seen, place_gives, places_give, parts_give, mixed_gives, type_gives}
@@ -294,19 +294,51 @@ gather_mixed-returns t c =
     (λ ends. mixed-gained c.args.out.now c.begin_mixed.new.self c.gather_kids.new.out c.end_mixed.new.self c.args.texts g begun.builder begun.attributes begun.texts c.in_ok-gather_kids.ensures ends)
     c.end_mixed.ensures
 
-pub gather_element-gather-requires : goal.gather_element-gather-requires
-gather_element-gather-requires t c = let d = c.decreases in (omega (arith, d), c.requires)
+pub gather_element-spelling-requires : goal.gather_element-spelling-requires
+gather_element-spelling-requires t c =
+    let m = c.args.module.now in
+    let h = found-in m c.args.node.now c.requires in
+    subst (Allowed MayHave) (sym c.resolve-found.ensures) (allowed-of m h.0 (resolve m c.args.node.now) h.1)
+
+pub gather_element-returns-then-is_textual : goal.gather_element-returns-then-is_textual
+gather_element-returns-then-is_textual t c =
+    let m = c.args.module.now in
+    let v = c.args.value.now in
+    let name = c.args.name in
+    let textual : is_textual (label_of (resolve m c.args.node.now)) ≡ true =
+    ap (λ x. is_textual (label_of x)) (sym c.resolve-found.ensures) ∙ ap is_textual (sym c.label.ensures) ∙ sym c.is_textual.ensures ∙ c.if-is_textual.true in
+    let text = c.in_ok-text.ensures ∙ ap (λ x. spelled (space_at x) v) c.resolve-found.ensures in
+    let same = ap (λ (s : List ℕ). given [] (text_before s none)) text ∙ sym (inside-text m c.args.node.now v textual) in
+    subst (λ g. OnOk c.add_text_element.result (Gains c.args.out.now c.add_text_element.new.self (given [] (more (element_of name g) none)))) same c.add_text_element.ensures
+
+pub gather_element-gather_parts-requires : goal.gather_element-gather_parts-requires
+gather_element-gather_parts-requires t c =
+    let m = c.args.module.now in
+    let d = c.decreases in (
+      omega (arith, d),
+      (
+        subst (IsTypeIn m) (sym c.resolve-found.ensures) (found-in m c.args.node.now c.requires),
+        ap is_textual (sym c.label.ensures) ∙ sym c.is_textual.ensures ∙ c.if-is_textual.false,
+      ),
+    )
 
 pub gather_element-end_element-requires : goal.gather_element-end_element-requires
 gather_element-end_element-requires t c =
-    let g = inside c.args.module.now c.args.node.now c.args.value.now in
-    element-open c.args.out.now c.begin_element.new.self c.gather.new.out c.in_ok-outer.outer g c.in_ok-outer.ensures c.in_ok-gather.ensures
+    let g = type_gives c.args.module.now c.resolve-found.result.now c.args.value.now in
+    element-open c.args.out.now c.begin_element.new.self c.gather_parts.new.out c.in_ok-outer.outer g c.in_ok-outer.ensures c.in_ok-gather_parts.ensures
 
 pub gather_element-returns : goal.gather_element-returns
 gather_element-returns t c =
-    let g = inside c.args.module.now c.args.node.now c.args.value.now in
+    let m = c.args.module.now in
+    let v = c.args.value.now in
+    let u = c.resolve-found.result.now in
+    let textual : is_textual (label_of (resolve m c.args.node.now)) ≡ false =
+    ap (λ x. is_textual (label_of x)) (sym c.resolve-found.ensures) ∙ ap is_textual (sym c.label.ensures) ∙ sym c.is_textual.ensures ∙ c.if-is_textual.false in
+    let same = ap (λ x. type_gives m x v) c.resolve-found.ensures ∙ sym (inside-parts m c.args.node.now v textual) in
     on_ok-three c.end_element.result _ _ _ _
-    (λ builder attributes texts. element-gained c.args.out.now c.begin_element.new.self c.gather.new.out c.end_element.new.self c.in_ok-outer.outer c.args.name g c.in_ok-outer.ensures c.in_ok-gather.ensures builder attributes texts)
+    (λ builder attributes texts.
+    subst (λ g. Gains c.args.out.now c.end_element.new.self (given [] (more (element_of c.args.name g) none))) same
+    (element-gained c.args.out.now c.begin_element.new.self c.gather_parts.new.out c.end_element.new.self c.in_ok-outer.outer c.args.name (type_gives m u v) c.in_ok-outer.ensures c.in_ok-gather_parts.ensures builder attributes texts))
     c.end_element.ensures.builder c.end_element.ensures.attributes c.end_element.ensures.texts
 
 -- ---- SEQUENCE
