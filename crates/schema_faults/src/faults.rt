@@ -173,10 +173,7 @@ pub fn root_fault(label: &ItemLabel) -> Option<DocumentFault>
 ///
 /// The time grows with the size of the document, and for each element and each reference with the logarithm of the
 /// number of bindings of the elements that are open.
-pub fn first_fault(
-    alloc: Global,
-    root: &Tree<ItemLabel>,
-) -> Result<Option<DocumentFault>, Memory>
+pub fn first_fault(alloc: Global, root: &Tree<ItemLabel>) -> Result<Option<DocumentFault>, Memory>
     ensures { IfOk result (λ found. found ≡ faults.first_fault (faults.reasons root.now)) }
 {
     if !is_schema(root.label()) {
