@@ -1,5 +1,7 @@
-use Rattle.std.proofs.Common.{◌≡◌, true, sym, ◌∙◌, subst}
+use Rattle.std.proofs.Common.{◌≡◌, true, sym, ◌∙◌, ap, subst, Some, None}
+use Rattle.label_tree.specs.Rose.{label_of}
 use Rattle.doc_text.specs.Sound.{is_element}
+use Rattle.schema_faults.specs.Faults.{first_fault, reasons}
 use Rattle.schema_faults.proofs.ShownLaws.{shown, no_fault}
 use Rattle.schema_read.specs.Keeping.{Keeps}
 use Rattle.schema_read.specs.Raw.{raw_of}
@@ -7,15 +9,22 @@ use Rattle.schema_read.proofs.KeptDocument.{document_keeps}
 use Rattle.schema_read.proofs.documents.read_schema.Goals as goal
 
 pub returns-in-Some-clause-refused : goal.returns-in-Some-clause-refused
-returns-in-Some-clause-refused c = shown c.args.items.now 16777216 c.in-Some.field-0 c.requires (sym c.in_ok-at.ensures ∙ c.in-Some.is)
+returns-in-Some-clause-refused c =
+    shown c.args.items.now 16777216 c.in-Some.field-0 c.requires (c.in-Some.ensures c.args.items.now (ap label_of (sym c.root.ensures.root) ∙ sym c.label.ensures))
+
+pub returns-in-Some-2-clause-refused : goal.returns-in-Some-2-clause-refused
+returns-in-Some-2-clause-refused c =
+    shown c.args.items.now 16777216 c.in-Some-2.field-0 c.requires
+    (subst (λ t. first_fault (reasons t) ≡ Some c.in-Some-2.field-0) c.in_ok-root.ensures.tree (sym c.in_ok-at.ensures ∙ c.in-Some-2.is))
 
 pub components-requires-clause-element : goal.components-requires-clause-element
-components-requires-clause-element c = subst (λ t. is_element t ≡ true) (sym (c.root.ensures.root ∙ c.tree.ensures.tree)) c.tree.ensures.items.element
+components-requires-clause-element c = subst (λ t. is_element t ≡ true) (sym c.in_ok-root.ensures.tree) c.in_ok-root.ensures.items.element
 
 pub components-requires-clause-keeps : goal.components-requires-clause-keeps
 components-requires-clause-keeps c =
-    subst (λ t. Keeps (raw_of c.args.file t)) (sym (c.root.ensures.root ∙ c.tree.ensures.tree))
-    (document_keeps c.args.file c.args.items.now c.requires (no_fault c.args.items.now (sym c.in_ok-at.ensures ∙ c.in_default.is)) c.tree.ensures.items.sound c.tree.ensures.items.shallow)
+    let none : first_fault (reasons c.args.items.now) ≡ None = subst (λ t. first_fault (reasons t) ≡ None) c.in_ok-root.ensures.tree (sym c.in_ok-at.ensures ∙ c.in_default-2.is) in
+    subst (λ t. Keeps (raw_of c.args.file t)) (sym c.in_ok-root.ensures.tree)
+    (document_keeps c.args.file c.args.items.now c.requires (no_fault c.args.items.now none) c.in_ok-root.ensures.items.sound c.in_ok-root.ensures.items.shallow)
 
 pub returns-clause-schema : goal.returns-clause-schema
-returns-clause-schema c = no_fault c.args.items.now (sym c.in_ok-at.ensures ∙ c.in_default.is)
+returns-clause-schema c = no_fault c.args.items.now (subst (λ t. first_fault (reasons t) ≡ None) c.in_ok-root.ensures.tree (sym c.in_ok-at.ensures ∙ c.in_default-2.is))
