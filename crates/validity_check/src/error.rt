@@ -5,6 +5,14 @@ use thiserror::Error;
 use validity::InvalidWhy;
 use xa_base::Memory;
 
+/// The first fault: its place in bytes from 0, and its reason.
+#[derive(Clone, Copy, Debug, PartialEq, Eq, Error)]
+#[error("byte {at}: {why}")]
+pub struct Fault {
+    pub at: u64,
+    pub why: InvalidWhy,
+}
+
 /// Why a document isn't found valid.
 #[derive(Clone, Copy, Debug, PartialEq, Eq, Error)]
 pub enum CheckError {
@@ -22,5 +30,18 @@ impl From<Memory> for CheckError {
 
     fn from(_: Memory) -> CheckError {
         CheckError::Memory
+    }
+}
+
+impl From<Fault> for CheckError {
+    ghost use Rattle.validity_check.specs.declared.error.CheckError.{CheckError};
+
+    ghost from_gives = { λ fault error. error ≡ CheckError.Invalid fault.at fault.why };
+
+    fn from(fault: Fault) -> CheckError {
+        CheckError::Invalid {
+            at: fault.at,
+            why: fault.why,
+        }
     }
 }

@@ -4,11 +4,11 @@ ghost use Rattle.label_tree.specs.Rose.{roses_of, none};
 ghost use Rattle.doc_text.specs.Sound.{are_sound};
 ghost use Rattle.validity.specs.Valid as rule;
 ghost use Rattle.validity.specs.Faults.{why_kid, FirstKid, FirstElement};
-ghost use Rattle.validity_check.specs.Answers.{Tells};
 
-use crate::error::CheckError;
+use crate::error::Fault;
 use doc_text::ItemLabel;
-use label_tree::Tree;
+use flat_tree::Kids;
+use std::iter::Iterator;
 use validity::InvalidWhy;
 use xa_base::Text;
 
@@ -22,14 +22,14 @@ fn why_kid(label: &ItemLabel) -> InvalidWhy
 }
 
 /// An element that is nil has no kids.
-pub fn check_empty(kids: &[Tree<ItemLabel>]) -> Result<(), CheckError>
+pub fn check_empty(mut kids: Kids<'_, ItemLabel>) -> Result<(), Fault>
     ensures { MatchResult result
-        (λ _. roses_of kids.now ≡ none)
-        (Tells (FirstKid (roses_of kids.now) (λ _. InvalidWhy.NilWithContent))) }
+        (λ _. roses_of kids.entry ≡ none)
+        (λ fault. FirstKid (roses_of kids.entry) (λ _. InvalidWhy.NilWithContent) fault.at fault.why) }
 {
-    match kids {
-        [] => Ok(()),
-        [first, ..] => Err(CheckError::Invalid {
+    match kids.next() {
+        None => Ok(()),
+        Some(first) => Err(Fault {
             at: first.label().place(),
             why: InvalidWhy::NilWithContent,
         }),
@@ -37,16 +37,16 @@ pub fn check_empty(kids: &[Tree<ItemLabel>]) -> Result<(), CheckError>
 }
 
 /// An element in which nothing may stand has no kids.
-pub fn check_no_content(kids: &[Tree<ItemLabel>]) -> Result<(), CheckError>
+pub fn check_no_content(mut kids: Kids<'_, ItemLabel>) -> Result<(), Fault>
     ensures { MatchResult result
-        (λ _. roses_of kids.now ≡ none)
-        (Tells (FirstKid (roses_of kids.now) why_kid)) }
+        (λ _. roses_of kids.entry ≡ none)
+        (λ fault. FirstKid (roses_of kids.entry) why_kid fault.at fault.why) }
 {
-    match kids {
-        [] => Ok(()),
-        [first, ..] => {
+    match kids.next() {
+        None => Ok(()),
+        Some(first) => {
             let label = first.label();
-            Err(CheckError::Invalid {
+            Err(Fault {
                 at: label.place(),
                 why: why_kid(label),
             })
@@ -55,28 +55,31 @@ pub fn check_no_content(kids: &[Tree<ItemLabel>]) -> Result<(), CheckError>
 }
 
 /// The text of an element that has no child elements, which is this empty one where the element has no kids.
-pub fn only_text<'a>(kids: &'a [Tree<ItemLabel>], empty: &'a Text) -> Result<&'a Text, CheckError>
-    requires sound { are_sound (roses_of kids.now) ≡ true }
+pub fn only_text<'a>(
+    mut kids: Kids<'a, ItemLabel>,
+    empty: &'a Text,
+) -> Result<&'a Text, Fault>
+    requires sound { are_sound (roses_of kids) ≡ true }
     requires empty { empty.now ≡ [] }
     ensures { MatchResult result
-        (λ text. rule.only_text (roses_of kids.now) ≡ Some text.now)
-        (Tells (FirstElement (roses_of kids.now))) }
+        (λ text. rule.only_text (roses_of kids.entry) ≡ Some text.now)
+        (λ fault. FirstElement (roses_of kids.entry) fault.at fault.why) }
 {
-    match kids {
-        [] => Ok(empty),
-        [first, rest @ ..] => match first.label() {
-            ItemLabel::Element { at, .. } => Err(CheckError::Invalid {
-                at: *at,
+    let Some(first) = kids.next() else {
+        return Ok(empty);
+    };
+    match first.label() {
+        ItemLabel::Element { at, .. } => Err(Fault {
+            at: *at,
+            why: InvalidWhy::ElementNotAllowed,
+        }),
+        ItemLabel::Text { text, .. } => match kids.next() {
+            None => Ok(text),
+            // No two texts are neighbours.
+            Some(second) => Err(Fault {
+                at: second.label().place(),
                 why: InvalidWhy::ElementNotAllowed,
             }),
-            ItemLabel::Text { text, .. } => match rest {
-                [] => Ok(text),
-                // No two texts are neighbours.
-                [second, ..] => Err(CheckError::Invalid {
-                    at: second.label().place(),
-                    why: InvalidWhy::ElementNotAllowed,
-                }),
-            },
         },
     }
 }

@@ -51,7 +51,7 @@ fn truth(alloc: Global, text: &Text) -> Result<Option<bool>, Memory>
     ensures { IfOk result (λ written. boolean_of (treated WhiteSpace.Collapse text.now) ≡ written) }
 {
     match accept(alloc, &Simple::Bool, text) {
-        Ok(value) => match value.label() {
+        Ok(value) => match value.root().label() {
             ValueLabel::Bool(b) => Ok(Some(*b)),
             _ => Ok(None),
         },

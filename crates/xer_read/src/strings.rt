@@ -1,0 +1,93 @@
+//! The texts of mixed content: one string before, between and behind the child elements each.
+ghost use Rattle.std.specs.Prelude.{◌≡◌, ℕ, ◌<◌, OnOk, [], ◌∷◌, map, length};
+ghost use Rattle.label_tree.specs.Rose.{node, roses_of};
+ghost use Rattle.flat_tree.specs.Zips.{Zip, added, added_all};
+ghost use Rattle.simple_types.specs.declared.labels.ValueLabel.{ValueLabel};
+ghost use Rattle.simple_types.specs.declared.labels.ValueLabel.TheVariants as label;
+ghost use Rattle.validity_check.specs.Told.{inside_told};
+ghost use Rattle.value_builder.specs.Built.{Stands, Puts};
+ghost use Rattle.xer_read.specs.Private.Keeping.{text_value, strings_from, strings_put};
+ghost use Rattle.xer_read.specs.Private.Contents.{TextsMade};
+ghost use Rattle.xer_read.specs.Private.Putting.{PartsPut};
+
+use doc_text::ItemLabel;
+use flat_tree::Kids;
+use simple_types::ValueLabel;
+use std::alloc::Global;
+use validity_check::Inside;
+use value_builder::ValueBuilder;
+use xa_base::{Memory, Text};
+
+// A string with these words.
+fn put_string(alloc: Global, words: &Text, values: &mut ValueBuilder) -> Result<(), Memory>
+    ensures { OnOk result (Puts (added (text_value words.now)) values.old values.new) }
+{
+    let text = words.copy(alloc)?;
+    values.leaf(ValueLabel::Utf8(text))
+}
+
+// The strings before, between and behind the child elements. One that isn't there is empty.
+fn put_each_string(
+    alloc: Global,
+    kids: &Kids<'_, ItemLabel>,
+    values: &mut ValueBuilder,
+) -> Result<(), Memory>
+    ensures { OnOk result (Puts (added_all (map text_value (strings_from [] (roses_of kids.now)))) values.old values.new) }
+{
+    let empty = Text::empty();
+    let mut words = &empty;
+    for kid in kids.again() {
+        match kid.label() {
+            ItemLabel::Text { text, .. } => words = text,
+            ItemLabel::Element { .. } => {
+                put_string(alloc, words, values)?;
+                words = &empty;
+            }
+        }
+    }
+    put_string(alloc, words, values)
+}
+
+// The SEQUENCE OF strings, which has none where the element is nil.
+fn put_strings(
+    alloc: Global,
+    nil: bool,
+    kids: &Kids<'_, ItemLabel>,
+    values: &mut ValueBuilder,
+) -> Result<(), Memory>
+    requires { (z : Zip ValueLabel) × Stands values.old z }
+    ensures { OnOk result (Puts (added (node label.SequenceOf (roses_of (strings_put nil (roses_of kids.now))))) values.old values.new) }
+{
+    if nil {
+        return values.leaf(ValueLabel::SequenceOf);
+    }
+    values.open(ValueLabel::SequenceOf)?;
+    put_each_string(alloc, kids, values)?;
+    values.close();
+    Ok(())
+}
+
+/// The part for the texts of mixed content, and no part for another content.
+pub(crate) fn put_texts(
+    alloc: Global,
+    inside: Inside,
+    nil: bool,
+    kids: &Kids<'_, ItemLabel>,
+    values: &mut ValueBuilder,
+) -> Result<(), Memory>
+    requires { (z : Zip ValueLabel) × Stands values.old z }
+    ensures { OnOk result (PartsPut (TextsMade (inside_told inside.entry) (node label.SequenceOf (roses_of (strings_put nil (roses_of kids.now))))) values.old values.new) }
+{
+    match inside {
+        Inside::Nothing => Ok(()),
+        Inside::Simple(_) => Ok(()),
+        Inside::Children { mixed, .. } => {
+            if mixed {
+                values.part(true)?;
+                put_strings(alloc, nil, kids, values)
+            } else {
+                Ok(())
+            }
+        }
+    }
+}
