@@ -1,5 +1,5 @@
 //! From one leaf of a content model to the next.
-ghost use Rattle.std.specs.Prelude.{◌≡◌, ℕ, Bool, List, Some, true, OnOk};
+ghost use Rattle.std.specs.Prelude.{◌≡◌, ◌^◌, ◌<◌, ℕ, Bool, List, Some, true, OnOk};
 ghost use Rattle.label_tree.specs.Rose.{Rose, node_count};
 ghost use Rattle.flat_tree.specs.Zips.{Zip};
 ghost use Rattle.xa_base.specs.declared.texts.Name.{Name};
@@ -38,8 +38,8 @@ pub fn put_step(
     requires step { (a : Name) × (s : Spot) × (step_from (seen model.now) (spot_now from.turns.now from.kids.now) a ≡ Some s) × (spot_now to.turns.now to.kids.now ≡ Some s) }
     requires put { (gs : List Child) × (before : Zip ValueLabel) × (now : Zip ValueLabel) × Put (seen model.now) (spot_now from.turns.now from.kids.now) gs before now × Stands values.old now }
     ensures most { OnOk result (values.new.most ≡ values.old.most) }
-    ensures reached { OnOk result ((gs : List Child) (before now : Zip ValueLabel) (s : Spot) → Put (seen model.now) (spot_now from.turns.now from.kids.now) gs before now → Stands values.old now
-        → spot_now to.turns.now to.kids.now ≡ Some s → (d : ℕ) × (way : Zip ValueLabel) × TopReached (seen model.now) s gs d before way × Stands values.new way) }
+    ensures reached { OnOk result ((gs : List Child) (before now : Zip ValueLabel) (s : Spot) → Put (seen model.now) (spot_now from.entry.turns.now from.entry.kids.now) gs before now → Stands values.old now
+        → spot_now to.entry.turns.now to.entry.kids.now ≡ Some s → (d : ℕ) × (way : Zip ValueLabel) × TopReached (seen model.now) s gs d before way × Stands values.new way) }
 {
     Err(Memory)
 }
@@ -47,10 +47,11 @@ pub fn put_step(
 /// No child element comes more: what is open of the content model is closed, and the parts behind are put down empty.
 pub fn put_end(model: &Particle, from: Path<'_>, values: &mut ValueBuilder) -> Result<(), Memory>
     requires fillable { IsFillable (seen model.now) }
+    requires few { node_count model.now < 2 ^ 31 }
     requires ends { may_end (seen model.now) (spot_now from.turns.now from.kids.now) ≡ true }
     requires put { (gs : List Child) × (before : Zip ValueLabel) × (now : Zip ValueLabel) × Put (seen model.now) (spot_now from.turns.now from.kids.now) gs before now × Stands values.old now }
     ensures most { OnOk result (values.new.most ≡ values.old.most) }
-    ensures made { OnOk result ((gs : List Child) (before now : Zip ValueLabel) → Put (seen model.now) (spot_now from.turns.now from.kids.now) gs before now → Stands values.old now
+    ensures made { OnOk result ((gs : List Child) (before now : Zip ValueLabel) → Put (seen model.now) (spot_now from.entry.turns.now from.entry.kids.now) gs before now → Stands values.old now
         → (flags : List Bool) × (vs : List (Rose ValueLabel)) × TopMade (seen model.now) flags vs gs × Stands values.new (with_parts flags vs before)) }
 {
     Err(Memory)

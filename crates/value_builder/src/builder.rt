@@ -1,7 +1,7 @@
 //! What is put down of a value.
-ghost use Rattle.std.specs.Prelude.{◌≡◌, ◌+◌, ◌<◌, ◌≤◌, IfOk, ◌↔◌, Err, IsTrue, OnOk, OnErr, MatchResult, length};
+ghost use Rattle.std.specs.Prelude.{◌≡◌, ◌+◌, ◌-◌, ◌^◌, ◌≤◌, min, IfOk, ◌↔◌, Err, IsTrue, OnOk, MatchResult};
 ghost use Rattle.label_tree.specs.Rose.{Rose, node, none};
-ghost use Rattle.flat_tree.specs.Zips.{Zip, opened, added, closed};
+ghost use Rattle.flat_tree.specs.Zips.{opened, added, closed};
 ghost use Rattle.simple_types.specs.declared.labels.ValueLabel.{ValueLabel};
 ghost use Rattle.simple_types.specs.Seen.{space_of};
 ghost use Rattle.simple_types.specs.Sound.{Sound};
@@ -87,12 +87,11 @@ impl ValueBuilder {
         Ok(())
     }
 
-    /// The innermost node that is open has no more kids.
+    /// The innermost node that is open, if one is, has no more kids.
     pub fn close(&mut self)
-        requires { (z : Zip ValueLabel) × Stands self.old z × (0 < length z.above) }
         ensures { Puts closed self.old self.new }
     {
-        if self.is_kept() {
+        if self.is_kept() && !self.kept.is_outside() {
             self.kept.close();
         }
     }
@@ -136,7 +135,7 @@ impl ValueBuilder {
 
     // Whether so many more may be kept.
     fn has_room(&self, nodes: u64) -> bool
-        ensures { IsTrue result ↔ (self.now.nodes + nodes ≤ self.now.most) }
+        ensures { IsTrue result ↔ (min (self.now.nodes + nodes) (2 ^ 64 - 1) ≤ self.now.most) }
     {
         self.nodes.saturating_add(nodes) <= u64::from(self.most)
     }

@@ -1,0 +1,55 @@
+-- What is put down, step by step.
+use Rattle.std.proofs.Common.{◌≡◌, ℕ, ◌+◌, ◌-◌, ◌^◌, ◌<◌, ◌≤◌, min, ◌∙◌, ap, arith, refl, sym, subst}
+use Rattle.label_tree.specs.Rose.{Rose, node_count, shown_count}
+use Rattle.flat_tree.specs.Zips.{Zip, zip_count, added}
+use Rattle.simple_types.specs.declared.labels.ValueLabel.{ValueLabel}
+use Rattle.value_builder.specs.Built.{Built, Stands, Puts}
+use Rattle.value_builder.proofs.Counts.{count-added}
+
+-- nothing, and one step after another
+pub puts-nothing : (b : Built) → Puts (λ z. z) b b
+puts-nothing b = record { most = refl; stands = λ z st. st }
+
+pub puts-both : (f g : Zip ValueLabel → Zip ValueLabel) (a b c : Built) → Puts f a b → Puts g b c → Puts (λ z. g (f z)) a c
+puts-both f g a b c p q = record { most = q.most ∙ p.most; stands = λ z st. q.stands (f z) (p.stands z st) }
+
+-- so many nodes more
+pub puts-more : (f : Zip ValueLabel → Zip ValueLabel) (more : ℕ) (old new : Built) → ((z : Zip ValueLabel) → zip_count (f z) ≡ zip_count z + more)
+    → new.most ≡ old.most → new.nodes ≡ min (old.nodes + min more (2 ^ 64 - 1)) (2 ^ 64 - 1)
+    → (new.nodes ≤ new.most → new.kept ≡ f old.kept) → Puts f old new
+puts-more f more old new counts most nodes kept = record {
+  most = most;
+  stands = λ z st.
+      let c = counts z in
+      let n = st.nodes in
+      record {
+        nodes = omega arith;
+        kept = λ within. let less : old.nodes ≤ old.most = omega arith in kept within ∙ ap f (st.kept less);
+      };
+}
+
+-- no more nodes
+pub puts-same : (f : Zip ValueLabel → Zip ValueLabel) (old new : Built) → ((z : Zip ValueLabel) → zip_count (f z) ≡ zip_count z)
+    → new.most ≡ old.most → new.nodes ≡ old.nodes → (new.nodes ≤ new.most → new.kept ≡ f old.kept) → Puts f old new
+puts-same f old new counts most nodes kept = record {
+  most = most;
+  stands = λ z st.
+      let c = counts z in
+      let n = st.nodes in
+      record {
+        nodes = omega arith;
+        kept = λ within. let less : old.nodes ≤ old.most = omega arith in kept within ∙ ap f (st.kept less);
+      };
+}
+
+-- a value that is counted alone
+pub puts-counted : (old new : Built) (v : Rose ValueLabel) (nodes : ℕ) → nodes ≡ shown_count v → new.most ≡ old.most → new.nodes ≡ min (old.nodes + nodes) (2 ^ 64 - 1)
+    → (new.nodes ≤ new.most → new.kept ≡ added v old.kept) → Puts (added v) old new
+puts-counted old new v nodes shown most now kept =
+    puts-more (added v) (node_count v) old new (count-added v) most (omega arith) kept
+
+-- one node that isn't kept
+pub puts-unkept : (f : Zip ValueLabel → Zip ValueLabel) (old new this : Built) → new ≡ this → ((z : Zip ValueLabel) → zip_count (f z) ≡ zip_count z + 1)
+    → this.most ≡ old.most → this.nodes ≡ min (old.nodes + 1) (2 ^ 64 - 1) → (this.nodes ≤ this.most → ⊥) → Puts f old new
+puts-unkept f old new this same counts most nodes none =
+    subst (λ b. Puts f old b) (sym same) (puts-more f 1 old this counts most nodes (λ within. absurd (none within)))
