@@ -1,2 +1,13 @@
-pub mod Again
+pub mod Refusing
+pub mod Putting
+pub mod Strings
+pub mod Leading
+pub mod Attributed
+pub mod Making
+pub mod Parting
+pub mod Giving
+pub mod Reaching
+pub mod Whole
 pub mod Allowing
+pub mod Valuing
+pub mod Again

@@ -1,7 +1,7 @@
 //! The value of an element whose type is complex, or which may be nil: what is put down before its content.
 ghost use Rattle.std.specs.Prelude.{◌≡◌, ◌<◌, ◌∷◌, [], true, false, length, All, OnOk, MatchOption, MatchResult};
 ghost use Rattle.label_tree.specs.Rose.{Rose, roses_of, none};
-ghost use Rattle.flat_tree.specs.Zips.{Zip, opened, added};
+ghost use Rattle.flat_tree.specs.Zips.{opened, added};
 ghost use Rattle.simple_types.specs.declared.labels.ValueLabel.{ValueLabel};
 ghost use Rattle.simple_types.specs.Seen.{space_of};
 ghost use Rattle.simple_types.specs.Space.{Space};
@@ -14,7 +14,7 @@ ghost use Rattle.validity.specs.Asked as asked;
 ghost use Rattle.validity.specs.Faults.{FirstKid, why_kid};
 ghost use Rattle.validity_check.specs.Answers.{Tells, TextFault};
 ghost use Rattle.validity_check.specs.Told.{inside_told, told};
-ghost use Rattle.value_builder.specs.Built.{Stands, Puts, flagged, with_parts};
+ghost use Rattle.value_builder.specs.Built.{Puts, flagged, with_parts};
 ghost use Rattle.xer_read.specs.Private.Keeping.{strings_put};
 ghost use Rattle.xer_read.specs.Private.Contents.{AreTaken, is_plain_at, NothingMade, IsNilFilled};
 ghost use Rattle.xer_read.specs.Private.Putting.{PartsPut, Begins};
@@ -89,7 +89,6 @@ pub(crate) fn begin_complex(
     requires linked { IsLinked set.now }
     requires uses { All (IsUse set.now) declared.now.uses.now }
     requires taken { AreTaken set.now attributes.now declared.now.uses.now }
-    requires stands { (z : Zip ValueLabel) × Stands values.old z }
     ensures { OnOk result (Begins (told (parts_of set.now) declared.now) attributes.now (strings_put nil (roses_of kids.now)) values.old values.new) }
 {
     values.open(no_components())?;
@@ -161,7 +160,6 @@ fn put_nil(
     requires linked { IsLinked set.now }
     requires uses { All (IsUse set.now) declared.now.uses.now }
     requires taken { AreTaken set.now attributes.now declared.now.uses.now }
-    requires stands { (z : Zip ValueLabel) × Stands values.old z }
     ensures { OnOk result ((v : Rose ValueLabel) × IsNilFilled (told (parts_of set.now) declared.now) attributes.now v × Puts (added v) values.old values.new) }
 {
     begin_complex(alloc, set, declared, attributes, true, kids, values)?;
@@ -182,7 +180,6 @@ pub(crate) fn walk_nil(
     requires linked { IsLinked set.now }
     requires uses { All (IsUse set.now) declared.now.uses.now }
     requires taken { AreTaken set.now attributes.now declared.now.uses.now }
-    requires stands { (z : Zip ValueLabel) × Stands values.old z }
     ensures { MatchResult result
         (λ _. (roses_of kids.now ≡ none) × ((v : Rose ValueLabel) × IsNilFilled (told (parts_of set.now) declared.now) attributes.now v × Puts (added v) values.old values.new))
         (Tells (FirstKid (roses_of kids.now) (λ _. InvalidWhy.NilWithContent))) }

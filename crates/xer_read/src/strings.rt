@@ -1,11 +1,10 @@
 //! The texts of mixed content: one string before, between and behind the child elements each.
-ghost use Rattle.std.specs.Prelude.{◌≡◌, ℕ, ◌<◌, OnOk, [], ◌∷◌, map, length};
+ghost use Rattle.std.specs.Prelude.{◌≡◌, OnOk, [], map};
 ghost use Rattle.label_tree.specs.Rose.{node, roses_of};
-ghost use Rattle.flat_tree.specs.Zips.{Zip, added, added_all};
-ghost use Rattle.simple_types.specs.declared.labels.ValueLabel.{ValueLabel};
+ghost use Rattle.flat_tree.specs.Zips.{added, added_all};
 ghost use Rattle.simple_types.specs.declared.labels.ValueLabel.TheVariants as label;
 ghost use Rattle.validity_check.specs.Told.{inside_told};
-ghost use Rattle.value_builder.specs.Built.{Stands, Puts};
+ghost use Rattle.value_builder.specs.Built.{Puts};
 ghost use Rattle.xer_read.specs.Private.Keeping.{text_value, strings_from, strings_put};
 ghost use Rattle.xer_read.specs.Private.Contents.{TextsMade};
 ghost use Rattle.xer_read.specs.Private.Putting.{PartsPut};
@@ -55,7 +54,6 @@ fn put_strings(
     kids: &Kids<'_, ItemLabel>,
     values: &mut ValueBuilder,
 ) -> Result<(), Memory>
-    requires { (z : Zip ValueLabel) × Stands values.old z }
     ensures { OnOk result (Puts (added (node label.SequenceOf (roses_of (strings_put nil (roses_of kids.now))))) values.old values.new) }
 {
     if nil {
@@ -75,7 +73,6 @@ pub(crate) fn put_texts(
     kids: &Kids<'_, ItemLabel>,
     values: &mut ValueBuilder,
 ) -> Result<(), Memory>
-    requires { (z : Zip ValueLabel) × Stands values.old z }
     ensures { OnOk result (PartsPut (TextsMade (inside_told inside.entry) (node label.SequenceOf (roses_of (strings_put nil (roses_of kids.now))))) values.old values.new) }
 {
     match inside {

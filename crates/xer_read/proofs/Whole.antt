@@ -1,0 +1,311 @@
+-- What is walked of an element is its value.
+use Rattle.std.proofs.Common.{◌≡◌, ℕ, suc, ◌+◌, true≢false, Bool, true, false, List, [], ◌∷◌, ◌++◌, Some, length, refl, sym, ◌∙◌, ap, subst, arith, map}
+use Rattle.std.specs.Prelude.{Result, Ok, Err, MatchResult, MatchBool, All}
+use Rattle.xa_base.specs.declared.texts.Name.{Name}
+use Rattle.label_tree.specs.Rose.{Rose, node, Roses, roses_of, list_of, label_of, kids_of, length_all}
+use Rattle.label_tree.specs.Rose as rose
+use Rattle.label_tree.proofs.Roses.{length_all-roses_of}
+use Rattle.flat_tree.specs.Zips.{Zip, opened, added, closed}
+use Rattle.simple_types.specs.Space.{Space}
+use Rattle.simple_types.specs.declared.labels.ValueLabel.{ValueLabel}
+use Rattle.simple_types.specs.declared.labels.ValueLabel.TheVariants as value
+use Rattle.simple_values.specs.Reading.{spelled}
+use Rattle.content_models.specs.declared.particles.ParticleLabel.{ParticleLabel}
+use Rattle.content_models.specs.Particle.{Particle}
+use Rattle.content_models.specs.Seen.{seen}
+use Rattle.doc_text.specs.declared.label.ItemLabel.{ItemLabel}
+use Rattle.doc_text.specs.declared.label.ItemLabel.TheVariants.{Element, Text}
+use Rattle.doc_text.specs.Sound.{is_sound, are_sound_attributes, are_sound, levels, levels_all}
+use Rattle.plain_items.specs.Plain.{Plain}
+use Rattle.plain_items.specs.Mixing.{interleaved}
+use Rattle.schema_parts.specs.Components.{Set}
+use Rattle.schema_parts.specs.Linked.{leaves, IsModel, IsNamed, IsLinked}
+use Rattle.schema_parts.specs.SetParts.{parts_of}
+use Rattle.xer_items.specs.Items.{given}
+use Rattle.validity.specs.Asked.{Asked, Inside, nothing, simple, children, asked_at}
+use Rattle.validity.specs.Attributes.{nil_from, nil_of, left, treated_attributes, with_nil}
+use Rattle.validity.specs.Valid.{text_kids, Spells, treated_element, KidsValid}
+use Rattle.validity.specs.Faults.{IsBad, FirstKid, FaultBy}
+use Rattle.validity.specs.declared.why.InvalidWhy.TheVariants.{NilWithContent}
+use Rattle.validity.proofs.Reading.{roses_of-list_of, all_kept}
+use Rattle.validity.proofs.Unique.{ContentValid, NilValid}
+use Rattle.validity_check.specs.declared.error.CheckError.{CheckError}
+use Rattle.validity_check.specs.Answers.{Tells, IsGoodTag, InsideFault}
+use Rattle.validity_check.proofs.Tagging.{nil_judged, inside_judged}
+use Rattle.value_exists.proofs.Elements.{attributes-sound}
+use Rattle.value_builder.specs.Built.{Built, Stands, Puts, flagged, with_parts}
+use Rattle.value_builder.proofs.Parts.{part-absent, part-present}
+use Rattle.content_values.specs.Made.{Child}
+use Rattle.xer_read.specs.Private.Held.{Beside, Held, texts_of}
+use Rattle.xer_read.specs.Private.Held as held
+use Rattle.xer_read.specs.Private.Given.{IsReadAs, IsElementOf, Gives, IsRead}
+use Rattle.xer_read.specs.Private.Keeping.{text_value, strings_from, strings_put}
+use Rattle.xer_read.specs.Private.Contents.{AreThose, IsContentBy, IsContentOf, is_plain_at, NothingMade, ChildrenMade, ComplexMade, IsMadeBy, IsMade, IsFilled, IsNilFilled, ChildrenPut, InsidePut, Begins, ComplexPut}
+use Rattle.xer_read.specs.Private.Putting.{ValuePut, PartsPut}
+use Rattle.xer_read.proofs.Putting.{puts-as, sequence-closed}
+use Rattle.xer_read.proofs.Strings.{strings-between, elements-alone}
+use Rattle.xer_read.proofs.Giving.{ReadBy, made-gives}
+
+-- ---- what stands beside attributes and texts
+
+pub nothing-inside : (s : Set) (nillable : Bool) (ts : Roses ItemLabel) (z : Zip ValueLabel) (old new : Built) → ts ≡ rose.none → PartsPut (NothingMade nillable) old new → Stands old z → InsidePut s nillable nothing ts z new
+nothing-inside s nillable ts z old new e h stands = record {
+  rest = held.nothing;
+  vs = rose.none;
+  is = (e, refl);
+  flags = h.flags;
+  values = h.values;
+  made = h.holds;
+  stands = h.puts.stands z stands;
+}
+
+pub text-inside : (s : Set) (nillable : Bool) (space : Space) (ts : Roses ItemLabel) (z : Zip ValueLabel) (old new : Built) (v : Rose ValueLabel) → IsReadAs space ts v → Puts (with_parts (true ∷ []) (v ∷ [])) old new
+    → Stands old z → InsidePut s nillable (simple space) ts z new
+text-inside s nillable space ts z old new v (words, only, accepts) puts stands = record {
+  rest = held.text v;
+  vs = text_kids (spelled space v);
+  is = (words, only, accepts, refl);
+  flags = true ∷ [];
+  values = v ∷ [];
+  made = (refl, refl);
+  stands = puts.stands z stands;
+}
+
+pub children-inside : (s : Set) (nillable mixed : Bool) (model : Rose ParticleLabel) (ts : Roses ItemLabel) (z : Zip ValueLabel) (new : Built) → are_sound ts ≡ true → All (IsNamed s) (leaves (seen model))
+    → ChildrenPut s nillable mixed (seen model) ts z new → InsidePut s nillable (children mixed (seen model)) ts z new
+children-inside s nillable mixed model ts z new sound named h = record {
+  rest = held.children model h.gs;
+  vs = h.vs;
+  is = (
+    refl,
+    record {
+      named = named;
+      leaves_are = h.leaves_are;
+      lang = h.lang;
+      valid = h.valid;
+      items = h.items;
+      kept = h.kept;
+      mixed_is = λ is.
+          let between = strings-between (asked_at (parts_of s)) ts h.leaves_are h.vs sound (subst (λ m. KidsValid (asked_at (parts_of s)) m ts h.leaves_are h.vs) is h.valid) in
+          record {
+            words = strings_from [] ts;
+            texts_are = refl;
+            many = let m = between.1 in let n = ap length_all h.are in let long = length_all-roses_of h.items in omega (arith, m, n, long);
+            is = between.0 ∙ ap (λ bs. interleaved (strings_from [] ts) bs) h.are;
+          };
+      plain_is = λ is. sym (elements-alone (asked_at (parts_of s)) ts h.leaves_are h.vs (subst (λ m. KidsValid (asked_at (parts_of s)) m ts h.leaves_are h.vs) is h.valid)) ∙ h.are;
+    },
+  );
+  flags = h.flags;
+  values = h.values;
+  made = h.made;
+  stands = h.stands;
+}
+
+-- the parts of child elements as one part
+pub inner-children : (s : Set) (mixed : Bool) (p : Particle) (ts : Roses ItemLabel) (z : Zip ValueLabel) (old begun before after : Built) → Puts (λ z. opened (value.Sequence []) (flagged true z)) old begun
+    → Stands old z → ChildrenPut s false mixed p ts (opened (value.Sequence []) (flagged true z)) before → Puts closed before after → ChildrenPut s true mixed p ts z after
+inner-children s mixed p ts z old begun before after begins stands h closes =
+    let v = node (value.Sequence h.flags) (roses_of h.values) in
+    record {
+      leaves_are = h.leaves_are;
+      lang = h.lang;
+      vs = h.vs;
+      valid = h.valid;
+      gs = h.gs;
+      items = h.items;
+      kept = h.kept;
+      are = h.are;
+      flags = true ∷ [];
+      values = v ∷ [];
+      made = (h.flags, h.values, refl, refl, h.made);
+      stands = subst (Stands after) (part-present v z) (closes.stands (with_parts h.flags h.values (opened (value.Sequence []) (flagged true z))) h.stands);
+    }
+
+-- ---- the value of a complex type
+
+-- what stands behind its attributes is put down there
+abbrev pub begun_at : (a : Asked) (xs : List (Name × List ℕ)) (texts : List (Rose ValueLabel)) (old mid : Built) → Begins a xs texts old mid → Zip ValueLabel → Zip ValueLabel
+begun_at a xs texts old mid h z = with_parts h.flags h.values (with_parts h.text_flags h.text_values (opened (value.Sequence []) z))
+
+pub complex-put : (s : Set) (a : Asked) (xs : List (Name × List ℕ)) (ts : Roses ItemLabel) (z : Zip ValueLabel) (old mid before after : Built) (begins : Begins a xs (strings_put false ts) old mid)
+    → InsidePut s a.nillable a.inside ts (begun_at a xs (strings_put false ts) old mid begins z) before → Puts closed before after → ComplexPut s a xs ts z after
+complex-put s a xs ts z old mid before after begins inner closes = record {
+  content = record { texts = strings_put false ts; rest = inner.rest };
+  vs = inner.vs;
+  is = inner.is;
+  value = node (value.Sequence (begins.text_flags ++ (begins.flags ++ inner.flags))) (roses_of (begins.text_values ++ (begins.values ++ inner.values)));
+  made = record {
+    text_flags = begins.text_flags;
+    text_values = begins.text_values;
+    flags = begins.flags;
+    values = begins.values;
+    rest_flags = inner.flags;
+    rest_values = inner.values;
+    is = refl;
+    texts = begins.texts_made;
+    attributes = begins.attributes_made;
+    others = inner.made;
+  };
+  stands = subst (Stands after) (sequence-closed begins.text_flags begins.flags inner.flags begins.text_values begins.values inner.values z)
+      (closes.stands (with_parts inner.flags inner.values (begun_at a xs (strings_put false ts) old mid begins z)) inner.stands);
+}
+
+-- of one that is nil
+pub nil-put : (a : Asked) (xs : List (Name × List ℕ)) (old mid before after : Built) (begins : Begins a xs [] old mid) → Puts (flagged false) mid before → Puts closed before after
+    → (v : Rose ValueLabel) × IsNilFilled a xs v × Puts (added v) old after
+nil-put a xs old mid before after begins flags closes =
+    let v = node (value.Sequence (begins.text_flags ++ (begins.flags ++ false ∷ []))) (roses_of (begins.text_values ++ (begins.values ++ []))) in
+    let content : Held = record { texts = []; rest = held.nil } in (
+      v,
+      (
+        content,
+        (refl, refl),
+        record {
+          text_flags = begins.text_flags;
+          text_values = begins.text_values;
+          flags = begins.flags;
+          values = begins.values;
+          rest_flags = false ∷ [];
+          rest_values = [];
+          is = refl;
+          texts = begins.texts_made;
+          attributes = begins.attributes_made;
+          others = (refl, refl);
+        },
+      ),
+      record {
+        most = closes.most ∙ flags.most ∙ begins.puts.most;
+        stands = λ z st.
+            subst (Stands after)
+            (ap closed (part-absent (begun_at a xs [] old mid begins z)) ∙ sequence-closed begins.text_flags begins.flags (false ∷ []) begins.text_values begins.values [] z)
+            (closes.stands (flagged false (begun_at a xs [] old mid begins z)) (flags.stands (begun_at a xs [] old mid begins z) (begins.puts.stands z st)));
+      },
+    )
+
+-- the value is that of a complex type, where it isn't that of a text
+made-as : (s : Set) (plain : Bool) (inside : Inside) (ts : Roses ItemLabel) (texts : Rose ValueLabel) (r : Beside) (vs : Roses Plain) (v : Rose ValueLabel) (P : Type 0) → IsContentBy s inside ts texts r vs
+    → ((space : Space) → inside ≡ simple space → plain ≡ false) → P → IsMadeBy plain r v P
+made-as s plain inside ts texts held.nil vs v P h apart p = p
+made-as s plain inside ts texts held.nothing vs v P h apart p = p
+made-as s plain inside ts texts (held.children model gs) vs v P h apart p = p
+made-as s plain nothing ts texts (held.text w) vs v P h apart p = absurd h
+made-as s plain (children mixed q) ts texts (held.text w) vs v P h apart p = absurd h
+made-as s plain (simple space) ts texts (held.text w) vs v P h apart p = subst (λ b. MatchBool b (v ≡ w) P) (sym (apart space refl)) p
+
+pub complex-filled : (s : Set) (d : ℕ) (a : Asked) (xs : List (Name × List ℕ)) (ts : Roses ItemLabel) (z : Zip ValueLabel) (new : Built) → ((space : Space) → a.inside ≡ simple space → is_plain_at s d ≡ false)
+    → ComplexPut s a xs ts z new → ValuePut (IsFilled s d a xs ts) z new
+complex-filled s d a xs ts z new apart h = record {
+  value = h.value;
+  holds = (h.content, h.vs, h.is, made-as s (is_plain_at s d) a.inside ts (texts_of h.content) h.content.rest h.vs h.value (ComplexMade a xs h.content h.value) h.is apart h.made);
+  stands = h.stands;
+}
+
+-- and that of its text
+pub plain-filled : (s : Set) (d : ℕ) (a : Asked) (xs : List (Name × List ℕ)) (ts : Roses ItemLabel) (z : Zip ValueLabel) (old new : Built) (space : Space) → a.inside ≡ simple space → is_plain_at s d ≡ true → (v : Rose ValueLabel)
+    → IsReadAs space ts v → Puts (added v) old new → Stands old z → ValuePut (IsFilled s d a xs ts) z new
+plain-filled s d a xs ts z old new space inside_is plain v (words, only, accepts) puts stands =
+    let content : Held = record { texts = []; rest = held.text v } in
+    let vs = text_kids (spelled space v) in
+    record {
+      value = v;
+      holds = (
+        content,
+        vs,
+        subst (λ i. IsContentOf s i ts content vs) (sym inside_is) (words, only, accepts, refl),
+        subst (λ b. MatchBool b (v ≡ v) (ComplexMade a xs content v)) (sym plain) refl,
+      );
+      stands = puts.stands z stands;
+    }
+
+-- such a content is valid
+content-valid : (s : Set) (inside : Inside) (ts : Roses ItemLabel) (texts : Rose ValueLabel) (r : Beside) (vs : Roses Plain) → IsContentBy s inside ts texts r vs → ContentValid (asked_at (parts_of s)) inside ts vs
+content-valid s nothing ts texts held.nil vs h = absurd h
+content-valid s nothing ts texts held.nothing vs h = h
+content-valid s nothing ts texts (held.text v) vs h = absurd h
+content-valid s nothing ts texts (held.children model gs) vs h = absurd h
+content-valid s (simple space) ts texts held.nil vs h = absurd h
+content-valid s (simple space) ts texts held.nothing vs h = absurd h
+content-valid s (simple space) ts texts (held.text v) vs (words, only, accepts, is) = (words, only, subst (λ r. Spells space r vs) (sym accepts) is)
+content-valid s (simple space) ts texts (held.children model gs) vs h = absurd h
+content-valid s (children mixed p) ts texts held.nil vs h = absurd h
+content-valid s (children mixed p) ts texts held.nothing vs h = absurd h
+content-valid s (children mixed p) ts texts (held.text v) vs h = absurd h
+content-valid s (children mixed p) ts texts (held.children model gs) vs h = (h.1.leaves_are, h.1.lang, h.1.valid)
+
+-- ---- an element
+
+levels-element : (t : Rose ItemLabel) (n : Name) (xs : List (Name × List ℕ)) (declares : List (List ℕ × List ℕ)) (at : ℕ) → label_of t ≡ Element n xs declares at → levels t ≡ suc (levels_all (roses_of (kids_of t)))
+levels-element (node (Text words b) ks) n xs declares at e = absurd (cc)
+levels-element (node (Element m ys bindings b) ks) n xs declares at e = ap (λ z. suc (levels_all z)) (sym (roses_of-list_of ks))
+
+element-sound : (t : Rose ItemLabel) (n : Name) (xs : List (Name × List ℕ)) (declares : List (List ℕ × List ℕ)) (at : ℕ) → label_of t ≡ Element n xs declares at → is_sound t ≡ true
+    → (are_sound_attributes xs ≡ true) × (are_sound (roses_of (kids_of t)) ≡ true)
+element-sound (node l ks) n xs declares at e h =
+    let own = attributes-sound n xs declares at ks (subst (λ z. is_sound (node z ks) ≡ true) e h) in
+    (own.0, ap are_sound (roses_of-list_of ks) ∙ own.1)
+
+module _ (s : Set) (linked : IsLinked s) (d : ℕ) (n : Name) (xs : List (Name × List ℕ)) (declares : List (List ℕ × List ℕ)) (place : ℕ) (t : Rose ItemLabel) (is : label_of t ≡ Element n xs declares place)
+    (sound : is_sound t ≡ true)
+  where
+    abbrev asks : ℕ → Asked
+    asks = asked_at (parts_of s)
+
+    not-bad : (nil : Bool) → nil_of (asks d).nillable xs ≡ nil_from (Some nil) → IsBad (nil_of (asks d).nillable xs) → ⊥
+    not-bad nil e h = go nil (subst IsBad e h)
+      where
+        go : (b : Bool) → IsBad (nil_from (Some b)) → ⊥
+        go true h = h
+        go false h = h
+
+    element-read : (nil : Bool) → IsGoodTag (asks d) xs nil → (vs : Roses Plain) → NilValid asks (nil_from (Some nil)) (asks d).inside (roses_of (kids_of t)) vs → (content : Held)
+        → ReadBy s (nil_from (Some nil)) (asks d).inside (roses_of (kids_of t)) content vs → (v : Rose ValueLabel) → IsMade (is_plain_at s d) (asks d) xs content v → IsRead s d t v
+    element-read nil good vs valid content here v made =
+        let whole = element-sound t n xs declares place is sound in
+        let inner = given (with_nil (nil_of (asks d).nillable xs) (treated_attributes (asks d).attributes (left xs))) vs in
+        record {
+          treated = treated_element (asks d) n xs vs;
+          valid = all_kept asks d n xs declares place t is good.plain (not-bad nil good.nil_is) good.right good.stand vs
+              (subst (λ k. NilValid asks k (asks d).inside (roses_of (kids_of t)) vs) (sym good.nil_is) valid);
+          inner = inner;
+          is = subst (λ l. IsElementOf l inner (treated_element (asks d) n xs vs)) (sym is) refl;
+          gives = subst (λ high. Gives s d high v inner) (sym (levels-element t n xs declares place is))
+              (made-gives s linked d (asks d) refl xs whole.0 good.stand (roses_of (kids_of t)) whole.1 (nil_of (asks d).nillable xs) refl content vs
+              (subst (λ k. ReadBy s k (asks d).inside (roses_of (kids_of t)) content vs) (sym good.nil_is) here) v made);
+        }
+
+    module _ (a : Asked) (ys : List (Name × List ℕ)) (asked_is : a ≡ asks d) (same : ys ≡ xs) (kids : List (Rose ItemLabel)) (are : kids ≡ kids_of t) where
+      good-tag : (nil : Bool) → IsGoodTag a ys nil → IsGoodTag (asks d) xs nil
+      good-tag nil good = subst (λ b. IsGoodTag b xs nil) asked_is (subst (λ zs. IsGoodTag a zs nil) same good)
+
+      abbrev refused : CheckError → Result (Unit {0}) CheckError
+      refused e = Err e
+
+      made-nil : (content : Held) (v : Rose ValueLabel) → content.rest ≡ held.nil → ComplexMade (asks d) xs content v → IsMade (is_plain_at s d) (asks d) xs content v
+      made-nil content v e made = subst (λ r. IsMadeBy (is_plain_at s d) r v (ComplexMade (asks d) xs content v)) (sym e) made
+
+      pub nil-read : (old new : Built) → IsGoodTag a ys true → (r : Result (Unit {0}) CheckError)
+          → MatchResult r (λ _. (roses_of kids ≡ rose.none) × ((v : Rose ValueLabel) × IsNilFilled a ys v × Puts (added v) old new)) (Tells (FirstKid (roses_of kids) (λ _. NilWithContent)))
+          → (z : Zip ValueLabel) → Stands old z → MatchResult r (λ _. ValuePut (IsRead s d t) z new) (Tells (FaultBy asks d t))
+      nil-read old new good (Ok x) (none, (v, made, puts)) z stands =
+          let (content, nil, filled) = subst (λ b. IsNilFilled b xs v) asked_is (subst (λ zs. IsNilFilled a zs v) same made) in
+          let empty : roses_of (kids_of t) ≡ rose.none = ap roses_of (sym are) ∙ none in
+          record {
+            value = v;
+            holds = element-read true (good-tag true good) rose.none (empty, refl) content (nil, refl) v (made-nil content v nil.0 filled);
+            stands = puts.stands z stands;
+          }
+      nil-read old new good (Err e) h z stands = nil_judged s d a ys n xs declares place t is asked_is same good kids are (refused e) h
+
+      pub filled-read : (new : Built) (z : Zip ValueLabel) → IsGoodTag a ys false → (r : Result (Unit {0}) CheckError)
+          → MatchResult r (λ _. ValuePut (IsFilled s d a ys (roses_of kids)) z new) (Tells (InsideFault asks a.inside (roses_of kids) place))
+          → MatchResult r (λ _. ValuePut (IsRead s d t) z new) (Tells (FaultBy asks d t))
+      filled-read new z good (Ok x) m =
+          let (content, vs, right, filled) =
+          subst (λ ks. IsFilled s d (asks d) xs (roses_of ks) m.value) are (subst (λ b. IsFilled s d b xs (roses_of kids) m.value) asked_is (subst (λ zs. IsFilled s d a zs (roses_of kids) m.value) same m.holds)) in
+          record {
+            value = m.value;
+            holds = element-read false (good-tag false good) vs (content-valid s (asks d).inside (roses_of (kids_of t)) (texts_of content) content.rest vs right) content right m.value filled;
+            stands = m.stands;
+          }
+      filled-read new z good (Err e) h = inside_judged s d a ys n xs declares place t is asked_is same good kids are (refused e) h
