@@ -1,4 +1,5 @@
-use Rattle.std.proofs.Common.{sym, ◌∙◌}
+use Rattle.std.proofs.Common.{sym, ◌∙◌, ap}
+use Rattle.label_tree.specs.Rose.{label_of}
 use Rattle.simple_types.specs.Seen.{space_of}
 use Rattle.xa_base.specs.WhiteSpace.{treated}
 use Rattle.xa_base.specs.declared.white_space.WhiteSpace.TheVariants.{Collapse}
@@ -13,11 +14,11 @@ accept-requires c = tt
 
 pub returns-in-Bool : goal.returns-in-Bool
 unfolding space_of reads treated
-returns-in-Bool c = is_true_or_false (boolean_of (treated Collapse c.args.text.now)) c.in-Ok.value c.in-Bool.b c.in-Ok.ensures (sym c.label.ensures ∙ c.in-Bool.is)
+returns-in-Bool c = is_true_or_false (boolean_of (treated Collapse c.args.text.now)) c.in-Ok.value c.in-Bool.b c.in-Ok.ensures (ap label_of (sym c.root.ensures) ∙ sym c.label.ensures ∙ c.in-Bool.is)
 
 pub returns-in-Ok : goal.returns-in-Ok
 unfolding space_of reads treated
-returns-in-Ok c = absurd (is_no_other (boolean_of (treated Collapse c.args.text.now)) c.in-Ok.value c.in-Ok.ensures (λ b e. c.in_default.not-Bool b (c.label.ensures ∙ e)))
+returns-in-Ok c = absurd (is_no_other (boolean_of (treated Collapse c.args.text.now)) c.in-Ok.value c.in-Ok.ensures (λ b e. c.in_default.not-Bool b (c.label.ensures ∙ ap label_of c.root.ensures ∙ e)))
 
 pub returns-in-Err-BadText : goal.returns-in-Err-BadText
 unfolding space_of reads treated
