@@ -1,5 +1,5 @@
 -- The parts for attributes: each that stands and is declared has a text that its type takes.
-use Rattle.std.proofs.Common.{◌≡◌, ℕ, ◌+◌, ◌<◌, Bool, true, false, Some, None, List, [], ◌∷◌, ◌++◌, length, map, take, get_or, refl, sym, ◌∙◌, ap, subst}
+use Rattle.std.proofs.Common.{◌≡◌, ℕ, ◌+◌, ◌<◌, Bool, true, false, Option, Some, None, List, [], ◌∷◌, ◌++◌, length, map, take, get_or, refl, sym, ◌∙◌, ap, subst}
 use Rattle.std.specs.Prelude.{All, Ok, Err, slice_get}
 use Rattle.std.proofs.lemmas.List.{map-append, take_more}
 use Rattle.std.proofs.lemmas.List.Elements.{All-nil, All-cons, All-head, All-tail}
@@ -22,11 +22,14 @@ use Rattle.validity.proofs.Fair.{fair_at}
 use Rattle.validity.proofs.Treated.{declared_each, text_right}
 use Rattle.validity_check.proofs.Tagging.{plain_name, text_left}
 use Rattle.one_value.proofs.Simples.{found-in}
+use Rattle.value_builder.specs.Built.{Built}
 use Rattle.xer_read.specs.Private.Contents.{IsTaken, AreTaken, AttributesMade}
+use Rattle.xer_read.specs.Private.Putting.{PartsPut}
+use Rattle.xer_read.proofs.Putting.{both-parts}
 
 -- ---- one by one
 
-pub attributes-more : (us : List Attribute) (a : Attribute) (xs : List (Name × List ℕ)) (f g : List Bool) (v w : List (Rose ValueLabel)) → AttributesMade us xs f v → AttributesMade (a ∷ []) xs g w
+attributes-more : (us : List Attribute) (a : Attribute) (xs : List (Name × List ℕ)) (f g : List Bool) (v w : List (Rose ValueLabel)) → AttributesMade us xs f v → AttributesMade (a ∷ []) xs g w
     → AttributesMade (us ++ a ∷ []) xs (f ++ g) (v ++ w)
 attributes-more [] a xs f g v w h k =
     subst (λ y. AttributesMade (a ∷ []) xs (y ++ g) (v ++ w)) (sym h.0) (subst (λ y. AttributesMade (a ∷ []) xs g (y ++ w)) (sym h.1) k)
@@ -34,6 +37,11 @@ attributes-more (b ∷ us) a xs [] g v w h k = absurd h
 attributes-more (b ∷ us) a xs (true ∷ f) g [] w h k = absurd h
 attributes-more (b ∷ us) a xs (true ∷ f) g (v ∷ vs) w (words, is, accepts, h) k = (words, is, accepts, attributes-more us a xs f g vs w h k)
 attributes-more (b ∷ us) a xs (false ∷ f) g v w (is, h) k = (is, attributes-more us a xs f g v w h k)
+
+pub more-parts : (us bs : List Attribute) (a : Attribute) (xs : List (Name × List ℕ)) (one two three : Built) → bs ≡ us ++ a ∷ [] → PartsPut (AttributesMade us xs) one two → PartsPut (AttributesMade (a ∷ []) xs) two three
+    → PartsPut (AttributesMade bs xs) one three
+more-parts us bs a xs one two three e h k =
+    both-parts (AttributesMade us xs) (AttributesMade (a ∷ []) xs) (AttributesMade bs xs) (λ f g v w p q. subst (λ cs. AttributesMade cs xs (f ++ g) (v ++ w)) (sym e) (attributes-more us a xs f g v w p q)) one two three h k
 
 pub mapped-more : {U : Type 0} (f : U → Attribute) (us : List U) (i : ℕ) (u : U) → i < length us → u ≡ get_or us i u → map f (take (i + 1) us) ≡ map f (take i us) ++ f u ∷ []
 mapped-more f us i u below here =

@@ -1,5 +1,6 @@
 -- The way to a leaf leads to the declaration of the leaf.
 use Rattle.std.proofs.Common.{◌≡◌, ℕ, zero, suc, ◌+◌, Bool, true, false, List, [], ◌∷◌, ◌++◌, Option, Some, None, length, refl, sym, ◌∙◌, ap, subst, arith, length-append}
+use Rattle.xa_base.specs.declared.texts.Name.{Name}
 use Rattle.label_tree.specs.Rose.{Rose}
 use Rattle.flat_tree.specs.Zips.{Zip, opened, added_all}
 use Rattle.simple_types.specs.declared.labels.ValueLabel.{ValueLabel}
@@ -8,8 +9,13 @@ use Rattle.content_models.specs.Particle.{Particle, occurs, Term, element, seque
 use Rattle.content_models.specs.Language.{Turn, Leaf, turn_of, leaf_at, size_of}
 use Rattle.content_models.specs.Clear.{Clear, ClearInOrder, ClearOneOf}
 use Rattle.content_spots.specs.Spots.{Spot, at, Inner, here, inside, leaf_of, leaf_of_term, leaf_in}
-use Rattle.content_spots.specs.Laws.{EndsAt}
-use Rattle.value_builder.specs.Built.{flagged, with_parts}
+use Rattle.content_spots.specs.Laws.{EndsAt, step_from}
+use Rattle.content_match.specs.Taking.{Matched, TookMore, spot_of}
+use Rattle.content_match.specs.Private.Standing.{spot_now}
+use Rattle.content_match.specs.declared.places.Leaf as matched
+use Rattle.content_match.specs.declared.places.Turn as matched_turn
+use Rattle.value_builder.specs.Built.{Built, Stands, flagged, with_parts}
+use Rattle.xer_read.specs.Private.Putting.{OpenAt}
 use Rattle.content_values.specs.Bounds.{is_single, is_parted}
 use Rattle.content_values.specs.Made.{Child, TermMade}
 use Rattle.content_values.specs.Reached.{Before, Reached, TermReached, OrderReached, OneReached, PartedReached, TopReached, KeepsRule1, AllKeepRule1}
@@ -35,7 +41,7 @@ stop-at p (Some s) us l (earlier, last, e, leaf) = record { spot = s; is = refl;
 -- ---- the declaration
 
 by-single : (b : Bool) (t : Term) (i : ℕ) (most : Option ℕ) (s : Inner) (gs : List Child) (d : ℕ) (before now : Zip ValueLabel) {P : Type 0}
-    → ((as : List Child) (z : Zip ValueLabel) → TermReached t s as d z now → P)
+    → ((own : List Child) (z : Zip ValueLabel) → TermReached t s own d z now → P)
     → elim b as (λ _. Type 0) [
       true ↦ (i ≡ 0) × TermReached t s gs d before now
       | false ↦ (vs : List (Rose ValueLabel)) × (a : List Child) × (b : List Child) × (gs ≡ a ++ b) × Before (TermMade t) most i vs a
@@ -51,7 +57,7 @@ leaf-decl n d a path l q = let same : leaf_at n d a path ≡ l = cc in sym (ap (
 mutual
   particle-decl : (c : Bool) (p : Particle) (s : Spot) (gs : List Child) (d : ℕ) (before now : Zip ValueLabel) (n : ℕ) (path : List Turn) (l : Leaf) → Reached c p s gs d before now → leaf_of p n path s ≡ Some l → l.decl ≡ d
   particle-decl c (occurs t least most) (at i s) gs d before now n path l h e =
-      by-single (is_single c least most) t i most s gs d before now (λ as z k. term-decl t s as d z now n (path ++ turn_of n i ∷ []) l k e) h
+      by-single (is_single c least most) t i most s gs d before now (λ own z k. term-decl t s own d z now n (path ++ turn_of n i ∷ []) l k e) h
 
   term-decl : (t : Term) (s : Inner) (gs : List Child) (d : ℕ) (before now : Zip ValueLabel) (n : ℕ) (path : List Turn) (l : Leaf) → TermReached t s gs d before now → leaf_of_term t n path s ≡ Some l → l.decl ≡ d
   term-decl (element e a) here gs d before now n path l h q = leaf-decl n e a path l q ∙ h.1
@@ -84,6 +90,27 @@ top-decl (occurs t least most) s gs d before now l h q = by (is_parted t least m
         → elim b as (λ _. Type 0) [ true ↦ PartedReached t s gs d before now | false ↦ OrderReached (more (occurs t least most) none) (inside 0 s) gs d before now ] → l.decl ≡ d
     by true h = parted-decl t least most s gs d before now l h q
     by false h = particle-decl false (occurs t least most) s gs d (flagged true before) now 0 [] l h q
+
+-- ---- behind a step
+
+module _ (p : Particle) (k new : Matched) (us : List Leaf) (n : Name) (leaf : matched.Leaf) (same : new.particle ≡ k.particle) (is : k.particle ≡ p) (further : TookMore k new us n leaf) where
+  pub stop : Stop p (spot_of new) further.last
+  stop = stop-at p (spot_of new) us further.last (subst (λ q. EndsAt q (spot_of new) (us ++ further.last ∷ [])) (same ∙ is) further.took.leads.ends)
+
+  pub opened-at : (gs : List Child) (before : Zip ValueLabel) (after : Built)
+      → ((s : Spot) → spot_of new ≡ Some s → (d : ℕ) × (way : Zip ValueLabel) × TopReached p s gs d before way × Stands after way) → OpenAt p new gs leaf.decl before after
+  opened-at gs before after f =
+      let (d, way, reached, stands) = f stop.spot stop.is in
+      record {
+        spot = stop.spot;
+        spot_is = stop.is;
+        way = way;
+        reached = subst (λ e. TopReached p stop.spot gs e before way) (sym (top-decl p stop.spot gs d before way further.last reached stop.leaf) ∙ further.decl) reached;
+        stands = stands;
+      }
+
+pub step-goes : (p q : Particle) (ts us : List matched_turn.Turn) (ks ls : List ℕ) (a : Name) (o : Option Spot) (s : Spot) → q ≡ p → ts ≡ us → ks ≡ ls → step_from q (spot_now us ls) a ≡ o → o ≡ Some s → step_from p (spot_now ts ks) a ≡ Some s
+step-goes p q ts us ks ls a o s e f g h k = cc
 
 -- ---- rule 1
 

@@ -1,6 +1,6 @@
 pub mod Refusing
 pub mod Putting
-pub mod Strings
+pub mod Mixing
 pub mod Leading
 pub mod Attributed
 pub mod Making

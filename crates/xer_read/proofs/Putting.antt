@@ -54,3 +54,7 @@ all-none a = record { most = refl; stands = λ z s. subst (Stands a) (sym (added
 
 pub all-more : (vs : List (Rose ValueLabel)) (v : Rose ValueLabel) (a b c : Built) → Puts (added_all vs) a b → Puts (added v) b c → Puts (added_all (vs ++ v ∷ [])) a c
 all-more vs v a b c h k = puts-as (λ z. added v (added_all vs z)) (added_all (vs ++ v ∷ [])) a c (items-more vs v) (puts-both (added_all vs) (added v) a b c h k)
+
+pub all-both : (vs ws : List (Rose ValueLabel)) (a b c : Built) → Puts (added_all vs) a b → Puts (added_all ws) b c → Puts (added_all (vs ++ ws)) a c
+all-both vs ws a b c h k =
+    puts-as (λ z. added_all ws (added_all vs z)) (added_all (vs ++ ws)) a c (λ z. ap (λ ks. record { above = z.above; kids = ks }) (append_assoc z.kids vs ws)) (puts-both (added_all vs) (added_all ws) a b c h k)

@@ -41,7 +41,7 @@ use Rattle.xer_read.specs.Private.Given.{IsElementOf, IsRead}
 use Rattle.xer_read.specs.Private.Keeping.{IsKept, AllKept, Reached}
 use Rattle.xer_read.specs.Private.Contents.{ChildrenPut}
 use Rattle.xer_read.specs.Private.Putting.{ValuePut, OpenAt}
-use Rattle.xer_read.proofs.Strings.{valid-element}
+use Rattle.xer_read.proofs.Mixing.{valid-element}
 
 -- ---- treated kids, one more at their end
 

@@ -43,7 +43,7 @@ use Rattle.xer_read.specs.Private.Keeping.{text_value, strings_from, strings_put
 use Rattle.xer_read.specs.Private.Contents.{AreThose, IsContentBy, IsContentOf, is_plain_at, NothingMade, ChildrenMade, ComplexMade, IsMadeBy, IsMade, IsFilled, IsNilFilled, ChildrenPut, InsidePut, Begins, ComplexPut}
 use Rattle.xer_read.specs.Private.Putting.{ValuePut, PartsPut}
 use Rattle.xer_read.proofs.Putting.{puts-as, sequence-closed}
-use Rattle.xer_read.proofs.Strings.{strings-between, elements-alone}
+use Rattle.xer_read.proofs.Mixing.{strings-between, elements-alone}
 use Rattle.xer_read.proofs.Giving.{ReadBy, made-gives}
 
 -- ---- what stands beside attributes and texts
@@ -88,10 +88,10 @@ children-inside s nillable mixed model ts z new sound named h = record {
       mixed_is = λ is.
           let between = strings-between (asked_at (parts_of s)) ts h.leaves_are h.vs sound (subst (λ m. KidsValid (asked_at (parts_of s)) m ts h.leaves_are h.vs) is h.valid) in
           record {
-            words = strings_from [] ts;
+            words = strings_from false ts;
             texts_are = refl;
             many = let m = between.1 in let n = ap length_all h.are in let long = length_all-roses_of h.items in omega (arith, m, n, long);
-            is = between.0 ∙ ap (λ bs. interleaved (strings_from [] ts) bs) h.are;
+            is = between.0 ∙ ap (λ bs. interleaved (strings_from false ts) bs) h.are;
           };
       plain_is = λ is. sym (elements-alone (asked_at (parts_of s)) ts h.leaves_are h.vs (subst (λ m. KidsValid (asked_at (parts_of s)) m ts h.leaves_are h.vs) is h.valid)) ∙ h.are;
     },

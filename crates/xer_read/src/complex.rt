@@ -16,8 +16,8 @@ ghost use Rattle.validity_check.specs.Answers.{Tells, TextFault};
 ghost use Rattle.validity_check.specs.Told.{inside_told, told};
 ghost use Rattle.value_builder.specs.Built.{Puts, flagged, with_parts};
 ghost use Rattle.xer_read.specs.Private.Keeping.{strings_put};
-ghost use Rattle.xer_read.specs.Private.Contents.{AreTaken, is_plain_at, NothingMade, IsNilFilled};
-ghost use Rattle.xer_read.specs.Private.Putting.{PartsPut, Begins};
+ghost use Rattle.xer_read.specs.Private.Contents.{AreTaken, is_plain_at, NothingMade, IsNilFilled, Begins};
+ghost use Rattle.xer_read.specs.Private.Putting.{PartsPut};
 
 use crate::attributes::put_attributes;
 use crate::strings::put_texts;

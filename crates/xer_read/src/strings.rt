@@ -1,11 +1,11 @@
 //! The texts of mixed content: one string before, between and behind the child elements each.
-ghost use Rattle.std.specs.Prelude.{◌≡◌, OnOk, [], map};
+ghost use Rattle.std.specs.Prelude.{◌≡◌, OnOk, false, map};
 ghost use Rattle.label_tree.specs.Rose.{node, roses_of};
 ghost use Rattle.flat_tree.specs.Zips.{added, added_all};
 ghost use Rattle.simple_types.specs.declared.labels.ValueLabel.TheVariants as label;
 ghost use Rattle.validity_check.specs.Told.{inside_told};
 ghost use Rattle.value_builder.specs.Built.{Puts};
-ghost use Rattle.xer_read.specs.Private.Keeping.{text_value, strings_from, strings_put};
+ghost use Rattle.xer_read.specs.Private.Keeping.{text_value, missing, strings_from, strings_put};
 ghost use Rattle.xer_read.specs.Private.Contents.{TextsMade};
 ghost use Rattle.xer_read.specs.Private.Putting.{PartsPut};
 
@@ -13,6 +13,7 @@ use doc_text::ItemLabel;
 use flat_tree::Kids;
 use simple_types::ValueLabel;
 use std::alloc::Global;
+use std::iter::Iterator;
 use validity_check::Inside;
 use value_builder::ValueBuilder;
 use xa_base::{Memory, Text};
@@ -25,26 +26,39 @@ fn put_string(alloc: Global, words: &Text, values: &mut ValueBuilder) -> Result<
     values.leaf(ValueLabel::Utf8(text))
 }
 
-// The strings before, between and behind the child elements. One that isn't there is empty.
+// The string where no text stands is empty.
+fn put_missing(has_text: bool, values: &mut ValueBuilder) -> Result<(), Memory>
+    ensures { OnOk result (Puts (added_all (map text_value (missing has_text))) values.old values.new) }
+{
+    if has_text {
+        Ok(())
+    } else {
+        values.leaf(ValueLabel::Utf8(Text::empty()))
+    }
+}
+
+// The strings before, between and behind the child elements.
 fn put_each_string(
     alloc: Global,
     kids: &Kids<'_, ItemLabel>,
     values: &mut ValueBuilder,
 ) -> Result<(), Memory>
-    ensures { OnOk result (Puts (added_all (map text_value (strings_from [] (roses_of kids.now)))) values.old values.new) }
+    ensures { OnOk result (Puts (added_all (map text_value (strings_from false (roses_of kids.now)))) values.old values.new) }
 {
-    let empty = Text::empty();
-    let mut words = &empty;
+    let mut has_text = false;
     for kid in kids.again() {
         match kid.label() {
-            ItemLabel::Text { text, .. } => words = text,
+            ItemLabel::Text { text, .. } => {
+                put_string(alloc, text, values)?;
+                has_text = true;
+            }
             ItemLabel::Element { .. } => {
-                put_string(alloc, words, values)?;
-                words = &empty;
+                put_missing(has_text, values)?;
+                has_text = false;
             }
         }
     }
-    put_string(alloc, words, values)
+    put_missing(has_text, values)
 }
 
 // The SEQUENCE OF strings, which has none where the element is nil.

@@ -1,5 +1,5 @@
 -- The kids of an element as they are walked, one by one: child elements by their values, and the texts between them.
-use Rattle.std.specs.Prelude.{◌≡◌, ℕ, ◌≤◌, Bool, true, false, List, [], ◌∷◌, length, map}
+use Rattle.std.specs.Prelude.{◌≡◌, ℕ, ◌≤◌, Bool, true, false, List, [], ◌∷◌, ◌++◌, length, map}
 use Rattle.xa_base.specs.declared.texts.Name.{Name}
 use Rattle.label_tree.specs.Rose.{Rose, node, Roses, roses_of, label_of}
 use Rattle.label_tree.specs.Rose as rose
@@ -31,16 +31,21 @@ use Rattle.xer_read.specs.Private.Given.{Gives}
 abbrev pub text_value : List ℕ → Rose ValueLabel
 text_value words = node (value.Utf8 words) rose.none
 
--- The strings before, between and behind the child elements, where these words stand before them. One that isn't there is
--- empty.
-abbrev pub strings_from : List ℕ → Roses ItemLabel → List (List ℕ)
-strings_from words rose.none = words ∷ []
-strings_from words (rose.more t ts) = elim (label_of t) [ Element name xs declares at ↦ words ∷ strings_from [] ts | Text others at ↦ strings_from others ts ]
+-- the string where no text stands is empty
+abbrev pub missing : Bool → List (List ℕ)
+missing true = []
+missing false = [] ∷ []
+
+-- The strings before, between and behind the child elements, without the first of them where it has stood already.
+abbrev pub strings_from : Bool → Roses ItemLabel → List (List ℕ)
+strings_from has_text rose.none = missing has_text
+strings_from has_text (rose.more t ts) =
+    elim (label_of t) [ Element name xs declares at ↦ missing has_text ++ strings_from false ts | Text words at ↦ words ∷ strings_from true ts ]
 
 -- an element that is nil has none
 abbrev pub strings_put : Bool → Roses ItemLabel → List (Rose ValueLabel)
 strings_put true ts = []
-strings_put false ts = map text_value (strings_from [] ts)
+strings_put false ts = map text_value (strings_from false ts)
 
 -- ---- child elements
 
