@@ -1,6 +1,6 @@
 -- Which form the part for a particle has, by the bounds of the particle (X.694, clauses 18 and 19).
-use Rattle.std.specs.Prelude.{ℕ, Bool, true, false, ◌&&◌, ◌||◌, ◌==◌, not, Option, Some, None}
-use Rattle.content_models.specs.Particle.{Term, element, sequence, choice}
+use Rattle.std.specs.Prelude.{ℕ, Bool, false, ◌&&◌, ◌||◌, ◌==◌, not, Option, Some, None}
+use Rattle.content_models.specs.Particle.{Term, sequence}
 
 -- the bounds 1 and 1
 abbrev pub is_once : ℕ → Option ℕ → Bool

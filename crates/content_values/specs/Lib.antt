@@ -1,3 +1,4 @@
 pub mod Bounds
 pub mod Made
+pub mod Private
 pub mod Reached

@@ -1,7 +1,7 @@
 -- What is put down of a content model's value when the way to a leaf is open: the child elements before it stand in their
 -- parts, and each group on the way is begun, with empty parts for what stands empty before the leaf. The child element at the
 -- leaf comes next.
-use Rattle.std.specs.Prelude.{◌≡◌, ℕ, zero, suc, ◌⊎◌, Bool, true, false, List, [], ◌∷◌, ◌++◌, length, Option, Some, None}
+use Rattle.std.specs.Prelude.{◌≡◌, ℕ, zero, suc, Bool, true, false, List, [], ◌∷◌, ◌++◌, length, Option, Some, None}
 use Rattle.label_tree.specs.Rose.{Rose}
 use Rattle.flat_tree.specs.Zips.{Zip, opened, added, added_all}
 use Rattle.simple_types.specs.declared.labels.ValueLabel.{ValueLabel}
@@ -27,7 +27,7 @@ abbrev mutual
   pub Reached : Bool → Particle → Spot → List Child → ℕ → Zip ValueLabel → Zip ValueLabel → Type 0
   Reached in_choice (occurs t least most) (at i s) gs d before now =
       elim (is_single in_choice least most) as (λ _. Type 0) [
-        true ↦ (i ≡ 0) × TermReached t s gs d before now
+        | true ↦ (i ≡ 0) × TermReached t s gs d before now
         | false ↦ (vs : List (Rose ValueLabel)) × (a : List Child) × (b : List Child) × (gs ≡ a ++ b) × Before (TermMade t) most i vs a
             × TermReached t s b d (added_all vs (opened value.SequenceOf before)) now
       ]
@@ -63,7 +63,7 @@ PartedReached _ s gs d before now = ⊥
 abbrev pub TopReached : Particle → Spot → List Child → ℕ → Zip ValueLabel → Zip ValueLabel → Type 0
 TopReached (occurs t least most) s gs d before now =
     elim (is_parted t least most) as (λ _. Type 0) [
-      true ↦ PartedReached t s gs d before now
+      | true ↦ PartedReached t s gs d before now
       | false ↦ OrderReached (more (occurs t least most) none) (inside 0 s) gs d before now
     ]
 

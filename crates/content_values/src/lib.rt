@@ -2,6 +2,13 @@
 //! no longer is closed, the parts between are put down empty, and the way to the next leaf is opened.
 #![tactic(auto)]
 
+mod emptying;
+mod ending;
+mod entering;
+mod kinds;
+mod moving;
+mod paths;
 mod placing;
 
-pub use placing::{Path, put_end, put_step};
+pub use paths::Path;
+pub use placing::{put_end, put_step};

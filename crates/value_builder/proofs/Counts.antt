@@ -1,5 +1,5 @@
 -- How many nodes there are after each step.
-use Rattle.std.proofs.Common.{◌≡◌, ℕ, ◌+◌, List, [], ◌∷◌, ◌++◌, refl, arith, Bool}
+use Rattle.std.proofs.Common.{◌≡◌, ◌+◌, List, [], ◌∷◌, refl, arith, Bool}
 use Rattle.label_tree.specs.Rose.{Rose, node, roses_of, node_count, count_all}
 use Rattle.label_tree.proofs.Roses.{count_all-append, count_all-push}
 use Rattle.flat_tree.specs.Zips.{Above, Zip, above_count, zip_count, opened, added, added_all, closed, closed_in}

@@ -1,5 +1,5 @@
 -- What is put down, step by step.
-use Rattle.std.proofs.Common.{◌≡◌, ℕ, ◌+◌, ◌-◌, ◌^◌, ◌<◌, ◌≤◌, min, ◌∙◌, ap, arith, refl, sym, subst}
+use Rattle.std.proofs.Common.{◌≡◌, ℕ, ◌+◌, ◌-◌, ◌^◌, ◌≤◌, min, ◌∙◌, ap, arith, refl, sym, subst}
 use Rattle.label_tree.specs.Rose.{Rose, node_count, shown_count}
 use Rattle.flat_tree.specs.Zips.{Zip, zip_count, added}
 use Rattle.simple_types.specs.declared.labels.ValueLabel.{ValueLabel}
@@ -53,3 +53,10 @@ pub puts-unkept : (f : Zip ValueLabel → Zip ValueLabel) (old new this : Built)
     → this.most ≡ old.most → this.nodes ≡ min (old.nodes + 1) (2 ^ 64 - 1) → (this.nodes ≤ this.most → ⊥) → Puts f old new
 puts-unkept f old new this same counts most nodes none =
     subst (λ b. Puts f old b) (sym same) (puts-more f 1 old this counts most nodes (λ within. absurd (none within)))
+
+pub puts-as : (f g : Zip ValueLabel → Zip ValueLabel) (old new : Built) → ((z : Zip ValueLabel) → f z ≡ g z) → Puts f old new → Puts g old new
+puts-as f g old new same p = record { most = p.most; stands = λ z st. subst (λ y. Stands new y) (same z) (p.stands z st) }
+
+-- one after the other makes this
+pub puts-then : (f g h : Zip ValueLabel → Zip ValueLabel) (a b c : Built) → ((z : Zip ValueLabel) → g (f z) ≡ h z) → Puts f a b → Puts g b c → Puts h a c
+puts-then f g h a b c same p q = puts-as (λ z. g (f z)) h a c same (puts-both f g a b c p q)

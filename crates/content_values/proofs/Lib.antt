@@ -1,0 +1,7 @@
+pub mod Filling
+pub mod Inverting
+pub mod Kids
+pub mod Leaves
+pub mod Reaching
+pub mod Topping
+pub mod Tops

@@ -1,0 +1,99 @@
+//! What is open behind a leaf.
+ghost use Rattle.std.specs.Prelude.{◌≡◌, ◌^◌, ◌<◌, true, OnOk};
+ghost use Rattle.label_tree.specs.Rose.{node_count, count_all, roses_of};
+ghost use Rattle.content_models.specs.Seen.{seen, all_seen};
+ghost use Rattle.content_spots.specs.Spots.{finishes_term, finishes_order};
+ghost use Rattle.content_match.specs.Private.Standing.{spot_of};
+ghost use Rattle.value_builder.specs.Built.{Puts};
+ghost use Rattle.content_values.specs.Bounds as bounds;
+ghost use Rattle.content_values.specs.Private.Empty.{term_of};
+ghost use Rattle.content_values.specs.Private.Moves.{inner_in, items_closed, ended, ended_term, ended_order};
+
+use crate::emptying::put_empty_parts;
+use crate::kinds::is_single;
+use crate::paths::{Path, below};
+use content_models::{ParticleKind, ParticleLabel};
+use label_tree::Tree;
+use value_builder::ValueBuilder;
+use xa_base::Memory;
+
+// Closes the SEQUENCE OF of a particle that isn't single.
+fn close_items(label: &ParticleLabel, in_choice: bool, values: &mut ValueBuilder)
+    ensures { Puts (items_closed (bounds.is_single in_choice label.now.min label.now.max)) values.old values.new }
+{
+    if !is_single(label, in_choice) {
+        values.close();
+    }
+}
+
+// Closes what is open of a particle, of which nothing more comes.
+#[cycle(ending)]
+pub(crate) fn end(
+    particle: &Tree<ParticleLabel>,
+    in_choice: bool,
+    from: Path<'_>,
+    values: &mut ValueBuilder,
+) -> Result<(), Memory>
+    requires few { node_count particle.now < 2 ^ 31 }
+    requires done { finishes_term (term_of particle.now) (inner_in (spot_of from.turns.now from.kids.now)) ≡ true }
+    ensures { OnOk result (Puts (ended in_choice (seen particle.now) (spot_of from.entry.turns.now from.entry.kids.now)) values.old values.new) }
+{
+    end_term(particle, from, values)?;
+    close_items(particle.label(), in_choice, values);
+    Ok(())
+}
+
+// Closes what is open of one occurrence.
+#[cycle(ending)]
+pub(crate) fn end_term(
+    particle: &Tree<ParticleLabel>,
+    from: Path<'_>,
+    values: &mut ValueBuilder,
+) -> Result<(), Memory>
+    requires few { node_count particle.now < 2 ^ 31 }
+    requires done { finishes_term (term_of particle.now) (inner_in (spot_of from.turns.now from.kids.now)) ≡ true }
+    ensures { OnOk result (Puts (ended_term (term_of particle.now) (inner_in (spot_of from.entry.turns.now from.entry.kids.now))) values.old values.new) }
+{
+    match particle.label().kind {
+        ParticleKind::Element { .. } => Ok(()),
+        ParticleKind::Sequence => {
+            end_order(particle.kids(), from, values)?;
+            values.close();
+            Ok(())
+        }
+        ParticleKind::Choice => match below(from) {
+            None => unreachable!(),
+            Some(lower) => {
+                end(
+                    &particle.kids()[lower.kid as usize],
+                    true,
+                    lower.path,
+                    values,
+                )?;
+                values.close();
+                Ok(())
+            }
+        },
+    }
+}
+
+// The same among the particles of a sequence. Those behind the way stand empty.
+#[cycle(ending)]
+pub(crate) fn end_order(
+    particles: &[Tree<ParticleLabel>],
+    from: Path<'_>,
+    values: &mut ValueBuilder,
+) -> Result<(), Memory>
+    requires few { count_all (roses_of particles.now) < 2 ^ 31 }
+    requires done { finishes_order (all_seen (roses_of particles.now)) (inner_in (spot_of from.turns.now from.kids.now)) ≡ true }
+    ensures { OnOk result (Puts (ended_order (all_seen (roses_of particles.now)) (inner_in (spot_of from.entry.turns.now from.entry.kids.now))) values.old values.new) }
+{
+    match below(from) {
+        None => unreachable!(),
+        Some(lower) => {
+            let kid = lower.kid as usize;
+            end(&particles[kid], false, lower.path, values)?;
+            put_empty_parts(&particles[kid + 1..], values)
+        }
+    }
+}
