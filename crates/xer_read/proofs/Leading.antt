@@ -11,9 +11,7 @@ use Rattle.content_models.specs.Clear.{Clear, ClearInOrder, ClearOneOf}
 use Rattle.content_spots.specs.Spots.{Spot, at, Inner, here, inside, leaf_of, leaf_of_term, leaf_in}
 use Rattle.content_spots.specs.Laws.{EndsAt, step_from}
 use Rattle.content_match.specs.Taking.{Matched, TookMore, spot_of}
-use Rattle.content_match.specs.Private.Standing.{spot_now}
 use Rattle.content_match.specs.declared.places.Leaf as matched
-use Rattle.content_match.specs.declared.places.Turn as matched_turn
 use Rattle.value_builder.specs.Built.{Built, Stands, flagged, with_parts}
 use Rattle.xer_read.specs.Private.Putting.{OpenAt}
 use Rattle.content_values.specs.Bounds.{is_single, is_parted}
@@ -109,8 +107,8 @@ module _ (p : Particle) (k new : Matched) (us : List Leaf) (n : Name) (leaf : ma
         stands = stands;
       }
 
-pub step-goes : (p q : Particle) (ts us : List matched_turn.Turn) (ks ls : List ℕ) (a : Name) (o : Option Spot) (s : Spot) → q ≡ p → ts ≡ us → ks ≡ ls → step_from q (spot_now us ls) a ≡ o → o ≡ Some s → step_from p (spot_now ts ks) a ≡ Some s
-step-goes p q ts us ks ls a o s e f g h k = cc
+pub step-goes : (p q : Particle) (a : Name) (here there o : Option Spot) (s : Spot) → q ≡ p → here ≡ there → step_from q there a ≡ o → o ≡ Some s → step_from p here a ≡ Some s
+step-goes p q a here there o s e f g h = cc
 
 -- ---- rule 1
 

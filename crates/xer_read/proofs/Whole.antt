@@ -1,5 +1,5 @@
 -- What is walked of an element is its value.
-use Rattle.std.proofs.Common.{◌≡◌, ℕ, suc, ◌+◌, true≢false, Bool, true, false, List, [], ◌∷◌, ◌++◌, Some, length, refl, sym, ◌∙◌, ap, subst, arith, map}
+use Rattle.std.proofs.Common.{◌≡◌, ℕ, suc, ◌+◌, true≢false, ◌≤◌, Bool, true, false, not, List, [], ◌∷◌, ◌++◌, Option, Some, length, length-append, refl, sym, ◌∙◌, ap, subst, arith, map}
 use Rattle.std.specs.Prelude.{Result, Ok, Err, MatchResult, MatchBool, All}
 use Rattle.xa_base.specs.declared.texts.Name.{Name}
 use Rattle.label_tree.specs.Rose.{Rose, node, Roses, roses_of, list_of, label_of, kids_of, length_all}
@@ -13,6 +13,8 @@ use Rattle.simple_values.specs.Reading.{spelled}
 use Rattle.content_models.specs.declared.particles.ParticleLabel.{ParticleLabel}
 use Rattle.content_models.specs.Particle.{Particle}
 use Rattle.content_models.specs.Seen.{seen}
+use Rattle.content_spots.specs.Spots.{Spot}
+use Rattle.content_spots.specs.Laws.{may_end}
 use Rattle.doc_text.specs.declared.label.ItemLabel.{ItemLabel}
 use Rattle.doc_text.specs.declared.label.ItemLabel.TheVariants.{Element, Text}
 use Rattle.doc_text.specs.Sound.{is_sound, are_sound_attributes, are_sound, levels, levels_all}
@@ -30,7 +32,7 @@ use Rattle.validity.specs.declared.why.InvalidWhy.TheVariants.{NilWithContent}
 use Rattle.validity.proofs.Reading.{roses_of-list_of, all_kept}
 use Rattle.validity.proofs.Unique.{ContentValid, NilValid}
 use Rattle.validity_check.specs.declared.error.CheckError.{CheckError}
-use Rattle.validity_check.specs.Answers.{Tells, IsGoodTag, InsideFault}
+use Rattle.validity_check.specs.Answers.{Tells, IsGoodTag, TextFault, InsideFault}
 use Rattle.validity_check.proofs.Tagging.{nil_judged, inside_judged}
 use Rattle.value_exists.proofs.Elements.{attributes-sound}
 use Rattle.value_builder.specs.Built.{Built, Stands, Puts, flagged, with_parts}
@@ -45,6 +47,17 @@ use Rattle.xer_read.specs.Private.Putting.{ValuePut, PartsPut}
 use Rattle.xer_read.proofs.Putting.{puts-as, sequence-closed}
 use Rattle.xer_read.proofs.Mixing.{strings-between, elements-alone}
 use Rattle.xer_read.proofs.Giving.{ReadBy, made-gives}
+
+pub not-false : (b : Bool) → not b ≡ false → b ≡ true
+not-false true e = refl
+not-false false e = absurd (cc)
+
+-- where none is left, all are behind
+pub all-before : {A : Type 0} (kids before left : List A) → before ++ left ≡ kids → left ≡ [] → length kids ≤ length before
+all-before kids before left all e = let n = ap length all in let m = length-append before left in let none = ap length e in omega (arith, n, m, none)
+
+pub ends-at : (p q : Particle) (here there : Option Spot) → q ≡ p → here ≡ there → may_end q there ≡ true → may_end p here ≡ true
+ends-at p q here there e f h = cc
 
 -- ---- what stands beside attributes and texts
 
@@ -121,6 +134,22 @@ inner-children s mixed p ts z old begun before after begins stands h closes =
       made = (h.flags, h.values, refl, refl, h.made);
       stands = subst (Stands after) (part-present v z) (closes.stands (with_parts h.flags h.values (opened (value.Sequence []) (flagged true z))) h.stands);
     }
+
+-- what is judged so
+module _ (s : Set) (nillable : Bool) (ts : Roses ItemLabel) (z : Zip ValueLabel) (old new : Built) (F : CheckError → Type 0) (stands : Stands old z) where
+  pub nothing-judged : (r : Result (Unit {0}) CheckError) → MatchResult r (λ _. (ts ≡ rose.none) × PartsPut (NothingMade nillable) old new) F → MatchResult r (λ _. InsidePut s nillable nothing ts z new) F
+  nothing-judged (Ok x) h = nothing-inside s nillable ts z old new h.0 h.1 stands
+  nothing-judged (Err e) h = h
+
+  pub text-judged : (space : Space) (r : Result (Unit {0}) CheckError) → MatchResult r (λ _. (v : Rose ValueLabel) × IsReadAs space ts v × Puts (with_parts (true ∷ []) (v ∷ [])) old new) F
+      → MatchResult r (λ _. InsidePut s nillable (simple space) ts z new) F
+  text-judged space (Ok x) (v, read, puts) = text-inside s nillable space ts z old new v read puts stands
+  text-judged space (Err e) h = h
+
+pub children-judged : (s : Set) (nillable mixed : Bool) (model : Rose ParticleLabel) (ts : Roses ItemLabel) (z : Zip ValueLabel) (new : Built) (F : CheckError → Type 0) → are_sound ts ≡ true → All (IsNamed s) (leaves (seen model))
+    → (r : Result (Unit {0}) CheckError) → MatchResult r (λ _. ChildrenPut s nillable mixed (seen model) ts z new) F → MatchResult r (λ _. InsidePut s nillable (children mixed (seen model)) ts z new) F
+children-judged s nillable mixed model ts z new F sound named (Ok x) h = children-inside s nillable mixed model ts z new sound named h
+children-judged s nillable mixed model ts z new F sound named (Err e) h = h
 
 -- ---- the value of a complex type
 
@@ -217,6 +246,17 @@ plain-filled s d a xs ts z old new space inside_is plain v (words, only, accepts
       );
       stands = puts.stands z stands;
     }
+
+pub complex-judged : (s : Set) (d : ℕ) (a : Asked) (xs : List (Name × List ℕ)) (ts : Roses ItemLabel) (z : Zip ValueLabel) (new : Built) (F : CheckError → Type 0) → ((space : Space) → a.inside ≡ simple space → is_plain_at s d ≡ false)
+    → (r : Result (Unit {0}) CheckError) → MatchResult r (λ _. ComplexPut s a xs ts z new) F → MatchResult r (λ _. ValuePut (IsFilled s d a xs ts) z new) F
+complex-judged s d a xs ts z new F apart (Ok x) h = complex-filled s d a xs ts z new apart h
+complex-judged s d a xs ts z new F apart (Err e) h = h
+
+pub plain-judged : (s : Set) (d : ℕ) (a : Asked) (xs : List (Name × List ℕ)) (ts : Roses ItemLabel) (z : Zip ValueLabel) (old new : Built) (space : Space) (place : ℕ) → a.inside ≡ simple space → is_plain_at s d ≡ true → Stands old z
+    → (r : Result (Unit {0}) CheckError) → MatchResult r (λ _. (v : Rose ValueLabel) × IsReadAs space ts v × Puts (added v) old new) (Tells (TextFault space ts place))
+    → MatchResult r (λ _. ValuePut (IsFilled s d a xs ts) z new) (Tells (InsideFault (asked_at (parts_of s)) a.inside ts place))
+plain-judged s d a xs ts z old new space place inside_is plain stands (Ok x) (v, read, puts) = plain-filled s d a xs ts z old new space inside_is plain v read puts stands
+plain-judged s d a xs ts z old new space place inside_is plain stands (Err e) h = subst (λ i. Tells (InsideFault (asked_at (parts_of s)) i ts place) e) (sym inside_is) h
 
 -- such a content is valid
 content-valid : (s : Set) (inside : Inside) (ts : Roses ItemLabel) (texts : Rose ValueLabel) (r : Beside) (vs : Roses Plain) → IsContentBy s inside ts texts r vs → ContentValid (asked_at (parts_of s)) inside ts vs

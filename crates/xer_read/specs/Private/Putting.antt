@@ -5,6 +5,7 @@ use Rattle.flat_tree.specs.Zips.{Zip, added}
 use Rattle.simple_types.specs.declared.labels.ValueLabel.{ValueLabel}
 use Rattle.content_models.specs.Particle.{Particle}
 use Rattle.content_spots.specs.Spots.{Spot}
+use Rattle.content_match.specs.Private.Standing.{spot_now}
 use Rattle.content_match.specs.Taking.{Matched, spot_of}
 use Rattle.value_builder.specs.Built.{Built, Stands, Puts, with_parts}
 use Rattle.content_values.specs.Made.{Child}
@@ -28,7 +29,7 @@ pub record PartsPut (P : List Bool → List (Rose ValueLabel) → Type 0) (old n
 
 -- the way leads to where the matcher stands
 abbrev pub IsWay : Way → Matched → Type 0
-IsWay way k = (way.turns.items ≡ k.turns) × (way.kids.items ≡ k.kids)
+IsWay way k = spot_now way.turns.items way.kids.items ≡ spot_of k
 
 -- the way to a leaf of the declaration is open, behind these child elements
 pub record OpenAt (p : Particle) (k : Matched) (gs : List Child) (d : ℕ) (before : Zip ValueLabel) (now : Built) : Type 0 where
