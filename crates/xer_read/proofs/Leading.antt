@@ -107,8 +107,8 @@ module _ (p : Particle) (k new : Matched) (us : List Leaf) (n : Name) (leaf : ma
         stands = stands;
       }
 
-pub step-goes : (p q : Particle) (a : Name) (here there o : Option Spot) (s : Spot) → q ≡ p → here ≡ there → step_from q there a ≡ o → o ≡ Some s → step_from p here a ≡ Some s
-step-goes p q a here there o s e f g h = cc
+pub step-goes : (p q : Particle) (a : Name) (from to o : Option Spot) (s : Spot) → q ≡ p → from ≡ to → step_from q to a ≡ o → o ≡ Some s → step_from p from a ≡ Some s
+step-goes p q a from to o s e f g h = cc
 
 -- ---- rule 1
 

@@ -8,6 +8,7 @@ pub mod Parting
 pub mod Giving
 pub mod Reaching
 pub mod Whole
+pub mod Finishing
 pub mod Allowing
 pub mod Valuing
 pub mod Again

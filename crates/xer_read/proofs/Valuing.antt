@@ -25,14 +25,7 @@ use Rattle.map_laws.proofs.Roots.{roots-lead}
 use Rattle.xer_items.specs.Items.{element_of, inside, root_of}
 use Rattle.validity.specs.Asked.{asked_at, name_at}
 use Rattle.validity.specs.Valid.{HasName}
-use Rattle.validity.specs.Faults.{FaultBy, FirstFault}
 use Rattle.validity.specs.declared.why.InvalidWhy.{InvalidWhy}
-use Rattle.validity_check.specs.declared.error.CheckError.{CheckError}
-use Rattle.validity_check.specs.Answers.{Tells, IsValid}
-use Rattle.flat_tree.specs.Zips.{Zip}
-use Rattle.value_builder.specs.Built.{Built}
-use Rattle.xer_read.specs.Private.Putting.{ValuePut}
-use Rattle.validity_check.proofs.Rooting.{root_judged}
 use Rattle.one_value.specs.Statements.{AreSmall, root_at}
 use Rattle.one_value.proofs.Declarations.{none-at, one-value}
 use Rattle.xer_read.specs.declared.error.ReadError.{ReadError}
@@ -121,18 +114,3 @@ module _ (s : Set) (linked : IsLinked s) (d : ℕ) (below : d < s.globals) (t : 
       let (b, valid, own, xer) = value-of M is_map in
       one-value s M linked small is_map d below w value fits (subst (Fits M (root_at s M is_map d)) (sym same) own) items
   only-counted small M is_map (Err e) k = tt
-
--- a root of the name that is declared
-pub root-read : (s : Set) (d : ℕ) (e : ElementDecl) → slice_get s.elements d ≡ Some e → (t : Rose ItemLabel) → HasName (Some e.name) (label_of t) → levels t ≤ 64 → (z : Zip ValueLabel) (new : Built) (r : Result (Unit {0}) CheckError)
-    → MatchResult r (λ _. ValuePut (IsRead s d t) z new) (Tells (FaultBy (asked_at (parts_of s)) d t)) → MatchResult r (λ _. ValuePut (IsRootRead s d t) z new) (Tells (FirstFault (parts_of s) d t))
-root-read s d e g t name low z new (Ok x) h = record {
-  value = h.value;
-  holds = record { named = subst (λ o. HasName o (label_of t)) (sym (ap (option_map (λ (x : ElementDecl). x.name)) g)) name; shallow = low; read = h.holds };
-  stands = h.stands;
-}
-root-read s d e g t name low z new (Err x) h = let refused : Result (Unit {0}) CheckError = Err x in root_judged s d e g t name refused h
-
--- it is valid
-pub root-valid : (s : Set) (d : ℕ) (t : Rose ItemLabel) (z : Zip ValueLabel) (new : Built) (r : Result (Unit {0}) CheckError) (F : CheckError → Type 0) → MatchResult r (λ _. ValuePut (IsRootRead s d t) z new) F → MatchResult r (λ _. IsValid s d t) F
-root-valid s d t z new (Ok x) F h = (h.holds.read.treated, (h.holds.named, h.holds.read.valid))
-root-valid s d t z new (Err e) F h = h

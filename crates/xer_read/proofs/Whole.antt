@@ -1,5 +1,5 @@
 -- What is walked of an element is its value.
-use Rattle.std.proofs.Common.{◌≡◌, ℕ, suc, ◌+◌, true≢false, ◌≤◌, Bool, true, false, not, List, [], ◌∷◌, ◌++◌, Option, Some, length, length-append, refl, sym, ◌∙◌, ap, subst, arith, map}
+use Rattle.std.proofs.Common.{◌≡◌, ℕ, suc, ◌+◌, true≢false, ◌≤◌, Bool, true, false, List, [], ◌∷◌, ◌++◌, Option, Some, length, length-append, refl, sym, ◌∙◌, ap, subst, arith, map}
 use Rattle.std.specs.Prelude.{Result, Ok, Err, MatchResult, MatchBool, All}
 use Rattle.xa_base.specs.declared.texts.Name.{Name}
 use Rattle.label_tree.specs.Rose.{Rose, node, Roses, roses_of, list_of, label_of, kids_of, length_all}
@@ -48,16 +48,12 @@ use Rattle.xer_read.proofs.Putting.{puts-as, sequence-closed}
 use Rattle.xer_read.proofs.Mixing.{strings-between, elements-alone}
 use Rattle.xer_read.proofs.Giving.{ReadBy, made-gives}
 
-pub not-false : (b : Bool) → not b ≡ false → b ≡ true
-not-false true e = refl
-not-false false e = absurd (cc)
-
 -- where none is left, all are behind
 pub all-before : {A : Type 0} (kids before left : List A) → before ++ left ≡ kids → left ≡ [] → length kids ≤ length before
 all-before kids before left all e = let n = ap length all in let m = length-append before left in let none = ap length e in omega (arith, n, m, none)
 
-pub ends-at : (p q : Particle) (here there : Option Spot) → q ≡ p → here ≡ there → may_end q there ≡ true → may_end p here ≡ true
-ends-at p q here there e f h = cc
+pub ends-at : (p q : Particle) (from to : Option Spot) → q ≡ p → from ≡ to → may_end q to ≡ true → may_end p from ≡ true
+ends-at p q from to e f h = cc
 
 -- ---- what stands beside attributes and texts
 

@@ -243,14 +243,6 @@ walk_kids-put_end-requires-clause-ends g t c =
     whole.ends-at (seen c.args.model.now) c.loop-kid.matcher.particle (spot_now c.path.result.turns.now c.path.result.kids.now) (spot_of c.loop-kid.matcher) r.particle
     (ap (λ ts. spot_now ts c.path.result.kids.now) c.path.ensures.turns ∙ ap (λ ks. spot_now c.loop-kid.way.turns.items ks) c.path.ensures.kids ∙ c.loop-kid.invariant.way) c.in-Ok.ensures.ends
 
-pub walk_kids-put_end-requires-clause-put : goal.walk_kids-put_end-requires-clause-put
-walk_kids-put_end-requires-clause-put g t c =
-    let r = c.loop-kid.invariant.reached c.requires.stands.0 c.requires.stands.1 in
-    let way : spot_now c.path.result.turns.now c.path.result.kids.now ≡ spot_of c.loop-kid.matcher =
-    ap (λ ts. spot_now ts c.path.result.kids.now) c.path.ensures.turns ∙ ap (λ ks. spot_now c.loop-kid.way.turns.items ks) c.path.ensures.kids ∙ c.loop-kid.invariant.way
-    in
-    (r.gs, c.requires.stands.0, r.all, subst (λ o. Put (seen c.args.model.now) o r.gs c.requires.stands.0 r.all) (sym way) r.put, r.stands)
-
 pub walk_kids-returns-in_err-put_end-in-Ok-clause-most : goal.walk_kids-returns-in_err-put_end-in-Ok-clause-most
 walk_kids-returns-in_err-put_end-in-Ok-clause-most g t c =
     let r = c.loop-kid.invariant.reached c.requires.stands.0 c.requires.stands.1 in
@@ -298,7 +290,7 @@ pub walk_children-returns-in-Ok-clause-judged : goal.walk_children-returns-in-Ok
 walk_children-returns-in-Ok-clause-judged g t c = λ z stands.
     let p = seen c.args.model.now in
     let inner = opened (value.Sequence []) (flagged true z) in
-    subst (λ b. ChildrenPut c.args.set.now b c.args.mixed p (roses_of c.args.kids.now) z c.close.new.self) (sym (whole.not-false c.args.nillable c.if-not-nillable.false))
+    subst (λ b. ChildrenPut c.args.set.now b c.args.mixed p (roses_of c.args.kids.now) z c.close.new.self) (sym c.if-not-nillable.false)
     (inner-children c.args.set.now c.args.mixed p (roses_of c.args.kids.now) z c.args.values.now c.begin_part.new.values c.walk_kids-2.new.values c.close.new.self c.in_ok-begin_part.ensures stands
     (c.in-Ok.ensures.judged inner (c.in_ok-begin_part.ensures.stands z stands)) c.close.ensures)
 

@@ -22,14 +22,6 @@ put_step-requires-clause-step g c =
       (ap (λ ts. spot_now ts c.kids.result.now) c.turns.ensures ∙ ap (λ ks. spot_now new.turns ks) c.kids.ensures) ∙ here.is,
     )
 
-pub put_step-requires-clause-put : goal.put_step-requires-clause-put
-put_step-requires-clause-put g c =
-    let (gs, z, all, put, stands) = c.requires.put in
-    let way : spot_now c.path.result.turns.now c.path.result.kids.now ≡ spot_of c.args.matcher.now =
-    ap (λ ts. spot_now ts c.path.result.kids.now) c.path.ensures.turns ∙ ap (λ ks. spot_now c.args.way.now.turns.items ks) c.path.ensures.kids ∙ c.requires.way
-    in
-    (gs, z, all, subst (λ o. Put (seen c.args.model.now) o gs z all) (sym way) put, stands)
-
 pub returns-in_ok-follow-in-Ok-clause-opens : goal.returns-in_ok-follow-in-Ok-clause-opens
 returns-in_ok-follow-in-Ok-clause-opens g c = λ gs before now put stands.
     let k = c.args.matcher.now in
