@@ -55,10 +55,7 @@ pub fn check_no_content(mut kids: Kids<'_, ItemLabel>) -> Result<(), Fault>
 }
 
 /// The text of an element that has no child elements, which is this empty one where the element has no kids.
-pub fn only_text<'a>(
-    mut kids: Kids<'a, ItemLabel>,
-    empty: &'a Text,
-) -> Result<&'a Text, Fault>
+pub fn only_text<'a>(mut kids: Kids<'a, ItemLabel>, empty: &'a Text) -> Result<&'a Text, Fault>
     requires sound { are_sound (roses_of kids) ≡ true }
     requires empty { empty.now ≡ [] }
     ensures { MatchResult result
