@@ -37,8 +37,9 @@ use schema_parts::SchemaSet;
 use std::alloc::Global;
 use std::sync::ledger::Ledger;
 use validity::at_most_one;
-use validity_check::{CheckError, check_items};
+use validity_check::CheckError;
 use xa_base::{Failed, Library, Sink, Source, Steps, SureSource, Text, write_all};
+use xer_read::check_items;
 
 // What the words ask for.
 fn requested(words: &[Text]) -> Result<Request<'_>, Outcome>

@@ -11,9 +11,6 @@ use Rattle.validity.specs.Valid.{put_before, only_text}
 use Rattle.validity.proofs.Reading.{kid_at, roses_of-list_of, front_long}
 use Rattle.validity_check.specs.Counts.{element_count, elements_in}
 
-pub none_yet : (ts : Roses ItemLabel) → elements_in (front 0 ts) ≡ 0
-none_yet ts = refl
-
 pub one_more : (ts : Roses ItemLabel) (i : ℕ) (t : Rose ItemLabel) → kid_at ts i ≡ Some t → elements_in (front (suc i) ts) ≡ elements_in (front i ts) + element_count t
 one_more rose.none i t e = absurd (cc)
 one_more (rose.more u ts) zero t e = let same : u ≡ t = cc in let k = ap element_count same in omega (arith, k)
@@ -27,10 +24,6 @@ fewer (rose.more t ts) (suc i) = omega (arith, fewer ts i)
 
 pub up_to : (ts : Roses ItemLabel) (i : ℕ) (t : Rose ItemLabel) → kid_at ts i ≡ Some t → elements_in (front i ts) + element_count t ≤ elements_in ts
 up_to ts i t e = omega (arith, one_more ts i t e, fewer ts (suc i))
-
-pub text_counts : (t : Rose ItemLabel) (words : List ℕ) (at : ℕ) → label_of t ≡ Text words at → element_count t ≡ 0
-text_counts (node (Element n xs declares c) ts) words at e = absurd (cc)
-text_counts (node (Text others c) ts) words at e = refl
 
 pub element_counts : (t : Rose ItemLabel) (n : Name) (xs : List (Name × List ℕ)) (declares : List (List ℕ × List ℕ)) (at : ℕ) → label_of t ≡ Element n xs declares at
     → element_count t ≡ suc (elements_in (roses_of (kids_of t)))
@@ -51,10 +44,6 @@ match-ok (Err e) P F Q f h = tt
 pub on-ok : {X E : Type 0} (r : Result X E) (P Q : Type 0) → (P → Q) → OnOk r P → OnOk r Q
 on-ok (Ok x) P Q f h = f h
 on-ok (Err e) P Q f h = tt
-
-pub always-ok : {X E : Type 0} (r : Result X E) (Q : Type 0) → Q → OnOk r Q
-always-ok (Ok x) Q q = q
-always-ok (Err e) Q q = tt
 
 -- a text alone has no element
 pub text-without : (ts : Roses ItemLabel) (words : List ℕ) → only_text ts ≡ Some words → elements_in ts ≡ 0

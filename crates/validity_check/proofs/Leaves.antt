@@ -3,14 +3,11 @@ use Rattle.std.proofs.Common.{◌≡◌, ℕ, zero, suc, ◌+◌, ◌<◌, inl, 
 use Rattle.std.specs.Prelude.{All, slice_get, IsSomeAnd}
 use Rattle.std.proofs.lemmas.List.Elements.{All-nil, All-cons, All-head, All-tail, All-append}
 use Rattle.xa_base.specs.declared.texts.Name.{Name}
-use Rattle.label_tree.specs.Rose.{Rose}
-use Rattle.content_models.specs.declared.particles.ParticleLabel.{ParticleLabel}
 use Rattle.content_models.specs.Particle.{Particle, occurs, Term, element, sequence, choice, Particles, none, more}
 use Rattle.content_models.specs.Language.{Turn, Leaf, turn_of, leaf_at, size_of, Times, Lang, Body, InOrder, OneOf}
-use Rattle.content_models.specs.Seen.{seen}
 use Rattle.schema_parts.specs.declared.components.ElementDecl.{ElementDecl}
 use Rattle.schema_parts.specs.Components.{Set}
-use Rattle.schema_parts.specs.Linked.{leaves, leaves_of_term, all_leaves, IsNamed, IsModel}
+use Rattle.schema_parts.specs.Linked.{leaves, leaves_of_term, all_leaves, IsNamed}
 use Rattle.validity.specs.Faults.{Begins}
 use Rattle.validity_check.specs.Told.{AreNamed}
 
@@ -71,7 +68,3 @@ there P (x ∷ xs) (suc n) h = omega (arith, there P xs n h)
 
 pub names_declared : (s : Set) (p : Particle) → All (IsNamed s) (leaves p) → AreNamed s p
 names_declared s p h = λ k d lt. let a = get_or (leaves p) k d in there (λ (e : ElementDecl). e.name ≡ a.1) s.elements a.0 (h k d lt)
-
--- a content model of the set names declarations of the set
-pub model_named : (s : Set) (m : Rose ParticleLabel) → IsModel s m → AreNamed s (seen m)
-model_named s m h = names_declared s (seen m) h.named

@@ -5,7 +5,6 @@ pub mod Shape
 pub mod Declaring
 pub mod Keeping
 pub mod Tagging
-pub mod Texts
 pub mod Truths
 pub mod Walking
 pub mod Rooting

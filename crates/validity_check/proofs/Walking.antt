@@ -1,10 +1,9 @@
 -- What is known behind some kids of an element, whose names a matcher took.
-use Rattle.std.proofs.Common.{◌≡◌, ℕ, ◌+◌, ◌≤◌, ◌<◌, ◌⊎◌, List, [], ◌∷◌, ◌++◌, Bool, true, false, length, get_or, refl, sym, ◌∙◌, subst, arith, length-append}
+use Rattle.std.proofs.Common.{◌≡◌, ℕ, ◌+◌, ◌≤◌, ◌<◌, ◌⊎◌, List, [], ◌∷◌, ◌++◌, Bool, true, false, length, get_or, sym, ◌∙◌, subst, arith, length-append}
 use Rattle.std.specs.Prelude.{Result, Ok, Err, MatchResult}
 use Rattle.xa_base.specs.declared.texts.Name.{Name}
 use Rattle.xa_base.specs.WhiteSpace.{is_blank}
-use Rattle.label_tree.specs.Rose.{Rose, Roses, roses_of, label_of}
-use Rattle.label_tree.specs.Rose as rose
+use Rattle.label_tree.specs.Rose.{Rose, roses_of, label_of}
 use Rattle.content_models.specs.Particle.{Particle}
 use Rattle.content_models.specs.Language.{Leaf, names, Lang, Viable}
 use Rattle.content_spots.specs.Laws.{IsNamed}
@@ -26,9 +25,6 @@ use Rattle.validity_check.specs.Told.{AreNamed}
 use Rattle.validity_check.specs.Walked.{Walked}
 use Rattle.validity_check.specs.Answers.{Tells, KidsFault, AreValidKids, IsValidBy}
 use Rattle.validity_check.proofs.Leaves.{last_declared}
-
-pub none_walked : (s : Set) (mixed : Bool) (p : Particle) (kids : List (Rose ItemLabel)) (k : Matched) → k.particle ≡ p → Took k [] → Walked s mixed p kids 0 k
-none_walked s mixed p kids k e h = record { particle = e; us = []; took = h; vs = rose.none; fine = (refl, refl); few = omega arith }
 
 begun_by : (k : Matched) (us : List Leaf) → Took k us → Begins k.particle us
 begun_by k us h = (h.leads.rest, h.leads.forth h.leads.rest h.leads.some)

@@ -45,7 +45,7 @@ use Rattle.validity.specs.Attributes.{Nil, not_nil, is_nil, bad_nil, nil_by, nil
 use Rattle.value_exists.proofs.Texts.{IsEncoded, left-encoded, text-encoded, text-given, never-true}
 use Rattle.value_exists.proofs.Kids.{IsXml, only-utf8, between-xml, kids-xml, texts_value, texts-fitting}
 use Rattle.value_exists.proofs.Elements.{nil-nillable, kids-text}
-use Rattle.xer_read.specs.Private.Tallied.{Child}
+use Rattle.content_values.specs.Made.{Child}
 use Rattle.xer_read.specs.Private.Held.{Beside, Held, texts_of}
 use Rattle.xer_read.specs.Private.Held as held
 use Rattle.xer_read.specs.Private.Given.{IsTypeFor, Gives}

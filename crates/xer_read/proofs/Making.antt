@@ -29,8 +29,8 @@ use Rattle.map_laws.proofs.Giving.{sequence-fits, sequence-gives, choice-fits, l
 use Rattle.map_laws.proofs.Following.{only-part}
 use Rattle.xer_items.specs.Items.{element_of, inside}
 use Rattle.one_value.proofs.Groups.{tell}
-use Rattle.xer_read.specs.Private.Tallied as kept
-use Rattle.xer_read.specs.Private.Made.{Each, Several, Standing, TermMade, PartsMade, ChosenMade, PartedMade, TopMade}
+use Rattle.content_values.specs.Made as kept
+use Rattle.content_values.specs.Made.{Each, Several, Standing, TermMade, PartsMade, ChosenMade, PartedMade, TopMade}
 
 -- ---- which value stands, by the bounds
 

@@ -40,8 +40,8 @@ use Rattle.one_value.proofs.Mixed.{text_in}
 use Rattle.one_value.proofs.Complexes.{not-textual, nil-mark, embed-mark}
 use Rattle.value_exists.proofs.Texts.{IsText}
 use Rattle.value_exists.proofs.Filling.{both-nothing, Ends, ends-more, ends-last, told-roses, nil-is, texts-put, owns}
-use Rattle.xer_read.specs.Private.Tallied as kept
-use Rattle.xer_read.specs.Private.Made.{TopMade}
+use Rattle.content_values.specs.Made as kept
+use Rattle.content_values.specs.Made.{TopMade}
 use Rattle.xer_read.proofs.Making.{NamedTop, AreGifts}
 use Rattle.xer_read.proofs.Making as making
 

@@ -25,18 +25,11 @@ use Rattle.map_laws.proofs.Roots.{roots-lead}
 use Rattle.xer_items.specs.Items.{element_of, inside, root_of}
 use Rattle.validity.specs.Asked.{asked_at, name_at}
 use Rattle.validity.specs.Valid.{HasName}
-use Rattle.validity.specs.Faults.{FaultBy, FirstFault}
 use Rattle.validity.specs.declared.why.InvalidWhy.{InvalidWhy}
-use Rattle.validity_check.specs.declared.error.CheckError.{CheckError}
-use Rattle.validity_check.specs.Answers.{Tells}
-use Rattle.validity_check.proofs.Rooting.{root_judged}
 use Rattle.one_value.specs.Statements.{AreSmall, root_at}
 use Rattle.one_value.proofs.Declarations.{none-at, one-value}
-use Rattle.xer_read.specs.declared.built.Built.{Built}
 use Rattle.xer_read.specs.declared.error.ReadError.{ReadError}
 use Rattle.xer_read.specs.declared.error.ReadError.TheVariants.{Invalid, TooManyNodes, Memory}
-use Rattle.xer_read.specs.declared.tally.Tally.{Tally}
-use Rattle.xer_read.specs.Private.Tallied.{Makes}
 use Rattle.xer_read.specs.Answers.{IsValueOf, IsTooLarge, IsOnlyValue, ReadTells}
 use Rattle.xer_read.specs.Private.Given.{IsElementOf, IsTypeFor, IsRead, IsRootRead}
 use Rattle.xer_read.proofs.Allowing.{fits-allowed}
@@ -121,16 +114,3 @@ module _ (s : Set) (linked : IsLinked s) (d : ℕ) (below : d < s.globals) (t : 
       let (b, valid, own, xer) = value-of M is_map in
       one-value s M linked small is_map d below w value fits (subst (Fits M (root_at s M is_map d)) (sym same) own) items
   only-counted small M is_map (Err e) k = tt
-
--- a root of the name that is declared
-pub root-read : (s : Set) (d : ℕ) (e : ElementDecl) → slice_get s.elements d ≡ Some e → (t : Rose ItemLabel) → HasName (Some e.name) (label_of t) → levels t ≤ 64 → (before after : Tally) (r : Result Built CheckError)
-    → MatchResult r (λ made. Makes (IsRead s d t) 0 made before after) (Tells (FaultBy (asked_at (parts_of s)) d t)) → MatchResult r (λ made. Makes (IsRootRead s d t) 0 made before after) (Tells (FirstFault (parts_of s) d t))
-root-read s d e g t name low before after (Ok made) h = record {
-  value = h.value;
-  holds = record { named = subst (λ o. HasName o (label_of t)) (sym (ap (option_map (λ (x : ElementDecl). x.name)) g)) name; shallow = low; read = h.holds };
-  stands = h.stands;
-  nodes = h.nodes;
-  counts = h.counts;
-  all = h.all;
-}
-root-read s d e g t name low before after (Err x) h = let refused : Result (Rose ValueLabel) CheckError = Err x in root_judged s d e g t name refused h

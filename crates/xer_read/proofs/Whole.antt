@@ -1,185 +1,258 @@
--- What is read of an element is its value.
-use Rattle.std.proofs.Common.{◌≡◌, ℕ, suc, ◌+◌, true≢false, Bool, true, false, List, [], ◌∷◌, ◌++◌, Some, length, refl, sym, ◌∙◌, ap, subst, arith, length-append, map}
-use Rattle.std.specs.Prelude.{Result, Ok, Err, MatchResult, All}
-use Rattle.std.proofs.lemmas.List.{map-append}
+-- What is walked of an element is its value.
+use Rattle.std.proofs.Common.{◌≡◌, ℕ, suc, ◌+◌, true≢false, ◌≤◌, Bool, true, false, List, [], ◌∷◌, ◌++◌, Option, Some, length, length-append, refl, sym, ◌∙◌, ap, subst, arith, map}
+use Rattle.std.specs.Prelude.{Result, Ok, Err, MatchResult, MatchBool, All}
 use Rattle.xa_base.specs.declared.texts.Name.{Name}
-use Rattle.label_tree.specs.Rose.{Rose, node, Roses, roses_of, node_count, count_all, list_of, label_of, kids_of}
+use Rattle.label_tree.specs.Rose.{Rose, node, Roses, roses_of, list_of, label_of, kids_of, length_all}
 use Rattle.label_tree.specs.Rose as rose
+use Rattle.label_tree.proofs.Roses.{length_all-roses_of}
+use Rattle.flat_tree.specs.Zips.{Zip, opened, added, closed}
 use Rattle.simple_types.specs.Space.{Space}
 use Rattle.simple_types.specs.declared.labels.ValueLabel.{ValueLabel}
+use Rattle.simple_types.specs.declared.labels.ValueLabel.TheVariants as value
 use Rattle.simple_values.specs.Reading.{spelled}
 use Rattle.content_models.specs.declared.particles.ParticleLabel.{ParticleLabel}
 use Rattle.content_models.specs.Particle.{Particle}
 use Rattle.content_models.specs.Seen.{seen}
+use Rattle.content_spots.specs.Spots.{Spot}
+use Rattle.content_spots.specs.Laws.{may_end}
 use Rattle.doc_text.specs.declared.label.ItemLabel.{ItemLabel}
 use Rattle.doc_text.specs.declared.label.ItemLabel.TheVariants.{Element, Text}
 use Rattle.doc_text.specs.Sound.{is_sound, are_sound_attributes, are_sound, levels, levels_all}
-use Rattle.plain_items.specs.Plain.{Plain, text}
-use Rattle.plain_items.specs.Mixing.{text_before, interleaved}
+use Rattle.plain_items.specs.Plain.{Plain}
+use Rattle.plain_items.specs.Mixing.{interleaved}
 use Rattle.schema_parts.specs.Components.{Set}
 use Rattle.schema_parts.specs.Linked.{leaves, IsModel, IsNamed, IsLinked}
 use Rattle.schema_parts.specs.SetParts.{parts_of}
-use Rattle.xer_items.specs.Items.{given, joined}
+use Rattle.xer_items.specs.Items.{given}
 use Rattle.validity.specs.Asked.{Asked, Inside, nothing, simple, children, asked_at}
 use Rattle.validity.specs.Attributes.{nil_from, nil_of, left, treated_attributes, with_nil}
-use Rattle.validity.specs.Valid.{text_kids, Spells, treated_element}
+use Rattle.validity.specs.Valid.{text_kids, Spells, treated_element, KidsValid}
 use Rattle.validity.specs.Faults.{IsBad, FirstKid, FaultBy}
 use Rattle.validity.specs.declared.why.InvalidWhy.TheVariants.{NilWithContent}
 use Rattle.validity.proofs.Reading.{roses_of-list_of, all_kept}
 use Rattle.validity.proofs.Unique.{ContentValid, NilValid}
 use Rattle.validity_check.specs.declared.error.CheckError.{CheckError}
-use Rattle.validity_check.specs.Answers.{Tells, IsGoodTag, InsideFault}
+use Rattle.validity_check.specs.Answers.{Tells, IsGoodTag, TextFault, InsideFault}
 use Rattle.validity_check.proofs.Tagging.{nil_judged, inside_judged}
 use Rattle.value_exists.proofs.Elements.{attributes-sound}
-use Rattle.xer_read.specs.declared.contents.Content.{Content}
-use Rattle.xer_read.specs.declared.contents.Kids.{Kids}
-use Rattle.xer_read.specs.declared.contents.Rest.{Rest}
-use Rattle.xer_read.specs.declared.contents.Rest.TheVariants as read
-use Rattle.xer_read.specs.declared.built.Built.{Built}
-use Rattle.xer_read.specs.declared.tally.Tally.{Tally}
-use Rattle.xer_read.specs.Private.Tallied.{Counts, IsWithin, Child, child_nodes, Wait, Makes}
-use Rattle.xer_read.specs.Private.Held.{Beside, Held, texts_of, RestStands, Holds, held_nodes}
+use Rattle.value_builder.specs.Built.{Built, Stands, Puts, flagged, with_parts}
+use Rattle.value_builder.proofs.Parts.{part-absent, part-present}
+use Rattle.content_values.specs.Made.{Child}
+use Rattle.xer_read.specs.Private.Held.{Beside, Held, texts_of}
 use Rattle.xer_read.specs.Private.Held as held
-use Rattle.xer_read.specs.Private.Reading.{IsReadAs}
-use Rattle.xer_read.specs.Private.Given.{IsElementOf, Gives, IsRead}
-use Rattle.xer_read.specs.Private.Keeping.{text_value, words_of, in_turns, KidsRead}
-use Rattle.xer_read.specs.Private.Places.{ModelPlaced}
-use Rattle.xer_read.proofs.Placing.{clear-rule1}
-use Rattle.xer_read.specs.Private.Contents.{IsRestPlaced, IsContentBy, IsRightContent, IsRestWith, IsContentWith, is_plain_at, IsMade, IsFilled, IsNilFilled}
-use Rattle.xer_read.proofs.Counting.{counts-none, counts-both, counts-as, within-before, wait-later}
-use Rattle.xer_read.proofs.Adding.{nothing-counted}
+use Rattle.xer_read.specs.Private.Given.{IsReadAs, IsElementOf, Gives, IsRead}
+use Rattle.xer_read.specs.Private.Keeping.{text_value, strings_from, strings_put}
+use Rattle.xer_read.specs.Private.Contents.{AreThose, IsContentBy, IsContentOf, is_plain_at, NothingMade, ChildrenMade, ComplexMade, IsMadeBy, IsMade, IsFilled, IsNilFilled, ChildrenPut, InsidePut, Begins, ComplexPut}
+use Rattle.xer_read.specs.Private.Putting.{ValuePut, PartsPut}
+use Rattle.xer_read.proofs.Putting.{puts-as, sequence-closed}
+use Rattle.xer_read.proofs.Mixing.{strings-between, elements-alone}
 use Rattle.xer_read.proofs.Giving.{ReadBy, made-gives}
 
--- ---- contents
+-- where none is left, all are behind
+pub all-before : {A : Type 0} (kids before left : List A) → before ++ left ≡ kids → left ≡ [] → length kids ≤ length before
+all-before kids before left all e = let n = ap length all in let m = length-append before left in let none = ap length e in omega (arith, n, m, none)
 
-pub nothing-right : (s : Set) (ts : Roses ItemLabel) (content : Content) (tally : Tally) → content.rest ≡ read.Nothing → content.texts.items ≡ [] → ts ≡ rose.none → IsRightContent s nothing ts content tally tally
-nothing-right s ts content tally e f h = record {
-  held = record { texts = []; rest = held.nothing };
-  holds = record { texts = λ w. f; rest = subst (λ r. RestStands tally r held.nothing) (sym e) tt; alone = tt };
-  counts = counts-none tally;
+pub ends-at : (p q : Particle) (from to : Option Spot) → q ≡ p → from ≡ to → may_end q to ≡ true → may_end p from ≡ true
+ends-at p q from to e f h = cc
+
+-- ---- what stands beside attributes and texts
+
+pub nothing-inside : (s : Set) (nillable : Bool) (ts : Roses ItemLabel) (z : Zip ValueLabel) (old new : Built) → ts ≡ rose.none → PartsPut (NothingMade nillable) old new → Stands old z → InsidePut s nillable nothing ts z new
+nothing-inside s nillable ts z old new e h stands = record {
+  rest = held.nothing;
   vs = rose.none;
-  is = (h, refl);
+  is = (e, refl);
+  flags = h.flags;
+  values = h.values;
+  made = h.holds;
+  stands = h.puts.stands z stands;
 }
 
-pub text-right : (s : Set) (space : Space) (ts : Roses ItemLabel) (content : Content) (made : Built) (before after : Tally) → content.rest ≡ read.Text made → content.texts.items ≡ [] → Makes (IsReadAs space ts) 0 made before after
-    → IsRightContent s (simple space) ts content before after
-text-right s space ts content made before after e f m =
-    let vs = text_kids (spelled space m.value) in
+pub text-inside : (s : Set) (nillable : Bool) (space : Space) (ts : Roses ItemLabel) (z : Zip ValueLabel) (old new : Built) (v : Rose ValueLabel) → IsReadAs space ts v → Puts (with_parts (true ∷ []) (v ∷ [])) old new
+    → Stands old z → InsidePut s nillable (simple space) ts z new
+text-inside s nillable space ts z old new v (words, only, accepts) puts stands = record {
+  rest = held.text v;
+  vs = text_kids (spelled space v);
+  is = (words, only, accepts, refl);
+  flags = true ∷ [];
+  values = v ∷ [];
+  made = (refl, refl);
+  stands = puts.stands z stands;
+}
+
+pub children-inside : (s : Set) (nillable mixed : Bool) (model : Rose ParticleLabel) (ts : Roses ItemLabel) (z : Zip ValueLabel) (new : Built) → are_sound ts ≡ true → All (IsNamed s) (leaves (seen model))
+    → ChildrenPut s nillable mixed (seen model) ts z new → InsidePut s nillable (children mixed (seen model)) ts z new
+children-inside s nillable mixed model ts z new sound named h = record {
+  rest = held.children model h.gs;
+  vs = h.vs;
+  is = (
+    refl,
     record {
-      held = record { texts = []; rest = held.text m.value };
-      holds = record { texts = λ w. f; rest = subst (λ r. RestStands after r (held.text m.value)) (sym e) m.stands; alone = refl };
-      counts = counts-as m.nodes (0 + node_count m.value) before after (let all = m.all in omega (arith, all)) m.counts;
-      vs = vs;
-      is = (m.holds.0, m.holds.1, m.holds.2, refl);
+      named = named;
+      leaves_are = h.leaves_are;
+      lang = h.lang;
+      valid = h.valid;
+      items = h.items;
+      kept = h.kept;
+      mixed_is = λ is.
+          let between = strings-between (asked_at (parts_of s)) ts h.leaves_are h.vs sound (subst (λ m. KidsValid (asked_at (parts_of s)) m ts h.leaves_are h.vs) is h.valid) in
+          record {
+            words = strings_from false ts;
+            texts_are = refl;
+            many = let m = between.1 in let n = ap length_all h.are in let long = length_all-roses_of h.items in omega (arith, m, n, long);
+            is = between.0 ∙ ap (λ bs. interleaved (strings_from false ts) bs) h.are;
+          };
+      plain_is = λ is. sym (elements-alone (asked_at (parts_of s)) ts h.leaves_are h.vs (subst (λ m. KidsValid (asked_at (parts_of s)) m ts h.leaves_are h.vs) is h.valid)) ∙ h.are;
+    },
+  );
+  flags = h.flags;
+  values = h.values;
+  made = h.made;
+  stands = h.stands;
+}
+
+-- the parts of child elements as one part
+pub inner-children : (s : Set) (mixed : Bool) (p : Particle) (ts : Roses ItemLabel) (z : Zip ValueLabel) (old begun before after : Built) → Puts (λ z. opened (value.Sequence []) (flagged true z)) old begun
+    → Stands old z → ChildrenPut s false mixed p ts (opened (value.Sequence []) (flagged true z)) before → Puts closed before after → ChildrenPut s true mixed p ts z after
+inner-children s mixed p ts z old begun before after begins stands h closes =
+    let v = node (value.Sequence h.flags) (roses_of h.values) in
+    record {
+      leaves_are = h.leaves_are;
+      lang = h.lang;
+      vs = h.vs;
+      valid = h.valid;
+      gs = h.gs;
+      items = h.items;
+      kept = h.kept;
+      are = h.are;
+      flags = true ∷ [];
+      values = v ∷ [];
+      made = (h.flags, h.values, refl, refl, h.made);
+      stands = subst (Stands after) (part-present v z) (closes.stands (with_parts h.flags h.values (opened (value.Sequence []) (flagged true z))) h.stands);
     }
 
-turns-interleaved : (texts : List (List ℕ)) (bs : List (Rose Plain)) (words : List ℕ) → length texts ≡ length bs
-    → joined (in_turns texts bs) (text_before words rose.none) ≡ interleaved (texts ++ words ∷ []) (roses_of bs)
-turns-interleaved [] [] words e = refl
-turns-interleaved [] (b ∷ bs) words e = absurd (cc)
-turns-interleaved (t ∷ texts) [] words e = absurd (cc)
-turns-interleaved ([] ∷ texts) (b ∷ bs) words e = ap (λ z. rose.more b z) (turns-interleaved texts bs words (omega (arith, e)))
-turns-interleaved ((x ∷ xs) ∷ texts) (b ∷ bs) words e = ap (λ z. rose.more (node (text (x ∷ xs)) rose.none) (rose.more b z)) (turns-interleaved texts bs words (omega (arith, e)))
+-- what is judged so
+module _ (s : Set) (nillable : Bool) (ts : Roses ItemLabel) (z : Zip ValueLabel) (old new : Built) (F : CheckError → Type 0) (stands : Stands old z) where
+  pub nothing-judged : (r : Result (Unit {0}) CheckError) → MatchResult r (λ _. (ts ≡ rose.none) × PartsPut (NothingMade nillable) old new) F → MatchResult r (λ _. InsidePut s nillable nothing ts z new) F
+  nothing-judged (Ok x) h = nothing-inside s nillable ts z old new h.0 h.1 stands
+  nothing-judged (Err e) h = h
 
--- texts have no kids
-texts-counted : (texts : List (List ℕ)) → count_all (roses_of (map text_value texts)) ≡ length texts
-texts-counted [] = refl
-texts-counted (t ∷ texts) = let h = texts-counted texts in omega (arith, h)
+  pub text-judged : (space : Space) (r : Result (Unit {0}) CheckError) → MatchResult r (λ _. (v : Rose ValueLabel) × IsReadAs space ts v × Puts (with_parts (true ∷ []) (v ∷ [])) old new) F
+      → MatchResult r (λ _. InsidePut s nillable (simple space) ts z new) F
+  text-judged space (Ok x) (v, read, puts) = text-inside s nillable space ts z old new v read puts stands
+  text-judged space (Err e) h = h
 
--- the child elements that wait are the rest
-rest-stands : (read_kids : Kids) (model : Rose ParticleLabel) (r : Rest) (tally : Tally) (gs : List Child) → IsRestWith read_kids model r → Wait tally read_kids.children gs → RestStands tally r (held.children model gs)
-rest-stands kids model read.Nil tally gs q wait = absurd q
-rest-stands kids model read.Nothing tally gs q wait = absurd q
-rest-stands kids model (read.Text made) tally gs q wait = absurd q
-rest-stands kids model (read.Children own plan found) tally gs q wait = (q.0, subst (λ x. Wait tally x gs) (sym q.1) wait)
+pub children-judged : (s : Set) (nillable mixed : Bool) (model : Rose ParticleLabel) (ts : Roses ItemLabel) (z : Zip ValueLabel) (new : Built) (F : CheckError → Type 0) → are_sound ts ≡ true → All (IsNamed s) (leaves (seen model))
+    → (r : Result (Unit {0}) CheckError) → MatchResult r (λ _. ChildrenPut s nillable mixed (seen model) ts z new) F → MatchResult r (λ _. InsidePut s nillable (children mixed (seen model)) ts z new) F
+children-judged s nillable mixed model ts z new F sound named (Ok x) h = children-inside s nillable mixed model ts z new sound named h
+children-judged s nillable mixed model ts z new F sound named (Err e) h = h
 
-module _ (s : Set) (p : Particle) (ts : Roses ItemLabel) (kids : Kids) (content : Content) (model : Rose ParticleLabel) (start before after : Tally) where
-  mixed-right : KidsRead s true p ts kids start before → IsContentWith true kids model content before after → p ≡ seen model → All (IsNamed s) (leaves p) → IsRightContent s (children true p) ts content start after
-  mixed-right h made e named =
-      let k = h.kept in
-      let mixed = k.mixed_is refl in
-      let closed = made.mixed_is refl in
-      let last = words_of kids.behind in
-      let words = k.texts ++ last ∷ [] in
-      let texts = map text_value words in
+-- ---- the value of a complex type
+
+-- what stands behind its attributes is put down there
+abbrev pub begun_at : (a : Asked) (xs : List (Name × List ℕ)) (texts : List (Rose ValueLabel)) (old mid : Built) → Begins a xs texts old mid → Zip ValueLabel → Zip ValueLabel
+begun_at a xs texts old mid h z = with_parts h.flags h.values (with_parts h.text_flags h.text_values (opened (value.Sequence []) z))
+
+pub complex-put : (s : Set) (a : Asked) (xs : List (Name × List ℕ)) (ts : Roses ItemLabel) (z : Zip ValueLabel) (old mid before after : Built) (begins : Begins a xs (strings_put false ts) old mid)
+    → InsidePut s a.nillable a.inside ts (begun_at a xs (strings_put false ts) old mid begins z) before → Puts closed before after → ComplexPut s a xs ts z after
+complex-put s a xs ts z old mid before after begins inner closes = record {
+  content = record { texts = strings_put false ts; rest = inner.rest };
+  vs = inner.vs;
+  is = inner.is;
+  value = node (value.Sequence (begins.text_flags ++ (begins.flags ++ inner.flags))) (roses_of (begins.text_values ++ (begins.values ++ inner.values)));
+  made = record {
+    text_flags = begins.text_flags;
+    text_values = begins.text_values;
+    flags = begins.flags;
+    values = begins.values;
+    rest_flags = inner.flags;
+    rest_values = inner.values;
+    is = refl;
+    texts = begins.texts_made;
+    attributes = begins.attributes_made;
+    others = inner.made;
+  };
+  stands = subst (Stands after) (sequence-closed begins.text_flags begins.flags inner.flags begins.text_values begins.values inner.values z)
+      (closes.stands (with_parts inner.flags inner.values (begun_at a xs (strings_put false ts) old mid begins z)) inner.stands);
+}
+
+-- of one that is nil
+pub nil-put : (a : Asked) (xs : List (Name × List ℕ)) (old mid before after : Built) (begins : Begins a xs [] old mid) → Puts (flagged false) mid before → Puts closed before after
+    → (v : Rose ValueLabel) × IsNilFilled a xs v × Puts (added v) old after
+nil-put a xs old mid before after begins flags closes =
+    let v = node (value.Sequence (begins.text_flags ++ (begins.flags ++ false ∷ []))) (roses_of (begins.text_values ++ (begins.values ++ []))) in
+    let content : Held = record { texts = []; rest = held.nil } in (
+      v,
+      (
+        content,
+        (refl, refl),
+        record {
+          text_flags = begins.text_flags;
+          text_values = begins.text_values;
+          flags = begins.flags;
+          values = begins.values;
+          rest_flags = false ∷ [];
+          rest_values = [];
+          is = refl;
+          texts = begins.texts_made;
+          attributes = begins.attributes_made;
+          others = (refl, refl);
+        },
+      ),
       record {
-        held = record { texts = texts; rest = held.children model k.gs };
-        holds = record {
-          texts = λ w. closed.1 w ∙ ap (λ z. z ++ text_value last ∷ []) (k.texts_are (within-before 1 before after closed.0 w)) ∙ sym (map-append text_value k.texts (last ∷ []));
-          rest = rest-stands kids model content.rest after k.gs made.rest_is (wait-later 1 before after kids.children k.gs closed.0 k.wait);
-          alone = tt;
-        };
-        counts = counts-as (length k.texts + child_nodes k.gs + 1) (count_all (roses_of texts) + child_nodes k.gs) start after
-            (let counted = texts-counted words in let long = length-append k.texts (last ∷ []) in omega (arith, counted, long))
-            (counts-both (length k.texts + child_nodes k.gs) 1 start before after k.counts closed.0);
-        vs = h.vs;
-        is = (
-          e,
-          record {
-            named = named;
-            leaves_are = h.leaves;
-            lang = h.lang;
-            valid = h.valid;
-            items = k.items;
-            kept = k.children;
-            mixed_is = λ _. record {
-              words = words;
-              texts_are = refl;
-              many = let m = mixed.many in let l = length-append k.texts (last ∷ []) in omega (arith, m, l);
-              is = mixed.is ∙ turns-interleaved k.texts k.items last mixed.many;
-            };
-            plain_is = λ is. absurd (true≢false is);
-          },
-        );
-      }
+        most = closes.most ∙ flags.most ∙ begins.puts.most;
+        stands = λ z st.
+            subst (Stands after)
+            (ap closed (part-absent (begun_at a xs [] old mid begins z)) ∙ sequence-closed begins.text_flags begins.flags (false ∷ []) begins.text_values begins.values [] z)
+            (closes.stands (flagged false (begun_at a xs [] old mid begins z)) (flags.stands (begun_at a xs [] old mid begins z) (begins.puts.stands z st)));
+      },
+    )
 
-  plain-right : KidsRead s false p ts kids start before → IsContentWith false kids model content before after → p ≡ seen model → All (IsNamed s) (leaves p) → IsRightContent s (children false p) ts content start after
-  plain-right h made e named =
-      let k = h.kept in
-      let plain = k.plain_is refl in
-      let same = made.plain_is refl in
-      record {
-        held = record { texts = []; rest = held.children model k.gs };
-        holds = record {
-          texts = λ w. same.1 ∙ k.texts_are (subst IsWithin same.0 w) ∙ ap (map text_value) plain.1;
-          rest = rest-stands kids model content.rest after k.gs made.rest_is (subst (λ t. Wait t kids.children k.gs) (sym same.0) k.wait);
-          alone = tt;
-        };
-        counts = subst (λ t. Counts (0 + child_nodes k.gs) start t) (sym same.0)
-            (counts-as (length k.texts + child_nodes k.gs) (0 + child_nodes k.gs) start before (let none = ap length plain.1 in omega (arith, none)) k.counts);
-        vs = h.vs;
-        is = (
-          e,
-          record {
-            named = named;
-            leaves_are = h.leaves;
-            lang = h.lang;
-            valid = h.valid;
-            items = k.items;
-            kept = k.children;
-            mixed_is = λ is. absurd (true≢false (sym is));
-            plain_is = λ _. plain.0;
-          },
-        );
-      }
+-- the value is that of a complex type, where it isn't that of a text
+made-as : (s : Set) (plain : Bool) (inside : Inside) (ts : Roses ItemLabel) (texts : Rose ValueLabel) (r : Beside) (vs : Roses Plain) (v : Rose ValueLabel) (P : Type 0) → IsContentBy s inside ts texts r vs
+    → ((space : Space) → inside ≡ simple space → plain ≡ false) → P → IsMadeBy plain r v P
+made-as s plain inside ts texts held.nil vs v P h apart p = p
+made-as s plain inside ts texts held.nothing vs v P h apart p = p
+made-as s plain inside ts texts (held.children model gs) vs v P h apart p = p
+made-as s plain nothing ts texts (held.text w) vs v P h apart p = absurd h
+made-as s plain (children mixed q) ts texts (held.text w) vs v P h apart p = absurd h
+made-as s plain (simple space) ts texts (held.text w) vs v P h apart p = subst (λ b. MatchBool b (v ≡ w) P) (sym (apart space refl)) p
 
-  pub children-right : (mixed : Bool) → KidsRead s mixed p ts kids start before → IsContentWith mixed kids model content before after → p ≡ seen model → All (IsNamed s) (leaves p)
-      → IsRightContent s (children mixed p) ts content start after
-  children-right true h made e named = mixed-right h made e named
-  children-right false h made e named = plain-right h made e named
+pub complex-filled : (s : Set) (d : ℕ) (a : Asked) (xs : List (Name × List ℕ)) (ts : Roses ItemLabel) (z : Zip ValueLabel) (new : Built) → ((space : Space) → a.inside ≡ simple space → is_plain_at s d ≡ false)
+    → ComplexPut s a xs ts z new → ValuePut (IsFilled s d a xs ts) z new
+complex-filled s d a xs ts z new apart h = record {
+  value = h.value;
+  holds = (h.content, h.vs, h.is, made-as s (is_plain_at s d) a.inside ts (texts_of h.content) h.content.rest h.vs h.value (ComplexMade a xs h.content h.value) h.is apart h.made);
+  stands = h.stands;
+}
 
--- child elements that are read are at the leaves of a list of the content model
-pub rest-placed : (s : Set) (mixed : Bool) (ts : Roses ItemLabel) (kids : Kids) (model : Rose ParticleLabel) (r : Rest) (start before : Tally) → IsRestWith kids model r → KidsRead s mixed (seen model) ts kids start before
-    → IsModel s model → IsRestPlaced r
-rest-placed s mixed ts kids model read.Nil start before q h m = absurd q
-rest-placed s mixed ts kids model read.Nothing start before q h m = absurd q
-rest-placed s mixed ts kids model (read.Text made) start before q h m = absurd q
-rest-placed s mixed ts kids model (read.Children own plan found) start before q h m = (
-  subst (λ t. ModelPlaced t found) (sym q.0)
-      (subst (λ c. ModelPlaced model c) (sym q.1)
-      (record { few = m.few; fillable = (m.occurring, clear-rule1 (seen model) [] m.clear); us = h.leaves; at = h.at; lang = h.lang })),
-  subst (λ t. plan.value ≡ seen t) (sym q.0) q.2,
-)
+-- and that of its text
+pub plain-filled : (s : Set) (d : ℕ) (a : Asked) (xs : List (Name × List ℕ)) (ts : Roses ItemLabel) (z : Zip ValueLabel) (old new : Built) (space : Space) → a.inside ≡ simple space → is_plain_at s d ≡ true → (v : Rose ValueLabel)
+    → IsReadAs space ts v → Puts (added v) old new → Stands old z → ValuePut (IsFilled s d a xs ts) z new
+plain-filled s d a xs ts z old new space inside_is plain v (words, only, accepts) puts stands =
+    let content : Held = record { texts = []; rest = held.text v } in
+    let vs = text_kids (spelled space v) in
+    record {
+      value = v;
+      holds = (
+        content,
+        vs,
+        subst (λ i. IsContentOf s i ts content vs) (sym inside_is) (words, only, accepts, refl),
+        subst (λ b. MatchBool b (v ≡ v) (ComplexMade a xs content v)) (sym plain) refl,
+      );
+      stands = puts.stands z stands;
+    }
+
+pub complex-judged : (s : Set) (d : ℕ) (a : Asked) (xs : List (Name × List ℕ)) (ts : Roses ItemLabel) (z : Zip ValueLabel) (new : Built) (F : CheckError → Type 0) → ((space : Space) → a.inside ≡ simple space → is_plain_at s d ≡ false)
+    → (r : Result (Unit {0}) CheckError) → MatchResult r (λ _. ComplexPut s a xs ts z new) F → MatchResult r (λ _. ValuePut (IsFilled s d a xs ts) z new) F
+complex-judged s d a xs ts z new F apart (Ok x) h = complex-filled s d a xs ts z new apart h
+complex-judged s d a xs ts z new F apart (Err e) h = h
+
+pub plain-judged : (s : Set) (d : ℕ) (a : Asked) (xs : List (Name × List ℕ)) (ts : Roses ItemLabel) (z : Zip ValueLabel) (old new : Built) (space : Space) (place : ℕ) → a.inside ≡ simple space → is_plain_at s d ≡ true → Stands old z
+    → (r : Result (Unit {0}) CheckError) → MatchResult r (λ _. (v : Rose ValueLabel) × IsReadAs space ts v × Puts (added v) old new) (Tells (TextFault space ts place))
+    → MatchResult r (λ _. ValuePut (IsFilled s d a xs ts) z new) (Tells (InsideFault (asked_at (parts_of s)) a.inside ts place))
+plain-judged s d a xs ts z old new space place inside_is plain stands (Ok x) (v, read, puts) = plain-filled s d a xs ts z old new space inside_is plain v read puts stands
+plain-judged s d a xs ts z old new space place inside_is plain stands (Err e) h = subst (λ i. Tells (InsideFault (asked_at (parts_of s)) i ts place) e) (sym inside_is) h
 
 -- such a content is valid
 content-valid : (s : Set) (inside : Inside) (ts : Roses ItemLabel) (texts : Rose ValueLabel) (r : Beside) (vs : Roses Plain) → IsContentBy s inside ts texts r vs → ContentValid (asked_at (parts_of s)) inside ts vs
@@ -241,67 +314,34 @@ module _ (s : Set) (linked : IsLinked s) (d : ℕ) (n : Name) (xs : List (Name �
       good-tag : (nil : Bool) → IsGoodTag a ys nil → IsGoodTag (asks d) xs nil
       good-tag nil good = subst (λ b. IsGoodTag b xs nil) asked_is (subst (λ zs. IsGoodTag a zs nil) same good)
 
-      abbrev refused : CheckError → Result (Rose ValueLabel) CheckError
+      abbrev refused : CheckError → Result (Unit {0}) CheckError
       refused e = Err e
 
-      pub nil-read : (before after : Tally) → IsGoodTag a ys true → (r : Result Built CheckError)
-          → MatchResult r (λ made. (roses_of kids ≡ rose.none) × Makes (IsNilFilled s d a ys) 0 made before after) (Tells (FirstKid (roses_of kids) (λ _. NilWithContent)))
-          → MatchResult r (λ made. Makes (IsRead s d t) 0 made before after) (Tells (FaultBy asks d t))
-      nil-read before after good (Ok made) (none, m) =
-          let (content, nil, filled) = subst (λ b. IsNilFilled s d b xs m.value) asked_is (subst (λ zs. IsNilFilled s d a zs m.value) same m.holds) in
+      made-nil : (content : Held) (v : Rose ValueLabel) → content.rest ≡ held.nil → ComplexMade (asks d) xs content v → IsMade (is_plain_at s d) (asks d) xs content v
+      made-nil content v e made = subst (λ r. IsMadeBy (is_plain_at s d) r v (ComplexMade (asks d) xs content v)) (sym e) made
+
+      pub nil-read : (old new : Built) → IsGoodTag a ys true → (r : Result (Unit {0}) CheckError)
+          → MatchResult r (λ _. (roses_of kids ≡ rose.none) × ((v : Rose ValueLabel) × IsNilFilled a ys v × Puts (added v) old new)) (Tells (FirstKid (roses_of kids) (λ _. NilWithContent)))
+          → (z : Zip ValueLabel) → Stands old z → MatchResult r (λ _. ValuePut (IsRead s d t) z new) (Tells (FaultBy asks d t))
+      nil-read old new good (Ok x) (none, (v, made, puts)) z stands =
+          let (content, nil, filled) = subst (λ b. IsNilFilled b xs v) asked_is (subst (λ zs. IsNilFilled a zs v) same made) in
           let empty : roses_of (kids_of t) ≡ rose.none = ap roses_of (sym are) ∙ none in
           record {
-            value = m.value;
-            holds = element-read true (good-tag true good) rose.none (empty, refl) content (nil, refl) m.value filled;
-            stands = m.stands;
-            nodes = m.nodes;
-            counts = m.counts;
-            all = m.all;
+            value = v;
+            holds = element-read true (good-tag true good) rose.none (empty, refl) content (nil, refl) v (made-nil content v nil.0 filled);
+            stands = puts.stands z stands;
           }
-      nil-read before after good (Err e) h = nil_judged s d a ys n xs declares place t is asked_is same good kids are (refused e) h
+      nil-read old new good (Err e) h z stands = nil_judged s d a ys n xs declares place t is asked_is same good kids are (refused e) h
 
-      pub filled-read : (before after : Tally) → IsGoodTag a ys false → (r : Result Built CheckError)
-          → MatchResult r (λ made. Makes (IsFilled s d a ys (roses_of kids)) 0 made before after) (Tells (InsideFault asks a.inside (roses_of kids) place))
-          → MatchResult r (λ made. Makes (IsRead s d t) 0 made before after) (Tells (FaultBy asks d t))
-      filled-read before after good (Ok made) m =
-          let (content, vs, right, filled) = subst (λ ks. IsFilled s d (asks d) xs (roses_of ks) m.value) are (subst (λ b. IsFilled s d b xs (roses_of kids) m.value) asked_is (subst (λ zs. IsFilled s d a zs (roses_of kids) m.value) same m.holds)) in
+      pub filled-read : (new : Built) (z : Zip ValueLabel) → IsGoodTag a ys false → (r : Result (Unit {0}) CheckError)
+          → MatchResult r (λ _. ValuePut (IsFilled s d a ys (roses_of kids)) z new) (Tells (InsideFault asks a.inside (roses_of kids) place))
+          → MatchResult r (λ _. ValuePut (IsRead s d t) z new) (Tells (FaultBy asks d t))
+      filled-read new z good (Ok x) m =
+          let (content, vs, right, filled) =
+          subst (λ ks. IsFilled s d (asks d) xs (roses_of ks) m.value) are (subst (λ b. IsFilled s d b xs (roses_of kids) m.value) asked_is (subst (λ zs. IsFilled s d a zs (roses_of kids) m.value) same m.holds)) in
           record {
             value = m.value;
             holds = element-read false (good-tag false good) vs (content-valid s (asks d).inside (roses_of (kids_of t)) (texts_of content) content.rest vs right) content right m.value filled;
             stands = m.stands;
-            nodes = m.nodes;
-            counts = m.counts;
-            all = m.all;
           }
-      filled-read before after good (Err e) h = inside_judged s d a ys n xs declares place t is asked_is same good kids are (refused e) h
-
--- ---- the value of a content
-
--- of what is read
-pub right-filled : (s : Set) (d : ℕ) (a : Asked) (xs : List (Name × List ℕ)) (ts : Roses ItemLabel) (content : Content) (made : Built) (start before after : Tally) → IsRightContent s a.inside ts content start before
-    → ((h : Held) → Holds before content h → Makes (IsMade (is_plain_at s d) a xs h) (held_nodes a.inside h) made before after) → Makes (IsFilled s d a xs ts) 0 made start after
-right-filled s d a xs ts content made start before after right f =
-    let m = f right.held right.holds in
-    record {
-      value = m.value;
-      holds = (right.held, right.vs, right.is, m.holds);
-      stands = m.stands;
-      nodes = held_nodes a.inside right.held + m.nodes;
-      counts = counts-both (held_nodes a.inside right.held) m.nodes start before after right.counts m.counts;
-      all = let all = m.all in omega (arith, all);
-    }
-
--- of none
-pub nil-filled : (s : Set) (d : ℕ) (a : Asked) (xs : List (Name × List ℕ)) (content : Content) (made : Built) (before after : Tally) → content.rest ≡ read.Nil → content.texts.items ≡ []
-    → ((h : Held) → Holds before content h → Makes (IsMade (is_plain_at s d) a xs h) (held_nodes a.inside h) made before after) → Makes (IsNilFilled s d a xs) 0 made before after
-nil-filled s d a xs content made before after e g f =
-    let h : Held = record { texts = []; rest = held.nil } in
-    let m = f h (record { texts = λ w. g; rest = subst (λ r. RestStands before r held.nil) (sym e) tt; alone = tt }) in
-    record {
-      value = m.value;
-      holds = (h, (refl, refl), m.holds);
-      stands = m.stands;
-      nodes = m.nodes;
-      counts = m.counts;
-      all = let all = m.all in let none = nothing-counted a.inside h.texts refl in omega (arith, all, none);
-    }
+      filled-read new z good (Err e) h = inside_judged s d a ys n xs declares place t is asked_is same good kids are (refused e) h

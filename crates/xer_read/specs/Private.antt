@@ -1,10 +1,5 @@
-pub mod Bounds
-pub mod Tallied
-pub mod Held
-pub mod Made
-pub mod Growing
-pub mod Reading
 pub mod Given
+pub mod Held
 pub mod Keeping
+pub mod Putting
 pub mod Contents
-pub mod Places

@@ -6,58 +6,54 @@ ghost use Rattle.schema_parts.specs.SetParts.{parts_of};
 ghost use Rattle.validity.specs.Asked.{attribute_in};
 ghost use Rattle.validity.specs.Attributes.{left};
 ghost use Rattle.xer_read.specs.Private.Contents.{IsTaken, AreTaken, AttributesMade};
-ghost use Rattle.xer_read.specs.Private.Growing.{Adds};
+ghost use Rattle.xer_read.specs.Private.Putting.{PartsPut};
 
-use crate::built::Built;
-use crate::parts::Parts;
-use crate::tally::Tally;
 use attribute_faults::text_of;
 use schema_parts::{AttributeUse, SchemaSet};
 use simple_values::SimpleError;
-use std::alloc::Global;
+use value_builder::ValueBuilder;
 use xa_base::{Memory, Name, Text};
 
 // The part for an attribute use.
-fn add_attribute(
-    alloc: Global,
+fn put_attribute(
     set: &SchemaSet,
     declared: &AttributeUse,
     attributes: &[(Name, Text)],
-    parts: &mut Parts,
-    tally: &mut Tally,
+    values: &mut ValueBuilder,
 ) -> Result<(), Memory>
     requires linked { IsLinked set.now }
     requires declared { IsUse set.now declared.now }
     requires taken { IsTaken (left attributes.now) (attribute_in (parts_of set.now) declared.now) }
-    ensures { OnOk result (Adds (AttributesMade (attribute_in (parts_of set.now) declared.now ∷ []) (left attributes.now)) 0 parts.old parts.new tally.old tally.new) }
+    ensures { OnOk result (PartsPut (AttributesMade (attribute_in (parts_of set.now) declared.now ∷ []) (left attributes.now)) values.old values.new) }
 {
     match text_of(attributes, &declared.name) {
-        None => parts.leave_out(),
-        Some(text) => match Built::read(alloc, &set.simple(declared.simple).space, text, tally) {
-            Ok(made) => parts.add(made),
-            Err(SimpleError::Memory) => Err(Memory),
-            Err(SimpleError::BadText) => unreachable!(),
-            Err(SimpleError::TooWide) => unreachable!(),
-        },
+        None => values.part(false),
+        Some(text) => {
+            values.part(true)?;
+            match values.text(&set.simple(declared.simple).space, text) {
+                Ok(()) => Ok(()),
+                Err(SimpleError::Memory) => Err(Memory),
+                Err(SimpleError::BadText) => unreachable!(),
+                Err(SimpleError::TooWide) => unreachable!(),
+            }
+        }
     }
 }
 
 /// The parts for attribute uses: each has the value of its attribute, or is absent where none stands.
-pub(crate) fn add_attributes(
-    alloc: Global,
+pub(crate) fn put_attributes(
     set: &SchemaSet,
     uses: &[AttributeUse],
     attributes: &[(Name, Text)],
-    parts: &mut Parts,
-    tally: &mut Tally,
+    values: &mut ValueBuilder,
 ) -> Result<(), Memory>
     requires linked { IsLinked set.now }
     requires uses { All (IsUse set.now) uses.now }
     requires taken { AreTaken set.now attributes.now uses.now }
-    ensures { OnOk result (Adds (AttributesMade (map (attribute_in (parts_of set.now)) uses.now) (left attributes.now)) 0 parts.old parts.new tally.old tally.new) }
+    ensures { OnOk result (PartsPut (AttributesMade (map (attribute_in (parts_of set.now)) uses.now) (left attributes.now)) values.old values.new) }
 {
     for declared in uses {
-        add_attribute(alloc, set, declared, attributes, parts, tally)?;
+        put_attribute(set, declared, attributes, values)?;
     }
     Ok(())
 }

@@ -1,58 +1,52 @@
-//! Elements and their kids, one by one.
-ghost use Rattle.std.specs.Prelude.{◌≡◌, ◌⊎◌, Option, None, ℕ, ◌+◌, ◌-◌, ◌*◌, ◌^◌, ◌<◌, ◌≤◌, true, false, List, [], length, slice_index_or, All, MatchResult, IfOk, OnOk};
-ghost use Rattle.label_tree.specs.Rose.{Rose, label_of, roses_of, none, node_count, count_all};
+//! The walk over an element and its kids, one by one.
+ghost use Rattle.std.specs.Prelude.{◌≡◌, ◌⊎◌, ℕ, ◌+◌, ◌-◌, ◌*◌, ◌^◌, ◌<◌, ◌≤◌, true, false, List, [], length, slice_index_or, All, MatchResult, OnOk};
+ghost use Rattle.label_tree.specs.Rose.{Rose, label_of, roses_of, node_count, count_all};
 ghost use Rattle.xa_base.specs.WhiteSpace.{is_blank};
 ghost use Rattle.doc_text.specs.declared.label.ItemLabel.{ItemLabel};
 ghost use Rattle.doc_text.specs.Sound.{is_text, is_sound, are_sound};
+ghost use Rattle.flat_tree.specs.Zips.{Zip, added};
+ghost use Rattle.simple_types.specs.declared.labels.ValueLabel.{ValueLabel};
 ghost use Rattle.content_models.specs.Particle.{Particle};
-ghost use Rattle.content_models.specs.Language.{Leaf, names, Lang};
-ghost use Rattle.content_spots.specs.Laws as spots;
-ghost use Rattle.content_match.specs.Taking.{levels, Took};
-ghost use Rattle.schema_parts.specs.Linked.{leaves, IsNamed, IsUse, IsLinked};
+ghost use Rattle.content_models.specs.Seen.{seen};
+ghost use Rattle.content_match.specs.Taking.{levels};
+ghost use Rattle.schema_parts.specs.Linked.{IsUse, IsModel, IsLinked};
 ghost use Rattle.schema_parts.specs.SetParts.{parts_of};
 ghost use Rattle.validity.specs.Asked.{asked_at};
-ghost use Rattle.validity.specs.Faults.{At, FirstKid, FaultBy};
-ghost use Rattle.validity_check.specs.Answers.{Tells, TextFault, KidsFault, InsideFault};
+ghost use Rattle.validity.specs.Faults.{At, FaultBy};
+ghost use Rattle.validity_check.specs.Answers.{Tells, KidsFault, InsideFault};
 ghost use Rattle.validity_check.specs.Counts.{element_count, elements_in};
 ghost use Rattle.validity_check.specs.Told.{inside_told, told, IsFittingInside};
-ghost use Rattle.xer_read.specs.declared.tally.Tally as tally_of;
+ghost use Rattle.value_builder.specs.Built.{Stands};
 ghost use Rattle.xer_read.specs.Private.Given.{IsRead};
-ghost use Rattle.xer_read.specs.Private.Keeping.{TextRead, Reached, KidsRead};
-ghost use Rattle.xer_read.specs.Private.Contents.{AreTaken, IsRestPlaced, IsRightContent, IsFilled, IsNilFilled};
-ghost use Rattle.xer_read.specs.Private.Tallied.{Makes};
+ghost use Rattle.xer_read.specs.Private.Keeping.{Reached};
+ghost use Rattle.xer_read.specs.Private.Contents.{AreTaken, IsFilled, ChildrenPut, InsidePut, ComplexPut};
+ghost use Rattle.xer_read.specs.Private.Putting.{IsWay, ValuePut};
 
-use crate::built::Built;
-use crate::contents::{Content, Kids, Rest};
-use crate::tally::Tally;
-use crate::texts::read_text;
-use crate::values::make_value;
+use crate::complex::{
+    begin_complex, begin_part, plain_type, walk_nil, walk_nothing, walk_text,
+};
+use crate::texts::put_text;
+use crate::ways::{Way, finish, open_way};
 use content_match::{Matcher, Plan};
+use content_models::Particle;
+use content_values::put_end;
 use doc_text::ItemLabel;
-use label_tree::Tree;
+use flat_tree::{Kids, Node};
 use schema_parts::SchemaSet;
-use std::alloc::Global;
+use std::iter::Iterator;
 use std::sync::ledger::Ledger;
 use validity::InvalidWhy;
-use validity_check::{
-    CheckError, Declared, Inside, Plans, check_empty, check_no_content, check_tag, declared_of,
-};
+use validity_check::{CheckError, Declared, Inside, Plans, check_tag, declared_of};
+use value_builder::ValueBuilder;
 use xa_base::{Name, Steps, Text, is_blank};
 
-// A text at this place stands among child elements: it is kept in mixed content, and is white space elsewhere.
-fn read_between(
-    alloc: Global,
-    mixed: bool,
-    text: &Text,
-    at: u64,
-    read: &mut Kids,
-) -> Result<(), CheckError>
-    requires { mixed ≡ true → read.old.behind ≡ None }
+// A text at this place may stand among child elements: their content is mixed, or it is white space.
+fn check_between(mixed: bool, text: &Text, at: u64) -> Result<(), CheckError>
     ensures { MatchResult result
-        (λ _. TextRead mixed text.now read.old read.new)
+        (λ _. (mixed ≡ true) ⊎ (is_blank text.now ≡ true))
         (Tells (At at InvalidWhy.TextNotAllowed ((mixed ≡ false) × (is_blank text.now ≡ false)))) }
 {
     if mixed {
-        read.add_text(alloc, text)?;
         return Ok(());
     }
     if is_blank(text.bytes()) {
@@ -66,255 +60,288 @@ fn read_between(
 }
 
 // The next kid can follow those before it, and is valid.
-#[cycle(reading)]
-fn read_kid<L: Ledger>(
+#[cycle(walking)]
+fn walk_kid<L: Ledger>(
     set: &SchemaSet,
     plans: &mut Plans,
+    model: &Particle,
     matcher: &mut Matcher,
+    way: &mut Way,
     mixed: bool,
-    kid: &Tree<ItemLabel>,
-    read: &mut Kids,
-    tally: &mut Tally,
+    kid: &Node<'_, ItemLabel>,
+    values: &mut ValueBuilder,
     steps: &mut Steps<L>,
 ) -> Result<(), CheckError>
     requires linked { IsLinked set.now }
     requires plans { plans.old ≡ set.now }
-    requires named { All (IsNamed set.now) (leaves matcher.old.particle) }
-    requires levels { levels matcher.old.particle ≤ 17 }
+    requires model { IsModel set.now model.now }
+    requires way { IsWay way.old matcher.old }
     requires taken { matcher.old.taken < 2 ^ 32 - 1 }
-    requires took { (us : List Leaf) × Took matcher.old us }
+    requires reached { (kids : List (Rose ItemLabel)) × (i : ℕ) × (z : Zip ValueLabel) × Reached set.now mixed (seen model.now) kids i matcher.old z values.old }
     requires sound { is_sound kid.now ≡ true }
-    requires apart { is_text (label_of kid.now) ≡ true → mixed ≡ true → read.old.behind ≡ None }
     requires few { node_count kid.now < 2 ^ 31 }
     ensures same { plans.new ≡ set.now }
-    ensures judged { (p : Particle) (kids : List (Rose ItemLabel)) (place i : ℕ) (start : tally_of.Tally) → i < length kids → kid.now ≡ slice_index_or kids i kid.now
-        → Reached set.now mixed p kids i matcher.old read.old start tally.old
+    ensures way { OnOk result (IsWay way.new matcher.new) }
+    ensures limit { OnOk result (values.new.most ≡ values.old.most) }
+    ensures judged { (kids : List (Rose ItemLabel)) (place i : ℕ) (z : Zip ValueLabel) → i < length kids → kid.now ≡ slice_index_or kids i kid.now → Reached set.now mixed (seen model.now) kids i matcher.old z values.old
         → MatchResult result
-        (λ _. Reached set.now mixed p kids (i + 1) matcher.new read.new start tally.new)
-        (Tells (KidsFault (asked_at (parts_of set.now)) mixed p (roses_of kids) place)) }
+        (λ _. Reached set.now mixed (seen model.now) kids (i + 1) matcher.new z values.new)
+        (Tells (KidsFault (asked_at (parts_of set.now)) mixed (seen model.now) (roses_of kids) place)) }
     ensures most { steps.new ≤ steps.old + 144 * element_count kid.now }
     ensures least { OnOk result (steps.old + element_count kid.now ≤ steps.new) }
-    ensures apart { OnOk result (mixed ≡ true → (read.new.behind ≡ None) ⊎ (is_text (label_of kid.now) ≡ true)) }
 {
     match kid.label() {
-        ItemLabel::Text { text, at } => read_between(plans.alloc(), mixed, text, *at, read),
-        ItemLabel::Element { name, at, .. } => match matcher.step(name, steps) {
-            Err(_) => Err(CheckError::Invalid {
-                at: *at,
-                why: InvalidWhy::UnexpectedElement,
-            }),
-            Ok(leaf) => match read_element(set, plans, leaf.decl, kid, tally, steps) {
+        ItemLabel::Text { text, at } => check_between(mixed, text, *at),
+        ItemLabel::Element { name, at, .. } => {
+            match open_way(model, matcher, way, name, *at, values, steps) {
                 Err(error) => Err(error),
-                Ok(value) => {
-                    let alloc = plans.alloc();
-                    read.add_element(alloc, mixed, leaf.decl, matcher.turns(), value, tally)?;
-                    Ok(())
-                }
-            },
-        },
-    }
-}
-
-// The names taken are those of a list of the content model, and these are all kids of the element, which stands at this
-// place.
-fn finish<L: Ledger>(
-    matcher: &Matcher,
-    at: u64,
-    read: Kids,
-    steps: &mut Steps<L>,
-) -> Result<Kids, CheckError>
-    ensures ticks { (steps.old ≤ steps.new) × (steps.new ≤ steps.old + (4 * levels matcher.now.particle + 4)) }
-    ensures finished { (us : List Leaf) → Took matcher.now us
-        → MatchResult result
-        (λ kept. Lang matcher.now.particle 0 [] us × (kept ≡ read))
-        (Tells (At at InvalidWhy.MissingElement (spots.IsNamed matcher.now.particle (names us) → ⊥))) }
-{
-    match matcher.finish(steps) {
-        Ok(()) => Ok(read),
-        Err(_) => Err(CheckError::Invalid {
-            at,
-            why: InvalidWhy::MissingElement,
-        }),
+                Ok(leaf) => walk_element(set, plans, leaf.decl, kid, values, steps),
+            }
+        }
     }
 }
 
 // The kids follow the content model of the plan, and each is valid. The element stands at this place.
-#[cycle(reading)]
-fn read_kids<L: Ledger>(
+#[cycle(walking)]
+fn walk_kids<L: Ledger>(
     set: &SchemaSet,
     plans: &mut Plans,
+    model: &Particle,
     plan: &Plan,
     mixed: bool,
     at: u64,
-    kids: &[Tree<ItemLabel>],
-    tally: &mut Tally,
+    kids: &Kids<'_, ItemLabel>,
+    values: &mut ValueBuilder,
     steps: &mut Steps<L>,
-) -> Result<Kids, CheckError>
+) -> Result<(), CheckError>
     requires linked { IsLinked set.now }
     requires plans { plans.old ≡ set.now }
-    requires named { All (IsNamed set.now) (leaves plan.now) }
-    requires levels { levels plan.now ≤ 17 }
+    requires model { IsModel set.now model.now }
+    requires plan { plan.now ≡ seen model.now }
     requires sound { are_sound (roses_of kids.now) ≡ true }
     requires few { count_all (roses_of kids.now) < 2 ^ 31 }
+    requires stands { (z : Zip ValueLabel) × Stands values.old z }
     ensures same { plans.new ≡ set.now }
-    ensures judged { MatchResult result
-        (λ read. KidsRead set.now mixed plan.now (roses_of kids.now) read tally.old tally.new)
-        (Tells (KidsFault (asked_at (parts_of set.now)) mixed plan.now (roses_of kids.now) at)) }
+    ensures limit { OnOk result (values.new.most ≡ values.old.most) }
+    ensures judged { (z : Zip ValueLabel) → Stands values.old z → MatchResult result
+        (λ _. ChildrenPut set.now false mixed (seen model.now) (roses_of kids.now) z values.new)
+        (Tells (KidsFault (asked_at (parts_of set.now)) mixed (seen model.now) (roses_of kids.now) at)) }
     ensures most { steps.new ≤ steps.old + (144 * elements_in (roses_of kids.now) + 72) }
     ensures least { OnOk result (steps.old + elements_in (roses_of kids.now) ≤ steps.new) }
 {
     let mut matcher = Matcher::start(plan)?;
-    let mut read = Kids::new(plans.alloc());
-    for kid in kids {
-        read_kid(
+    let mut way = Way::new(plans.alloc());
+    for kid in kids.again() {
+        walk_kid(
             set,
             plans,
+            model,
             &mut matcher,
+            &mut way,
             mixed,
-            kid,
-            &mut read,
-            tally,
+            &kid,
+            values,
             steps,
         )?;
     }
-    finish(&matcher, at, read, steps)
+    match finish(&matcher, at, steps) {
+        Err(error) => Err(error),
+        Ok(()) => {
+            put_end(model, way.path(), values)?;
+            Ok(())
+        }
+    }
+}
+
+// The parts for child elements, which are those of one part where the element may be nil.
+#[cycle(walking)]
+fn walk_children<L: Ledger>(
+    set: &SchemaSet,
+    plans: &mut Plans,
+    nillable: bool,
+    model: &Particle,
+    plan: &Plan,
+    mixed: bool,
+    at: u64,
+    kids: &Kids<'_, ItemLabel>,
+    values: &mut ValueBuilder,
+    steps: &mut Steps<L>,
+) -> Result<(), CheckError>
+    requires linked { IsLinked set.now }
+    requires plans { plans.old ≡ set.now }
+    requires model { IsModel set.now model.now }
+    requires plan { plan.now ≡ seen model.now }
+    requires sound { are_sound (roses_of kids.now) ≡ true }
+    requires few { count_all (roses_of kids.now) < 2 ^ 31 }
+    requires stands { (z : Zip ValueLabel) × Stands values.old z }
+    ensures same { plans.new ≡ set.now }
+    ensures limit { OnOk result (values.new.most ≡ values.old.most) }
+    ensures judged { (z : Zip ValueLabel) → Stands values.old z → MatchResult result
+        (λ _. ChildrenPut set.now nillable mixed (seen model.now) (roses_of kids.now) z values.new)
+        (Tells (KidsFault (asked_at (parts_of set.now)) mixed (seen model.now) (roses_of kids.now) at)) }
+    ensures most { steps.new ≤ steps.old + (144 * elements_in (roses_of kids.now) + 72) }
+    ensures least { OnOk result (steps.old + elements_in (roses_of kids.now) ≤ steps.new) }
+{
+    if !nillable {
+        return walk_kids(set, plans, model, plan, mixed, at, kids, values, steps);
+    }
+    begin_part(values)?;
+    match walk_kids(set, plans, model, plan, mixed, at, kids, values, steps) {
+        Err(error) => Err(error),
+        Ok(()) => {
+            values.close();
+            Ok(())
+        }
+    }
 }
 
 // The kids are what may stand in an element at this place.
-#[cycle(reading)]
-fn read_inside<'a, L: Ledger>(
+#[cycle(walking)]
+fn walk_inside<L: Ledger>(
     set: &SchemaSet,
     plans: &mut Plans,
-    inside: Inside<'a>,
+    nillable: bool,
+    inside: Inside,
     at: u64,
-    kids: &[Tree<ItemLabel>],
-    tally: &mut Tally,
+    kids: &Kids<'_, ItemLabel>,
+    values: &mut ValueBuilder,
     steps: &mut Steps<L>,
-) -> Result<Content<'a>, CheckError>
+) -> Result<(), CheckError>
     requires linked { IsLinked set.now }
     requires plans { plans.old ≡ set.now }
     requires inside { IsFittingInside set.now inside }
     requires sound { are_sound (roses_of kids.now) ≡ true }
     requires few { count_all (roses_of kids.now) < 2 ^ 31 }
+    requires stands { (z : Zip ValueLabel) × Stands values.old z }
     ensures same { plans.new ≡ set.now }
-    ensures judged { MatchResult result
-        (λ content. IsRightContent set.now (inside_told inside.entry) (roses_of kids.now) content tally.old tally.new)
+    ensures limit { OnOk result (values.new.most ≡ values.old.most) }
+    ensures judged { (z : Zip ValueLabel) → Stands values.old z → MatchResult result
+        (λ _. InsidePut set.now nillable (inside_told inside.entry) (roses_of kids.now) z values.new)
         (Tells (InsideFault (asked_at (parts_of set.now)) (inside_told inside.entry) (roses_of kids.now) at)) }
-    ensures placed { IfOk result (λ content. IsRestPlaced content.rest) }
     ensures most { steps.new ≤ steps.old + (144 * elements_in (roses_of kids.now) + 72) }
     ensures least { OnOk result (steps.old + elements_in (roses_of kids.now) ≤ steps.new) }
 {
     match inside {
-        Inside::Nothing => match check_no_content(kids) {
-            Ok(()) => Ok(Content::without_texts(plans.alloc(), Rest::Nothing)),
-            Err(error) => Err(error),
-        },
-        Inside::Simple(simple) => match read_text(plans.alloc(), simple, at, kids, tally) {
-            Ok(value) => Ok(Content::without_texts(plans.alloc(), Rest::Text(value))),
-            Err(error) => Err(error),
-        },
+        Inside::Nothing => walk_nothing(nillable, kids, values),
+        Inside::Simple(simple) => walk_text(simple, at, kids, values),
         Inside::Children {
             mixed,
             complex,
             model,
         } => {
             let plan = plans.plan(complex, model)?;
-            match read_kids(set, plans, plan.as_ref(), mixed, at, kids, tally, steps) {
-                Ok(read) => {
-                    let content = read.into_content(plans.alloc(), mixed, model, plan, tally)?;
-                    Ok(content)
-                }
-                Err(error) => Err(error),
-            }
+            let plan = plan.as_ref();
+            walk_children(
+                set, plans, nillable, model, plan, mixed, at, kids, values, steps,
+            )
         }
     }
 }
 
-// The value of an element that isn't nil.
-#[cycle(reading)]
-fn read_filled<L: Ledger>(
+// An element whose value has parts.
+#[cycle(walking)]
+fn walk_complex<L: Ledger>(
     set: &SchemaSet,
     plans: &mut Plans,
-    decl: u32,
-    declared: Declared,
+    declared: &Declared,
     attributes: &[(Name, Text)],
     at: u64,
-    kids: &[Tree<ItemLabel>],
-    tally: &mut Tally,
+    kids: &Kids<'_, ItemLabel>,
+    values: &mut ValueBuilder,
     steps: &mut Steps<L>,
-) -> Result<Built, CheckError>
+) -> Result<(), CheckError>
     requires linked { IsLinked set.now }
     requires plans { plans.old ≡ set.now }
-    requires decl { decl < length set.now.elements }
-    requires inside { IsFittingInside set.now declared.inside }
-    requires uses { All (IsUse set.now) declared.uses.now }
-    requires taken { AreTaken set.now attributes.now declared.uses.now }
+    requires inside { IsFittingInside set.now declared.now.inside }
+    requires uses { All (IsUse set.now) declared.now.uses.now }
+    requires taken { AreTaken set.now attributes.now declared.now.uses.now }
     requires sound { are_sound (roses_of kids.now) ≡ true }
     requires few { count_all (roses_of kids.now) < 2 ^ 31 }
+    requires stands { (z : Zip ValueLabel) × Stands values.old z }
     ensures same { plans.new ≡ set.now }
-    ensures judged { MatchResult result
-        (λ made. Makes (IsFilled set.now decl (told (parts_of set.now) declared.entry) attributes.now (roses_of kids.now)) 0 made tally.old tally.new)
-        (Tells (InsideFault (asked_at (parts_of set.now)) (inside_told declared.entry.inside) (roses_of kids.now) at)) }
+    ensures limit { OnOk result (values.new.most ≡ values.old.most) }
+    ensures judged { (z : Zip ValueLabel) → Stands values.old z → MatchResult result
+        (λ _. ComplexPut set.now (told (parts_of set.now) declared.now) attributes.now (roses_of kids.now) z values.new)
+        (Tells (InsideFault (asked_at (parts_of set.now)) (inside_told declared.now.inside) (roses_of kids.now) at)) }
     ensures most { steps.new ≤ steps.old + (144 * elements_in (roses_of kids.now) + 72) }
     ensures least { OnOk result (steps.old + elements_in (roses_of kids.now) ≤ steps.new) }
 {
-    match read_inside(set, plans, declared.inside, at, kids, tally, steps) {
-        Err(error) => Err(error),
-        Ok(content) => {
-            let alloc = plans.alloc();
-            let value = make_value(alloc, set, decl, declared, attributes, content, tally)?;
-            Ok(value)
-        }
-    }
-}
-
-// The value of an element that is nil.
-fn read_nil(
-    alloc: Global,
-    set: &SchemaSet,
-    decl: u32,
-    declared: Declared,
-    attributes: &[(Name, Text)],
-    kids: &[Tree<ItemLabel>],
-    tally: &mut Tally,
-) -> Result<Built, CheckError>
-    requires linked { IsLinked set.now }
-    requires uses { All (IsUse set.now) declared.uses.now }
-    requires taken { AreTaken set.now attributes.now declared.uses.now }
-    requires decl { decl < length set.now.elements }
-    ensures { MatchResult result
-        (λ made. (roses_of kids.now ≡ none) × Makes (IsNilFilled set.now decl (told (parts_of set.now) declared.entry) attributes.now) 0 made tally.old tally.new)
-        (Tells (FirstKid (roses_of kids.now) (λ _. InvalidWhy.NilWithContent))) }
-{
-    match check_empty(kids) {
+    begin_complex(plans.alloc(), set, declared, attributes, false, kids, values)?;
+    match walk_inside(
+        set,
+        plans,
+        declared.nillable,
+        declared.inside,
+        at,
+        kids,
+        values,
+        steps,
+    ) {
         Err(error) => Err(error),
         Ok(()) => {
-            let content = Content::without_texts(alloc, Rest::Nil);
-            let value = make_value(alloc, set, decl, declared, attributes, content, tally)?;
-            Ok(value)
+            values.close();
+            Ok(())
         }
     }
 }
 
-/// The value of an element that is valid under the declaration with this number.
-#[cycle(reading)]
-pub(crate) fn read_element<L: Ledger>(
+// An element that isn't nil.
+#[cycle(walking)]
+fn walk_filled<L: Ledger>(
     set: &SchemaSet,
     plans: &mut Plans,
     decl: u32,
-    item: &Tree<ItemLabel>,
-    tally: &mut Tally,
+    declared: &Declared,
+    attributes: &[(Name, Text)],
+    at: u64,
+    kids: &Kids<'_, ItemLabel>,
+    values: &mut ValueBuilder,
     steps: &mut Steps<L>,
-) -> Result<Built, CheckError>
+) -> Result<(), CheckError>
+    requires linked { IsLinked set.now }
+    requires plans { plans.old ≡ set.now }
+    requires decl { decl < length set.now.elements }
+    requires inside { IsFittingInside set.now declared.now.inside }
+    requires uses { All (IsUse set.now) declared.now.uses.now }
+    requires taken { AreTaken set.now attributes.now declared.now.uses.now }
+    requires sound { are_sound (roses_of kids.now) ≡ true }
+    requires few { count_all (roses_of kids.now) < 2 ^ 31 }
+    requires stands { (z : Zip ValueLabel) × Stands values.old z }
+    ensures same { plans.new ≡ set.now }
+    ensures limit { OnOk result (values.new.most ≡ values.old.most) }
+    ensures judged { (z : Zip ValueLabel) → Stands values.old z → MatchResult result
+        (λ _. ValuePut (IsFilled set.now decl (told (parts_of set.now) declared.now) attributes.now (roses_of kids.now)) z values.new)
+        (Tells (InsideFault (asked_at (parts_of set.now)) (inside_told declared.now.inside) (roses_of kids.now) at)) }
+    ensures most { steps.new ≤ steps.old + (144 * elements_in (roses_of kids.now) + 72) }
+    ensures least { OnOk result (steps.old + elements_in (roses_of kids.now) ≤ steps.new) }
+{
+    match plain_type(set, decl, declared.inside) {
+        Some(simple) => put_text(simple, at, kids, values),
+        None => walk_complex(set, plans, declared, attributes, at, kids, values, steps),
+    }
+}
+
+/// The element is valid under the declaration with this number, and its value is put down.
+#[cycle(walking)]
+pub(crate) fn walk_element<L: Ledger>(
+    set: &SchemaSet,
+    plans: &mut Plans,
+    decl: u32,
+    item: &Node<'_, ItemLabel>,
+    values: &mut ValueBuilder,
+    steps: &mut Steps<L>,
+) -> Result<(), CheckError>
     requires linked { IsLinked set.now }
     requires plans { plans.old ≡ set.now }
     requires decl { decl < length set.now.elements }
     requires element { is_text (label_of item.now) ≡ false }
     requires sound { is_sound item.now ≡ true }
     requires few { node_count item.now < 2 ^ 31 }
+    requires stands { (z : Zip ValueLabel) × Stands values.old z }
     ensures same { plans.new ≡ set.now }
-    ensures judged { MatchResult result
-        (λ made. Makes (IsRead set.now decl item.now) 0 made tally.old tally.new)
+    ensures limit { OnOk result (values.new.most ≡ values.old.most) }
+    ensures judged { (z : Zip ValueLabel) → Stands values.old z → MatchResult result
+        (λ _. ValuePut (IsRead set.now decl item.now) z values.new)
         (Tells (FaultBy (asked_at (parts_of set.now)) decl item.now)) }
     ensures most { steps.new + 72 ≤ steps.old + 144 * element_count item.now }
     ensures least { OnOk result (steps.old + element_count item.now ≤ steps.new + 1) }
@@ -329,9 +356,11 @@ pub(crate) fn read_element<L: Ledger>(
                 Err(error) => Err(error),
                 Ok(nil) => {
                     if nil {
-                        read_nil(plans.alloc(), set, decl, declared, items, kids, tally)
+                        walk_nil(plans.alloc(), set, &declared, items, &kids, values)
                     } else {
-                        read_filled(set, plans, decl, declared, items, *at, kids, tally, steps)
+                        walk_filled(
+                            set, plans, decl, &declared, items, *at, &kids, values, steps,
+                        )
                     }
                 }
             }

@@ -1,110 +1,67 @@
-//! The value of a document.
-ghost use Rattle.std.specs.Prelude.{◌≡◌, ◌+◌, ◌*◌, ◌<◌, ◌≤◌, List, Some, MatchResult, OnOk, IfOk};
+//! The value of a document, and whether it is valid.
+ghost use Rattle.std.specs.Prelude.{◌≡◌, ◌+◌, ◌*◌, ◌<◌, ◌≤◌, List, MatchResult, OnOk, IfOk};
 ghost use Rattle.label_tree.specs.Rose.{Rose, node_count, shown_count, Allowed};
+ghost use Rattle.flat_tree.specs.Zips.{added};
 ghost use Rattle.simple_types.specs.declared.labels.ValueLabel.{ValueLabel};
 ghost use Rattle.simple_types.specs.Labels.{MayHave};
-ghost use Rattle.schema_parts.specs.Linked.{IsLinked};
 ghost use Rattle.schema_parts.specs.SetParts.{parts_of};
 ghost use Rattle.asn_types.specs.declared.modules.Assignment.{Assignment};
 ghost use Rattle.map_assignments.specs.Mapped.{IsMapOf};
 ghost use Rattle.one_value.specs.Statements.{AreSmall, root_at};
-ghost use Rattle.validity.specs.Valid.{HasName};
-ghost use Rattle.doc_text.specs.Labels.{item_place};
-ghost use Rattle.validity.specs.Faults.{At, FirstFault};
-ghost use Rattle.validity_check.specs.Answers.{Tells};
+ghost use Rattle.validity.specs.Faults.{FirstFault};
+ghost use Rattle.validity_check.specs.Answers.{Tells, IsValid};
 ghost use Rattle.validity_check.specs.Counts.{element_count};
+ghost use Rattle.value_builder.specs.Built.{nothing_of, Stands};
 ghost use Rattle.xer_read.specs.Answers.{IsValueOf, IsTooLarge, IsOnlyValue, ReadTells};
-ghost use Rattle.xer_read.specs.Private.Given.{IsRootRead};
-ghost use Rattle.xer_read.specs.Private.Tallied.{Stands, Makes};
 
-use crate::built::Built;
-use crate::elements::read_element;
 use crate::error::ReadError;
-use crate::tally::Tally;
-use doc_text::{ItemLabel, Items};
-use label_tree::Whole;
+use crate::root::walk_root;
+use doc_text::Items;
+use flat_tree::Whole;
 use schema_parts::SchemaSet;
 use simple_types::Value;
 use std::alloc::Global;
 use std::sync::ledger::Ledger;
-use validity::InvalidWhy;
-use validity_check::{CheckError, Plans};
-use xa_base::{Name, Steps};
+use validity_check::CheckError;
+use value_builder::ValueBuilder;
+use xa_base::Steps;
 
-// The root has the name that is declared.
-fn check_root(label: &ItemLabel, name: &Name) -> Result<(), CheckError>
-    ensures { MatchResult result
-        (λ _. HasName (Some name.now) label.now)
-        (Tells (At (item_place label.now) InvalidWhy.WrongRoot (HasName (Some name.now) label.now → ⊥))) }
-{
-    match label {
-        ItemLabel::Text { at, .. } => Err(CheckError::Invalid {
-            at: *at,
-            why: InvalidWhy::WrongRoot,
-        }),
-        ItemLabel::Element {
-            name: found,
-            at,
-            ..
-        } => {
-            if *found == *name {
-                Ok(())
-            } else {
-                Err(CheckError::Invalid {
-                    at: *at,
-                    why: InvalidWhy::WrongRoot,
-                })
-            }
-        }
-    }
-}
+/// How many nodes a value may have.
+const MOST_NODES: u32 = 1_048_576;
 
-// The value of the root. Its nodes are counted, whatever their number.
-fn read_root<L: Ledger>(
+/// Whether the document is valid against the global element with this number (XML Schema Part 1, section 3.3.4). An
+/// error tells the first fault, or that memory is missing. The steps are those through content models.
+pub fn check_items<L: Ledger>(
     alloc: Global,
     set: &SchemaSet,
     root: u32,
     items: &Items,
-    tally: &mut Tally,
     steps: &mut Steps<L>,
-) -> Result<Built, CheckError>
-    requires root { root < set.now.globals }
-    ensures linked { IsLinked set.now }
+) -> Result<(), CheckError>
+    requires { root < set.now.globals }
     ensures judged { MatchResult result
-        (λ made. Makes (IsRootRead set.now root items.now) 0 made tally.old tally.new)
+        (λ _. IsValid set.now root items.now)
         (Tells (FirstFault (parts_of set.now) root items.now)) }
     ensures most { steps.new ≤ steps.old + 144 * element_count items.now }
     ensures least { OnOk result (steps.old + element_count items.now ≤ steps.new + 1) }
 {
-    let _ = set.element_count();
-    let mut plans = Plans::new(alloc, set)?;
-    let tree = items.tree();
-    let item = tree.root();
-    let label = item.label();
-    let declared = set.element(root);
-    match check_root(label, &declared.name) {
-        Err(error) => Err(error),
-        Ok(()) => read_element(set, &mut plans, root, item, tally, steps),
-    }
+    let mut values = ValueBuilder::new(alloc, 0);
+    walk_root(alloc, set, root, items, &mut values, steps)
 }
 
 // The value, unless more nodes were counted than it may have.
-fn counted(made: Built, tally: &Tally) -> Result<Value, ReadError>
-    requires { (v : Rose ValueLabel) × Stands tally.now made v × (tally.now.nodes ≡ shown_count v) × Allowed MayHave v }
-    ensures { (v : Rose ValueLabel) → Stands tally.now made v → tally.now.nodes ≡ shown_count v → MatchResult result
+fn finished(values: ValueBuilder) -> Result<Value, ReadError>
+    requires limit { values.most ≡ 1048576 }
+    requires made { (v : Rose ValueLabel) × Stands values (added v (nothing_of 0).kept) × Allowed MayHave v }
+    ensures { (v : Rose ValueLabel) → Stands values (added v (nothing_of 0).kept) → MatchResult result
         (λ value. (value ≡ v) × (node_count v ≤ 1048576))
         (ReadTells (λ at why. ⊥) (λ count. (1048576 < node_count v) × (count ≡ shown_count v))) }
 {
-    let count = tally.count();
-    match made {
-        Built::TooLarge => Err(ReadError::TooManyNodes { count }),
-        Built::Value(tree) => {
-            if tally.is_within() {
-                Ok(Whole::of(tree))
-            } else {
-                Err(ReadError::TooManyNodes { count })
-            }
-        }
+    let count = values.count();
+    if values.is_kept() {
+        Ok(Whole::of(values.finish()))
+    } else {
+        Err(ReadError::TooManyNodes { count })
     }
 }
 
@@ -131,10 +88,10 @@ pub fn read_value<L: Ledger>(
         (λ _. steps.old + element_count items.now ≤ steps.new + 1)
         (ReadTells (λ at why. Unit {0}) (λ count. steps.old + element_count items.now ≤ steps.new + 1)) }
 {
-    let mut tally = Tally::new();
-    match read_root(alloc, set, root, items, &mut tally, steps) {
+    let mut values = ValueBuilder::new(alloc, MOST_NODES);
+    match walk_root(alloc, set, root, items, &mut values, steps) {
         Err(CheckError::Invalid { at, why }) => Err(ReadError::Invalid { at, why }),
         Err(CheckError::Memory) => Err(ReadError::Memory),
-        Ok(made) => counted(made, &tally),
+        Ok(()) => finished(values),
     }
 }

@@ -3,6 +3,7 @@ use Rattle.std.specs.Prelude.{◌≡◌, ℕ, suc, Bool, true, false, not, List,
 use Rattle.xa_base.specs.declared.texts.Name.{Name}
 use Rattle.label_tree.specs.Rose.{Rose, node, Roses, roses_of}
 use Rattle.label_tree.specs.Rose as rose
+use Rattle.flat_tree.specs.Zips.{Zip, opened, added}
 use Rattle.simple_types.specs.declared.labels.ValueLabel.{ValueLabel}
 use Rattle.simple_types.specs.declared.labels.ValueLabel.TheVariants as value
 use Rattle.simple_values.specs.Reading.{Accepts, spelled}
@@ -13,7 +14,7 @@ use Rattle.content_models.specs.Seen.{seen}
 use Rattle.doc_text.specs.declared.label.ItemLabel.{ItemLabel}
 use Rattle.doc_text.specs.Sound.{levels_all}
 use Rattle.plain_items.specs.Plain.{Plain}
-use Rattle.plain_items.specs.Mixing.{interleaved}
+use Rattle.plain_items.specs.Mixing.{interleaved, child_elements}
 use Rattle.schema_parts.specs.declared.components.AttributeUse.{AttributeUse}
 use Rattle.schema_parts.specs.declared.components.ElementDecl.{ElementDecl}
 use Rattle.schema_parts.specs.declared.components.TypeOf.TheVariants as kind
@@ -23,17 +24,11 @@ use Rattle.schema_parts.specs.SetParts.{parts_of}
 use Rattle.validity.specs.Asked.{Asked, Attribute, Inside, nothing, simple, children, attribute_in, asked_at}
 use Rattle.validity.specs.Attributes.{text_of, left}
 use Rattle.validity.specs.Valid.{only_text, text_kids, KidsValid}
-use Rattle.xer_read.specs.declared.contents.Content.{Content}
-use Rattle.xer_read.specs.declared.contents.Kids.{Kids}
-use Rattle.xer_read.specs.declared.contents.Rest.{Rest}
-use Rattle.xer_read.specs.declared.contents.Rest.TheVariants as rest
-use Rattle.xer_read.specs.declared.tally.Tally.{Tally}
-use Rattle.xer_read.specs.Private.Held.{Beside, Held, texts_of, Holds, held_nodes}
+use Rattle.value_builder.specs.Built.{Built, Stands, Puts, with_parts}
+use Rattle.content_values.specs.Made.{Child, TopMade}
+use Rattle.xer_read.specs.Private.Held.{Beside, Held, texts_of}
 use Rattle.xer_read.specs.Private.Held as held
-use Rattle.xer_read.specs.Private.Keeping.{text_value, words_of, AllKept}
-use Rattle.xer_read.specs.Private.Made.{TopMade}
-use Rattle.xer_read.specs.Private.Places.{ModelPlaced}
-use Rattle.xer_read.specs.Private.Tallied.{IsWithin, Counts, Child}
+use Rattle.xer_read.specs.Private.Keeping.{text_value, strings_put, AllKept}
 
 -- ---- what is read
 
@@ -78,32 +73,9 @@ IsContentBy s inside ts texts (held.children model gs) vs = AreChildren s inside
 abbrev pub IsContentOf : Set → Inside → Roses ItemLabel → Held → Roses Plain → Type 0
 IsContentOf s inside ts content vs = IsContentBy s inside ts (texts_of content) content.rest vs
 
--- child elements are at the leaves of a list of their content model, which has this plan
-abbrev pub IsRestPlaced : Rest → Type 0
-IsRestPlaced (rest.Children model plan found) = ModelPlaced model.now found × (plan.value ≡ seen model.now)
-IsRestPlaced _ = Unit {0}
-
--- what is read is one, with some treated kids
-pub record IsRightContent (s : Set) (inside : Inside) (ts : Roses ItemLabel) (content : Content) (before after : Tally) : Type 0 where
-  pub held : Held
-  pub holds : Holds after content held
-  pub counts : Counts (held_nodes inside held) before after
-  pub vs : Roses Plain
-  pub is : IsContentOf s inside ts held vs
-
 -- of one that is nil: it has no text
 abbrev pub IsNilContent : Held → Type 0
 IsNilContent content = (content.rest ≡ held.nil) × (texts_of content ≡ node value.SequenceOf rose.none)
-
-abbrev pub IsRestWith : Kids → Rose ParticleLabel → Rest → Type 0
-IsRestWith read model (rest.Children own plan found) = (own.now ≡ model) × (found ≡ read.children) × (plan.value ≡ seen model)
-IsRestWith read model _ = ⊥
-
--- these kids, whose last text is closed in mixed content
-pub record IsContentWith (mixed : Bool) (read : Kids) (model : Rose ParticleLabel) (content : Content) (before after : Tally) : Type 0 where
-  pub rest_is : IsRestWith read model content.rest
-  pub mixed_is : mixed ≡ true → Counts 1 before after × (IsWithin after → content.texts.items ≡ read.texts.items ++ text_value (words_of read.behind) ∷ [])
-  pub plain_is : mixed ≡ false → (after ≡ before) × (content.texts.items ≡ read.texts.items)
 
 -- the type of the attribute takes its text, where it stands
 abbrev pub IsTaken : List (Name × List ℕ) → Attribute → Type 0
@@ -179,5 +151,54 @@ IsMade plain a xs content v = IsMadeBy plain content.rest v (ComplexMade a xs co
 abbrev pub IsFilled : Set → ℕ → Asked → List (Name × List ℕ) → Roses ItemLabel → Rose ValueLabel → Type 0
 IsFilled s d a xs ts v = (content : Held) × (vs : Roses Plain) × IsContentOf s a.inside ts content vs × IsMade (is_plain_at s d) a xs content v
 
-abbrev pub IsNilFilled : Set → ℕ → Asked → List (Name × List ℕ) → Rose ValueLabel → Type 0
-IsNilFilled s d a xs v = (content : Held) × IsNilContent content × IsMade (is_plain_at s d) a xs content v
+abbrev pub IsNilFilled : Asked → List (Name × List ℕ) → Rose ValueLabel → Type 0
+IsNilFilled a xs v = (content : Held) × IsNilContent content × ComplexMade a xs content v
+
+-- ---- what is put down
+
+-- all kids are well and follow the content model, and parts of which P holds are put down for the child elements
+pub record KidsPut (s : Set) (mixed : Bool) (p : Particle) (P : List Child → List Bool → List (Rose ValueLabel) → Type 0) (ts : Roses ItemLabel) (before : Zip ValueLabel) (now : Built) : Type 0 where
+  pub leaves_are : List Leaf
+  pub lang : Lang p 0 [] leaves_are
+  pub vs : Roses Plain
+  pub valid : KidsValid (asked_at (parts_of s)) mixed ts leaves_are vs
+  pub gs : List Child
+  pub items : List (Rose Plain)
+  pub kept : AllKept s (levels_all ts) gs items
+  pub are : child_elements vs ≡ roses_of items
+  pub flags : List Bool
+  pub values : List (Rose ValueLabel)
+  pub made : P gs flags values
+  pub stands : Stands now (with_parts flags values before)
+
+abbrev pub ChildrenPut : Set → Bool → Bool → Particle → Roses ItemLabel → Zip ValueLabel → Built → Type 0
+ChildrenPut s nillable mixed p ts before now = KidsPut s mixed p (ChildrenMade nillable p) ts before now
+
+-- the parts for what stands beside attributes and texts
+pub record InsidePut (s : Set) (nillable : Bool) (inside : Inside) (ts : Roses ItemLabel) (before : Zip ValueLabel) (now : Built) : Type 0 where
+  pub rest : Beside
+  pub vs : Roses Plain
+  pub is : IsContentOf s inside ts (record { texts = strings_put false ts; rest = rest }) vs
+  pub flags : List Bool
+  pub values : List (Rose ValueLabel)
+  pub made : RestMade nillable rest flags values
+  pub stands : Stands now (with_parts flags values before)
+
+-- a SEQUENCE is open, with the parts for these texts and for attributes
+pub record Begins (a : Asked) (xs : List (Name × List ℕ)) (texts : List (Rose ValueLabel)) (old new : Built) : Type 0 where
+  pub text_flags : List Bool
+  pub text_values : List (Rose ValueLabel)
+  pub flags : List Bool
+  pub values : List (Rose ValueLabel)
+  pub texts_made : TextsMade a.inside (node value.SequenceOf (roses_of texts)) text_flags text_values
+  pub attributes_made : AttributesMade a.attributes (left xs) flags values
+  pub puts : Puts (λ z. with_parts flags values (with_parts text_flags text_values (opened (value.Sequence []) z))) old new
+
+-- the value of a complex type
+pub record ComplexPut (s : Set) (a : Asked) (xs : List (Name × List ℕ)) (ts : Roses ItemLabel) (before : Zip ValueLabel) (now : Built) : Type 0 where
+  pub content : Held
+  pub vs : Roses Plain
+  pub is : IsContentOf s a.inside ts content vs
+  pub value : Rose ValueLabel
+  pub made : ComplexMade a xs content value
+  pub stands : Stands now (added value before)

@@ -1,7 +1,9 @@
 -- What a value gives to the element that it stands for: in each map of the set, and wherever it stands.
-use Rattle.std.specs.Prelude.{◌≡◌, ℕ, ◌+◌, ◌≤◌, List, slice_get, IsSomeAnd}
-use Rattle.label_tree.specs.Rose.{Rose, label_of}
+use Rattle.std.specs.Prelude.{◌≡◌, ℕ, ◌+◌, ◌≤◌, List, Some, slice_get, IsSomeAnd}
+use Rattle.label_tree.specs.Rose.{Rose, Roses, label_of}
 use Rattle.simple_types.specs.declared.labels.ValueLabel.{ValueLabel}
+use Rattle.simple_types.specs.Space.{Space}
+use Rattle.simple_values.specs.Reading.{Accepts}
 use Rattle.doc_text.specs.declared.label.ItemLabel.{ItemLabel}
 use Rattle.doc_text.specs.declared.label.ItemLabel.TheVariants.{Element, Text}
 use Rattle.doc_text.specs.Sound.{levels}
@@ -19,7 +21,11 @@ use Rattle.map_laws.specs.Standing.{HasContent}
 use Rattle.map_laws.specs.Statements.{IsTypeAt}
 use Rattle.xer_items.specs.Items.{Given, element_of, inside}
 use Rattle.validity.specs.Asked.{asked_at, name_at}
-use Rattle.validity.specs.Valid.{HasName, ValidBy}
+use Rattle.validity.specs.Valid.{only_text, HasName, ValidBy}
+
+-- the kids are a text alone, which has this value
+abbrev pub IsReadAs : Space → Roses ItemLabel → Rose ValueLabel → Type 0
+IsReadAs space ts value = (words : List ℕ) × (only_text ts ≡ Some words) × Accepts space words value
 
 abbrev pub IsElementOf : ItemLabel → Given → Rose Plain → Type 0
 IsElementOf (Element name attributes declares at) inner b = b ≡ element_of name inner

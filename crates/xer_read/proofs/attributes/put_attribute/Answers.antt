@@ -1,0 +1,37 @@
+use Rattle.std.proofs.Common.{◌≡◌, [], ◌∷◌, true, false}
+use Rattle.simple_values.specs.Reading.{Bad, Wide}
+use Rattle.schema_parts.specs.SetParts.{parts_of}
+use Rattle.validity.specs.Asked.{attribute_in}
+use Rattle.validity.specs.Attributes.{left}
+use Rattle.validity_check.proofs.Counting.{on-ok}
+use Rattle.value_builder.specs.Built.{Puts, flagged}
+use Rattle.xer_read.specs.Private.Contents.{AttributesMade}
+use Rattle.xer_read.specs.Private.Putting.{PartsPut}
+use Rattle.xer_read.proofs.Attributed.{attribute-absent, attribute-present, never-refused}
+use Rattle.xer_read.proofs.Putting.{one-part, left-out}
+use Rattle.xer_read.proofs.attributes.put_attribute.Goals as goal
+
+pub returns-in-None : goal.returns-in-None
+returns-in-None c =
+    let P = AttributesMade (attribute_in (parts_of c.args.set.now) c.args.declared.now ∷ []) (left c.args.attributes.now) in
+    let old = c.args.values.now in
+    let new = c.part.new.self in
+    on-ok c.part.result (Puts (flagged false) old new) (PartsPut P old new)
+    (λ h. left-out P old new h (attribute-absent c.args.set.now c.args.declared.now c.args.attributes.now c.requires.declared.0 c.in-None.ensures)) c.part.ensures
+
+pub returns-in-Ok : goal.returns-in-Ok
+returns-in-Ok c =
+    let P = AttributesMade (attribute_in (parts_of c.args.set.now) c.args.declared.now ∷ []) (left c.args.attributes.now) in
+    let read = c.in-Ok.ensures in
+    one-part P read.0 c.args.values.now c.part-in-Some.new.self c.text.new.self c.in_ok-part-in-Some.ensures read.2
+    (attribute-present c.args.set.now c.args.declared.now c.args.attributes.now c.requires.declared.0 c.in-Some.text.now c.in-Some.ensures c.simple.result.now c.simple.ensures read.0 read.1)
+
+pub unreachable-requires : goal.unreachable-requires
+unreachable-requires c =
+    never-refused c.args.set.now c.args.declared.now c.args.attributes.now c.requires.declared.0 c.in-Some.text.now c.in-Some.ensures c.simple.result.now c.simple.ensures c.requires.taken Bad
+    (rw c.in-Err-BadText.field-0-is at c.in-Err-BadText.ensures)
+
+pub unreachable-requires-in-Err-TooWide : goal.unreachable-requires-in-Err-TooWide
+unreachable-requires-in-Err-TooWide c =
+    never-refused c.args.set.now c.args.declared.now c.args.attributes.now c.requires.declared.0 c.in-Some.text.now c.in-Some.ensures c.simple.result.now c.simple.ensures c.requires.taken Wide
+    (rw c.in-Err-TooWide.field-0-is at c.in-Err-TooWide.ensures)

@@ -1,0 +1,25 @@
+use Rattle.std.proofs.Common.{[], map, subst}
+use Rattle.label_tree.specs.Rose.{roses_of}
+use Rattle.flat_tree.specs.Zips.{opened}
+use Rattle.schema_parts.specs.SetParts.{parts_of}
+use Rattle.validity.specs.Asked.{attribute_in}
+use Rattle.validity.specs.Attributes.{left}
+use Rattle.validity_check.specs.Told.{told}
+use Rattle.validity_check.proofs.Counting.{on-ok}
+use Rattle.value_builder.specs.Built.{Puts}
+use Rattle.xer_read.specs.Private.Keeping.{strings_put}
+use Rattle.xer_read.specs.Private.Contents.{AttributesMade, Begins}
+use Rattle.xer_read.specs.Private.Putting.{PartsPut}
+use Rattle.xer_read.proofs.Putting.{begins-put}
+use Rattle.xer_read.proofs.complex.begin_complex.Goals as goal
+
+pub returns : goal.returns
+returns c =
+    let a = told (parts_of c.args.set.now) c.args.declared.now in
+    let xs = c.args.attributes.now in
+    let texts = strings_put c.args.nil (roses_of c.args.kids.now) in
+    let old = c.args.values.now in
+    let new = c.put_attributes.new.values in
+    on-ok c.put_attributes.result (PartsPut (AttributesMade (map (attribute_in (parts_of c.args.set.now)) c.args.declared.now.uses.now) (left xs)) c.put_texts.new.values new) (Begins a xs texts old new)
+    (begins-put a xs texts old c.open.new.self c.put_texts.new.values new (subst (λ l. Puts (opened l) old c.open.new.self) c.no_components.ensures c.in_ok-open.ensures) c.in_ok-put_texts.ensures)
+    c.put_attributes.ensures

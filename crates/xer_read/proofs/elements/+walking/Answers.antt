@@ -1,0 +1,440 @@
+use Rattle.std.proofs.Common.{◌≡◌, ◌+◌, ◌≤◌, ◌++◌, [], ◌∷◌, true, false, refl, sym, ◌∙◌, ap, subst, arith, add-one, length, length-append}
+use Rattle.std.specs.Prelude.{All}
+use Rattle.std.proofs.lemmas.Result.{err_from_is_err_and}
+use Rattle.label_tree.specs.Rose.{Rose, roses_of, none, count_all}
+use Rattle.flat_tree.specs.Zips.{opened, added}
+use Rattle.flat_tree.proofs.Cursors as cursor
+use Rattle.simple_types.specs.declared.labels.ValueLabel.{ValueLabel}
+use Rattle.simple_types.specs.declared.labels.ValueLabel.TheVariants as value
+use Rattle.simple_types.specs.Seen.{space_of}
+use Rattle.doc_text.specs.Sound.{is_text, are_sound}
+use Rattle.content_models.specs.Seen.{seen}
+use Rattle.content_match.specs.Private.Standing.{spot_now}
+use Rattle.content_match.specs.Taking.{levels, spot_of}
+use Rattle.schema_parts.specs.Linked.{leaves, IsNamed}
+use Rattle.schema_parts.specs.SetParts.{parts_of}
+use Rattle.validity.specs.Asked.{asked_at}
+use Rattle.validity.specs.Faults.{FirstKid, why_kid}
+use Rattle.validity.specs.declared.why.InvalidWhy.TheVariants.{NilWithContent}
+use Rattle.validity.proofs.Reading.{kid_count, count-kids, kid_here}
+use Rattle.validity_check.specs.Answers.{Tells, TextFault, InsideFault}
+use Rattle.validity_check.specs.Counts.{element_count, elements_in}
+use Rattle.validity_check.specs.declared.declarations.Inside.TheVariants.{Children}
+use Rattle.validity_check.specs.Told.{inside_told, told, IsFittingInside}
+use Rattle.validity_check.proofs.Counting.{one_more, up_to, fewer, element_counts, at_least_length, match-ok, on-ok, text-without, all-counted}
+use Rattle.validity_check.proofs.Leaves.{names_declared}
+use Rattle.validity_check.proofs.Shape.{kid_sound, kids_sound}
+use Rattle.validity_check.proofs.Levels.{model_levels}
+use Rattle.validity_check.proofs.Walking.{leaf_declared}
+use Rattle.value_builder.specs.Built.{Puts, flagged, with_parts}
+use Rattle.content_values.specs.Reached.{Put}
+use Rattle.xer_read.specs.Private.Given.{IsReadAs}
+use Rattle.xer_read.specs.Private.Keeping.{strings_put, Reached}
+use Rattle.xer_read.specs.Private.Contents.{IsNilFilled, InsidePut, ChildrenPut}
+use Rattle.xer_read.proofs.Leading.{clear-rule1}
+use Rattle.xer_read.proofs.Attributed.{all-taken}
+use Rattle.xer_read.proofs.Reaching.{none-reached, end-refused, end-put, text-judged, name-refused, kid-judged}
+use Rattle.xer_read.proofs.Whole as whole
+use Rattle.xer_read.proofs.Whole.{inner-children, begun_at, complex-put, nothing-judged, children-judged, complex-judged, plain-judged, nil-read, filled-read}
+use Rattle.xer_read.proofs.elements.+walking.Goals as goal
+
+-- ---- one kid
+
+pub walk_kid-open_way-requires-clause-fillable : goal.walk_kid-open_way-requires-clause-fillable
+walk_kid-open_way-requires-clause-fillable g t c = (c.requires.model.occurring, clear-rule1 (seen c.args.model.now) [] c.requires.model.clear)
+
+pub walk_kid-walk_element-requires : goal.walk_kid-walk_element-requires
+walk_kid-walk_element-requires g t c κs within =
+    let d = c.decreases in
+    let (kids, i, z, r) = c.requires.reached in
+    let e = c.in-Ok.ensures in
+    let way = e.opens r.gs z r.all r.put r.stands in (
+      omega (arith, d),
+      (
+        within,
+        (
+          c.requires.linked,
+          (
+            c.requires.plans,
+            (
+              leaf_declared c.args.set.now c.args.matcher.now c.open_way.new.matcher r.us c.in-Element.name c.in-Ok.leaf e.particle (e.took r.us r.took)
+                  (names_declared c.args.set.now c.args.matcher.now.particle (subst (λ q. All (IsNamed c.args.set.now) (leaves q)) (sym r.particle) c.requires.model.named)),
+              (ap is_text (sym c.label.ensures ∙ c.in-Element.is), (c.requires.sound, (c.requires.few, (way.way, way.stands)))),
+            ),
+          ),
+        ),
+      ),
+    )
+
+pub walk_kid-returns-in-Text-clause-judged : goal.walk_kid-returns-in-Text-clause-judged
+walk_kid-returns-in-Text-clause-judged g t c = λ kids place i z below here r.
+    text-judged c.args.set.now c.args.mixed (seen c.args.model.now) kids place i c.args.matcher.now z c.args.values.now r c.args.kid.now below here c.in-Text.text c.in-Text.at (sym c.label.ensures ∙ c.in-Text.is)
+    c.check_between.result c.check_between.ensures
+
+pub walk_kid-returns-in-Err-clause-judged : goal.walk_kid-returns-in-Err-clause-judged
+walk_kid-returns-in-Err-clause-judged g t c = λ kids place i z below here r.
+    name-refused c.args.set.now c.args.mixed (seen c.args.model.now) kids place i c.args.matcher.now z c.args.values.now r c.args.kid.now below here
+    c.in-Element.name c.in-Element.attributes c.in-Element.declares c.in-Element.at (sym c.label.ensures ∙ c.in-Element.is) c.in-Err.error (c.in-Err.ensures.took r.us r.took)
+
+pub walk_kid-returns-in-Err-clause-most : goal.walk_kid-returns-in-Err-clause-most
+walk_kid-returns-in-Err-clause-most g t c =
+    let (kids, i, z, r) = c.requires.reached in
+    let n = element_counts c.args.kid.now c.in-Element.name c.in-Element.attributes c.in-Element.declares c.in-Element.at (sym c.label.ensures ∙ c.in-Element.is) in
+    let s = c.in-Err.ensures.ticks in
+    let l : levels c.args.matcher.now.particle ≤ 17 = subst (λ q. levels q ≤ 17) (sym r.particle) (model_levels c.args.set.now c.args.model.now c.requires.model) in
+    omega (arith, n, s, l)
+
+pub walk_kid-returns-in-Ok-clause-judged : goal.walk_kid-returns-in-Ok-clause-judged
+walk_kid-returns-in-Ok-clause-judged g t c = λ kids place i z below here r.
+    let e = c.in-Ok.ensures in
+    let way = e.opens r.gs z r.all r.put r.stands in
+    kid-judged c.args.set.now c.args.mixed (seen c.args.model.now) kids place i c.args.matcher.now z c.args.values.now r c.args.kid.now below here
+    c.in-Element.name c.in-Element.attributes c.in-Element.declares c.in-Element.at (sym c.label.ensures ∙ c.in-Element.is) c.open_way.new.matcher c.in-Ok.leaf e.particle (e.took r.us r.took)
+    (subst (λ q. All (IsNamed c.args.set.now) (leaves q)) (sym r.particle) c.requires.model.named) c.open_way.new.values c.walk_element.new.values way c.walk_element.result
+    (c.walk_element.ensures.judged way.way way.stands)
+
+pub walk_kid-returns-in-Ok-clause-most : goal.walk_kid-returns-in-Ok-clause-most
+walk_kid-returns-in-Ok-clause-most g t c =
+    let (kids, i, z, r) = c.requires.reached in
+    let s = c.in-Ok.ensures.ticks in
+    let m = c.walk_element.ensures.most in
+    let l : levels c.args.matcher.now.particle ≤ 17 = subst (λ q. levels q ≤ 17) (sym r.particle) (model_levels c.args.set.now c.args.model.now c.requires.model) in
+    omega (arith, s, m, l)
+
+-- ---- all kids
+
+pub walk_kids-loop-kid-init : goal.walk_kids-loop-kid-init
+walk_kids-loop-kid-init g t c =
+    let took = c.in_ok-matcher.ensures.took in
+    let k = c.in_ok-matcher.matcher in
+    let way = c.new-way.result in
+    record {
+      all = cc (c.into_iter-kid-iterator.ensures.into_iter_gives, c.again-kid-items.ensures);
+      plans = c.requires.plans;
+      way = ap (λ ts. spot_now ts way.kids.items) c.new-way.ensures.turns ∙ ap (λ ts. spot_now ts k.kids) (sym took.turns);
+      limit = refl;
+      reached = λ z stands.
+          none-reached c.args.set.now c.args.mixed (seen c.args.model.now) c.args.kids.now k z c.args.values.now (c.in_ok-matcher.ensures.plan ∙ c.requires.plan) took stands;
+      most = omega arith;
+      least = omega arith;
+    }
+
+pub walk_kids-walk_kid-requires : goal.walk_kids-walk_kid-requires
+walk_kids-walk_kid-requires g t c κs within =
+    let d = c.decreases in
+    let kids = c.args.kids.now in
+    let before = c.loop-kid.yielded in
+    let i = length before in
+    let all = c.loop-kid.invariant.all in
+    let kid = c.in-Some.kid in
+    let next = c.in-Some.ensures.steps in
+    let w = c.loop-kid.invariant.reached c.requires.stands.0 c.requires.stands.1 in
+    let below = cursor.kid_within kids before c.loop-kid.kid-iterator all kid c.next.new.self next in
+    let read = cursor.kid_read kids before c.loop-kid.kid-iterator all kid c.next.new.self next in
+    let k = kid_count kids i kid below read in
+    let long = at_least_length kids in
+    let few = c.requires.few in
+    let count = w.took.count in
+    let taken = w.few in (
+      omega (arith, d, k),
+      (
+        within,
+        (
+          c.requires.linked,
+          (
+            c.loop-kid.invariant.plans,
+            (
+              c.requires.model,
+              (
+                c.loop-kid.invariant.way,
+                (
+                  omega (arith, below, long, few, count, taken),
+                  ((kids, i, c.requires.stands.0, w), (kid_sound (roses_of kids) i kid c.requires.sound (kid_here kids i kid below read), omega (arith, k, few))),
+                ),
+              ),
+            ),
+          ),
+        ),
+      ),
+    )
+
+pub walk_kids-loop-kid-preserved : goal.walk_kids-loop-kid-preserved
+walk_kids-loop-kid-preserved g t c =
+    let kids = c.args.kids.now in
+    let before = c.loop-kid.yielded in
+    let i = length before in
+    let left = c.loop-kid.kid-iterator in
+    let all = c.loop-kid.invariant.all in
+    let kid = c.in-Some.kid in
+    let later = c.next.new.self in
+    let next = c.in-Some.ensures.steps in
+    let below = cursor.kid_within kids before left all kid later next in
+    let read = cursor.kid_read kids before left all kid later next in
+    let more = one_more (roses_of kids) i kid (kid_here kids i kid below read) in
+    let long : length (before ++ kid ∷ []) ≡ i + 1 = cursor.one_more kids before left all kid later next in
+    let so_far = c.loop-kid.invariant.most in
+    let m = c.in_ok-walk_kid.ensures.most in
+    let least = c.loop-kid.invariant.least in
+    let l = c.in_ok-walk_kid.ensures.least in
+    record {
+      all = cursor.all_after kids before left all kid later next;
+      plans = c.in_ok-walk_kid.ensures.same;
+      way = c.in_ok-walk_kid.ensures.way;
+      limit = c.in_ok-walk_kid.ensures.limit ∙ c.loop-kid.invariant.limit;
+      reached = λ z stands.
+          subst (λ n. Reached c.args.set.now c.args.mixed (seen c.args.model.now) kids n c.walk_kid.new.matcher z c.walk_kid.new.values) (sym long)
+          (c.in_ok-walk_kid.ensures.judged kids c.args.at i z below read (c.loop-kid.invariant.reached z stands));
+      most = rw long (rw add-one (omega (arith, more, so_far, m)));
+      least = rw long (rw add-one (omega (arith, more, least, l)));
+    }
+
+pub walk_kids-returns-in_err-walk_kid-clause-judged : goal.walk_kids-returns-in_err-walk_kid-clause-judged
+walk_kids-returns-in_err-walk_kid-clause-judged g t c = λ z stands.
+    let kids = c.args.kids.now in
+    let before = c.loop-kid.yielded in
+    let left = c.loop-kid.kid-iterator in
+    let all = c.loop-kid.invariant.all in
+    let kid = c.in-Some.kid in
+    let later = c.next.new.self in
+    let next = c.in-Some.ensures.steps in
+    let p = err_from_is_err_and c.from_residual-in_err-walk_kid.result c.from_residual-in_err-walk_kid.ensures.1 in
+    rw (p.1, p.2)
+    (c.in_err-walk_kid.ensures.judged kids c.args.at (length before) z (cursor.kid_within kids before left all kid later next) (cursor.kid_read kids before left all kid later next) (c.loop-kid.invariant.reached z stands))
+
+pub walk_kids-returns-in_err-walk_kid-clause-most : goal.walk_kids-returns-in_err-walk_kid-clause-most
+walk_kids-returns-in_err-walk_kid-clause-most g t c =
+    let kids = c.args.kids.now in
+    let before = c.loop-kid.yielded in
+    let i = length before in
+    let left = c.loop-kid.kid-iterator in
+    let all = c.loop-kid.invariant.all in
+    let kid = c.in-Some.kid in
+    let later = c.next.new.self in
+    let next = c.in-Some.ensures.steps in
+    let here = kid_here kids i kid (cursor.kid_within kids before left all kid later next) (cursor.kid_read kids before left all kid later next) in
+    let most = up_to (roses_of kids) i kid here in
+    let so_far = c.loop-kid.invariant.most in
+    let m = c.in_err-walk_kid.ensures.most in
+    omega (arith, most, so_far, m)
+
+pub walk_kids-returns-in-Err-clause-judged : goal.walk_kids-returns-in-Err-clause-judged
+walk_kids-returns-in-Err-clause-judged g t c = λ z stands.
+    let kids = c.args.kids.now in
+    let before = c.loop-kid.yielded in
+    let r = c.loop-kid.invariant.reached z stands in
+    let past = whole.all-before kids before c.loop-kid.kid-iterator c.loop-kid.invariant.all c.in-None.ensures.steps.0 in
+    end-refused c.args.set.now c.args.mixed (seen c.args.model.now) kids c.args.at (length before) c.loop-kid.matcher z c.loop-kid.values r past c.in-Err.error (c.in-Err.ensures.finished r.us r.took)
+
+pub walk_kids-returns-in-Err-clause-most : goal.walk_kids-returns-in-Err-clause-most
+walk_kids-returns-in-Err-clause-most g t c =
+    let r = c.loop-kid.invariant.reached c.requires.stands.0 c.requires.stands.1 in
+    let l : levels c.loop-kid.matcher.particle ≤ 17 = subst (λ q. levels q ≤ 17) (sym r.particle) (model_levels c.args.set.now c.args.model.now c.requires.model) in
+    let so_far = c.loop-kid.invariant.most in
+    let all = fewer (roses_of c.args.kids.now) (length c.loop-kid.yielded) in
+    let s = c.in-Err.ensures.ticks.1 in
+    omega (arith, l, so_far, all, s)
+
+pub walk_kids-put_end-requires-clause-fillable : goal.walk_kids-put_end-requires-clause-fillable
+walk_kids-put_end-requires-clause-fillable g t c = (c.requires.model.occurring, clear-rule1 (seen c.args.model.now) [] c.requires.model.clear)
+
+pub walk_kids-put_end-requires-clause-ends : goal.walk_kids-put_end-requires-clause-ends
+walk_kids-put_end-requires-clause-ends g t c =
+    let r = c.loop-kid.invariant.reached c.requires.stands.0 c.requires.stands.1 in
+    whole.ends-at (seen c.args.model.now) c.loop-kid.matcher.particle (spot_now c.path.result.turns.now c.path.result.kids.now) (spot_of c.loop-kid.matcher) r.particle
+    (ap (λ ts. spot_now ts c.path.result.kids.now) c.path.ensures.turns ∙ ap (λ ks. spot_now c.loop-kid.way.turns.items ks) c.path.ensures.kids ∙ c.loop-kid.invariant.way) c.in-Ok.ensures.ends
+
+pub walk_kids-returns-in_err-put_end-in-Ok-clause-most : goal.walk_kids-returns-in_err-put_end-in-Ok-clause-most
+walk_kids-returns-in_err-put_end-in-Ok-clause-most g t c =
+    let r = c.loop-kid.invariant.reached c.requires.stands.0 c.requires.stands.1 in
+    let l : levels c.loop-kid.matcher.particle ≤ 17 = subst (λ q. levels q ≤ 17) (sym r.particle) (model_levels c.args.set.now c.args.model.now c.requires.model) in
+    let so_far = c.loop-kid.invariant.most in
+    let all = fewer (roses_of c.args.kids.now) (length c.loop-kid.yielded) in
+    let s = c.in-Ok.ensures.ticks.1 in
+    omega (arith, l, so_far, all, s)
+
+pub walk_kids-returns-clause-judged : goal.walk_kids-returns-clause-judged
+walk_kids-returns-clause-judged g t c = λ z stands.
+    let kids = c.args.kids.now in
+    let before = c.loop-kid.yielded in
+    let r = c.loop-kid.invariant.reached z stands in
+    let past = whole.all-before kids before c.loop-kid.kid-iterator c.loop-kid.invariant.all c.in-None.ensures.steps.0 in
+    let way : spot_now c.path.result.turns.now c.path.result.kids.now ≡ spot_of c.loop-kid.matcher =
+    ap (λ ts. spot_now ts c.path.result.kids.now) c.path.ensures.turns ∙ ap (λ ks. spot_now c.loop-kid.way.turns.items ks) c.path.ensures.kids ∙ c.loop-kid.invariant.way
+    in
+    let (flags, values, made, now) = c.in_ok-put_end-in-Ok.ensures.made r.gs z r.all (subst (λ o. Put (seen c.args.model.now) o r.gs z r.all) (sym way) r.put) r.stands in
+    end-put c.args.set.now c.args.mixed (seen c.args.model.now) kids c.args.at (length before) c.loop-kid.matcher z c.loop-kid.values r past (c.in-Ok.ensures.finished r.us r.took) flags values made c.put_end.new.values now
+
+pub walk_kids-returns-clause-most : goal.walk_kids-returns-clause-most
+walk_kids-returns-clause-most g t c =
+    let r = c.loop-kid.invariant.reached c.requires.stands.0 c.requires.stands.1 in
+    let l : levels c.loop-kid.matcher.particle ≤ 17 = subst (λ q. levels q ≤ 17) (sym r.particle) (model_levels c.args.set.now c.args.model.now c.requires.model) in
+    let so_far = c.loop-kid.invariant.most in
+    let all = fewer (roses_of c.args.kids.now) (length c.loop-kid.yielded) in
+    let s = c.in-Ok.ensures.ticks.1 in
+    omega (arith, l, so_far, all, s)
+
+pub walk_kids-returns-clause-least : goal.walk_kids-returns-clause-least
+walk_kids-returns-clause-least g t c =
+    let past = whole.all-before c.args.kids.now c.loop-kid.yielded c.loop-kid.kid-iterator c.loop-kid.invariant.all c.in-None.ensures.steps.0 in
+    let so_far = c.loop-kid.invariant.least in
+    let all = all-counted c.args.kids.now (length c.loop-kid.yielded) past in
+    let s = c.in-Ok.ensures.ticks.0 in
+    omega (arith, so_far, all, s)
+
+-- ---- the parts for child elements
+
+pub walk_children-returns-in-Err-clause-judged : goal.walk_children-returns-in-Err-clause-judged
+walk_children-returns-in-Err-clause-judged g t c = λ z stands. c.in-Err.ensures.judged (opened (value.Sequence []) (flagged true z)) (c.in_ok-begin_part.ensures.stands z stands)
+
+pub walk_children-returns-in-Ok-clause-judged : goal.walk_children-returns-in-Ok-clause-judged
+walk_children-returns-in-Ok-clause-judged g t c = λ z stands.
+    let p = seen c.args.model.now in
+    let inner = opened (value.Sequence []) (flagged true z) in
+    subst (λ b. ChildrenPut c.args.set.now b c.args.mixed p (roses_of c.args.kids.now) z c.close.new.self) (sym c.if-not-nillable.false)
+    (inner-children c.args.set.now c.args.mixed p (roses_of c.args.kids.now) z c.args.values.now c.begin_part.new.values c.walk_kids-2.new.values c.close.new.self c.in_ok-begin_part.ensures stands
+    (c.in-Ok.ensures.judged inner (c.in_ok-begin_part.ensures.stands z stands)) c.close.ensures)
+
+-- ---- what stands in an element
+
+pub walk_inside-returns-in-Nothing-clause-judged : goal.walk_inside-returns-in-Nothing-clause-judged
+walk_inside-returns-in-Nothing-clause-judged g t c = λ z stands.
+    let ts = roses_of c.args.kids.now in
+    let asks = asked_at (parts_of c.args.set.now) in
+    rw c.in-Nothing.is
+    (nothing-judged c.args.set.now c.args.nillable ts z c.args.values.now c.walk_nothing.new.values (Tells (FirstKid ts why_kid)) stands c.walk_nothing.result c.walk_nothing.ensures)
+
+pub walk_inside-returns-in-Simple-clause-judged : goal.walk_inside-returns-in-Simple-clause-judged
+walk_inside-returns-in-Simple-clause-judged g t c = λ z stands.
+    let ts = roses_of c.args.kids.now in
+    let space = space_of c.in-Simple.simple.now in
+    rw c.in-Simple.is
+    (whole.text-judged c.args.set.now c.args.nillable ts z c.args.values.now c.walk_text.new.values (Tells (TextFault space ts c.args.at)) stands space c.walk_text.result c.walk_text.ensures)
+
+pub walk_inside-returns-in-Simple-clause-least : goal.walk_inside-returns-in-Simple-clause-least
+walk_inside-returns-in-Simple-clause-least g t c =
+    let ts = roses_of c.args.kids.now in
+    let space = space_of c.in-Simple.simple.now in
+    match-ok c.walk_text.result (λ _. (v : Rose ValueLabel) × IsReadAs space ts v × Puts (with_parts (true ∷ []) (v ∷ [])) c.args.values.now c.walk_text.new.values) (Tells (TextFault space ts c.args.at))
+    (c.args.steps.now + elements_in ts ≤ c.args.steps.now) (λ x h. let empty = text-without ts h.1.0 h.1.1 in omega (arith, empty)) c.walk_text.ensures
+
+pub walk_inside-returns-in_ok-plan-in-Children-clause-judged : goal.walk_inside-returns-in_ok-plan-in-Children-clause-judged
+walk_inside-returns-in_ok-plan-in-Children-clause-judged g t c = λ z stands.
+    let ts = roses_of c.args.kids.now in
+    let fits = subst (λ x. IsFittingInside c.args.set.now x) c.in-Children.is c.requires.inside in
+    rw c.in-Children.is
+    (children-judged c.args.set.now c.args.nillable c.in-Children.mixed c.in-Children.model.now ts z c.walk_children.new.values
+    (Tells (InsideFault (asked_at (parts_of c.args.set.now)) (inside_told (Children c.in-Children.mixed c.in-Children.complex c.in-Children.model)) ts c.args.at)) c.requires.sound fits.1.named
+    c.walk_children.result (c.walk_children.ensures.judged z stands))
+
+-- ---- a value with parts
+
+pub walk_complex-returns-in-Err-clause-judged : goal.walk_complex-returns-in-Err-clause-judged
+walk_complex-returns-in-Err-clause-judged g t c = λ z stands.
+    let begins = c.in_ok-begin_complex.ensures in
+    c.in-Err.ensures.judged
+    (begun_at (told (parts_of c.args.set.now) c.args.declared.now) c.args.attributes.now (strings_put false (roses_of c.args.kids.now)) c.args.values.now c.begin_complex.new.values begins z) (begins.puts.stands z stands)
+
+pub walk_complex-returns-in-Ok-clause-judged : goal.walk_complex-returns-in-Ok-clause-judged
+walk_complex-returns-in-Ok-clause-judged g t c = λ z stands.
+    let a = told (parts_of c.args.set.now) c.args.declared.now in
+    let xs = c.args.attributes.now in
+    let ts = roses_of c.args.kids.now in
+    let old = c.args.values.now in
+    let mid = c.begin_complex.new.values in
+    let begins = c.in_ok-begin_complex.ensures in
+    complex-put c.args.set.now a xs ts z old mid c.walk_inside.new.values c.close.new.self begins (c.in-Ok.ensures.judged (begun_at a xs (strings_put false ts) old mid begins z) (begins.puts.stands z stands)) c.close.ensures
+
+-- ---- an element that isn't nil
+
+pub walk_filled-returns-in-Some-clause-judged : goal.walk_filled-returns-in-Some-clause-judged
+walk_filled-returns-in-Some-clause-judged g t c = λ z stands.
+    plain-judged c.args.set.now c.args.decl (told (parts_of c.args.set.now) c.args.declared.now) c.args.attributes.now (roses_of c.args.kids.now) z c.args.values.now c.put_text.new.values (space_of c.in-Some.simple.now) c.args.at
+    (ap inside_told c.in-Some.ensures.0) c.in-Some.ensures.1 stands c.put_text.result c.put_text.ensures
+
+pub walk_filled-returns-in-Some-clause-least : goal.walk_filled-returns-in-Some-clause-least
+walk_filled-returns-in-Some-clause-least g t c =
+    let ts = roses_of c.args.kids.now in
+    let space = space_of c.in-Some.simple.now in
+    match-ok c.put_text.result (λ _. (v : Rose ValueLabel) × IsReadAs space ts v × Puts (added v) c.args.values.now c.put_text.new.values) (Tells (TextFault space ts c.args.at))
+    (c.args.steps.now + elements_in ts ≤ c.args.steps.now) (λ x h. let empty = text-without ts h.1.0 h.1.1 in omega (arith, empty)) c.put_text.ensures
+
+pub walk_filled-returns-in-None-clause-judged : goal.walk_filled-returns-in-None-clause-judged
+walk_filled-returns-in-None-clause-judged g t c = λ z stands.
+    let a = told (parts_of c.args.set.now) c.args.declared.now in
+    complex-judged c.args.set.now c.args.decl a c.args.attributes.now (roses_of c.args.kids.now) z c.walk_complex.new.values
+    (Tells (InsideFault (asked_at (parts_of c.args.set.now)) (inside_told c.args.declared.now.inside) (roses_of c.args.kids.now) c.args.at)) c.in-None.ensures c.walk_complex.result (c.walk_complex.ensures.judged z stands)
+
+-- ---- an element
+
+pub walk_element-walk_nil-requires-clause-taken : goal.walk_element-walk_nil-requires-clause-taken
+walk_element-walk_nil-requires-clause-taken g t c =
+    all-taken c.args.set.now c.requires.linked c.args.decl (told (parts_of c.args.set.now) c.declared_of-declared.result) c.declared_of-declared.ensures.asked c.declared_of-declared.result.uses.now refl
+    c.items-items.result.now c.in-Ok.ensures.right
+
+pub walk_element-walk_filled-requires : goal.walk_element-walk_filled-requires
+walk_element-walk_filled-requires g t c κs within =
+    let d = c.decreases in
+    let k = count-kids c.args.item.now in
+    let same = ap (λ ks. count_all (roses_of ks)) c.kids-kids.ensures in
+    let few = c.requires.few in (
+      omega (arith, d, k, same),
+      (
+        within,
+        (
+          c.requires.linked,
+          (
+            c.requires.plans,
+            (
+              c.requires.decl,
+              (
+                c.declared_of-declared.ensures.fits.1,
+                (
+                  c.declared_of-declared.ensures.fits.0,
+                  (
+                    all-taken c.args.set.now c.requires.linked c.args.decl (told (parts_of c.args.set.now) c.declared_of-declared.result) c.declared_of-declared.ensures.asked
+                        c.declared_of-declared.result.uses.now refl c.items-items.result.now c.in-Ok.ensures.right,
+                    (subst (λ ks. are_sound (roses_of ks) ≡ true) (sym c.kids-kids.ensures) (kids_sound c.args.item.now c.requires.sound), (omega (arith, k, same, few), c.requires.stands)),
+                  ),
+                ),
+              ),
+            ),
+          ),
+        ),
+      ),
+    )
+
+pub walk_element-returns-then-nil-clause-judged : goal.walk_element-returns-then-nil-clause-judged
+walk_element-returns-then-nil-clause-judged g t c = λ z stands.
+    nil-read c.args.set.now c.requires.linked c.args.decl c.in-Element.name c.in-Element.attributes c.in-Element.declares c.in-Element.at c.args.item.now (sym c.label.ensures ∙ c.in-Element.is) c.requires.sound
+    (told (parts_of c.args.set.now) c.declared_of-declared.result) c.items-items.result.now c.declared_of-declared.ensures.asked c.items-items.ensures c.kids-kids.result c.kids-kids.ensures
+    c.args.values.now c.walk_nil.new.values (rw c.if-nil.true at c.in-Ok.ensures) c.walk_nil.result c.walk_nil.ensures z stands
+
+pub walk_element-returns-then-nil-clause-least : goal.walk_element-returns-then-nil-clause-least
+walk_element-returns-then-nil-clause-least g t c =
+    let n = element_counts c.args.item.now c.in-Element.name c.in-Element.attributes c.in-Element.declares c.in-Element.at (sym c.label.ensures ∙ c.in-Element.is) in
+    let same = ap (λ ks. elements_in (roses_of ks)) c.kids-kids.ensures in
+    match-ok c.walk_nil.result
+    (λ _. (roses_of c.kids-kids.result ≡ none)
+    × ((v : Rose ValueLabel) × IsNilFilled (told (parts_of c.args.set.now) c.declared_of-declared.result) c.items-items.result.now v × Puts (added v) c.args.values.now c.walk_nil.new.values))
+    (Tells (FirstKid (roses_of c.kids-kids.result) (λ _. NilWithContent))) (c.args.steps.now + element_count c.args.item.now ≤ c.args.steps.now + 1)
+    (λ v h. let empty = ap elements_in h.0 in omega (arith, n, same, empty)) c.walk_nil.ensures
+
+pub walk_element-returns-else-nil-clause-judged : goal.walk_element-returns-else-nil-clause-judged
+walk_element-returns-else-nil-clause-judged g t c = λ z stands.
+    filled-read c.args.set.now c.requires.linked c.args.decl c.in-Element.name c.in-Element.attributes c.in-Element.declares c.in-Element.at c.args.item.now (sym c.label.ensures ∙ c.in-Element.is) c.requires.sound
+    (told (parts_of c.args.set.now) c.declared_of-declared.result) c.items-items.result.now c.declared_of-declared.ensures.asked c.items-items.ensures c.kids-kids.result c.kids-kids.ensures
+    c.walk_filled.new.values z (rw c.if-nil.false at c.in-Ok.ensures) c.walk_filled.result (c.walk_filled.ensures.judged z stands)
+
+pub walk_element-returns-else-nil-clause-most : goal.walk_element-returns-else-nil-clause-most
+walk_element-returns-else-nil-clause-most g t c =
+    let n = element_counts c.args.item.now c.in-Element.name c.in-Element.attributes c.in-Element.declares c.in-Element.at (sym c.label.ensures ∙ c.in-Element.is) in
+    let same = ap (λ ks. elements_in (roses_of ks)) c.kids-kids.ensures in
+    let m = c.walk_filled.ensures.most in
+    omega (arith, n, same, m)
+
+pub walk_element-returns-else-nil-clause-least : goal.walk_element-returns-else-nil-clause-least
+walk_element-returns-else-nil-clause-least g t c =
+    let n = element_counts c.args.item.now c.in-Element.name c.in-Element.attributes c.in-Element.declares c.in-Element.at (sym c.label.ensures ∙ c.in-Element.is) in
+    let same = ap (λ ks. elements_in (roses_of ks)) c.kids-kids.ensures in
+    on-ok c.walk_filled.result (c.args.steps.now + elements_in (roses_of c.kids-kids.result) ≤ c.walk_filled.new.steps) (c.args.steps.now + element_count c.args.item.now ≤ c.walk_filled.new.steps + 1)
+    (λ h. omega (arith, n, same, h)) c.walk_filled.ensures.least

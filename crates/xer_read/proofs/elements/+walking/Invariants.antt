@@ -1,0 +1,43 @@
+use Rattle.std.proofs.Common.{◌≡◌, ◌+◌, ◌*◌, ◌≤◌, ◌++◌, length}
+use Rattle.label_tree.specs.Rose.{roses_of, node_count, count_all}
+use Rattle.flat_tree.specs.Zips.{Zip}
+use Rattle.simple_types.specs.declared.labels.ValueLabel.{ValueLabel}
+use Rattle.content_models.specs.Seen.{seen}
+use Rattle.validity.specs.Faults.{front}
+use Rattle.validity_check.specs.Counts.{elements_in}
+use Rattle.value_builder.specs.Built.{Stands}
+use Rattle.xer_read.specs.Private.Keeping.{Reached}
+use Rattle.xer_read.specs.Private.Putting.{IsWay}
+use Rattle.xer_read.proofs.elements.+walking.Given as goal
+
+abbrev pub decreases-walk_kid : goal.decreases-walk_kid
+decreases-walk_kid g l = 8 * node_count l.kid.now + 1
+
+abbrev pub decreases-walk_kids : goal.decreases-walk_kids
+decreases-walk_kids g l = 8 * count_all (roses_of l.kids.now) + 2
+
+abbrev pub decreases-walk_children : goal.decreases-walk_children
+decreases-walk_children g l = 8 * count_all (roses_of l.kids.now) + 3
+
+abbrev pub decreases-walk_inside : goal.decreases-walk_inside
+decreases-walk_inside g l = 8 * count_all (roses_of l.kids.now) + 4
+
+abbrev pub decreases-walk_complex : goal.decreases-walk_complex
+decreases-walk_complex g l = 8 * count_all (roses_of l.kids.now) + 5
+
+abbrev pub decreases-walk_filled : goal.decreases-walk_filled
+decreases-walk_filled g l = 8 * count_all (roses_of l.kids.now) + 6
+
+abbrev pub decreases-walk_element : goal.decreases-walk_element
+decreases-walk_element g l = 8 * node_count l.item.now
+
+abbrev pub invariant-walk_kids-loop-kid : goal.invariant-walk_kids-loop-kid
+invariant-walk_kids-loop-kid g l = record {
+  all : l.yielded ++ l.kid-iterator ≡ l.kids;
+  plans : l.plans ≡ l.set;
+  way : IsWay l.way l.matcher;
+  limit : l.values.most ≡ l.initial.values.most;
+  reached : (z : Zip ValueLabel) → Stands l.initial.values z → Reached l.set l.mixed (seen l.model) l.kids (length l.yielded) l.matcher z l.values;
+  most : l.steps ≤ l.initial.steps + 144 * elements_in (front (length l.yielded) (roses_of l.kids));
+  least : l.initial.steps + elements_in (front (length l.yielded) (roses_of l.kids)) ≤ l.steps;
+}

@@ -1,0 +1,38 @@
+use Rattle.std.proofs.Common.{◌≡◌, ◌<◌, ◌≤◌, ◌^◌, true, false, sym, subst}
+use Rattle.std.specs.Prelude.{Some, MatchResult}
+use Rattle.label_tree.specs.Rose.{label_of, node_count}
+use Rattle.doc_text.specs.Labels.{item_place}
+use Rattle.doc_text.specs.Sound.{is_text, is_sound, levels}
+use Rattle.schema_parts.specs.SetParts.{parts_of}
+use Rattle.validity.specs.Valid.{HasName}
+use Rattle.validity.specs.Faults.{At, FirstFault}
+use Rattle.validity.specs.declared.why.InvalidWhy.TheVariants.{WrongRoot}
+use Rattle.validity_check.specs.Answers.{Tells}
+use Rattle.validity_check.proofs.Shape.{element_label}
+use Rattle.validity_check.proofs.Rooting.{root_refused}
+use Rattle.xer_read.specs.Private.Given.{IsRootRead}
+use Rattle.xer_read.specs.Private.Putting.{ValuePut}
+use Rattle.xer_read.proofs.Finishing.{root-read}
+use Rattle.xer_read.proofs.root.walk_root.Goals as goal
+
+pub walk_element-requires-clause-element : goal.walk_element-requires-clause-element
+walk_element-requires-clause-element g c = subst (λ x. is_text (label_of x) ≡ false) (sym c.root-item.ensures.root) (element_label c.args.items.now c.root-item.ensures.items.element)
+
+pub walk_element-requires-clause-sound : goal.walk_element-requires-clause-sound
+walk_element-requires-clause-sound g c = subst (λ x. is_sound x ≡ true) (sym c.root-item.ensures.root) c.root-item.ensures.items.sound
+
+pub walk_element-requires-clause-few : goal.walk_element-requires-clause-few
+walk_element-requires-clause-few g c = subst (λ x. node_count x < 2 ^ 31) (sym c.root-item.ensures.root) c.root-item.ensures.items.few
+
+pub returns-in-Err-clause-judged : goal.returns-in-Err-clause-judged
+returns-in-Err-clause-judged g c = λ z stands.
+    subst (λ x. Tells (FirstFault (parts_of c.args.set.now) c.args.root x) c.in-Err.error) c.root-item.ensures.root
+    (root_refused c.args.set.now c.args.root c.element-declared.result.now c.element-declared.ensures c.root-item.result c.in-Err.error
+    (subst (λ l. Tells (At (item_place l) WrongRoot (HasName (Some c.element-declared.result.now.name) l → ⊥)) c.in-Err.error) c.label-label.ensures c.in-Err.ensures))
+
+pub returns-clause-judged : goal.returns-clause-judged
+returns-clause-judged g c = λ z stands.
+    subst (λ x. MatchResult c.walk_element.result (λ _. ValuePut (IsRootRead c.args.set.now c.args.root x) z c.walk_element.new.values) (Tells (FirstFault (parts_of c.args.set.now) c.args.root x))) c.root-item.ensures.root
+    (root-read c.args.set.now c.args.root c.element-declared.result.now c.element-declared.ensures c.root-item.result
+    (subst (λ l. HasName (Some c.element-declared.result.now.name) l) c.label-label.ensures c.in-Ok.ensures) (subst (λ x. levels x ≤ 64) (sym c.root-item.ensures.root) c.root-item.ensures.items.shallow)
+    z c.walk_element.new.values c.walk_element.result (c.walk_element.ensures.judged z stands))

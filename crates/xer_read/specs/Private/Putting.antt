@@ -1,0 +1,44 @@
+-- What is put down by a step of the walk.
+use Rattle.std.specs.Prelude.{◌≡◌, ℕ, Bool, List, [], Some}
+use Rattle.label_tree.specs.Rose.{Rose}
+use Rattle.flat_tree.specs.Zips.{Zip, added}
+use Rattle.simple_types.specs.declared.labels.ValueLabel.{ValueLabel}
+use Rattle.content_models.specs.Particle.{Particle}
+use Rattle.content_spots.specs.Spots.{Spot}
+use Rattle.content_match.specs.Private.Standing.{spot_now}
+use Rattle.content_match.specs.Taking.{Matched, spot_of}
+use Rattle.value_builder.specs.Built.{Built, Stands, Puts, with_parts}
+use Rattle.content_values.specs.Made.{Child}
+use Rattle.content_values.specs.Reached.{TopReached, Put}
+use Rattle.xer_read.specs.declared.ways.Way.{Way}
+
+-- a value of which P holds, behind what stood before
+pub record ValuePut (P : Rose ValueLabel → Type 0) (before : Zip ValueLabel) (now : Built) : Type 0 where
+  pub value : Rose ValueLabel
+  pub holds : P value
+  pub stands : Stands now (added value before)
+
+-- parts of which P holds, whatever stood before
+pub record PartsPut (P : List Bool → List (Rose ValueLabel) → Type 0) (old new : Built) : Type 0 where
+  pub flags : List Bool
+  pub values : List (Rose ValueLabel)
+  pub holds : P flags values
+  pub puts : Puts (with_parts flags values) old new
+
+-- ---- ways
+
+-- the way leads to where the matcher stands
+abbrev pub IsWay : Way → Matched → Type 0
+IsWay way k = spot_now way.turns.items way.kids.items ≡ spot_of k
+
+-- the way to a leaf of the declaration is open, behind these child elements
+pub record OpenAt (p : Particle) (k : Matched) (gs : List Child) (d : ℕ) (before : Zip ValueLabel) (now : Built) : Type 0 where
+  pub spot : Spot
+  pub spot_is : spot_of k ≡ Some spot
+  pub way : Zip ValueLabel
+  pub reached : TopReached p spot gs d before way
+  pub stands : Stands now way
+
+-- the matcher took one name more, and the way to its leaf was opened
+abbrev pub Opens : Particle → Matched → Matched → ℕ → Built → Built → Type 0
+Opens p k l d old new = (gs : List Child) (before now : Zip ValueLabel) → Put p (spot_of k) gs before now → Stands old now → OpenAt p l gs d before new

@@ -1,0 +1,190 @@
+//! The value of an element whose type is complex, or which may be nil: what is put down before its content.
+ghost use Rattle.std.specs.Prelude.{◌≡◌, ◌<◌, ◌∷◌, [], true, false, length, All, OnOk, MatchOption, MatchResult};
+ghost use Rattle.label_tree.specs.Rose.{Rose, roses_of, none};
+ghost use Rattle.flat_tree.specs.Zips.{opened, added};
+ghost use Rattle.simple_types.specs.declared.labels.ValueLabel.{ValueLabel};
+ghost use Rattle.simple_types.specs.Seen.{space_of};
+ghost use Rattle.simple_types.specs.Space.{Space};
+ghost use Rattle.simple_types.specs.Sound.{Sound};
+ghost use Rattle.doc_text.specs.Sound.{are_sound};
+ghost use Rattle.xer_read.specs.Private.Given.{IsReadAs};
+ghost use Rattle.schema_parts.specs.Linked.{IsUse, IsLinked};
+ghost use Rattle.schema_parts.specs.SetParts.{parts_of};
+ghost use Rattle.validity.specs.Asked as asked;
+ghost use Rattle.validity.specs.Faults.{FirstKid, why_kid};
+ghost use Rattle.validity_check.specs.Answers.{Tells, TextFault};
+ghost use Rattle.validity_check.specs.Told.{inside_told, told};
+ghost use Rattle.value_builder.specs.Built.{Puts, flagged, with_parts};
+ghost use Rattle.xer_read.specs.Private.Keeping.{strings_put};
+ghost use Rattle.xer_read.specs.Private.Contents.{AreTaken, is_plain_at, NothingMade, IsNilFilled, Begins};
+ghost use Rattle.xer_read.specs.Private.Putting.{PartsPut};
+
+use crate::attributes::put_attributes;
+use crate::strings::put_texts;
+use crate::texts::put_text;
+use doc_text::ItemLabel;
+use flat_tree::Kids;
+use schema_parts::{SchemaSet, TypeOf};
+use simple_types::{Flags, Simple, ValueLabel};
+use std::alloc::Global;
+use validity::InvalidWhy;
+use validity_check::{CheckError, Declared, Inside, check_empty, check_no_content};
+use value_builder::ValueBuilder;
+use xa_base::{Memory, Name, Text};
+
+// Whether the element has a simple type and can't be nil, so that its value is that of its text.
+fn is_plain(set: &SchemaSet, decl: u32) -> bool
+    requires { decl < length set.now.elements }
+    ensures { result ≡ is_plain_at set.now decl }
+{
+    let element = set.element(decl);
+    match element.kind {
+        TypeOf::Simple(_) => !element.nillable,
+        TypeOf::Complex(_) => false,
+    }
+}
+
+/// The type whose value is that of the element, which has a simple type and can't be nil.
+pub(crate) fn plain_type<'a>(
+    set: &SchemaSet,
+    decl: u32,
+    inside: Inside<'a>,
+) -> Option<&'a Simple>
+    requires { decl < length set.now.elements }
+    ensures { MatchOption result
+        ((space : Space) → inside_told inside.entry ≡ asked.simple space → is_plain_at set.now decl ≡ false)
+        (λ simple. (inside.entry ≡ Inside.Simple simple) × (is_plain_at set.now decl ≡ true)) }
+{
+    match inside {
+        Inside::Nothing => None,
+        Inside::Children { .. } => None,
+        Inside::Simple(simple) => {
+            if is_plain(set, decl) {
+                Some(simple)
+            } else {
+                None
+            }
+        }
+    }
+}
+
+pub(crate) fn no_components() -> ValueLabel
+    ensures { result ≡ ValueLabel.Sequence [] }
+{
+    ValueLabel::Sequence {
+        present: Flags::none(),
+    }
+}
+
+/// A SEQUENCE is open, with the parts for texts and attributes.
+pub(crate) fn begin_complex(
+    alloc: Global,
+    set: &SchemaSet,
+    declared: &Declared,
+    attributes: &[(Name, Text)],
+    nil: bool,
+    kids: &Kids<'_, ItemLabel>,
+    values: &mut ValueBuilder,
+) -> Result<(), Memory>
+    requires linked { IsLinked set.now }
+    requires uses { All (IsUse set.now) declared.now.uses.now }
+    requires taken { AreTaken set.now attributes.now declared.now.uses.now }
+    ensures { OnOk result (Begins (told (parts_of set.now) declared.now) attributes.now (strings_put nil (roses_of kids.now)) values.old values.new) }
+{
+    values.open(no_components())?;
+    put_texts(alloc, declared.inside, nil, kids, values)?;
+    put_attributes(set, declared.uses, attributes, values)
+}
+
+// The part for a content in which nothing may stand: one where the element may be nil.
+fn put_nothing(nillable: bool, values: &mut ValueBuilder) -> Result<(), Memory>
+    ensures { OnOk result (PartsPut (NothingMade nillable) values.old values.new) }
+{
+    if nillable {
+        values.part(true)?;
+        values.leaf(no_components())
+    } else {
+        Ok(())
+    }
+}
+
+/// One part stands, a SEQUENCE, which is open.
+pub(crate) fn begin_part(values: &mut ValueBuilder) -> Result<(), Memory>
+    ensures { OnOk result (Puts (λ z. opened (ValueLabel.Sequence []) (flagged true z)) values.old values.new) }
+{
+    values.part(true)?;
+    values.open(no_components())
+}
+
+/// Nothing may stand in the element.
+pub(crate) fn walk_nothing(
+    nillable: bool,
+    kids: &Kids<'_, ItemLabel>,
+    values: &mut ValueBuilder,
+) -> Result<(), CheckError>
+    ensures { MatchResult result
+        (λ _. (roses_of kids.now ≡ none) × PartsPut (NothingMade nillable) values.old values.new)
+        (Tells (FirstKid (roses_of kids.now) why_kid)) }
+{
+    check_no_content(kids.again())?;
+    put_nothing(nillable, values)?;
+    Ok(())
+}
+
+/// A text alone stands in the element. Its value is that of a part.
+pub(crate) fn walk_text(
+    simple: &Simple,
+    at: u64,
+    kids: &Kids<'_, ItemLabel>,
+    values: &mut ValueBuilder,
+) -> Result<(), CheckError>
+    requires simple { Sound (space_of simple.now) }
+    requires sound { are_sound (roses_of kids.now) ≡ true }
+    ensures { MatchResult result
+        (λ _. (v : Rose ValueLabel) × IsReadAs (space_of simple.now) (roses_of kids.now) v × Puts (with_parts (true ∷ []) (v ∷ [])) values.old values.new)
+        (Tells (TextFault (space_of simple.now) (roses_of kids.now) at)) }
+{
+    values.part(true)?;
+    put_text(simple, at, kids, values)
+}
+
+// The value of an element that is nil, which has no kids.
+fn put_nil(
+    alloc: Global,
+    set: &SchemaSet,
+    declared: &Declared,
+    attributes: &[(Name, Text)],
+    kids: &Kids<'_, ItemLabel>,
+    values: &mut ValueBuilder,
+) -> Result<(), Memory>
+    requires linked { IsLinked set.now }
+    requires uses { All (IsUse set.now) declared.now.uses.now }
+    requires taken { AreTaken set.now attributes.now declared.now.uses.now }
+    ensures { OnOk result ((v : Rose ValueLabel) × IsNilFilled (told (parts_of set.now) declared.now) attributes.now v × Puts (added v) values.old values.new) }
+{
+    begin_complex(alloc, set, declared, attributes, true, kids, values)?;
+    values.part(false)?;
+    values.close();
+    Ok(())
+}
+
+/// The element is nil.
+pub(crate) fn walk_nil(
+    alloc: Global,
+    set: &SchemaSet,
+    declared: &Declared,
+    attributes: &[(Name, Text)],
+    kids: &Kids<'_, ItemLabel>,
+    values: &mut ValueBuilder,
+) -> Result<(), CheckError>
+    requires linked { IsLinked set.now }
+    requires uses { All (IsUse set.now) declared.now.uses.now }
+    requires taken { AreTaken set.now attributes.now declared.now.uses.now }
+    ensures { MatchResult result
+        (λ _. (roses_of kids.now ≡ none) × ((v : Rose ValueLabel) × IsNilFilled (told (parts_of set.now) declared.now) attributes.now v × Puts (added v) values.old values.new))
+        (Tells (FirstKid (roses_of kids.now) (λ _. InvalidWhy.NilWithContent))) }
+{
+    check_empty(kids.again())?;
+    put_nil(alloc, set, declared, attributes, kids, values)?;
+    Ok(())
+}

@@ -1,0 +1,84 @@
+//! The root of a document.
+ghost use Rattle.std.specs.Prelude.{◌≡◌, ◌+◌, ◌*◌, ◌<◌, ◌≤◌, Some, MatchResult, OnOk};
+ghost use Rattle.label_tree.specs.Rose.{Rose};
+ghost use Rattle.flat_tree.specs.Zips.{Zip};
+ghost use Rattle.simple_types.specs.declared.labels.ValueLabel.{ValueLabel};
+ghost use Rattle.doc_text.specs.Labels.{item_place};
+ghost use Rattle.schema_parts.specs.Linked.{IsLinked};
+ghost use Rattle.schema_parts.specs.SetParts.{parts_of};
+ghost use Rattle.validity.specs.Valid.{HasName};
+ghost use Rattle.validity.specs.Faults.{At, FirstFault};
+ghost use Rattle.validity_check.specs.Answers.{Tells};
+ghost use Rattle.validity_check.specs.Counts.{element_count};
+ghost use Rattle.value_builder.specs.Built.{Stands};
+ghost use Rattle.xer_read.specs.Private.Given.{IsRootRead};
+ghost use Rattle.xer_read.specs.Private.Putting.{ValuePut};
+
+use crate::elements::walk_element;
+use doc_text::{ItemLabel, Items};
+use schema_parts::SchemaSet;
+use std::alloc::Global;
+use std::sync::ledger::Ledger;
+use validity::InvalidWhy;
+use validity_check::{CheckError, Plans};
+use value_builder::ValueBuilder;
+use xa_base::{Name, Steps};
+
+// The root has the name that is declared.
+fn check_name(label: &ItemLabel, name: &Name) -> Result<(), CheckError>
+    ensures { MatchResult result
+        (λ _. HasName (Some name.now) label.now)
+        (Tells (At (item_place label.now) InvalidWhy.WrongRoot (HasName (Some name.now) label.now → ⊥))) }
+{
+    match label {
+        ItemLabel::Text { at, .. } => Err(CheckError::Invalid {
+            at: *at,
+            why: InvalidWhy::WrongRoot,
+        }),
+        ItemLabel::Element {
+            name: found,
+            at,
+            ..
+        } => {
+            if *found == *name {
+                Ok(())
+            } else {
+                Err(CheckError::Invalid {
+                    at: *at,
+                    why: InvalidWhy::WrongRoot,
+                })
+            }
+        }
+    }
+}
+
+/// The document is valid against the global element with this number, and its value is put down. The steps are those
+/// through content models.
+pub(crate) fn walk_root<L: Ledger>(
+    alloc: Global,
+    set: &SchemaSet,
+    root: u32,
+    items: &Items,
+    values: &mut ValueBuilder,
+    steps: &mut Steps<L>,
+) -> Result<(), CheckError>
+    requires root { root < set.now.globals }
+    requires stands { (z : Zip ValueLabel) × Stands values.old z }
+    ensures linked { IsLinked set.now }
+    ensures limit { OnOk result (values.new.most ≡ values.old.most) }
+    ensures judged { (z : Zip ValueLabel) → Stands values.old z → MatchResult result
+        (λ _. ValuePut (IsRootRead set.now root items.now) z values.new)
+        (Tells (FirstFault (parts_of set.now) root items.now)) }
+    ensures most { steps.new ≤ steps.old + 144 * element_count items.now }
+    ensures least { OnOk result (steps.old + element_count items.now ≤ steps.new + 1) }
+{
+    let _ = set.element_count();
+    let mut plans = Plans::new(alloc, set)?;
+    let item = items.root();
+    let label = item.label();
+    let declared = set.element(root);
+    match check_name(label, &declared.name) {
+        Err(error) => Err(error),
+        Ok(()) => walk_element(set, &mut plans, root, &item, values, steps),
+    }
+}

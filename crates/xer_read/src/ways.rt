@@ -1,0 +1,133 @@
+//! The way to the last leaf of a content model, and from there to the next.
+ghost use Rattle.std.specs.Prelude.{◌≡◌, [], ◌∷◌, ◌++◌, ◌+◌, ◌-◌, ◌*◌, ◌^◌, ◌<◌, ◌≤◌, ℕ, List, Some, true, OnOk, MatchResult, IfOk};
+ghost use Rattle.label_tree.specs.Rose.{node_count};
+ghost use Rattle.simple_types.specs.declared.labels.ValueLabel.{ValueLabel};
+ghost use Rattle.content_models.specs.Seen.{seen};
+ghost use Rattle.content_models.specs.Language as language;
+ghost use Rattle.content_models.specs.Language.{names, Lang, Viable};
+ghost use Rattle.content_spots.specs.Laws.{IsNamed, may_end};
+ghost use Rattle.content_match.specs.Taking.{levels, Took, TookMore, spot_of};
+ghost use Rattle.flat_tree.specs.Zips.{Zip};
+ghost use Rattle.validity.specs.Faults.{At};
+ghost use Rattle.validity_check.specs.Answers.{Tells};
+ghost use Rattle.value_builder.specs.Built.{Stands};
+ghost use Rattle.content_values.specs.Made.{Child};
+ghost use Rattle.content_values.specs.Reached.{IsFillable, Put};
+ghost use Rattle.xer_read.specs.Private.Putting.{IsWay, Opens};
+
+use content_match::{Leaf, Matcher, Turn};
+use content_models::Particle;
+use content_values::{Path, put_step};
+use std::alloc::Global;
+use std::sync::ledger::Ledger;
+use validity::InvalidWhy;
+use validity_check::CheckError;
+use value_builder::ValueBuilder;
+use xa_base::{Memory, Name, Steps};
+
+/// The way to the last leaf, which is kept while a matcher goes on to the next.
+#[derive(Drop)]
+pub(crate) struct Way {
+    turns: Vec<Turn>,
+    kids: Vec<u32>,
+}
+
+impl Way {
+    /// Before the first leaf.
+    pub(crate) fn new(alloc: Global) -> Way
+        ensures turns { result.turns.items ≡ [] }
+        ensures kids { result.kids.items ≡ [] }
+    {
+        Way {
+            turns: Vec::new(alloc),
+            kids: Vec::new(alloc),
+        }
+    }
+
+    pub(crate) fn path(&self) -> Path<'_>
+        ensures turns { result.turns.now ≡ self.now.turns.items }
+        ensures kids { result.kids.now ≡ self.now.kids.items }
+    {
+        Path {
+            turns: &self.turns,
+            kids: &self.kids,
+        }
+    }
+
+    // It leads to the leaf where the matcher stands.
+    fn follow(&mut self, matcher: &Matcher) -> Result<(), Memory>
+        ensures { OnOk result (IsWay self.new matcher.now) }
+    {
+        self.turns.clear();
+        self.turns.extend_from_slice(matcher.turns())?;
+        self.kids.clear();
+        self.kids.extend_from_slice(matcher.kids())?;
+        Ok(())
+    }
+}
+
+/// The next child element has this name: the way to its leaf is opened. The element stands at this place.
+pub(crate) fn open_way<L: Ledger>(
+    model: &Particle,
+    matcher: &mut Matcher,
+    way: &mut Way,
+    name: &Name,
+    at: u64,
+    values: &mut ValueBuilder,
+    steps: &mut Steps<L>,
+) -> Result<Leaf, CheckError>
+    requires fillable { IsFillable (seen model.now) }
+    requires few { node_count model.now < 2 ^ 31 }
+    requires particle { matcher.old.particle ≡ seen model.now }
+    requires taken { matcher.old.taken < 2 ^ 32 - 1 }
+    requires took { (us : List language.Leaf) × Took matcher.old us }
+    requires way { IsWay way.old matcher.old }
+    requires put { (gs : List Child) × (z : Zip ValueLabel) × (now : Zip ValueLabel) × Put (seen model.now) (spot_of matcher.old) gs z now × Stands values.old now }
+    ensures ticks { steps.new ≤ steps.old + (4 * levels matcher.old.particle + 4) }
+    ensures least { OnOk result (steps.old + 1 ≤ steps.new) }
+    ensures particle { matcher.new.particle ≡ matcher.old.particle }
+    ensures took { (us : List language.Leaf) → Took matcher.old us
+        → MatchResult result (λ leaf. TookMore matcher.old matcher.new us name.now leaf)
+        (Tells (At at InvalidWhy.UnexpectedElement (Viable matcher.old.particle (names us ++ name.now ∷ []) → ⊥))) }
+    ensures way { OnOk result (IsWay way.new matcher.new) }
+    ensures limit { OnOk result (values.new.most ≡ values.old.most) }
+    ensures opens { IfOk result (λ leaf. Opens (seen model.now) matcher.old matcher.new leaf.decl values.old values.new) }
+{
+    match matcher.step(name, steps) {
+        Err(_) => Err(CheckError::Invalid {
+            at,
+            why: InvalidWhy::UnexpectedElement,
+        }),
+        Ok(leaf) => {
+            let to = Path {
+                turns: matcher.turns(),
+                kids: matcher.kids(),
+            };
+            put_step(model, way.path(), to, values)?;
+            way.follow(matcher)?;
+            Ok(leaf)
+        }
+    }
+}
+
+/// The names taken are those of a list of the content model. The element stands at this place.
+pub(crate) fn finish<L: Ledger>(
+    matcher: &Matcher,
+    at: u64,
+    steps: &mut Steps<L>,
+) -> Result<(), CheckError>
+    ensures ticks { (steps.old ≤ steps.new) × (steps.new ≤ steps.old + (4 * levels matcher.now.particle + 4)) }
+    ensures finished { (us : List language.Leaf) → Took matcher.now us
+        → MatchResult result
+        (λ _. Lang matcher.now.particle 0 [] us)
+        (Tells (At at InvalidWhy.MissingElement (IsNamed matcher.now.particle (names us) → ⊥))) }
+    ensures ends { OnOk result (may_end matcher.now.particle (spot_of matcher.now) ≡ true) }
+{
+    match matcher.finish(steps) {
+        Ok(()) => Ok(()),
+        Err(_) => Err(CheckError::Invalid {
+            at,
+            why: InvalidWhy::MissingElement,
+        }),
+    }
+}
