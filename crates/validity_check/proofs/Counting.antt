@@ -45,6 +45,10 @@ pub on-ok : {X E : Type 0} (r : Result X E) (P Q : Type 0) → (P → Q) → OnO
 on-ok (Ok x) P Q f h = f h
 on-ok (Err e) P Q f h = tt
 
+pub always-ok : {X E : Type 0} (r : Result X E) (Q : Type 0) → Q → OnOk r Q
+always-ok (Ok x) Q q = q
+always-ok (Err e) Q q = tt
+
 -- a text alone has no element
 pub text-without : (ts : Roses ItemLabel) (words : List ℕ) → only_text ts ≡ Some words → elements_in ts ≡ 0
 text-without rose.none words e = refl

@@ -41,7 +41,7 @@ stop-at p (Some s) us l (earlier, last, e, leaf) = record { spot = s; is = refl;
 by-single : (b : Bool) (t : Term) (i : ℕ) (most : Option ℕ) (s : Inner) (gs : List Child) (d : ℕ) (before now : Zip ValueLabel) {P : Type 0}
     → ((own : List Child) (z : Zip ValueLabel) → TermReached t s own d z now → P)
     → elim b as (λ _. Type 0) [
-      true ↦ (i ≡ 0) × TermReached t s gs d before now
+      | true ↦ (i ≡ 0) × TermReached t s gs d before now
       | false ↦ (vs : List (Rose ValueLabel)) × (a : List Child) × (b : List Child) × (gs ≡ a ++ b) × Before (TermMade t) most i vs a
           × TermReached t s b d (added_all vs (opened value.SequenceOf before)) now
     ]

@@ -1,5 +1,5 @@
 -- What is made of child elements at their places fits the types of a content model, and has these child elements.
-use Rattle.std.proofs.Common.{◌≡◌, ℕ, zero, suc, ◌+◌, ◌≤◌, ◌||◌, ◌&&◌, nat_le, Bool, true, false, not, Option, Some, List, [], ◌∷◌, ◌++◌, map, All, refl, sym, ap, subst, ◌∙◌, arith}
+use Rattle.std.proofs.Common.{◌≡◌, ℕ, zero, suc, ◌+◌, ◌≤◌, ◌||◌, ◌&&◌, nat_le, Bool, true, false, not, Option, Some, None, List, [], ◌∷◌, ◌++◌, map, All, refl, sym, ap, subst, ◌∙◌, arith}
 use Rattle.std.specs.Prelude.{slice_get}
 use Rattle.std.proofs.lemmas.List.{append-nil, map-append}
 use Rattle.std.proofs.lemmas.List.Elements.{All-head, All-tail, All-cons}
@@ -21,14 +21,16 @@ use Rattle.asn_types.specs.declared.types.TypeLabel.{TypeLabel}
 use Rattle.asn_types.specs.Values.{below, FitsAt}
 use Rattle.schema_parts.specs.Linked.{leaves, leaves_of_term, all_leaves}
 use Rattle.map_assignments.specs.Naming.{type_label}
-use Rattle.map_assignments.specs.Planning.{is_once, is_optional}
+use Rattle.map_assignments.specs.Planning as planning
 use Rattle.map_laws.specs.Children.{Child, child_of, given_by, children}
+use Rattle.map_laws.specs.Standing as standing
 use Rattle.map_laws.specs.Standing.{IsAs, StandsFor, IsPart, once, at_most_once, several, HasTerm, ArePartsOf, IsTop, parted, whole}
 use Rattle.map_laws.proofs.Values.{gives, present_children, FitsPart, PartsFit, sequence-value, choice-value, ItemsFit, item_children, list-value}
 use Rattle.map_laws.proofs.Giving.{sequence-fits, sequence-gives, choice-fits, list-fits}
 use Rattle.map_laws.proofs.Following.{only-part}
 use Rattle.xer_items.specs.Items.{element_of, inside}
 use Rattle.one_value.proofs.Groups.{tell}
+use Rattle.content_values.specs.Bounds.{is_once, is_optional, is_parted}
 use Rattle.content_values.specs.Made as kept
 use Rattle.content_values.specs.Made.{Each, Several, Standing, TermMade, PartsMade, ChosenMade, PartedMade, TopMade}
 
@@ -42,13 +44,28 @@ standing-optional : (B : Rose ValueLabel → List kept.Child → Type 0) (b : Bo
     → Standing B b least most v gs → B v gs
 standing-optional B b least most v gs c e f h = subst (λ o. Standing B false 0 o v gs) f (subst (λ n. Standing B false n most v gs) e (subst (λ x. Standing B x least most v gs) c h))
 
+-- the bounds are read alike by the map and by the walk
+once-same : (least : ℕ) (most : Option ℕ) → is_once least most ≡ planning.is_once least most
+once-same least None = refl
+once-same least (Some m) = refl
+
+optional-same : (least : ℕ) (most : Option ℕ) → is_optional least most ≡ planning.is_optional least most
+optional-same least None = refl
+optional-same least (Some m) = refl
+
+parted-same : (t : Term) (least : ℕ) (most : Option ℕ) → is_parted t least most ≡ standing.is_parted t least most
+parted-same (model.element d a) least most = refl
+parted-same (model.sequence ps) least most = once-same least most
+parted-same (model.choice ps) least most = refl
+
 neither : (x y : Bool) → x ≡ false → y ≡ false → (x || y) ≡ false
 neither x y e f = rw (e, f) refl
 
-standing-several : (B : Rose ValueLabel → List kept.Child → Type 0) (b : Bool) (least : ℕ) (most : Option ℕ) (v : Rose ValueLabel) (gs : List kept.Child) → is_once least most ≡ false
-    → (is_optional least most && not b) ≡ false → Standing B b least most v gs → Several B least most v gs
+standing-several : (B : Rose ValueLabel → List kept.Child → Type 0) (b : Bool) (least : ℕ) (most : Option ℕ) (v : Rose ValueLabel) (gs : List kept.Child) → planning.is_once least most ≡ false
+    → (planning.is_optional least most && not b) ≡ false → Standing B b least most v gs → Several B least most v gs
 standing-several B b least most v gs e f h =
-    subst (λ x. elim x as (λ _. Type 0) [ true ↦ B v gs | false ↦ Several B least most v gs ]) (neither (is_once least most) (is_optional least most && not b) e f) h
+    subst (λ x. elim x as (λ _. Type 0) [ true ↦ B v gs | false ↦ Several B least most v gs ])
+    (neither (is_once least most) (is_optional least most && not b) (once-same least most ∙ e) (ap (λ x. x && not b) (optional-same least most) ∙ f)) h
 
 -- ---- the names of the element particles
 
@@ -191,7 +208,7 @@ module _ (M : List Assignment) (E : ℕ → Rose TypeLabel → Type 0) (N : ℕ 
       absurd (let never : is_optional 1 (Some 1) ≡ true = subst (λ q. is_optional 1 q ≡ true) g (subst (λ n. is_optional n most ≡ true) e o) in cc)
   absent-shows t l i least most c u (at_most_once no_choice e g stands has) o = optional-is t l i true c stands
   absent-shows t l i least most c u (several more_than_one never_optional is list) o =
-      absurd (let never : (true && true) ≡ false = subst (λ x. (x && true) ≡ false) o never_optional in cc)
+      absurd (let never : (true && true) ≡ false = subst (λ x. (x && true) ≡ false) (sym (optional-same least most) ∙ o) never_optional in cc)
 
   record ChoiceShows (l : TypeLabel) (i : ℕ) (cs : List Component) (us : List (Rose TypeLabel)) (place : ℕ) (v : Rose ValueLabel) (bs : List (Rose Plain)) : Type 0 where
     pub number : ℕ
@@ -297,5 +314,5 @@ module _ (M : List Assignment) (E : ℕ → Rose TypeLabel → Type 0) (N : ℕ 
   top-shows p l i cs us (whole t least most is in_one g) named flags vs gs bs h k =
       let made : TopMade (occurs t least most) flags vs gs = subst (λ q. TopMade q flags vs gs) is h in
       let parts : PartsMade (model.more (occurs t least most) model.none) flags vs gs =
-      subst (λ b. elim b as (λ _. Type 0) [ true ↦ PartedMade t flags vs gs | false ↦ PartsMade (model.more (occurs t least most) model.none) flags vs gs ]) in_one made in
+      subst (λ b. elim b as (λ _. Type 0) [ true ↦ PartedMade t flags vs gs | false ↦ PartsMade (model.more (occurs t least most) model.none) flags vs gs ]) (parted-same t least most ∙ in_one) made in
       parts-show (model.more (occurs t least most) model.none) l i cs us (only-part M E depth t least most l i cs us g) (subst (NamedTop N) is named, tt) flags vs gs bs parts k

@@ -1,5 +1,5 @@
 -- The strings of mixed content are the texts among its treated kids.
-use Rattle.std.proofs.Common.{◌≡◌, ℕ, suc, ◌+◌, ◌⊎◌, inl, inr, Bool, true, false, not, ◌&&◌, List, [], ◌∷◌, ◌++◌, length, map, refl, sym, ◌∙◌, ap, subst, arith, append_assoc, append-nil}
+use Rattle.std.proofs.Common.{◌≡◌, ℕ, suc, Bool, true, false, not, ◌&&◌, List, [], ◌∷◌, ◌++◌, length, map, refl, sym, ◌∙◌, ap, subst, arith, append_assoc}
 use Rattle.std.proofs.lemmas.List.{map-append}
 use Rattle.xa_base.specs.declared.texts.Name.{Name}
 use Rattle.xa_base.specs.Limits.{is_empty, has_xml_chars}
@@ -10,7 +10,7 @@ use Rattle.content_models.specs.Language.{Leaf}
 use Rattle.doc_text.specs.declared.label.ItemLabel.{ItemLabel}
 use Rattle.doc_text.specs.declared.label.ItemLabel.TheVariants.{Element, Text}
 use Rattle.doc_text.specs.Sound.{is_text, begins_with_text, is_sound, are_sound}
-use Rattle.plain_items.specs.Plain.{Plain, element, text}
+use Rattle.plain_items.specs.Plain.{Plain, text}
 use Rattle.plain_items.specs.Mixing.{text_before, interleaved, child_elements}
 use Rattle.schema_parts.proofs.Truths.{both}
 use Rattle.validity.specs.Asked.{Asked}

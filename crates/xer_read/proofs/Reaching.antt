@@ -1,5 +1,5 @@
 -- What is known behind some kids of an element, whose values were put down.
-use Rattle.std.proofs.Common.{◌≡◌, ℕ, zero, suc, ◌+◌, ◌≤◌, ◌<◌, ◌⊎◌, inl, inr, List, [], ◌∷◌, ◌++◌, Some, None, Bool, true, false, length, get_or, refl, sym, ◌∙◌, ap, subst, add-one, arith, length-append, true≢false}
+use Rattle.std.proofs.Common.{◌≡◌, ℕ, zero, suc, ◌+◌, ◌≤◌, ◌<◌, ◌⊎◌, inl, inr, List, [], ◌∷◌, ◌++◌, Some, None, Bool, true, false, length, get_or, refl, sym, ◌∙◌, ap, subst, add-one, arith, length-append}
 use Rattle.std.specs.Prelude.{Result, Ok, Err, MatchResult, All}
 use Rattle.xa_base.specs.declared.texts.Name.{Name}
 use Rattle.xa_base.specs.WhiteSpace.{is_blank}
@@ -9,7 +9,6 @@ use Rattle.flat_tree.specs.Zips.{Zip, added}
 use Rattle.simple_types.specs.declared.labels.ValueLabel.{ValueLabel}
 use Rattle.content_models.specs.Particle.{Particle}
 use Rattle.content_models.specs.Language.{Leaf, names, Lang, Viable}
-use Rattle.content_spots.specs.Spots.{Spot}
 use Rattle.content_spots.specs.Laws as spots
 use Rattle.content_match.specs.Taking.{Matched, Took, TookMore, spot_of}
 use Rattle.content_match.specs.declared.places.Leaf as matched
@@ -25,7 +24,6 @@ use Rattle.xer_items.specs.Items.{Given, joined, element_of}
 use Rattle.validity.specs.Asked.{Asked, asked_at}
 use Rattle.validity.specs.Valid.{Between, ValidBy, KidsValid}
 use Rattle.validity.specs.Faults.{Begins, At, FaultBy, front}
-use Rattle.validity.specs.declared.why.InvalidWhy.{InvalidWhy}
 use Rattle.validity.specs.declared.why.InvalidWhy.TheVariants.{TextNotAllowed, UnexpectedElement, MissingElement}
 use Rattle.validity.proofs.Reading.{kid_at, kid_here, front_long, IsElementNamed, named}
 use Rattle.validity_check.specs.declared.error.CheckError.{CheckError}
@@ -123,7 +121,6 @@ level-within (rose.more u ts) (suc i) t k = let h = level-within ts i t k in ome
 roses-more : (bs : List (Rose Plain)) (b : Rose Plain) → joined (roses_of bs) (rose.more b rose.none) ≡ roses_of (bs ++ b ∷ [])
 roses-more [] b = refl
 roses-more (c ∷ bs) b = ap (λ z. rose.more c z) (roses-more bs b)
-
 
 module _ (s : Set) (high : ℕ) where
   all-more : (gs : List Child) (bs : List (Rose Plain)) (g : Child) (b : Rose Plain) → AllKept s high gs bs → IsKept s high g b → AllKept s high (gs ++ g ∷ []) (bs ++ b ∷ [])

@@ -7,7 +7,6 @@ use Rattle.simple_types.specs.declared.labels.ValueLabel.{ValueLabel}
 use Rattle.simple_types.specs.Labels.{MayHave}
 use Rattle.doc_text.specs.declared.label.ItemLabel.{ItemLabel}
 use Rattle.doc_text.specs.declared.label.ItemLabel.TheVariants.{Element, Text}
-use Rattle.doc_text.specs.Sound.{levels}
 use Rattle.schema_parts.specs.declared.components.ElementDecl.{ElementDecl}
 use Rattle.schema_parts.specs.Components.{Set}
 use Rattle.schema_parts.specs.Linked.{IsLinked}
@@ -23,7 +22,7 @@ use Rattle.map_laws.specs.Statements.{IsTypeAt}
 use Rattle.map_laws.proofs.Existence.{maps-exist}
 use Rattle.map_laws.proofs.Roots.{roots-lead}
 use Rattle.xer_items.specs.Items.{element_of, inside, root_of}
-use Rattle.validity.specs.Asked.{asked_at, name_at}
+use Rattle.validity.specs.Asked.{name_at}
 use Rattle.validity.specs.Valid.{HasName}
 use Rattle.validity.specs.declared.why.InvalidWhy.{InvalidWhy}
 use Rattle.one_value.specs.Statements.{AreSmall, root_at}
@@ -31,7 +30,7 @@ use Rattle.one_value.proofs.Declarations.{none-at, one-value}
 use Rattle.xer_read.specs.declared.error.ReadError.{ReadError}
 use Rattle.xer_read.specs.declared.error.ReadError.TheVariants.{Invalid, TooManyNodes, Memory}
 use Rattle.xer_read.specs.Answers.{IsValueOf, IsTooLarge, IsOnlyValue, ReadTells}
-use Rattle.xer_read.specs.Private.Given.{IsElementOf, IsTypeFor, IsRead, IsRootRead}
+use Rattle.xer_read.specs.Private.Given.{IsElementOf, IsTypeFor, IsRootRead}
 use Rattle.xer_read.proofs.Allowing.{fits-allowed}
 
 module _ (s : Set) (linked : IsLinked s) (d : ℕ) (below : d < s.globals) (t : Rose ItemLabel) (v : Rose ValueLabel) (h : IsRootRead s d t v) where

@@ -1,5 +1,5 @@
 -- What is walked of an element is its value.
-use Rattle.std.proofs.Common.{◌≡◌, ℕ, suc, ◌+◌, true≢false, ◌≤◌, Bool, true, false, List, [], ◌∷◌, ◌++◌, Option, Some, length, length-append, refl, sym, ◌∙◌, ap, subst, arith, map}
+use Rattle.std.proofs.Common.{◌≡◌, ℕ, suc, ◌≤◌, Bool, true, false, List, [], ◌∷◌, ◌++◌, Option, Some, length, length-append, refl, sym, ◌∙◌, ap, subst, arith}
 use Rattle.std.specs.Prelude.{Result, Ok, Err, MatchResult, MatchBool, All}
 use Rattle.xa_base.specs.declared.texts.Name.{Name}
 use Rattle.label_tree.specs.Rose.{Rose, node, Roses, roses_of, list_of, label_of, kids_of, length_all}
@@ -21,7 +21,7 @@ use Rattle.doc_text.specs.Sound.{is_sound, are_sound_attributes, are_sound, leve
 use Rattle.plain_items.specs.Plain.{Plain}
 use Rattle.plain_items.specs.Mixing.{interleaved}
 use Rattle.schema_parts.specs.Components.{Set}
-use Rattle.schema_parts.specs.Linked.{leaves, IsModel, IsNamed, IsLinked}
+use Rattle.schema_parts.specs.Linked.{leaves, IsNamed, IsLinked}
 use Rattle.schema_parts.specs.SetParts.{parts_of}
 use Rattle.xer_items.specs.Items.{given}
 use Rattle.validity.specs.Asked.{Asked, Inside, nothing, simple, children, asked_at}
@@ -37,14 +37,13 @@ use Rattle.validity_check.proofs.Tagging.{nil_judged, inside_judged}
 use Rattle.value_exists.proofs.Elements.{attributes-sound}
 use Rattle.value_builder.specs.Built.{Built, Stands, Puts, flagged, with_parts}
 use Rattle.value_builder.proofs.Parts.{part-absent, part-present}
-use Rattle.content_values.specs.Made.{Child}
 use Rattle.xer_read.specs.Private.Held.{Beside, Held, texts_of}
 use Rattle.xer_read.specs.Private.Held as held
 use Rattle.xer_read.specs.Private.Given.{IsReadAs, IsElementOf, Gives, IsRead}
-use Rattle.xer_read.specs.Private.Keeping.{text_value, strings_from, strings_put}
-use Rattle.xer_read.specs.Private.Contents.{AreThose, IsContentBy, IsContentOf, is_plain_at, NothingMade, ChildrenMade, ComplexMade, IsMadeBy, IsMade, IsFilled, IsNilFilled, ChildrenPut, InsidePut, Begins, ComplexPut}
+use Rattle.xer_read.specs.Private.Keeping.{strings_from, strings_put}
+use Rattle.xer_read.specs.Private.Contents.{IsContentBy, IsContentOf, is_plain_at, NothingMade, ComplexMade, IsMadeBy, IsMade, IsFilled, IsNilFilled, ChildrenPut, InsidePut, Begins, ComplexPut}
 use Rattle.xer_read.specs.Private.Putting.{ValuePut, PartsPut}
-use Rattle.xer_read.proofs.Putting.{puts-as, sequence-closed}
+use Rattle.xer_read.proofs.Putting.{sequence-closed}
 use Rattle.xer_read.proofs.Mixing.{strings-between, elements-alone}
 use Rattle.xer_read.proofs.Giving.{ReadBy, made-gives}
 

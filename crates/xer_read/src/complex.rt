@@ -45,11 +45,7 @@ fn is_plain(set: &SchemaSet, decl: u32) -> bool
 }
 
 /// The type whose value is that of the element, which has a simple type and can't be nil.
-pub(crate) fn plain_type<'a>(
-    set: &SchemaSet,
-    decl: u32,
-    inside: Inside<'a>,
-) -> Option<&'a Simple>
+pub(crate) fn plain_type<'a>(set: &SchemaSet, decl: u32, inside: Inside<'a>) -> Option<&'a Simple>
     requires { decl < length set.now.elements }
     ensures { MatchOption result
         ((space : Space) → inside_told inside.entry ≡ asked.simple space → is_plain_at set.now decl ≡ false)

@@ -22,9 +22,7 @@ ghost use Rattle.xer_read.specs.Private.Keeping.{Reached};
 ghost use Rattle.xer_read.specs.Private.Contents.{AreTaken, IsFilled, ChildrenPut, InsidePut, ComplexPut};
 ghost use Rattle.xer_read.specs.Private.Putting.{IsWay, ValuePut};
 
-use crate::complex::{
-    begin_complex, begin_part, plain_type, walk_nil, walk_nothing, walk_text,
-};
+use crate::complex::{begin_complex, begin_part, plain_type, walk_nil, walk_nothing, walk_text};
 use crate::texts::put_text;
 use crate::ways::{Way, finish, open_way};
 use content_match::{Matcher, Plan};
@@ -266,7 +264,15 @@ fn walk_complex<L: Ledger>(
     ensures most { steps.new ≤ steps.old + (144 * elements_in (roses_of kids.now) + 72) }
     ensures least { OnOk result (steps.old + elements_in (roses_of kids.now) ≤ steps.new) }
 {
-    begin_complex(plans.alloc(), set, declared, attributes, false, kids, values)?;
+    begin_complex(
+        plans.alloc(),
+        set,
+        declared,
+        attributes,
+        false,
+        kids,
+        values,
+    )?;
     match walk_inside(
         set,
         plans,

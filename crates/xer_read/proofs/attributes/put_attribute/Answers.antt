@@ -1,4 +1,4 @@
-use Rattle.std.proofs.Common.{◌≡◌, [], ◌∷◌, true, false}
+use Rattle.std.proofs.Common.{[], ◌∷◌, false}
 use Rattle.simple_values.specs.Reading.{Bad, Wide}
 use Rattle.schema_parts.specs.SetParts.{parts_of}
 use Rattle.validity.specs.Asked.{attribute_in}

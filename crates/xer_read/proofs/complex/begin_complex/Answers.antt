@@ -1,4 +1,4 @@
-use Rattle.std.proofs.Common.{[], map, subst}
+use Rattle.std.proofs.Common.{map, subst}
 use Rattle.label_tree.specs.Rose.{roses_of}
 use Rattle.flat_tree.specs.Zips.{opened}
 use Rattle.schema_parts.specs.SetParts.{parts_of}

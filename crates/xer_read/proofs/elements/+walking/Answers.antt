@@ -1,4 +1,4 @@
-use Rattle.std.proofs.Common.{◌≡◌, ◌+◌, ◌≤◌, ◌++◌, [], ◌∷◌, true, false, refl, sym, ◌∙◌, ap, subst, arith, add-one, length, length-append}
+use Rattle.std.proofs.Common.{◌≡◌, ◌+◌, ◌≤◌, ◌++◌, [], ◌∷◌, true, false, refl, sym, ◌∙◌, ap, subst, arith, add-one, length}
 use Rattle.std.specs.Prelude.{All}
 use Rattle.std.proofs.lemmas.Result.{err_from_is_err_and}
 use Rattle.label_tree.specs.Rose.{Rose, roses_of, none, count_all}
@@ -30,7 +30,7 @@ use Rattle.value_builder.specs.Built.{Puts, flagged, with_parts}
 use Rattle.content_values.specs.Reached.{Put}
 use Rattle.xer_read.specs.Private.Given.{IsReadAs}
 use Rattle.xer_read.specs.Private.Keeping.{strings_put, Reached}
-use Rattle.xer_read.specs.Private.Contents.{IsNilFilled, InsidePut, ChildrenPut}
+use Rattle.xer_read.specs.Private.Contents.{IsNilFilled, ChildrenPut}
 use Rattle.xer_read.proofs.Leading.{clear-rule1}
 use Rattle.xer_read.proofs.Attributed.{all-taken}
 use Rattle.xer_read.proofs.Reaching.{none-reached, end-refused, end-put, text-judged, name-refused, kid-judged}

@@ -1,4 +1,4 @@
-use Rattle.std.proofs.Common.{◌≡◌, ◌∙◌, sym, subst}
+use Rattle.std.proofs.Common.{◌∙◌, sym, subst}
 use Rattle.label_tree.specs.Rose.{Allowed}
 use Rattle.simple_types.specs.Labels.{MayHave}
 use Rattle.xer_read.proofs.Finishing.{few-nodes, many-nodes}

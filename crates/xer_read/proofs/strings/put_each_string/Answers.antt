@@ -1,5 +1,5 @@
-use Rattle.std.proofs.Common.{sym, ◌∙◌, subst, map, false}
-use Rattle.label_tree.specs.Rose.{roses_of, label_of}
+use Rattle.std.proofs.Common.{sym, ◌∙◌, map, false}
+use Rattle.label_tree.specs.Rose.{roses_of}
 use Rattle.flat_tree.specs.Zips.{added_all}
 use Rattle.value_builder.specs.Built.{Puts}
 use Rattle.validity_check.proofs.Counting.{on-ok}

@@ -34,5 +34,5 @@ returns-in_ok-follow-in-Ok-clause-opens g c = λ gs before now put stands.
     in
     opened-at p k new took.0 c.args.name.now c.in-Ok.leaf e.particle c.requires.particle (e.took took.0 took.1) gs before c.put_step.new.values
     (λ s is.
-        c.in_ok-put_step-in-Ok.ensures.reached gs before now s (subst (λ o. Put p o gs before now) (sym way) put) stands
-        ((ap (λ ts. spot_now ts c.kids.result.now) c.turns.ensures ∙ ap (λ ks. spot_now new.turns ks) c.kids.ensures) ∙ is))
+    c.in_ok-put_step-in-Ok.ensures.reached gs before now s (subst (λ o. Put p o gs before now) (sym way) put) stands
+    ((ap (λ ts. spot_now ts c.kids.result.now) c.turns.ensures ∙ ap (λ ks. spot_now new.turns ks) c.kids.ensures) ∙ is))
