@@ -1,5 +1,5 @@
 //! What is put down of a value.
-ghost use Rattle.std.specs.Prelude.{◌≡◌, ◌+◌, ◌-◌, ◌^◌, ◌≤◌, min, IfOk, ◌↔◌, Err, IsTrue, OnOk, MatchResult};
+ghost use Rattle.std.specs.Prelude.{◌≡◌, length, ◌<◌, ◌+◌, ◌-◌, ◌^◌, ◌≤◌, min, IfOk, ◌↔◌, Err, IsTrue, OnOk, MatchResult};
 ghost use Rattle.label_tree.specs.Rose.{Rose, node, none};
 ghost use Rattle.flat_tree.specs.Zips.{opened, added, closed};
 ghost use Rattle.simple_types.specs.declared.labels.ValueLabel.{ValueLabel};
@@ -10,12 +10,15 @@ ghost use Rattle.simple_values.specs.Reading.{reads, Accepts};
 ghost use Rattle.value_builder.specs.Built.{nothing_of, Stands, Puts, flagged, flagged_label};
 
 use flat_tree::{Builder, Flat};
-use simple_types::{Simple, ValueLabel};
+use simple_types::{Flags, Simple, ValueLabel};
 use simple_values::{SimpleError, accept_into};
 use std::alloc::Global;
 use std::marker::Model;
 use value_counts::count;
 use xa_base::{Memory, Text};
+
+// So many flags lie in their value.
+const FEW: usize = 22;
 
 /// A value as far as it is put down. The nodes are counted, where 2^64 - 1 stands for that number and every greater one; as long
 /// as there are no more than `most`, they are kept. With `most` 0 nothing is kept, so that a document is judged and its value
@@ -92,7 +95,7 @@ impl ValueBuilder {
         ensures { Puts closed self.old self.new }
     {
         if self.is_kept() && !self.kept.is_outside() {
-            self.kept.close();
+            close_innermost(self.alloc, &mut self.kept);
         }
     }
 
@@ -162,4 +165,53 @@ fn with_flag(alloc: Global, label: ValueLabel, present: bool) -> Result<ValueLab
         }
         other => Ok(other),
     }
+}
+
+// Flags of just their number, where they don't lie in their value: the list to which they were put grew by doubling. Where there is
+// no memory for it they stay as they are.
+fn cut(alloc: Global, flags: Flags) -> Flags
+    ensures { result ≡ flags }
+{
+    match flags.copy(alloc) {
+        Ok(copied) => copied,
+        Err(_) => flags,
+    }
+}
+
+fn with_flags_cut(alloc: Global, label: ValueLabel) -> ValueLabel
+    ensures { result ≡ label }
+{
+    match label {
+        ValueLabel::Sequence { present } => ValueLabel::Sequence {
+            present: cut(alloc, present),
+        },
+        other => other,
+    }
+}
+
+// Whether the innermost open node is a SEQUENCE of more components than have room in their value.
+fn has_many_flags(kept: &Builder<ValueLabel>) -> bool {
+    match kept.innermost() {
+        Some(ValueLabel::Sequence { present }) => present.items().len() > FEW,
+        _ => false,
+    }
+}
+
+fn cut_flags(alloc: Global, kept: &mut Builder<ValueLabel>)
+    requires { 0 < length kept.old.above }
+    ensures { kept.new ≡ kept.old }
+{
+    if !has_many_flags(kept) {
+        return;
+    }
+    let label = kept.relabel(ValueLabel::SequenceOf);
+    let _ = kept.relabel(with_flags_cut(alloc, label));
+}
+
+fn close_innermost(alloc: Global, kept: &mut Builder<ValueLabel>)
+    requires { 0 < length kept.old.above }
+    ensures { kept.new ≡ closed kept.old }
+{
+    cut_flags(alloc, kept);
+    kept.close();
 }

@@ -6,7 +6,7 @@ use Rattle.value_builder.proofs.builder.ValueBuilder.close.Goals as goal
 use Rattle.value_builder.proofs.builder.ValueBuilder.close.Goals.{else-is_kept-via-then-is_kept+else-not-is_outside, else-is_kept-via-else-is_kept}
 
 pub returns-then-not-is_outside : goal.returns-then-not-is_outside
-returns-then-not-is_outside c = rw (← c.self.view_is) (puts-same closed _ _ count-closed refl refl (λ _. c.close.ensures))
+returns-then-not-is_outside c = rw (← c.self.view_is) (puts-same closed _ _ count-closed refl refl (λ _. c.close_innermost.ensures))
 
 pub returns-else-is_kept : goal.returns-else-is_kept
 returns-else-is_kept c = rw (← c.self.view_is) (puts-same closed _ _ count-closed refl refl (λ within. elim c.else-is_kept.branch [
