@@ -1,4 +1,4 @@
-//! The value of an element whose type is complex, or which may be nil: what is put down before its content.
+//! The value of an element whose type is complex, or which may be nil: all of it but its child elements.
 ghost use Rattle.std.specs.Prelude.{◌≡◌, ◌<◌, ◌∷◌, [], true, false, length, All, OnOk, MatchOption, MatchResult};
 ghost use Rattle.label_tree.specs.Rose.{Rose, roses_of, none};
 ghost use Rattle.flat_tree.specs.Zips.{opened, added};
