@@ -21,10 +21,13 @@ puts-more f more old new counts most nodes kept = record {
   most = most;
   stands = λ z st.
       let c = counts z in
-      let n = st.nodes in
       record {
-        nodes = omega arith;
-        kept = λ within. let less : old.nodes ≤ old.most = omega arith in kept within ∙ ap f (st.kept less);
+        nodes = λ some. let n = st.nodes (subst (λ (m : ℕ). 1 ≤ m) most some) in omega arith;
+        kept = λ some within.
+            let older : 1 ≤ old.most = subst (λ (m : ℕ). 1 ≤ m) most some in
+            let n = st.nodes older in
+            let less : old.nodes ≤ old.most = omega arith in
+            kept within ∙ ap f (st.kept older less);
       };
 }
 
@@ -35,10 +38,13 @@ puts-same f old new counts most nodes kept = record {
   most = most;
   stands = λ z st.
       let c = counts z in
-      let n = st.nodes in
       record {
-        nodes = omega arith;
-        kept = λ within. let less : old.nodes ≤ old.most = omega arith in kept within ∙ ap f (st.kept less);
+        nodes = λ some. let n = st.nodes (subst (λ (m : ℕ). 1 ≤ m) most some) in omega arith;
+        kept = λ some within.
+            let older : 1 ≤ old.most = subst (λ (m : ℕ). 1 ≤ m) most some in
+            let n = st.nodes older in
+            let less : old.nodes ≤ old.most = omega arith in
+            kept within ∙ ap f (st.kept older less);
       };
 }
 
@@ -60,3 +66,13 @@ puts-as f g old new same p = record { most = p.most; stands = λ z st. subst (λ
 -- one after the other makes this
 pub puts-then : (f g h : Zip ValueLabel → Zip ValueLabel) (a b c : Built) → ((z : Zip ValueLabel) → g (f z) ≡ h z) → Puts f a b → Puts g b c → Puts h a c
 puts-then f g h a b c same p q = puts-as (λ z. g (f z)) h a c same (puts-both f g a b c p q)
+
+-- where nothing may be kept, whatever is put down stands
+pub stands-off : (b : Built) (z : Zip ValueLabel) → b.most ≡ 0 → Stands b z
+stands-off b z none = record {
+  nodes = λ some. absurd (omega (arith, none, some));
+  kept = λ some. absurd (omega (arith, none, some));
+}
+
+pub puts-off : (f : Zip ValueLabel → Zip ValueLabel) (b : Built) → b.most ≡ 0 → Puts f b b
+puts-off f b none = record { most = refl; stands = λ z st. stands-off b (f z) none }

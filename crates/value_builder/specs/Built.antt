@@ -1,5 +1,5 @@
 -- What is put down of a value. Up to a limit of nodes all of it is kept; behind it nothing need be, and the nodes are counted
--- alone.
+-- alone. Where no node may be kept, nothing is counted either.
 use Rattle.std.specs.Prelude.{◌≡◌, ℕ, ◌-◌, ◌^◌, ◌≤◌, min, List, [], ◌∷◌, ◌++◌, Bool, refl}
 use Rattle.std.specs.Coded.{Coded, code_by, coded×, coded_ℕ}
 use Rattle.label_tree.specs.Rose.{Rose}
@@ -22,10 +22,11 @@ coded_built =
 abbrev pub nothing_of : ℕ → Built
 nothing_of most = record { kept = record { above = []; kids = [] }; nodes = 0; most = most }
 
--- All that was put down is this. The greatest number of 64 bits stands for itself and every greater one.
+-- All that was put down is this, where anything may be kept. The greatest number of 64 bits stands for itself and every greater
+-- one.
 pub record Stands (b : Built) (z : Zip ValueLabel) : Type 0 where
-  pub nodes : b.nodes ≡ min (zip_count z) (2 ^ 64 - 1)
-  pub kept : b.nodes ≤ b.most → b.kept ≡ z
+  pub nodes : 1 ≤ b.most → b.nodes ≡ min (zip_count z) (2 ^ 64 - 1)
+  pub kept : 1 ≤ b.most → b.nodes ≤ b.most → b.kept ≡ z
 
 -- whatever was put down, f of it is now
 pub record Puts (f : Zip ValueLabel → Zip ValueLabel) (old new : Built) : Type 0 where

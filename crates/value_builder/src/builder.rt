@@ -68,6 +68,13 @@ impl ValueBuilder {
         self.nodes <= u64::from(self.most)
     }
 
+    /// Whether no node may be kept. Then nothing that is put down counts, so that a caller needn't put it down.
+    pub fn keeps_nothing(&self) -> bool
+        ensures { IsTrue result ↔ (self.now.most ≡ 0) }
+    {
+        self.most == 0
+    }
+
     /// Puts down a node that has kids, which come next.
     pub fn open(&mut self, label: ValueLabel) -> Result<(), Memory>
         ensures { OnOk result (Puts (opened label) self.old self.new) }
@@ -145,6 +152,7 @@ impl ValueBuilder {
 
     /// The value, where one was put down and all of it is kept.
     pub fn finish(self) -> Flat<ValueLabel>
+        requires some { 1 ≤ self.most }
         requires kept { self.nodes ≤ self.most }
         requires one { (v : Rose ValueLabel) × Stands self (added v (nothing_of 0).kept) }
         ensures { (v : Rose ValueLabel) → Stands self (added v (nothing_of 0).kept) → result ≡ v }
