@@ -29,4 +29,6 @@ returns-clause-alone g c = λ small M is_map.
     only-counted c.args.set.now c.in-Ok.ensures.linked c.args.root c.requires.root c.args.items.now h.value h.holds small M is_map c.finished.result (c.finished.ensures h.value h.stands)
 
 pub returns-in-Err-Invalid-clause-read : goal.returns-in-Err-Invalid-clause-read
-returns-in-Err-Invalid-clause-read g c = λ M is_map. rw c.in-Err-Invalid.field-0-is at (c.in-Err-Invalid.ensures.judged (nothing_of 0).kept (starts 1048576 c.new-values.result c.new-values.ensures))
+returns-in-Err-Invalid-clause-read g c = λ M is_map.
+    let fault = rw c.in-Err-Invalid.field-0-is at (c.in-Err-Invalid.ensures.judged (nothing_of 0).kept (starts 1048576 c.new-values.result c.new-values.ensures)) in
+    rw c.in-Err-Invalid.field-0-is fault
