@@ -17,13 +17,18 @@ finished-requires-clause-made g c =
     let h = c.in-Ok.ensures.judged (nothing_of 0).kept (starts 1048576 c.new-values.result c.new-values.ensures) in
     (h.value, h.stands, value-allowed c.args.set.now c.in-Ok.ensures.linked c.args.root c.requires.root c.args.items.now h.value h.holds)
 
-pub returns-in-Ok-clause-read : goal.returns-in-Ok-clause-read
-returns-in-Ok-clause-read g c = λ M is_map.
+pub returns-clause-read : goal.returns-clause-read
+returns-clause-read g c = λ M is_map.
     let h = c.in-Ok.ensures.judged (nothing_of 0).kept (starts 1048576 c.new-values.result c.new-values.ensures) in
     of-counted c.args.set.now c.in-Ok.ensures.linked c.args.root c.requires.root c.args.items.now h.value h.holds M is_map c.finished.result (FirstFault (parts_of c.args.set.now) c.args.root c.args.items.now)
     (c.finished.ensures h.value h.stands)
 
-pub returns-in-Ok-clause-alone : goal.returns-in-Ok-clause-alone
-returns-in-Ok-clause-alone g c = λ small M is_map.
+pub returns-clause-alone : goal.returns-clause-alone
+returns-clause-alone g c = λ small M is_map.
     let h = c.in-Ok.ensures.judged (nothing_of 0).kept (starts 1048576 c.new-values.result c.new-values.ensures) in
     only-counted c.args.set.now c.in-Ok.ensures.linked c.args.root c.requires.root c.args.items.now h.value h.holds small M is_map c.finished.result (c.finished.ensures h.value h.stands)
+
+pub returns-in-Err-Invalid-clause-read : goal.returns-in-Err-Invalid-clause-read
+returns-in-Err-Invalid-clause-read g c = λ M is_map.
+    let fault = rw c.in-Err-Invalid.field-0-is at (c.in-Err-Invalid.ensures.judged (nothing_of 0).kept (starts 1048576 c.new-values.result c.new-values.ensures)) in
+    rw c.in-Err-Invalid.field-0-is fault
