@@ -76,6 +76,9 @@ fn put_first(
     requires leads { (a : Name) × (spots.enter (seen top.now) a ≡ Some (spot_of to.turns.now to.kids.now)) }
     ensures { OnOk result (Puts (top_entered (seen top.now) (spot_of to.entry.turns.now to.entry.kids.now)) values.old values.new) }
 {
+    if values.keeps_nothing() {
+        return Ok(());
+    }
     if is_parted(top.label()) {
         return enter_order(top.kids(), to, values);
     }
@@ -94,6 +97,9 @@ fn put_next(
     requires leads { (a : Name) × (spots.next (seen top.now) (spot_of from.turns.now from.kids.now) a ≡ Some (spot_of to.turns.now to.kids.now)) }
     ensures { OnOk result (Puts (top_moved (seen top.now) (spot_of from.entry.turns.now from.entry.kids.now) (spot_of to.entry.turns.now to.entry.kids.now)) values.old values.new) }
 {
+    if values.keeps_nothing() {
+        return Ok(());
+    }
     if is_parted(top.label()) {
         step_order(top.kids(), from, to, values)
     } else {
@@ -111,6 +117,9 @@ fn put_last(
     requires done { finishes (seen top.now) (spot_of from.turns.now from.kids.now) ≡ true }
     ensures { OnOk result (Puts (top_ended (seen top.now) (spot_of from.entry.turns.now from.entry.kids.now)) values.old values.new) }
 {
+    if values.keeps_nothing() {
+        return Ok(());
+    }
     if is_parted(top.label()) {
         end_order(top.kids(), from, values)
     } else {
@@ -124,6 +133,9 @@ fn put_none(top: &Tree<ParticleLabel>, values: &mut ValueBuilder) -> Result<(), 
     requires empty { empties (seen top.now) ≡ true }
     ensures { OnOk result (Puts (top_emptied (seen top.now)) values.old values.new) }
 {
+    if values.keeps_nothing() {
+        return Ok(());
+    }
     if is_parted(top.label()) {
         put_empty_parts(top.kids(), values)
     } else {
