@@ -70,6 +70,20 @@ module _ (s : Set) (d : AttributeUse) (xs : List (Name × List ℕ)) (declarable
       let accepts : reads (space_of t.space) words ≡ Ok one.0 = subst (λ z. reads z words ≡ Ok one.0) space one.1 in
       cc
 
+-- ---- all of them, whether they are put down or not
+
+one-more : (a : Attribute) (us : List Attribute) (xs : List (Name × List ℕ)) (f : List Bool) (v : List (Rose ValueLabel)) → IsTaken xs a → AttributesMade us xs f v → (o : Option (List ℕ)) → text_of xs a.name ≡ o
+    → (flags : List Bool) × (vs : List (Rose ValueLabel)) × AttributesMade (a ∷ us) xs flags vs
+one-more a us xs f v taken made None e = (false ∷ f, v, (e, made))
+one-more a us xs f v taken made (Some words) e = let one = taken words e in (true ∷ f, one.0 ∷ v, (words, e, one.1, made))
+
+pub uses-made : (s : Set) (xs : List (Name × List ℕ)) (us : List AttributeUse) → AreTaken s xs us → (flags : List Bool) × (vs : List (Rose ValueLabel)) × AttributesMade (map (attribute_in (parts_of s)) us) (left xs) flags vs
+uses-made s xs [] h = ([], [], (refl, refl))
+uses-made s xs (u ∷ us) h =
+    let rest = uses-made s xs us (All-tail (λ w. IsTaken (left xs) (attribute_in (parts_of s) w)) u us h) in
+    let own = attribute_in (parts_of s) u in
+    one-more own (map (attribute_in (parts_of s)) us) (left xs) rest.0 rest.1 (All-head (λ w. IsTaken (left xs) (attribute_in (parts_of s) w)) u us h) rest.2 (text_of (left xs) own.name) refl
+
 -- ---- each has a text that its type takes
 
 all-of-map : {U : Type 0} (f : U → Attribute) (P : Attribute → Type 0) (us : List U) → All P (map f us) → All (λ u. P (f u)) us

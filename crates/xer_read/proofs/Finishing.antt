@@ -40,13 +40,13 @@ root-valid s d t z new (Err e) F h = h
 
 -- nothing stands in one that is new
 pub starts : (most : ℕ) (b : Built) → b ≡ nothing_of most → Stands b (nothing_of 0).kept
-starts most b e = subst (λ x. Stands x (nothing_of 0).kept) (sym e) (record { nodes = refl; kept = λ few. refl })
+starts most b e = subst (λ x. Stands x (nothing_of 0).kept) (sym e) (record { nodes = λ some. refl; kept = λ some few. refl })
 
-counted : (v : Rose ValueLabel) (b : Built) → Stands b (added v (nothing_of 0).kept) → b.nodes ≡ min (node_count v) (2 ^ 64 - 1)
-counted v b s = let n = s.nodes in let all = count-added v (nothing_of 0).kept in omega (arith, n, all)
+counted : (v : Rose ValueLabel) (b : Built) → Stands b (added v (nothing_of 0).kept) → 1 ≤ b.most → b.nodes ≡ min (node_count v) (2 ^ 64 - 1)
+counted v b s some = let n = s.nodes some in let all = count-added v (nothing_of 0).kept in omega (arith, n, all)
 
 pub few-nodes : (v : Rose ValueLabel) (b : Built) → Stands b (added v (nothing_of 0).kept) → b.most ≡ 1048576 → b.nodes ≤ b.most → node_count v ≤ 1048576
-few-nodes v b s most few = let n = counted v b s in omega (arith, n, most, few)
+few-nodes v b s most few = let n = counted v b s (omega (arith, most)) in omega (arith, n, most, few)
 
 pub many-nodes : (v : Rose ValueLabel) (b : Built) → Stands b (added v (nothing_of 0).kept) → b.most ≡ 1048576 → (b.nodes ≤ b.most → ⊥) → (1048576 < node_count v) × (b.nodes ≡ shown_count v)
-many-nodes v b s most many = let n = counted v b s in (omega (arith, n, most, many), n)
+many-nodes v b s most many = let n = counted v b s (omega (arith, most)) in (omega (arith, n, most, many), n)

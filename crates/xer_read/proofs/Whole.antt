@@ -32,8 +32,9 @@ use Rattle.validity.specs.declared.why.InvalidWhy.TheVariants.{NilWithContent}
 use Rattle.validity.proofs.Reading.{roses_of-list_of, all_kept}
 use Rattle.validity.proofs.Unique.{ContentValid, NilValid}
 use Rattle.validity_check.specs.declared.error.CheckError.{CheckError}
+use Rattle.validity_check.specs.declared.error.CheckError.TheVariants as check
 use Rattle.validity_check.specs.Answers.{Tells, IsGoodTag, TextFault, InsideFault}
-use Rattle.validity_check.proofs.Tagging.{nil_judged, inside_judged}
+use Rattle.validity_check.proofs.Tagging.{nil_refused, inside_judged}
 use Rattle.value_exists.proofs.Elements.{attributes-sound}
 use Rattle.value_builder.specs.Built.{Built, Stands, Puts, flagged, with_parts}
 use Rattle.value_builder.proofs.Parts.{part-absent, part-present}
@@ -330,7 +331,8 @@ module _ (s : Set) (linked : IsLinked s) (d : ℕ) (n : Name) (xs : List (Name �
             holds = element-read true (good-tag true good) rose.none (empty, refl) content (nil, refl) v (made-nil content v nil.0 filled);
             stands = puts.stands z stands;
           }
-      nil-read old new good (Err e) h z stands = nil_judged s d a ys n xs declares place t is asked_is same good kids are (refused e) h
+      nil-read old new good (Err (check.Invalid at why)) h z stands = nil_refused s d a ys n xs declares place t is asked_is same good kids are at why h
+      nil-read old new good (Err check.Memory) h z stands = tt
 
       pub filled-read : (new : Built) (z : Zip ValueLabel) → IsGoodTag a ys false → (r : Result (Unit {0}) CheckError)
           → MatchResult r (λ _. ValuePut (IsFilled s d a ys (roses_of kids)) z new) (Tells (InsideFault asks a.inside (roses_of kids) place))

@@ -52,6 +52,9 @@ pub(crate) fn put_attributes(
     requires taken { AreTaken set.now attributes.now uses.now }
     ensures { OnOk result (PartsPut (AttributesMade (map (attribute_in (parts_of set.now)) uses.now) (left attributes.now)) values.old values.new) }
 {
+    if values.keeps_nothing() {
+        return Ok(());
+    }
     for declared in uses {
         put_attribute(set, declared, attributes, values)?;
     }

@@ -94,6 +94,9 @@ pub(crate) fn put_texts(
         Inside::Simple(_) => Ok(()),
         Inside::Children { mixed, .. } => {
             if mixed {
+                if values.keeps_nothing() {
+                    return Ok(());
+                }
                 values.part(true)?;
                 put_strings(alloc, nil, kids, values)
             } else {

@@ -1,4 +1,4 @@
-use Rattle.std.proofs.Common.{◌≡◌, ◌∙◌, ap}
+use Rattle.std.proofs.Common.{◌∙◌, ap}
 use Rattle.schema_parts.specs.SetParts.{parts_of}
 use Rattle.validity.specs.Faults.{FirstFault}
 use Rattle.value_builder.specs.Built.{Built, nothing_of}

@@ -1,4 +1,4 @@
-use Rattle.std.proofs.Common.{true, false, refl}
+use Rattle.std.proofs.Common.{true, false, refl, [], ◌∷◌}
 use Rattle.label_tree.specs.Rose.{node, roses_of}
 use Rattle.flat_tree.specs.Zips.{added}
 use Rattle.simple_types.specs.declared.labels.ValueLabel.TheVariants as label
@@ -6,7 +6,8 @@ use Rattle.simple_types.specs.Seen.{space_of}
 use Rattle.content_models.specs.Seen.{seen}
 use Rattle.validity.specs.Asked.{nothing, simple, children}
 use Rattle.validity_check.proofs.Counting.{on-ok}
-use Rattle.value_builder.specs.Built.{Puts}
+use Rattle.value_builder.specs.Built.{Puts, with_parts}
+use Rattle.value_builder.proofs.Putting.{puts-off}
 use Rattle.xer_read.specs.Private.Keeping.{strings_put}
 use Rattle.xer_read.specs.Private.Contents.{TextsMade}
 use Rattle.xer_read.specs.Private.Putting.{PartsPut}
@@ -30,6 +31,18 @@ returns-in_ok-part-in-Children c =
     (rw c.if-mixed.true
     (on-ok c.put_strings.result (Puts (added texts) c.part.new.self new) (PartsPut P old new)
     (λ h. one-part P texts old c.part.new.self new c.in_ok-part-in-Children.ensures h (refl, refl)) c.put_strings.ensures))
+
+pub returns-then-keeps_nothing : goal.returns-then-keeps_nothing
+returns-then-keeps_nothing c =
+    let texts = node label.SequenceOf (roses_of (strings_put c.args.nil (roses_of c.args.kids.now))) in
+    rw c.in-Children.is
+    (rw c.if-mixed.true
+    (record {
+      flags = true ∷ [];
+      values = texts ∷ [];
+      holds = (refl, refl);
+      puts = puts-off (with_parts (true ∷ []) (texts ∷ [])) c.args.values.now (c.keeps_nothing.ensures.0 c.if-keeps_nothing.true);
+    }))
 
 pub returns-else-mixed : goal.returns-else-mixed
 returns-else-mixed c =
