@@ -11,8 +11,8 @@ use Rattle.label_tree.specs.Rose.{Rose, node, roses_of}
 use Rattle.flat_tree.specs.Zips as zips
 use Rattle.doc_pieces.specs.Pieces.{Tag, Declaration, Start, Empty, End, Comment, Instruction, CData, Reference, Character}
 use Rattle.xa_base.specs.declared.texts.Name.{Name}
-use Rattle.doc_text.specs.declared.label.ItemLabel.{ItemLabel}
-use Rattle.doc_text.specs.declared.label.ItemLabel.TheVariants.{Element}
+use Rattle.item_tree.specs.declared.label.ItemLabel.{ItemLabel}
+use Rattle.item_tree.specs.declared.label.ItemLabel.TheVariants.{Element}
 use Rattle.doc_text.specs.declared.builder.Builder.{Builder}
 use Rattle.doc_text.specs.declared.tags.Head.{Head}
 use Rattle.doc_text.specs.declared.error.DocWhy.{DocWhy}

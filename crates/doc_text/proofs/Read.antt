@@ -6,7 +6,7 @@ use Rattle.doc_pieces.specs.Pieces.{Piece, Begins, NoPieceAt}
 use Rattle.doc_pieces.specs.Reasons.{NoneReason, IsPlainRun}
 use Rattle.doc_pieces.specs.declared.reason.NoneWhy.{NoneWhy}
 use Rattle.doc_text.specs.declared.builder.Builder.{Builder}
-use Rattle.doc_text.specs.declared.label.ItemLabel.{ItemLabel}
+use Rattle.item_tree.specs.declared.label.ItemLabel.{ItemLabel}
 use Rattle.doc_text.specs.declared.error.DocWhy.{DocWhy}
 use Rattle.doc_text.specs.declared.error.DocWhy.TheVariants as why
 use Rattle.doc_text.specs.declared.error.DocError.{DocError}
