@@ -107,9 +107,9 @@ impl ItemBuilder {
         ensures names { Grows self.old.names self.new.names }
         ensures number { IfOk result (λ number. slice_get self.new.names number ≡ Some name) }
     {
-        let (kept, number) = self.store.keep_element(name, attributes, declares, at)?;
-        self.builder.open(kept)?;
-        Ok(ElementName { number })
+        let kept = self.store.keep_element(name, attributes, declares, at)?;
+        self.builder.open(kept.0)?;
+        Ok(ElementName { number: kept.1 })
     }
 
     /// Adds an element without attributes and bindings, which is open. Its name has this number.
@@ -137,9 +137,9 @@ impl ItemBuilder {
         ensures names { Grows self.old.names self.new.names }
         ensures number { IfOk result (λ number. slice_get self.new.names number ≡ Some name) }
     {
-        let (kept, number) = self.store.keep_element(name, attributes, declares, at)?;
-        self.builder.leaf(kept)?;
-        Ok(ElementName { number })
+        let kept = self.store.keep_element(name, attributes, declares, at)?;
+        self.builder.leaf(kept.0)?;
+        Ok(ElementName { number: kept.1 })
     }
 
     /// Adds an element without attributes and bindings, in which nothing stands. Its name has this number.

@@ -21,7 +21,7 @@ pub struct ItemTree {
 }
 
 impl Model for ItemTree {
-    ghost use Rattle.label_tree.specs.Rose.{Rose, Allowed, coded_rose};
+    ghost use Rattle.label_tree.specs.Rose.{Rose, coded_rose};
     ghost use Rattle.item_tree.specs.declared.label.ItemLabel.{ItemLabel};
     ghost use Rattle.item_tree.specs.contracts.label.ItemLabel as item_label;
 
@@ -29,11 +29,11 @@ impl Model for ItemTree {
 
     ghost coded = { coded_rose item_label.the_row.coded };
 
-    ghost use Rattle.item_tree.specs.Meaning.{map_rose, meaning, Fits};
+    ghost use Rattle.item_tree.specs.Meaning.{map_rose, meaning, FitTree};
 
     ghost view = { λ a. map_rose (meaning a.store) a.tree };
 
-    ghost invariant = { λ a. Allowed (Fits a.store) a.tree };
+    ghost invariant = { λ a. FitTree a.store a.tree };
 }
 
 impl ItemTree {
