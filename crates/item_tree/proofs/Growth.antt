@@ -24,12 +24,12 @@ grows-same xs ys e = record { kept = λ k x h. ap (λ zs. slice_get zs k) e ∙ 
 pub grows-then : {A : Type 0} (xs ys zs : List A) → Grows xs ys → Grows ys zs → Grows xs zs
 grows-then xs ys zs g h = record { kept = λ k x e. h.kept k x (g.kept k x e) }
 
-pub grows-more : {A : Type 0} (xs more ys : List A) → ys ≡ xs ++ more → Grows xs ys
-grows-more xs more ys e = record {
+pub grows-more : {A : Type 0} (xs others ys : List A) → ys ≡ xs ++ others → Grows xs ys
+grows-more xs others ys e = record {
   kept = λ k x h.
       let within : k < length xs = slice_get_within xs k x h in
-      let further : k < length (xs ++ more) = omega (arith, within, length-append xs more) in
-      ap (λ zs. slice_get zs k) e ∙ slice_get-get_or (xs ++ more) k x further ∙ ap Some (get_or_append_left xs more x k within ∙ get_or_from_slice_get xs k x x h);
+      let further : k < length (xs ++ others) = omega (arith, within, length-append xs others) in
+      ap (λ zs. slice_get zs k) e ∙ slice_get-get_or (xs ++ others) k x further ∙ ap Some (get_or_append_left xs others x k within ∙ get_or_from_slice_get xs k x x h);
 }
 
 -- what was added last
@@ -102,7 +102,7 @@ module _ (s u : Store) (g : StoreGrows s u) where
 
   fit_above-grown : (up : List (Above Kept)) → FitAbove s up → FitAbove u up
   fit_above-grown [] h = tt
-  fit_above-grown (a ∷ up) h = (fits-grown a.label h.0, fit_all-grown a.before h.1.0, fit_above-grown up h.1.1)
+  fit_above-grown (a ∷ up) h = (fits-grown a.label h.0, (fit_all-grown a.before h.1.0, fit_above-grown up h.1.1))
 
   pub fit_zip-grown : (z : Zip Kept) → FitZip s z → FitZip u z
   fit_zip-grown z h = record { above = fit_above-grown z.above h.above; kids = fit_all-grown z.kids h.kids }

@@ -53,6 +53,19 @@ meaning s (Element name lists at) =
     label.Element (name_at s.names.items name) (attributes_of (lists_at s.lists.items lists)) (declares_of (lists_at s.lists.items lists)) at
 meaning s (Text text at) = label.Text (text_in (slice_get s.texts.items text)) at
 
+-- the element with other lists
+abbrev pub with_number : ℕ → Kept → Kept
+with_number lists (Element name before at) = Element name lists at
+with_number lists (Text text at) = Text text at
+
+-- the innermost open element has the lists with this number
+abbrev pub relisted_in : ℕ → List (Above Kept) → List (Above Kept)
+relisted_in lists [] = []
+relisted_in lists (a ∷ up) = record { label = with_number lists a.label; before = a.before } ∷ up
+
+abbrev pub relisted : ℕ → Zip Kept → Zip Kept
+relisted lists z = record { above = relisted_in lists z.above; kids = z.kids }
+
 -- its numbers are those of something in the store
 abbrev pub Fits : Store → Kept → Type 0
 Fits s (Element name lists at) = (name < length s.names.items) × (lists ≤ length s.lists.items)
@@ -67,7 +80,7 @@ FitAll s ts = AllowedAll (λ kept _. Fits s kept) (roses_of ts)
 
 abbrev pub FitAbove : Store → List (Above Kept) → Type 0
 FitAbove s [] = Unit {0}
-FitAbove s (a ∷ up) = Fits s a.label × FitAll s a.before × FitAbove s up
+FitAbove s (a ∷ up) = Fits s a.label × (FitAll s a.before × FitAbove s up)
 
 pub record FitZip (s : Store) (z : Zip Kept) : Type 0 where
   pub above : FitAbove s z.above

@@ -66,11 +66,11 @@ impl ItemTree {
 fn copied(node: &ItemNode<'_>, alloc: Global) -> Result<Tree<ItemLabel>, Memory>
     ensures { IfOk result (λ tree. tree ≡ node.now) }
 {
-    let label = node.label().to_label(alloc)?;
     let mut kids = Vec::new(alloc);
     for kid in node.kids() {
         let copy = copied(&kid, alloc)?;
         kids.push(copy)?;
     }
+    let label = node.label().to_label(alloc)?;
     Ok(Tree::join(label, kids))
 }

@@ -10,8 +10,8 @@ use Rattle.item_tree.proofs.Mapped.{kids-map}
 use Rattle.item_tree.proofs.Steps.{fit_at}
 use Rattle.item_tree.proofs.nodes.ItemNode.kid.Goals as goal
 
-pub kid-requires : goal.kid-requires
-kid-requires c =
+pub kid-node-requires : goal.kid-node-requires
+kid-node-requires c =
     let f = meaning c.self.inside.store.now in
     omega (arith, c.requires, ap (λ t. length (kids_of t)) c.self.view_is, ap length (kids-map f c.self.inside.node), length-map (kids_of c.self.inside.node) (map_rose f))
 
