@@ -75,12 +75,13 @@ impl<'a> Builder<'a> {
         ensures { IfOk result Begins }
     {
         let scope = BindingsInScope::new(alloc)?;
+        let notes = Notes::new();
         Ok(Builder {
             alloc,
             scope,
             items: ItemBuilder::new(alloc),
             open: Vec::new(alloc),
-            notes: Notes::new(),
+            notes,
             text: String::new(alloc),
             text_at: 0,
             ended: false,

@@ -1,11 +1,11 @@
 -- What is in a store keeps its number, so that entries go on saying the same.
-use Rattle.std.proofs.Common.{◌≡◌, ℕ, zero, suc, ◌+◌, ◌<◌, ◌≤◌, List, [], ◌∷◌, ◌++◌, length, map, get_or, refl, ap, ◌∙◌, sym, arith, length-append}
-use Rattle.std.specs.Prelude.{slice_get, Option, Some, None}
+use Rattle.std.proofs.Common.{◌≡◌, ℕ, zero, suc, ◌<◌, ◌≤◌, List, [], ◌∷◌, ◌++◌, length, map, get_or, refl, ap, ◌∙◌, sym, arith, length-append}
+use Rattle.std.specs.Prelude.{slice_get, Some}
 use Rattle.std.proofs.Math.Seq.{get_or-append_seam}
 use Rattle.std.proofs.lemmas.List.{get_or_append_left}
 use Rattle.std.proofs.lemmas.Option.{slice_get_within, get_or_from_slice_get, slice_get-get_or}
-use Rattle.label_tree.specs.Rose.{Rose, node, Roses, none, more, roses_of, Allowed, AllowedAll}
-use Rattle.label_tree.proofs.Roses.{allowed-weaker, all_allowed-weaker}
+use Rattle.label_tree.specs.Rose.{Rose, node, Roses, none, more, roses_of, AllowedAll}
+use Rattle.label_tree.proofs.Roses.{all_allowed-weaker}
 use Rattle.flat_tree.specs.Zips.{Above, Zip}
 use Rattle.item_tree.specs.declared.label.ItemLabel.TheVariants as label
 use Rattle.item_tree.specs.declared.entries.Kept.{Kept}

@@ -1,8 +1,8 @@
 -- Trees of other labels, by their label and their kids.
-use Rattle.std.proofs.Common.{◌≡◌, ℕ, suc, ◌+◌, List, [], ◌∷◌, ◌++◌, length, map, refl, ap, ◌∙◌, sym, arith}
+use Rattle.std.proofs.Common.{◌≡◌, suc, List, [], ◌∷◌, ◌++◌, length, map, refl, ap, ◌∙◌, arith}
 use Rattle.std.proofs.lemmas.List.{map-append}
 use Rattle.label_tree.specs.Rose.{Rose, node, Roses, none, more, roses_of, list_of, label_of, kids_of, node_count, count_all}
-use Rattle.flat_tree.specs.Zips.{Above, Zip, opened, added, closed, closed_in, above_count, zip_count}
+use Rattle.flat_tree.specs.Zips.{Above, Zip, added, closed, closed_in, above_count, zip_count}
 use Rattle.item_tree.specs.Meaning.{map_rose, map_roses, map_above, map_zip}
 
 module _ {K L : Type 0} (f : K → L) where

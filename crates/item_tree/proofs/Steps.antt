@@ -1,6 +1,6 @@
 -- The steps of a builder.
-use Rattle.std.proofs.Common.{◌≡◌, ℕ, zero, suc, ◌<◌, ◌≤◌, List, [], ◌∷◌, ◌++◌, length, map, refl, ap, ◌∙◌, sym, subst, arith}
-use Rattle.std.specs.Prelude.{Option, Some, None, slice_get, Result, Ok, Err, OnOk, OnErr}
+use Rattle.std.proofs.Common.{◌≡◌, ℕ, zero, suc, ◌<◌, ◌≤◌, List, [], ◌∷◌, length, map, refl, ap, ◌∙◌, sym, subst, arith}
+use Rattle.std.specs.Prelude.{Some, None, slice_get, Result, Ok, Err, OnOk, OnErr}
 use Rattle.xa_base.specs.declared.texts.Name.{Name}
 use Rattle.label_tree.specs.Rose.{Rose, node, none, roses_of}
 use Rattle.label_tree.proofs.Roses.{all_allowed-append, allowed-node}
@@ -13,8 +13,8 @@ use Rattle.item_tree.specs.Growing.{Grows}
 use Rattle.item_tree.specs.declared.store.Store.{Store}
 use Rattle.item_tree.specs.Building.{Building, name_at, with_lists, listed_in, listed}
 use Rattle.item_tree.specs.Meaning.{map_rose, map_above, map_zip, attributes_of, declares_of, lists_at, meaning, with_number, relisted_in, relisted, Fits, FitTree, FitAll, FitAbove, FitZip, StoreGrows}
-use Rattle.item_tree.proofs.Mapped.{map_roses-of, added-map, closed-map}
-use Rattle.item_tree.proofs.Growth.{meaning-grown, fits-grown, zip-grown, fit_zip-grown}
+use Rattle.item_tree.proofs.Mapped.{added-map, closed-map}
+use Rattle.item_tree.proofs.Growth.{zip-grown, fit_zip-grown}
 
 -- what a builder has after a step: its items, and that they fit
 pub record Stands (s : Store) (z : Zip Kept) (items : Zip ItemLabel) : Type 0 where

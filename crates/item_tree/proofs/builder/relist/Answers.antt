@@ -1,4 +1,4 @@
-use Rattle.std.proofs.Common.{◌≡◌, ◌∙◌, sym, ap, rules}
+use Rattle.std.proofs.Common.{◌≡◌, ◌∙◌, ap, rules}
 use Rattle.std.specs.Prelude.{Some, None}
 use Rattle.flat_tree.specs.Zips.{first_label, relabeled}
 use Rattle.item_tree.proofs.Steps.{relisted_is, relisted_none}

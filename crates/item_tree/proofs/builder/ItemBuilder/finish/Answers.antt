@@ -1,4 +1,4 @@
-use Rattle.std.proofs.Common.{◌≡◌, [], length, map, ◌∙◌, sym, ap, arith}
+use Rattle.std.proofs.Common.{length, map, ◌∙◌, sym, ap, arith}
 use Rattle.std.proofs.lemmas.List.{length-map}
 use Rattle.item_tree.specs.Building.{Building}
 use Rattle.item_tree.specs.Meaning.{map_rose, meaning}

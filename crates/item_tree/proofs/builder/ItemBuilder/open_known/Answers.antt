@@ -1,4 +1,4 @@
-use Rattle.std.proofs.Common.{[], refl, rules}
+use Rattle.std.proofs.Common.{[]}
 use Rattle.std.proofs.lemmas.Result.{on_ok_weaker, on_err_weaker}
 use Rattle.item_tree.specs.declared.label.ItemLabel.TheVariants as label
 use Rattle.item_tree.specs.Building.{name_at}

@@ -1,4 +1,4 @@
-use Rattle.std.proofs.Common.{◌≡◌, ◌<◌, length, map, ap, ◌∙◌, sym, refl, rules, arith}
+use Rattle.std.proofs.Common.{length, ap, refl, rules, arith}
 use Rattle.std.proofs.lemmas.List.{length-map}
 use Rattle.item_tree.specs.Building.{Building}
 use Rattle.item_tree.specs.Meaning.{StoreGrows, map_above, meaning}

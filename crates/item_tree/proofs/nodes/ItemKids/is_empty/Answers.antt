@@ -1,5 +1,4 @@
-use Rattle.std.proofs.Common.{◌≡◌, List, [], ◌∙◌, sym, ap, map}
-use Rattle.label_tree.specs.Rose.{Rose}
+use Rattle.std.proofs.Common.{◌∙◌, sym, ap, map}
 use Rattle.item_tree.specs.Meaning.{map_rose, meaning}
 use Rattle.item_tree.proofs.Mapped.{none_left}
 use Rattle.item_tree.proofs.nodes.ItemKids.is_empty.Goals as goal

@@ -1,4 +1,4 @@
-use Rattle.std.proofs.Common.{◌≡◌, ℕ, ◌∙◌, ◌-◌, ◌^◌, sym, ap}
+use Rattle.std.proofs.Common.{ℕ, ◌∙◌, ◌-◌, ◌^◌, sym, ap}
 use Rattle.std.specs.Prelude.{min}
 use Rattle.label_tree.specs.Rose.{shown_count}
 use Rattle.item_tree.specs.Meaning.{meaning}

@@ -1,11 +1,10 @@
-use Rattle.std.proofs.Common.{◌≡◌, ℕ, ◌<◌, List, length, map, ◌∙◌, sym, ap, subst, arith}
-use Rattle.std.specs.Prelude.{slice_get, Some, option_map}
+use Rattle.std.proofs.Common.{length, ◌∙◌, sym, ap, arith}
+use Rattle.std.specs.Prelude.{slice_get, option_map}
 use Rattle.std.proofs.lemmas.List.{length-map}
 use Rattle.std.proofs.lemmas.Option.{slice_get-map}
-use Rattle.label_tree.specs.Rose.{Rose, kids_of, label_of}
+use Rattle.label_tree.specs.Rose.{kids_of}
 use Rattle.label_tree.proofs.Roses.{allowed-kids}
-use Rattle.item_tree.specs.declared.entries.Kept.{Kept}
-use Rattle.item_tree.specs.Meaning.{map_rose, meaning, Fits, FitTree, FitAll}
+use Rattle.item_tree.specs.Meaning.{map_rose, meaning, Fits}
 use Rattle.item_tree.proofs.Mapped.{kids-map}
 use Rattle.item_tree.proofs.Steps.{fit_at}
 use Rattle.item_tree.proofs.nodes.ItemNode.kid.Goals as goal

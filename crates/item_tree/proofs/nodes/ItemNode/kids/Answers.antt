@@ -1,8 +1,7 @@
-use Rattle.std.proofs.Common.{◌≡◌, ◌∙◌, sym, ap, subst, rules}
-use Rattle.label_tree.specs.Rose.{Rose, kids_of}
+use Rattle.std.proofs.Common.{◌∙◌, sym, ap}
+use Rattle.label_tree.specs.Rose.{kids_of}
 use Rattle.label_tree.proofs.Roses.{allowed-kids}
-use Rattle.item_tree.specs.declared.entries.Kept.{Kept}
-use Rattle.item_tree.specs.Meaning.{map_rose, meaning, Fits, FitAll}
+use Rattle.item_tree.specs.Meaning.{meaning, Fits}
 use Rattle.item_tree.proofs.Mapped.{kids-map}
 use Rattle.item_tree.proofs.nodes.ItemNode.kids.Goals as goal
 

@@ -1,7 +1,7 @@
-use Rattle.std.proofs.Common.{◌≡◌, ◌∙◌, sym, ap, subst}
+use Rattle.std.proofs.Common.{◌∙◌, sym, ap}
 use Rattle.label_tree.specs.Rose.{label_of}
 use Rattle.label_tree.proofs.Roses.{allowed-label}
-use Rattle.item_tree.specs.Meaning.{map_rose, meaning, Fits}
+use Rattle.item_tree.specs.Meaning.{meaning, Fits}
 use Rattle.item_tree.proofs.Mapped.{label-map}
 use Rattle.item_tree.proofs.nodes.ItemNode.label.Goals as goal
 
