@@ -1,5 +1,5 @@
 -- Notes of written names, and tags whose name is noted.
-use Rattle.std.proofs.Common.{◌≡◌, ℕ, zero, suc, ◌-◌, ◌≤◌, Bool, true, false, List, [], ◌∷◌, ◌++◌, length, map, take, get_or, set, replicate, None, Some, refl, sym, ap, subst, ◌∙◌, arith}
+use Rattle.std.proofs.Common.{◌≡◌, ℕ, zero, suc, ◌-◌, ◌≤◌, Bool, true, false, List, [], ◌∷◌, ◌++◌, length, map, take, None, Some, refl, sym, ap, subst, ◌∙◌, arith}
 use Rattle.std.specs.Prelude.{Option, slice_get, reverse, not, nat_eq}
 use Rattle.std.proofs.lemmas.List.{append-nil, take_all}
 use Rattle.xa_base.specs.declared.texts.Name.{Name}
@@ -19,31 +19,25 @@ use Rattle.doc_text.proofs.Entered.{place_tests, inside_is}
 use Rattle.doc_text.proofs.OpenNames.{named_tag}
 
 module _ (inside : List (List ℕ × List ℕ)) (names : List Name) where
-  pub none_noted : (n : ℕ) → AllKnown inside names (replicate n None)
-  none_noted zero = tt
-  none_noted (suc n) = none_noted n
-
   -- the note at a place
-  pub noted_at : (notes : List (Option Note)) (i : ℕ) (note : Note) → AllKnown inside names notes → Some note ≡ get_or notes i None → KnownAs inside names note.written.now note.name
+  pub noted_at : (notes : List Note) (i : ℕ) (note : Note) → AllKnown inside names notes → slice_get notes i ≡ Some note → KnownAs inside names note.written.now note.name
   noted_at [] i note h e = absurd (cc)
-  noted_at (None ∷ notes) zero note h e = absurd (cc)
-  noted_at (None ∷ notes) (suc i) note h e = noted_at notes i note h e
-  noted_at (Some other ∷ notes) zero note h e = let same : other ≡ note = cc in subst (λ (n : Note). KnownAs inside names n.written.now n.name) same h.0
-  noted_at (Some other ∷ notes) (suc i) note h e = noted_at notes i note h.1 e
+  noted_at (other ∷ notes) zero note h e = let same : other ≡ note = cc in subst (λ (n : Note). KnownAs inside names n.written.now n.name) same h.0
+  noted_at (other ∷ notes) (suc i) note h e = noted_at notes i note h.1 e
 
-  -- another note at a place
-  pub note_set : (notes : List (Option Note)) (i : ℕ) (note : Note) → AllKnown inside names notes → KnownAs inside names note.written.now note.name → AllKnown inside names (set notes i (Some note))
-  note_set [] i note h k = tt
-  note_set (None ∷ notes) zero note h k = (k, h)
-  note_set (None ∷ notes) (suc i) note h k = note_set notes i note h k
-  note_set (Some other ∷ notes) zero note h k = (k, h.1)
-  note_set (Some other ∷ notes) (suc i) note h k = (h.0, note_set notes i note h.1 k)
+  -- one more note
+  pub note_more : (notes : List Note) (note : Note) → AllKnown inside names notes → KnownAs inside names note.written.now note.name → AllKnown inside names (notes ++ note ∷ [])
+  note_more [] note h k = (k, tt)
+  note_more (other ∷ notes) note h k = (h.0, note_more notes note h.1 k)
+
+  -- one note alone
+  pub note_first : (none notes : List Note) (note : Note) → none ≡ [] → notes ≡ none ++ note ∷ [] → KnownAs inside names note.written.now note.name → AllKnown inside names notes
+  note_first none notes note e f k = subst (AllKnown inside names) (sym (f ∙ ap (λ (ns : List Note). ns ++ note ∷ []) e)) (k, tt)
 
 -- more names
-pub noted-grown : (inside : List (List ℕ × List ℕ)) (old new : List Name) (notes : List (Option Note)) → Grows old new → AllKnown inside old notes → AllKnown inside new notes
+pub noted-grown : (inside : List (List ℕ × List ℕ)) (old new : List Name) (notes : List Note) → Grows old new → AllKnown inside old notes → AllKnown inside new notes
 noted-grown inside old new [] g h = tt
-noted-grown inside old new (None ∷ notes) g h = noted-grown inside old new notes g h
-noted-grown inside old new (Some note ∷ notes) g h = (record { named = h.0.named; name = g.kept note.name _ h.0.name }, noted-grown inside old new notes g h.1)
+noted-grown inside old new (note ∷ notes) g h = (record { named = h.0.named; name = g.kept note.name _ h.0.name }, noted-grown inside old new notes g h.1)
 
 none_in : {A : Type 0} (xs : List A) → nat_eq (length xs) 0 ≡ true → xs ≡ []
 none_in [] e = refl

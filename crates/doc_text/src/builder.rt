@@ -75,7 +75,7 @@ impl<'a> Builder<'a> {
         ensures { IfOk result Begins }
     {
         let scope = BindingsInScope::new(alloc)?;
-        let notes = Notes::new();
+        let notes = Notes::new(alloc);
         Ok(Builder {
             alloc,
             scope,
@@ -154,7 +154,7 @@ impl<'a> Builder<'a> {
             .items
             .open_element(head.name, head.attributes, head.declares, at)?;
         self.open.push(tag.name)?;
-        self.notes.note_entered(binds, tag.name, name);
+        self.notes.note_entered(binds, tag.name, name)?;
         self.first = false;
         self.brackets = 0;
         Ok(())

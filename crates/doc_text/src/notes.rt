@@ -1,33 +1,34 @@
 //! Written names of tags with the names that they stand for.
-ghost use Rattle.std.specs.Prelude.{◌≡◌, ◌<◌, List, ℕ, false, None, IfSome};
-ghost use Rattle.std.proofs.Common.{get_or};
+ghost use Rattle.std.specs.Prelude.{◌≡◌, ◌<◌, ◌∷◌, ◌++◌, [], List, ℕ, false, IfSome, OnOk};
 ghost use Rattle.xa_base.specs.declared.texts.Name.{Name};
 ghost use Rattle.doc_text.specs.Private.Noting.{AllKnown, KnownAs};
 
 use item_tree::ElementName;
+use std::alloc::Global;
+use xa_base::Memory;
 
-// The number of places that a written name may be noted at.
+// The number of places that a written name may be looked for at, and of notes.
 const LOOKS: usize = 32;
 
 /// A written name, and the number of the name that it stands for.
-#[derive(Clone, Copy, Drop)]
+#[derive(Drop)]
 pub(crate) struct Note<'a> {
     written: &'a [u8],
     name: ElementName,
 }
 
-/// Written names of tags with the numbers of the names that they stand for where the reader is. Each has one place, by
-/// its length and its first and last byte, so that it is found by one comparison.
+/// Written names of tags with the numbers of the names that they stand for where the reader is. Each is looked for at
+/// one place, by its length and its first and last byte, so that it is found by one comparison.
 #[derive(Drop)]
 pub(crate) struct Notes<'a> {
-    pub(crate) notes: [Option<Note<'a>>; LOOKS],
+    pub(crate) notes: Vec<Note<'a>>,
+    // By what a written name looks like, where it may stand.
+    looks: [u32; LOOKS],
 }
 
 // The place of a written name.
 #[inline(always)]
-fn look_of(written: &[u8]) -> usize
-    ensures { result < 32 }
-{
+fn look_of(written: &[u8]) -> usize {
     match written {
         [first, .., last] => {
             let look = (written.len() % LOOKS) * 5 + *first as usize + *last as usize * 3;
@@ -38,31 +39,23 @@ fn look_of(written: &[u8]) -> usize
 }
 
 impl<'a> Notes<'a> {
-    /// No notes.
-    pub(crate) fn new() -> Notes<'a>
-        ensures { (inside : List (List ℕ × List ℕ)) (names : List Name) → AllKnown inside names result.notes }
+    /// No notes. It takes no memory.
+    pub(crate) fn new(alloc: Global) -> Notes<'a>
+        ensures { result.notes.items ≡ [] }
     {
         Notes {
-            notes: [None; LOOKS],
+            notes: Vec::new(alloc),
+            looks: [0; LOOKS],
         }
-    }
-
-    // What is noted at a place.
-    #[inline(always)]
-    fn at(&self, look: usize) -> Option<Note<'a>>
-        requires { look < 32 }
-        ensures { result ≡ get_or self.now.notes look None }
-    {
-        self.notes[look]
     }
 
     /// The number of the name, if it is noted.
     #[inline(always)]
     pub(crate) fn find(&self, written: &[u8]) -> Option<ElementName>
-        ensures { (inside : List (List ℕ × List ℕ)) (names : List Name) → AllKnown inside names self.now.notes → IfSome result (KnownAs inside names written.now) }
+        ensures { (inside : List (List ℕ × List ℕ)) (names : List Name) → AllKnown inside names self.now.notes.items → IfSome result (KnownAs inside names written.now) }
     {
-        let look = look_of(written);
-        let note = self.at(look)?;
+        let number = *self.looks.get(look_of(written))?;
+        let note = self.notes.get(number as usize)?;
         if note.written == written {
             Some(note.name)
         } else {
@@ -70,43 +63,49 @@ impl<'a> Notes<'a> {
         }
     }
 
-    // Forgets all.
-    fn clear(&mut self)
-        ensures { (inside : List (List ℕ × List ℕ)) (names : List Name) → AllKnown inside names self.new.notes }
-    {
-        self.notes = [None; LOOKS];
-    }
-
-    // Notes a name.
+    // Notes a name behind the others.
     #[inline(always)]
-    fn keep(&mut self, written: &'a [u8], name: ElementName)
-        ensures { (inside : List (List ℕ × List ℕ)) (names : List Name) → AllKnown inside names self.old.notes → KnownAs inside names written.now name → AllKnown inside names self.new.notes }
+    fn keep(&mut self, written: &'a [u8], name: ElementName) -> Result<(), Memory>
+        ensures { OnOk result (self.new.notes.items ≡ self.old.notes.items ++ record { written = written; name = name } ∷ []) }
     {
+        let number = self.notes.len() as u32;
+        self.notes.push(Note { written, name })?;
         let look = look_of(written);
-        self.notes[look] = Some(Note { written, name });
+        if look < LOOKS {
+            self.looks[look] = number;
+        }
+        Ok(())
     }
 
-    /// Notes the name of an element that is entered. Where it binds prefixes, the others are forgotten.
-    #[inline(always)]
-    pub(crate) fn note_entered(&mut self, binds: bool, written: &'a [u8], name: ElementName)
-        ensures { (outer inside : List (List ℕ × List ℕ)) (names : List Name) → (binds ≡ false → inside ≡ outer) → AllKnown outer names self.old.notes → KnownAs inside names written.now name → AllKnown inside names self.new.notes }
+    /// Notes the name of an element that is entered. Where it binds prefixes, or there are many notes, the others are
+    /// forgotten.
+    pub(crate) fn note_entered(
+        &mut self,
+        binds: bool,
+        written: &'a [u8],
+        name: ElementName,
+    ) -> Result<(), Memory>
+        ensures { OnOk result ((outer inside : List (List ℕ × List ℕ)) (names : List Name) → (binds ≡ false → inside ≡ outer) → AllKnown outer names self.old.notes.items → KnownAs inside names written.now name → AllKnown inside names self.new.notes.items) }
     {
         if binds {
-            self.clear();
-            self.keep(written, name);
-            return;
+            self.notes.clear();
+            return self.keep(written, name);
         }
-        self.keep(written, name);
+        if self.notes.len() >= LOOKS {
+            self.notes.clear();
+            return self.keep(written, name);
+        }
+        self.keep(written, name)
     }
 
     /// Forgets all where an element is left that binds so many prefixes, unless it binds none.
     #[inline(always)]
     pub(crate) fn note_left(&mut self, count: usize)
-        ensures { (inside outer : List (List ℕ × List ℕ)) (names : List Name) → (count ≡ 0 → outer ≡ inside) → AllKnown inside names self.old.notes → AllKnown outer names self.new.notes }
+        ensures { (inside outer : List (List ℕ × List ℕ)) (names : List Name) → (count ≡ 0 → outer ≡ inside) → AllKnown inside names self.old.notes.items → AllKnown outer names self.new.notes.items }
     {
         if count == 0 {
             return;
         }
-        self.clear();
+        self.notes.clear();
     }
 }

@@ -1,5 +1,5 @@
 -- Written names with the numbers of the names that they stand for.
-use Rattle.std.specs.Prelude.{◌≡◌, ℕ, List, [], ◌∷◌, Option, Some, None, slice_get}
+use Rattle.std.specs.Prelude.{◌≡◌, ℕ, List, [], ◌∷◌, Some, slice_get}
 use Rattle.xa_base.specs.declared.texts.Name.{Name}
 use Rattle.doc_pieces.specs.Pieces.{Tag}
 use Rattle.doc_text.specs.declared.notes.Note.{Note}
@@ -12,10 +12,9 @@ pub record KnownAs (inside : List (List ℕ × List ℕ)) (names : List Name) (w
   pub name : slice_get names number ≡ Some (element_name inside written)
 
 -- so it is with all notes
-abbrev pub AllKnown : List (List ℕ × List ℕ) → List Name → List (Option Note) → Type 0
+abbrev pub AllKnown : List (List ℕ × List ℕ) → List Name → List Note → Type 0
 AllKnown inside names [] = Unit {0}
-AllKnown inside names (None ∷ notes) = AllKnown inside names notes
-AllKnown inside names (Some note ∷ notes) = KnownAs inside names note.written.now note.name × AllKnown inside names notes
+AllKnown inside names (note ∷ notes) = KnownAs inside names note.written.now note.name × AllKnown inside names notes
 
 -- a tag without attributes
 abbrev pub bare : List ℕ → Tag

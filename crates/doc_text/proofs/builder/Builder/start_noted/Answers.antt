@@ -38,4 +38,4 @@ returns-clause-ok c =
     start_takes old c.flush.new.self _ c.args.written name [] [] (bare c.args.written.now) c.args.at c.requires.scoped enters
     (mid_of old old c.flush.new.self c.in_ok-flush.ensures refl refl refl refl refl)
     (c.in_ok-flush.ensures.same_scope ∙ sym (append-nil old.scope)) (search rules) refl items refl refl refl refl refl
-    (subst _ (sym c.in_ok-flush.ensures.same_notes) (subst (λ ns. AllKnown (reverse c.flush.new.self.scope) ns old.notes.notes) (sym names) (subst (λ s. AllKnown (reverse s) old.items.names old.notes.notes) (sym c.in_ok-flush.ensures.same_scope) c.requires.scoped.noted)))
+    (subst _ (sym c.in_ok-flush.ensures.same_notes) (subst (λ ns. AllKnown (reverse c.flush.new.self.scope) ns old.notes.notes.items) (sym names) (subst (λ s. AllKnown (reverse s) old.items.names old.notes.notes.items) (sym c.in_ok-flush.ensures.same_scope) c.requires.scoped.noted)))

@@ -23,9 +23,9 @@ returns-clause-ok c =
     let has : slice_get names c.in_ok-name.name ≡ Some head.name = search rules in
     let grows : Grows old.items.names names = subst (λ ns. Grows ns names) c.in_ok-flush.ensures.same_names (c.in_ok-name.ensures.names) in
     let bound : c.is_empty.result ≡ nat_eq (length head.declares.items) 0 = search rules in
-    let noted = c.note_entered.ensures (reverse old.scope) (reverse c.enter.new.scope) names
+    let noted = c.in_ok-note_entered.ensures (reverse old.scope) (reverse c.enter.new.scope) names
     (λ e. entered_same old.scope c.enter.new.scope _ scope_is (none_bound head.declares.items _ _ (ap not bound) enters.declares_are e))
-    (subst _ (sym c.in_ok-flush.ensures.same_notes) (noted-grown (reverse old.scope) old.items.names names old.notes.notes grows c.requires.scoped.noted))
+    (subst _ (sym c.in_ok-flush.ensures.same_notes) (noted-grown (reverse old.scope) old.items.names names old.notes.notes.items grows c.requires.scoped.noted))
     (known_as tag old.scope c.enter.new.scope old.ended depth names c.in_ok-name.name head.name enters.none scope_is enters.name_is has) in
     start_takes old c.flush.new.self _ c.args.tag.name head.name head.attributes.items head.declares.items tag c.args.at c.requires.scoped
     (enters_here old tag depth head.name head.attributes.items head.declares.items (search rules) enters)
