@@ -7,9 +7,9 @@ use Rattle.std.proofs.lemmas.Str.{chars-append, IsUtf8-append, IsUtf8-nil, chars
 use Rattle.xa_base.specs.Limits.{has_xml_chars, is_empty}
 use Rattle.label_tree.specs.Rose.{Rose, node, Roses, none, more, roses_of, Allowed, AllowedAll, node_count, count_all}
 use Rattle.xa_base.specs.Characters.{is_xml_char}
-use Rattle.doc_text.specs.declared.label.ItemLabel.{ItemLabel}
-use Rattle.doc_text.specs.declared.label.ItemLabel.TheVariants.{Element, Text}
-use Rattle.doc_text.specs.Labels.{MayHave}
+use Rattle.item_tree.specs.declared.label.ItemLabel.{ItemLabel}
+use Rattle.item_tree.specs.declared.label.ItemLabel.TheVariants.{Element, Text}
+use Rattle.item_tree.specs.Labels.{MayHave}
 use Rattle.doc_text.specs.Sound.{is_sound_label, is_text, begins_with_text, is_sound, are_sound, is_element, levels, levels_all, AreItems}
 use Rattle.doc_text.specs.Private.States.{Above, State, nothing, with_text, kids_of_state, element_of}
 

@@ -9,10 +9,10 @@ use Rattle.std.proofs.lemmas.Slice.Eq.{starts_is}
 use Rattle.std.proofs.lemmas.Bool.Decides.{Decides-eqb, eqb_tells}
 use Rattle.std.proofs.lemmas.List.{length-append, take_all}
 use Rattle.label_tree.specs.Rose.{Rose, node, Roses, none, more, Allowed, AllowedAll, length_all}
-use Rattle.doc_text.specs.declared.label.ItemLabel.{ItemLabel}
-use Rattle.doc_text.specs.declared.label.ItemLabel.TheVariants.{Element, Text}
+use Rattle.item_tree.specs.declared.label.ItemLabel.{ItemLabel}
+use Rattle.item_tree.specs.declared.label.ItemLabel.TheVariants.{Element, Text}
 use Rattle.doc_text.specs.declared.error.DocWhy.{DocWhy}
-use Rattle.doc_text.specs.Labels.{MayHave}
+use Rattle.item_tree.specs.Labels.{MayHave}
 use Rattle.doc_text.specs.Contexts.{start}
 use Rattle.doc_text.specs.Tokens.{Token, Opens, Closes, Words, tokens, tokens_all}
 use Rattle.doc_text.specs.Documents.{mark_len, DocOf, BrokenAt}

@@ -5,7 +5,7 @@ use Rattle.std.proofs.lemmas.List.{length-append, length-drop}
 use Rattle.label_tree.specs.Rose.{Rose}
 use Rattle.doc_pieces.specs.Pieces.{Piece, Declaration, Start, Empty, End, Comment, Instruction, CData, Reference, Character, Begins}
 use Rattle.doc_pieces.proofs.Facts.{form_some, start_some, empty_some}
-use Rattle.doc_text.specs.declared.label.ItemLabel.{ItemLabel}
+use Rattle.item_tree.specs.declared.label.ItemLabel.{ItemLabel}
 use Rattle.doc_text.specs.Contexts.{Context, start, is_outside, after}
 use Rattle.doc_text.specs.Tokens.{Token, Opens, Closes, Words, tokens, join, Ascend}
 use Rattle.doc_text.specs.Documents.{told, Whole, mark_len, DocOf}

@@ -6,10 +6,10 @@ use Rattle.label_tree.specs.Rose.{Rose, Allowed}
 use Rattle.doc_pieces.specs.Pieces.{Piece, Begins, NoPieceAt}
 use Rattle.doc_pieces.specs.Reasons.{NoneReason}
 use Rattle.doc_pieces.specs.declared.reason.NoneWhy.{NoneWhy}
-use Rattle.doc_text.specs.declared.label.ItemLabel.{ItemLabel}
+use Rattle.item_tree.specs.declared.label.ItemLabel.{ItemLabel}
 use Rattle.doc_text.specs.declared.error.DocWhy.{DocWhy}
 use Rattle.doc_text.specs.declared.error.DocWhy.TheVariants as why
-use Rattle.doc_text.specs.Labels.{MayHave}
+use Rattle.item_tree.specs.Labels.{MayHave}
 use Rattle.doc_text.specs.Contexts.{Context, start, reason, after}
 use Rattle.doc_text.specs.Tokens.{Token, tokens}
 use Rattle.doc_text.specs.Documents.{told, Whole, Broken, why_of, mark_len, DocOf, BrokenAt}

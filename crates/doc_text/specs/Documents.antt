@@ -8,12 +8,12 @@ use Rattle.doc_pieces.specs.Pieces.{Tag, Piece, Declaration, Start, Empty, End, 
 use Rattle.doc_pieces.specs.Reasons.{NoneReason}
 use Rattle.doc_pieces.specs.declared.reason.NoneWhy.{NoneWhy}
 use Rattle.doc_pieces.specs.declared.reason.NoneWhy.TheVariants as none
-use Rattle.doc_text.specs.declared.label.ItemLabel.{ItemLabel}
+use Rattle.item_tree.specs.declared.label.ItemLabel.{ItemLabel}
 use Rattle.doc_text.specs.declared.error.DocWhy.{DocWhy}
 use Rattle.doc_text.specs.declared.error.DocWhy.TheVariants as why
 use Rattle.doc_text.specs.declared.error.DocError.{DocError}
 use Rattle.doc_text.specs.declared.error.DocError.TheVariants as errors
-use Rattle.doc_text.specs.Labels.{MayHave}
+use Rattle.item_tree.specs.Labels.{MayHave}
 use Rattle.doc_text.specs.Namespaces.{bindings_of, attributes_of, element_name}
 use Rattle.doc_text.specs.Contexts.{Context, start, is_outside, scope, tag_scope, reason, after}
 use Rattle.doc_text.specs.Tokens.{Token, Opens, Closes, tokens, join}

@@ -1,4 +1,3 @@
-pub mod Labels
 pub mod Sound
 pub mod Namespaces
 pub mod Tokens

@@ -6,9 +6,9 @@ use Rattle.xa_base.specs.Names.{name_eq}
 use Rattle.xa_base.specs.Namespaces.{xmlns_space}
 use Rattle.xa_base.specs.declared.texts.Name.{Name}
 use Rattle.label_tree.specs.Rose.{Rose, node, Roses, none, more, node_count, Allowed}
-use Rattle.doc_text.specs.declared.label.ItemLabel.{ItemLabel}
-use Rattle.doc_text.specs.declared.label.ItemLabel.TheVariants.{Element, Text}
-use Rattle.doc_text.specs.Labels.{MayHave}
+use Rattle.item_tree.specs.declared.label.ItemLabel.{ItemLabel}
+use Rattle.item_tree.specs.declared.label.ItemLabel.TheVariants.{Element, Text}
+use Rattle.item_tree.specs.Labels.{MayHave}
 
 -- a namespace but that of `xmlns`, which no name has (Namespaces in XML 1.0, section 3)
 abbrev pub is_sound_space : List ℕ → Bool

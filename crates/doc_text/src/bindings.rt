@@ -2,10 +2,11 @@
 ghost use Rattle.std.specs.Prelude.{◌≡◌, ◌≢◌, codes};
 ghost use Rattle.std.specs.Option.{option_map, option_or};
 ghost use Rattle.xa_base.specs.Entries.{beside};
+ghost use Rattle.item_tree.specs.Seen.{item_seen};
 ghost use Rattle.doc_text.specs.Bindings.{declared_on, LeadsToElement, unless_empty, bound_at};
 
 use crate::items::Items;
-use crate::label::ItemLabel;
+use item_tree::ItemRef;
 use xa_base::Text;
 
 // The namespace beside the prefix.
@@ -21,13 +22,13 @@ fn beside<'a>(prefix: &Text, bindings: &'a [(Text, Text)]) -> Option<&'a Text>
 }
 
 // What the node binds the prefix to itself, or else what is bound around it.
-fn declared_on<'a>(prefix: &Text, label: &'a ItemLabel, outer: Option<&'a Text>) -> Option<&'a Text>
-    ensures { option_map (λ space. space.now) result ≡ option_or (declared_on prefix.now label.now) (option_map (λ space. space.now) outer.entry) }
+fn declared_on<'a>(prefix: &Text, label: ItemRef<'a>, outer: Option<&'a Text>) -> Option<&'a Text>
+    ensures { option_map (λ space. space.now) result ≡ option_or (declared_on prefix.now (item_seen label.entry)) (option_map (λ space. space.now) outer.entry) }
 {
-    let ItemLabel::Element { declares, .. } = label else {
+    let ItemRef::Element { declares, .. } = label else {
         return outer;
     };
-    match beside(prefix, declares.items()) {
+    match beside(prefix, declares) {
         Some(space) => Some(space),
         None => outer,
     }

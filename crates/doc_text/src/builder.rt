@@ -2,7 +2,6 @@
 ghost use Rattle.std.specs.Prelude.{if◌then◌else◌, cond, not, true, false, string_bytes, nat_le, encode_utf8, ◌≡◌, ◌==◌, ◌<◌, ◌≤◌, ◌&&◌, ◌∷◌, [], reverse, take, IfOk, IfErr, IsUtf8, OnOk, length};
 ghost use Rattle.xa_base.specs.WhiteSpace.{is_white_space};
 ghost use Rattle.xa_base.specs.Limits.{is_empty};
-ghost use Rattle.flat_tree.specs.Zips.{first_label};
 ghost use Rattle.doc_pieces.specs.Pieces as pieces;
 ghost use Rattle.doc_pieces.specs.Found.{seen, tag_seen, bytes_of};
 ghost use Rattle.std.specs.List.{prefix_len};
@@ -12,25 +11,23 @@ ghost use Rattle.xa_base.specs.Entries.{first_true};
 ghost use Rattle.doc_text.specs.Private.States.{context, nothing, added, passed};
 ghost use Rattle.doc_text.specs.Private.Entering.{Stopped, have_utf8};
 ghost use Rattle.doc_text.specs.declared.error.DocWhy.TheVariants as why;
-ghost use Rattle.doc_text.specs.Private.Building.{state, binding_count, Scoped, Takes, Begins, Flushed, Shuts, Kept, GivesUtf8};
+ghost use Rattle.doc_text.specs.Private.Building.{state, Scoped, Takes, Begins, Flushed, Shuts, Kept, GivesUtf8};
 
 use crate::error::{DocError, DocWhy};
-use crate::label::{Absent, ItemLabel};
 use crate::names::is_long;
 use crate::scope::BindingsInScope;
 use crate::tags::{enter, is_unbound, value_of};
 use doc_pieces::{Element, Found, is_qname, plain_run, prefix_of};
-use flat_tree::Flat;
+use item_tree::{ItemBuilder, ItemTree};
 use std::alloc::Global;
 use xa_base::{Memory, Text, utf8_text};
 
 #[derive(Drop)]
 pub(crate) struct Builder<'a> {
     alloc: Global,
-    absent: Absent,
     scope: BindingsInScope<'a>,
     // The nodes so far. Those that are open are the elements that are open.
-    items: flat_tree::Builder<ItemLabel>,
+    items: ItemBuilder,
     // The names of these as written, the innermost last.
     open: Vec<&'a [u8]>,
     // The characters behind these, which are no node yet.
@@ -73,13 +70,11 @@ impl<'a> Builder<'a> {
     pub(crate) fn new(alloc: Global) -> Result<Builder<'a>, Memory>
         ensures { IfOk result Begins }
     {
-        let absent = Absent::new(alloc)?;
         let scope = BindingsInScope::new(alloc)?;
         Ok(Builder {
             alloc,
-            absent,
             scope,
-            items: flat_tree::Builder::new(alloc),
+            items: ItemBuilder::new(alloc),
             open: Vec::new(alloc),
             text: String::new(alloc),
             text_at: 0,
@@ -98,11 +93,7 @@ impl<'a> Builder<'a> {
             return Ok(());
         }
         let text = Text::from_str(self.alloc, self.text.as_str())?;
-        let label = ItemLabel::Text {
-            text,
-            at: self.text_at,
-        };
-        self.items.leaf(label)?;
+        self.items.text(text, self.text_at)?;
         self.text.clear();
         Ok(())
     }
@@ -114,25 +105,14 @@ impl<'a> Builder<'a> {
         ensures err { IfErr result (Stopped (reason (pieces.Start (tag_seen tag.entry)) (context (state self.old))) at) }
     {
         let depth = self.open.as_slice().len();
-        let head = match enter(
-            self.alloc,
-            &self.absent,
-            &mut self.scope,
-            self.ended,
-            depth,
-            &tag,
-            at,
-        ) {
+        let head = match enter(self.alloc, &mut self.scope, self.ended, depth, &tag, at) {
             Ok(head) => head,
             Err(error) => return Err(error),
         };
         self.flush()?;
-        self.items.open(ItemLabel::Element {
-            name: head.name,
-            attributes: head.attributes,
-            declares: head.declares,
-            at,
-        })?;
+        let _ = self
+            .items
+            .open_element(head.name, head.attributes, head.declares, at)?;
         self.open.push(tag.name)?;
         self.first = false;
         self.brackets = 0;
@@ -146,26 +126,15 @@ impl<'a> Builder<'a> {
         ensures err { IfErr result (Stopped (reason (pieces.Empty (tag_seen tag.entry)) (context (state self.old))) at) }
     {
         let depth = self.open.as_slice().len();
-        let head = match enter(
-            self.alloc,
-            &self.absent,
-            &mut self.scope,
-            self.ended,
-            depth,
-            &tag,
-            at,
-        ) {
+        let head = match enter(self.alloc, &mut self.scope, self.ended, depth, &tag, at) {
             Ok(head) => head,
             Err(error) => return Err(error),
         };
-        self.scope.leave(head.declares.items().len());
+        self.scope.leave(head.declares.len());
         self.flush()?;
-        self.items.leaf(ItemLabel::Element {
-            name: head.name,
-            attributes: head.attributes,
-            declares: head.declares,
-            at,
-        })?;
+        let _ = self
+            .items
+            .element(head.name, head.attributes, head.declares, at)?;
         self.ended = self.open.is_empty();
         self.first = false;
         self.brackets = 0;
@@ -200,16 +169,6 @@ impl<'a> Builder<'a> {
         }
     }
 
-    // How many namespaces the innermost element binds.
-    fn binding_count(&self) -> usize
-        ensures { result ≡ binding_count (first_label self.now.items.above) }
-    {
-        match self.items.innermost() {
-            Some(ItemLabel::Element { declares, .. }) => declares.items().len(),
-            _ => 0,
-        }
-    }
-
     // Ends the innermost element, behind whose kids no characters stand.
     fn close(&mut self)
         requires scoped { Scoped self.old }
@@ -217,7 +176,7 @@ impl<'a> Builder<'a> {
         requires inside { is_empty (state self.old).above ≡ false }
         ensures { Shuts self.old self.new }
     {
-        let count = self.binding_count();
+        let count = self.items.innermost_bindings();
         self.scope.leave(count);
         let outer = self.open.as_slice().len() - 1;
         self.open.truncate(outer);
@@ -278,12 +237,12 @@ impl<'a> Builder<'a> {
     }
 
     // The root, which has ended.
-    pub(crate) fn finish(self) -> Flat<ItemLabel>
-        requires closed { self.items.above ≡ [] }
-        requires one { length self.items.kids ≡ 1 }
-        ensures { self.entry.items.kids ≡ result ∷ [] }
+    pub(crate) fn finish(self) -> ItemTree
+        requires closed { self.items.zip.above ≡ [] }
+        requires one { length self.items.zip.kids ≡ 1 }
+        ensures { self.entry.items.zip.kids ≡ result ∷ [] }
     {
-        self.items.finish_one()
+        self.items.finish()
     }
 
     // Whether no element is open.

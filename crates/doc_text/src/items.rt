@@ -2,8 +2,7 @@
 ghost use Rattle.std.specs.Prelude.{◌≡◌, IfOk};
 ghost use Rattle.doc_text.specs.Sound.{AreItems};
 
-use crate::label::ItemLabel;
-use flat_tree::{Node, Whole, to_tree};
+use item_tree::{ItemLabel, ItemNode, ItemTree};
 use label_tree::Tree;
 use std::alloc::Global;
 use std::marker::Model;
@@ -13,13 +12,13 @@ use xa_base::Memory;
 /// texts are whole, and comments and processing instructions are gone.
 #[derive(Drop)]
 pub struct Items {
-    tree: Whole<ItemLabel>,
+    tree: ItemTree,
 }
 
 impl Model for Items {
     ghost use Rattle.label_tree.specs.Rose.{Rose, coded_rose};
-    ghost use Rattle.doc_text.specs.declared.label.ItemLabel.{ItemLabel};
-    ghost use Rattle.doc_text.specs.contracts.label.ItemLabel as item_label;
+    ghost use Rattle.item_tree.specs.declared.label.ItemLabel.{ItemLabel};
+    ghost use Rattle.item_tree.specs.contracts.label.ItemLabel as item_label;
 
     ghost Value = { Rose ItemLabel };
 
@@ -34,7 +33,7 @@ impl Model for Items {
 
 impl Items {
     /// The items that the tree is.
-    pub fn of(tree: Whole<ItemLabel>) -> Items
+    pub fn of(tree: ItemTree) -> Items
         requires { AreItems tree }
         ensures { result ≡ tree }
     {
@@ -42,7 +41,7 @@ impl Items {
     }
 
     /// The root element.
-    pub fn root(&self) -> Node<'_, ItemLabel>
+    pub fn root(&self) -> ItemNode<'_>
         ensures root { result ≡ self.now }
         ensures items { AreItems self.now }
     {
@@ -54,6 +53,6 @@ impl Items {
         ensures tree { IfOk result (λ tree. tree ≡ self.now) }
         ensures items { AreItems self.now }
     {
-        to_tree(&self.tree.root(), alloc)
+        self.tree.to_tree(alloc)
     }
 }

@@ -1,7 +1,7 @@
 //! What holds of documents.
 ghost use Rattle.std.specs.Prelude.{◌≡◌, ◌<◌, ◌^◌, ◌⊎◌, List, ℕ, length};
 ghost use Rattle.label_tree.specs.Rose.{Rose};
-ghost use Rattle.doc_text.specs.declared.label.ItemLabel.{ItemLabel};
+ghost use Rattle.item_tree.specs.declared.label.ItemLabel.{ItemLabel};
 ghost use Rattle.doc_text.specs.declared.error.DocWhy.{DocWhy};
 ghost use Rattle.doc_text.specs.Documents.{DocOf, BrokenAt};
 ghost use Rattle.doc_text.specs.Sound.{AreItems};

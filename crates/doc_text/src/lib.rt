@@ -6,7 +6,6 @@ mod builder;
 mod duplicates;
 mod error;
 mod items;
-mod label;
 mod laws;
 mod names;
 mod reader;
@@ -16,7 +15,7 @@ mod tags;
 
 pub use bindings::prefix_at;
 pub use error::{DocError, DocWhy};
+pub use item_tree::{Attributes, Bindings, ItemKids, ItemLabel, ItemNode, ItemRef, ItemTree};
 pub use items::Items;
-pub use label::{Attributes, Bindings, ItemLabel};
 pub use laws::{document_items, one_answer};
 pub use reader::read_document;

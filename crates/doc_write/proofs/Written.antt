@@ -7,8 +7,8 @@ use Rattle.std.proofs.lemmas.List.{drop_more, append-nil}
 use Rattle.xa_base.specs.declared.texts.Name.{Name}
 use Rattle.label_tree.specs.Rose.{Rose, node, roses_of, label_of, kids_of}
 use Rattle.label_tree.proofs.Roses.{roses_of-list_of, node-parts}
-use Rattle.doc_text.specs.declared.label.ItemLabel.{ItemLabel}
-use Rattle.doc_text.specs.declared.label.ItemLabel.TheVariants.{Element, Text}
+use Rattle.item_tree.specs.declared.label.ItemLabel.{ItemLabel}
+use Rattle.item_tree.specs.declared.label.ItemLabel.TheVariants.{Element, Text}
 use Rattle.doc_text.specs.Sound.{AreItems}
 use Rattle.doc_written.specs.ReadBack.{ReadsAs}
 use Rattle.doc_written.proofs.Document.{read_back}

@@ -7,7 +7,7 @@ use Rattle.std.proofs.lemmas.Slice.Eq.{bytes_eq-Decides}
 use Rattle.xa_base.specs.Limits.{is_empty}
 use Rattle.xa_base.specs.Namespaces.{xml_space, xsi_space}
 use Rattle.label_tree.specs.Rose.{Rose}
-use Rattle.doc_text.specs.declared.label.ItemLabel.{ItemLabel}
+use Rattle.item_tree.specs.declared.label.ItemLabel.{ItemLabel}
 use Rattle.doc_written.specs.Spaces.{spaces, has_space, unseen, numbered, prefixes}
 use Rattle.doc_write.specs.Private.Binding.{next_prefix, is_bound, with_spaces}
 

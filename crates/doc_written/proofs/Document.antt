@@ -12,8 +12,8 @@ use Rattle.xa_base.specs.declared.texts.Name.{Name}
 use Rattle.xa_base.specs.Limits.{is_name_part, is_xmlns, has_xml_chars}
 use Rattle.label_tree.specs.Rose.{Rose, node, Roses, none, more}
 use Rattle.doc_pieces.specs.Pieces.{Declaration, Character, IsAssigned, IsAccepted, PieceForm}
-use Rattle.doc_text.specs.declared.label.ItemLabel.{ItemLabel}
-use Rattle.doc_text.specs.declared.label.ItemLabel.TheVariants.{Element, Text}
+use Rattle.item_tree.specs.declared.label.ItemLabel.{ItemLabel}
+use Rattle.item_tree.specs.declared.label.ItemLabel.TheVariants.{Element, Text}
 use Rattle.doc_text.specs.Sound.{has_name, is_sound_space, is_sound_name, is_sound_attribute, are_sound_attributes, is_sound_binding, is_sound_label, is_sound, are_sound, AreItems}
 use Rattle.doc_text.specs.Contexts.{start, reason}
 use Rattle.doc_text.specs.Tokens.{Token, tokens}

@@ -12,9 +12,9 @@ use Rattle.xa_base.specs.Namespaces.{xml_prefix, xml_space}
 use Rattle.xa_base.specs.Entries.{beside, first_true}
 use Rattle.label_tree.specs.Rose.{Rose, node, Roses, none, more, Allowed, AllowedAll}
 use Rattle.doc_pieces.specs.Pieces.{Tag, Start, Empty, End, PieceForm}
-use Rattle.doc_text.specs.declared.label.ItemLabel.{ItemLabel}
-use Rattle.doc_text.specs.declared.label.ItemLabel.TheVariants.{Element, Text}
-use Rattle.doc_text.specs.Labels.{MayHave}
+use Rattle.item_tree.specs.declared.label.ItemLabel.{ItemLabel}
+use Rattle.item_tree.specs.declared.label.ItemLabel.TheVariants.{Element, Text}
+use Rattle.item_tree.specs.Labels.{MayHave}
 use Rattle.doc_text.specs.Sound.{is_sound_name, is_sound_space, has_name, is_sound_attribute, are_sound_attributes, is_sound_binding, is_sound_label, is_text, begins_with_text, is_sound, are_sound, levels, levels_all}
 use Rattle.doc_text.specs.Namespaces.{is_unbound, bindings_of, expanded_twice}
 use Rattle.doc_pieces.specs.QNames.{prefix_of}

@@ -1,7 +1,7 @@
 -- Bytes that stand for the same items.
 use Rattle.std.specs.Prelude.{ℕ, List}
 use Rattle.label_tree.specs.Rose.{Rose}
-use Rattle.doc_text.specs.declared.label.ItemLabel.{ItemLabel}
+use Rattle.item_tree.specs.declared.label.ItemLabel.{ItemLabel}
 use Rattle.doc_text.specs.Documents.{DocOf}
 use Rattle.doc_written.specs.Same.{SameItems}
 

@@ -6,8 +6,8 @@ use Rattle.std.specs.Map.{lookup}
 use Rattle.xa_base.specs.Namespaces.{xml_space, xsi_space}
 use Rattle.xa_base.specs.declared.texts.Name.{Name}
 use Rattle.label_tree.specs.Rose.{Rose, node, Roses, none, more}
-use Rattle.doc_text.specs.declared.label.ItemLabel.{ItemLabel}
-use Rattle.doc_text.specs.declared.label.ItemLabel.TheVariants.{Element, Text}
+use Rattle.item_tree.specs.declared.label.ItemLabel.{ItemLabel}
+use Rattle.item_tree.specs.declared.label.ItemLabel.TheVariants.{Element, Text}
 
 abbrev pub attribute_spaces : List (Name × List ℕ) → List (List ℕ)
 attribute_spaces attributes = map (λ attribute. attribute.0.space) attributes

@@ -1,7 +1,7 @@
 //! What holds of written text.
 ghost use Rattle.std.specs.Prelude.{◌<◌, ◌^◌, length};
 ghost use Rattle.label_tree.specs.Rose.{Rose};
-ghost use Rattle.doc_text.specs.declared.label.ItemLabel.{ItemLabel};
+ghost use Rattle.item_tree.specs.declared.label.ItemLabel.{ItemLabel};
 ghost use Rattle.doc_text.specs.Sound.{AreItems};
 ghost use Rattle.doc_written.specs.Written.{written};
 ghost use Rattle.doc_written.specs.ReadBack.{ReadsAs};

@@ -8,8 +8,8 @@ use Rattle.label_tree.specs.Rose as rose
 use Rattle.simple_types.specs.Space.{Space, Booleans}
 use Rattle.simple_types.specs.declared.labels.ValueLabel.{ValueLabel}
 use Rattle.simple_values.specs.Reading.{reads, spelled}
-use Rattle.doc_text.specs.declared.label.ItemLabel.{ItemLabel}
-use Rattle.doc_text.specs.declared.label.ItemLabel.TheVariants.{Element, Text}
+use Rattle.item_tree.specs.declared.label.ItemLabel.{ItemLabel}
+use Rattle.item_tree.specs.declared.label.ItemLabel.TheVariants.{Element, Text}
 use Rattle.plain_items.specs.Plain.{Plain, plain_of}
 use Rattle.plain_items.specs.Mixing.{text_before}
 use Rattle.asn_types.specs.declared.modules.Assignment.{Assignment}

@@ -9,7 +9,7 @@ use Rattle.simple_types.specs.declared.labels.ValueLabel.{ValueLabel}
 use Rattle.simple_values.specs.Reading.{reads, spelled}
 use Rattle.content_models.specs.declared.particles.ParticleLabel.{ParticleLabel}
 use Rattle.content_models.specs.Seen.{seen}
-use Rattle.doc_text.specs.declared.label.ItemLabel.{ItemLabel}
+use Rattle.item_tree.specs.declared.label.ItemLabel.{ItemLabel}
 use Rattle.plain_items.specs.Plain.{Plain, plain_all}
 use Rattle.plain_items.specs.Mixing.{text_before, interleaved}
 use Rattle.asn_types.specs.declared.modules.Assignment.{Assignment}

@@ -1,8 +1,8 @@
 -- Items that stand in no text: all have the place 0, and none binds a prefix.
 use Rattle.std.specs.Prelude.{[]}
 use Rattle.label_tree.specs.Rose.{Rose, node, Roses, none, more}
-use Rattle.doc_text.specs.declared.label.ItemLabel.{ItemLabel}
-use Rattle.doc_text.specs.declared.label.ItemLabel.TheVariants.{Element, Text}
+use Rattle.item_tree.specs.declared.label.ItemLabel.{ItemLabel}
+use Rattle.item_tree.specs.declared.label.ItemLabel.TheVariants.{Element, Text}
 use Rattle.plain_items.specs.Plain.{Plain, element, text}
 
 abbrev pub unplaced_label : Plain → ItemLabel

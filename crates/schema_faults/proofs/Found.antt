@@ -2,7 +2,7 @@
 use Rattle.std.proofs.Common.{◌≡◌, ℕ, refl, Option, Some, None}
 use Rattle.label_tree.specs.Rose.{Rose}
 use Rattle.doc_text.specs.Tokens.{tokens, Ascend}
-use Rattle.doc_text.specs.declared.label.ItemLabel.{ItemLabel}
+use Rattle.item_tree.specs.declared.label.ItemLabel.{ItemLabel}
 use Rattle.schema_rules.specs.declared.why.SchemaWhy.{SchemaWhy}
 use Rattle.schema_faults.specs.Faults.{first_fault, reasons, fault_if}
 use Rattle.schema_faults.specs.Shown.{Shown, IsSchema}

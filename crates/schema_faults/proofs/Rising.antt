@@ -3,10 +3,10 @@ use Rattle.std.proofs.Common.{ℕ, Bool, true, false, ◌+◌, ◌≤◌, List, 
 use Rattle.std.proofs.lemmas.List.{append-nil}
 use Rattle.label_tree.specs.Rose.{Rose, node, Roses, label_of, list_of}
 use Rattle.label_tree.specs.Rose as rose
-use Rattle.doc_text.specs.Labels.{item_place}
+use Rattle.item_tree.specs.Labels.{item_place}
 use Rattle.doc_text.specs.Tokens.{Token, Opens, Closes, Words, tokens, tokens_all, Ascend}
-use Rattle.doc_text.specs.declared.label.ItemLabel.{ItemLabel}
-use Rattle.doc_text.specs.declared.label.ItemLabel.TheVariants.{Element, Text}
+use Rattle.item_tree.specs.declared.label.ItemLabel.{ItemLabel}
+use Rattle.item_tree.specs.declared.label.ItemLabel.TheVariants.{Element, Text}
 use Rattle.schema_rules.specs.Elements.{placement}
 use Rattle.schema_faults.specs.Limits.{level_inside}
 use Rattle.schema_faults.specs.Faults.{LookedAt, own_reason, unless_composition, placed_at, position_behind, is_schema, outside, reasons_of, reasons_at, reasons_among, reasons}

@@ -2,7 +2,7 @@
 use Rattle.std.proofs.Common.{◌≡◌, ◌⊎◌, inl, inr, ℕ, Option, Some, None, refl}
 use Rattle.label_tree.specs.Rose.{Rose}
 use Rattle.doc_text.specs.Tokens.{tokens, Ascend}
-use Rattle.doc_text.specs.declared.label.ItemLabel.{ItemLabel}
+use Rattle.item_tree.specs.declared.label.ItemLabel.{ItemLabel}
 use Rattle.schema_faults.specs.Faults.{reasons, first_fault}
 use Rattle.schema_faults.specs.Shown.{Shown, IsSchema}
 use Rattle.schema_rules.specs.declared.why.SchemaWhy.{SchemaWhy}

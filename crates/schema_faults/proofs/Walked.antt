@@ -5,8 +5,8 @@ use Rattle.xa_base.specs.declared.texts.Name.{Name}
 use Rattle.label_tree.specs.Rose.{Rose, node, Roses, roses_of, list_of, label_of, kids_of}
 use Rattle.label_tree.proofs.Roses.{roses_of-list_of}
 use Rattle.label_tree.proofs.Kids.{roses_of-drop}
-use Rattle.doc_text.specs.declared.label.ItemLabel.{ItemLabel}
-use Rattle.doc_text.specs.declared.label.ItemLabel.TheVariants.{Element, Text}
+use Rattle.item_tree.specs.declared.label.ItemLabel.{ItemLabel}
+use Rattle.item_tree.specs.declared.label.ItemLabel.TheVariants.{Element, Text}
 use Rattle.schema_rules.specs.Elements.{placement}
 use Rattle.schema_faults.specs.Limits.{level_inside}
 use Rattle.schema_faults.specs.Reasons.{reason_against_text}

@@ -3,9 +3,9 @@ use Rattle.std.specs.Prelude.{ℕ, Bool, true, false, ◌&&◌, List, [], ◌∷
 use Rattle.xa_base.specs.declared.texts.Name.{Name}
 use Rattle.xa_base.specs.Namespaces.{xml_prefix, xml_space}
 use Rattle.label_tree.specs.Rose.{Rose, node, Roses, none, more, label_of, list_of}
-use Rattle.doc_text.specs.Labels.{item_place}
-use Rattle.doc_text.specs.declared.label.ItemLabel.{ItemLabel}
-use Rattle.doc_text.specs.declared.label.ItemLabel.TheVariants.{Element, Text}
+use Rattle.item_tree.specs.Labels.{item_place}
+use Rattle.item_tree.specs.declared.label.ItemLabel.{ItemLabel}
+use Rattle.item_tree.specs.declared.label.ItemLabel.TheVariants.{Element, Text}
 use Rattle.schema_rules.specs.Elements.{is_schema_name, placement}
 use Rattle.schema_rules.specs.Attributes.{own_attributes}
 use Rattle.schema_faults.specs.Limits.{level_inside}

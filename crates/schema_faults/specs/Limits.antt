@@ -1,7 +1,7 @@
 -- What is more than this program takes.
 use Rattle.std.specs.Prelude.{◌+◌, ℕ, Bool, false, ◌||◌, nat_le, nat_lt, List, codes, Some, None, if◌then◌else◌}
 use Rattle.label_tree.specs.Rose.{Rose}
-use Rattle.doc_text.specs.declared.label.ItemLabel.{ItemLabel}
+use Rattle.item_tree.specs.declared.label.ItemLabel.{ItemLabel}
 use Rattle.xa_base.specs.Entries.{beside}
 use Rattle.schema_rules.specs.Digits.{is_large}
 use Rattle.schema_rules.specs.Children.{child_count}

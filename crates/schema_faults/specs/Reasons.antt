@@ -6,8 +6,8 @@ use Rattle.xa_base.specs.Entries.{beside, first_true}
 use Rattle.xa_base.specs.WhiteSpace.{is_blank, words_of}
 use Rattle.label_tree.specs.Rose.{Rose, label_of}
 use Rattle.simple_values.specs.Lexical.{boolean_of}
-use Rattle.doc_text.specs.declared.label.ItemLabel.{ItemLabel}
-use Rattle.doc_text.specs.declared.label.ItemLabel.TheVariants.{Element, Text}
+use Rattle.item_tree.specs.declared.label.ItemLabel.{ItemLabel}
+use Rattle.item_tree.specs.declared.label.ItemLabel.TheVariants.{Element, Text}
 use Rattle.schema_rules.specs.Attributes.{has, has_unknown, own_attributes}
 use Rattle.schema_rules.specs.Values.{has_bad_value, never_occurs}
 use Rattle.schema_rules.specs.References.{TypeName, Known, LeftOut, Elsewhere, type_name}

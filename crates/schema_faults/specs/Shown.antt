@@ -1,7 +1,7 @@
 -- What a schema document's first fault is: the least place against which a reason stands, and the first reason there.
 use Rattle.std.specs.Prelude.{◌≡◌, ◌⊎◌, ℕ, ◌≤◌, List, [], ◌∷◌, Some, None}
 use Rattle.label_tree.specs.Rose.{Rose}
-use Rattle.doc_text.specs.declared.label.ItemLabel.{ItemLabel}
+use Rattle.item_tree.specs.declared.label.ItemLabel.{ItemLabel}
 use Rattle.schema_faults.specs.Faults.{LookedAt, reasons}
 use Rattle.schema_rules.specs.declared.why.SchemaWhy.{SchemaWhy}
 

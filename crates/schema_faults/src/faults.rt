@@ -1,7 +1,7 @@
 //! The first fault of a schema document.
 ghost use Rattle.std.specs.Prelude.{◌≡◌, Some, IfOk, IfSome};
 ghost use Rattle.label_tree.specs.Rose.{Rose, label_of, roses_of};
-ghost use Rattle.doc_text.specs.declared.label.ItemLabel.{ItemLabel};
+ghost use Rattle.item_tree.specs.declared.label.ItemLabel.{ItemLabel};
 ghost use Rattle.schema_rules.specs.Scopes.{bindings_in};
 ghost use Rattle.schema_faults.specs.Faults as faults;
 

@@ -6,8 +6,8 @@ use Rattle.std.specs.Option.{option_or}
 use Rattle.xa_base.specs.declared.texts.Name.{Name}
 use Rattle.xa_base.specs.Entries.{beside, first_true}
 use Rattle.label_tree.specs.Rose.{Rose, node, Roses, list_of}
-use Rattle.doc_text.specs.declared.label.ItemLabel.{ItemLabel}
-use Rattle.doc_text.specs.declared.label.ItemLabel.TheVariants.{Element}
+use Rattle.item_tree.specs.declared.label.ItemLabel.{ItemLabel}
+use Rattle.item_tree.specs.declared.label.ItemLabel.TheVariants.{Element}
 use Rattle.schema_rules.specs.Elements.{is_schema_name, left_out, element_names, children, may_stand, placed, refused_or, placement_of}
 use Rattle.schema_rules.specs.Attributes.{has_unknown}
 use Rattle.schema_rules.specs.Values.{has_bad_value}

@@ -2,11 +2,11 @@
 use Rattle.std.proofs.Common.{◌≡◌, ℕ, ◌+◌, ◌<◌, ◌≤◌, Bool, true, false, [], ◌∷◌, ◌++◌, Some, None, ap, sym, subst, arith}
 use Rattle.label_tree.specs.Rose.{Rose, node, roses_of, list_of, label_of}
 use Rattle.label_tree.proofs.Roses.{roses_of-list_of}
-use Rattle.doc_text.specs.Labels.{item_place}
+use Rattle.item_tree.specs.Labels.{item_place}
 use Rattle.doc_text.specs.Sound.{is_sound, are_sound, levels, levels_all}
 use Rattle.doc_text.specs.Tokens.{tokens, Ascend}
-use Rattle.doc_text.specs.declared.label.ItemLabel.{ItemLabel}
-use Rattle.doc_text.specs.declared.label.ItemLabel.TheVariants.{Element, Text}
+use Rattle.item_tree.specs.declared.label.ItemLabel.{ItemLabel}
+use Rattle.item_tree.specs.declared.label.ItemLabel.TheVariants.{Element, Text}
 use Rattle.schema_rules.specs.Attributes.{own_attributes}
 use Rattle.schema_rules.specs.declared.roles.ElementRole.TheVariants.{Schema}
 use Rattle.schema_rules.specs.declared.why.SchemaWhy.TheVariants.{NotASchema}

@@ -8,8 +8,8 @@ use Rattle.xa_base.specs.declared.texts.Name.{Name}
 use Rattle.xa_base.specs.Entries.{beside}
 use Rattle.label_tree.specs.Rose.{Rose, node, Roses, roses_of, list_of, label_of}
 use Rattle.label_tree.proofs.Roses.{roses_of-list_of}
-use Rattle.doc_text.specs.declared.label.ItemLabel.{ItemLabel}
-use Rattle.doc_text.specs.declared.label.ItemLabel.TheVariants.{Element, Text}
+use Rattle.item_tree.specs.declared.label.ItemLabel.{ItemLabel}
+use Rattle.item_tree.specs.declared.label.ItemLabel.TheVariants.{Element, Text}
 use Rattle.doc_text.specs.Sound.{is_sound, are_sound}
 use Rattle.schema_parts.specs.Raw as raw
 use Rattle.schema_parts.specs.Raw.{Simple, Complex, Kind, Local, Attribute, TypeDefinition}

@@ -10,8 +10,8 @@ use Rattle.xa_base.specs.Limits.{is_name_part}
 use Rattle.label_tree.specs.Rose.{Rose, node, Roses, roses_of, list_of, label_of, kids_of}
 use Rattle.label_tree.specs.Rose as rose
 use Rattle.label_tree.proofs.Roses.{roses_of-list_of}
-use Rattle.doc_text.specs.declared.label.ItemLabel.{ItemLabel}
-use Rattle.doc_text.specs.declared.label.ItemLabel.TheVariants.{Element, Text}
+use Rattle.item_tree.specs.declared.label.ItemLabel.{ItemLabel}
+use Rattle.item_tree.specs.declared.label.ItemLabel.TheVariants.{Element, Text}
 use Rattle.doc_text.specs.Sound.{is_sound_name, are_sound_attributes, is_sound_binding, is_sound_label, is_text, begins_with_text, is_sound, are_sound}
 use Rattle.content_models.specs.declared.particles.ParticleLabel.{ParticleLabel}
 use Rattle.schema_parts.specs.declared.declarations.RawContent.{RawContent}

@@ -5,7 +5,7 @@ use Rattle.std.proofs.lemmas.List.{length-map, drop_more}
 use Rattle.xa_base.specs.declared.texts.Name.{Name}
 use Rattle.label_tree.specs.Rose.{Rose, Roses, roses_of, label_of, Allowed}
 use Rattle.label_tree.proofs.Kids.{roses_of-drop}
-use Rattle.doc_text.specs.declared.label.ItemLabel.{ItemLabel}
+use Rattle.item_tree.specs.declared.label.ItemLabel.{ItemLabel}
 use Rattle.content_models.specs.Kids.{MayHave}
 use Rattle.content_models.specs.declared.particles.ParticleLabel.{ParticleLabel}
 use Rattle.schema_parts.specs.declared.declarations.RawContent.{RawContent}

@@ -7,8 +7,8 @@ use Rattle.std.proofs.lemmas.Slice.Eq.{bytes_eq-Decides}
 use Rattle.xa_base.specs.declared.texts.Name.{Name}
 use Rattle.label_tree.specs.Rose.{Rose, node, roses_of, list_of, label_of}
 use Rattle.label_tree.proofs.Roses.{roses_of-list_of}
-use Rattle.doc_text.specs.declared.label.ItemLabel.{ItemLabel}
-use Rattle.doc_text.specs.declared.label.ItemLabel.TheVariants.{Element, Text}
+use Rattle.item_tree.specs.declared.label.ItemLabel.{ItemLabel}
+use Rattle.item_tree.specs.declared.label.ItemLabel.TheVariants.{Element, Text}
 use Rattle.schema_parts.specs.Raw as raw
 use Rattle.schema_parts.specs.Raw.{Simple, Complex, Kind, Local, Attribute, TypeDefinition}
 use Rattle.schema_parts.specs.Varieties.{base_varied, how_varied, uses_varied, kind_varied, type_varied, elements_varied, attributes_varied, types_varied, locals_varied, all_varied}

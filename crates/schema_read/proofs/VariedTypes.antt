@@ -14,8 +14,8 @@ use Rattle.xa_base.specs.WhiteSpace.{words_of, treated}
 use Rattle.xa_base.proofs.Collapsing.{treated-treated}
 use Rattle.label_tree.specs.Rose.{Rose, node, Roses, roses_of, list_of, label_of, kids_of}
 use Rattle.label_tree.specs.Rose as rose
-use Rattle.doc_text.specs.declared.label.ItemLabel.{ItemLabel}
-use Rattle.doc_text.specs.declared.label.ItemLabel.TheVariants.{Element, Text}
+use Rattle.item_tree.specs.declared.label.ItemLabel.{ItemLabel}
+use Rattle.item_tree.specs.declared.label.ItemLabel.TheVariants.{Element, Text}
 use Rattle.simple_types.specs.declared.facets.Facet.{Facet}
 use Rattle.schema_parts.specs.Raw.{Named, Bases, none, more, How, Simple}
 use Rattle.schema_parts.specs.Varieties.{is_enumeration, has_few_enumerations, has_member, base_varied, how_varied, bases_varied}

@@ -4,8 +4,8 @@ use Rattle.std.specs.Prelude.{bytes_eq, codes}
 use Rattle.std.proofs.lemmas.List.{append-nil}
 use Rattle.xa_base.specs.declared.texts.Name.{Name}
 use Rattle.label_tree.specs.Rose.{Rose, roses_of, label_of, kids_of}
-use Rattle.doc_text.specs.declared.label.ItemLabel.{ItemLabel}
-use Rattle.doc_text.specs.declared.label.ItemLabel.TheVariants.{Element, Text}
+use Rattle.item_tree.specs.declared.label.ItemLabel.{ItemLabel}
+use Rattle.item_tree.specs.declared.label.ItemLabel.TheVariants.{Element, Text}
 use Rattle.schema_parts.specs.Raw as raw
 use Rattle.schema_parts.specs.Raw.{Simple, Complex, Local, Attribute, TypeDefinition, Document}
 use Rattle.schema_parts.specs.Coherent.{model_in_kind, models_in_elements, models_in_types, models_in_locals, leaves_of_models, numbered, ModelsStand, Nested, IsCoherent}

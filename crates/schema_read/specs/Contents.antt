@@ -2,8 +2,8 @@
 use Rattle.std.specs.Prelude.{ℕ, ◌+◌, ◌==◌, Bool, true, false, ◌&&◌, List, [], ◌∷◌, ◌++◌, length, bytes_eq, codes, Option, Some, None, unwrap_or, if◌then◌else◌}
 use Rattle.std.specs.Option.{option_or}
 use Rattle.label_tree.specs.Rose.{Rose, node, none, label_of, kids_of}
-use Rattle.doc_text.specs.declared.label.ItemLabel.{ItemLabel}
-use Rattle.doc_text.specs.declared.label.ItemLabel.TheVariants.{Element, Text}
+use Rattle.item_tree.specs.declared.label.ItemLabel.{ItemLabel}
+use Rattle.item_tree.specs.declared.label.ItemLabel.TheVariants.{Element, Text}
 use Rattle.content_models.specs.declared.particles.ParticleKind.{ParticleKind}
 use Rattle.content_models.specs.declared.particles.ParticleKind.TheVariants as particle
 use Rattle.content_models.specs.declared.particles.ParticleLabel.{ParticleLabel}

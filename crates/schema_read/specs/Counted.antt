@@ -2,8 +2,8 @@
 use Rattle.std.specs.Prelude.{ℕ, List, [], ◌∷◌, ◌++◌, if◌then◌else◌}
 use Rattle.xa_base.specs.declared.texts.Name.{Name}
 use Rattle.label_tree.specs.Rose.{Rose, node, Roses, none, more}
-use Rattle.doc_text.specs.declared.label.ItemLabel.{ItemLabel}
-use Rattle.doc_text.specs.declared.label.ItemLabel.TheVariants.{Element, Text}
+use Rattle.item_tree.specs.declared.label.ItemLabel.{ItemLabel}
+use Rattle.item_tree.specs.declared.label.ItemLabel.TheVariants.{Element, Text}
 use Rattle.schema_rules.specs.Elements.{is_counted, is_looked_into}
 
 abbrev pub counted_here : Name → ℕ → List ℕ

@@ -3,8 +3,8 @@ use Rattle.std.specs.Prelude.{◌≡◌, ℕ, ◌+◌, List, [], ◌∷◌, ◌+
 use Rattle.xa_base.specs.declared.texts.Name.{Name}
 use Rattle.xa_base.specs.Namespaces.{xml_prefix, xml_space}
 use Rattle.label_tree.specs.Rose.{Rose, roses_of, label_of, kids_of}
-use Rattle.doc_text.specs.declared.label.ItemLabel.{ItemLabel}
-use Rattle.doc_text.specs.declared.label.ItemLabel.TheVariants as label
+use Rattle.item_tree.specs.declared.label.ItemLabel.{ItemLabel}
+use Rattle.item_tree.specs.declared.label.ItemLabel.TheVariants as label
 use Rattle.schema_parts.specs.Raw.{Simple, Complex, Element, Local, Attribute, TypeDefinition, SimpleType, ComplexType, Document}
 use Rattle.schema_parts.specs.Seen.{element_of, attribute_of, type_of, local_of}
 use Rattle.schema_rules.specs.Elements.{is_schema_name}

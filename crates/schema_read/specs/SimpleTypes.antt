@@ -4,8 +4,8 @@ use Rattle.std.specs.Option.{option_or}
 use Rattle.xa_base.specs.WhiteSpace.{words_of}
 use Rattle.label_tree.specs.Rose.{Rose, node, Roses, label_of, list_of}
 use Rattle.label_tree.specs.Rose as rose
-use Rattle.doc_text.specs.declared.label.ItemLabel.{ItemLabel}
-use Rattle.doc_text.specs.declared.label.ItemLabel.TheVariants.{Element, Text}
+use Rattle.item_tree.specs.declared.label.ItemLabel.{ItemLabel}
+use Rattle.item_tree.specs.declared.label.ItemLabel.TheVariants.{Element, Text}
 use Rattle.simple_types.specs.declared.facets.Facet.{Facet}
 use Rattle.simple_types.specs.declared.facets.Facet.TheVariants as facet
 use Rattle.schema_parts.specs.Raw.{Base, Named, Inner, Bases, none, more, How, Restrict, ListOf, UnionOf, Simple}

@@ -2,8 +2,8 @@
 use Rattle.std.specs.Prelude.{ℕ, Bool, false, ◌&&◌, List, [], ◌∷◌, bytes_eq, codes, count_by}
 use Rattle.std.specs.List.{list_any}
 use Rattle.label_tree.specs.Rose.{Rose, label_of}
-use Rattle.doc_text.specs.declared.label.ItemLabel.{ItemLabel}
-use Rattle.doc_text.specs.declared.label.ItemLabel.TheVariants.{Element, Text}
+use Rattle.item_tree.specs.declared.label.ItemLabel.{ItemLabel}
+use Rattle.item_tree.specs.declared.label.ItemLabel.TheVariants.{Element, Text}
 use Rattle.schema_rules.specs.Elements.{is_schema_name}
 use Rattle.schema_rules.specs.declared.children.ChildSet.{ChildSet}
 use Rattle.schema_rules.specs.declared.children.ChildSet.TheVariants.{Types, SimpleTypes, Varieties, Derivations, Particles, TakenParticles, Attributes, Enumerations}

@@ -2,7 +2,7 @@
 use Rattle.std.specs.Prelude.{◌≡◌, ◌≤◌, ℕ, true, List}
 use Rattle.xa_base.specs.Lists.{HasItem}
 use Rattle.label_tree.specs.Rose.{Rose}
-use Rattle.doc_text.specs.declared.label.ItemLabel.{ItemLabel}
+use Rattle.item_tree.specs.declared.label.ItemLabel.{ItemLabel}
 use Rattle.doc_text.specs.Sound.{is_sound, levels}
 use Rattle.doc_text.specs.Tokens.{tokens, Ascend}
 use Rattle.schema_faults.specs.Shown.{IsSchema}

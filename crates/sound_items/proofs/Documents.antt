@@ -2,7 +2,7 @@
 -- bindings and the order of attributes are valid alike.
 use Rattle.std.proofs.Common.{◌≡◌, ℕ, ◌<◌, ◌^◌, Some, List, length, sym, ap, subst, ◌∙◌, refl}
 use Rattle.label_tree.specs.Rose.{Rose, node, Roses, none, more}
-use Rattle.doc_text.specs.declared.label.ItemLabel.{ItemLabel}
+use Rattle.item_tree.specs.declared.label.ItemLabel.{ItemLabel}
 use Rattle.doc_text.specs.Documents.{DocOf}
 use Rattle.doc_text.specs.Sound.{AreItems}
 use Rattle.plain_items.specs.Plain.{Plain, element, text, plain_of, plain_all}

@@ -1,7 +1,7 @@
 -- What was written of a document is taken again, and what is written of this has the same treated items.
 use Rattle.std.proofs.Common.{◌≡◌, ℕ, ◌<◌, ◌≤◌, ◌^◌, List, length, sym, ◌∙◌, subst, inl, inr, Some, Ok, Err}
 use Rattle.label_tree.specs.Rose.{Rose}
-use Rattle.doc_text.specs.declared.label.ItemLabel.{ItemLabel}
+use Rattle.item_tree.specs.declared.label.ItemLabel.{ItemLabel}
 use Rattle.doc_text.specs.Documents.{DocOf}
 use Rattle.doc_written.specs.ReadBack.{ReadsAs}
 use Rattle.plain_items.specs.Plain.{Plain}

@@ -8,7 +8,7 @@ use Rattle.xa_base.specs.declared.texts.Name.{Name}
 use Rattle.xa_base.specs.Entries.{beside}
 use Rattle.label_tree.specs.Rose as tree
 use Rattle.label_tree.specs.Rose.{Rose, node_count, shown_count}
-use Rattle.doc_text.specs.declared.label.ItemLabel.{ItemLabel}
+use Rattle.item_tree.specs.declared.label.ItemLabel.{ItemLabel}
 use Rattle.doc_text.specs.declared.error.DocWhy.{DocWhy}
 use Rattle.doc_text.specs.Documents.{DocOf, BrokenAt}
 use Rattle.doc_text.specs.Sound.{AreItems}

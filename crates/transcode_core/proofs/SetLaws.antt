@@ -2,8 +2,8 @@
 use Rattle.std.proofs.Common.{◌≡◌, ℕ, zero, suc, ◌+◌, List, [], ◌∷◌, length, refl, sym, ap, ◌∙◌, arith, Option, Some, Ok}
 use Rattle.std.specs.Prelude.{slice_get}
 use Rattle.label_tree.specs.Rose.{Rose, label_of, kids_of}
-use Rattle.doc_text.specs.declared.label.ItemLabel.{ItemLabel}
-use Rattle.doc_text.specs.declared.label.ItemLabel.TheVariants.{Element, Text}
+use Rattle.item_tree.specs.declared.label.ItemLabel.{ItemLabel}
+use Rattle.item_tree.specs.declared.label.ItemLabel.TheVariants.{Element, Text}
 use Rattle.schema_parts.specs.Raw.{Document}
 use Rattle.schema_read.specs.Raw.{raw_by}
 use Rattle.schema_link.specs.Sets.{AreNumbered}

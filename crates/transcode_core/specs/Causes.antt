@@ -13,7 +13,7 @@ use Rattle.transcode_core.specs.Words.{Asked, Show, Check, ToPer, ToXml, Trial}
 use Rattle.transcode_core.specs.Due.{Requested, Opened, ItemsIn}
 use Rattle.transcode_core.specs.Trial.{trial_document}
 use Rattle.label_tree.specs.Rose.{Rose}
-use Rattle.doc_text.specs.declared.label.ItemLabel.{ItemLabel}
+use Rattle.item_tree.specs.declared.label.ItemLabel.{ItemLabel}
 use Rattle.validity_check.specs.Counts.{element_count}
 
 -- an outcome that refuses the words, a file or the input

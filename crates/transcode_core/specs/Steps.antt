@@ -5,7 +5,7 @@ use Rattle.label_tree.specs.Rose.{Rose, node_count, shown_count}
 use Rattle.xa_base.specs.Entries.{HasEntry, HasLonger, Lacks}
 use Rattle.xa_base.specs.declared.texts.Name.{Name}
 use Rattle.xa_base.specs.Names.{name_eq}
-use Rattle.doc_text.specs.declared.label.ItemLabel.{ItemLabel}
+use Rattle.item_tree.specs.declared.label.ItemLabel.{ItemLabel}
 use Rattle.doc_text.specs.declared.error.DocWhy.{DocWhy}
 use Rattle.doc_text.specs.Documents.{DocOf, BrokenAt}
 use Rattle.schema_faults.specs.Faults.{first_fault, reasons}

@@ -1,7 +1,7 @@
 //! What holds of what is due.
 ghost use Rattle.std.specs.Prelude.{◌≡◌, ◌<◌, ◌≤◌, ◌^◌, ℕ, List, length, Option, Some, Result, Ok, Err};
 ghost use Rattle.label_tree.specs.Rose.{Rose};
-ghost use Rattle.doc_text.specs.declared.label.ItemLabel.{ItemLabel};
+ghost use Rattle.item_tree.specs.declared.label.ItemLabel.{ItemLabel};
 ghost use Rattle.doc_text.specs.Documents.{DocOf};
 ghost use Rattle.plain_items.specs.Plain.{Plain};
 ghost use Rattle.schema_parts.specs.SetParts.{SetParts};

@@ -16,8 +16,8 @@ use Rattle.content_models.specs.Laws.{Opens}
 use Rattle.content_models.specs.declared.particles.ParticleKind.TheVariants.{Sequence}
 use Rattle.content_models.specs.declared.particles.ParticleLabel.{ParticleLabel}
 use Rattle.content_models.proofs.Opening.{lang_opens}
-use Rattle.doc_text.specs.declared.label.ItemLabel.{ItemLabel}
-use Rattle.doc_text.specs.declared.label.ItemLabel.TheVariants.{Element, Text}
+use Rattle.item_tree.specs.declared.label.ItemLabel.{ItemLabel}
+use Rattle.item_tree.specs.declared.label.ItemLabel.TheVariants.{Element, Text}
 use Rattle.schema_parts.specs.declared.components.TypeOf.TheVariants as kind
 use Rattle.schema_parts.specs.declared.components.Content.TheVariants as content
 use Rattle.schema_parts.specs.SetParts.{SetParts}

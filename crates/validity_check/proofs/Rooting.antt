@@ -2,8 +2,8 @@
 use Rattle.std.proofs.Common.{◌≡◌, ℕ, inl, inr, Some, refl, sym, subst}
 use Rattle.std.specs.Prelude.{Result, Ok, Err, MatchResult, slice_get}
 use Rattle.label_tree.specs.Rose.{Rose, label_of}
-use Rattle.doc_text.specs.Labels.{item_place}
-use Rattle.doc_text.specs.declared.label.ItemLabel.{ItemLabel}
+use Rattle.item_tree.specs.Labels.{item_place}
+use Rattle.item_tree.specs.declared.label.ItemLabel.{ItemLabel}
 use Rattle.schema_parts.specs.declared.components.ElementDecl.{ElementDecl}
 use Rattle.schema_parts.specs.Components.{Set}
 use Rattle.schema_parts.specs.SetParts.{parts_of}

@@ -3,7 +3,7 @@ use Rattle.std.proofs.Common.{◌≡◌, ℕ, zero, suc, Some, Bool, true, false
 use Rattle.std.specs.Prelude.{not, ◌&&◌}
 use Rattle.label_tree.specs.Rose.{Rose, node, Roses, roses_of, label_of, kids_of}
 use Rattle.label_tree.specs.Rose as rose
-use Rattle.doc_text.specs.declared.label.ItemLabel.{ItemLabel}
+use Rattle.item_tree.specs.declared.label.ItemLabel.{ItemLabel}
 use Rattle.doc_text.specs.Sound.{is_sound_label, is_text, begins_with_text, is_element, is_sound, are_sound}
 use Rattle.schema_parts.proofs.Truths.{both}
 use Rattle.validity.proofs.Reading.{kid_at, roses_of-list_of}

@@ -10,8 +10,8 @@ use Rattle.xa_base.specs.Namespaces.{xmlns_space, xsi_space}
 use Rattle.xa_base.proofs.NameLaws.{name_eq-Decides}
 use Rattle.label_tree.specs.Rose.{Rose, Roses, none, label_of, roses_of, kids_of}
 use Rattle.plain_items.specs.Plain.{Plain}
-use Rattle.doc_text.specs.declared.label.ItemLabel.{ItemLabel}
-use Rattle.doc_text.specs.declared.label.ItemLabel.TheVariants.{Element}
+use Rattle.item_tree.specs.declared.label.ItemLabel.{ItemLabel}
+use Rattle.item_tree.specs.declared.label.ItemLabel.TheVariants.{Element}
 use Rattle.schema_parts.specs.declared.components.AttributeUse.{AttributeUse}
 use Rattle.schema_parts.specs.Components.{Set}
 use Rattle.schema_parts.specs.Declarable.{kept_spaces, is_declarable, is_declarable_attribute}

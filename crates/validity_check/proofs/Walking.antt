@@ -9,8 +9,8 @@ use Rattle.content_models.specs.Language.{Leaf, names, Lang, Viable}
 use Rattle.content_spots.specs.Laws.{IsNamed}
 use Rattle.content_match.specs.Taking.{Matched, Took, TookMore}
 use Rattle.content_match.specs.declared.places.Leaf as matched
-use Rattle.doc_text.specs.declared.label.ItemLabel.{ItemLabel}
-use Rattle.doc_text.specs.declared.label.ItemLabel.TheVariants.{Element, Text}
+use Rattle.item_tree.specs.declared.label.ItemLabel.{ItemLabel}
+use Rattle.item_tree.specs.declared.label.ItemLabel.TheVariants.{Element, Text}
 use Rattle.schema_parts.specs.Components.{Set}
 use Rattle.schema_parts.specs.SetParts.{parts_of}
 use Rattle.validity.specs.Asked.{asked_at}

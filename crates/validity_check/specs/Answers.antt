@@ -6,7 +6,7 @@ use Rattle.simple_types.specs.Space.{Space}
 use Rattle.simple_values.specs.Reading.{reads}
 use Rattle.content_models.specs.Particle.{Particle}
 use Rattle.content_models.specs.Language.{Leaf, names, Lang}
-use Rattle.doc_text.specs.declared.label.ItemLabel.{ItemLabel}
+use Rattle.item_tree.specs.declared.label.ItemLabel.{ItemLabel}
 use Rattle.plain_items.specs.Plain.{Plain}
 use Rattle.schema_parts.specs.Components.{Set}
 use Rattle.schema_parts.specs.SetParts.{parts_of}

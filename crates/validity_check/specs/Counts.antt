@@ -1,8 +1,8 @@
 -- How many elements there are.
 use Rattle.std.specs.Prelude.{ℕ, suc, ◌+◌}
 use Rattle.label_tree.specs.Rose.{Rose, node, Roses, none, more}
-use Rattle.doc_text.specs.declared.label.ItemLabel.{ItemLabel}
-use Rattle.doc_text.specs.declared.label.ItemLabel.TheVariants.{Element, Text}
+use Rattle.item_tree.specs.declared.label.ItemLabel.{ItemLabel}
+use Rattle.item_tree.specs.declared.label.ItemLabel.TheVariants.{Element, Text}
 
 -- the element and those in it; a text has none
 abbrev mutual

@@ -13,8 +13,8 @@ use Rattle.simple_types.specs.declared.labels.ValueLabel.{ValueLabel}
 use Rattle.simple_values.specs.Reading.{Reading, reads, spelled}
 use Rattle.content_models.specs.Language.{Lang}
 use Rattle.content_models.specs.Seen.{seen}
-use Rattle.doc_text.specs.declared.label.ItemLabel.{ItemLabel}
-use Rattle.doc_text.specs.declared.label.ItemLabel.TheVariants.{Element}
+use Rattle.item_tree.specs.declared.label.ItemLabel.{ItemLabel}
+use Rattle.item_tree.specs.declared.label.ItemLabel.TheVariants.{Element}
 use Rattle.doc_text.specs.Sound.{is_sound_name, are_sound_attributes, is_sound_binding, is_sound, are_sound, levels_all}
 use Rattle.plain_items.specs.Plain.{Plain, element}
 use Rattle.plain_items.specs.Mixing.{text_before, child_elements, texts_between}

@@ -7,8 +7,8 @@ use Rattle.label_tree.specs.Rose.{Rose, node, Roses, label_of}
 use Rattle.label_tree.specs.Rose as rose
 use Rattle.simple_types.specs.Space.{Booleans}
 use Rattle.simple_types.specs.declared.labels.ValueLabel.{ValueLabel}
-use Rattle.doc_text.specs.declared.label.ItemLabel.{ItemLabel}
-use Rattle.doc_text.specs.declared.label.ItemLabel.TheVariants.{Element, Text}
+use Rattle.item_tree.specs.declared.label.ItemLabel.{ItemLabel}
+use Rattle.item_tree.specs.declared.label.ItemLabel.TheVariants.{Element, Text}
 use Rattle.doc_text.specs.Sound.{is_sound, levels_all}
 use Rattle.plain_items.specs.Plain.{Plain}
 use Rattle.asn_types.specs.declared.modules.Assignment.{Assignment}

@@ -20,8 +20,8 @@ use Rattle.simple_types.specs.Space.{Characters}
 use Rattle.simple_values.specs.Lexical.{in_class}
 use Rattle.simple_values.specs.Reading.{Bad, Reading, has_characters, reads}
 use Rattle.content_models.specs.Language.{Leaf}
-use Rattle.doc_text.specs.declared.label.ItemLabel.{ItemLabel}
-use Rattle.doc_text.specs.declared.label.ItemLabel.TheVariants.{Element, Text}
+use Rattle.item_tree.specs.declared.label.ItemLabel.{ItemLabel}
+use Rattle.item_tree.specs.declared.label.ItemLabel.TheVariants.{Element, Text}
 use Rattle.doc_text.specs.Sound.{is_text, begins_with_text, is_sound_label, is_sound, are_sound, levels, levels_all}
 use Rattle.plain_items.specs.Plain.{Plain, element, text}
 use Rattle.plain_items.specs.Mixing.{child_elements, behind_first, texts_between, AllElements}

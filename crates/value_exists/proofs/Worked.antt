@@ -23,8 +23,8 @@ use Rattle.content_models.specs.Language.{Leaf, names, Lang, leaf_at, turn_of}
 use Rattle.content_models.specs.Seen.{seen}
 use Rattle.content_models.specs.Laws.{Opens}
 use Rattle.content_models.proofs.Opening.{lang_opens}
-use Rattle.doc_text.specs.declared.label.ItemLabel.{ItemLabel}
-use Rattle.doc_text.specs.declared.label.ItemLabel.TheVariants.{Element, Text}
+use Rattle.item_tree.specs.declared.label.ItemLabel.{ItemLabel}
+use Rattle.item_tree.specs.declared.label.ItemLabel.TheVariants.{Element, Text}
 use Rattle.plain_items.specs.Plain.{Plain, element, text}
 use Rattle.schema_parts.specs.SetParts.{SetParts}
 use Rattle.validity.specs.Asked.{Attribute, asked_at}

@@ -5,7 +5,7 @@ use Rattle.std.specs.Option.{option_map}
 use Rattle.label_tree.specs.Rose.{Rose, label_of, node_count, shown_count}
 use Rattle.flat_tree.specs.Zips.{Zip, added}
 use Rattle.simple_types.specs.declared.labels.ValueLabel.{ValueLabel}
-use Rattle.doc_text.specs.declared.label.ItemLabel.{ItemLabel}
+use Rattle.item_tree.specs.declared.label.ItemLabel.{ItemLabel}
 use Rattle.doc_text.specs.Sound.{levels}
 use Rattle.schema_parts.specs.declared.components.ElementDecl.{ElementDecl}
 use Rattle.schema_parts.specs.Components.{Set}

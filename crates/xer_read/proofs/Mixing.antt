@@ -7,8 +7,8 @@ use Rattle.label_tree.specs.Rose.{Rose, node, Roses, roses_of, label_of, length_
 use Rattle.label_tree.specs.Rose as rose
 use Rattle.simple_types.specs.declared.labels.ValueLabel.{ValueLabel}
 use Rattle.content_models.specs.Language.{Leaf}
-use Rattle.doc_text.specs.declared.label.ItemLabel.{ItemLabel}
-use Rattle.doc_text.specs.declared.label.ItemLabel.TheVariants.{Element, Text}
+use Rattle.item_tree.specs.declared.label.ItemLabel.{ItemLabel}
+use Rattle.item_tree.specs.declared.label.ItemLabel.TheVariants.{Element, Text}
 use Rattle.doc_text.specs.Sound.{is_text, begins_with_text, is_sound, are_sound}
 use Rattle.plain_items.specs.Plain.{Plain, text}
 use Rattle.plain_items.specs.Mixing.{text_before, interleaved, child_elements}

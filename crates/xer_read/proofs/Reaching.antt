@@ -12,8 +12,8 @@ use Rattle.content_models.specs.Language.{Leaf, names, Lang, Viable}
 use Rattle.content_spots.specs.Laws as spots
 use Rattle.content_match.specs.Taking.{Matched, Took, TookMore, spot_of}
 use Rattle.content_match.specs.declared.places.Leaf as matched
-use Rattle.doc_text.specs.declared.label.ItemLabel.{ItemLabel}
-use Rattle.doc_text.specs.declared.label.ItemLabel.TheVariants.{Element, Text}
+use Rattle.item_tree.specs.declared.label.ItemLabel.{ItemLabel}
+use Rattle.item_tree.specs.declared.label.ItemLabel.TheVariants.{Element, Text}
 use Rattle.doc_text.specs.Sound.{levels, levels_all}
 use Rattle.plain_items.specs.Plain.{Plain, element, text}
 use Rattle.plain_items.specs.Mixing.{child_elements}

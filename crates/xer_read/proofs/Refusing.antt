@@ -4,7 +4,7 @@ use Rattle.std.specs.Prelude.{Err}
 use Rattle.label_tree.specs.Rose.{Roses}
 use Rattle.simple_types.specs.Space.{Space}
 use Rattle.simple_values.specs.Reading.{Wide, Bad, reads}
-use Rattle.doc_text.specs.declared.label.ItemLabel.{ItemLabel}
+use Rattle.item_tree.specs.declared.label.ItemLabel.{ItemLabel}
 use Rattle.validity.specs.Valid.{only_text}
 use Rattle.validity.specs.Attributes.{Refuses}
 use Rattle.validity.specs.declared.why.InvalidWhy.TheVariants.{BadText, TooWide}

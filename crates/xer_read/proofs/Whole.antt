@@ -15,8 +15,8 @@ use Rattle.content_models.specs.Particle.{Particle}
 use Rattle.content_models.specs.Seen.{seen}
 use Rattle.content_spots.specs.Spots.{Spot}
 use Rattle.content_spots.specs.Laws.{may_end}
-use Rattle.doc_text.specs.declared.label.ItemLabel.{ItemLabel}
-use Rattle.doc_text.specs.declared.label.ItemLabel.TheVariants.{Element, Text}
+use Rattle.item_tree.specs.declared.label.ItemLabel.{ItemLabel}
+use Rattle.item_tree.specs.declared.label.ItemLabel.TheVariants.{Element, Text}
 use Rattle.doc_text.specs.Sound.{is_sound, are_sound_attributes, are_sound, levels, levels_all}
 use Rattle.plain_items.specs.Plain.{Plain}
 use Rattle.plain_items.specs.Mixing.{interleaved}

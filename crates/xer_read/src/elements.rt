@@ -2,7 +2,7 @@
 ghost use Rattle.std.specs.Prelude.{◌≡◌, ◌⊎◌, ℕ, ◌+◌, ◌-◌, ◌*◌, ◌^◌, ◌<◌, ◌≤◌, true, false, List, [], length, slice_index_or, All, MatchResult, OnOk};
 ghost use Rattle.label_tree.specs.Rose.{Rose, label_of, roses_of, node_count, count_all};
 ghost use Rattle.xa_base.specs.WhiteSpace.{is_blank};
-ghost use Rattle.doc_text.specs.declared.label.ItemLabel.{ItemLabel};
+ghost use Rattle.item_tree.specs.declared.label.ItemLabel.{ItemLabel};
 ghost use Rattle.doc_text.specs.Sound.{is_text, is_sound, are_sound};
 ghost use Rattle.flat_tree.specs.Zips.{Zip, added};
 ghost use Rattle.simple_types.specs.declared.labels.ValueLabel.{ValueLabel};

@@ -3,7 +3,7 @@ ghost use Rattle.std.specs.Prelude.{◌≡◌, ◌+◌, ◌*◌, ◌<◌, ◌≤
 ghost use Rattle.label_tree.specs.Rose.{Rose};
 ghost use Rattle.flat_tree.specs.Zips.{Zip};
 ghost use Rattle.simple_types.specs.declared.labels.ValueLabel.{ValueLabel};
-ghost use Rattle.doc_text.specs.Labels.{item_place};
+ghost use Rattle.item_tree.specs.Labels.{item_place};
 ghost use Rattle.schema_parts.specs.Linked.{IsLinked};
 ghost use Rattle.schema_parts.specs.SetParts.{parts_of};
 ghost use Rattle.validity.specs.Valid.{HasName};

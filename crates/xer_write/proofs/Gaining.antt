@@ -8,8 +8,8 @@ use Rattle.label_tree.specs.Rose.{Rose, node, Roses, none, more, roses_of}
 use Rattle.label_tree.proofs.Roses.{roses_of-list_of}
 use Rattle.flat_tree.specs.Zips.{Zip, Above, added, added_all, closed, relabeled, relabeled_in}
 use Rattle.simple_types.specs.declared.labels.ValueLabel.{ValueLabel}
-use Rattle.doc_text.specs.declared.label.ItemLabel.{ItemLabel}
-use Rattle.doc_text.specs.declared.label.ItemLabel.TheVariants.{Element, Text}
+use Rattle.item_tree.specs.declared.label.ItemLabel.{ItemLabel}
+use Rattle.item_tree.specs.declared.label.ItemLabel.TheVariants.{Element, Text}
 use Rattle.plain_items.specs.Plain.{Plain}
 use Rattle.plain_items.specs.Mixing.{text_before, interleaved}
 use Rattle.xer_items.specs.Items.{Given, given, nothing, joined, both, element_of, with_nil}

@@ -12,8 +12,8 @@ use Rattle.xa_base.specs.declared.texts.Name.{Name}
 use Rattle.label_tree.specs.Rose.{Rose, node, Roses, none, more, label_of, length_all, node_count, count_all, AllowedAll}
 use Rattle.simple_types.specs.declared.labels.ValueLabel.{ValueLabel}
 use Rattle.simple_values.specs.Reading.{spelled}
-use Rattle.doc_text.specs.declared.label.ItemLabel.{ItemLabel}
-use Rattle.doc_text.specs.Labels.{MayHave}
+use Rattle.item_tree.specs.declared.label.ItemLabel.{ItemLabel}
+use Rattle.item_tree.specs.Labels.{MayHave}
 use Rattle.doc_text.specs.Sound.{AreItems, is_sound_name, has_name, is_sound_attribute, are_sound_attributes, is_sound_label, is_sound, are_sound, levels_all}
 use Rattle.doc_text.specs.Sound as document
 use Rattle.plain_items.specs.Plain.{Plain, element, text}

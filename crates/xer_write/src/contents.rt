@@ -2,7 +2,7 @@
 ghost use Rattle.std.specs.Prelude.{◌≡◌, ◌<◌, ◌∷◌, [], ◌++◌, ℕ, List, IfOk, OnOk, codes, drop, length, map};
 ghost use Rattle.label_tree.specs.Rose.{node, none, more, roses_of};
 ghost use Rattle.flat_tree.specs.Zips.{added, closed, nothing, relabeled};
-ghost use Rattle.doc_text.specs.declared.label.ItemLabel.TheVariants as item;
+ghost use Rattle.item_tree.specs.declared.label.ItemLabel.TheVariants as item;
 ghost use Rattle.plain_items.specs.Mixing.{text_before};
 ghost use Rattle.xer_items.specs.Items.{given, nil_name, element_of};
 ghost use Rattle.xer_write.specs.Private.Gaining.{Gains, GainsIn, MakesRoom, Opens, first_text, levels, text_item, value_text};

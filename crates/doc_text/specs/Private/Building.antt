@@ -6,11 +6,11 @@ use Rattle.xa_base.specs.Namespaces.{xml_prefix, xml_space}
 use Rattle.label_tree.specs.Rose.{Rose}
 use Rattle.flat_tree.specs.Zips as zips
 use Rattle.doc_pieces.specs.Pieces.{Piece, Declaration, Start, Empty, End, Comment, Instruction, CData, Reference, Character}
-use Rattle.doc_text.specs.declared.label.ItemLabel.{ItemLabel}
-use Rattle.doc_text.specs.declared.label.ItemLabel.TheVariants.{Element, Text}
+use Rattle.item_tree.specs.declared.label.ItemLabel.{ItemLabel}
+use Rattle.item_tree.specs.declared.label.ItemLabel.TheVariants.{Element, Text}
 use Rattle.doc_text.specs.declared.builder.Builder.{Builder}
 use Rattle.std.specs.List.{flat_map}
-use Rattle.doc_text.specs.Labels.{item_place}
+use Rattle.item_tree.specs.Labels.{item_place}
 use Rattle.doc_text.specs.Namespaces.{is_long, is_unbound}
 use Rattle.doc_pieces.specs.QNames.{prefix_of, is_qname}
 use Rattle.doc_text.specs.Contexts.{Open, scope, reason}
@@ -61,8 +61,8 @@ aboves (written ∷ names) up = above_of written.now up ∷ aboves names (up_in 
 
 abbrev pub state : Builder → State
 state b = record {
-  above = aboves (reverse b.open.items) b.items.above;
-  kids = b.items.kids;
+  above = aboves (reverse b.open.items) b.items.zip.above;
+  kids = b.items.zip.kids;
   text = string_bytes b.text;
   text_at = b.text_at;
   ended = b.ended;
@@ -73,12 +73,6 @@ state b = record {
 -- the node of an element that is open
 abbrev pub node_of : Above → zips.Above ItemLabel
 node_of a = record { label = Element a.name a.attributes a.declares a.at; before = a.before }
-
--- how many namespaces a label binds
-abbrev pub binding_count : Option ItemLabel → ℕ
-binding_count None = 0
-binding_count (Some (Element name attributes declares at)) = length declares
-binding_count (Some (Text text at)) = 0
 
 -- nothing speaks against a name where these bindings are in scope
 pub record IsNamed (written : List ℕ) (inside : List (List ℕ × List ℕ)) : Type 0 where
@@ -95,7 +89,7 @@ AreNamed (e ∷ es) = IsNamed e.written (flat_map (λ o. o.declares) (e ∷ es) 
 pub record Scoped (b : Builder) : Type 0 where
   pub scope_is : reverse b.scope ≡ scope (context (state b))
   pub named : AreNamed (context (state b)).elements
-  pub nodes : map node_of (state b).above ≡ b.items.above
+  pub nodes : map node_of (state b).above ≡ b.items.zip.above
 
 -- nothing speaks against the piece, and the reader has taken its step
 pub record Takes (p : Piece) (at : ℕ) (old new : Builder) : Type 0 where
@@ -110,8 +104,9 @@ pub record Begins (b : Builder) : Type 0 where
 
 -- the characters are a node, and nothing else has changed
 pub record Flushed (old new : Builder) : Type 0 where
-  pub kids : new.items.kids ≡ kids_of_state (state old)
-  pub same_above : new.items.above ≡ old.items.above
+  pub kids : new.items.zip.kids ≡ kids_of_state (state old)
+  pub same_above : new.items.zip.above ≡ old.items.zip.above
+  pub same_names : new.items.names ≡ old.items.names
   pub text : string_bytes new.text ≡ []
   pub same_place : new.text_at ≡ old.text_at
   pub same_open : new.open.items ≡ old.open.items

@@ -22,8 +22,8 @@ pub record IsPlain (written : List ℕ) : Type 0 where
 pub record Enters (outer : List (List ℕ × List ℕ)) (ended : Bool) (depth : ℕ) (tag : Tag) (head : Head) : Type 0 where
   pub none : start_reason tag outer ended depth ≡ None
   pub name_is : head.name ≡ element_name (tag_scope tag outer) tag.name
-  pub attributes_are : head.attributes ≡ attributes_of (tag_scope tag outer) tag.attributes
-  pub declares_are : head.declares ≡ bindings_of tag.attributes
+  pub attributes_are : head.attributes.items ≡ attributes_of (tag_scope tag outer) tag.attributes
+  pub declares_are : head.declares.items ≡ bindings_of tag.attributes
 
 -- the error is that reason at this place, or want of memory
 abbrev pub Stopped : Option DocWhy → ℕ → DocError → Type 0

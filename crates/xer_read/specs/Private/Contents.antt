@@ -11,7 +11,7 @@ use Rattle.content_models.specs.declared.particles.ParticleLabel.{ParticleLabel}
 use Rattle.content_models.specs.Particle.{Particle}
 use Rattle.content_models.specs.Language.{Leaf, Lang}
 use Rattle.content_models.specs.Seen.{seen}
-use Rattle.doc_text.specs.declared.label.ItemLabel.{ItemLabel}
+use Rattle.item_tree.specs.declared.label.ItemLabel.{ItemLabel}
 use Rattle.doc_text.specs.Sound.{levels_all}
 use Rattle.plain_items.specs.Plain.{Plain}
 use Rattle.plain_items.specs.Mixing.{interleaved, child_elements}

@@ -4,8 +4,8 @@ use Rattle.label_tree.specs.Rose.{Rose, Roses, label_of}
 use Rattle.simple_types.specs.declared.labels.ValueLabel.{ValueLabel}
 use Rattle.simple_types.specs.Space.{Space}
 use Rattle.simple_values.specs.Reading.{Accepts}
-use Rattle.doc_text.specs.declared.label.ItemLabel.{ItemLabel}
-use Rattle.doc_text.specs.declared.label.ItemLabel.TheVariants.{Element, Text}
+use Rattle.item_tree.specs.declared.label.ItemLabel.{ItemLabel}
+use Rattle.item_tree.specs.declared.label.ItemLabel.TheVariants.{Element, Text}
 use Rattle.doc_text.specs.Sound.{levels}
 use Rattle.plain_items.specs.Plain.{Plain}
 use Rattle.schema_parts.specs.declared.components.ElementDecl.{ElementDecl}

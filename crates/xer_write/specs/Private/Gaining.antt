@@ -4,8 +4,8 @@ use Rattle.label_tree.specs.Rose.{Rose, Roses, none, roses_of, list_of, label_of
 use Rattle.flat_tree.specs.Zips.{Zip, added, added_all, opened}
 use Rattle.simple_types.specs.declared.labels.ValueLabel.{ValueLabel}
 use Rattle.simple_values.specs.Reading.{spelled_text}
-use Rattle.doc_text.specs.declared.label.ItemLabel.{ItemLabel}
-use Rattle.doc_text.specs.declared.label.ItemLabel.TheVariants.{Text}
+use Rattle.item_tree.specs.declared.label.ItemLabel.{ItemLabel}
+use Rattle.item_tree.specs.declared.label.ItemLabel.TheVariants.{Text}
 use Rattle.plain_items.specs.Plain.{Plain}
 use Rattle.plain_items.specs.Mixing.{text_before}
 use Rattle.xer_items.specs.Items.{Given}

@@ -11,7 +11,7 @@ use Rattle.doc_text.proofs.Built.{add_scoped}
 use Rattle.doc_text.proofs.Read.{at_none, at_fault, steps_on, gets_shorter, takes_plain, has_closed, has_one, is_root, unfinished}
 use Rattle.doc_text.proofs.Places.{doc_ascends}
 use Rattle.label_tree.specs.Rose.{Rose}
-use Rattle.doc_text.specs.declared.label.ItemLabel.{ItemLabel}
+use Rattle.item_tree.specs.declared.label.ItemLabel.{ItemLabel}
 use Rattle.doc_text.specs.Tokens.{tokens, Ascend}
 use Rattle.doc_text.specs.Documents.{DocOf}
 use Rattle.doc_text.proofs.reader.read_utf8.Goals as goal

@@ -2,7 +2,7 @@ use Rattle.std.specs.List.{flat_map}
 use Rattle.std.proofs.Common.{List, ℕ, map, ◌≡◌, ◌++◌, ◌∷◌, [], ◌<◌, length, refl, ap, sym, subst, ◌∙◌}
 use Rattle.label_tree.specs.Rose.{Rose, roses_of, kids_of}
 use Rattle.flat_tree.proofs.Cursors.{kids_fewer}
-use Rattle.doc_text.specs.declared.label.ItemLabel.{ItemLabel}
+use Rattle.item_tree.specs.declared.label.ItemLabel.{ItemLabel}
 use Rattle.doc_write.proofs.Written.{OnOk-map, some_kids, spelled-kids, written-kids}
 use Rattle.doc_written.specs.Written.{all_spelled, written_declaration, written_name, written_start, written_end}
 use Rattle.doc_write.specs.Private.Binding.{before_local, entry_of, named}

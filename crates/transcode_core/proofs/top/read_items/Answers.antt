@@ -1,6 +1,6 @@
 use Rattle.std.proofs.Common.{inl}
 use Rattle.label_tree.specs.Rose.{Rose}
-use Rattle.doc_text.specs.declared.label.ItemLabel.{ItemLabel}
+use Rattle.item_tree.specs.declared.label.ItemLabel.{ItemLabel}
 use Rattle.transcode_core.specs.declared.outcome.Outcome.TheVariants.{DocSyntax}
 use Rattle.transcode_core.specs.Steps.{Input, Read}
 use Rattle.transcode_core.specs.Causes.{NoMemory, OneRead}

@@ -1,7 +1,7 @@
 use Rattle.std.proofs.Common.{◌≡◌, ◌<◌, ◌≤◌, ◌^◌, true, false, sym, subst}
 use Rattle.std.specs.Prelude.{Some, MatchResult}
 use Rattle.label_tree.specs.Rose.{label_of, node_count}
-use Rattle.doc_text.specs.Labels.{item_place}
+use Rattle.item_tree.specs.Labels.{item_place}
 use Rattle.doc_text.specs.Sound.{is_text, is_sound, levels}
 use Rattle.schema_parts.specs.SetParts.{parts_of}
 use Rattle.validity.specs.Valid.{HasName}

@@ -1,7 +1,7 @@
 use Rattle.std.proofs.Common.{◌≡◌, false, ◌==◌, length, sym, ap, ◌∙◌}
 use Rattle.label_tree.specs.Rose.{node, none, roses_of}
 use Rattle.flat_tree.specs.Zips.{added, closed}
-use Rattle.doc_text.specs.declared.label.ItemLabel.TheVariants.{Text}
+use Rattle.item_tree.specs.declared.label.ItemLabel.TheVariants.{Text}
 use Rattle.xer_write.proofs.Gaining.{text_item-some}
 use Rattle.xer_write.proofs.contents.put_with_text.Goals as goal
 

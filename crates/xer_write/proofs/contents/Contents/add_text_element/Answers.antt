@@ -1,5 +1,5 @@
 use Rattle.std.proofs.Common.{[], subst, ap, ◌∙◌, refl, IsUtf8}
-use Rattle.doc_text.specs.declared.label.ItemLabel.TheVariants.{Element}
+use Rattle.item_tree.specs.declared.label.ItemLabel.TheVariants.{Element}
 use Rattle.xer_write.specs.declared.contents.Contents.{Contents}
 use Rattle.xer_write.proofs.Gaining.{text-element-gained, on_ok}
 use Rattle.xer_write.proofs.contents.Contents.add_text_element.Goals as goal

@@ -1,6 +1,6 @@
 use Rattle.std.proofs.Common.{◌<◌, length, sym, subst}
 use Rattle.flat_tree.specs.Zips.{Zip}
-use Rattle.doc_text.specs.declared.label.ItemLabel.{ItemLabel}
+use Rattle.item_tree.specs.declared.label.ItemLabel.{ItemLabel}
 use Rattle.xer_write.proofs.Gaining.{still_open}
 use Rattle.xer_write.proofs.contents.Contents.end_element.Goals as goal
 

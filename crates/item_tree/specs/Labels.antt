@@ -1,7 +1,7 @@
 -- Where a node stands in its document, and how many nodes may stand below it.
 use Rattle.std.specs.Prelude.{◌≡◌, ℕ}
-use Rattle.doc_text.specs.declared.label.ItemLabel.{ItemLabel}
-use Rattle.doc_text.specs.declared.label.ItemLabel.TheVariants.{Element, Text}
+use Rattle.item_tree.specs.declared.label.ItemLabel.{ItemLabel}
+use Rattle.item_tree.specs.declared.label.ItemLabel.TheVariants.{Element, Text}
 
 -- a text has none
 abbrev pub MayHave : ItemLabel → ℕ → Type 0

@@ -1,6 +1,6 @@
 //! What stands at a node of a document's items.
 ghost use Rattle.std.specs.Prelude.{◌≡◌, IfOk};
-ghost use Rattle.doc_text.specs.Labels.{MayHave, item_place};
+ghost use Rattle.item_tree.specs.Labels.{MayHave, item_place};
 
 use label_tree::Shape;
 use std::alloc::Global;
@@ -36,6 +36,21 @@ impl Attributes {
         ensures { result.now ≡ self.now }
     {
         self.entries.as_slice()
+    }
+
+    /// Equal attributes.
+    pub fn copy_of(alloc: Global, entries: &[(Name, Text)]) -> Result<Attributes, Memory>
+        ensures { IfOk result (λ attributes. attributes ≡ entries.now) }
+    {
+        let mut copies = Vec::with_capacity(alloc, entries.len())?;
+        let mut rest = entries;
+        'each: while let [entry, others @ ..] = rest {
+            rest = others;
+            let name = entry.0.copy(alloc)?;
+            let value = entry.1.copy(alloc)?;
+            copies.push((name, value))?;
+        }
+        Attributes::of(copies)
     }
 
     fn copy(&self) -> Result<Attributes, Memory>
@@ -76,63 +91,26 @@ impl Bindings {
         self.entries.as_slice()
     }
 
+    /// Equal bindings.
+    pub fn copy_of(alloc: Global, entries: &[(Text, Text)]) -> Result<Bindings, Memory>
+        ensures { IfOk result (λ bindings. bindings ≡ entries.now) }
+    {
+        let mut copies = Vec::with_capacity(alloc, entries.len())?;
+        let mut rest = entries;
+        'each: while let [entry, others @ ..] = rest {
+            rest = others;
+            let prefix = entry.0.copy(alloc)?;
+            let space = entry.1.copy(alloc)?;
+            copies.push((prefix, space))?;
+        }
+        Bindings::of(copies)
+    }
+
     fn copy(&self) -> Result<Bindings, Memory>
         ensures { IfOk result (λ bindings. bindings ≡ self.now) }
     {
         let entries = self.entries.clone()?;
         Ok(Bindings { entries })
-    }
-}
-
-/// No attributes and no bindings, of which most elements share these.
-#[derive(Drop)]
-pub(crate) struct Absent {
-    attributes: Attributes,
-    declares: Bindings,
-}
-
-impl Model for Absent {
-    ghost use Rattle.std.specs.Prelude.{ℕ, ◌≡◌, []};
-
-    ghost Value = { ℕ };
-
-    ghost view = { λ _. 0 };
-
-    ghost invariant = { λ a. (a.attributes ≡ []) × (a.declares ≡ []) };
-}
-
-impl Absent {
-    pub(crate) fn new(alloc: Global) -> Result<Absent, Memory> {
-        let attributes = Attributes::of(Vec::new(alloc))?;
-        let declares = Bindings::of(Vec::new(alloc))?;
-        Ok(Absent {
-            attributes,
-            declares,
-        })
-    }
-
-    // These attributes.
-    #[inline(always)]
-    pub(crate) fn attributes(&self, entries: Vec<(Name, Text)>) -> Result<Attributes, Memory>
-        ensures { IfOk result (λ attributes. attributes ≡ entries.items) }
-    {
-        if entries.is_empty() {
-            self.attributes.copy()
-        } else {
-            Attributes::of(entries)
-        }
-    }
-
-    // These bindings.
-    #[inline(always)]
-    pub(crate) fn declares(&self, entries: Vec<(Text, Text)>) -> Result<Bindings, Memory>
-        ensures { IfOk result (λ bindings. bindings ≡ entries.items) }
-    {
-        if entries.is_empty() {
-            self.declares.copy()
-        } else {
-            Bindings::of(entries)
-        }
     }
 }
 

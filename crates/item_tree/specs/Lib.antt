@@ -1,0 +1,5 @@
+pub mod Labels
+pub mod Growing
+pub mod Meaning
+pub mod Building
+pub mod Seen

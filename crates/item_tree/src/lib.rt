@@ -1,0 +1,15 @@
+//! The items of documents, in one vector of small entries: names, lists and texts stand beside them, and entries have
+//! their numbers.
+#![tactic(auto)]
+
+mod builder;
+mod entries;
+mod label;
+mod nodes;
+mod store;
+mod tree;
+
+pub use builder::{ElementName, ItemBuilder};
+pub use label::{Attributes, Bindings, ItemLabel};
+pub use nodes::{ItemKids, ItemNode, ItemRef};
+pub use tree::ItemTree;
