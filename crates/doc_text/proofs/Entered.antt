@@ -75,7 +75,7 @@ behind_inner tag scope inside ended depth e is h k =
     behind_names tag (reverse scope) ended depth e ∙ rw (here, there) refl
 
 pub enters : (tag : Tag) (scope inside : List (List ℕ × List ℕ)) (ended : Bool) (depth : ℕ) (head : Head) → start_reason tag (reverse scope) ended depth ≡ None → inside ≡ scope ++ reverse (bindings_of tag.attributes)
-    → head.name ≡ element_name (reverse inside) tag.name → head.attributes ≡ attributes_of (reverse inside) tag.attributes → head.declares ≡ bindings_of tag.attributes → Enters (reverse scope) ended depth tag head
+    → head.name ≡ element_name (reverse inside) tag.name → head.attributes.items ≡ attributes_of (reverse inside) tag.attributes → head.declares.items ≡ bindings_of tag.attributes → Enters (reverse scope) ended depth tag head
 enters tag scope inside ended depth head none is name attributes declares =
     let same : reverse inside ≡ tag_scope tag (reverse scope) = ap reverse is ∙ inside_is scope (bindings_of tag.attributes) in
     record {
@@ -91,7 +91,7 @@ unfolding start_reason is_unbound
 plain_reason tag outer ended depth none p = rw (none, p.qname, p.short, p.alone) refl
 
 pub plain_enters : (tag : Tag) (outer : List (List ℕ × List ℕ)) (ended : Bool) (depth : ℕ) (head : Head) → tag.attributes ≡ [] → IsPlain tag.name → first_true (place_tests ended depth) ≡ None
-    → head.name.space ≡ or_absent (beside [] outer) → head.name.local ≡ tag.name → head.attributes ≡ [] → head.declares ≡ [] → Enters outer ended depth tag head
+    → head.name.space ≡ or_absent (beside [] outer) → head.name.local ≡ tag.name → head.attributes.items ≡ [] → head.declares.items ≡ [] → Enters outer ended depth tag head
 unfolding element_name
 plain_enters tag outer ended depth head empty p none space local attributes declares = record {
   none = plain_reason tag outer ended depth empty p ∙ none;

@@ -54,13 +54,13 @@ at_end : (bytes rest : List ℕ) (s : State) → Stands bytes rest s → length 
 at_end bytes rest s stands e = subst (λ (r : List ℕ). Stands bytes r s) (nil_from_length rest e) stands
 
 -- at the end of a document no node is open, and there is one
-pub has_closed : (bytes rest : List ℕ) (b : Builder) → Stands bytes rest (state b) → Scoped b → b.ended ≡ true → b.items.above ≡ []
+pub has_closed : (bytes rest : List ℕ) (b : Builder) → Stands bytes rest (state b) → Scoped b → b.ended ≡ true → b.items.zip.above ≡ []
 has_closed bytes rest b stands scoped ended = sym scoped.nodes ∙ ap (map node_of) (stands.good.one ended).above
 
-pub has_one : (bytes rest : List ℕ) (b : Builder) → Stands bytes rest (state b) → b.ended ≡ true → length b.items.kids ≡ 1
+pub has_one : (bytes rest : List ℕ) (b : Builder) → Stands bytes rest (state b) → b.ended ≡ true → length b.items.zip.kids ≡ 1
 has_one bytes rest b stands ended = ap length (stands.good.one ended).kids
 
-pub is_root : (bytes rest : List ℕ) (b : Builder) (root : Rose ItemLabel) → length bytes ≤ 16777216 → Stands bytes rest (state b) → length rest ≡ 0 → b.ended ≡ true → b.items.kids ≡ root ∷ [] → DocOfItems bytes root
+pub is_root : (bytes rest : List ℕ) (b : Builder) (root : Rose ItemLabel) → length bytes ≤ 16777216 → Stands bytes rest (state b) → length rest ≡ 0 → b.ended ≡ true → b.items.zip.kids ≡ root ∷ [] → DocOfItems bytes root
 is_root bytes rest b root short stands over ended kids = ends_whole bytes (state b) root (omega (arith, short)) (at_end bytes rest (state b) stands over) ended kids
 
 pub unfinished : (bytes rest : List ℕ) (b : Builder) (at : ℕ) → Stands bytes rest (state b) → length rest ≡ 0 → at ≡ length bytes → b.ended ≡ false → BrokenAt bytes at why.Unfinished

@@ -23,7 +23,7 @@ fn beside<'a>(prefix: &Text, bindings: &'a [(Text, Text)]) -> Option<&'a Text>
 
 // What the node binds the prefix to itself, or else what is bound around it.
 fn declared_on<'a>(prefix: &Text, label: ItemRef<'a>, outer: Option<&'a Text>) -> Option<&'a Text>
-    ensures { option_map (λ space. space.now) result ≡ option_or (declared_on prefix.now (item_seen label)) (option_map (λ space. space.now) outer.entry) }
+    ensures { option_map (λ space. space.now) result ≡ option_or (declared_on prefix.now (item_seen label.entry)) (option_map (λ space. space.now) outer.entry) }
 {
     let ItemRef::Element { declares, .. } = label else {
         return outer;

@@ -2,7 +2,6 @@
 ghost use Rattle.std.specs.Prelude.{if◌then◌else◌, cond, not, true, false, string_bytes, nat_le, encode_utf8, ◌≡◌, ◌==◌, ◌<◌, ◌≤◌, ◌&&◌, ◌∷◌, [], reverse, take, IfOk, IfErr, IsUtf8, OnOk, length};
 ghost use Rattle.xa_base.specs.WhiteSpace.{is_white_space};
 ghost use Rattle.xa_base.specs.Limits.{is_empty};
-ghost use Rattle.flat_tree.specs.Zips.{first_label};
 ghost use Rattle.doc_pieces.specs.Pieces as pieces;
 ghost use Rattle.doc_pieces.specs.Found.{seen, tag_seen, bytes_of};
 ghost use Rattle.std.specs.List.{prefix_len};
@@ -12,27 +11,29 @@ ghost use Rattle.xa_base.specs.Entries.{first_true};
 ghost use Rattle.doc_text.specs.Private.States.{context, nothing, added, passed};
 ghost use Rattle.doc_text.specs.Private.Entering.{Stopped, have_utf8};
 ghost use Rattle.doc_text.specs.declared.error.DocWhy.TheVariants as why;
-ghost use Rattle.doc_text.specs.Private.Building.{state, binding_count, Scoped, Takes, Begins, Flushed, Shuts, Kept, GivesUtf8};
+ghost use Rattle.doc_text.specs.Private.Noting.{KnownAs, bare};
+ghost use Rattle.doc_text.specs.Private.Building.{state, Scoped, Takes, Begins, Flushed, Shuts, Kept, GivesUtf8};
 
 use crate::error::{DocError, DocWhy};
-use crate::label::{Absent, ItemLabel};
 use crate::names::is_long;
+use crate::notes::Notes;
 use crate::scope::BindingsInScope;
-use crate::tags::{enter, is_unbound, value_of};
+use crate::tags::{enter, first_of_place, is_unbound, value_of};
 use doc_pieces::{Element, Found, is_qname, plain_run, prefix_of};
-use flat_tree::Flat;
+use item_tree::{ElementName, ItemBuilder, ItemTree};
 use std::alloc::Global;
 use xa_base::{Memory, Text, utf8_text};
 
 #[derive(Drop)]
 pub(crate) struct Builder<'a> {
     alloc: Global,
-    absent: Absent,
     scope: BindingsInScope<'a>,
     // The nodes so far. Those that are open are the elements that are open.
-    items: flat_tree::Builder<ItemLabel>,
+    items: ItemBuilder,
     // The names of these as written, the innermost last.
     open: Vec<&'a [u8]>,
+    // The names of tags that were read where the same bindings are in scope.
+    notes: Notes<'a>,
     // The characters behind these, which are no node yet.
     text: String,
     text_at: u64,
@@ -73,14 +74,14 @@ impl<'a> Builder<'a> {
     pub(crate) fn new(alloc: Global) -> Result<Builder<'a>, Memory>
         ensures { IfOk result Begins }
     {
-        let absent = Absent::new(alloc)?;
         let scope = BindingsInScope::new(alloc)?;
+        let notes = Notes::new();
         Ok(Builder {
             alloc,
-            absent,
             scope,
-            items: flat_tree::Builder::new(alloc),
+            items: ItemBuilder::new(alloc),
             open: Vec::new(alloc),
+            notes,
             text: String::new(alloc),
             text_at: 0,
             ended: false,
@@ -98,11 +99,7 @@ impl<'a> Builder<'a> {
             return Ok(());
         }
         let text = Text::from_str(self.alloc, self.text.as_str())?;
-        let label = ItemLabel::Text {
-            text,
-            at: self.text_at,
-        };
-        self.items.leaf(label)?;
+        self.items.text(text, self.text_at)?;
         self.text.clear();
         Ok(())
     }
@@ -113,27 +110,51 @@ impl<'a> Builder<'a> {
         ensures ok { OnOk result (Takes (pieces.Start (tag_seen tag.entry)) at self.old self.new) }
         ensures err { IfErr result (Stopped (reason (pieces.Start (tag_seen tag.entry)) (context (state self.old))) at) }
     {
+        if tag.attributes.is_empty() {
+            if let Some(name) = self.notes.find(tag.name) {
+                return self.start_noted(tag.name, name, at);
+            }
+        }
+        self.start_read(tag, at)
+    }
+
+    // A start tag without attributes, of a name that is noted.
+    fn start_noted(&mut self, written: &'a [u8], name: ElementName, at: u64) -> Result<(), DocError>
+        requires scoped { Scoped self.old }
+        requires known { KnownAs (reverse self.old.scope) self.old.items.names written.now name }
+        ensures ok { OnOk result (Takes (pieces.Start (bare written.now)) at self.old self.new) }
+        ensures err { IfErr result (Stopped (reason (pieces.Start (bare written.now)) (context (state self.old))) at) }
+    {
         let depth = self.open.as_slice().len();
-        let head = match enter(
-            self.alloc,
-            &self.absent,
-            &mut self.scope,
-            self.ended,
-            depth,
-            &tag,
-            at,
-        ) {
+        if let Some(why) = first_of_place(self.ended, depth) {
+            return Err(DocError::Syntax { at, why });
+        }
+        self.flush()?;
+        self.items.open_known(name, at)?;
+        self.open.push(written)?;
+        self.first = false;
+        self.brackets = 0;
+        Ok(())
+    }
+
+    fn start_read(&mut self, tag: Element<'a>, at: u64) -> Result<(), DocError>
+        requires scoped { Scoped self.old }
+        requires utf8 { have_utf8 (tag_seen tag).attributes ≡ true }
+        ensures ok { OnOk result (Takes (pieces.Start (tag_seen tag.entry)) at self.old self.new) }
+        ensures err { IfErr result (Stopped (reason (pieces.Start (tag_seen tag.entry)) (context (state self.old))) at) }
+    {
+        let depth = self.open.as_slice().len();
+        let head = match enter(self.alloc, &mut self.scope, self.ended, depth, &tag, at) {
             Ok(head) => head,
             Err(error) => return Err(error),
         };
         self.flush()?;
-        self.items.open(ItemLabel::Element {
-            name: head.name,
-            attributes: head.attributes,
-            declares: head.declares,
-            at,
-        })?;
+        let binds = !head.declares.is_empty();
+        let name = self
+            .items
+            .open_element(head.name, head.attributes, head.declares, at)?;
         self.open.push(tag.name)?;
+        self.notes.note_entered(binds, tag.name, name);
         self.first = false;
         self.brackets = 0;
         Ok(())
@@ -145,27 +166,50 @@ impl<'a> Builder<'a> {
         ensures ok { OnOk result (Takes (pieces.Empty (tag_seen tag.entry)) at self.old self.new) }
         ensures err { IfErr result (Stopped (reason (pieces.Empty (tag_seen tag.entry)) (context (state self.old))) at) }
     {
+        if tag.attributes.is_empty() {
+            if let Some(name) = self.notes.find(tag.name) {
+                return self.empty_noted(tag.name, name, at);
+            }
+        }
+        self.empty_read(tag, at)
+    }
+
+    // An empty tag without attributes, of a name that is noted.
+    fn empty_noted(&mut self, written: &'a [u8], name: ElementName, at: u64) -> Result<(), DocError>
+        requires scoped { Scoped self.old }
+        requires known { KnownAs (reverse self.old.scope) self.old.items.names written.now name }
+        ensures ok { OnOk result (Takes (pieces.Empty (bare written.now)) at self.old self.new) }
+        ensures err { IfErr result (Stopped (reason (pieces.Empty (bare written.now)) (context (state self.old))) at) }
+    {
         let depth = self.open.as_slice().len();
-        let head = match enter(
-            self.alloc,
-            &self.absent,
-            &mut self.scope,
-            self.ended,
-            depth,
-            &tag,
-            at,
-        ) {
+        if let Some(why) = first_of_place(self.ended, depth) {
+            return Err(DocError::Syntax { at, why });
+        }
+        self.flush()?;
+        self.items.known_element(name, at)?;
+        self.ended = self.open.is_empty();
+        self.first = false;
+        self.brackets = 0;
+        Ok(())
+    }
+
+    // What is noted stays, since the bindings of the element are in scope within its tag alone.
+    fn empty_read(&mut self, tag: Element<'a>, at: u64) -> Result<(), DocError>
+        requires scoped { Scoped self.old }
+        requires utf8 { have_utf8 (tag_seen tag).attributes ≡ true }
+        ensures ok { OnOk result (Takes (pieces.Empty (tag_seen tag.entry)) at self.old self.new) }
+        ensures err { IfErr result (Stopped (reason (pieces.Empty (tag_seen tag.entry)) (context (state self.old))) at) }
+    {
+        let depth = self.open.as_slice().len();
+        let head = match enter(self.alloc, &mut self.scope, self.ended, depth, &tag, at) {
             Ok(head) => head,
             Err(error) => return Err(error),
         };
-        self.scope.leave(head.declares.items().len());
+        self.scope.leave(head.declares.len());
         self.flush()?;
-        self.items.leaf(ItemLabel::Element {
-            name: head.name,
-            attributes: head.attributes,
-            declares: head.declares,
-            at,
-        })?;
+        let _ = self
+            .items
+            .element(head.name, head.attributes, head.declares, at)?;
         self.ended = self.open.is_empty();
         self.first = false;
         self.brackets = 0;
@@ -200,16 +244,6 @@ impl<'a> Builder<'a> {
         }
     }
 
-    // How many namespaces the innermost element binds.
-    fn binding_count(&self) -> usize
-        ensures { result ≡ binding_count (first_label self.now.items.above) }
-    {
-        match self.items.innermost() {
-            Some(ItemLabel::Element { declares, .. }) => declares.items().len(),
-            _ => 0,
-        }
-    }
-
     // Ends the innermost element, behind whose kids no characters stand.
     fn close(&mut self)
         requires scoped { Scoped self.old }
@@ -217,8 +251,9 @@ impl<'a> Builder<'a> {
         requires inside { is_empty (state self.old).above ≡ false }
         ensures { Shuts self.old self.new }
     {
-        let count = self.binding_count();
+        let count = self.items.innermost_bindings();
         self.scope.leave(count);
+        self.notes.note_left(count);
         let outer = self.open.as_slice().len() - 1;
         self.open.truncate(outer);
         self.items.close();
@@ -278,12 +313,12 @@ impl<'a> Builder<'a> {
     }
 
     // The root, which has ended.
-    pub(crate) fn finish(self) -> Flat<ItemLabel>
-        requires closed { self.items.above ≡ [] }
-        requires one { length self.items.kids ≡ 1 }
-        ensures { self.entry.items.kids ≡ result ∷ [] }
+    pub(crate) fn finish(self) -> ItemTree
+        requires closed { self.items.zip.above ≡ [] }
+        requires one { length self.items.zip.kids ≡ 1 }
+        ensures { self.entry.items.zip.kids ≡ result ∷ [] }
     {
-        self.items.finish_one()
+        self.items.finish()
     }
 
     // Whether no element is open.

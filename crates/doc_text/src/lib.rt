@@ -8,6 +8,7 @@ mod error;
 mod items;
 mod laws;
 mod names;
+mod notes;
 mod reader;
 mod scope;
 mod short_lists;
@@ -15,7 +16,7 @@ mod tags;
 
 pub use bindings::prefix_at;
 pub use error::{DocError, DocWhy};
-pub use items::Items;
 pub use item_tree::{Attributes, Bindings, ItemKids, ItemLabel, ItemNode, ItemRef, ItemTree};
+pub use items::Items;
 pub use laws::{document_items, one_answer};
 pub use reader::read_document;

@@ -9,9 +9,8 @@ ghost use Rattle.doc_text.specs.Private.Building.{state};
 use crate::builder::Builder;
 use crate::error::{DocError, DocWhy};
 use crate::items::Items;
-use crate::label::ItemLabel;
 use doc_pieces::{NoneWhy, read_piece, why_none};
-use flat_tree::{Flat, Whole};
+use item_tree::ItemTree;
 use std::alloc::Global;
 use xa_base::utf8_text;
 
@@ -41,11 +40,11 @@ fn why(none: NoneWhy) -> DocWhy
 }
 
 // The items that the tree is, which keeps what items keep.
-fn seal(root: Flat<ItemLabel>) -> Items
+fn seal(root: ItemTree) -> Items
     requires { AreItems root }
     ensures { result ≡ root }
 {
-    Items::of(Whole::of(root))
+    Items::of(root)
 }
 
 // The items of a document that is UTF-8.

@@ -13,7 +13,6 @@ ghost use Rattle.doc_text.specs.declared.error.DocWhy.TheVariants as why;
 
 use crate::duplicates::{expanded_twice, written_twice};
 use crate::error::{DocError, DocWhy};
-use crate::label::{Absent, Attributes, Bindings};
 use crate::names::{binds, bound_prefix, is_long, is_plain, is_reserved};
 use crate::scope::BindingsInScope;
 use crate::short_lists::push;
@@ -252,8 +251,8 @@ fn has_duplicate(
 #[derive(Drop)]
 pub(crate) struct Head {
     pub(crate) name: Name,
-    pub(crate) attributes: Attributes,
-    pub(crate) declares: Bindings,
+    pub(crate) attributes: Vec<(Name, Text)>,
+    pub(crate) declares: Vec<(Text, Text)>,
 }
 
 // What speaks against the names and the bindings of a tag.
@@ -272,7 +271,7 @@ fn first_of_names(tag: &Element<'_>) -> Option<DocWhy>
 }
 
 // What speaks against the place of a tag.
-fn first_of_place(ended: bool, depth: usize) -> Option<DocWhy>
+pub(crate) fn first_of_place(ended: bool, depth: usize) -> Option<DocWhy>
     ensures { result ≡ first_true ((ended, why.ExtraRoot) ∷ (nat_le 64 depth, why.TooDeep) ∷ []) }
 {
     if ended {
@@ -284,32 +283,10 @@ fn first_of_place(ended: bool, depth: usize) -> Option<DocWhy>
     }
 }
 
-// What a tag opens.
-#[inline(always)]
-fn head_of(
-    absent: &Absent,
-    name: Name,
-    attributes: Vec<(Name, Text)>,
-    declares: Vec<(Text, Text)>,
-) -> Result<Head, Memory>
-    ensures name { IfOk result (λ head. head.name ≡ name) }
-    ensures attributes { IfOk result (λ head. head.attributes ≡ attributes.items) }
-    ensures declares { IfOk result (λ head. head.declares ≡ declares.items) }
-{
-    let attributes = absent.attributes(attributes)?;
-    let declares = absent.declares(declares)?;
-    Ok(Head {
-        name,
-        attributes,
-        declares,
-    })
-}
-
 // What a tag without attributes opens, or what speaks against it, where nothing speaks against its name and this has
 // no prefix.
 fn enter_plain(
     alloc: Global,
-    absent: &Absent,
     scope: &BindingsInScope<'_>,
     ended: bool,
     depth: usize,
@@ -326,18 +303,16 @@ fn enter_plain(
     }
     let space = copy_space(alloc, scope.bound_to(b""))?;
     let local = Text::from_utf8(alloc, tag.name)?;
-    Ok(head_of(
-        absent,
-        Name { space, local },
-        Vec::new(alloc),
-        Vec::new(alloc),
-    )?)
+    Ok(Head {
+        name: Name { space, local },
+        attributes: Vec::new(alloc),
+        declares: Vec::new(alloc),
+    })
 }
 
 // What a tag opens, with its bindings in scope then; or what speaks against it.
 pub(crate) fn enter<'a>(
     alloc: Global,
-    absent: &Absent,
     scope: &mut BindingsInScope<'a>,
     ended: bool,
     depth: usize,
@@ -350,7 +325,7 @@ pub(crate) fn enter<'a>(
     ensures err { IfErr result (Stopped (contexts.start_reason (tag_seen tag.now) (reverse scope.old) ended depth) at) }
 {
     if tag.attributes.is_empty() && is_plain(tag.name) {
-        return enter_plain(alloc, absent, scope, ended, depth, tag, at);
+        return enter_plain(alloc, scope, ended, depth, tag, at);
     }
     if let Some(why) = first_of_names(tag) {
         return Err(DocError::Syntax { at, why });
@@ -373,5 +348,9 @@ pub(crate) fn enter<'a>(
         return Err(DocError::Syntax { at, why });
     }
     let name = element_name(alloc, scope, tag.name)?;
-    Ok(head_of(absent, name, attributes, declares)?)
+    Ok(Head {
+        name,
+        attributes,
+        declares,
+    })
 }

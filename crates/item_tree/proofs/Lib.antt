@@ -1,1 +1,3 @@
-pub mod Meanings
+pub mod Mapped
+pub mod Growth
+pub mod Steps

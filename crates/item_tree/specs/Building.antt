@@ -18,8 +18,12 @@ coded_building =
     code_by (Zip ItemLabel × List Name) (coded× (coded_zip item_label.the_row.coded) (coded_list a_name.the_row.coded)) (λ b. (b.zip, b.names)) (λ p. record { zip = p.0; names = p.1 }) (λ _. refl)
 
 -- the name with this number
+abbrev pub name_in : Option Name → Name
+name_in None = record { space = []; local = [] }
+name_in (Some name) = name
+
 abbrev pub name_at : List Name → ℕ → Name
-name_at names number = elim (slice_get names number) [ None ↦ record { space = []; local = [] } | Some name ↦ name ]
+name_at names number = name_in (slice_get names number)
 
 -- how many namespaces a label binds
 abbrev pub binding_count : Option ItemLabel → ℕ

@@ -1,5 +1,5 @@
 -- What trees of entries stand for: each entry for what it says in the store beside it.
-use Rattle.std.specs.Prelude.{◌≡◌, ℕ, zero, suc, ◌<◌, ◌≤◌, List, [], ◌∷◌, length, map, slice_get, Option, Some, None}
+use Rattle.std.specs.Prelude.{ℕ, zero, suc, ◌<◌, ◌≤◌, List, [], ◌∷◌, length, map, slice_get, Option, Some, None}
 use Rattle.xa_base.specs.declared.texts.Name.{Name}
 use Rattle.label_tree.specs.Rose.{Rose, node, Roses, none, more, roses_of, Allowed, AllowedAll}
 use Rattle.flat_tree.specs.Zips.{Above, Zip}
@@ -43,27 +43,44 @@ abbrev pub declares_of : Option Lists → List (List ℕ × List ℕ)
 declares_of None = []
 declares_of (Some lists) = lists.declares.items
 
-abbrev pub text_at : List (List ℕ) → ℕ → List ℕ
-text_at texts number = elim (slice_get texts number) [ None ↦ [] | Some text ↦ text ]
+abbrev pub text_in : Option (List ℕ) → List ℕ
+text_in None = []
+text_in (Some text) = text
 
 -- what an entry says
 abbrev pub meaning : Store → Kept → ItemLabel
 meaning s (Element name lists at) =
     label.Element (name_at s.names.items name) (attributes_of (lists_at s.lists.items lists)) (declares_of (lists_at s.lists.items lists)) at
-meaning s (Text text at) = label.Text (text_at s.texts.items text) at
+meaning s (Text text at) = label.Text (text_in (slice_get s.texts.items text)) at
+
+-- the element with other lists
+abbrev pub with_number : ℕ → Kept → Kept
+with_number lists (Element name before at) = Element name lists at
+with_number lists (Text text at) = Text text at
+
+-- the innermost open element has the lists with this number
+abbrev pub relisted_in : ℕ → List (Above Kept) → List (Above Kept)
+relisted_in lists [] = []
+relisted_in lists (a ∷ up) = record { label = with_number lists a.label; before = a.before } ∷ up
+
+abbrev pub relisted : ℕ → Zip Kept → Zip Kept
+relisted lists z = record { above = relisted_in lists z.above; kids = z.kids }
 
 -- its numbers are those of something in the store
-abbrev pub Fits : Store → Kept → ℕ → Type 0
-Fits s (Element name lists at) kids = (name < length s.names.items) × (lists ≤ length s.lists.items)
-Fits s (Text text at) kids = text < length s.texts.items
+abbrev pub Fits : Store → Kept → Type 0
+Fits s (Element name lists at) = (name < length s.names.items) × (lists ≤ length s.lists.items)
+Fits s (Text text at) = text < length s.texts.items
 
 -- so are those of all entries
+abbrev pub FitTree : Store → Rose Kept → Type 0
+FitTree s t = Allowed (λ kept _. Fits s kept) t
+
 abbrev pub FitAll : Store → List (Rose Kept) → Type 0
-FitAll s ts = AllowedAll (Fits s) (roses_of ts)
+FitAll s ts = AllowedAll (λ kept _. Fits s kept) (roses_of ts)
 
 abbrev pub FitAbove : Store → List (Above Kept) → Type 0
 FitAbove s [] = Unit {0}
-FitAbove s (a ∷ up) = Fits s a.label 0 × FitAll s a.before × FitAbove s up
+FitAbove s (a ∷ up) = Fits s a.label × (FitAll s a.before × FitAbove s up)
 
 pub record FitZip (s : Store) (z : Zip Kept) : Type 0 where
   pub above : FitAbove s z.above

@@ -5,6 +5,7 @@ ghost use Rattle.flat_tree.specs.Zips.{opened, added, closed, first_label, nothi
 ghost use Rattle.item_tree.specs.declared.label.ItemLabel.TheVariants as item;
 ghost use Rattle.item_tree.specs.Building.{binding_count, listed, name_at};
 ghost use Rattle.item_tree.specs.Growing.{Grows};
+ghost use Rattle.item_tree.specs.Meaning.{relisted, with_number};
 
 use crate::entries::Kept;
 use crate::store::{Store, known};
@@ -107,9 +108,9 @@ impl ItemBuilder {
         ensures names { Grows self.old.names self.new.names }
         ensures number { IfOk result (λ number. slice_get self.new.names number ≡ Some name) }
     {
-        let (kept, number) = self.store.keep_element(name, attributes, declares, at)?;
-        self.builder.open(kept)?;
-        Ok(ElementName { number })
+        let kept = self.store.keep_element(name, attributes, declares, at)?;
+        self.builder.open(kept.0)?;
+        Ok(ElementName { number: kept.1 })
     }
 
     /// Adds an element without attributes and bindings, which is open. Its name has this number.
@@ -137,9 +138,9 @@ impl ItemBuilder {
         ensures names { Grows self.old.names self.new.names }
         ensures number { IfOk result (λ number. slice_get self.new.names number ≡ Some name) }
     {
-        let (kept, number) = self.store.keep_element(name, attributes, declares, at)?;
-        self.builder.leaf(kept)?;
-        Ok(ElementName { number })
+        let kept = self.store.keep_element(name, attributes, declares, at)?;
+        self.builder.leaf(kept.0)?;
+        Ok(ElementName { number: kept.1 })
     }
 
     /// Adds an element without attributes and bindings, in which nothing stands. Its name has this number.
@@ -177,14 +178,7 @@ impl ItemBuilder {
         ensures names { self.new.names ≡ self.old.names }
     {
         let lists = self.store.keep_lists(attributes, declares)?;
-        if let Some(Kept::Element { name, at, .. }) = self.builder.innermost() {
-            let kept = Kept::Element {
-                name: *name,
-                lists,
-                at: *at,
-            };
-            let _ = self.builder.relabel(kept);
-        }
+        relist(&mut self.builder, lists);
         Ok(())
     }
 
@@ -204,9 +198,32 @@ impl ItemBuilder {
         requires one { length self.zip.kids ≡ 1 }
         ensures { self.zip.kids ≡ result ∷ [] }
     {
+        let tree = self.builder.finish_one();
         ItemTree {
-            tree: self.builder.finish_one(),
+            tree,
             store: self.store,
         }
+    }
+}
+
+// Gives the innermost open element the lists with this number.
+fn relist(builder: &mut Builder<Kept>, lists: u32)
+    requires { 0 < length builder.old.above }
+    ensures { builder.new ≡ relisted lists builder.old }
+{
+    let kept = match builder.innermost() {
+        None => return,
+        Some(kept) => with_number(*kept, lists),
+    };
+    let _ = builder.relabel(kept);
+}
+
+// The element with other lists.
+fn with_number(kept: Kept, lists: u32) -> Kept
+    ensures { result ≡ with_number lists kept }
+{
+    match kept {
+        Kept::Element { name, at, .. } => Kept::Element { name, lists, at },
+        Kept::Text { .. } => kept,
     }
 }

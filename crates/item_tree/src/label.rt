@@ -43,9 +43,11 @@ impl Attributes {
         ensures { IfOk result (λ attributes. attributes ≡ entries.now) }
     {
         let mut copies = Vec::with_capacity(alloc, entries.len())?;
-        'entries: for (name, value) in entries {
-            let name = name.copy(alloc)?;
-            let value = value.copy(alloc)?;
+        let mut rest = entries;
+        'each: while let [entry, others @ ..] = rest {
+            rest = others;
+            let name = entry.0.copy(alloc)?;
+            let value = entry.1.copy(alloc)?;
             copies.push((name, value))?;
         }
         Attributes::of(copies)
@@ -94,9 +96,11 @@ impl Bindings {
         ensures { IfOk result (λ bindings. bindings ≡ entries.now) }
     {
         let mut copies = Vec::with_capacity(alloc, entries.len())?;
-        'entries: for (prefix, space) in entries {
-            let prefix = prefix.copy(alloc)?;
-            let space = space.copy(alloc)?;
+        let mut rest = entries;
+        'each: while let [entry, others @ ..] = rest {
+            rest = others;
+            let prefix = entry.0.copy(alloc)?;
+            let space = entry.1.copy(alloc)?;
             copies.push((prefix, space))?;
         }
         Bindings::of(copies)

@@ -33,7 +33,7 @@ impl<'a> ItemRef<'a> {
     /// The byte of the document at which the element or the text begins, from 0.
     #[inline(always)]
     pub fn place(self) -> u64
-        ensures { result ≡ item_place (item_seen self) }
+        ensures { result ≡ item_place (item_seen self.entry) }
     {
         match self {
             ItemRef::Element { at, .. } | ItemRef::Text { at, .. } => at,
@@ -42,7 +42,7 @@ impl<'a> ItemRef<'a> {
 
     /// The label itself.
     pub fn to_label(self, alloc: Global) -> Result<ItemLabel, Memory>
-        ensures { IfOk result (λ label. label ≡ item_seen self) }
+        ensures { IfOk result (λ label. label ≡ item_seen self.entry) }
     {
         match self {
             ItemRef::Element {
@@ -77,7 +77,7 @@ pub struct ItemNode<'a> {
 }
 
 impl<'a> Model for ItemNode<'a> {
-    ghost use Rattle.label_tree.specs.Rose.{Rose, Allowed, coded_rose};
+    ghost use Rattle.label_tree.specs.Rose.{Rose, coded_rose};
     ghost use Rattle.item_tree.specs.declared.label.ItemLabel.{ItemLabel};
     ghost use Rattle.item_tree.specs.contracts.label.ItemLabel as item_label;
 
@@ -85,11 +85,11 @@ impl<'a> Model for ItemNode<'a> {
 
     ghost coded = { coded_rose item_label.the_row.coded };
 
-    ghost use Rattle.item_tree.specs.Meaning.{map_rose, meaning, Fits};
+    ghost use Rattle.item_tree.specs.Meaning.{map_rose, meaning, FitTree};
 
     ghost view = { λ a. map_rose (meaning a.store.now) a.node };
 
-    ghost invariant = { λ a. Allowed (Fits a.store.now) a.node };
+    ghost invariant = { λ a. FitTree a.store.now a.node };
 }
 
 /// Nodes of a document side by side, of which the first comes next.
@@ -123,7 +123,8 @@ impl<'a> ItemNode<'a> {
     pub fn label(&self) -> ItemRef<'a>
         ensures { item_seen result ≡ label_of self.now }
     {
-        self.store.item(*self.node.label())
+        let kept = self.node.label();
+        self.store.item(*kept)
     }
 
     /// The kids of the node.
@@ -131,8 +132,9 @@ impl<'a> ItemNode<'a> {
     pub fn kids(&self) -> ItemKids<'a>
         ensures { result ≡ kids_of self.now }
     {
+        let kids = self.node.kids();
         ItemKids {
-            kids: self.node.kids(),
+            kids,
             store: self.store,
         }
     }
@@ -167,8 +169,9 @@ impl<'a> ItemNode<'a> {
         requires { i < length (kids_of self.now) }
         ensures { slice_get (kids_of self.now) i ≡ Some result }
     {
+        let node = self.node.kid(i);
         ItemNode {
-            node: self.node.kid(i),
+            node,
             store: self.store,
         }
     }

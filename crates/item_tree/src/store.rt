@@ -47,7 +47,7 @@ impl Store {
     /// What an entry says.
     #[inline(always)]
     pub(crate) fn item(&self, kept: Kept) -> ItemRef<'_>
-        requires { Fits self.now kept 0 }
+        requires { Fits self.now kept }
         ensures { item_seen result ≡ meaning self.now kept }
     {
         match kept {
@@ -90,7 +90,7 @@ impl Store {
 
     /// How many namespaces an entry binds.
     pub(crate) fn binding_count(&self, kept: Kept) -> usize
-        requires { Fits self.now kept 0 }
+        requires { Fits self.now kept }
         ensures { result ≡ binding_count (Some (meaning self.now kept)) }
     {
         match kept {
@@ -159,7 +159,7 @@ impl Store {
         at: u64,
     ) -> Result<(Kept, u32), AllocError>
         ensures grows { StoreGrows self.old self.new }
-        ensures fits { IfOk result (λ kept. Fits self.new kept.0 0) }
+        ensures fits { IfOk result (λ kept. Fits self.new kept.0) }
         ensures meaning { IfOk result (λ kept. meaning self.new kept.0 ≡ label.Element name attributes.items declares.items at) }
         ensures number { IfOk result (λ kept. slice_get self.new.names.items kept.1 ≡ Some name) }
     {
@@ -174,7 +174,7 @@ impl Store {
     pub(crate) fn keep_text(&mut self, text: Text, at: u64) -> Result<Kept, AllocError>
         ensures grows { StoreGrows self.old self.new }
         ensures names { self.new.names.items ≡ self.old.names.items }
-        ensures fits { IfOk result (λ kept. Fits self.new kept 0) }
+        ensures fits { IfOk result (λ kept. Fits self.new kept) }
         ensures meaning { IfOk result (λ kept. meaning self.new kept ≡ label.Text text at) }
     {
         let at = short_place(at)?;

@@ -21,7 +21,7 @@ pub struct ItemTree {
 }
 
 impl Model for ItemTree {
-    ghost use Rattle.label_tree.specs.Rose.{Rose, Allowed, coded_rose};
+    ghost use Rattle.label_tree.specs.Rose.{Rose, coded_rose};
     ghost use Rattle.item_tree.specs.declared.label.ItemLabel.{ItemLabel};
     ghost use Rattle.item_tree.specs.contracts.label.ItemLabel as item_label;
 
@@ -29,11 +29,11 @@ impl Model for ItemTree {
 
     ghost coded = { coded_rose item_label.the_row.coded };
 
-    ghost use Rattle.item_tree.specs.Meaning.{map_rose, meaning, Fits};
+    ghost use Rattle.item_tree.specs.Meaning.{map_rose, meaning, FitTree};
 
     ghost view = { λ a. map_rose (meaning a.store) a.tree };
 
-    ghost invariant = { λ a. Allowed (Fits a.store) a.tree };
+    ghost invariant = { λ a. FitTree a.store a.tree };
 }
 
 impl ItemTree {
@@ -66,11 +66,11 @@ impl ItemTree {
 fn copied(node: &ItemNode<'_>, alloc: Global) -> Result<Tree<ItemLabel>, Memory>
     ensures { IfOk result (λ tree. tree ≡ node.now) }
 {
-    let label = node.label().to_label(alloc)?;
     let mut kids = Vec::new(alloc);
     for kid in node.kids() {
         let copy = copied(&kid, alloc)?;
         kids.push(copy)?;
     }
+    let label = node.label().to_label(alloc)?;
     Ok(Tree::join(label, kids))
 }

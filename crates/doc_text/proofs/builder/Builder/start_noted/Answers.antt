@@ -1,0 +1,41 @@
+use Rattle.std.proofs.Common.{◌≡◌, ◌<◌, ◌-◌, ℕ, List, [], ◌++◌, take, length, None, Option, subst, sym, ap, ◌∙◌, rules, refl}
+use Rattle.std.specs.Prelude.{reverse, Some}
+use Rattle.std.proofs.lemmas.List.{append-nil}
+use Rattle.std.proofs.lemmas.Option.{slice_get_within}
+use Rattle.xa_base.specs.Entries.{first_true}
+use Rattle.flat_tree.specs.Zips as zips
+use Rattle.label_tree.specs.Rose.{node, roses_of}
+use Rattle.item_tree.specs.declared.label.ItemLabel.TheVariants.{Element}
+use Rattle.item_tree.specs.Building.{name_at}
+use Rattle.item_tree.proofs.Growth.{grows-same}
+use Rattle.doc_text.specs.declared.error.DocWhy.{DocWhy}
+use Rattle.doc_text.specs.Private.Entering.{Stopped, EntersAs}
+use Rattle.doc_text.specs.Private.Noting.{AllKnown, bare}
+use Rattle.doc_text.proofs.Entered.{place_tests}
+use Rattle.doc_text.proofs.Noted.{noted_reason, noted_enters, left_none}
+use Rattle.doc_text.proofs.Built.{start_stops, mid_of, start_takes}
+use Rattle.doc_text.proofs.builder.Builder.start_noted.Goals as goal
+
+pub returns-in-Some-clause-err : goal.returns-in-Some-clause-err
+returns-in-Some-clause-err c =
+    let old = c.args.self.now in
+    let depth = length c.as_slice-depth.result.now in
+    (refl, sym (start_stops old (bare c.args.written.now) depth c.requires.scoped (search rules)) ∙ noted_reason (bare c.args.written.now) (reverse old.scope) old.ended depth refl c.requires.known.named ∙ (search rules))
+
+pub open_known-requires : goal.open_known-requires
+open_known-requires c = subst (λ ns. c.args.name < length ns) (sym c.in_ok-flush.ensures.same_names) (slice_get_within c.args.self.now.items.names c.args.name _ c.requires.known.name)
+
+pub returns-clause-ok : goal.returns-clause-ok
+returns-clause-ok c =
+    let old = c.args.self.now in
+    let depth = length c.as_slice-depth.result.now in
+    let here : depth ≡ length old.open.items = search rules in
+    let place : first_true (place_tests old.ended depth) ≡ None = search rules in
+    let name = name_at old.items.names c.args.name in
+    let names : c.open_known.new.self.names ≡ old.items.names = search rules in
+    let enters = subst (λ n. EntersAs (reverse old.scope) old.ended n (bare c.args.written.now) name [] []) here (noted_enters (bare c.args.written.now) (reverse old.scope) old.ended depth old.items.names c.args.name refl c.requires.known place) in
+    let items : c.open_known.new.self.zip ≡ zips.opened (Element name [] [] c.args.at) c.flush.new.self.items.zip = search rules in
+    start_takes old c.flush.new.self _ c.args.written name [] [] (bare c.args.written.now) c.args.at c.requires.scoped enters
+    (mid_of old old c.flush.new.self c.in_ok-flush.ensures refl refl refl refl refl)
+    (c.in_ok-flush.ensures.same_scope ∙ sym (append-nil old.scope)) (search rules) refl items refl refl refl refl refl
+    (subst _ (sym c.in_ok-flush.ensures.same_notes) (subst (λ ns. AllKnown (reverse c.flush.new.self.scope) ns old.notes.notes) (sym names) (subst (λ s. AllKnown (reverse s) old.items.names old.notes.notes) (sym c.in_ok-flush.ensures.same_scope) c.requires.scoped.noted)))
