@@ -2,27 +2,27 @@
 ghost use Rattle.std.specs.Prelude.{◌≡◌, true, [], Some, MatchResult};
 ghost use Rattle.label_tree.specs.Rose.{roses_of, none};
 ghost use Rattle.doc_text.specs.Sound.{are_sound};
+ghost use Rattle.item_tree.specs.Seen.{item_seen};
 ghost use Rattle.validity.specs.Valid as rule;
 ghost use Rattle.validity.specs.Faults.{why_kid, FirstKid, FirstElement};
 
 use crate::error::Fault;
-use doc_text::ItemLabel;
-use flat_tree::Kids;
+use item_tree::{ItemKids, ItemRef};
 use std::iter::Iterator;
 use validity::InvalidWhy;
 use xa_base::Text;
 
-fn why_kid(label: &ItemLabel) -> InvalidWhy
-    ensures { result ≡ why_kid label.now }
+fn why_kid(label: ItemRef<'_>) -> InvalidWhy
+    ensures { result ≡ why_kid (item_seen label.entry) }
 {
     match label {
-        ItemLabel::Element { .. } => InvalidWhy::ElementNotAllowed,
-        ItemLabel::Text { .. } => InvalidWhy::TextNotAllowed,
+        ItemRef::Element { .. } => InvalidWhy::ElementNotAllowed,
+        ItemRef::Text { .. } => InvalidWhy::TextNotAllowed,
     }
 }
 
 /// An element that is nil has no kids.
-pub fn check_empty(mut kids: Kids<'_, ItemLabel>) -> Result<(), Fault>
+pub fn check_empty(mut kids: ItemKids<'_>) -> Result<(), Fault>
     ensures { MatchResult result
         (λ _. roses_of kids.entry ≡ none)
         (λ fault. FirstKid (roses_of kids.entry) (λ _. InvalidWhy.NilWithContent) fault.at fault.why) }
@@ -37,7 +37,7 @@ pub fn check_empty(mut kids: Kids<'_, ItemLabel>) -> Result<(), Fault>
 }
 
 /// An element in which nothing may stand has no kids.
-pub fn check_no_content(mut kids: Kids<'_, ItemLabel>) -> Result<(), Fault>
+pub fn check_no_content(mut kids: ItemKids<'_>) -> Result<(), Fault>
     ensures { MatchResult result
         (λ _. roses_of kids.entry ≡ none)
         (λ fault. FirstKid (roses_of kids.entry) why_kid fault.at fault.why) }
@@ -55,7 +55,7 @@ pub fn check_no_content(mut kids: Kids<'_, ItemLabel>) -> Result<(), Fault>
 }
 
 /// The text of an element that has no child elements, which is this empty one where the element has no kids.
-pub fn only_text<'a>(mut kids: Kids<'a, ItemLabel>, empty: &'a Text) -> Result<&'a Text, Fault>
+pub fn only_text<'a>(mut kids: ItemKids<'a>, empty: &'a Text) -> Result<&'a Text, Fault>
     requires sound { are_sound (roses_of kids) ≡ true }
     requires empty { empty.now ≡ [] }
     ensures { MatchResult result
@@ -66,11 +66,11 @@ pub fn only_text<'a>(mut kids: Kids<'a, ItemLabel>, empty: &'a Text) -> Result<&
         return Ok(empty);
     };
     match first.label() {
-        ItemLabel::Element { at, .. } => Err(Fault {
-            at: *at,
+        ItemRef::Element { at, .. } => Err(Fault {
+            at,
             why: InvalidWhy::ElementNotAllowed,
         }),
-        ItemLabel::Text { text, .. } => match kids.next() {
+        ItemRef::Text { text, .. } => match kids.next() {
             None => Ok(text),
             // No two texts are neighbours.
             Some(second) => Err(Fault {

@@ -2,6 +2,7 @@ pub mod Refusing
 pub mod Putting
 pub mod Mixing
 pub mod Leading
+pub mod Unkept
 pub mod Attributed
 pub mod Making
 pub mod Parting

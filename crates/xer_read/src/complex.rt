@@ -22,8 +22,7 @@ ghost use Rattle.xer_read.specs.Private.Putting.{PartsPut};
 use crate::attributes::put_attributes;
 use crate::strings::put_texts;
 use crate::texts::put_text;
-use doc_text::ItemLabel;
-use flat_tree::Kids;
+use item_tree::ItemKids;
 use schema_parts::{SchemaSet, TypeOf};
 use simple_types::{Flags, Simple, ValueLabel};
 use std::alloc::Global;
@@ -79,7 +78,7 @@ pub(crate) fn begin_complex(
     declared: &Declared,
     attributes: &[(Name, Text)],
     nil: bool,
-    kids: &Kids<'_, ItemLabel>,
+    kids: &ItemKids<'_>,
     values: &mut ValueBuilder,
 ) -> Result<(), Memory>
     requires linked { IsLinked set.now }
@@ -115,7 +114,7 @@ pub(crate) fn begin_part(values: &mut ValueBuilder) -> Result<(), Memory>
 /// Nothing may stand in the element.
 pub(crate) fn walk_nothing(
     nillable: bool,
-    kids: &Kids<'_, ItemLabel>,
+    kids: &ItemKids<'_>,
     values: &mut ValueBuilder,
 ) -> Result<(), CheckError>
     ensures { MatchResult result
@@ -131,7 +130,7 @@ pub(crate) fn walk_nothing(
 pub(crate) fn walk_text(
     simple: &Simple,
     at: u64,
-    kids: &Kids<'_, ItemLabel>,
+    kids: &ItemKids<'_>,
     values: &mut ValueBuilder,
 ) -> Result<(), CheckError>
     requires simple { Sound (space_of simple.now) }
@@ -150,7 +149,7 @@ fn put_nil(
     set: &SchemaSet,
     declared: &Declared,
     attributes: &[(Name, Text)],
-    kids: &Kids<'_, ItemLabel>,
+    kids: &ItemKids<'_>,
     values: &mut ValueBuilder,
 ) -> Result<(), Memory>
     requires linked { IsLinked set.now }
@@ -170,7 +169,7 @@ pub(crate) fn walk_nil(
     set: &SchemaSet,
     declared: &Declared,
     attributes: &[(Name, Text)],
-    kids: &Kids<'_, ItemLabel>,
+    kids: &ItemKids<'_>,
     values: &mut ValueBuilder,
 ) -> Result<(), CheckError>
     requires linked { IsLinked set.now }

@@ -27,9 +27,8 @@ use crate::texts::put_text;
 use crate::ways::{Way, finish, open_way};
 use content_match::{Matcher, Plan};
 use content_models::Particle;
-use content_values::put_end;
-use doc_text::ItemLabel;
-use flat_tree::{Kids, Node};
+use content_values::{Path, put_end};
+use item_tree::{ItemKids, ItemNode, ItemRef};
 use schema_parts::SchemaSet;
 use std::iter::Iterator;
 use std::sync::ledger::Ledger;
@@ -66,20 +65,20 @@ fn walk_kid<L: Ledger>(
     matcher: &mut Matcher,
     way: &mut Way,
     mixed: bool,
-    kid: &Node<'_, ItemLabel>,
+    kid: &ItemNode<'_>,
     values: &mut ValueBuilder,
     steps: &mut Steps<L>,
 ) -> Result<(), CheckError>
     requires linked { IsLinked set.now }
     requires plans { plans.old ≡ set.now }
     requires model { IsModel set.now model.now }
-    requires way { IsWay way.old matcher.old }
+    requires way { IsWay way.old matcher.old values.old.most }
     requires taken { matcher.old.taken < 2 ^ 32 - 1 }
     requires reached { (kids : List (Rose ItemLabel)) × (i : ℕ) × (z : Zip ValueLabel) × Reached set.now mixed (seen model.now) kids i matcher.old z values.old }
     requires sound { is_sound kid.now ≡ true }
     requires few { node_count kid.now < 2 ^ 31 }
     ensures same { plans.new ≡ set.now }
-    ensures way { OnOk result (IsWay way.new matcher.new) }
+    ensures way { OnOk result (IsWay way.new matcher.new values.old.most) }
     ensures limit { OnOk result (values.new.most ≡ values.old.most) }
     ensures judged { (kids : List (Rose ItemLabel)) (place i : ℕ) (z : Zip ValueLabel) → i < length kids → kid.now ≡ slice_index_or kids i kid.now → Reached set.now mixed (seen model.now) kids i matcher.old z values.old
         → MatchResult result
@@ -89,9 +88,9 @@ fn walk_kid<L: Ledger>(
     ensures least { OnOk result (steps.old + element_count kid.now ≤ steps.new) }
 {
     match kid.label() {
-        ItemLabel::Text { text, at } => check_between(mixed, text, *at),
-        ItemLabel::Element { name, at, .. } => {
-            match open_way(model, matcher, way, name, *at, values, steps) {
+        ItemRef::Text { text, at } => check_between(mixed, text, at),
+        ItemRef::Element { name, at, .. } => {
+            match open_way(model, matcher, way, name, at, values, steps) {
                 Err(error) => Err(error),
                 Ok(leaf) => walk_element(set, plans, leaf.decl, kid, values, steps),
             }
@@ -108,7 +107,7 @@ fn walk_kids<L: Ledger>(
     plan: &Plan,
     mixed: bool,
     at: u64,
-    kids: &Kids<'_, ItemLabel>,
+    kids: &ItemKids<'_>,
     values: &mut ValueBuilder,
     steps: &mut Steps<L>,
 ) -> Result<(), CheckError>
@@ -145,7 +144,11 @@ fn walk_kids<L: Ledger>(
     match finish(&matcher, at, steps) {
         Err(error) => Err(error),
         Ok(()) => {
-            put_end(model, way.path(), values)?;
+            let path = Path {
+                turns: matcher.turns(),
+                kids: matcher.kids(),
+            };
+            put_end(model, path, values)?;
             Ok(())
         }
     }
@@ -161,7 +164,7 @@ fn walk_children<L: Ledger>(
     plan: &Plan,
     mixed: bool,
     at: u64,
-    kids: &Kids<'_, ItemLabel>,
+    kids: &ItemKids<'_>,
     values: &mut ValueBuilder,
     steps: &mut Steps<L>,
 ) -> Result<(), CheckError>
@@ -201,7 +204,7 @@ fn walk_inside<L: Ledger>(
     nillable: bool,
     inside: Inside,
     at: u64,
-    kids: &Kids<'_, ItemLabel>,
+    kids: &ItemKids<'_>,
     values: &mut ValueBuilder,
     steps: &mut Steps<L>,
 ) -> Result<(), CheckError>
@@ -244,7 +247,7 @@ fn walk_complex<L: Ledger>(
     declared: &Declared,
     attributes: &[(Name, Text)],
     at: u64,
-    kids: &Kids<'_, ItemLabel>,
+    kids: &ItemKids<'_>,
     values: &mut ValueBuilder,
     steps: &mut Steps<L>,
 ) -> Result<(), CheckError>
@@ -300,7 +303,7 @@ fn walk_filled<L: Ledger>(
     declared: &Declared,
     attributes: &[(Name, Text)],
     at: u64,
-    kids: &Kids<'_, ItemLabel>,
+    kids: &ItemKids<'_>,
     values: &mut ValueBuilder,
     steps: &mut Steps<L>,
 ) -> Result<(), CheckError>
@@ -333,7 +336,7 @@ pub(crate) fn walk_element<L: Ledger>(
     set: &SchemaSet,
     plans: &mut Plans,
     decl: u32,
-    item: &Node<'_, ItemLabel>,
+    item: &ItemNode<'_>,
     values: &mut ValueBuilder,
     steps: &mut Steps<L>,
 ) -> Result<(), CheckError>
@@ -353,19 +356,18 @@ pub(crate) fn walk_element<L: Ledger>(
     ensures least { OnOk result (steps.old + element_count item.now ≤ steps.new + 1) }
 {
     match item.label() {
-        ItemLabel::Text { .. } => unreachable!(),
-        ItemLabel::Element { attributes, at, .. } => {
+        ItemRef::Text { .. } => unreachable!(),
+        ItemRef::Element { attributes, at, .. } => {
             let declared = declared_of(set, decl);
             let kids = item.kids();
-            let items = attributes.items();
-            match check_tag(plans.alloc(), set, &declared, items, *at) {
+            match check_tag(plans.alloc(), set, &declared, attributes, at) {
                 Err(error) => Err(error),
                 Ok(nil) => {
                     if nil {
-                        walk_nil(plans.alloc(), set, &declared, items, &kids, values)
+                        walk_nil(plans.alloc(), set, &declared, attributes, &kids, values)
                     } else {
                         walk_filled(
-                            set, plans, decl, &declared, items, *at, &kids, values, steps,
+                            set, plans, decl, &declared, attributes, at, &kids, values, steps,
                         )
                     }
                 }

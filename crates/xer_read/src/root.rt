@@ -4,6 +4,7 @@ ghost use Rattle.label_tree.specs.Rose.{Rose};
 ghost use Rattle.flat_tree.specs.Zips.{Zip};
 ghost use Rattle.simple_types.specs.declared.labels.ValueLabel.{ValueLabel};
 ghost use Rattle.item_tree.specs.Labels.{item_place};
+ghost use Rattle.item_tree.specs.Seen.{item_seen};
 ghost use Rattle.schema_parts.specs.Linked.{IsLinked};
 ghost use Rattle.schema_parts.specs.SetParts.{parts_of};
 ghost use Rattle.validity.specs.Valid.{HasName};
@@ -15,7 +16,8 @@ ghost use Rattle.xer_read.specs.Private.Given.{IsRootRead};
 ghost use Rattle.xer_read.specs.Private.Putting.{ValuePut};
 
 use crate::elements::walk_element;
-use doc_text::{ItemLabel, Items};
+use doc_text::Items;
+use item_tree::ItemRef;
 use schema_parts::SchemaSet;
 use std::alloc::Global;
 use std::sync::ledger::Ledger;
@@ -25,17 +27,17 @@ use value_builder::ValueBuilder;
 use xa_base::{Name, Steps};
 
 // The root has the name that is declared.
-fn check_name(label: &ItemLabel, name: &Name) -> Result<(), CheckError>
+fn check_name(label: ItemRef<'_>, name: &Name) -> Result<(), CheckError>
     ensures { MatchResult result
-        (λ _. HasName (Some name.now) label.now)
-        (Tells (At (item_place label.now) InvalidWhy.WrongRoot (HasName (Some name.now) label.now → ⊥))) }
+        (λ _. HasName (Some name.now) (item_seen label.entry))
+        (Tells (At (item_place (item_seen label.entry)) InvalidWhy.WrongRoot (HasName (Some name.now) (item_seen label.entry) → ⊥))) }
 {
     match label {
-        ItemLabel::Text { at, .. } => Err(CheckError::Invalid {
-            at: *at,
+        ItemRef::Text { at, .. } => Err(CheckError::Invalid {
+            at,
             why: InvalidWhy::WrongRoot,
         }),
-        ItemLabel::Element {
+        ItemRef::Element {
             name: found,
             at,
             ..
@@ -44,7 +46,7 @@ fn check_name(label: &ItemLabel, name: &Name) -> Result<(), CheckError>
                 Ok(())
             } else {
                 Err(CheckError::Invalid {
-                    at: *at,
+                    at,
                     why: InvalidWhy::WrongRoot,
                 })
             }

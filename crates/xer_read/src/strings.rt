@@ -9,8 +9,7 @@ ghost use Rattle.xer_read.specs.Private.Keeping.{text_value, missing, strings_fr
 ghost use Rattle.xer_read.specs.Private.Contents.{TextsMade};
 ghost use Rattle.xer_read.specs.Private.Putting.{PartsPut};
 
-use doc_text::ItemLabel;
-use flat_tree::Kids;
+use item_tree::{ItemKids, ItemRef};
 use simple_types::ValueLabel;
 use std::alloc::Global;
 use std::iter::Iterator;
@@ -40,7 +39,7 @@ fn put_missing(has_text: bool, values: &mut ValueBuilder) -> Result<(), Memory>
 // The strings before, between and behind the child elements.
 fn put_each_string(
     alloc: Global,
-    kids: &Kids<'_, ItemLabel>,
+    kids: &ItemKids<'_>,
     values: &mut ValueBuilder,
 ) -> Result<(), Memory>
     ensures { OnOk result (Puts (added_all (map text_value (strings_from false (roses_of kids.now)))) values.old values.new) }
@@ -48,11 +47,11 @@ fn put_each_string(
     let mut has_text = false;
     for kid in kids.again() {
         match kid.label() {
-            ItemLabel::Text { text, .. } => {
+            ItemRef::Text { text, .. } => {
                 put_string(alloc, text, values)?;
                 has_text = true;
             }
-            ItemLabel::Element { .. } => {
+            ItemRef::Element { .. } => {
                 put_missing(has_text, values)?;
                 has_text = false;
             }
@@ -65,7 +64,7 @@ fn put_each_string(
 fn put_strings(
     alloc: Global,
     nil: bool,
-    kids: &Kids<'_, ItemLabel>,
+    kids: &ItemKids<'_>,
     values: &mut ValueBuilder,
 ) -> Result<(), Memory>
     ensures { OnOk result (Puts (added (node label.SequenceOf (roses_of (strings_put nil (roses_of kids.now))))) values.old values.new) }
@@ -84,7 +83,7 @@ pub(crate) fn put_texts(
     alloc: Global,
     inside: Inside,
     nil: bool,
-    kids: &Kids<'_, ItemLabel>,
+    kids: &ItemKids<'_>,
     values: &mut ValueBuilder,
 ) -> Result<(), Memory>
     ensures { OnOk result (PartsPut (TextsMade (inside_told inside.entry) (node label.SequenceOf (roses_of (strings_put nil (roses_of kids.now))))) values.old values.new) }

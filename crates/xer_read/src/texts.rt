@@ -10,8 +10,7 @@ ghost use Rattle.validity_check.specs.Answers.{Tells, TextFault};
 ghost use Rattle.value_builder.specs.Built.{Puts};
 ghost use Rattle.xer_read.specs.Private.Given.{IsReadAs};
 
-use doc_text::ItemLabel;
-use flat_tree::Kids;
+use item_tree::ItemKids;
 use simple_types::Simple;
 use simple_values::SimpleError;
 use validity::InvalidWhy;
@@ -23,7 +22,7 @@ use xa_base::Text;
 pub(crate) fn put_text(
     simple: &Simple,
     at: u64,
-    kids: &Kids<'_, ItemLabel>,
+    kids: &ItemKids<'_>,
     values: &mut ValueBuilder,
 ) -> Result<(), CheckError>
     requires simple { Sound (space_of simple.now) }

@@ -13,7 +13,7 @@ ghost use Rattle.validity_check.specs.Answers.{Tells};
 ghost use Rattle.value_builder.specs.Built.{Stands};
 ghost use Rattle.content_values.specs.Made.{Child};
 ghost use Rattle.content_values.specs.Reached.{IsFillable, Put};
-ghost use Rattle.xer_read.specs.Private.Putting.{IsWay, Opens};
+ghost use Rattle.xer_read.specs.Private.Putting.{LeadsTo, IsWay, Opens};
 
 use content_match::{Leaf, Matcher, Turn};
 use content_models::Particle;
@@ -56,7 +56,7 @@ impl Way {
 
     // It leads to the leaf where the matcher stands.
     fn follow(&mut self, matcher: &Matcher) -> Result<(), Memory>
-        ensures { OnOk result (IsWay self.new matcher.now) }
+        ensures { OnOk result (LeadsTo self.new matcher.now) }
     {
         self.turns.clear();
         self.turns.extend_from_slice(matcher.turns())?;
@@ -66,7 +66,8 @@ impl Way {
     }
 }
 
-/// The next child element has this name: the way to its leaf is opened. The element stands at this place.
+/// The next child element has this name: the way to its leaf is opened, where a value is kept. The element stands at this
+/// place.
 pub(crate) fn open_way<L: Ledger>(
     model: &Particle,
     matcher: &mut Matcher,
@@ -81,7 +82,7 @@ pub(crate) fn open_way<L: Ledger>(
     requires particle { matcher.old.particle ≡ seen model.now }
     requires taken { matcher.old.taken < 2 ^ 32 - 1 }
     requires took { (us : List language.Leaf) × Took matcher.old us }
-    requires way { IsWay way.old matcher.old }
+    requires way { IsWay way.old matcher.old values.old.most }
     requires put { (gs : List Child) × (z : Zip ValueLabel) × (now : Zip ValueLabel) × Put (seen model.now) (spot_of matcher.old) gs z now × Stands values.old now }
     ensures ticks { steps.new ≤ steps.old + (4 * levels matcher.old.particle + 4) }
     ensures least { OnOk result (steps.old + 1 ≤ steps.new) }
@@ -89,7 +90,7 @@ pub(crate) fn open_way<L: Ledger>(
     ensures took { (us : List language.Leaf) → Took matcher.old us
         → MatchResult result (λ leaf. TookMore matcher.old matcher.new us name.now leaf)
         (Tells (At at InvalidWhy.UnexpectedElement (Viable matcher.old.particle (names us ++ name.now ∷ []) → ⊥))) }
-    ensures way { OnOk result (IsWay way.new matcher.new) }
+    ensures way { OnOk result (IsWay way.new matcher.new values.old.most) }
     ensures limit { OnOk result (values.new.most ≡ values.old.most) }
     ensures opens { IfOk result (λ leaf. Opens (seen model.now) matcher.old matcher.new leaf.decl values.old values.new) }
 {
@@ -99,6 +100,9 @@ pub(crate) fn open_way<L: Ledger>(
             why: InvalidWhy::UnexpectedElement,
         }),
         Ok(leaf) => {
+            if values.keeps_nothing() {
+                return Ok(leaf);
+            }
             let to = Path {
                 turns: matcher.turns(),
                 kids: matcher.kids(),

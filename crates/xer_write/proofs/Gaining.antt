@@ -6,7 +6,8 @@ use Rattle.std.proofs.lemmas.List.{append-nil, drop-map, length-map, length_push
 use Rattle.xa_base.specs.declared.texts.Name.{Name}
 use Rattle.label_tree.specs.Rose.{Rose, node, Roses, none, more, roses_of}
 use Rattle.label_tree.proofs.Roses.{roses_of-list_of}
-use Rattle.flat_tree.specs.Zips.{Zip, Above, added, added_all, closed, relabeled, relabeled_in}
+use Rattle.flat_tree.specs.Zips.{Zip, Above, added, added_all, closed}
+use Rattle.item_tree.specs.Building.{listed, listed_in}
 use Rattle.simple_types.specs.declared.labels.ValueLabel.{ValueLabel}
 use Rattle.item_tree.specs.declared.label.ItemLabel.{ItemLabel}
 use Rattle.item_tree.specs.declared.label.ItemLabel.TheVariants.{Element, Text}
@@ -200,20 +201,20 @@ puts-mixed ks ms texts a b c kids inner last =
     (ap (λ s. before ++ s) behind ∙ sym (interleaved-is texts kids))
     (puts-both ks (left_behind ks before) ms a b c before (text_item (first_text (drop (length items) texts))) first last)
 
-pub still_open : (l : ItemLabel) (up : List (Above ItemLabel)) → 0 < length up → 0 < length (relabeled_in l up)
-still_open l [] some = some
-still_open l (a ∷ up) some = some
+pub still_open : (xs : List (Name × List ℕ)) (ys : List (List ℕ × List ℕ)) (up : List (Above ItemLabel)) → 0 < length up → 0 < length (listed_in xs ys up)
+still_open xs ys [] some = some
+still_open xs ys (a ∷ up) some = some
 
 -- ---- what was gained
 
 pub gains-nothing : (c : Contents) → Gains c c nothing
-gains-nothing c = record { attributes = sym (append-nil c.attributes.items); puts = puts-none (levels c) c.builder; utf8 = tt }
+gains-nothing c = record { attributes = sym (append-nil c.attributes.items); puts = puts-none (levels c) c.builder.zip; utf8 = tt }
 
 pub gains-both : (a b c : Contents) (g h : Given) → Gains a b g → Gains b c h → Gains a c (both g h)
 gains-both a b c g h one other = record {
   attributes = other.attributes ∙ ap (λ s. s ++ h.attributes) one.attributes ∙ append_assoc a.attributes.items g.attributes h.attributes;
-  puts = puts-as (levels a) (levels c) a.builder c.builder (items_in g.kids ++ items_in h.kids) (items_in (joined g.kids h.kids)) (sym (items_in-joined g.kids h.kids))
-      (puts-both (levels a) (levels b) (levels c) a.builder b.builder c.builder (items_in g.kids) (items_in h.kids) one.puts other.puts);
+  puts = puts-as (levels a) (levels c) a.builder.zip c.builder.zip (items_in g.kids ++ items_in h.kids) (items_in (joined g.kids h.kids)) (sym (items_in-joined g.kids h.kids))
+      (puts-both (levels a) (levels b) (levels c) a.builder.zip b.builder.zip c.builder.zip (items_in g.kids) (items_in h.kids) one.puts other.puts);
   utf8 = are_utf8-append g.attributes h.attributes one.utf8 other.utf8;
 }
 
@@ -222,13 +223,13 @@ gains-empty c [] e = gains-nothing c
 gains-empty c (b ∷ bs) e = let none_there = eqb-true (length (b ∷ bs)) 0 e in absurd (omega (arith, none_there))
 
 pub gains-text : (old room new : Contents) (words : List ℕ) → (length words == 0) ≡ false → IsUtf8 words → MakesRoom old room → new.attributes.items ≡ room.attributes.items → levels new ≡ levels room
-    → new.builder ≡ added (node (Text words 0) none) room.builder → Gains old new (given [] (text_before words none))
+    → new.builder.zip ≡ added (node (Text words 0) none) room.builder.zip → Gains old new (given [] (text_before words none))
 gains-text old room new words some u makes ea el eb =
     let item = node (Text words 0) none in
     record {
       attributes = ea ∙ makes.attributes ∙ sym (append-nil old.attributes.items);
-      puts = puts-as (levels old) (levels new) old.builder new.builder (item ∷ []) (text_item words) (sym (text_item-some words some))
-          (puts-same (levels old) (levels old) (levels room) (levels new) old.builder old.builder (added item room.builder) new.builder (item ∷ []) refl (sym el) refl (sym eb) (makes.puts item (u, tt)));
+      puts = puts-as (levels old) (levels new) old.builder.zip new.builder.zip (item ∷ []) (text_item words) (sym (text_item-some words some))
+          (puts-same (levels old) (levels old) (levels room) (levels new) old.builder.zip old.builder.zip (added item room.builder.zip) new.builder.zip (item ∷ []) refl (sym el) refl (sym eb) (makes.puts item (u, tt)));
       utf8 = tt;
     }
 
@@ -245,9 +246,9 @@ levels-last (words ∷ outer) texts = ap (λ s. map value_text words ∷ s) (lev
 
 -- the texts of each level, from the outermost on
 pub room-made : (old popped next room new : Contents) (texts left : List (Rose ValueLabel))
-    → old.texts.items ≡ popped.texts.items ++ texts ∷ [] → popped.attributes.items ≡ old.attributes.items → popped.builder ≡ old.builder
+    → old.texts.items ≡ popped.texts.items ++ texts ∷ [] → popped.attributes.items ≡ old.attributes.items → popped.builder.zip ≡ old.builder.zip
     → Gains popped next (given [] (text_before (first_text (map value_text texts)) none)) → left ≡ drop 1 texts → MakesRoom next room
-    → new.texts.items ≡ room.texts.items ++ left ∷ [] → new.attributes.items ≡ room.attributes.items → new.builder ≡ room.builder → MakesRoom old new
+    → new.texts.items ≡ room.texts.items ++ left ∷ [] → new.attributes.items ≡ room.attributes.items → new.builder.zip ≡ room.builder.zip → MakesRoom old new
 room-made old popped next room new texts left popped_texts popped_attributes popped_builder gains left_is makes new_texts new_attributes new_builder =
     let words = map value_text texts in
     let before : levels popped ++ words ∷ [] ≡ levels old = sym (ap (λ (s : List (List (Rose ValueLabel))). map (λ texts. map value_text texts) s) popped_texts ∙ levels-last popped.texts.items texts) in
@@ -257,33 +258,33 @@ room-made old popped next room new texts left popped_texts popped_attributes pop
     record {
       attributes = new_attributes ∙ makes.attributes ∙ gains.attributes ∙ append-nil popped.attributes.items ∙ popped_attributes;
       puts = λ item u.
-          puts-same (levels popped ++ words ∷ []) (levels old) (levels room ++ drop 1 words ∷ []) (levels new) popped.builder old.builder (added item room.builder) (added item new.builder) (item ∷ [])
+          puts-same (levels popped ++ words ∷ []) (levels old) (levels room ++ drop 1 words ∷ []) (levels new) popped.builder.zip old.builder.zip (added item room.builder.zip) (added item new.builder.zip) (item ∷ [])
           before after popped_builder (ap (added item) (sym new_builder))
-          (puts-inner (levels popped) (levels room) words popped.builder (added item room.builder) item
-          (puts-both (levels popped) (levels next) (levels room) popped.builder next.builder (added item room.builder) (text_item (first_text words)) (item ∷ []) gains.puts (makes.puts item u)));
+          (puts-inner (levels popped) (levels room) words popped.builder.zip (added item room.builder.zip) item
+          (puts-both (levels popped) (levels next) (levels room) popped.builder.zip next.builder.zip (added item room.builder.zip) (text_item (first_text words)) (item ∷ []) gains.puts (makes.puts item u)));
     }
 
 -- ---- elements
 
-pub element-gained : (old begun mid new : Contents) (outer : Outer) (name : Name) (g : Given) → Opens old begun outer → Gains begun mid g
-    → new.builder ≡ closed (relabeled (Element name mid.attributes.items [] 0) mid.builder) → new.attributes.items ≡ outer.attributes.items → new.texts.items ≡ outer.texts.items
+pub element-gained : (old begun mid new : Contents) (outer : Outer) (name : Name) (g : Given) → Opens old begun name outer → Gains begun mid g
+    → new.builder.zip ≡ closed (listed mid.attributes.items [] mid.builder.zip) → new.attributes.items ≡ outer.attributes.items → new.texts.items ≡ outer.texts.items
     → Gains old new (given [] (more (element_of name g) none))
 element-gained old begun mid new outer name g opens gains eb ea et =
     let items = items_in g.kids in
     let top = unplaced (element_of name g) in
     let outside = opens.outside in
     let none_before : levels begun ≡ [] = ap (λ (s : List (List (Rose ValueLabel))). map (λ texts. map value_text texts) s) opens.texts in
-    let inner : Puts [] (levels mid) begun.builder mid.builder items = subst (λ ls. Puts ls (levels mid) begun.builder mid.builder items) none_before gains.puts in
+    let inner : Puts [] (levels mid) begun.builder.zip mid.builder.zip items = subst (λ ls. Puts ls (levels mid) begun.builder.zip mid.builder.zip items) none_before gains.puts in
     let attributes : mid.attributes.items ≡ g.attributes = gains.attributes ∙ ap (λ s. s ++ g.attributes) opens.attributes in
-    let built : new.builder ≡ added (node (Element name mid.attributes.items [] 0) (roses_of items)) outside =
-    eb ∙ ap (λ z. closed (relabeled (Element name mid.attributes.items [] 0) z)) (inner.builder ∙ ap (added_all items) opens.builder) in
+    let built : new.builder.zip ≡ added (node (Element name mid.attributes.items [] 0) (roses_of items)) outside =
+    eb ∙ ap (λ z. closed (listed mid.attributes.items [] z)) (inner.builder ∙ ap (added_all items) opens.builder) in
     let same : node (Element name mid.attributes.items [] 0) (roses_of items) ≡ top =
     ap (λ s. node (Element name s [] 0) (roses_of items)) attributes ∙ ap (λ s. node (Element name g.attributes [] 0) s) (roses_of-list_of (all_unplaced g.kids)) in
     let utf8 : ItemIsUtf8 top = (gains.utf8, subst ItemsAreUtf8 (roses_of-list_of (all_unplaced g.kids)) inner.utf8) in
     let left : map (λ texts. map value_text texts) outer.texts.items ≡ levels new = sym (ap (λ (s : List (List (Rose ValueLabel))). map (λ texts. map value_text texts) s) et) in
     record {
       attributes = ea ∙ opens.outer_attributes ∙ sym (append-nil old.attributes.items);
-      puts = puts-same (levels old) (levels old) (map (λ texts. map value_text texts) outer.texts.items) (levels new) old.builder old.builder (added top outside) new.builder (top ∷ [])
+      puts = puts-same (levels old) (levels old) (map (λ texts. map value_text texts) outer.texts.items) (levels new) old.builder.zip old.builder.zip (added top outside) new.builder.zip (top ∷ [])
           refl left refl (sym (built ∙ ap (λ t. added t outside) same)) (opens.puts top utf8);
       utf8 = tt;
     }
@@ -297,27 +298,27 @@ text_item-empty [] e = refl
 text_item-empty (b ∷ bs) e = let none_there = eqb-true (length (b ∷ bs)) 0 e in absurd (omega (arith, none_there))
 
 -- an element in which just a text stands
-pub text-element-gained : (old room new : Contents) (name : Name) (label : ItemLabel) (words : List ℕ) → IsUtf8 words → MakesRoom old room → new.attributes.items ≡ room.attributes.items → levels new ≡ levels room
-    → label ≡ Element name [] [] 0 → new.builder ≡ added (node label (roses_of (text_item words))) room.builder
+pub text-element-gained : (old room new : Contents) (name : Name) (words : List ℕ) → IsUtf8 words → MakesRoom old room → new.attributes.items ≡ room.attributes.items → levels new ≡ levels room
+    → new.builder.zip ≡ added (node (Element name [] [] 0) (roses_of (text_item words))) room.builder.zip
     → Gains old new (given [] (more (element_of name (given [] (text_before words none))) none))
-text-element-gained old room new name label words u makes ea el is eb =
+text-element-gained old room new name words u makes ea el eb =
     let top = unplaced (element_of name (given [] (text_before words none))) in
-    let same : node label (roses_of (text_item words)) ≡ top =
-    ap (λ l. node l (roses_of (text_item words))) is ∙ ap (λ s. node (Element name [] [] 0) s) (roses_of-list_of (all_unplaced (text_before words none))) in
+    let same : node (Element name [] [] 0) (roses_of (text_item words)) ≡ top =
+    ap (λ s. node (Element name [] [] 0) s) (roses_of-list_of (all_unplaced (text_before words none))) in
     record {
       attributes = ea ∙ makes.attributes ∙ sym (append-nil old.attributes.items);
-      puts = puts-same (levels old) (levels old) (levels room) (levels new) old.builder old.builder (added top room.builder) new.builder (top ∷ []) refl (sym el) refl
-          (sym (eb ∙ ap (λ t. added t room.builder) same)) (makes.puts top (tt, text-utf8 words u));
+      puts = puts-same (levels old) (levels old) (levels room) (levels new) old.builder.zip old.builder.zip (added top room.builder.zip) new.builder.zip (top ∷ []) refl (sym el) refl
+          (sym (eb ∙ ap (λ t. added t room.builder.zip) same)) (makes.puts top (tt, text-utf8 words u));
       utf8 = tt;
     }
 
-pub element-open : (old begun mid : Contents) (outer : Outer) (g : Given) → Opens old begun outer → Gains begun mid g → 0 < length mid.builder.above
-element-open old begun mid outer g opens gains =
+pub element-open : (old begun mid : Contents) (outer : Outer) (name : Name) (g : Given) → Opens old begun name outer → Gains begun mid g → 0 < length mid.builder.zip.above
+element-open old begun mid outer name g opens gains =
     subst (λ (z : Zip ItemLabel). 0 < length z.above) (sym (gains.puts.builder ∙ ap (added_all (through (levels begun) (items_in g.kids))) opens.builder)) (omega arith)
 
 -- ---- mixed types
 
-pub mixed-ended : (old popped new : Contents) (texts : List (Rose ValueLabel)) → old.texts.items ≡ popped.texts.items ++ texts ∷ [] → popped.attributes.items ≡ old.attributes.items → popped.builder ≡ old.builder
+pub mixed-ended : (old popped new : Contents) (texts : List (Rose ValueLabel)) → old.texts.items ≡ popped.texts.items ++ texts ∷ [] → popped.attributes.items ≡ old.attributes.items → popped.builder.zip ≡ old.builder.zip
     → Gains popped new (given [] (text_before (first_text (map value_text texts)) none)) → (outer : List (List (List ℕ))) (words : List (List ℕ)) → levels old ≡ outer ++ words ∷ []
     → GainsIn outer old new (given [] (text_before (first_text words) none))
 mixed-ended old popped new texts et ea eb gains outer words is =
@@ -326,8 +327,8 @@ mixed-ended old popped new texts et ea eb gains outer words is =
     let next : text_item (first_text (map value_text texts)) ≡ text_item (first_text words) = ap (λ s. text_item (first_text s)) same.1 in
     record {
       attributes = gains.attributes ∙ ap (λ s. s ++ []) ea;
-      puts = puts-as outer (levels new) old.builder new.builder (text_item (first_text (map value_text texts))) (text_item (first_text words)) next
-          (puts-same (levels popped) outer (levels new) (levels new) popped.builder old.builder new.builder new.builder (text_item (first_text (map value_text texts))) same.0 refl eb refl gains.puts);
+      puts = puts-as outer (levels new) old.builder.zip new.builder.zip (text_item (first_text (map value_text texts))) (text_item (first_text words)) next
+          (puts-same (levels popped) outer (levels new) (levels new) popped.builder.zip old.builder.zip new.builder.zip new.builder.zip (text_item (first_text (map value_text texts))) same.0 refl eb refl gains.puts);
       utf8 = tt;
     }
 
@@ -336,7 +337,7 @@ no-level old none_there outer words is =
     let count : length (levels old) ≡ length old.texts.items = length-map old.texts.items (λ texts. map value_text texts) in
     absurd (omega (arith, count, none_there, ap length is, length_push outer words))
 
-pub mixed-gained : (old begun mid new : Contents) (texts : List (Rose ValueLabel)) (g : Given) → begun.builder ≡ old.builder → begun.attributes.items ≡ old.attributes.items → begun.texts.items ≡ old.texts.items ++ texts ∷ []
+pub mixed-gained : (old begun mid new : Contents) (texts : List (Rose ValueLabel)) (g : Given) → begun.builder.zip ≡ old.builder.zip → begun.attributes.items ≡ old.attributes.items → begun.texts.items ≡ old.texts.items ++ texts ∷ []
     → Gains begun mid g → ((outer : List (List (List ℕ))) (words : List (List ℕ)) → levels mid ≡ outer ++ words ∷ [] → GainsIn outer mid new (given [] (text_before (first_text words) none)))
     → Gains old new (mixed_gives (map value_text texts) g)
 mixed-gained old begun mid new texts g eb ea et gains ends =
@@ -344,13 +345,13 @@ mixed-gained old begun mid new texts g eb ea et gains ends =
     let items = items_in g.kids in
     let before = with_texts_before words items in
     let level : levels begun ≡ levels old ++ words ∷ [] = ap (λ (s : List (List (Rose ValueLabel))). map (λ texts. map value_text texts) s) et ∙ levels-last old.texts.items texts in
-    let inner : Puts (levels old ++ words ∷ []) (levels mid) old.builder mid.builder items =
-    puts-same (levels begun) (levels old ++ words ∷ []) (levels mid) (levels mid) begun.builder old.builder mid.builder mid.builder items level refl eb refl gains.puts in
+    let inner : Puts (levels old ++ words ∷ []) (levels mid) old.builder.zip mid.builder.zip items =
+    puts-same (levels begun) (levels old ++ words ∷ []) (levels mid) (levels mid) begun.builder.zip old.builder.zip mid.builder.zip mid.builder.zip items level refl eb refl gains.puts in
     let left : levels mid ≡ left_behind (levels old) before ++ drop (length items) words ∷ [] = inner.texts ∙ left-last (levels old) words items in
     let last = ends (left_behind (levels old) before) (drop (length items) words) left in
     record {
       attributes = last.attributes ∙ append-nil mid.attributes.items ∙ gains.attributes ∙ ap (λ s. s ++ g.attributes) ea;
-      puts = puts-mixed (levels old) (levels new) words old.builder mid.builder new.builder g.kids (subst (λ ls. Puts (levels old ++ words ∷ []) ls old.builder mid.builder items) left inner) last.puts;
+      puts = puts-mixed (levels old) (levels new) words old.builder.zip mid.builder.zip new.builder.zip g.kids (subst (λ ls. Puts (levels old ++ words ∷ []) ls old.builder.zip mid.builder.zip items) left inner) last.puts;
       utf8 = gains.utf8;
     }
 

@@ -198,15 +198,15 @@ root-items M t a v at value sound utf8 =
 
 -- as the code makes it
 pub root-made : (M : List Assignment) (a : Assignment) (v : Rose ValueLabel) (X Y : Contents) (u : Rose TypeLabel) (w : Rose ValueLabel) (name : Name)
-    → u ≡ a.body → w ≡ v → X.builder ≡ outside → X.texts.items ≡ [] → name ≡ name_told a.reference a.marks
+    → u ≡ a.body → w ≡ v → X.builder.zip ≡ outside → X.texts.items ≡ [] → name ≡ name_told a.reference a.marks
     → Gains X Y (given [] (more (element_of name (inside M u w)) none))
-    → (Y.builder ≡ added (unplaced (root_of M a v)) outside) × ItemIsUtf8 (unplaced (root_of M a v))
+    → (Y.builder.zip ≡ added (unplaced (root_of M a v)) outside) × ItemIsUtf8 (unplaced (root_of M a v))
 root-made M a v X Y u w name eu ew empty outer en gains =
     let top = unplaced (element_of name (inside M u w)) in
     let whole : top ≡ unplaced (root_of M a v) =
     ap (λ z. unplaced (element_of name (inside M z w))) eu ∙ ap (λ z. unplaced (element_of name (inside M a.body z))) ew ∙ ap (λ n. unplaced (element_of n (inside M a.body v))) en in
     let none_before : levels X ≡ [] = ap (λ (s : List (List (Rose ValueLabel))). map (λ texts. map value_text texts) s) outer in
-    let puts : Puts [] (levels Y) X.builder Y.builder (top ∷ []) = subst (λ ls. Puts ls (levels Y) X.builder Y.builder (top ∷ [])) none_before gains.puts in
+    let puts : Puts [] (levels Y) X.builder.zip Y.builder.zip (top ∷ []) = subst (λ ls. Puts ls (levels Y) X.builder.zip Y.builder.zip (top ∷ [])) none_before gains.puts in
     (puts.builder ∙ ap (added top) empty ∙ ap (λ z. added z outside) whole, subst ItemIsUtf8 whole puts.utf8.0)
 
 pub only-item : (x y : Rose ItemLabel) → x ∷ [] ≡ y ∷ [] → x ≡ y

@@ -1,4 +1,3 @@
 pub mod Utf8
-pub mod Blanks
 pub mod Gaining
 pub mod Giving

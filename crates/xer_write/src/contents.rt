@@ -1,117 +1,45 @@
 //! Items as they are put down, and what stands in the innermost element so far.
 ghost use Rattle.std.specs.Prelude.{◌≡◌, ◌<◌, ◌∷◌, [], ◌++◌, ℕ, List, IfOk, OnOk, codes, drop, length, map};
 ghost use Rattle.label_tree.specs.Rose.{node, none, more, roses_of};
-ghost use Rattle.flat_tree.specs.Zips.{added, closed, nothing, relabeled};
+ghost use Rattle.flat_tree.specs.Zips.{added, closed, nothing};
 ghost use Rattle.item_tree.specs.declared.label.ItemLabel.TheVariants as item;
+ghost use Rattle.item_tree.specs.Building.{listed};
 ghost use Rattle.plain_items.specs.Mixing.{text_before};
 ghost use Rattle.xer_items.specs.Items.{given, nil_name, element_of};
 ghost use Rattle.xer_write.specs.Private.Gaining.{Gains, GainsIn, MakesRoom, Opens, first_text, levels, text_item, value_text};
 
 use crate::spelling::value_text;
-use doc_text::{Attributes, Bindings, ItemLabel};
-use flat_tree::{Builder, Flat, Kids};
-use label_tree::Shape;
+use flat_tree::Kids;
+use item_tree::{ItemBuilder, ItemTree};
 use simple_types::ValueLabel;
 use std::alloc::Global;
 use std::iter::Iterator;
-use std::marker::Model;
 use std::mem;
 use xa_base::{Memory, Name, Text, XSI_SPACE};
 
-/// An element without attributes and bindings. Copies of its empty lists share them, so that they take no memory.
-#[derive(Drop)]
-struct Blank {
-    label: ItemLabel,
-}
-
-impl Model for Blank {
-    ghost use Rattle.std.specs.Prelude.{ℕ};
-    ghost use Rattle.xer_write.specs.Private.Blanks.{IsBlank};
-
-    ghost Value = { ℕ };
-
-    ghost view = { λ _. 0 };
-
-    ghost invariant = { λ b. IsBlank b.label };
-}
-
-impl Blank {
-    fn new(alloc: Global) -> Result<Blank, Memory> {
-        let attributes = Attributes::of(Vec::new(alloc))?;
-        let declares = Bindings::of(Vec::new(alloc))?;
-        let name = Name {
-            space: Text::empty(),
-            local: Text::empty(),
-        };
-        let label = ItemLabel::Element {
-            name,
-            attributes,
-            declares,
-            at: 0,
-        };
-        Ok(Blank { label })
-    }
-
-    // No attributes and no bindings.
-    fn lists(&self, alloc: Global) -> Result<(Attributes, Bindings), Memory>
-        ensures { IfOk result (λ lists. (lists.0 ≡ []) × (lists.1 ≡ [])) }
-    {
-        match self.label.copy(alloc)? {
-            ItemLabel::Element {
-                attributes,
-                declares,
-                ..
-            } => Ok((attributes, declares)),
-            ItemLabel::Text { .. } => unreachable!(),
-        }
-    }
-
-    // An element of this name with these attributes.
-    fn element(
-        &self,
-        alloc: Global,
-        name: Name,
-        attributes: Vec<(Name, Text)>,
-    ) -> Result<ItemLabel, Memory>
-        ensures { IfOk result (λ label. label ≡ item.Element name attributes.items [] 0) }
-    {
-        let (none, declares) = self.lists(alloc)?;
-        let attributes = attributes_of(attributes, none)?;
-        Ok(ItemLabel::Element {
-            name,
-            attributes,
-            declares,
-            at: 0,
-        })
-    }
-}
-
-// These attributes, and the empty list where there are none.
-fn attributes_of(entries: Vec<(Name, Text)>, none: Attributes) -> Result<Attributes, Memory>
-    requires { none ≡ [] }
-    ensures { IfOk result (λ attributes. attributes ≡ entries.items) }
+// Adds a text.
+fn put_text(builder: &mut ItemBuilder, text: Text) -> Result<(), Memory>
+    ensures { OnOk result (builder.new.zip ≡ added (node (item.Text text 0) none) builder.old.zip) }
 {
-    if entries.is_empty() {
-        Ok(none)
-    } else {
-        Attributes::of(entries)
-    }
+    builder.text(text, 0)?;
+    Ok(())
 }
 
-// Adds an element in which a text stands, or nothing, where it is empty.
+// Adds an element of this name in which a text stands, or nothing, where it is empty.
 fn put_with_text(
-    builder: &mut Builder<ItemLabel>,
-    label: ItemLabel,
+    alloc: Global,
+    builder: &mut ItemBuilder,
+    name: Name,
     text: Text,
 ) -> Result<(), Memory>
-    ensures { OnOk result (builder.new ≡ added (node label (roses_of (text_item text))) builder.old) }
+    ensures { OnOk result (builder.new.zip ≡ added (node (item.Element name [] [] 0) (roses_of (text_item text))) builder.old.zip) }
 {
     if text.bytes().is_empty() {
-        builder.leaf(label)?;
+        let _ = builder.element(name, Vec::new(alloc), Vec::new(alloc), 0)?;
         return Ok(());
     }
-    builder.open(label)?;
-    builder.leaf(ItemLabel::Text { text, at: 0 })?;
+    let _ = builder.open_element(name, Vec::new(alloc), Vec::new(alloc), 0)?;
+    put_text(builder, text)?;
     builder.close();
     Ok(())
 }
@@ -120,11 +48,10 @@ fn put_with_text(
 /// next items.
 #[derive(Drop)]
 pub(crate) struct Contents<'a> {
-    builder: Builder<ItemLabel>,
+    builder: ItemBuilder,
     attributes: Vec<(Name, Text)>,
     // Of each mixed type of which a value is being put into the element the texts that are left, of the innermost last.
     texts: Vec<Kids<'a, ValueLabel>>,
-    blank: Blank,
 }
 
 /// What an element has so far, while one in it is open.
@@ -136,26 +63,24 @@ pub(crate) struct Outer<'a> {
 
 impl<'a> Contents<'a> {
     /// Nothing so far.
-    pub(crate) fn new(alloc: Global) -> Result<Contents<'a>, Memory>
-        ensures builder { IfOk result (λ out. out.builder ≡ nothing) }
-        ensures texts { IfOk result (λ out. out.texts.items ≡ []) }
+    pub(crate) fn new(alloc: Global) -> Contents<'a>
+        ensures builder { result.builder.zip ≡ nothing }
+        ensures texts { result.texts.items ≡ [] }
     {
-        let blank = Blank::new(alloc)?;
-        Ok(Contents {
-            builder: Builder::new(alloc),
+        Contents {
+            builder: ItemBuilder::new(alloc),
             attributes: Vec::new(alloc),
             texts: Vec::new(alloc),
-            blank,
-        })
+        }
     }
 
     /// The tree, where there is one, and no element is open.
-    pub(crate) fn into_tree(self) -> Flat<ItemLabel>
-        requires closed { self.builder.above ≡ [] }
-        requires one { length self.builder.kids ≡ 1 }
-        ensures { self.entry.builder.kids ≡ result ∷ [] }
+    pub(crate) fn into_tree(self) -> ItemTree
+        requires closed { self.builder.zip.above ≡ [] }
+        requires one { length self.builder.zip.kids ≡ 1 }
+        ensures { self.entry.builder.zip.kids ≡ result ∷ [] }
     {
-        self.builder.finish_one()
+        self.builder.finish()
     }
 
     /// Adds an attribute to the innermost open element.
@@ -187,8 +112,7 @@ impl<'a> Contents<'a> {
             return Ok(());
         }
         self.make_room(alloc)?;
-        self.builder.leaf(ItemLabel::Text { text, at: 0 })?;
-        Ok(())
+        put_text(&mut self.builder, text)
     }
 
     // Adds the next of these texts, if there is one, and hands back those that are left.
@@ -235,47 +159,41 @@ impl<'a> Contents<'a> {
         // A text is UTF-8, as is known once it was read.
         let _ = text.as_str();
         self.make_room(alloc)?;
-        let label = self.blank.element(alloc, name, Vec::new(alloc))?;
-        put_with_text(&mut self.builder, label, text)
+        put_with_text(alloc, &mut self.builder, name, text)
     }
 
-    /// Begins an element, which gets its name and its attributes at its end. Hands back what the element that it stands
-    /// in has so far.
-    pub(crate) fn begin_element(&mut self, alloc: Global) -> Result<Outer<'a>, Memory>
-        ensures { IfOk result (λ outer. Opens self.old self.new outer) }
+    /// Begins an element of this name, which gets its attributes at its end. Hands back what the element that it stands in
+    /// has so far.
+    pub(crate) fn begin_element(&mut self, alloc: Global, name: Name) -> Result<Outer<'a>, Memory>
+        ensures { IfOk result (λ outer. Opens self.old self.new name outer) }
     {
         self.make_room(alloc)?;
-        let text = Text::empty();
-        self.builder.open(ItemLabel::Text { text, at: 0 })?;
+        let _ = self
+            .builder
+            .open_element(name, Vec::new(alloc), Vec::new(alloc), 0)?;
         let attributes = mem::replace(&mut self.attributes, Vec::new(alloc));
         let texts = mem::replace(&mut self.texts, Vec::new(alloc));
         Ok(Outer { attributes, texts })
     }
 
-    /// Ends the innermost open element, which gets this name.
-    pub(crate) fn end_element(
-        &mut self,
-        alloc: Global,
-        name: Name,
-        outer: Outer<'a>,
-    ) -> Result<(), Memory>
-        requires { 0 < length self.old.builder.above }
-        ensures builder { OnOk result (self.new.builder ≡ closed (relabeled (item.Element name self.old.attributes.items [] 0) self.old.builder)) }
+    /// Ends the innermost open element, which gets its attributes.
+    pub(crate) fn end_element(&mut self, alloc: Global, outer: Outer<'a>) -> Result<(), Memory>
+        requires { 0 < length self.old.builder.zip.above }
+        ensures builder { OnOk result (self.new.builder.zip ≡ closed (listed self.old.attributes.items [] self.old.builder.zip)) }
         ensures attributes { OnOk result (self.new.attributes.items ≡ outer.entry.attributes.items) }
         ensures texts { OnOk result (self.new.texts.items ≡ outer.entry.texts.items) }
     {
         let Outer { attributes, texts } = outer;
         let own = mem::replace(&mut self.attributes, attributes);
         self.texts = texts;
-        let label = self.blank.element(alloc, name, own)?;
-        let _ = self.builder.relabel(label);
+        self.builder.set_lists(own, Vec::new(alloc))?;
         self.builder.close();
         Ok(())
     }
 
     /// Has these texts stand before the next items that are added, each before one, until `end_mixed`.
     pub(crate) fn begin_mixed(&mut self, texts: Kids<'a, ValueLabel>) -> Result<(), Memory>
-        ensures builder { OnOk result (self.new.builder ≡ self.old.builder) }
+        ensures builder { OnOk result (self.new.builder.zip ≡ self.old.builder.zip) }
         ensures attributes { OnOk result (self.new.attributes.items ≡ self.old.attributes.items) }
         ensures texts { OnOk result (self.new.texts.items ≡ self.old.texts.items ++ texts.entry ∷ []) }
     {

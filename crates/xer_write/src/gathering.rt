@@ -366,7 +366,7 @@ pub(crate) fn gather_element<'a>(
         let text = spelling(alloc, found, value)?;
         return out.add_text_element(alloc, name, text);
     }
-    let outer = out.begin_element(alloc)?;
+    let outer = out.begin_element(alloc, name)?;
     gather_parts(alloc, module, found, value, out)?;
-    out.end_element(alloc, name, outer)
+    out.end_element(alloc, outer)
 }

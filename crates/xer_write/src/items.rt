@@ -11,7 +11,6 @@ use crate::contents::Contents;
 use crate::gathering::gather_element;
 use asn_types::Module;
 use doc_text::Items;
-use flat_tree::Whole;
 use simple_types::Value;
 use std::alloc::Global;
 use xa_base::Memory;
@@ -31,7 +30,7 @@ pub fn items_of(alloc: Global, module: &Module, t: u32, value: &Value) -> Result
     ensures { IfOk result (λ items. (b : Rose Plain) × (Xer module.now t value.now ≡ Some b) × (items ≡ unplaced b)) }
 {
     let assignment = module.assignment(t);
-    let mut out = Contents::new(alloc)?;
+    let mut out = Contents::new(alloc);
     let name = assignment.name(alloc)?;
     gather_element(
         alloc,
@@ -41,5 +40,5 @@ pub fn items_of(alloc: Global, module: &Module, t: u32, value: &Value) -> Result
         name,
         &mut out,
     )?;
-    Ok(Items::of(Whole::of(out.into_tree())))
+    Ok(Items::of(out.into_tree()))
 }

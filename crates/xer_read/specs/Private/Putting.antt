@@ -1,5 +1,5 @@
 -- What is put down by a step of the walk.
-use Rattle.std.specs.Prelude.{◌≡◌, ℕ, Bool, List, Some}
+use Rattle.std.specs.Prelude.{◌≡◌, ◌≤◌, ℕ, Bool, List, Some}
 use Rattle.label_tree.specs.Rose.{Rose}
 use Rattle.flat_tree.specs.Zips.{Zip, added}
 use Rattle.simple_types.specs.declared.labels.ValueLabel.{ValueLabel}
@@ -28,8 +28,12 @@ pub record PartsPut (P : List Bool → List (Rose ValueLabel) → Type 0) (old n
 -- ---- ways
 
 -- the way leads to where the matcher stands
-abbrev pub IsWay : Way → Matched → Type 0
-IsWay way k = spot_now way.turns.items way.kids.items ≡ spot_of k
+abbrev pub LeadsTo : Way → Matched → Type 0
+LeadsTo way k = spot_now way.turns.items way.kids.items ≡ spot_of k
+
+-- it does where so many nodes may be kept, unless that is none
+abbrev pub IsWay : Way → Matched → ℕ → Type 0
+IsWay way k most = 1 ≤ most → LeadsTo way k
 
 -- the way to a leaf of the declaration is open, behind these child elements
 pub record OpenAt (p : Particle) (k : Matched) (gs : List Child) (d : ℕ) (before : Zip ValueLabel) (now : Built) : Type 0 where

@@ -2,10 +2,11 @@
 use Rattle.std.specs.Prelude.{◌≡◌, ℕ, List, [], ◌∷◌, ◌++◌, Option, Some, None, drop, length, map, slice_get}
 use Rattle.label_tree.specs.Rose.{Rose, Roses, none, roses_of, list_of, label_of}
 use Rattle.flat_tree.specs.Zips.{Zip, added, added_all, opened}
+use Rattle.xa_base.specs.declared.texts.Name.{Name}
 use Rattle.simple_types.specs.declared.labels.ValueLabel.{ValueLabel}
 use Rattle.simple_values.specs.Reading.{spelled_text}
 use Rattle.item_tree.specs.declared.label.ItemLabel.{ItemLabel}
-use Rattle.item_tree.specs.declared.label.ItemLabel.TheVariants.{Text}
+use Rattle.item_tree.specs.declared.label.ItemLabel.TheVariants.{Element}
 use Rattle.plain_items.specs.Plain.{Plain}
 use Rattle.plain_items.specs.Mixing.{text_before}
 use Rattle.xer_items.specs.Items.{Given}
@@ -68,7 +69,7 @@ pub record Puts (before after : List (List (List ℕ))) (old new : Zip ItemLabel
 -- what was given stands behind what was there, where these texts are to stand before items
 pub record GainsIn (before : List (List (List ℕ))) (old new : Contents) (g : Given) : Type 0 where
   pub attributes : new.attributes.items ≡ old.attributes.items ++ g.attributes
-  pub puts : Puts before (levels new) old.builder new.builder (items_in g.kids)
+  pub puts : Puts before (levels new) old.builder.zip new.builder.zip (items_in g.kids)
   pub utf8 : AreUtf8 g.attributes
 
 abbrev pub Gains : Contents → Contents → Given → Type 0
@@ -77,14 +78,14 @@ Gains old new g = GainsIn (levels old) old new g
 -- whatever item is added now, the texts before it are there
 pub record MakesRoom (old new : Contents) : Type 0 where
   pub attributes : new.attributes.items ≡ old.attributes.items
-  pub puts : (item : Rose ItemLabel) → ItemIsUtf8 item → Puts (levels old) (levels new) old.builder (added item new.builder) (item ∷ [])
+  pub puts : (item : Rose ItemLabel) → ItemIsUtf8 item → Puts (levels old) (levels new) old.builder.zip (added item new.builder.zip) (item ∷ [])
 
--- an element is open, in which nothing stands
-pub record Opens (old new : Contents) (outer : Outer) : Type 0 where
+-- an element of this name is open, in which nothing stands
+pub record Opens (old new : Contents) (name : Name) (outer : Outer) : Type 0 where
   pub attributes : new.attributes.items ≡ []
   pub texts : new.texts.items ≡ []
   pub outer_attributes : outer.attributes.items ≡ old.attributes.items
   pub outside : Zip ItemLabel
-  pub builder : new.builder ≡ opened (Text [] 0) outside
+  pub builder : new.builder.zip ≡ opened (Element name [] [] 0) outside
   pub puts : (item : Rose ItemLabel) → ItemIsUtf8 item
-      → Puts (levels old) (map (λ texts. map value_text texts) outer.texts.items) old.builder (added item outside) (item ∷ [])
+      → Puts (levels old) (map (λ texts. map value_text texts) outer.texts.items) old.builder.zip (added item outside) (item ∷ [])

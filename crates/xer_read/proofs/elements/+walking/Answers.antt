@@ -7,6 +7,7 @@ use Rattle.flat_tree.proofs.Cursors as cursor
 use Rattle.simple_types.specs.declared.labels.ValueLabel.{ValueLabel}
 use Rattle.simple_types.specs.declared.labels.ValueLabel.TheVariants as value
 use Rattle.simple_types.specs.Seen.{space_of}
+use Rattle.item_tree.specs.Seen.{item_seen}
 use Rattle.doc_text.specs.Sound.{is_text, are_sound}
 use Rattle.content_models.specs.Seen.{seen}
 use Rattle.content_match.specs.Private.Standing.{spot_now}
@@ -57,9 +58,9 @@ walk_kid-walk_element-requires g t c κs within =
           (
             c.requires.plans,
             (
-              leaf_declared c.args.set.now c.args.matcher.now c.open_way.new.matcher r.us c.in-Element.name c.in-Ok.leaf e.particle (e.took r.us r.took)
+              leaf_declared c.args.set.now c.args.matcher.now c.open_way.new.matcher r.us c.in-Element.name.now c.in-Ok.leaf e.particle (e.took r.us r.took)
                   (names_declared c.args.set.now c.args.matcher.now.particle (subst (λ q. All (IsNamed c.args.set.now) (leaves q)) (sym r.particle) c.requires.model.named)),
-              (ap is_text (sym c.label.ensures ∙ c.in-Element.is), (c.requires.sound, (c.requires.few, (way.way, way.stands)))),
+              (ap is_text (sym c.label.ensures ∙ ap item_seen c.in-Element.is), (c.requires.sound, (c.requires.few, (way.way, way.stands)))),
             ),
           ),
         ),
@@ -68,18 +69,18 @@ walk_kid-walk_element-requires g t c κs within =
 
 pub walk_kid-returns-in-Text-clause-judged : goal.walk_kid-returns-in-Text-clause-judged
 walk_kid-returns-in-Text-clause-judged g t c = λ kids place i z below here r.
-    text-judged c.args.set.now c.args.mixed (seen c.args.model.now) kids place i c.args.matcher.now z c.args.values.now r c.args.kid.now below here c.in-Text.text c.in-Text.at (sym c.label.ensures ∙ c.in-Text.is)
+    text-judged c.args.set.now c.args.mixed (seen c.args.model.now) kids place i c.args.matcher.now z c.args.values.now r c.args.kid.now below here c.in-Text.text.now c.in-Text.at (sym c.label.ensures ∙ ap item_seen c.in-Text.is)
     c.check_between.result c.check_between.ensures
 
 pub walk_kid-returns-in-Err-clause-judged : goal.walk_kid-returns-in-Err-clause-judged
 walk_kid-returns-in-Err-clause-judged g t c = λ kids place i z below here r.
     name-refused c.args.set.now c.args.mixed (seen c.args.model.now) kids place i c.args.matcher.now z c.args.values.now r c.args.kid.now below here
-    c.in-Element.name c.in-Element.attributes c.in-Element.declares c.in-Element.at (sym c.label.ensures ∙ c.in-Element.is) c.in-Err.error (c.in-Err.ensures.took r.us r.took)
+    c.in-Element.name.now c.in-Element.attributes.now c.in-Element.declares.now c.in-Element.at (sym c.label.ensures ∙ ap item_seen c.in-Element.is) c.in-Err.error (c.in-Err.ensures.took r.us r.took)
 
 pub walk_kid-returns-in-Err-clause-most : goal.walk_kid-returns-in-Err-clause-most
 walk_kid-returns-in-Err-clause-most g t c =
     let (kids, i, z, r) = c.requires.reached in
-    let n = element_counts c.args.kid.now c.in-Element.name c.in-Element.attributes c.in-Element.declares c.in-Element.at (sym c.label.ensures ∙ c.in-Element.is) in
+    let n = element_counts c.args.kid.now c.in-Element.name.now c.in-Element.attributes.now c.in-Element.declares.now c.in-Element.at (sym c.label.ensures ∙ ap item_seen c.in-Element.is) in
     let s = c.in-Err.ensures.ticks in
     let l : levels c.args.matcher.now.particle ≤ 17 = subst (λ q. levels q ≤ 17) (sym r.particle) (model_levels c.args.set.now c.args.model.now c.requires.model) in
     omega (arith, n, s, l)
@@ -89,7 +90,7 @@ walk_kid-returns-in-Ok-clause-judged g t c = λ kids place i z below here r.
     let e = c.in-Ok.ensures in
     let way = e.opens r.gs z r.all r.put r.stands in
     kid-judged c.args.set.now c.args.mixed (seen c.args.model.now) kids place i c.args.matcher.now z c.args.values.now r c.args.kid.now below here
-    c.in-Element.name c.in-Element.attributes c.in-Element.declares c.in-Element.at (sym c.label.ensures ∙ c.in-Element.is) c.open_way.new.matcher c.in-Ok.leaf e.particle (e.took r.us r.took)
+    c.in-Element.name.now c.in-Element.attributes.now c.in-Element.declares.now c.in-Element.at (sym c.label.ensures ∙ ap item_seen c.in-Element.is) c.open_way.new.matcher c.in-Ok.leaf e.particle (e.took r.us r.took)
     (subst (λ q. All (IsNamed c.args.set.now) (leaves q)) (sym r.particle) c.requires.model.named) c.open_way.new.values c.walk_element.new.values way c.walk_element.result
     (c.walk_element.ensures.judged way.way way.stands)
 
@@ -111,7 +112,7 @@ walk_kids-loop-kid-init g t c =
     record {
       all = cc (c.into_iter-kid-iterator.ensures.into_iter_gives, c.again-kid-items.ensures);
       plans = c.requires.plans;
-      way = ap (λ ts. spot_now ts way.kids.items) c.new-way.ensures.turns ∙ ap (λ ts. spot_now ts k.kids) (sym took.turns);
+      way = λ _. ap (λ ts. spot_now ts way.kids.items) c.new-way.ensures.turns ∙ ap (λ ts. spot_now ts k.kids) (sym took.turns);
       limit = refl;
       reached = λ z stands.
           none-reached c.args.set.now c.args.mixed (seen c.args.model.now) c.args.kids.now k z c.args.values.now (c.in_ok-matcher.ensures.plan ∙ c.requires.plan) took stands;
@@ -146,7 +147,7 @@ walk_kids-walk_kid-requires g t c κs within =
             (
               c.requires.model,
               (
-                c.loop-kid.invariant.way,
+                (λ some. c.loop-kid.invariant.way (subst (λ m. 1 ≤ m) c.loop-kid.invariant.limit some)),
                 (
                   omega (arith, below, long, few, count, taken),
                   ((kids, i, c.requires.stands.0, w), (kid_sound (roses_of kids) i kid c.requires.sound (kid_here kids i kid below read), omega (arith, k, few))),
@@ -179,7 +180,7 @@ walk_kids-loop-kid-preserved g t c =
     record {
       all = cursor.all_after kids before left all kid later next;
       plans = c.in_ok-walk_kid.ensures.same;
-      way = c.in_ok-walk_kid.ensures.way;
+      way = λ some. c.in_ok-walk_kid.ensures.way (subst (λ m. 1 ≤ m) (sym c.loop-kid.invariant.limit) some);
       limit = c.in_ok-walk_kid.ensures.limit ∙ c.loop-kid.invariant.limit;
       reached = λ z stands.
           subst (λ n. Reached c.args.set.now c.args.mixed (seen c.args.model.now) kids n c.walk_kid.new.matcher z c.walk_kid.new.values) (sym long)
@@ -240,8 +241,8 @@ walk_kids-put_end-requires-clause-fillable g t c = (c.requires.model.occurring, 
 pub walk_kids-put_end-requires-clause-ends : goal.walk_kids-put_end-requires-clause-ends
 walk_kids-put_end-requires-clause-ends g t c =
     let r = c.loop-kid.invariant.reached c.requires.stands.0 c.requires.stands.1 in
-    whole.ends-at (seen c.args.model.now) c.loop-kid.matcher.particle (spot_now c.path.result.turns.now c.path.result.kids.now) (spot_of c.loop-kid.matcher) r.particle
-    (ap (λ ts. spot_now ts c.path.result.kids.now) c.path.ensures.turns ∙ ap (λ ks. spot_now c.loop-kid.way.turns.items ks) c.path.ensures.kids ∙ c.loop-kid.invariant.way) c.in-Ok.ensures.ends
+    whole.ends-at (seen c.args.model.now) c.loop-kid.matcher.particle (spot_now c.turns.result.now c.kids.result.now) (spot_of c.loop-kid.matcher) r.particle
+    (ap (λ ts. spot_now ts c.kids.result.now) c.turns.ensures ∙ ap (λ ks. spot_now c.loop-kid.matcher.turns ks) c.kids.ensures) c.in-Ok.ensures.ends
 
 pub walk_kids-returns-in_err-put_end-in-Ok-clause-most : goal.walk_kids-returns-in_err-put_end-in-Ok-clause-most
 walk_kids-returns-in_err-put_end-in-Ok-clause-most g t c =
@@ -258,9 +259,8 @@ walk_kids-returns-clause-judged g t c = λ z stands.
     let before = c.loop-kid.yielded in
     let r = c.loop-kid.invariant.reached z stands in
     let past = whole.all-before kids before c.loop-kid.kid-iterator c.loop-kid.invariant.all c.in-None.ensures.steps.0 in
-    let way : spot_now c.path.result.turns.now c.path.result.kids.now ≡ spot_of c.loop-kid.matcher =
-    ap (λ ts. spot_now ts c.path.result.kids.now) c.path.ensures.turns ∙ ap (λ ks. spot_now c.loop-kid.way.turns.items ks) c.path.ensures.kids ∙ c.loop-kid.invariant.way
-    in
+    let way : spot_now c.turns.result.now c.kids.result.now ≡ spot_of c.loop-kid.matcher =
+    ap (λ ts. spot_now ts c.kids.result.now) c.turns.ensures ∙ ap (λ ks. spot_now c.loop-kid.matcher.turns ks) c.kids.ensures in
     let (flags, values, made, now) = c.in_ok-put_end-in-Ok.ensures.made r.gs z r.all (subst (λ o. Put (seen c.args.model.now) o r.gs z r.all) (sym way) r.put) r.stands in
     end-put c.args.set.now c.args.mixed (seen c.args.model.now) kids c.args.at (length before) c.loop-kid.matcher z c.loop-kid.values r past (c.in-Ok.ensures.finished r.us r.took) flags values made c.put_end.new.values now
 
@@ -369,7 +369,7 @@ walk_filled-returns-in-None-clause-judged g t c = λ z stands.
 pub walk_element-walk_nil-requires-clause-taken : goal.walk_element-walk_nil-requires-clause-taken
 walk_element-walk_nil-requires-clause-taken g t c =
     all-taken c.args.set.now c.requires.linked c.args.decl (told (parts_of c.args.set.now) c.declared_of-declared.result) c.declared_of-declared.ensures.asked c.declared_of-declared.result.uses.now refl
-    c.items-items.result.now c.in-Ok.ensures.right
+    c.in-Element.attributes.now c.in-Ok.ensures.right
 
 pub walk_element-walk_filled-requires : goal.walk_element-walk_filled-requires
 walk_element-walk_filled-requires g t c κs within =
@@ -392,7 +392,7 @@ walk_element-walk_filled-requires g t c κs within =
                   c.declared_of-declared.ensures.fits.0,
                   (
                     all-taken c.args.set.now c.requires.linked c.args.decl (told (parts_of c.args.set.now) c.declared_of-declared.result) c.declared_of-declared.ensures.asked
-                        c.declared_of-declared.result.uses.now refl c.items-items.result.now c.in-Ok.ensures.right,
+                        c.declared_of-declared.result.uses.now refl c.in-Element.attributes.now c.in-Ok.ensures.right,
                     (subst (λ ks. are_sound (roses_of ks) ≡ true) (sym c.kids-kids.ensures) (kids_sound c.args.item.now c.requires.sound), (omega (arith, k, same, few), c.requires.stands)),
                   ),
                 ),
@@ -406,35 +406,35 @@ walk_element-walk_filled-requires g t c κs within =
 pub walk_element-returns-then-nil-clause-judged : goal.walk_element-returns-then-nil-clause-judged
 walk_element-returns-then-nil-clause-judged g t c = λ z stands.
     nil-read c.args.set.now c.requires.linked c.args.decl c.in-Element.name c.in-Element.attributes c.in-Element.declares c.in-Element.at c.args.item.now (sym c.label.ensures ∙ c.in-Element.is) c.requires.sound
-    (told (parts_of c.args.set.now) c.declared_of-declared.result) c.items-items.result.now c.declared_of-declared.ensures.asked c.items-items.ensures c.kids-kids.result c.kids-kids.ensures
+    (told (parts_of c.args.set.now) c.declared_of-declared.result) c.in-Element.attributes.now c.declared_of-declared.ensures.asked refl c.kids-kids.result c.kids-kids.ensures
     c.args.values.now c.walk_nil.new.values (rw c.if-nil.true at c.in-Ok.ensures) c.walk_nil.result c.walk_nil.ensures z stands
 
 pub walk_element-returns-then-nil-clause-least : goal.walk_element-returns-then-nil-clause-least
 walk_element-returns-then-nil-clause-least g t c =
-    let n = element_counts c.args.item.now c.in-Element.name c.in-Element.attributes c.in-Element.declares c.in-Element.at (sym c.label.ensures ∙ c.in-Element.is) in
+    let n = element_counts c.args.item.now c.in-Element.name.now c.in-Element.attributes.now c.in-Element.declares.now c.in-Element.at (sym c.label.ensures ∙ ap item_seen c.in-Element.is) in
     let same = ap (λ ks. elements_in (roses_of ks)) c.kids-kids.ensures in
     match-ok c.walk_nil.result
     (λ _. (roses_of c.kids-kids.result ≡ none)
-    × ((v : Rose ValueLabel) × IsNilFilled (told (parts_of c.args.set.now) c.declared_of-declared.result) c.items-items.result.now v × Puts (added v) c.args.values.now c.walk_nil.new.values))
+    × ((v : Rose ValueLabel) × IsNilFilled (told (parts_of c.args.set.now) c.declared_of-declared.result) c.in-Element.attributes.now v × Puts (added v) c.args.values.now c.walk_nil.new.values))
     (Tells (FirstKid (roses_of c.kids-kids.result) (λ _. NilWithContent))) (c.args.steps.now + element_count c.args.item.now ≤ c.args.steps.now + 1)
     (λ v h. let empty = ap elements_in h.0 in omega (arith, n, same, empty)) c.walk_nil.ensures
 
 pub walk_element-returns-else-nil-clause-judged : goal.walk_element-returns-else-nil-clause-judged
 walk_element-returns-else-nil-clause-judged g t c = λ z stands.
     filled-read c.args.set.now c.requires.linked c.args.decl c.in-Element.name c.in-Element.attributes c.in-Element.declares c.in-Element.at c.args.item.now (sym c.label.ensures ∙ c.in-Element.is) c.requires.sound
-    (told (parts_of c.args.set.now) c.declared_of-declared.result) c.items-items.result.now c.declared_of-declared.ensures.asked c.items-items.ensures c.kids-kids.result c.kids-kids.ensures
+    (told (parts_of c.args.set.now) c.declared_of-declared.result) c.in-Element.attributes.now c.declared_of-declared.ensures.asked refl c.kids-kids.result c.kids-kids.ensures
     c.walk_filled.new.values z (rw c.if-nil.false at c.in-Ok.ensures) c.walk_filled.result (c.walk_filled.ensures.judged z stands)
 
 pub walk_element-returns-else-nil-clause-most : goal.walk_element-returns-else-nil-clause-most
 walk_element-returns-else-nil-clause-most g t c =
-    let n = element_counts c.args.item.now c.in-Element.name c.in-Element.attributes c.in-Element.declares c.in-Element.at (sym c.label.ensures ∙ c.in-Element.is) in
+    let n = element_counts c.args.item.now c.in-Element.name.now c.in-Element.attributes.now c.in-Element.declares.now c.in-Element.at (sym c.label.ensures ∙ ap item_seen c.in-Element.is) in
     let same = ap (λ ks. elements_in (roses_of ks)) c.kids-kids.ensures in
     let m = c.walk_filled.ensures.most in
     omega (arith, n, same, m)
 
 pub walk_element-returns-else-nil-clause-least : goal.walk_element-returns-else-nil-clause-least
 walk_element-returns-else-nil-clause-least g t c =
-    let n = element_counts c.args.item.now c.in-Element.name c.in-Element.attributes c.in-Element.declares c.in-Element.at (sym c.label.ensures ∙ c.in-Element.is) in
+    let n = element_counts c.args.item.now c.in-Element.name.now c.in-Element.attributes.now c.in-Element.declares.now c.in-Element.at (sym c.label.ensures ∙ ap item_seen c.in-Element.is) in
     let same = ap (λ ks. elements_in (roses_of ks)) c.kids-kids.ensures in
     on-ok c.walk_filled.result (c.args.steps.now + elements_in (roses_of c.kids-kids.result) ≤ c.walk_filled.new.steps) (c.args.steps.now + element_count c.args.item.now ≤ c.walk_filled.new.steps + 1)
     (λ h. omega (arith, n, same, h)) c.walk_filled.ensures.least

@@ -35,7 +35,7 @@ abbrev pub invariant-walk_kids-loop-kid : goal.invariant-walk_kids-loop-kid
 invariant-walk_kids-loop-kid g l = record {
   all : l.yielded ++ l.kid-iterator ≡ l.kids;
   plans : l.plans ≡ l.set;
-  way : IsWay l.way l.matcher;
+  way : IsWay l.way l.matcher l.initial.values.most;
   limit : l.values.most ≡ l.initial.values.most;
   reached : (z : Zip ValueLabel) → Stands l.initial.values z → Reached l.set l.mixed (seen l.model) l.kids (length l.yielded) l.matcher z l.values;
   most : l.steps ≤ l.initial.steps + 144 * elements_in (front (length l.yielded) (roses_of l.kids));

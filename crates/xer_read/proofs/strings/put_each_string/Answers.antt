@@ -1,4 +1,5 @@
-use Rattle.std.proofs.Common.{sym, ◌∙◌, map, false}
+use Rattle.std.proofs.Common.{sym, ◌∙◌, ap, map, false}
+use Rattle.item_tree.specs.Seen.{item_seen}
 use Rattle.label_tree.specs.Rose.{roses_of}
 use Rattle.flat_tree.specs.Zips.{added_all}
 use Rattle.value_builder.specs.Built.{Puts}
@@ -9,13 +10,13 @@ use Rattle.xer_read.proofs.strings.put_each_string.Goals as goal
 
 pub loop-kid-preserved-in-Text : goal.loop-kid-preserved-in-Text
 loop-kid-preserved-in-Text c =
-    text-put (roses_of c.args.kids.now) c.loop-kid.has_text c.loop-kid.kid-iterator c.in-Some.kid c.next.new.self c.in-Text.text c.in-Text.at c.args.values.now c.loop-kid.values c.put_string.new.values
-    c.in-Some.ensures.steps (sym c.label.ensures ∙ c.in-Text.is) c.loop-kid.invariant c.in_ok-put_string-in-Text.ensures
+    text-put (roses_of c.args.kids.now) c.loop-kid.has_text c.loop-kid.kid-iterator c.in-Some.kid c.next.new.self c.in-Text.text.now c.in-Text.at c.args.values.now c.loop-kid.values c.put_string.new.values
+    c.in-Some.ensures.steps (sym c.label.ensures ∙ ap item_seen c.in-Text.is) c.loop-kid.invariant c.in_ok-put_string-in-Text.ensures
 
 pub loop-kid-preserved : goal.loop-kid-preserved
 loop-kid-preserved c =
-    missing-put (roses_of c.args.kids.now) c.loop-kid.has_text c.loop-kid.kid-iterator c.in-Some.kid c.next.new.self c.in-Element.name c.in-Element.attributes c.in-Element.declares c.in-Element.at c.args.values.now
-    c.loop-kid.values c.put_missing.new.values c.in-Some.ensures.steps (sym c.label.ensures ∙ c.in-Element.is) c.loop-kid.invariant c.in_ok-put_missing-in-Element.ensures
+    missing-put (roses_of c.args.kids.now) c.loop-kid.has_text c.loop-kid.kid-iterator c.in-Some.kid c.next.new.self c.in-Element.name.now c.in-Element.attributes.now c.in-Element.declares.now c.in-Element.at c.args.values.now
+    c.loop-kid.values c.put_missing.new.values c.in-Some.ensures.steps (sym c.label.ensures ∙ ap item_seen c.in-Element.is) c.loop-kid.invariant c.in_ok-put_missing-in-Element.ensures
 
 pub returns : goal.returns
 returns c =

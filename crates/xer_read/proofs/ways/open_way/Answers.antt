@@ -1,9 +1,10 @@
-use Rattle.std.proofs.Common.{◌≡◌, sym, ◌∙◌, ap, subst}
+use Rattle.std.proofs.Common.{◌≡◌, refl, sym, ◌∙◌, ap, subst}
 use Rattle.content_models.specs.Seen.{seen}
 use Rattle.content_match.specs.Taking.{spot_of}
 use Rattle.content_match.specs.Private.Standing.{spot_now}
 use Rattle.content_values.specs.Reached.{Put}
 use Rattle.xer_read.proofs.Leading.{stop, opened-at, step-goes}
+use Rattle.xer_read.proofs.Unkept.{unkept-step, kept-some, kept-none}
 use Rattle.xer_read.proofs.ways.open_way.Goals as goal
 
 pub put_step-requires-clause-step : goal.put_step-requires-clause-step
@@ -14,7 +15,7 @@ put_step-requires-clause-step g c =
     let took = c.requires.took in
     let here = stop (seen c.args.model.now) k new took.0 c.args.name.now c.in-Ok.leaf e.particle c.requires.particle (e.took took.0 took.1) in
     let way : spot_now c.path.result.turns.now c.path.result.kids.now ≡ spot_of k =
-    ap (λ ts. spot_now ts c.path.result.kids.now) c.path.ensures.turns ∙ ap (λ ks. spot_now c.args.way.now.turns.items ks) c.path.ensures.kids ∙ c.requires.way
+    ap (λ ts. spot_now ts c.path.result.kids.now) c.path.ensures.turns ∙ ap (λ ks. spot_now c.args.way.now.turns.items ks) c.path.ensures.kids ∙ c.requires.way (kept-some c.keeps_nothing.result c.args.values.now.most c.keeps_nothing.ensures c.if-keeps_nothing.false)
     in (
       c.args.name.now,
       here.spot,
@@ -30,9 +31,27 @@ returns-in_ok-follow-in-Ok-clause-opens g c = λ gs before now put stands.
     let e = c.in-Ok.ensures in
     let took = c.requires.took in
     let way : spot_now c.path.result.turns.now c.path.result.kids.now ≡ spot_of k =
-    ap (λ ts. spot_now ts c.path.result.kids.now) c.path.ensures.turns ∙ ap (λ ks. spot_now c.args.way.now.turns.items ks) c.path.ensures.kids ∙ c.requires.way
+    ap (λ ts. spot_now ts c.path.result.kids.now) c.path.ensures.turns ∙ ap (λ ks. spot_now c.args.way.now.turns.items ks) c.path.ensures.kids ∙ c.requires.way (kept-some c.keeps_nothing.result c.args.values.now.most c.keeps_nothing.ensures c.if-keeps_nothing.false)
     in
     opened-at p k new took.0 c.args.name.now c.in-Ok.leaf e.particle c.requires.particle (e.took took.0 took.1) gs before c.put_step.new.values
     (λ s is.
     c.in_ok-put_step-in-Ok.ensures.reached gs before now s (subst (λ o. Put p o gs before now) (sym way) put) stands
     ((ap (λ ts. spot_now ts c.kids.result.now) c.turns.ensures ∙ ap (λ ks. spot_now new.turns ks) c.kids.ensures) ∙ is))
+
+pub returns-then-keeps_nothing-clause-way : goal.returns-then-keeps_nothing-clause-way
+returns-then-keeps_nothing-clause-way g c = kept-none c.args.values.now.most (c.keeps_nothing.ensures.0 c.if-keeps_nothing.true)
+
+pub returns-then-keeps_nothing-clause-opens : goal.returns-then-keeps_nothing-clause-opens
+returns-then-keeps_nothing-clause-opens g c = λ gs before now put stands.
+    let k = c.args.matcher.now in
+    let new = c.step.new.self in
+    let p = seen c.args.model.now in
+    let e = c.in-Ok.ensures in
+    let took = c.requires.took in
+    let name = c.args.name.now in
+    let further = e.took took.0 took.1 in
+    let here = stop p k new took.0 name c.in-Ok.leaf e.particle c.requires.particle further in
+    opened-at p k new took.0 name c.in-Ok.leaf e.particle c.requires.particle further gs before c.args.values.now
+    (λ s is.
+    unkept-step p (spot_of k) (spot_of new) here.spot name c.args.values.now (c.keeps_nothing.ensures.0 c.if-keeps_nothing.true) c.requires.fillable here.is
+    (step-goes p k.particle name (spot_of k) (spot_of k) (spot_of new) here.spot c.requires.particle refl e.goes.0 here.is) gs before now s put stands is)

@@ -325,7 +325,7 @@ gather_element-gather_parts-requires t c =
 pub gather_element-end_element-requires : goal.gather_element-end_element-requires
 gather_element-end_element-requires t c =
     let g = type_gives c.args.module.now c.resolve-found.result.now c.args.value.now in
-    element-open c.args.out.now c.begin_element.new.self c.gather_parts.new.out c.in_ok-outer.outer g c.in_ok-outer.ensures c.in_ok-gather_parts.ensures
+    element-open c.args.out.now c.begin_element.new.self c.gather_parts.new.out c.in_ok-outer.outer c.args.name g c.in_ok-outer.ensures c.in_ok-gather_parts.ensures
 
 pub gather_element-returns : goal.gather_element-returns
 gather_element-returns t c =

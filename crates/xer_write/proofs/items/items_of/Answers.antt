@@ -22,8 +22,8 @@ into_tree-requires c =
     let m = c.args.module.now in
     let v = c.args.value.now in
     let a = c.assignment-assignment in
-    let made = root-made m a.result.now v c.in_ok-out.out c.gather_element.new.out c.root.result.now c.root-2.result c.in_ok-name.name
-    c.root.ensures.root c.root-2.ensures.root c.in_ok-out.ensures.builder c.in_ok-out.ensures.texts c.in_ok-name.ensures c.in_ok-gather_element.ensures in
+    let made = root-made m a.result.now v c.new-out.result c.gather_element.new.out c.root.result.now c.root-2.result c.in_ok-name.name
+    c.root.ensures.root c.root-2.ensures.root c.new-out.ensures.builder c.new-out.ensures.texts c.in_ok-name.ensures c.in_ok-gather_element.ensures in
     record { closed = ap (λ z. z.above) made.0; one = ap (λ z. length z.kids) made.0 }
 
 pub of-requires : goal.of-requires
@@ -31,29 +31,19 @@ of-requires c =
     let m = c.args.module.now in
     let v = c.args.value.now in
     let a = c.assignment-assignment in
-    let made = root-made m a.result.now v c.in_ok-out.out c.gather_element.new.out c.root.result.now c.root-2.result c.in_ok-name.name
-    c.root.ensures.root c.root-2.ensures.root c.in_ok-out.ensures.builder c.in_ok-out.ensures.texts c.in_ok-name.ensures c.in_ok-gather_element.ensures in
+    let made = root-made m a.result.now v c.new-out.result c.gather_element.new.out c.root.result.now c.root-2.result c.in_ok-name.name
+    c.root.ensures.root c.root-2.ensures.root c.new-out.ensures.builder c.new-out.ensures.texts c.in_ok-name.ensures c.in_ok-gather_element.ensures in
     let items = root-items m c.args.t a.result.now v a.ensures.assignment c.requires.value c.requires.sound made.1 in
-    subst (Allowed MayHave) (sym (only-item c.into_tree.result (unplaced (root_of m a.result.now v)) (sym c.into_tree.ensures ∙ ap (λ z. z.kids) made.0))) items.allowed
-
-pub of-requires-2 : goal.of-requires-2
-of-requires-2 c =
-    let m = c.args.module.now in
-    let v = c.args.value.now in
-    let a = c.assignment-assignment in
-    let made = root-made m a.result.now v c.in_ok-out.out c.gather_element.new.out c.root.result.now c.root-2.result c.in_ok-name.name
-    c.root.ensures.root c.root-2.ensures.root c.in_ok-out.ensures.builder c.in_ok-out.ensures.texts c.in_ok-name.ensures c.in_ok-gather_element.ensures in
-    let items = root-items m c.args.t a.result.now v a.ensures.assignment c.requires.value c.requires.sound made.1 in
-    subst AreItems (sym (c.of.ensures ∙ only-item c.into_tree.result (unplaced (root_of m a.result.now v)) (sym c.into_tree.ensures ∙ ap (λ z. z.kids) made.0))) items
+    subst AreItems (sym (only-item c.into_tree.result (unplaced (root_of m a.result.now v)) (sym c.into_tree.ensures ∙ ap (λ z. z.kids) made.0))) items
 
 pub returns : goal.returns
 returns c =
     let m = c.args.module.now in
     let v = c.args.value.now in
     let a = c.assignment-assignment in
-    let made = root-made m a.result.now v c.in_ok-out.out c.gather_element.new.out c.root.result.now c.root-2.result c.in_ok-name.name
-    c.root.ensures.root c.root-2.ensures.root c.in_ok-out.ensures.builder c.in_ok-out.ensures.texts c.in_ok-name.ensures c.in_ok-gather_element.ensures in (
+    let made = root-made m a.result.now v c.new-out.result c.gather_element.new.out c.root.result.now c.root-2.result c.in_ok-name.name
+    c.root.ensures.root c.root-2.ensures.root c.new-out.ensures.builder c.new-out.ensures.texts c.in_ok-name.ensures c.in_ok-gather_element.ensures in (
       root_of m a.result.now v,
       ap (option_map (λ (x : Assignment). root_of m x v)) a.ensures.assignment,
-      c.of-2.ensures ∙ c.of.ensures ∙ only-item c.into_tree.result (unplaced (root_of m a.result.now v)) (sym c.into_tree.ensures ∙ ap (λ z. z.kids) made.0),
+      c.of.ensures ∙ only-item c.into_tree.result (unplaced (root_of m a.result.now v)) (sym c.into_tree.ensures ∙ ap (λ z. z.kids) made.0),
     )

@@ -5,7 +5,7 @@ use Rattle.label_tree.specs.Rose.{none}
 use Rattle.xer_items.specs.Items.{given}
 use Rattle.xer_write.specs.declared.contents.Contents.{Contents}
 use Rattle.xer_write.specs.Private.Gaining.{Gains, first_text, value_text}
-use Rattle.xer_write.proofs.Gaining.{gains-nothing, gains-empty, gains-text, gains-length, room-made}
+use Rattle.xer_write.proofs.Gaining.{gains-nothing, gains-empty, gains-text, gains-length, room-made, on_ok}
 use Rattle.xer_write.proofs.contents.Contents.+texts.Goals.{add_next-in-Some+in_ok-text+in_ok-add_text, add_next-in_default}
 use Rattle.xer_write.proofs.contents.Contents.+texts.Goals as goal
 
@@ -17,8 +17,10 @@ pub add_text-returns : goal.add_text-returns
 add_text-returns t c =
     let room = c.make_room.new.self in
     let some : (length c.args.text == 0) ≡ false = ap (λ s. length s == 0) (sym c.as_str.ensures) ∙ sym c.is_empty.ensures ∙ c.if-is_empty.false in
-    gains-text c.args.self.now room (record { builder = c.leaf.new.self; attributes = room.attributes; texts = room.texts; blank = room.blank }) c.args.text some (subst IsUtf8 c.as_str.ensures c.as_str.utf8)
-    c.in_ok-make_room.ensures refl refl c.in_ok-leaf.ensures.ok
+    on_ok c.put_text.result _ _
+    (λ builder. gains-text c.args.self.now room (record { builder = c.put_text.new.builder; attributes = room.attributes; texts = room.texts }) c.args.text some (subst IsUtf8 c.as_str.ensures c.as_str.utf8)
+    c.in_ok-make_room.ensures refl refl builder)
+    c.put_text.ensures
 
 pub add_next-returns-clause-gains : goal.add_next-returns-clause-gains
 add_next-returns-clause-gains t c =
@@ -37,7 +39,7 @@ pub make_room-make_room-requires : goal.make_room-make_room-requires
 make_room-make_room-requires t c =
     let d = c.decreases in
     let old = c.args.self.now in
-    let popped : Contents = record { builder = old.builder; attributes = old.attributes; texts = c.pop.new.self; blank = old.blank } in
+    let popped : Contents = record { builder = old.builder; attributes = old.attributes; texts = c.pop.new.self } in
     let same = gains-length popped c.add_next.new.self _ c.in_ok-left.ensures.gains in
     let one = ap length c.in-Some.ensures.items in
     let more = length-append c.pop.new.self.items (c.in-Some.texts ∷ []) in
@@ -47,6 +49,6 @@ pub make_room-returns : goal.make_room-returns
 make_room-returns t c =
     let old = c.args.self.now in
     let room = c.make_room.new.self in
-    let popped : Contents = record { builder = old.builder; attributes = old.attributes; texts = c.pop.new.self; blank = old.blank } in
-    room-made old popped c.add_next.new.self room (record { builder = room.builder; attributes = room.attributes; texts = c.push.new.self; blank = room.blank }) c.in-Some.texts c.in_ok-left.left
+    let popped : Contents = record { builder = old.builder; attributes = old.attributes; texts = c.pop.new.self } in
+    room-made old popped c.add_next.new.self room (record { builder = room.builder; attributes = room.attributes; texts = c.push.new.self }) c.in-Some.texts c.in_ok-left.left
     c.in-Some.ensures.items refl refl c.in_ok-left.ensures.gains c.in_ok-left.ensures.left c.in_ok-make_room.ensures c.in_ok-push.ensures.items refl refl

@@ -1,5 +1,4 @@
-use Rattle.std.proofs.Common.{[], subst, ap, ◌∙◌, refl, IsUtf8}
-use Rattle.item_tree.specs.declared.label.ItemLabel.TheVariants.{Element}
+use Rattle.std.proofs.Common.{subst, refl, IsUtf8}
 use Rattle.xer_write.specs.declared.contents.Contents.{Contents}
 use Rattle.xer_write.proofs.Gaining.{text-element-gained, on_ok}
 use Rattle.xer_write.proofs.contents.Contents.add_text_element.Goals as goal
@@ -7,8 +6,7 @@ use Rattle.xer_write.proofs.contents.Contents.add_text_element.Goals as goal
 pub returns : goal.returns
 returns c =
     let room = c.make_room.new.self in
-    let new : Contents = record { builder = c.put_with_text.new.builder; attributes = room.attributes; texts = room.texts; blank = room.blank } in
+    let new : Contents = record { builder = c.put_with_text.new.builder; attributes = room.attributes; texts = room.texts } in
     on_ok c.put_with_text.result _ _
-    (λ builder. text-element-gained c.args.self.now room new c.args.name c.in_ok-label.label c.args.text (subst IsUtf8 c.as_str.ensures c.as_str.utf8) c.in_ok-make_room.ensures refl refl
-    (c.in_ok-label.ensures ∙ ap (λ s. Element c.args.name s [] 0) c.new.ensures.items) builder)
+    (λ builder. text-element-gained c.args.self.now room new c.args.name c.args.text (subst IsUtf8 c.as_str.ensures c.as_str.utf8) c.in_ok-make_room.ensures refl refl builder)
     c.put_with_text.ensures

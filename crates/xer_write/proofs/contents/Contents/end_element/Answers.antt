@@ -5,4 +5,4 @@ use Rattle.xer_write.proofs.Gaining.{still_open}
 use Rattle.xer_write.proofs.contents.Contents.end_element.Goals as goal
 
 pub close-requires : goal.close-requires
-close-requires c = subst (λ (z : Zip ItemLabel). 0 < length z.above) (sym c.relabel.ensures.relabeled) (still_open c.in_ok-label.label c.args.self.now.builder.above c.requires)
+close-requires c = subst (λ (z : Zip ItemLabel). 0 < length z.above) (sym c.in_ok-set_lists.ensures.ok) (still_open c.replace-own.result.items c.new.result.items c.args.self.now.builder.zip.above c.requires)
