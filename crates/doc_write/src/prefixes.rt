@@ -3,15 +3,15 @@ ghost use Rattle.std.specs.Prelude.{◌≡◌, ◌∷◌, ◌++◌, [], map, OnO
 ghost use Rattle.std.specs.Option.{option_map};
 ghost use Rattle.std.specs.Map.{lookup};
 ghost use Rattle.doc_written.specs.Spaces.{attribute_spaces, label_spaces, spaces};
+ghost use Rattle.item_tree.specs.Seen.{item_seen};
 ghost use Rattle.doc_write.specs.Private.Binding.{prefix_text, qualifier_text, before_local, entry_of, next_prefix, is_bound, with_space, with_spaces};
 
-use doc_text::{Attributes, ItemLabel};
-use flat_tree::Node;
+use item_tree::{ItemNode, ItemRef};
 use itoa::Buffer;
 use std::alloc::{AllocError, Global};
 use std::collections::BTreeMap;
 use std::marker::Model;
-use xa_base::{XML_SPACE, XSI_SPACE};
+use xa_base::{Name, Text, XML_SPACE, XSI_SPACE};
 
 // `xsi`, or `n` with a number.
 #[derive(Clone, Copy)]
@@ -67,6 +67,7 @@ impl<'a> Prefixes<'a> {
     }
 
     // The prefix under which a namespace is declared. Most names are in the one that was found first.
+    #[inline(always)]
     fn get(&self, space: &[u8]) -> Option<Prefix>
         ensures { option_map prefix_text result ≡ lookup (bytes_eq space.now) self.now }
     {
@@ -79,6 +80,7 @@ impl<'a> Prefixes<'a> {
     }
 
     // A namespace that needs no entry more.
+    #[inline(always)]
     fn is_bound(&self, space: &[u8]) -> bool
         ensures { result ≡ is_bound self.now space.now }
     {
@@ -114,21 +116,20 @@ impl<'a> Prefixes<'a> {
         }
     }
 
-    fn bind_attributes(&mut self, attributes: &'a Attributes) -> Result<(), AllocError>
+    fn bind_attributes(&mut self, attributes: &'a [(Name, Text)]) -> Result<(), AllocError>
         ensures { OnOk result (self.new ≡ with_spaces self.old (attribute_spaces attributes.now)) }
     {
-        let entries = attributes.items();
-        'attributes: for (name, _) in entries {
+        'attributes: for (name, _) in attributes {
             self.bind(name.space.bytes())?;
         }
         Ok(())
     }
 
-    fn bind_label(&mut self, label: &'a ItemLabel) -> Result<(), AllocError>
-        ensures { OnOk result (self.new ≡ with_spaces self.old (label_spaces label.now)) }
+    fn bind_label(&mut self, label: ItemRef<'a>) -> Result<(), AllocError>
+        ensures { OnOk result (self.new ≡ with_spaces self.old (label_spaces (item_seen label))) }
     {
         match label {
-            ItemLabel::Element {
+            ItemRef::Element {
                 name,
                 attributes,
                 ..
@@ -136,12 +137,12 @@ impl<'a> Prefixes<'a> {
                 self.bind(name.space.bytes())?;
                 self.bind_attributes(attributes)
             }
-            ItemLabel::Text { .. } => Ok(()),
+            ItemRef::Text { .. } => Ok(()),
         }
     }
 
     // The namespaces of all names of the tree.
-    pub(crate) fn bind_tree(&mut self, tree: &Node<'a, ItemLabel>) -> Result<(), AllocError>
+    pub(crate) fn bind_tree(&mut self, tree: &ItemNode<'a>) -> Result<(), AllocError>
         ensures { OnOk result (self.new ≡ with_spaces self.old (spaces tree.now)) }
     {
         self.bind_label(tree.label())?;
@@ -152,6 +153,7 @@ impl<'a> Prefixes<'a> {
     }
 
     // What stands before the local part of a name in this namespace.
+    #[inline(always)]
     pub(crate) fn qualifier(&self, space: &[u8]) -> Qualifier
         ensures { qualifier_text result ≡ before_local self.now space.now }
     {
@@ -183,6 +185,7 @@ impl Prefix {
     }
 
     // Writes the prefix and a colon. One of one digit, as most are, is written at once.
+    #[inline(always)]
     fn write_before_colon(self, out: &mut Vec<u8>) -> Result<(), AllocError>
         ensures { OnOk result (out.new.items ≡ out.old.items ++ (prefix_text self ++ 58 ∷ [])) }
     {
@@ -199,6 +202,7 @@ impl Prefix {
 }
 
 impl Qualifier {
+    #[inline(always)]
     pub(crate) fn write(self, out: &mut Vec<u8>) -> Result<(), AllocError>
         ensures { OnOk result (out.new.items ≡ out.old.items ++ qualifier_text self) }
     {

@@ -7,8 +7,8 @@ ghost use Rattle.doc_write.specs.Private.Escapes.{escape_in};
 ghost use Rattle.doc_write.specs.Private.Binding.{prefix_text, entry_of, named};
 
 use crate::prefixes::{Prefix, Prefixes, Qualifier};
-use doc_text::{Attributes, ItemLabel, Items};
-use flat_tree::Node;
+use doc_text::Items;
+use item_tree::{ItemNode, ItemRef};
 use std::alloc::{AllocError, Global};
 use xa_base::{Memory, Name, Text};
 
@@ -71,6 +71,7 @@ fn write_escaped(out: &mut Vec<u8>, place: CharacterPlace, bytes: &[u8]) -> Resu
 }
 
 // A name behind what stands before its local part.
+#[inline(always)]
 fn write_name(out: &mut Vec<u8>, qualifier: Qualifier, name: &Name) -> Result<(), AllocError>
     ensures { OnOk result (out.new.items ≡ out.old.items ++ named qualifier name.now) }
 {
@@ -104,12 +105,11 @@ fn write_attribute(
 fn write_attributes(
     out: &mut Vec<u8>,
     prefixes: &Prefixes<'_>,
-    attributes: &Attributes,
+    attributes: &[(Name, Text)],
 ) -> Result<(), AllocError>
     ensures { OnOk result (out.new.items ≡ out.old.items ++ flat_map (written_attribute prefixes.now) attributes.now) }
 {
-    let entries = attributes.items();
-    'attributes: for entry in entries {
+    'attributes: for entry in attributes {
         write_attribute(out, prefixes, entry)?;
     }
     Ok(())
@@ -134,13 +134,14 @@ fn write_declarations(out: &mut Vec<u8>, declared: &[(&[u8], Prefix)]) -> Result
 }
 
 // A start tag without its end.
+#[inline(always)]
 fn write_start(
     out: &mut Vec<u8>,
     prefixes: &Prefixes<'_>,
     declared: &[(&[u8], Prefix)],
     qualifier: Qualifier,
     name: &Name,
-    attributes: &Attributes,
+    attributes: &[(Name, Text)],
 ) -> Result<(), AllocError>
     requires { named qualifier name.now ≡ written_name prefixes.now name.now }
     ensures { OnOk result (out.new.items ≡ out.old.items ++ written_start prefixes.now (flat_map written_declaration (map entry_of declared.now)) name.now attributes.now) }
@@ -151,6 +152,7 @@ fn write_start(
     write_attributes(out, prefixes, attributes)
 }
 
+#[inline(always)]
 fn write_end(out: &mut Vec<u8>, qualifier: Qualifier, name: &Name) -> Result<(), AllocError>
     ensures { OnOk result (out.new.items ≡ out.old.items ++ (60 ∷ 47 ∷ named qualifier name.now ++ 62 ∷ [])) }
 {
@@ -165,14 +167,14 @@ fn write_tree(
     out: &mut Vec<u8>,
     prefixes: &Prefixes<'_>,
     declared: &[(&[u8], Prefix)],
-    tree: &Node<'_, ItemLabel>,
+    tree: &ItemNode<'_>,
 ) -> Result<(), AllocError>
     ensures { OnOk result (out.new.items ≡ out.old.items ++ spelled prefixes.now (flat_map written_declaration (map entry_of declared.now)) tree.now) }
 {
     let kids = tree.kids();
     match tree.label() {
-        ItemLabel::Text { text, .. } => write_escaped(out, CharacterPlace::Content, text.bytes()),
-        ItemLabel::Element {
+        ItemRef::Text { text, .. } => write_escaped(out, CharacterPlace::Content, text.bytes()),
+        ItemRef::Element {
             name,
             attributes,
             ..
@@ -192,7 +194,7 @@ fn write_tree(
 }
 
 // The text of a document whose root is this tree.
-fn write_root(alloc: Global, root: &Node<'_, ItemLabel>) -> Result<Vec<u8>, Memory>
+fn write_root(alloc: Global, root: &ItemNode<'_>) -> Result<Vec<u8>, Memory>
     ensures { IfOk result (λ text. text.items ≡ written root.now) }
 {
     let mut prefixes = Prefixes::new(alloc);

@@ -3,6 +3,7 @@ use Rattle.std.proofs.Common.{List, ℕ, map, ◌≡◌, ◌++◌, ◌∷◌, []
 use Rattle.label_tree.specs.Rose.{Rose, roses_of, kids_of}
 use Rattle.flat_tree.proofs.Cursors.{kids_fewer}
 use Rattle.item_tree.specs.declared.label.ItemLabel.{ItemLabel}
+use Rattle.item_tree.specs.Seen.{item_seen}
 use Rattle.doc_write.proofs.Written.{OnOk-map, some_kids, spelled-kids, written-kids}
 use Rattle.doc_written.specs.Written.{all_spelled, written_declaration, written_name, written_start, written_end}
 use Rattle.doc_write.specs.Private.Binding.{before_local, entry_of, named}
@@ -12,7 +13,7 @@ use Rattle.doc_write.proofs.writing.+write_tree.Goals as goal
 pub write_start-requires : goal.write_start-requires
 write_start-requires t c =
     let table = c.args.prefixes.now in
-    named-written table c.qualifier-qualifier.result c.in-Element.name (c.qualifier-qualifier.ensures ∙ ap (before_local table) c.bytes-in-Element.ensures.bytes)
+    named-written table c.qualifier-qualifier.result c.in-Element.name.now (c.qualifier-qualifier.ensures ∙ ap (before_local table) c.bytes-in-Element.ensures.bytes)
 
 pub kids-init : goal.kids-init
 kids-init t c =
@@ -27,13 +28,13 @@ returns-in-None t c =
     let table = c.args.prefixes.now in
     let old = c.args.out.now.items in
     let kids = kids_of c.args.tree.now in
-    let name = c.in-Element.name in
-    let attributes = c.in-Element.attributes in
+    let name = c.in-Element.name.now in
+    let attributes = c.in-Element.attributes.now in
     let declarations = flat_map written_declaration (map entry_of c.args.declared.now) in
     let start = written_start table declarations name attributes in
     let pushed : c.push.new.self.items ≡ (old ++ start) ++ 62 ∷ [] = c.in_ok-push-in-Element.ensures.items ∙ ap (λ o. o ++ 62 ∷ []) c.in_ok-write_start-in-Element.ensures in
     let some : 0 < length kids = subst (λ (ks : List (Rose ItemLabel)). 0 < length ks) c.kids-kids.ensures (some_kids c.is_empty.result c.kids-kids.result c.is_empty.ensures.1 c.if-is_empty.false) in
-    let spelled_is = spelled-kids table declarations c.args.tree.now name attributes _ _ kids (sym c.in-Element.is ∙ c.label.ensures) refl some in
+    let spelled_is = spelled-kids table declarations c.args.tree.now name attributes _ _ kids (sym (ap item_seen c.in-Element.is) ∙ c.label.ensures) refl some in
     let all = written-kids table old start (written_end table name) c.push.new.self.items c.kids.out.items kids c.kids.kid-iterator c.in-None.ensures.steps.0 pushed c.kids.invariant.written in
     let q = c.qualifier-qualifier.result in
     let is : named q name ≡ written_name table name = named-written table q name (c.qualifier-qualifier.ensures ∙ ap (before_local table) c.bytes-in-Element.ensures.bytes) in
