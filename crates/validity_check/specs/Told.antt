@@ -12,6 +12,7 @@ use Rattle.schema_parts.specs.declared.components.ComplexDef.{ComplexDef}
 use Rattle.schema_parts.specs.Linked.{IsUse, IsModel, leaves}
 use Rattle.schema_parts.specs.SetParts.{SetParts}
 use Rattle.validity.specs.Asked as asked
+use Rattle.attribute_faults.specs.Uses.{Ascend}
 use Rattle.validity_check.specs.declared.declarations.Declared.{Declared}
 use Rattle.validity_check.specs.declared.declarations.Inside.{Inside}
 use Rattle.validity_check.specs.declared.declarations.Inside.TheVariants.{Nothing, Simple, Children}
@@ -43,4 +44,4 @@ AreNamed s p = All (λ (leaf : ℕ × Name). leaf.0 < length s.elements) (leaves
 
 -- what a linked set keeps of what it declares
 abbrev pub IsFitting : Set → Declared → Type 0
-IsFitting s d = All (IsUse s) d.uses.now × IsFittingInside s d.inside
+IsFitting s d = All (IsUse s) d.uses.now × Ascend d.uses.now × IsFittingInside s d.inside

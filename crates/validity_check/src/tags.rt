@@ -1,5 +1,5 @@
 //! The rules of a start tag, in the order of their faults.
-ghost use Rattle.std.specs.Prelude.{◌≡◌, Some, None, All, map, MatchOption, MatchResult, IfOk, IsTrue, IsFalse};
+ghost use Rattle.std.specs.Prelude.{◌≡◌, true, false, Ok, Some, None, All, map, MatchOption, MatchResult, IfOk};
 ghost use Rattle.xa_base.specs.Names.{name_eq};
 ghost use Rattle.xa_base.specs.WhiteSpace.{treated};
 ghost use Rattle.simple_values.specs.Lexical.{boolean_of};
@@ -7,6 +7,7 @@ ghost use Rattle.schema_parts.specs.Linked.{IsUse, IsLinked};
 ghost use Rattle.schema_parts.specs.SetParts.{parts_of};
 ghost use Rattle.validity.specs.Asked.{attribute_in};
 ghost use Rattle.validity.specs.Attributes as rule;
+ghost use Rattle.attribute_faults.specs.Uses.{Ascend};
 ghost use Rattle.validity_check.specs.Told.{told};
 ghost use Rattle.validity_check.specs.Answers.{Tells, TagFault, IsGoodTag};
 
@@ -82,13 +83,19 @@ pub fn nil_of(
 }
 
 // Whether an attribute that is required is missing.
-fn lacks(set: &SchemaSet, uses: &[AttributeUse], attributes: &[(Name, Text)]) -> bool
-    requires { All (IsUse set.now) uses.now }
-    ensures lacks { IsTrue result → rule.OneMissing (map (attribute_in (parts_of set.now)) uses.now) (rule.left attributes.now) }
-    ensures stand { IsFalse result → rule.AllStand (map (attribute_in (parts_of set.now)) uses.now) (rule.left attributes.now) }
+fn lacks(
+    alloc: Global,
+    set: &SchemaSet,
+    uses: &[AttributeUse],
+    attributes: &[(Name, Text)],
+) -> Result<bool, Memory>
+    requires uses { All (IsUse set.now) uses.now }
+    requires ascending { Ascend uses.now }
+    ensures lacks { result ≡ Ok true → rule.OneMissing (map (attribute_in (parts_of set.now)) uses.now) (rule.left attributes.now) }
+    ensures stand { result ≡ Ok false → rule.AllStand (map (attribute_in (parts_of set.now)) uses.now) (rule.left attributes.now) }
 {
     let _ = set;
-    lacks_required(uses, attributes)
+    lacks_required(alloc, uses, attributes)
 }
 
 /// Whether an element that is declared so is nil; or the first fault of its start tag, which stands at this place.
@@ -101,6 +108,7 @@ pub fn check_tag(
 ) -> Result<bool, CheckError>
     requires linked { IsLinked set.now }
     requires uses { All (IsUse set.now) declared.now.uses.now }
+    requires ascending { Ascend declared.now.uses.now }
     ensures { MatchResult result
         (λ nil. IsGoodTag (told (parts_of set.now) declared.now) attributes.now nil)
         (Tells (TagFault (told (parts_of set.now) declared.now) attributes.now at)) }
@@ -120,7 +128,7 @@ pub fn check_tag(
     if let Some(why) = first_wrong(alloc, set, declared.uses, attributes)? {
         return Err(CheckError::Invalid { at, why });
     }
-    if lacks(set, declared.uses, attributes) {
+    if lacks(alloc, set, declared.uses, attributes)? {
         return Err(CheckError::Invalid {
             at,
             why: InvalidWhy::MissingAttribute,

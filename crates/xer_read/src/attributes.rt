@@ -1,36 +1,43 @@
 //! The parts that stand for attributes.
-ghost use Rattle.std.specs.Prelude.{◌≡◌, ◌∷◌, [], true, ◌<◌, length, map, All, OnOk};
+ghost use Rattle.std.specs.Prelude.{◌≡◌, ◌∷◌, [], true, Some, None, ◌<◌, length, map, All, OnOk, MatchOption};
 ghost use Rattle.schema_parts.specs.Declarable.{is_declarable_attribute};
 ghost use Rattle.schema_parts.specs.Linked.{IsUse, IsLinked};
 ghost use Rattle.schema_parts.specs.SetParts.{parts_of};
 ghost use Rattle.validity.specs.Asked.{attribute_in};
+ghost use Rattle.validity.specs.Attributes as rule;
 ghost use Rattle.validity.specs.Attributes.{left};
+ghost use Rattle.attribute_faults.specs.Texts.{AreTexts};
+ghost use Rattle.attribute_faults.specs.Uses.{Ascend};
 ghost use Rattle.xer_read.specs.Private.Contents.{IsTaken, AreTaken, AttributesMade};
 ghost use Rattle.xer_read.specs.Private.Putting.{PartsPut};
 
-use attribute_faults::text_of;
+use attribute_faults::{are_few, text_of, texts_of};
 use schema_parts::{AttributeUse, SchemaSet};
 use simple_values::SimpleError;
+use std::alloc::Global;
 use value_builder::ValueBuilder;
 use xa_base::{Memory, Name, Text};
 
-// The part for an attribute use.
+// The part for an attribute use, whose text is this if it stands.
 fn put_attribute(
     set: &SchemaSet,
     declared: &AttributeUse,
     attributes: &[(Name, Text)],
+    text: Option<&Text>,
     values: &mut ValueBuilder,
 ) -> Result<(), Memory>
     requires linked { IsLinked set.now }
     requires declared { IsUse set.now declared.now }
     requires taken { IsTaken (left attributes.now) (attribute_in (parts_of set.now) declared.now) }
+    requires text { MatchOption text (rule.text_of attributes.now declared.now.name ≡ None) (λ t. rule.text_of attributes.now declared.now.name ≡ Some t.now) }
     ensures { OnOk result (PartsPut (AttributesMade (attribute_in (parts_of set.now) declared.now ∷ []) (left attributes.now)) values.old values.new) }
 {
-    match text_of(attributes, &declared.name) {
+    let _ = attributes;
+    match text {
         None => values.part(false),
-        Some(text) => {
+        Some(found) => {
             values.part(true)?;
-            match values.text(&set.simple(declared.simple).space, text) {
+            match values.text(&set.simple(declared.simple).space, found) {
                 Ok(()) => Ok(()),
                 Err(SimpleError::Memory) => Err(Memory),
                 Err(SimpleError::BadText) => unreachable!(),
@@ -40,8 +47,8 @@ fn put_attribute(
     }
 }
 
-/// The parts for attribute uses: each has the value of its attribute, or is absent where none stands.
-pub(crate) fn put_attributes(
+// The parts for few attribute uses, each of which is looked for one by one.
+fn put_few(
     set: &SchemaSet,
     uses: &[AttributeUse],
     attributes: &[(Name, Text)],
@@ -52,11 +59,55 @@ pub(crate) fn put_attributes(
     requires taken { AreTaken set.now attributes.now uses.now }
     ensures { OnOk result (PartsPut (AttributesMade (map (attribute_in (parts_of set.now)) uses.now) (left attributes.now)) values.old values.new) }
 {
+    for declared in uses {
+        let text = text_of(attributes, &declared.name);
+        put_attribute(set, declared, attributes, text, values)?;
+    }
+    Ok(())
+}
+
+// The parts for attribute uses, whose texts are given in their order.
+fn put_each(
+    set: &SchemaSet,
+    uses: &[AttributeUse],
+    attributes: &[(Name, Text)],
+    texts: &[Option<&Text>],
+    values: &mut ValueBuilder,
+) -> Result<(), Memory>
+    requires linked { IsLinked set.now }
+    requires uses { All (IsUse set.now) uses.now }
+    requires taken { AreTaken set.now attributes.now uses.now }
+    requires texts { AreTexts attributes.now uses.now texts.now }
+    ensures { OnOk result (PartsPut (AttributesMade (map (attribute_in (parts_of set.now)) uses.now) (left attributes.now)) values.old values.new) }
+{
+    'uses: for i in 0..uses.len() {
+        let declared = &uses[i];
+        let text = texts[i];
+        put_attribute(set, declared, attributes, text, values)?;
+    }
+    Ok(())
+}
+
+/// The parts for attribute uses: each has the value of its attribute, or is absent where none stands.
+pub(crate) fn put_attributes(
+    alloc: Global,
+    set: &SchemaSet,
+    uses: &[AttributeUse],
+    attributes: &[(Name, Text)],
+    values: &mut ValueBuilder,
+) -> Result<(), Memory>
+    requires linked { IsLinked set.now }
+    requires uses { All (IsUse set.now) uses.now }
+    requires ascending { Ascend uses.now }
+    requires taken { AreTaken set.now attributes.now uses.now }
+    ensures { OnOk result (PartsPut (AttributesMade (map (attribute_in (parts_of set.now)) uses.now) (left attributes.now)) values.old values.new) }
+{
     if values.keeps_nothing() {
         return Ok(());
     }
-    for declared in uses {
-        put_attribute(set, declared, attributes, values)?;
+    if are_few(uses, attributes) {
+        return put_few(set, uses, attributes, values);
     }
-    Ok(())
+    let texts = texts_of(alloc, uses, attributes)?;
+    put_each(set, uses, attributes, &texts, values)
 }

@@ -10,6 +10,7 @@ ghost use Rattle.doc_text.specs.Sound.{are_sound};
 ghost use Rattle.xer_read.specs.Private.Given.{IsReadAs};
 ghost use Rattle.schema_parts.specs.Linked.{IsUse, IsLinked};
 ghost use Rattle.schema_parts.specs.SetParts.{parts_of};
+ghost use Rattle.attribute_faults.specs.Uses.{Ascend};
 ghost use Rattle.validity.specs.Asked as asked;
 ghost use Rattle.validity.specs.Faults.{FirstKid, why_kid};
 ghost use Rattle.validity_check.specs.Answers.{Tells, TextFault};
@@ -83,12 +84,13 @@ pub(crate) fn begin_complex(
 ) -> Result<(), Memory>
     requires linked { IsLinked set.now }
     requires uses { All (IsUse set.now) declared.now.uses.now }
+    requires ascending { Ascend declared.now.uses.now }
     requires taken { AreTaken set.now attributes.now declared.now.uses.now }
     ensures { OnOk result (Begins (told (parts_of set.now) declared.now) attributes.now (strings_put nil (roses_of kids.now)) values.old values.new) }
 {
     values.open(no_components())?;
     put_texts(alloc, declared.inside, nil, kids, values)?;
-    put_attributes(set, declared.uses, attributes, values)
+    put_attributes(alloc, set, declared.uses, attributes, values)
 }
 
 // The part for a content in which nothing may stand: one where the element may be nil.
@@ -154,6 +156,7 @@ fn put_nil(
 ) -> Result<(), Memory>
     requires linked { IsLinked set.now }
     requires uses { All (IsUse set.now) declared.now.uses.now }
+    requires ascending { Ascend declared.now.uses.now }
     requires taken { AreTaken set.now attributes.now declared.now.uses.now }
     ensures { OnOk result ((v : Rose ValueLabel) × IsNilFilled (told (parts_of set.now) declared.now) attributes.now v × Puts (added v) values.old values.new) }
 {
@@ -174,6 +177,7 @@ pub(crate) fn walk_nil(
 ) -> Result<(), CheckError>
     requires linked { IsLinked set.now }
     requires uses { All (IsUse set.now) declared.now.uses.now }
+    requires ascending { Ascend declared.now.uses.now }
     requires taken { AreTaken set.now attributes.now declared.now.uses.now }
     ensures { MatchResult result
         (λ _. (roses_of kids.now ≡ none) × ((v : Rose ValueLabel) × IsNilFilled (told (parts_of set.now) declared.now) attributes.now v × Puts (added v) values.old values.new))

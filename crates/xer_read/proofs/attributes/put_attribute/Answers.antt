@@ -17,21 +17,21 @@ returns-in-None c =
     let old = c.args.values.now in
     let new = c.part.new.self in
     on-ok c.part.result (Puts (flagged false) old new) (PartsPut P old new)
-    (λ h. left-out P old new h (attribute-absent c.args.set.now c.args.declared.now c.args.attributes.now c.requires.declared.0 c.in-None.ensures)) c.part.ensures
+    (λ h. left-out P old new h (attribute-absent c.args.set.now c.args.declared.now c.args.attributes.now c.requires.declared.0 (rw c.in-None.is at c.requires.text))) c.part.ensures
 
 pub returns-in-Ok : goal.returns-in-Ok
 returns-in-Ok c =
     let P = AttributesMade (attribute_in (parts_of c.args.set.now) c.args.declared.now ∷ []) (left c.args.attributes.now) in
     let read = c.in-Ok.ensures in
     one-part P read.0 c.args.values.now c.part-in-Some.new.self c.text.new.self c.in_ok-part-in-Some.ensures read.2
-    (attribute-present c.args.set.now c.args.declared.now c.args.attributes.now c.requires.declared.0 c.in-Some.text.now c.in-Some.ensures c.simple.result.now c.simple.ensures read.0 read.1)
+    (attribute-present c.args.set.now c.args.declared.now c.args.attributes.now c.requires.declared.0 c.in-Some.found.now (rw c.in-Some.is at c.requires.text) c.simple.result.now c.simple.ensures read.0 read.1)
 
 pub unreachable-requires : goal.unreachable-requires
 unreachable-requires c =
-    never-refused c.args.set.now c.args.declared.now c.args.attributes.now c.requires.declared.0 c.in-Some.text.now c.in-Some.ensures c.simple.result.now c.simple.ensures c.requires.taken Bad
+    never-refused c.args.set.now c.args.declared.now c.args.attributes.now c.requires.declared.0 c.in-Some.found.now (rw c.in-Some.is at c.requires.text) c.simple.result.now c.simple.ensures c.requires.taken Bad
     (rw c.in-Err-BadText.field-0-is at c.in-Err-BadText.ensures)
 
 pub unreachable-requires-in-Err-TooWide : goal.unreachable-requires-in-Err-TooWide
 unreachable-requires-in-Err-TooWide c =
-    never-refused c.args.set.now c.args.declared.now c.args.attributes.now c.requires.declared.0 c.in-Some.text.now c.in-Some.ensures c.simple.result.now c.simple.ensures c.requires.taken Wide
+    never-refused c.args.set.now c.args.declared.now c.args.attributes.now c.requires.declared.0 c.in-Some.found.now (rw c.in-Some.is at c.requires.text) c.simple.result.now c.simple.ensures c.requires.taken Wide
     (rw c.in-Err-TooWide.field-0-is at c.in-Err-TooWide.ensures)

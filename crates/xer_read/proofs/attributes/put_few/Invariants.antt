@@ -4,7 +4,7 @@ use Rattle.validity.specs.Asked.{attribute_in}
 use Rattle.validity.specs.Attributes.{left}
 use Rattle.xer_read.specs.Private.Contents.{AttributesMade}
 use Rattle.xer_read.specs.Private.Putting.{PartsPut}
-use Rattle.xer_read.proofs.attributes.put_attributes.Given as goal
+use Rattle.xer_read.proofs.attributes.put_few.Given as goal
 
 abbrev pub invariant-loop-declared : goal.invariant-loop-declared
 invariant-loop-declared l = PartsPut (AttributesMade (map (attribute_in (parts_of l.set)) (take l.declared-index l.uses)) (left l.attributes)) l.initial.values l.values

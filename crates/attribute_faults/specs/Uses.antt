@@ -1,0 +1,24 @@
+-- Attribute uses in the order of their names, in which those of one namespace stand together.
+use Rattle.std.specs.Prelude.{◌≡◌, ℕ, ◌<◌, ◌≤◌, false, List, map, length, Option, Some, None, slice_index_or}
+use Rattle.std.specs.List.Sorted.{IsStrictlySortedBy}
+use Rattle.xa_base.specs.declared.texts.Name.{Name}
+use Rattle.xa_base.specs.Names.{name_eq, name_cmp}
+use Rattle.schema_parts.specs.declared.components.AttributeUse.{AttributeUse}
+use Rattle.attribute_faults.specs.declared.places.Run.{Run}
+
+abbrev pub Ascend : List AttributeUse → Type 0
+Ascend us = IsStrictlySortedBy name_cmp (map (λ (u : AttributeUse). u.name) us)
+
+-- those of the run have this namespace
+pub record IsRunOf (us : List AttributeUse) (space : List ℕ) (run : Run) : Type 0 where
+  pub within : run.end ≤ length us
+  pub same : (k : ℕ) (d : AttributeUse) → run.start ≤ k → k < run.end → (slice_index_or us k d).name.space ≡ space
+
+-- those of the run have one namespace
+abbrev pub IsRun : List AttributeUse → Run → Type 0
+IsRun us run = (space : List ℕ) × IsRunOf us space run
+
+-- the number of the use of this name, if there is one
+abbrev pub IsPlace : List AttributeUse → Name → Option ℕ → Type 0
+IsPlace us name None = (k : ℕ) (d : AttributeUse) → k < length us → name_eq (slice_index_or us k d).name name ≡ false
+IsPlace us name (Some place) = (place < length us) × ((d : AttributeUse) → (slice_index_or us place d).name ≡ name)

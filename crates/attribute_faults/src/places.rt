@@ -1,0 +1,141 @@
+//! Where the use of a name stands among the uses of a type.
+ghost use Rattle.std.specs.Prelude.{◌≡◌, ℕ, List, ◌<◌, ◌≤◌, length, slice_index_or};
+ghost use Rattle.schema_parts.specs.declared.components.AttributeUse.{AttributeUse};
+ghost use Rattle.xa_base.specs.Names.{name_eq, name_cmp};
+ghost use Rattle.attribute_faults.specs.Uses.{Ascend, IsPlace, IsRun, IsRunOf};
+
+use schema_parts::AttributeUse;
+use std::cmp::Ordering;
+use xa_base::Name;
+
+// So many uses are looked through one by one.
+const FEW: usize = 8;
+
+/// Whether the names are the same. Their local names are compared first: a namespace may be much longer, and is that of
+/// many names.
+pub fn is_same(one: &Name, other: &Name) -> bool
+    ensures { result ≡ name_eq one.now other.now }
+{
+    if one.local == other.local {
+        one.space == other.space
+    } else {
+        false
+    }
+}
+
+/// Uses that are known to have one namespace: those from one number to before another.
+#[derive(Clone, Copy)]
+pub struct Run {
+    start: usize,
+    end: usize,
+}
+
+impl Run {
+    /// No use is known.
+    pub fn none() -> Run
+        ensures { (us : List AttributeUse) (space : List ℕ) → IsRunOf us space result }
+    {
+        Run { start: 0, end: 0 }
+    }
+
+    // The same uses where they have the namespace of the name, else none.
+    fn of(self, uses: &[AttributeUse], name: &Name) -> Run
+        requires { IsRun uses.now self }
+        ensures { IsRunOf uses.now name.now.space result }
+    {
+        if self.start < self.end && uses[self.start].name.space == name.space {
+            self
+        } else {
+            Run::none()
+        }
+    }
+
+    // With one more use of the namespace, and with those between.
+    fn with(self, place: usize, uses: &[AttributeUse], name: &Name) -> Run
+        requires ascending { Ascend uses.now }
+        requires place { place < length uses.now }
+        requires space { (u : AttributeUse) → (slice_index_or uses.now place u).name.space ≡ name.now.space }
+        requires run { IsRunOf uses.now name.now.space self }
+        ensures { IsRunOf uses.now name.now.space result }
+    {
+        let _ = name;
+        if self.end <= self.start {
+            Run {
+                start: place,
+                end: place + 1,
+            }
+        } else if place < self.start {
+            Run {
+                start: place,
+                end: self.end,
+            }
+        } else if self.end <= place {
+            Run {
+                start: self.start,
+                end: place + 1,
+            }
+        } else {
+            self
+        }
+    }
+}
+
+// How the name of a use stands to another in the order of names. The namespaces aren't compared where they are known to
+// be the same.
+fn compare(uses: &[AttributeUse], place: usize, name: &Name, run: &mut Run) -> Ordering
+    requires ascending { Ascend uses.now }
+    requires place { place < length uses.now }
+    requires run { IsRunOf uses.now name.now.space run.old }
+    ensures order { (u : AttributeUse) → result ≡ name_cmp (slice_index_or uses.now place u).name name.now }
+    ensures run { IsRunOf uses.now name.now.space run.new }
+{
+    let found = &uses[place].name;
+    if run.start <= place && place < run.end {
+        return found.local.cmp(&name.local);
+    }
+    match found.space.cmp(&name.space) {
+        Ordering::Less => Ordering::Less,
+        Ordering::Greater => Ordering::Greater,
+        Ordering::Equal => {
+            *run = run.with(place, uses, name);
+            found.local.cmp(&name.local)
+        }
+    }
+}
+
+// The number of the use of this name, which is looked for one by one.
+fn place_among_few(uses: &[AttributeUse], name: &Name) -> Option<usize>
+    ensures { IsPlace uses.now name.now result }
+{
+    'uses: for i in 0..uses.len() {
+        if is_same(&uses[i].name, name) {
+            return Some(i);
+        }
+    }
+    None
+}
+
+/// The number of the use of this name, if there is one, among uses that ascend. Many are searched by halves, and what is
+/// learnt of their namespaces is kept for the next name.
+pub fn place_of(uses: &[AttributeUse], name: &Name, run: &mut Run) -> Option<usize>
+    requires ascending { Ascend uses.now }
+    requires run { IsRun uses.now run.old }
+    ensures place { IsPlace uses.now name.now result }
+    ensures run { IsRun uses.now run.new }
+{
+    if uses.len() <= FEW {
+        return place_among_few(uses, name);
+    }
+    *run = run.of(uses, name);
+    let mut low = 0;
+    let mut high = uses.len();
+    'halves: while low < high {
+        let middle = low + (high - low) / 2;
+        match compare(uses, middle, name, run) {
+            Ordering::Less => low = middle + 1,
+            Ordering::Greater => high = middle,
+            Ordering::Equal => return Some(middle),
+        }
+    }
+    None
+}
