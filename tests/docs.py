@@ -284,6 +284,11 @@ def try_agreement(docs):
     for name in ("order", "features", "names", "boolean"):
         docs.holds(run("show", f"{HERE}/examples/{name}.xsd").stdout.decode() == text_of(f"examples/{name}.asn1"), name)
     docs.holds(run("show", *files).stdout.decode() == text_of("examples/collisions.asn1"), "collisions")
+    files = [f"{HERE}/examples/{it}.xsd" for it in ("parcel", "address")]
+    docs.holds(run("show", *files).stdout.decode() == text_of("examples/parcel.asn1"), "parcel")
+    for name in sorted(os.listdir(f"{HERE}/examples")):
+        if name.startswith("refused-"):
+            docs.holds(run("show", f"{HERE}/examples/{name}").returncode in (4, 5), name, "is taken")
     # A round trip.
     features = f"{HERE}/examples/features.xsd"
     for root, there, due in [
