@@ -303,6 +303,9 @@ def try_agreement(docs):
 
 
 def main():
+    if not os.access(PROGRAM, os.X_OK):
+        print(f"no program at {PROGRAM}: make run", file=sys.stderr)
+        return 2
     with tempfile.TemporaryDirectory() as work:
         docs = Docs(work)
         try_names(docs)

@@ -31,8 +31,16 @@ answer(["values", Type, Count]) ->
 random_value(Type) ->
     try
         {ok, Value} = asn1ct:value('Schema-Set', Type),
-        {ok, Octets} = 'Schema-Set':encode(Type, Value),
+        {ok, Octets} = 'Schema-Set':encode(Type, with_texts(Value)),
         io:format("~s~n", [binary:encode_hex(Octets)])
     catch
         _:Why -> io:format("wrong ~0p~n", [Why])
     end.
+
+%% The same value with other texts: those that asn1ct makes are fronts of one text, which has characters that XML hasn't.
+with_texts(Value) when is_binary(Value) ->
+    Texts = [<<>>, <<"a">>, <<"A1">>, <<"7">>, <<"true">>, <<"two words">>, <<" x">>, <<"x\ty">>, <<16#C3, 16#A9>>, Value],
+    lists:nth(rand:uniform(length(Texts)), Texts);
+with_texts(Value) when is_list(Value) -> [with_texts(It) || It <- Value];
+with_texts(Value) when is_tuple(Value) -> list_to_tuple(with_texts(tuple_to_list(Value)));
+with_texts(Value) -> Value.

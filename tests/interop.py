@@ -15,6 +15,7 @@ EXAMPLES = {
     "features": ["features.xsd"],
     "names": ["names.xsd"],
     "boolean": ["boolean.xsd"],
+    "parcel": ["parcel.xsd", "address.xsd"],
     "collisions": ["collisions-1.xsd", "collisions-2.xsd", "collisions-3.xsd"],
 }
 ORDER = '<order xmlns="urn:po" id="7">%s</order>'
@@ -23,6 +24,7 @@ DOCUMENTS = [
     ("order", "{urn:po}order", ORDER % ("<line><sku>A1</sku><qty>100</qty></line>" * 200)),
     ("order", "{urn:po}order", ORDER % ("<line><sku>A1</sku><qty>1</qty></line>" * 17000)),
     ("order", "{urn:po}order", ORDER % f"<line><sku>{'s' * 16383}</sku><qty>1</qty></line><note> é</note>"),
+    ("parcel", "{urn:parcel}parcel", '<parcel xmlns="urn:parcel" express="true"><address xmlns="urn:address"><name>Ann</name><code>1010</code></address><grams>250</grams></parcel>'),
     ("boolean", "f", "<f>true</f>"),
     ("names", "t", "<t><a.b>1</a.b><a_b>0</a_b><_1x>1</_1x><é>0</é></t>"),
     ("features", "c", "<c>Green</c>"),
@@ -44,8 +46,9 @@ DOCUMENTS = [
     ("features", "w", "<w>8</w>"),
     ("features", "z", "<z><z><z/></z></z>"),
 ]
-# The roots of whose types random values are made by the other side.
-ROOTS = [("order", "{urn:po}order"), ("names", "t"), ("boolean", "f")] + [("features", it) for it in "ceikmnpqrsuvwz"]
+# The roots of whose types random values are made by the other side; of a recursive type, as that of z, it finds no end.
+ROOTS = [("order", "{urn:po}order"), ("names", "t"), ("boolean", "f"), ("parcel", "{urn:parcel}parcel")]
+ROOTS += [("features", it) for it in "ceikmnpqrsuvw"]
 
 
 # How many random values of each root.
@@ -106,6 +109,9 @@ class Module:
 
 def main():
     global TOOL
+    if not os.access(PROGRAM, os.X_OK):
+        print(f"no program at {PROGRAM}: make run", file=sys.stderr)
+        return 2
     first, count = (int(it) for it in [*sys.argv[1:], "1", "40"][:2]) if len(sys.argv) > 2 else (1, int((sys.argv[1:] or ["40"])[0]))
     counts = dict.fromkeys(["modules", "not compiled", "documents", "random values", "of these refused as NotAValue", "wrong"], 0)
 
