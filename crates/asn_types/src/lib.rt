@@ -1,4 +1,6 @@
 //! ASN.1 types with their encoding instructions, modules of them, and what is a value of a type.
+//!
+//! Read first: docs/VALUES.md, `specs/Modules` (`IsModule`), `Roles` and `Values` (`In`), then `src/values.rt`.
 #![tactic(auto)]
 
 mod bounds;

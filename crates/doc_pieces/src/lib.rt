@@ -1,4 +1,6 @@
 //! The pieces of XML text: their forms, and reading one from the front.
+//!
+//! Read first: `specs/Pieces` (the productions of XML 1.0), then `read_piece` in `src/piece.rt`.
 #![tactic(auto)]
 
 mod found;

@@ -1,4 +1,6 @@
 //! The text of XML documents and the items that it stands for.
+//!
+//! Read first: docs/XML.md, `specs/Documents` (`DocOf`, `BrokenAt`), then `read_document` in `src/reader.rt`.
 #![tactic(auto)]
 
 mod bindings;

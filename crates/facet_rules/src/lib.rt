@@ -1,5 +1,8 @@
 //! Simple types: their spaces, the texts that they accept, the one spelling of each value, and how types are made of
 //! others, by facets, as lists and as unions.
+//!
+//! Read first: `specs/Applying` and `specs/Restricting` (by XML Schema Part 2, section 4.3), then `restrict` in
+//! `src/restricting.rt`.
 #![tactic(auto)]
 
 mod bases;

@@ -1,4 +1,6 @@
 //! Trees of labels, and trees whose labels allow the kids of each node, with their count and their depth.
+//!
+//! Read first: `specs/Rose` (a label and a list of trees), then `src/shapes.rt`.
 #![tactic(auto)]
 
 mod shapes;

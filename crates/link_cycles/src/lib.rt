@@ -1,4 +1,6 @@
 //! Simple types that are made of themselves.
+//!
+//! Read first: `specs/Cycles`, then `first_circular` in `src/cycles.rt`.
 #![tactic(auto)]
 
 mod cycles;

@@ -1,5 +1,7 @@
 //! What several schema documents declare, and what their references name: the faults that are seen before any component
 //! is made.
+//!
+//! Read first: `specs/Order` (which fault is first) and `specs/References`, then `src/references.rt`.
 #![tactic(auto)]
 
 mod duplicates;

@@ -1,4 +1,6 @@
 //! The linked set that several schema documents stand for, once no fault was found in them.
+//!
+//! Read first: `specs/Sets` (`set_of`), then `set_parts` in `src/parts.rt`.
 #![tactic(auto)]
 
 mod builtins;

@@ -1,4 +1,6 @@
 //! The simple types of several schema documents, each made from those that it names.
+//!
+//! Read first: `specs/Making`, then `made` in `src/making.rt`.
 #![tactic(auto)]
 
 mod laws;

@@ -1,4 +1,6 @@
 //! The types of ASN.1 that the components of a linked set of schemas are mapped to, and their assignments, after ITU-T X.694.
+//!
+//! Read first: docs/MAPPING.md, `specs/Plans` and `Planning`, `Naming`, `Mapped` (`IsMapOf`), then `src/map.rt`.
 #![tactic(auto)]
 
 mod attributes;

@@ -1,4 +1,6 @@
 //! Modules of ASN.1 as text.
+//!
+//! Read first: docs/MODULES.md, `specs/Printed`, then `print_module` in `src/printing.rt`.
 #![tactic(auto)]
 
 mod instructions;

@@ -1,4 +1,6 @@
 //! The outside as the system has it: a source over a reader, a sink over a writer, and a library over files.
+//!
+//! Read first: the traits in `src/moves.rt` and `src/libraries.rt` of `xa_base`, then `src/adapters.rt`.
 #![tactic(auto)]
 
 mod adapters;

@@ -1,4 +1,6 @@
 //! Values from canonical aligned PER (X.691), read from a source of octets, each octet when it is needed.
+//!
+//! Read first: `specs/Answers`, then `decode` in `src/decoding.rt`.
 #![tactic(auto)]
 
 mod decoded;

@@ -1,4 +1,6 @@
 //! Values to canonical aligned PER (X.691).
+//!
+//! Read first: `specs/Encoding` of `per_fields`, then `encode` in `src/encoding.rt`.
 #![tactic(auto)]
 
 mod encoding;

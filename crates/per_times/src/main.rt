@@ -2,6 +2,8 @@
 //! namespace its schema puts it. It is decoded and its value encoded again as often as the first argument says, and once at
 //! least. Whether the same octets came back each time is told on the standard output, and the least times of a decoding and of
 //! an encoding, in microseconds, on the standard error stream.
+//!
+//! Read first: `bench/decode.sh`, which runs it.
 #![tactic(auto)]
 
 ghost use Rattle.std.specs.Prelude.{◌<◌, length};

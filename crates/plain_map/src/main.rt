@@ -1,5 +1,7 @@
 //! A plain map from names to numbers, beside which the matcher is measured. Each line of the standard input is a name in no
 //! namespace: those before an empty line are put into the map, and those behind it are looked up.
+//!
+//! Read first: `bench/match.sh`, which runs it.
 #![tactic(auto)]
 
 ghost use Rattle.std.specs.Prelude.{◌≡◌};

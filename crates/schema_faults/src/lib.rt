@@ -1,4 +1,6 @@
 //! The first fault of a schema document: the reasons against its elements, in the order in which they are written.
+//!
+//! Read first: `specs/Reasons` and `specs/Faults`, then `first_fault` in `src/faults.rt`.
 #![tactic(auto)]
 
 mod faults;

@@ -1,4 +1,6 @@
 //! Linking several schema documents: the passes that look for faults, in their order, and the set that is made.
+//!
+//! Read first: `specs/Passes` and `specs/Sets` (`Links`), then `link` in `src/linking.rt`.
 #![tactic(auto)]
 
 mod laws;

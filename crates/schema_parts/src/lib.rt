@@ -1,4 +1,7 @@
 //! The components of schemas: those of one document, with names in place of what they name, and those of a linked set.
+//!
+//! Read first: docs/SCHEMAS.md, `specs/Raw` (one document) and `specs/Linked` (a set), then `src/documents.rt` and
+//! `src/schema_sets.rt`.
 #![tactic(auto)]
 
 mod attribute_uses;

@@ -1,4 +1,6 @@
 //! The items of a schema document to its components, or its first fault.
+//!
+//! Read first: `specs/Raw` (`raw_of`), then `read_schema` in `src/documents.rt`.
 #![tactic(auto)]
 
 mod complex_types;

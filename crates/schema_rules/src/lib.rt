@@ -1,4 +1,6 @@
 //! What a schema document is made of: its elements and where they stand, their attributes, and the values of these.
+//!
+//! Read first: the tables of docs/SCHEMAS.md as data: `specs/Elements`, `Attributes`, `Children`, `Values`.
 #![tactic(auto)]
 
 mod attributes;

@@ -1,4 +1,6 @@
 //! The parts of schema documents, all in one list.
+//!
+//! Read first: `specs/Parts` (`parts`, `What`), then `src/walk.rt`.
 #![tactic(auto)]
 
 mod parts;

@@ -1,4 +1,6 @@
 //! Simple types and abstract values: what they are made of, the space of a type, and the built-in types.
+//!
+//! Read first: docs/SIMPLE-TYPES.md, `specs/Space` and `specs/Builtins`, then `src/simples.rt`.
 #![tactic(auto)]
 
 mod builtins;

@@ -1,4 +1,6 @@
 //! What simple types make of texts, and the one spelling of each value.
+//!
+//! Read first: `specs/Lexical` and `specs/Reading`, then `accept` in `src/accepting.rt`.
 #![tactic(auto)]
 
 mod accepting;

@@ -1,4 +1,6 @@
 //! The top call: words, files and an input to an outcome and bytes.
+//!
+//! Read first: docs/ORDER.md, `specs/Due` (what is due of a command) and `specs/Steps`, then `run` in `src/top.rt`.
 #![tactic(auto)]
 
 mod files;

@@ -1,5 +1,7 @@
 //! Runs the rows of a table that stands in its input: each does what `transcode_cmd` does, over files and streams in
 //! memory, and tells what must come.
+//!
+//! Read first: docs/TESTING.md and the head of `stdin`, which has the rows and their form.
 #![tactic(auto)]
 
 mod error;

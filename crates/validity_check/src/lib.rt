@@ -2,6 +2,8 @@
 //!
 //! The walk over a document stands above: it takes the declarations and the plans of content models from here, each compiled
 //! when it is first wanted.
+//!
+//! Read first: `specs/Told` and `specs/Answers`, then `check_tag` in `src/tags.rt`.
 #![tactic(auto)]
 
 mod declarations;

@@ -1,5 +1,8 @@
 //! What every crate stands on: texts and names, a counter of steps, and the traits of the outside with their forms
 //! in memory.
+//!
+//! Read first: `specs/Characters`, `WhiteSpace`, `Digits` (tables of the standards), then the traits of the outside,
+//! `src/moves.rt` and `src/libraries.rt`.
 #![tactic(auto)]
 
 mod characters;

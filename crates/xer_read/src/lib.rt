@@ -5,6 +5,8 @@
 //! content model is built. No part of the module is looked at: the map of a set gives each declaration one type, and the
 //! value follows from the declaration alone. The nodes of the value are counted as they are put down; from the first on that
 //! is one too many, they are counted alone. A document that is only judged keeps none.
+//!
+//! Read first: `specs/Answers`, then `read_value` in `src/reading.rt`.
 #![tactic(auto)]
 
 mod attributes;

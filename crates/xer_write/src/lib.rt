@@ -1,4 +1,6 @@
 //! The items of a value, by the encoding instructions of X.693.
+//!
+//! Read first: `specs/Items` of `xer_items`, then `items_of` in `src/items.rt`.
 #![tactic(auto)]
 
 mod contents;

@@ -15,7 +15,7 @@ Models that aren't clear by the rules of docs/CONTENT-MODELS.md must be refused 
 passed over. It prints a line for each case that is wrong, keeps its schema and its document in the folder KEEP, and the counts
 at the end. Its status is 1 where any is wrong.
 
-    tests/random.py [FIRST [COUNT]]      needs the program (`make run`) and xmllint; 1 and 300, some two minutes
+    tests/random_cases.py [FIRST [COUNT]]      needs the program (`make run`) and xmllint; 1 and 300, some two minutes
 
 PROGRAM names another program. What xmllint takes otherwise is left out: a sign before unsigned numbers, white space around
 numbers, characters that may begin a name since the fifth edition of XML, a type in an attribute that is prohibited,
@@ -1248,4 +1248,5 @@ def main():
     return 1 if cases.counts["wrong"] else 0
 
 
-sys.exit(main())
+if __name__ == "__main__":
+    sys.exit(main())

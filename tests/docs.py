@@ -1,0 +1,322 @@
+#!/usr/bin/env python3
+"""Tries what README.md and docs/ say.
+
+- README.md has less than 12 KB, and each file that a page names is there.
+- docs/REASONS.md has each reason of the program, from A to Z, and no other; each is told by a row of crates/transcode_rows.
+- Each command of a page, a line `$ ...` with `bin/ruvkhiska` in it, answers what the page says.
+- The recipes of docs/CONTENT-MODELS.md: the first model is refused as NotClear, the second is taken, and takes the same documents,
+  tried with all of up to four (with the option --long six) child elements.
+- The remedies of docs/REASONS.md for schemas: what is refused, and what is taken in its place.
+- What both ends must agree on, and what a round trip keeps.
+
+It prints a line for each statement that is wrong, and the counts at the end; its status is 1 where any is.
+
+    tests/docs.py [--long]        needs the program (`make run`); a minute
+
+PROGRAM names another program, which stands in place of bin/ruvkhiska.
+"""
+import itertools
+import os
+import re
+import subprocess
+import sys
+import tempfile
+
+HERE = os.path.dirname(os.path.dirname(os.path.abspath(__file__)))
+PROGRAM = os.path.abspath(os.environ.get("PROGRAM", os.path.join(HERE, "bin/ruvkhiska")))
+XSD = '<xs:schema xmlns:xs="http://www.w3.org/2001/XMLSchema">%s</xs:schema>'
+# The reasons: the table as it is told, the file, the enum.
+TABLES = {
+    "syntax": ("crates/doc_text/src/error.rt", "DocWhy"),
+    "schema": ("crates/schema_rules/src/why.rt", "SchemaWhy"),
+    "link": ("crates/link_names/src/faults.rt", "LinkWhy"),
+    "link: Facet": ("crates/facet_rules/src/refusals.rt", "FacetWhy"),
+    "invalid": ("crates/validity/src/why.rt", "InvalidWhy"),
+    "per": ("crates/per_fields/src/stops.rt", "Why"),
+}
+# Enums of reasons that are passed on under the names of the others.
+PASSED_ON = {"NoneWhy"}
+
+
+def text_of(path):
+    with open(os.path.join(HERE, path), encoding="utf-8") as file:
+        return file.read()
+
+
+def run(*words, octets=b""):
+    return subprocess.run([PROGRAM, *words], input=octets, capture_output=True, timeout=120)
+
+
+class Docs:
+    def __init__(self, work):
+        self.work, self.tried, self.wrong = work, 0, 0
+
+    def holds(self, is_so, *told):
+        self.tried += 1
+        if not is_so:
+            self.wrong += 1
+            print("wrong:", *told, flush=True)
+
+    def schema(self, body, name="schema.xsd"):
+        path = os.path.join(self.work, name)
+        with open(path, "w", encoding="utf-8") as file:
+            file.write(XSD % body)
+        return path
+
+    def is_refused(self, body, table, reason):
+        told = run("show", self.schema(body)).stderr.decode().strip()
+        self.holds(told.endswith(f": {table}{': ' if ':' not in table else ' '}{reason}"), body, "is told as", told, "and not as", table, reason)
+
+    def is_taken(self, body):
+        told = run("show", self.schema(body))
+        self.holds(told.returncode == 0, body, "is refused:", told.stderr.decode().strip())
+
+
+def pages():
+    folder = os.path.join(HERE, "docs")
+    return ["README.md", "bench/README.md", *(f"docs/{it}" for it in sorted(os.listdir(folder)) if it.endswith(".md"))]
+
+
+def try_names(docs):
+    size = len(text_of("README.md").encode())
+    docs.holds(size < 12 * 1024, "README.md has", size, "bytes")
+    for page in pages():
+        for path in re.findall(r"(?<![\w/.-])((?:docs|tests|bench|examples|crates)/[\w./*-]*[\w*])", text_of(page)):
+            pattern = re.sub(r"\bNAME\b|\*", "*", path)
+            found = subprocess.run(["bash", "-c", f"compgen -G {pattern}"], cwd=HERE, capture_output=True)
+            # What rt makes is there only behind it.
+            docs.holds(found.returncode == 0 or "/out" in path or "must-fail" in path, page, "names", path)
+        # The pages of the kit stand in tables of their own.
+        for name in re.findall(r"(?<![\w/-])([A-Z][A-Z-]+)\.md", text_of(page)) if page != "docs/CONTRIBUTING.md" else []:
+            docs.holds(os.path.isfile(f"{HERE}/docs/{name}.md") or name == "README", page, "names", f"{name}.md")
+
+
+def try_reasons(docs):
+    due = set()
+    for table, (path, enum) in TABLES.items():
+        body = re.search(rf"pub enum {enum} {{\n(.*?)\n}}", text_of(path), re.S)[1]
+        due |= {(table, it) for it in re.findall(r"(?m)^    (\w+)(?=[,({ ])", body) if it != "Facet"}
+    for folder, _, names in os.walk(f"{HERE}/crates"):
+        for name in names if folder.endswith("/src") else []:
+            for enum in re.findall(r"pub enum (\w*Why)\b", text_of(f"{folder}/{name}")):
+                docs.holds(enum in PASSED_ON or enum in [it for _, it in TABLES.values()], "a table without rows in REASONS:", enum)
+    rows, names = set(), []
+    for line in text_of("docs/REASONS.md").split("\n"):
+        cells = [it.strip() for it in line.split("|")]
+        if len(cells) == 8 and cells[1] not in ("Reason", "---"):
+            names.append((cells[1].lower(), cells[1]))
+            rows |= {(table, cells[1]) for table in re.split(r", ", cells[2])}
+            for page in cells[6].split(", "):
+                docs.holds(os.path.isfile(f"{HERE}/docs/{page}.md"), "REASONS names the page", page)
+    docs.holds(names == sorted(names), "docs/REASONS.md isn't in the order of names")
+    for missing in sorted(due - rows):
+        docs.holds(False, "docs/REASONS.md lacks", missing)
+    for more in sorted(rows - due):
+        docs.holds(False, "docs/REASONS.md has what the program doesn't tell:", more)
+    table_of_rows = text_of("crates/transcode_rows/stdin")
+    for table, reason in sorted(due):
+        told = f": {table}{': ' if ':' not in table else ' '}{reason}\n"
+        docs.holds(told in table_of_rows, "no row tells", table, reason)
+
+
+def try_commands(docs):
+    for page in pages():
+        for block in re.findall(r"(?m)(?:^    .*\n?)+", text_of(page)):
+            lines = [it[4:] for it in block.rstrip("\n").split("\n")]
+            if not any(it.startswith("$ ") and "bin/ruvkhiska" in it for it in lines):
+                continue
+            said = []
+            for line in [*lines, "$ "]:
+                if line.startswith("$ "):
+                    if said:
+                        command = said[0].replace("bin/ruvkhiska", PROGRAM)
+                        ran = subprocess.run(["bash", "-c", command], cwd=HERE, stdout=subprocess.PIPE, stderr=subprocess.STDOUT)
+                        told = ran.stdout.decode().rstrip("\n").split("\n")
+                        docs.holds(told == (said[1:] or [""]), page, said[0], "answers", told)
+                    said = [line[2:]]
+                else:
+                    said.append(line)
+
+
+# Content models in the notation of document types: names, `,`, `|`, `?`, `*`, `+`, `{least,most}` and parentheses.
+
+
+def particle(tokens, bounds=""):
+    """A group up to its closing parenthesis, as XML Schema has it."""
+    parts, kind = [], "sequence"
+    while tokens and tokens[0] != ")":
+        token = tokens.pop(0)
+        if token in ",|":
+            kind = "choice" if token == "|" else "sequence"
+            continue
+        inner = None
+        if token == "(":
+            inner = particle(tokens)
+            tokens.pop(0)
+        least, most = 1, 1
+        if tokens and tokens[0][0] in "?*+{":
+            mark = tokens.pop(0)
+            least, most = {"?": (0, 1), "*": (0, "unbounded"), "+": (1, "unbounded")}.get(mark) or mark[1:-1].split(",")
+        occurs = f' minOccurs="{least}" maxOccurs="{most}"'
+        if inner is None:
+            parts.append(f'<xs:element name="{token}" type="xs:boolean"{occurs}/>')
+        else:
+            parts.append(inner.replace(">", f"{occurs}>", 1))
+    return f"<xs:{kind}>{''.join(parts)}</xs:{kind}>"
+
+
+def element_of(model):
+    tokens = re.findall(r"[a-z]|\{\d+,\d+\}|[(),|?*+]", model)
+    return f'<xs:element name="d"><xs:complexType>{particle(tokens)}</xs:complexType></xs:element>'
+
+
+def try_recipes(docs, most):
+    recipes = re.findall(r"(?m)^\| `([^`]+)` \| `([^`]+)` \|", text_of("docs/CONTENT-MODELS.md").replace("\\|", "|"))
+    docs.holds(len(recipes) > 5, "docs/CONTENT-MODELS.md has", len(recipes), "recipes")
+    for refused, taken in recipes:
+        docs.is_refused(element_of(refused), "link", "NotClear")
+        schema = docs.schema(element_of(taken), "taken.xsd")
+        takes = re.compile(re.sub("[, ]", "", re.sub(r"\{(\d+),(\d+)\}", r"{\1;\2}", refused)).replace(";", ","))
+        letters = sorted({*re.findall("[a-z]", refused)})
+        for count in range(most + 1):
+            for names in itertools.product(letters, repeat=count):
+                document = f"<d>{''.join(f'<{it}>1</{it}>' for it in names)}</d>"
+                ours = run("check", "d", schema, octets=document.encode()).returncode
+                due = 0 if takes.fullmatch("".join(names)) else 8
+                docs.holds(ours == due, taken, "in place of", refused, "answers", ours, "to", document)
+    for refused in re.findall(r"No model takes the place of `([^`]+)`", text_of("docs/CONTENT-MODELS.md").replace("\\|", "|")):
+        docs.is_refused(element_of(refused), "link", "NotClear")
+
+
+def typed(name):
+    return f'<xs:element name="d" type="xs:{name}"/>'
+
+
+def restricted(base, facets):
+    return f'<xs:element name="d"><xs:simpleType><xs:restriction base="xs:{base}">{facets}</xs:restriction></xs:simpleType></xs:element>'
+
+
+def content(inner, more=""):
+    return f'<xs:element name="d"><xs:complexType{more}>{inner}</xs:complexType></xs:element>'
+
+
+def a(name, kind="boolean"):
+    return f'<xs:element name="{name}" type="xs:{kind}"/>'
+
+
+# What is refused, by which table and reason, and what docs/REASONS.md says in its place.
+REMEDIES = [
+    (typed(refused), "schema", refused[0].upper() + refused[1:], [typed(it) for it in taken.split()])
+    for refused, taken in {
+        "decimal": "integer token",
+        "float": "integer token",
+        "double": "integer token",
+        "duration": "unsignedInt token",
+        "dateTime": "unsignedInt token",
+        "time": "unsignedInt token",
+        "date": "token",
+        "gYearMonth": "token",
+        "gYear": "integer token",
+        "gMonthDay": "token",
+        "gDay": "token",
+        "gMonth": "token",
+        "hexBinary": "string",
+        "base64Binary": "string",
+        "QName": "token",
+        "ID": "NCName",
+        "IDREF": "NCName",
+        "IDREFS": "NMTOKENS",
+        "ENTITY": "NCName",
+        "ENTITIES": "NMTOKENS",
+    }.items()
+] + [
+    (f"<xs:element name='d' type='b' abstract='true'/><xs:simpleType name='b'><xs:restriction base='xs:int'/></xs:simpleType>", "schema", "Abstract", []),
+    (content(f"<xs:all>{a('a')}{a('b')}</xs:all>"), "schema", "All", [element_of("a,b")]),
+    (content('<xs:attribute name="a"/>'), "schema", "AnySimpleType", [content('<xs:attribute name="a" type="xs:string"/>')]),
+    ('<xs:element name="d"/>', "schema", "AnyType", ['<xs:element name="d"><xs:complexType/></xs:element>']),
+    (content('<xs:attribute name="a" type="xs:int" default="1"/>'), "schema", "AttributeDefault", [content('<xs:attribute name="a" type="xs:int"/>')]),
+    ('<xs:element name="d" type="xs:int" fixed="1"/>', "schema", "ElementDefault", [typed("int")]),
+    ('<xs:simpleType name="l"><xs:list itemType="xs:NMTOKENS"/></xs:simpleType>', "link", "BadItem", ['<xs:simpleType name="l"><xs:list itemType="xs:NMTOKEN"/></xs:simpleType>']),
+    ('<xs:element name="d" type="xs:int"><xs:simpleType><xs:restriction base="xs:int"/></xs:simpleType></xs:element>', "schema", "BothForms", [typed("int")]),
+    (restricted("int", '<xs:maxInclusive value="1.5"/>'), "link: Facet", "BadNumber", [restricted("int", '<xs:maxInclusive value="1"/>')]),
+    (restricted("int", '<xs:minInclusive value="9"/><xs:maxInclusive value="1"/>'), "link: Facet", "EmptySpace", []),
+    (restricted("int", '<xs:maxLength value="9"/>'), "link: Facet", "Misplaced", []),
+    (restricted("token", '<xs:maxLength value="1"/><xs:enumeration value="ab"/>'), "link: Facet", "NotInBase", []),
+    (restricted("byte", '<xs:maxInclusive value="200"/>'), "link: Facet", "Widens", [restricted("byte", '<xs:maxInclusive value="100"/>'), restricted("short", '<xs:maxInclusive value="200"/>')]),
+    (restricted("string", '<xs:pattern value="A."/>'), "schema", "Pattern", [restricted("string", '<xs:enumeration value="AB"/>')]),
+    (restricted("int", '<xs:totalDigits value="3"/>'), "schema", "TotalDigits", [restricted("int", '<xs:maxInclusive value="999"/>')]),
+    (restricted("int", '<xs:fractionDigits value="0"/>'), "schema", "FractionDigits", [restricted("int", "")]),
+    (content("<xs:sequence><xs:any/></xs:sequence>"), "schema", "Wildcard", [element_of("a")]),
+    ('<xs:group name="g"><xs:sequence/></xs:group>', "schema", "Group", []),
+    ('<xs:element name="d" type="xs:int" minOccurs="0"/>', "schema", "UnknownAttribute", [typed("int")]),
+    ('<xs:element type="xs:int"/>', "schema", "MissingAttribute", [typed("int")]),
+    (typed("int") * 2, "link", "Duplicate", [typed("int")]),
+    ('<xs:element name="d" type="none"/>', "link", "Unresolved", []),
+    (content(f"<xs:sequence>{a('a')}<xs:element name='a' type='xs:int'/></xs:sequence>"), "link", "TypesDiffer", []),
+    (content("<xs:simpleContent><xs:restriction base='xs:int'/></xs:simpleContent>"), "schema", "SimpleContentRestriction", [content("<xs:simpleContent><xs:extension base='xs:int'/></xs:simpleContent>")]),
+]
+
+
+def try_remedies(docs):
+    for refused, table, reason, taken in REMEDIES:
+        docs.is_refused(refused, table, reason)
+        for body in taken:
+            docs.is_taken(body)
+
+
+def try_agreement(docs):
+    order, root = f"{HERE}/examples/order.xsd", "{urn:po}order"
+    with open(f"{HERE}/examples/order.xml", "rb") as file:
+        document = file.read()
+    octets = run("to-per", root, order, octets=document).stdout
+    other = os.path.join(docs.work, "other.xsd")
+    with open(other, "w", encoding="utf-8") as file:
+        file.write(text_of("examples/order.xsd").replace('value="1"', 'value="0"').replace('"100"', '"99"'))
+    back = run("to-xml", root, other, octets=octets)
+    docs.holds(back.returncode == 0 and b"qty>2<" in back.stdout, "bounds from 0 to 99:", back)
+    docs.holds(run("to-xml", root, order, octets=octets * 2).returncode == 10, "two messages in one input")
+    loose = os.path.join(docs.work, "loose.xsd")
+    with open(loose, "w", encoding="utf-8") as file:
+        file.write(text_of("examples/order.xsd").replace("<xs:", "\n  <!-- laid out otherwise -->\n  <xs:").lstrip().replace("<!-- laid out otherwise -->\n  ", "", 1))
+    docs.holds(run("show", loose).stdout == run("show", order).stdout, "another layout gives another module")
+    files = [f"{HERE}/examples/collisions-{it}.xsd" for it in "123"]
+    docs.holds(run("show", *files).stdout == run("show", *reversed(files)).stdout, "the order of files shows in the module")
+    for name in ("order", "features", "names", "boolean"):
+        docs.holds(run("show", f"{HERE}/examples/{name}.xsd").stdout.decode() == text_of(f"examples/{name}.asn1"), name)
+    docs.holds(run("show", *files).stdout.decode() == text_of("examples/collisions.asn1"), "collisions")
+    files = [f"{HERE}/examples/{it}.xsd" for it in ("parcel", "address")]
+    docs.holds(run("show", *files).stdout.decode() == text_of("examples/parcel.asn1"), "parcel")
+    for name in sorted(os.listdir(f"{HERE}/examples")):
+        if name.startswith("refused-"):
+            docs.holds(run("show", f"{HERE}/examples/{name}").returncode in (4, 5), name, "is taken")
+    # A round trip.
+    features = f"{HERE}/examples/features.xsd"
+    for root, there, due in [
+        ("f", '<f><!-- c -->1<?p i?></f>', "<f>true</f>"),
+        ("i", '<i xmlns:p="urn:p"> 007 </i>', "<i>7</i>"),
+        ("q", "<q  t = 'a'></q>", '<q t="a"/>'),
+        ("z", "<z>\n  <z/>\n</z>", "<z><z/></z>"),
+    ]:
+        schema = f"{HERE}/examples/boolean.xsd" if root == "f" else features
+        back = run("to-xml", root, schema, octets=run("to-per", root, schema, octets=there.encode()).stdout).stdout.decode()
+        docs.holds(back == f'<?xml version="1.0" encoding="UTF-8"?>\n{due}\n', there, "comes back as", back)
+
+
+def main():
+    if not os.access(PROGRAM, os.X_OK):
+        print(f"no program at {PROGRAM}: make run", file=sys.stderr)
+        return 2
+    with tempfile.TemporaryDirectory() as work:
+        docs = Docs(work)
+        try_names(docs)
+        try_reasons(docs)
+        try_remedies(docs)
+        try_agreement(docs)
+        try_commands(docs)
+        try_recipes(docs, 6 if "--long" in sys.argv else 4)
+    print(f"{docs.tried} tried, {docs.wrong} wrong")
+    return 1 if docs.wrong else 0
+
+
+if __name__ == "__main__":
+    sys.exit(main())
