@@ -12,16 +12,15 @@ use Rattle.xer_items.specs.Items.{Xer}
 use Rattle.asn_types.specs.Values.{Fits, In}
 use Rattle.simple_types.specs.declared.labels.ValueLabel.{ValueLabel}
 use Rattle.sound_items.specs.Statements.{DocumentsOfValues}
-use Rattle.schema_parts.specs.SetParts.{SetParts, parts_of}
-use Rattle.schema_parts.specs.Components.{Set}
+use Rattle.schema_parts.specs.SetParts.{SetParts}
 use Rattle.validity.specs.Valid.{Valid}
 use Rattle.transcode_core.specs.declared.outcome.Outcome.TheVariants.{Done}
 use Rattle.transcode_core.specs.declared.tasks.Syntax.{Syntax}
 use Rattle.transcode_core.specs.declared.tasks.Task.TheVariants.{Send, Receive}
 use Rattle.transcode_core.specs.Syntaxes.{AllSyntaxes}
-use Rattle.transcode_core.specs.Steps.{RootType, IsTypeOf, Typed, Decoded, Judged}
+use Rattle.transcode_core.specs.Steps.{RootType, Typed, Decoded}
 use Rattle.transcode_core.specs.Words.{Asked, Serve}
-use Rattle.transcode_core.specs.Due.{Requested, Opened, ItemsIn, Encoded, Documented, Answered, Due}
+use Rattle.transcode_core.specs.Due.{ItemsIn, Encoded, Documented, Answered, Due}
 use Rattle.transcode_core.specs.ReadBack.{DecodedBack, IsValidText, DocumentedBack, AnsweredBack, ReadBack}
 use Rattle.transcode_core.specs.Again.{AreThereAndBack, AreSameDocuments}
 use Rattle.transcode_core.proofs.Octets.{one_whole}

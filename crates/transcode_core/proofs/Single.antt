@@ -15,7 +15,7 @@ use Rattle.transcode_core.specs.Order.{Give, Found, Then}
 use Rattle.schema_faults.specs.Faults.{first_fault, reasons}
 use Rattle.schema_faults.specs.declared.faults.DocumentFault.{DocumentFault}
 use Rattle.transcode_core.specs.Steps.{Loaded, Read, Faultless, Linked, Printed, Schema, Schemas, Input, Judged, RootType, IsRootType, Typed, Valued, Encoding, Decoded, Written}
-use Rattle.transcode_core.specs.Due.{SetIn, Opened, ItemsIn, Checked, Encoded, Documented, Served, TrialSent, Tried, Answered, Due}
+use Rattle.transcode_core.specs.Due.{SetIn, Opened, ItemsIn, Checked, Encoded, Documented, Served, Tried, Answered, Due}
 use Rattle.transcode_core.specs.Private.Decided.{Decided}
 use Rattle.transcode_core.specs.declared.tasks.Syntax.{Syntax}
 use Rattle.transcode_core.specs.declared.tasks.Syntax.TheVariants.{Aligned}
@@ -43,7 +43,7 @@ use Rattle.map_subjects.specs.declared.subjects.NamedSubject.{NamedSubject}
 use Rattle.map_subjects.specs.Subjects.{AreEntries, place_in}
 use Rattle.transcode_core.specs.Trial.{trial_name, trial_schema, trial_root, trial_document}
 use Rattle.transcode_core.proofs.Octets.{one_whole, whole_or_none, one_refusal}
-use Rattle.transcode_core.proofs.Verdicts.{Verdict, outcome_of, bytes_of, decided, due_done}
+use Rattle.transcode_core.proofs.Verdicts.{outcome_of, bytes_of, decided, due_done}
 use Rattle.validity.specs.Laws.{AtMostOne}
 use Rattle.schema_parts.specs.declared.components.SimpleDef.{SimpleDef}
 use Rattle.map_694.proofs.Once.{one-map, one-entries}

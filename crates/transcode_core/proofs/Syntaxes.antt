@@ -1,5 +1,5 @@
 -- The law of each transfer syntax.
-use Rattle.std.proofs.Common.{◌≡◌, ℕ, zero, suc, ◌+◌, ◌*◌, ◌/◌, ◌<◌, ◌≤◌, ◌^◌, Bool, List, [], ◌∷◌, ◌++◌, length, take, drop, All, refl, sym, ap, ◌∙◌, subst, inl, inr, arith}
+use Rattle.std.proofs.Common.{◌≡◌, ℕ, zero, suc, ◌*◌, ◌/◌, ◌<◌, ◌≤◌, ◌^◌, Bool, List, [], ◌∷◌, ◌++◌, length, take, drop, All, refl, sym, ap, ◌∙◌, subst, inl, inr, arith}
 use Rattle.std.proofs.lemmas.List.{length-take, length-append, append-nil, take-append-drop}
 use Rattle.std.proofs.lemmas.List.Elements.{All-head, All-tail, All-nil, All-cons}
 use Rattle.label_tree.specs.Rose.{Rose}
@@ -13,7 +13,6 @@ use Rattle.per_fields.specs.Encoding.{complete}
 use Rattle.per_fields.specs.Laws as law
 use Rattle.per_fields.specs.Laws.{Begins}
 use Rattle.per_stops.specs.Laws.{OneOfTwo}
-use Rattle.transcode_core.specs.declared.tasks.Syntax.{Syntax}
 use Rattle.transcode_core.specs.declared.tasks.Syntax.TheVariants.{Aligned}
 use Rattle.transcode_core.specs.Syntaxes.{fault_of, IsOneOfTwo, SyntaxLaw, AllSyntaxes}
 

@@ -1,6 +1,6 @@
 -- A verdict before it is written, and the outcome with its bytes.
 use Rattle.std.specs.Prelude.{◌&&◌, nat_le}
-use Rattle.std.proofs.Common.{◌≡◌, ◌⊎◌, ℕ, ◌+◌, Bool, true, false, cond, List, [], ◌∷◌, length, refl, sym, ap, ◌∙◌, subst, inl, inr, Option, Some, None, Result, Ok, Err}
+use Rattle.std.proofs.Common.{◌≡◌, ℕ, ◌+◌, Bool, true, false, cond, List, [], ◌∷◌, length, refl, ap, ◌∙◌, subst, inl, inr, Option, Some, None, Result, Ok, Err}
 use Rattle.label_tree.specs.Rose.{Rose}
 use Rattle.doc_text.specs.declared.label.ItemLabel.{ItemLabel}
 use Rattle.doc_text.specs.declared.error.DocWhy.{DocWhy}
@@ -16,12 +16,12 @@ use Rattle.transcode_core.specs.declared.tasks.Syntax.{Syntax}
 use Rattle.transcode_core.specs.declared.tasks.Syntax.TheVariants.{Aligned}
 use Rattle.transcode_core.specs.declared.tasks.Task.{Task}
 use Rattle.transcode_core.specs.declared.tasks.Task.TheVariants.{Check, Send, Receive}
-use Rattle.transcode_core.specs.Order.{Give, Found, Then}
-use Rattle.transcode_core.specs.Syntaxes.{Fault, fault_of, HasFault}
-use Rattle.transcode_core.specs.Steps.{Loaded, Read, Faultless, SchemaIn, Schema, Schemas, Linked, number_named, Rooted, Printed, Input, Judged, RootType, Typed, Valued, ValueIn, Encoding, readable, fault_in, Decoded, Written}
+use Rattle.transcode_core.specs.Order.{Give, Then}
+use Rattle.transcode_core.specs.Syntaxes.{Fault, HasFault}
+use Rattle.transcode_core.specs.Steps.{Loaded, Read, Faultless, SchemaIn, Schema, Schemas, Linked, Rooted, Printed, Input, Judged, RootType, Typed, Valued, ValueIn, Encoding, readable, Decoded, Written}
 use Rattle.transcode_core.specs.Words.{Asked, Show, Serve, Trial}
 use Rattle.transcode_core.specs.Trial.{trial_name, trial_schema, trial_root, trial_document, summary}
-use Rattle.transcode_core.specs.Due.{Requested, SetIn, Opened, ItemsIn, Checked, Encoded, Documented, Served, TrialSent, Tried, Answered, Whole, Due}
+use Rattle.transcode_core.specs.Due.{Requested, SetIn, Opened, ItemsIn, Encoded, Served, TrialSent, Answered, Whole, Due}
 use Rattle.transcode_core.specs.Private.Decided.{Decided}
 use Rattle.transcode_core.specs.Causes.{IsRefusal}
 

@@ -1,6 +1,6 @@
 -- Transfer syntaxes: of each the encoding of a value, the octets that begin with one, and the first fault of those that don't.
 -- A further syntax is a row of each, and one of the law below.
-use Rattle.std.specs.Prelude.{◌≡◌, ◌⊎◌, ℕ, ◌*◌, ◌<◌, ◌≤◌, Bool, true, false, All, List, length}
+use Rattle.std.specs.Prelude.{◌≡◌, ◌⊎◌, ℕ, ◌*◌, ◌<◌, ◌≤◌, Bool, All, List, length}
 use Rattle.label_tree.specs.Rose.{Rose}
 use Rattle.simple_types.specs.declared.labels.ValueLabel.{ValueLabel}
 use Rattle.asn_types.specs.declared.modules.Assignment.{Assignment}

@@ -1,4 +1,4 @@
-use Rattle.std.proofs.Common.{inl, inr}
+use Rattle.std.proofs.Common.{inr}
 use Rattle.transcode_core.proofs.Joined.{nothing_said}
 use Rattle.transcode_core.proofs.top.serve_input.Goals as goal
 
