@@ -1,8 +1,7 @@
 -- What is read of the document of a value is valid, since the items of the value are, and items that differ in places,
 -- bindings and the order of attributes are valid alike.
-use Rattle.std.proofs.Common.{◌≡◌, ℕ, Some, List, sym, ap, subst, ◌∙◌, refl}
+use Rattle.std.proofs.Common.{◌≡◌, Some, sym, ap, subst, ◌∙◌, refl}
 use Rattle.label_tree.specs.Rose.{Rose, node, Roses, none, more}
-use Rattle.doc_text.specs.declared.label.ItemLabel.{ItemLabel}
 use Rattle.doc_text.proofs.Known.{laws}
 use Rattle.plain_items.specs.Plain.{Plain, element, text, plain_of, plain_all}
 use Rattle.plain_items.specs.Unplaced.{unplaced, all_unplaced}
