@@ -1,4 +1,4 @@
-//! Values to canonical aligned PER (X.691).
+//! Values to canonical PER, aligned or not (X.691).
 #![tactic(auto)]
 
 mod encoding;
@@ -9,4 +9,4 @@ mod numbers;
 mod texts;
 mod whole_numbers;
 
-pub use encoding::encode;
+pub use encoding::{encode, encode_by};

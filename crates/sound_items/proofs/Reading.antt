@@ -3,7 +3,7 @@ use Rattle.std.proofs.Common.{◌≡◌, ℕ, ◌+◌, true, ◌&&◌, not, List
 use Rattle.std.proofs.lemmas.Bool.{and_parts}
 use Rattle.label_tree.specs.Rose.{Rose, node, none, roses_of}
 use Rattle.doc_pieces.specs.Pieces.{Piece}
-use Rattle.doc_text.specs.declared.label.ItemLabel.{ItemLabel}
+use Rattle.item_tree.specs.declared.label.ItemLabel.{ItemLabel}
 use Rattle.doc_text.specs.Contexts.{Context, start, reason, after}
 use Rattle.doc_text.specs.Documents.{Whole, mark_len, DocOf}
 use Rattle.doc_text.specs.Private.States.{State, nothing, context, step}
