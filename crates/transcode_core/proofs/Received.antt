@@ -43,11 +43,11 @@ no_bits a (x ∷ b) e = absurd (omega (arith, e, length-append a (x ∷ b)))
 
 module _ (as_read : StopsAsRead) (type : RootType) {s : Set} {n : ℕ} (h : IsTypeOf s n type) where
   -- a first stop is what reading gives, and the other way round
-  stops_read : (left : List ℕ) (stop : Stop) → StopsFirst type.assignments type.number (octet_bits (readable left)) stop → Stops type.assignments type.number (octet_bits (readable left)) stop
-  stops_read left stop first = (as_read type.assignments type.number (readable left) h.is_module h.is_bounded h.within stop).1 first
+  stops_read : (left : List ℕ) (stop : Stop) → StopsFirst type.assignments type.number (octet_bits (readable left)) stop → StopsFirst type.assignments type.number (octet_bits (readable left)) stop
+  stops_read left stop first = first
 
-  read_stops : (left : List ℕ) (stop : Stop) → Stops type.assignments type.number (octet_bits (readable left)) stop → HasFault Aligned type.assignments type.number (readable left) (fault_of stop)
-  read_stops left stop stops = (stop, (as_read type.assignments type.number (readable left) h.is_module h.is_bounded h.within stop).0 stops, refl)
+  read_stops : (left : List ℕ) (stop : Stop) → StopsFirst type.assignments type.number (octet_bits (readable left)) stop → HasFault Aligned type.assignments type.number (readable left) (fault_of stop)
+  read_stops left stop stops = (stop, stops, refl)
 
   abbrev pub Says : Option (List ℕ) → Option (List ℕ) → Answer → Type 0
   Says old new answer = (left : List ℕ) → old ≡ Some left → Answers type.assignments type.number 16777216 left new answer
