@@ -126,7 +126,7 @@ impl<'a> Prefixes<'a> {
     }
 
     fn bind_label(&mut self, label: ItemRef<'a>) -> Result<(), AllocError>
-        ensures { OnOk result (self.new ≡ with_spaces self.old (label_spaces (item_seen label))) }
+        ensures { OnOk result (self.new ≡ with_spaces self.old (label_spaces (item_seen label.entry))) }
     {
         match label {
             ItemRef::Element {

@@ -76,22 +76,22 @@ module _ (M : List Assignment) (known : IsKnown M) (t : Rose TypeLabel) (of : Is
 module _ (M : List Assignment) (known : IsKnown M) (depth : ℕ) (t : Rose TypeLabel) (of : IsOf M t) where
   -- BEFORE THE FIELDS
   module _ (X : List Bool) (s : Spot) where
-    node-is : node_read M depth t X s ≡ entered_at depth s (λ r. body_at M depth s.at (resolve M t) X r)
-    node-is = node_recursion M known.0 depth t (wf M known t of) (of-tall M t of) X s
+    node-is : node_read true M depth t X s ≡ entered_at depth s (λ r. body_at M depth s.at (resolve M t) X r)
+    node-is = node_recursion true M known.0 depth t (wf M known t of) (of-tall M t of) X s
 
-    pub node-deep : 64 < depth → node_read M depth t X s ≡ Err (stop_at s.at why.TooDeep s.at)
+    pub node-deep : 64 < depth → node_read true M depth t X s ≡ Err (stop_at s.at why.TooDeep s.at)
     unfolding entered_at
     node-deep over = node-is ∙ ap (λ b. enter_by b (ltb s.nodes 1048576) s (λ r. body_at M depth s.at (resolve M t) X r)) (lt-leb depth 64 over)
 
     -- not too deep
-    pub node-shallow : depth ≤ 64 → node_read M depth t X s ≡ enter_by true (ltb s.nodes 1048576) s (λ r. body_at M depth s.at (resolve M t) X r)
+    pub node-shallow : depth ≤ 64 → node_read true M depth t X s ≡ enter_by true (ltb s.nodes 1048576) s (λ r. body_at M depth s.at (resolve M t) X r)
     unfolding entered_at
     node-shallow shallow = node-is ∙ ap (λ b. enter_by b (ltb s.nodes 1048576) s (λ r. body_at M depth s.at (resolve M t) X r)) (le-leb depth 64 shallow)
 
-    pub node-many : depth ≤ 64 → 1048576 ≤ s.nodes → node_read M depth t X s ≡ Err (stop_at s.at why.TooMany s.at)
+    pub node-many : depth ≤ 64 → 1048576 ≤ s.nodes → node_read true M depth t X s ≡ Err (stop_at s.at why.TooMany s.at)
     node-many shallow many = node-shallow shallow ∙ ap (λ b. enter_by true b s (λ r. body_at M depth s.at (resolve M t) X r)) (le-ltb s.nodes 1048576 many)
 
-    pub node-goes : depth ≤ 64 → s.nodes < 1048576 → node_read M depth t X s ≡ body_at M depth s.at (resolve M t) X (spot s.at (s.nodes + 1))
+    pub node-goes : depth ≤ 64 → s.nodes < 1048576 → node_read true M depth t X s ≡ body_at M depth s.at (resolve M t) X (spot s.at (s.nodes + 1))
     node-goes shallow few =
         let e : s.at + 0 ≡ s.at = omega arith in
         node-shallow shallow
@@ -108,13 +108,13 @@ module _ (M : List Assignment) (known : IsKnown M) (depth : ℕ) (t : Rose TypeL
         fails_first limit whole e taken X (fields_at M depth (resolve M t) X s) (λ v. owned_at M begin (resolve M t) v) (sits-fields X s inside).inside (λ v i. sits-owned M begin (resolve M t) X v i) h
 
     -- a text
-    text-is : (least : ℕ) (most : Option ℕ) (class : _) → (label_of (resolve M t)).form ≡ form.Utf8 least most class → fields_at M depth (resolve M t) X s ≡ text_at X s
+    text-is : (least : ℕ) (most : Option ℕ) (class : _) → (label_of (resolve M t)).form ≡ form.Utf8 least most class → fields_at M depth (resolve M t) X s ≡ text_at true X s
     unfolding content_at
     text-is least most class e = rw e refl
 
-    pub text-body : (least : ℕ) (most : Option ℕ) (class : _) → (label_of (resolve M t)).form ≡ form.Utf8 least most class → body_at M depth begin (resolve M t) X s ≡ kept_by M begin (resolve M t) (counted_at 0 None octets_at) X s
+    pub text-body : (least : ℕ) (most : Option ℕ) (class : _) → (label_of (resolve M t)).form ≡ form.Utf8 least most class → body_at M depth begin (resolve M t) X s ≡ kept_by M begin (resolve M t) (counted_at true 0 None octets_at) X s
     unfolding text_at
-    text-body least most class e = ap (λ r. r >>= λ v. owned_at M begin (resolve M t) v) (text-is least most class e) ∙ by (counted_at 0 None octets_at X s)
+    text-body least most class e = ap (λ r. r >>= λ v. owned_at M begin (resolve M t) v) (text-is least most class e) ∙ by (counted_at true 0 None octets_at X s)
       where
         by : (r : Result (List ℕ × Spot) Stop) → ((r >>= λ x. Ok (node (value.Utf8 x.0) none, x.1)) >>= λ v. owned_at M begin (resolve M t) v) ≡ (r >>= octets_kept M begin (resolve M t))
         by (Ok x) = refl

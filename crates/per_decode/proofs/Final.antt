@@ -22,11 +22,13 @@ use Rattle.per_fields.specs.Codec.{Taken, Codec}
 use Rattle.per_fields.specs.Encoding.{per, completed, complete_of, complete}
 use Rattle.per_fields.specs.Levels.{levels_needed}
 use Rattle.per_fields.specs.Nodes.{node_at, start, last_by, last_at, whole_of}
-use Rattle.per_fields.specs.Laws.{Begins, reading_of, Stops}
+use Rattle.per_fields.specs.Laws.{Begins, reading_of}
 use Rattle.per_fields.proofs.Codecs.{bind_ok, stop_ok, ok_is, taken-then, align_field, takes-bits}
 use Rattle.per_fields.proofs.Levels.{body-tall}
 use Rattle.per_fields.proofs.Recursion.{body-bounded, node_codec}
 use Rattle.per_fields.proofs.Law.{not_both, one_value, whole_octets}
+use Rattle.per_stops.specs.Stopping.{StopsFirst}
+use Rattle.per_stops.proofs.Law.{stops_as_read}
 use Rattle.per_decode.specs.declared.errors.DecodeError.{DecodeError}
 use Rattle.per_decode.specs.declared.errors.DecodeError.TheVariants as error
 use Rattle.per_decode.specs.Answers.{Takes, fault_of, Answers, Answer, is_short}
@@ -61,8 +63,8 @@ module _ (M : List Assignment) (known : IsKnown M) (t : ℕ) (a : Assignment) (a
   body_is : body_at M t ≡ Some a.body
   body_is = ap (option_map (λ b. b.body)) at
 
-  root_codec : Codec (FitsAt M 1 a.body) node_count (per M a.body) (node_at M (levels_needed M 1 a.body) 1 a.body)
-  root_codec = node_codec M known.0 known.1 (levels_needed M 1 a.body) 1 a.body (body-well_formed M known.0 t a.body body_is) (body-bounded M t a.body known.1 body_is) (body-tall M M t a.body body_is) (λ one. omega arith)
+  root_codec : Codec (FitsAt M 1 a.body) node_count (per true M a.body) (node_at true M (levels_needed M 1 a.body) 1 a.body)
+  root_codec = node_codec true M known.0 known.1 (levels_needed M 1 a.body) 1 a.body (body-well_formed M known.0 t a.body body_is) (body-bounded M t a.body known.1 body_is) (body-tall M M t a.body body_is) (λ one. omega arith)
 
   abbrev fits_in : Rose ValueLabel → Option Assignment → Type 0
   fits_in v o = elim o [ None ↦ ⊥ | Some b ↦ FitsAt M 1 b.body v ]
@@ -71,22 +73,22 @@ module _ (M : List Assignment) (known : IsKnown M) (t : ℕ) (a : Assignment) (a
   pub in_module : (v : Rose ValueLabel) → FitsAt M 1 a.body v → node_count v ≤ 1048576 → In M t v
   in_module v fits few = (subst (fits_in v) (sym at) fits, few)
 
-  complete_is : (v : Rose ValueLabel) → complete M t v ≡ complete_of M a.body v
-  complete_is v = ap (λ (o : Option Assignment). elim o as (λ _. List Bool) [ None ↦ [] | Some b ↦ complete_of M b.body v ]) at
+  complete_is : (v : Rose ValueLabel) → complete M t v ≡ complete_of true M a.body v
+  complete_is v = ap (λ (o : Option Assignment). elim o as (λ _. List Bool) [ None ↦ [] | Some b ↦ complete_of true M b.body v ]) at
 
   whole_is : (X : List Bool) → reading_of M t X ≡ Some (complete_at M a.body X (spot 0 0))
   unfolding whole_of
-  whole_is X = ap (λ (o : Option Assignment). elim o as (λ _. Option (Result (Rose ValueLabel × Spot) Stop)) [ None ↦ None | Some b ↦ Some (whole_of M b.body X) ]) at
+  whole_is X = ap (λ (o : Option Assignment). elim o as (λ _. Option (Result (Rose ValueLabel × Spot) Stop)) [ None ↦ None | Some b ↦ Some (whole_of true M b.body X) ]) at
 
   -- what is read is a value at the front
   begins : (X : List Bool) (v : Rose ValueLabel) (r : Spot) → complete_at M a.body X (spot 0 0) ≡ Ok (v, r) → Begins M t X v × (r.at ≡ length (complete M t v)) × (r.at ≤ length X)
   begins X v r e =
-      let one = bind_ok (node_at M (levels_needed M 1 a.body) 1 a.body X start) (λ v. last_at X v.1 >>= λ z. Ok (v.0, z.1)) (v, r) e in
+      let one = bind_ok (node_at true M (levels_needed M 1 a.body) 1 a.body X start) (λ v. last_at X v.1 >>= λ z. Ok (v.0, z.1)) (v, r) e in
       let two = bind_ok (last_at X one.0.1) (λ z. Ok (one.0.0, z.1)) (v, r) one.2 in
       let k = root_codec.takes X start one.0 (omega arith) one.1 in
-      let l = takes-last X (per M a.body one.0.0 0) one.0.1 two.0 k.0.taken two.1 in
+      let l = takes-last X (per true M a.body one.0.0 0) one.0.1 two.0 k.0.taken two.1 in
       let same : (one.0.0, two.0.1) ≡ (v, r) = ok_is (one.0.0, two.0.1) (v, r) two.2 in
-      let taken : Taken X 0 r.at (complete_of M a.body v) = subst (λ (y : Rose ValueLabel × Spot). Taken X 0 y.1.at (complete_of M a.body y.0)) same l in
+      let taken : Taken X 0 r.at (complete_of true M a.body v) = subst (λ (y : Rose ValueLabel × Spot). Taken X 0 y.1.at (complete_of true M a.body y.0)) same l in
       let fits : FitsAt M 1 a.body v = subst (λ (y : Rose ValueLabel × Spot). FitsAt M 1 a.body y.0) same k.1 in
       let few : node_count v ≤ 1048576 = subst (λ (y : Rose ValueLabel × Spot). node_count y.0 ≤ 1048576) same (omega (arith, k.0.nodes, k.0.few (omega arith))) in (
         record { rest = drop r.at X; is = taken.parts ∙ ap (λ m. m ++ drop r.at X) (sym (complete_is v)); value = in_module v fits few },
@@ -103,17 +105,17 @@ module _ (M : List Assignment) (known : IsKnown M) (t : ℕ) (a : Assignment) (a
     abbrev read : Result (Rose ValueLabel × Spot) Stop
     read = complete_at M a.body (input limit left) (spot 0 0)
 
-    stops-from : (stop : Stop) → read ≡ Err stop → Stops M t (input limit left) stop
-    stops-from stop e = whole_is (input limit left) ∙ ap (λ r. Some r) e
+    stops-from : (stop : Stop) → read ≡ Err stop → StopsFirst M t (input limit left) stop
+    stops-from stop e = (stops_as_read true M t (take limit left) known.0 known.1 assigned stop).0 (whole_is (input limit left) ∙ ap (λ r. Some r) e)
 
     some_is : {A : Type 0} (x y : A) → Some x ≡ Some y → x ≡ y
     some_is x y e = cc
 
-    stops-to : (stop : Stop) → Stops M t (input limit left) stop → read ≡ Err stop
-    stops-to stop h = some_is read (Err stop) (sym (whole_is (input limit left)) ∙ h)
+    stops-to : (stop : Stop) → StopsFirst M t (input limit left) stop → read ≡ Err stop
+    stops-to stop h = some_is read (Err stop) (sym (whole_is (input limit left)) ∙ (stops_as_read true M t (take limit left) known.0 known.1 assigned stop).1 h)
 
-    not_both_here : (v : Rose ValueLabel) (stop : Stop) → Begins M t (input limit left) v → Stops M t (input limit left) stop → ⊥
-    not_both_here v stop = not_both M t (take limit left) known.0 known.1 assigned v stop
+    not_both_here : (v : Rose ValueLabel) (stop : Stop) → Begins M t (input limit left) v → StopsFirst M t (input limit left) stop → ⊥
+    not_both_here v stop b s = not_both true M t (take limit left) known.0 known.1 assigned v stop b ((stops_as_read true M t (take limit left) known.0 known.1 assigned stop).1 s)
 
     -- where a value stands at the front, it is what is read
     read_is : (v : Rose ValueLabel) → Begins M t (input limit left) v → (r : Spot) × (read ≡ Ok (v, r)) × (r.at ≡ length (complete M t v))
@@ -122,7 +124,7 @@ module _ (M : List Assignment) (known : IsKnown M) (t : ℕ) (a : Assignment) (a
         by : (r : Result (Rose ValueLabel × Spot) Stop) → read ≡ r → (r : Spot) × (read ≡ Ok (v, r)) × (r.at ≡ length (complete M t v))
         by (Ok x) e =
             let g = begins (input limit left) x.0 x.1 e in
-            let same : x.0 ≡ v = (one_value M t (take limit left) known.0 known.1 assigned x.0 v g.0 b).0 in
+            let same : x.0 ≡ v = (one_value true M t (take limit left) known.0 known.1 assigned x.0 v g.0 b).0 in
             (x.1, e ∙ ap (λ w. Ok (w, x.1)) same, g.1 ∙ ap (λ w. length (complete M t w)) same)
         by (Err stop) e = absurd (not_both_here v stop b (stops-from stop e))
 
@@ -132,7 +134,7 @@ module _ (M : List Assignment) (known : IsKnown M) (t : ℕ) (a : Assignment) (a
         inside = inside;
         limited = limited;
         rest = rest;
-        value = λ v b. let g = read_is v b in omega (arith, h, ap end_of g.1, g.2, whole_octets M t v);
+        value = λ v b. let g = read_is v b in omega (arith, h, ap end_of g.1, g.2, whole_octets true M t v);
         stop = λ stop k. omega (arith, h, ap end_of (stops-to stop k));
       }
 
@@ -151,7 +153,7 @@ module _ (M : List Assignment) (known : IsKnown M) (t : ℕ) (a : Assignment) (a
             count = taken;
             takes = up_to (omega (arith, ap end_of e, end));
             says = (g.0, long, refl);
-            value = λ w b. inl (told_octets v long ∙ ap (λ (u : Rose ValueLabel). told_with u (length (complete M t u) / 8)) (one_value M t (take limit left) known.0 known.1 assigned v w g.0 b).0);
+            value = λ w b. inl (told_octets v long ∙ ap (λ (u : Rose ValueLabel). told_with u (length (complete M t u) / 8)) (one_value true M t (take limit left) known.0 known.1 assigned v w g.0 b).0);
             stop = λ stop k. absurd (not_both_here v stop g.0 k);
           }
 

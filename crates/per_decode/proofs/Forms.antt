@@ -1,5 +1,5 @@
 -- The fields of a node, by the form of its type.
-use Rattle.std.proofs.Common.{◌≡◌, ℕ, zero, suc, ◌+◌, ◌-◌, ◌*◌, ◌≤◌, Bool, List, [], ◌∷◌, length, refl, sym, ap, ◌∙◌, subst, arith, Option, Some, None, Result, Ok, Err}
+use Rattle.std.proofs.Common.{true, ◌≡◌, ℕ, zero, suc, ◌+◌, ◌-◌, ◌*◌, ◌≤◌, Bool, List, [], ◌∷◌, length, refl, sym, ap, ◌∙◌, subst, arith, Option, Some, None, Result, Ok, Err}
 use Rattle.std.specs.Prelude.{replicate, slice_get, ℤ}
 use Rattle.label_tree.specs.Rose.{Rose, node, roses_of, label_of, kids_of}
 use Rattle.simple_types.specs.declared.labels.ValueLabel.{ValueLabel}
@@ -29,15 +29,15 @@ module _ (M : List Assignment) (depth : ℕ) (t : Rose TypeLabel) (X : List Bool
   unfolding content_at
   fields-bool e = rw e refl
 
-  pub fields-int : (lo hi : Option ℤ) → (label_of t).form ≡ form.Int lo hi → fields_at M depth t X s ≡ int_at lo hi X s
+  pub fields-int : (lo hi : Option ℤ) → (label_of t).form ≡ form.Int lo hi → fields_at M depth t X s ≡ int_at true lo hi X s
   unfolding content_at
   fields-int lo hi e = rw e refl
 
-  pub fields-numbers : (numbers : List ℤ) → (label_of t).form ≡ form.Numbers numbers → fields_at M depth t X s ≡ enum_at (length numbers) X s
+  pub fields-numbers : (numbers : List ℤ) → (label_of t).form ≡ form.Numbers numbers → fields_at M depth t X s ≡ enum_at true (length numbers) X s
   unfolding content_at
   fields-numbers numbers e = rw e refl
 
-  pub fields-words : (identifiers words : List (List ℕ)) → (label_of t).form ≡ form.Words identifiers words → fields_at M depth t X s ≡ enum_at (length words) X s
+  pub fields-words : (identifiers words : List (List ℕ)) → (label_of t).form ≡ form.Words identifiers words → fields_at M depth t X s ≡ enum_at true (length words) X s
   unfolding content_at
   fields-words identifiers words e = rw e refl
 
@@ -45,11 +45,11 @@ module _ (M : List Assignment) (depth : ℕ) (t : Rose TypeLabel) (X : List Bool
   unfolding content_at
   fields-sequence parts e = rw e refl
 
-  pub fields-choice : (parts : List Component) → (label_of t).form ≡ form.Choice parts → fields_at M depth t X s ≡ choice_at (kid_at M depth) (label_of t) (kids_of t) parts X s
+  pub fields-choice : (parts : List Component) → (label_of t).form ≡ form.Choice parts → fields_at M depth t X s ≡ choice_at true (kid_at M depth) (label_of t) (kids_of t) parts X s
   unfolding content_at
   fields-choice parts e = rw e refl
 
-  pub fields-list : (part : Component) (least : ℕ) (most : Option ℕ) → (label_of t).form ≡ form.SequenceOf part least most → fields_at M depth t X s ≡ items_at (kid_at M depth) least most (item_place t part) X s
+  pub fields-list : (part : Component) (least : ℕ) (most : Option ℕ) → (label_of t).form ≡ form.SequenceOf part least most → fields_at M depth t X s ≡ items_at true (kid_at M depth) least most (item_place t part) X s
   unfolding content_at
   fields-list part least most e = rw e refl
 
@@ -100,19 +100,19 @@ module _ (M : List Assignment) (depth : ℕ) where
 
   -- A CHOICE
   module _ (l : TypeLabel) (ts : List (Rose TypeLabel)) (parts : List Component) (X : List Bool) (s : Spot) where
-    pub choice_fails : (limit : ℕ) (whole : List ℕ) (e : Halt) (taken : ℕ) → s.at ≤ length X → FailsAt limit whole e taken (number_at (length parts - 1) X s) → FailsAt limit whole e taken (choice_at (kid_at M depth) l ts parts X s)
+    pub choice_fails : (limit : ℕ) (whole : List ℕ) (e : Halt) (taken : ℕ) → s.at ≤ length X → FailsAt limit whole e taken (number_at true (length parts - 1) X s) → FailsAt limit whole e taken (choice_at true (kid_at M depth) l ts parts X s)
     unfolding choice_at
     choice_fails limit whole e taken inside h =
-        fails_first limit whole e taken X (number_at (length parts - 1) X s) (λ i. kids_at (kid_at M depth) (value.Choice i.0) (alone (place_at l i.0 (slice_get parts i.0) (slice_get ts i.0))) X i.1) (sits-number (length parts - 1) X s inside).inside
+        fails_first limit whole e taken X (number_at true (length parts - 1) X s) (λ i. kids_at (kid_at M depth) (value.Choice i.0) (alone (place_at l i.0 (slice_get parts i.0) (slice_get ts i.0))) X i.1) (sits-number (length parts - 1) X s inside).inside
         (λ i j. sits-kids (kid_at M depth) steady-kid (value.Choice i.0) (alone (place_at l i.0 (slice_get parts i.0) (slice_get ts i.0))) X i.1 j) h
 
-    module _ (i : ℕ) (r : Spot) (part : Component) (kid : Rose TypeLabel) (index : number_at (length parts - 1) X s ≡ Ok (i, r)) (is_part : slice_get parts i ≡ Some part) (is_kid : slice_get ts i ≡ Some kid) where
+    module _ (i : ℕ) (r : Spot) (part : Component) (kid : Rose TypeLabel) (index : number_at true (length parts - 1) X s ≡ Ok (i, r)) (is_part : slice_get parts i ≡ Some part) (is_kid : slice_get ts i ≡ Some kid) where
       one_kid : (k : Result (Rose ValueLabel × Spot) Stop) → kid_at M depth (place_of l i part kid) X r ≡ k → (each_at (kid_at M depth) (place_of l i part kid ∷ []) X r >>= put_kids (value.Choice i)) ≡ (k >>= put_kid (value.Choice i))
       unfolding each_at
       one_kid (Ok v) e = rw e refl
       one_kid (Err f) e = rw e refl
 
-      choice_is : choice_at (kid_at M depth) l ts parts X s ≡ (kid_at M depth (place_of l i part kid) X r >>= put_kid (value.Choice i))
+      choice_is : choice_at true (kid_at M depth) l ts parts X s ≡ (kid_at M depth (place_of l i part kid) X r >>= put_kid (value.Choice i))
       unfolding choice_at
       choice_is =
           ap (λ n. n >>= λ i. kids_at (kid_at M depth) (value.Choice i.0) (alone (place_at l i.0 (slice_get parts i.0) (slice_get ts i.0))) X i.1) index
@@ -121,16 +121,16 @@ module _ (M : List Assignment) (depth : ℕ) where
           ∙ ap (λ o. kids_read M depth (alone (place_at l i (Some part) o)) X r >>= put_kids (value.Choice i)) is_kid
           ∙ one_kid (kid_at M depth (place_of l i part kid) X r) refl
 
-      pub choice_reads : (v : Rose ValueLabel) (q : Spot) → kid_at M depth (place_of l i part kid) X r ≡ Ok (v, q) → choice_at (kid_at M depth) l ts parts X s ≡ Ok (node (value.Choice i) (roses_of (v ∷ [])), q)
+      pub choice_reads : (v : Rose ValueLabel) (q : Spot) → kid_at M depth (place_of l i part kid) X r ≡ Ok (v, q) → choice_at true (kid_at M depth) l ts parts X s ≡ Ok (node (value.Choice i) (roses_of (v ∷ [])), q)
       choice_reads v q e = choice_is ∙ ap (λ k. k >>= λ v. Ok (node (value.Choice i) (roses_of (v.0 ∷ [])), v.1)) e
 
-      pub alternative_fails : (limit : ℕ) (whole : List ℕ) (e : Halt) (taken : ℕ) → r.at ≤ length X → FailsAt limit whole e taken (kid_at M depth (place_of l i part kid) X r) → FailsAt limit whole e taken (choice_at (kid_at M depth) l ts parts X s)
+      pub alternative_fails : (limit : ℕ) (whole : List ℕ) (e : Halt) (taken : ℕ) → r.at ≤ length X → FailsAt limit whole e taken (kid_at M depth (place_of l i part kid) X r) → FailsAt limit whole e taken (choice_at true (kid_at M depth) l ts parts X s)
       alternative_fails limit whole e taken inside h =
           subst (FailsAt limit whole e taken) (sym choice_is)
           (fails_first limit whole e taken X (kid_at M depth (place_of l i part kid) X r) (λ v. Ok (node (value.Choice i) (roses_of (v.0 ∷ [])), v.1)) (steady-kid (place_of l i part kid) X r inside).inside (λ v j. record { later = omega arith; inside = j }) h)
 
       -- want of memory behind the index
-      pub alternative_full : (limit : ℕ) (whole : List ℕ) (taken : ℕ) → r.at ≤ length X → 8 * taken ≤ r.at + 7 → FailsAt limit whole memory taken (choice_at (kid_at M depth) l ts parts X s)
+      pub alternative_full : (limit : ℕ) (whole : List ℕ) (taken : ℕ) → r.at ≤ length X → 8 * taken ≤ r.at + 7 → FailsAt limit whole memory taken (choice_at true (kid_at M depth) l ts parts X s)
       alternative_full limit whole taken inside step = alternative_fails limit whole memory taken inside (omega (arith, (steady-kid (place_of l i part kid) X r inside).later, step))
 
   -- THE ITEMS OF A SEQUENCE OF: one place again and again is one type again and again
@@ -151,6 +151,6 @@ module _ (M : List Assignment) (depth : ℕ) where
 
     -- as the code reads them
     pub items_are : (least : ℕ) (most : Option ℕ) (X : List Bool) (s : Spot)
-        → items_at (kid_at M depth) least most (Some p) X s ≡ (list_at least most (λ n. many_at M (below p.role depth) n p.type) X s >>= λ vs. Ok (node value.SequenceOf (roses_of vs.0), vs.1))
+        → items_at true (kid_at M depth) least most (Some p) X s ≡ (list_at true least most (λ n. many_at M (below p.role depth) n p.type) X s >>= λ vs. Ok (node value.SequenceOf (roses_of vs.0), vs.1))
     unfolding items_at
-    items_are least most X s = ap (λ (items : ℕ → Reader (List (Rose ValueLabel))). list_at least most items X s >>= λ vs. Ok (node value.SequenceOf (roses_of vs.0), vs.1)) items_path
+    items_are least most X s = ap (λ (items : ℕ → Reader (List (Rose ValueLabel))). list_at true least most items X s >>= λ vs. Ok (node value.SequenceOf (roses_of vs.0), vs.1)) items_path

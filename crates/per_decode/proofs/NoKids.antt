@@ -52,7 +52,7 @@ leaf-fields : (M : List Assignment) (a b : ℕ) (u : Rose TypeLabel) (X : List B
 unfolding content_at
 leaf-fields M a b u X s leaf = by (label_of u).form leaf
   where
-    by : (f : Form) → is_leaf f ≡ true → content_at (kid_at M a) (label_of u) (kids_of u) f X s ≡ content_at (kid_at M b) (label_of u) (kids_of u) f X s
+    by : (f : Form) → is_leaf f ≡ true → content_at true (kid_at M a) (label_of u) (kids_of u) f X s ≡ content_at true (kid_at M b) (label_of u) (kids_of u) f X s
     by form.Bool e = refl
     by (form.Int least greatest) e = refl
     by (form.Numbers numbers) e = refl
@@ -63,7 +63,7 @@ leaf-fields M a b u X s leaf = by (label_of u).form leaf
     by (form.SequenceOf part least most) e = absurd cc
     by (form.Ref to) e = absurd cc
 
-pub leaf-read : (M : List Assignment) → IsKnown M → (a b : ℕ) (t : Rose TypeLabel) → IsOf M t → (X : List Bool) (s : Spot) → a ≤ 64 → b ≤ 64 → is_leaf (label_of (resolve M t)).form ≡ true → node_read M a t X s ≡ node_read M b t X s
+pub leaf-read : (M : List Assignment) → IsKnown M → (a b : ℕ) (t : Rose TypeLabel) → IsOf M t → (X : List Bool) (s : Spot) → a ≤ 64 → b ≤ 64 → is_leaf (label_of (resolve M t)).form ≡ true → node_read true M a t X s ≡ node_read true M b t X s
 leaf-read M known a b t of X s at_a at_b leaf = node-shallow M known a t of X s at_a ∙ by (ltb s.nodes 1048576) ∙ sym (node-shallow M known b t of X s at_b)
   where
     by : (few : Bool) → enter_by true few s (λ r. body_at M a s.at (resolve M t) X r) ≡ enter_by true few s (λ r. body_at M b s.at (resolve M t) X r)
@@ -118,7 +118,7 @@ module _ (M : List Assignment) (known : IsKnown M) (u : Rose TypeLabel) (of : Is
   pub record Inner (depth i inner : ℕ) (part : Component) (kid : Rose TypeLabel) : Type 0 where
     pub of_module : IsOf M kid
     pub fewer : needs M inner (resolve M kid) < levels_needed M depth u
-    pub read : (X : List Bool) (s : Spot) → node_read M inner kid X s ≡ node_read M (below (role_of (label_of u) i part) depth) kid X s
+    pub read : (X : List Bool) (s : Spot) → node_read true M inner kid X s ≡ node_read true M (below (role_of (label_of u) i part) depth) kid X s
     pub fits : (v : Rose ValueLabel) → FitsAt M inner kid v → FitsAt M (below (role_of (label_of u) i part) depth) kid v
 
   pub inner_here : (depth i inner : ℕ) (part : Component) (kid found : Rose TypeLabel) → HasFields (label_of u).form → depth ≤ 64 → slice_get (parts_of (label_of u).form) i ≡ Some part → slice_get (kids_of u) i ≡ Some kid → found ≡ resolve M kid
@@ -148,6 +148,6 @@ module _ (M : List Assignment) (known : IsKnown M) (u : Rose TypeLabel) (of : Is
           record {
             of_module = k.of_module;
             fewer = omega (arith, needs-resolved M known inner kid k.of_module, k.fewer, ap (λ n. levels_needed M n kid) e);
-            read = λ X s. ap (λ n. node_read M n kid X s) e;
+            read = λ X s. ap (λ n. node_read true M n kid X s) e;
             fits = λ v f. subst (λ n. FitsAt M n kid v) e f;
           }

@@ -29,7 +29,7 @@ use Rattle.per_decode.proofs.Bodies.{owned-own, owned-not}
 
 steady-more : (front : List ℕ) (before total : ℕ) → SteadyReader (octets_more front before total)
 steady-more front before total X s h =
-    sits_then X s.at (fragments_at 0 None octets_at (suc (length X)) before total X s) (λ b. Ok (front ++ b.0, b.1)) (sits-fragments 0 None octets_at sits-octets (suc (length X)) before total X s h) (λ b i. record { later = omega arith; inside = i })
+    sits_then X s.at (fragments_at true 0 None octets_at (suc (length X)) before total X s) (λ b. Ok (front ++ b.0, b.1)) (sits-fragments 0 None octets_at sits-octets (suc (length X)) before total X s h) (λ b i. record { later = omega arith; inside = i })
 
 pub sits-length : (piece : Piece) → SteadyReader (octets_behind piece)
 sits-length (Last n) X s h = sits-octets n X s h
@@ -48,10 +48,10 @@ same_behind (Last n) X r = refl
 same_behind (Units k) X r = let e : 0 + k * unit ≡ k * unit = omega arith in ap (λ n. octets_at (k * unit) X r >>= λ a. octets_more a.0 k n X a.1) e
 
 -- a text begins with a length
-text-counted : (X : List Bool) (s : Spot) → s.at ≤ length X → counted_at 0 None octets_at X s ≡ (count_at 0 None 4 0 X s >>= λ n. octets_behind n.0 X n.1)
+text-counted : (X : List Bool) (s : Spot) → s.at ≤ length X → counted_at true 0 None octets_at X s ≡ (count_at true 0 None 4 0 X s >>= λ n. octets_behind n.0 X n.1)
 text-counted X s inside =
     left-step 0 None octets_at sits-octets 4 0 X s inside
-    ∙ bind_same (count_at 0 None 4 0 X s) (behind 0 None octets_at sits-octets (left_at 0 None octets_at sits-octets) 0 X) (λ n. octets_behind n.0 X n.1) (λ n e. same_behind n.0 X n.1)
+    ∙ bind_same (count_at true 0 None 4 0 X s) (behind 0 None octets_at sits-octets (left_at 0 None octets_at sits-octets) 0 X) (λ n. octets_behind n.0 X n.1) (λ n e. same_behind n.0 X n.1)
 
 module _ (M : List Assignment) (begin : ℕ) (t : Rose TypeLabel) where
   pub steady-kept : (X : List Bool) → Steady X (octets_kept M begin t)
@@ -91,20 +91,20 @@ module _ (M : List Assignment) (begin : ℕ) (t : Rose TypeLabel) where
 
   -- THE FIRST LENGTH
   module _ (X : List Bool) (s : Spot) (inside : s.at ≤ length X) where
-    kept-counted : kept_by M begin t (counted_at 0 None octets_at) X s ≡ (count_at 0 None 4 0 X s >>= λ n. kept_by M begin t (octets_behind n.0) X n.1)
-    kept-counted = ap (λ r. r >>= octets_kept M begin t) (text-counted X s inside) ∙ by (count_at 0 None 4 0 X s)
+    kept-counted : kept_by M begin t (counted_at true 0 None octets_at) X s ≡ (count_at true 0 None 4 0 X s >>= λ n. kept_by M begin t (octets_behind n.0) X n.1)
+    kept-counted = ap (λ r. r >>= octets_kept M begin t) (text-counted X s inside) ∙ by (count_at true 0 None 4 0 X s)
       where
         by : (r : Result (Piece × Spot) Stop) → ((r >>= λ n. octets_behind n.0 X n.1) >>= octets_kept M begin t) ≡ (r >>= λ n. kept_by M begin t (octets_behind n.0) X n.1)
         by (Ok n) = refl
         by (Err e) = refl
 
-    pub count_fails : (limit : ℕ) (whole : List ℕ) (e : Halt) (taken : ℕ) → FailsAt limit whole e taken (count_at 0 None 4 0 X s) → FailsAt limit whole e taken (kept_by M begin t (counted_at 0 None octets_at) X s)
+    pub count_fails : (limit : ℕ) (whole : List ℕ) (e : Halt) (taken : ℕ) → FailsAt limit whole e taken (count_at true 0 None 4 0 X s) → FailsAt limit whole e taken (kept_by M begin t (counted_at true 0 None octets_at) X s)
     count_fails limit whole e taken h =
         subst (FailsAt limit whole e taken) (sym kept-counted)
-        (fails_first limit whole e taken X (count_at 0 None 4 0 X s) (λ n. kept_by M begin t (octets_behind n.0) X n.1) (sits-count 0 None 4 0 X s inside).inside
+        (fails_first limit whole e taken X (count_at true 0 None 4 0 X s) (λ n. kept_by M begin t (octets_behind n.0) X n.1) (sits-count 0 None 4 0 X s inside).inside
         (λ n i. sits_then X n.1.at (octets_behind n.0 X n.1) (octets_kept M begin t) (sits-length n.0 X n.1 i) (steady-kept X)) h)
 
-    pub count_reads : (piece : Piece) (r : Spot) → count_at 0 None 4 0 X s ≡ Ok (piece, r) → kept_by M begin t (counted_at 0 None octets_at) X s ≡ kept_by M begin t (octets_behind piece) X r
+    pub count_reads : (piece : Piece) (r : Spot) → count_at true 0 None 4 0 X s ≡ Ok (piece, r) → kept_by M begin t (counted_at true 0 None octets_at) X s ≡ kept_by M begin t (octets_behind piece) X r
     count_reads piece r e = kept-counted ∙ ap (λ c. c >>= λ n. kept_by M begin t (octets_behind n.0) X n.1) e
 
 -- WHAT WAS PUT, or a fault

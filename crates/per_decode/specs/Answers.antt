@@ -9,7 +9,8 @@ use Rattle.per_fields.specs.declared.stops.Stop.{Stop}
 use Rattle.per_fields.specs.declared.stops.Why.{Why}
 use Rattle.per_fields.specs.declared.stops.Why.TheVariants.{Short}
 use Rattle.per_fields.specs.Encoding.{complete}
-use Rattle.per_fields.specs.Laws.{Begins, Stops}
+use Rattle.per_fields.specs.Laws.{Begins}
+use Rattle.per_stops.specs.Stopping.{StopsFirst}
 use Rattle.per_decode.specs.declared.decoded.Decoded.{Decoded}
 use Rattle.per_decode.specs.declared.errors.DecodeError.{DecodeError}
 use Rattle.per_decode.specs.declared.errors.DecodeError.TheVariants.{Bad, Failed, TooLong, Memory}
@@ -33,7 +34,7 @@ module _ (M : List Assignment) (t limit : ℕ) (left : List ℕ) where
     pub limited : count ≤ limit
     pub rest : new ≡ Some (drop count left)
     pub value : (v : Rose ValueLabel) → Begins M t within v → 8 * count ≤ length (complete M t v)
-    pub stop : (stop : Stop) → Stops M t within stop → 8 * count ≤ stop.end + 7
+    pub stop : (stop : Stop) → StopsFirst M t within stop → 8 * count ≤ stop.end + 7
 
   -- how a first fault is answered: octets that end at the limit may go on behind it
   abbrev pub fault_of : Stop → DecodeError
@@ -47,8 +48,8 @@ module _ (M : List Assignment) (t limit : ℕ) (left : List ℕ) where
   -- place of the first octet behind its encoding is known.
   abbrev pub Says : Answer → ℕ → Type 0
   Says (Ok found) count = Begins M t within found.value × (8 * count ≡ length (complete M t found.value)) × (found.octets ≡ count)
-  Says (Err (Bad bit why)) count = (stop : Stop) × Stops M t within stop × (stop.bit ≡ bit) × (stop.why ≡ why) × (why ≡ Short → length left < limit)
-  Says (Err TooLong) count = (stop : Stop) × Stops M t within stop × (stop.why ≡ Short) × (limit ≤ length left)
+  Says (Err (Bad bit why)) count = (stop : Stop) × StopsFirst M t within stop × (stop.bit ≡ bit) × (stop.why ≡ why) × (why ≡ Short → length left < limit)
+  Says (Err TooLong) count = (stop : Stop) × StopsFirst M t within stop × (stop.why ≡ Short) × (limit ≤ length left)
   Says (Err Failed) count = (v : Rose ValueLabel) (n : ℕ) → n ≤ count → In M t v → octet_bits (take n left) ≡ complete M t v → ⊥
   Says (Err Memory) count = Unit {0}
 
@@ -61,4 +62,4 @@ module _ (M : List Assignment) (t limit : ℕ) (left : List ℕ) where
     pub takes : Takes new count
     pub says : Says answer count
     pub value : (v : Rose ValueLabel) → Begins M t within v → IsDue (Ok (with_octets v)) answer
-    pub stop : (stop : Stop) → Stops M t within stop → IsDue (Err (fault_of stop)) answer
+    pub stop : (stop : Stop) → StopsFirst M t within stop → IsDue (Err (fault_of stop)) answer

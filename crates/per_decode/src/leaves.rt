@@ -62,7 +62,7 @@ pub(crate) fn integer<S: Source, K: Origin>(
     ensures pushed { OnOk result (values.new ≡ added (newest values.new.kids) values.old) }
     ensures leaf { OnOk result ((z : ℤ) × (newest values.new.kids ≡ node (value.Int z) none) × (is_128_bits z ≡ true) × (is_from lo z ≡ true) × (is_to hi z ≡ true)) }
     ensures gives { IsTrue K.told → Gives K.limit K.whole (λ _. newest values.new.kids) result (spot run.new.bits.position run.new.nodes) run.new.stop run.new.bits.taken
-        (int_at lo hi) (spot run.old.bits.position run.old.nodes) }
+        (int_at true lo hi) (spot run.old.bits.position run.old.nodes) }
     ensures failed { IsErrOf result Fault.Failed → HasRisen K.faults (S.faults run.new.bits.source.now) }
 {
     let z = run.whole(alloc, lo, hi)?;
@@ -87,7 +87,7 @@ pub(crate) fn enumerated<S: Source, K: Origin>(
     ensures pushed { OnOk result (values.new ≡ added (newest values.new.kids) values.old) }
     ensures leaf { OnOk result ((i : ℕ) × (newest values.new.kids ≡ node (value.Enum i) none) × (i < items)) }
     ensures gives { IsTrue K.told → Gives K.limit K.whole (λ _. newest values.new.kids) result (spot run.new.bits.position run.new.nodes) run.new.stop run.new.bits.taken
-        (enum_at items) (spot run.old.bits.position run.old.nodes) }
+        (enum_at true items) (spot run.old.bits.position run.old.nodes) }
     ensures failed { IsErrOf result Fault.Failed → HasRisen K.faults (S.faults run.new.bits.source.now) }
 {
     let item = run.number(alloc, (items - 1) as u128)?;

@@ -43,7 +43,7 @@ fn is_out(least: u32, most: Option<u32>, total: usize, piece: Piece) -> bool
 }
 
 impl<'a, S: Source, K: Origin> Run<'a, S, K> {
-    ghost use Rattle.std.specs.Prelude.{◌++◌, ◌%◌, IfOk, OnOk, OnErr, Err, IsErrOf, IsTrue, length};
+    ghost use Rattle.std.specs.Prelude.{true, ◌++◌, ◌%◌, IfOk, OnOk, OnErr, Err, IsErrOf, IsTrue, length};
     ghost use Rattle.bit_cursor.specs.Cursors.{IsInStep};
     ghost use Rattle.xa_base.specs.Faults.{HasRisen};
     ghost use Rattle.per_decode.specs.Private.Standing.{GoesOn};
@@ -156,7 +156,7 @@ impl<'a, S: Source, K: Origin> Run<'a, S, K> {
         ensures further { OnOk result (self.old.bits.position < self.new.bits.position) }
         ensures piece { IfOk result (λ piece. IsPiece piece × (is_out least most total (piece_of piece) ≡ false)) }
         ensures gives { IsTrue K.told → Gives K.limit K.whole (piece_of) result (spot self.new.bits.position self.new.nodes) self.new.stop self.new.bits.taken
-            (count_at least most before total) (spot self.old.bits.position self.old.nodes) }
+            (count_at true least most before total) (spot self.old.bits.position self.old.nodes) }
         ensures failed { IsErrOf result Fault.Failed → HasRisen K.faults (S.faults self.new.bits.source.now) }
     {
         self.align()?;
@@ -195,7 +195,7 @@ impl<'a, S: Source, K: Origin> Run<'a, S, K> {
         ensures nodes { self.new.nodes ≡ self.old.nodes }
         ensures few { IfOk result (λ more. more ≤ 15) }
         ensures gives { IsTrue K.told → Gives K.limit K.whole (λ x. x) result (spot self.new.bits.position self.new.nodes) self.new.stop self.new.bits.taken
-            (octet_count_at) (spot self.old.bits.position self.old.nodes) }
+            (octet_count_at true) (spot self.old.bits.position self.old.nodes) }
         ensures failed { IsErrOf result Fault.Failed → HasRisen K.faults (S.faults self.new.bits.source.now) }
     {
         self.align()?;

@@ -153,7 +153,7 @@ pub(crate) fn node<S: Source, K: Origin>(
     ensures count { OnOk result (run.new.nodes ≡ run.old.nodes + node_count (newest values.new.kids)) }
     ensures fits { OnOk result (FitsAt module.now depth node.now (newest values.new.kids)) }
     ensures gives { IsTrue K.told → Gives K.limit K.whole (λ _. newest values.new.kids) result (spot run.new.bits.position run.new.nodes) run.new.stop run.new.bits.taken
-        (node_read module.now depth node.now) (spot run.old.bits.position run.old.nodes) }
+        (node_read true module.now depth node.now) (spot run.old.bits.position run.old.nodes) }
     ensures failed { IsErrOf result Fault.Failed → HasRisen K.faults (S.faults run.new.bits.source.now) }
 {
     let begin = run.position();
@@ -408,7 +408,7 @@ fn choice<S: Source, K: Origin>(
     ensures fits { OnOk result (FitKids module.now depth found.now (newest values.new.kids)) }
     ensures text { OnOk result (is_no_text (label_of (newest values.new.kids)) ≡ false) }
     ensures gives { IsTrue K.told → Gives K.limit K.whole (λ _. newest values.new.kids) result (spot run.new.bits.position run.new.nodes) run.new.stop run.new.bits.taken
-        (choice_at (bodies.kid_at module.now depth) (label_of found.now) (kids_of found.now) parts.now) (spot run.old.bits.position run.old.nodes) }
+        (choice_at true (bodies.kid_at module.now depth) (label_of found.now) (kids_of found.now) parts.now) (spot run.old.bits.position run.old.nodes) }
     ensures failed { IsErrOf result Fault.Failed → HasRisen K.faults (S.faults run.new.bits.source.now) }
 {
     let index = run.number(alloc, (parts.len() - 1) as u128)? as u32;
@@ -447,7 +447,7 @@ fn sequence_of<S: Source, K: Origin>(
     ensures fits { OnOk result (FitKids module.now depth found.now (newest values.new.kids)) }
     ensures text { OnOk result (is_no_text (label_of (newest values.new.kids)) ≡ false) }
     ensures gives { IsTrue K.told → Gives K.limit K.whole (λ _. newest values.new.kids) result (spot run.new.bits.position run.new.nodes) run.new.stop run.new.bits.taken
-        (items_at (bodies.kid_at module.now depth) min max (bodies.item_place found.now part.now)) (spot run.old.bits.position run.old.nodes) }
+        (items_at true (bodies.kid_at module.now depth) min max (bodies.item_place found.now part.now)) (spot run.old.bits.position run.old.nodes) }
     ensures failed { IsErrOf result Fault.Failed → HasRisen K.faults (S.faults run.new.bits.source.now) }
 {
     let item = found.kid(0);
@@ -483,7 +483,7 @@ fn list<S: Source, K: Origin>(
     ensures fits { OnOk result (bodies.FitAll module.now depth item.now values.new.kids) }
     ensures size { OnOk result ((min ≤ length values.new.kids) × (is_at_most (length values.new.kids) max ≡ true)) }
     ensures gives { IsTrue K.told → Gives K.limit K.whole (λ _. values.new.kids) result (spot run.new.bits.position run.new.nodes) run.new.stop run.new.bits.taken
-        (list_at min max (λ n. bodies.many_at module.now depth n item.now)) (spot run.old.bits.position run.old.nodes) }
+        (list_at true min max (λ n. bodies.many_at module.now depth n item.now)) (spot run.old.bits.position run.old.nodes) }
     ensures failed { IsErrOf result Fault.Failed → HasRisen K.faults (S.faults run.new.bits.source.now) }
 {
     match max {
@@ -523,7 +523,7 @@ fn fragments<S: Source, K: Origin>(
     ensures fits { OnOk result (bodies.FitAll module.now depth item.now values.new.kids) }
     ensures size { OnOk result ((min ≤ length values.new.kids) × (is_at_most (length values.new.kids) max ≡ true)) }
     ensures gives { IsTrue K.told → Gives K.limit K.whole (λ _. values.new.kids) result (spot run.new.bits.position run.new.nodes) run.new.stop run.new.bits.taken
-        (counted_at min max (λ n. bodies.many_at module.now depth n item.now)) (spot run.old.bits.position run.old.nodes) }
+        (counted_at true min max (λ n. bodies.many_at module.now depth n item.now)) (spot run.old.bits.position run.old.nodes) }
     ensures failed { IsErrOf result Fault.Failed → HasRisen K.faults (S.faults run.new.bits.source.now) }
 {
     let mut total: usize = 0;

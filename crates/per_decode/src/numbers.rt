@@ -39,7 +39,7 @@ fn number_of(octets: &[u8]) -> u128
 }
 
 impl<'a, S: Source, K: Origin> Run<'a, S, K> {
-    ghost use Rattle.std.specs.Prelude.{◌++◌, ◌%◌, IfOk, OnOk, OnErr, Err, IsErrOf, IsTrue, length};
+    ghost use Rattle.std.specs.Prelude.{true, ◌++◌, ◌%◌, IfOk, OnOk, OnErr, Err, IsErrOf, IsTrue, length};
     ghost use Rattle.bit_cursor.specs.Cursors.{IsInStep};
     ghost use Rattle.xa_base.specs.Faults.{HasRisen};
     ghost use Rattle.per_fields.specs.Reading.{bits_at};
@@ -160,7 +160,7 @@ impl<'a, S: Source, K: Origin> Run<'a, S, K> {
         ensures nodes { self.new.nodes ≡ self.old.nodes }
         ensures top { IfOk result (λ x. x ≤ top) }
         ensures gives { IsTrue K.told → Gives K.limit K.whole (λ x. x) result (spot self.new.bits.position self.new.nodes) self.new.stop self.new.bits.taken
-            (number_at top) (spot self.old.bits.position self.old.nodes) }
+            (number_at true top) (spot self.old.bits.position self.old.nodes) }
         ensures failed { IsErrOf result Fault.Failed → HasRisen K.faults (S.faults self.new.bits.source.now) }
     {
         if top == 0 {

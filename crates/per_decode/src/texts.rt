@@ -1,5 +1,5 @@
 //! Nodes of text.
-ghost use Rattle.std.specs.Prelude.{◌≡◌, ℕ, [], ◌∷◌, ◌++◌, ◌<◌, ◌≤◌, ◌+◌, ◌-◌, ◌*◌, ◌^◌, List, None, IsUtf8, take, ◌⊎◌, ◌%◌, IfErr, OnOk, IsErrOf, IsTrue};
+ghost use Rattle.std.specs.Prelude.{◌≡◌, ℕ, true, [], ◌∷◌, ◌++◌, ◌<◌, ◌≤◌, ◌+◌, ◌-◌, ◌*◌, ◌^◌, List, None, IsUtf8, take, ◌⊎◌, ◌%◌, IfErr, OnOk, IsErrOf, IsTrue};
 ghost use Rattle.flat_tree.specs.Zips.{added};
 ghost use Rattle.label_tree.specs.Rose.{label_of};
 ghost use Rattle.bit_cursor.specs.Cursors.{IsInStep};
@@ -51,7 +51,7 @@ pub(crate) fn text<S: Source, K: Origin>(
     ensures leaf { OnOk result ((text : List ℕ) × (newest values.new.kids ≡ text_leaf text)) }
     ensures own { OnOk result (Own module.now node.now (newest values.new.kids)) }
     ensures gives { IsTrue K.told → Gives K.limit K.whole (λ _. newest values.new.kids) result (spot run.new.bits.position run.new.nodes) run.new.stop run.new.bits.taken
-        (kept_by module.now begin (refs.resolve module.now node.now) (counted_at 0 None octets_at)) (spot run.old.bits.position run.old.nodes) }
+        (kept_by module.now begin (refs.resolve module.now node.now) (counted_at true 0 None octets_at)) (spot run.old.bits.position run.old.nodes) }
     ensures failed { IsErrOf result Fault.Failed → HasRisen K.faults (S.faults run.new.bits.source.now) }
 {
     let piece = run.count(0, None, MOST_UNITS, 0)?;

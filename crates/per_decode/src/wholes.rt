@@ -91,7 +91,7 @@ impl<'a, S: Source, K: Origin> Run<'a, S, K> {
         ensures nodes { self.new.nodes ≡ self.old.nodes }
         ensures bounds { IfOk result (λ z. is_from (Some lo) z ≡ true) }
         ensures gives { IsTrue K.told → Gives K.limit K.whole (λ x. x) result (spot self.new.bits.position self.new.nodes) self.new.stop self.new.bits.taken
-            (from_at lo) (spot self.old.bits.position self.old.nodes) }
+            (from_at true lo) (spot self.old.bits.position self.old.nodes) }
         ensures failed { IsErrOf result Fault.Failed → HasRisen K.faults (S.faults self.new.bits.source.now) }
     {
         let more = self.octet_count()?;
@@ -133,7 +133,7 @@ impl<'a, S: Source, K: Origin> Run<'a, S, K> {
         ensures nodes { self.new.nodes ≡ self.old.nodes }
         ensures bounds { IfOk result (λ z. is_to hi z ≡ true) }
         ensures gives { IsTrue K.told → Gives K.limit K.whole (λ x. x) result (spot self.new.bits.position self.new.nodes) self.new.stop self.new.bits.taken
-            (signed_at hi) (spot self.old.bits.position self.old.nodes) }
+            (signed_at true hi) (spot self.old.bits.position self.old.nodes) }
         ensures failed { IsErrOf result Fault.Failed → HasRisen K.faults (S.faults self.new.bits.source.now) }
     {
         let more = self.octet_count()?;
@@ -151,7 +151,7 @@ impl<'a, S: Source, K: Origin> Run<'a, S, K> {
         ensures nodes { self.new.nodes ≡ self.old.nodes }
         ensures bounds { IfOk result (λ z. (is_from (Some lo) z ≡ true) × (is_to (Some hi) z ≡ true)) }
         ensures gives { IsTrue K.told → Gives K.limit K.whole (λ x. x) result (spot self.new.bits.position self.new.nodes) self.new.stop self.new.bits.taken
-            (ranged_at lo hi) (spot self.old.bits.position self.old.nodes) }
+            (ranged_at true lo hi) (spot self.old.bits.position self.old.nodes) }
         ensures failed { IsErrOf result Fault.Failed → HasRisen K.faults (S.faults self.new.bits.source.now) }
     {
         let x = self.number(alloc, distance(lo, hi))?;
@@ -177,7 +177,7 @@ impl<'a, S: Source, K: Origin> Run<'a, S, K> {
         ensures nodes { self.new.nodes ≡ self.old.nodes }
         ensures bounds { IfOk result (λ z. (is_from lo z ≡ true) × (is_to hi z ≡ true)) }
         ensures gives { IsTrue K.told → Gives K.limit K.whole (λ x. x) result (spot self.new.bits.position self.new.nodes) self.new.stop self.new.bits.taken
-            (whole_at lo hi) (spot self.old.bits.position self.old.nodes) }
+            (whole_at true lo hi) (spot self.old.bits.position self.old.nodes) }
         ensures failed { IsErrOf result Fault.Failed → HasRisen K.faults (S.faults self.new.bits.source.now) }
     {
         match (lo, hi) {

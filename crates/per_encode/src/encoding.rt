@@ -2,11 +2,12 @@
 ghost use Rattle.std.specs.Prelude.{◌≡◌, IfOk};
 ghost use Rattle.bit_cursor.specs.Bits.{octet_bits};
 ghost use Rattle.asn_types.specs.Values.{In};
-ghost use Rattle.per_fields.specs.Encoding.{completed, complete};
+ghost use Rattle.per_fields.specs.Encoding.{completed, complete, complete_by};
 
 use crate::nodes::put_node;
 use asn_types::Module;
 use bit_cursor::BitSink;
+use per_fields::{Aligned, Variant};
 use simple_types::Value;
 use std::alloc::Global;
 use xa_base::Memory;
@@ -22,17 +23,30 @@ fn whole_octets(sink: BitSink) -> Result<Vec<u8>, Memory>
     Ok(octets)
 }
 
-/// The complete encoding of a value of the type of the assignment with this number (X.691, clause 11.1): whole octets, and
-/// one zero octet where the value has no bits.
+/// The complete encoding of a value of the type of the assignment with this number, in one of the two variants (X.691, clause
+/// 11.1): whole octets, and one zero octet where the value has no bits.
 ///
 /// It goes through the value once, and the time is linear in the value and its octets.
-pub fn encode(alloc: Global, module: &Module, t: u32, value: &Value) -> Result<Vec<u8>, Memory>
+pub fn encode_by<V: Variant>(
+    alloc: Global,
+    module: &Module,
+    t: u32,
+    value: &Value,
+) -> Result<Vec<u8>, Memory>
     requires { In module.now t value.now }
-    ensures { IfOk result (λ octets. octet_bits octets.items ≡ complete module.now t value.now) }
+    ensures { IfOk result (λ octets. octet_bits octets.items ≡ complete_by V.ALIGNED module.now t value.now) }
 {
     let mut sink = BitSink::new(alloc);
     let body = module.assignment(t).body.root();
     let root = value.root();
-    put_node(&mut sink, module, body, &root)?;
+    put_node::<V>(&mut sink, module, body, &root)?;
     whole_octets(sink)
+}
+
+/// The same, aligned.
+pub fn encode(alloc: Global, module: &Module, t: u32, value: &Value) -> Result<Vec<u8>, Memory>
+    requires { In module.now t value.now }
+    ensures { IfOk result (λ octets. octet_bits octets.items ≡ complete module.now t value.now) }
+{
+    encode_by::<Aligned>(alloc, module, t, value)
 }

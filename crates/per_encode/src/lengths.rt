@@ -1,9 +1,10 @@
 //! General lengths and the heads of fragments (X.691, clause 11.9).
 ghost use Rattle.std.specs.Prelude.{◌≡◌, ◌<◌, ◌≤◌, ◌++◌, OnOk, length};
-ghost use Rattle.per_fields.specs.Fields.{Last, Units, length_bits};
+ghost use Rattle.per_fields.specs.Fields.{Last, Units, gap_bits, length_bits};
 ghost use Rattle.per_fields.specs.Private.Heads.{head_bits};
 
 use bit_cursor::BitSink;
+use per_fields::Variant;
 use xa_base::Memory;
 
 /// The octets or items of one unit of a fragment.
@@ -21,20 +22,30 @@ pub(crate) fn put_length(sink: &mut BitSink, n: usize) -> Result<(), Memory>
     }
 }
 
-/// The last length, behind its padding.
-pub(crate) fn put_last_length(sink: &mut BitSink, n: usize) -> Result<(), Memory>
-    requires { n < 16384 }
-    ensures { OnOk result (sink.new ≡ sink.old ++ head_bits (Last n) (length sink.old)) }
+/// What is before a field that begins at an octet in the aligned variant.
+pub(crate) fn put_gap<V: Variant>(sink: &mut BitSink) -> Result<(), Memory>
+    ensures { OnOk result (sink.new ≡ sink.old ++ gap_bits V.ALIGNED (length sink.old)) }
 {
-    sink.align()?;
+    if V::ALIGNED {
+        sink.align()?;
+    }
+    Ok(())
+}
+
+/// The last length, behind what is before it.
+pub(crate) fn put_last_length<V: Variant>(sink: &mut BitSink, n: usize) -> Result<(), Memory>
+    requires { n < 16384 }
+    ensures { OnOk result (sink.new ≡ sink.old ++ head_bits V.ALIGNED (Last n) (length sink.old)) }
+{
+    put_gap::<V>(sink)?;
     put_length(sink, n)
 }
 
-/// The head of a fragment of so many units, behind its padding.
-pub(crate) fn put_units(sink: &mut BitSink, units: usize) -> Result<(), Memory>
+/// The head of a fragment of so many units, behind what is before it.
+pub(crate) fn put_units<V: Variant>(sink: &mut BitSink, units: usize) -> Result<(), Memory>
     requires { units ≤ 4 }
-    ensures { OnOk result (sink.new ≡ sink.old ++ head_bits (Units units) (length sink.old)) }
+    ensures { OnOk result (sink.new ≡ sink.old ++ head_bits V.ALIGNED (Units units) (length sink.old)) }
 {
-    sink.align()?;
+    put_gap::<V>(sink)?;
     sink.put_bits(192 + units as u64, 8)
 }

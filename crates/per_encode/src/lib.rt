@@ -1,6 +1,6 @@
-//! Values to canonical aligned PER (X.691).
+//! Values to canonical PER, aligned or not (X.691).
 //!
-//! Read first: `specs/Encoding` of `per_fields`, then `encode` in `src/encoding.rt`.
+//! Read first: `specs/Encoding` of `per_fields`, then `encode_by` in `src/encoding.rt`.
 #![tactic(auto)]
 
 mod encoding;
@@ -11,4 +11,4 @@ mod numbers;
 mod texts;
 mod whole_numbers;
 
-pub use encoding::encode;
+pub use encoding::{encode, encode_by};

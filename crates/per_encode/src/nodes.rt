@@ -15,12 +15,13 @@ use asn_types::{Form, Module, TypeLabel, resolve};
 use bit_cursor::BitSink;
 use flat_tree::{Kids, Node};
 use label_tree::Tree;
+use per_fields::Variant;
 use simple_types::ValueLabel;
 use xa_base::Memory;
 
 // The components of a SEQUENCE that are present.
 #[cycle(encoding)]
-fn put_parts(
+fn put_parts<V: Variant>(
     sink: &mut BitSink,
     module: &Module,
     types: &[Tree<TypeLabel>],
@@ -29,13 +30,13 @@ fn put_parts(
 ) -> Result<(), Memory>
     requires types { length present.now ≤ length types.now }
     requires fit { AllFit module.now (chosen types.now present.now) values.now }
-    ensures { OnOk result (sink.new ≡ sink.old ++ in_turn (writers module.now (chosen types.now present.now) values.now) (length sink.old)) }
+    ensures { OnOk result (sink.new ≡ sink.old ++ in_turn (writers V.ALIGNED module.now (chosen types.now present.now) values.now) (length sink.old)) }
 {
     let mut left = values.again();
     'parts: for i in 0..present.len() {
         if present[i] {
             match left.next() {
-                Some(value) => put_node(sink, module, &types[i], &value)?,
+                Some(value) => put_node::<V>(sink, module, &types[i], &value)?,
                 None => unreachable!(),
             }
         }
@@ -45,7 +46,7 @@ fn put_parts(
 
 // So many items, one behind the other, which it takes.
 #[cycle(encoding)]
-fn put_items(
+fn put_items<V: Variant>(
     sink: &mut BitSink,
     module: &Module,
     node: &Tree<TypeLabel>,
@@ -54,12 +55,12 @@ fn put_items(
 ) -> Result<(), Memory>
     requires within { n ≤ length values.old }
     requires fit { AllOf (FitsSomewhere module.now node.now) values.old }
-    ensures sink { OnOk result (sink.new ≡ sink.old ++ in_turn (map (per module.now node.now) (take n values.old)) (length sink.old)) }
+    ensures sink { OnOk result (sink.new ≡ sink.old ++ in_turn (map (per V.ALIGNED module.now node.now) (take n values.old)) (length sink.old)) }
     ensures rest { OnOk result (values.new ≡ drop n values.old) }
 {
     'items: for _ in 0..n {
         match values.next() {
-            Some(value) => put_node(sink, module, node, &value)?,
+            Some(value) => put_node::<V>(sink, module, node, &value)?,
             None => unreachable!(),
         }
     }
@@ -68,31 +69,31 @@ fn put_items(
 
 // Items behind general lengths, in fragments (clause 11.9).
 #[cycle(encoding)]
-fn put_fragments(
+fn put_fragments<V: Variant>(
     sink: &mut BitSink,
     module: &Module,
     node: &Tree<TypeLabel>,
     values: &Kids<'_, ValueLabel>,
 ) -> Result<(), Memory>
     requires { AllOf (FitsSomewhere module.now node.now) values.now }
-    ensures { OnOk result (sink.new ≡ sink.old ++ counted_bits (map (per module.now node.now) values.now) (length sink.old)) }
+    ensures { OnOk result (sink.new ≡ sink.old ++ counted_bits V.ALIGNED (map (per V.ALIGNED module.now node.now) values.now) (length sink.old)) }
 {
     let mut left = values.again();
     let mut count = left.len();
     'fragments: while UNIT <= count {
         let units = (count / UNIT).min(4);
-        put_units(sink, units)?;
-        put_items(sink, module, node, &mut left, units * UNIT)?;
+        put_units::<V>(sink, units)?;
+        put_items::<V>(sink, module, node, &mut left, units * UNIT)?;
         count -= units * UNIT;
     }
-    put_last_length(sink, count)?;
-    put_items(sink, module, node, &mut left, count)
+    put_last_length::<V>(sink, count)?;
+    put_items::<V>(sink, module, node, &mut left, count)
 }
 
 // The items of a SEQUENCE OF behind their count (clause 20).
 #[tactic(auto, unfolding(per_fields::specs::Fields::list_bits))]
 #[cycle(encoding)]
-fn put_list(
+fn put_list<V: Variant>(
     sink: &mut BitSink,
     module: &Module,
     node: &Tree<TypeLabel>,
@@ -103,29 +104,29 @@ fn put_list(
     requires least { min ≤ length values.now }
     requires most { is_at_most (length values.now) max ≡ true }
     requires fit { AllOf (FitsSomewhere module.now node.now) values.now }
-    ensures { OnOk result (sink.new ≡ sink.old ++ list_bits min max (map (per module.now node.now) values.now) (length sink.old)) }
+    ensures { OnOk result (sink.new ≡ sink.old ++ list_bits V.ALIGNED min max (map (per V.ALIGNED module.now node.now) values.now) (length sink.old)) }
 {
     match max {
         Some(max) if max < 65_536 => {
             let count = values.len();
-            put_number(sink, u128::from(max - min), (count - min as usize) as u128)?;
+            put_number::<V>(sink, u128::from(max - min), (count - min as usize) as u128)?;
             let mut left = values.again();
-            put_items(sink, module, node, &mut left, count)
+            put_items::<V>(sink, module, node, &mut left, count)
         }
-        _ => put_fragments(sink, module, node, values),
+        _ => put_fragments::<V>(sink, module, node, values),
     }
 }
 
 // A value of a type that is no reference.
 #[cycle(encoding)]
-fn put_content(
+fn put_content<V: Variant>(
     sink: &mut BitSink,
     module: &Module,
     node: &Tree<TypeLabel>,
     value: &Node<'_, ValueLabel>,
 ) -> Result<(), Memory>
     requires { KidsFit module.now node.now value.now }
-    ensures { OnOk result (sink.new ≡ sink.old ++ resolved_bits module.now node.now value.now (length sink.old)) }
+    ensures { OnOk result (sink.new ≡ sink.old ++ resolved_bits V.ALIGNED module.now node.now value.now (length sink.old)) }
 {
     let label = value.label();
     match &node.label().form {
@@ -134,19 +135,19 @@ fn put_content(
             _ => unreachable!(),
         },
         Form::Int { lo, hi } => match label {
-            ValueLabel::Int(number) => put_whole(sink, *lo, *hi, *number),
+            ValueLabel::Int(number) => put_whole::<V>(sink, *lo, *hi, *number),
             _ => unreachable!(),
         },
         Form::Numbers { numbers } => match label {
-            ValueLabel::Enum(i) => put_index(sink, numbers.items().len(), *i),
+            ValueLabel::Enum(i) => put_index::<V>(sink, numbers.items().len(), *i),
             _ => unreachable!(),
         },
         Form::Words { words, .. } => match label {
-            ValueLabel::Enum(i) => put_index(sink, words.items().len(), *i),
+            ValueLabel::Enum(i) => put_index::<V>(sink, words.items().len(), *i),
             _ => unreachable!(),
         },
         Form::Utf8 { .. } => match label {
-            ValueLabel::Utf8(text) => put_text(sink, text.bytes()),
+            ValueLabel::Utf8(text) => put_text::<V>(sink, text.bytes()),
             _ => unreachable!(),
         },
         Form::Sequence { parts } => match label {
@@ -156,17 +157,17 @@ fn put_content(
                 let types = node.kids();
                 let values = value.kids();
                 put_flags(sink, components, present)?;
-                put_parts(sink, module, types, present, &values)
+                put_parts::<V>(sink, module, types, present, &values)
             }
             _ => unreachable!(),
         },
         Form::Choice { parts } => match label {
             ValueLabel::Choice(i) => {
                 let alternatives = parts.items();
-                put_index(sink, alternatives.len(), *i)?;
+                put_index::<V>(sink, alternatives.len(), *i)?;
                 let alternative = node.kid(*i as usize);
                 let inner = value.kid(0);
-                put_node(sink, module, alternative, &inner)
+                put_node::<V>(sink, module, alternative, &inner)
             }
             _ => unreachable!(),
         },
@@ -174,7 +175,7 @@ fn put_content(
             ValueLabel::SequenceOf => {
                 let item = node.kid(0);
                 let items = value.kids();
-                put_list(sink, module, item, *min, *max, &items)
+                put_list::<V>(sink, module, item, *min, *max, &items)
             }
             _ => unreachable!(),
         },
@@ -184,14 +185,14 @@ fn put_content(
 
 /// The bits of a value of the type, or of that to which it refers.
 #[cycle(encoding)]
-pub(crate) fn put_node(
+pub(crate) fn put_node<V: Variant>(
     sink: &mut BitSink,
     module: &Module,
     node: &Tree<TypeLabel>,
     value: &Node<'_, ValueLabel>,
 ) -> Result<(), Memory>
     requires { FitsSomewhere module.now node.now value.now }
-    ensures { OnOk result (sink.new ≡ sink.old ++ per module.now node.now value.now (length sink.old)) }
+    ensures { OnOk result (sink.new ≡ sink.old ++ per V.ALIGNED module.now node.now value.now (length sink.old)) }
 {
-    put_content(sink, module, resolve(module, node), value)
+    put_content::<V>(sink, module, resolve(module, node), value)
 }

@@ -5,6 +5,7 @@ ghost use Rattle.per_fields.specs.Widths.{width_of, more_of};
 ghost use Rattle.per_fields.specs.Fields.{large_bits, number_bits};
 
 use bit_cursor::BitSink;
+use per_fields::Variant;
 use xa_base::Memory;
 
 /// The number in so many bits.
@@ -61,14 +62,18 @@ fn put_large(sink: &mut BitSink, top: u128, number: u128) -> Result<(), Memory>
 
 /// A number of `0..=top`.
 #[tactic(auto, unfolding(per_fields::specs::Fields::number_bits))]
-pub(crate) fn put_number(sink: &mut BitSink, top: u128, number: u128) -> Result<(), Memory>
+pub(crate) fn put_number<V: Variant>(
+    sink: &mut BitSink,
+    top: u128,
+    number: u128,
+) -> Result<(), Memory>
     requires { number ≤ top }
-    ensures { OnOk result (sink.new ≡ sink.old ++ number_bits top number (length sink.old)) }
+    ensures { OnOk result (sink.new ≡ sink.old ++ number_bits V.ALIGNED top number (length sink.old)) }
 {
     if top == 0 {
         return Ok(());
     }
-    if top < 255 {
+    if !V::ALIGNED || top < 255 {
         return put_wide(sink, number, width(top));
     }
     if top < 256 {
@@ -81,9 +86,9 @@ pub(crate) fn put_number(sink: &mut BitSink, top: u128, number: u128) -> Result<
 }
 
 /// The number of one of so many items or alternatives.
-pub(crate) fn put_index(sink: &mut BitSink, count: usize, i: u32) -> Result<(), Memory>
+pub(crate) fn put_index<V: Variant>(sink: &mut BitSink, count: usize, i: u32) -> Result<(), Memory>
     requires { i < count }
-    ensures { OnOk result (sink.new ≡ sink.old ++ number_bits (count - 1) i (length sink.old)) }
+    ensures { OnOk result (sink.new ≡ sink.old ++ number_bits V.ALIGNED (count - 1) i (length sink.old)) }
 {
-    put_number(sink, count as u128 - 1, u128::from(i))
+    put_number::<V>(sink, count as u128 - 1, u128::from(i))
 }

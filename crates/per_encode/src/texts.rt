@@ -5,19 +5,20 @@ ghost use Rattle.per_fields.specs.Encoding.{octet_writer};
 
 use crate::lengths::{UNIT, put_last_length, put_units};
 use bit_cursor::BitSink;
+use per_fields::Variant;
 use xa_base::Memory;
 
 /// The octets of a text behind their lengths, in fragments (X.691, clause 11.9).
-pub(crate) fn put_text(sink: &mut BitSink, text: &[u8]) -> Result<(), Memory>
-    ensures { OnOk result (sink.new ≡ sink.old ++ counted_bits (map octet_writer text.now) (length sink.old)) }
+pub(crate) fn put_text<V: Variant>(sink: &mut BitSink, text: &[u8]) -> Result<(), Memory>
+    ensures { OnOk result (sink.new ≡ sink.old ++ counted_bits V.ALIGNED (map octet_writer text.now) (length sink.old)) }
 {
     let mut at: usize = 0;
     'fragments: while UNIT <= text.len() - at {
         let units = ((text.len() - at) / UNIT).min(4);
-        put_units(sink, units)?;
+        put_units::<V>(sink, units)?;
         sink.put_octets(&text[at..at + units * UNIT])?;
         at += units * UNIT;
     }
-    put_last_length(sink, text.len() - at)?;
+    put_last_length::<V>(sink, text.len() - at)?;
     sink.put_octets(&text[at..])
 }

@@ -4,9 +4,10 @@ ghost use Rattle.simple_values.specs.Lexical.{is_from, is_to};
 ghost use Rattle.per_fields.specs.Widths.{distance, magnitude, complement, more_signed};
 ghost use Rattle.per_fields.specs.Fields.{from_bits, signed_bits, whole_bits};
 
-use crate::lengths::put_length;
+use crate::lengths::{put_gap, put_length};
 use crate::numbers::{octets_behind, put_number, put_wide, width};
 use bit_cursor::BitSink;
+use per_fields::Variant;
 use xa_base::Memory;
 
 // How far a number is above a lower one.
@@ -47,13 +48,13 @@ fn complement(width: u32, number: i128) -> u128
 }
 
 // A number from a least one, without a greatest: the length of its octets, and these (clause 11.7).
-fn put_from(sink: &mut BitSink, least: i128, number: i128) -> Result<(), Memory>
+fn put_from<V: Variant>(sink: &mut BitSink, least: i128, number: i128) -> Result<(), Memory>
     requires { int_le least number ≡ true }
-    ensures { OnOk result (sink.new ≡ sink.old ++ from_bits least number (length sink.old)) }
+    ensures { OnOk result (sink.new ≡ sink.old ++ from_bits V.ALIGNED least number (length sink.old)) }
 {
     let distance = distance(least, number);
     let behind = octets_behind(distance);
-    sink.align()?;
+    put_gap::<V>(sink)?;
     put_length(sink, behind as usize + 1)?;
     put_wide(sink, distance, 8 * (behind + 1))
 }
@@ -68,19 +69,19 @@ fn signed_octets_behind(number: i128) -> u32
 }
 
 // A number without a least one, in two's complement (clause 11.8).
-fn put_signed(sink: &mut BitSink, number: i128) -> Result<(), Memory>
-    ensures { OnOk result (sink.new ≡ sink.old ++ signed_bits number (length sink.old)) }
+fn put_signed<V: Variant>(sink: &mut BitSink, number: i128) -> Result<(), Memory>
+    ensures { OnOk result (sink.new ≡ sink.old ++ signed_bits V.ALIGNED number (length sink.old)) }
 {
     let behind = signed_octets_behind(number);
     let width = 8 * (behind + 1);
-    sink.align()?;
+    put_gap::<V>(sink)?;
     put_length(sink, behind as usize + 1)?;
     put_wide(sink, complement(width, number), width)
 }
 
 /// A number of an INTEGER within these bounds.
 #[tactic(auto, unfolding(per_fields::specs::Fields::whole_bits))]
-pub(crate) fn put_whole(
+pub(crate) fn put_whole<V: Variant>(
     sink: &mut BitSink,
     least: Option<i128>,
     greatest: Option<i128>,
@@ -88,13 +89,13 @@ pub(crate) fn put_whole(
 ) -> Result<(), Memory>
     requires least { is_from least number ≡ true }
     requires greatest { is_to greatest number ≡ true }
-    ensures { OnOk result (sink.new ≡ sink.old ++ whole_bits least greatest number (length sink.old)) }
+    ensures { OnOk result (sink.new ≡ sink.old ++ whole_bits V.ALIGNED least greatest number (length sink.old)) }
 {
     match (least, greatest) {
         (Some(least), Some(greatest)) => {
-            put_number(sink, distance(least, greatest), distance(least, number))
+            put_number::<V>(sink, distance(least, greatest), distance(least, number))
         }
-        (Some(least), None) => put_from(sink, least, number),
-        (None, _) => put_signed(sink, number),
+        (Some(least), None) => put_from::<V>(sink, least, number),
+        (None, _) => put_signed::<V>(sink, number),
     }
 }

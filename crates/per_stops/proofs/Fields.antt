@@ -10,15 +10,15 @@ use Rattle.per_fields.specs.declared.stops.Why.{Why}
 use Rattle.per_fields.specs.declared.stops.Why.TheVariants.{Short, Padding, NotShortest, Range, TooWide}
 use Rattle.per_fields.specs.Widths.{width_of, more_of, distance, raised, more_signed, signed_of}
 use Rattle.per_fields.specs.Reading.{◌>>=◌, Reader, stop_at, moved, stop_if, bits_at, align_at, each_at}
-use Rattle.per_fields.specs.Fields.{then_bits, length_bits, within_at, aligned_at, large_octets_at, large_at, number_at, Piece, Last, Units, length_from, length_here, is_out, count_here, count_at, octet_count_here, octet_count_at, from_octets_at, from_at, signed_octets_at, signed_at, ranged_at, whole_at}
+use Rattle.per_fields.specs.Fields.{then_bits, skip_at, gap_bits, length_bits, within_at, aligned_at, large_octets_at, large_at, number_at, Piece, Last, Units, length_from, length_here, is_out, count_here, count_at, octet_count_here, octet_count_at, from_octets_at, from_at, signed_octets_at, signed_at, ranged_at, whole_at}
 use Rattle.per_fields.specs.Codec.{Came, Field}
 use Rattle.per_fields.specs.Private.Heads.{piece_bits}
 use Rattle.per_fields.specs.Nodes.{flag_at, last_by, last_at}
 use Rattle.per_fields.proofs.Codecs.{align_field, with_spot, stop_ok, ok_is, check_codec, then_codec, other_words}
 use Rattle.per_fields.proofs.WidthLaws.{width_fits}
-use Rattle.per_fields.proofs.NumberLaws.{within_field}
+use Rattle.per_fields.proofs.NumberLaws.{within_field, skip_field}
 use Rattle.per_fields.proofs.Fragments.{IsPiece, length_field, count_field}
-use Rattle.per_stops.specs.Faults.{IsOne, IsAbove, FitsFewer, LargeFault, AboveFault, SignedFault, UnitsFault, CountFault, IsLength, length_octets, optional_count, AreBits, EndsWithin, BitsStop, PaddingStops, AlignedStops, LargeStops, NumberStops, LengthStops, CountStops, OctetCountStops, OctetsStop, WholeStops, FlagsStop, LastStops}
+use Rattle.per_stops.specs.Faults.{IsOne, IsAbove, FitsFewer, LargeFault, AboveFault, SignedFault, UnitsFault, CountFault, IsLength, length_octets, optional_count, AreBits, EndsWithin, BitsStop, PaddingStops, AlignedStops, GapStops, LargeStops, NumberStops, LengthStops, CountStops, OctetCountStops, OctetsStop, WholeStops, FlagsStop, LastStops}
 use Rattle.per_stops.proofs.Steps.{Iff, Inside, err_is, bind_err, err_bind, stop_err, err_stop, err_later, none_stops, then_told, bits_end, bits_then}
 
 -- A TEST OF A NUMBER finds just the faults
@@ -134,6 +134,12 @@ module _ (X : List Bool) where
       back (inl h) = inl h
       back (inr k) = inr (0, k.0, refl, k.1, k.2)
 
+  -- a field that begins at an octet, or right here
+  gap_told : {B : Type 0} (aligned : Bool) (f : Spot → Result B Stop) (Field : Spot → Stop → Type 0) (s : Spot) (stop : Stop) → Inside X s → ((r : Spot) → Inside X r → Iff (f r ≡ Err stop) (Field r stop))
+      → Iff ((skip_at aligned X s >>= λ a. f a.1) ≡ Err stop) (GapStops X aligned Field s stop)
+  gap_told true f Field s stop inside field = aligned_told f Field s stop inside field
+  gap_told false f Field s stop inside field = field s inside
+
   -- NUMBERS
   within_told : (top n : ℕ) (s : Spot) (stop : Stop) → Inside X s → Iff (within_at top n X s ≡ Err stop) (BitsStop X n (IsAbove top) s stop)
   unfolding within_at
@@ -160,9 +166,17 @@ module _ (X : List Bool) where
       (λ more r. AlignedStops X (λ q stop. BitsStop X (8 * (more + 1)) (LargeFault top more) q stop) r stop) s stop inside (within_told (more_of top) (width_of (more_of top)) s stop inside)
       (λ more r le in_. aligned_told (λ q. large_octets_at top more X q) (λ q stop. BitsStop X (8 * (more + 1)) (LargeFault top more) q stop) r stop in_ (λ q in_q. large_octets_told top more q stop in_q))
 
-  pub number_told : (top : ℕ) (s : Spot) (stop : Stop) → Inside X s → Iff (number_at top X s ≡ Err stop) (NumberStops X top s stop)
+  pub number_told : (aligned : Bool) (top : ℕ) (s : Spot) (stop : Stop) → Inside X s → Iff (number_at aligned top X s ≡ Err stop) (NumberStops X aligned top s stop)
   unfolding number_at
-  number_told top s stop inside =
+  number_told false top s stop inside = by (eqb top 0) (λ e. eqb-true top 0 e) (λ e. eqb-false top 0 e)
+    where
+      told : Iff (within_at top (width_of top) X s ≡ Err stop) (BitsStop X (width_of top) (IsAbove top) s stop)
+      told = within_told top (width_of top) s stop inside
+
+      by : (none : Bool) → (none ≡ true → top ≡ 0) → (none ≡ false → top ≡ 0 → ⊥) → Iff (cond none (with_spot {B = ℕ} 0 s) (within_at top (width_of top) X s) ≡ Err stop) (NumberStops X false top s stop)
+      by true is_none some = (λ e. none_stops 0 s stop e, λ k. absurd (omega (arith, is_none refl, k.0)))
+      by false is_none some = (λ e. (omega (arith, some refl), told.0 e), λ k. told.1 k.1)
+  number_told true top s stop inside =
       by (eqb top 0) (ltb top 255) (ltb top 256) (ltb top 65536) (λ e. eqb-true top 0 e) (λ e. eqb-false top 0 e) (λ e. ltb-true top 255 e) (λ e. ltb-false top 255 e) (λ e. ltb-true top 256 e) (λ e. ltb-false top 256 e)
       (λ e. ltb-true top 65536 e) (λ e. ltb-false top 65536 e)
     where
@@ -170,10 +184,10 @@ module _ (X : List Bool) where
       read_by none few octet two = cond none (with_spot {B = ℕ} 0 s) (cond few (within_at top (width_of top) X s) (cond octet (aligned_at top 8 X s) (cond two (aligned_at top 16 X s) (large_at top X s))))
 
       by : (none few octet two : Bool) → (none ≡ true → top ≡ 0) → (none ≡ false → top ≡ 0 → ⊥) → (few ≡ true → top < 255) → (few ≡ false → 255 ≤ top) → (octet ≡ true → top < 256) → (octet ≡ false → 256 ≤ top)
-          → (two ≡ true → top < 65536) → (two ≡ false → 65536 ≤ top) → Iff (read_by none few octet two ≡ Err stop) (NumberStops X top s stop)
+          → (two ≡ true → top < 65536) → (two ≡ false → 65536 ≤ top) → Iff (read_by none few octet two ≡ Err stop) (NumberStops X true top s stop)
       by true few octet two is_none some f f' o o' t t' = (λ e. none_stops 0 s stop e, back)
         where
-          back : NumberStops X top s stop → with_spot {B = ℕ} 0 s ≡ Err stop
+          back : NumberStops X true top s stop → with_spot {B = ℕ} 0 s ≡ Err stop
           back (inl k) = absurd (omega (arith, is_none refl, k.0))
           back (inr (inl k)) = absurd (omega (arith, is_none refl, k.0))
           back (inr (inr (inl k))) = absurd (omega (arith, is_none refl, k.0))
@@ -183,7 +197,7 @@ module _ (X : List Bool) where
           told : Iff (within_at top (width_of top) X s ≡ Err stop) (BitsStop X (width_of top) (IsAbove top) s stop)
           told = within_told top (width_of top) s stop inside
 
-          back : NumberStops X top s stop → within_at top (width_of top) X s ≡ Err stop
+          back : NumberStops X true top s stop → within_at top (width_of top) X s ≡ Err stop
           back (inl k) = told.1 k.2
           back (inr (inl k)) = absurd (omega (arith, f refl, k.0))
           back (inr (inr (inl k))) = absurd (omega (arith, f refl, k.0))
@@ -193,7 +207,7 @@ module _ (X : List Bool) where
           told : Iff (aligned_at top 8 X s ≡ Err stop) (AlignedStops X (λ r stop. BitsStop X 8 (IsAbove top) r stop) s stop)
           told = aligned_number_told top 8 s stop inside
 
-          back : NumberStops X top s stop → aligned_at top 8 X s ≡ Err stop
+          back : NumberStops X true top s stop → aligned_at top 8 X s ≡ Err stop
           back (inl k) = absurd (omega (arith, f' refl, k.1))
           back (inr (inl k)) = told.1 k.1
           back (inr (inr (inl k))) = absurd (omega (arith, o refl, k.0))
@@ -203,7 +217,7 @@ module _ (X : List Bool) where
           told : Iff (aligned_at top 16 X s ≡ Err stop) (AlignedStops X (λ r stop. BitsStop X 16 (IsAbove top) r stop) s stop)
           told = aligned_number_told top 16 s stop inside
 
-          back : NumberStops X top s stop → aligned_at top 16 X s ≡ Err stop
+          back : NumberStops X true top s stop → aligned_at top 16 X s ≡ Err stop
           back (inl k) = absurd (omega (arith, f' refl, k.1))
           back (inr (inl k)) = absurd (omega (arith, o' refl, k.0))
           back (inr (inr (inl k))) = told.1 k.2
@@ -213,7 +227,7 @@ module _ (X : List Bool) where
           told : Iff (large_at top X s ≡ Err stop) (LargeStops X top s stop)
           told = large_told top s stop inside
 
-          back : NumberStops X top s stop → large_at top X s ≡ Err stop
+          back : NumberStops X true top s stop → large_at top X s ≡ Err stop
           back (inl k) = absurd (omega (arith, f' refl, k.1))
           back (inr (inl k)) = absurd (omega (arith, o' refl, k.0))
           back (inr (inr (inl k))) = absurd (omega (arith, t' refl, k.1))
@@ -322,14 +336,14 @@ module _ (X : List Bool) where
         from (Last n) h = h
         from (Units k) h = h
 
-    module _ (least : ℕ) (most : Option ℕ) (total : ℕ) where
-      pub count_codec : Field (λ n. IsLength before n × (is_out least most total n ≡ false)) (λ n p. then_bits (padding p) (λ q. length_octets n) p) (count_at least most before total)
+    module _ (aligned : Bool) (least : ℕ) (most : Option ℕ) (total : ℕ) where
+      pub count_codec : Field (λ n. IsLength before n × (is_out least most total n ≡ false)) (λ n p. then_bits (gap_bits aligned p) (λ q. length_octets n) p) (count_at aligned least most before total)
       count_codec =
           other_words (λ n. IsPiece before n × (is_out least most total n ≡ false)) (λ n. IsLength before n × (is_out least most total n ≡ false)) (λ n. 0) (λ n. 0)
-          (λ n p. then_bits (padding p) (λ q. piece_bits n) p) (λ n p. then_bits (padding p) (λ q. length_octets n) p) (count_at least most before total) (count_field least most before total) to from
+          (λ n p. then_bits (gap_bits aligned p) (λ q. piece_bits n) p) (λ n p. then_bits (gap_bits aligned p) (λ q. length_octets n) p) (count_at aligned least most before total) (count_field aligned least most before total) to from
         where
           to : (n : Piece) → IsLength before n × (is_out least most total n ≡ false)
-              → (IsPiece before n × (is_out least most total n ≡ false)) × Weighs 0 0 × ((p : ℕ) → then_bits (padding p) (λ q. length_octets n) p ≡ then_bits (padding p) (λ q. piece_bits n) p)
+              → (IsPiece before n × (is_out least most total n ≡ false)) × Weighs 0 0 × ((p : ℕ) → then_bits (gap_bits aligned p) (λ q. length_octets n) p ≡ then_bits (gap_bits aligned p) (λ q. piece_bits n) p)
           to (Last n) h = (h, refl, λ p. refl)
           to (Units k) h = (h, refl, λ p. refl)
 
@@ -368,10 +382,10 @@ module _ (X : List Bool) where
           back (inl h) = inl h
           back (inr k) = inr (k.0, k.1, k.2, k.3, (k.4, k.5))
 
-      pub count_told : (s : Spot) (stop : Stop) → Inside X s → Iff (count_at least most before total X s ≡ Err stop) (CountStops X least most before total s stop)
+      pub count_told : (s : Spot) (stop : Stop) → Inside X s → Iff (count_at aligned least most before total X s ≡ Err stop) (CountStops X aligned least most before total s stop)
       unfolding count_at
       count_told s stop inside =
-          aligned_told (λ r. count_here least most before total X r) (λ r stop. LengthStops X before r stop ⊎ CountOut r stop) s stop inside (λ r in_. count_here_told r stop in_)
+          gap_told aligned (λ r. count_here least most before total X r) (λ r stop. LengthStops X before r stop ⊎ CountOut r stop) s stop inside (λ r in_. count_here_told r stop in_)
 
   -- WHOLE NUMBERS
   abbrev check_count : Spot → Piece × Spot → Result (ℕ × Spot) Stop
@@ -402,11 +416,11 @@ module _ (X : List Bool) where
               let is : k - 1 + 1 ≡ k = omega (arith, some) in
               subst (λ (z : ℕ × Spot). (z.0 < 16) × (Last (z.0 + 1) ≡ Last k) × (z.1 ≡ r)) (ok_is (k - 1, r) y h.1) (omega (arith, le, some), ap Last is, refl)
 
-  octet_count_codec : Field (λ more. more < 16) (λ more p. then_bits (padding p) (λ q. length_bits (more + 1)) p) octet_count_at
+  octet_count_codec : (aligned : Bool) → Field (λ more. more < 16) (λ more p. then_bits (gap_bits aligned p) (λ q. length_bits (more + 1)) p) (octet_count_at aligned)
   unfolding octet_count_at
-  octet_count_codec =
-      then_codec (λ a. a ≡ 0) (λ a. 0) (λ a p. padding p) align_at (λ more. more < 16) (λ more. 0) (λ more q. length_bits (more + 1)) (λ a. octet_count_here) (λ more. 0)
-      align_field (λ more v. refl)
+  octet_count_codec aligned =
+      then_codec (λ a. a ≡ 0) (λ a. 0) (λ a p. gap_bits aligned p) (skip_at aligned) (λ more. more < 16) (λ more. 0) (λ more q. length_bits (more + 1)) (λ a. octet_count_here) (λ more. 0)
+      (skip_field aligned) (λ more v. refl)
       (λ a zero. other_words (λ more. more < 16) (λ more. (more < 16) × (0 ≡ a)) (λ more. 0) (λ more. 0) (λ more q. length_bits (more + 1)) (λ more q. length_bits (more + 1)) octet_count_here octet_count_here_codec
       (λ more v. (v.0, refl, λ p. refl)) (λ more v. (v, sym zero)))
 
@@ -445,17 +459,17 @@ module _ (X : List Bool) where
       back (inl h) = inl h
       back (inr k) = inr (k.0, k.2, k.3, k.4, (k.1, k.5, k.6))
 
-  octet_count_told : (s : Spot) (stop : Stop) → Inside X s → Iff (octet_count_at X s ≡ Err stop) (OctetCountStops X s stop)
+  octet_count_told : (aligned : Bool) (s : Spot) (stop : Stop) → Inside X s → Iff (octet_count_at aligned X s ≡ Err stop) (OctetCountStops X aligned s stop)
   unfolding octet_count_at
-  octet_count_told s stop inside = aligned_told (λ r. octet_count_here X r) (λ r stop. LengthStops X 4 r stop ⊎ CountBad r stop) s stop inside (λ r in_. octet_count_here_told r stop in_)
+  octet_count_told aligned s stop inside = gap_told aligned (λ r. octet_count_here X r) (λ r stop. LengthStops X 4 r stop ⊎ CountBad r stop) s stop inside (λ r in_. octet_count_here_told r stop in_)
 
   -- the length of a number, and its octets
-  counted_told : (Fault : ℕ → ℕ → Why → Type 0) (read : ℕ → Reader ℤ) (s : Spot) (stop : Stop) → Inside X s
+  counted_told : (aligned : Bool) (Fault : ℕ → ℕ → Why → Type 0) (read : ℕ → Reader ℤ) (s : Spot) (stop : Stop) → Inside X s
       → ((more : ℕ) (r : Spot) → Inside X r → Iff (read more X r ≡ Err stop) (BitsStop X (8 * (more + 1)) (Fault more) r stop))
-      → Iff ((octet_count_at X s >>= λ more. read more.0 X more.1) ≡ Err stop) (OctetsStop X Fault s stop)
-  counted_told Fault read s stop inside octets =
-      then_told X (λ more. more < 16) (λ more. 0) (λ more p. then_bits (padding p) (λ q. length_bits (more + 1)) p) octet_count_at octet_count_codec (λ more. read more.0 X more.1) (OctetCountStops X s stop)
-      (λ more r. BitsStop X (8 * (more + 1)) (Fault more) r stop) s stop inside (octet_count_told s stop inside) (λ more r lt in_. octets more r in_)
+      → Iff ((octet_count_at aligned X s >>= λ more. read more.0 X more.1) ≡ Err stop) (OctetsStop X aligned Fault s stop)
+  counted_told aligned Fault read s stop inside octets =
+      then_told X (λ more. more < 16) (λ more. 0) (λ more p. then_bits (gap_bits aligned p) (λ q. length_bits (more + 1)) p) (octet_count_at aligned) (octet_count_codec aligned) (λ more. read more.0 X more.1) (OctetCountStops X aligned s stop)
+      (λ more r. BitsStop X (8 * (more + 1)) (Fault more) r stop) s stop inside (octet_count_told aligned s stop inside) (λ more r lt in_. octets more r in_)
 
   from_octets_told : (least : ℤ) (more : ℕ) (s : Spot) (stop : Stop) → Inside X s → Iff (from_octets_at least more X s ≡ Err stop) (BitsStop X (8 * (more + 1)) (AboveFault least more) s stop)
   unfolding from_octets_at
@@ -473,14 +487,14 @@ module _ (X : List Bool) where
       (λ x r stop. let z = signed_of (8 * (more + 1)) x in
       two_tests (ltb (more_signed z) more) (not (is_to greatest z)) (more_signed z < more) (more ≤ more_signed z) (is_to greatest z ≡ false) NotShortest Range s.at z r stop (above (more_signed z) more) (not_above (more_signed z) more) (no_fact (is_to greatest z)))
 
-  pub whole_told : (least greatest : Option ℤ) (s : Spot) (stop : Stop) → Inside X s → Iff (whole_at least greatest X s ≡ Err stop) (WholeStops X least greatest s stop)
+  pub whole_told : (aligned : Bool) (least greatest : Option ℤ) (s : Spot) (stop : Stop) → Inside X s → Iff (whole_at aligned least greatest X s ≡ Err stop) (WholeStops X aligned least greatest s stop)
   unfolding whole_at ranged_at from_at signed_at
-  whole_told (Some least) (Some greatest) s stop inside =
-      let n = number_told (distance least greatest) s stop inside in
-      let m = map_told (number_at (distance least greatest) X s) (raised least) stop in
+  whole_told aligned (Some least) (Some greatest) s stop inside =
+      let n = number_told aligned (distance least greatest) s stop inside in
+      let m = map_told (number_at aligned (distance least greatest) X s) (raised least) stop in
       (λ e. n.0 (m.0 e), λ h. m.1 (n.1 h))
-  whole_told (Some least) None s stop inside = counted_told (AboveFault least) (from_octets_at least) s stop inside (λ more r in_. from_octets_told least more r stop in_)
-  whole_told None greatest s stop inside = counted_told (SignedFault greatest) (signed_octets_at greatest) s stop inside (λ more r in_. signed_octets_told greatest more r stop in_)
+  whole_told aligned (Some least) None s stop inside = counted_told aligned (AboveFault least) (from_octets_at least) s stop inside (λ more r in_. from_octets_told least more r stop in_)
+  whole_told aligned None greatest s stop inside = counted_told aligned (SignedFault greatest) (signed_octets_at greatest) s stop inside (λ more r in_. signed_octets_told greatest more r stop in_)
 
   -- PRESENCE BITS
   bits_fit : (begin n : ℕ) (s : Spot) → s.at + n ≤ length X → bits_at begin n X s ≡ with_spot (number (take n (drop s.at X))) (moved s n 0)

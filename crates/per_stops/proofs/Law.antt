@@ -10,11 +10,11 @@ use Rattle.asn_types.specs.Modules.{IsModule}
 use Rattle.asn_types.proofs.Inside.{body-of}
 use Rattle.per_fields.specs.declared.stops.Spot.{Spot}
 use Rattle.per_fields.specs.declared.stops.Stop.{Stop}
-use Rattle.per_fields.specs.Laws.{reading_of, Stops}
+use Rattle.per_fields.specs.Laws.{reading_by, StopsBy}
 use Rattle.per_fields.specs.Nodes.{whole_of}
 use Rattle.per_fields.proofs.Law as law
-use Rattle.per_stops.specs.Laws.{StopsAsRead, OneOfTwo}
-use Rattle.per_stops.specs.Stopping.{RootStops, StopsFirst}
+use Rattle.per_stops.specs.Laws.{StopsAsReadBy, OneOfTwoBy}
+use Rattle.per_stops.specs.Stopping.{RootStops, StopsFirstBy}
 use Rattle.per_stops.proofs.Steps.{Iff}
 use Rattle.per_stops.proofs.Nodes.{root_told}
 
@@ -26,29 +26,29 @@ some_assigned (a ∷ others) (suc t) h = some_assigned others t (omega arith)
 some_is : {A : Type 0} (x y : A) → Some x ≡ Some y → x ≡ y
 some_is x y e = cc
 
-module _ (M : List Assignment) (is : IsModule M) (bounded : IsBounded M) (t : ℕ) (a : Assignment) (at : slice_get M t ≡ Some a) (X : List Bool) (stop : Stop) where
-  read_is : reading_of M t X ≡ Some (whole_of M a.body X)
-  read_is = ap (λ (o : Option Assignment). elim o as (λ _. Option (Result (Rose ValueLabel × Spot) Stop)) [ None ↦ None | Some b ↦ Some (whole_of M b.body X) ]) at
+module _ (aligned : Bool) (M : List Assignment) (is : IsModule M) (bounded : IsBounded M) (t : ℕ) (a : Assignment) (at : slice_get M t ≡ Some a) (X : List Bool) (stop : Stop) where
+  read_is : reading_by aligned M t X ≡ Some (whole_of aligned M a.body X)
+  read_is = ap (λ (o : Option Assignment). elim o as (λ _. Option (Result (Rose ValueLabel × Spot) Stop)) [ None ↦ None | Some b ↦ Some (whole_of aligned M b.body X) ]) at
 
   abbrev first_of_ : Option Assignment → Type 0
-  first_of_ o = elim o [ None ↦ ⊥ | Some b ↦ RootStops M X b.body stop ]
+  first_of_ o = elim o [ None ↦ ⊥ | Some b ↦ RootStops aligned M X b.body stop ]
 
-  as_read : Iff (Stops M t X stop) (StopsFirst M t X stop)
+  as_read : Iff (StopsBy aligned M t X stop) (StopsFirstBy aligned M t X stop)
   as_read =
-      let root = root_told M is bounded X a.body (body-of M t a at) stop in (
-        λ h. subst first_of_ (sym at) (root.0 (some_is (whole_of M a.body X) (Err stop) (sym read_is ∙ h))),
+      let root = root_told aligned M is bounded X a.body (body-of M t a at) stop in (
+        λ h. subst first_of_ (sym at) (root.0 (some_is (whole_of aligned M a.body X) (Err stop) (sym read_is ∙ h))),
         λ h. read_is ∙ ap Some (root.1 (subst first_of_ at h)),
       )
 
-pub stops_as_read : StopsAsRead
-stops_as_read M t octets is bounded h stop = let s = some_assigned M t h in as_read M is bounded t s.0 s.1 (octet_bits octets) stop
+pub stops_as_read : (aligned : Bool) → StopsAsReadBy aligned
+stops_as_read aligned M t octets is bounded h stop = let s = some_assigned M t h in as_read aligned M is bounded t s.0 s.1 (octet_bits octets) stop
 
-pub one_of_two : OneOfTwo
-one_of_two M t octets is bounded h =
+pub one_of_two : (aligned : Bool) → OneOfTwoBy aligned
+one_of_two aligned M t octets is bounded h =
     let X = octet_bits octets in
     record {
-      either = (elim (law.either M t octets is bounded h) [ inl b ↦ inl b | inr s ↦ inr (s.0, (stops_as_read M t octets is bounded h s.0).0 s.1) ]);
-      not_both = λ v stop b s. law.not_both M t octets is bounded h v stop b ((stops_as_read M t octets is bounded h stop).1 s);
-      one_value = law.one_value M t octets is bounded h;
-      one_stop = λ r s f g. law.one_stop M t octets is bounded h r s ((stops_as_read M t octets is bounded h r).1 f) ((stops_as_read M t octets is bounded h s).1 g);
+      either = (elim (law.either aligned M t octets is bounded h) [ inl b ↦ inl b | inr s ↦ inr (s.0, (stops_as_read aligned M t octets is bounded h s.0).0 s.1) ]);
+      not_both = λ v stop b s. law.not_both aligned M t octets is bounded h v stop b ((stops_as_read aligned M t octets is bounded h stop).1 s);
+      one_value = law.one_value aligned M t octets is bounded h;
+      one_stop = λ r s f g. law.one_stop aligned M t octets is bounded h r s ((stops_as_read aligned M t octets is bounded h r).1 f) ((stops_as_read aligned M t octets is bounded h s).1 g);
     }

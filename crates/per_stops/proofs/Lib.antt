@@ -4,4 +4,4 @@ mod Fragments
 mod Parts
 mod Types
 mod Nodes
-mod Law
+pub mod Law

@@ -84,13 +84,13 @@ octets_same v = (λ h. tt, λ h. tt)
 bounds_of : (t : Rose TypeLabel) → AreBounded t → HasBounds (label_of t).form
 bounds_of (node l ts) h = h.0
 
-module _ (M : List Assignment) (is : IsModule M) (bounded : IsBounded M) (X : List Bool) where
-  read_codec : (depth : ℕ) (t : Rose TypeLabel) → IsOf M t → Codec (FitsAt M depth t) node_count (per M t) (node_read M depth t)
-  read_codec depth t of = node_codec M is bounded (levels_needed M depth t) depth t (well-formed M t is of) (of-bounded M t of bounded) (of-tall M t of) (λ deep. omega arith)
+module _ (aligned : Bool) (M : List Assignment) (is : IsModule M) (bounded : IsBounded M) (X : List Bool) where
+  read_codec : (depth : ℕ) (t : Rose TypeLabel) → IsOf M t → Codec (FitsAt M depth t) node_count (per aligned M t) (node_read aligned M depth t)
+  read_codec depth t of = node_codec aligned M is bounded (levels_needed M depth t) depth t (well-formed M t is of) (of-bounded M t of bounded) (of-tall M t of) (λ deep. omega arith)
 
   module _ (depth : ℕ) (t : Rose TypeLabel) (of : IsOf M t) (s : Spot) (stop : Stop) where
     abbrev kid : ComponentPlace → Reader (Rose ValueLabel)
-    kid p = node_read M (below p.role depth) p.type
+    kid p = node_read aligned M (below p.role depth) p.type
 
     -- the rule of the node
     abbrev Rule : Rose ValueLabel → Spot → Type 0
@@ -125,35 +125,35 @@ module _ (M : List Assignment) (is : IsModule M) (bounded : IsBounded M) (X : Li
         back (inr h) = told.1 (NotAValue, inr (h.0, h.1, refl), h.2)
 
     abbrev FoundContent : Rose ValueLabel → Type 0
-    FoundContent v = Content M depth kid (label_of (resolve M t)) (kids_of (resolve M t)) (label_of (resolve M t)).form v
+    FoundContent v = Content aligned M depth kid (label_of (resolve M t)) (kids_of (resolve M t)) (label_of (resolve M t)).form v
 
     abbrev found_write : Rose ValueLabel → ℕ → List Bool
-    found_write v = content_write M depth kid (label_of (resolve M t)) (kids_of (resolve M t)) (label_of (resolve M t)).form v
+    found_write v = content_write aligned M depth kid (label_of (resolve M t)) (kids_of (resolve M t)) (label_of (resolve M t)).form v
 
-    fit_told : (v : Rose ValueLabel) → Iff (FoundContent v) (PartsFit M X depth t v)
+    fit_told : (v : Rose ValueLabel) → Iff (FoundContent v) (PartsFit aligned M X depth t v)
     fit_told (node l vs) = let o = octets_same l in (λ h. (h.0, o.0 h.1), λ h. (h.0, o.1 h.1))
 
-    same_write : (v : Rose ValueLabel) (p : ℕ) → per M t v p ≡ found_write v p
+    same_write : (v : Rose ValueLabel) (p : ℕ) → per aligned M t v p ≡ found_write v p
     unfolding per
     same_write (node l vs) p = refl
 
     count_is : (v : Rose ValueLabel) → node_count v ≡ suc (count_all (below_of v))
     count_is (node l vs) = refl
 
-    came_told : (v : Rose ValueLabel) (r : Spot) → s.nodes < most_nodes → Iff (Came X (moved s 0 1) r (found_write v (s.at + 0)) (count_all (below_of v))) (Came X s r (per M t v s.at) (node_count v))
+    came_told : (v : Rose ValueLabel) (r : Spot) → s.nodes < most_nodes → Iff (Came X (moved s 0 1) r (found_write v (s.at + 0)) (count_all (below_of v))) (Came X s r (per aligned M t v s.at) (node_count v))
     came_told v r few = (forth, back)
       where
         at : s.at + 0 ≡ s.at
         at = omega arith
 
-        forth : Came X (moved s 0 1) r (found_write v (s.at + 0)) (count_all (below_of v)) → Came X s r (per M t v s.at) (node_count v)
+        forth : Came X (moved s 0 1) r (found_write v (s.at + 0)) (count_all (below_of v)) → Came X s r (per aligned M t v s.at) (node_count v)
         forth c = record {
           taken = subst (λ m. Taken X s.at r.at m) (sym (same_write v s.at)) (subst (λ n. Taken X n r.at (found_write v n)) at c.taken);
           nodes = omega (arith, c.nodes, count_is v);
           few = λ h. c.few (omega (arith, few));
         }
 
-        back : Came X s r (per M t v s.at) (node_count v) → Came X (moved s 0 1) r (found_write v (s.at + 0)) (count_all (below_of v))
+        back : Came X s r (per aligned M t v s.at) (node_count v) → Came X (moved s 0 1) r (found_write v (s.at + 0)) (count_all (below_of v))
         back c = record {
           taken = subst (λ n. Taken X n r.at (found_write v n)) (sym at) (subst (λ m. Taken X s.at r.at m) (same_write v s.at) c.taken);
           nodes = omega (arith, c.nodes, count_is v);
@@ -163,15 +163,15 @@ module _ (M : List Assignment) (is : IsModule M) (bounded : IsBounded M) (X : Li
     -- THE NODE
     module _ (Kid Kid' : ComponentPlace → Spot → Stop → Type 0) where
       abbrev pub Known : Type 0
-      Known = EachKid (IsKnown M X depth kid Kid Kid') (label_of (resolve M t)) 0 (parts_of (label_of (resolve M t)).form) (kids_of (resolve M t))
+      Known = EachKid (IsKnown aligned M X depth kid Kid Kid') (label_of (resolve M t)) 0 (parts_of (label_of (resolve M t)).form) (kids_of (resolve M t))
 
       abbrev Inner : (ComponentPlace → Spot → Stop → Type 0) → Type 0
-      Inner K = ContentStops M X depth K (label_of (resolve M t)) (kids_of (resolve M t)) (label_of (resolve M t)).form (moved s 0 1) stop
+      Inner K = ContentStops aligned M X depth K (label_of (resolve M t)) (kids_of (resolve M t)) (label_of (resolve M t)).form (moved s 0 1) stop
 
       abbrev inner_read : Spot → Result (Rose ValueLabel × Spot) Stop
-      inner_read r = content_at kid (label_of (resolve M t)) (kids_of (resolve M t)) (label_of (resolve M t)).form X r >>= λ v. owned_at M s.at (resolve M t) v
+      inner_read r = content_at aligned kid (label_of (resolve M t)) (kids_of (resolve M t)) (label_of (resolve M t)).form X r >>= λ v. owned_at M s.at (resolve M t) v
 
-      inner_told : Inside X s → s.nodes < most_nodes → Known → Told (inner_read (moved s 0 1) ≡ Err stop) (Inner Kid ⊎ RuleStops M X depth t s stop) (Inner Kid' ⊎ RuleStops M X depth t s stop)
+      inner_told : Inside X s → s.nodes < most_nodes → Known → Told (inner_read (moved s 0 1) ≡ Err stop) (Inner Kid ⊎ RuleStops aligned M X depth t s stop) (Inner Kid' ⊎ RuleStops aligned M X depth t s stop)
       inner_told inside few known = (λ e. forth (told.0 e), λ h. told.1 (back h))
         where
           u : Rose TypeLabel
@@ -183,37 +183,37 @@ module _ (M : List Assignment) (is : IsModule M) (bounded : IsBounded M) (X : Li
           formed : AreWellFormed M (resolve M t)
           formed = well-formed M (resolve M t) is (resolved-of-module M t of)
 
-          codec : Codec FoundContent (λ v. count_all (below_of v)) found_write (content_at kid (label_of (resolve M t)) (kids_of (resolve M t)) (label_of (resolve M t)).form)
+          codec : Codec FoundContent (λ v. count_all (below_of v)) found_write (content_at aligned kid (label_of (resolve M t)) (kids_of (resolve M t)) (label_of (resolve M t)).form)
           codec =
-              content_codec M depth kid (label_of (resolve M t)) (kids_of (resolve M t)) (label_of (resolve M t)).form (form-well_formed M (resolve M t) formed)
+              content_codec aligned M depth kid (label_of (resolve M t)) (kids_of (resolve M t)) (label_of (resolve M t)).form (form-well_formed M (resolve M t) formed)
               (bounds_of (resolve M t) (of-bounded M (resolve M t) (resolved-of-module M t of) bounded))
-              (each_both (IsKnown M X depth kid Kid Kid') (IsKnown M X depth kid Kid Kid') (KidCodec M depth kid) (λ p k l. k.0) (label_of (resolve M t)) 0 (parts_of (label_of (resolve M t)).form) (kids_of (resolve M t)) known known)
+              (each_both (IsKnown aligned M X depth kid Kid Kid') (IsKnown aligned M X depth kid Kid Kid') (KidCodec aligned M depth kid) (λ p k l. k.0) (label_of (resolve M t)) 0 (parts_of (label_of (resolve M t)).form) (kids_of (resolve M t)) known known)
 
           told : Told (inner_read (moved s 0 1) ≡ Err stop)
               (Inner Kid ⊎ ((v : Rose ValueLabel) × (r : Spot) × FoundContent v × Came X (moved s 0 1) r (found_write v (s.at + 0)) (count_all (below_of v)) × Rule v r))
               (Inner Kid' ⊎ ((v : Rose ValueLabel) × (r : Spot) × FoundContent v × Came X (moved s 0 1) r (found_write v (s.at + 0)) (count_all (below_of v)) × Rule v r))
           told =
-              then_both X FoundContent (λ v. count_all (below_of v)) found_write (content_at kid (label_of (resolve M t)) (kids_of (resolve M t)) (label_of (resolve M t)).form) codec (λ v. owned_at M s.at (resolve M t) v)
+              then_both X FoundContent (λ v. count_all (below_of v)) found_write (content_at aligned kid (label_of (resolve M t)) (kids_of (resolve M t)) (label_of (resolve M t)).form) codec (λ v. owned_at M s.at (resolve M t) v)
               (Inner Kid) (Inner Kid') Rule Rule (moved s 0 1) stop inside_
-              (content_told M X depth kid Kid Kid' (label_of (resolve M t)) (kids_of (resolve M t)) (label_of (resolve M t)).form (form-well_formed M (resolve M t) formed) known (are-there M t is of) (moved s 0 1) stop inside_)
+              (content_told aligned M X depth kid Kid Kid' (label_of (resolve M t)) (kids_of (resolve M t)) (label_of (resolve M t)).form (form-well_formed M (resolve M t) formed) known (are-there M t is of) (moved s 0 1) stop inside_)
               (λ v r c in_. rule_told v r)
 
-          forth : Inner Kid ⊎ ((v : Rose ValueLabel) × (r : Spot) × FoundContent v × Came X (moved s 0 1) r (found_write v (s.at + 0)) (count_all (below_of v)) × Rule v r) → Inner Kid ⊎ RuleStops M X depth t s stop
+          forth : Inner Kid ⊎ ((v : Rose ValueLabel) × (r : Spot) × FoundContent v × Came X (moved s 0 1) r (found_write v (s.at + 0)) (count_all (below_of v)) × Rule v r) → Inner Kid ⊎ RuleStops aligned M X depth t s stop
           forth (inl h) = inl h
           forth (inr k) = inr (k.0, k.1, (fit_told k.0).0 k.2, (came_told k.0 k.1 few).0 k.3, k.4)
 
-          back : Inner Kid' ⊎ RuleStops M X depth t s stop → Inner Kid' ⊎ ((v : Rose ValueLabel) × (r : Spot) × FoundContent v × Came X (moved s 0 1) r (found_write v (s.at + 0)) (count_all (below_of v)) × Rule v r)
+          back : Inner Kid' ⊎ RuleStops aligned M X depth t s stop → Inner Kid' ⊎ ((v : Rose ValueLabel) × (r : Spot) × FoundContent v × Came X (moved s 0 1) r (found_write v (s.at + 0)) (count_all (below_of v)) × Rule v r)
           back (inl h) = inl h
           back (inr k) = inr (k.0, k.1, (fit_told k.0).1 k.2, (came_told k.0 k.1 few).1 k.3, k.4)
 
       abbrev Step : (ComponentPlace → Spot → Stop → Type 0) → Type 0
-      Step K = EntryStops depth s stop ⊎ (Enters depth s × Inner K) ⊎ (Enters depth s × RuleStops M X depth t s stop)
+      Step K = EntryStops depth s stop ⊎ (Enters depth s × Inner K) ⊎ (Enters depth s × RuleStops aligned M X depth t s stop)
 
-      node_told : Inside X s → (depth ≤ 64 → Known) → Told (node_read M depth t X s ≡ Err stop) (Step Kid) (Step Kid')
+      node_told : Inside X s → (depth ≤ 64 → Known) → Told (node_read aligned M depth t X s ≡ Err stop) (Step Kid) (Step Kid')
       node_told inside known = (λ e. forth (enter.0 (sym recursion ∙ e)), λ h. recursion ∙ enter.1 (back h))
         where
-          recursion : node_read M depth t X s ≡ entered_at depth s inner_read
-          recursion = node_recursion M is depth t (well-formed M t is of) (of-tall M t of) X s
+          recursion : node_read aligned M depth t X s ≡ entered_at depth s inner_read
+          recursion = node_recursion aligned M is depth t (well-formed M t is of) (of-tall M t of) X s
 
           enter : Iff (entered_at depth s inner_read ≡ Err stop) (EntryStops depth s stop ⊎ (Enters depth s × (inner_read (moved s 0 1) ≡ Err stop)))
           enter = entered_told depth s inner_read stop
@@ -233,28 +233,28 @@ module _ (M : List Assignment) (is : IsModule M) (bounded : IsBounded M) (X : Li
       each_both (λ p. IsOf M p.type) (NeedsFewer M depth t) Q each (label_of (resolve M t)) 0 (parts_of (label_of (resolve M t)).form) (kids_of (resolve M t)) (kids-of M (resolve M t) (resolved-of-module M t of))
       (kids-need M depth t deep (has-four M t (well-formed M t is of)) (of-tall M t of))
 
-  node_stopped : (m depth : ℕ) (t : Rose TypeLabel) → IsOf M t → (depth ≤ 64 → levels_needed M depth t ≤ m) → (s : Spot) (stop : Stop) → Inside X s → node_read M depth t X s ≡ Err stop → NodeStops M X (suc m) depth t s stop
+  node_stopped : (m depth : ℕ) (t : Rose TypeLabel) → IsOf M t → (depth ≤ 64 → levels_needed M depth t ≤ m) → (s : Spot) (stop : Stop) → Inside X s → node_read aligned M depth t X s ≡ Err stop → NodeStops aligned M X (suc m) depth t s stop
   unfolding NodeStops
   node_stopped zero depth t of enough s stop inside e =
-      (node_told depth t of s stop (λ p. NodeStops M X zero (below p.role depth) p.type) (λ p s stop. ⊥) inside (λ deep. absurd (omega (arith, enough deep, levels-some M 4 t)))).0 e
+      (node_told depth t of s stop (λ p. NodeStops aligned M X zero (below p.role depth) p.type) (λ p s stop. ⊥) inside (λ deep. absurd (omega (arith, enough deep, levels-some M 4 t)))).0 e
   node_stopped (suc m) depth t of enough s stop inside e =
-      (node_told depth t of s stop (λ p. NodeStops M X (suc m) (below p.role depth) p.type) (λ p s stop. ⊥) inside
-      (λ deep. kids depth t of (IsKnown M X depth (λ p. node_read M (below p.role depth) p.type) (λ p. NodeStops M X (suc m) (below p.role depth) p.type) (λ p s stop. ⊥)) deep
+      (node_told depth t of s stop (λ p. NodeStops aligned M X (suc m) (below p.role depth) p.type) (λ p s stop. ⊥) inside
+      (λ deep. kids depth t of (IsKnown aligned M X depth (λ p. node_read aligned M (below p.role depth) p.type) (λ p. NodeStops aligned M X (suc m) (below p.role depth) p.type) (λ p s stop. ⊥)) deep
       (λ p of_p need. (
         read_codec (below p.role depth) p.type of_p,
         λ r stop in_. (λ f. node_stopped m (below p.role depth) p.type of_p (λ d. omega (arith, need.1, enough deep)) r stop in_ f, λ h. absurd h),
       )))).0 e
 
-  node_stops : (n depth : ℕ) (t : Rose TypeLabel) → IsOf M t → (s : Spot) (stop : Stop) → Inside X s → NodeStops M X n depth t s stop → node_read M depth t X s ≡ Err stop
+  node_stops : (n depth : ℕ) (t : Rose TypeLabel) → IsOf M t → (s : Spot) (stop : Stop) → Inside X s → NodeStops aligned M X n depth t s stop → node_read aligned M depth t X s ≡ Err stop
   unfolding NodeStops
   node_stops zero depth t of s stop inside h = absurd h
   node_stops (suc n) depth t of s stop inside h =
-      (node_told depth t of s stop (λ p s stop. Unit {0}) (λ p. NodeStops M X n (below p.role depth) p.type) inside
-      (λ deep. kids depth t of (IsKnown M X depth (λ p. node_read M (below p.role depth) p.type) (λ p s stop. Unit {0}) (λ p. NodeStops M X n (below p.role depth) p.type)) deep
+      (node_told depth t of s stop (λ p s stop. Unit {0}) (λ p. NodeStops aligned M X n (below p.role depth) p.type) inside
+      (λ deep. kids depth t of (IsKnown aligned M X depth (λ p. node_read aligned M (below p.role depth) p.type) (λ p s stop. Unit {0}) (λ p. NodeStops aligned M X n (below p.role depth) p.type)) deep
       (λ p of_p need. (read_codec (below p.role depth) p.type of_p, λ r stop in_. (λ f. tt, λ k. node_stops n (below p.role depth) p.type of_p r stop in_ k))))).1 h
 
   -- THE ROOT
-  pub root_told : (t : Rose TypeLabel) → IsOf M t → (stop : Stop) → Iff (whole_of M t X ≡ Err stop) (RootStops M X t stop)
+  pub root_told : (t : Rose TypeLabel) → IsOf M t → (stop : Stop) → Iff (whole_of aligned M t X ≡ Err stop) (RootStops aligned M X t stop)
   unfolding whole_of
   root_told t of stop = (λ e. forth (told.0 e), λ h. told.1 (back h))
     where
@@ -267,17 +267,17 @@ module _ (M : List Assignment) (is : IsModule M) (bounded : IsBounded M) (X : Li
           let m = map_told (last_at X r) (λ z. v) stop in
           (λ e. k.0 (m.0 e), λ h. m.1 (k.1 h))
 
-      told : Iff ((node_read M 1 t X start >>= λ v. last_at X v.1 >>= λ z. with_spot v.0 z.1) ≡ Err stop)
-          (((levels : ℕ) × NodeStops M X levels 1 t start stop) ⊎ ((v : Rose ValueLabel) × (r : Spot) × FitsAt M 1 t v × Came X start r (per M t v 0) (node_count v) × LastStops X r stop))
+      told : Iff ((node_read aligned M 1 t X start >>= λ v. last_at X v.1 >>= λ z. with_spot v.0 z.1) ≡ Err stop)
+          (((levels : ℕ) × NodeStops aligned M X levels 1 t start stop) ⊎ ((v : Rose ValueLabel) × (r : Spot) × FitsAt M 1 t v × Came X start r (per aligned M t v 0) (node_count v) × LastStops X r stop))
       told =
-          then_told X (FitsAt M 1 t) node_count (per M t) (node_read M 1 t) (read_codec 1 t of) (λ v. last_at X v.1 >>= λ z. with_spot v.0 z.1) ((levels : ℕ) × NodeStops M X levels 1 t start stop) (λ v r. LastStops X r stop) start stop inside
+          then_told X (FitsAt M 1 t) node_count (per aligned M t) (node_read aligned M 1 t) (read_codec 1 t of) (λ v. last_at X v.1 >>= λ z. with_spot v.0 z.1) ((levels : ℕ) × NodeStops aligned M X levels 1 t start stop) (λ v r. LastStops X r stop) start stop inside
           (λ e. (suc (levels_needed M 1 t), node_stopped (levels_needed M 1 t) 1 t of (λ deep. omega arith) start stop inside e), λ h. node_stops h.0 1 t of start stop inside h.1)
           (λ v r fits in_. last v r in_)
 
-      forth : ((levels : ℕ) × NodeStops M X levels 1 t start stop) ⊎ ((v : Rose ValueLabel) × (r : Spot) × FitsAt M 1 t v × Came X start r (per M t v 0) (node_count v) × LastStops X r stop) → RootStops M X t stop
+      forth : ((levels : ℕ) × NodeStops aligned M X levels 1 t start stop) ⊎ ((v : Rose ValueLabel) × (r : Spot) × FitsAt M 1 t v × Came X start r (per aligned M t v 0) (node_count v) × LastStops X r stop) → RootStops aligned M X t stop
       forth (inl h) = inl h
       forth (inr k) = inr (k.0, k.1, (k.2, k.3), k.4)
 
-      back : RootStops M X t stop → ((levels : ℕ) × NodeStops M X levels 1 t start stop) ⊎ ((v : Rose ValueLabel) × (r : Spot) × FitsAt M 1 t v × Came X start r (per M t v 0) (node_count v) × LastStops X r stop)
+      back : RootStops aligned M X t stop → ((levels : ℕ) × NodeStops aligned M X levels 1 t start stop) ⊎ ((v : Rose ValueLabel) × (r : Spot) × FitsAt M 1 t v × Came X start r (per aligned M t v 0) (node_count v) × LastStops X r stop)
       back (inl h) = inl h
       back (inr k) = inr (k.0, k.1, k.2.0, k.2.1, k.3)

@@ -1,5 +1,5 @@
 -- Which of the fields of X.691 has a fault, where it begins and ends, and why. What stands before the fault is said by bits.
--- Short comes before the other reasons of a field, NotShortest before Range and TooWide.
+-- Short comes before the other reasons of a field, NotShortest before Range and TooWide. Fields are aligned or not.
 use Rattle.std.specs.Prelude.{◌≡◌, ℕ, ◌+◌, ◌-◌, ◌*◌, ◌^◌, ◌<◌, ◌≤◌, ◌⊎◌, ℤ, Bool, true, false, Option, Some, None, List, [], ◌∷◌, length}
 use Rattle.bit_cursor.specs.Bits.{bits, gap, padding}
 use Rattle.simple_values.specs.Lexical.{is_128_bits, is_to}
@@ -11,7 +11,7 @@ use Rattle.per_fields.specs.declared.stops.Why.TheVariants.{Short, Padding, NotS
 use Rattle.per_fields.specs.Widths.{width_of, more_of, distance, raised, more_signed, signed_of}
 use Rattle.per_fields.specs.Reading.{stop_at}
 use Rattle.per_fields.specs.Codec.{Came}
-use Rattle.per_fields.specs.Fields.{then_bits, length_bits, Piece, Last, Units, is_out}
+use Rattle.per_fields.specs.Fields.{then_bits, gap_bits, length_bits, Piece, Last, Units, is_out}
 
 -- THE NUMBERS THAT HAVE A FAULT, and why
 
@@ -86,6 +86,11 @@ module _ (X : List Bool) where
   abbrev pub AlignedStops : (Spot → Stop → Type 0) → Spot → Stop → Type 0
   AlignedStops Field s stop = PaddingStops s stop ⊎ ((r : Spot) × Came X s r (padding s.at) 0 × Field r stop)
 
+  -- a field that begins at an octet in the aligned variant, and right here in the other one
+  abbrev pub GapStops : Bool → (Spot → Stop → Type 0) → Spot → Stop → Type 0
+  GapStops true Field s stop = AlignedStops Field s stop
+  GapStops false Field s stop = Field s stop
+
   -- A NUMBER OF 0..top (clause 11.5). Of a large range its octets are counted first: one, and so many more.
   abbrev pub LargeStops : ℕ → Spot → Stop → Type 0
   LargeStops top s stop =
@@ -93,9 +98,11 @@ module _ (X : List Bool) where
       ⊎ ((more : ℕ) × (r : Spot) × (more ≤ more_of top) × Came X s r (bits (width_of (more_of top)) more) 0
       × AlignedStops (λ q stop. BitsStop (8 * (more + 1)) (LargeFault top more) q stop) r stop)
 
-  -- by how many numbers there are; of one there are no bits, and nothing stops
-  abbrev pub NumberStops : ℕ → Spot → Stop → Type 0
-  NumberStops top s stop =
+  -- By how many numbers there are; of one there are no bits, and nothing stops. Where nothing is aligned, the least bits that hold
+  -- the greatest are the field (clause 11.5.6).
+  abbrev pub NumberStops : Bool → ℕ → Spot → Stop → Type 0
+  NumberStops false top s stop = (0 < top) × BitsStop (width_of top) (IsAbove top) s stop
+  NumberStops true top s stop =
       ((0 < top) × (top < 255) × BitsStop (width_of top) (IsAbove top) s stop)
       ⊎ ((top ≡ 255) × AlignedStops (λ r stop. BitsStop 8 (IsAbove top) r stop) s stop)
       ⊎ ((255 < top) × (top < 65536) × AlignedStops (λ r stop. BitsStop 16 (IsAbove top) r stop) s stop)
@@ -109,34 +116,35 @@ module _ (X : List Bool) where
       × (EndsWithin 8 r s.at stop ⊎ ((y : ℕ) × (q : Spot) × AreBits 8 r y q × ((x - 128) * 256 + y < 128) × (stop ≡ stop_at s.at NotShortest q.at))))
 
   -- a count within these bounds, where so many came before it: its padding or its length stops, or with it they are outside
-  abbrev pub CountStops : ℕ → Option ℕ → ℕ → ℕ → Spot → Stop → Type 0
-  CountStops least most before total s stop =
-      AlignedStops (λ r stop.
+  abbrev pub CountStops : Bool → ℕ → Option ℕ → ℕ → ℕ → Spot → Stop → Type 0
+  CountStops aligned least most before total s stop =
+      GapStops aligned (λ r stop.
       LengthStops before r stop
       ⊎ ((n : Piece) × (q : Spot) × IsLength before n × Came X r q (length_octets n) 0 × (is_out least most total n ≡ true) × (stop ≡ stop_at r.at Range q.at))) s stop
 
   -- and such a count stands here
-  abbrev pub IsCount : ℕ → Option ℕ → ℕ → ℕ → Spot → Piece → Spot → Type 0
-  IsCount least most before total s n r = IsLength before n × (is_out least most total n ≡ false) × Came X s r (then_bits (padding s.at) (λ q. length_octets n) s.at) 0
+  abbrev pub IsCount : Bool → ℕ → Option ℕ → ℕ → ℕ → Spot → Piece → Spot → Type 0
+  IsCount aligned least most before total s n r =
+      IsLength before n × (is_out least most total n ≡ false) × Came X s r (then_bits (gap_bits aligned s.at) (λ q. length_octets n) s.at) 0
 
   -- WHOLE NUMBERS (clauses 13.2 and 11.4 to 11.8). The length of a number:
-  abbrev pub OctetCountStops : Spot → Stop → Type 0
-  OctetCountStops s stop =
-      AlignedStops (λ r stop.
+  abbrev pub OctetCountStops : Bool → Spot → Stop → Type 0
+  OctetCountStops aligned s stop =
+      GapStops aligned (λ r stop.
       LengthStops 4 r stop
       ⊎ ((n : Piece) × (why : Why) × (q : Spot) × IsLength 4 n × Came X r q (length_octets n) 0 × CountFault n why × (stop ≡ stop_at r.at why q.at))) s stop
 
   -- its length, or the number itself, in one octet and so many more
-  abbrev pub OctetsStop : (ℕ → ℕ → Why → Type 0) → Spot → Stop → Type 0
-  OctetsStop Fault s stop =
-      OctetCountStops s stop
-      ⊎ ((more : ℕ) × (r : Spot) × (more < 16) × Came X s r (then_bits (padding s.at) (λ q. length_bits (more + 1)) s.at) 0 × BitsStop (8 * (more + 1)) (Fault more) r stop)
+  abbrev pub OctetsStop : Bool → (ℕ → ℕ → Why → Type 0) → Spot → Stop → Type 0
+  OctetsStop aligned Fault s stop =
+      OctetCountStops aligned s stop
+      ⊎ ((more : ℕ) × (r : Spot) × (more < 16) × Came X s r (then_bits (gap_bits aligned s.at) (λ q. length_bits (more + 1)) s.at) 0 × BitsStop (8 * (more + 1)) (Fault more) r stop)
 
   -- by its bounds
-  abbrev pub WholeStops : Option ℤ → Option ℤ → Spot → Stop → Type 0
-  WholeStops (Some least) (Some greatest) s stop = NumberStops (distance least greatest) s stop
-  WholeStops (Some least) None s stop = OctetsStop (AboveFault least) s stop
-  WholeStops None greatest s stop = OctetsStop (SignedFault greatest) s stop
+  abbrev pub WholeStops : Bool → Option ℤ → Option ℤ → Spot → Stop → Type 0
+  WholeStops aligned (Some least) (Some greatest) s stop = NumberStops aligned (distance least greatest) s stop
+  WholeStops aligned (Some least) None s stop = OctetsStop aligned (AboveFault least) s stop
+  WholeStops aligned None greatest s stop = OctetsStop aligned (SignedFault greatest) s stop
 
   -- THE PRESENCE BITS of a SEQUENCE (clause 19.2), each a field: the first that is missing begins where the input ends
   abbrev pub FlagsStop : List Component → Spot → Stop → Type 0

@@ -1,22 +1,33 @@
 -- The first stop is what reading gives, so that of all octets exactly one holds: they begin with a complete encoding, or have one.
-use Rattle.std.specs.Prelude.{◌≡◌, ℕ, ◌⊎◌, Bool, List}
+use Rattle.std.specs.Prelude.{◌≡◌, ℕ, ◌⊎◌, Bool, true, List}
 use Rattle.label_tree.specs.Rose.{Rose}
 use Rattle.simple_types.specs.declared.labels.ValueLabel.{ValueLabel}
 use Rattle.asn_types.specs.declared.modules.Assignment.{Assignment}
 use Rattle.per_fields.specs.declared.stops.Stop.{Stop}
-use Rattle.per_fields.specs.Laws.{Begins, Stops, ForAll}
-use Rattle.per_stops.specs.Stopping.{StopsFirst}
+use Rattle.per_fields.specs.Laws.{BeginsBy, StopsBy, ForAll}
+use Rattle.per_stops.specs.Stopping.{StopsFirstBy}
 
--- reading stops where octets stop first, and there alone
+module _ (aligned : Bool) where
+  -- reading stops where octets stop first, and there alone
+  abbrev pub StopsAsReadBy : Type 0
+  StopsAsReadBy = ForAll (λ M t X. (stop : Stop) → (StopsBy aligned M t X stop → StopsFirstBy aligned M t X stop) × (StopsFirstBy aligned M t X stop → StopsBy aligned M t X stop))
+
+  -- they begin with the encoding of a value, or stop; of one value and one prefix, at one place for one reason; and never both
+  pub record IsOneOfTwoBy (M : List Assignment) (t : ℕ) (X : List Bool) : Type 0 where
+    pub either : ((v : Rose ValueLabel) × BeginsBy aligned M t X v) ⊎ ((stop : Stop) × StopsFirstBy aligned M t X stop)
+    pub not_both : (v : Rose ValueLabel) (stop : Stop) → BeginsBy aligned M t X v → StopsFirstBy aligned M t X stop → ⊥
+    pub one_value : (v w : Rose ValueLabel) (b : BeginsBy aligned M t X v) (c : BeginsBy aligned M t X w) → (v ≡ w) × (b.rest ≡ c.rest)
+    pub one_stop : (r s : Stop) → StopsFirstBy aligned M t X r → StopsFirstBy aligned M t X s → r ≡ s
+
+  abbrev pub OneOfTwoBy : Type 0
+  OneOfTwoBy = ForAll (λ M t X. IsOneOfTwoBy M t X)
+
+-- THE SAME, ALIGNED
 abbrev pub StopsAsRead : Type 0
-StopsAsRead = ForAll (λ M t X. (stop : Stop) → (Stops M t X stop → StopsFirst M t X stop) × (StopsFirst M t X stop → Stops M t X stop))
+StopsAsRead = StopsAsReadBy true
 
--- they begin with the encoding of a value, or stop; of one value and one prefix, at one place for one reason; and never both
-pub record IsOneOfTwo (M : List Assignment) (t : ℕ) (X : List Bool) : Type 0 where
-  pub either : ((v : Rose ValueLabel) × Begins M t X v) ⊎ ((stop : Stop) × StopsFirst M t X stop)
-  pub not_both : (v : Rose ValueLabel) (stop : Stop) → Begins M t X v → StopsFirst M t X stop → ⊥
-  pub one_value : (v w : Rose ValueLabel) (b : Begins M t X v) (c : Begins M t X w) → (v ≡ w) × (b.rest ≡ c.rest)
-  pub one_stop : (r s : Stop) → StopsFirst M t X r → StopsFirst M t X s → r ≡ s
+abbrev pub IsOneOfTwo : List Assignment → ℕ → List Bool → Type 0
+IsOneOfTwo = IsOneOfTwoBy true
 
 abbrev pub OneOfTwo : Type 0
-OneOfTwo = ForAll (λ M t X. IsOneOfTwo M t X)
+OneOfTwo = OneOfTwoBy true

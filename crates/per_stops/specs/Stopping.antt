@@ -24,13 +24,13 @@ use Rattle.per_fields.specs.Nodes.{most_deep, start}
 use Rattle.per_stops.specs.Faults.{NumberStops, WholeStops, CountStops, IsCount, FlagsStop, LastStops, EndsWithin}
 
 -- FRAGMENTS of what stands behind general lengths (clause 11.9): so many from one spot to another, or one of so many stops
-module _ (X : List Bool) (Stand : ℕ → Spot → Spot → Type 0) (SomeStops : ℕ → Spot → Stop → Type 0) (least : ℕ) (most : Option ℕ) where
+module _ (aligned : Bool) (X : List Bool) (Stand : ℕ → Spot → Spot → Type 0) (SomeStops : ℕ → Spot → Stop → Type 0) (least : ℕ) (most : Option ℕ) where
   -- Behind fragments of so many units each, a length stops, or what stands behind it.
   abbrev pub FragmentsStop : List ℕ → ℕ → ℕ → Spot → Stop → Type 0
   FragmentsStop [] before total s stop =
-      CountStops X least most before total s stop ⊎ ((n : Piece) × (r : Spot) × IsCount X least most before total s n r × SomeStops (items_of n) r stop)
+      CountStops X aligned least most before total s stop ⊎ ((n : Piece) × (r : Spot) × IsCount X aligned least most before total s n r × SomeStops (items_of n) r stop)
   FragmentsStop (k ∷ ks) before total s stop =
-      (r : Spot) × (q : Spot) × IsCount X least most before total s (Units k) r × Stand (k * unit) r q × FragmentsStop ks k (total + k * unit) q stop
+      (r : Spot) × (q : Spot) × IsCount X aligned least most before total s (Units k) r × Stand (k * unit) r q × FragmentsStop ks k (total + k * unit) q stop
 
   -- the first fragment may have any number of units
   abbrev pub CountedStop : Spot → Stop → Type 0
@@ -63,10 +63,10 @@ EntryStops depth s stop = ((most_deep < depth) × (stop ≡ stop_at s.at TooDeep
 abbrev pub Enters : ℕ → Spot → Type 0
 Enters depth s = (depth ≤ most_deep) × (s.nodes < most_nodes)
 
-module _ (M : List Assignment) (X : List Bool) where
+module _ (aligned : Bool) (M : List Assignment) (X : List Bool) where
   -- the bits of a value of the type stand from one spot to another, and its nodes are not too many
   abbrev pub ValueStands : ℕ → Rose TypeLabel → Spot → Rose ValueLabel → Spot → Type 0
-  ValueStands depth t s v r = FitsAt M depth t v × Came X s r (per M t v s.at) (node_count v)
+  ValueStands depth t s v r = FitsAt M depth t v × Came X s r (per aligned M t v s.at) (node_count v)
 
   -- those of values of these parts, one behind the other
   abbrev pub ValuesStand : ℕ → List ComponentPlace → Spot → Spot → Type 0
@@ -86,13 +86,13 @@ module _ (M : List Assignment) (X : List Bool) where
 
     -- SEQUENCE OF (clause 20): its count stops, or one of its items. The count is a general length,
     abbrev pub ItemsCounted : ComponentPlace → ℕ → Option ℕ → Spot → Stop → Type 0
-    ItemsCounted p least most s stop = CountedStop X (λ n s r. ValuesStand depth (replicate n p) s r) (λ n s stop. PartStops (replicate n p) s stop) least most s stop
+    ItemsCounted p least most s stop = CountedStop aligned X (λ n s r. ValuesStand depth (replicate n p) s r) (λ n s stop. PartStops (replicate n p) s stop) least most s stop
 
     -- or a number of its bounds,
     abbrev pub ItemsNumbered : ComponentPlace → ℕ → ℕ → Spot → Stop → Type 0
     ItemsNumbered p least most s stop =
-        NumberStops X (most - least) s stop
-        ⊎ ((n : ℕ) × (r : Spot) × (n ≤ most - least) × Came X s r (number_bits (most - least) n s.at) 0 × PartStops (replicate (least + n) p) r stop)
+        NumberStops X aligned (most - least) s stop
+        ⊎ ((n : ℕ) × (r : Spot) × (n ≤ most - least) × Came X s r (number_bits aligned (most - least) n s.at) 0 × PartStops (replicate (least + n) p) r stop)
 
     -- where the greatest is below 65,536.
     abbrev pub ItemsStop : Option ComponentPlace → ℕ → Option ℕ → Spot → Stop → Type 0
@@ -103,16 +103,16 @@ module _ (M : List Assignment) (X : List Bool) where
     -- a field of a node of a type with this label, kids and form stops, or one of its parts (clauses 12 to 14, 19, 20, 23 and 30)
     abbrev pub ContentStops : TypeLabel → List (Rose TypeLabel) → Form → Spot → Stop → Type 0
     ContentStops l ts form.Bool s stop = EndsWithin X 1 s s.at stop
-    ContentStops l ts (form.Int least greatest) s stop = WholeStops X least greatest s stop
-    ContentStops l ts (form.Numbers numbers) s stop = NumberStops X (length numbers - 1) s stop
-    ContentStops l ts (form.Words identifiers words) s stop = NumberStops X (length words - 1) s stop
-    ContentStops l ts (form.Utf8 least most class) s stop = CountedStop X (OctetsStand X) (OctetsEnd X) 0 None s stop
+    ContentStops l ts (form.Int least greatest) s stop = WholeStops X aligned least greatest s stop
+    ContentStops l ts (form.Numbers numbers) s stop = NumberStops X aligned (length numbers - 1) s stop
+    ContentStops l ts (form.Words identifiers words) s stop = NumberStops X aligned (length words - 1) s stop
+    ContentStops l ts (form.Utf8 least most class) s stop = CountedStop aligned X (OctetsStand X) (OctetsEnd X) 0 None s stop
     ContentStops l ts (form.Sequence parts) s stop =
         FlagsStop X parts s stop
         ⊎ ((flags : List Bool) × (r : Spot) × Present parts flags × Came X s r (flag_bits parts flags) 0 × IfPartStops (present_from l 0 parts ts flags) r stop)
     ContentStops l ts (form.Choice parts) s stop =
-        NumberStops X (length parts - 1) s stop
-        ⊎ ((i : ℕ) × (r : Spot) × (i ≤ length parts - 1) × Came X s r (number_bits (length parts - 1) i s.at) 0
+        NumberStops X aligned (length parts - 1) s stop
+        ⊎ ((i : ℕ) × (r : Spot) × (i ≤ length parts - 1) × Came X s r (number_bits aligned (length parts - 1) i s.at) 0
         × IfPartStops (alone (place_at l i (slice_get parts i) (slice_get ts i))) r stop)
     ContentStops l ts (form.SequenceOf part least most) s stop = ItemsStop (place_at l 0 (Some part) (slice_get ts 0)) least most s stop
     ContentStops l ts (form.Ref to) s stop = ⊥
@@ -124,7 +124,7 @@ module _ (M : List Assignment) (X : List Bool) where
   -- All fields and parts of a node were read, but its first node breaks a rule: it is told from its first bit to its end.
   abbrev pub RuleStops : ℕ → Rose TypeLabel → Spot → Stop → Type 0
   RuleStops depth t s stop =
-      (v : Rose ValueLabel) × (r : Spot) × PartsFit depth t v × Came X s r (per M t v s.at) (node_count v)
+      (v : Rose ValueLabel) × (r : Spot) × PartsFit depth t v × Came X s r (per aligned M t v s.at) (node_count v)
       × ((IsNoText (label_of v) × (stop ≡ stop_at s.at NotUtf8 r.at)) ⊎ ((IsNoText (label_of v) → ⊥) × (Own M t v → ⊥) × (stop ≡ stop_at s.at NotAValue r.at)))
 
   -- A node stops: before its fields, in them or in its parts, or behind them all. No more than so many nodes stand in one another
@@ -141,6 +141,10 @@ module _ (M : List Assignment) (X : List Bool) where
   abbrev pub RootStops : Rose TypeLabel → Stop → Type 0
   RootStops t stop = ((levels : ℕ) × NodeStops levels 1 t start stop) ⊎ ((v : Rose ValueLabel) × (r : Spot) × ValueStands 1 t start v r × LastStops X r stop)
 
--- bits stop first, of the type of assignment t
+-- bits stop first, of the type of assignment t, in one of the two variants
+abbrev pub StopsFirstBy : Bool → List Assignment → ℕ → List Bool → Stop → Type 0
+StopsFirstBy aligned M t X stop = elim (slice_get M t) [ None ↦ ⊥ | Some a ↦ RootStops aligned M X a.body stop ]
+
+-- in the aligned one
 abbrev pub StopsFirst : List Assignment → ℕ → List Bool → Stop → Type 0
-StopsFirst M t X stop = elim (slice_get M t) [ None ↦ ⊥ | Some a ↦ RootStops M X a.body stop ]
+StopsFirst = StopsFirstBy true

@@ -5,4 +5,4 @@
 
 mod laws;
 
-pub use laws::stops_first;
+pub use laws::{either_variant, stops_first};

@@ -154,7 +154,8 @@ pub fn read_schema(alloc: Global, items: &Items, file: u32) -> Result<RawDoc, Sc
     // All of its components.
     ensures raw { IfOk result (λ doc. doc_of doc ≡ raw_of file items.now) }
 {
-    if let Some(DocumentFault { at, why }) = root_fault(items.root().label()) {
+    let label = items.root().label().to_label(alloc)?;
+    if let Some(DocumentFault { at, why }) = root_fault(&label) {
         return Err(SchemaError::Shown { at, why });
     }
     // The parts below are read from lists of kids.

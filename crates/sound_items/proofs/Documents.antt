@@ -1,10 +1,8 @@
 -- What is read of the document of a value is valid, since the items of the value are, and items that differ in places,
 -- bindings and the order of attributes are valid alike.
-use Rattle.std.proofs.Common.{◌≡◌, ℕ, ◌<◌, ◌^◌, Some, List, length, sym, ap, subst, ◌∙◌, refl}
+use Rattle.std.proofs.Common.{◌≡◌, Some, sym, ap, subst, ◌∙◌, refl}
 use Rattle.label_tree.specs.Rose.{Rose, node, Roses, none, more}
-use Rattle.item_tree.specs.declared.label.ItemLabel.{ItemLabel}
-use Rattle.doc_text.specs.Documents.{DocOf}
-use Rattle.doc_text.specs.Sound.{AreItems}
+use Rattle.doc_text.proofs.Known.{laws}
 use Rattle.plain_items.specs.Plain.{Plain, element, text, plain_of, plain_all}
 use Rattle.plain_items.specs.Unplaced.{unplaced, all_unplaced}
 use Rattle.schema_parts.specs.SetParts.{parts_of}
@@ -12,6 +10,7 @@ use Rattle.validity.specs.Laws.{SameValidity}
 use Rattle.validity.specs.Valid.{Valid}
 use Rattle.one_value.proofs.OwnDeclarations.{items-of-values}
 use Rattle.sound_items.specs.Statements.{DocumentsOfValues}
+use Rattle.sound_items.proofs.Reading.{tree_is_sound}
 
 mutual
   plain-unplaced : (b : Rose Plain) → plain_of (unplaced b) ≡ b
@@ -25,9 +24,9 @@ mutual
 same-items : (b c : Rose Plain) → Some b ≡ Some c → b ≡ c
 same-items b c e = cc
 
-pub documents-of-values : ((bytes : List ℕ) (root : Rose ItemLabel) → DocOf bytes root → length bytes < 2 ^ 31 → AreItems root) → SameValidity → DocumentsOfValues
-documents-of-values document_items same_validity s M linked small is_map d below v fits b gives bytes short (again, document, same) =
+pub documents-of-values : SameValidity → DocumentsOfValues
+documents-of-values same_validity s M linked small is_map d below v fits b gives bytes (again, document, same) =
     let own = items-of-values s M linked small is_map d below v fits in
     let is : own.0 ≡ b = same-items own.0 b (sym own.1 ∙ gives) in
     let valid : Valid (parts_of s) d (unplaced b) b = subst (Valid (parts_of s) d (unplaced b)) is (own.2 (unplaced b) (plain-unplaced b ∙ sym is)) in
-    (again, document, same_validity (parts_of s) d (unplaced b) again (document_items bytes again document short).sound same b valid)
+    (again, document, same_validity (parts_of s) d (unplaced b) again (tree_is_sound laws bytes again document) same b valid)

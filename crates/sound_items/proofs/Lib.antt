@@ -4,4 +4,5 @@ pub mod Spelled
 pub mod Mixed
 pub mod Complexes
 pub mod Declarations
+mod Reading
 pub mod Documents

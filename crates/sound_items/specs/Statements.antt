@@ -1,5 +1,5 @@
 -- What the items of the values of a map keep, and the documents that are written of them.
-use Rattle.std.specs.Prelude.{◌≡◌, ℕ, ◌<◌, ◌^◌, List, length, Some, IsSomeAnd}
+use Rattle.std.specs.Prelude.{◌≡◌, ℕ, ◌<◌, List, Some, IsSomeAnd}
 use Rattle.label_tree.specs.Rose.{Rose}
 use Rattle.simple_types.specs.declared.labels.ValueLabel.{ValueLabel}
 use Rattle.item_tree.specs.declared.label.ItemLabel.{ItemLabel}
@@ -30,5 +30,5 @@ abbrev pub DocumentsOfValues : Type 0
 DocumentsOfValues =
     (s : Set) (M : List Assignment) → IsLinked s → AreSmall s → (is_map : IsMapOf s M) (d : ℕ) → d < s.globals
     → (v : Rose ValueLabel) → Fits M (root_at s M is_map d) v → (b : Rose Plain) → Xer M (root_at s M is_map d) v ≡ Some b
-    → (bytes : List ℕ) → length bytes < 2 ^ 31 → ReadsAs bytes (unplaced b)
+    → (bytes : List ℕ) → ReadsAs bytes (unplaced b)
     → (again : Rose ItemLabel) × DocOf bytes again × Valid (parts_of s) d again b

@@ -1,60 +1,102 @@
 -- What was written of a document is taken again, and what is written of this has the same treated items.
-use Rattle.std.proofs.Common.{◌≡◌, ℕ, ◌<◌, ◌≤◌, ◌^◌, List, length, sym, ◌∙◌, subst, inl, inr, Some, Ok, Err}
+use Rattle.std.proofs.Common.{◌≡◌, ℕ, ◌≤◌, List, length, refl, sym, ◌∙◌, subst, inr, Option, Some, None, Ok}
 use Rattle.label_tree.specs.Rose.{Rose}
 use Rattle.item_tree.specs.declared.label.ItemLabel.{ItemLabel}
 use Rattle.doc_text.specs.Documents.{DocOf}
+use Rattle.doc_text.proofs.PieceLaws.{PieceLaws}
 use Rattle.doc_written.specs.ReadBack.{ReadsAs}
+use Rattle.doc_written.specs.Written.{written}
 use Rattle.plain_items.specs.Plain.{Plain}
 use Rattle.plain_items.specs.Unplaced.{unplaced}
 use Rattle.xer_items.specs.Items.{Xer}
-use Rattle.asn_types.specs.Values.{Fits}
+use Rattle.asn_types.specs.Values.{Fits, In}
 use Rattle.simple_types.specs.declared.labels.ValueLabel.{ValueLabel}
 use Rattle.sound_items.specs.Statements.{DocumentsOfValues}
-use Rattle.schema_parts.specs.SetParts.{SetParts, parts_of}
-use Rattle.schema_parts.specs.Components.{Set}
+use Rattle.schema_parts.specs.SetParts.{SetParts}
 use Rattle.validity.specs.Valid.{Valid}
-use Rattle.transcode_core.specs.declared.outcome.Outcome.{Outcome}
-use Rattle.transcode_core.specs.Steps.{RootType, IsTypeOf, Typed, Decoded, Judged}
-use Rattle.transcode_core.specs.Due.{ItemsIn, Encoded, Documented}
-use Rattle.transcode_core.specs.ReadBack.{DocumentedBack}
-use Rattle.transcode_core.proofs.Octets.{OctetLaws, one_whole, whole_or_none}
-use Rattle.transcode_core.proofs.Single.{Typed-single, ok_inj, some_inj}
+use Rattle.transcode_core.specs.declared.outcome.Outcome.TheVariants.{Done}
+use Rattle.transcode_core.specs.declared.tasks.Syntax.{Syntax}
+use Rattle.transcode_core.specs.declared.tasks.Task.TheVariants.{Send, Receive}
+use Rattle.transcode_core.specs.Syntaxes.{AllSyntaxes}
+use Rattle.transcode_core.specs.Steps.{RootType, Typed, Decoded}
+use Rattle.transcode_core.specs.Words.{Asked, Serve}
+use Rattle.transcode_core.specs.Due.{ItemsIn, Encoded, Documented, Answered, Due}
+use Rattle.transcode_core.specs.ReadBack.{DecodedBack, IsValidText, DocumentedBack, AnsweredBack, ReadBack}
+use Rattle.transcode_core.specs.Again.{AreThereAndBack, AreSameDocuments}
+use Rattle.transcode_core.proofs.Octets.{one_whole}
+use Rattle.transcode_core.proofs.Single.{Typed-single, Opened-single, ok_inj, some_inj}
+use Rattle.transcode_core.proofs.Deciding.{same_request}
+use Rattle.transcode_core.proofs.Verdicts.{due_done}
 
 same_type : (opened : SetParts × ℕ) (a b : RootType) → Typed opened (Ok a) → Typed opened (Ok b) → b ≡ a
 same_type opened a b p q = ok_inj b a (Typed-single opened (Ok b) (Ok a) q p)
 
-module _ (documents : DocumentsOfValues) where
-  valid_again : (s : Set) (n : ℕ) (type : RootType) → IsTypeOf s n type → (v : Rose ValueLabel) → Fits type.assignments type.number v
-      → (items : Rose Plain) → Xer type.assignments type.number v ≡ Some items → (text : List ℕ) → length text < 2 ^ 31 → ReadsAs text (unplaced items)
-      → (again : Rose ItemLabel) × DocOf text again × Valid (parts_of s) n again items
-  valid_again s n type h v fits items is text short reads =
+value_in : (syntax : Syntax) (type : RootType) (left : Option (List ℕ)) (v : Rose ValueLabel) → Decoded syntax type left (Ok v) → In type.assignments type.number v
+value_in syntax type None v is = is
+value_in syntax type (Some octets) v is = is.1
+
+module _ (documents : DocumentsOfValues) (opened : SetParts × ℕ) where
+  -- a text that is read as the items of a value is valid with them as its treated items
+  valid_text : (type : RootType) → Typed opened (Ok type) → (v : Rose ValueLabel) → Fits type.assignments type.number v
+      → (items : Rose Plain) → Xer type.assignments type.number v ≡ Some items → (text : List ℕ) → ReadsAs text (unplaced items) → IsValidText opened text items
+  valid_text type (s, of_s, h) v fits items is text reads =
       let M = type.assignments in
-      documents s M h.linked h.small h.is_map n h.global v (subst (λ t. Fits M t v) h.number_is fits) items (subst (λ t. Xer M t v ≡ Some items) h.number_is is) text short reads
+      let again = documents s M h.linked h.small h.is_map opened.1 h.global v (subst (λ t. Fits M t v) h.number_is fits) items (subst (λ t. Xer M t v ≡ Some items) h.number_is is) text reads in
+      (again.0, again.1, ((s, h.linked, of_s), subst (λ p. Valid p opened.1 again.0 items) of_s again.2))
 
-  pub is_valid : (opened : SetParts × ℕ) (octets text : List ℕ) → DocumentedBack opened (Some octets) text → length text < 2 ^ 31
-      → (again : Rose ItemLabel) × (treated : Rose Plain) × DocOf text again × Judged opened.0 opened.1 again (Ok treated)
-  is_valid opened octets text (type, (s, of_s, h), (v, decoded, (items, is, written, reads))) short =
-      let again = valid_again s opened.1 type h v decoded.1.0 items is text short reads in
-      (again.0, items, again.1, ((s, h.linked, of_s), subst (λ p. Valid p opened.1 again.0 items) of_s again.2))
+  pub documented_back : (syntax : Syntax) (left : Option (List ℕ)) (text : List ℕ) (type : RootType) → Typed opened (Ok type) → DecodedBack syntax type left text → DocumentedBack syntax opened left text
+  documented_back syntax left text type typed (v, decoded, back) = record {
+    type = type;
+    typed = typed;
+    value = v;
+    decoded = decoded;
+    back = back;
+    valid = valid_text type typed v (value_in syntax type left v decoded).0 back.items back.of_value text back.is_read;
+  }
 
-module _ (laws : OctetLaws) where
-  pub is_taken : (opened : SetParts × ℕ) (document octets : List ℕ) (o : Outcome) → Encoded opened (Some document) (Ok octets) → length octets ≤ 16777216
-      → Documented opened (Some octets) (Err o) → ⊥
-  is_taken opened document octets o encoded few (inl none) = none
-  is_taken opened document octets o (type, (s, of_s, h), (items, read, (v, (treated, judged, valued), bits))) few (inr (other, typed, inl refused)) =
-      let same = same_type opened type other (s, of_s, h) typed in
-      whole_or_none laws type h octets v o (few, valued.0, bits.0) (subst (λ t. Decoded t (Some octets) (Err o)) same refused)
-  is_taken opened document octets o encoded few (inr (other, typed, inr (w, decoded, none))) = none
+-- in a set: the document of what was written of a document
+pub taken_in_set : (syntax : Syntax) (opened : SetParts × ℕ) (document octets : List ℕ) → Encoded syntax opened (Some document) (Ok octets) → length octets ≤ 16777216
+    → (text : List ℕ) × Documented syntax opened (Some octets) (Ok text)
+taken_in_set syntax opened document octets (type, typed, (items, read, (v, (treated, judged, valued), encodes))) few =
+    (written (unplaced treated), (type, typed, (v, (few, valued.0, encodes.0), (treated, valued.1, refl))))
 
-  pub is_same : DocumentsOfValues → (opened : SetParts × ℕ) (document octets text : List ℕ) → Encoded opened (Some document) (Ok octets)
-      → DocumentedBack opened (Some octets) text → length text < 2 ^ 31
-      → (items again : Rose ItemLabel) × (treated : Rose Plain) × ItemsIn (Some document) (Ok items) × Judged opened.0 opened.1 items (Ok treated)
-      × DocOf text again × Judged opened.0 opened.1 again (Ok treated)
-  is_same documents opened document octets text (type, (s, of_s, h), (items, read, (v, (treated, judged, valued), bits))) (other, typed, (w, decoded, (found, is, written, reads))) short =
-      let same = same_type opened type other (s, of_s, h) typed in
-      let whole = subst (λ t. Decoded t (Some octets) (Ok w)) same decoded in
-      let value : w ≡ v = one_whole laws type h octets w v whole (whole.0, valued.0, bits.0) in
-      let its : Xer type.assignments type.number v ≡ Some found = subst (λ u. Xer type.assignments type.number u ≡ Some found) value (subst (λ (t : RootType). Xer t.assignments t.number w ≡ Some found) same is) in
-      let e : found ≡ treated = some_inj found treated (sym its ∙ valued.1) in
-      let again = valid_again documents s opened.1 type h v valued.0.0 treated valued.1 text short (subst (λ b. ReadsAs text (unplaced b)) e reads) in
-      (items, again.0, treated, read, judged, again.1, ((s, h.linked, of_s), subst (λ p. Valid p opened.1 again.0 treated) of_s again.2))
+document_of : (document : List ℕ) (items : Rose ItemLabel) → ItemsIn (Some document) (Ok items) → DocOf document items
+document_of document items (bytes, (is, few), read) = subst (λ (b : List ℕ). DocOf b items) (sym is) read
+
+-- its treated items are those of the first
+pub same_in_set : AllSyntaxes → (syntax : Syntax) (opened : SetParts × ℕ) (document octets text : List ℕ) → Encoded syntax opened (Some document) (Ok octets)
+    → DocumentedBack syntax opened (Some octets) text → (treated : Rose Plain) × IsValidText opened document treated × IsValidText opened text treated
+same_in_set laws syntax opened document octets text (type, (s, of_s, h), (items, read, (v, (treated, judged, valued), encodes))) back =
+    let same = same_type opened type back.type (s, of_s, h) back.typed in
+    let w = back.value in
+    let whole = subst (λ t. Decoded syntax t (Some octets) (Ok w)) same back.decoded in
+    let value : w ≡ v = one_whole laws syntax type h octets w v whole (whole.0, valued.0, encodes.0) in
+    let found = back.back.items in
+    let its : Xer type.assignments type.number v ≡ Some found =
+    subst (λ u. Xer type.assignments type.number u ≡ Some found) value (subst (λ (t : RootType). Xer t.assignments t.number w ≡ Some found) same back.back.of_value) in
+    let e : found ≡ treated = some_inj found treated (sym its ∙ valued.1) in
+    (treated, (items, document_of document items read, judged), subst (λ b. IsValidText opened text b) e back.valid)
+
+-- by words
+module _ (entries : List (List ℕ × List ℕ)) (there back : List (List ℕ)) (ways : AreThereAndBack there back) where
+  sent : (left : Option (List ℕ)) (octets : List ℕ) → Due there (Some entries) left Done octets → Answered (Some entries) left (Serve (Send ways.syntax) ways.root ways.files) (Ok octets)
+  sent left octets due =
+      let d = due_done there (Some entries) left octets due in
+      subst (λ (r : Asked). Answered (Some entries) left r (Ok octets)) (same_request there d.0 (Serve (Send ways.syntax) ways.root ways.files) d.1 ways.sends) d.2
+
+  pub taken : (document octets : List ℕ) → Due there (Some entries) (Some document) Done octets → length octets ≤ 16777216
+      → (text : List ℕ) × Due back (Some entries) (Some octets) Done text
+  taken document octets due few =
+      let is = sent (Some document) octets due in
+      let text = taken_in_set ways.syntax is.0 document octets is.2 few in
+      (text.0, inr (Serve (Receive ways.syntax) ways.root ways.files, ways.receives, (is.0, is.1, text.1)))
+
+  pub same : PieceLaws → AllSyntaxes → (document octets text : List ℕ) → Due there (Some entries) (Some document) Done octets → ReadBack back (Some entries) (Some octets) text
+      → AreSameDocuments (Some entries) ways.root ways.files document text
+  same pieces laws document octets text due (request, asks, read) =
+      let is = sent (Some document) octets due in
+      let told : AnsweredBack (Some entries) (Some octets) (Serve (Receive ways.syntax) ways.root ways.files) text =
+      subst (λ (r : Asked). AnsweredBack (Some entries) (Some octets) r text) (same_request back request (Serve (Receive ways.syntax) ways.root ways.files) asks ways.receives) read in
+      let one : told.0 ≡ is.0 = ok_inj told.0 is.0 (Opened-single pieces entries ways.root ways.files (Ok told.0) (Ok is.0) told.1 is.1) in
+      let items = same_in_set laws ways.syntax is.0 document octets text is.2 (subst (λ o. DocumentedBack ways.syntax o (Some octets) text) one told.2) in
+      record { opened = is.0; is_opened = is.1; treated = items.0; first_valid = items.1; second_valid = items.2 }

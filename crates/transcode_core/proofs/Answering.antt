@@ -1,9 +1,7 @@
 -- At least one outcome or result is due.
-use Rattle.std.proofs.Common.{◌≡◌, ◌⊎◌, ℕ, zero, suc, ◌+◌, ◌*◌, ◌/◌, ◌<◌, ◌≤◌, ◌^◌, Bool, true, List, [], ◌∷◌, ◌++◌, length, take, drop, All, refl, sym, ap, ◌∙◌, subst, inl, inr, arith, Option, Some, None, Result, Ok, Err}
+use Rattle.std.proofs.Common.{◌≡◌, ◌⊎◌, ℕ, ◌+◌, ◌<◌, ◌≤◌, ◌^◌, true, List, [], ◌∷◌, length, take, refl, sym, subst, inl, inr, arith, Option, Some, None, Result, Ok, Err}
 use Rattle.std.proofs.lemmas.Bool.{cases_lt}
-use Rattle.std.proofs.lemmas.List.{take_all, length-append, length-take, append-nil}
-use Rattle.std.proofs.lemmas.List.{take-append-drop}
-use Rattle.std.proofs.lemmas.List.Elements.{All-nil, All-cons}
+use Rattle.std.proofs.lemmas.List.{take_all, length-take}
 use Rattle.xa_base.specs.declared.texts.Name.{Name}
 use Rattle.xa_base.specs.Entries.{beside}
 use Rattle.label_tree.specs.Rose as tree
@@ -38,17 +36,19 @@ use Rattle.map_694.proofs.Whole.{root-within}
 use Rattle.module_print.specs.Printed.{printed}
 use Rattle.xer_items.specs.Items.{Xer}
 use Rattle.one_value.specs.Statements.{AreSmall, root_at, ValuesOfItems, ItemsOfValues}
-use Rattle.bit_cursor.specs.Bits.{octet, octet_bits, number, bits}
-use Rattle.bit_cursor.proofs.BitLemmas.{bits-number, number-lt, length-octet_bits}
-use Rattle.per_fields.specs.Encoding.{complete}
-use Rattle.per_fields.specs.Laws as law
-use Rattle.per_fields.specs.Laws.{Begins, Stops}
+use Rattle.transcode_core.specs.declared.tasks.Syntax.{Syntax}
+use Rattle.transcode_core.specs.declared.tasks.Syntax.TheVariants.{Aligned}
+use Rattle.transcode_core.specs.declared.tasks.Task.{Task}
+use Rattle.transcode_core.specs.declared.tasks.Task.TheVariants.{Check, Send, Receive}
+use Rattle.transcode_core.specs.Syntaxes.{BeginsWith, IsOneOfTwo, AllSyntaxes}
+use Rattle.transcode_core.specs.Private.Decided.{Decided}
+use Rattle.transcode_core.proofs.Verdicts.{done_due, refusal_due_of, decided_never}
 use Rattle.transcode_core.specs.declared.outcome.Outcome.{Outcome}
-use Rattle.transcode_core.specs.declared.outcome.Outcome.TheVariants.{Usage, SchemaSyntax, SchemaFault, DocSyntax, LinkFault, UnknownRoot, Invalid, Trailing, TooLong, TooManyNodes, LoadFault}
+use Rattle.transcode_core.specs.declared.outcome.Outcome.TheVariants.{Done, Usage, SchemaSyntax, SchemaFault, DocSyntax, LinkFault, UnknownRoot, Invalid, Trailing, TooLong, TooManyNodes, LoadFault}
 use Rattle.transcode_core.specs.Order.{Give, Found, Then}
 use Rattle.transcode_core.specs.Steps.{Loaded, Read, Faultless, SchemaIn, Schema, Schemas, AreParts, Linked, number_named, Rooted, Printed, Input, AreLinked, Judged, RootType, IsTypeOf, IsRootType, Typed, Valued, ValueIn, Encoding, readable, fault_in, Decoded, Written}
-use Rattle.transcode_core.specs.Due.{Requested, SetIn, Opened, ItemsIn, Checked, Encoded, Documented, Sent, Tried, Answered, Due}
-use Rattle.transcode_core.specs.Words.{Asked, Show, Check, ToPer, ToXml, Trial, asked}
+use Rattle.transcode_core.specs.Due.{Requested, SetIn, Opened, ItemsIn, Checked, Encoded, Documented, Served, TrialSent, Tried, Answered, Due}
+use Rattle.transcode_core.specs.Words.{Asked, Show, Serve, Trial, asked}
 use Rattle.transcode_core.specs.Trial.{trial_name, trial_schema, trial_root, trial_document, summary}
 use Rattle.transcode_core.specs.Causes.{reads_input, ReadsInput, IsTold}
 use Rattle.transcode_core.proofs.Roots.{number-within}
@@ -194,59 +194,27 @@ module _ (values : ValuesOfItems) (parts : SetParts) (n : ℕ) (type : RootType)
 
 -- ---- octets
 
-front_bits : (n : ℕ) (bs : List Bool) → n ≤ length bs → length (take n bs) ≡ n
-front_bits n bs le = omega (arith, length-take n bs, le)
+Encoding-answered : AllSyntaxes → (syntax : Syntax) (type : RootType) (v : Rose ValueLabel) → IsAnswered (Encoding syntax type v)
+Encoding-answered laws syntax type v = let octets = (laws syntax).encodes type.assignments type.number v in (Ok octets.0, (octets.1, octets.2))
 
-octets_of : (n : ℕ) (bs : List Bool) → length bs ≡ 8 * n → (octets : List ℕ) × (octet_bits octets ≡ bs) × All (λ x. x < 256) octets
-unfolding octet
-octets_of zero [] long = ([], refl, All-nil (λ x. x < 256))
-octets_of zero (b ∷ bs) long = absurd (omega (arith, long))
-octets_of (suc n) bs long =
-    let front = take 8 bs in
-    let behind = drop 8 bs in
-    let eight : length front ≡ 8 = front_bits 8 bs (omega (arith, long)) in
-    let cut : front ++ behind ≡ bs = take-append-drop 8 bs in
-    let fewer : length behind ≡ 8 * n = omega (arith, eight, ap length cut, length-append front behind, long) in
-    let rest = octets_of n behind fewer in
-    let same : bits 8 (number front) ≡ front = ap (λ k. bits k (number front)) (sym eight) ∙ bits-number front in
-    let small : number front < 256 = let lt = number-lt front in subst (λ k. number front < 2 ^ k) eight lt in
-    (number front ∷ rest.0, ap (λ l. l ++ octet_bits rest.0) same ∙ ap (λ l. front ++ l) rest.1 ∙ cut, All-cons (λ x. x < 256) (number front) rest.0 small rest.2)
+module _ (laws : AllSyntaxes) (syntax : Syntax) (type : RootType) {s : Set} {n : ℕ} (h : IsTypeOf s n type) (octets : List ℕ) where
+  one_of : (xs : List ℕ) → IsOneOfTwo syntax type.assignments type.number xs
+  one_of xs = (laws syntax).one_of_two type.assignments type.number xs h.is_module h.is_bounded h.within
 
-Encoding-answered : law.WholeOctets → (type : RootType) (v : Rose ValueLabel) → IsAnswered (Encoding type v)
-Encoding-answered whole type v =
-    let bs = complete type.assignments type.number v in
-    let n = length bs / 8 in
-    let even = whole type.assignments type.number v in
-    let octets = octets_of n bs (omega (arith, even)) in
-    (Ok octets.0, (octets.1, octets.2))
+  begun : (v : Rose ValueLabel) (at : ℕ) → BeginsWith syntax type.assignments type.number (readable octets) v at → IsAnswered (Decoded syntax type (Some octets))
+  begun v at b = elim (cases_lt at (length octets)) [
+    | inl less ↦ (Err (Trailing at), inr (v, at, b, less, refl))
+    | inr over ↦
+        let few : length octets ≤ 16777216 = omega (arith, over, (one_of (readable octets)).within v at b, length-take 16777216 octets) in
+        let there = subst (λ xs. BeginsWith syntax type.assignments type.number xs v at) (take_all 16777216 octets few) b in
+        let whole = (one_of octets).ends v at there over in
+        (Ok v, (few, whole.0, whole.1))
+  ]
 
-no_rest : (a b : List Bool) → length (a ++ b) ≤ length a → b ≡ []
-no_rest a [] e = refl
-no_rest a (x ∷ b) e = absurd (omega (arith, e, length-append a (x ∷ b)))
-
-module _ (either : law.Either) (whole : law.WholeOctets) (type : RootType) {s : Set} {n : ℕ} (h : IsTypeOf s n type) (octets : List ℕ) where
-  begun : (v : Rose ValueLabel) → Begins type.assignments type.number (readable octets) v → IsAnswered (Decoded type (Some octets))
-  begun v b =
-      let bs = complete type.assignments type.number v in
-      let at = length bs / 8 in
-      let even = whole type.assignments type.number v in
-      let long : 8 * at ≡ length bs = omega (arith, even) in
-      let all = length-octet_bits (take 16777216 octets) in
-      let cut = length-take 16777216 octets in
-      let both : length (readable octets) ≡ length bs + length b.rest = ap length b.is ∙ length-append bs b.rest in
-      elim (cases_lt at (length octets)) [
-        | inl less ↦ (Err (Trailing at), inr (v, at, b, long, less, refl))
-        | inr over ↦
-            let few : length octets ≤ 16777216 = omega (arith, over, long, all, cut, both) in
-            let same : readable octets ≡ octet_bits octets = ap octet_bits (take_all 16777216 octets few) in
-            let none : b.rest ≡ [] = no_rest bs b.rest (omega (arith, ap length (sym b.is), ap length same, length-octet_bits octets, over, long)) in
-            (Ok v, (few, b.value, sym same ∙ b.is ∙ ap (λ r. bs ++ r) none ∙ append-nil bs))
-      ]
-
-  Decoded-answered : IsAnswered (Decoded type (Some octets))
-  Decoded-answered = elim (either type.assignments type.number (take 16777216 octets) h.is_module h.is_bounded h.within) [
-    | inl is ↦ begun is.0 is.1
-    | inr stops ↦ (Err (fault_in octets stops.0), inl (stops.0, stops.1, refl))
+  Decoded-answered : IsAnswered (Decoded syntax type (Some octets))
+  Decoded-answered = elim (one_of (readable octets)).either [
+    | inl is ↦ begun is.0 is.1 is.2
+    | inr has ↦ (Err (fault_in octets has.0), inl (has.0, has.1, refl))
   ]
 
 Written-answered : ItemsOfValues → (parts : SetParts) (n : ℕ) (type : RootType) → IsRootType parts n type → (v : Rose ValueLabel) → Fits type.assignments type.number v
@@ -267,8 +235,7 @@ pub record Laws : Type 1 where
   pub valid : AtLeastOne
   pub values : ValuesOfItems
   pub items_of : ItemsOfValues
-  pub either : law.Either
-  pub whole : law.WholeOctets
+  pub syntaxes : AllSyntaxes
 
 -- what is said of sets of documents: each has its parts, and a map
 pub record SetLaws (entries : List (List ℕ × List ℕ)) : Type 0 where
@@ -308,49 +275,55 @@ module _ (laws : Laws) (entries : List (List ℕ × List ℕ)) (sets : SetLaws e
       Then-with (Judged opened.0 opened.1 items) (λ _. Give []) (Judged-answered laws.valid opened.0 opened.1 (are_linked opened.0 h.map) items (items_are left items read))
       (λ treated judged. Give-answered []))
 
-  Encoded-answered : (opened : SetParts × ℕ) → IsOpened opened → (left : List ℕ) → IsAnswered (Encoded opened (Some left))
-  Encoded-answered opened h left =
-      Then-with (Typed opened) (λ type. Then (ItemsIn (Some left)) (λ items. Then (ValueIn opened type items) (λ value. Encoding type value))) (Typed-answered opened.0 opened.1 h.map h.global) (λ type typed.
-      Then-with (ItemsIn (Some left)) (λ items. Then (ValueIn opened type items) (λ value. Encoding type value)) (ItemsIn-answered laws.document left) (λ items read.
-      Then-with (ValueIn opened type items) (λ value. Encoding type value)
+  Encoded-answered : (syntax : Syntax) (opened : SetParts × ℕ) → IsOpened opened → (left : List ℕ) → IsAnswered (Encoded syntax opened (Some left))
+  Encoded-answered syntax opened h left =
+      Then-with (Typed opened) (λ type. Then (ItemsIn (Some left)) (λ items. Then (ValueIn opened type items) (λ value. Encoding syntax type value))) (Typed-answered opened.0 opened.1 h.map h.global) (λ type typed.
+      Then-with (ItemsIn (Some left)) (λ items. Then (ValueIn opened type items) (λ value. Encoding syntax type value)) (ItemsIn-answered laws.document left) (λ items read.
+      Then-with (ValueIn opened type items) (λ value. Encoding syntax type value)
       (Then-with (Judged opened.0 opened.1 items) (λ treated. Valued type treated) (Judged-answered laws.valid opened.0 opened.1 (are_linked opened.0 h.map) items (items_are left items read)) (λ treated judged.
       Valued-answered laws.values opened.0 opened.1 type typed items (items_are left items read) treated judged)) (λ value valued.
-      Encoding-answered laws.whole type value)))
+      Encoding-answered laws.syntaxes syntax type value)))
 
-  Documented-answered : (opened : SetParts × ℕ) → IsOpened opened → (left : List ℕ) → IsAnswered (Documented opened (Some left))
-  Documented-answered opened h left =
-      Then-with (Typed opened) (λ type. Then (Decoded type (Some left)) (λ value. Written type value)) (Typed-answered opened.0 opened.1 h.map h.global) (λ type typed.
-      Then-with (Decoded type (Some left)) (λ value. Written type value) (Decoded-answered laws.either laws.whole type typed.2 left) (λ value decoded.
+  Documented-answered : (syntax : Syntax) (opened : SetParts × ℕ) → IsOpened opened → (left : List ℕ) → IsAnswered (Documented syntax opened (Some left))
+  Documented-answered syntax opened h left =
+      Then-with (Typed opened) (λ type. Then (Decoded syntax type (Some left)) (λ value. Written type value)) (Typed-answered opened.0 opened.1 h.map h.global) (λ type typed.
+      Then-with (Decoded syntax type (Some left)) (λ value. Written type value) (Decoded-answered laws.syntaxes syntax type typed.2 left) (λ value decoded.
       Written-answered laws.items_of opened.0 opened.1 type typed value decoded.1.0))
 
-  Sent-answered : (root : Name) (files : List (List ℕ)) (left : List ℕ) → IsAnswered (Sent (Some entries) root files (Some left))
-  Sent-answered root files left =
-      Then-with (Opened (Some entries) root files) (λ opened. Encoded opened (Some left)) (Opened-answered root files) (λ opened is. Encoded-answered opened (is_opened root files opened is) left)
+  Served-answered : (task : Task) (opened : SetParts × ℕ) → IsOpened opened → (left : List ℕ) → IsAnswered (Served task opened (Some left))
+  Served-answered Check opened h left = Checked-answered opened h left
+  Served-answered (Send syntax) opened h left = Encoded-answered syntax opened h left
+  Served-answered (Receive syntax) opened h left = Documented-answered syntax opened h left
+
+  -- a task over files and an input that are told
+  task_answered : (task : Task) (root : Name) (files : List (List ℕ)) (left : List ℕ) → IsAnswered (Then (Opened (Some entries) root files) (λ opened. Served task opened (Some left)))
+  task_answered task root files left =
+      Then-with (Opened (Some entries) root files) (λ opened. Served task opened (Some left)) (Opened-answered root files) (λ opened is. Served-answered task opened (is_opened root files opened is) left)
 
 Tried-answered : Laws → SetLaws ((trial_name, trial_schema) ∷ []) → (lines : ℕ) → IsAnswered (Tried lines)
 Tried-answered laws sets lines =
-    Then-with (Sent (Some ((trial_name, trial_schema) ∷ [])) trial_root (trial_name ∷ []) (Some (trial_document lines))) (λ octets. Give (summary lines (length (trial_document lines)) (length octets)))
-    (Sent-answered laws ((trial_name, trial_schema) ∷ []) sets trial_root (trial_name ∷ []) (trial_document lines)) (λ octets sent.
+    Then-with (TrialSent lines) (λ octets. Give (summary lines (length (trial_document lines)) (length octets)))
+    (task_answered laws ((trial_name, trial_schema) ∷ []) sets (Send Aligned) trial_root (trial_name ∷ []) (trial_document lines)) (λ octets sent.
     Give-answered (summary lines (length (trial_document lines)) (length octets)))
 
 module _ (laws : Laws) (sets : (entries : List (List ℕ × List ℕ)) → SetLaws entries) (entries : List (List ℕ × List ℕ)) where
   Answered-answered : (left : Option (List ℕ)) (request : Asked) → (reads_input request ≡ true → IsTold left) → IsAnswered (Answered (Some entries) left request)
   Answered-answered left (Show files) told =
       Then-with (SetIn (Some entries) files) (λ parts. Printed parts) (SetIn-answered laws entries (sets entries) files) (λ parts set. Printed-answered parts (has_map laws entries (sets entries) files parts set))
-  Answered-answered (Some left) (Check root files) told =
-      Then-with (Opened (Some entries) root files) (λ opened. Checked opened (Some left)) (Opened-answered laws entries (sets entries) root files) (λ opened is.
-      Checked-answered laws entries (sets entries) opened (is_opened laws entries (sets entries) root files opened is) left)
-  Answered-answered None (Check root files) told = absurd (told refl)
-  Answered-answered (Some left) (ToPer root files) told = Sent-answered laws entries (sets entries) root files left
-  Answered-answered None (ToPer root files) told = absurd (told refl)
-  Answered-answered (Some left) (ToXml root files) told =
-      Then-with (Opened (Some entries) root files) (λ opened. Documented opened (Some left)) (Opened-answered laws entries (sets entries) root files) (λ opened is.
-      Documented-answered laws entries (sets entries) opened (is_opened laws entries (sets entries) root files opened is) left)
-  Answered-answered None (ToXml root files) told = absurd (told refl)
+  Answered-answered (Some left) (Serve task root files) told = task_answered laws entries (sets entries) task root files left
+  Answered-answered None (Serve task root files) told = absurd (told refl)
   Answered-answered left (Trial lines) told = Tried-answered laws (sets ((trial_name, trial_schema) ∷ [])) lines
 
-  -- at least one outcome or result is due
-  pub Due-answered : (words : List (List ℕ)) (left : Option (List ℕ)) → (ReadsInput words → IsTold left) → IsAnswered (Due words (Some entries) left)
-  Due-answered words left told =
+  -- at least one verdict is decided
+  Decided-answered : (words : List (List ℕ)) (left : Option (List ℕ)) → (ReadsInput words → IsTold left) → IsAnswered (Decided words (Some entries) left)
+  Decided-answered words left told =
       Then-with (Requested words) (λ request. Answered (Some entries) left request) (Found-answered (asked words) Usage) (λ request asks.
       Answered-answered left request (λ reads. told (request, asks, reads)))
+
+  -- at least one outcome is due, with a list of bytes
+  pub Due-answered : (words : List (List ℕ)) (left : Option (List ℕ)) → (ReadsInput words → IsTold left) → (o : Outcome) × (bytes : List ℕ) × Due words (Some entries) left o bytes
+  Due-answered words left told = let v = Decided-answered words left told in by v.0 v.1
+    where
+      by : (v : Result (List ℕ) Outcome) → Decided words (Some entries) left v → (o : Outcome) × (bytes : List ℕ) × Due words (Some entries) left o bytes
+      by (Ok bytes) is = (Done, bytes, done_due words (Some entries) left bytes is)
+      by (Err o) is = (o, [], refusal_due_of words (Some entries) left o (decided_never words (Some entries) left o is) is)

@@ -1,5 +1,5 @@
 -- What is decided before writing, and what an answer tells of its cause.
-use Rattle.std.proofs.Common.{◌≡◌, ◌⊎◌, ℕ, Bool, true, List, sym, ◌∙◌, subst, inl, inr, Option, Some, Result, Ok, Err}
+use Rattle.std.proofs.Common.{◌≡◌, ◌⊎◌, ℕ, Bool, true, List, [], sym, ◌∙◌, subst, inl, inr, Option, Some, Result, Ok, Err}
 use Rattle.std.specs.Prelude.{Vec}
 use Rattle.std.specs.declared.alloc.Global.{Global}
 use Rattle.xa_base.specs.Faults.{HasRisen}
@@ -10,6 +10,8 @@ use Rattle.transcode_core.specs.Words.{Asked}
 use Rattle.transcode_core.specs.Order.{Then}
 use Rattle.schema_parts.specs.SetParts.{SetParts}
 use Rattle.transcode_core.specs.Due.{Requested, Opened, Due}
+use Rattle.transcode_core.specs.Private.Decided.{Decided}
+use Rattle.transcode_core.proofs.Verdicts.{refusal_due_of, refusal_is_not_done}
 use Rattle.transcode_core.specs.Causes.{Answers, IsRefusal, SomeLoad, OneRead, Fails, Reaches, files_of, ReachesFile, reads_input, ReadsInput, reads_document, ReadsDocument, ReachesInput, Deciding}
 
 -- the words ask for one thing
@@ -46,15 +48,15 @@ module _ (entries : Option (List (List ℕ × List ℕ))) (loads loads_now : ℕ
 
 module _ (words : List (List ℕ)) (entries : Option (List (List ℕ × List ℕ))) (left : Option (List ℕ)) (loads loads_now : ℕ) (sure : Bool) (reads reads_now : ℕ) where
   -- a refusal is due
-  pub refusal_due : (o : Outcome) → (Due words entries left (Err o) × IsRefusal o) ⊎ Deciding loads loads_now sure entries reads reads_now words o
-      → IsRefusal o → Due words entries left (Err o)
-  refusal_due o (inl (due, own)) is = due
+  pub refusal_due : (o : Outcome) → (Decided words entries left (Err o) × IsRefusal o) ⊎ Deciding loads loads_now sure entries reads reads_now words o
+      → IsRefusal o → Due words entries left o []
+  refusal_due o (inl (due, own)) is = refusal_due_of words entries left o (refusal_is_not_done o is) due
   refusal_due o (inr (request, asks, inl (inl memory))) is = absurd (subst IsRefusal memory is)
   refusal_due o (inr (request, asks, inl (inr (k, name, load, rest, fails)))) is = absurd (subst IsRefusal load is)
   refusal_due o (inr (request, asks, inr (read, rose, comes))) is = absurd (subst IsRefusal read is)
 
   -- a file failed to load where the order comes to it
-  pub load_failed : (o : Outcome) → (Due words entries left (Err o) × IsRefusal o) ⊎ Deciding loads loads_now sure entries reads reads_now words o
+  pub load_failed : (o : Outcome) → (Decided words entries left (Err o) × IsRefusal o) ⊎ Deciding loads loads_now sure entries reads reads_now words o
       → (file : ℕ) → o ≡ LoadFault file → (name : List ℕ) × ReachesFile words entries file name × Fails loads loads_now sure entries name
   load_failed o (inl (due, own)) file is = absurd (subst IsRefusal is own)
   load_failed o (inr (request, asks, inl (inl memory))) file is = let e : OutOfMemory ≡ LoadFault file = sym memory ∙ is in cc
@@ -65,7 +67,7 @@ module _ (words : List (List ℕ)) (entries : Option (List (List ℕ × List ℕ
   load_failed o (inr (request, asks, inr (read, rose, comes))) file is = let e : ReadFault ≡ LoadFault file = sym read ∙ is in cc
 
   -- the input failed where the order comes to it
-  pub read_failed : (o : Outcome) → (Due words entries left (Err o) × IsRefusal o) ⊎ Deciding loads loads_now sure entries reads reads_now words o
+  pub read_failed : (o : Outcome) → (Decided words entries left (Err o) × IsRefusal o) ⊎ Deciding loads loads_now sure entries reads reads_now words o
       → o ≡ ReadFault → HasRisen reads reads_now × ReachesInput words entries
   read_failed o (inl (due, own)) is = absurd (subst IsRefusal is own)
   read_failed o (inr (request, asks, inl (inl memory))) is = let e : OutOfMemory ≡ ReadFault = sym memory ∙ is in cc

@@ -1,19 +1,24 @@
--- The words name at most 64 files that are loaded.
+-- The words name at most 64 files that are loaded, or from 1 to 100,000 lines.
 use Rattle.std.proofs.Common.{◌≡◌, ◌≤◌, ℕ, Bool, true, false, cond, List, [], ◌∷◌, length, refl, subst, arith, Option, Some, None, Result, Ok, Err}
-use Rattle.std.specs.Prelude.{bytes_eq, codes, nat_le, IfOk}
+use Rattle.std.specs.Prelude.{bytes_eq, codes, nat_le, IfOk, ◌&&◌, not, ◌==◌, ◌+◌, ◌*◌, ◌-◌}
+use Rattle.std.specs.List.{list_all}
+use Rattle.std.proofs.lemmas.Bool.Decides.{nat_tests}
+use Rattle.xa_base.specs.Digits.{is_digit, number_of}
 use Rattle.std.proofs.lemmas.Bool.{and_parts, leb-true}
 use Rattle.std.specs.Option.{option_map}
 use Rattle.xa_base.specs.declared.texts.Name.{Name}
 use Rattle.transcode_core.specs.declared.outcome.Outcome.{Outcome}
 use Rattle.transcode_core.specs.declared.words.Request.{Request}
 use Rattle.transcode_core.specs.Private.Requests.{seen}
-use Rattle.transcode_core.specs.Words.{Asked, Show, Check, ToPer, ToXml, Trial, are_files, root_of, rooted_parts, count_of, counted, asked}
+use Rattle.transcode_core.specs.declared.tasks.Task.{Task}
+use Rattle.transcode_core.specs.Words.{Asked, Show, Serve, Trial, IsWithin, are_files, root_of, rooted_parts, task_of, served, is_count, counted, asked}
 use Rattle.transcode_core.specs.Due.{Requested}
-use Rattle.transcode_core.specs.Causes.{Answers, Never, files_of}
+use Rattle.transcode_core.specs.Causes.{Answers, Never}
+use Rattle.transcode_core.proofs.WordLemmas.{le-number_from}
 
 abbrev pub AreFew : Option Asked → Type 0
 AreFew None = Unit {0}
-AreFew (Some request) = length (files_of request) ≤ 64
+AreFew (Some request) = IsWithin request
 
 abbrev pub ArePartsFew : Option (Name × List (List ℕ)) → Type 0
 ArePartsFew None = Unit {0}
@@ -42,29 +47,42 @@ few_parts : (words : List (List ℕ)) → ArePartsFew (rooted_parts words)
 few_parts [] = tt
 few_parts (root ∷ files) = parts_unless (are_files files) (option_map (λ (name : Name). (name, files)) (root_of root)) (λ e. with_name (root_of root) files (few_of files e))
 
-few_rooted : (command : Name → List (List ℕ) → Asked) → ((name : Name) (files : List (List ℕ)) → length files ≤ 64 → length (files_of (command name files)) ≤ 64)
-    → (found : Option (Name × List (List ℕ))) → ArePartsFew found → AreFew (option_map (λ (parts : Name × List (List ℕ)). command parts.0 parts.1) found)
-few_rooted command each None few = tt
-few_rooted command each (Some parts) few = each parts.0 parts.1 few
+few_rooted : (task : Task) (found : Option (Name × List (List ℕ))) → ArePartsFew found → AreFew (option_map (λ (parts : Name × List (List ℕ)). Serve task parts.0 parts.1) found)
+few_rooted task None few = tt
+few_rooted task (Some parts) few = few
 
-few_lines : (found : Option ℕ) → AreFew (option_map (λ (n : ℕ). Trial n) found)
-few_lines None = tt
-few_lines (Some n) = omega arith
+few_served : (task : Option Task) (words : List (List ℕ)) → AreFew (served task words)
+few_served None words = tt
+few_served (Some task) words = few_rooted task (rooted_parts words) (few_parts words)
+
+-- a number without a leading zero isn't zero
+from_one : (b : ℕ) → is_digit b ≡ true → not (b == 48) ≡ true → 1 ≤ b - 48
+from_one b digit other = grind (arith, nat_tests)
+
+count_within : (word : List ℕ) → is_count word ≡ true → (1 ≤ number_of word) × (number_of word ≤ 100000)
+count_within [] e = absurd (cc)
+count_within (b ∷ bs) e =
+    let parts = and_parts (list_all is_digit (b ∷ bs) && not (b == 48)) (nat_le (number_of (b ∷ bs)) 100000) e in
+    let front = and_parts (list_all is_digit (b ∷ bs)) (not (b == 48)) parts.0 in
+    let digit = (and_parts (is_digit b) (list_all is_digit bs) front.0).0 in
+    let some = from_one b digit front.1 in
+    (omega (arith, some, le-number_from (10 * 0 + (b - 48)) bs), leb-true (number_of (b ∷ bs)) 100000 parts.1)
+
+lines_if : (t : Bool) (n : ℕ) → (t ≡ true → (1 ≤ n) × (n ≤ 100000)) → AreFew (option_map (λ (n : ℕ). Trial n) (cond t (Some n) None))
+lines_if true n h = h refl
+lines_if false n h = tt
 
 few_counted : (words : List (List ℕ)) → AreFew (counted words)
 few_counted [] = tt
-few_counted (word ∷ []) = few_lines (count_of word)
+few_counted (word ∷ []) = lines_if (is_count word) (number_of word) (count_within word)
 few_counted (word ∷ other ∷ words) = tt
 
 few_asked : (words : List (List ℕ)) → AreFew (asked words)
 few_asked [] = tt
 few_asked (command ∷ words) =
     split (bytes_eq command (codes "show")) _ _ (unless (are_files words) (Some (Show words)) (λ e. few_of words e))
-    (split (bytes_eq command (codes "check")) _ _ (few_rooted Check (λ name files few. few) (rooted_parts words) (few_parts words))
-    (split (bytes_eq command (codes "to-per")) _ _ (few_rooted ToPer (λ name files few. few) (rooted_parts words) (few_parts words))
-    (split (bytes_eq command (codes "to-xml")) _ _ (few_rooted ToXml (λ name files few. omega arith) (rooted_parts words) (few_parts words))
-    (split (bytes_eq command (codes "trial")) _ _ (few_counted words) tt))))
+    (split (bytes_eq command (codes "trial")) _ _ (few_counted words) (few_served (task_of command) words))
 
-pub few_requested : (words : List (List ℕ)) (v : Result Request Outcome) → Answers seen (Requested words) Never v → IfOk v (λ request. length (files_of (seen request)) ≤ 64)
+pub few_requested : (words : List (List ℕ)) (v : Result Request Outcome) → Answers seen (Requested words) Never v → IfOk v (λ request. IsWithin (seen request))
 few_requested words (Ok request) is = subst AreFew is (few_asked words)
 few_requested words (Err o) is = tt

@@ -7,7 +7,9 @@ pub mod Roots
 pub mod Single
 pub mod Loading
 pub mod FewFiles
+pub mod Syntaxes
 pub mod Octets
+pub mod Verdicts
 pub mod Again
 pub mod Trials
 pub mod Received

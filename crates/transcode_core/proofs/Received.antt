@@ -17,7 +17,13 @@ use Rattle.per_decode.specs.declared.errors.DecodeError.TheVariants as error
 use Rattle.per_decode.specs.Answers.{Answer, Answers, is_short}
 use Rattle.transcode_core.specs.declared.outcome.Outcome.TheVariants.{PerFault, Trailing, TooLong}
 use Rattle.transcode_core.specs.Steps as step
-use Rattle.transcode_core.specs.Steps.{RootType, IsNoEncoding, readable, fault_in}
+use Rattle.transcode_core.specs.Steps.{RootType, IsTypeOf, readable, fault_in}
+use Rattle.transcode_core.specs.Syntaxes.{Fault, fault_of, HasFault}
+use Rattle.transcode_core.specs.declared.tasks.Syntax.TheVariants.{Aligned}
+use Rattle.schema_parts.specs.Components.{Set}
+use Rattle.per_fields.specs.Laws.{Stops}
+use Rattle.per_stops.specs.Stopping.{StopsFirst}
+use Rattle.per_stops.specs.Laws.{StopsAsRead}
 use Rattle.transcode_core.specs.Causes.{TakesItsField}
 
 short_is : (w : Why) → is_short w ≡ true → w ≡ why.Short
@@ -35,7 +41,14 @@ no_bits : (a b : List Bool) → length (a ++ b) ≡ length a → b ≡ []
 no_bits a [] e = refl
 no_bits a (x ∷ b) e = absurd (omega (arith, e, length-append a (x ∷ b)))
 
-module _ (type : RootType) where
+module _ (as_read : StopsAsRead) (type : RootType) {s : Set} {n : ℕ} (h : IsTypeOf s n type) where
+  -- a first stop is what reading gives, and the other way round
+  stops_read : (left : List ℕ) (stop : Stop) → StopsFirst type.assignments type.number (octet_bits (readable left)) stop → StopsFirst type.assignments type.number (octet_bits (readable left)) stop
+  stops_read left stop first = first
+
+  read_stops : (left : List ℕ) (stop : Stop) → StopsFirst type.assignments type.number (octet_bits (readable left)) stop → HasFault Aligned type.assignments type.number (readable left) (fault_of stop)
+  read_stops left stop stops = (stop, stops, refl)
+
   abbrev pub Says : Option (List ℕ) → Option (List ℕ) → Answer → Type 0
   Says old new answer = (left : List ℕ) → old ≡ Some left → Answers type.assignments type.number 16777216 left new answer
 
@@ -58,20 +71,20 @@ module _ (type : RootType) where
       (omega (arith, ap length whole, length-octet_bits left, all, a.says.1)) in
       (few, a.says.0.value, whole ∙ ap (λ bs. complete type.assignments type.number found.value ++ bs) none ∙ append-nil (complete type.assignments type.number found.value))
 
-  pub all_ended : (old new : Option (List ℕ)) (found : Decoded) → In type.assignments type.number found.value → Says old new (Ok found) → IsAtEnd new → step.Decoded type old (Ok found.value)
+  pub all_ended : (old new : Option (List ℕ)) (found : Decoded) → In type.assignments type.number found.value → Says old new (Ok found) → IsAtEnd new → step.Decoded Aligned type old (Ok found.value)
   all_ended None new found is_in says is = is_in
   all_ended (Some left) new found is_in says is = ended left new found (says left refl) is
 
   -- more is left
   pub goes_on : (old new : Option (List ℕ)) (found : Decoded) → Says old new (Ok found) → ((left : List ℕ) → new ≡ Some left → 0 < length left)
-      → step.Decoded type old (Err (Trailing found.octets))
+      → step.Decoded Aligned type old (Err (Trailing found.octets))
   goes_on None new found says more = tt
   goes_on (Some left) new found says more =
       let a = says left refl in
       let some = more (drop a.count left) a.takes.rest in
-      inr (found.value, found.octets, a.says.0, omega (arith, a.says.1, a.says.2), omega (arith, some, length-drop a.count left, a.says.2), refl)
+      inr (found.value, found.octets, (a.says.0, omega (arith, a.says.1, a.says.2)), omega (arith, some, length-drop a.count left, a.says.2), refl)
 
-  told : (left : List ℕ) (stop : Stop) (b : Bool) → is_short stop.why ≡ b → (stop.why ≡ why.Short → length left < 16777216) → fault_in left stop ≡ PerFault stop.bit stop.why
+  told : (left : List ℕ) (stop : Stop) (b : Bool) → is_short stop.why ≡ b → (stop.why ≡ why.Short → length left < 16777216) → fault_in left (fault_of stop) ≡ PerFault stop.bit stop.why
   told left stop false e short = rw e refl
   told left stop true e short =
       let less = short (short_is stop.why e) in
@@ -79,31 +92,34 @@ module _ (type : RootType) where
       rw (e, no) refl
 
   -- a first fault
-  pub stops_at : (old new : Option (List ℕ)) (bit : ℕ) (w : Why) → Says old new (Err (error.Bad bit w)) → step.Decoded type old (Err (PerFault bit w))
+  pub stops_at : (old new : Option (List ℕ)) (bit : ℕ) (w : Why) → Says old new (Err (error.Bad bit w)) → step.Decoded Aligned type old (Err (PerFault bit w))
   stops_at None new bit w says = tt
   stops_at (Some left) new bit w says =
       let a = says left refl in
       let stop = a.says.0 in
       let same = told left stop (is_short stop.why) refl (λ e. a.says.4 (sym a.says.3 ∙ e)) in
-      inl (stop, a.says.1, sym (same ∙ ap (λ b. PerFault b stop.why) a.says.2 ∙ ap (λ r. PerFault bit r) a.says.3))
+      inl (fault_of stop, read_stops left stop a.says.1, sym (same ∙ ap (λ b. PerFault b stop.why) a.says.2 ∙ ap (λ r. PerFault bit r) a.says.3))
 
-  pub too_long : (old new : Option (List ℕ)) → Says old new (Err error.TooLong) → step.Decoded type old (Err (TooLong 0))
+  pub too_long : (old new : Option (List ℕ)) → Says old new (Err error.TooLong) → step.Decoded Aligned type old (Err (TooLong 0))
   too_long None new says = tt
   too_long (Some left) new says =
       let a = says left refl in
       let stop = a.says.0 in
       let yes : nat_le 16777216 (length left) ≡ true = le-leb 16777216 (length left) a.says.3 in
       let e : is_short stop.why ≡ true = ap is_short a.says.2 in
-      inl (stop, a.says.1, sym (rw (e, yes) refl))
+      inl (fault_of stop, read_stops left stop a.says.1, sym (rw (e, yes) refl))
 
   -- what was taken of octets with a first fault
-  pub takes : (old new : Option (List ℕ)) (answer : Answer) → Says old new answer → TakesItsField type old new
-  takes old new answer says left is stop stops = let a = says left is in (a.count, a.takes.rest, a.takes.stop stop stops)
+  pub takes : (old new : Option (List ℕ)) (answer : Answer) → Says old new answer → TakesItsField Aligned type old new
+  takes old new answer says left is fault (stop, first, same) =
+      let a = says left is in
+      let most = a.takes.stop stop (stops_read left stop first) in
+      (a.count, a.takes.rest, omega (arith, most, ap (λ (f : Fault). f.end) same))
 
   -- octets of which a value was read have none
-  pub no_fault : (old new later : Option (List ℕ)) (found : Decoded) → Says old new (Ok found) → TakesItsField type old later
-  no_fault old new later found says left is stop stops = let a = says left is in
-      elim (a.stop stop stops) [
+  pub no_fault : (old new later : Option (List ℕ)) (found : Decoded) → Says old new (Ok found) → TakesItsField Aligned type old later
+  no_fault old new later found says left is fault (stop, first, same) = let a = says left is in
+      elim (a.stop stop (stops_read left stop first)) [
         | inl e ↦ cc
         | inr (inl e) ↦ cc
         | inr (inr e) ↦ cc

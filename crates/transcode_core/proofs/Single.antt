@@ -15,8 +15,14 @@ use Rattle.transcode_core.specs.Order.{Give, Found, Then}
 use Rattle.schema_faults.specs.Faults.{first_fault, reasons}
 use Rattle.schema_faults.specs.declared.faults.DocumentFault.{DocumentFault}
 use Rattle.transcode_core.specs.Steps.{Loaded, Read, Faultless, Linked, Printed, Schema, Schemas, Input, Judged, RootType, IsRootType, Typed, Valued, Encoding, Decoded, Written}
-use Rattle.transcode_core.specs.Due.{SetIn, Opened, ItemsIn, Checked, Encoded, Documented, Sent, Tried, Answered, Due}
-use Rattle.transcode_core.specs.Words.{Asked, Show, Check, ToPer, ToXml, Trial}
+use Rattle.transcode_core.specs.Due.{SetIn, Opened, ItemsIn, Checked, Encoded, Documented, Served, Tried, Answered, Due}
+use Rattle.transcode_core.specs.Private.Decided.{Decided}
+use Rattle.transcode_core.specs.declared.tasks.Syntax.{Syntax}
+use Rattle.transcode_core.specs.declared.tasks.Syntax.TheVariants.{Aligned}
+use Rattle.transcode_core.specs.declared.tasks.Task.{Task}
+use Rattle.transcode_core.specs.declared.tasks.Task.TheVariants.{Check, Send, Receive}
+use Rattle.transcode_core.specs.Syntaxes.{AllSyntaxes}
+use Rattle.transcode_core.specs.Words.{Asked, Show, Serve, Trial}
 use Rattle.transcode_core.specs.Causes.{IsRefusal, reads_input, ReadsInput, IsTold, Deciding}
 use Rattle.schema_read.specs.Raw.{raw_of}
 use Rattle.schema_parts.specs.SetParts.{SetParts, NamedSpace, named_spaces, parts_of}
@@ -36,7 +42,8 @@ use Rattle.map_subjects.specs.declared.subjects.Subject.TheVariants as subject
 use Rattle.map_subjects.specs.declared.subjects.NamedSubject.{NamedSubject}
 use Rattle.map_subjects.specs.Subjects.{AreEntries, place_in}
 use Rattle.transcode_core.specs.Trial.{trial_name, trial_schema, trial_root, trial_document}
-use Rattle.transcode_core.proofs.Octets.{OctetLaws, same_octets, one_whole, whole_or_none, one_refusal}
+use Rattle.transcode_core.proofs.Octets.{one_whole, whole_or_none, one_refusal}
+use Rattle.transcode_core.proofs.Verdicts.{outcome_of, bytes_of, decided, due_done}
 use Rattle.validity.specs.Laws.{AtMostOne}
 use Rattle.schema_parts.specs.declared.components.SimpleDef.{SimpleDef}
 use Rattle.map_694.proofs.Once.{one-map, one-entries}
@@ -256,75 +263,87 @@ module _ (one : OneValue) (parts : SetParts) (n : ℕ) (type : RootType) where
   Valued-single is b (Err o) (Err m) (v, fits, items, many, e) (w, also, its, more, f) =
       ap (λ z. Err z) (e ∙ (ap (λ x. TooManyNodes (shown_count x)) (same_value is b v w fits also items its) ∙ sym f))
 
-pub Encoding-single : (type : RootType) (v : Rose ValueLabel) → IsSingle (Encoding type v)
-Encoding-single type v (Err o) w none also = absurd none
-Encoding-single type v (Ok x) (Err o) due none = absurd none
-Encoding-single type v (Ok x) (Ok y) p q = ap (λ z. Ok z) (same_octets x y p.1 q.1 (p.0 ∙ sym q.0))
+pub Encoding-single : AllSyntaxes → (syntax : Syntax) (type : RootType) (v : Rose ValueLabel) → IsSingle (Encoding syntax type v)
+Encoding-single laws syntax type v (Err o) w none also = absurd none
+Encoding-single laws syntax type v (Ok x) (Err o) due none = absurd none
+Encoding-single laws syntax type v (Ok x) (Ok y) p q = ap (λ z. Ok z) ((laws syntax).one_encoding type.assignments type.number v x y p.1 q.1 p.0 q.0)
 
 pub Written-single : (type : RootType) (v : Rose ValueLabel) → IsSingle (Written type v)
 Written-single type v (Err o) w none also = absurd none
 Written-single type v (Ok x) (Err o) due none = absurd none
 Written-single type v (Ok x) (Ok y) (a, of_a, is) (b, of_b, was) = ap (λ z. Ok z) (is ∙ (ap (λ z. written (unplaced z)) (some_inj a b (sym of_a ∙ of_b)) ∙ sym was))
 
-module _ (laws : OctetLaws) (parts : SetParts) (n : ℕ) (type : RootType) where
-  pub Decoded-single : IsRootType parts n type → (octets : List ℕ) → IsSingle (Decoded type (Some octets))
-  Decoded-single (s, of_s, h) octets (Ok v) (Ok w) p q = ap (λ z. Ok z) (one_whole laws type h octets v w p q)
-  Decoded-single (s, of_s, h) octets (Ok v) (Err o) p q = absurd (whole_or_none laws type h octets v o p q)
-  Decoded-single (s, of_s, h) octets (Err o) (Ok v) q p = absurd (whole_or_none laws type h octets v o p q)
-  Decoded-single (s, of_s, h) octets (Err o) (Err m) p q = ap (λ z. Err z) (one_refusal laws type h octets o m p q)
+module _ (laws : AllSyntaxes) (syntax : Syntax) (parts : SetParts) (n : ℕ) (type : RootType) where
+  pub Decoded-single : IsRootType parts n type → (octets : List ℕ) → IsSingle (Decoded syntax type (Some octets))
+  Decoded-single (s, of_s, h) octets (Ok v) (Ok w) p q = ap (λ z. Ok z) (one_whole laws syntax type h octets v w p q)
+  Decoded-single (s, of_s, h) octets (Ok v) (Err o) p q = absurd (whole_or_none laws syntax type h octets v o p q)
+  Decoded-single (s, of_s, h) octets (Err o) (Ok v) q p = absurd (whole_or_none laws syntax type h octets v o p q)
+  Decoded-single (s, of_s, h) octets (Err o) (Err m) p q = ap (λ z. Err z) (one_refusal laws syntax type h octets o m p q)
 
 -- the laws from which it follows
 pub record Laws : Type 1 where
   pub pieces : PieceLaws
   pub valid : AtMostOne
   pub value : OneValue
-  pub octets : OctetLaws
+  pub octets : AllSyntaxes
 
-pub Encoded-single : Laws → (opened : SetParts × ℕ) (left : List ℕ) → IsSingle (Encoded opened (Some left))
-Encoded-single laws opened left =
+pub Encoded-single : Laws → (syntax : Syntax) (opened : SetParts × ℕ) (left : List ℕ) → IsSingle (Encoded syntax opened (Some left))
+Encoded-single laws syntax opened left =
     Then-with _ _ (Typed-single opened) (λ type is.
     Then-single _ _ (ItemsIn-single laws.pieces left) (λ items.
     Then-single _ _ (Then-single _ _ (Judged-single laws.valid opened.0 opened.1 items) (λ treated. Valued-single laws.value opened.0 opened.1 type is treated)) (λ value.
-    Encoding-single type value)))
+    Encoding-single laws.octets syntax type value)))
 
-pub Documented-single : Laws → (opened : SetParts × ℕ) (left : List ℕ) → IsSingle (Documented opened (Some left))
-Documented-single laws opened left =
+pub Documented-single : Laws → (syntax : Syntax) (opened : SetParts × ℕ) (left : List ℕ) → IsSingle (Documented syntax opened (Some left))
+Documented-single laws syntax opened left =
     Then-with _ _ (Typed-single opened) (λ type is.
-    Then-single _ _ (Decoded-single laws.octets opened.0 opened.1 type is left) (λ value.
+    Then-single _ _ (Decoded-single laws.octets syntax opened.0 opened.1 type is left) (λ value.
     Written-single type value))
 
-pub Sent-single : Laws → (entries : List (List ℕ × List ℕ)) (root : Name) (files : List (List ℕ)) (left : List ℕ) → IsSingle (Sent (Some entries) root files (Some left))
-Sent-single laws entries root files left = Then-single _ _ (Opened-single laws.pieces entries root files) (λ opened. Encoded-single laws opened left)
+Served-single : Laws → (task : Task) (opened : SetParts × ℕ) (left : List ℕ) → IsSingle (Served task opened (Some left))
+Served-single laws Check opened left = Checked-single laws.valid laws.pieces opened left
+Served-single laws (Send syntax) opened left = Encoded-single laws syntax opened left
+Served-single laws (Receive syntax) opened left = Documented-single laws syntax opened left
+
+-- a task over files and an input that are told
+task_single : Laws → (task : Task) (entries : List (List ℕ × List ℕ)) (root : Name) (files : List (List ℕ)) (left : List ℕ)
+    → IsSingle (Then (Opened (Some entries) root files) (λ opened. Served task opened (Some left)))
+task_single laws task entries root files left = Then-single _ _ (Opened-single laws.pieces entries root files) (λ opened. Served-single laws task opened left)
 
 pub Tried-single : Laws → (lines : ℕ) → IsSingle (Tried lines)
 Tried-single laws lines =
-    Then-single _ _ (Sent-single laws ((trial_name, trial_schema) ∷ []) trial_root (trial_name ∷ []) (trial_document lines)) (λ octets. Give-single _)
+    Then-single _ _ (task_single laws (Send Aligned) ((trial_name, trial_schema) ∷ []) trial_root (trial_name ∷ []) (trial_document lines)) (λ octets. Give-single _)
 
 -- where what the command reads is told
 pub Answered-single : Laws → (entries : List (List ℕ × List ℕ)) (left : Option (List ℕ)) (request : Asked) → (reads_input request ≡ true → IsTold left)
     → IsSingle (Answered (Some entries) left request)
 Answered-single laws entries left (Show files) told = Then-single _ _ (SetIn-single laws.pieces entries files) (λ parts. Printed-single parts)
-Answered-single laws entries (Some left) (Check root files) told = Then-single _ _ (Opened-single laws.pieces entries root files) (λ opened. Checked-single laws.valid laws.pieces opened left)
-Answered-single laws entries None (Check root files) told = absurd (told refl)
-Answered-single laws entries (Some left) (ToPer root files) told = Sent-single laws entries root files left
-Answered-single laws entries None (ToPer root files) told = absurd (told refl)
-Answered-single laws entries (Some left) (ToXml root files) told = Then-single _ _ (Opened-single laws.pieces entries root files) (λ opened. Documented-single laws opened left)
-Answered-single laws entries None (ToXml root files) told = absurd (told refl)
+Answered-single laws entries (Some left) (Serve task root files) told = task_single laws task entries root files left
+Answered-single laws entries None (Serve task root files) told = absurd (told refl)
 Answered-single laws entries left (Trial lines) told = Tried-single laws lines
 
--- at most one outcome or result is due
-pub Due-single : Laws → (words : List (List ℕ)) (entries : List (List ℕ × List ℕ)) (left : Option (List ℕ)) → (ReadsInput words → IsTold left)
-    → IsSingle (Due words (Some entries) left)
-Due-single laws words entries left told =
+-- at most one verdict is decided
+pub Decided-single : Laws → (words : List (List ℕ)) (entries : List (List ℕ × List ℕ)) (left : Option (List ℕ)) → (ReadsInput words → IsTold left)
+    → IsSingle (Decided words (Some entries) left)
+Decided-single laws words entries left told =
     Then-with _ _ (Found-single _ _) (λ request asks. Answered-single laws entries left request (λ reads. told (request, asks, reads)))
+
+-- at most one outcome is due, with one list of bytes
+pub Due-single : Laws → (words : List (List ℕ)) (entries : List (List ℕ × List ℕ)) (left : Option (List ℕ)) (o p : Outcome) (b c : List ℕ) → (ReadsInput words → IsTold left)
+    → Due words (Some entries) left o b → Due words (Some entries) left p c → (o ≡ p) × (b ≡ c)
+Due-single laws words entries left o p b c told due also =
+    let v = decided words (Some entries) left o b due in
+    let w = decided words (Some entries) left p c also in
+    let same : v.0 ≡ w.0 = Decided-single laws words entries left told v.0 w.0 v.1 w.1 in
+    (v.2 ∙ ap outcome_of same ∙ sym w.2, v.3 ∙ ap bytes_of same ∙ sym w.3)
 
 -- where Done is due and nothing rose, only memory may be missing
 completed : Laws → (words : List (List ℕ)) (entries : List (List ℕ × List ℕ)) (left : Option (List ℕ)) (bytes : List ℕ) (loads loads_now reads reads_now : ℕ) (sure : Bool) (o : Outcome)
-    → (ReadsInput words → IsTold left) → Due words (Some entries) left (Ok bytes) → (HasRisen loads loads_now → ⊥) → (HasRisen reads reads_now → ⊥)
-    → (Due words (Some entries) left (Err o) × IsRefusal o) ⊎ Deciding loads loads_now sure (Some entries) reads reads_now words o
+    → (ReadsInput words → IsTold left) → Decided words (Some entries) left (Ok bytes) → (HasRisen loads loads_now → ⊥) → (HasRisen reads reads_now → ⊥)
+    → (Decided words (Some entries) left (Err o) × IsRefusal o) ⊎ Deciding loads loads_now sure (Some entries) reads reads_now words o
     → (o ≡ Done) ⊎ (o ≡ OutOfMemory)
 completed laws words entries left bytes loads loads_now reads reads_now sure o told due no_load no_read (inl (refused, own)) =
-    let e = Due-single laws words entries left told (Err o) (Ok bytes) refused due in cc
+    let e = Decided-single laws words entries left told (Err o) (Ok bytes) refused due in cc
 completed laws words entries left bytes loads loads_now reads reads_now sure o told due no_load no_read (inr (request, asks, inl (inl memory))) = inr memory
 completed laws words entries left bytes loads loads_now reads reads_now sure o told due no_load no_read (inr (request, asks, inl (inr (k, name, load, named, fails)))) = absurd (no_load fails.rose)
 completed laws words entries left bytes loads loads_now reads reads_now sure o told due no_load no_read (inr (request, asks, inr (read, rose, comes))) = absurd (no_read rose)
@@ -332,9 +351,9 @@ completed laws words entries left bytes loads loads_now reads reads_now sure o t
 -- the same, of files that are told
 pub completed_told : Laws → (words : List (List ℕ)) (known : Option (List (List ℕ × List ℕ))) (left : Option (List ℕ)) (entries : List (List ℕ × List ℕ)) (bytes : List ℕ)
     (loads loads_now reads reads_now : ℕ) (sure : Bool) (o : Outcome) → known ≡ Some entries → (ReadsInput words → IsTold left)
-    → Due words known left (Ok bytes) → (HasRisen loads loads_now → ⊥) → (HasRisen reads reads_now → ⊥)
-    → (Due words known left (Err o) × IsRefusal o) ⊎ Deciding loads loads_now sure known reads reads_now words o
+    → Due words known left Done bytes → (HasRisen loads loads_now → ⊥) → (HasRisen reads reads_now → ⊥)
+    → (Decided words known left (Err o) × IsRefusal o) ⊎ Deciding loads loads_now sure known reads reads_now words o
     → (o ≡ Done) ⊎ (o ≡ OutOfMemory)
 completed_told laws words known left entries bytes loads loads_now reads reads_now sure o files told due no_load no_read answer =
-    completed laws words entries left bytes loads loads_now reads reads_now sure o told (subst (λ e. Due words e left (Ok bytes)) files due) no_load no_read
-    (subst (λ e. (Due words e left (Err o) × IsRefusal o) ⊎ Deciding loads loads_now sure e reads reads_now words o) files answer)
+    completed laws words entries left bytes loads loads_now reads reads_now sure o told (subst (λ e. Decided words e left (Ok bytes)) files (due_done words known left bytes due)) no_load no_read
+    (subst (λ e. (Decided words e left (Err o) × IsRefusal o) ⊎ Deciding loads loads_now sure e reads reads_now words o) files answer)

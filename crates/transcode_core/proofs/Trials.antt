@@ -4,17 +4,23 @@ use Rattle.std.specs.Prelude.{Vec, true}
 use Rattle.std.specs.declared.alloc.Global.{Global}
 use Rattle.xa_base.specs.Entries.{beside}
 use Rattle.transcode_core.specs.declared.outcome.Outcome.{Outcome}
-use Rattle.transcode_core.specs.Words.{ToPer}
+use Rattle.transcode_core.specs.declared.tasks.Syntax.TheVariants.{Aligned}
+use Rattle.transcode_core.specs.declared.tasks.Task.TheVariants.{Send}
+use Rattle.transcode_core.specs.Words.{Serve}
 use Rattle.label_tree.specs.Rose.{Rose}
 use Rattle.item_tree.specs.declared.label.ItemLabel.{ItemLabel}
 use Rattle.transcode_core.specs.Trial.{trial_name, trial_schema, trial_root, trial_document, summary}
-use Rattle.transcode_core.specs.Order.{Give}
-use Rattle.transcode_core.specs.Due.{ItemsIn, Answered, Sent, Tried}
+use Rattle.transcode_core.specs.Order.{Give, Then}
+use Rattle.transcode_core.specs.Due.{Opened, ItemsIn, Served, Answered, Tried}
 use Rattle.transcode_core.specs.Causes.{Answers, Answering, NoMemory, IsRefusal, StepsUpTo, StepsFrom}
 use Rattle.transcode_core.proofs.Joined.{passed, refused}
 
 abbrev pub trial_files : List (List ℕ × List ℕ)
 trial_files = (trial_name, trial_schema) ∷ []
+
+-- what `to-per` makes of an input over this schema
+abbrev pub SentOf : Option (List ℕ) → Result (List ℕ) Outcome → Type 0
+SentOf left = Then (Opened (Some trial_files) trial_root (trial_name ∷ [])) (λ opened. Served (Send Aligned) opened left)
 
 -- the only file of a list of one
 only_name : (names : List (List ℕ)) (n name : List ℕ) (before after : List (List ℕ)) → n ∷ [] ≡ before ++ name ∷ after → name ≡ n
@@ -27,8 +33,8 @@ is_there : (name : List ℕ) → name ≡ trial_name → beside name trial_files
 is_there name e lacks = let f : Some trial_schema ≡ None = subst (λ n. beside n trial_files ≡ None) e lacks in cc
 
 pub answers : (loads loads_now : ℕ) (left : Option (List ℕ)) (v : Result (Vec ℕ Global) Outcome)
-    → Answers (λ (b : Vec ℕ Global). b.items) (Answered (Some trial_files) left (ToPer trial_root (trial_name ∷ []))) (Answering loads loads_now true (Some trial_files) 0 0 (ToPer trial_root (trial_name ∷ []))) v
-    → Answers (λ (b : Vec ℕ Global). b.items) (Sent (Some trial_files) trial_root (trial_name ∷ []) left) NoMemory v
+    → Answers (λ (b : Vec ℕ Global). b.items) (Answered (Some trial_files) left (Serve (Send Aligned) trial_root (trial_name ∷ []))) (Answering loads loads_now true (Some trial_files) 0 0 (Serve (Send Aligned) trial_root (trial_name ∷ []))) v
+    → Answers (λ (b : Vec ℕ Global). b.items) (SentOf left) NoMemory v
 answers loads loads_now left (Ok v) due = due
 answers loads loads_now left (Err o) (inl due) = inl due
 answers loads loads_now left (Err o) (inr (inl (inl memory))) = inr memory
@@ -39,19 +45,19 @@ answers loads loads_now left (Err o) (inr (inr (read, rose, opened))) = absurd (
 -- the same, as the code sees its library, its name and its input
 pub answers_seen : (entries : List (List ℕ × List ℕ)) (name document given : List ℕ) (loads loads_now : ℕ) (v : Result (Vec ℕ Global) Outcome)
     → entries ≡ trial_files → name ≡ trial_name → given ≡ document
-    → Answers (λ (b : Vec ℕ Global). b.items) (Answered (Some entries) (Some given) (ToPer trial_root (name ∷ []))) (Answering loads loads_now true (Some entries) 0 0 (ToPer trial_root (name ∷ []))) v
-    → Answers (λ (b : Vec ℕ Global). b.items) (Sent (Some trial_files) trial_root (trial_name ∷ []) (Some document)) NoMemory v
+    → Answers (λ (b : Vec ℕ Global). b.items) (Answered (Some entries) (Some given) (Serve (Send Aligned) trial_root (name ∷ []))) (Answering loads loads_now true (Some entries) 0 0 (Serve (Send Aligned) trial_root (name ∷ []))) v
+    → Answers (λ (b : Vec ℕ Global). b.items) (SentOf (Some document)) NoMemory v
 answers_seen entries name document given loads loads_now v e f h due =
-    let one = subst (λ es. Answers (λ (b : Vec ℕ Global). b.items) (Answered (Some es) (Some given) (ToPer trial_root (name ∷ []))) (Answering loads loads_now true (Some es) 0 0 (ToPer trial_root (name ∷ []))) v) e due in
-    let two = subst (λ n. Answers (λ (b : Vec ℕ Global). b.items) (Answered (Some trial_files) (Some given) (ToPer trial_root (n ∷ []))) (Answering loads loads_now true (Some trial_files) 0 0 (ToPer trial_root (n ∷ []))) v) f one in
-    let three = subst (λ d. Answers (λ (b : Vec ℕ Global). b.items) (Answered (Some trial_files) (Some d) (ToPer trial_root (trial_name ∷ []))) (Answering loads loads_now true (Some trial_files) 0 0 (ToPer trial_root (trial_name ∷ []))) v) h two in
+    let one = subst (λ es. Answers (λ (b : Vec ℕ Global). b.items) (Answered (Some es) (Some given) (Serve (Send Aligned) trial_root (name ∷ []))) (Answering loads loads_now true (Some es) 0 0 (Serve (Send Aligned) trial_root (name ∷ []))) v) e due in
+    let two = subst (λ n. Answers (λ (b : Vec ℕ Global). b.items) (Answered (Some trial_files) (Some given) (Serve (Send Aligned) trial_root (n ∷ []))) (Answering loads loads_now true (Some trial_files) 0 0 (Serve (Send Aligned) trial_root (n ∷ []))) v) f one in
+    let three = subst (λ d. Answers (λ (b : Vec ℕ Global). b.items) (Answered (Some trial_files) (Some d) (Serve (Send Aligned) trial_root (trial_name ∷ []))) (Answering loads loads_now true (Some trial_files) 0 0 (Serve (Send Aligned) trial_root (trial_name ∷ []))) v) h two in
     answers loads loads_now (Some document) v three
 
 -- ---- the line of a trial
 
 -- what is due of a document over the schema of the trial
 abbrev pub SentTrial : List ℕ → Result (List ℕ) Outcome → Type 0
-SentTrial document = Sent (Some trial_files) trial_root (trial_name ∷ []) (Some document)
+SentTrial document = SentOf (Some document)
 
 abbrev pub Line : ℕ → List ℕ → Result (List ℕ) Outcome → Type 0
 Line lines octets = Give (summary lines (length (trial_document lines)) (length octets))

@@ -6,10 +6,11 @@ use Rattle.transcode_core.specs.declared.outcome.Outcome.{Outcome}
 use Rattle.transcode_core.specs.declared.outcome.Outcome.TheVariants.{Done, Usage, SchemaSyntax, SchemaFault, LinkFault, UnknownRoot, TooLong, LoadFault, ReadFault, WriteFault, OutOfMemory}
 use Rattle.schema_parts.specs.Raw.{Document}
 use Rattle.schema_parts.specs.SetParts.{SetParts}
-use Rattle.per_fields.specs.declared.stops.Stop.{Stop}
-use Rattle.per_fields.specs.Laws.{Stops}
 use Rattle.transcode_core.specs.Steps.{Schemas, RootType, Typed, readable}
-use Rattle.transcode_core.specs.Words.{Asked, Show, Check, ToPer, ToXml, Trial}
+use Rattle.transcode_core.specs.declared.tasks.Syntax.{Syntax}
+use Rattle.transcode_core.specs.Tasks.{Reads, ADocument, Octets, reads, is_document}
+use Rattle.transcode_core.specs.Syntaxes.{Fault, HasFault}
+use Rattle.transcode_core.specs.Words.{Asked, Show, Serve, Trial}
 use Rattle.transcode_core.specs.Due.{Requested, Opened, ItemsIn}
 use Rattle.transcode_core.specs.Trial.{trial_document}
 use Rattle.label_tree.specs.Rose.{Rose}
@@ -64,9 +65,7 @@ SomeLoad before now is_sure entries names o =
 -- the files that are loaded
 abbrev pub files_of : Asked → List (List ℕ)
 files_of (Show files) = files
-files_of (Check root files) = files
-files_of (ToPer root files) = files
-files_of (ToXml root files) = files
+files_of (Serve task root files) = files
 files_of (Trial lines) = []
 
 -- the words name this file, by this number, and the order passes to its load
@@ -80,9 +79,7 @@ OneRead before now o = (o ≡ OutOfMemory) ⊎ ((o ≡ ReadFault) × HasRisen be
 -- the command reads the input
 abbrev pub reads_input : Asked → Bool
 reads_input (Show files) = false
-reads_input (Check root files) = true
-reads_input (ToPer root files) = true
-reads_input (ToXml root files) = true
+reads_input (Serve task root files) = true
 reads_input (Trial lines) = false
 
 abbrev pub ReadsInput : List (List ℕ) → Type 0
@@ -96,23 +93,23 @@ IsTold (Some left) = Unit {0}
 -- it does, and the files and the root pass
 abbrev pub ComesToInput : Option (List (List ℕ × List ℕ)) → Asked → Type 0
 ComesToInput entries (Show files) = ⊥
-ComesToInput entries (Check root files) = (opened : SetParts × ℕ) × Opened entries root files (Ok opened)
-ComesToInput entries (ToPer root files) = (opened : SetParts × ℕ) × Opened entries root files (Ok opened)
-ComesToInput entries (ToXml root files) = (opened : SetParts × ℕ) × Opened entries root files (Ok opened)
+ComesToInput entries (Serve task root files) = (opened : SetParts × ℕ) × Opened entries root files (Ok opened)
 ComesToInput entries (Trial lines) = ⊥
 
--- of octets that have a first fault, none was taken behind the end of its field
-abbrev pub TakesItsField : RootType → Option (List ℕ) → Option (List ℕ) → Type 0
-TakesItsField type old new = (left : List ℕ) → old ≡ Some left → (stop : Stop) → Stops type.assignments type.number (readable left) stop
-    → (count : ℕ) × (new ≡ Some (drop count left)) × (8 * count ≤ stop.end + 7)
+-- of octets that have a first fault, none was taken behind what shows it
+abbrev pub TakesItsField : Syntax → RootType → Option (List ℕ) → Option (List ℕ) → Type 0
+TakesItsField syntax type old new = (left : List ℕ) → old ≡ Some left → (fault : Fault) → HasFault syntax type.assignments type.number (readable left) fault
+    → (count : ℕ) × (new ≡ Some (drop count left)) × (8 * count ≤ fault.end + 7)
+
+-- what is taken of the input behind the files and the root
+abbrev pub Takes : Reads → SetParts × ℕ → Option (List ℕ) → Option (List ℕ) → Type 0
+Takes ADocument opened old new = Unit {0}
+Takes (Octets syntax) opened old new = (type : RootType) × Typed opened (Ok type) × TakesItsField syntax type old new
 
 -- what a command that comes to the input takes of it
 abbrev pub TakesInput : Option (List (List ℕ × List ℕ)) → Asked → Option (List ℕ) → Option (List ℕ) → Type 0
 TakesInput entries (Show files) old new = ⊥
-TakesInput entries (Check root files) old new = (opened : SetParts × ℕ) × Opened entries root files (Ok opened)
-TakesInput entries (ToPer root files) old new = (opened : SetParts × ℕ) × Opened entries root files (Ok opened)
-TakesInput entries (ToXml root files) old new =
-    (opened : SetParts × ℕ) × Opened entries root files (Ok opened) × ((type : RootType) × Typed opened (Ok type) × TakesItsField type old new)
+TakesInput entries (Serve task root files) old new = (opened : SetParts × ℕ) × Opened entries root files (Ok opened) × Takes (reads task) opened old new
 TakesInput entries (Trial lines) old new = ⊥
 
 -- the same of the words
@@ -144,12 +141,15 @@ abbrev pub Deciding : ℕ → ℕ → Bool → Option (List (List ℕ × List �
 Deciding loads loads_now is_sure entries reads reads_now words o =
     (request : Asked) × Requested words (Ok request) × Answering loads loads_now is_sure entries reads reads_now request o
 
--- the document that a command reads
+-- the document of which a task looks at each element
+abbrev pub LooksAt : Reads → Option (List ℕ) → Rose ItemLabel → Type 0
+LooksAt ADocument left items = ItemsIn left (Ok items)
+LooksAt (Octets syntax) left items = ⊥
+
+-- the same of a command
 abbrev pub ReadsItems : Option (List ℕ) → Asked → Rose ItemLabel → Type 0
 ReadsItems left (Show files) items = ⊥
-ReadsItems left (Check root files) items = ItemsIn left (Ok items)
-ReadsItems left (ToPer root files) items = ItemsIn left (Ok items)
-ReadsItems left (ToXml root files) items = ⊥
+ReadsItems left (Serve task root files) items = LooksAt (reads task) left items
 ReadsItems left (Trial lines) items = ItemsIn (Some (trial_document lines)) (Ok items)
 
 abbrev pub ReadsOfWords : List (List ℕ) → Option (List ℕ) → Rose ItemLabel → Type 0
@@ -166,9 +166,7 @@ StepsFrom Reads old new = (items : Rose ItemLabel) × Reads items × (old + elem
 -- the command looks at the elements of a document
 abbrev pub reads_document : Asked → Bool
 reads_document (Show files) = false
-reads_document (Check root files) = true
-reads_document (ToPer root files) = true
-reads_document (ToXml root files) = false
+reads_document (Serve task root files) = is_document (reads task)
 reads_document (Trial lines) = true
 
 abbrev pub ReadsDocument : List (List ℕ) → Type 0

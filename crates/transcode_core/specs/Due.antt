@@ -1,12 +1,16 @@
--- The outcome and the bytes due: the first refusal in the order of the steps, or the bytes.
-use Rattle.std.specs.Prelude.{ℕ, List, [], ◌∷◌, length, Option, Some, Result}
+-- The outcome and the bytes due: the first refusal in the order of the steps and no bytes, or Done and the bytes of the result.
+use Rattle.std.specs.Prelude.{◌≡◌, ◌⊎◌, ℕ, List, [], ◌∷◌, length, Option, Some, Result, Ok, Err}
 use Rattle.xa_base.specs.declared.texts.Name.{Name}
 use Rattle.label_tree.specs.Rose.{Rose}
 use Rattle.item_tree.specs.declared.label.ItemLabel.{ItemLabel}
 use Rattle.schema_parts.specs.SetParts.{SetParts}
 use Rattle.transcode_core.specs.declared.outcome.Outcome.{Outcome}
-use Rattle.transcode_core.specs.declared.outcome.Outcome.TheVariants.{Usage, DocSyntax}
-use Rattle.transcode_core.specs.Words.{Asked, Show, Check, ToPer, ToXml, Trial, asked}
+use Rattle.transcode_core.specs.declared.outcome.Outcome.TheVariants.{Done, Usage, DocSyntax}
+use Rattle.transcode_core.specs.declared.tasks.Syntax.{Syntax}
+use Rattle.transcode_core.specs.declared.tasks.Syntax.TheVariants.{Aligned}
+use Rattle.transcode_core.specs.declared.tasks.Task.{Task}
+use Rattle.transcode_core.specs.declared.tasks.Task.TheVariants.{Check, Send, Receive}
+use Rattle.transcode_core.specs.Words.{Asked, Show, Serve, Trial, asked}
 use Rattle.transcode_core.specs.Order.{Give, Found, Then}
 use Rattle.transcode_core.specs.Trial.{trial_root, trial_name, trial_schema, trial_document, summary}
 use Rattle.transcode_core.specs.Steps.{Schemas, Linked, Printed, Rooted, Input, Read, Judged, Typed, ValueIn, Encoding, Decoded, Written}
@@ -37,39 +41,52 @@ Checked opened left =
     Then (Judged opened.0 opened.1 items) (λ _.
     Give []))
 
--- the encoding of the one value whose items are those of the document in the input
-abbrev pub Encoded : SetParts × ℕ → Option (List ℕ) → Result (List ℕ) Outcome → Type 0
-Encoded opened left =
+-- the encoding, in a transfer syntax, of the one value whose items are those of the document in the input
+abbrev pub Encoded : Syntax → SetParts × ℕ → Option (List ℕ) → Result (List ℕ) Outcome → Type 0
+Encoded syntax opened left =
     Then (Typed opened) (λ type.
     Then (ItemsIn left) (λ items.
     Then (ValueIn opened type items) (λ value.
-    Encoding type value)))
+    Encoding syntax type value)))
 
 -- the document of the one value of which the input is the encoding
-abbrev pub Documented : SetParts × ℕ → Option (List ℕ) → Result (List ℕ) Outcome → Type 0
-Documented opened left =
+abbrev pub Documented : Syntax → SetParts × ℕ → Option (List ℕ) → Result (List ℕ) Outcome → Type 0
+Documented syntax opened left =
     Then (Typed opened) (λ type.
-    Then (Decoded type left) (λ value.
+    Then (Decoded syntax type left) (λ value.
     Written type value))
 
--- `to-per`: the files and the root, then the input
-abbrev pub Sent : Option (List (List ℕ × List ℕ)) → Name → List (List ℕ) → Option (List ℕ) → Result (List ℕ) Outcome → Type 0
-Sent entries root files left = Then (Opened entries root files) (λ opened. Encoded opened left)
+-- what a task makes of an opened set and the input
+abbrev pub Served : Task → SetParts × ℕ → Option (List ℕ) → Result (List ℕ) Outcome → Type 0
+Served Check opened left = Checked opened left
+Served (Send syntax) opened left = Encoded syntax opened left
+Served (Receive syntax) opened left = Documented syntax opened left
 
--- the summary of what `to-per` makes of the trial document of so many lines, whose schema is the only file
+-- `to-per` over the trial document of so many lines, whose schema is the only file
+abbrev pub TrialSent : ℕ → Result (List ℕ) Outcome → Type 0
+TrialSent lines =
+    Then (Opened (Some ((trial_name, trial_schema) ∷ [])) trial_root (trial_name ∷ [])) (λ opened. Served (Send Aligned) opened (Some (trial_document lines)))
+
+-- the summary of what it makes
 abbrev pub Tried : ℕ → Result (List ℕ) Outcome → Type 0
-Tried lines =
-    Then (Sent (Some ((trial_name, trial_schema) ∷ [])) trial_root (trial_name ∷ []) (Some (trial_document lines))) (λ octets.
-    Give (summary lines (length (trial_document lines)) (length octets)))
+Tried lines = Then (TrialSent lines) (λ octets. Give (summary lines (length (trial_document lines)) (length octets)))
 
--- the answer to what is asked for
+-- the answer to what is asked for: the result, or the first refusal
 abbrev pub Answered : Option (List (List ℕ × List ℕ)) → Option (List ℕ) → Asked → Result (List ℕ) Outcome → Type 0
 Answered entries left (Show files) = Then (SetIn entries files) (λ parts. Printed parts)
-Answered entries left (Check root files) = Then (Opened entries root files) (λ opened. Checked opened left)
-Answered entries left (ToPer root files) = Sent entries root files left
-Answered entries left (ToXml root files) = Then (Opened entries root files) (λ opened. Documented opened left)
+Answered entries left (Serve task root files) = Then (Opened entries root files) (λ opened. Served task opened left)
 Answered entries left (Trial lines) = Tried lines
 
--- what is due: the first refusal, or done with these bytes
-abbrev pub Due : List (List ℕ) → Option (List (List ℕ × List ℕ)) → Option (List ℕ) → Result (List ℕ) Outcome → Type 0
-Due words entries left = Then (Requested words) (λ request. Answered entries left request)
+-- the outcome and the bytes of an answer that comes whole or not at all: Done with the result, or the refusal without bytes
+abbrev pub Whole : (Result (List ℕ) Outcome → Type 0) → Outcome → List ℕ → Type 0
+Whole answer Done bytes = answer (Ok bytes)
+Whole answer o bytes = answer (Err o) × (bytes ≡ [])
+
+-- the outcome and the bytes of a command
+abbrev pub Told : Option (List (List ℕ × List ℕ)) → Option (List ℕ) → Asked → Outcome → List ℕ → Type 0
+Told entries left request = Whole (Answered entries left request)
+
+-- WHAT IS DUE of words, files and input: one outcome and one list of bytes
+abbrev pub Due : List (List ℕ) → Option (List (List ℕ × List ℕ)) → Option (List ℕ) → Outcome → List ℕ → Type 0
+Due words entries left o bytes =
+    (Requested words (Err o) × (bytes ≡ [])) ⊎ ((request : Asked) × Requested words (Ok request) × Told entries left request o bytes)

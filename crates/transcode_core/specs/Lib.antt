@@ -1,3 +1,5 @@
+pub mod Tasks
+pub mod Syntaxes
 pub mod Words
 pub mod Trial
 pub mod Order
@@ -8,3 +10,4 @@ pub mod Lines
 pub mod Status
 pub mod Private
 pub mod ReadBack
+pub mod Again

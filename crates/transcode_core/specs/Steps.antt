@@ -1,5 +1,5 @@
 -- Each step with what it passes on and what it refuses.
-use Rattle.std.specs.Prelude.{◌≡◌, ◌⊎◌, ℕ, zero, suc, Bool, ◌&&◌, ◌+◌, ◌*◌, ◌<◌, ◌≤◌, ⊤, All, nat_le, List, [], ◌∷◌, map, take, length, Option, Some, None, Result, Ok, Err, if◌then◌else◌}
+use Rattle.std.specs.Prelude.{◌≡◌, ◌⊎◌, ℕ, zero, suc, ◌&&◌, ◌+◌, ◌<◌, ◌≤◌, ⊤, All, nat_le, List, [], ◌∷◌, map, take, length, Option, Some, None, Result, Ok, Err, if◌then◌else◌}
 use Rattle.std.specs.Option.{option_map}
 use Rattle.label_tree.specs.Rose.{Rose, node_count, shown_count}
 use Rattle.xa_base.specs.Entries.{HasEntry, HasLonger, Lacks}
@@ -28,11 +28,6 @@ use Rattle.asn_types.specs.Values.{Fits, In}
 use Rattle.simple_types.specs.declared.labels.ValueLabel.{ValueLabel}
 use Rattle.one_value.specs.Statements.{AreSmall, root_at}
 use Rattle.xer_items.specs.Items.{Xer}
-use Rattle.bit_cursor.specs.Bits.{octet_bits}
-use Rattle.per_fields.specs.declared.stops.Stop.{Stop}
-use Rattle.per_fields.specs.Encoding.{complete}
-use Rattle.per_fields.specs.Laws.{Begins, Stops}
-use Rattle.per_decode.specs.Answers.{is_short}
 use Rattle.doc_written.specs.Written.{written}
 use Rattle.map_assignments.specs.Mapped.{IsMapOf}
 use Rattle.module_print.specs.Printed.{printed}
@@ -43,7 +38,9 @@ use Rattle.schema_read.specs.Raw.{raw_of}
 use Rattle.link_simple.specs.Making.{IsMaking}
 use Rattle.transcode_core.specs.declared.outcome.Outcome.{Outcome}
 use Rattle.transcode_core.specs.declared.outcome.Outcome.TheVariants.{SchemaSyntax, SchemaFault, LinkFault, UnknownRoot, Invalid, PerFault, Trailing, TooLong, TooManyNodes, LoadFault}
+use Rattle.transcode_core.specs.declared.tasks.Syntax.{Syntax}
 use Rattle.transcode_core.specs.Order.{Give, Found, Then}
+use Rattle.transcode_core.specs.Syntaxes.{Fault, IsEncoding, BeginsWith, HasFault}
 
 -- the contents of file k, if they are no more than the limit
 abbrev pub Loaded : Option (List (List ℕ × List ℕ)) → ℕ → List ℕ → Result (List ℕ) Outcome → Type 0
@@ -161,25 +158,24 @@ Valued type treated (Err o) = (v : Rose ValueLabel) × Fits type.assignments typ
 abbrev pub ValueIn : SetParts × ℕ → RootType → Rose ItemLabel → Result (Rose ValueLabel) Outcome → Type 0
 ValueIn opened type items = Then (Judged opened.0 opened.1 items) (λ treated. Valued type treated)
 
--- the complete encoding of a value in canonical aligned PER (X.691)
-abbrev pub Encoding : RootType → Rose ValueLabel → Result (List ℕ) Outcome → Type 0
-Encoding type v (Ok octets) = (octet_bits octets ≡ complete type.assignments type.number v) × All (λ x. x < 256) octets
-Encoding type v (Err o) = ⊥
+-- the encoding of a value
+abbrev pub Encoding : Syntax → RootType → Rose ValueLabel → Result (List ℕ) Outcome → Type 0
+Encoding syntax type v (Ok octets) = IsEncoding syntax type.assignments type.number v octets × All (λ x. x < 256) octets
+Encoding syntax type v (Err o) = ⊥
 
--- the bits among which an encoding is looked for: those of as many octets as an input may have
-abbrev pub readable : List ℕ → List Bool
-readable octets = octet_bits (take 16777216 octets)
+-- the octets among which an encoding is looked for: as many as an input may have
+abbrev pub readable : List ℕ → List ℕ
+readable octets = take 16777216 octets
 
--- how the first fault of octets is told: those that end inside a field may go on behind the limit
-abbrev pub fault_in : List ℕ → Stop → Outcome
-fault_in octets stop = if is_short stop.why && nat_le 16777216 (length octets) then TooLong 0 else PerFault stop.bit stop.why
+-- how the first fault of octets is told: those that end before it is decided may go on behind the limit
+abbrev pub fault_in : List ℕ → Fault → Outcome
+fault_in octets fault = if fault.is_open && nat_le 16777216 (length octets) then TooLong 0 else fault.refusal
 
 -- the octets have a first fault, or they go on behind the encoding of a value
-abbrev pub IsNoEncoding : RootType → List ℕ → Outcome → Type 0
-IsNoEncoding type octets o =
-    ((stop : Stop) × Stops type.assignments type.number (readable octets) stop × (o ≡ fault_in octets stop))
-    ⊎ ((v : Rose ValueLabel) × (at : ℕ) × Begins type.assignments type.number (readable octets) v
-    × (8 * at ≡ length (complete type.assignments type.number v)) × (at < length octets) × (o ≡ Trailing at))
+abbrev pub IsNoEncoding : Syntax → RootType → List ℕ → Outcome → Type 0
+IsNoEncoding syntax type octets o =
+    ((fault : Fault) × HasFault syntax type.assignments type.number (readable octets) fault × (o ≡ fault_in octets fault))
+    ⊎ ((v : Rose ValueLabel) × (at : ℕ) × BeginsWith syntax type.assignments type.number (readable octets) v at × (at < length octets) × (o ≡ Trailing at))
 
 -- an outcome that refuses octets
 abbrev pub IsOfOctets : Outcome → Type 0
@@ -188,12 +184,13 @@ IsOfOctets (Trailing _) = Unit {0}
 IsOfOctets (TooLong zero) = Unit {0}
 IsOfOctets o = ⊥
 
--- where they are told, all octets that are left are the complete encoding of this value; or they are of none
-abbrev pub Decoded : RootType → Option (List ℕ) → Result (Rose ValueLabel) Outcome → Type 0
-Decoded type None (Ok v) = In type.assignments type.number v
-Decoded type None (Err o) = IsOfOctets o
-Decoded type (Some octets) (Ok v) = (length octets ≤ 16777216) × In type.assignments type.number v × (octet_bits octets ≡ complete type.assignments type.number v)
-Decoded type (Some octets) (Err o) = IsNoEncoding type octets o
+-- where they are told, all octets that are left are the encoding of this value; or they are of none
+abbrev pub Decoded : Syntax → RootType → Option (List ℕ) → Result (Rose ValueLabel) Outcome → Type 0
+Decoded syntax type None (Ok v) = In type.assignments type.number v
+Decoded syntax type None (Err o) = IsOfOctets o
+Decoded syntax type (Some octets) (Ok v) =
+    (length octets ≤ 16777216) × In type.assignments type.number v × IsEncoding syntax type.assignments type.number v octets
+Decoded syntax type (Some octets) (Err o) = IsNoEncoding syntax type octets o
 
 -- the text that is written of the items of the value (X.693)
 abbrev pub Written : RootType → Rose ValueLabel → Result (List ℕ) Outcome → Type 0

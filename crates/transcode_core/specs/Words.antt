@@ -1,19 +1,26 @@
 -- The words of the command line.
-use Rattle.std.specs.Prelude.{ℕ, Bool, false, ◌&&◌, not, ◌==◌, List, [], ◌∷◌, length, nat_le, nat_lt, bytes_eq, codes, Option, Some, None, option_map, if◌then◌else◌}
+use Rattle.std.specs.Prelude.{ℕ, ◌≤◌, Bool, false, ◌&&◌, not, ◌==◌, List, [], ◌∷◌, length, nat_le, nat_lt, bytes_eq, codes, Option, Some, None, option_map, if◌then◌else◌}
 use Rattle.std.specs.List.{list_all, position_or_len, before_first, after_first}
 use Rattle.std.specs.Str.{chars}
 use Rattle.xa_base.specs.Characters.{is_xml_char, is_ncname}
 use Rattle.xa_base.specs.Digits.{is_digit, number_of}
 use Rattle.xa_base.specs.Limits.{is_short_space}
 use Rattle.xa_base.specs.declared.texts.Name.{Name}
+use Rattle.transcode_core.specs.declared.tasks.Syntax.TheVariants.{Aligned}
+use Rattle.transcode_core.specs.declared.tasks.Task.{Task}
+use Rattle.transcode_core.specs.declared.tasks.Task.TheVariants.{Check, Send, Receive}
 
--- what the words ask for: a command with its root and its files, or its number
+-- what the words ask for: the module of files, a task with its root and its files, or a trial of so many lines
 pub data Asked : Type 0 where
   Show : List (List ℕ) → Asked
-  Check : Name → List (List ℕ) → Asked
-  ToPer : Name → List (List ℕ) → Asked
-  ToXml : Name → List (List ℕ) → Asked
+  Serve : Task → Name → List (List ℕ) → Asked
   Trial : ℕ → Asked
+
+-- the limits of what words ask for
+abbrev pub IsWithin : Asked → Type 0
+IsWithin (Show files) = length files ≤ 64
+IsWithin (Serve task root files) = length files ≤ 64
+IsWithin (Trial lines) = (1 ≤ lines) × (lines ≤ 100000)
 
 -- from 1 to 64 files
 abbrev pub are_files : List (List ℕ) → Bool
@@ -58,8 +65,21 @@ abbrev pub rooted_parts : List (List ℕ) → Option (Name × List (List ℕ))
 rooted_parts [] = None
 rooted_parts (root ∷ files) = if are_files files then option_map (λ name. (name, files)) (root_of root) else None
 
-abbrev pub rooted : (Name → List (List ℕ) → Asked) → List (List ℕ) → Option Asked
-rooted command words = option_map (λ parts. command parts.0 parts.1) (rooted_parts words)
+-- the task that a word names
+abbrev pub task_of : List ℕ → Option Task
+task_of word =
+    if bytes_eq word (codes "check") then Some Check
+    else if bytes_eq word (codes "to-per") then Some (Send Aligned)
+    else if bytes_eq word (codes "to-xml") then Some (Receive Aligned)
+    else None
+
+abbrev pub rooted : Task → List (List ℕ) → Option Asked
+rooted task words = option_map (λ parts. Serve task parts.0 parts.1) (rooted_parts words)
+
+-- the task, if there is one, with its root and its files
+abbrev pub served : Option Task → List (List ℕ) → Option Asked
+served None words = None
+served (Some task) words = rooted task words
 
 abbrev pub counted : List (List ℕ) → Option Asked
 counted (word ∷ []) = option_map (λ n. Trial n) (count_of word)
@@ -68,13 +88,10 @@ counted words = None
 abbrev pub shown : List (List ℕ) → Option Asked
 shown files = if are_files files then Some (Show files) else None
 
--- `show FILE..`, `check ROOT FILE..`, `to-per ROOT FILE..`, `to-xml ROOT FILE..` or `trial N`
+-- `show FILE..`, `trial N`, or a task as `check ROOT FILE..`, `to-per ROOT FILE..` or `to-xml ROOT FILE..`
 abbrev pub asked : List (List ℕ) → Option Asked
 asked [] = None
 asked (command ∷ words) =
     if bytes_eq command (codes "show") then shown words
-    else if bytes_eq command (codes "check") then rooted Check words
-    else if bytes_eq command (codes "to-per") then rooted ToPer words
-    else if bytes_eq command (codes "to-xml") then rooted ToXml words
     else if bytes_eq command (codes "trial") then counted words
-    else None
+    else served (task_of command) words

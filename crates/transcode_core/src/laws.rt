@@ -1,43 +1,54 @@
 //! What holds of what is due.
-ghost use Rattle.std.specs.Prelude.{◌≡◌, ◌<◌, ◌≤◌, ◌^◌, ℕ, List, length, Option, Some, Result, Ok, Err};
-ghost use Rattle.label_tree.specs.Rose.{Rose};
-ghost use Rattle.item_tree.specs.declared.label.ItemLabel.{ItemLabel};
-ghost use Rattle.doc_text.specs.Documents.{DocOf};
+ghost use Rattle.std.specs.Prelude.{◌≡◌, ◌≤◌, ℕ, List, length, Option, Some, Ok};
 ghost use Rattle.plain_items.specs.Plain.{Plain};
+ghost use Rattle.label_tree.specs.Rose.{Rose};
 ghost use Rattle.schema_parts.specs.SetParts.{SetParts};
-ghost use Rattle.transcode_core.specs.Steps.{Judged};
 ghost use Rattle.transcode_core.specs.declared.outcome.Outcome.{Outcome};
+ghost use Rattle.transcode_core.specs.declared.outcome.Outcome.TheVariants as outcome;
+ghost use Rattle.transcode_core.specs.declared.tasks.Syntax.{Syntax};
 ghost use Rattle.transcode_core.specs.Causes.{ReadsInput, IsTold};
-ghost use Rattle.transcode_core.specs.Due.{ItemsIn, Encoded, Documented, Due};
-ghost use Rattle.transcode_core.specs.ReadBack.{DocumentedBack};
+ghost use Rattle.transcode_core.specs.Syntaxes.{AllSyntaxes};
+ghost use Rattle.transcode_core.specs.Due.{Encoded, Documented, Due};
+ghost use Rattle.transcode_core.specs.ReadBack.{IsValidText, DocumentedBack, ReadBack};
+ghost use Rattle.transcode_core.specs.Again.{AreThereAndBack, AreSameDocuments};
 
 use doc_text::{document_items, one_answer as document_answer};
 use map_laws::maps_exist;
 use map_widths::{maps_are_bounded, maps_are_modules};
 use one_value::{items_of_values, one_value};
 use per_fields::first_stop;
+use per_stops::stops_first;
 use schema_link::one_answer as link_answer;
 use set_exists::sets_of_documents;
-use sound_items::documents_of_values;
 use validity::{at_least_one, at_most_one};
 use value_exists::values_of_items;
 
-/// Of all words, over files that are told, at most one refusal or result is due, and a result with its bytes alone; where
-/// the words ask for the input, this is told too.
+/// In each transfer syntax octets begin with the encoding of one value, or have one first fault, and never both; and each value
+/// has one encoding.
+pub fn exactly_one_of_both()
+    ensures { AllSyntaxes }
+{
+    first_stop();
+    stops_first();
+}
+
+/// Of all words, over files that are told, at most one outcome is due, with one list of bytes; where the words ask for the
+/// input, this is told too.
 pub fn one_answer()
-    ensures { (words : List (List ℕ)) (entries : List (List ℕ × List ℕ)) (left : Option (List ℕ)) (v w : Result (List ℕ) Outcome) → (ReadsInput words → IsTold left)
-        → Due words (Some entries) left v → Due words (Some entries) left w → v ≡ w }
+    ensures { (words : List (List ℕ)) (entries : List (List ℕ × List ℕ)) (left : Option (List ℕ)) (o p : Outcome) (b c : List ℕ) → (ReadsInput words → IsTold left)
+        → Due words (Some entries) left o b → Due words (Some entries) left p c → (o ≡ p) × (b ≡ c) }
 {
     at_most_one();
     one_value();
     first_stop();
+    stops_first();
 }
 
-/// Of all words, over files that are told, a refusal or a result is due; where the words ask for the input, this is told
-/// too. So with the law above just one is due.
+/// Of all words, over files that are told, an outcome is due, with a list of bytes; where the words ask for the input, this is
+/// told too. So with the law above just one is due.
 pub fn some_answer()
     ensures { (words : List (List ℕ)) (entries : List (List ℕ × List ℕ)) (left : Option (List ℕ)) → (ReadsInput words → IsTold left)
-        → (v : Result (List ℕ) Outcome) × Due words (Some entries) left v }
+        → (o : Outcome) × (bytes : List ℕ) × Due words (Some entries) left o bytes }
 {
     document_answer();
     document_items();
@@ -50,20 +61,23 @@ pub fn some_answer()
     values_of_items();
     items_of_values();
     first_stop();
+    stops_first();
 }
 
-/// What `to-per` writes of a document, `to-xml` takes, unless it is too long to be an input. What `to-xml` writes is a valid
-/// document; of what was written of a document, one with the treated items of this. The bound is that of the law on the items
-/// of written documents.
+/// What `to-per` writes of a document, `to-xml` takes over the same files, unless it is too long to be an input. What it writes
+/// there, which by `run` is read back (`ReadBack`), is a valid document with the treated items of the first. Both are said of a
+/// set with its root, and of words.
 pub fn there_and_back()
-    ensures taken { (opened : SetParts × ℕ) (document octets : List ℕ) (o : Outcome) → Encoded opened (Some document) (Ok octets) → length octets ≤ 16777216
-        → Documented opened (Some octets) (Err o) → ⊥ }
-    ensures valid { (opened : SetParts × ℕ) (octets text : List ℕ) → DocumentedBack opened (Some octets) text → length text < 2 ^ 31
-        → (again : Rose ItemLabel) × (treated : Rose Plain) × DocOf text again × Judged opened.0 opened.1 again (Ok treated) }
-    ensures same { (opened : SetParts × ℕ) (document octets text : List ℕ) → Encoded opened (Some document) (Ok octets) → DocumentedBack opened (Some octets) text → length text < 2 ^ 31
-        → (items again : Rose ItemLabel) × (treated : Rose Plain) × ItemsIn (Some document) (Ok items) × Judged opened.0 opened.1 items (Ok treated)
-        × DocOf text again × Judged opened.0 opened.1 again (Ok treated) }
+    ensures taken_in_set { (syntax : Syntax) (opened : SetParts × ℕ) (document octets : List ℕ) → Encoded syntax opened (Some document) (Ok octets) → length octets ≤ 16777216
+        → (text : List ℕ) × Documented syntax opened (Some octets) (Ok text) }
+    ensures same_in_set { (syntax : Syntax) (opened : SetParts × ℕ) (document octets text : List ℕ) → Encoded syntax opened (Some document) (Ok octets)
+        → DocumentedBack syntax opened (Some octets) text → (treated : Rose Plain) × IsValidText opened document treated × IsValidText opened text treated }
+    ensures taken { (entries : List (List ℕ × List ℕ)) (there back : List (List ℕ)) → AreThereAndBack there back → (document octets : List ℕ)
+        → Due there (Some entries) (Some document) outcome.Done octets → length octets ≤ 16777216 → (text : List ℕ) × Due back (Some entries) (Some octets) outcome.Done text }
+    ensures same { (entries : List (List ℕ × List ℕ)) (there back : List (List ℕ)) (ways : AreThereAndBack there back) (document octets text : List ℕ)
+        → Due there (Some entries) (Some document) outcome.Done octets → ReadBack back (Some entries) (Some octets) text
+        → AreSameDocuments (Some entries) ways.root ways.files document text }
 {
     first_stop();
-    documents_of_values();
+    stops_first();
 }

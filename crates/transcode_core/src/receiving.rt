@@ -12,8 +12,10 @@ ghost use Rattle.transcode_core.specs.Causes.{Answers, NoMemory, OneRead, TakesI
 
 use crate::opened::RootModule;
 use crate::outcome::Outcome;
+use crate::tasks::Syntax;
 use doc_write::write_document;
 use per_decode::{DecodeError, decode};
+use per_stops::stops_first;
 use simple_types::Value;
 use sound_items::items_are_sound;
 use std::alloc::Global;
@@ -36,20 +38,21 @@ fn ends<S: Source>(input: &mut S) -> Result<bool, Failed>
     }
 }
 
-// The value of which the input is the encoding.
-fn decode_input<S: Source>(
+// The value of which the input is the encoding in canonical aligned PER.
+fn decode_aligned<S: Source>(
     alloc: Global,
     typed: &RootModule,
     input: &mut S,
 ) -> Result<Value, Outcome>
     requires { (set : Set) × (n : ℕ) × IsTypeOf set n (type_seen typed.now) }
-    ensures due { Answers (λ value. value) (Decoded (type_seen typed.now) (S.left input.old)) (OneRead (S.faults input.old) (S.faults input.new)) result }
+    ensures due { Answers (λ value. value) (Decoded Syntax.Aligned (type_seen typed.now) (S.left input.old)) (OneRead (S.faults input.old) (S.faults input.new)) result }
     ensures kept { IfOk result (λ value. In typed.now.module typed.now.number value) }
     ensures end { OnOk result (IsAtEnd (S.left input.new)) }
     ensures stage { IfErr result IsOfInput }
-    ensures taken { TakesItsField (type_seen typed.now) (S.left input.old) (S.left input.new) }
+    ensures taken { TakesItsField Syntax.Aligned (type_seen typed.now) (S.left input.old) (S.left input.new) }
     ensures later { S.faults input.old ≤ S.faults input.new }
 {
+    stops_first();
     match decode(alloc, &typed.module, typed.number, input, LIMIT) {
         Ok(decoded) => match ends(input) {
             Ok(true) => Ok(decoded.value),
@@ -60,6 +63,26 @@ fn decode_input<S: Source>(
         Err(DecodeError::TooLong) => Err(Outcome::TooLong { file: 0 }),
         Err(DecodeError::Failed) => Err(Outcome::ReadFault),
         Err(DecodeError::Memory) => Err(Outcome::OutOfMemory),
+    }
+}
+
+// The value of which the input is the encoding.
+fn decode_input<S: Source>(
+    alloc: Global,
+    syntax: Syntax,
+    typed: &RootModule,
+    input: &mut S,
+) -> Result<Value, Outcome>
+    requires { (set : Set) × (n : ℕ) × IsTypeOf set n (type_seen typed.now) }
+    ensures due { Answers (λ value. value) (Decoded syntax (type_seen typed.now) (S.left input.old)) (OneRead (S.faults input.old) (S.faults input.new)) result }
+    ensures kept { IfOk result (λ value. In typed.now.module typed.now.number value) }
+    ensures end { OnOk result (IsAtEnd (S.left input.new)) }
+    ensures stage { IfErr result IsOfInput }
+    ensures taken { TakesItsField syntax (type_seen typed.now) (S.left input.old) (S.left input.new) }
+    ensures later { S.faults input.old ≤ S.faults input.new }
+{
+    match syntax {
+        Syntax::Aligned => decode_aligned(alloc, typed, input),
     }
 }
 
@@ -84,19 +107,20 @@ fn write_value(alloc: Global, typed: &RootModule, value: &Value) -> Result<Vec<u
 /// The document of the value of which the input is the encoding.
 pub fn write_input<S: Source>(
     alloc: Global,
+    syntax: Syntax,
     typed: &RootModule,
     input: &mut S,
 ) -> Result<Vec<u8>, Outcome>
     requires { (set : Set) × (n : ℕ) × IsTypeOf set n (type_seen typed.now) }
     ensures due { Answers (λ text. text.items)
-        (Then (Decoded (type_seen typed.now) (S.left input.old)) (λ value. Written (type_seen typed.now) value)) (OneRead (S.faults input.old) (S.faults input.new)) result }
-    ensures back { IfOk result (λ text. DecodedBack (type_seen typed.now) (S.left input.old) text.items) }
+        (Then (Decoded syntax (type_seen typed.now) (S.left input.old)) (λ value. Written (type_seen typed.now) value)) (OneRead (S.faults input.old) (S.faults input.new)) result }
+    ensures back { IfOk result (λ text. DecodedBack syntax (type_seen typed.now) (S.left input.old) text.items) }
     ensures end { OnOk result (IsAtEnd (S.left input.new)) }
     ensures stage { IfErr result IsOfInput }
-    ensures taken { TakesItsField (type_seen typed.now) (S.left input.old) (S.left input.new) }
+    ensures taken { TakesItsField syntax (type_seen typed.now) (S.left input.old) (S.left input.new) }
     ensures later { S.faults input.old ≤ S.faults input.new }
 {
-    match decode_input(alloc, typed, input) {
+    match decode_input(alloc, syntax, typed, input) {
         Ok(value) => write_value(alloc, typed, &value),
         Err(outcome) => Err(outcome),
     }

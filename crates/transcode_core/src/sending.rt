@@ -10,6 +10,7 @@ ghost use Rattle.transcode_core.specs.Causes.{Answers, NoMemory, IsOfInput};
 
 use crate::opened::{Opened, RootModule};
 use crate::outcome::Outcome;
+use crate::tasks::Syntax;
 use doc_text::Items;
 use per_encode::encode;
 use simple_types::Value;
@@ -53,10 +54,10 @@ fn see_octets(octets: &[u8])
     }
 }
 
-// The encoding of the value.
-fn encode_value(alloc: Global, typed: &RootModule, value: &Value) -> Result<Vec<u8>, Outcome>
+// The encoding of the value in canonical aligned PER.
+fn encode_aligned(alloc: Global, typed: &RootModule, value: &Value) -> Result<Vec<u8>, Outcome>
     requires { In typed.now.module typed.now.number value.now }
-    ensures due { Answers (λ octets. octets.items) (Encoding (type_seen typed.now) value.now) NoMemory result }
+    ensures due { Answers (λ octets. octets.items) (Encoding Syntax.Aligned (type_seen typed.now) value.now) NoMemory result }
     ensures stage { IfErr result IsOfInput }
 {
     match encode(alloc, &typed.module, typed.number, value) {
@@ -68,9 +69,26 @@ fn encode_value(alloc: Global, typed: &RootModule, value: &Value) -> Result<Vec<
     }
 }
 
+// The encoding of the value.
+fn encode_value(
+    alloc: Global,
+    syntax: Syntax,
+    typed: &RootModule,
+    value: &Value,
+) -> Result<Vec<u8>, Outcome>
+    requires { In typed.now.module typed.now.number value.now }
+    ensures due { Answers (λ octets. octets.items) (Encoding syntax (type_seen typed.now) value.now) NoMemory result }
+    ensures stage { IfErr result IsOfInput }
+{
+    match syntax {
+        Syntax::Aligned => encode_aligned(alloc, typed, value),
+    }
+}
+
 /// The encoding of the value of the document, if it is valid.
 pub fn encode_items<L: Ledger>(
     alloc: Global,
+    syntax: Syntax,
     opened: &Opened,
     typed: &RootModule,
     items: &Items,
@@ -78,13 +96,13 @@ pub fn encode_items<L: Ledger>(
 ) -> Result<Vec<u8>, Outcome>
     requires { IsTypeOf opened.now.set opened.now.root (type_seen typed.now) }
     ensures due { Answers (λ octets. octets.items)
-        (Then (ValueIn (opened_seen opened.now) (type_seen typed.now) items.now) (λ value. Encoding (type_seen typed.now) value)) NoMemory result }
+        (Then (ValueIn (opened_seen opened.now) (type_seen typed.now) items.now) (λ value. Encoding syntax (type_seen typed.now) value)) NoMemory result }
     ensures stage { IfErr result IsOfInput }
     ensures most { steps.new ≤ steps.old + 144 * element_count items.now }
     ensures least { OnOk result (steps.old + element_count items.now ≤ steps.new + 1) }
 {
     match value_of(alloc, opened, items, steps) {
-        Ok(value) => encode_value(alloc, typed, &value),
+        Ok(value) => encode_value(alloc, syntax, typed, &value),
         Err(outcome) => Err(outcome),
     }
 }

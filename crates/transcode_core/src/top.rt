@@ -8,14 +8,16 @@ ghost use Rattle.validity_check.specs.Counts.{element_count};
 ghost use Rattle.transcode_core.specs.Lines.{line};
 ghost use Rattle.transcode_core.specs.Private.Requests.{root_seen, seen, opened_seen, type_seen};
 ghost use Rattle.transcode_core.specs.Words as command;
+ghost use Rattle.transcode_core.specs.Tasks.{Octets, reads, is_document};
+ghost use Rattle.transcode_core.specs.Private.Decided.{Decided};
 ghost use Rattle.transcode_core.specs.Trial as trial;
 ghost use Rattle.transcode_core.specs.Trial.{trial_name, trial_schema, trial_root};
 ghost use Rattle.transcode_core.specs.Steps.{Printed, Judged, RootType, IsTypeOf, Typed, ValueIn, Encoding};
 ghost use Rattle.transcode_core.specs.Order.{Give, Then};
 ghost use Rattle.transcode_core.specs.Due as due;
-ghost use Rattle.transcode_core.specs.Due.{Requested, SetIn, ItemsIn, Checked, Encoded, Documented, Sent, Tried, Answered, Due};
-ghost use Rattle.transcode_core.specs.ReadBack.{DocumentedBack, AnsweredBack, ReadBack};
-ghost use Rattle.transcode_core.specs.Causes.{Answers, Never, NoMemory, SomeLoad, OneRead, files_of, ReachesFile, reads_input, ReadsInput, IsTold, TakesItsField, TakesInput, TakesOfWords, ReadsItems, ReadsOfWords, StepsUpTo, ReachesInput, IsOfInput, Answering, Deciding, Fails, IsRefusal, WritesNothing, StepsFrom, reads_document, ReadsDocument};
+ghost use Rattle.transcode_core.specs.Due.{Requested, SetIn, ItemsIn, Checked, Encoded, Documented, Served, Tried, Answered, Due};
+ghost use Rattle.transcode_core.specs.ReadBack.{DocumentedBack, ServedBack, AnsweredBack, ReadBack};
+ghost use Rattle.transcode_core.specs.Causes.{Answers, Never, NoMemory, SomeLoad, OneRead, ReachesFile, reads_input, ReadsInput, IsTold, Takes, TakesInput, LooksAt, TakesOfWords, ReadsItems, ReadsOfWords, StepsUpTo, ReachesInput, IsOfInput, Answering, Deciding, Fails, IsRefusal, WritesNothing, StepsFrom, reads_document, ReadsDocument};
 
 use crate::files::{read_input, read_input_items};
 use crate::lines::write_line;
@@ -25,6 +27,7 @@ use crate::outcome::Outcome;
 use crate::receiving::write_input;
 use crate::schemas::load_schemas;
 use crate::sending::encode_items;
+use crate::tasks::{Syntax, Task};
 use crate::trial::{self, schema_files, schema_name, summary, trial_document};
 use crate::typing::map_root;
 use crate::words::{Request, Root, read_words};
@@ -33,7 +36,9 @@ use map_694::map_set;
 use module_print::print_module;
 use one_value::one_value;
 use per_fields::first_stop;
+use per_stops::stops_first;
 use schema_parts::SchemaSet;
+use sound_items::documents_of_values;
 use std::alloc::Global;
 use std::sync::ledger::Ledger;
 use validity::at_most_one;
@@ -44,7 +49,7 @@ use xer_read::check_items;
 // What the words ask for.
 fn requested(words: &[Text]) -> Result<Request<'_>, Outcome>
     ensures due { Answers seen (Requested words.now) Never result }
-    ensures few { IfOk result (λ request. length (files_of (seen request)) ≤ 64) }
+    ensures within { IfOk result (λ request. command.IsWithin (seen request)) }
 {
     read_words(words)
 }
@@ -163,35 +168,10 @@ fn check_input<S: Source, L: Ledger>(
     }
 }
 
-// What `check` answers for this root and these files.
-fn check<F: Library, S: Source, L: Ledger>(
-    alloc: Global,
-    root: Root<'_>,
-    names: &[Text],
-    files: &mut F,
-    input: &mut S,
-    steps: &mut Steps<L>,
-) -> Result<Vec<u8>, Outcome>
-    requires { length names.now ≤ 64 }
-    ensures due { Answers (λ bytes. bytes.items) (Answered (F.entries files.old) (S.left input.old) (command.Check (root_seen root.entry) names.now))
-        (Answering (F.faults files.old) (F.faults files.new) (F.is_sure files.old) (F.entries files.old) (S.faults input.old) (S.faults input.new) (command.Check (root_seen root.entry) names.now)) result }
-    ensures end { OnOk result (IsAtEnd (S.left input.new)) }
-    ensures untouched { (S.left input.new ≡ S.left input.old) ⊎ (TakesInput (F.entries files.old) (command.Check (root_seen root.entry) names.now) (S.left input.old) (S.left input.new) × IfErr result IsOfInput) }
-    ensures files { (F.entries files.new ≡ F.entries files.old) × (F.is_sure files.new ≡ F.is_sure files.old) }
-    ensures loads { F.faults files.old ≤ F.faults files.new }
-    ensures reads { S.faults input.old ≤ S.faults input.new }
-    ensures few { StepsUpTo (λ items. ItemsIn (S.left input.old) (Ok items)) steps.old steps.new }
-    ensures many { OnOk result (StepsFrom (λ items. ItemsIn (S.left input.old) (Ok items)) steps.old steps.new) }
-{
-    match open_files(alloc, files, root, names) {
-        Ok(opened) => check_input(alloc, &opened, input, steps),
-        Err(outcome) => Err(outcome),
-    }
-}
-
 // The encoding of the value of the document in the input.
 fn encode_input<S: Source, L: Ledger>(
     alloc: Global,
+    syntax: Syntax,
     opened: &Opened,
     typed: &RootModule,
     input: &mut S,
@@ -199,7 +179,7 @@ fn encode_input<S: Source, L: Ledger>(
 ) -> Result<Vec<u8>, Outcome>
     requires { IsTypeOf opened.now.set opened.now.root (type_seen typed.now) }
     ensures due { Answers (λ bytes. bytes.items)
-        (Then (ItemsIn (S.left input.old)) (λ items. Then (ValueIn (opened_seen opened.now) (type_seen typed.now) items) (λ value. Encoding (type_seen typed.now) value)))
+        (Then (ItemsIn (S.left input.old)) (λ items. Then (ValueIn (opened_seen opened.now) (type_seen typed.now) items) (λ value. Encoding syntax (type_seen typed.now) value)))
         (OneRead (S.faults input.old) (S.faults input.new)) result }
     ensures end { OnOk result (IsAtEnd (S.left input.new)) }
     ensures stage { IfErr result IsOfInput }
@@ -208,19 +188,20 @@ fn encode_input<S: Source, L: Ledger>(
     ensures many { OnOk result (StepsFrom (λ items. ItemsIn (S.left input.old) (Ok items)) steps.old steps.new) }
 {
     match read_items(alloc, input) {
-        Ok(items) => encode_items(alloc, opened, typed, &items, steps),
+        Ok(items) => encode_items(alloc, syntax, opened, typed, &items, steps),
         Err(outcome) => Err(outcome),
     }
 }
 
-// The same in this set.
+// The encoding of the value of the document in the input, in this set.
 fn send<S: Source, L: Ledger>(
     alloc: Global,
+    syntax: Syntax,
     opened: &Opened,
     input: &mut S,
     steps: &mut Steps<L>,
 ) -> Result<Vec<u8>, Outcome>
-    ensures due { Answers (λ bytes. bytes.items) (Encoded (opened_seen opened.now) (S.left input.old)) (OneRead (S.faults input.old) (S.faults input.new)) result }
+    ensures due { Answers (λ bytes. bytes.items) (Encoded syntax (opened_seen opened.now) (S.left input.old)) (OneRead (S.faults input.old) (S.faults input.new)) result }
     ensures end { OnOk result (IsAtEnd (S.left input.new)) }
     ensures stage { IfErr result IsOfInput }
     ensures later { S.faults input.old ≤ S.faults input.new }
@@ -228,72 +209,80 @@ fn send<S: Source, L: Ledger>(
     ensures many { OnOk result (StepsFrom (λ items. ItemsIn (S.left input.old) (Ok items)) steps.old steps.new) }
 {
     match map_root(alloc, opened) {
-        Ok(typed) => encode_input(alloc, opened, &typed, input, steps),
-        Err(outcome) => Err(outcome),
-    }
-}
-
-// What `to-per` answers for this root and these files.
-fn to_per<F: Library, S: Source, L: Ledger>(
-    alloc: Global,
-    root: Root<'_>,
-    names: &[Text],
-    files: &mut F,
-    input: &mut S,
-    steps: &mut Steps<L>,
-) -> Result<Vec<u8>, Outcome>
-    requires { length names.now ≤ 64 }
-    ensures due { Answers (λ bytes. bytes.items) (Answered (F.entries files.old) (S.left input.old) (command.ToPer (root_seen root.entry) names.now))
-        (Answering (F.faults files.old) (F.faults files.new) (F.is_sure files.old) (F.entries files.old) (S.faults input.old) (S.faults input.new) (command.ToPer (root_seen root.entry) names.now)) result }
-    ensures end { OnOk result (IsAtEnd (S.left input.new)) }
-    ensures untouched { (S.left input.new ≡ S.left input.old) ⊎ (TakesInput (F.entries files.old) (command.ToPer (root_seen root.entry) names.now) (S.left input.old) (S.left input.new) × IfErr result IsOfInput) }
-    ensures files { (F.entries files.new ≡ F.entries files.old) × (F.is_sure files.new ≡ F.is_sure files.old) }
-    ensures loads { F.faults files.old ≤ F.faults files.new }
-    ensures reads { S.faults input.old ≤ S.faults input.new }
-    ensures few { StepsUpTo (λ items. ItemsIn (S.left input.old) (Ok items)) steps.old steps.new }
-    ensures many { OnOk result (StepsFrom (λ items. ItemsIn (S.left input.old) (Ok items)) steps.old steps.new) }
-{
-    match open_files(alloc, files, root, names) {
-        Ok(opened) => send(alloc, &opened, input, steps),
+        Ok(typed) => encode_input(alloc, syntax, opened, &typed, input, steps),
         Err(outcome) => Err(outcome),
     }
 }
 
 // The document of the value of which the input is the encoding, in this set.
-fn receive<S: Source>(alloc: Global, opened: &Opened, input: &mut S) -> Result<Vec<u8>, Outcome>
-    ensures due { Answers (λ bytes. bytes.items) (Documented (opened_seen opened.now) (S.left input.old)) (OneRead (S.faults input.old) (S.faults input.new)) result }
-    ensures back { IfOk result (λ bytes. DocumentedBack (opened_seen opened.now) (S.left input.old) bytes.items) }
+fn receive<S: Source>(
+    alloc: Global,
+    syntax: Syntax,
+    opened: &Opened,
+    input: &mut S,
+) -> Result<Vec<u8>, Outcome>
+    ensures due { Answers (λ bytes. bytes.items) (Documented syntax (opened_seen opened.now) (S.left input.old)) (OneRead (S.faults input.old) (S.faults input.new)) result }
+    ensures back { IfOk result (λ bytes. DocumentedBack syntax (opened_seen opened.now) (S.left input.old) bytes.items) }
     ensures end { OnOk result (IsAtEnd (S.left input.new)) }
     ensures stage { IfErr result IsOfInput }
-    ensures taken { (S.left input.new ≡ S.left input.old) ⊎ ((type : RootType) × Typed (opened_seen opened.now) (Ok type) × TakesItsField type (S.left input.old) (S.left input.new)) }
+    ensures taken { (input.new ≡ input.old) ⊎ Takes (Octets syntax) (opened_seen opened.now) (S.left input.old) (S.left input.new) }
     ensures later { S.faults input.old ≤ S.faults input.new }
 {
+    documents_of_values();
     match map_root(alloc, opened) {
-        Ok(typed) => write_input(alloc, &typed, input),
+        Ok(typed) => write_input(alloc, syntax, &typed, input),
         Err(outcome) => Err(outcome),
     }
 }
 
-// What `to-xml` answers for this root and these files.
-fn to_xml<F: Library, S: Source>(
+// What the task makes of this set and the input.
+fn serve_input<S: Source, L: Ledger>(
     alloc: Global,
+    task: Task,
+    opened: &Opened,
+    input: &mut S,
+    steps: &mut Steps<L>,
+) -> Result<Vec<u8>, Outcome>
+    ensures due { Answers (λ bytes. bytes.items) (Served task (opened_seen opened.now) (S.left input.old)) (OneRead (S.faults input.old) (S.faults input.new)) result }
+    ensures back { IfOk result (λ bytes. ServedBack (reads task) (opened_seen opened.now) (S.left input.old) bytes.items) }
+    ensures end { OnOk result (IsAtEnd (S.left input.new)) }
+    ensures stage { IfErr result IsOfInput }
+    ensures taken { (input.new ≡ input.old) ⊎ Takes (reads task) (opened_seen opened.now) (S.left input.old) (S.left input.new) }
+    ensures later { S.faults input.old ≤ S.faults input.new }
+    ensures few { StepsUpTo (LooksAt (reads task) (S.left input.old)) steps.old steps.new }
+    ensures many { is_document (reads task) ≡ true → OnOk result (StepsFrom (LooksAt (reads task) (S.left input.old)) steps.old steps.new) }
+{
+    match task {
+        Task::Check => check_input(alloc, opened, input, steps),
+        Task::Send(syntax) => send(alloc, syntax, opened, input, steps),
+        Task::Receive(syntax) => receive(alloc, syntax, opened, input),
+    }
+}
+
+// What the task makes of this root, these files and the input.
+fn serve<F: Library, S: Source, L: Ledger>(
+    alloc: Global,
+    task: Task,
     root: Root<'_>,
     names: &[Text],
     files: &mut F,
     input: &mut S,
+    steps: &mut Steps<L>,
 ) -> Result<Vec<u8>, Outcome>
     requires { length names.now ≤ 64 }
-    ensures due { Answers (λ bytes. bytes.items) (Answered (F.entries files.old) (S.left input.old) (command.ToXml (root_seen root.entry) names.now))
-        (Answering (F.faults files.old) (F.faults files.new) (F.is_sure files.old) (F.entries files.old) (S.faults input.old) (S.faults input.new) (command.ToXml (root_seen root.entry) names.now)) result }
-    ensures back { IfOk result (λ bytes. AnsweredBack (F.entries files.old) (S.left input.old) (command.ToXml (root_seen root.entry) names.now) bytes.items) }
+    ensures due { Answers (λ bytes. bytes.items) (Answered (F.entries files.old) (S.left input.old) (command.Serve task (root_seen root.entry) names.now))
+        (Answering (F.faults files.old) (F.faults files.new) (F.is_sure files.old) (F.entries files.old) (S.faults input.old) (S.faults input.new) (command.Serve task (root_seen root.entry) names.now)) result }
+    ensures back { IfOk result (λ bytes. AnsweredBack (F.entries files.old) (S.left input.old) (command.Serve task (root_seen root.entry) names.now) bytes.items) }
     ensures end { OnOk result (IsAtEnd (S.left input.new)) }
-    ensures untouched { (S.left input.new ≡ S.left input.old) ⊎ (TakesInput (F.entries files.old) (command.ToXml (root_seen root.entry) names.now) (S.left input.old) (S.left input.new) × IfErr result IsOfInput) }
+    ensures untouched { (input.new ≡ input.old) ⊎ (TakesInput (F.entries files.old) (command.Serve task (root_seen root.entry) names.now) (S.left input.old) (S.left input.new) × IfErr result IsOfInput) }
     ensures files { (F.entries files.new ≡ F.entries files.old) × (F.is_sure files.new ≡ F.is_sure files.old) }
     ensures loads { F.faults files.old ≤ F.faults files.new }
     ensures reads { S.faults input.old ≤ S.faults input.new }
+    ensures few { StepsUpTo (LooksAt (reads task) (S.left input.old)) steps.old steps.new }
+    ensures many { is_document (reads task) ≡ true → OnOk result (StepsFrom (LooksAt (reads task) (S.left input.old)) steps.old steps.new) }
 {
     match open_files(alloc, files, root, names) {
-        Ok(opened) => receive(alloc, &opened, input),
+        Ok(opened) => serve_input(alloc, task, &opened, input, steps),
         Err(outcome) => Err(outcome),
     }
 }
@@ -304,7 +293,7 @@ fn encode_trial<L: Ledger>(
     document: Vec<u8>,
     steps: &mut Steps<L>,
 ) -> Result<Vec<u8>, Outcome>
-    ensures due { Answers (λ bytes. bytes.items) (Sent (Some ((trial_name, trial_schema) ∷ [])) trial_root (trial_name ∷ []) (Some document.items)) NoMemory result }
+    ensures due { Answers (λ bytes. bytes.items) (Then (due.Opened (Some ((trial_name, trial_schema) ∷ [])) trial_root (trial_name ∷ [])) (λ opened. Served (Task.Send Syntax.Aligned) opened (Some document.items))) NoMemory result }
     ensures few { StepsUpTo (λ items. ItemsIn (Some document.items) (Ok items)) steps.old steps.new }
     ensures many { OnOk result (StepsFrom (λ items. ItemsIn (Some document.items) (Ok items)) steps.old steps.new) }
 {
@@ -312,7 +301,16 @@ fn encode_trial<L: Ledger>(
         return Err(Outcome::OutOfMemory);
     };
     let mut input = SureSource::new(document, Vec::new(alloc));
-    to_per(alloc, trial::ROOT, &[name], &mut files, &mut input, steps)
+    let task = Task::Send(Syntax::Aligned);
+    serve(
+        alloc,
+        task,
+        trial::ROOT,
+        &[name],
+        &mut files,
+        &mut input,
+        steps,
+    )
 }
 
 // How many bytes there are.
@@ -334,6 +332,7 @@ fn tell(alloc: Global, lines: u32, document: u64, octets: &[u8]) -> Result<Vec<u
 
 // What `trial` answers for so many lines.
 fn try_out<L: Ledger>(alloc: Global, lines: u32, steps: &mut Steps<L>) -> Result<Vec<u8>, Outcome>
+    requires { (1 ≤ lines) × (lines ≤ 100000) }
     ensures due { Answers (λ bytes. bytes.items) (Tried lines) NoMemory result }
     ensures few { StepsUpTo (λ items. ItemsIn (Some (trial.trial_document lines)) (Ok items)) steps.old steps.new }
     ensures many { OnOk result (StepsFrom (λ items. ItemsIn (Some (trial.trial_document lines)) (Ok items)) steps.old steps.new) }
@@ -356,12 +355,12 @@ fn answer<F: Library, S: Source, L: Ledger>(
     input: &mut S,
     steps: &mut Steps<L>,
 ) -> Result<Vec<u8>, Outcome>
-    requires { length (files_of (seen request)) ≤ 64 }
+    requires { command.IsWithin (seen request) }
     ensures due { Answers (λ bytes. bytes.items) (Answered (F.entries files.old) (S.left input.old) (seen request.entry))
         (Answering (F.faults files.old) (F.faults files.new) (F.is_sure files.old) (F.entries files.old) (S.faults input.old) (S.faults input.new) (seen request.entry)) result }
     ensures back { IfOk result (λ bytes. AnsweredBack (F.entries files.old) (S.left input.old) (seen request.entry) bytes.items) }
     ensures end { reads_input (seen request.entry) ≡ true → OnOk result (IsAtEnd (S.left input.new)) }
-    ensures untouched { (S.left input.new ≡ S.left input.old) ⊎ (TakesInput (F.entries files.old) (seen request.entry) (S.left input.old) (S.left input.new) × IfErr result IsOfInput) }
+    ensures untouched { (input.new ≡ input.old) ⊎ (TakesInput (F.entries files.old) (seen request.entry) (S.left input.old) (S.left input.new) × IfErr result IsOfInput) }
     ensures files { (F.entries files.new ≡ F.entries files.old) × (F.is_sure files.new ≡ F.is_sure files.old) }
     ensures loads { F.faults files.old ≤ F.faults files.new }
     ensures reads { S.faults input.old ≤ S.faults input.new }
@@ -370,9 +369,11 @@ fn answer<F: Library, S: Source, L: Ledger>(
 {
     match request {
         Request::Show { files: names } => show(alloc, files, names),
-        Request::Check { root, files: names } => check(alloc, root, names, files, input, steps),
-        Request::ToPer { root, files: names } => to_per(alloc, root, names, files, input, steps),
-        Request::ToXml { root, files: names } => to_xml(alloc, root, names, files, input),
+        Request::Serve {
+            task,
+            root,
+            files: names,
+        } => serve(alloc, task, root, names, files, input, steps),
         Request::Trial { lines } => try_out(alloc, lines, steps),
     }
 }
@@ -385,11 +386,11 @@ fn decide<F: Library, S: Source, L: Ledger>(
     input: &mut S,
     steps: &mut Steps<L>,
 ) -> Result<Vec<u8>, Outcome>
-    ensures due { Answers (λ bytes. bytes.items) (Due words.now (F.entries files.old) (S.left input.old))
+    ensures due { Answers (λ bytes. bytes.items) (Decided words.now (F.entries files.old) (S.left input.old))
         (Deciding (F.faults files.old) (F.faults files.new) (F.is_sure files.old) (F.entries files.old) (S.faults input.old) (S.faults input.new) words.now) result }
     ensures back { IfOk result (λ bytes. ReadBack words.now (F.entries files.old) (S.left input.old) bytes.items) }
     ensures end { ReadsInput words.now → OnOk result (IsAtEnd (S.left input.new)) }
-    ensures untouched { (S.left input.new ≡ S.left input.old) ⊎ (TakesOfWords words.now (F.entries files.old) (S.left input.old) (S.left input.new) × IfErr result IsOfInput) }
+    ensures untouched { (input.new ≡ input.old) ⊎ (TakesOfWords words.now (F.entries files.old) (S.left input.old) (S.left input.new) × IfErr result IsOfInput) }
     ensures files { (F.entries files.new ≡ F.entries files.old) × (F.is_sure files.new ≡ F.is_sure files.old) }
     ensures loads { F.faults files.old ≤ F.faults files.new }
     ensures reads { S.faults input.old ≤ S.faults input.new }
@@ -434,25 +435,25 @@ pub fn run<F: Library, S: Source, K: Sink, E: Sink, L: Ledger>(
     steps: &mut Steps<L>,
 ) -> Outcome
     // A refusal is the first in the order of the steps.
-    ensures refused { IsRefusal result → Due words.now (F.entries files.old) (S.left input.old) (Err result) }
+    ensures refused { IsRefusal result → Due words.now (F.entries files.old) (S.left input.old) result [] }
     // Done is due, with the bytes that were appended; where the words ask for `to-xml`, these are read back as the items.
-    ensures done { result ≡ Outcome.Done → (bytes : List ℕ) × Due words.now (F.entries files.old) (S.left input.old) (Ok bytes)
+    ensures done { result ≡ Outcome.Done → (bytes : List ℕ) × Due words.now (F.entries files.old) (S.left input.old) Outcome.Done bytes
         × ReadBack words.now (F.entries files.old) (S.left input.old) bytes × Appends (K.written output.old) (K.written output.new) bytes }
     // A fault of the outside comes only where that object's count rose, at the step that meets it.
     ensures load { (file : ℕ) → result ≡ Outcome.LoadFault file → (name : List ℕ) × ReachesFile words.now (F.entries files.old) file name
         × Fails (F.faults files.old) (F.faults files.new) (F.is_sure files.old) (F.entries files.old) name }
     ensures read { result ≡ Outcome.ReadFault → HasRisen (S.faults input.old) (S.faults input.new) × ReachesInput words.now (F.entries files.old) }
     ensures write { result ≡ Outcome.WriteFault → HasRisen (K.faults output.old) (K.faults output.new)
-        × ((bytes : List ℕ) × Due words.now (F.entries files.old) (S.left input.old) (Ok bytes)
+        × ((bytes : List ℕ) × Due words.now (F.entries files.old) (S.left input.old) Outcome.Done bytes
         × ReadBack words.now (F.entries files.old) (S.left input.old) bytes × AppendsFront (K.written output.old) (K.written output.new) bytes) }
-    ensures kept { WritesNothing result → K.written output.new ≡ K.written output.old }
+    ensures kept { WritesNothing result → output.new ≡ output.old }
     ensures end { result ≡ Outcome.Done → ReadsInput words.now → IsAtEnd (S.left input.new) }
-    ensures untouched { (S.left input.new ≡ S.left input.old) ⊎ (TakesOfWords words.now (F.entries files.old) (S.left input.old) (S.left input.new) × IsOfInput result) }
+    ensures untouched { (input.new ≡ input.old) ⊎ (TakesOfWords words.now (F.entries files.old) (S.left input.old) (S.left input.new) × IsOfInput result) }
     ensures files { (F.entries files.new ≡ F.entries files.old) × (F.is_sure files.new ≡ F.is_sure files.old) }
     // Where Done is due and no count rose, it is Done, or memory is missing. The input need not be told where the words
     // don't ask for it.
     ensures complete { (entries : List (List ℕ × List ℕ)) (bytes : List ℕ) → F.entries files.old ≡ Some entries → (ReadsInput words.now → IsTold (S.left input.old))
-        → Due words.now (F.entries files.old) (S.left input.old) (Ok bytes) → (HasRisen (F.faults files.old) (F.faults files.new) → ⊥) → (HasRisen (S.faults input.old) (S.faults input.new) → ⊥)
+        → Due words.now (F.entries files.old) (S.left input.old) Outcome.Done bytes → (HasRisen (F.faults files.old) (F.faults files.new) → ⊥) → (HasRisen (S.faults input.old) (S.faults input.new) → ⊥)
         → (HasRisen (K.faults output.old) (K.faults output.new) → ⊥) → (result ≡ Outcome.Done) ⊎ (result ≡ Outcome.OutOfMemory) }
     ensures loads { F.faults files.old ≤ F.faults files.new }
     ensures reads { S.faults input.old ≤ S.faults input.new }
@@ -470,6 +471,7 @@ pub fn run<F: Library, S: Source, K: Sink, E: Sink, L: Ledger>(
     at_most_one();
     one_value();
     first_stop();
+    stops_first();
     match decide(alloc, words, files, input, steps) {
         Ok(bytes) => match write_all(output, &bytes) {
             Ok(()) => {

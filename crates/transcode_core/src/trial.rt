@@ -66,6 +66,7 @@ fn put_line(out: &mut Vec<u8>, i: u32) -> Result<(), Memory>
 
 /// The trial document of so many lines, from 1 to 100,000: an order without white space between its elements.
 pub fn trial_document(alloc: Global, lines: u32) -> Result<Vec<u8>, Memory>
+    requires { (1 ≤ lines) × (lines ≤ 100000) }
     ensures { IfOk result (λ text. text.items ≡ trial.trial_document lines) }
 {
     let mut text = Vec::from_slice(alloc, b"<order xmlns=\"urn:po\" id=\"7\">")?;

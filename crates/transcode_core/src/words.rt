@@ -9,6 +9,7 @@ ghost use Rattle.transcode_core.specs.Order.{Found};
 ghost use Rattle.transcode_core.specs.Causes.{Answers, Never};
 
 use crate::outcome::Outcome;
+use crate::tasks::{Syntax, Task};
 use xa_base::{Text, are_digits, is_ncname, is_ncname_text, is_short_space, is_xml_char};
 
 /// The name of a root element: its namespace, empty where there is none, and its local name.
@@ -22,15 +23,19 @@ pub struct Root<'a> {
 #[derive(Clone, Copy)]
 pub enum Request<'a> {
     /// The module of the schema files.
-    Show { files: &'a [Text] },
-    /// Whether the input is a valid document.
-    Check { root: Root<'a>, files: &'a [Text] },
-    /// The encoding of the input, a document.
-    ToPer { root: Root<'a>, files: &'a [Text] },
-    /// The document that the input, an encoding, stands for.
-    ToXml { root: Root<'a>, files: &'a [Text] },
+    Show {
+        files: &'a [Text],
+    },
+    /// A task over the schema files and the input.
+    Serve {
+        task: Task,
+        root: Root<'a>,
+        files: &'a [Text],
+    },
     /// The summary of a document of so many lines.
-    Trial { lines: u32 },
+    Trial {
+        lines: u32,
+    },
 }
 
 fn are_files(files: &[Text]) -> bool
@@ -151,6 +156,29 @@ fn counted(words: &[Text]) -> Option<Request<'_>>
     }
 }
 
+// The task that the word names.
+fn task_of(word: &[u8]) -> Option<Task>
+    ensures { result ≡ command_line.task_of word.now }
+{
+    if word == b"check".as_slice() {
+        Some(Task::Check)
+    } else if word == b"to-per".as_slice() {
+        Some(Task::Send(Syntax::Aligned))
+    } else if word == b"to-xml".as_slice() {
+        Some(Task::Receive(Syntax::Aligned))
+    } else {
+        None
+    }
+}
+
+// The task with its root and its files.
+fn served(task: Task, words: &[Text]) -> Option<Request<'_>>
+    ensures { option_map seen result ≡ command_line.rooted task words.now }
+{
+    let (root, files) = rooted(words)?;
+    Some(Request::Serve { task, root, files })
+}
+
 // What the words ask for.
 fn asked(words: &[Text]) -> Option<Request<'_>>
     ensures { option_map seen result ≡ command_line.asked words.now }
@@ -159,16 +187,13 @@ fn asked(words: &[Text]) -> Option<Request<'_>>
     let command = command.bytes();
     if command == b"show".as_slice() {
         shown(words)
-    } else if command == b"check".as_slice() {
-        rooted(words).map(|(root, files)| Request::Check { root, files })
-    } else if command == b"to-per".as_slice() {
-        rooted(words).map(|(root, files)| Request::ToPer { root, files })
-    } else if command == b"to-xml".as_slice() {
-        rooted(words).map(|(root, files)| Request::ToXml { root, files })
     } else if command == b"trial".as_slice() {
         counted(words)
     } else {
-        None
+        match task_of(command) {
+            Some(task) => served(task, words),
+            None => None,
+        }
     }
 }
 

@@ -21,9 +21,9 @@ not_so e = absurd (cc)
 
 -- some node may be kept
 pub kept-some : (b : Bool) (most : ℕ) → IsTrue b ↔ (most ≡ 0) → b ≡ false → 1 ≤ most
-kept-some true most only no = absurd (cc)
-kept-some false zero only no = not_so (only.1 refl)
-kept-some false (suc n) only no = omega arith
+kept-some true most only off = absurd (cc)
+kept-some false zero only off = not_so (only.1 refl)
+kept-some false (suc n) only off = omega arith
 
 -- none may be
 pub kept-none : (most : ℕ) {P : Type 0} → most ≡ 0 → 1 ≤ most → P

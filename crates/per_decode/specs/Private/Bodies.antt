@@ -64,10 +64,10 @@ module _ (M : List Assignment) (begin : ℕ) (t : Rose TypeLabel) where
 module _ (M : List Assignment) (depth : ℕ) where
   -- a kid of a node, where so many elements stand in one another down to the node
   abbrev pub kid_at : ComponentPlace → Reader (Rose ValueLabel)
-  kid_at p = node_read M (values.below p.role depth) p.type
+  kid_at p = node_read true M (values.below p.role depth) p.type
 
   abbrev pub fields_at : Rose TypeLabel → Reader (Rose ValueLabel)
-  fields_at t X s = content_at kid_at (label_of t) (kids_of t) (label_of t).form X s
+  fields_at t X s = content_at true kid_at (label_of t) (kids_of t) (label_of t).form X s
 
   -- the fields of a node that begins at a bit, and its rules
   abbrev pub body_at : ℕ → Rose TypeLabel → Reader (Rose ValueLabel)
@@ -84,7 +84,7 @@ module _ (M : List Assignment) (depth : ℕ) where
 
   -- so many nodes of a type
   abbrev pub node_of : Rose TypeLabel → ℕ → Reader (Rose ValueLabel)
-  node_of t i X s = node_read M depth t X s
+  node_of t i X s = node_read true M depth t X s
 
   abbrev pub many_at : ℕ → Rose TypeLabel → Reader (List (Rose ValueLabel))
   many_at n t X s = each_at (node_of t) (replicate n 0) X s
@@ -105,6 +105,6 @@ item_place t part = place_at (label_of t) 0 (Some part) (slice_get (kids_of t) 0
 -- a node and the end of its encoding
 abbrev pub complete_at : List Assignment → Rose TypeLabel → Reader (Rose ValueLabel)
 complete_at M t X s = do
-  v ← node_read M 1 t X s
+  v ← node_read true M 1 t X s
   z ← last_at X v.1
   Ok (v.0, z.1)

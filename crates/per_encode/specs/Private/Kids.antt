@@ -28,22 +28,23 @@ module _ (M : List Assignment) where
   AllFit (t ∷ ts) (v ∷ vs) = FitsSomewhere t v × AllFit ts vs
   AllFit _ _ = ⊥
 
-  -- what writes these values, each of its type
-  abbrev pub writers : List (Rose TypeLabel) → List (Rose ValueLabel) → List Writer
-  writers (t ∷ ts) (v ∷ vs) = per M t v ∷ writers ts vs
-  writers _ _ = []
-
   abbrev pub FitAt : Option (List ComponentPlace) → List (Rose ValueLabel) → Type 0
   FitAt None vs = ⊥
   FitAt (Some ps) vs = AllFit (types_of ps) vs
-
-  abbrev pub writers_at : Option (List ComponentPlace) → List (Rose ValueLabel) → List Writer
-  writers_at None vs = []
-  writers_at (Some ps) vs = writers (types_of ps) vs
 
   -- of a type that is no reference: the kids have their places in it, and are of their types
   abbrev pub KidsFit : Rose TypeLabel → Rose ValueLabel → Type 0
   KidsFit t v = FitAt (places t (label_of v) (length (kids_of v))) (kids_of v)
 
+module _ (aligned : Bool) (M : List Assignment) where
+  -- what writes these values, each of its type
+  abbrev pub writers : List (Rose TypeLabel) → List (Rose ValueLabel) → List Writer
+  writers (t ∷ ts) (v ∷ vs) = per aligned M t v ∷ writers ts vs
+  writers _ _ = []
+
+  abbrev pub writers_at : Option (List ComponentPlace) → List (Rose ValueLabel) → List Writer
+  writers_at None vs = []
+  writers_at (Some ps) vs = writers (types_of ps) vs
+
   abbrev pub resolved_bits : Rose TypeLabel → Rose ValueLabel → Writer
-  resolved_bits t v p = node_bits (label_of t).form (label_of v) (writers_at (places t (label_of v) (length (kids_of v))) (kids_of v)) p
+  resolved_bits t v p = node_bits aligned (label_of t).form (label_of v) (writers_at (places t (label_of v) (length (kids_of v))) (kids_of v)) p

@@ -8,16 +8,14 @@ use Rattle.transcode_core.specs.Steps.{RootType}
 use Rattle.transcode_core.specs.declared.words.Root.{Root}
 use Rattle.transcode_core.specs.declared.words.Request.{Request}
 use Rattle.transcode_core.specs.declared.words.Request.TheVariants as request
-use Rattle.transcode_core.specs.Words.{Asked, Show, Check, ToPer, ToXml, Trial}
+use Rattle.transcode_core.specs.Words.{Asked, Show, Serve, Trial}
 
 abbrev pub root_seen : Root → Name
 root_seen root = record { space = root.space.now; local = root.local.now }
 
 abbrev pub seen : Request → Asked
 seen (request.Show files) = Show files.now
-seen (request.Check root files) = Check (root_seen root) files.now
-seen (request.ToPer root files) = ToPer (root_seen root) files.now
-seen (request.ToXml root files) = ToXml (root_seen root) files.now
+seen (request.Serve task root files) = Serve task (root_seen root) files.now
 seen (request.Trial lines) = Trial lines
 
 abbrev pub opened_seen : Opened → SetParts × ℕ

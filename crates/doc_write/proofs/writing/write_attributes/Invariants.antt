@@ -6,5 +6,5 @@ use Rattle.doc_write.proofs.writing.write_attributes.Given as goal
 -- what is written, with what is still to be written
 abbrev pub invariant-attributes : goal.invariant-attributes
 invariant-attributes l =
-    l.out.items ++ flat_map (written_attribute l.prefixes) (drop l.entry-index l.entries)
-    ≡ l.fn.out.items ++ flat_map (written_attribute l.prefixes) l.entries
+    l.out.items ++ flat_map (written_attribute l.prefixes) (drop l.entry-index l.attributes)
+    ≡ l.fn.out.items ++ flat_map (written_attribute l.prefixes) l.attributes

@@ -588,8 +588,8 @@ sequence_of-returns-in_err-list-clause-gives g t c = λ told.
     let old = c.args.run.now in
     let new = c.list.new.run in
     let j = stands_inside old.bits.position old.bits.taken old.bits.held old.bits.limit g.K.Origin.limit g.K.Origin.whole _ old.limited old.bits.behind old.bits.within (old.here told) in
-    let h = subst (λ n. FailsAt g.K.Origin.limit g.K.Origin.whole (halt_of c.in_err-list.field-0.0 new.stop) new.bits.taken (list_at c.args.min c.args.max (λ m. many_at c.args.module.now n m item) (input g.K.Origin.limit g.K.Origin.whole) (spot old.bits.position old.nodes))) k.inner_is (c.in_err-list.ensures.gives told) in
-    rw (p.1, p.2) (subst (λ o. FailsAt g.K.Origin.limit g.K.Origin.whole (halt_of c.in_err-list.field-0.0 new.stop) new.bits.taken (items_at (kid_at c.args.module.now c.args.depth) c.args.min c.args.max o (input g.K.Origin.limit g.K.Origin.whole) (spot old.bits.position old.nodes))) (sym is_place)
+    let h = subst (λ n. FailsAt g.K.Origin.limit g.K.Origin.whole (halt_of c.in_err-list.field-0.0 new.stop) new.bits.taken (list_at true c.args.min c.args.max (λ m. many_at c.args.module.now n m item) (input g.K.Origin.limit g.K.Origin.whole) (spot old.bits.position old.nodes))) k.inner_is (c.in_err-list.ensures.gives told) in
+    rw (p.1, p.2) (subst (λ o. FailsAt g.K.Origin.limit g.K.Origin.whole (halt_of c.in_err-list.field-0.0 new.stop) new.bits.taken (items_at true (kid_at c.args.module.now c.args.depth) c.args.min c.args.max o (input g.K.Origin.limit g.K.Origin.whole) (spot old.bits.position old.nodes))) (sym is_place)
     (list_fails c.args.module.now c.args.depth place c.args.min c.args.max (input g.K.Origin.limit g.K.Origin.whole) (spot old.bits.position old.nodes) g.K.Origin.limit g.K.Origin.whole (halt_of c.in_err-list.field-0.0 new.stop) new.bits.taken j h))
 
 pub sequence_of-returns-in_err-open-clause-gives : goal.sequence_of-returns-in_err-open-clause-gives
@@ -604,7 +604,7 @@ sequence_of-returns-in_err-open-clause-gives g t c = λ told.
     let is_place : place_at (label_of u) 0 (Some part) (slice_get (kids_of u) 0) ≡ Some place = ap (λ o. place_at (label_of u) 0 (Some part) o) c.kid-item.ensures in
     let old = c.args.run.now in
     let j = stands_inside old.bits.position old.bits.taken old.bits.held old.bits.limit g.K.Origin.limit g.K.Origin.whole _ old.limited old.bits.behind old.bits.within (old.here told) in
-    rw (p.1, p.2) (subst (λ o. FailsAt g.K.Origin.limit g.K.Origin.whole memory old.bits.taken (items_at (kid_at c.args.module.now c.args.depth) c.args.min c.args.max o (input g.K.Origin.limit g.K.Origin.whole) (spot old.bits.position old.nodes))) (sym is_place)
+    rw (p.1, p.2) (subst (λ o. FailsAt g.K.Origin.limit g.K.Origin.whole memory old.bits.taken (items_at true (kid_at c.args.module.now c.args.depth) c.args.min c.args.max o (input g.K.Origin.limit g.K.Origin.whole) (spot old.bits.position old.nodes))) (sym is_place)
     (list_full c.args.module.now c.args.depth place c.args.min c.args.max (input g.K.Origin.limit g.K.Origin.whole) (spot old.bits.position old.nodes) g.K.Origin.limit g.K.Origin.whole old.bits.taken j (omega (arith, c.requires.in_step))))
 
 pub sequence_of-returns-clause-pushed : goal.sequence_of-returns-clause-pushed
@@ -642,9 +642,9 @@ sequence_of-returns-clause-gives g t c = λ told.
     let is_place : place_at (label_of u) 0 (Some part) (slice_get (kids_of u) 0) ≡ Some place = ap (λ o. place_at (label_of u) 0 (Some part) o) c.kid-item.ensures in
     let old = c.args.run.now in
     let new = c.list.new.run in
-    let h = subst (λ n. (list_at c.args.min c.args.max (λ m. many_at c.args.module.now n m item) (input g.K.Origin.limit g.K.Origin.whole) (spot old.bits.position old.nodes)) ≡ Ok (c.list.new.values.kids, (spot new.bits.position new.nodes))) k.inner_is (c.in_ok-list.ensures.gives told) in
+    let h = subst (λ n. (list_at true c.args.min c.args.max (λ m. many_at c.args.module.now n m item) (input g.K.Origin.limit g.K.Origin.whole) (spot old.bits.position old.nodes)) ≡ Ok (c.list.new.values.kids, (spot new.bits.position new.nodes))) k.inner_is (c.in_ok-list.ensures.gives told) in
     let e = list_reads c.args.module.now c.args.depth place c.args.min c.args.max (input g.K.Origin.limit g.K.Origin.whole) (spot old.bits.position old.nodes) c.list.new.values.kids (spot new.bits.position new.nodes) h in
-    rw (newest-pushed _ _ _ (c.close.ensures ∙ closed-list _ _ _ _ c.in_ok-open.ensures.ok c.in_ok-list.ensures.above)) (subst (λ o. (items_at (kid_at c.args.module.now c.args.depth) c.args.min c.args.max o (input g.K.Origin.limit g.K.Origin.whole) (spot old.bits.position old.nodes)) ≡ Ok (node value.SequenceOf (roses_of c.list.new.values.kids), (spot new.bits.position new.nodes))) (sym is_place) e)
+    rw (newest-pushed _ _ _ (c.close.ensures ∙ closed-list _ _ _ _ c.in_ok-open.ensures.ok c.in_ok-list.ensures.above)) (subst (λ o. (items_at true (kid_at c.args.module.now c.args.depth) c.args.min c.args.max o (input g.K.Origin.limit g.K.Origin.whole) (spot old.bits.position old.nodes)) ≡ Ok (node value.SequenceOf (roses_of c.list.new.values.kids), (spot new.bits.position new.nodes))) (sym is_place) e)
 
 -- THE ITEMS, by their count
 
@@ -724,7 +724,7 @@ fragments-fragments-preserved g t c =
       so_far = λ told.
           let i = stands_inside old.bits.position old.bits.taken old.bits.held old.bits.limit g.K.Origin.limit g.K.Origin.whole _ old.limited old.bits.behind old.bits.within (old.here told) in
           let e = turn_on c.args.min c.args.max (λ n. many_at c.args.module.now c.args.depth n c.args.item.now) (steady-items c.args.module.now c.args.depth c.args.item.now) c.fragments.values.kids c.fragments.before (length c.fragments.values.kids) (input g.K.Origin.limit g.K.Origin.whole) (spot old.bits.position old.nodes) i c.in-Units.k (spot mid.bits.position mid.nodes) all (spot new.bits.position new.nodes) (rw (c.fragments.invariant.counted, c.in-Units.is) at (c.in_ok-piece.ensures.gives told)) (c.in_ok-items-in-Units.ensures.gives told) in
-          subst (λ n. with_front all (fragments_at c.args.min c.args.max (λ m. many_at c.args.module.now c.args.depth m c.args.item.now) (suc (length (input g.K.Origin.limit g.K.Origin.whole))) c.in-Units.k n (input g.K.Origin.limit g.K.Origin.whole) (spot new.bits.position new.nodes)) ≡ counted_at c.args.min c.args.max (λ m. many_at c.args.module.now c.args.depth m c.args.item.now) (input g.K.Origin.limit g.K.Origin.whole) (spot c.args.run.now.bits.position c.args.run.now.nodes))
+          subst (λ n. with_front all (fragments_at true c.args.min c.args.max (λ m. many_at c.args.module.now c.args.depth m c.args.item.now) (suc (length (input g.K.Origin.limit g.K.Origin.whole))) c.in-Units.k n (input g.K.Origin.limit g.K.Origin.whole) (spot new.bits.position new.nodes)) ≡ counted_at true c.args.min c.args.max (λ m. many_at c.args.module.now c.args.depth m c.args.item.now) (input g.K.Origin.limit g.K.Origin.whole) (spot c.args.run.now.bits.position c.args.run.now.nodes))
           long (sym e ∙ c.fragments.invariant.so_far told);
     }
 

@@ -24,162 +24,162 @@ use Rattle.per_encode.proofs.nodes.+encoding.Goals as goal
 use Rattle.per_encode.proofs.nodes.+encoding.Goals.{put_parts-then-present-i+in-Some+in_ok-put_node-in-Some, put_parts-else-present-i}
 
 pub put_node-put_content-requires : goal.put_node-put_content-requires
-put_node-put_content-requires t c =
+put_node-put_content-requires g t c =
     let d = c.decreases in
-    (omega (arith, d), subst (λ u. KidsFit c.args.module.now u c.args.value.now) (sym c.resolve.ensures) (kids_fit c.args.module.now c.args.node.now c.args.value.now c.requires))
+    (λ κs h. (omega (arith, d), (h, subst (λ u. KidsFit c.args.module.now u c.args.value.now) (sym c.resolve.ensures) (kids_fit g.V.Variant.ALIGNED c.args.module.now c.args.node.now c.args.value.now c.requires))))
 
 pub put_node-returns : goal.put_node-returns
-put_node-returns t c =
+put_node-returns g t c =
     let M = c.args.module.now in
     let v = c.args.value.now in
     let sink = c.args.sink.now in
     on_ok c.put_content.result
-    (λ e. e ∙ ap (λ u. sink ++ resolved_bits M u v (length sink)) c.resolve.ensures ∙ ap (λ bs. sink ++ bs) (sym (per-resolved M c.args.node.now v (length sink))))
+    (λ e. e ∙ ap (λ u. sink ++ resolved_bits g.V.Variant.ALIGNED M u v (length sink)) c.resolve.ensures ∙ ap (λ bs. sink ++ bs) (sym (per-resolved g.V.Variant.ALIGNED M c.args.node.now v (length sink))))
     c.put_content.ensures
 
 pub put_content-put_flags-requires : goal.put_content-put_flags-requires
-put_content-put_flags-requires t c =
+put_content-put_flags-requires g t c =
     let M = c.args.module.now in
     let u = c.args.node.now in
     let v = c.args.value.now in
     let parts = c.in-Sequence.parts in
     let flags = c.in-Sequence-label.present in
-    let is : Is M u v (form.Sequence parts) (value.Sequence flags) = (ap (λ l. l.form) (sym c.label.ensures) ∙ c.in-Sequence.is, sym c.label-label.ensures ∙ c.in-Sequence-label.is) in
-    ap length c.items-components.ensures ∙ (sequence_here M u v parts flags is c.requires).counted ∙ sym (ap length c.items-present.ensures)
+    let is : Is g.V.Variant.ALIGNED M u v (form.Sequence parts) (value.Sequence flags) = (ap (λ l. l.form) (sym c.label.ensures) ∙ c.in-Sequence.is, sym c.label-label.ensures ∙ c.in-Sequence-label.is) in
+    ap length c.items-components.ensures ∙ (sequence_here g.V.Variant.ALIGNED M u v parts flags is c.requires).counted ∙ sym (ap length c.items-present.ensures)
 
 pub put_content-put_parts-requires : goal.put_content-put_parts-requires
-put_content-put_parts-requires t c =
+put_content-put_parts-requires g t c =
     let M = c.args.module.now in
     let u = c.args.node.now in
     let v = c.args.value.now in
     let parts = c.in-Sequence.parts in
     let flags = c.in-Sequence-label.present in
-    let is : Is M u v (form.Sequence parts) (value.Sequence flags) = (ap (λ l. l.form) (sym c.label.ensures) ∙ c.in-Sequence.is, sym c.label-label.ensures ∙ c.in-Sequence-label.is) in
-    let s = sequence_here M u v parts flags is c.requires in
+    let is : Is g.V.Variant.ALIGNED M u v (form.Sequence parts) (value.Sequence flags) = (ap (λ l. l.form) (sym c.label.ensures) ∙ c.in-Sequence.is, sym c.label-label.ensures ∙ c.in-Sequence-label.is) in
+    let s = sequence_here g.V.Variant.ALIGNED M u v parts flags is c.requires in
     let d = c.decreases in
-    let n = node_count-kids v in (
-      rw c.kids-values.ensures (omega (arith, d, n)),
-      (rw (c.items-present.ensures, c.kids-types.ensures) s.typed, rw (c.items-present.ensures, c.kids-types.ensures, c.kids-values.ensures) s.fit),
-    )
+    let n = node_count-kids v in (λ κs h. (rw c.kids-values.ensures (omega (arith, d, n)), (h, (rw (c.items-present.ensures, c.kids-types.ensures) s.typed, rw (c.items-present.ensures, c.kids-types.ensures, c.kids-values.ensures) s.fit))))
 
 pub put_content-put_index-requires-in-Choice-label : goal.put_content-put_index-requires-in-Choice-label
-put_content-put_index-requires-in-Choice-label t c =
+put_content-put_index-requires-in-Choice-label g t c =
     let M = c.args.module.now in
     let u = c.args.node.now in
     let v = c.args.value.now in
     let parts = c.in-Choice.parts in
     let i = c.in-Choice-label.i in
-    let is : Is M u v (form.Choice parts) (value.Choice i) = (ap (λ l. l.form) (sym c.label.ensures) ∙ c.in-Choice.is, sym c.label-label.ensures ∙ c.in-Choice-label.is) in
-    let h = choice_here M u v parts i is c.requires in
+    let is : Is g.V.Variant.ALIGNED M u v (form.Choice parts) (value.Choice i) = (ap (λ l. l.form) (sym c.label.ensures) ∙ c.in-Choice.is, sym c.label-label.ensures ∙ c.in-Choice-label.is) in
+    let h = choice_here g.V.Variant.ALIGNED M u v parts i is c.requires in
     rw c.items-alternatives.ensures (slice_get_within parts i h.part h.part_is)
 
 pub put_content-kid-alternative-requires : goal.put_content-kid-alternative-requires
-put_content-kid-alternative-requires t c =
+put_content-kid-alternative-requires g t c =
     let M = c.args.module.now in
     let u = c.args.node.now in
     let v = c.args.value.now in
     let parts = c.in-Choice.parts in
     let i = c.in-Choice-label.i in
-    let is : Is M u v (form.Choice parts) (value.Choice i) = (ap (λ l. l.form) (sym c.label.ensures) ∙ c.in-Choice.is, sym c.label-label.ensures ∙ c.in-Choice-label.is) in
-    let h = choice_here M u v parts i is c.requires in
+    let is : Is g.V.Variant.ALIGNED M u v (form.Choice parts) (value.Choice i) = (ap (λ l. l.form) (sym c.label.ensures) ∙ c.in-Choice.is, sym c.label-label.ensures ∙ c.in-Choice-label.is) in
+    let h = choice_here g.V.Variant.ALIGNED M u v parts i is c.requires in
     slice_get_within (kids_of u) i h.type h.type_is
 
 pub put_content-put_node-requires : goal.put_content-put_node-requires
-put_content-put_node-requires t c =
+put_content-put_node-requires g t c =
     let M = c.args.module.now in
     let u = c.args.node.now in
     let v = c.args.value.now in
     let parts = c.in-Choice.parts in
     let i = c.in-Choice-label.i in
-    let is : Is M u v (form.Choice parts) (value.Choice i) = (ap (λ l. l.form) (sym c.label.ensures) ∙ c.in-Choice.is, sym c.label-label.ensures ∙ c.in-Choice-label.is) in
+    let is : Is g.V.Variant.ALIGNED M u v (form.Choice parts) (value.Choice i) = (ap (λ l. l.form) (sym c.label.ensures) ∙ c.in-Choice.is, sym c.label-label.ensures ∙ c.in-Choice-label.is) in
     let d = c.decreases in
     let n = node_count-got v 0 c.kid-inner.result c.kid-inner.ensures in
-    (omega (arith, d, n), (choice_kid M u v parts i c.kid-alternative.result.now c.kid-inner.result (choice_here M u v parts i is c.requires) c.kid-alternative.ensures c.kid-inner.ensures).0)
+    (λ κs h. (omega (arith, d, n), (h, (choice_kid g.V.Variant.ALIGNED M u v parts i c.kid-alternative.result.now c.kid-inner.result (choice_here g.V.Variant.ALIGNED M u v parts i is c.requires) c.kid-alternative.ensures c.kid-inner.ensures).0)))
 
 pub put_content-put_list-requires : goal.put_content-put_list-requires
-put_content-put_list-requires t c =
+put_content-put_list-requires g t c =
     let M = c.args.module.now in
     let u = c.args.node.now in
     let v = c.args.value.now in
     let part = c.in-SequenceOf.part in
     let least = c.in-SequenceOf.min in
     let most = c.in-SequenceOf.max in
-    let is : Is M u v (form.SequenceOf part least most) value.SequenceOf = (ap (λ l. l.form) (sym c.label.ensures) ∙ c.in-SequenceOf.is, sym c.label-label.ensures ∙ c.in-SequenceOf-label.is) in
-    let l = list_here M u v part least most is c.requires in
+    let is : Is g.V.Variant.ALIGNED M u v (form.SequenceOf part least most) value.SequenceOf = (ap (λ l. l.form) (sym c.label.ensures) ∙ c.in-SequenceOf.is, sym c.label-label.ensures ∙ c.in-SequenceOf-label.is) in
+    let l = list_here g.V.Variant.ALIGNED M u v part least most is c.requires in
     let size = both (leb least (length (kids_of v))) (is_at_most (length (kids_of v)) most) l.size in
     let d = c.decreases in
-    let n = node_count-kids v in (
+    let n = node_count-kids v in (λ κs h. (
       rw c.kids-items.ensures (omega (arith, d, n)),
       (
-        rw c.kids-items.ensures (leb-true least (length (kids_of v)) size.0),
-        (rw c.kids-items.ensures size.1, rw c.kids-items.ensures (list_item M u v part least most c.kid-item.result.now l c.kid-item.ensures)),
+        h,
+        (
+          rw c.kids-items.ensures (leb-true least (length (kids_of v)) size.0),
+          (rw c.kids-items.ensures size.1, rw c.kids-items.ensures (list_item g.V.Variant.ALIGNED M u v part least most c.kid-item.result.now l c.kid-item.ensures)),
+        ),
       ),
-    )
+    ))
 
 pub put_content-returns-in-Bool-label : goal.put_content-returns-in-Bool-label
-put_content-returns-in-Bool-label t c =
+put_content-returns-in-Bool-label g t c =
     let M = c.args.module.now in
     let u = c.args.node.now in
     let v = c.args.value.now in
     let b = c.in-Bool-label.b in
-    let is : Is M u v form.Bool (value.Bool b) = (ap (λ l. l.form) (sym c.label.ensures) ∙ c.in-Bool.is, sym c.label-label.ensures ∙ c.in-Bool-label.is) in
+    let is : Is g.V.Variant.ALIGNED M u v form.Bool (value.Bool b) = (ap (λ l. l.form) (sym c.label.ensures) ∙ c.in-Bool.is, sym c.label-label.ensures ∙ c.in-Bool-label.is) in
     let sink = c.args.sink.now in
     let p = length sink in
-    on_ok c.put_bits.result (λ e. e ∙ ap (λ bs. sink ++ bs) (ap (bits 1) c.from.ensures ∙ one_bit b ∙ sym (bool-bits M u v b is p))) c.put_bits.ensures.ok
+    on_ok c.put_bits.result (λ e. e ∙ ap (λ bs. sink ++ bs) (ap (bits 1) c.from.ensures ∙ one_bit b ∙ sym (bool-bits g.V.Variant.ALIGNED M u v b is p))) c.put_bits.ensures.ok
 
 pub put_content-returns-in-Int-label : goal.put_content-returns-in-Int-label
-put_content-returns-in-Int-label t c =
+put_content-returns-in-Int-label g t c =
     let M = c.args.module.now in
     let u = c.args.node.now in
     let v = c.args.value.now in
     let z = c.in-Int-label.number in
-    let is : Is M u v (form.Int c.in-Int.lo c.in-Int.hi) (value.Int z) = (ap (λ l. l.form) (sym c.label.ensures) ∙ c.in-Int.is, sym c.label-label.ensures ∙ c.in-Int-label.is) in
+    let is : Is g.V.Variant.ALIGNED M u v (form.Int c.in-Int.lo c.in-Int.hi) (value.Int z) = (ap (λ l. l.form) (sym c.label.ensures) ∙ c.in-Int.is, sym c.label-label.ensures ∙ c.in-Int-label.is) in
     let f : FitsSigned w128 z = search rules in
     let sink = c.args.sink.now in
     let p = length sink in
-    on_ok c.put_whole.result (λ e. subst (λ n. c.put_whole.new.sink ≡ sink ++ whole_bits c.in-Int.lo c.in-Int.hi n p) (to_z-of_z w128 z f) e ∙ ap (λ bs. sink ++ bs) (sym (int-bits M u v c.in-Int.lo c.in-Int.hi z is p))) c.put_whole.ensures
+    on_ok c.put_whole.result (λ e. subst (λ n. c.put_whole.new.sink ≡ sink ++ whole_bits g.V.Variant.ALIGNED c.in-Int.lo c.in-Int.hi n p) (to_z-of_z w128 z f) e ∙ ap (λ bs. sink ++ bs) (sym (int-bits g.V.Variant.ALIGNED M u v c.in-Int.lo c.in-Int.hi z is p))) c.put_whole.ensures
 
 pub put_content-returns-in-Enum : goal.put_content-returns-in-Enum
-put_content-returns-in-Enum t c =
+put_content-returns-in-Enum g t c =
     let M = c.args.module.now in
     let u = c.args.node.now in
     let v = c.args.value.now in
     let i = c.in-Enum.i in
-    let is : Is M u v (form.Numbers c.in-Numbers.numbers) (value.Enum i) = (ap (λ l. l.form) (sym c.label.ensures) ∙ c.in-Numbers.is, sym c.label-label.ensures ∙ c.in-Enum.is) in
+    let is : Is g.V.Variant.ALIGNED M u v (form.Numbers c.in-Numbers.numbers) (value.Enum i) = (ap (λ l. l.form) (sym c.label.ensures) ∙ c.in-Numbers.is, sym c.label-label.ensures ∙ c.in-Enum.is) in
     let sink = c.args.sink.now in
     let p = length sink in
-    on_ok c.put_index.result (λ e. e ∙ ap (λ xs. sink ++ number_bits (length xs - 1) i p) c.items.ensures ∙ ap (λ bs. sink ++ bs) (sym (number-bits M u v c.in-Numbers.numbers i is p))) c.put_index.ensures
+    on_ok c.put_index.result (λ e. e ∙ ap (λ xs. sink ++ number_bits g.V.Variant.ALIGNED (length xs - 1) i p) c.items.ensures ∙ ap (λ bs. sink ++ bs) (sym (number-bits g.V.Variant.ALIGNED M u v c.in-Numbers.numbers i is p))) c.put_index.ensures
 
 pub put_content-returns-in-Enum-label : goal.put_content-returns-in-Enum-label
-put_content-returns-in-Enum-label t c =
+put_content-returns-in-Enum-label g t c =
     let M = c.args.module.now in
     let u = c.args.node.now in
     let v = c.args.value.now in
     let i = c.in-Enum-label.i in
-    let is : Is M u v (form.Words c.in-Words.identifiers c.in-Words.words) (value.Enum i) = (ap (λ l. l.form) (sym c.label.ensures) ∙ c.in-Words.is, sym c.label-label.ensures ∙ c.in-Enum-label.is) in
+    let is : Is g.V.Variant.ALIGNED M u v (form.Words c.in-Words.identifiers c.in-Words.words) (value.Enum i) = (ap (λ l. l.form) (sym c.label.ensures) ∙ c.in-Words.is, sym c.label-label.ensures ∙ c.in-Enum-label.is) in
     let sink = c.args.sink.now in
     let p = length sink in
-    on_ok c.put_index-in-Enum-label.result (λ e. e ∙ ap (λ xs. sink ++ number_bits (length xs - 1) i p) c.items-in-Enum-label.ensures ∙ ap (λ bs. sink ++ bs) (sym (word-bits M u v c.in-Words.identifiers c.in-Words.words i is p))) c.put_index-in-Enum-label.ensures
+    on_ok c.put_index-in-Enum-label.result (λ e. e ∙ ap (λ xs. sink ++ number_bits g.V.Variant.ALIGNED (length xs - 1) i p) c.items-in-Enum-label.ensures ∙ ap (λ bs. sink ++ bs) (sym (word-bits g.V.Variant.ALIGNED M u v c.in-Words.identifiers c.in-Words.words i is p))) c.put_index-in-Enum-label.ensures
 
 pub put_content-returns-in-Utf8-label : goal.put_content-returns-in-Utf8-label
-put_content-returns-in-Utf8-label t c =
+put_content-returns-in-Utf8-label g t c =
     let M = c.args.module.now in
     let u = c.args.node.now in
     let v = c.args.value.now in
     let text = c.in-Utf8-label.text in
-    let is : Is M u v (form.Utf8 c.in-Utf8.min c.in-Utf8.max c.in-Utf8.class) (value.Utf8 text) = (ap (λ l. l.form) (sym c.label.ensures) ∙ c.in-Utf8.is, sym c.label-label.ensures ∙ c.in-Utf8-label.is) in
+    let is : Is g.V.Variant.ALIGNED M u v (form.Utf8 c.in-Utf8.min c.in-Utf8.max c.in-Utf8.class) (value.Utf8 text) = (ap (λ l. l.form) (sym c.label.ensures) ∙ c.in-Utf8.is, sym c.label-label.ensures ∙ c.in-Utf8-label.is) in
     let sink = c.args.sink.now in
     let p = length sink in
-    on_ok c.put_text.result (λ e. e ∙ ap (λ xs. sink ++ counted_bits (map octet_writer xs) p) c.bytes.ensures.bytes ∙ ap (λ bs. sink ++ bs) (sym (text-bits M u v c.in-Utf8.min c.in-Utf8.max c.in-Utf8.class text is p))) c.put_text.ensures
+    on_ok c.put_text.result (λ e. e ∙ ap (λ xs. sink ++ counted_bits g.V.Variant.ALIGNED (map octet_writer xs) p) c.bytes.ensures.bytes ∙ ap (λ bs. sink ++ bs) (sym (text-bits g.V.Variant.ALIGNED M u v c.in-Utf8.min c.in-Utf8.max c.in-Utf8.class text is p))) c.put_text.ensures
 
 pub put_content-returns-in_ok-put_flags-in-Sequence-label : goal.put_content-returns-in_ok-put_flags-in-Sequence-label
-put_content-returns-in_ok-put_flags-in-Sequence-label t c =
+put_content-returns-in_ok-put_flags-in-Sequence-label g t c =
     let M = c.args.module.now in
     let u = c.args.node.now in
     let v = c.args.value.now in
     let parts = c.in-Sequence.parts in
     let flags = c.in-Sequence-label.present in
-    let is : Is M u v (form.Sequence parts) (value.Sequence flags) = (ap (λ l. l.form) (sym c.label.ensures) ∙ c.in-Sequence.is, sym c.label-label.ensures ∙ c.in-Sequence-label.is) in
+    let is : Is g.V.Variant.ALIGNED M u v (form.Sequence parts) (value.Sequence flags) = (ap (λ l. l.form) (sym c.label.ensures) ∙ c.in-Sequence.is, sym c.label-label.ensures ∙ c.in-Sequence-label.is) in
     let mid = c.put_flags.new.sink in
     let put : mid ≡ c.args.sink.now ++ flag_bits parts flags =
     c.in_ok-put_flags-in-Sequence-label.ensures ∙ ap (λ cs. c.args.sink.now ++ flag_bits cs c.items-present.result.now) c.items-components.ensures
@@ -188,53 +188,53 @@ put_content-returns-in_ok-put_flags-in-Sequence-label t c =
     ap (λ ts. chosen ts c.items-present.result.now) c.kids-types.ensures ∙ ap (λ fs. chosen (kids_of u) fs) c.items-present.ensures in
     let sink = c.args.sink.now in
     let p = length sink in
-    on_ok c.put_parts.result (λ e. then_written sink mid c.put_parts.new.sink (flag_bits parts flags) (in_turn (writers M (chosen (kids_of u) flags) (kids_of v))) put
-    (e ∙ ap (λ ts. mid ++ in_turn (writers M ts c.kids-values.result) (length mid)) kept ∙ ap (λ vs. mid ++ in_turn (writers M (chosen (kids_of u) flags) vs) (length mid)) c.kids-values.ensures)
-    ∙ ap (λ bs. sink ++ bs) (sym (sequence-bits M u v parts flags is c.requires p))) c.put_parts.ensures
+    on_ok c.put_parts.result (λ e. then_written sink mid c.put_parts.new.sink (flag_bits parts flags) (in_turn (writers g.V.Variant.ALIGNED M (chosen (kids_of u) flags) (kids_of v))) put
+    (e ∙ ap (λ ts. mid ++ in_turn (writers g.V.Variant.ALIGNED M ts c.kids-values.result) (length mid)) kept ∙ ap (λ vs. mid ++ in_turn (writers g.V.Variant.ALIGNED M (chosen (kids_of u) flags) vs) (length mid)) c.kids-values.ensures)
+    ∙ ap (λ bs. sink ++ bs) (sym (sequence-bits g.V.Variant.ALIGNED M u v parts flags is c.requires p))) c.put_parts.ensures
 
 pub put_content-returns-in_ok-put_index-in-Choice-label : goal.put_content-returns-in_ok-put_index-in-Choice-label
-put_content-returns-in_ok-put_index-in-Choice-label t c =
+put_content-returns-in_ok-put_index-in-Choice-label g t c =
     let M = c.args.module.now in
     let u = c.args.node.now in
     let v = c.args.value.now in
     let parts = c.in-Choice.parts in
     let i = c.in-Choice-label.i in
-    let is : Is M u v (form.Choice parts) (value.Choice i) = (ap (λ l. l.form) (sym c.label.ensures) ∙ c.in-Choice.is, sym c.label-label.ensures ∙ c.in-Choice-label.is) in
+    let is : Is g.V.Variant.ALIGNED M u v (form.Choice parts) (value.Choice i) = (ap (λ l. l.form) (sym c.label.ensures) ∙ c.in-Choice.is, sym c.label-label.ensures ∙ c.in-Choice-label.is) in
     let mid = c.put_index-in-Choice-label.new.sink in
     let a = c.kid-alternative.result.now in
     let w = c.kid-inner.result in
-    let n = number_bits (length parts - 1) i (length c.args.sink.now) in
-    let put : mid ≡ c.args.sink.now ++ n = c.in_ok-put_index-in-Choice-label.ensures ∙ ap (λ cs. c.args.sink.now ++ number_bits (length cs - 1) i (length c.args.sink.now)) c.items-alternatives.ensures in
+    let n = number_bits g.V.Variant.ALIGNED (length parts - 1) i (length c.args.sink.now) in
+    let put : mid ≡ c.args.sink.now ++ n = c.in_ok-put_index-in-Choice-label.ensures ∙ ap (λ cs. c.args.sink.now ++ number_bits g.V.Variant.ALIGNED (length cs - 1) i (length c.args.sink.now)) c.items-alternatives.ensures in
     let sink = c.args.sink.now in
     let p = length sink in
-    on_ok c.put_node.result (λ e. then_written sink mid c.put_node.new.sink n (per M a w) put e ∙ ap (λ bs. sink ++ bs) (sym (choice-bits M u v parts i a w is c.requires c.kid-alternative.ensures c.kid-inner.ensures p))) c.put_node.ensures
+    on_ok c.put_node.result (λ e. then_written sink mid c.put_node.new.sink n (per g.V.Variant.ALIGNED M a w) put e ∙ ap (λ bs. sink ++ bs) (sym (choice-bits g.V.Variant.ALIGNED M u v parts i a w is c.requires c.kid-alternative.ensures c.kid-inner.ensures p))) c.put_node.ensures
 
 pub put_content-returns-in-SequenceOf-label : goal.put_content-returns-in-SequenceOf-label
-put_content-returns-in-SequenceOf-label t c =
+put_content-returns-in-SequenceOf-label g t c =
     let M = c.args.module.now in
     let u = c.args.node.now in
     let v = c.args.value.now in
     let part = c.in-SequenceOf.part in
     let least = c.in-SequenceOf.min in
     let most = c.in-SequenceOf.max in
-    let is : Is M u v (form.SequenceOf part least most) value.SequenceOf = (ap (λ l. l.form) (sym c.label.ensures) ∙ c.in-SequenceOf.is, sym c.label-label.ensures ∙ c.in-SequenceOf-label.is) in
+    let is : Is g.V.Variant.ALIGNED M u v (form.SequenceOf part least most) value.SequenceOf = (ap (λ l. l.form) (sym c.label.ensures) ∙ c.in-SequenceOf.is, sym c.label-label.ensures ∙ c.in-SequenceOf-label.is) in
     let item = c.kid-item.result.now in
     let sink = c.args.sink.now in
     let p = length sink in
-    on_ok c.put_list.result (λ e. e ∙ ap (λ vs. sink ++ list_bits least most (map (per M item) vs) p) c.kids-items.ensures ∙ ap (λ bs. sink ++ bs) (sym (list-bits M u v part least most item is c.requires c.kid-item.ensures p))) c.put_list.ensures
+    on_ok c.put_list.result (λ e. e ∙ ap (λ vs. sink ++ list_bits g.V.Variant.ALIGNED least most (map (per g.V.Variant.ALIGNED M item) vs) p) c.kids-items.ensures ∙ ap (λ bs. sink ++ bs) (sym (list-bits g.V.Variant.ALIGNED M u v part least most item is c.requires c.kid-item.ensures p))) c.put_list.ensures
 
 pub put_items-put_node-requires : goal.put_items-put_node-requires
-put_items-put_node-requires t c =
+put_items-put_node-requires g t c =
     let M = c.args.module.now in
     let e = c.in-Some.ensures.steps in
     let d = c.decreases in
-    (omega (arith, d, c.items.invariant.fewer, ap (λ vs. count_all (roses_of vs)) e), (first_fits (FitsSomewhere M c.args.node.now) _ _ _ e c.items.invariant.fit).0)
+    (λ κs h. (omega (arith, d, c.items.invariant.fewer, ap (λ vs. count_all (roses_of vs)) e), (h, (first_fits (FitsSomewhere M c.args.node.now) _ _ _ e c.items.invariant.fit).0)))
 
 pub put_items-items-preserved : goal.put_items-items-preserved
-put_items-items-preserved t c =
+put_items-items-preserved g t c =
     let M = c.args.module.now in
     let node = c.args.node.now in
-    let f = per M node in
+    let f = per g.V.Variant.ALIGNED M node in
     let vs = c.items.values in
     let later = c.next.new.self in
     let v = c.in-Some.value in
@@ -246,72 +246,72 @@ put_items-items-preserved t c =
     record {
       within = omega (arith, c.items.invariant.within, ap length e, c.items-test.true);
       fit = (first_fits (FitsSomewhere M node) _ _ _ e c.items.invariant.fit).1;
-      whole = turn_taken old sink c.put_node.new.sink (per M node v) (map f (take (n - (i + 1)) later))
+      whole = turn_taken old sink c.put_node.new.sink (per g.V.Variant.ALIGNED M node v) (map f (take (n - (i + 1)) later))
           (sym (ap (λ xs. sink ++ in_turn (map f xs) (length sink)) (take_first vs later v n i e c.items-test.true)) ∙ c.items.invariant.whole) c.in_ok-put_node-in-Some.ensures;
       rest = sym (drop_first vs later v n i e c.items-test.true) ∙ c.items.invariant.rest;
       fewer = omega (arith, c.items.invariant.fewer, ap (λ us. count_all (roses_of us)) e);
     }
 
 pub put_items-returns-clause-sink : goal.put_items-returns-clause-sink
-put_items-returns-clause-sink t c =
-    let f = per c.args.module.now c.args.node.now in
+put_items-returns-clause-sink g t c =
+    let f = per g.V.Variant.ALIGNED c.args.module.now c.args.node.now in
     let sink = c.items.sink in
     sym (nothing_left sink (length sink)) ∙ sym (ap (λ xs. sink ++ in_turn (map f xs) (length sink)) (take_none c.items.values c.args.n c.items.counter c.items-test.false)) ∙ c.items.invariant.whole
 
 pub put_items-returns-clause-rest : goal.put_items-returns-clause-rest
-put_items-returns-clause-rest t c = sym (drop_none c.items.values c.args.n c.items.counter c.items-test.false) ∙ c.items.invariant.rest
+put_items-returns-clause-rest g t c = sym (drop_none c.items.values c.args.n c.items.counter c.items-test.false) ∙ c.items.invariant.rest
 
 pub put_fragments-put_items-requires : goal.put_fragments-put_items-requires
-put_fragments-put_items-requires t c =
+put_fragments-put_items-requires g t c =
     let d = c.decreases in
-    (omega (arith, d, c.fragments.invariant.fewer), (omega (arith, c.fragments.invariant.counted, c.fragments-test.true, c.min-units.ensures), c.fragments.invariant.fit))
+    (λ κs h. (omega (arith, d, c.fragments.invariant.fewer), (h, (omega (arith, c.fragments.invariant.counted, c.fragments-test.true, c.min-units.ensures), c.fragments.invariant.fit))))
 
 pub put_fragments-fragments-preserved : goal.put_fragments-fragments-preserved
-put_fragments-fragments-preserved t c =
+put_fragments-fragments-preserved g t c =
     let M = c.args.module.now in
     let node = c.args.node.now in
-    let f = per M node in
+    let f = per g.V.Variant.ALIGNED M node in
     let vs = c.fragments.left in
     let k = c.min-units.result in
-    let old = c.args.sink.now ++ counted_bits (map f c.args.values.now) (length c.args.sink.now) in
+    let old = c.args.sink.now ++ counted_bits g.V.Variant.ALIGNED (map f c.args.values.now) (length c.args.sink.now) in
     let counted = c.fragments.invariant.counted in
     let rest = c.in_ok-put_items.ensures.rest in
     record {
       counted = omega (arith, counted, ap length rest, length-drop (k * 16384) vs);
       fit = subst (AllOf (FitsSomewhere M node)) (sym rest) (all_of-drop (FitsSomewhere M node) vs (k * 16384) c.fragments.invariant.fit);
-      whole = subst (λ us. c.put_items.new.sink ++ counted_bits (map f us) (length c.put_items.new.sink) ≡ old) (sym rest)
-          (fragment_taken f vs k old c.fragments.sink c.put_units.new.sink c.put_items.new.sink (omega (arith, counted, c.fragments-test.true)) (ap units_of (sym counted) ∙ omega (arith, c.min-units.ensures))
+      whole = subst (λ us. c.put_items.new.sink ++ counted_bits g.V.Variant.ALIGNED (map f us) (length c.put_items.new.sink) ≡ old) (sym rest)
+          (fragment_taken g.V.Variant.ALIGNED f vs k old c.fragments.sink c.put_units.new.sink c.put_items.new.sink (omega (arith, counted, c.fragments-test.true)) (ap units_of (sym counted) ∙ omega (arith, c.min-units.ensures))
           c.in_ok-put_units.ensures c.in_ok-put_items.ensures.sink c.fragments.invariant.whole);
       fewer = omega (arith, c.fragments.invariant.fewer, ap (λ us. count_all (roses_of us)) rest, count_all-drop-le vs (k * 16384));
     }
 
 pub put_fragments-put_items-requires-2 : goal.put_fragments-put_items-requires-2
-put_fragments-put_items-requires-2 t c =
+put_fragments-put_items-requires-2 g t c =
     let d = c.decreases in
-    (omega (arith, d, c.fragments.invariant.fewer), (omega (arith, c.fragments.invariant.counted), c.fragments.invariant.fit))
+    (λ κs h. (omega (arith, d, c.fragments.invariant.fewer), (h, (omega (arith, c.fragments.invariant.counted), c.fragments.invariant.fit))))
 
 pub put_fragments-returns : goal.put_fragments-returns
-put_fragments-returns t c =
-    let f = per c.args.module.now c.args.node.now in
+put_fragments-returns g t c =
+    let f = per g.V.Variant.ALIGNED c.args.module.now c.args.node.now in
     let vs = c.fragments.left in
-    let old = c.args.sink.now ++ counted_bits (map f c.args.values.now) (length c.args.sink.now) in
+    let old = c.args.sink.now ++ counted_bits g.V.Variant.ALIGNED (map f c.args.values.now) (length c.args.sink.now) in
     let counted = c.fragments.invariant.counted in
     let mid = c.put_last_length.new.sink in
     on_ok c.put_items-2.result
-    (λ e. last_taken f vs old c.fragments.sink mid c.put_items-2.new.sink (omega (arith, counted, c.fragments-test.false)) c.fragments.invariant.whole
-    (c.in_ok-put_last_length.ensures ∙ ap (λ n. c.fragments.sink ++ head_bits (Last n) (length c.fragments.sink)) counted)
+    (λ e. last_taken g.V.Variant.ALIGNED f vs old c.fragments.sink mid c.put_items-2.new.sink (omega (arith, counted, c.fragments-test.false)) c.fragments.invariant.whole
+    (c.in_ok-put_last_length.ensures ∙ ap (λ n. c.fragments.sink ++ head_bits g.V.Variant.ALIGNED (Last n) (length c.fragments.sink)) counted)
     (e ∙ ap (λ us. mid ++ in_turn (map f us) (length mid)) (ap (λ n. take n vs) counted ∙ take_all vs)))
     c.put_items-2.ensures.sink
 
 pub put_parts-unreachable-requires : goal.put_parts-unreachable-requires
-put_parts-unreachable-requires t c =
+put_parts-unreachable-requires g t c =
     let M = c.args.module.now in
     let due = left_due c.args.types.now c.args.present.now c.parts.i c.parts-test.true c.requires.types c.if-present-i.true in
     let none = c.in-None.ensures.steps.0 in
     absurd (subst (AllFit M (due.0 ∷ _)) none (subst (λ us. AllFit M us c.parts.left) due.1 c.parts.invariant.fit))
 
 pub put_parts-put_node-requires : goal.put_parts-put_node-requires
-put_parts-put_node-requires t c =
+put_parts-put_node-requires g t c =
     let M = c.args.module.now in
     let ts = c.args.types.now in
     let flags = c.args.present.now in
@@ -322,10 +322,10 @@ put_parts-put_node-requires t c =
     let fit = subst (λ us. AllFit M us c.parts.left) here c.parts.invariant.fit in
     let e = c.in-Some.ensures.steps in
     let d = c.decreases in
-    (omega (arith, d, c.parts.invariant.fewer, ap (λ vs. count_all (roses_of vs)) e), (kid_first M a rest c.parts.left c.next.new.self c.in-Some.value e fit).0)
+    (λ κs h. (omega (arith, d, c.parts.invariant.fewer, ap (λ vs. count_all (roses_of vs)) e), (h, (kid_first g.V.Variant.ALIGNED M a rest c.parts.left c.next.new.self c.in-Some.value e fit).0)))
 
 pub put_parts-parts-preserved : goal.put_parts-parts-preserved
-put_parts-parts-preserved t c =
+put_parts-parts-preserved g t c =
     let M = c.args.module.now in
     let ts = c.args.types.now in
     let flags = c.args.present.now in
@@ -333,7 +333,7 @@ put_parts-parts-preserved t c =
     let i = c.parts.i in
     let sink = c.parts.sink in
     let rest = chosen (drop (i + 1) ts) (drop (i + 1) flags) in
-    let old = c.args.sink.now ++ in_turn (writers M (chosen ts flags) c.args.values.now) (length c.args.sink.now) in
+    let old = c.args.sink.now ++ in_turn (writers g.V.Variant.ALIGNED M (chosen ts flags) c.args.values.now) (length c.args.sink.now) in
     elim c.if-present-i.branch [
       | put_parts-then-present-i+in-Some+in_ok-put_node-in-Some b ↦ (
           let a = b.index-types-i.result in
@@ -342,33 +342,33 @@ put_parts-parts-preserved t c =
           let new = b.put_node.new.sink in
           let first = b.in-Some.ensures.steps in
           let here = left_present ts flags i c.parts-test.true a (omega (arith, c.parts-test.true, c.requires.types)) b.index-types-i.is b.if-present-i.true in
-          let fit = (kid_first M a rest vs later w first (subst (λ us. AllFit M us vs) here c.parts.invariant.fit)).1 in
-          let now : sink ++ in_turn (per M a w ∷ writers M rest later) (length sink) ≡ old =
-          sym (ap (λ us. sink ++ in_turn (writers M us vs) (length sink)) here ∙ ap (λ ws. sink ++ in_turn (writers M (a ∷ rest) ws) (length sink)) first) ∙ c.parts.invariant.whole in
-          let put = turn_taken old sink new (per M a w) (writers M rest later) now b.in_ok-put_node-in-Some.ensures in
+          let fit = (kid_first g.V.Variant.ALIGNED M a rest vs later w first (subst (λ us. AllFit M us vs) here c.parts.invariant.fit)).1 in
+          let now : sink ++ in_turn (per g.V.Variant.ALIGNED M a w ∷ writers g.V.Variant.ALIGNED M rest later) (length sink) ≡ old =
+          sym (ap (λ us. sink ++ in_turn (writers g.V.Variant.ALIGNED M us vs) (length sink)) here ∙ ap (λ ws. sink ++ in_turn (writers g.V.Variant.ALIGNED M (a ∷ rest) ws) (length sink)) first) ∙ c.parts.invariant.whole in
+          let put = turn_taken old sink new (per g.V.Variant.ALIGNED M a w) (writers g.V.Variant.ALIGNED M rest later) now b.in_ok-put_node-in-Some.ensures in
           record {
             fit = subst (λ ks. AllFit M rest ks) (sym b.left-is) fit;
-            whole = subst (λ s. s ++ in_turn (writers M rest c.if-present-i.left) (length s) ≡ old) (sym b.sink-is)
-                (subst (λ ks. new ++ in_turn (writers M rest ks) (length new) ≡ old) (sym b.left-is) put);
+            whole = subst (λ s. s ++ in_turn (writers g.V.Variant.ALIGNED M rest c.if-present-i.left) (length s) ≡ old) (sym b.sink-is)
+                (subst (λ ks. new ++ in_turn (writers g.V.Variant.ALIGNED M rest ks) (length new) ≡ old) (sym b.left-is) put);
             fewer = omega (arith, c.parts.invariant.fewer, ap (λ ks. count_all (roses_of ks)) first, ap (λ ks. count_all (roses_of ks)) b.left-is);
           })
       | put_parts-else-present-i b ↦ (
           let here = left_absent ts flags i c.parts-test.true c.requires.types b.if-present-i.false in
           let fit = subst (λ us. AllFit M us vs) here c.parts.invariant.fit in
-          let put : sink ++ in_turn (writers M rest vs) (length sink) ≡ old = sym (ap (λ us. sink ++ in_turn (writers M us vs) (length sink)) here) ∙ c.parts.invariant.whole in
+          let put : sink ++ in_turn (writers g.V.Variant.ALIGNED M rest vs) (length sink) ≡ old = sym (ap (λ us. sink ++ in_turn (writers g.V.Variant.ALIGNED M us vs) (length sink)) here) ∙ c.parts.invariant.whole in
           record {
             fit = subst (λ ks. AllFit M rest ks) (sym b.left-is) fit;
-            whole = subst (λ s. s ++ in_turn (writers M rest c.if-present-i.left) (length s) ≡ old) (sym b.sink-is)
-                (subst (λ ks. sink ++ in_turn (writers M rest ks) (length sink) ≡ old) (sym b.left-is) put);
+            whole = subst (λ s. s ++ in_turn (writers g.V.Variant.ALIGNED M rest c.if-present-i.left) (length s) ≡ old) (sym b.sink-is)
+                (subst (λ ks. sink ++ in_turn (writers g.V.Variant.ALIGNED M rest ks) (length sink) ≡ old) (sym b.left-is) put);
             fewer = omega (arith, c.parts.invariant.fewer, ap (λ ks. count_all (roses_of ks)) b.left-is);
           })
     ]
 
 pub put_parts-returns : goal.put_parts-returns
-put_parts-returns t c =
+put_parts-returns g t c =
     let M = c.args.module.now in
     let ts = c.args.types.now in
     let flags = c.args.present.now in
     let sink = c.parts.sink in
-    let none = none_left M ts flags c.parts.i c.parts.left c.parts-test.false in
+    let none = none_left g.V.Variant.ALIGNED M ts flags c.parts.i c.parts.left c.parts-test.false in
     sym (nothing_left sink (length sink)) ∙ sym (ap (λ ws. sink ++ in_turn ws (length sink)) none) ∙ c.parts.invariant.whole

@@ -4,10 +4,10 @@ use Rattle.per_fields.specs.Encoding.{octet_writer}
 use Rattle.per_encode.proofs.texts.put_text.Given as goal
 
 abbrev pub invariant-fragments : goal.invariant-fragments
-invariant-fragments l = record {
+invariant-fragments g l = record {
   inside : l.at ≤ length l.text;
-  whole : l.sink ++ counted_bits (map octet_writer (drop l.at l.text)) (length l.sink) ≡ l.fn.sink ++ counted_bits (map octet_writer l.text) (length l.fn.sink);
+  whole : l.sink ++ counted_bits g.V.Variant.ALIGNED (map octet_writer (drop l.at l.text)) (length l.sink) ≡ l.fn.sink ++ counted_bits g.V.Variant.ALIGNED (map octet_writer l.text) (length l.fn.sink);
 }
 
 abbrev pub decreases-fragments : goal.decreases-fragments
-decreases-fragments l = length l.text - l.at
+decreases-fragments g l = length l.text - l.at

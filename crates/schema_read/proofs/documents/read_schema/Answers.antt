@@ -10,7 +10,7 @@ use Rattle.schema_read.proofs.documents.read_schema.Goals as goal
 
 pub returns-in-Some-clause-refused : goal.returns-in-Some-clause-refused
 returns-in-Some-clause-refused c =
-    shown c.args.items.now 16777216 c.in-Some.field-0 c.requires (c.in-Some.ensures c.args.items.now (ap label_of (sym c.root.ensures.root) ∙ sym c.label.ensures))
+    shown c.args.items.now 16777216 c.in-Some.field-0 c.requires (c.in-Some.ensures c.args.items.now (ap label_of (sym c.root.ensures.root) ∙ sym c.label.ensures ∙ sym c.in_ok-label.ensures))
 
 pub returns-in-Some-2-clause-refused : goal.returns-in-Some-2-clause-refused
 returns-in-Some-2-clause-refused c =

@@ -3,4 +3,4 @@ use Rattle.sound_items.proofs.Documents.{documents-of-values}
 use Rattle.sound_items.proofs.laws.documents_of_values.Goals as goal
 
 pub returns : goal.returns
-returns c = documents-of-values c.document_items.ensures c.same_validity.ensures
+returns c = documents-of-values c.same_validity.ensures

@@ -1,5 +1,6 @@
 use Rattle.transcode_core.proofs.Answering.{Due-answered}
 use Rattle.transcode_core.proofs.SomeSets.{sets}
+use Rattle.transcode_core.proofs.Syntaxes.{all_syntaxes}
 use Rattle.transcode_core.proofs.laws.some_answer.Goals as goal
 
 pub returns : goal.returns
@@ -11,8 +12,7 @@ returns c = λ words entries left told.
       valid = c.at_least_one.ensures;
       values = c.values_of_items.ensures;
       items_of = c.items_of_values.ensures;
-      either = c.first_stop.ensures.either;
-      whole = c.first_stop.ensures.whole_octets;
+      syntaxes = all_syntaxes (record { stops = c.stops_first.ensures.one_of_two; whole = c.first_stop.ensures.whole_octets });
     })
     (λ files. sets c.document_items.ensures files c.sets_of_documents.ensures.made c.sets_of_documents.ensures.linked c.maps_exist.ensures c.maps_are_modules.ensures c.maps_are_bounded.ensures)
     entries words left told

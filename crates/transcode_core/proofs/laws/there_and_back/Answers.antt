@@ -1,14 +1,17 @@
-use Rattle.transcode_core.proofs.Again.{is_taken, is_valid, is_same}
+use Rattle.doc_text.proofs.Known.{laws}
+use Rattle.transcode_core.proofs.Again as again
+use Rattle.transcode_core.proofs.Syntaxes.{all_syntaxes}
 use Rattle.transcode_core.proofs.laws.there_and_back.Goals as goal
 
-pub returns-clause-taken : goal.returns-clause-taken
-returns-clause-taken c =
-    is_taken (record { not_both = c.first_stop.ensures.not_both; one_value = c.first_stop.ensures.one_value; one_stop = c.first_stop.ensures.one_stop })
+pub returns-clause-taken_in_set : goal.returns-clause-taken_in_set
+returns-clause-taken_in_set c = again.taken_in_set
 
-pub returns-clause-valid : goal.returns-clause-valid
-returns-clause-valid c = is_valid c.documents_of_values.ensures
+pub returns-clause-same_in_set : goal.returns-clause-same_in_set
+returns-clause-same_in_set c = again.same_in_set (all_syntaxes (record { stops = c.stops_first.ensures.one_of_two; whole = c.first_stop.ensures.whole_octets }))
+
+pub returns-clause-taken : goal.returns-clause-taken
+returns-clause-taken c = again.taken
 
 pub returns-clause-same : goal.returns-clause-same
-returns-clause-same c =
-    is_same (record { not_both = c.first_stop.ensures.not_both; one_value = c.first_stop.ensures.one_value; one_stop = c.first_stop.ensures.one_stop })
-    c.documents_of_values.ensures
+returns-clause-same c = λ entries there back ways.
+    again.same entries there back ways laws (all_syntaxes (record { stops = c.stops_first.ensures.one_of_two; whole = c.first_stop.ensures.whole_octets }))

@@ -14,14 +14,14 @@ pub returns-in-Ok-clause-due : goal.returns-in-Ok-clause-due
 returns-in-Ok-clause-due g c =
     let type = type_seen c.args.typed.now in
     let cause = OneRead (g.S.Source.faults c.args.input.now) (g.S.Source.faults c.decode_input.new.input) in
-    passed (Decoded type (g.S.Source.left c.args.input.now)) (λ (value : Rose ValueLabel). Written type value) NoMemory cause
+    passed (Decoded c.args.syntax type (g.S.Source.left c.args.input.now)) (λ (value : Rose ValueLabel). Written type value) NoMemory cause
     (λ (bytes : Vec ℕ Global). bytes.items) c.in-Ok.value c.write_value.result c.in-Ok.ensures.due c.write_value.ensures.due (λ o h. inl h)
 
 pub returns-in-Err-clause-due : goal.returns-in-Err-clause-due
 returns-in-Err-clause-due g c =
     let type = type_seen c.args.typed.now in
     let cause = OneRead (g.S.Source.faults c.args.input.now) (g.S.Source.faults c.decode_input.new.input) in
-    refused (Decoded type (g.S.Source.left c.args.input.now)) (λ (value : Rose ValueLabel). Written type value) cause cause
+    refused (Decoded c.args.syntax type (g.S.Source.left c.args.input.now)) (λ (value : Rose ValueLabel). Written type value) cause cause
     (λ (bytes : Vec ℕ Global). bytes.items) c.in-Err.outcome c.in-Err.ensures.due (λ h. h)
 
 pub returns-in-Ok-clause-back : goal.returns-in-Ok-clause-back

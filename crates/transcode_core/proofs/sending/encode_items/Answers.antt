@@ -12,13 +12,13 @@ use Rattle.transcode_core.proofs.sending.encode_items.Goals as goal
 pub returns-in-Ok-clause-due : goal.returns-in-Ok-clause-due
 returns-in-Ok-clause-due g c =
     let type = type_seen c.args.typed.now in
-    passed (ValueIn (opened_seen c.args.opened.now) type c.args.items.now) (λ (value : Rose ValueLabel). Encoding type value) NoMemory NoMemory
+    passed (ValueIn (opened_seen c.args.opened.now) type c.args.items.now) (λ (value : Rose ValueLabel). Encoding c.args.syntax type value) NoMemory NoMemory
     (λ (bytes : Vec ℕ Global). bytes.items) c.in-Ok.value c.encode_value.result (c.in-Ok.ensures.due type c.requires) c.encode_value.ensures.due (λ o h. h)
 
 pub returns-in-Err-clause-due : goal.returns-in-Err-clause-due
 returns-in-Err-clause-due g c =
     let type = type_seen c.args.typed.now in
-    refused (ValueIn (opened_seen c.args.opened.now) type c.args.items.now) (λ (value : Rose ValueLabel). Encoding type value) NoMemory NoMemory
+    refused (ValueIn (opened_seen c.args.opened.now) type c.args.items.now) (λ (value : Rose ValueLabel). Encoding c.args.syntax type value) NoMemory NoMemory
     (λ (bytes : Vec ℕ Global). bytes.items) c.in-Err.outcome (c.in-Err.ensures.due type c.requires) (λ h. h)
 
 pub encode_value-requires : goal.encode_value-requires

@@ -15,7 +15,7 @@ pub returns-in-Ok-clause-due : goal.returns-in-Ok-clause-due
 returns-in-Ok-clause-due g c =
     let opened = opened_seen c.args.opened.now in
     let type = type_seen c.args.typed.now in
-    passed (ItemsIn (g.S.Source.left c.args.input.now)) (λ items. Then (ValueIn opened type items) (λ value. Encoding type value)) NoMemory
+    passed (ItemsIn (g.S.Source.left c.args.input.now)) (λ items. Then (ValueIn opened type items) (λ value. Encoding c.args.syntax type value)) NoMemory
     (OneRead (g.S.Source.faults c.args.input.now) (g.S.Source.faults c.read_items.new.input)) (λ (bytes : Vec ℕ Global). bytes.items) c.in-Ok.items c.encode_items.result
     c.in-Ok.ensures.due c.encode_items.ensures.due (λ o h. inl h)
 
@@ -24,7 +24,7 @@ returns-in-Err-clause-due g c =
     let opened = opened_seen c.args.opened.now in
     let type = type_seen c.args.typed.now in
     let cause = OneRead (g.S.Source.faults c.args.input.now) (g.S.Source.faults c.read_items.new.input) in
-    refused (ItemsIn (g.S.Source.left c.args.input.now)) (λ items. Then (ValueIn opened type items) (λ value. Encoding type value)) cause cause
+    refused (ItemsIn (g.S.Source.left c.args.input.now)) (λ items. Then (ValueIn opened type items) (λ value. Encoding c.args.syntax type value)) cause cause
     (λ (bytes : Vec ℕ Global). bytes.items) c.in-Err.outcome c.in-Err.ensures.due (λ h. h)
 
 pub returns-in-Ok-clause-few : goal.returns-in-Ok-clause-few

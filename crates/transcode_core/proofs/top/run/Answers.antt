@@ -1,6 +1,7 @@
 use Rattle.transcode_core.proofs.Deciding.{refusal_due, load_failed}
 use Rattle.doc_text.proofs.Known.{laws}
 use Rattle.transcode_core.proofs.Single.{completed_told}
+use Rattle.transcode_core.proofs.Syntaxes.{all_syntaxes}
 use Rattle.transcode_core.proofs.top.run.Goals as goal
 
 pub returns-clause-complete : goal.returns-clause-complete
@@ -9,7 +10,7 @@ returns-clause-complete g c entries bytes files told due no_load no_read no_writ
       pieces = laws;
       valid = c.at_most_one.ensures;
       value = c.one_value.ensures;
-      octets = record { not_both = c.first_stop.ensures.not_both; one_value = c.first_stop.ensures.one_value; one_stop = c.first_stop.ensures.one_stop };
+      octets = all_syntaxes (record { stops = c.stops_first.ensures.one_of_two; whole = c.first_stop.ensures.whole_octets });
     }) c.args.words.now (g.F.Library.entries c.args.files.now) (g.S.Source.left c.args.input.now) entries bytes (g.F.Library.faults c.args.files.now) (g.F.Library.faults c.decide.new.files)
     (g.S.Source.faults c.args.input.now) (g.S.Source.faults c.decide.new.input) (g.F.Library.is_sure c.args.files.now) c.in-Err.outcome files told due no_load no_read c.in-Err.ensures.due
 

@@ -14,12 +14,12 @@ returns-in-Ok-clause-due g c =
     let opened = opened_seen c.args.opened.now in
     let left = g.S.Source.left c.args.input.now in
     let cause = OneRead (g.S.Source.faults c.args.input.now) (g.S.Source.faults c.encode_input.new.input) in
-    passed (Typed opened) (λ (type : RootType). Then (ItemsIn left) (λ items. Then (ValueIn opened type items) (λ value. Encoding type value))) cause cause
+    passed (Typed opened) (λ (type : RootType). Then (ItemsIn left) (λ items. Then (ValueIn opened type items) (λ value. Encoding c.args.syntax type value))) cause cause
     (λ (bytes : Vec ℕ Global). bytes.items) (type_seen c.in-Ok.typed) c.encode_input.result c.in-Ok.ensures.due c.encode_input.ensures.due (λ o h. h)
 
 pub returns-in-Err-clause-due : goal.returns-in-Err-clause-due
 returns-in-Err-clause-due g c =
     let opened = opened_seen c.args.opened.now in
     let left = g.S.Source.left c.args.input.now in
-    refused (Typed opened) (λ (type : RootType). Then (ItemsIn left) (λ items. Then (ValueIn opened type items) (λ value. Encoding type value))) NoMemory
+    refused (Typed opened) (λ (type : RootType). Then (ItemsIn left) (λ items. Then (ValueIn opened type items) (λ value. Encoding c.args.syntax type value))) NoMemory
     (OneRead (g.S.Source.faults c.args.input.now) (g.S.Source.faults c.args.input.now)) (λ (bytes : Vec ℕ Global). bytes.items) c.in-Err.outcome c.in-Err.ensures.due (λ h. inl h)

@@ -1,7 +1,5 @@
 use Rattle.std.proofs.Common.{length, sym, ap, subst, ◌∙◌}
 use Rattle.std.specs.Option.{option_map}
-use Rattle.label_tree.specs.Rose.{Allowed}
-use Rattle.item_tree.specs.Labels.{MayHave}
 use Rattle.doc_text.specs.Sound.{AreItems}
 use Rattle.plain_items.specs.Unplaced.{unplaced}
 use Rattle.asn_types.specs.declared.modules.Assignment.{Assignment}

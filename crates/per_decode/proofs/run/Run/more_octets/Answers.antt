@@ -1,4 +1,4 @@
-use Rattle.std.proofs.Common.{arith, ◌≡◌, ◌+◌, ◌*◌, None, length, suc, ◌++◌, sym, ap, ◌∙◌, subst}
+use Rattle.std.proofs.Common.{true, arith, ◌≡◌, ◌+◌, ◌*◌, None, length, suc, ◌++◌, sym, ap, ◌∙◌, subst}
 use Rattle.std.proofs.lemmas.Result.{err_from_is_err_and}
 use Rattle.per_fields.specs.Reading.{octets_at}
 use Rattle.std.proofs.lemmas.List.{length-append}
@@ -74,6 +74,6 @@ fragments-preserved g c =
       so_far = λ told.
           let i = stands_inside old.bits.position old.bits.taken old.bits.held old.bits.limit g.K.Origin.limit g.K.Origin.whole _ old.limited old.bits.behind old.bits.within (old.here told) in
           let e = turn_more 0 None octets_at sits-octets c.fragments.text.items c.fragments.before (length c.fragments.text.items) (input g.K.Origin.limit g.K.Origin.whole) (spot old.bits.position old.nodes) i c.in-Units.k _ got (spot new.bits.position new.nodes) (rw (c.as_slice-total.ensures.value, c.in-Units.is) at (c.in_ok-piece.ensures.gives told)) (c.in_ok-octets-in-Units.ensures.gives told) in
-          rw c.in_ok-text-in-Units.ensures.ok (subst (λ n. with_front (front ++ got) (fragments_at 0 None octets_at (suc (length X)) c.in-Units.k n X (spot new.bits.position new.nodes)) ≡ octets_more c.args.first.items c.args.units (length c.args.first.items) X (spot c.args.self.now.bits.position c.args.self.now.nodes))
+          rw c.in_ok-text-in-Units.ensures.ok (subst (λ n. with_front (front ++ got) (fragments_at true 0 None octets_at (suc (length X)) c.in-Units.k n X (spot new.bits.position new.nodes)) ≡ octets_more c.args.first.items c.args.units (length c.args.first.items) X (spot c.args.self.now.bits.position c.args.self.now.nodes))
           long (sym e ∙ c.fragments.invariant.so_far told));
     }

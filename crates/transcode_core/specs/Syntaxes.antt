@@ -1,0 +1,62 @@
+-- Transfer syntaxes: of each the encoding of a value, the octets that begin with one, and the first fault of those that don't.
+-- A further syntax is a row of each, and one of the law below.
+use Rattle.std.specs.Prelude.{◌≡◌, ◌⊎◌, ℕ, ◌*◌, ◌<◌, ◌≤◌, Bool, All, List, length}
+use Rattle.label_tree.specs.Rose.{Rose}
+use Rattle.simple_types.specs.declared.labels.ValueLabel.{ValueLabel}
+use Rattle.asn_types.specs.declared.modules.Assignment.{Assignment}
+use Rattle.asn_types.specs.Modules.{IsModule}
+use Rattle.asn_types.specs.Bounds.{IsBounded}
+use Rattle.asn_types.specs.Values.{In}
+use Rattle.bit_cursor.specs.Bits.{octet_bits}
+use Rattle.per_fields.specs.declared.stops.Stop.{Stop}
+use Rattle.per_fields.specs.Encoding.{complete}
+use Rattle.per_fields.specs.Laws.{Begins}
+use Rattle.per_stops.specs.Stopping.{StopsFirst}
+use Rattle.per_decode.specs.Answers.{is_short}
+use Rattle.transcode_core.specs.declared.outcome.Outcome.{Outcome}
+use Rattle.transcode_core.specs.declared.outcome.Outcome.TheVariants.{PerFault}
+use Rattle.transcode_core.specs.declared.tasks.Syntax.{Syntax}
+use Rattle.transcode_core.specs.declared.tasks.Syntax.TheVariants.{Aligned}
+
+-- a first fault: how it is told, whether the octets end before it is decided, and the bit behind what shows it
+pub record Fault : Type 0 where
+  pub refusal : Outcome
+  pub is_open : Bool
+  pub end : ℕ
+
+-- that of a field or node (X.691)
+abbrev pub fault_of : Stop → Fault
+fault_of stop = record { refusal = PerFault stop.bit stop.why; is_open = is_short stop.why; end = stop.end }
+
+-- these octets are the encoding of the value, which is of the type of assignment t
+abbrev pub IsEncoding : Syntax → List Assignment → ℕ → Rose ValueLabel → List ℕ → Type 0
+IsEncoding Aligned M t v octets = octet_bits octets ≡ complete M t v
+
+-- the first so many octets are the encoding of a value of the type
+abbrev pub BeginsWith : Syntax → List Assignment → ℕ → List ℕ → Rose ValueLabel → ℕ → Type 0
+BeginsWith Aligned M t octets v count = Begins M t (octet_bits octets) v × (8 * count ≡ length (complete M t v))
+
+-- the octets have this first fault
+abbrev pub HasFault : Syntax → List Assignment → ℕ → List ℕ → Fault → Type 0
+HasFault Aligned M t octets fault = (stop : Stop) × StopsFirst M t (octet_bits octets) stop × (fault ≡ fault_of stop)
+
+-- Octets begin with the encoding of a value, or have a first fault; of one value, or one fault; and never both. They begin with
+-- an encoding that they are, and are an encoding that they begin with and that ends where they do.
+pub record IsOneOfTwo (syntax : Syntax) (M : List Assignment) (t : ℕ) (octets : List ℕ) : Type 0 where
+  pub either : ((v : Rose ValueLabel) × (count : ℕ) × BeginsWith syntax M t octets v count) ⊎ ((fault : Fault) × HasFault syntax M t octets fault)
+  pub not_both : (v : Rose ValueLabel) (count : ℕ) (fault : Fault) → BeginsWith syntax M t octets v count → HasFault syntax M t octets fault → ⊥
+  pub one_value : (v w : Rose ValueLabel) (m n : ℕ) → BeginsWith syntax M t octets v m → BeginsWith syntax M t octets w n → (v ≡ w) × (m ≡ n)
+  pub one_fault : (f g : Fault) → HasFault syntax M t octets f → HasFault syntax M t octets g → f ≡ g
+  pub within : (v : Rose ValueLabel) (count : ℕ) → BeginsWith syntax M t octets v count → count ≤ length octets
+  pub begins : (v : Rose ValueLabel) → In M t v → IsEncoding syntax M t v octets → BeginsWith syntax M t octets v (length octets)
+  pub ends : (v : Rose ValueLabel) (count : ℕ) → BeginsWith syntax M t octets v count → length octets ≤ count → In M t v × IsEncoding syntax M t v octets
+
+-- THE LAW OF A TRANSFER SYNTAX: exactly one of both, and each value has one encoding
+pub record SyntaxLaw (syntax : Syntax) : Type 0 where
+  pub one_of_two : (M : List Assignment) (t : ℕ) (octets : List ℕ) → IsModule M → IsBounded M → t < length M → IsOneOfTwo syntax M t octets
+  pub encodes : (M : List Assignment) (t : ℕ) (v : Rose ValueLabel) → (octets : List ℕ) × IsEncoding syntax M t v octets × All (λ x. x < 256) octets
+  pub one_encoding : (M : List Assignment) (t : ℕ) (v : Rose ValueLabel) (xs ys : List ℕ) → All (λ x. x < 256) xs → All (λ x. x < 256) ys
+      → IsEncoding syntax M t v xs → IsEncoding syntax M t v ys → xs ≡ ys
+
+abbrev pub AllSyntaxes : Type 0
+AllSyntaxes = (syntax : Syntax) → SyntaxLaw syntax
