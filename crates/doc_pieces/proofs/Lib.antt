@@ -24,3 +24,4 @@ pub mod Fine
 pub mod PlainLaws
 pub mod AsciiNames
 pub mod Spelled
+pub mod Shutting

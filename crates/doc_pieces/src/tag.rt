@@ -1,8 +1,8 @@
 //! Tags.
-ghost use Rattle.std.specs.Prelude.{◌≡◌, IfOk, IsUtf8, map, length, is_some};
-ghost use Rattle.doc_pieces.specs.Pieces.{Exact, Loose};
+ghost use Rattle.std.specs.Prelude.{◌≡◌, IfOk, IsUtf8, map, length, is_some, codes};
+ghost use Rattle.doc_pieces.specs.Pieces.{Exact, Loose, behind};
 ghost use Rattle.doc_pieces.specs.Reading as reading;
-ghost use Rattle.doc_pieces.specs.Reading.{Gives, many, written_at, attribute_at, tag_at, end_at};
+ghost use Rattle.doc_pieces.specs.Reading.{Gives, many, past_blank, written_at, attribute_at, shut_at, tag_at, end_at};
 ghost use Rattle.doc_pieces.specs.Found.{attribute_of, seen};
 
 use crate::found::{Attribute, Element, Found};
@@ -56,8 +56,52 @@ fn attributes<'a>(alloc: Global, bytes: &'a [u8]) -> Result<(Vec<Attribute<'a>>,
     Ok((list, rest))
 }
 
-/// The start tag or empty tag at the front, behind its `<`.
-#[tactic(auto, unfolding(crate::specs::Reading::tag_at, crate::specs::Reading::shut_at))]
+// What is behind a `>` at the front.
+#[inline(always)]
+fn past_end(bytes: &[u8]) -> Option<&[u8]>
+    ensures { Gives (λ x. x.now) result (behind (codes ">") bytes.now) }
+{
+    let (first, rest) = bytes.split_first()?;
+    if *first == b'>' { Some(rest) } else { None }
+}
+
+// What is behind a `>` with white space before it. Mostly there is none.
+#[inline(always)]
+fn past_spaced_end(bytes: &[u8]) -> Option<&[u8]>
+    ensures { Gives (λ x. x.now) result (behind (codes ">") (past_blank bytes.now)) }
+{
+    match past_end(bytes) {
+        Some(rest) => Some(rest),
+        None => past_end(skip_blank(bytes)),
+    }
+}
+
+// What goes on behind the Name of a start tag or empty tag.
+#[inline(never)]
+#[tactic(auto, unfolding(crate::specs::Reading::shut_at))]
+fn tag_of<'a>(
+    alloc: Global,
+    name: &'a [u8],
+    bytes: &'a [u8],
+) -> Result<Option<(Found<'a>, &'a [u8])>, Memory>
+    requires { IsUtf8 bytes.now }
+    ensures { IfOk result (λ o. Gives (λ x. (seen x.0, x.1.now)) o
+        (let r = many (attribute_at Exact) (length bytes.now) bytes.now in shut_at (reading.tag_of name.now r.0) (past_blank r.1))) }
+{
+    let (attributes, rest) = attributes(alloc, bytes)?;
+    let element = Element { name, attributes };
+    let rest = skip_blank(rest);
+    if let Some(rest) = past_end(rest) {
+        return Ok(Some((Found::Start(element), rest)));
+    }
+    if let Some(rest) = strip(b"/>", rest) {
+        return Ok(Some((Found::Empty(element), rest)));
+    }
+    Ok(None)
+}
+
+/// The start tag or empty tag at the front, behind its `<`. Most are start tags without attributes.
+#[tactic(auto, unfolding(crate::specs::Reading::tag_at))]
 pub fn tag<'a>(alloc: Global, bytes: &'a [u8]) -> Result<Option<(Found<'a>, &'a [u8])>, Memory>
     requires { IsUtf8 bytes.now }
     ensures { IfOk result (λ o. Gives (λ x. (seen x.0, x.1.now)) o (tag_at Exact bytes.now)) }
@@ -65,16 +109,13 @@ pub fn tag<'a>(alloc: Global, bytes: &'a [u8]) -> Result<Option<(Found<'a>, &'a 
     let Some((name, rest)) = name(bytes) else {
         return Ok(None);
     };
-    let (attributes, rest) = attributes(alloc, rest)?;
-    let element = Element { name, attributes };
-    let rest = skip_blank(rest);
-    if let Some(rest) = strip(b">", rest) {
-        return Ok(Some((Found::Start(element), rest)));
+    match past_end(rest) {
+        Some(behind) => {
+            let attributes = Vec::new(alloc);
+            Ok(Some((Found::Start(Element { name, attributes }), behind)))
+        }
+        None => tag_of(alloc, name, rest),
     }
-    if let Some(rest) = strip(b"/>", rest) {
-        return Ok(Some((Found::Empty(element), rest)));
-    }
-    Ok(None)
 }
 
 /// The end tag at the front, behind its `</`.
@@ -84,6 +125,6 @@ pub fn end_tag(bytes: &[u8]) -> Option<(Found<'_>, &[u8])>
     ensures { Gives (λ x. (seen x.0, x.1.now)) result (end_at bytes.now) }
 {
     let (name, rest) = name(bytes)?;
-    let rest = strip(b">", skip_blank(rest))?;
+    let rest = past_spaced_end(rest)?;
     Some((Found::End(name), rest))
 }

@@ -116,22 +116,30 @@ fn name_len(bytes: &[u8]) -> usize
     bytes.iter().take_while(|b| is_name_byte(**b)).count()
 }
 
+#[inline(always)]
 #[tactic(auto, unfolding(crate::specs::Reading::is_ascii_start))]
 fn is_ascii_start(b: u8) -> bool
     ensures { result ≡ reading.is_ascii_start b }
 {
-    matches!(b, b'a'..=b'z' | b'A'..=b'Z' | b'_' | b':')
+    if b >= b'a' {
+        b <= b'z'
+    } else {
+        matches!(b, b'A'..=b'Z' | b'_' | b':')
+    }
 }
 
-// Small letters first, since most names have no others.
+// Small letters first, since most names have no others; and the bytes that end a name, all below the letters, apart.
+#[inline(always)]
 #[tactic(auto, unfolding(crate::specs::Reading::is_ascii_part))]
 fn is_ascii_part(b: u8) -> bool
     ensures { result ≡ reading.is_ascii_part b }
 {
     if b >= b'a' {
         b <= b'z'
+    } else if b >= b'A' {
+        b <= b'Z' || b == b'_'
     } else {
-        matches!(b, b'A'..=b'Z' | b'0'..=b':' | b'-' | b'.' | b'_')
+        matches!(b, b'0'..=b':' | b'-' | b'.')
     }
 }
 
@@ -228,6 +236,7 @@ fn starts_low(bytes: &[u8]) -> bool
 }
 
 // A Name, where it is of ASCII characters alone, and what is behind it: one walk over its bytes.
+#[inline(always)]
 fn plain_name(bytes: &[u8]) -> Option<(&[u8], &[u8])>
     ensures { IfSome result (λ x. name_at bytes.now ≡ Some (x.0.now, x.1.now)) }
 {
