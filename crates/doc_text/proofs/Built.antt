@@ -15,7 +15,7 @@ use Rattle.item_tree.specs.declared.label.ItemLabel.{ItemLabel}
 use Rattle.item_tree.specs.Building.{Building, binding_count}
 use Rattle.item_tree.specs.declared.label.ItemLabel.TheVariants.{Element}
 use Rattle.doc_text.specs.declared.builder.Builder.{Builder}
-use Rattle.doc_text.specs.declared.tags.Head.{Head}
+use Rattle.doc_text.specs.declared.notes.Notes.{Notes}
 use Rattle.doc_text.specs.declared.error.DocWhy.{DocWhy}
 use Rattle.doc_text.specs.declared.error.DocWhy.TheVariants as why
 use Rattle.doc_text.specs.Namespaces.{bindings_of, attributes_of, element_name}
@@ -104,10 +104,11 @@ entering_is b tag name attributes declares written at before later scoped enters
     enters.declares_are refl e
 
 -- the notes stay right where the bindings and the notes are the same
-pub notes_on : (old new : Builder) → reverse old.scope ≡ reverse new.scope → Grows old.items.names new.items.names → new.notes.notes.items ≡ old.notes.notes.items → AllKnown (reverse old.scope) old.items.names old.notes.notes.items
-    → AllKnown (reverse new.scope) new.items.names new.notes.notes.items
+pub notes_on : (old new : Builder) → reverse old.scope ≡ reverse new.scope → Grows old.items.names new.items.names → new.notes ≡ old.notes → AllKnown (reverse old.scope) old.items.names old.notes.written.items old.notes.names.items
+    → AllKnown (reverse new.scope) new.items.names new.notes.written.items new.notes.names.items
 notes_on old new same more notes h =
-    subst (AllKnown (reverse new.scope) new.items.names) (sym notes) (noted-grown (reverse new.scope) old.items.names new.items.names old.notes.notes.items more (subst (λ (o : List (List ℕ × List ℕ)). AllKnown o old.items.names old.notes.notes.items) same h))
+    subst (λ (n : Notes). AllKnown (reverse new.scope) new.items.names n.written.items n.names.items) (sym notes)
+    (noted-grown (reverse new.scope) old.items.names new.items.names old.notes.written.items old.notes.names.items more (subst (λ (o : List (List ℕ × List ℕ)). AllKnown o old.items.names old.notes.written.items old.notes.names.items) same h))
 
 -- before and behind the writing of the text, with other bindings
 pub record Mid (old mid : Builder) : Type 0 where
@@ -130,7 +131,7 @@ mid_of old early mid f i t p o e = record {
 
 pub start_takes : (old mid new : Builder) (written : Bor (List ℕ)) (name : Name) (attributes : List (Name × List ℕ)) (declares : List (List ℕ × List ℕ)) (tag : Tag) (at : ℕ) → Scoped old → EntersAs (reverse old.scope) old.ended (length old.open.items) tag name attributes declares → Mid old mid
     → new.scope ≡ old.scope ++ reverse (bindings_of tag.attributes) → new.open.items ≡ mid.open.items ++ written ∷ [] → written.now ≡ tag.name → new.items.zip ≡ zips.opened (Element name attributes declares at) mid.items.zip
-    → string_bytes new.text ≡ string_bytes mid.text → new.text_at ≡ mid.text_at → new.ended ≡ mid.ended → new.first ≡ false → new.brackets ≡ 0 → AllKnown (reverse new.scope) new.items.names new.notes.notes.items → Takes (Start tag) at old new
+    → string_bytes new.text ≡ string_bytes mid.text → new.text_at ≡ mid.text_at → new.ended ≡ mid.ended → new.first ≡ false → new.brackets ≡ 0 → AllKnown (reverse new.scope) new.items.names new.notes.written.items new.notes.names.items → Takes (Start tag) at old new
 start_takes old mid new written name attributes declares tag at scoped enters m scope_is opens name_is items text place ends first brackets noted =
     let kids = kids_of_state (state old) in
     let outer = (state old).above in
@@ -167,7 +168,7 @@ popped all own rest e =
 
 pub empty_takes : (old mid new : Builder) (name : Name) (attributes : List (Name × List ℕ)) (declares : List (List ℕ × List ℕ)) (tag : Tag) (at : ℕ) (all : List (List ℕ × List ℕ)) (count : ℕ) → Scoped old → EntersAs (reverse old.scope) old.ended (length old.open.items) tag name attributes declares → Mid old mid
     → all ≡ old.scope ++ reverse (bindings_of tag.attributes) → new.scope ≡ take (length all - count) all → count ≡ length declares → new.open.items ≡ mid.open.items
-    → new.items.zip ≡ zips.added (node (Element name attributes declares at) (roses_of [])) mid.items.zip → string_bytes new.text ≡ string_bytes mid.text → new.text_at ≡ mid.text_at → new.ended ≡ nat_eq (length mid.open.items) 0 → new.first ≡ false → new.brackets ≡ 0 → Grows old.items.names new.items.names → new.notes.notes.items ≡ old.notes.notes.items → Takes (Empty tag) at old new
+    → new.items.zip ≡ zips.added (node (Element name attributes declares at) (roses_of [])) mid.items.zip → string_bytes new.text ≡ string_bytes mid.text → new.text_at ≡ mid.text_at → new.ended ≡ nat_eq (length mid.open.items) 0 → new.first ≡ false → new.brackets ≡ 0 → Grows old.items.names new.items.names → new.notes ≡ old.notes → Takes (Empty tag) at old new
 empty_takes old mid new name attributes declares tag at all count scoped enters m all_is scope_is count_is opens items text place ends first brackets more notes =
     let s = state old in
     let element : node (Element name attributes declares at) (roses_of []) ≡ element_of (entering tag (scope (context s)) at []) [] = ap (λ (a : Above). element_of a []) (entering_is old tag name attributes declares tag.name at [] [] scoped enters refl refl) in
@@ -208,7 +209,7 @@ some_name b inside = elim (eqb_tells (length b.open.items) 0) [
 ]
 
 pub shuts : (old new : Builder) (count : ℕ) → Scoped old → string_bytes old.text ≡ [] → is_empty (state old).above ≡ false → new.open.items ≡ take (length old.open.items - 1) old.open.items → new.scope ≡ take (length old.scope - count) old.scope → count ≡ binding_count (zips.first_label old.items.zip.above)
-    → new.items.zip ≡ zips.closed old.items.zip → string_bytes new.text ≡ string_bytes old.text → new.text_at ≡ old.text_at → new.ended ≡ nat_eq (length new.open.items) 0 → new.first ≡ false → new.brackets ≡ 0 → AllKnown (reverse new.scope) new.items.names new.notes.notes.items → Shuts old new
+    → new.items.zip ≡ zips.closed old.items.zip → string_bytes new.text ≡ string_bytes old.text → new.text_at ≡ old.text_at → new.ended ≡ nat_eq (length new.open.items) 0 → new.first ≡ false → new.brackets ≡ 0 → AllKnown (reverse new.scope) new.items.names new.notes.written.items new.notes.names.items → Shuts old new
 shuts old new count scoped empty inside shorter scope_is count_is items text place ends first brackets noted =
     let last = last_of old.open.items (some_name old inside) in
     let written = last.0 in

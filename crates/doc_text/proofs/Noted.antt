@@ -1,6 +1,6 @@
 -- Notes of written names, and tags whose name is noted.
 use Rattle.std.proofs.Common.{◌≡◌, ℕ, zero, suc, ◌-◌, ◌≤◌, Bool, true, false, List, [], ◌∷◌, ◌++◌, length, map, take, None, Some, refl, sym, ap, subst, ◌∙◌, arith}
-use Rattle.std.specs.Prelude.{Option, slice_get, reverse, not, nat_eq}
+use Rattle.std.specs.Prelude.{Result, Ok, Err, OnOk, slice_get, reverse, not, nat_eq}
 use Rattle.std.proofs.lemmas.List.{append-nil, take_all}
 use Rattle.xa_base.specs.declared.texts.Name.{Name}
 use Rattle.xa_base.specs.Entries.{first_true}
@@ -10,7 +10,7 @@ use Rattle.doc_pieces.specs.Pieces.{Tag}
 use Rattle.doc_pieces.specs.declared.found.Attribute.{Attribute}
 use Rattle.doc_pieces.specs.declared.found.Element.{Element}
 use Rattle.doc_pieces.specs.Found.{tag_seen, attribute_of}
-use Rattle.doc_text.specs.declared.notes.Note.{Note}
+use Rattle.std.specs.Borrow.{Bor}
 use Rattle.doc_text.specs.Namespaces.{bindings_of, element_name}
 use Rattle.doc_text.specs.Contexts.{tag_scope, start_reason}
 use Rattle.doc_text.specs.Private.Entering.{IsNamed, EntersAs}
@@ -20,24 +20,40 @@ use Rattle.doc_text.proofs.OpenNames.{named_tag}
 
 module _ (inside : List (List ℕ × List ℕ)) (names : List Name) where
   -- the note at a place
-  pub noted_at : (notes : List Note) (i : ℕ) (note : Note) → AllKnown inside names notes → slice_get notes i ≡ Some note → KnownAs inside names note.written.now note.name
-  noted_at [] i note h e = absurd (cc)
-  noted_at (other ∷ notes) zero note h e = let same : other ≡ note = cc in subst (λ (n : Note). KnownAs inside names n.written.now n.name) same h.0
-  noted_at (other ∷ notes) (suc i) note h e = noted_at notes i note h.1 e
+  pub noted_at : (ws : List (Bor (List ℕ))) (ns : List ℕ) (i : ℕ) (w : Bor (List ℕ)) (n : ℕ) → AllKnown inside names ws ns → slice_get ws i ≡ Some w → slice_get ns i ≡ Some n → KnownAs inside names w.now n
+  noted_at [] [] i w n h e f = absurd (cc)
+  noted_at [] (m ∷ ns) i w n h e f = absurd h
+  noted_at (v ∷ ws) [] i w n h e f = absurd h
+  noted_at (v ∷ ws) (m ∷ ns) zero w n h e f =
+      let same : v ≡ w = cc in
+      let equal : m ≡ n = cc in
+      subst (λ (x : Bor (List ℕ)). KnownAs inside names x.now n) same (subst (KnownAs inside names v.now) equal h.0)
+  noted_at (v ∷ ws) (m ∷ ns) (suc i) w n h e f = noted_at ws ns i w n h.1 e f
 
   -- one more note
-  pub note_more : (notes : List Note) (note : Note) → AllKnown inside names notes → KnownAs inside names note.written.now note.name → AllKnown inside names (notes ++ note ∷ [])
-  note_more [] note h k = (k, tt)
-  note_more (other ∷ notes) note h k = (h.0, note_more notes note h.1 k)
+  pub note_more : (ws : List (Bor (List ℕ))) (ns : List ℕ) (w : Bor (List ℕ)) (n : ℕ) → AllKnown inside names ws ns → KnownAs inside names w.now n → AllKnown inside names (ws ++ w ∷ []) (ns ++ n ∷ [])
+  note_more [] [] w n h k = (k, tt)
+  note_more [] (m ∷ ns) w n h k = absurd h
+  note_more (v ∷ ws) [] w n h k = absurd h
+  note_more (v ∷ ws) (m ∷ ns) w n h k = (h.0, note_more ws ns w n h.1 k)
 
-  -- one note alone
-  pub note_first : (none notes : List Note) (note : Note) → none ≡ [] → notes ≡ none ++ note ∷ [] → KnownAs inside names note.written.now note.name → AllKnown inside names notes
-  note_first none notes note e f k = subst (AllKnown inside names) (sym (f ∙ ap (λ (ns : List Note). ns ++ note ∷ []) e)) (k, tt)
+  pub note_on : (ws us : List (Bor (List ℕ))) (ns ms : List ℕ) (w : Bor (List ℕ)) (n : ℕ) → AllKnown inside names ws ns → us ≡ ws ++ w ∷ [] → ms ≡ ns ++ n ∷ [] → KnownAs inside names w.now n → AllKnown inside names us ms
+  note_on ws us ns ms w n h e f k = subst (AllKnown inside names us) (sym f) (subst (λ (xs : List (Bor (List ℕ))). AllKnown inside names xs (ns ++ n ∷ [])) (sym e) (note_more ws ns w n h k))
+
+  pub none_noted : (ws : List (Bor (List ℕ))) (ns : List ℕ) → ws ≡ [] → ns ≡ [] → AllKnown inside names ws ns
+  none_noted ws ns e f = subst (AllKnown inside names ws) (sym f) (subst (λ (xs : List (Bor (List ℕ))). AllKnown inside names xs []) (sym e) tt)
+
+-- a call that is returned as it is
+pub both_ok : {T E P Q X : Type 0} (r : Result T E) → OnOk r P → OnOk r Q → (P → Q → X) → OnOk r X
+both_ok (Ok x) p q f = f p q
+both_ok (Err e) p q f = tt
 
 -- more names
-pub noted-grown : (inside : List (List ℕ × List ℕ)) (old new : List Name) (notes : List Note) → Grows old new → AllKnown inside old notes → AllKnown inside new notes
-noted-grown inside old new [] g h = tt
-noted-grown inside old new (note ∷ notes) g h = (record { named = h.0.named; name = g.kept note.name _ h.0.name }, noted-grown inside old new notes g h.1)
+pub noted-grown : (inside : List (List ℕ × List ℕ)) (old new : List Name) (ws : List (Bor (List ℕ))) (ns : List ℕ) → Grows old new → AllKnown inside old ws ns → AllKnown inside new ws ns
+noted-grown inside old new [] [] g h = tt
+noted-grown inside old new [] (n ∷ ns) g h = absurd h
+noted-grown inside old new (w ∷ ws) [] g h = absurd h
+noted-grown inside old new (w ∷ ws) (n ∷ ns) g h = (record { named = h.0.named; name = g.kept n _ h.0.name }, noted-grown inside old new ws ns g h.1)
 
 none_in : {A : Type 0} (xs : List A) → nat_eq (length xs) 0 ≡ true → xs ≡ []
 none_in [] e = refl

@@ -1,5 +1,5 @@
 //! Written names of tags with the names that they stand for.
-ghost use Rattle.std.specs.Prelude.{◌≡◌, ◌<◌, ◌∷◌, ◌++◌, [], List, ℕ, false, IfSome, OnOk};
+ghost use Rattle.std.specs.Prelude.{◌≡◌, ◌∷◌, ◌++◌, [], List, ℕ, false, IfSome, OnOk};
 ghost use Rattle.xa_base.specs.declared.texts.Name.{Name};
 ghost use Rattle.doc_text.specs.Private.Noting.{AllKnown, KnownAs};
 
@@ -10,18 +10,12 @@ use xa_base::Memory;
 // The number of places that a written name may be looked for at, and of notes.
 const LOOKS: usize = 32;
 
-/// A written name, and the number of the name that it stands for.
-#[derive(Drop)]
-pub(crate) struct Note<'a> {
-    written: &'a [u8],
-    name: ElementName,
-}
-
-/// Written names of tags with the numbers of the names that they stand for where the reader is. Each is looked for at
-/// one place, by its length and its first and last byte, so that it is found by one comparison.
+/// Written names of tags, and beside each the number of the name that it stands for where the reader is. Each is looked
+/// for at one place, by its length and its first and last byte, so that it is found by one comparison.
 #[derive(Drop)]
 pub(crate) struct Notes<'a> {
-    pub(crate) notes: Vec<Note<'a>>,
+    pub(crate) written: Vec<&'a [u8]>,
+    pub(crate) names: Vec<ElementName>,
     // By what a written name looks like, where it may stand.
     looks: [u32; LOOKS],
 }
@@ -41,10 +35,12 @@ fn look_of(written: &[u8]) -> usize {
 impl<'a> Notes<'a> {
     /// No notes. It takes no memory.
     pub(crate) fn new(alloc: Global) -> Notes<'a>
-        ensures { result.notes.items ≡ [] }
+        ensures written { result.written.items ≡ [] }
+        ensures names { result.names.items ≡ [] }
     {
         Notes {
-            notes: Vec::new(alloc),
+            written: Vec::new(alloc),
+            names: Vec::new(alloc),
             looks: [0; LOOKS],
         }
     }
@@ -52,29 +48,37 @@ impl<'a> Notes<'a> {
     /// The number of the name, if it is noted.
     #[inline(always)]
     pub(crate) fn find(&self, written: &[u8]) -> Option<ElementName>
-        ensures { (inside : List (List ℕ × List ℕ)) (names : List Name) → AllKnown inside names self.now.notes.items → IfSome result (KnownAs inside names written.now) }
+        ensures { (inside : List (List ℕ × List ℕ)) (names : List Name) → AllKnown inside names self.now.written.items self.now.names.items → IfSome result (KnownAs inside names written.now) }
     {
         let number = *self.looks.get(look_of(written))?;
-        let note = self.notes.get(number as usize)?;
-        if note.written == written {
-            Some(note.name)
-        } else {
-            None
-        }
+        let noted = *self.written.get(number as usize)?;
+        let name = *self.names.get(number as usize)?;
+        if noted == written { Some(name) } else { None }
     }
 
     // Notes a name behind the others.
     #[inline(always)]
     fn keep(&mut self, written: &'a [u8], name: ElementName) -> Result<(), Memory>
-        ensures { OnOk result (self.new.notes.items ≡ self.old.notes.items ++ record { written = written; name = name } ∷ []) }
+        ensures written { OnOk result (self.new.written.items ≡ self.old.written.items ++ written.entry ∷ []) }
+        ensures names { OnOk result (self.new.names.items ≡ self.old.names.items ++ name ∷ []) }
     {
-        let number = self.notes.len() as u32;
-        self.notes.push(Note { written, name })?;
+        let number = self.written.len() as u32;
+        self.written.push(written)?;
+        self.names.push(name)?;
         let look = look_of(written);
         if look < LOOKS {
             self.looks[look] = number;
         }
         Ok(())
+    }
+
+    // Forgets all.
+    fn clear(&mut self)
+        ensures written { self.new.written.items ≡ [] }
+        ensures names { self.new.names.items ≡ [] }
+    {
+        self.written.clear();
+        self.names.clear();
     }
 
     /// Notes the name of an element that is entered. Where it binds prefixes, or there are many notes, the others are
@@ -85,14 +89,14 @@ impl<'a> Notes<'a> {
         written: &'a [u8],
         name: ElementName,
     ) -> Result<(), Memory>
-        ensures { OnOk result ((outer inside : List (List ℕ × List ℕ)) (names : List Name) → (binds ≡ false → inside ≡ outer) → AllKnown outer names self.old.notes.items → KnownAs inside names written.now name → AllKnown inside names self.new.notes.items) }
+        ensures { OnOk result ((outer inside : List (List ℕ × List ℕ)) (names : List Name) → (binds ≡ false → inside ≡ outer) → AllKnown outer names self.old.written.items self.old.names.items → KnownAs inside names written.now name → AllKnown inside names self.new.written.items self.new.names.items) }
     {
         if binds {
-            self.notes.clear();
+            self.clear();
             return self.keep(written, name);
         }
-        if self.notes.len() >= LOOKS {
-            self.notes.clear();
+        if self.written.len() >= LOOKS {
+            self.clear();
             return self.keep(written, name);
         }
         self.keep(written, name)
@@ -101,11 +105,11 @@ impl<'a> Notes<'a> {
     /// Forgets all where an element is left that binds so many prefixes, unless it binds none.
     #[inline(always)]
     pub(crate) fn note_left(&mut self, count: usize)
-        ensures { (inside outer : List (List ℕ × List ℕ)) (names : List Name) → (count ≡ 0 → outer ≡ inside) → AllKnown inside names self.old.notes.items → AllKnown outer names self.new.notes.items }
+        ensures { (inside outer : List (List ℕ × List ℕ)) (names : List Name) → (count ≡ 0 → outer ≡ inside) → AllKnown inside names self.old.written.items self.old.names.items → AllKnown outer names self.new.written.items self.new.names.items }
     {
         if count == 0 {
             return;
         }
-        self.notes.clear();
+        self.clear();
     }
 }

@@ -86,7 +86,7 @@ pub record Scoped (b : Builder) : Type 0 where
   pub scope_is : reverse b.scope ≡ scope (context (state b))
   pub named : AreNamed (context (state b)).elements
   pub nodes : map node_of (state b).above ≡ b.items.zip.above
-  pub noted : AllKnown (reverse b.scope) b.items.names b.notes.notes.items
+  pub noted : AllKnown (reverse b.scope) b.items.names b.notes.written.items b.notes.names.items
 
 -- nothing speaks against the piece, and the reader has taken its step
 pub record Takes (p : Piece) (at : ℕ) (old new : Builder) : Type 0 where
@@ -104,7 +104,7 @@ pub record Flushed (old new : Builder) : Type 0 where
   pub kids : new.items.zip.kids ≡ kids_of_state (state old)
   pub same_above : new.items.zip.above ≡ old.items.zip.above
   pub same_names : new.items.names ≡ old.items.names
-  pub same_notes : new.notes.notes.items ≡ old.notes.notes.items
+  pub same_notes : new.notes ≡ old.notes
   pub text : string_bytes new.text ≡ []
   pub same_place : new.text_at ≡ old.text_at
   pub same_open : new.open.items ≡ old.open.items
@@ -121,7 +121,7 @@ pub record Kept (old new : Builder) : Type 0 where
   pub scope : new.scope ≡ old.scope
   pub items : new.items ≡ old.items
   pub names : new.open.items ≡ old.open.items
-  pub notes : new.notes.notes.items ≡ old.notes.notes.items
+  pub notes : new.notes ≡ old.notes
 
 -- what a piece gives to texts and values is UTF-8
 abbrev pub GivesUtf8 : Piece → Type 0

@@ -2,7 +2,7 @@
 use Rattle.std.specs.Prelude.{◌≡◌, ℕ, List, [], ◌∷◌, Some, slice_get}
 use Rattle.xa_base.specs.declared.texts.Name.{Name}
 use Rattle.doc_pieces.specs.Pieces.{Tag}
-use Rattle.doc_text.specs.declared.notes.Note.{Note}
+use Rattle.std.specs.Borrow.{Bor}
 use Rattle.doc_text.specs.Namespaces.{element_name}
 use Rattle.doc_text.specs.Private.Entering.{IsNamed}
 
@@ -12,9 +12,11 @@ pub record KnownAs (inside : List (List ℕ × List ℕ)) (names : List Name) (w
   pub name : slice_get names number ≡ Some (element_name inside written)
 
 -- so it is with all notes
-abbrev pub AllKnown : List (List ℕ × List ℕ) → List Name → List Note → Type 0
-AllKnown inside names [] = Unit {0}
-AllKnown inside names (note ∷ notes) = KnownAs inside names note.written.now note.name × AllKnown inside names notes
+abbrev pub AllKnown : List (List ℕ × List ℕ) → List Name → List (Bor (List ℕ)) → List ℕ → Type 0
+AllKnown inside names [] [] = Unit {0}
+AllKnown inside names [] (number ∷ numbers) = ⊥
+AllKnown inside names (written ∷ more_written) [] = ⊥
+AllKnown inside names (written ∷ more_written) (number ∷ numbers) = KnownAs inside names written.now number × AllKnown inside names more_written numbers
 
 -- a tag without attributes
 abbrev pub bare : List ℕ → Tag

@@ -13,7 +13,7 @@ use Rattle.doc_text.specs.Private.Entering.{Stopped, EntersAs}
 use Rattle.doc_text.specs.Private.Noting.{AllKnown, bare}
 use Rattle.doc_text.proofs.Entered.{place_tests}
 use Rattle.doc_text.proofs.Noted.{noted_reason, noted_enters, left_none}
-use Rattle.doc_text.proofs.Built.{start_stops, mid_of, start_takes}
+use Rattle.doc_text.proofs.Built.{start_stops, mid_of, start_takes, flushed_scoped}
 use Rattle.doc_text.proofs.builder.Builder.start_noted.Goals as goal
 
 pub returns-in-Some-clause-err : goal.returns-in-Some-clause-err
@@ -38,4 +38,4 @@ returns-clause-ok c =
     start_takes old c.flush.new.self _ c.args.written name [] [] (bare c.args.written.now) c.args.at c.requires.scoped enters
     (mid_of old old c.flush.new.self c.in_ok-flush.ensures refl refl refl refl refl)
     (c.in_ok-flush.ensures.same_scope ∙ sym (append-nil old.scope)) (search rules) refl items refl refl refl refl refl
-    (subst _ (sym c.in_ok-flush.ensures.same_notes) (subst (λ ns. AllKnown (reverse c.flush.new.self.scope) ns old.notes.notes.items) (sym names) (subst (λ s. AllKnown (reverse s) old.items.names old.notes.notes.items) (sym c.in_ok-flush.ensures.same_scope) c.requires.scoped.noted)))
+    (subst (λ ns. AllKnown (reverse c.flush.new.self.scope) ns c.flush.new.self.notes.written.items c.flush.new.self.notes.names.items) (c.in_ok-flush.ensures.same_names ∙ sym names) (flushed_scoped old c.flush.new.self c.requires.scoped c.in_ok-flush.ensures).noted)

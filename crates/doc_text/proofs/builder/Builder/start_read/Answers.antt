@@ -3,7 +3,9 @@ use Rattle.std.specs.Prelude.{reverse, not, nat_eq, slice_get, Some}
 use Rattle.doc_pieces.specs.Found.{tag_seen}
 use Rattle.item_tree.specs.Growing.{Grows}
 use Rattle.doc_text.specs.declared.error.DocWhy.{DocWhy}
+use Rattle.doc_text.specs.declared.notes.Notes.{Notes}
 use Rattle.doc_text.specs.Private.Entering.{Stopped}
+use Rattle.doc_text.specs.Private.Noting.{AllKnown}
 use Rattle.doc_text.proofs.Noted.{known_as, entered_same, none_bound, noted-grown}
 use Rattle.doc_text.proofs.Built.{start_stops, enters_here, mid_of, start_takes}
 use Rattle.doc_text.proofs.builder.Builder.start_read.Goals as goal
@@ -25,7 +27,7 @@ returns-clause-ok c =
     let bound : c.is_empty.result ≡ nat_eq (length head.declares.items) 0 = search rules in
     let noted = c.in_ok-note_entered.ensures (reverse old.scope) (reverse c.enter.new.scope) names
     (λ e. entered_same old.scope c.enter.new.scope _ scope_is (none_bound head.declares.items _ _ (ap not bound) enters.declares_are e))
-    (subst _ (sym c.in_ok-flush.ensures.same_notes) (noted-grown (reverse old.scope) old.items.names names old.notes.notes.items grows c.requires.scoped.noted))
+    (subst (λ (n : Notes). AllKnown (reverse old.scope) names n.written.items n.names.items) (sym c.in_ok-flush.ensures.same_notes) (noted-grown (reverse old.scope) old.items.names names old.notes.written.items old.notes.names.items grows c.requires.scoped.noted))
     (known_as tag old.scope c.enter.new.scope old.ended depth names c.in_ok-name.name head.name enters.none scope_is enters.name_is has) in
     start_takes old c.flush.new.self _ c.args.tag.name head.name head.attributes.items head.declares.items tag c.args.at c.requires.scoped
     (enters_here old tag depth head.name head.attributes.items head.declares.items (search rules) enters)
