@@ -1,6 +1,7 @@
 -- Notes of written names, and tags whose name is noted.
-use Rattle.std.proofs.Common.{◌≡◌, ℕ, zero, suc, ◌-◌, ◌≤◌, Bool, true, false, List, [], ◌∷◌, ◌++◌, length, map, take, None, Some, refl, sym, ap, subst, ◌∙◌, arith}
+use Rattle.std.proofs.Common.{inl, inr, ◌≡◌, ℕ, zero, suc, ◌-◌, ◌≤◌, Bool, true, false, List, [], ◌∷◌, ◌++◌, length, map, take, None, Some, refl, sym, ap, subst, ◌∙◌, arith}
 use Rattle.std.specs.Prelude.{Result, Ok, Err, OnOk, slice_get, reverse, not, nat_eq}
+use Rattle.std.proofs.lemmas.Bool.Decides.{eqb_tells}
 use Rattle.std.proofs.lemmas.List.{append-nil, take_all}
 use Rattle.xa_base.specs.declared.texts.Name.{Name}
 use Rattle.xa_base.specs.Entries.{first_true}
@@ -57,7 +58,7 @@ noted-grown inside old new (w ∷ ws) (n ∷ ns) g h = (record { named = h.0.nam
 
 none_in : {A : Type 0} (xs : List A) → nat_eq (length xs) 0 ≡ true → xs ≡ []
 none_in [] e = refl
-none_in (x ∷ xs) e = absurd (cc)
+none_in (x ∷ xs) e = elim (eqb_tells (length (x ∷ xs)) 0) [ inl h ↦ absurd (omega (arith, h.1)) | inr h ↦ absurd (let clash : false ≡ true = sym h.0 ∙ e in cc) ]
 
 not_false : (b : Bool) → not b ≡ false → b ≡ true
 not_false true e = refl

@@ -62,12 +62,14 @@ impl<'a> Notes<'a> {
         ensures written { OnOk result (self.new.written.items ≡ self.old.written.items ++ written.entry ∷ []) }
         ensures names { OnOk result (self.new.names.items ≡ self.old.names.items ++ name ∷ []) }
     {
-        let number = self.written.len() as u32;
+        let number = self.written.len();
         self.written.push(written)?;
         self.names.push(name)?;
         let look = look_of(written);
         if look < LOOKS {
-            self.looks[look] = number;
+            if number < LOOKS {
+                self.looks[look] = number as u32;
+            }
         }
         Ok(())
     }

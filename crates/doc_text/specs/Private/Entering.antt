@@ -32,8 +32,9 @@ pub record EntersAs (outer : List (List ℕ × List ℕ)) (ended : Bool) (depth 
   pub attributes_are : attributes ≡ attributes_of (tag_scope tag outer) tag.attributes
   pub declares_are : declares ≡ bindings_of tag.attributes
 
-abbrev pub Enters : List (List ℕ × List ℕ) → Bool → ℕ → Tag → Head → Type 0
-Enters outer ended depth tag head = EntersAs outer ended depth tag head.name head.attributes.items head.declares.items
+-- so it is with what has been read of the tag
+pub record Enters (outer : List (List ℕ × List ℕ)) (ended : Bool) (depth : ℕ) (tag : Tag) (head : Head) : Type 0 where
+  pub opens : EntersAs outer ended depth tag head.name head.attributes.items head.declares.items
 
 -- the error is that reason at this place, or want of memory
 abbrev pub Stopped : Option DocWhy → ℕ → DocError → Type 0

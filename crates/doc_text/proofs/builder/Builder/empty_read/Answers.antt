@@ -16,6 +16,6 @@ returns-clause-ok c =
     let names = c.element.new.self.names in
     let grows : Grows old.items.names names = subst (λ ns. Grows ns names) c.in_ok-flush.ensures.same_names c.element.ensures.names in
     empty_takes old c.flush.new.self _ head.name head.attributes.items head.declares.items (tag_seen c.args.tag) c.args.at c.enter.new.scope _ c.requires.scoped
-    (enters_here old (tag_seen c.args.tag) (length c.as_slice-depth.result.now) head.name head.attributes.items head.declares.items (search rules) c.in-Ok.ensures.ok)
+    (enters_here old (tag_seen c.args.tag) (length c.as_slice-depth.result.now) head.name head.attributes.items head.declares.items (search rules) c.in-Ok.ensures.ok.opens)
     (mid_of old _ c.flush.new.self c.in_ok-flush.ensures refl refl refl refl refl)
     c.in-Ok.ensures.scope (c.in_ok-flush.ensures.same_scope ∙ c.leave.ensures) (search rules) refl (search rules) refl refl (search rules) refl refl grows c.in_ok-flush.ensures.same_notes
