@@ -1,5 +1,5 @@
 -- What a reader of the code has so far, as a state.
-use Rattle.std.specs.Prelude.{◌≡◌, ℕ, true, false, List, [], ◌∷◌, ◌++◌, length, map, reverse, Option, Some, None, string_bytes, IsUtf8}
+use Rattle.std.specs.Prelude.{◌≡◌, ℕ, true, List, [], ◌∷◌, ◌++◌, map, reverse, None, string_bytes, IsUtf8}
 use Rattle.std.specs.Borrow.{Bor}
 use Rattle.xa_base.specs.declared.texts.Name.{Name}
 use Rattle.xa_base.specs.Namespaces.{xml_prefix, xml_space}
@@ -11,8 +11,6 @@ use Rattle.item_tree.specs.declared.label.ItemLabel.TheVariants.{Element, Text}
 use Rattle.doc_text.specs.declared.builder.Builder.{Builder}
 use Rattle.std.specs.List.{flat_map}
 use Rattle.item_tree.specs.Labels.{item_place}
-use Rattle.doc_text.specs.Namespaces.{is_long, is_unbound}
-use Rattle.doc_pieces.specs.QNames.{prefix_of, is_qname}
 use Rattle.doc_text.specs.Contexts.{Open, scope, reason}
 use Rattle.doc_text.specs.Private.Entering.{have_utf8, IsNamed}
 use Rattle.doc_text.specs.Private.Noting.{AllKnown}

@@ -1,5 +1,5 @@
-use Rattle.std.proofs.Common.{◌≡◌, ◌<◌, ◌-◌, ℕ, List, [], ◌++◌, take, length, None, Option, subst, sym, ap, ◌∙◌, rules, refl}
-use Rattle.std.specs.Prelude.{reverse, Some}
+use Rattle.std.proofs.Common.{◌≡◌, ◌<◌, ◌-◌, [], ◌++◌, take, length, None, subst, sym, ◌∙◌, rules, refl}
+use Rattle.std.specs.Prelude.{reverse}
 use Rattle.std.proofs.lemmas.List.{append-nil}
 use Rattle.std.proofs.lemmas.Option.{slice_get_within}
 use Rattle.xa_base.specs.Entries.{first_true}
@@ -8,9 +8,8 @@ use Rattle.label_tree.specs.Rose.{node, roses_of}
 use Rattle.item_tree.specs.declared.label.ItemLabel.TheVariants.{Element}
 use Rattle.item_tree.specs.Building.{name_at}
 use Rattle.item_tree.proofs.Growth.{grows-same}
-use Rattle.doc_text.specs.declared.error.DocWhy.{DocWhy}
-use Rattle.doc_text.specs.Private.Entering.{Stopped, EntersAs}
-use Rattle.doc_text.specs.Private.Noting.{AllKnown, bare}
+use Rattle.doc_text.specs.Private.Entering.{EntersAs}
+use Rattle.doc_text.specs.Private.Noting.{bare}
 use Rattle.doc_text.proofs.Entered.{place_tests}
 use Rattle.doc_text.proofs.Noted.{noted_reason, noted_enters, left_none}
 use Rattle.doc_text.proofs.Built.{empty_stops, mid_of, empty_takes}

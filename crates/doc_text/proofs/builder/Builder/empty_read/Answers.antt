@@ -1,4 +1,4 @@
-use Rattle.std.proofs.Common.{◌≡◌, ◌∙◌, length, Option, subst, sym, rules, refl}
+use Rattle.std.proofs.Common.{◌∙◌, length, Option, subst, rules, refl}
 use Rattle.doc_pieces.specs.Found.{tag_seen}
 use Rattle.item_tree.specs.Growing.{Grows}
 use Rattle.doc_text.specs.declared.error.DocWhy.{DocWhy}

@@ -1,4 +1,4 @@
-use Rattle.std.proofs.Common.{sym, subst, rules}
+use Rattle.std.proofs.Common.{rules}
 use Rattle.doc_text.proofs.Noted.{none_noted}
 use Rattle.doc_text.proofs.builder.Builder.new.Goals as goal
 

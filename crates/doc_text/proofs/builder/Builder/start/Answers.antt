@@ -1,4 +1,4 @@
-use Rattle.std.proofs.Common.{◌≡◌, ℕ, true, length, sym, subst, rules}
+use Rattle.std.proofs.Common.{◌≡◌, true, length, sym, subst, rules}
 use Rattle.std.specs.Prelude.{OnOk, IfErr, reverse, nat_eq}
 use Rattle.doc_pieces.specs.Pieces.{Tag, Start}
 use Rattle.doc_text.specs.Contexts.{reason}

@@ -1,4 +1,4 @@
-use Rattle.std.proofs.Common.{◌≡◌, ℕ, List, Bool, length, Option, subst, sym, ap, ◌∙◌, rules, refl}
+use Rattle.std.proofs.Common.{◌≡◌, ℕ, List, length, Option, subst, sym, ap, ◌∙◌, rules, refl}
 use Rattle.std.specs.Prelude.{reverse, not, nat_eq, slice_get, Some}
 use Rattle.doc_pieces.specs.Found.{tag_seen}
 use Rattle.item_tree.specs.Growing.{Grows}
