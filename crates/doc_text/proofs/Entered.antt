@@ -79,10 +79,12 @@ pub enters : (tag : Tag) (scope inside : List (List ℕ × List ℕ)) (ended : B
 enters tag scope inside ended depth head none is name attributes declares =
     let same : reverse inside ≡ tag_scope tag (reverse scope) = ap reverse is ∙ inside_is scope (bindings_of tag.attributes) in
     record {
-      none = none;
-      name_is = name ∙ ap (λ (x : List (List ℕ × List ℕ)). element_name x tag.name) same;
-      attributes_are = attributes ∙ ap (λ (x : List (List ℕ × List ℕ)). attributes_of x tag.attributes) same;
-      declares_are = declares;
+      opens = record {
+        none = none;
+        name_is = name ∙ ap (λ (x : List (List ℕ × List ℕ)). element_name x tag.name) same;
+        attributes_are = attributes ∙ ap (λ (x : List (List ℕ × List ℕ)). attributes_of x tag.attributes) same;
+        declares_are = declares;
+      };
     }
 
 -- a tag without attributes, and with a name that nothing speaks against
@@ -94,8 +96,10 @@ pub plain_enters : (tag : Tag) (outer : List (List ℕ × List ℕ)) (ended : Bo
     → head.name.space ≡ or_absent (beside [] outer) → head.name.local ≡ tag.name → head.attributes.items ≡ [] → head.declares.items ≡ [] → Enters outer ended depth tag head
 unfolding element_name
 plain_enters tag outer ended depth head empty p none space local attributes declares = record {
-  none = plain_reason tag outer ended depth empty p ∙ none;
-  name_is = rw (empty, p.alone, p.whole, space, local) refl;
-  attributes_are = rw empty attributes;
-  declares_are = rw empty declares;
+  opens = record {
+    none = plain_reason tag outer ended depth empty p ∙ none;
+    name_is = rw (empty, p.alone, p.whole, space, local) refl;
+    attributes_are = rw empty attributes;
+    declares_are = rw empty declares;
+  };
 }

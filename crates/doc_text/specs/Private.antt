@@ -1,4 +1,5 @@
 pub mod States
 pub mod Entering
+pub mod Noting
 pub mod Building
 pub mod Scopes

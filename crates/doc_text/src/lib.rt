@@ -10,6 +10,7 @@ mod error;
 mod items;
 mod laws;
 mod names;
+mod notes;
 mod reader;
 mod scope;
 mod short_lists;

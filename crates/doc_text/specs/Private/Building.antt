@@ -1,5 +1,5 @@
 -- What a reader of the code has so far, as a state.
-use Rattle.std.specs.Prelude.{◌≡◌, ℕ, true, false, List, [], ◌∷◌, ◌++◌, length, map, reverse, Option, Some, None, string_bytes, IsUtf8}
+use Rattle.std.specs.Prelude.{◌≡◌, ℕ, true, List, [], ◌∷◌, ◌++◌, map, reverse, None, string_bytes, IsUtf8}
 use Rattle.std.specs.Borrow.{Bor}
 use Rattle.xa_base.specs.declared.texts.Name.{Name}
 use Rattle.xa_base.specs.Namespaces.{xml_prefix, xml_space}
@@ -11,10 +11,9 @@ use Rattle.item_tree.specs.declared.label.ItemLabel.TheVariants.{Element, Text}
 use Rattle.doc_text.specs.declared.builder.Builder.{Builder}
 use Rattle.std.specs.List.{flat_map}
 use Rattle.item_tree.specs.Labels.{item_place}
-use Rattle.doc_text.specs.Namespaces.{is_long, is_unbound}
-use Rattle.doc_pieces.specs.QNames.{prefix_of, is_qname}
 use Rattle.doc_text.specs.Contexts.{Open, scope, reason}
-use Rattle.doc_text.specs.Private.Entering.{have_utf8}
+use Rattle.doc_text.specs.Private.Entering.{have_utf8, IsNamed}
+use Rattle.doc_text.specs.Private.Noting.{AllKnown}
 use Rattle.doc_text.specs.Private.States.{Above, State, nothing, context, kids_of_state, closed, step}
 
 -- ---- an element that is open, by its written name and the open nodes from its own on
@@ -74,22 +73,18 @@ state b = record {
 abbrev pub node_of : Above → zips.Above ItemLabel
 node_of a = record { label = Element a.name a.attributes a.declares a.at; before = a.before }
 
--- nothing speaks against a name where these bindings are in scope
-pub record IsNamed (written : List ℕ) (inside : List (List ℕ × List ℕ)) : Type 0 where
-  pub qname : is_qname written ≡ true
-  pub short : is_long written ≡ false
-  pub bound : is_unbound inside (prefix_of written) ≡ false
-
 -- nor against that of each element that is open
 abbrev pub AreNamed : List Open → Type 0
 AreNamed [] = Unit {0}
 AreNamed (e ∷ es) = IsNamed e.written (flat_map (λ o. o.declares) (e ∷ es) ++ (xml_prefix, xml_space) ∷ []) × AreNamed es
 
--- the bindings at hand are those in scope, the elements that are open have been tested, and the open nodes are these
+-- the bindings at hand are those in scope, the elements that are open have been tested, the open nodes are these, and the
+-- notes are right
 pub record Scoped (b : Builder) : Type 0 where
   pub scope_is : reverse b.scope ≡ scope (context (state b))
   pub named : AreNamed (context (state b)).elements
   pub nodes : map node_of (state b).above ≡ b.items.zip.above
+  pub noted : AllKnown (reverse b.scope) b.items.names b.notes.written.items b.notes.names.items
 
 -- nothing speaks against the piece, and the reader has taken its step
 pub record Takes (p : Piece) (at : ℕ) (old new : Builder) : Type 0 where
@@ -107,6 +102,7 @@ pub record Flushed (old new : Builder) : Type 0 where
   pub kids : new.items.zip.kids ≡ kids_of_state (state old)
   pub same_above : new.items.zip.above ≡ old.items.zip.above
   pub same_names : new.items.names ≡ old.items.names
+  pub same_notes : new.notes ≡ old.notes
   pub text : string_bytes new.text ≡ []
   pub same_place : new.text_at ≡ old.text_at
   pub same_open : new.open.items ≡ old.open.items
@@ -118,11 +114,12 @@ pub record Shuts (old new : Builder) : Type 0 where
   pub steps : state new ≡ closed (state old).above (state old)
   pub scoped : Scoped new
 
--- neither the bindings nor the nodes have changed
+-- neither the bindings nor the nodes nor the notes have changed
 pub record Kept (old new : Builder) : Type 0 where
   pub scope : new.scope ≡ old.scope
   pub items : new.items ≡ old.items
   pub names : new.open.items ≡ old.open.items
+  pub notes : new.notes ≡ old.notes
 
 -- what a piece gives to texts and values is UTF-8
 abbrev pub GivesUtf8 : Piece → Type 0
