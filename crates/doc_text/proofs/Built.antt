@@ -23,12 +23,8 @@ use Rattle.doc_text.specs.Contexts.{Context, Open, is_innermost, is_outside, bra
 use Rattle.xa_base.specs.Limits.{is_empty}
 use Rattle.xa_base.specs.Entries.{first_true}
 use Rattle.doc_text.specs.Private.States.{Above, State, open_of, context, kids_of_state, entering, element_of, opened, emptied, closed, passed, written_on, added}
-use Rattle.item_tree.specs.Growing.{Grows}
-use Rattle.item_tree.proofs.Growth.{grows-same}
-use Rattle.doc_text.specs.Private.Noting.{AllKnown}
-use Rattle.doc_text.proofs.Noted.{noted-grown}
-use Rattle.doc_text.specs.Private.Entering.{EntersAs, IsNamed}
-use Rattle.doc_text.specs.Private.Building.{up_in, above_of, aboves, state, node_of, AreNamed, Scoped, Takes, Flushed, Shuts, Kept}
+use Rattle.doc_text.specs.Private.Entering.{Enters}
+use Rattle.doc_text.specs.Private.Building.{up_in, above_of, aboves, state, node_of, IsNamed, AreNamed, Scoped, Takes, Flushed, Shuts, Kept}
 use Rattle.doc_text.proofs.Entered.{inside_is}
 use Rattle.doc_text.proofs.OpenNames.{named_tag, ends_named}
 use Rattle.doc_text.proofs.Telling.{some_innermost, innermost_is, is_empty-map, context-added}
@@ -83,8 +79,8 @@ start_stops b tag depth scoped e = here b tag depth scoped e ∙ start_is tag (c
 pub empty_stops : (b : Builder) (tag : Tag) (depth : ℕ) → Scoped b → depth ≡ length b.open.items → start_reason tag (reverse b.scope) b.ended depth ≡ reason (Empty tag) (context (state b))
 empty_stops b tag depth scoped e = here b tag depth scoped e ∙ empty_is tag (context (state b))
 
-pub enters_here : (b : Builder) (tag : Tag) (depth : ℕ) (name : Name) (attributes : List (Name × List ℕ)) (declares : List (List ℕ × List ℕ)) → depth ≡ length b.open.items → EntersAs (reverse b.scope) b.ended depth tag name attributes declares → EntersAs (reverse b.scope) b.ended (length b.open.items) tag name attributes declares
-enters_here b tag depth name attributes declares e enters = subst (λ (n : ℕ). EntersAs (reverse b.scope) b.ended n tag name attributes declares) e enters
+pub enters_here : (b : Builder) (tag : Tag) (depth : ℕ) (head : Head) → depth ≡ length b.open.items → Enters (reverse b.scope) b.ended depth tag head → Enters (reverse b.scope) b.ended (length b.open.items) tag head
+enters_here b tag depth head e enters = subst (λ (n : ℕ). Enters (reverse b.scope) b.ended n tag head) e enters
 
 pub end_stops : (b : Builder) (written : List ℕ) → Scoped b → first_true (end_tests written (reverse b.scope) (context (state b)).elements) ≡ reason (End written) (context (state b))
 unfolding reason
@@ -95,19 +91,13 @@ pub ends_open : (b : Builder) (written : List ℕ) → Scoped b → is_innermost
 ends_open b written scoped h = sym (ap (λ (o : List (List ℕ × List ℕ)). first_true (end_tests written o (context (state b)).elements)) scoped.scope_is ∙ ends_named written (context (state b)).elements scoped.named h)
 
 -- what is entered, as the element of the state
-entering_is : (b : Builder) (tag : Tag) (name : Name) (attributes : List (Name × List ℕ)) (declares : List (List ℕ × List ℕ)) (written : List ℕ) (at : ℕ) (before later : List (Rose ItemLabel)) → Scoped b → EntersAs (reverse b.scope) b.ended (length b.open.items) tag name attributes declares → written ≡ tag.name → before ≡ later
-    → put written name attributes declares at before ≡ entering tag (scope (context (state b))) at later
-entering_is b tag name attributes declares written at before later scoped enters w e =
+entering_is : (b : Builder) (tag : Tag) (head : Head) (written : List ℕ) (at : ℕ) (before later : List (Rose ItemLabel)) → Scoped b → Enters (reverse b.scope) b.ended (length b.open.items) tag head → written ≡ tag.name → before ≡ later
+    → put written head.name head.attributes.items head.declares.items at before ≡ entering tag (scope (context (state b))) at later
+entering_is b tag head written at before later scoped enters w e =
     same_above _ _ _ _ _ _ _ _ _ _ _ _ w
     (enters.name_is ∙ ap (λ (o : List (List ℕ × List ℕ)). element_name (tag_scope tag o) tag.name) scoped.scope_is)
     (enters.attributes_are ∙ ap (λ (o : List (List ℕ × List ℕ)). attributes_of (tag_scope tag o) tag.attributes) scoped.scope_is)
     enters.declares_are refl e
-
--- the notes stay right where the bindings and the notes are the same
-pub notes_on : (old new : Builder) → reverse old.scope ≡ reverse new.scope → Grows old.items.names new.items.names → new.notes.notes ≡ old.notes.notes → AllKnown (reverse old.scope) old.items.names old.notes.notes
-    → AllKnown (reverse new.scope) new.items.names new.notes.notes
-notes_on old new same more notes h =
-    subst (AllKnown (reverse new.scope) new.items.names) (sym notes) (noted-grown (reverse new.scope) old.items.names new.items.names old.notes.notes more (subst (λ (o : List (List ℕ × List ℕ)). AllKnown o old.items.names old.notes.notes) same h))
 
 -- before and behind the writing of the text, with other bindings
 pub record Mid (old mid : Builder) : Type 0 where
@@ -128,15 +118,15 @@ mid_of old early mid f i t p o e = record {
   ends = f.same_end ∙ e;
 }
 
-pub start_takes : (old mid new : Builder) (written : Bor (List ℕ)) (name : Name) (attributes : List (Name × List ℕ)) (declares : List (List ℕ × List ℕ)) (tag : Tag) (at : ℕ) → Scoped old → EntersAs (reverse old.scope) old.ended (length old.open.items) tag name attributes declares → Mid old mid
-    → new.scope ≡ old.scope ++ reverse (bindings_of tag.attributes) → new.open.items ≡ mid.open.items ++ written ∷ [] → written.now ≡ tag.name → new.items.zip ≡ zips.opened (Element name attributes declares at) mid.items.zip
-    → string_bytes new.text ≡ string_bytes mid.text → new.text_at ≡ mid.text_at → new.ended ≡ mid.ended → new.first ≡ false → new.brackets ≡ 0 → AllKnown (reverse new.scope) new.items.names new.notes.notes → Takes (Start tag) at old new
-start_takes old mid new written name attributes declares tag at scoped enters m scope_is opens name_is items text place ends first brackets noted =
+pub start_takes : (old mid new : Builder) (written : Bor (List ℕ)) (head : Head) (tag : Tag) (at : ℕ) → Scoped old → Enters (reverse old.scope) old.ended (length old.open.items) tag head → Mid old mid
+    → new.scope ≡ old.scope ++ reverse (bindings_of tag.attributes) → new.open.items ≡ mid.open.items ++ written ∷ [] → written.now ≡ tag.name → new.items.zip ≡ zips.opened (Element head.name head.attributes.items head.declares.items at) mid.items.zip
+    → string_bytes new.text ≡ string_bytes mid.text → new.text_at ≡ mid.text_at → new.ended ≡ mid.ended → new.first ≡ false → new.brackets ≡ 0 → Takes (Start tag) at old new
+start_takes old mid new written head tag at scoped enters m scope_is opens name_is items text place ends first brackets =
     let kids = kids_of_state (state old) in
     let outer = (state old).above in
     let a = entering tag (scope (context (state old))) at kids in
-    let label = Element name attributes declares at in
-    let own : put written.now name attributes declares at mid.items.zip.kids ≡ a = entering_is old tag name attributes declares written.now at mid.items.zip.kids kids scoped enters name_is m.kids in
+    let label = Element head.name head.attributes.items head.declares.items at in
+    let own : put written.now head.name head.attributes.items head.declares.items at mid.items.zip.kids ≡ a = entering_is old tag head written.now at mid.items.zip.kids kids scoped enters name_is m.kids in
     let above : (state new).above ≡ a ∷ outer =
     aboves_by _ _ _ _ opens (ap (λ (z : zips.Zip ItemLabel). z.above) items) ∙ aboves-push mid.open.items written (zips.opened label mid.items.zip).above
     ∙ ap (λ (x : Above). x ∷ aboves (reverse mid.open.items) mid.items.zip.above) own ∙ ap (λ (xs : List Above). a ∷ xs) (aboves_by _ _ _ _ m.opens m.nodes) in
@@ -152,7 +142,6 @@ start_takes old mid new written name attributes declares tag at scoped enters m 
         scope_is = ap reverse scope_is ∙ inside_is old.scope binds ∙ ap (λ (r : List (List ℕ × List ℕ)). binds ++ r) scoped.scope_is ∙ sym inner ∙ ap (λ (s : State). scope (context s)) (sym steps);
         named = subst (λ (s : State). AreNamed (context s).elements) (sym steps) (subst (IsNamed tag.name) (ap (λ (r : List (List ℕ × List ℕ)). binds ++ r) scoped.scope_is ∙ sym inner) (named_tag tag (reverse old.scope) old.ended (length old.open.items) enters.none), scoped.named);
         nodes = ap (map node_of) above ∙ ap (λ (up : List (zips.Above ItemLabel)). node_of a ∷ up) scoped.nodes ∙ sym nodes;
-        noted = noted;
       };
     }
 
@@ -165,16 +154,16 @@ popped all own rest e =
     let front : take (length (reverse rest)) (reverse rest ++ reverse own) ≡ reverse rest = take-append-le (length (reverse rest)) (reverse rest) (reverse own) within ∙ take_all (length (reverse rest)) (reverse rest) within in
     ap reverse (ap (λ (n : ℕ). take n all) count ∙ ap (take (length (reverse rest))) turned ∙ front) ∙ reverse-reverse rest
 
-pub empty_takes : (old mid new : Builder) (name : Name) (attributes : List (Name × List ℕ)) (declares : List (List ℕ × List ℕ)) (tag : Tag) (at : ℕ) (all : List (List ℕ × List ℕ)) (count : ℕ) → Scoped old → EntersAs (reverse old.scope) old.ended (length old.open.items) tag name attributes declares → Mid old mid
-    → all ≡ old.scope ++ reverse (bindings_of tag.attributes) → new.scope ≡ take (length all - count) all → count ≡ length declares → new.open.items ≡ mid.open.items
-    → new.items.zip ≡ zips.added (node (Element name attributes declares at) (roses_of [])) mid.items.zip → string_bytes new.text ≡ string_bytes mid.text → new.text_at ≡ mid.text_at → new.ended ≡ nat_eq (length mid.open.items) 0 → new.first ≡ false → new.brackets ≡ 0 → Grows old.items.names new.items.names → new.notes.notes ≡ old.notes.notes → Takes (Empty tag) at old new
-empty_takes old mid new name attributes declares tag at all count scoped enters m all_is scope_is count_is opens items text place ends first brackets more notes =
+pub empty_takes : (old mid new : Builder) (head : Head) (tag : Tag) (at : ℕ) (all : List (List ℕ × List ℕ)) (count : ℕ) → Scoped old → Enters (reverse old.scope) old.ended (length old.open.items) tag head → Mid old mid
+    → all ≡ old.scope ++ reverse (bindings_of tag.attributes) → new.scope ≡ take (length all - count) all → count ≡ length head.declares.items → new.open.items ≡ mid.open.items
+    → new.items.zip ≡ zips.added (node (Element head.name head.attributes.items head.declares.items at) (roses_of [])) mid.items.zip → string_bytes new.text ≡ string_bytes mid.text → new.text_at ≡ mid.text_at → new.ended ≡ nat_eq (length mid.open.items) 0 → new.first ≡ false → new.brackets ≡ 0 → Takes (Empty tag) at old new
+empty_takes old mid new head tag at all count scoped enters m all_is scope_is count_is opens items text place ends first brackets =
     let s = state old in
-    let element : node (Element name attributes declares at) (roses_of []) ≡ element_of (entering tag (scope (context s)) at []) [] = ap (λ (a : Above). element_of a []) (entering_is old tag name attributes declares tag.name at [] [] scoped enters refl refl) in
+    let element : node (Element head.name head.attributes.items head.declares.items at) (roses_of []) ≡ element_of (entering tag (scope (context s)) at []) [] = ap (λ (a : Above). element_of a []) (entering_is old tag head tag.name at [] [] scoped enters refl refl) in
     let nodes : new.items.zip.above ≡ old.items.zip.above = ap (λ (z : zips.Zip ItemLabel). z.above) items ∙ m.nodes in
     let above : (state new).above ≡ s.above = aboves_by _ _ _ _ (opens ∙ m.opens) nodes in
     let steps : state new ≡ emptied tag at s = same_state _ _ _ _ _ _ _ _ _ _ _ _ _ _ above
-    (ap (λ (z : zips.Zip ItemLabel). z.kids) items ∙ ap (λ (ks : List (Rose ItemLabel)). ks ++ node (Element name attributes declares at) (roses_of []) ∷ []) m.kids ∙ ap (λ (e : Rose ItemLabel). kids_of_state s ++ e ∷ []) element)
+    (ap (λ (z : zips.Zip ItemLabel). z.kids) items ∙ ap (λ (ks : List (Rose ItemLabel)). ks ++ node (Element head.name head.attributes.items head.declares.items at) (roses_of []) ∷ []) m.kids ∙ ap (λ (e : Rose ItemLabel). kids_of_state s ++ e ∷ []) element)
     (text ∙ m.text) (place ∙ m.place) (ends ∙ ap (λ (names : List (Bor (List ℕ))). nat_eq (length names) 0) m.opens ∙ sym (is_empty-aboves old.open.items old.items.zip.above)) first brackets in
     let back : reverse new.scope ≡ reverse old.scope = ap reverse (scope_is ∙ ap (λ (n : ℕ). take (length all - n) all) (count_is ∙ ap length enters.declares_are)) ∙ popped all (bindings_of tag.attributes) (reverse old.scope) (ap reverse all_is ∙ inside_is old.scope (bindings_of tag.attributes)) in
     record {
@@ -184,7 +173,6 @@ empty_takes old mid new name attributes declares tag at all count scoped enters 
         scope_is = back ∙ scoped.scope_is ∙ ap (λ (t : State). scope (context t)) (sym steps);
         named = subst (λ (t : State). AreNamed (context t).elements) (sym steps) scoped.named;
         nodes = ap (map node_of) above ∙ scoped.nodes ∙ sym nodes;
-        noted = notes_on old new (sym back) more notes scoped.noted;
       };
     }
 
@@ -208,8 +196,8 @@ some_name b inside = elim (eqb_tells (length b.open.items) 0) [
 ]
 
 pub shuts : (old new : Builder) (count : ℕ) → Scoped old → string_bytes old.text ≡ [] → is_empty (state old).above ≡ false → new.open.items ≡ take (length old.open.items - 1) old.open.items → new.scope ≡ take (length old.scope - count) old.scope → count ≡ binding_count (zips.first_label old.items.zip.above)
-    → new.items.zip ≡ zips.closed old.items.zip → string_bytes new.text ≡ string_bytes old.text → new.text_at ≡ old.text_at → new.ended ≡ nat_eq (length new.open.items) 0 → new.first ≡ false → new.brackets ≡ 0 → AllKnown (reverse new.scope) new.items.names new.notes.notes → Shuts old new
-shuts old new count scoped empty inside shorter scope_is count_is items text place ends first brackets noted =
+    → new.items.zip ≡ zips.closed old.items.zip → string_bytes new.text ≡ string_bytes old.text → new.text_at ≡ old.text_at → new.ended ≡ nat_eq (length new.open.items) 0 → new.first ≡ false → new.brackets ≡ 0 → Shuts old new
+shuts old new count scoped empty inside shorter scope_is count_is items text place ends first brackets =
     let last = last_of old.open.items (some_name old inside) in
     let written = last.0 in
     let opens : old.open.items ≡ new.open.items ++ written ∷ [] = last.1 ∙ ap (λ (names : List (Bor (List ℕ))). names ++ written ∷ []) (sym shorter) in
@@ -235,7 +223,6 @@ shuts old new count scoped empty inside shorter scope_is count_is items text pla
         scope_is = back ∙ ap (λ (t : State). scope (context t)) (sym steps);
         named = subst (λ (t : State). AreNamed (context t).elements) (sym steps) (subst (λ (x : List Above). AreNamed (map open_of x)) above scoped.named).1;
         nodes = ap (map node_of) outer_is ∙ sym left;
-        noted = noted;
       };
     }
 
@@ -258,7 +245,6 @@ flushed_scoped old mid scoped flushed =
       scope_is = ap reverse flushed.same_scope ∙ scoped.scope_is ∙ ap (λ (a : List Above). flat_map (λ (e : Open). e.declares) (map open_of a) ++ (xml_prefix, xml_space) ∷ []) (sym above);
       named = subst (λ (a : List Above). AreNamed (map open_of a)) (sym above) scoped.named;
       nodes = ap (map node_of) above ∙ scoped.nodes ∙ sym flushed.same_above;
-      noted = notes_on old mid (ap reverse (sym flushed.same_scope)) (grows-same old.items.names mid.items.names flushed.same_names) flushed.same_notes scoped.noted;
     }
 
 pub flushed_inside : (old mid : Builder) (written : List ℕ) → reason (End written) (context (state old)) ≡ None → Flushed old mid → is_empty (state mid).above ≡ false
@@ -285,7 +271,6 @@ rescoped old new s scoped steps same kept = record {
   scope_is = ap reverse same.scope ∙ scoped.scope_is ∙ ap (λ (es : List Open). flat_map (λ (e : Open). e.declares) es ++ (xml_prefix, xml_space) ∷ []) (sym kept) ∙ ap (λ (t : State). scope (context t)) (sym steps);
   named = subst (λ (t : State). AreNamed (context t).elements) (sym steps) (subst AreNamed (sym kept) scoped.named);
   nodes = ap (map node_of) (above_kept old new same) ∙ scoped.nodes ∙ sym (ap (λ (b : Building). b.zip.above) same.items);
-  noted = notes_on old new (ap reverse (sym same.scope)) (grows-same old.items.names new.items.names (ap (λ (b : Building). b.names) same.items)) same.notes scoped.noted;
 }
 
 pub declaration_takes : (old new : Builder) (at : ℕ) → Scoped old → reason Declaration (context (state old)) ≡ None → state new ≡ passed (state old) → Kept old new → Takes Declaration at old new

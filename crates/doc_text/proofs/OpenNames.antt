@@ -9,8 +9,7 @@ use Rattle.doc_text.specs.Namespaces.{is_long, is_unbound}
 use Rattle.doc_pieces.specs.QNames.{prefix_of, is_qname}
 use Rattle.doc_text.specs.Contexts.{Open, is_innermost, tag_scope, start_reason, start_tests, end_tests}
 use Rattle.xa_base.specs.Entries.{first_true}
-use Rattle.doc_text.specs.Private.Building.{AreNamed}
-use Rattle.doc_text.specs.Private.Entering.{IsNamed}
+use Rattle.doc_text.specs.Private.Building.{IsNamed, AreNamed}
 use Rattle.doc_text.proofs.Telling.{passed}
 use Rattle.doc_text.proofs.Soundness.{or_parts}
 

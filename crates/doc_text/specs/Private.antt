@@ -1,5 +1,4 @@
 pub mod States
 pub mod Entering
-pub mod Noting
 pub mod Building
 pub mod Scopes

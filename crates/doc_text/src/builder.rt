@@ -11,16 +11,14 @@ ghost use Rattle.xa_base.specs.Entries.{first_true};
 ghost use Rattle.doc_text.specs.Private.States.{context, nothing, added, passed};
 ghost use Rattle.doc_text.specs.Private.Entering.{Stopped, have_utf8};
 ghost use Rattle.doc_text.specs.declared.error.DocWhy.TheVariants as why;
-ghost use Rattle.doc_text.specs.Private.Noting.{KnownAs, bare};
 ghost use Rattle.doc_text.specs.Private.Building.{state, Scoped, Takes, Begins, Flushed, Shuts, Kept, GivesUtf8};
 
 use crate::error::{DocError, DocWhy};
 use crate::names::is_long;
-use crate::notes::Notes;
 use crate::scope::BindingsInScope;
-use crate::tags::{enter, first_of_place, is_unbound, value_of};
+use crate::tags::{enter, is_unbound, value_of};
 use doc_pieces::{Element, Found, is_qname, plain_run, prefix_of};
-use item_tree::{ElementName, ItemBuilder, ItemTree};
+use item_tree::{ItemBuilder, ItemTree};
 use std::alloc::Global;
 use xa_base::{Memory, Text, utf8_text};
 
@@ -32,8 +30,6 @@ pub(crate) struct Builder<'a> {
     items: ItemBuilder,
     // The names of these as written, the innermost last.
     open: Vec<&'a [u8]>,
-    // The names of tags that were read where the same bindings are in scope.
-    notes: Notes<'a>,
     // The characters behind these, which are no node yet.
     text: String,
     text_at: u64,
@@ -75,13 +71,11 @@ impl<'a> Builder<'a> {
         ensures { IfOk result Begins }
     {
         let scope = BindingsInScope::new(alloc)?;
-        let notes = Notes::new();
         Ok(Builder {
             alloc,
             scope,
             items: ItemBuilder::new(alloc),
             open: Vec::new(alloc),
-            notes,
             text: String::new(alloc),
             text_at: 0,
             ended: false,
@@ -110,91 +104,22 @@ impl<'a> Builder<'a> {
         ensures ok { OnOk result (Takes (pieces.Start (tag_seen tag.entry)) at self.old self.new) }
         ensures err { IfErr result (Stopped (reason (pieces.Start (tag_seen tag.entry)) (context (state self.old))) at) }
     {
-        if tag.attributes.is_empty() {
-            if let Some(name) = self.notes.find(tag.name) {
-                return self.start_noted(tag.name, name, at);
-            }
-        }
-        self.start_read(tag, at)
-    }
-
-    // A start tag without attributes, of a name that is noted.
-    fn start_noted(&mut self, written: &'a [u8], name: ElementName, at: u64) -> Result<(), DocError>
-        requires scoped { Scoped self.old }
-        requires known { KnownAs (reverse self.old.scope) self.old.items.names written.now name }
-        ensures ok { OnOk result (Takes (pieces.Start (bare written.now)) at self.old self.new) }
-        ensures err { IfErr result (Stopped (reason (pieces.Start (bare written.now)) (context (state self.old))) at) }
-    {
-        let depth = self.open.as_slice().len();
-        if let Some(why) = first_of_place(self.ended, depth) {
-            return Err(DocError::Syntax { at, why });
-        }
-        self.flush()?;
-        self.items.open_known(name, at)?;
-        self.open.push(written)?;
-        self.first = false;
-        self.brackets = 0;
-        Ok(())
-    }
-
-    fn start_read(&mut self, tag: Element<'a>, at: u64) -> Result<(), DocError>
-        requires scoped { Scoped self.old }
-        requires utf8 { have_utf8 (tag_seen tag).attributes ≡ true }
-        ensures ok { OnOk result (Takes (pieces.Start (tag_seen tag.entry)) at self.old self.new) }
-        ensures err { IfErr result (Stopped (reason (pieces.Start (tag_seen tag.entry)) (context (state self.old))) at) }
-    {
         let depth = self.open.as_slice().len();
         let head = match enter(self.alloc, &mut self.scope, self.ended, depth, &tag, at) {
             Ok(head) => head,
             Err(error) => return Err(error),
         };
         self.flush()?;
-        let binds = !head.declares.is_empty();
-        let name = self
+        let _ = self
             .items
             .open_element(head.name, head.attributes, head.declares, at)?;
         self.open.push(tag.name)?;
-        self.notes.note_entered(binds, tag.name, name);
         self.first = false;
         self.brackets = 0;
         Ok(())
     }
 
     fn empty(&mut self, tag: Element<'a>, at: u64) -> Result<(), DocError>
-        requires scoped { Scoped self.old }
-        requires utf8 { have_utf8 (tag_seen tag).attributes ≡ true }
-        ensures ok { OnOk result (Takes (pieces.Empty (tag_seen tag.entry)) at self.old self.new) }
-        ensures err { IfErr result (Stopped (reason (pieces.Empty (tag_seen tag.entry)) (context (state self.old))) at) }
-    {
-        if tag.attributes.is_empty() {
-            if let Some(name) = self.notes.find(tag.name) {
-                return self.empty_noted(tag.name, name, at);
-            }
-        }
-        self.empty_read(tag, at)
-    }
-
-    // An empty tag without attributes, of a name that is noted.
-    fn empty_noted(&mut self, written: &'a [u8], name: ElementName, at: u64) -> Result<(), DocError>
-        requires scoped { Scoped self.old }
-        requires known { KnownAs (reverse self.old.scope) self.old.items.names written.now name }
-        ensures ok { OnOk result (Takes (pieces.Empty (bare written.now)) at self.old self.new) }
-        ensures err { IfErr result (Stopped (reason (pieces.Empty (bare written.now)) (context (state self.old))) at) }
-    {
-        let depth = self.open.as_slice().len();
-        if let Some(why) = first_of_place(self.ended, depth) {
-            return Err(DocError::Syntax { at, why });
-        }
-        self.flush()?;
-        self.items.known_element(name, at)?;
-        self.ended = self.open.is_empty();
-        self.first = false;
-        self.brackets = 0;
-        Ok(())
-    }
-
-    // What is noted stays, since the bindings of the element are in scope within its tag alone.
-    fn empty_read(&mut self, tag: Element<'a>, at: u64) -> Result<(), DocError>
         requires scoped { Scoped self.old }
         requires utf8 { have_utf8 (tag_seen tag).attributes ≡ true }
         ensures ok { OnOk result (Takes (pieces.Empty (tag_seen tag.entry)) at self.old self.new) }
@@ -253,7 +178,6 @@ impl<'a> Builder<'a> {
     {
         let count = self.items.innermost_bindings();
         self.scope.leave(count);
-        self.notes.note_left(count);
         let outer = self.open.as_slice().len() - 1;
         self.open.truncate(outer);
         self.items.close();

@@ -8,7 +8,6 @@ mod error;
 mod items;
 mod laws;
 mod names;
-mod notes;
 mod reader;
 mod scope;
 mod short_lists;

@@ -271,7 +271,7 @@ fn first_of_names(tag: &Element<'_>) -> Option<DocWhy>
 }
 
 // What speaks against the place of a tag.
-pub(crate) fn first_of_place(ended: bool, depth: usize) -> Option<DocWhy>
+fn first_of_place(ended: bool, depth: usize) -> Option<DocWhy>
     ensures { result ≡ first_true ((ended, why.ExtraRoot) ∷ (nat_le 64 depth, why.TooDeep) ∷ []) }
 {
     if ended {

@@ -14,8 +14,7 @@ use Rattle.item_tree.specs.Labels.{item_place}
 use Rattle.doc_text.specs.Namespaces.{is_long, is_unbound}
 use Rattle.doc_pieces.specs.QNames.{prefix_of, is_qname}
 use Rattle.doc_text.specs.Contexts.{Open, scope, reason}
-use Rattle.doc_text.specs.Private.Entering.{have_utf8, IsNamed}
-use Rattle.doc_text.specs.Private.Noting.{AllKnown}
+use Rattle.doc_text.specs.Private.Entering.{have_utf8}
 use Rattle.doc_text.specs.Private.States.{Above, State, nothing, context, kids_of_state, closed, step}
 
 -- ---- an element that is open, by its written name and the open nodes from its own on
@@ -75,18 +74,22 @@ state b = record {
 abbrev pub node_of : Above → zips.Above ItemLabel
 node_of a = record { label = Element a.name a.attributes a.declares a.at; before = a.before }
 
+-- nothing speaks against a name where these bindings are in scope
+pub record IsNamed (written : List ℕ) (inside : List (List ℕ × List ℕ)) : Type 0 where
+  pub qname : is_qname written ≡ true
+  pub short : is_long written ≡ false
+  pub bound : is_unbound inside (prefix_of written) ≡ false
+
 -- nor against that of each element that is open
 abbrev pub AreNamed : List Open → Type 0
 AreNamed [] = Unit {0}
 AreNamed (e ∷ es) = IsNamed e.written (flat_map (λ o. o.declares) (e ∷ es) ++ (xml_prefix, xml_space) ∷ []) × AreNamed es
 
--- the bindings at hand are those in scope, the elements that are open have been tested, the open nodes are these, and the
--- notes are right
+-- the bindings at hand are those in scope, the elements that are open have been tested, and the open nodes are these
 pub record Scoped (b : Builder) : Type 0 where
   pub scope_is : reverse b.scope ≡ scope (context (state b))
   pub named : AreNamed (context (state b)).elements
   pub nodes : map node_of (state b).above ≡ b.items.zip.above
-  pub noted : AllKnown (reverse b.scope) b.items.names b.notes.notes
 
 -- nothing speaks against the piece, and the reader has taken its step
 pub record Takes (p : Piece) (at : ℕ) (old new : Builder) : Type 0 where
@@ -104,7 +107,6 @@ pub record Flushed (old new : Builder) : Type 0 where
   pub kids : new.items.zip.kids ≡ kids_of_state (state old)
   pub same_above : new.items.zip.above ≡ old.items.zip.above
   pub same_names : new.items.names ≡ old.items.names
-  pub same_notes : new.notes.notes ≡ old.notes.notes
   pub text : string_bytes new.text ≡ []
   pub same_place : new.text_at ≡ old.text_at
   pub same_open : new.open.items ≡ old.open.items
@@ -116,12 +118,11 @@ pub record Shuts (old new : Builder) : Type 0 where
   pub steps : state new ≡ closed (state old).above (state old)
   pub scoped : Scoped new
 
--- neither the bindings nor the nodes nor the notes have changed
+-- neither the bindings nor the nodes have changed
 pub record Kept (old new : Builder) : Type 0 where
   pub scope : new.scope ≡ old.scope
   pub items : new.items ≡ old.items
   pub names : new.open.items ≡ old.open.items
-  pub notes : new.notes.notes ≡ old.notes.notes
 
 -- what a piece gives to texts and values is UTF-8
 abbrev pub GivesUtf8 : Piece → Type 0

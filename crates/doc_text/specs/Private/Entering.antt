@@ -3,12 +3,11 @@ use Rattle.std.specs.Prelude.{◌≡◌, ℕ, Bool, true, false, ◌&&◌, List,
 use Rattle.std.specs.List.{list_all}
 use Rattle.std.specs.Str.{is_utf8}
 use Rattle.doc_pieces.specs.Pieces.{Tag}
-use Rattle.xa_base.specs.declared.texts.Name.{Name}
 use Rattle.doc_text.specs.declared.tags.Head.{Head}
 use Rattle.doc_text.specs.declared.error.DocWhy.{DocWhy}
 use Rattle.doc_text.specs.declared.error.DocError.{DocError}
 use Rattle.doc_text.specs.declared.error.DocError.TheVariants as errors
-use Rattle.doc_text.specs.Namespaces.{is_long, is_unbound, bindings_of, attributes_of, element_name}
+use Rattle.doc_text.specs.Namespaces.{is_long, bindings_of, attributes_of, element_name}
 use Rattle.doc_pieces.specs.QNames.{prefix_of, local_of, is_qname}
 use Rattle.doc_text.specs.Contexts.{tag_scope, start_reason}
 
@@ -19,21 +18,12 @@ pub record IsPlain (written : List ℕ) : Type 0 where
   pub alone : prefix_of written ≡ []
   pub whole : local_of written ≡ written
 
--- nothing speaks against a name where these bindings are in scope
-pub record IsNamed (written : List ℕ) (inside : List (List ℕ × List ℕ)) : Type 0 where
-  pub qname : is_qname written ≡ true
-  pub short : is_long written ≡ false
-  pub bound : is_unbound inside (prefix_of written) ≡ false
-
 -- nothing speaks against the tag, and this is what it opens
-pub record EntersAs (outer : List (List ℕ × List ℕ)) (ended : Bool) (depth : ℕ) (tag : Tag) (name : Name) (attributes : List (Name × List ℕ)) (declares : List (List ℕ × List ℕ)) : Type 0 where
+pub record Enters (outer : List (List ℕ × List ℕ)) (ended : Bool) (depth : ℕ) (tag : Tag) (head : Head) : Type 0 where
   pub none : start_reason tag outer ended depth ≡ None
-  pub name_is : name ≡ element_name (tag_scope tag outer) tag.name
-  pub attributes_are : attributes ≡ attributes_of (tag_scope tag outer) tag.attributes
-  pub declares_are : declares ≡ bindings_of tag.attributes
-
-abbrev pub Enters : List (List ℕ × List ℕ) → Bool → ℕ → Tag → Head → Type 0
-Enters outer ended depth tag head = EntersAs outer ended depth tag head.name head.attributes.items head.declares.items
+  pub name_is : head.name ≡ element_name (tag_scope tag outer) tag.name
+  pub attributes_are : head.attributes.items ≡ attributes_of (tag_scope tag outer) tag.attributes
+  pub declares_are : head.declares.items ≡ bindings_of tag.attributes
 
 -- the error is that reason at this place, or want of memory
 abbrev pub Stopped : Option DocWhy → ℕ → DocError → Type 0

@@ -1,5 +1,0 @@
-use Rattle.doc_text.proofs.Noted.{none_noted}
-use Rattle.doc_text.proofs.notes.Notes.clear.Goals as goal
-
-pub returns : goal.returns
-returns c = λ inside names. none_noted inside names 32
