@@ -26,6 +26,7 @@ use Rattle.validity_check.proofs.Counting.{one_more, up_to, fewer, element_count
 use Rattle.validity_check.proofs.Leaves.{names_declared}
 use Rattle.validity_check.proofs.Shape.{kid_sound, kids_sound}
 use Rattle.validity_check.proofs.Levels.{model_levels}
+use Rattle.validity_check.proofs.Tagging.{tag_refused}
 use Rattle.validity_check.proofs.Walking.{leaf_declared}
 use Rattle.value_builder.specs.Built.{Puts, flagged, with_parts}
 use Rattle.content_values.specs.Reached.{Put}
@@ -403,9 +404,14 @@ walk_element-walk_filled-requires g t c κs within =
       ),
     )
 
+pub walk_element-returns-in-Err-clause-judged : goal.walk_element-returns-in-Err-clause-judged
+walk_element-returns-in-Err-clause-judged g t c = λ z stands.
+    tag_refused c.args.set.now c.args.decl (told (parts_of c.args.set.now) c.declared_of-declared.result) c.in-Element.attributes.now c.in-Element.name.now c.in-Element.attributes.now c.in-Element.declares.now
+    c.in-Element.at c.args.item.now (sym c.label.ensures ∙ ap item_seen c.in-Element.is) c.declared_of-declared.ensures.asked refl c.in-Err.error c.in-Err.ensures
+
 pub walk_element-returns-then-nil-clause-judged : goal.walk_element-returns-then-nil-clause-judged
 walk_element-returns-then-nil-clause-judged g t c = λ z stands.
-    nil-read c.args.set.now c.requires.linked c.args.decl c.in-Element.name c.in-Element.attributes c.in-Element.declares c.in-Element.at c.args.item.now (sym c.label.ensures ∙ c.in-Element.is) c.requires.sound
+    nil-read c.args.set.now c.requires.linked c.args.decl c.in-Element.name.now c.in-Element.attributes.now c.in-Element.declares.now c.in-Element.at c.args.item.now (sym c.label.ensures ∙ ap item_seen c.in-Element.is) c.requires.sound
     (told (parts_of c.args.set.now) c.declared_of-declared.result) c.in-Element.attributes.now c.declared_of-declared.ensures.asked refl c.kids-kids.result c.kids-kids.ensures
     c.args.values.now c.walk_nil.new.values (rw c.if-nil.true at c.in-Ok.ensures) c.walk_nil.result c.walk_nil.ensures z stands
 
@@ -421,7 +427,7 @@ walk_element-returns-then-nil-clause-least g t c =
 
 pub walk_element-returns-else-nil-clause-judged : goal.walk_element-returns-else-nil-clause-judged
 walk_element-returns-else-nil-clause-judged g t c = λ z stands.
-    filled-read c.args.set.now c.requires.linked c.args.decl c.in-Element.name c.in-Element.attributes c.in-Element.declares c.in-Element.at c.args.item.now (sym c.label.ensures ∙ c.in-Element.is) c.requires.sound
+    filled-read c.args.set.now c.requires.linked c.args.decl c.in-Element.name.now c.in-Element.attributes.now c.in-Element.declares.now c.in-Element.at c.args.item.now (sym c.label.ensures ∙ ap item_seen c.in-Element.is) c.requires.sound
     (told (parts_of c.args.set.now) c.declared_of-declared.result) c.in-Element.attributes.now c.declared_of-declared.ensures.asked refl c.kids-kids.result c.kids-kids.ensures
     c.walk_filled.new.values z (rw c.if-nil.false at c.in-Ok.ensures) c.walk_filled.result (c.walk_filled.ensures.judged z stands)
 
