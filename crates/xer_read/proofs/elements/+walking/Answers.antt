@@ -388,13 +388,16 @@ walk_element-walk_filled-requires g t c κs within =
             (
               c.requires.decl,
               (
-                c.declared_of-declared.ensures.fits.1,
+                c.declared_of-declared.ensures.fits.2,
                 (
                   c.declared_of-declared.ensures.fits.0,
                   (
-                    all-taken c.args.set.now c.requires.linked c.args.decl (told (parts_of c.args.set.now) c.declared_of-declared.result) c.declared_of-declared.ensures.asked
-                        c.declared_of-declared.result.uses.now refl c.in-Element.attributes.now c.in-Ok.ensures.right,
-                    (subst (λ ks. are_sound (roses_of ks) ≡ true) (sym c.kids-kids.ensures) (kids_sound c.args.item.now c.requires.sound), (omega (arith, k, same, few), c.requires.stands)),
+                    c.declared_of-declared.ensures.fits.1,
+                    (
+                      all-taken c.args.set.now c.requires.linked c.args.decl (told (parts_of c.args.set.now) c.declared_of-declared.result) c.declared_of-declared.ensures.asked
+                          c.declared_of-declared.result.uses.now refl c.in-Element.attributes.now c.in-Ok.ensures.right,
+                      (subst (λ ks. are_sound (roses_of ks) ≡ true) (sym c.kids-kids.ensures) (kids_sound c.args.item.now c.requires.sound), (omega (arith, k, same, few), c.requires.stands)),
+                    ),
                   ),
                 ),
               ),
