@@ -1,4 +1,4 @@
-use Rattle.std.proofs.Common.{◌-◌, refl, sym, ap, ◌∙◌, Some, arith, set}
+use Rattle.std.proofs.Common.{◌-◌, refl, ap, ◌∙◌, Some, arith, set}
 use Rattle.flat_tree.specs.Zips.{relabeled}
 use Rattle.flat_tree.proofs.Below.{gets_label}
 use Rattle.flat_tree.proofs.Zipped.{stands, place, relabels, stands_for, is_zip}
