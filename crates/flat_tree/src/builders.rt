@@ -1,5 +1,6 @@
 //! Trees while they are built.
 ghost use Rattle.std.specs.Prelude.{◌≡◌, ◌<◌, ◌∷◌, [], length, Some, IsTrue, ◌↔◌, OnOk, OnErr};
+ghost use Rattle.std.specs.Borrow.{sem};
 ghost use Rattle.std.specs.Option.{option_copied};
 ghost use Rattle.label_tree.specs.Rose.{node, none};
 ghost use Rattle.flat_tree.specs.Zips.{opened, added, added_all, canceled, closed, first_label, relabeled, nothing, zip_count};
@@ -36,6 +37,8 @@ impl<L> Model for Builder<L> {
 }
 
 impl<L> Builder<L> {
+    ghost use Rattle.flat_tree.specs.Lends.{lends_innermost};
+
     /// No trees, and no open node. It takes no memory.
     pub fn new(alloc: Global) -> Builder<L>
         ensures { result ≡ nothing }
@@ -77,6 +80,17 @@ impl<L> Builder<L> {
         } else {
             Some(&self.entries[self.inner as usize - 1].label)
         }
+    }
+
+    /// The label of the innermost open node, to be changed in place.
+    #[inline(always)]
+    pub fn innermost_mut(&mut self) -> &mut L
+        requires { 0 < length self.old.above }
+        ensures* writes_back { sem 𝓛 (lends_innermost L.row self.entry result) }
+        ensures value { Some result.now ≡ first_label self.old.above }
+    {
+        let at = self.inner as usize - 1;
+        self.entries[at].label_mut()
     }
 
     /// Gives the innermost open node another label, and hands back the label that it had.

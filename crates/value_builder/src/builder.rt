@@ -1,5 +1,5 @@
 //! What is put down of a value.
-ghost use Rattle.std.specs.Prelude.{◌≡◌, length, ◌<◌, ◌+◌, ◌-◌, ◌^◌, ◌≤◌, min, IfOk, ◌↔◌, Err, IsTrue, OnOk, MatchResult};
+ghost use Rattle.std.specs.Prelude.{◌≡◌, length, ◌<◌, ◌+◌, ◌-◌, ◌^◌, ◌≤◌, min, ◌↔◌, Err, IsTrue, OnOk, MatchResult};
 ghost use Rattle.label_tree.specs.Rose.{Rose, node, none};
 ghost use Rattle.flat_tree.specs.Zips.{opened, added, closed};
 ghost use Rattle.simple_types.specs.declared.labels.ValueLabel.{ValueLabel};
@@ -113,10 +113,7 @@ impl ValueBuilder {
         if !self.is_kept() || self.kept.is_outside() {
             return Ok(());
         }
-        let label = self.kept.relabel(ValueLabel::SequenceOf);
-        let label = with_flag(self.alloc, label, present)?;
-        let _ = self.kept.relabel(label);
-        Ok(())
+        add_flag(self.alloc, self.kept.innermost_mut(), present)
     }
 
     /// Puts down the value that the type gives to the text. Where the type is a list or a union, and the text so long that its
@@ -161,17 +158,13 @@ impl ValueBuilder {
     }
 }
 
-// The label of a SEQUENCE with one component more.
-fn with_flag(alloc: Global, label: ValueLabel, present: bool) -> Result<ValueLabel, Memory>
-    ensures { IfOk result (λ made. made ≡ flagged_label present label) }
+// A SEQUENCE has one component more.
+fn add_flag(alloc: Global, label: &mut ValueLabel, present: bool) -> Result<(), Memory>
+    ensures { OnOk result (label.new ≡ flagged_label present label.old) }
 {
     match label {
-        ValueLabel::Sequence { present: flags } => {
-            let mut flags = flags;
-            flags.push(alloc, present)?;
-            Ok(ValueLabel::Sequence { present: flags })
-        }
-        other => Ok(other),
+        ValueLabel::Sequence { present: flags } => flags.push(alloc, present),
+        _ => Ok(()),
     }
 }
 
