@@ -6,6 +6,7 @@
 mod contents;
 mod gathering;
 mod items;
+mod receiver;
 mod spelling;
 
 pub use items::items_of;
