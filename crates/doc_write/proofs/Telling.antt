@@ -1,8 +1,7 @@
 -- What is told one after another is told at once.
-use Rattle.std.proofs.Common.{◌≡◌, ℕ, Bool, true, false, cond, List, [], ◌∷◌, ◌++◌, length, drop, Option, Some, None, is_some, refl, sym, ap, subst, ◌∙◌, append_assoc, length-append, ◌<◌, inl, inr, true≢false, arith}
+use Rattle.std.proofs.Common.{◌≡◌, ℕ, Bool, true, false, cond, List, [], ◌∷◌, ◌++◌, length, drop, Some, None, is_some, refl, sym, ap, ◌∙◌, append_assoc, length-append, ◌<◌, inl, inr, true≢false, arith}
 use Rattle.std.specs.Prelude.{◌⊎◌, ◌||◌, bytes_eq, codes}
 use Rattle.std.specs.List.{flat_map}
-use Rattle.std.specs.Option.{option_or}
 use Rattle.std.specs.Map.{lookup}
 use Rattle.std.proofs.lemmas.List.{append-nil}
 use Rattle.std.proofs.lemmas.Slice.Eq.{bytes_eq-Decides}
@@ -11,9 +10,9 @@ use Rattle.xa_base.specs.Limits.{is_empty}
 use Rattle.xa_base.specs.Namespaces.{xml_space}
 use Rattle.label_tree.specs.Rose.{Rose, node, Roses, none, more, roses_of}
 use Rattle.item_tree.specs.declared.label.ItemLabel.{ItemLabel}
-use Rattle.item_tree.specs.declared.label.ItemLabel.TheVariants.{Element, Text}
+use Rattle.item_tree.specs.declared.label.ItemLabel.TheVariants.{Element}
 use Rattle.doc_written.specs.Spaces.{prefixes, prefix_for, or_none, attribute_spaces, spaces, all_spaces}
-use Rattle.doc_written.specs.Written.{text_escape, written_name, written_value, written_attribute, written_declaration, written_start, written_end, written_element, xml_declaration, spelled, all_spelled, written}
+use Rattle.doc_written.specs.Written.{written_name, written_value, written_attribute, written_declaration, written_end, xml_declaration, spelled, all_spelled, written}
 use Rattle.doc_write.specs.declared.builder.TextBuilder.{TextBuilder}
 use Rattle.doc_write.specs.declared.builder.OpenTag.{OpenTag}
 use Rattle.doc_write.specs.declared.prefixes.Qualifier.{Qualifier}
@@ -315,7 +314,7 @@ root-told : (begun b : TextBuilder) (root : Rose ItemLabel) → IsBegun begun �
 root-told begun b root is told = (
   told.prefixes ∙ ap (λ t. with_spaces t (spaces root ++ [])) is.prefixes ∙ ap (with_spaces []) (append-nil (spaces root)) ∙ with_spaces-prefixes root,
   told.text b.prefixes (extends-same b.prefixes) ∙ ap (λ t. t ++ (end_of_tag begun.in_tag ++ (spelled b.prefixes [] root ++ []))) is.text
-  ∙ ap (λ t. xml_declaration ++ (end_of_tag t ++ (spelled b.prefixes [] root ++ []))) is.in_tag ∙ ap (λ t. xml_declaration ++ t) (append-nil (spelled b.prefixes [] root)),
+      ∙ ap (λ t. xml_declaration ++ (end_of_tag t ++ (spelled b.prefixes [] root ++ []))) is.in_tag ∙ ap (λ t. xml_declaration ++ t) (append-nil (spelled b.prefixes [] root)),
 )
 
 pub front-and-rest : (begun b : TextBuilder) (name : Name) (attributes : List (Name × List ℕ)) (items : Roses ItemLabel) (front : List ℕ) → front ≡ xml_declaration ++ 60 ∷ written_name b.prefixes name → IsBegun begun

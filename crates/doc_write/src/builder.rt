@@ -141,11 +141,7 @@ impl<'a> TextBuilder<'a> {
 
 // A local name behind what stands before it.
 #[inline(always)]
-fn write_qualified(
-    out: &mut Vec<u8>,
-    qualifier: Qualifier,
-    local: &[u8],
-) -> Result<(), AllocError>
+fn write_qualified(out: &mut Vec<u8>, qualifier: Qualifier, local: &[u8]) -> Result<(), AllocError>
     ensures { OnOk result (out.new.items ≡ out.old.items ++ (qualifier_text qualifier ++ local.now)) }
 {
     qualifier.write(out)?;

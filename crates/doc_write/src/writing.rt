@@ -52,7 +52,11 @@ fn split_plain(place: CharacterPlace, bytes: &[u8]) -> (&[u8], &[u8])
     (bytes, &[])
 }
 
-pub(crate) fn write_escaped(out: &mut Vec<u8>, place: CharacterPlace, bytes: &[u8]) -> Result<(), AllocError>
+pub(crate) fn write_escaped(
+    out: &mut Vec<u8>,
+    place: CharacterPlace,
+    bytes: &[u8],
+) -> Result<(), AllocError>
     ensures { OnOk result (out.new.items ≡ out.old.items ++ flat_map (escape_in place) bytes.now) }
 {
     let mut rest = bytes;
@@ -124,7 +128,10 @@ fn write_declaration(out: &mut Vec<u8>, space: &[u8], prefix: Prefix) -> Result<
     write_value(out, space)
 }
 
-pub(crate) fn write_declarations(out: &mut Vec<u8>, declared: &[(&[u8], Prefix)]) -> Result<(), AllocError>
+pub(crate) fn write_declarations(
+    out: &mut Vec<u8>,
+    declared: &[(&[u8], Prefix)],
+) -> Result<(), AllocError>
     ensures { OnOk result (out.new.items ≡ out.old.items ++ flat_map written_declaration (map entry_of declared.now)) }
 {
     'entries: for (space, prefix) in declared {

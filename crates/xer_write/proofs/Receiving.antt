@@ -1,5 +1,5 @@
 -- What is told to a receiver one after another is told at once.
-use Rattle.std.proofs.Common.{◌≡◌, ◌<◌, ◌++◌, ◌∷◌, [], List, ℕ, length, refl, sym, ap, subst, ◌∙◌, append_assoc, arith}
+use Rattle.std.proofs.Common.{◌≡◌, ◌<◌, ◌++◌, ◌∷◌, [], List, ℕ, length, sym, ap, subst, ◌∙◌, append_assoc, arith}
 use Rattle.std.proofs.lemmas.List.{append-nil}
 use Rattle.xa_base.specs.declared.texts.Name.{Name}
 use Rattle.label_tree.specs.Rose.{Rose, node, roses_of}
@@ -42,7 +42,7 @@ pub tells-element : (a b c d : Receiver) (name : Name) (t : Open) (xs : List (Na
 tells-element (Items a) (Items b) (Items c) (Items d) name (tag.Items o) xs items opens tells closes = (
   closes.0 ∙ opens.outer_attributes ∙ sym (append-nil a.attributes.items),
   closes.1 ∙ ap (λ z. closed (listed c.attributes.items [] z)) (tells.1 ∙ ap (added_all items) opens.builder)
-  ∙ ap (λ s. added_all (node (Element name s [] 0) (roses_of items) ∷ []) a.builder.zip) (tells.0 ∙ ap (λ s. s ++ xs) opens.attributes),
+      ∙ ap (λ s. added_all (node (Element name s [] 0) (roses_of items) ∷ []) a.builder.zip) (tells.0 ∙ ap (λ s. s ++ xs) opens.attributes),
 )
 tells-element (Items a) (Items b) (Items c) (Text d) name (tag.Items o) xs items opens tells closes = absurd closes
 tells-element (Items a) (Items b) (Text c) d name (tag.Items o) xs items opens tells closes = absurd tells

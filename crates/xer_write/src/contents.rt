@@ -21,13 +21,13 @@ fn put_with_text<'a>(
     alloc: Global,
     receiver: &mut Receiver<'a>,
     name: NameRef<'a>,
-    text: Text,
+    text: &Text,
 ) -> Result<(), Memory>
-    ensures { OnOk result (TakesElement receiver.old receiver.new (name_seen name.entry) [] (text_item text)) }
+    ensures { OnOk result (TakesElement receiver.old receiver.new (name_seen name.entry) [] (text_item text.now)) }
 {
     let tag = receiver.open(alloc, name)?;
     if !text.bytes().is_empty() {
-        receiver.put_text(text)?;
+        receiver.put_text(alloc, text)?;
     }
     receiver.close(alloc, tag)
 }
@@ -108,7 +108,7 @@ impl<'a> Contents<'a> {
             return Ok(());
         }
         self.make_room(alloc)?;
-        self.receiver.put_text(text)
+        self.receiver.put_text(alloc, &text)
     }
 
     // Adds the next of these texts, if there is one, and hands back those that are left.
@@ -155,7 +155,7 @@ impl<'a> Contents<'a> {
         // A text is UTF-8, as is known once it was read.
         let _ = text.as_str();
         self.make_room(alloc)?;
-        put_with_text(alloc, &mut self.receiver, name, text)
+        put_with_text(alloc, &mut self.receiver, name, &text)
     }
 
     /// Begins an element of this name. Hands back what the element that it stands in has so far.

@@ -180,11 +180,12 @@ impl<'a> Receiver<'a> {
     }
 
     /// Adds a text.
-    pub(crate) fn put_text(&mut self, text: Text) -> Result<(), Memory>
-        ensures { OnOk result (Tells self.old self.new [] (node (item.Text text 0) none ∷ [])) }
+    pub(crate) fn put_text(&mut self, alloc: Global, text: &Text) -> Result<(), Memory>
+        ensures { OnOk result (Tells self.old self.new [] (node (item.Text text.now 0) none ∷ [])) }
     {
         match self {
             Receiver::Items(built) => {
+                let text = text.copy(alloc)?;
                 built.builder.text(text, 0)?;
                 Ok(())
             }
@@ -202,10 +203,9 @@ impl<'a> Receiver<'a> {
         match self {
             Receiver::Items(built) => {
                 let name = name.to_name(alloc)?;
-                let _ =
-                    built
-                        .builder
-                        .open_element(name, Vec::new(alloc), Vec::new(alloc), 0)?;
+                let _ = built
+                    .builder
+                    .open_element(name, Vec::new(alloc), Vec::new(alloc), 0)?;
                 let outer = mem::replace(&mut built.attributes, Vec::new(alloc));
                 Ok(Open::Items(outer))
             }

@@ -1,4 +1,4 @@
-use Rattle.std.proofs.Common.{◌≡◌, ◌==◌, [], false, true, length, sym, ap, subst, ◌∙◌}
+use Rattle.std.proofs.Common.{◌≡◌, ◌==◌, [], length, sym, ap, subst, ◌∙◌}
 use Rattle.xer_write.specs.Private.Receiving.{name_seen, Tells}
 use Rattle.xer_write.specs.Private.Gaining.{text_item}
 use Rattle.xer_write.proofs.Receiving.{tells-none, tells-element}
@@ -10,7 +10,7 @@ pub returns : goal.returns
 returns c =
     let begun = c.open.new.self in
     let mid = c.if-not-is_empty.receiver in
-    let words = c.args.text in
+    let words = c.args.text.now in
     let counted : c.is_empty.result ≡ (length words == 0) = c.is_empty.ensures ∙ ap (λ s. length s == 0) c.bytes.ensures.bytes in
     let inner : Tells begun mid [] (text_item words) = elim c.if-not-is_empty.branch [
       | then-not-is_empty+in_ok-put_text w ↦

@@ -1,4 +1,4 @@
-use Rattle.std.proofs.Common.{◌≡◌, refl}
+use Rattle.std.proofs.Common.{refl}
 use Rattle.doc_write.specs.declared.builder.TextBuilder.{TextBuilder}
 use Rattle.doc_write.proofs.Written.{OnOk-map}
 use Rattle.doc_write.proofs.Telling.{told-attribute}
