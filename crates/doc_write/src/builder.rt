@@ -1,5 +1,5 @@
 //! The text of items that are told one after another.
-ghost use Rattle.std.specs.Prelude.{◌≡◌, ◌++◌, ◌∷◌, [], IfOk, OnOk};
+ghost use Rattle.std.specs.Prelude.{◌≡◌, ◌++◌, ◌∷◌, ◌||◌, [], not, IfOk, OnOk};
 ghost use Rattle.label_tree.specs.Rose.{node, none};
 ghost use Rattle.item_tree.specs.declared.label.ItemLabel.TheVariants as item;
 ghost use Rattle.doc_write.specs.Private.Binding.{qualifier_text};
@@ -67,7 +67,8 @@ impl<'a> TextBuilder<'a> {
         local: &[u8],
         value: &[u8],
     ) -> Result<(), AllocError>
-        ensures { OnOk result (Tells self.old self.new ((record { space = space.now; local = local.now }, value.now) ∷ []) []) }
+        ensures told { OnOk result (Tells self.old self.new ((record { space = space.now; local = local.now }, value.now) ∷ []) []) }
+        ensures late { OnOk result (self.new.late ≡ (self.old.late || not self.old.in_tag)) }
     {
         if !self.in_tag {
             self.late = true;
@@ -81,7 +82,8 @@ impl<'a> TextBuilder<'a> {
 
     /// Adds a text.
     pub fn text(&mut self, text: &[u8]) -> Result<(), AllocError>
-        ensures { OnOk result (Tells self.old self.new [] (node (item.Text text.now 0) none ∷ [])) }
+        ensures told { OnOk result (Tells self.old self.new [] (node (item.Text text.now 0) none ∷ [])) }
+        ensures late { OnOk result (self.new.late ≡ self.old.late) }
     {
         self.end_tag()?;
         write_escaped(&mut self.text, CharacterPlace::Content, text)
@@ -89,7 +91,8 @@ impl<'a> TextBuilder<'a> {
 
     /// Begins an element.
     pub fn open(&mut self, space: &'a [u8], local: &'a [u8]) -> Result<OpenTag<'a>, AllocError>
-        ensures { IfOk result (λ tag. Begins self.old self.new (record { space = space.now; local = local.now }) tag) }
+        ensures told { IfOk result (λ tag. Begins self.old self.new (record { space = space.now; local = local.now }) tag) }
+        ensures late { OnOk result (self.new.late ≡ self.old.late) }
     {
         self.end_tag()?;
         let qualifier = self.prefixes.declared(space)?;

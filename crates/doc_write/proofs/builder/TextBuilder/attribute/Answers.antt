@@ -4,8 +4,8 @@ use Rattle.doc_write.proofs.Written.{OnOk-map}
 use Rattle.doc_write.proofs.Telling.{told-attribute}
 use Rattle.doc_write.proofs.builder.TextBuilder.attribute.Goals as goal
 
-pub returns : goal.returns
-returns c =
+pub returns-clause-told : goal.returns-clause-told
+returns-clause-told c =
     let old = c.args.self.now in
     let new : TextBuilder = record { prefixes = c.declared.new.self; text = c.write_value.new.out; in_tag = old.in_tag; late = old.late } in
     OnOk-map c.write_value.result _ _

@@ -4,8 +4,8 @@ use Rattle.doc_write.specs.declared.builder.OpenTag.{OpenTag}
 use Rattle.doc_write.proofs.Telling.{begins-element}
 use Rattle.doc_write.proofs.builder.TextBuilder.open.Goals as goal
 
-pub returns : goal.returns
-returns c =
+pub returns-clause-told : goal.returns-clause-told
+returns-clause-told c =
     let ended = c.end_tag.new.self in
     let new : TextBuilder = record { prefixes = c.declared.new.self; text = c.extend_from_slice.new.self; in_tag = true; late = ended.late } in
     let tag : OpenTag = record { qualifier = c.in_ok-qualifier.qualifier; local = c.args.local } in
