@@ -1,20 +1,18 @@
 -- The words name at most 64 files that are loaded, or from 1 to 100,000 lines.
-use Rattle.std.proofs.Common.{◌≡◌, ◌≤◌, ℕ, Bool, true, false, cond, List, [], ◌∷◌, length, refl, subst, arith, Option, Some, None, Result, Ok, Err}
+use Rattle.std.proofs.Common.{◌≡◌, ◌≤◌, ℕ, Bool, true, false, cond, List, [], ◌∷◌, length, refl, sym, subst, arith, Option, Some, None, Result, Ok, Err}
 use Rattle.std.specs.Prelude.{bytes_eq, codes, nat_le, IfOk, ◌&&◌, not, ◌==◌, ◌+◌, ◌*◌, ◌-◌}
 use Rattle.std.specs.List.{list_all}
 use Rattle.std.proofs.lemmas.Bool.Decides.{nat_tests}
 use Rattle.xa_base.specs.Digits.{is_digit, number_of}
 use Rattle.std.proofs.lemmas.Bool.{and_parts, leb-true}
-use Rattle.std.specs.Option.{option_map}
+use Rattle.std.specs.Option.{option_map, ok_or}
 use Rattle.xa_base.specs.declared.texts.Name.{Name}
 use Rattle.command_line.specs.declared.outcome.Outcome.{Outcome}
 use Rattle.command_line.specs.declared.words.Request.{Request}
 use Rattle.command_line.specs.Seen.{seen}
 use Rattle.command_line.specs.declared.tasks.Task.{Task}
 use Rattle.command_line.specs.Words.{Asked, Show, Serve, Trial, IsWithin, are_files, root_of, rooted_parts, task_of, served, is_count, counted, asked}
-use Rattle.command_line.specs.Order.{Found}
 use Rattle.command_line.specs.declared.outcome.Outcome.TheVariants.{Usage}
-use Rattle.command_line.specs.Answers.{Answers, Never}
 use Rattle.command_line.proofs.WordLemmas.{le-number_from}
 
 abbrev pub AreFew : Option Asked → Type 0
@@ -84,6 +82,10 @@ few_asked (command ∷ words) =
     split (bytes_eq command (codes "show")) _ _ (unless (are_files words) (Some (Show words)) (λ e. few_of words e))
     (split (bytes_eq command (codes "trial")) _ _ (few_counted words) (few_served (task_of command) words))
 
-pub few_read : (words : List (List ℕ)) (v : Result Request Outcome) → Answers seen (Found (asked words) Usage) Never v → IfOk v (λ request. IsWithin (seen request))
-few_read words (Ok request) is = subst AreFew is (few_asked words)
-few_read words (Err o) is = tt
+few_found : (words : List (List ℕ)) (found : Option Request) → option_map seen found ≡ asked words → IfOk (ok_or found Usage) (λ request. IsWithin (seen request))
+few_found words None is = tt
+few_found words (Some request) is = subst AreFew (sym is) (few_asked words)
+
+pub few_read : (words : List (List ℕ)) (found : Option Request) (v : Result Request Outcome) → option_map seen found ≡ asked words → v ≡ ok_or found Usage
+    → IfOk v (λ request. IsWithin (seen request))
+few_read words found v is so = subst (λ (v : Result Request Outcome). IfOk v (λ request. IsWithin (seen request))) (sym so) (few_found words found is)
