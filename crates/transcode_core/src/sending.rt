@@ -31,6 +31,7 @@ fn value_of<L: Ledger>(
     ensures kept { (type : RootType) → IsTypeOf opened.now.set opened.now.root type → IfOk result (λ value. In type.assignments type.number value) }
     ensures stage { IfErr result IsOfInput }
     ensures most { steps.new ≤ steps.old + 144 * element_count items.now }
+    ensures later { steps.old ≤ steps.new }
     ensures least { OnOk result (steps.old + element_count items.now ≤ steps.new + 1) }
 {
     match read_value(alloc, &opened.set, opened.root, items, steps) {
@@ -99,6 +100,7 @@ pub fn encode_items<L: Ledger>(
         (Then (ValueIn (opened_seen opened.now) (type_seen typed.now) items.now) (λ value. Encoding syntax (type_seen typed.now) value)) NoMemory result }
     ensures stage { IfErr result IsOfInput }
     ensures most { steps.new ≤ steps.old + 144 * element_count items.now }
+    ensures later { steps.old ≤ steps.new }
     ensures least { OnOk result (steps.old + element_count items.now ≤ steps.new + 1) }
 {
     match value_of(alloc, opened, items, steps) {
