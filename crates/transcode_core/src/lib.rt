@@ -1,6 +1,7 @@
 //! The top call: words, files and an input to an outcome and bytes.
 //!
-//! Read first: docs/ORDER.md, `specs/Due` (what is due of a command) and `specs/Steps`, then `run` in `src/top.rt`.
+//! Read first: docs/ORDER.md and docs/PROMISE.md; `specs/Runs` (what `run` promises), `specs/Due` (what is due of a command) and
+//! `specs/Steps`, then `run` in `src/top.rt`.
 #![tactic(auto)]
 
 mod files;
@@ -15,6 +16,6 @@ mod trial;
 mod typing;
 
 pub use command_line::{Outcome, write_line};
-pub use laws::{exactly_one_of_both, one_answer, some_answer, there_and_back};
+pub use laws::{exactly_one_of_both, one_answer, some_answer, there_and_back, trial_elements};
 pub use top::run;
 pub use trial::trial_document;
