@@ -137,6 +137,21 @@ module _ (M : List Assignment) (t : ℕ) where
   begin_nothing : (octets : List ℕ) (n : ℕ) → BeginWith M t octets [] n → n ≡ 0
   begin_nothing octets n h = omega (arith, ap length h.is, length-octet_bits (take n octets), length-take n octets, h.inside)
 
+  -- each has an octet
+  pub few_values : (octets : List ℕ) (vs : List (Rose ValueLabel)) (n : ℕ) → BeginWith M t octets vs n → length vs ≤ n
+  few_values octets [] n h = omega arith
+  few_values octets (v ∷ vs) n h =
+      let r = begin_rest octets v vs n h in
+      omega (arith, few_values (drop r.0 octets) vs (n - r.0) r.4, r.2, r.3, complete-some v h.records.0.0)
+
+  -- fewer octets that have them
+  pub begin_front : (octets : List ℕ) (vs : List (Rose ValueLabel)) (n m : ℕ) → BeginWith M t octets vs n → n ≤ m → BeginWith M t (take m octets) vs n
+  begin_front octets vs n m h below = record {
+    inside = omega (arith, h.inside, below, length-take m octets);
+    records = h.records;
+    is = ap octet_bits (take-take n m octets below) ∙ h.is;
+  }
+
   module _ (known : IsModule M) (bounded : IsBounded M) (assigned : t < length M) where
     -- two first values are one
     same_first : (octets : List ℕ) (v w : Rose ValueLabel) (k j : ℕ) → Begins M t (octet_bits octets) v → Begins M t (octet_bits octets) w → 8 * k ≡ length (complete M t v) → 8 * j ≡ length (complete M t w) → (v ≡ w) × (k ≡ j)

@@ -1,6 +1,6 @@
 //! Records, one behind the other.
-ghost use Rattle.std.specs.Prelude.{◌≡◌, ℕ, ◌+◌, ◌*◌, ◌≤◌, ◌<◌, List, [], length, None, Some, IfOk, IfSome, MatchOption, OnOk, OnErr, IsErr, IsErrOf};
-ghost use Rattle.std.specs.Io.KnownBytes.{Keeps};
+ghost use Rattle.std.specs.Prelude.{◌≡◌, ℕ, ◌+◌, ◌*◌, ◌≤◌, ◌<◌, List, [], length, None, Some, IfOk, IfSome, IsSome, MatchOption, OnOk, OnErr, IsErr, IsErrOf};
+ghost use Rattle.std.specs.Io.KnownBytes.{Keeps, IsAtEnd};
 ghost use Rattle.xa_base.specs.Faults.{Counts, one_more};
 ghost use Rattle.asn_types.specs.Values.{In};
 ghost use Rattle.per_fields.specs.Encoding.{complete};
@@ -69,6 +69,7 @@ impl<'a, S: Source> Records<'a, S> {
         ensures held { IfOk result (λ octet. self.new.octet ≡ octet) }
         ensures left { Keeps (left_with self.old.octet (S.left self.old.source.now)) (left_with self.new.octet (S.left self.new.source.now)) }
         ensures end { (left : List ℕ) → left_with self.old.octet (S.left self.old.source.now) ≡ Some left → IfOk result (λ octet. octet ≡ None → left ≡ []) }
+        ensures ended { IfOk result (λ octet. octet ≡ None → IsAtEnd (S.left self.new.source.now)) }
         ensures failed { OnErr result (self.new.octet ≡ None) }
         ensures cause { Counts (S.faults self.old.source.now) (S.faults self.new.source.now) (IsErr result) }
     {
@@ -97,6 +98,7 @@ impl<'a, S: Source> Records<'a, S> {
         requires assigned { t < length module.now }
         requires held { self.old.octet ≡ Some octet }
         ensures same_reference { self.new.source.ghost_name ≡ self.old.source.ghost_name }
+        ensures some { IfOk result (λ found. IsSome found) }
         ensures value { IfOk result (λ found. IfSome found (λ v. In module.now t v)) }
         ensures answer { (left : List ℕ) → left_with self.old.octet (S.left self.old.source.now) ≡ Some left
             → AnswersNext module.now t (one_more self.old.records) self.old.room left (left_with self.new.octet (S.left self.new.source.now)) result }
@@ -157,6 +159,7 @@ impl<'a, S: Source> Records<'a, S> {
             (λ v. (self.new.room ≤ self.old.room) × (self.new.records ≡ one_more self.old.records))) }
         ensures octets { (left : List ℕ) → left_with self.old.octet (S.left self.old.source.now) ≡ Some left
             → IfOk result (λ found. IfSome found (λ v. 8 * self.old.room ≡ 8 * self.new.room + length (complete module.now t v))) }
+        ensures ended { IfOk result (λ found. found ≡ None → IsAtEnd (S.left self.new.source.now)) }
         // None is held ahead behind a record, nor where the source failed.
         ensures alone { (left : List ℕ) → left_with self.old.octet (S.left self.old.source.now) ≡ Some left → OnOk result (self.new.octet ≡ None) }
         ensures stays { OnErr result ((self.new.room ≡ self.old.room) × (self.new.records ≡ self.old.records)) }
