@@ -12,3 +12,4 @@ pub mod Received
 pub mod Valuing
 pub mod Answering
 pub mod SomeSets
+pub mod Eaching

@@ -3,6 +3,7 @@
 //! Read first: docs/ORDER.md, `specs/Due` (what is due of a command) and `specs/Steps`, then `run` in `src/top.rt`.
 #![tactic(auto)]
 
+mod each;
 mod files;
 mod laws;
 mod linking;
