@@ -7,3 +7,4 @@ pub mod Private
 pub mod ReadBack
 pub mod Again
 pub mod Each
+pub mod Runs
