@@ -68,8 +68,7 @@ module _ (type : RootType) where
   pub EachDue-single : {s : Set} {n : ℕ} (of : IsTypeOf s n type) (left : List ℕ) (o p : Outcome) (b c : List ℕ) → EachDue type (Some left) o b → EachDue type (Some left) p c → (o ≡ p) × (b ≡ c)
   EachDue-single of left o p b c (vs, m, cut, ends, docs) (ws, n, again, stops, more) =
       let e = one_cut_of type.assignments type.number of.is_module of.is_bounded of.within (take each_limit left) vs ws m n cut again in
-      let same_ends : EndsAs type left (length vs) m p = subst (λ j. EndsAs type left (length vs) j p) (sym e.1) (subst (λ us. EndsAs type left (length us) n p) (sym e.0) stops) in
-      (
+      let same_ends : EndsAs type left (length vs) m p = subst (λ j. EndsAs type left (length vs) j p) (sym e.1) (subst (λ us. EndsAs type left (length us) n p) (sym e.0) stops) in (
         one_end left (length vs) m of o p (seen left (length vs) m o ends) (seen left (length vs) m p same_ends),
         Documents-single vs b c docs (subst (λ us. Documents type us c) (sym e.0) more),
       )
