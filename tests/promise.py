@@ -1,5 +1,5 @@
 #!/usr/bin/env python3
-"""Walks the definitions that the contract of `run` reaches, from `Runs` in transcode_core down, and checks docs/PROMISE.md by it.
+"""Walks the definitions that the contract of `run` reaches, from `RunsAs` in transcode_core down, and checks docs/PROMISE.md by it.
 
 Each file of specs/ that has a definition reached has a row there, with the number of lines that a reader needs of it (those of the
 definitions reached, with the comments before them), and each row is such a file. The sum is at most LIMIT.
@@ -14,7 +14,7 @@ import sys
 
 HERE = os.path.dirname(os.path.dirname(os.path.abspath(__file__)))
 PAGE = os.path.join(HERE, "docs/PROMISE.md")
-START = ("transcode_core", "Runs", "Runs")
+START = ("transcode_core", "Runs", "RunsAs")
 LIMIT = 8000
 ROW = re.compile(r"(?m)^\| `(\w+)/([\w/]+)` \| (\d+) \|")
 

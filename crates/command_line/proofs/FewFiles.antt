@@ -11,7 +11,7 @@ use Rattle.command_line.specs.declared.outcome.Outcome.{Outcome}
 use Rattle.command_line.specs.declared.words.Request.{Request}
 use Rattle.command_line.specs.Seen.{seen}
 use Rattle.command_line.specs.declared.tasks.Task.{Task}
-use Rattle.command_line.specs.Words.{Asked, Show, Serve, Trial, IsWithin, are_files, root_of, rooted_parts, task_of, served, is_count, counted, asked}
+use Rattle.command_line.specs.Words.{Asked, Show, Serve, Trial, IsWithin, are_files, root_of, rooted_parts, task_of, served, is_count, counted, asked, each_asked}
 use Rattle.command_line.specs.declared.outcome.Outcome.TheVariants.{Usage}
 use Rattle.command_line.proofs.WordLemmas.{le-number_from}
 
@@ -89,3 +89,8 @@ few_found words (Some request) is = subst AreFew (sym is) (few_asked words)
 pub few_read : (words : List (List ℕ)) (found : Option Request) (v : Result Request Outcome) → option_map seen found ≡ asked words → v ≡ ok_or found Usage
     → IfOk v (λ request. IsWithin (seen request))
 few_read words found v is so = subst (λ (v : Result Request Outcome). IfOk v (λ request. IsWithin (seen request))) (sym so) (few_found words found is)
+
+-- at most 64 files of one command
+pub few_each : (words files : List (List ℕ)) (name : Name) → each_asked words ≡ Some (name, files) → length files ≤ 64
+few_each [] files name e = absurd cc
+few_each (command ∷ words) files name e = subst ArePartsFew e (parts_unless (bytes_eq command (codes "each-to-xml")) (rooted_parts words) (λ _. few_parts words))

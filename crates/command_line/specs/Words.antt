@@ -95,3 +95,8 @@ asked (command ∷ words) =
     if bytes_eq command (codes "show") then shown words
     else if bytes_eq command (codes "trial") then counted words
     else served (task_of command) words
+
+-- `each-to-xml ROOT FILE..`: its root and its files. Its documents come one by one; all other commands answer whole.
+abbrev pub each_asked : List (List ℕ) → Option (Name × List (List ℕ))
+each_asked [] = None
+each_asked (command ∷ words) = if bytes_eq command (codes "each-to-xml") then rooted_parts words else None

@@ -11,4 +11,4 @@ mod words;
 pub use lines::write_line;
 pub use outcome::Outcome;
 pub use tasks::{Syntax, Task};
-pub use words::{Request, Root, read_words};
+pub use words::{Request, Root, read_each, read_words};

@@ -1,5 +1,5 @@
 //! The words of the command line.
-ghost use Rattle.std.specs.Prelude.{◌≡◌, true, ℕ, List, ◌∷◌, MatchOption, Some, None, ◌+◌, ◌≤◌, ◌<◌, ◌^◌, ◌*◌, ◌&&◌, length, nat_le, option_map, IfOk};
+ghost use Rattle.std.specs.Prelude.{◌≡◌, true, ℕ, List, ◌∷◌, MatchOption, Some, None, ◌+◌, ◌≤◌, ◌<◌, ◌^◌, ◌*◌, ◌&&◌, length, nat_le, option_map, IfOk, IfSome};
 ghost use Rattle.std.specs.List.{list_all};
 ghost use Rattle.std.specs.Str.{chars};
 ghost use Rattle.xa_base.specs.Digits as decimal;
@@ -203,4 +203,17 @@ pub fn read_words(words: &[Text]) -> Result<Request<'_>, Outcome>
     ensures within { IfOk result (λ request. command.IsWithin (seen request)) }
 {
     asked(words).ok_or(Outcome::Usage)
+}
+
+/// The root and the files of `each-to-xml ROOT FILE...`, if the words ask for it. What else they ask for, `read_words` tells.
+pub fn read_each(words: &[Text]) -> Option<(Root<'_>, &[Text])>
+    ensures found { MatchOption result (command.each_asked words.now ≡ None) (λ found. command.each_asked words.now ≡ Some (root_seen found.0, found.1.now)) }
+    ensures within { IfSome result (λ found. length found.1.now ≤ 64) }
+{
+    let (command, words) = words.split_first()?;
+    if command.bytes() == b"each-to-xml".as_slice() {
+        rooted(words)
+    } else {
+        None
+    }
 }

@@ -3,12 +3,14 @@ use crate::opening::{Unopened, opened};
 use crate::schemas::ORDER;
 use per_decode::{DecodeError, decode};
 use per_fields::Why;
+use record_stream::{RecordError, Records};
 use std::alloc::Global;
 use std::process::Abort;
 use std::test::Fail;
 use xa_base::SureSource;
 
 const OCTETS: &[u8] = b"\x00\x00\x07\x01\x02\x41\x31\x04\xFF";
+const TWICE: &[u8] = b"\x00\x00\x07\x01\x02\x41\x31\x04\x00\x00\x07\x01\x02\x41\x31\x04";
 
 // A source of these octets that moves at most so many at once, and at least one.
 #[tactic(auto, using(crate::proofs::Pieces::positive))]
@@ -63,9 +65,22 @@ fn nothing_is_taken_behind_a_field_with_a_fault<R: Abort + AllocGlobal>(
     Ok(())
 }
 
+// A value, and then more octets than are left of the limit.
+fn records_end_at_their_limit<R: Abort + AllocGlobal>(rt: &R) -> Result<(), Fail> {
+    let (module, t) = opened(rt.alloc(), ORDER, "order")?;
+    for piece in [1, 3, 8, 16] {
+        let mut source = cut(rt.alloc(), TWICE, piece)?;
+        let mut records = Records::new(&mut source, 8);
+        assert!(rt; matches!(records.next(rt.alloc(), &module, t), Ok(Some(_))));
+        assert!(rt; matches!(records.next(rt.alloc(), &module, t), Err(RecordError::TooLong)));
+    }
+    Ok(())
+}
+
 #[test]
 fn what_is_taken_of_a_source(rt: HostRuntime) -> Result<(), Fail> {
     an_encoding_is_taken_and_nothing_behind_it(&rt)?;
     no_more_is_taken_than_may_be(&rt)?;
-    nothing_is_taken_behind_a_field_with_a_fault(&rt)
+    nothing_is_taken_behind_a_field_with_a_fault(&rt)?;
+    records_end_at_their_limit(&rt)
 }

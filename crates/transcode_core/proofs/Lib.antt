@@ -14,3 +14,5 @@ pub mod Received
 pub mod Valuing
 pub mod Answering
 pub mod SomeSets
+pub mod Eaching
+pub mod EachLaws

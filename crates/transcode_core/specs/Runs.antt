@@ -1,5 +1,5 @@
--- WHAT `run` PROMISES, said once for all commands.
-use Rattle.std.specs.Prelude.{◌≡◌, ◌⊎◌, ℕ, ◌≤◌, Bool, List, [], Option, Some}
+-- WHAT `run` PROMISES: of all commands that answer whole, and of the one whose documents come one by one.
+use Rattle.std.specs.Prelude.{◌≡◌, ◌⊎◌, ℕ, ◌≤◌, Bool, List, [], Option, Some, None, Result, Ok, Err}
 use Rattle.std.specs.Io.KnownBytes.{Appends, IsAtEnd}
 use Rattle.xa_base.specs.Faults.{HasRisen}
 use Rattle.xa_base.specs.Bytes.{AppendsFront}
@@ -7,9 +7,13 @@ use Rattle.command_line.specs.declared.outcome.Outcome.{Outcome}
 use Rattle.command_line.specs.declared.outcome.Outcome.TheVariants.{Done, LoadFault, ReadFault, WriteFault, OutOfMemory}
 use Rattle.command_line.specs.Answers.{IsRefusal}
 use Rattle.command_line.specs.Lines.{line}
-use Rattle.transcode_core.specs.Due.{Due}
+use Rattle.xa_base.specs.declared.texts.Name.{Name}
+use Rattle.schema_parts.specs.SetParts.{SetParts}
+use Rattle.transcode_core.specs.Steps.{RootType, Typed}
+use Rattle.transcode_core.specs.Due.{Opened, Due}
+use Rattle.transcode_core.specs.Each.{Flow, EachEnds}
 use Rattle.transcode_core.specs.ReadBack.{ReadBack}
-use Rattle.transcode_core.specs.Causes.{Fails, ReachesFile, ReachesInput, ReadsInput, IsTold, TakesOfWords, IsOfInput, ReadsOfWords, ReadsDocument, StepsUpTo, StepsFrom, WritesNothing}
+use Rattle.transcode_core.specs.Causes.{SomeLoad, Fails, ReachesFile, ReachesInput, ReadsInput, IsTold, TakesOfWords, IsOfInput, ReadsOfWords, ReadsDocument, StepsUpTo, StepsFrom, WritesNothing}
 
 -- What is seen of the outside: the entries of the library and whether it is sure, what the input has left, what output and complaints
 -- received, how often each of the four has failed, and the steps through content models.
@@ -60,3 +64,28 @@ pub record Runs (words : List (List ℕ)) (old new : Outside) (same_input same_o
   pub few : StepsUpTo (ReadsOfWords words old.left) old.steps new.steps
   -- Done, at least one for each but the root.
   pub many : result ≡ Done → ReadsDocument words → StepsFrom (ReadsOfWords words old.left) old.steps new.steps
+
+-- what an input has left and what an output received
+abbrev pub flow : Outside → Flow
+flow seen = record { left = seen.left; written = seen.written; read_faults = seen.read_faults; write_faults = seen.write_faults }
+
+-- THE SAME OF `each-to-xml`, of which the documents come one by one. Where the files, their set or the root are refused, input and
+-- output are as before. Behind them the outcome and what was written are by the octets that the input has left.
+pub record RunsEach (root : Name) (files : List (List ℕ)) (old new : Outside) (same_input same_output : Type 0) (result : Outcome) : Type 0 where
+  pub answer : (same_input × same_output × ((Opened old.entries root files (Err result) × IsRefusal result) ⊎ SomeLoad old.load_faults new.load_faults old.is_sure old.entries files result))
+      ⊎ ((opened : SetParts × ℕ) × Opened old.entries root files (Ok opened) × ((type : RootType) × Typed opened (Ok type) × EachEnds type (flow old) (flow new) result))
+  pub end : result ≡ Done → IsAtEnd new.left
+  pub library : (new.entries ≡ old.entries) × (new.is_sure ≡ old.is_sure)
+  pub loads : old.load_faults ≤ new.load_faults
+  pub reads : old.read_faults ≤ new.read_faults
+  pub writes : old.write_faults ≤ new.write_faults
+  -- Complaints receive the whole line, or a front of it where their count rose.
+  pub complaint : Appends old.complained new.complained (line result)
+      ⊎ (HasRisen old.complaint_faults new.complaint_faults × AppendsFront old.complained new.complained (line result))
+  pub complaints : old.complaint_faults ≤ new.complaint_faults
+  pub steps : new.steps ≡ old.steps
+
+-- by the form of the answer: one by one, or whole
+abbrev pub RunsAs : Option (Name × List (List ℕ)) → List (List ℕ) → Outside → Outside → Type 0 → Type 0 → Outcome → Type 0
+RunsAs None words old new same_input same_output result = Runs words old new same_input same_output result
+RunsAs (Some asked) words old new same_input same_output result = RunsEach asked.0 asked.1 old new same_input same_output result

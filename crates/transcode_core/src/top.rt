@@ -1,9 +1,9 @@
 //! The top call.
-ghost use Rattle.std.specs.Prelude.{◌≡◌, ◌⊎◌, ◌+◌, ◌*◌, ◌≤◌, true, [], ◌∷◌, length, OnOk, IfOk, IfErr, Ok, Err, Some};
+ghost use Rattle.std.specs.Prelude.{◌≡◌, ◌⊎◌, ℕ, ◌+◌, ◌*◌, ◌≤◌, true, [], ◌∷◌, length, OnOk, IfOk, IfErr, Ok, Err, Some};
 ghost use Rattle.std.specs.Io.KnownBytes.{Appends, IsAtEnd};
 ghost use Rattle.xa_base.specs.Faults.{HasRisen};
 ghost use Rattle.xa_base.specs.Bytes.{AppendsFront};
-ghost use Rattle.schema_parts.specs.SetParts.{parts_of};
+ghost use Rattle.schema_parts.specs.SetParts.{SetParts, parts_of};
 ghost use Rattle.validity_check.specs.Counts.{element_count};
 ghost use Rattle.command_line.specs.Lines.{line};
 ghost use Rattle.command_line.specs.Seen.{root_seen, seen};
@@ -13,15 +13,17 @@ ghost use Rattle.command_line.specs.Tasks.{Octets, reads, is_document};
 ghost use Rattle.transcode_core.specs.Private.Decided.{Decided};
 ghost use Rattle.transcode_core.specs.Trial as trial;
 ghost use Rattle.transcode_core.specs.Trial.{trial_name, trial_schema, trial_root};
-ghost use Rattle.transcode_core.specs.Steps.{Printed, Judged, IsTypeOf, ValueIn, Encoding};
+ghost use Rattle.transcode_core.specs.Steps.{RootType, Typed, Printed, Judged, IsTypeOf, ValueIn, Encoding};
 ghost use Rattle.command_line.specs.Order.{Give, Then};
 ghost use Rattle.transcode_core.specs.Due as due;
 ghost use Rattle.transcode_core.specs.Due.{SetIn, ItemsIn, Checked, Encoded, Documented, Served, Tried, Answered};
-ghost use Rattle.transcode_core.specs.Runs.{Runs};
+ghost use Rattle.transcode_core.specs.Runs.{Runs, RunsAs};
+ghost use Rattle.transcode_core.specs.Each.{EachEnds};
 ghost use Rattle.transcode_core.specs.ReadBack.{DocumentedBack, ServedBack, AnsweredBack, ReadBack};
-ghost use Rattle.command_line.specs.Answers.{Answers, NoMemory};
+ghost use Rattle.command_line.specs.Answers.{IsRefusal, Answers, NoMemory};
 ghost use Rattle.transcode_core.specs.Causes.{SomeLoad, OneRead, reads_input, ReadsInput, Takes, TakesInput, LooksAt, TakesOfWords, ReadsItems, ReadsOfWords, StepsUpTo, IsOfInput, Answering, Deciding, StepsFrom, reads_document, ReadsDocument};
 
+use crate::each::write_records;
 use crate::files::{read_input, read_input_items};
 use crate::linking::{link_files, open_set};
 use crate::opened::{Opened, RootModule};
@@ -30,7 +32,7 @@ use crate::schemas::load_schemas;
 use crate::sending::encode_items;
 use crate::trial::{self, schema_files, schema_name, summary, trial_document};
 use crate::typing::map_root;
-use command_line::{Outcome, Request, Root, Syntax, Task, read_words, write_line};
+use command_line::{Outcome, Request, Root, Syntax, Task, read_each, read_words, write_line};
 use doc_text::Items;
 use map_694::map_set;
 use module_print::print_module;
@@ -405,20 +407,57 @@ fn complain<E: Sink>(outcome: Outcome, complaints: &mut E)
     let _ = write_line(&outcome, complaints);
 }
 
-/// Does what the words ask for. `show FILE...`, `check ROOT FILE...`, `to-per ROOT FILE...` and `to-xml ROOT FILE...` load
-/// the schema files in turn and end at the first that can't be loaded, has over 16,777,216 bytes, or has a fault in its
-/// text or as a schema document. Then the files are linked into one set, or the answer is the first fault of linking.
-/// `show` writes the module that the set maps to and leaves the input alone. The others look for the root in the set.
-///
-/// `check` and `to-per` read the input, of as many bytes at most, as a document, which is valid against that element or has
-/// a first fault. `check` writes nothing. `to-per` writes the complete encoding, in canonical aligned PER, of the one value
-/// whose items by EXTENDED-XER are the document's treated items, unless it has too many nodes. `to-xml` takes the complete
-/// encoding of a value and nothing else, octet by octet as they come, and writes a document with the items of that value.
-/// `trial N` does what `to-per` does with an order of N lines, over a file and an input of its own, and writes one line.
-///
-/// The whole result is made before writing begins. Complaints receive the line of the outcome. A fault outside is one that
-/// raises the count of its object.
-pub fn run<F: Library, S: Source, K: Sink, E: Sink, L: Ledger>(
+// What is told of the records that the input has left, in this set: their documents are written.
+fn write_opened<S: Source, K: Sink>(
+    alloc: Global,
+    opened: &Opened,
+    input: &mut S,
+    output: &mut K,
+) -> Outcome
+    ensures answer { ((input.new ≡ input.old) × (output.new ≡ output.old) × (result ≡ Outcome.OutOfMemory))
+        ⊎ ((type : RootType) × Typed (opened_seen opened.now) (Ok type) × EachEnds type
+        (record { left = S.left input.old; written = K.written output.old; read_faults = S.faults input.old; write_faults = K.faults output.old })
+        (record { left = S.left input.new; written = K.written output.new; read_faults = S.faults input.new; write_faults = K.faults output.new }) result) }
+    ensures end { result ≡ Outcome.Done → IsAtEnd (S.left input.new) }
+    ensures reads { S.faults input.old ≤ S.faults input.new }
+    ensures writes { K.faults output.old ≤ K.faults output.new }
+{
+    match map_root(alloc, opened) {
+        Ok(typed) => write_records(alloc, &typed, input, output),
+        Err(outcome) => outcome,
+    }
+}
+
+// What `each-to-xml` makes of this root, these files and the input.
+fn serve_each<F: Library, S: Source, K: Sink>(
+    alloc: Global,
+    root: Root<'_>,
+    names: &[Text],
+    files: &mut F,
+    input: &mut S,
+    output: &mut K,
+) -> Outcome
+    requires { length names.now ≤ 64 }
+    ensures answer { ((input.new ≡ input.old) × (output.new ≡ output.old)
+        × ((due.Opened (F.entries files.old) (root_seen root.entry) names.now (Err result) × IsRefusal result)
+        ⊎ SomeLoad (F.faults files.old) (F.faults files.new) (F.is_sure files.old) (F.entries files.old) names.now result))
+        ⊎ ((opened : SetParts × ℕ) × due.Opened (F.entries files.old) (root_seen root.entry) names.now (Ok opened) × ((type : RootType) × Typed opened (Ok type) × EachEnds type
+        (record { left = S.left input.old; written = K.written output.old; read_faults = S.faults input.old; write_faults = K.faults output.old })
+        (record { left = S.left input.new; written = K.written output.new; read_faults = S.faults input.new; write_faults = K.faults output.new }) result)) }
+    ensures end { result ≡ Outcome.Done → IsAtEnd (S.left input.new) }
+    ensures files { (F.entries files.new ≡ F.entries files.old) × (F.is_sure files.new ≡ F.is_sure files.old) }
+    ensures loads { F.faults files.old ≤ F.faults files.new }
+    ensures reads { S.faults input.old ≤ S.faults input.new }
+    ensures writes { K.faults output.old ≤ K.faults output.new }
+{
+    match open_files(alloc, files, root, names) {
+        Ok(opened) => write_opened(alloc, &opened, input, output),
+        Err(outcome) => outcome,
+    }
+}
+
+// The commands that answer whole, or not at all.
+fn run_whole<F: Library, S: Source, K: Sink, E: Sink, L: Ledger>(
     alloc: Global,
     words: &[Text],
     files: &mut F,
@@ -474,5 +513,68 @@ pub fn run<F: Library, S: Source, K: Sink, E: Sink, L: Ledger>(
             complain(outcome, complaints);
             outcome
         }
+    }
+}
+
+/// Does what the words ask for. `show FILE...`, `check ROOT FILE...`, `to-per ROOT FILE...` and `to-xml ROOT FILE...` load
+/// the schema files in turn and end at the first that can't be loaded, has over 16,777,216 bytes, or has a fault in its
+/// text or as a schema document. Then the files are linked into one set, or the answer is the first fault of linking.
+/// `show` writes the module that the set maps to and leaves the input alone. The others look for the root in the set.
+///
+/// `check` and `to-per` read the input, of as many bytes at most, as a document, which is valid against that element or has
+/// a first fault. `check` writes nothing. `to-per` writes the complete encoding, in canonical aligned PER, of the one value
+/// whose items by EXTENDED-XER are the document's treated items, unless it has too many nodes. `to-xml` takes the complete
+/// encoding of a value and nothing else, octet by octet as they come, and writes a document with the items of that value.
+/// `trial N` does what `to-per` does with an order of N lines, over a file and an input of its own, and writes one line.
+///
+/// `each-to-xml ROOT FILE...` takes complete encodings that follow one another to the end of the input, of at most
+/// 1,073,741,824 octets in all, and writes the document of each before it takes an octet behind it. So a refusal stands behind
+/// the documents of the records before it.
+///
+/// Otherwise the whole result is made before writing begins. Complaints receive the line of the outcome. A fault outside is one that
+/// raises the count of its object.
+pub fn run<F: Library, S: Source, K: Sink, E: Sink, L: Ledger>(
+    alloc: Global,
+    words: &[Text],
+    files: &mut F,
+    input: &mut S,
+    output: &mut K,
+    complaints: &mut E,
+    steps: &mut Steps<L>,
+) -> Outcome
+    ensures { RunsAs (command.each_asked words.now) words.now
+        (record {
+          entries = F.entries files.old;
+          is_sure = F.is_sure files.old;
+          left = S.left input.old;
+          written = K.written output.old;
+          complained = E.written complaints.old;
+          load_faults = F.faults files.old;
+          read_faults = S.faults input.old;
+          write_faults = K.faults output.old;
+          complaint_faults = E.faults complaints.old;
+          steps = steps.old;
+        })
+        (record {
+          entries = F.entries files.new;
+          is_sure = F.is_sure files.new;
+          left = S.left input.new;
+          written = K.written output.new;
+          complained = E.written complaints.new;
+          load_faults = F.faults files.new;
+          read_faults = S.faults input.new;
+          write_faults = K.faults output.new;
+          complaint_faults = E.faults complaints.new;
+          steps = steps.new;
+        })
+        (input.new ≡ input.old) (output.new ≡ output.old) result }
+{
+    match read_each(words) {
+        Some((root, names)) => {
+            let outcome = serve_each(alloc, root, names, files, input, output);
+            complain(outcome, complaints);
+            outcome
+        }
+        None => run_whole(alloc, words, files, input, output, complaints, steps),
     }
 }

@@ -1,23 +1,19 @@
-use Rattle.std.proofs.Common.{arith, refl}
-use Rattle.doc_text.proofs.Known.{laws}
-use Rattle.transcode_core.proofs.Running.{stopped}
-use Rattle.transcode_core.proofs.Syntaxes.{all_syntaxes}
+use Rattle.std.proofs.Common.{refl}
 use Rattle.transcode_core.proofs.top.run.Goals as goal
 
-pub returns : goal.returns
-returns g c =
-    stopped _ _ _ _ _ (record {
-      pieces = laws;
-      valid = c.at_most_one.ensures;
-      value = c.one_value.ensures;
-      octets = all_syntaxes (record { stops = c.stops_first.ensures.one_of_two; whole = c.first_stop.ensures.whole_octets });
-    }) c.in-Err.outcome (record {
-      untouched = c.in-Err.ensures.untouched;
-      files = c.in-Err.ensures.files;
-      loads = c.in-Err.ensures.loads;
-      reads = c.in-Err.ensures.reads;
-      writes = omega arith;
-      complaint = c.complain-in-Err.ensures.complaint;
-      complaints = c.complain-in-Err.ensures.later;
-      few = c.in-Err.ensures.few;
-    }) c.in-Err.ensures.due refl
+pub returns-in-Some : goal.returns-in-Some
+returns-in-Some g c =
+    rw c.in-Some.ensures.found (record {
+      answer = c.serve_each.ensures.answer;
+      end = c.serve_each.ensures.end;
+      library = c.serve_each.ensures.files;
+      loads = c.serve_each.ensures.loads;
+      reads = c.serve_each.ensures.reads;
+      writes = c.serve_each.ensures.writes;
+      complaint = c.complain.ensures.complaint;
+      complaints = c.complain.ensures.later;
+      steps = refl;
+    })
+
+pub returns-in-None : goal.returns-in-None
+returns-in-None g c = rw c.in-None.ensures.found c.run_whole.ensures
