@@ -4,12 +4,12 @@ use Rattle.transcode_core.proofs.top.run.Goals as goal
 pub returns-in-Some : goal.returns-in-Some
 returns-in-Some g c =
     rw c.in-Some.ensures.found (record {
-      answer = c.serve_each.ensures.answer;
-      end = c.serve_each.ensures.end;
-      library = c.serve_each.ensures.files;
-      loads = c.serve_each.ensures.loads;
-      reads = c.serve_each.ensures.reads;
-      writes = c.serve_each.ensures.writes;
+      answer = c.serve_each-outcome.ensures.answer;
+      end = c.serve_each-outcome.ensures.end;
+      library = c.serve_each-outcome.ensures.files;
+      loads = c.serve_each-outcome.ensures.loads;
+      reads = c.serve_each-outcome.ensures.reads;
+      writes = c.serve_each-outcome.ensures.writes;
       complaint = c.complain.ensures.complaint;
       complaints = c.complain.ensures.later;
       steps = refl;
