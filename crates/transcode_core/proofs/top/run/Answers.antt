@@ -10,7 +10,7 @@ returns-clause-complete g c entries bytes files told due no_load no_read no_writ
       pieces = laws;
       valid = c.at_most_one.ensures;
       value = c.one_value.ensures;
-      octets = all_syntaxes (record { stops = c.stops_first.ensures.one_of_two; whole = c.first_stop.ensures.whole_octets });
+      octets = all_syntaxes (λ aligned. record { stops = c.either_variant-2.ensures.one_of_two aligned; whole = c.either_variant.ensures.whole_octets aligned });
     }) c.args.words.now (g.F.Library.entries c.args.files.now) (g.S.Source.left c.args.input.now) entries bytes (g.F.Library.faults c.args.files.now) (g.F.Library.faults c.decide.new.files)
     (g.S.Source.faults c.args.input.now) (g.S.Source.faults c.decide.new.input) (g.F.Library.is_sure c.args.files.now) c.in-Err.outcome files told due no_load no_read c.in-Err.ensures.due
 
