@@ -6,7 +6,7 @@ use Rattle.xa_base.specs.Characters.{is_xml_char, is_ncname}
 use Rattle.xa_base.specs.Digits.{is_digit, number_of}
 use Rattle.xa_base.specs.Limits.{is_short_space}
 use Rattle.xa_base.specs.declared.texts.Name.{Name}
-use Rattle.command_line.specs.declared.tasks.Syntax.TheVariants.{Aligned}
+use Rattle.command_line.specs.declared.tasks.Syntax.TheVariants.{Aligned, Unaligned}
 use Rattle.command_line.specs.declared.tasks.Task.{Task}
 use Rattle.command_line.specs.declared.tasks.Task.TheVariants.{Check, Send, Receive}
 
@@ -71,6 +71,8 @@ task_of word =
     if bytes_eq word (codes "check") then Some Check
     else if bytes_eq word (codes "to-per") then Some (Send Aligned)
     else if bytes_eq word (codes "to-xml") then Some (Receive Aligned)
+    else if bytes_eq word (codes "to-per-u") then Some (Send Unaligned)
+    else if bytes_eq word (codes "to-xml-u") then Some (Receive Unaligned)
     else None
 
 abbrev pub rooted : Task → List (List ℕ) → Option Asked
@@ -88,7 +90,8 @@ counted words = None
 abbrev pub shown : List (List ℕ) → Option Asked
 shown files = if are_files files then Some (Show files) else None
 
--- `show FILE..`, `trial N`, or a task as `check ROOT FILE..`, `to-per ROOT FILE..` or `to-xml ROOT FILE..`
+-- `show FILE..`, `trial N`, or a task as `check ROOT FILE..`, `to-per ROOT FILE..` or `to-xml ROOT FILE..`, and `to-per-u` or
+-- `to-xml-u` alike
 abbrev pub asked : List (List ℕ) → Option Asked
 asked [] = None
 asked (command ∷ words) =

@@ -5,6 +5,8 @@
 pub enum Syntax {
     /// Canonical aligned PER (X.691).
     Aligned,
+    /// Canonical unaligned PER (X.691).
+    Unaligned,
 }
 
 /// What a command does with the root of a set and with the input.

@@ -166,6 +166,10 @@ fn task_of(word: &[u8]) -> Option<Task>
         Some(Task::Send(Syntax::Aligned))
     } else if word == b"to-xml".as_slice() {
         Some(Task::Receive(Syntax::Aligned))
+    } else if word == b"to-per-u".as_slice() {
+        Some(Task::Send(Syntax::Unaligned))
+    } else if word == b"to-xml-u".as_slice() {
+        Some(Task::Receive(Syntax::Unaligned))
     } else {
         None
     }

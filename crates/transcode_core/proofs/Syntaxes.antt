@@ -1,5 +1,5 @@
 -- The law of each transfer syntax.
-use Rattle.std.proofs.Common.{◌≡◌, ℕ, zero, suc, ◌*◌, ◌/◌, ◌<◌, ◌≤◌, ◌^◌, Bool, List, [], ◌∷◌, ◌++◌, length, take, drop, All, refl, sym, ap, ◌∙◌, subst, inl, inr, arith}
+use Rattle.std.proofs.Common.{◌≡◌, ℕ, zero, suc, ◌*◌, ◌/◌, ◌<◌, ◌≤◌, ◌^◌, Bool, true, false, List, [], ◌∷◌, ◌++◌, length, take, drop, All, refl, sym, ap, ◌∙◌, subst, inl, inr, arith}
 use Rattle.std.proofs.lemmas.List.{length-take, length-append, append-nil, take-append-drop}
 use Rattle.std.proofs.lemmas.List.Elements.{All-head, All-tail, All-nil, All-cons}
 use Rattle.label_tree.specs.Rose.{Rose}
@@ -9,12 +9,11 @@ use Rattle.asn_types.specs.Modules.{IsModule}
 use Rattle.asn_types.specs.Bounds.{IsBounded}
 use Rattle.bit_cursor.specs.Bits.{number, bits, octet, octet_bits}
 use Rattle.bit_cursor.proofs.BitLemmas.{bits-number, number-lt, length-bits, number-bits, length-octet_bits}
-use Rattle.per_fields.specs.Encoding.{complete}
+use Rattle.per_fields.specs.Encoding.{complete_by}
 use Rattle.per_fields.specs.Laws as law
-use Rattle.per_fields.specs.Laws.{Begins}
-use Rattle.per_stops.specs.Laws.{OneOfTwo}
-use Rattle.command_line.specs.declared.tasks.Syntax.TheVariants.{Aligned}
-use Rattle.transcode_core.specs.Syntaxes.{fault_of, IsOneOfTwo, SyntaxLaw, AllSyntaxes}
+use Rattle.per_stops.specs.Laws.{OneOfTwoBy}
+use Rattle.command_line.specs.declared.tasks.Syntax.TheVariants.{Aligned, Unaligned}
+use Rattle.transcode_core.specs.Syntaxes.{Fault, fault_of, per_syntax, IsPer, BeginsWithPer, HasPerFault, IsEncoding, BeginsWith, HasFault, IsOneOfTwo, SyntaxLaw, AllSyntaxes}
 
 -- ---- octets are told by their bits
 
@@ -70,40 +69,84 @@ no_rest : (a b : List Bool) → length (a ++ b) ≤ length a → b ≡ []
 no_rest a [] e = refl
 no_rest a (x ∷ b) e = absurd (omega (arith, e, length-append a (x ∷ b)))
 
--- ---- canonical aligned PER
+-- ---- canonical PER, in either variant
+
+-- its rows of the table
+module _ (M : List Assignment) (t : ℕ) (octets : List ℕ) where
+  pub per_encoding : (aligned : Bool) (v : Rose ValueLabel) → IsEncoding (per_syntax aligned) M t v octets → IsPer aligned M t v octets
+  per_encoding true v is = is
+  per_encoding false v is = is
+
+  pub encoding_per : (aligned : Bool) (v : Rose ValueLabel) → IsPer aligned M t v octets → IsEncoding (per_syntax aligned) M t v octets
+  encoding_per true v is = is
+  encoding_per false v is = is
+
+  pub per_begins : (aligned : Bool) (v : Rose ValueLabel) (count : ℕ) → BeginsWith (per_syntax aligned) M t octets v count → BeginsWithPer aligned M t octets v count
+  per_begins true v count begins = begins
+  per_begins false v count begins = begins
+
+  pub begins_per : (aligned : Bool) (v : Rose ValueLabel) (count : ℕ) → BeginsWithPer aligned M t octets v count → BeginsWith (per_syntax aligned) M t octets v count
+  begins_per true v count begins = begins
+  begins_per false v count begins = begins
+
+  pub per_fault : (aligned : Bool) (fault : Fault) → HasFault (per_syntax aligned) M t octets fault → HasPerFault aligned M t octets fault
+  per_fault true fault has = has
+  per_fault false fault has = has
+
+  pub fault_per : (aligned : Bool) (fault : Fault) → HasPerFault aligned M t octets fault → HasFault (per_syntax aligned) M t octets fault
+  fault_per true fault has = has
+  fault_per false fault has = has
 
 -- the laws of octets from which it follows
-pub record PerLaws : Type 0 where
-  pub stops : OneOfTwo
-  pub whole : law.WholeOctets
+pub record PerLaws (aligned : Bool) : Type 0 where
+  pub stops : OneOfTwoBy aligned
+  pub whole : law.WholeOctetsBy aligned
 
-module _ (laws : PerLaws) where
-  aligned : (M : List Assignment) (t : ℕ) (octets : List ℕ) → IsModule M → IsBounded M → t < length M → IsOneOfTwo Aligned M t octets
-  aligned M t octets is_module bounded below =
+module _ (aligned : Bool) (laws : PerLaws aligned) where
+  per_one : (M : List Assignment) (t : ℕ) (octets : List ℕ) → IsModule M → IsBounded M → t < length M → IsOneOfTwo (per_syntax aligned) M t octets
+  per_one M t octets is_module bounded below =
       let h = laws.stops M t octets is_module bounded below in
       let all = length-octet_bits octets in
       record {
         either = elim h.either [
-          | inl is ↦ inl (is.0, length (complete M t is.0) / 8, (is.1, omega (arith, laws.whole M t is.0)))
-          | inr stops ↦ inr (fault_of stops.0, (stops.0, stops.1, refl))
+          | inl is ↦ inl (is.0, length (complete_by aligned M t is.0) / 8, begins_per M t octets aligned is.0 (length (complete_by aligned M t is.0) / 8) (is.1, omega (arith, laws.whole M t is.0)))
+          | inr stops ↦ inr (fault_of stops.0, fault_per M t octets aligned (fault_of stops.0) (stops.0, stops.1, refl))
         ];
-        not_both = λ v count fault begins has. h.not_both v has.0 begins.0 has.1;
-        one_value = λ v w m n p q. (let same : v ≡ w = (h.one_value v w p.0 q.0).0 in (same, omega (arith, p.1, q.1, ap (λ (u : Rose ValueLabel). length (complete M t u)) same)));
-        one_fault = λ f g p q. p.2 ∙ ap fault_of (h.one_stop p.0 q.0 p.1 q.1) ∙ sym q.2;
-        within = λ v count p. omega (arith, p.1, all, ap length p.0.is, length-append (complete M t v) p.0.rest);
-        begins = λ v value is. (record { rest = []; is = is ∙ sym (append-nil (complete M t v)); value = value }, omega (arith, all, ap length is));
+        not_both = λ v count fault begins has. (
+            let b = per_begins M t octets aligned v count begins in
+            let f = per_fault M t octets aligned fault has in
+            h.not_both v f.0 b.0 f.1);
+        one_value = λ v w m n p q. (
+            let a = per_begins M t octets aligned v m p in
+            let b = per_begins M t octets aligned w n q in
+            let same : v ≡ w = (h.one_value v w a.0 b.0).0 in
+            (same, omega (arith, a.1, b.1, ap (λ (u : Rose ValueLabel). length (complete_by aligned M t u)) same)));
+        one_fault = λ f g p q. (
+            let a = per_fault M t octets aligned f p in
+            let b = per_fault M t octets aligned g q in
+            a.2 ∙ ap fault_of (h.one_stop a.0 b.0 a.1 b.1) ∙ sym b.2);
+        within = λ v count p. (
+            let a = per_begins M t octets aligned v count p in
+            omega (arith, a.1, all, ap length a.0.is, length-append (complete_by aligned M t v) a.0.rest));
+        begins = λ v value is. (
+            let e = per_encoding M t octets aligned v is in
+            begins_per M t octets aligned v (length octets) (record { rest = []; is = e ∙ sym (append-nil (complete_by aligned M t v)); value = value }, omega (arith, all, ap length e)));
         ends = λ v count p most. (
-          p.0.value,
-          p.0.is ∙ ap (λ bs. complete M t v ++ bs) (no_rest (complete M t v) p.0.rest (omega (arith, p.1, all, ap length p.0.is, most))) ∙ append-nil (complete M t v),
-        );
+            let a = per_begins M t octets aligned v count p in (
+              a.0.value,
+              encoding_per M t octets aligned v (a.0.is ∙ ap (λ bs. complete_by aligned M t v ++ bs) (no_rest (complete_by aligned M t v) a.0.rest (omega (arith, a.1, all, ap length a.0.is, most))) ∙ append-nil (complete_by aligned M t v)),
+            ));
       }
 
-  aligned_law : SyntaxLaw Aligned
-  aligned_law = record {
-    one_of_two = aligned;
-    encodes = λ M t v. octets_of (length (complete M t v) / 8) (complete M t v) (omega (arith, laws.whole M t v));
-    one_encoding = λ M t v xs ys h k p q. same_octets xs ys h k (p ∙ sym q);
+  per_law : SyntaxLaw (per_syntax aligned)
+  per_law = record {
+    one_of_two = per_one;
+    encodes = λ M t v. (
+        let o = octets_of (length (complete_by aligned M t v) / 8) (complete_by aligned M t v) (omega (arith, laws.whole M t v)) in
+        (o.0, encoding_per M t o.0 aligned v o.1, o.2));
+    one_encoding = λ M t v xs ys h k p q. same_octets xs ys h k (per_encoding M t xs aligned v p ∙ sym (per_encoding M t ys aligned v q));
   }
 
-  pub all_syntaxes : AllSyntaxes
-  all_syntaxes Aligned = aligned_law
+pub all_syntaxes : ((aligned : Bool) → PerLaws aligned) → AllSyntaxes
+all_syntaxes laws Aligned = per_law true (laws true)
+all_syntaxes laws Unaligned = per_law false (laws false)

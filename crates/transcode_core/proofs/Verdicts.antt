@@ -13,7 +13,7 @@ use Rattle.asn_types.specs.declared.modules.Assignment.{Assignment}
 use Rattle.command_line.specs.declared.outcome.Outcome.{Outcome}
 use Rattle.command_line.specs.declared.outcome.Outcome.TheVariants.{Done, Usage, SchemaSyntax, SchemaFault, LinkFault, UnknownRoot, DocSyntax, Invalid, PerFault, RecordFault, Trailing, TooLong, TooManyNodes, LoadFault, ReadFault, WriteFault, OutOfMemory}
 use Rattle.command_line.specs.declared.tasks.Syntax.{Syntax}
-use Rattle.command_line.specs.declared.tasks.Syntax.TheVariants.{Aligned}
+use Rattle.command_line.specs.declared.tasks.Syntax.TheVariants.{Aligned, Unaligned}
 use Rattle.command_line.specs.declared.tasks.Task.{Task}
 use Rattle.command_line.specs.declared.tasks.Task.TheVariants.{Check, Send, Receive}
 use Rattle.command_line.specs.Order.{Give, Then}
@@ -191,6 +191,8 @@ not_told false refusal other e = other e
 
 not_fault : (syntax : Syntax) (M : List Assignment) (t : ℕ) (octets : List ℕ) (fault : Fault) → HasFault syntax M t octets fault → Done ≡ fault.refusal → ⊥
 not_fault Aligned M t octets fault (stop, stops, is) e =
+    let clash : Done ≡ PerFault stop.bit stop.why = e ∙ ap (λ (f : Fault). f.refusal) is in cc
+not_fault Unaligned M t octets fault (stop, stops, is) e =
     let clash : Done ≡ PerFault stop.bit stop.why = e ∙ ap (λ (f : Fault). f.refusal) is in cc
 
 not_decoded : (syntax : Syntax) (type : RootType) (left : Option (List ℕ)) → Decoded syntax type left (Err Done) → ⊥

@@ -1,6 +1,6 @@
 -- Transfer syntaxes: of each the encoding of a value, the octets that begin with one, and the first fault of those that don't.
 -- A further syntax is a row of each, and one of the law below.
-use Rattle.std.specs.Prelude.{◌≡◌, ◌⊎◌, ℕ, ◌*◌, ◌<◌, ◌≤◌, Bool, All, List, length}
+use Rattle.std.specs.Prelude.{◌≡◌, ◌⊎◌, ℕ, ◌*◌, ◌<◌, ◌≤◌, Bool, true, false, All, List, length}
 use Rattle.label_tree.specs.Rose.{Rose}
 use Rattle.simple_types.specs.declared.labels.ValueLabel.{ValueLabel}
 use Rattle.asn_types.specs.declared.modules.Assignment.{Assignment}
@@ -9,14 +9,14 @@ use Rattle.asn_types.specs.Bounds.{IsBounded}
 use Rattle.asn_types.specs.Values.{In}
 use Rattle.bit_cursor.specs.Bits.{octet_bits}
 use Rattle.per_fields.specs.declared.stops.Stop.{Stop}
-use Rattle.per_fields.specs.Encoding.{complete}
-use Rattle.per_fields.specs.Laws.{Begins}
-use Rattle.per_stops.specs.Stopping.{StopsFirst}
+use Rattle.per_fields.specs.Encoding.{complete_by}
+use Rattle.per_fields.specs.Laws.{BeginsBy}
+use Rattle.per_stops.specs.Stopping.{StopsFirstBy}
 use Rattle.per_decode.specs.Answers.{is_short}
 use Rattle.command_line.specs.declared.outcome.Outcome.{Outcome}
 use Rattle.command_line.specs.declared.outcome.Outcome.TheVariants.{PerFault}
 use Rattle.command_line.specs.declared.tasks.Syntax.{Syntax}
-use Rattle.command_line.specs.declared.tasks.Syntax.TheVariants.{Aligned}
+use Rattle.command_line.specs.declared.tasks.Syntax.TheVariants.{Aligned, Unaligned}
 
 -- a first fault: how it is told, whether the octets end before it is decided, and the bit behind what shows it
 pub record Fault : Type 0 where
@@ -28,17 +28,35 @@ pub record Fault : Type 0 where
 abbrev pub fault_of : Stop → Fault
 fault_of stop = record { refusal = PerFault stop.bit stop.why; is_open = is_short stop.why; end = stop.end }
 
+-- PER (X.691), in one of its variants
+abbrev pub per_syntax : Bool → Syntax
+per_syntax true = Aligned
+per_syntax false = Unaligned
+
+module _ (aligned : Bool) (M : List Assignment) (t : ℕ) where
+  abbrev pub IsPer : Rose ValueLabel → List ℕ → Type 0
+  IsPer v octets = octet_bits octets ≡ complete_by aligned M t v
+
+  abbrev pub BeginsWithPer : List ℕ → Rose ValueLabel → ℕ → Type 0
+  BeginsWithPer octets v count = BeginsBy aligned M t (octet_bits octets) v × (8 * count ≡ length (complete_by aligned M t v))
+
+  abbrev pub HasPerFault : List ℕ → Fault → Type 0
+  HasPerFault octets fault = (stop : Stop) × StopsFirstBy aligned M t (octet_bits octets) stop × (fault ≡ fault_of stop)
+
 -- these octets are the encoding of the value, which is of the type of assignment t
 abbrev pub IsEncoding : Syntax → List Assignment → ℕ → Rose ValueLabel → List ℕ → Type 0
-IsEncoding Aligned M t v octets = octet_bits octets ≡ complete M t v
+IsEncoding Aligned M t v octets = IsPer true M t v octets
+IsEncoding Unaligned M t v octets = IsPer false M t v octets
 
 -- the first so many octets are the encoding of a value of the type
 abbrev pub BeginsWith : Syntax → List Assignment → ℕ → List ℕ → Rose ValueLabel → ℕ → Type 0
-BeginsWith Aligned M t octets v count = Begins M t (octet_bits octets) v × (8 * count ≡ length (complete M t v))
+BeginsWith Aligned M t octets v count = BeginsWithPer true M t octets v count
+BeginsWith Unaligned M t octets v count = BeginsWithPer false M t octets v count
 
 -- the octets have this first fault
 abbrev pub HasFault : Syntax → List Assignment → ℕ → List ℕ → Fault → Type 0
-HasFault Aligned M t octets fault = (stop : Stop) × StopsFirst M t (octet_bits octets) stop × (fault ≡ fault_of stop)
+HasFault Aligned M t octets fault = HasPerFault true M t octets fault
+HasFault Unaligned M t octets fault = HasPerFault false M t octets fault
 
 -- Octets begin with the encoding of a value, or have a first fault; of one value, or one fault; and never both. They begin with
 -- an encoding that they are, and are an encoding that they begin with and that ends where they do.

@@ -21,8 +21,8 @@ use doc_text::{document_items, one_answer as document_answer};
 use map_laws::maps_exist;
 use map_widths::{maps_are_bounded, maps_are_modules};
 use one_value::{items_of_values, one_value};
-use per_fields::first_stop;
-use per_stops::stops_first;
+use per_fields::either_variant as octets_of_either;
+use per_stops::either_variant as stops_of_either;
 use schema_link::one_answer as link_answer;
 use set_exists::sets_of_documents;
 use validity::{at_least_one, at_most_one};
@@ -33,8 +33,8 @@ use value_exists::values_of_items;
 pub fn exactly_one_of_both()
     ensures { AllSyntaxes }
 {
-    first_stop();
-    stops_first();
+    octets_of_either();
+    stops_of_either();
 }
 
 /// Of all words, over files that are told, at most one outcome is due, with one list of bytes; where the words ask for the
@@ -45,8 +45,8 @@ pub fn one_answer()
 {
     at_most_one();
     one_value();
-    first_stop();
-    stops_first();
+    octets_of_either();
+    stops_of_either();
 }
 
 /// Of all words, over files that are told, an outcome is due, with a list of bytes; where the words ask for the input, this is
@@ -65,8 +65,8 @@ pub fn some_answer()
     at_least_one();
     values_of_items();
     items_of_values();
-    first_stop();
-    stops_first();
+    octets_of_either();
+    stops_of_either();
 }
 
 /// What `to-per` writes of a document, `to-xml` takes over the same files, unless it is too long to be an input. What it writes
@@ -83,8 +83,8 @@ pub fn there_and_back()
         → Due there (Some entries) (Some document) outcome.Done octets → ReadBack back (Some entries) (Some octets) text
         → AreSameDocuments (Some entries) ways.root ways.files document text }
 {
-    first_stop();
-    stops_first();
+    octets_of_either();
+    stops_of_either();
 }
 
 /// The trial document has three elements for each of its lines, besides the root. So a `trial` that is Done, of whose document each

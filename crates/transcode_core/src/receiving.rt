@@ -6,6 +6,7 @@ ghost use Rattle.asn_types.specs.Values.{In};
 ghost use Rattle.schema_parts.specs.Components.{Set};
 ghost use Rattle.transcode_core.specs.Private.Seen.{type_seen};
 ghost use Rattle.transcode_core.specs.Steps.{IsTypeOf, Decoded, Written};
+ghost use Rattle.transcode_core.specs.Syntaxes.{per_syntax};
 ghost use Rattle.transcode_core.specs.ReadBack.{WrittenBack, DecodedBack};
 ghost use Rattle.command_line.specs.Order.{Then};
 ghost use Rattle.command_line.specs.Answers.{Answers, NoMemory};
@@ -13,8 +14,8 @@ ghost use Rattle.transcode_core.specs.Causes.{OneRead, TakesItsField, IsOfInput}
 
 use crate::opened::RootModule;
 use command_line::{Outcome, Syntax};
-use per_decode::{DecodeError, decode};
-use per_stops::stops_first;
+use per_decode::{DecodeError, decode_by};
+use per_fields::{Aligned, Unaligned, Variant};
 use simple_types::Value;
 use sound_items::items_are_sound;
 use std::alloc::Global;
@@ -37,22 +38,21 @@ fn ends<S: Source>(input: &mut S) -> Result<bool, Failed>
     }
 }
 
-// The value of which the input is the encoding in canonical aligned PER.
-fn decode_aligned<S: Source>(
+// The value of which the input is the encoding in one of the two variants of canonical PER.
+fn decode_per<S: Source, V: Variant>(
     alloc: Global,
     typed: &RootModule,
     input: &mut S,
 ) -> Result<Value, Outcome>
     requires { (set : Set) × (n : ℕ) × IsTypeOf set n (type_seen typed.now) }
-    ensures due { Answers (λ value. value) (Decoded Syntax.Aligned (type_seen typed.now) (S.left input.old)) (OneRead (S.faults input.old) (S.faults input.new)) result }
+    ensures due { Answers (λ value. value) (Decoded (per_syntax V.ALIGNED) (type_seen typed.now) (S.left input.old)) (OneRead (S.faults input.old) (S.faults input.new)) result }
     ensures kept { IfOk result (λ value. In typed.now.module typed.now.number value) }
     ensures end { OnOk result (IsAtEnd (S.left input.new)) }
     ensures stage { IfErr result IsOfInput }
-    ensures taken { TakesItsField Syntax.Aligned (type_seen typed.now) (S.left input.old) (S.left input.new) }
+    ensures taken { TakesItsField (per_syntax V.ALIGNED) (type_seen typed.now) (S.left input.old) (S.left input.new) }
     ensures later { S.faults input.old ≤ S.faults input.new }
 {
-    stops_first();
-    match decode(alloc, &typed.module, typed.number, input, LIMIT) {
+    match decode_by::<S, V>(alloc, &typed.module, typed.number, input, LIMIT) {
         Ok(decoded) => match ends(input) {
             Ok(true) => Ok(decoded.value),
             Ok(false) => Err(Outcome::Trailing { at: decoded.octets }),
@@ -81,7 +81,8 @@ fn decode_input<S: Source>(
     ensures later { S.faults input.old ≤ S.faults input.new }
 {
     match syntax {
-        Syntax::Aligned => decode_aligned(alloc, typed, input),
+        Syntax::Aligned => decode_per::<S, Aligned>(alloc, typed, input),
+        Syntax::Unaligned => decode_per::<S, Unaligned>(alloc, typed, input),
     }
 }
 

@@ -5,6 +5,7 @@ ghost use Rattle.schema_parts.specs.SetParts.{parts_of};
 ghost use Rattle.asn_types.specs.Values.{In};
 ghost use Rattle.transcode_core.specs.Private.Seen.{opened_seen, type_seen};
 ghost use Rattle.transcode_core.specs.Steps.{RootType, IsTypeOf, ValueIn, Encoding};
+ghost use Rattle.transcode_core.specs.Syntaxes.{per_syntax};
 ghost use Rattle.command_line.specs.Order.{Then};
 ghost use Rattle.command_line.specs.Answers.{Answers, NoMemory};
 ghost use Rattle.transcode_core.specs.Causes.{IsOfInput};
@@ -12,7 +13,8 @@ ghost use Rattle.transcode_core.specs.Causes.{IsOfInput};
 use crate::opened::{Opened, RootModule};
 use command_line::{Outcome, Syntax};
 use doc_text::Items;
-use per_encode::encode;
+use per_encode::encode_by;
+use per_fields::{Aligned, Unaligned, Variant};
 use simple_types::Value;
 use std::alloc::Global;
 use std::sync::ledger::Ledger;
@@ -55,13 +57,17 @@ fn see_octets(octets: &[u8])
     }
 }
 
-// The encoding of the value in canonical aligned PER.
-fn encode_aligned(alloc: Global, typed: &RootModule, value: &Value) -> Result<Vec<u8>, Outcome>
+// The encoding of the value in one of the two variants of canonical PER.
+fn encode_per<V: Variant>(
+    alloc: Global,
+    typed: &RootModule,
+    value: &Value,
+) -> Result<Vec<u8>, Outcome>
     requires { In typed.now.module typed.now.number value.now }
-    ensures due { Answers (λ octets. octets.items) (Encoding Syntax.Aligned (type_seen typed.now) value.now) NoMemory result }
+    ensures due { Answers (λ octets. octets.items) (Encoding (per_syntax V.ALIGNED) (type_seen typed.now) value.now) NoMemory result }
     ensures stage { IfErr result IsOfInput }
 {
-    match encode(alloc, &typed.module, typed.number, value) {
+    match encode_by::<V>(alloc, &typed.module, typed.number, value) {
         Ok(octets) => {
             see_octets(&octets);
             Ok(octets)
@@ -82,7 +88,8 @@ fn encode_value(
     ensures stage { IfErr result IsOfInput }
 {
     match syntax {
-        Syntax::Aligned => encode_aligned(alloc, typed, value),
+        Syntax::Aligned => encode_per::<Aligned>(alloc, typed, value),
+        Syntax::Unaligned => encode_per::<Unaligned>(alloc, typed, value),
     }
 }
 

@@ -37,8 +37,8 @@ use doc_text::Items;
 use map_694::map_set;
 use module_print::print_module;
 use one_value::one_value;
-use per_fields::first_stop;
-use per_stops::stops_first;
+use per_fields::either_variant as octets_of_either;
+use per_stops::either_variant as stops_of_either;
 use schema_parts::SchemaSet;
 use sound_items::documents_of_values;
 use std::alloc::Global;
@@ -496,8 +496,8 @@ fn run_whole<F: Library, S: Source, K: Sink, E: Sink, L: Ledger>(
     // What is due is one thing: documents are valid in one way, and have one value, and octets are of one.
     at_most_one();
     one_value();
-    first_stop();
-    stops_first();
+    octets_of_either();
+    stops_of_either();
     match decide(alloc, words, files, input, steps) {
         Ok(bytes) => match write_all(output, &bytes) {
             Ok(()) => {
