@@ -1,5 +1,5 @@
 -- Answers of the outside, each with its cause.
-use Rattle.std.specs.Prelude.{◌≡◌, ◌⊎◌, ℕ, suc, ◌+◌, ◌*◌, ◌≤◌, drop, Bool, true, false, IsTrue, List, [], ◌∷◌, ◌++◌, length, Option, Some, None, Result, Ok, Err}
+use Rattle.std.specs.Prelude.{◌≡◌, ◌⊎◌, ℕ, suc, ◌+◌, ◌*◌, ◌≤◌, drop, Bool, true, false, IsTrue, List, [], ◌∷◌, ◌++◌, length, Option, Some, None, Ok}
 use Rattle.xa_base.specs.Faults.{HasRisen}
 use Rattle.xa_base.specs.Entries.{Lacks}
 use Rattle.command_line.specs.declared.outcome.Outcome.{Outcome}
@@ -133,9 +133,9 @@ ReadsItems left (Trial lines) items = ItemsIn (Some (trial_document lines)) (Ok 
 abbrev pub ReadsOfWords : List (List ℕ) → Option (List ℕ) → Rose ItemLabel → Type 0
 ReadsOfWords words left items = (request : Asked) × Requested words (Ok request) × ReadsItems left request items
 
--- no step through content models was taken, or at most 144 for each element of such a document
+-- no step through content models was taken, or at most 144 for each element of such a document; and none is lost
 abbrev pub StepsUpTo : (Rose ItemLabel → Type 0) → ℕ → ℕ → Type 0
-StepsUpTo Reads old new = (new ≡ old) ⊎ ((items : Rose ItemLabel) × Reads items × (new ≤ old + 144 * element_count items))
+StepsUpTo Reads old new = (new ≡ old) ⊎ ((items : Rose ItemLabel) × Reads items × (old ≤ new) × (new ≤ old + 144 * element_count items))
 
 -- at least one step was taken for each element of such a document but the root
 abbrev pub StepsFrom : (Rose ItemLabel → Type 0) → ℕ → ℕ → Type 0

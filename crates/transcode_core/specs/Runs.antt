@@ -62,7 +62,7 @@ pub record Runs (words : List (List ℕ)) (old new : Outside) (same_input same_o
   pub complaint : Appends old.complained new.complained (line result)
       ⊎ (HasRisen old.complaint_faults new.complaint_faults × AppendsFront old.complained new.complained (line result))
   pub complaints : old.complaint_faults ≤ new.complaint_faults
-  -- At most 144 steps through content models for each element of the document that is read.
+  -- At most 144 steps through content models for each element of the document that is read, and never fewer than before.
   pub few : StepsUpTo (ReadsOfWords words old.left) old.steps new.steps
   -- Done, at least one for each but the root.
   pub many : result ≡ Done → ReadsDocument words → StepsFrom (ReadsOfWords words old.left) old.steps new.steps

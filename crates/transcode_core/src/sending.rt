@@ -17,7 +17,7 @@ use simple_types::Value;
 use std::alloc::Global;
 use std::sync::ledger::Ledger;
 use xa_base::Steps;
-use xer_read::{ReadError, read_value};
+use xer_read::{ReadValueError, read_value};
 
 // The value of the document, if it is valid: one value, in the map of the set.
 fn value_of<L: Ledger>(
@@ -31,13 +31,14 @@ fn value_of<L: Ledger>(
     ensures kept { (type : RootType) → IsTypeOf opened.now.set opened.now.root type → IfOk result (λ value. In type.assignments type.number value) }
     ensures stage { IfErr result IsOfInput }
     ensures most { steps.new ≤ steps.old + 144 * element_count items.now }
+    ensures later { steps.old ≤ steps.new }
     ensures least { OnOk result (steps.old + element_count items.now ≤ steps.new + 1) }
 {
     match read_value(alloc, &opened.set, opened.root, items, steps) {
         Ok(value) => Ok(value),
-        Err(ReadError::Invalid { at, why }) => Err(Outcome::Invalid { at, why }),
-        Err(ReadError::TooManyNodes { count }) => Err(Outcome::TooManyNodes { count }),
-        Err(ReadError::Memory) => Err(Outcome::OutOfMemory),
+        Err(ReadValueError::Invalid { at, why }) => Err(Outcome::Invalid { at, why }),
+        Err(ReadValueError::TooManyNodes { count }) => Err(Outcome::TooManyNodes { count }),
+        Err(ReadValueError::Memory) => Err(Outcome::OutOfMemory),
     }
 }
 
@@ -99,6 +100,7 @@ pub fn encode_items<L: Ledger>(
         (Then (ValueIn (opened_seen opened.now) (type_seen typed.now) items.now) (λ value. Encoding syntax (type_seen typed.now) value)) NoMemory result }
     ensures stage { IfErr result IsOfInput }
     ensures most { steps.new ≤ steps.old + 144 * element_count items.now }
+    ensures later { steps.old ≤ steps.new }
     ensures least { OnOk result (steps.old + element_count items.now ≤ steps.new + 1) }
 {
     match value_of(alloc, opened, items, steps) {

@@ -129,6 +129,7 @@ fn judge<L: Ledger>(
     ensures due { Answers (λ bytes. bytes.items) (Then (Judged (parts_of opened.now.set) opened.now.root items.now) (λ _. Give [])) NoMemory result }
     ensures stage { IfErr result IsOfInput }
     ensures most { steps.new ≤ steps.old + 144 * element_count items.now }
+    ensures later { steps.old ≤ steps.new }
     ensures least { OnOk result (steps.old + element_count items.now ≤ steps.new + 1) }
 {
     // What each linked set keeps is known once one of its readers was called.

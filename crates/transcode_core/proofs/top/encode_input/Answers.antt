@@ -29,7 +29,7 @@ returns-in-Err-clause-due g c =
     (λ (bytes : Vec ℕ Global). bytes.items) c.in-Err.outcome c.in-Err.ensures.due (λ h. h)
 
 pub returns-in-Ok-clause-few : goal.returns-in-Ok-clause-few
-returns-in-Ok-clause-few g c = inr (c.in-Ok.items, c.in-Ok.ensures.due, c.encode_items.ensures.most)
+returns-in-Ok-clause-few g c = inr (c.in-Ok.items, c.in-Ok.ensures.due, c.encode_items.ensures.later, c.encode_items.ensures.most)
 
 pub returns-in-Ok-clause-many : goal.returns-in-Ok-clause-many
 returns-in-Ok-clause-many g c =
