@@ -47,7 +47,7 @@ pub returns-in-Ok-clause-few : goal.returns-in-Ok-clause-few
 returns-in-Ok-clause-few g c =
     elim c.answer.ensures.few [
       | inl none ↦ inl none
-      | inr (items, reads, few) ↦ inr (items, (seen c.in-Ok.request, c.in-Ok.ensures.due, reads), few)
+      | inr (items, reads, later, few) ↦ inr (items, (seen c.in-Ok.request, c.in-Ok.ensures.due, reads), later, few)
     ]
 
 pub returns-in-Ok-clause-many : goal.returns-in-Ok-clause-many
