@@ -155,3 +155,12 @@ abbrev pub WritesNothing : Outcome → Type 0
 WritesNothing Done = ⊥
 WritesNothing WriteFault = ⊥
 WritesNothing o = Unit {0}
+
+-- none of the files to which the order of the words comes is lacking
+abbrev pub HasFiles : List (List ℕ) → Option (List (List ℕ × List ℕ)) → Type 0
+HasFiles words entries = (file : ℕ) (name : List ℕ) → ReachesFile words entries file name → Lacks entries name → ⊥
+
+-- the output tells its room, and has so many bytes of it
+abbrev pub HasRoom : Option ℕ → ℕ → Type 0
+HasRoom None n = ⊥
+HasRoom (Some room) n = n ≤ room

@@ -1,8 +1,8 @@
 -- WHAT `run` PROMISES: of all commands that answer whole, and of the one whose documents come one by one.
-use Rattle.std.specs.Prelude.{◌≡◌, ◌⊎◌, ℕ, ◌≤◌, Bool, List, [], Option, Some, None, Result, Ok, Err}
+use Rattle.std.specs.Prelude.{◌≡◌, ◌⊎◌, ℕ, ◌≤◌, Bool, IsTrue, List, [], length, Option, Some, None, Result, Ok, Err}
 use Rattle.std.specs.Io.KnownBytes.{Appends, IsAtEnd}
 use Rattle.xa_base.specs.Faults.{HasRisen}
-use Rattle.xa_base.specs.Bytes.{AppendsFront}
+use Rattle.xa_base.specs.Bytes.{AppendsFront, LacksRoom}
 use Rattle.command_line.specs.declared.outcome.Outcome.{Outcome}
 use Rattle.command_line.specs.declared.outcome.Outcome.TheVariants.{Done, LoadFault, ReadFault, WriteFault, OutOfMemory}
 use Rattle.command_line.specs.Answers.{IsRefusal}
@@ -13,16 +13,17 @@ use Rattle.transcode_core.specs.Steps.{RootType, Typed}
 use Rattle.transcode_core.specs.Due.{Opened, Due}
 use Rattle.transcode_core.specs.Each.{Flow, EachEnds}
 use Rattle.transcode_core.specs.ReadBack.{ReadBack}
-use Rattle.transcode_core.specs.Causes.{SomeLoad, Fails, ReachesFile, ReachesInput, ReadsInput, IsTold, TakesOfWords, IsOfInput, ReadsOfWords, ReadsDocument, StepsUpTo, StepsFrom, WritesNothing}
+use Rattle.transcode_core.specs.Causes.{SomeLoad, Fails, ReachesFile, ReachesInput, ReadsInput, IsTold, TakesOfWords, IsOfInput, ReadsOfWords, ReadsDocument, StepsUpTo, StepsFrom, WritesNothing, HasFiles, HasRoom}
 
 -- What is seen of the outside: the entries of the library and whether it is sure, what the input has left, what output and complaints
--- received, how often each of the four has failed, and the steps through content models.
+-- received, the room that the output tells, how often each of the four has failed, and the steps through content models.
 pub record Outside : Type 0 where
   pub entries : Option (List (List ℕ × List ℕ))
   pub is_sure : Bool
   pub left : Option (List ℕ)
   pub written : Option (List ℕ)
   pub complained : Option (List ℕ)
+  pub room : Option ℕ
   pub load_faults : ℕ
   pub read_faults : ℕ
   pub write_faults : ℕ
@@ -42,7 +43,7 @@ pub record Runs (words : List (List ℕ)) (old new : Outside) (same_input same_o
   pub read : result ≡ ReadFault → HasRisen old.read_faults new.read_faults × ReachesInput words old.entries
   pub write : result ≡ WriteFault → HasRisen old.write_faults new.write_faults
       × ((bytes : List ℕ) × Due words old.entries old.left Done bytes
-      × ReadBack words old.entries old.left bytes × AppendsFront old.written new.written bytes)
+      × ReadBack words old.entries old.left bytes × AppendsFront old.written new.written bytes × LacksRoom old.room (length bytes))
   -- Nothing is written but on Done and WriteFault. On Done an input that the words ask for is at its end.
   pub kept : WritesNothing result → same_output
   pub end : result ≡ Done → ReadsInput words → IsAtEnd new.left
@@ -53,6 +54,11 @@ pub record Runs (words : List (List ℕ)) (old new : Outside) (same_input same_o
   pub complete : (entries : List (List ℕ × List ℕ)) (bytes : List ℕ) → old.entries ≡ Some entries → (ReadsInput words → IsTold old.left)
       → Due words old.entries old.left Done bytes → (HasRisen old.load_faults new.load_faults → ⊥) → (HasRisen old.read_faults new.read_faults → ⊥)
       → (HasRisen old.write_faults new.write_faults → ⊥) → (result ≡ Done) ⊎ (result ≡ OutOfMemory)
+  -- Over a sure library that lacks none of the files, an input that didn't fail and an output with room enough, what is due comes, or
+  -- memory is missing.
+  pub sure : (entries : List (List ℕ × List ℕ)) (due : Outcome) (bytes : List ℕ) → old.entries ≡ Some entries → (ReadsInput words → IsTold old.left)
+      → Due words old.entries old.left due bytes → IsTrue old.is_sure → HasFiles words old.entries → (HasRisen old.read_faults new.read_faults → ⊥)
+      → HasRoom old.room (length bytes) → (result ≡ due) ⊎ (result ≡ OutOfMemory)
   pub loads : old.load_faults ≤ new.load_faults
   pub reads : old.read_faults ≤ new.read_faults
   pub writes : old.write_faults ≤ new.write_faults

@@ -473,6 +473,7 @@ fn run_whole<F: Library, S: Source, K: Sink, E: Sink, L: Ledger>(
           left = S.left input.old;
           written = K.written output.old;
           complained = E.written complaints.old;
+          room = K.free output.old;
           load_faults = F.faults files.old;
           read_faults = S.faults input.old;
           write_faults = K.faults output.old;
@@ -485,6 +486,7 @@ fn run_whole<F: Library, S: Source, K: Sink, E: Sink, L: Ledger>(
           left = S.left input.new;
           written = K.written output.new;
           complained = E.written complaints.new;
+          room = K.free output.new;
           load_faults = F.faults files.new;
           read_faults = S.faults input.new;
           write_faults = K.faults output.new;
@@ -549,6 +551,7 @@ pub fn run<F: Library, S: Source, K: Sink, E: Sink, L: Ledger>(
           left = S.left input.old;
           written = K.written output.old;
           complained = E.written complaints.old;
+          room = K.free output.old;
           load_faults = F.faults files.old;
           read_faults = S.faults input.old;
           write_faults = K.faults output.old;
@@ -561,6 +564,7 @@ pub fn run<F: Library, S: Source, K: Sink, E: Sink, L: Ledger>(
           left = S.left input.new;
           written = K.written output.new;
           complained = E.written complaints.new;
+          room = K.free output.new;
           load_faults = F.faults files.new;
           read_faults = S.faults input.new;
           write_faults = K.faults output.new;
