@@ -8,7 +8,8 @@ use Rattle.xa_base.proofs.NameLaws.{name_eq-Decides}
 use Rattle.schema_parts.specs.declared.components.AttributeUse.{AttributeUse}
 use Rattle.validity.specs.Attributes.{text_of}
 use Rattle.attribute_faults.specs.declared.places.Run.{Run}
-use Rattle.attribute_faults.specs.Uses.{Ascend, IsRun, IsPlace}
+use Rattle.attribute_faults.specs.Ascending.{Ascend}
+use Rattle.attribute_faults.specs.Uses.{IsRun, IsPlace}
 use Rattle.attribute_faults.specs.Texts.{told, AreTexts}
 use Rattle.attribute_faults.proofs.Ordered.{before, less_apart}
 

@@ -16,7 +16,8 @@ use Rattle.schema_parts.specs.SetParts.{SetParts}
 use Rattle.validity.specs.Asked.{attribute_in}
 use Rattle.validity.specs.Attributes.{declared}
 use Rattle.attribute_faults.specs.declared.places.Run.{Run}
-use Rattle.attribute_faults.specs.Uses.{Ascend, IsRunOf, IsPlace}
+use Rattle.attribute_faults.specs.Ascending.{Ascend}
+use Rattle.attribute_faults.specs.Uses.{IsRunOf, IsPlace}
 
 -- what stands at a place doesn't depend on what would stand beyond the end
 pub same_at : {X : Type 0} (xs : List X) (i : ℕ) (d e : X) → i < length xs → get_or xs i d ≡ get_or xs i e

@@ -1,2 +1,4 @@
+pub mod Ascending
+pub mod First
 pub mod Texts
 pub mod Uses

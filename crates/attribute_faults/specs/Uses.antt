@@ -1,13 +1,9 @@
--- Attribute uses in the order of their names, in which those of one namespace stand together.
-use Rattle.std.specs.Prelude.{◌≡◌, ℕ, ◌<◌, ◌≤◌, false, List, map, length, Option, Some, None, slice_index_or}
-use Rattle.std.specs.List.Sorted.{IsStrictlySortedBy}
+-- Where the use of a name stands among uses that ascend by their names, of which those of one namespace stand together.
+use Rattle.std.specs.Prelude.{◌≡◌, ℕ, ◌<◌, ◌≤◌, false, List, length, Option, Some, None, slice_index_or}
 use Rattle.xa_base.specs.declared.texts.Name.{Name}
-use Rattle.xa_base.specs.Names.{name_eq, name_cmp}
+use Rattle.xa_base.specs.Names.{name_eq}
 use Rattle.schema_parts.specs.declared.components.AttributeUse.{AttributeUse}
 use Rattle.attribute_faults.specs.declared.places.Run.{Run}
-
-abbrev pub Ascend : List AttributeUse → Type 0
-Ascend us = IsStrictlySortedBy name_cmp (map (λ (u : AttributeUse). u.name) us)
 
 -- those of the run have this namespace
 pub record IsRunOf (us : List AttributeUse) (space : List ℕ) (run : Run) : Type 0 where

@@ -2,7 +2,8 @@
 ghost use Rattle.std.specs.Prelude.{◌≡◌, ℕ, List, ◌<◌, ◌≤◌, length, slice_index_or};
 ghost use Rattle.schema_parts.specs.declared.components.AttributeUse.{AttributeUse};
 ghost use Rattle.xa_base.specs.Names.{name_eq, name_cmp};
-ghost use Rattle.attribute_faults.specs.Uses.{Ascend, IsPlace, IsRun, IsRunOf};
+ghost use Rattle.attribute_faults.specs.Ascending.{Ascend};
+ghost use Rattle.attribute_faults.specs.Uses.{IsPlace, IsRun, IsRunOf};
 
 use schema_parts::AttributeUse;
 use std::cmp::Ordering;
@@ -13,7 +14,7 @@ const FEW: usize = 8;
 
 /// Whether the names are the same. Their local names are compared first: a namespace may be much longer, and is that of
 /// many names.
-pub fn is_same(one: &Name, other: &Name) -> bool
+pub(crate) fn is_same(one: &Name, other: &Name) -> bool
     ensures { result ≡ name_eq one.now other.now }
 {
     if one.local == other.local {
@@ -25,14 +26,14 @@ pub fn is_same(one: &Name, other: &Name) -> bool
 
 /// Uses that are known to have one namespace: those from one number to before another.
 #[derive(Clone, Copy)]
-pub struct Run {
+pub(crate) struct Run {
     start: usize,
     end: usize,
 }
 
 impl Run {
     /// No use is known.
-    pub fn none() -> Run
+    pub(crate) fn none() -> Run
         ensures { (us : List AttributeUse) (space : List ℕ) → IsRunOf us space result }
     {
         Run { start: 0, end: 0 }
@@ -117,7 +118,7 @@ fn place_among_few(uses: &[AttributeUse], name: &Name) -> Option<usize>
 
 /// The number of the use of this name, if there is one, among uses that ascend. Many are searched by halves, and what is
 /// learnt of their namespaces is kept for the next name.
-pub fn place_of(uses: &[AttributeUse], name: &Name, run: &mut Run) -> Option<usize>
+pub(crate) fn place_of(uses: &[AttributeUse], name: &Name, run: &mut Run) -> Option<usize>
     requires ascending { Ascend uses.now }
     requires run { IsRun uses.now run.old }
     ensures place { IsPlace uses.now name.now result }

@@ -1,7 +1,7 @@
 //! The texts of the attributes of an element, in the order of the uses of its type.
 ghost use Rattle.std.specs.Prelude.{◌≡◌, None, IfOk, replicate};
 ghost use Rattle.attribute_faults.specs.Texts.{AreTexts};
-ghost use Rattle.attribute_faults.specs.Uses.{Ascend};
+ghost use Rattle.attribute_faults.specs.Ascending.{Ascend};
 
 use crate::places::{Run, place_of};
 use schema_parts::AttributeUse;
@@ -17,7 +17,7 @@ pub fn are_few(uses: &[AttributeUse], attributes: &[(Name, Text)]) -> bool {
 }
 
 // So many places of texts, in which none stands.
-fn no_texts<'a>(alloc: Global, count: usize) -> Result<Vec<Option<&'a Text>>, Memory>
+pub(crate) fn no_texts<'a>(alloc: Global, count: usize) -> Result<Vec<Option<&'a Text>>, Memory>
     ensures { IfOk result (λ texts. texts.items ≡ replicate count None) }
 {
     let texts = vec![in alloc; None; count]?;
@@ -25,7 +25,7 @@ fn no_texts<'a>(alloc: Global, count: usize) -> Result<Vec<Option<&'a Text>>, Me
 }
 
 /// For each of these uses, which ascend, the text of its attribute, if it stands. Each attribute is looked up once.
-pub fn texts_of<'a>(
+pub(crate) fn texts_of<'a>(
     alloc: Global,
     uses: &[AttributeUse],
     attributes: &'a [(Name, Text)],

@@ -12,7 +12,6 @@ use Rattle.schema_parts.specs.declared.components.ComplexDef.{ComplexDef}
 use Rattle.schema_parts.specs.Linked.{IsUse, IsModel, leaves}
 use Rattle.schema_parts.specs.SetParts.{SetParts}
 use Rattle.validity.specs.Asked as asked
-use Rattle.attribute_faults.specs.Uses.{Ascend}
 use Rattle.validity_check.specs.declared.declarations.Declared.{Declared}
 use Rattle.validity_check.specs.declared.declarations.Inside.{Inside}
 use Rattle.validity_check.specs.declared.declarations.Inside.TheVariants.{Nothing, Simple, Children}
@@ -23,7 +22,7 @@ inside_told (Simple simple) = asked.simple (space_of simple.now)
 inside_told (Children mixed complex model) = asked.children mixed (seen model.now)
 
 abbrev pub told : SetParts → Declared → asked.Asked
-told s d = asked.asked d.nillable (map (asked.attribute_in s) d.uses.now) (inside_told d.inside)
+told s d = asked.asked d.nillable (map (asked.attribute_in s) d.uses.list.now) (inside_told d.inside)
 
 abbrev model_in : Option ComplexDef → Option (Rose ParticleLabel)
 model_in None = None
@@ -44,4 +43,4 @@ AreNamed s p = All (λ (leaf : ℕ × Name). leaf.0 < length s.elements) (leaves
 
 -- what a linked set keeps of what it declares
 abbrev pub IsFitting : Set → Declared → Type 0
-IsFitting s d = All (IsUse s) d.uses.now × Ascend d.uses.now × IsFittingInside s d.inside
+IsFitting s d = All (IsUse s) d.uses.list.now × IsFittingInside s d.inside

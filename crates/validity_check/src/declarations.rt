@@ -6,8 +6,9 @@ ghost use Rattle.schema_parts.specs.SetParts.{parts_of};
 ghost use Rattle.validity.specs.Asked.{inside_of, asked_by_complex, asked_at};
 ghost use Rattle.validity_check.specs.Told.{inside_told, told, model_at, IsFittingInside, IsFitting};
 
+use attribute_faults::Uses;
 use content_models::Particle;
-use schema_parts::{AttributeUse, Content, SchemaSet, TypeOf};
+use schema_parts::{Content, SchemaSet, TypeOf};
 use simple_types::Simple;
 
 /// What may stand in an element.
@@ -28,7 +29,7 @@ pub enum Inside<'a> {
 #[derive(Clone, Copy)]
 pub struct Declared<'a> {
     pub nillable: bool,
-    pub uses: &'a [AttributeUse],
+    pub uses: Uses<'a>,
     pub inside: Inside<'a>,
 }
 
@@ -66,7 +67,9 @@ fn of_complex<'a>(set: &'a SchemaSet, complex: u32, nillable: bool) -> Declared<
     let found = set.complex(complex);
     Declared {
         nillable,
-        uses: found.uses.items(),
+        uses: Uses {
+            list: found.uses.items(),
+        },
         inside: inside_of(set, complex, &found.content),
     }
 }
@@ -82,7 +85,7 @@ pub fn declared_of<'a>(set: &'a SchemaSet, decl: u32) -> Declared<'a>
     match element.kind {
         TypeOf::Simple(simple) => Declared {
             nillable: element.nillable,
-            uses: &[],
+            uses: Uses { list: &[] },
             inside: Inside::Simple(&set.simple(simple).space),
         },
         TypeOf::Complex(complex) => of_complex(set, complex, element.nillable),

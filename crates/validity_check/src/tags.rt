@@ -1,20 +1,19 @@
 //! The rules of a start tag, in the order of their faults.
-ghost use Rattle.std.specs.Prelude.{◌≡◌, true, false, Ok, Some, None, All, map, MatchOption, MatchResult, IfOk};
+ghost use Rattle.std.specs.Prelude.{◌≡◌, true, false, Some, None, All, map, MatchOption, MatchResult, IfOk, IsTrue, IsFalse};
 ghost use Rattle.xa_base.specs.Names.{name_eq};
 ghost use Rattle.xa_base.specs.WhiteSpace.{treated};
 ghost use Rattle.simple_values.specs.Lexical.{boolean_of};
 ghost use Rattle.schema_parts.specs.Linked.{IsUse, IsLinked};
-ghost use Rattle.schema_parts.specs.SetParts.{parts_of};
+ghost use Rattle.schema_parts.specs.SetParts.{SetParts, parts_of};
 ghost use Rattle.validity.specs.Asked.{attribute_in};
 ghost use Rattle.validity.specs.Attributes as rule;
-ghost use Rattle.attribute_faults.specs.Uses.{Ascend};
 ghost use Rattle.validity_check.specs.Told.{told};
 ghost use Rattle.validity_check.specs.Answers.{Tells, TagFault, IsGoodTag};
 
 use crate::declarations::Declared;
 use crate::error::CheckError;
-use attribute_faults::{first_wrong, lacks_required};
-use schema_parts::{AttributeUse, SchemaSet};
+use attribute_faults::{Judged, Uses};
+use schema_parts::SchemaSet;
 use simple_types::{Simple, ValueLabel};
 use simple_values::{SimpleError, accept};
 use std::alloc::Global;
@@ -82,20 +81,18 @@ pub fn nil_of(
     }
 }
 
-// Whether an attribute that is required is missing.
-fn lacks(
-    alloc: Global,
-    set: &SchemaSet,
-    uses: &[AttributeUse],
-    attributes: &[(Name, Text)],
-) -> Result<bool, Memory>
-    requires uses { All (IsUse set.now) uses.now }
-    requires ascending { Ascend uses.now }
-    ensures lacks { result ≡ Ok true → rule.OneMissing (map (attribute_in (parts_of set.now)) uses.now) (rule.left attributes.now) }
-    ensures stand { result ≡ Ok false → rule.AllStand (map (attribute_in (parts_of set.now)) uses.now) (rule.left attributes.now) }
+// Whether an attribute that is required is missing, those of XML Schema for documents left out: none of these is required.
+fn lacks(set: &SchemaSet, uses: &Uses<'_>, attributes: &[(Name, Text)], judged: &Judged) -> bool
+    requires uses { All (IsUse set.now) uses.now.list.now }
+    requires lacks { judged.now.lacks ≡ true → (s : SetParts) → rule.OneMissing (map (attribute_in s) uses.now.list.now) attributes.now }
+    requires stand { judged.now.lacks ≡ false → (s : SetParts) → rule.AllStand (map (attribute_in s) uses.now.list.now) attributes.now }
+    ensures lacks { IsTrue result → rule.OneMissing (map (attribute_in (parts_of set.now)) uses.now.list.now) (rule.left attributes.now) }
+    ensures stand { IsFalse result → rule.AllStand (map (attribute_in (parts_of set.now)) uses.now.list.now) (rule.left attributes.now) }
 {
     let _ = set;
-    lacks_required(alloc, uses, attributes)
+    let _ = uses;
+    let _ = attributes;
+    judged.lacks
 }
 
 /// Whether an element that is declared so is nil; or the first fault of its start tag, which stands at this place.
@@ -107,8 +104,7 @@ pub fn check_tag(
     at: u64,
 ) -> Result<bool, CheckError>
     requires linked { IsLinked set.now }
-    requires uses { All (IsUse set.now) declared.now.uses.now }
-    requires ascending { Ascend declared.now.uses.now }
+    requires uses { All (IsUse set.now) declared.now.uses.list.now }
     ensures { MatchResult result
         (λ nil. IsGoodTag (told (parts_of set.now) declared.now) attributes.now nil)
         (Tells (TagFault (told (parts_of set.now) declared.now) attributes.now at)) }
@@ -125,10 +121,11 @@ pub fn check_tag(
             why: InvalidWhy::BadNil,
         });
     };
-    if let Some(why) = first_wrong(alloc, set, declared.uses, attributes)? {
+    let judged = declared.uses.judge(alloc, set, attributes)?;
+    if let Some(why) = judged.wrong {
         return Err(CheckError::Invalid { at, why });
     }
-    if lacks(alloc, set, declared.uses, attributes)? {
+    if lacks(set, &declared.uses, attributes, &judged) {
         return Err(CheckError::Invalid {
             at,
             why: InvalidWhy::MissingAttribute,

@@ -7,11 +7,10 @@ ghost use Rattle.validity.specs.Asked.{attribute_in};
 ghost use Rattle.validity.specs.Attributes as rule;
 ghost use Rattle.validity.specs.Attributes.{left};
 ghost use Rattle.attribute_faults.specs.Texts.{AreTexts};
-ghost use Rattle.attribute_faults.specs.Uses.{Ascend};
 ghost use Rattle.xer_read.specs.Private.Contents.{IsTaken, AreTaken, AttributesMade};
 ghost use Rattle.xer_read.specs.Private.Putting.{PartsPut};
 
-use attribute_faults::{are_few, text_of, texts_of};
+use attribute_faults::{Uses, are_few, text_of};
 use schema_parts::{AttributeUse, SchemaSet};
 use simple_values::SimpleError;
 use std::alloc::Global;
@@ -92,22 +91,21 @@ fn put_each(
 pub(crate) fn put_attributes(
     alloc: Global,
     set: &SchemaSet,
-    uses: &[AttributeUse],
+    uses: &Uses<'_>,
     attributes: &[(Name, Text)],
     values: &mut ValueBuilder,
 ) -> Result<(), Memory>
     requires linked { IsLinked set.now }
-    requires uses { All (IsUse set.now) uses.now }
-    requires ascending { Ascend uses.now }
-    requires taken { AreTaken set.now attributes.now uses.now }
-    ensures { OnOk result (PartsPut (AttributesMade (map (attribute_in (parts_of set.now)) uses.now) (left attributes.now)) values.old values.new) }
+    requires uses { All (IsUse set.now) uses.now.list.now }
+    requires taken { AreTaken set.now attributes.now uses.now.list.now }
+    ensures { OnOk result (PartsPut (AttributesMade (map (attribute_in (parts_of set.now)) uses.now.list.now) (left attributes.now)) values.old values.new) }
 {
     if values.keeps_nothing() {
         return Ok(());
     }
-    if are_few(uses, attributes) {
-        return put_few(set, uses, attributes, values);
+    if are_few(uses.list, attributes) {
+        return put_few(set, uses.list, attributes, values);
     }
-    let texts = texts_of(alloc, uses, attributes)?;
-    put_each(set, uses, attributes, &texts, values)
+    let texts = uses.texts_of(alloc, attributes)?;
+    put_each(set, uses.list, attributes, &texts, values)
 }

@@ -10,7 +10,6 @@ ghost use Rattle.doc_text.specs.Sound.{are_sound};
 ghost use Rattle.xer_read.specs.Private.Given.{IsReadAs};
 ghost use Rattle.schema_parts.specs.Linked.{IsUse, IsLinked};
 ghost use Rattle.schema_parts.specs.SetParts.{parts_of};
-ghost use Rattle.attribute_faults.specs.Uses.{Ascend};
 ghost use Rattle.validity.specs.Asked as asked;
 ghost use Rattle.validity.specs.Faults.{FirstKid, why_kid};
 ghost use Rattle.validity_check.specs.Answers.{Tells, TextFault};
@@ -83,14 +82,13 @@ pub(crate) fn begin_complex(
     values: &mut ValueBuilder,
 ) -> Result<(), Memory>
     requires linked { IsLinked set.now }
-    requires uses { All (IsUse set.now) declared.now.uses.now }
-    requires ascending { Ascend declared.now.uses.now }
-    requires taken { AreTaken set.now attributes.now declared.now.uses.now }
+    requires uses { All (IsUse set.now) declared.now.uses.list.now }
+    requires taken { AreTaken set.now attributes.now declared.now.uses.list.now }
     ensures { OnOk result (Begins (told (parts_of set.now) declared.now) attributes.now (strings_put nil (roses_of kids.now)) values.old values.new) }
 {
     values.open(no_components())?;
     put_texts(alloc, declared.inside, nil, kids, values)?;
-    put_attributes(alloc, set, declared.uses, attributes, values)
+    put_attributes(alloc, set, &declared.uses, attributes, values)
 }
 
 // The part for a content in which nothing may stand: one where the element may be nil.
@@ -155,9 +153,8 @@ fn put_nil(
     values: &mut ValueBuilder,
 ) -> Result<(), Memory>
     requires linked { IsLinked set.now }
-    requires uses { All (IsUse set.now) declared.now.uses.now }
-    requires ascending { Ascend declared.now.uses.now }
-    requires taken { AreTaken set.now attributes.now declared.now.uses.now }
+    requires uses { All (IsUse set.now) declared.now.uses.list.now }
+    requires taken { AreTaken set.now attributes.now declared.now.uses.list.now }
     ensures { OnOk result ((v : Rose ValueLabel) × IsNilFilled (told (parts_of set.now) declared.now) attributes.now v × Puts (added v) values.old values.new) }
 {
     begin_complex(alloc, set, declared, attributes, true, kids, values)?;
@@ -176,9 +173,8 @@ pub(crate) fn walk_nil(
     values: &mut ValueBuilder,
 ) -> Result<(), CheckError>
     requires linked { IsLinked set.now }
-    requires uses { All (IsUse set.now) declared.now.uses.now }
-    requires ascending { Ascend declared.now.uses.now }
-    requires taken { AreTaken set.now attributes.now declared.now.uses.now }
+    requires uses { All (IsUse set.now) declared.now.uses.list.now }
+    requires taken { AreTaken set.now attributes.now declared.now.uses.list.now }
     ensures { MatchResult result
         (λ _. (roses_of kids.now ≡ none) × ((v : Rose ValueLabel) × IsNilFilled (told (parts_of set.now) declared.now) attributes.now v × Puts (added v) values.old values.new))
         (Tells (FirstKid (roses_of kids.now) (λ _. InvalidWhy.NilWithContent))) }

@@ -11,7 +11,6 @@ ghost use Rattle.content_models.specs.Seen.{seen};
 ghost use Rattle.content_match.specs.Taking.{levels};
 ghost use Rattle.schema_parts.specs.Linked.{IsUse, IsModel, IsLinked};
 ghost use Rattle.schema_parts.specs.SetParts.{parts_of};
-ghost use Rattle.attribute_faults.specs.Uses.{Ascend};
 ghost use Rattle.validity.specs.Asked.{asked_at};
 ghost use Rattle.validity.specs.Faults.{At, FaultBy};
 ghost use Rattle.validity_check.specs.Answers.{Tells, KidsFault, InsideFault};
@@ -259,9 +258,8 @@ fn walk_complex<L: Ledger>(
     requires linked { IsLinked set.now }
     requires plans { plans.old ≡ set.now }
     requires inside { IsFittingInside set.now declared.now.inside }
-    requires uses { All (IsUse set.now) declared.now.uses.now }
-    requires ascending { Ascend declared.now.uses.now }
-    requires taken { AreTaken set.now attributes.now declared.now.uses.now }
+    requires uses { All (IsUse set.now) declared.now.uses.list.now }
+    requires taken { AreTaken set.now attributes.now declared.now.uses.list.now }
     requires sound { are_sound (roses_of kids.now) ≡ true }
     requires few { count_all (roses_of kids.now) < 2 ^ 31 }
     requires stands { (z : Zip ValueLabel) × Stands values.old z }
@@ -318,9 +316,8 @@ fn walk_filled<L: Ledger>(
     requires plans { plans.old ≡ set.now }
     requires decl { decl < length set.now.elements }
     requires inside { IsFittingInside set.now declared.now.inside }
-    requires uses { All (IsUse set.now) declared.now.uses.now }
-    requires ascending { Ascend declared.now.uses.now }
-    requires taken { AreTaken set.now attributes.now declared.now.uses.now }
+    requires uses { All (IsUse set.now) declared.now.uses.list.now }
+    requires taken { AreTaken set.now attributes.now declared.now.uses.list.now }
     requires sound { are_sound (roses_of kids.now) ≡ true }
     requires few { count_all (roses_of kids.now) < 2 ^ 31 }
     requires stands { (z : Zip ValueLabel) × Stands values.old z }

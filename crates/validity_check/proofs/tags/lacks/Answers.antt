@@ -4,8 +4,8 @@ use Rattle.validity_check.proofs.tags.lacks.Goals as goal
 
 pub returns-clause-lacks : goal.returns-clause-lacks
 returns-clause-lacks c = λ yes.
-    one_missing_left c.args.set.now (parts_of c.args.set.now) c.args.attributes.now c.args.uses.now c.requires.uses (c.lacks_required.ensures.lacks yes (parts_of c.args.set.now))
+    one_missing_left c.args.set.now (parts_of c.args.set.now) c.args.attributes.now c.args.uses.now.list.now c.requires.uses (c.requires.lacks yes (parts_of c.args.set.now))
 
 pub returns-clause-stand : goal.returns-clause-stand
 returns-clause-stand c = λ not.
-    all_stand_left c.args.set.now (parts_of c.args.set.now) c.args.attributes.now c.args.uses.now c.requires.uses (c.lacks_required.ensures.stand not (parts_of c.args.set.now))
+    all_stand_left c.args.set.now (parts_of c.args.set.now) c.args.attributes.now c.args.uses.now.list.now c.requires.uses (c.requires.stand not (parts_of c.args.set.now))

@@ -5,7 +5,7 @@ use Rattle.xer_read.proofs.attributes.put_attributes.Goals as goal
 
 pub returns-then-keeps_nothing : goal.returns-then-keeps_nothing
 returns-then-keeps_nothing c =
-    let all = uses-made c.args.set.now c.args.attributes.now c.args.uses.now c.requires.taken in
+    let all = uses-made c.args.set.now c.args.attributes.now c.args.uses.now.list.now c.requires.taken in
     record {
       flags = all.0;
       values = all.1;

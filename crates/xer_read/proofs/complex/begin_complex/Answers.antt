@@ -20,6 +20,6 @@ returns c =
     let texts = strings_put c.args.nil (roses_of c.args.kids.now) in
     let old = c.args.values.now in
     let new = c.put_attributes.new.values in
-    on-ok c.put_attributes.result (PartsPut (AttributesMade (map (attribute_in (parts_of c.args.set.now)) c.args.declared.now.uses.now) (left xs)) c.put_texts.new.values new) (Begins a xs texts old new)
+    on-ok c.put_attributes.result (PartsPut (AttributesMade (map (attribute_in (parts_of c.args.set.now)) c.args.declared.now.uses.list.now) (left xs)) c.put_texts.new.values new) (Begins a xs texts old new)
     (begins-put a xs texts old c.open.new.self c.put_texts.new.values new (subst (λ l. Puts (opened l) old c.open.new.self) c.no_components.ensures c.in_ok-open.ensures) c.in_ok-put_texts.ensures)
     c.put_attributes.ensures

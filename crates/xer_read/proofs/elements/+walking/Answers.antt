@@ -369,7 +369,7 @@ walk_filled-returns-in-None-clause-judged g t c = λ z stands.
 
 pub walk_element-walk_nil-requires-clause-taken : goal.walk_element-walk_nil-requires-clause-taken
 walk_element-walk_nil-requires-clause-taken g t c =
-    all-taken c.args.set.now c.requires.linked c.args.decl (told (parts_of c.args.set.now) c.declared_of-declared.result) c.declared_of-declared.ensures.asked c.declared_of-declared.result.uses.now refl
+    all-taken c.args.set.now c.requires.linked c.args.decl (told (parts_of c.args.set.now) c.declared_of-declared.result) c.declared_of-declared.ensures.asked c.declared_of-declared.result.uses.list.now refl
     c.in-Element.attributes.now c.in-Ok.ensures.right
 
 pub walk_element-walk_filled-requires : goal.walk_element-walk_filled-requires
@@ -388,16 +388,13 @@ walk_element-walk_filled-requires g t c κs within =
             (
               c.requires.decl,
               (
-                c.declared_of-declared.ensures.fits.2,
+                c.declared_of-declared.ensures.fits.1,
                 (
                   c.declared_of-declared.ensures.fits.0,
                   (
-                    c.declared_of-declared.ensures.fits.1,
-                    (
-                      all-taken c.args.set.now c.requires.linked c.args.decl (told (parts_of c.args.set.now) c.declared_of-declared.result) c.declared_of-declared.ensures.asked
-                          c.declared_of-declared.result.uses.now refl c.in-Element.attributes.now c.in-Ok.ensures.right,
-                      (subst (λ ks. are_sound (roses_of ks) ≡ true) (sym c.kids-kids.ensures) (kids_sound c.args.item.now c.requires.sound), (omega (arith, k, same, few), c.requires.stands)),
-                    ),
+                    all-taken c.args.set.now c.requires.linked c.args.decl (told (parts_of c.args.set.now) c.declared_of-declared.result) c.declared_of-declared.ensures.asked
+                        c.declared_of-declared.result.uses.list.now refl c.in-Element.attributes.now c.in-Ok.ensures.right,
+                    (subst (λ ks. are_sound (roses_of ks) ≡ true) (sym c.kids-kids.ensures) (kids_sound c.args.item.now c.requires.sound), (omega (arith, k, same, few), c.requires.stands)),
                   ),
                 ),
               ),
