@@ -7,6 +7,7 @@ pub mod Syntaxes
 pub mod Octets
 pub mod Verdicts
 pub mod Again
+pub mod Running
 pub mod Trials
 pub mod Received
 pub mod Valuing

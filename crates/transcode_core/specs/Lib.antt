@@ -6,3 +6,4 @@ pub mod Due
 pub mod Private
 pub mod ReadBack
 pub mod Again
+pub mod Runs

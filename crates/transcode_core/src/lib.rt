@@ -1,6 +1,7 @@
 //! The top call: words, files and an input to an outcome and bytes.
 //!
-//! Read first: docs/ORDER.md, `specs/Due` (what is due of a command) and `specs/Steps`, then `run` in `src/top.rt`.
+//! Read first: docs/ORDER.md and docs/PROMISE.md; `specs/Runs` (what `run` promises), `specs/Due` (what is due of a command) and
+//! `specs/Steps`, then `run` in `src/top.rt`.
 #![tactic(auto)]
 
 mod files;
