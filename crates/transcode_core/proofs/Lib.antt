@@ -8,6 +8,7 @@ pub mod Octets
 pub mod Verdicts
 pub mod Again
 pub mod Running
+pub mod Counted
 pub mod Trials
 pub mod Received
 pub mod Valuing
