@@ -5,32 +5,31 @@ ghost use Rattle.xa_base.specs.Faults.{HasRisen};
 ghost use Rattle.xa_base.specs.Bytes.{AppendsFront};
 ghost use Rattle.schema_parts.specs.SetParts.{parts_of};
 ghost use Rattle.validity_check.specs.Counts.{element_count};
-ghost use Rattle.transcode_core.specs.Lines.{line};
-ghost use Rattle.transcode_core.specs.Private.Requests.{root_seen, seen, opened_seen, type_seen};
-ghost use Rattle.transcode_core.specs.Words as command;
-ghost use Rattle.transcode_core.specs.Tasks.{Octets, reads, is_document};
+ghost use Rattle.command_line.specs.Lines.{line};
+ghost use Rattle.command_line.specs.Seen.{root_seen, seen};
+ghost use Rattle.transcode_core.specs.Private.Seen.{opened_seen, type_seen};
+ghost use Rattle.command_line.specs.Words as command;
+ghost use Rattle.command_line.specs.Tasks.{Octets, reads, is_document};
 ghost use Rattle.transcode_core.specs.Private.Decided.{Decided};
 ghost use Rattle.transcode_core.specs.Trial as trial;
 ghost use Rattle.transcode_core.specs.Trial.{trial_name, trial_schema, trial_root};
 ghost use Rattle.transcode_core.specs.Steps.{Printed, Judged, RootType, IsTypeOf, Typed, ValueIn, Encoding};
-ghost use Rattle.transcode_core.specs.Order.{Give, Then};
+ghost use Rattle.command_line.specs.Order.{Give, Then};
 ghost use Rattle.transcode_core.specs.Due as due;
 ghost use Rattle.transcode_core.specs.Due.{Requested, SetIn, ItemsIn, Checked, Encoded, Documented, Served, Tried, Answered, Due};
 ghost use Rattle.transcode_core.specs.ReadBack.{DocumentedBack, ServedBack, AnsweredBack, ReadBack};
-ghost use Rattle.transcode_core.specs.Causes.{Answers, Never, NoMemory, SomeLoad, OneRead, ReachesFile, reads_input, ReadsInput, IsTold, Takes, TakesInput, LooksAt, TakesOfWords, ReadsItems, ReadsOfWords, StepsUpTo, ReachesInput, IsOfInput, Answering, Deciding, Fails, IsRefusal, WritesNothing, StepsFrom, reads_document, ReadsDocument};
+ghost use Rattle.command_line.specs.Answers.{Answers, Never, NoMemory, IsRefusal};
+ghost use Rattle.transcode_core.specs.Causes.{SomeLoad, OneRead, ReachesFile, reads_input, ReadsInput, IsTold, Takes, TakesInput, LooksAt, TakesOfWords, ReadsItems, ReadsOfWords, StepsUpTo, ReachesInput, IsOfInput, Answering, Deciding, Fails, WritesNothing, StepsFrom, reads_document, ReadsDocument};
 
 use crate::files::{read_input, read_input_items};
-use crate::lines::write_line;
 use crate::linking::{link_files, open_set};
 use crate::opened::{Opened, RootModule};
-use crate::outcome::Outcome;
 use crate::receiving::write_input;
 use crate::schemas::load_schemas;
 use crate::sending::encode_items;
-use crate::tasks::{Syntax, Task};
 use crate::trial::{self, schema_files, schema_name, summary, trial_document};
 use crate::typing::map_root;
-use crate::words::{Request, Root, read_words};
+use command_line::{Outcome, Request, Root, Syntax, Task, read_words, write_line};
 use doc_text::Items;
 use map_694::map_set;
 use module_print::print_module;
@@ -45,14 +44,6 @@ use validity::at_most_one;
 use validity_check::CheckError;
 use xa_base::{Failed, Library, Sink, Source, Steps, SureSource, Text, write_all};
 use xer_read::check_items;
-
-// What the words ask for.
-fn requested(words: &[Text]) -> Result<Request<'_>, Outcome>
-    ensures due { Answers seen (Requested words.now) Never result }
-    ensures within { IfOk result (λ request. command.IsWithin (seen request)) }
-{
-    read_words(words)
-}
 
 // The text of the module of the set.
 fn print(alloc: Global, set: &SchemaSet) -> Result<Vec<u8>, Outcome>
@@ -397,7 +388,7 @@ fn decide<F: Library, S: Source, L: Ledger>(
     ensures few { StepsUpTo (ReadsOfWords words.now (S.left input.old)) steps.old steps.new }
     ensures many { ReadsDocument words.now → OnOk result (StepsFrom (ReadsOfWords words.now (S.left input.old)) steps.old steps.new) }
 {
-    match requested(words) {
+    match read_words(words) {
         Ok(request) => answer(alloc, request, files, input, steps),
         Err(outcome) => Err(outcome),
     }
