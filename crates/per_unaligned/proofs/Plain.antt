@@ -1,6 +1,6 @@
 -- The fields of both variants, where nothing is aligned.
-use Rattle.std.proofs.Common.{◌≡◌, ℕ, zero, suc, ◌-◌, ◌<◌, ◌≤◌, Bool, true, false, List, length, refl, ap, ◌∙◌, Some, None}
-use Rattle.std.proofs.lemmas.Bool.{lt-ltb, le-ltb}
+use Rattle.std.proofs.Common.{◌≡◌, ℕ, zero, suc, ◌-◌, ◌<◌, ◌≤◌, Bool, true, false, cond, List, [], length, refl, ap, ◌∙◌, arith, Some, None}
+use Rattle.std.proofs.lemmas.Bool.{lt-ltb, le-ltb, ne_eqb}
 use Rattle.bit_cursor.specs.Bits.{bits}
 use Rattle.per_fields.specs.Widths.{width_of, width_within}
 use Rattle.per_fields.specs.Fields.{Writer, then_bits, in_turn, units_of, number_bits, from_bits, signed_bits, counted_bits, list_bits}
@@ -10,7 +10,7 @@ use Rattle.per_unaligned.specs.Fields.{NumberBits, FromBits, SignedBits, LastPie
 pub number_plain : NumberBits
 unfolding number_bits bits width_within
 number_plain zero x p = refl
-number_plain (suc top) x p = refl
+number_plain (suc top) x p = ap (λ (b : Bool). cond b [] (bits (width_of (suc top)) x)) (ne_eqb (suc top) 0 (omega arith))
 
 pub from_plain : FromBits
 unfolding from_bits
