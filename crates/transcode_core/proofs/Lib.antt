@@ -14,3 +14,4 @@ pub mod Received
 pub mod Valuing
 pub mod Answering
 pub mod SomeSets
+pub mod Eaching

@@ -4,6 +4,7 @@
 //! `specs/Steps`, then `run` in `src/top.rt`.
 #![tactic(auto)]
 
+mod each;
 mod files;
 mod laws;
 mod linking;
