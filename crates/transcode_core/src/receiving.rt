@@ -4,23 +4,22 @@ ghost use Rattle.std.specs.Io.KnownBytes.{IsAtEnd};
 ghost use Rattle.xa_base.specs.Faults.{Counts};
 ghost use Rattle.asn_types.specs.Values.{In};
 ghost use Rattle.schema_parts.specs.Components.{Set};
-ghost use Rattle.transcode_core.specs.Private.Requests.{type_seen};
+ghost use Rattle.transcode_core.specs.Private.Seen.{type_seen};
 ghost use Rattle.transcode_core.specs.Steps.{IsTypeOf, Decoded, Written};
 ghost use Rattle.transcode_core.specs.ReadBack.{WrittenBack, DecodedBack};
-ghost use Rattle.transcode_core.specs.Order.{Then};
-ghost use Rattle.transcode_core.specs.Causes.{Answers, NoMemory, OneRead, TakesItsField, IsOfInput};
+ghost use Rattle.command_line.specs.Order.{Then};
+ghost use Rattle.command_line.specs.Answers.{Answers, NoMemory};
+ghost use Rattle.transcode_core.specs.Causes.{OneRead, TakesItsField, IsOfInput};
 
 use crate::opened::RootModule;
-use crate::outcome::Outcome;
-use crate::tasks::Syntax;
-use doc_write::write_document;
+use command_line::{Outcome, Syntax};
 use per_decode::{DecodeError, decode};
 use per_stops::stops_first;
 use simple_types::Value;
 use sound_items::items_are_sound;
 use std::alloc::Global;
 use xa_base::{Failed, Source};
-use xer_write::items_of;
+use xer_write::text_of;
 
 /// The greatest length of an encoding, in octets.
 const LIMIT: u64 = 16_777_216;
@@ -86,8 +85,8 @@ fn decode_input<S: Source>(
     }
 }
 
-// The document of the value.
-fn write_value(alloc: Global, typed: &RootModule, value: &Value) -> Result<Vec<u8>, Outcome>
+/// The document of the value.
+pub fn write_value(alloc: Global, typed: &RootModule, value: &Value) -> Result<Vec<u8>, Outcome>
     requires typed { (set : Set) × (n : ℕ) × IsTypeOf set n (type_seen typed.now) }
     requires value { In typed.now.module typed.now.number value.now }
     ensures due { Answers (λ text. text.items) (Written (type_seen typed.now) value.now) NoMemory result }
@@ -95,10 +94,7 @@ fn write_value(alloc: Global, typed: &RootModule, value: &Value) -> Result<Vec<u
     ensures stage { IfErr result IsOfInput }
 {
     items_are_sound();
-    let Ok(items) = items_of(alloc, &typed.module, typed.number, value) else {
-        return Err(Outcome::OutOfMemory);
-    };
-    match write_document(alloc, &items) {
+    match text_of(alloc, &typed.module, typed.number, value) {
         Ok(text) => Ok(text),
         Err(_) => Err(Outcome::OutOfMemory),
     }

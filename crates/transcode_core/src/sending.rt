@@ -3,21 +3,21 @@ ghost use Rattle.std.specs.Prelude.{◌≡◌, ◌+◌, ◌*◌, ◌<◌, ◌≤
 ghost use Rattle.validity_check.specs.Counts.{element_count};
 ghost use Rattle.schema_parts.specs.SetParts.{parts_of};
 ghost use Rattle.asn_types.specs.Values.{In};
-ghost use Rattle.transcode_core.specs.Private.Requests.{opened_seen, type_seen};
+ghost use Rattle.transcode_core.specs.Private.Seen.{opened_seen, type_seen};
 ghost use Rattle.transcode_core.specs.Steps.{RootType, IsTypeOf, ValueIn, Encoding};
-ghost use Rattle.transcode_core.specs.Order.{Then};
-ghost use Rattle.transcode_core.specs.Causes.{Answers, NoMemory, IsOfInput};
+ghost use Rattle.command_line.specs.Order.{Then};
+ghost use Rattle.command_line.specs.Answers.{Answers, NoMemory};
+ghost use Rattle.transcode_core.specs.Causes.{IsOfInput};
 
 use crate::opened::{Opened, RootModule};
-use crate::outcome::Outcome;
-use crate::tasks::Syntax;
+use command_line::{Outcome, Syntax};
 use doc_text::Items;
 use per_encode::encode;
 use simple_types::Value;
 use std::alloc::Global;
 use std::sync::ledger::Ledger;
 use xa_base::Steps;
-use xer_read::{ReadError, read_value};
+use xer_read::{ReadValueError, read_value};
 
 // The value of the document, if it is valid: one value, in the map of the set.
 fn value_of<L: Ledger>(
@@ -35,9 +35,9 @@ fn value_of<L: Ledger>(
 {
     match read_value(alloc, &opened.set, opened.root, items, steps) {
         Ok(value) => Ok(value),
-        Err(ReadError::Invalid { at, why }) => Err(Outcome::Invalid { at, why }),
-        Err(ReadError::TooManyNodes { count }) => Err(Outcome::TooManyNodes { count }),
-        Err(ReadError::Memory) => Err(Outcome::OutOfMemory),
+        Err(ReadValueError::Invalid { at, why }) => Err(Outcome::Invalid { at, why }),
+        Err(ReadValueError::TooManyNodes { count }) => Err(Outcome::TooManyNodes { count }),
+        Err(ReadValueError::Memory) => Err(Outcome::OutOfMemory),
     }
 }
 
