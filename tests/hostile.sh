@@ -6,7 +6,8 @@
 # - the whole takes more than 8 times the processor time of the quarter, of both the least, and of the quarter at least
 #   0.05 s: so time grows with the size alone;
 # - the memory is over the bound that the case states, in bytes for each byte of schemas and input together, or for each
-#   of what its schema multiplies, and 16 MB for the program itself.
+#   of what its schema multiplies, and 16 MB for the program itself;
+# - where a case is held beside an order of 100,000 lines, a byte of it costs more than so many times what a byte of that does.
 #
 # It prints a line for each: the status, the processor seconds and the MB of the whole, the bytes of input, the bytes of
 # memory for each of these, the ratio of times, and ok or what is wrong. Its own status is 1 where any is wrong.
@@ -20,6 +21,7 @@ cd "$(dirname "$0")/.."
 program=$(realpath -m "${PROGRAM:-bin/ruvkhiska}")
 [ -x "$program" ] || { echo "no program at $program: make run" >&2; exit 2; }
 features=$(realpath examples/features.xsd)
+order=$(realpath examples/order.xsd)
 wanted=" $* "
 work=$(mktemp -d)
 trap 'rm -rf "$work"' EXIT
@@ -108,6 +110,39 @@ hostile() {
     [ "$verdict" = ok ] || wrong=$((wrong + 1))
     # shellcheck disable=SC2059
     printf "$format" "$name" "$status" "${columns[@]:0:5}" "$verdict"
+    rm -f "$work"/*.xsd
+}
+
+# A case of which each byte costs at most so many times what a byte of an order of 100,000 lines costs, which most documents
+# cost: its name and its size, how many times, and the words of both. Each is run three times here, one after the other.
+beside() {
+    local name=$1 size=$2 times=$3 word=$4 root=$5
+    case $wanted in
+        '  ' | *" $name "*) ;;
+        *) return 0 ;;
+    esac
+    due_status=0
+    due_complaint=
+    verdict=ok
+    {
+        printf '<order xmlns="urn:po" id="7">'
+        repeat 100000 '<line><sku>S%d</sku><qty>7</qty></line>'
+        printf '</order>'
+    } > "$input"
+    runs "$word" '{urn:po}order' "$order"
+    local order_seconds=$seconds order_bytes
+    order_bytes=$(cat "$input" "$order" | wc -c)
+    : > "$input"
+    "make_$name" "$size"
+    runs "$word" "$root" "$schema"
+    local total figure
+    total=$(cat "$input" "$work"/*.xsd | wc -c)
+    figure=$(awk -v a="$seconds" -v n="$total" -v b="$order_seconds" -v m="$order_bytes" 'BEGIN { printf "%.1f", a / n / (b / m) }')
+    if [ "$verdict" = ok ] && awk -v figure="$figure" -v times="$times" 'BEGIN { exit !(figure > times) }'; then
+        verdict="wrong: over $times times the order"
+    fi
+    [ "$verdict" = ok ] || wrong=$((wrong + 1))
+    printf '%-20s %s, %s times what the order costs for each byte: %s\n' "$name" "$word" "$figure" "$verdict"
     rm -f "$work"/*.xsd
 }
 
@@ -279,6 +314,93 @@ make_flags() {
     { printf '<r>'; repeat "$1" '<a/>'; printf '</r>'; } > "$input"
 }
 hostile flags 200000 800 1 0 '' to-per r "$schema"
+
+# Elements of so many attributes, all required, in a namespace of 1,023 bytes, in the order opposite to that of their
+# names: four times as many attributes of four times as many uses take four times as long, and not sixteen times.
+long_space=$(bytes 1023 u)
+make_uses() {
+    awk -v count="$1" -v space="$long_space" -v head="$head" -v schema="$schema" -v input="$input" 'BEGIN {
+        printf "%s", substr(head, 1, length(head) - 1) > schema
+        printf " targetNamespace=\"%s\" xmlns:p=\"%s\" attributeFormDefault=\"qualified\">", space, space > schema
+        printf "<xs:element name=\"r\"><xs:complexType><xs:sequence>" > schema
+        printf "<xs:element name=\"a\" type=\"p:A\" minOccurs=\"0\" maxOccurs=\"unbounded\"/>" > schema
+        printf "</xs:sequence></xs:complexType></xs:element><xs:complexType name=\"A\">" > schema
+        for (i = 0; i < count; i++) {
+            printf "<xs:attribute name=\"a%d\" type=\"xs:string\" use=\"required\"/>", i > schema
+            tag = " p:a" i "=\"\"" tag
+        }
+        printf "</xs:complexType></xs:schema>" > schema
+        printf "<p:r xmlns:p=\"%s\">", space > input
+        for (i = 0; i < 1000; i++) printf "<a%s/>", tag > input
+        printf "</p:r>" > input
+    }' < /dev/null
+}
+hostile uses 400 60 0 0 '' check "{$long_space}r" "$schema"
+make_uses_sent() { make_uses "$1"; }
+hostile uses_sent 400 60 0 0 '' to-per "{$long_space}r" "$schema"
+beside uses 400 6 check "{$long_space}r"
+beside uses_sent 400 6 to-per "{$long_space}r"
+
+# A text of so many items before 50 that are spelled anew one after another, each by another member of a union of 50
+# lists: each member reads all items again in each form that the text takes.
+make_spelled_anew() {
+    awk -v count="$1" -v head="$head" -v end="$end" -v schema="$schema" -v input="$input" 'BEGIN {
+        printf "%s", head > schema
+        for (t = 0; t < 50; t++) {
+            printf "<xs:simpleType name=\"L%d\"><xs:list><xs:simpleType><xs:union><xs:simpleType>", t > schema
+            printf "<xs:restriction base=\"xs:int\"><xs:enumeration value=\"%d\"/></xs:restriction>", t > schema
+            printf "</xs:simpleType><xs:simpleType><xs:restriction base=\"xs:token\"><xs:enumeration value=\"x\"/>" > schema
+            for (i = 0; i < 50; i++) if (i != t) printf "<xs:enumeration value=\"%s%d\"/>", (i > t) ? "0" : "", i > schema
+            printf "</xs:restriction></xs:simpleType></xs:union></xs:simpleType></xs:list></xs:simpleType>" > schema
+        }
+        printf "<xs:simpleType name=\"U\"><xs:union memberTypes=\"" > schema
+        for (t = 49; t >= 0; t--) printf "L%d ", t > schema
+        printf "\"/></xs:simpleType><xs:element name=\"u\" type=\"U\"/>%s", end > schema
+        printf "<u>" > input
+        for (i = 0; i < count; i++) printf "x " > input
+        for (i = 0; i < 50; i++) printf "0%d ", i > input
+        printf "</u>" > input
+    }' < /dev/null
+}
+hostile spelled_anew 4000 600 0 0 '' check u "$schema"
+
+# Elements whose content is a sequence of 20 choices of 490 names, of which the last may be absent, so that each choice may
+# be empty, as all but one are; occurrences of 14 choices of 490 names in one another, of which none stands.
+make_filled() {
+    {
+        printf '%s<xs:complexType name="E"/><xs:element name="r"><xs:complexType><xs:sequence>' "$head"
+        printf '<xs:element name="e" type="F" minOccurs="0" maxOccurs="unbounded"/></xs:sequence></xs:complexType></xs:element>'
+        printf '<xs:complexType name="F"><xs:sequence>'
+        awk 'BEGIN {
+            for (i = 0; i < 9800; i++) {
+                if (i % 490 == 0) printf "%s<xs:choice>", (i > 0) ? "</xs:choice>" : ""
+                printf "<xs:element name=\"a%d\" type=\"E\"%s/>", i, (i % 490 == 489) ? " minOccurs=\"0\"" : ""
+            }
+            printf "</xs:choice>"
+        }'
+        printf '</xs:sequence></xs:complexType>%s' "$end"
+    } > "$schema"
+    { printf '<r>'; repeat "$1" '<e><a9799/></e>'; printf '</r>'; } > "$input"
+}
+hostile filled 24000 200 0 0 '' to-per r "$schema"
+make_empty_choices() {
+    {
+        printf '%s<xs:complexType name="E"/><xs:element name="r"><xs:complexType><xs:sequence>' "$head"
+        printf '<xs:element name="e" type="F" minOccurs="0" maxOccurs="unbounded"/></xs:sequence></xs:complexType></xs:element>'
+        printf '<xs:complexType name="F">'
+        awk 'BEGIN {
+            for (i = 0; i < 14; i++) {
+                printf "<xs:choice>"
+                for (k = 0; k < 489; k++) printf "<xs:element name=\"a%d.%d\" type=\"E\"/>", i, k
+            }
+            printf "<xs:element name=\"last\" type=\"E\" minOccurs=\"0\"/>"
+            for (i = 0; i < 14; i++) printf "</xs:choice>"
+        }'
+        printf '</xs:complexType>%s' "$end"
+    } > "$schema"
+    { printf '<r>'; repeat "$1" '<e/>'; printf '</r>'; } > "$input"
+}
+hostile empty_choices 20000 200 0 0 '' to-per r "$schema"
 
 # ---- Octets
 
