@@ -10,6 +10,7 @@ use std::test::Fail;
 use xa_base::SureSource;
 
 const OCTETS: &[u8] = b"\x00\x00\x07\x01\x02\x41\x31\x04\xFF";
+
 const TWICE: &[u8] = b"\x00\x00\x07\x01\x02\x41\x31\x04\x00\x00\x07\x01\x02\x41\x31\x04";
 
 // A source of these octets that moves at most so many at once, and at least one.
@@ -72,7 +73,12 @@ fn records_end_at_their_limit<R: Abort + AllocGlobal>(rt: &R) -> Result<(), Fail
         let mut source = cut(rt.alloc(), TWICE, piece)?;
         let mut records = Records::new(&mut source, 8);
         assert!(rt; matches!(records.next(rt.alloc(), &module, t), Ok(Some(_))));
-        assert!(rt; matches!(records.next(rt.alloc(), &module, t), Err(RecordError::TooLong)));
+        assert!(rt;
+            matches!(
+                records.next(rt.alloc(), &module, t),
+                Err(RecordError::TooLong)
+            )
+        );
     }
     Ok(())
 }

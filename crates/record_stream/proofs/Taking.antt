@@ -34,19 +34,19 @@ some_left octet None left e = absurd cc
 some_left octet (Some rest) left e = let k : octet ∷ rest ≡ left = cc in omega (arith, ap length k)
 
 module _ (M : List Assignment) (t number room : ℕ) (left : List ℕ) where
-  fault_told : (stop : Stop) → told_of number (decoding.fault_of M t (most_of room) left stop) ≡ fault_of M t number room left stop
+  fault_told : (stop : Stop) → told_of number (decoding.fault_of (most_of room) left stop) ≡ fault_of M t number room left stop
   fault_told stop = by (is_short stop.why && nat_le (most_of room) (length left))
     where
       by : (c : Bool) → told_of number (cond c decode.TooLong (decode.Bad stop.bit stop.why)) ≡ cond c error.TooLong (error.Bad number stop.bit stop.why)
       by true = refl
       by false = refl
 
-  due_told : (due answer : Result Decoded DecodeError) → decoding.IsDue M t (most_of room) left due answer → IsDue M t number room left (told number due) (told number answer)
+  due_told : (due answer : Result Decoded DecodeError) → decoding.IsDue due answer → IsDue M t number room left (told number due) (told number answer)
   due_told due answer (inl e) = inl (ap (told number) e)
   due_told due answer (inr (inl e)) = inr (inl (ap (told number) e))
   due_told due answer (inr (inr e)) = inr (inr (ap (told number) e))
 
-  says_told : (answer : Result Decoded DecodeError) (count : ℕ) → 0 < length left → decoding.Says M t (most_of room) left answer count → Says M t number room left (told number answer) count
+  says_told : (answer : Result Decoded DecodeError) (count : ℕ) → 0 < length left → decoding.Says true M t (most_of room) left answer count → Says M t number room left (told number answer) count
   says_told (Ok found) count some h = (h.0, h.1)
   says_told (Err (decode.Bad bit why)) count some h = (some, refl, h.0, h.1, h.2, h.3, h.4)
   says_told (Err decode.TooLong) count some h = (some, h.0, h.1, h.2, h.3)
@@ -60,14 +60,14 @@ module _ (M : List Assignment) (t number room : ℕ) (left : List ℕ) where
     takes = h.takes;
     says = says_told answer h.count some h.says;
     end = λ e. absurd (omega (arith, some, ap length e));
-    value = λ v b. due_told (Ok (decoding.with_octets M t (most_of room) left v)) answer (h.value v b);
-    stop = λ _ stop s. subst (λ e. IsDue M t number room left (Err e) (told number answer)) (fault_told stop) (due_told (Err (decoding.fault_of M t (most_of room) left stop)) answer (h.stop stop s));
+    value = λ v b. due_told (Ok (decoding.with_octets true M t (most_of room) left v)) answer (h.value v b);
+    stop = λ _ stop s. subst (λ e. IsDue M t number room left (Err e) (told number answer)) (fault_told stop) (due_told (Err (decoding.fault_of (most_of room) left stop)) answer (h.stop stop s));
   }
 
   nothing_begins : (v : Rose ValueLabel) → left ≡ [] → Begins M t (within M t number room left) v → ⊥
   nothing_begins v e b = omega (arith, ap length e, ap length b.is, length-append (complete M t v) b.rest, length-octet_bits (take (most_of room) left), length-take (most_of room) left, complete-some M t v b.value)
 
-  takes_nothing : (new : Option (List ℕ)) → new ≡ Some left → Takes M t (most_of room) left new 0
+  takes_nothing : (new : Option (List ℕ)) → new ≡ Some left → Takes true M t (most_of room) left new 0
   takes_nothing new is = record { inside = omega arith; limited = omega arith; rest = is; value = λ v b. omega arith; stop = λ stop s. omega arith }
 
   -- nothing is left

@@ -1,5 +1,5 @@
 -- What a stream of records answers of the octets that it has left (X.691), and how many of them it takes.
-use Rattle.std.specs.Prelude.{◌≡◌, ℕ, ◌*◌, ◌<◌, ◌≤◌, ◌⊎◌, ◌&&◌, Bool, min, nat_le, Option, Some, None, List, [], length, take, Result, Ok, Err, if◌then◌else◌}
+use Rattle.std.specs.Prelude.{◌≡◌, ℕ, ◌*◌, ◌<◌, ◌≤◌, ◌⊎◌, ◌&&◌, Bool, true, min, nat_le, Option, Some, None, List, [], length, take, Result, Ok, Err, if◌then◌else◌}
 use Rattle.label_tree.specs.Rose.{Rose}
 use Rattle.bit_cursor.specs.Bits.{octet_bits}
 use Rattle.simple_types.specs.declared.labels.ValueLabel.{ValueLabel}
@@ -57,7 +57,7 @@ module _ (M : List Assignment) (t number room : ℕ) (left : List ℕ) where
   -- Exactly one of three is due: the end, a value, or the first fault of what is left.
   pub record AnswersNext (new : Option (List ℕ)) (answer : Answer) : Type 0 where
     pub count : ℕ
-    pub takes : Takes M t (most_of room) left new count
+    pub takes : Takes true M t (most_of room) left new count
     pub says : Says answer count
     pub end : left ≡ [] → IsDue (Ok None) answer
     pub value : (v : Rose ValueLabel) → Begins M t within v → IsDue (Ok (Some v)) answer
