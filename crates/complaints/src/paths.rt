@@ -1,0 +1,20 @@
+//! The path to a fault of a document.
+use doc_text::read_document;
+use std::alloc::Global;
+use text_places::path_of;
+use xa_base::Memory;
+
+// The greatest length of a document in bytes.
+const LIMIT: usize = 16_777_216;
+
+/// The path to the element at the byte of the document in the text. It is empty where the text is no document.
+pub fn path_at(alloc: Global, text: &[u8], at: u64) -> Result<String, Memory>
+{
+    if text.len() > LIMIT {
+        return Ok(String::new(alloc));
+    }
+    match read_document(alloc, text) {
+        Ok(items) => path_of(alloc, items.root(), at),
+        Err(_) => Ok(String::new(alloc)),
+    }
+}
