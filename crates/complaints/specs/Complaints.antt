@@ -1,11 +1,15 @@
 -- What is told of an outcome.
-use Rattle.std.specs.Prelude.{◌≡◌, ◌⊎◌, ◌≤◌, ℕ, ⊤, List, [], ◌++◌, length, codes, decimal, Option, Some, None, MatchOption}
+use Rattle.std.specs.Prelude.{◌≡◌, ◌⊎◌, ◌≤◌, ℕ, List, [], ◌++◌, length, codes, decimal, Option, Some, None, MatchOption}
+use Rattle.label_tree.specs.Rose.{Rose}
+use Rattle.item_tree.specs.declared.label.ItemLabel.{ItemLabel}
+use Rattle.doc_text.specs.Documents.{DocOf}
 use Rattle.transcode_core.specs.declared.outcome.Outcome.{Outcome}
-use Rattle.transcode_core.specs.declared.outcome.Outcome.TheVariants.{SchemaSyntax, SchemaFault, LinkFault, DocSyntax, Invalid, PerFault, Trailing}
+use Rattle.transcode_core.specs.declared.outcome.Outcome.TheVariants.{Done, Usage, SchemaSyntax, SchemaFault, LinkFault, UnknownRoot, DocSyntax, Invalid, PerFault, Trailing, TooLong, TooManyNodes, LoadFault, ReadFault, WriteFault, OutOfMemory}
 use Rattle.transcode_core.specs.Lines as lines
+use Rattle.text_places.specs.Paths.{IsPath}
 use Rattle.text_places.specs.Telling.{IsPlaced, explained}
 
--- The name of a reason is that of the fixed program's line. A facet's reason has a word before it there.
+-- The name of a reason is that of the fixed program's line, where a facet's reason has a word before it, or else of the outcome.
 abbrev pub IsNamed : Outcome → List ℕ → Type 0
 IsNamed (SchemaSyntax k at why) name = name ≡ lines.reason_name why
 IsNamed (SchemaFault k at why) name = name ≡ lines.schema_reason why
@@ -13,7 +17,16 @@ IsNamed (LinkFault k at why) name = (lines.link_reason why ≡ name) ⊎ (lines.
 IsNamed (DocSyntax at why) name = name ≡ lines.reason_name why
 IsNamed (Invalid at why) name = name ≡ lines.invalid_reason why
 IsNamed (PerFault bit why) name = name ≡ lines.per_reason why
-IsNamed _ name = ⊤
+IsNamed Done name = name ≡ codes "Done"
+IsNamed Usage name = name ≡ codes "Usage"
+IsNamed UnknownRoot name = name ≡ codes "UnknownRoot"
+IsNamed (Trailing at) name = name ≡ codes "Trailing"
+IsNamed (TooLong k) name = name ≡ codes "TooLong"
+IsNamed (TooManyNodes count) name = name ≡ codes "TooManyNodes"
+IsNamed (LoadFault k) name = name ≡ codes "LoadFault"
+IsNamed ReadFault name = name ≡ codes "ReadFault"
+IsNamed WriteFault name = name ≡ codes "WriteFault"
+IsNamed OutOfMemory name = name ≡ codes "OutOfMemory"
 
 -- the byte of a text at which an outcome stands
 abbrev pub byte_of : Outcome → Option ℕ
@@ -29,11 +42,19 @@ abbrev pub IsTold : Outcome → List ℕ → List ℕ → List ℕ → ℕ → L
 IsTold o name contents within at told =
     (reason means remedy : List ℕ) × IsNamed o reason × IsPlaced name contents at within reason means remedy told
 
--- The complaint of an outcome about the text of this name with these contents: one at a byte of them tells its line and its column, and one at a
--- bit or an octet tells this.
+-- they are told of a whole
+abbrev pub IsToldWhole : Outcome → List ℕ → List ℕ → Type 0
+IsToldWhole o name told = (reason means remedy : List ℕ) × IsNamed o reason × (told ≡ name ++ explained reason means remedy [] [])
+
+-- The complaint of an outcome about the text of this name with these contents: one at a byte of them tells its line and its column, one at a
+-- bit or an octet tells this, and the others are of the whole.
 abbrev pub IsComplaint : Outcome → List ℕ → List ℕ → List ℕ → List ℕ → Type 0
 IsComplaint (PerFault bit why) name contents within told =
     (means remedy : List ℕ) × (told ≡ name ++ codes ": bit " ++ decimal bit ++ explained (lines.per_reason why) means remedy [] [])
 IsComplaint (Trailing at) name contents within told =
-    (reason means remedy : List ℕ) × (told ≡ name ++ codes ": octet " ++ decimal at ++ explained reason means remedy [] [])
-IsComplaint o name contents within told = MatchOption (byte_of o) ⊤ (λ at. at ≤ length contents → IsTold o name contents within at told)
+    (means remedy : List ℕ) × (told ≡ name ++ codes ": octet " ++ decimal at ++ explained (codes "Trailing") means remedy [] [])
+IsComplaint o name contents within told = MatchOption (byte_of o) (IsToldWhole o name told) (λ at. at ≤ length contents → IsTold o name contents within at told)
+
+-- nothing, or the path to the innermost element that stands round the byte of the document in the text
+abbrev pub IsPathIn : List ℕ → ℕ → List ℕ → Type 0
+IsPathIn text at path = (path ≡ []) ⊎ ((items : Rose ItemLabel) × DocOf text items × IsPath at items path)

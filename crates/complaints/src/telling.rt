@@ -34,6 +34,14 @@ pub fn complaint(
         }
         Outcome::PerFault { bit, .. } => tell_unit(alloc, name, ": bit ", bit, reason),
         Outcome::Trailing { at } => tell_unit(alloc, name, ": octet ", at, reason),
-        _ => tell_whole(alloc, name, reason),
+        Outcome::Done
+        | Outcome::Usage
+        | Outcome::UnknownRoot
+        | Outcome::TooLong { .. }
+        | Outcome::TooManyNodes { .. }
+        | Outcome::LoadFault { .. }
+        | Outcome::ReadFault
+        | Outcome::WriteFault
+        | Outcome::OutOfMemory => tell_whole(alloc, name, reason),
     }
 }

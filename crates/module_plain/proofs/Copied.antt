@@ -52,6 +52,16 @@ copied_append {x} {y} v w first second = record {
 
 -- ---- instructions
 
+no_third : (p q : Bool) → (p && q && false) ≡ true → ⊥
+no_third true true e = cc
+no_third true false e = cc
+no_third false true e = cc
+no_third false false e = cc
+
+no_first : (q : Bool) → (false && q && true) ≡ true → ⊥
+no_first true e = cc
+no_first false e = cc
+
 -- within an instruction a text is passed over
 pub record Passed (x : List ℕ) : Type 0 where
   pub is : (rest : List ℕ) → stripped Instruction (x ++ rest) ≡ stripped Instruction rest
@@ -59,8 +69,8 @@ pub record Passed (x : List ℕ) : Type 0 where
 passed_go : (b : ℕ) (bs rest : List ℕ) (v w : Bool) → (b == 93) ≡ v → (b == 34) ≡ w → (not w && not (b == 91) && not v) ≡ true
     → stripped Instruction (bs ++ rest) ≡ stripped Instruction rest → stripped Instruction (b ∷ bs ++ rest) ≡ stripped Instruction rest
 passed_go b bs rest false false e f free more = rw (e, f) more
-passed_go b bs rest true w e f free more = absurd (?)
-passed_go b bs rest false true e f free more = absurd (?)
+passed_go b bs rest true w e f free more = absurd (no_third (not w) (not (b == 91)) free)
+passed_go b bs rest false true e f free more = absurd (no_first (not (b == 91)) free)
 
 passed_free_go : (x rest : List ℕ) → list_all is_free x ≡ true → stripped Instruction (x ++ rest) ≡ stripped Instruction rest
 passed_free_go [] rest free = refl

@@ -1,8 +1,11 @@
 -- A printed module stripped is its print without marks.
-use Rattle.std.proofs.Common.{◌≡◌, ℕ, zero, suc, ℤ, true, List, [], ◌∷◌, ◌++◌, Option, Some, None, codes, refl, sym, ◌∙◌, ap, rules}
-use Rattle.std.specs.Prelude.{map, slice_get, unwrap_or}
+use Rattle.std.proofs.Common.{◌≡◌, ◌==◌, ◌-◌, ℕ, zero, suc, ℤ, Bool, true, false, length, take, drop, arith, List, [], ◌∷◌, ◌++◌, Option, Some, None, codes, refl, sym, ◌∙◌, ap, rules}
+use Rattle.std.proofs.lemmas.List.{append-nil, append_assoc, length-append}
+use Rattle.std.proofs.Math.Seq.{drop-append_seam, take-append_seam}
+use Rattle.std.specs.Prelude.{map, slice_get, unwrap_or, if◌then◌else◌}
 use Rattle.std.specs.List.{list_all, flat_map}
 use Rattle.std.specs.Option.{option_map}
+use Rattle.std.specs.Fmt.{signed_decimal}
 use Rattle.xa_base.specs.declared.white_space.WhiteSpace.TheVariants.{Preserve, Replace, Collapse}
 use Rattle.name_map.specs.declared.restoration.NameForm.{NameForm}
 use Rattle.name_map.specs.declared.restoration.NameForm.TheVariants.{Capitalized, Uncapitalized, Quoted}
@@ -18,8 +21,11 @@ use Rattle.asn_types.specs.declared.modules.Assignment.{Assignment}
 use Rattle.asn_types.specs.Parts.{parts_of}
 use Rattle.module_print.specs.Notation.{quoted, listed, enumerated, new_line, block}
 use Rattle.module_print.specs.Instructions.{in_form, as_name, as_item, item_identifier, number_identifier, instruction, instructions, if_ranked, ranked, ranks, rank, name_prefix, text_prefix, white_space_prefix}
+use Rattle.module_print.specs.Printed as print
 use Rattle.module_print.specs.Printed.{reference_at, numbered_item, level_of_parts, type_of, labelled, if_optional, with_type, prefixes, printed_type, printed_parts, printed_assignment, sequence_of}
-use Rattle.module_plain.specs.Plain.{is_free, unmarked, unmarked_part, unmarked_form, unmarked_label, unmarked_type, unmarked_types, unmarked_assignment, plain_body}
+use Rattle.module_plain.specs.declared.stripping.Within.TheVariants.{Module}
+use Rattle.module_plain.specs.Stripped.{stripped}
+use Rattle.module_plain.specs.Plain.{plain, is_free, unmarked, unmarked_part, unmarked_form, unmarked_label, unmarked_type, unmarked_types, unmarked_assignment, plain_body}
 use Rattle.module_plain.proofs.Copied.{Copied, AllCopied, Passed, free_parts, copied_same, copied_nil, copied_append, passed_free, passed_append, passed_quoted, copied_bracketed, copied_flat_map, copied_joined, copied_concat}
 
 -- ---- instructions
@@ -93,7 +99,7 @@ free_enumerated items k free =
 free_number : (numbers : List ℤ) (k : ℕ) → list_all is_free (unwrap_or (slice_get (map numbered_item numbers) k) []) ≡ true
     → list_all is_free (unwrap_or (option_map number_identifier (slice_get numbers k)) []) ≡ true
 free_number [] k free = refl
-free_number (z ∷ zs) zero free = ?
+free_number (z ∷ zs) zero free = (free_parts (number_identifier z) (codes "(") (free_parts (number_identifier z ++ codes "(") _ (free_parts (number_identifier z ++ codes "(" ++ signed_decimal z) (codes ")") free).0).0).0
 free_number (z ∷ zs) (suc k) free = free_number zs k free
 
 free_items : (M : List Assignment) (levels : ℕ) (f : Form) (parts : List (List ℕ)) → list_all is_free (type_of M levels (unmarked_form f) parts) ≡ true → FreeItems f
@@ -195,15 +201,31 @@ mutual
 
 -- ---- the module
 
-copied_assignments : (M as : List Assignment) → Copied (flat_map (printed_assignment M) as) (flat_map (printed_assignment (unmarked M)) (map unmarked_assignment as))
+copied_assignments : (M list : List Assignment) → Copied (flat_map (printed_assignment M) list) (flat_map (printed_assignment (unmarked M)) (map unmarked_assignment list))
 copied_assignments M [] = copied_nil
-copied_assignments M (a ∷ as) =
+copied_assignments M (a ∷ list) =
     let here = printed_type M 0 a.reference a.marks a.body in
     let there = printed_type (unmarked M) 0 a.reference [] (unmarked_type a.body) in
     let front : Copied (a.reference ++ codes " ::= ") (a.reference ++ codes " ::= ") = copied_same (a.reference ++ codes " ::= ") in
-    copied_append (flat_map (printed_assignment M) as) (flat_map (printed_assignment (unmarked M)) (map unmarked_assignment as))
+    copied_append (flat_map (printed_assignment M) list) (flat_map (printed_assignment (unmarked M)) (map unmarked_assignment list))
         (copied_append (codes "\n") (codes "\n") (copied_append here there front (copied_type M 0 a.reference a.marks a.body)) (copied_same (codes "\n")))
-        (copied_assignments M as)
+        (copied_assignments M list)
 
 pub stripped_body : (M : List Assignment) → Copied (flat_map (printed_assignment M) M) (plain_body M)
 stripped_body M = copied_assignments M M
+
+-- the same of the body alone
+pub stripped_alone : (M : List Assignment) → list_all is_free (plain_body M) ≡ true → stripped Module (flat_map (printed_assignment M) M) ≡ plain_body M
+stripped_alone M free =
+    ap (stripped Module) (sym (append-nil (flat_map (printed_assignment M) M))) ∙ (stripped_body M).is free [] ∙ append-nil (plain_body M)
+
+-- ---- what stands between the opening and the closing
+
+pub rest_is : (text rest body : List ℕ) → rest ≡ drop (length print.opening) text → text ≡ print.opening ++ body ++ print.closing → rest ≡ body ++ print.closing
+rest_is text rest body r e =
+    r ∙ ap (λ l. drop (length print.opening) l) (e ∙ append_assoc print.opening body print.closing) ∙ drop-append_seam print.opening (body ++ print.closing)
+
+pub body_is : (rest x body : List ℕ) → x ≡ take (length rest - length print.closing) rest → rest ≡ body ++ print.closing → x ≡ body
+body_is rest x body t e =
+    let long : length rest - length print.closing ≡ length body = omega (arith, ap length e, length-append body print.closing) in
+    t ∙ ap (λ n. take n rest) long ∙ ap (λ l. take (length body) l) e ∙ take-append_seam body print.closing

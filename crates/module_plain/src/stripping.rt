@@ -1,5 +1,5 @@
 //! The text of a module without its encoding instructions and its encoding control.
-ghost use Rattle.std.specs.Prelude.{◌≡◌, true, List, IfOk, MatchOption, ◌++◌, ℕ};
+ghost use Rattle.std.specs.Prelude.{◌≡◌, ◌++◌, true, ℕ, List, IfOk, MatchOption};
 ghost use Rattle.std.specs.List.{list_all};
 ghost use Rattle.asn_types.specs.declared.modules.Assignment.{Assignment};
 ghost use Rattle.module_print.specs.Printed as print;
@@ -59,13 +59,19 @@ fn without_instructions(alloc: Global, text: &[u8]) -> Result<Vec<u8>, AllocErro
 
 // What stands between the opening and the closing of a printed module.
 fn between(text: &[u8]) -> Option<&[u8]>
-    ensures { MatchOption result ((body : List ℕ) → text.now ≡ print.opening ++ body ++ print.closing → ⊥) (λ body. text.now ≡ print.opening ++ body.now ++ print.closing) }
+    ensures { (body : List ℕ) → text.now ≡ print.opening ++ body ++ print.closing → MatchOption result ⊥ (λ part. part.now ≡ body) }
 {
-    text.strip_prefix(OPENING)?.strip_suffix(CLOSING)
+    let Some(rest) = text.strip_prefix(OPENING) else {
+        return None;
+    };
+    match rest.strip_suffix(CLOSING) {
+        Some(body) => Some(body),
+        None => None,
+    }
 }
 
-/// The printed module without its encoding instructions and its encoding control (X.693). A text that no module is printed as comes back
-/// as it is, where it doesn't begin and end as those.
+/// The printed module without its encoding instructions and its encoding control (X.693). A text that doesn't begin and end as printed
+/// modules do comes back as it is.
 pub fn plain_module(alloc: Global, text: &[u8]) -> Result<Vec<u8>, Memory>
     ensures { (M : List Assignment) → text.now ≡ print.printed M → list_all rule.is_free (rule.plain_body M) ≡ true → IfOk result (λ left. left.items ≡ rule.plain M) }
 {

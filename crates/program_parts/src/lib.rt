@@ -1,17 +1,15 @@
-//! The parts of the program that know nothing of schemas: its words, its files, the stamp and the plain module.
+//! The parts of the program that know nothing of schemas: its words, its files and the stamp.
 #![tactic(auto)]
 
 mod arguments;
 mod manual;
 mod mistakes;
 mod outside;
-mod plain;
 mod stamps;
 mod syntaxes;
 
 pub use arguments::{Asked, Parsed, Task, parse_words};
 pub use manual::manual_page;
 pub use outside::{Input, Kept, save};
-pub use plain::plain_module;
-pub use stamps::{LENGTH, stamp_of};
+pub use stamps::{LENGTH, stamp_line, stamp_of};
 pub use syntaxes::Syntax;

@@ -1,5 +1,5 @@
 //! The outside of the program: files and streams, of which what was read is kept for complaints.
-ghost use Rattle.std.specs.Prelude.{None, false};
+ghost use Rattle.std.specs.Prelude.{◌≡◌, None, false, IfOk, IfErr};
 
 use outside_files::{Buffered, Folder};
 use std::alloc::Global;
@@ -8,35 +8,58 @@ use std::io::{Stdin, Write};
 use std::rt::Files;
 use xa_base::{Failed, Library, LoadError, Memory, Source, Text};
 
-/// A library over the files of the system that keeps the contents it has handed out, in the order of the loads.
+/// A library over the files of the system that keeps the contents of each that it has loaded, and hands these out from then on.
 #[derive(Drop)]
 pub struct Kept<'a, R> {
     folder: Folder<'a, R>,
-    contents: Vec<Vec<u8>>,
+    loaded: Vec<(Text, Vec<u8>)>,
 }
 
 impl<'a, R: Files> Kept<'a, R> {
     pub fn new(alloc: Global, rt: &'a R) -> Kept<'a, R> {
         Kept {
             folder: Folder::new(rt),
-            contents: Vec::new(alloc),
+            loaded: Vec::new(alloc),
         }
     }
 
-    /// The contents of the file of this number, from 1, if it was loaded.
-    pub fn contents(&self, file: u32) -> &[u8] {
-        if file == 0 {
-            return b"";
+    /// The contents of the file of this name, if it was loaded.
+    pub fn contents(&self, name: &str) -> Option<&[u8]> {
+        for file in &self.loaded {
+            if file.0.as_str() == name {
+                return Some(file.1.as_slice());
+            }
         }
-        match self.contents.get(file as usize - 1) {
-            Some(bytes) => bytes.as_slice(),
-            None => b"",
-        }
+        None
     }
+}
 
-    /// Forgets what was loaded.
-    pub fn forget(&mut self) {
-        self.contents.clear();
+// A copy, or want of memory.
+fn copy_of(alloc: Global, bytes: &[u8]) -> Result<Vec<u8>, LoadError>
+    ensures same { IfOk result (λ copy. copy.items ≡ bytes.now) }
+    ensures memory { IfErr result (λ error. error ≡ LoadError.Memory) }
+{
+    match Vec::from_slice(alloc, bytes) {
+        Ok(copy) => Ok(copy),
+        Err(_) => Err(LoadError::Memory),
+    }
+}
+
+// Keeps contents under a name.
+fn keep_file(
+    alloc: Global,
+    loaded: &mut Vec<(Text, Vec<u8>)>,
+    name: &Text,
+    bytes: &[u8],
+) -> Result<(), LoadError>
+    ensures { IfErr result (λ error. error ≡ LoadError.Memory) }
+{
+    let (Ok(name), Ok(copy)) = (name.copy(alloc), Vec::from_slice(alloc, bytes)) else {
+        return Err(LoadError::Memory);
+    };
+    match loaded.push((name, copy)) {
+        Ok(()) => Ok(()),
+        Err(_) => Err(LoadError::Memory),
     }
 }
 
@@ -48,14 +71,13 @@ impl<'a, R: Files> Library for Kept<'a, R> {
     ghost faults = { λ s. s.folder.faults };
 
     fn load(&mut self, alloc: Global, name: &Text, limit: u64) -> Result<Vec<u8>, LoadError> {
-        let bytes = self.folder.load(alloc, name, limit)?;
-        let Ok(copy) = Vec::from_slice(alloc, &bytes) else {
-            return Err(LoadError::Memory);
-        };
-        match self.contents.push(copy) {
-            Ok(()) => Ok(bytes),
-            Err(_) => Err(LoadError::Memory),
+        match self.contents(name.as_str()) {
+            Some(bytes) if bytes.len() as u64 <= limit => return copy_of(alloc, bytes),
+            _ => {}
         }
+        let bytes = self.folder.load(alloc, name, limit)?;
+        keep_file(alloc, &mut self.loaded, name, &bytes)?;
+        Ok(bytes)
     }
 }
 

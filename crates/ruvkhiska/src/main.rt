@@ -2,25 +2,26 @@
 #![tactic(auto)]
 
 mod answering;
+mod results;
 
 ghost use Rattle.std.specs.Prelude.{◌≡◌};
 ghost use Rattle.transcode_core.specs.Status.{status};
 
-use answering::answer;
 use complaints::{NOTE, ROOT, SEVERAL_ROOTS, STAMP, complaint, global_names, path_at};
 use outside_files::Writing;
 use per_fields::Why;
+use module_plain::plain_module;
 use program_parts::{
-    Asked, Input, Kept, LENGTH, Parsed, Syntax, Task, manual_page, parse_words, plain_module, save,
-    stamp_of,
+    Asked, Input, Kept, Parsed, Syntax, Task, manual_page, parse_words, save, stamp_line,
 };
+use results::{Fault, behind_stamp, due_of, module_of, stamp_of_files, stamped};
 use std::alloc::Global;
 use std::env;
 use std::io::{self, IsTerminal};
 use std::process::ExitCode;
 use text_places::tell_whole;
 use transcode_core::{Outcome, write_line};
-use xa_base::{Failed, Memory, Name, Source, Text, write_all};
+use xa_base::{Failed, Memory, Name, Text, write_all};
 
 // The words, of which the first is the program's name.
 fn read_words(rt: &HostRuntime) -> Result<Vec<String>, Outcome> {
@@ -40,24 +41,6 @@ fn fixed_command(task: Task, syntax: Syntax) -> &'static str {
         Task::ToXml => syntax.decoding,
         Task::Trial => "trial",
     }
-}
-
-// The words of the fixed program.
-fn fixed_words(
-    alloc: Global,
-    command: &str,
-    root: &str,
-    files: &[&str],
-) -> Result<Vec<Text>, Memory> {
-    let mut words = Vec::new(alloc);
-    words.push(Text::from_str(alloc, command)?)?;
-    if !root.is_empty() {
-        words.push(Text::from_str(alloc, root)?)?;
-    }
-    for file in files {
-        words.push(Text::from_str(alloc, file)?)?;
-    }
-    Ok(words)
 }
 
 // A name as a root is written.
@@ -88,6 +71,7 @@ fn root_lines(alloc: Global, names: &[Name]) -> Result<String, Memory> {
 #[derive(Drop)]
 struct Work<'a> {
     asked: &'a Asked<'a>,
+    names: Vec<Text>,
     files: Kept<'a, HostRuntime>,
     input: Input<HostRuntime>,
 }
@@ -120,7 +104,10 @@ fn about<'a>(work: &'a Work<'_>, outcome: Outcome) -> (&'a str, &'a [u8]) {
         Outcome::SchemaSyntax { file, .. }
         | Outcome::SchemaFault { file, .. }
         | Outcome::LinkFault { file, .. }
-        | Outcome::LoadFault { file } => (file_name(work.asked, file), work.files.contents(file)),
+        | Outcome::LoadFault { file } => {
+            let name = file_name(work.asked, file);
+            (name, work.files.contents(name).unwrap_or(b""))
+        }
         Outcome::TooLong { file } if file > 0 => (file_name(work.asked, file), b""),
         Outcome::DocSyntax { .. }
         | Outcome::Invalid { .. }
@@ -164,16 +151,14 @@ fn texts(alloc: Global, words: &[&str]) -> Result<Vec<Text>, Outcome> {
 
 // The names of the global elements of the files, if they are schema documents.
 fn roots(alloc: Global, work: &mut Work<'_>) -> Option<Vec<Name>> {
-    let files = texts(alloc, work.asked.files.as_slice()).ok()?;
-    work.files.forget();
-    global_names(alloc, &mut work.files, &files)
+    global_names(alloc, &mut work.files, &work.names)
 }
 
 // The only root that the files have.
 fn only_root(alloc: Global, work: &mut Work<'_>) -> Result<String, Outcome> {
     let Some(names) = roots(alloc, work) else {
         // The first fault of the files, which else is want of memory.
-        module_of(alloc, work)?;
+        module_of(alloc, &work.names, &mut work.files)?;
         return Err(Outcome::OutOfMemory);
     };
     match names.as_slice() {
@@ -192,98 +177,43 @@ fn root_of(alloc: Global, work: &mut Work<'_>) -> Result<String, Outcome> {
     String::from_str(alloc, told).map_err(|_| Outcome::OutOfMemory)
 }
 
-// The module of the schema files.
-fn module_of(alloc: Global, work: &mut Work<'_>) -> Result<Vec<u8>, Outcome> {
-    let Ok(words) = fixed_words(alloc, "show", "", work.asked.files.as_slice()) else {
-        return Err(Outcome::OutOfMemory);
-    };
-    work.files.forget();
-    answer(alloc, &words, &mut work.files, &mut work.input)
+// The stamp of the files as a line.
+fn shown_stamp(alloc: Global, work: &mut Work<'_>) -> Result<Vec<u8>, Outcome> {
+    let stamp = stamp_of_files(alloc, &work.names, &mut work.files)?;
+    stamp_line(alloc, stamp).map_err(|_| Outcome::OutOfMemory)
 }
 
-// Why the program doesn't answer.
-#[derive(Clone, Copy)]
-enum Fault {
-    Outcome(Outcome),
-    // The octets begin with another stamp than that of the schemas.
-    Stamp,
+// The module of the files, for other compilers.
+fn shown_plain(alloc: Global, work: &mut Work<'_>) -> Result<Vec<u8>, Outcome> {
+    let text = module_of(alloc, &work.names, &mut work.files)?;
+    plain_module(alloc, &text).map_err(|_| Outcome::OutOfMemory)
 }
 
-// Takes the stamp before the octets, which has to be that of the schemas.
-fn take_stamp(work: &mut Work<'_>, stamp: [u8; LENGTH]) -> Result<(), Fault> {
-    let mut octets = [0u8; LENGTH];
-    let mut there = 0;
-    'reads: while there < LENGTH {
-        match work.input.read(&mut octets[there..]) {
-            Ok(0) => return Err(Fault::Stamp),
-            Ok(count) => there += count,
-            Err(Failed) => return Err(Fault::Outcome(Outcome::ReadFault)),
+// What the fixed program would write, with the stamp where it is asked for.
+fn transcoded(alloc: Global, work: &mut Work<'_>, root: &str) -> Result<Vec<u8>, Fault> {
+    let asked = work.asked;
+    let command = fixed_command(asked.task, asked.syntax);
+    let (names, files, input) = (&work.names, &mut work.files, &mut work.input);
+    match asked.task {
+        Task::ToXml if asked.stamp => behind_stamp(alloc, command, root, names, files, input),
+        Task::ToPer if asked.stamp => {
+            stamped(alloc, command, root, names, files, input).map_err(Fault::Outcome)
         }
-    }
-    if octets == stamp {
-        Ok(())
-    } else {
-        Err(Fault::Stamp)
+        _ => due_of(alloc, command, root, names, files, input).map_err(Fault::Outcome),
     }
 }
 
 // What is to be written.
 fn result_of(alloc: Global, work: &mut Work<'_>) -> Result<Vec<u8>, Fault> {
     let asked = work.asked;
-    let root = root_of(alloc, work).map_err(Fault::Outcome)?;
-    let mut front = Vec::new(alloc);
-    if asked.stamp {
-        let module = module_of(alloc, work).map_err(Fault::Outcome)?;
-        let stamp = stamp_of(&module);
-        match asked.task {
-            Task::ToXml => take_stamp(work, stamp)?,
-            Task::Show => {
-                let Ok(line) = stamp_line(alloc, stamp) else {
-                    return Err(Fault::Outcome(Outcome::OutOfMemory));
-                };
-                return Ok(line);
-            }
-            _ => {
-                if front.extend_from_slice(&stamp).is_err() {
-                    return Err(Fault::Outcome(Outcome::OutOfMemory));
-                }
-            }
+    match asked.task {
+        Task::Show if asked.stamp => shown_stamp(alloc, work).map_err(Fault::Outcome),
+        Task::Show if asked.plain => shown_plain(alloc, work).map_err(Fault::Outcome),
+        _ => {
+            let root = root_of(alloc, work).map_err(Fault::Outcome)?;
+            transcoded(alloc, work, root.as_str())
         }
     }
-    let command = fixed_command(asked.task, asked.syntax);
-    let Ok(words) = fixed_words(alloc, command, root.as_str(), asked.files.as_slice()) else {
-        return Err(Fault::Outcome(Outcome::OutOfMemory));
-    };
-    work.files.forget();
-    let bytes = answer(alloc, &words, &mut work.files, &mut work.input).map_err(Fault::Outcome)?;
-    let whole = if asked.plain {
-        plain_module(alloc, &bytes)
-    } else {
-        stamped(front, bytes)
-    };
-    whole.map_err(|_| Fault::Outcome(Outcome::OutOfMemory))
-}
-
-// The octets behind the front.
-fn stamped(front: Vec<u8>, octets: Vec<u8>) -> Result<Vec<u8>, Memory> {
-    if front.is_empty() {
-        return Ok(octets);
-    }
-    let mut whole = front;
-    whole.extend_from_slice(&octets)?;
-    Ok(whole)
-}
-
-// The stamp in hexadecimal digits, and a line feed.
-fn stamp_line(alloc: Global, stamp: [u8; LENGTH]) -> Result<Vec<u8>, Memory> {
-    let digits: &[u8; 16] = b"0123456789abcdef";
-    let mut line = Vec::new(alloc);
-    for octet in stamp {
-        line.push(digits[octet as usize / 16])?;
-        line.push(digits[octet as usize % 16])?;
-    }
-    line.push(b'\n')?;
-    Ok(line)
 }
 
 // Writes the result where it is wanted.
@@ -333,8 +263,13 @@ fn carry_out(rt: &HostRuntime, asked: &Asked<'_>) -> u8 {
     let Ok(input) = input else {
         return finished(rt, Outcome::OutOfMemory, Err(Memory));
     };
+    let names = match texts(alloc, asked.files.as_slice()) {
+        Ok(names) => names,
+        Err(outcome) => return finished(rt, outcome, Err(Memory)),
+    };
     let mut work = Work {
         asked,
+        names,
         files: Kept::new(alloc, rt),
         input,
     };
