@@ -14,12 +14,12 @@ use Rattle.simple_types.specs.declared.labels.ValueLabel.{ValueLabel}
 use Rattle.sound_items.specs.Statements.{DocumentsOfValues}
 use Rattle.schema_parts.specs.SetParts.{SetParts}
 use Rattle.validity.specs.Valid.{Valid}
-use Rattle.transcode_core.specs.declared.outcome.Outcome.TheVariants.{Done}
-use Rattle.transcode_core.specs.declared.tasks.Syntax.{Syntax}
-use Rattle.transcode_core.specs.declared.tasks.Task.TheVariants.{Send, Receive}
+use Rattle.command_line.specs.declared.outcome.Outcome.TheVariants.{Done}
+use Rattle.command_line.specs.declared.tasks.Syntax.{Syntax}
+use Rattle.command_line.specs.declared.tasks.Task.TheVariants.{Send, Receive}
 use Rattle.transcode_core.specs.Syntaxes.{AllSyntaxes}
 use Rattle.transcode_core.specs.Steps.{RootType, Typed, Decoded}
-use Rattle.transcode_core.specs.Words.{Asked, Serve}
+use Rattle.command_line.specs.Words.{Asked, Serve}
 use Rattle.transcode_core.specs.Due.{ItemsIn, Encoded, Documented, Answered, Due}
 use Rattle.transcode_core.specs.ReadBack.{DecodedBack, IsValidText, DocumentedBack, AnsweredBack, ReadBack}
 use Rattle.transcode_core.specs.Again.{AreThereAndBack, AreSameDocuments}

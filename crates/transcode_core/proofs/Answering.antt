@@ -36,19 +36,19 @@ use Rattle.map_694.proofs.Whole.{root-within}
 use Rattle.module_print.specs.Printed.{printed}
 use Rattle.xer_items.specs.Items.{Xer}
 use Rattle.one_value.specs.Statements.{AreSmall, root_at, ValuesOfItems, ItemsOfValues}
-use Rattle.transcode_core.specs.declared.tasks.Syntax.{Syntax}
-use Rattle.transcode_core.specs.declared.tasks.Syntax.TheVariants.{Aligned}
-use Rattle.transcode_core.specs.declared.tasks.Task.{Task}
-use Rattle.transcode_core.specs.declared.tasks.Task.TheVariants.{Check, Send, Receive}
+use Rattle.command_line.specs.declared.tasks.Syntax.{Syntax}
+use Rattle.command_line.specs.declared.tasks.Syntax.TheVariants.{Aligned}
+use Rattle.command_line.specs.declared.tasks.Task.{Task}
+use Rattle.command_line.specs.declared.tasks.Task.TheVariants.{Check, Send, Receive}
 use Rattle.transcode_core.specs.Syntaxes.{BeginsWith, IsOneOfTwo, AllSyntaxes}
 use Rattle.transcode_core.specs.Private.Decided.{Decided}
 use Rattle.transcode_core.proofs.Verdicts.{done_due, refusal_due_of, decided_never}
-use Rattle.transcode_core.specs.declared.outcome.Outcome.{Outcome}
-use Rattle.transcode_core.specs.declared.outcome.Outcome.TheVariants.{Done, Usage, SchemaSyntax, SchemaFault, DocSyntax, LinkFault, UnknownRoot, Invalid, Trailing, TooLong, TooManyNodes, LoadFault}
-use Rattle.transcode_core.specs.Order.{Give, Found, Then}
+use Rattle.command_line.specs.declared.outcome.Outcome.{Outcome}
+use Rattle.command_line.specs.declared.outcome.Outcome.TheVariants.{Done, Usage, SchemaSyntax, SchemaFault, DocSyntax, LinkFault, UnknownRoot, Invalid, Trailing, TooLong, TooManyNodes, LoadFault}
+use Rattle.command_line.specs.Order.{Give, Found, Then}
 use Rattle.transcode_core.specs.Steps.{Loaded, Read, Faultless, SchemaIn, Schema, Schemas, AreParts, Linked, number_named, Rooted, Printed, Input, AreLinked, Judged, RootType, IsTypeOf, IsRootType, Typed, Valued, ValueIn, Encoding, readable, fault_in, Decoded, Written}
 use Rattle.transcode_core.specs.Due.{Requested, SetIn, Opened, ItemsIn, Checked, Encoded, Documented, Served, TrialSent, Tried, Answered, Due}
-use Rattle.transcode_core.specs.Words.{Asked, Show, Serve, Trial, asked}
+use Rattle.command_line.specs.Words.{Asked, Show, Serve, Trial, asked}
 use Rattle.transcode_core.specs.Trial.{trial_name, trial_schema, trial_root, trial_document, summary}
 use Rattle.transcode_core.specs.Causes.{reads_input, ReadsInput, IsTold}
 use Rattle.transcode_core.proofs.Roots.{number-within}

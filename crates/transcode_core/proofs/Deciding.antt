@@ -4,15 +4,16 @@ use Rattle.std.specs.Prelude.{Vec}
 use Rattle.std.specs.declared.alloc.Global.{Global}
 use Rattle.xa_base.specs.Faults.{HasRisen}
 use Rattle.xa_base.specs.declared.texts.Name.{Name}
-use Rattle.transcode_core.specs.declared.outcome.Outcome.{Outcome}
-use Rattle.transcode_core.specs.declared.outcome.Outcome.TheVariants.{LoadFault, ReadFault, OutOfMemory}
-use Rattle.transcode_core.specs.Words.{Asked}
-use Rattle.transcode_core.specs.Order.{Then}
+use Rattle.command_line.specs.declared.outcome.Outcome.{Outcome}
+use Rattle.command_line.specs.declared.outcome.Outcome.TheVariants.{LoadFault, ReadFault, OutOfMemory}
+use Rattle.command_line.specs.Words.{Asked}
+use Rattle.command_line.specs.Order.{Then}
 use Rattle.schema_parts.specs.SetParts.{SetParts}
 use Rattle.transcode_core.specs.Due.{Requested, Opened, Due}
 use Rattle.transcode_core.specs.Private.Decided.{Decided}
 use Rattle.transcode_core.proofs.Verdicts.{refusal_due_of, refusal_is_not_done}
-use Rattle.transcode_core.specs.Causes.{Answers, IsRefusal, SomeLoad, OneRead, Fails, Reaches, files_of, ReachesFile, reads_input, ReadsInput, reads_document, ReadsDocument, ReachesInput, Deciding}
+use Rattle.command_line.specs.Answers.{Answers, IsRefusal}
+use Rattle.transcode_core.specs.Causes.{SomeLoad, OneRead, Fails, Reaches, files_of, ReachesFile, reads_input, ReadsInput, reads_document, ReadsDocument, ReachesInput, Deciding}
 
 -- the words ask for one thing
 pub same_request : (words : List (List ℕ)) (a b : Asked) → Requested words (Ok a) → Requested words (Ok b) → a ≡ b

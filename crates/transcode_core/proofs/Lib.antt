@@ -1,16 +1,13 @@
-pub mod Fronts
 pub mod Deciding
-pub mod WordLemmas
-pub mod Joined
 pub mod SetLaws
 pub mod Roots
 pub mod Single
 pub mod Loading
-pub mod FewFiles
 pub mod Syntaxes
 pub mod Octets
 pub mod Verdicts
 pub mod Again
+pub mod Running
 pub mod Trials
 pub mod Received
 pub mod Valuing

@@ -5,9 +5,10 @@ use Rattle.std.proofs.Math.Seq.{drop-cons}
 use Rattle.std.proofs.lemmas.Grind.{common_steps}
 use Rattle.xa_base.specs.Faults.{HasRisen}
 use Rattle.schema_parts.specs.Raw.{Document}
-use Rattle.transcode_core.specs.declared.outcome.Outcome.{Outcome}
+use Rattle.command_line.specs.declared.outcome.Outcome.{Outcome}
 use Rattle.transcode_core.specs.Steps.{Schema, Schemas}
-use Rattle.transcode_core.specs.Causes.{IsRefusal, OneLoad, SomeLoad}
+use Rattle.command_line.specs.Answers.{IsRefusal}
+use Rattle.transcode_core.specs.Causes.{OneLoad, SomeLoad}
 
 abbrev pub Documents : Type 0
 Documents = List Document

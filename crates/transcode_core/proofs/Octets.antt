@@ -4,9 +4,9 @@ use Rattle.std.proofs.lemmas.List.{take_all}
 use Rattle.label_tree.specs.Rose.{Rose}
 use Rattle.simple_types.specs.declared.labels.ValueLabel.{ValueLabel}
 use Rattle.asn_types.specs.Values.{In}
-use Rattle.transcode_core.specs.declared.outcome.Outcome.{Outcome}
-use Rattle.transcode_core.specs.declared.outcome.Outcome.TheVariants.{Trailing}
-use Rattle.transcode_core.specs.declared.tasks.Syntax.{Syntax}
+use Rattle.command_line.specs.declared.outcome.Outcome.{Outcome}
+use Rattle.command_line.specs.declared.outcome.Outcome.TheVariants.{Trailing}
+use Rattle.command_line.specs.declared.tasks.Syntax.{Syntax}
 use Rattle.transcode_core.specs.Steps.{RootType, IsTypeOf, IsNoEncoding, readable, fault_in}
 use Rattle.transcode_core.specs.Syntaxes.{IsEncoding, BeginsWith, HasFault, IsOneOfTwo, AllSyntaxes}
 use Rattle.schema_parts.specs.Components.{Set}

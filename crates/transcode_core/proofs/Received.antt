@@ -15,11 +15,11 @@ use Rattle.per_decode.specs.declared.decoded.Decoded.{Decoded}
 use Rattle.per_decode.specs.declared.errors.DecodeError.{DecodeError}
 use Rattle.per_decode.specs.declared.errors.DecodeError.TheVariants as error
 use Rattle.per_decode.specs.Answers.{Answer, Answers, is_short}
-use Rattle.transcode_core.specs.declared.outcome.Outcome.TheVariants.{PerFault, Trailing, TooLong}
+use Rattle.command_line.specs.declared.outcome.Outcome.TheVariants.{PerFault, Trailing, TooLong}
 use Rattle.transcode_core.specs.Steps as step
 use Rattle.transcode_core.specs.Steps.{RootType, IsTypeOf, readable, fault_in}
 use Rattle.transcode_core.specs.Syntaxes.{Fault, fault_of, HasFault}
-use Rattle.transcode_core.specs.declared.tasks.Syntax.TheVariants.{Aligned}
+use Rattle.command_line.specs.declared.tasks.Syntax.TheVariants.{Aligned}
 use Rattle.schema_parts.specs.Components.{Set}
 use Rattle.per_fields.specs.Laws.{Stops}
 use Rattle.per_stops.specs.Stopping.{StopsFirst}

@@ -9,21 +9,22 @@ use Rattle.item_tree.specs.declared.label.ItemLabel.{ItemLabel}
 use Rattle.doc_text.specs.declared.error.DocWhy.{DocWhy}
 use Rattle.doc_text.proofs.OneTree.{one_tree, tree_or_fault, one_fault}
 use Rattle.doc_text.proofs.PieceLaws.{PieceLaws}
-use Rattle.transcode_core.specs.declared.outcome.Outcome.{Outcome}
-use Rattle.transcode_core.specs.declared.outcome.Outcome.TheVariants.{Done, SchemaFault, LinkFault, Invalid, TooManyNodes, OutOfMemory}
-use Rattle.transcode_core.specs.Order.{Give, Found, Then}
+use Rattle.command_line.specs.declared.outcome.Outcome.{Outcome}
+use Rattle.command_line.specs.declared.outcome.Outcome.TheVariants.{Done, SchemaFault, LinkFault, Invalid, TooManyNodes, OutOfMemory}
+use Rattle.command_line.specs.Order.{Give, Found, Then}
 use Rattle.schema_faults.specs.Faults.{first_fault, reasons}
 use Rattle.schema_faults.specs.declared.faults.DocumentFault.{DocumentFault}
 use Rattle.transcode_core.specs.Steps.{Loaded, Read, Faultless, Linked, Printed, Schema, Schemas, Input, Judged, RootType, IsRootType, Typed, Valued, Encoding, Decoded, Written}
 use Rattle.transcode_core.specs.Due.{SetIn, Opened, ItemsIn, Checked, Encoded, Documented, Served, Tried, Answered, Due}
 use Rattle.transcode_core.specs.Private.Decided.{Decided}
-use Rattle.transcode_core.specs.declared.tasks.Syntax.{Syntax}
-use Rattle.transcode_core.specs.declared.tasks.Syntax.TheVariants.{Aligned}
-use Rattle.transcode_core.specs.declared.tasks.Task.{Task}
-use Rattle.transcode_core.specs.declared.tasks.Task.TheVariants.{Check, Send, Receive}
+use Rattle.command_line.specs.declared.tasks.Syntax.{Syntax}
+use Rattle.command_line.specs.declared.tasks.Syntax.TheVariants.{Aligned}
+use Rattle.command_line.specs.declared.tasks.Task.{Task}
+use Rattle.command_line.specs.declared.tasks.Task.TheVariants.{Check, Send, Receive}
 use Rattle.transcode_core.specs.Syntaxes.{AllSyntaxes}
-use Rattle.transcode_core.specs.Words.{Asked, Show, Serve, Trial}
-use Rattle.transcode_core.specs.Causes.{IsRefusal, reads_input, ReadsInput, IsTold, Deciding}
+use Rattle.command_line.specs.Words.{Asked, Show, Serve, Trial}
+use Rattle.command_line.specs.Answers.{IsRefusal}
+use Rattle.transcode_core.specs.Causes.{reads_input, ReadsInput, IsTold, Deciding}
 use Rattle.schema_read.specs.Raw.{raw_of}
 use Rattle.schema_parts.specs.SetParts.{SetParts, NamedSpace, named_spaces, parts_of}
 use Rattle.link_set.specs.Sets.{set_of}

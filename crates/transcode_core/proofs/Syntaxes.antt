@@ -13,7 +13,7 @@ use Rattle.per_fields.specs.Encoding.{complete}
 use Rattle.per_fields.specs.Laws as law
 use Rattle.per_fields.specs.Laws.{Begins}
 use Rattle.per_stops.specs.Laws.{OneOfTwo}
-use Rattle.transcode_core.specs.declared.tasks.Syntax.TheVariants.{Aligned}
+use Rattle.command_line.specs.declared.tasks.Syntax.TheVariants.{Aligned}
 use Rattle.transcode_core.specs.Syntaxes.{fault_of, IsOneOfTwo, SyntaxLaw, AllSyntaxes}
 
 -- ---- octets are told by their bits

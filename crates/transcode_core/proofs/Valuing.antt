@@ -11,7 +11,7 @@ use Rattle.asn_types.specs.Values.{Fits, In}
 use Rattle.xer_items.specs.Items.{Xer}
 use Rattle.one_value.specs.Statements.{root_at}
 use Rattle.xer_read.specs.Answers.{IsValueOf, IsTooLarge}
-use Rattle.transcode_core.specs.declared.outcome.Outcome.TheVariants.{Invalid, TooManyNodes}
+use Rattle.command_line.specs.declared.outcome.Outcome.TheVariants.{Invalid, TooManyNodes}
 use Rattle.transcode_core.specs.Steps.{RootType, IsTypeOf, AreLinked, ValueIn}
 
 module _ (s : Set) (n : ℕ) (type : RootType) (h : IsTypeOf s n type) where

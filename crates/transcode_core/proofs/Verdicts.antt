@@ -10,20 +10,20 @@ use Rattle.schema_read.specs.Raw.{raw_of}
 use Rattle.plain_items.specs.Plain.{Plain}
 use Rattle.xa_base.specs.declared.texts.Name.{Name}
 use Rattle.asn_types.specs.declared.modules.Assignment.{Assignment}
-use Rattle.transcode_core.specs.declared.outcome.Outcome.{Outcome}
-use Rattle.transcode_core.specs.declared.outcome.Outcome.TheVariants.{Done, Usage, SchemaSyntax, SchemaFault, LinkFault, UnknownRoot, DocSyntax, Invalid, PerFault, Trailing, TooLong, TooManyNodes, LoadFault, ReadFault, WriteFault, OutOfMemory}
-use Rattle.transcode_core.specs.declared.tasks.Syntax.{Syntax}
-use Rattle.transcode_core.specs.declared.tasks.Syntax.TheVariants.{Aligned}
-use Rattle.transcode_core.specs.declared.tasks.Task.{Task}
-use Rattle.transcode_core.specs.declared.tasks.Task.TheVariants.{Check, Send, Receive}
-use Rattle.transcode_core.specs.Order.{Give, Then}
+use Rattle.command_line.specs.declared.outcome.Outcome.{Outcome}
+use Rattle.command_line.specs.declared.outcome.Outcome.TheVariants.{Done, Usage, SchemaSyntax, SchemaFault, LinkFault, UnknownRoot, DocSyntax, Invalid, PerFault, Trailing, TooLong, TooManyNodes, LoadFault, ReadFault, WriteFault, OutOfMemory}
+use Rattle.command_line.specs.declared.tasks.Syntax.{Syntax}
+use Rattle.command_line.specs.declared.tasks.Syntax.TheVariants.{Aligned}
+use Rattle.command_line.specs.declared.tasks.Task.{Task}
+use Rattle.command_line.specs.declared.tasks.Task.TheVariants.{Check, Send, Receive}
+use Rattle.command_line.specs.Order.{Give, Then}
 use Rattle.transcode_core.specs.Syntaxes.{Fault, HasFault}
 use Rattle.transcode_core.specs.Steps.{Loaded, Read, Faultless, SchemaIn, Schema, Schemas, Linked, Rooted, Printed, Input, Judged, RootType, Typed, Valued, ValueIn, Encoding, readable, Decoded, Written}
-use Rattle.transcode_core.specs.Words.{Asked, Show, Serve, Trial}
+use Rattle.command_line.specs.Words.{Asked, Show, Serve, Trial}
 use Rattle.transcode_core.specs.Trial.{trial_name, trial_schema, trial_root, trial_document, summary}
 use Rattle.transcode_core.specs.Due.{Requested, SetIn, Opened, ItemsIn, Encoded, Served, TrialSent, Answered, Whole, Due}
 use Rattle.transcode_core.specs.Private.Decided.{Decided}
-use Rattle.transcode_core.specs.Causes.{IsRefusal}
+use Rattle.command_line.specs.Answers.{IsRefusal}
 
 abbrev pub Verdict : Type 0
 Verdict = Result (List ℕ) Outcome

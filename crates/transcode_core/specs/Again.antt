@@ -4,9 +4,9 @@ use Rattle.xa_base.specs.declared.texts.Name.{Name}
 use Rattle.label_tree.specs.Rose.{Rose}
 use Rattle.plain_items.specs.Plain.{Plain}
 use Rattle.schema_parts.specs.SetParts.{SetParts}
-use Rattle.transcode_core.specs.declared.tasks.Syntax.{Syntax}
-use Rattle.transcode_core.specs.declared.tasks.Task.TheVariants.{Send, Receive}
-use Rattle.transcode_core.specs.Words.{Serve}
+use Rattle.command_line.specs.declared.tasks.Syntax.{Syntax}
+use Rattle.command_line.specs.declared.tasks.Task.TheVariants.{Send, Receive}
+use Rattle.command_line.specs.Words.{Serve}
 use Rattle.transcode_core.specs.Due.{Requested, Opened}
 use Rattle.transcode_core.specs.ReadBack.{IsValidText}
 

@@ -2,42 +2,20 @@
 use Rattle.std.specs.Prelude.{◌≡◌, ◌⊎◌, ℕ, suc, ◌+◌, ◌*◌, ◌≤◌, drop, Bool, true, false, IsTrue, List, [], ◌∷◌, ◌++◌, length, Option, Some, None, Result, Ok, Err}
 use Rattle.xa_base.specs.Faults.{HasRisen}
 use Rattle.xa_base.specs.Entries.{Lacks}
-use Rattle.transcode_core.specs.declared.outcome.Outcome.{Outcome}
-use Rattle.transcode_core.specs.declared.outcome.Outcome.TheVariants.{Done, Usage, SchemaSyntax, SchemaFault, LinkFault, UnknownRoot, TooLong, LoadFault, ReadFault, WriteFault, OutOfMemory}
+use Rattle.command_line.specs.declared.outcome.Outcome.{Outcome}
+use Rattle.command_line.specs.declared.outcome.Outcome.TheVariants.{Done, Usage, SchemaSyntax, SchemaFault, LinkFault, UnknownRoot, TooLong, LoadFault, ReadFault, WriteFault, OutOfMemory}
 use Rattle.schema_parts.specs.Raw.{Document}
 use Rattle.schema_parts.specs.SetParts.{SetParts}
 use Rattle.transcode_core.specs.Steps.{Schemas, RootType, Typed, readable}
-use Rattle.transcode_core.specs.declared.tasks.Syntax.{Syntax}
-use Rattle.transcode_core.specs.Tasks.{Reads, ADocument, Octets, reads, is_document}
+use Rattle.command_line.specs.declared.tasks.Syntax.{Syntax}
+use Rattle.command_line.specs.Tasks.{Reads, ADocument, Octets, reads, is_document}
 use Rattle.transcode_core.specs.Syntaxes.{Fault, HasFault}
-use Rattle.transcode_core.specs.Words.{Asked, Show, Serve, Trial}
+use Rattle.command_line.specs.Words.{Asked, Show, Serve, Trial}
 use Rattle.transcode_core.specs.Due.{Requested, Opened, ItemsIn}
 use Rattle.transcode_core.specs.Trial.{trial_document}
 use Rattle.label_tree.specs.Rose.{Rose}
 use Rattle.item_tree.specs.declared.label.ItemLabel.{ItemLabel}
 use Rattle.validity_check.specs.Counts.{element_count}
-
--- an outcome that refuses the words, a file or the input
-abbrev pub IsRefusal : Outcome → Type 0
-IsRefusal Done = ⊥
-IsRefusal (LoadFault _) = ⊥
-IsRefusal ReadFault = ⊥
-IsRefusal WriteFault = ⊥
-IsRefusal OutOfMemory = ⊥
-IsRefusal o = Unit {0}
-
--- A step passes with a value, seen by view, or refuses, as is due; or the answer has its cause outside.
-abbrev pub Answers : {A B : Type 0} → (A → B) → (Result B Outcome → Type 0) → (Outcome → Type 0) → Result A Outcome → Type 0
-Answers view due cause (Ok a) = due (Ok (view a))
-Answers view due cause (Err o) = (due (Err o) × IsRefusal o) ⊎ cause o
-
--- a step that meets neither the outside nor memory
-abbrev pub Never : Outcome → Type 0
-Never o = ⊥
-
--- memory is missing
-abbrev pub NoMemory : Outcome → Type 0
-NoMemory o = o ≡ OutOfMemory
 
 -- the count of the library rose, and over a sure library none has the name
 pub record Fails (before now : ℕ) (is_sure : Bool) (entries : Option (List (List ℕ × List ℕ))) (name : List ℕ) : Type 0 where

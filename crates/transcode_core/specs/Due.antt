@@ -4,14 +4,14 @@ use Rattle.xa_base.specs.declared.texts.Name.{Name}
 use Rattle.label_tree.specs.Rose.{Rose}
 use Rattle.item_tree.specs.declared.label.ItemLabel.{ItemLabel}
 use Rattle.schema_parts.specs.SetParts.{SetParts}
-use Rattle.transcode_core.specs.declared.outcome.Outcome.{Outcome}
-use Rattle.transcode_core.specs.declared.outcome.Outcome.TheVariants.{Done, Usage, DocSyntax}
-use Rattle.transcode_core.specs.declared.tasks.Syntax.{Syntax}
-use Rattle.transcode_core.specs.declared.tasks.Syntax.TheVariants.{Aligned}
-use Rattle.transcode_core.specs.declared.tasks.Task.{Task}
-use Rattle.transcode_core.specs.declared.tasks.Task.TheVariants.{Check, Send, Receive}
-use Rattle.transcode_core.specs.Words.{Asked, Show, Serve, Trial, asked}
-use Rattle.transcode_core.specs.Order.{Give, Found, Then}
+use Rattle.command_line.specs.declared.outcome.Outcome.{Outcome}
+use Rattle.command_line.specs.declared.outcome.Outcome.TheVariants.{Done, Usage, DocSyntax}
+use Rattle.command_line.specs.declared.tasks.Syntax.{Syntax}
+use Rattle.command_line.specs.declared.tasks.Syntax.TheVariants.{Aligned}
+use Rattle.command_line.specs.declared.tasks.Task.{Task}
+use Rattle.command_line.specs.declared.tasks.Task.TheVariants.{Check, Send, Receive}
+use Rattle.command_line.specs.Words.{Asked, Show, Serve, Trial, asked}
+use Rattle.command_line.specs.Order.{Give, Found, Then}
 use Rattle.transcode_core.specs.Trial.{trial_root, trial_name, trial_schema, trial_document, summary}
 use Rattle.transcode_core.specs.Steps.{Schemas, Linked, Printed, Rooted, Input, Read, Judged, Typed, ValueIn, Encoding, Decoded, Written}
 

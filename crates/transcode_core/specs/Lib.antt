@@ -1,13 +1,9 @@
-pub mod Tasks
 pub mod Syntaxes
-pub mod Words
 pub mod Trial
-pub mod Order
 pub mod Causes
 pub mod Steps
 pub mod Due
-pub mod Lines
-pub mod Status
 pub mod Private
 pub mod ReadBack
 pub mod Again
+pub mod Runs

@@ -10,10 +10,10 @@ use Rattle.doc_written.specs.Written.{written}
 use Rattle.doc_written.specs.ReadBack.{ReadsAs}
 use Rattle.schema_parts.specs.SetParts.{SetParts}
 use Rattle.xer_items.specs.Items.{Xer}
-use Rattle.transcode_core.specs.declared.tasks.Syntax.{Syntax}
-use Rattle.transcode_core.specs.Tasks.{Reads, ADocument, Octets, reads}
+use Rattle.command_line.specs.declared.tasks.Syntax.{Syntax}
+use Rattle.command_line.specs.Tasks.{Reads, ADocument, Octets, reads}
 use Rattle.transcode_core.specs.Steps.{RootType, Typed, Decoded, Judged}
-use Rattle.transcode_core.specs.Words.{Asked, Show, Serve, Trial}
+use Rattle.command_line.specs.Words.{Asked, Show, Serve, Trial}
 use Rattle.transcode_core.specs.Due.{Requested, Opened}
 
 -- the text that is written of the items of the value (X.693) is read as a document with these items

@@ -36,10 +36,10 @@ use Rattle.link_names.specs.declared.faults.LinkingFault as link
 use Rattle.schema_link.specs.Passes.{passes, IsShownBy, ArePassed}
 use Rattle.schema_read.specs.Raw.{raw_of}
 use Rattle.link_simple.specs.Making.{IsMaking}
-use Rattle.transcode_core.specs.declared.outcome.Outcome.{Outcome}
-use Rattle.transcode_core.specs.declared.outcome.Outcome.TheVariants.{SchemaSyntax, SchemaFault, LinkFault, UnknownRoot, Invalid, PerFault, Trailing, TooLong, TooManyNodes, LoadFault}
-use Rattle.transcode_core.specs.declared.tasks.Syntax.{Syntax}
-use Rattle.transcode_core.specs.Order.{Give, Found, Then}
+use Rattle.command_line.specs.declared.outcome.Outcome.{Outcome}
+use Rattle.command_line.specs.declared.outcome.Outcome.TheVariants.{SchemaSyntax, SchemaFault, LinkFault, UnknownRoot, Invalid, PerFault, Trailing, TooLong, TooManyNodes, LoadFault}
+use Rattle.command_line.specs.declared.tasks.Syntax.{Syntax}
+use Rattle.command_line.specs.Order.{Give, Found, Then}
 use Rattle.transcode_core.specs.Syntaxes.{Fault, IsEncoding, BeginsWith, HasFault}
 
 -- the contents of file k, if they are no more than the limit

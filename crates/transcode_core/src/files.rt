@@ -3,12 +3,13 @@ ghost use Rattle.std.specs.Prelude.{◌≡◌, ◌≤◌, length, IfOk, IfErr, O
 ghost use Rattle.doc_text.specs.Tokens.{tokens, Ascend};
 ghost use Rattle.schema_parts.specs.Documents.{doc_of};
 ghost use Rattle.schema_read.specs.Raw.{raw_of};
-ghost use Rattle.transcode_core.specs.Order.{Give, Then};
+ghost use Rattle.command_line.specs.Order.{Give, Then};
 ghost use Rattle.std.specs.Io.KnownBytes.{IsAtEnd};
 ghost use Rattle.transcode_core.specs.Steps.{Loaded, Input, Read, Faultless};
-ghost use Rattle.transcode_core.specs.Causes.{Answers, NoMemory, OneLoad, OneRead, IsOfInput};
+ghost use Rattle.command_line.specs.Answers.{Answers, NoMemory};
+ghost use Rattle.transcode_core.specs.Causes.{OneLoad, OneRead, IsOfInput};
 
-use crate::outcome::Outcome;
+use command_line::Outcome;
 use doc_text::{DocError, Items, read_document};
 use schema_parts::RawDoc;
 use schema_read::{SchemaError, read_schema};

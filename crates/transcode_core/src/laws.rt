@@ -3,9 +3,9 @@ ghost use Rattle.std.specs.Prelude.{◌≡◌, ◌≤◌, ℕ, List, length, Opt
 ghost use Rattle.plain_items.specs.Plain.{Plain};
 ghost use Rattle.label_tree.specs.Rose.{Rose};
 ghost use Rattle.schema_parts.specs.SetParts.{SetParts};
-ghost use Rattle.transcode_core.specs.declared.outcome.Outcome.{Outcome};
-ghost use Rattle.transcode_core.specs.declared.outcome.Outcome.TheVariants as outcome;
-ghost use Rattle.transcode_core.specs.declared.tasks.Syntax.{Syntax};
+ghost use Rattle.command_line.specs.declared.outcome.Outcome.{Outcome};
+ghost use Rattle.command_line.specs.declared.outcome.Outcome.TheVariants as outcome;
+ghost use Rattle.command_line.specs.declared.tasks.Syntax.{Syntax};
 ghost use Rattle.transcode_core.specs.Causes.{ReadsInput, IsTold};
 ghost use Rattle.transcode_core.specs.Syntaxes.{AllSyntaxes};
 ghost use Rattle.transcode_core.specs.Due.{Encoded, Documented, Due};

@@ -1,25 +1,21 @@
 //! The top call: words, files and an input to an outcome and bytes.
 //!
-//! Read first: docs/ORDER.md, `specs/Due` (what is due of a command) and `specs/Steps`, then `run` in `src/top.rt`.
+//! Read first: docs/ORDER.md and docs/PROMISE.md; `specs/Runs` (what `run` promises), `specs/Due` (what is due of a command) and
+//! `specs/Steps`, then `run` in `src/top.rt`.
 #![tactic(auto)]
 
 mod files;
 mod laws;
-mod lines;
 mod linking;
 mod opened;
-mod outcome;
 mod receiving;
 mod schemas;
 mod sending;
-mod tasks;
 mod top;
 mod trial;
 mod typing;
-mod words;
 
+pub use command_line::{Outcome, write_line};
 pub use laws::{exactly_one_of_both, one_answer, some_answer, there_and_back};
-pub use lines::write_line;
-pub use outcome::Outcome;
 pub use top::run;
 pub use trial::trial_document;

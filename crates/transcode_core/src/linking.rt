@@ -2,15 +2,15 @@
 ghost use Rattle.std.specs.Prelude.{◌≡◌, ◌≤◌, length, IfOk, IfErr, map};
 ghost use Rattle.schema_parts.specs.Documents.{doc_of};
 ghost use Rattle.schema_parts.specs.SetParts.{parts_of};
-ghost use Rattle.transcode_core.specs.Private.Requests.{root_seen, opened_seen};
+ghost use Rattle.command_line.specs.Seen.{root_seen};
+ghost use Rattle.transcode_core.specs.Private.Seen.{opened_seen};
 ghost use Rattle.transcode_core.specs.Steps.{Linked, Rooted};
-ghost use Rattle.transcode_core.specs.Order.{Give, Then};
+ghost use Rattle.command_line.specs.Order.{Give, Then};
 ghost use Rattle.schema_link.specs.Sets.{AreNumbered};
-ghost use Rattle.transcode_core.specs.Causes.{Answers, NoMemory};
+ghost use Rattle.command_line.specs.Answers.{Answers, NoMemory};
 
 use crate::opened::Opened;
-use crate::outcome::Outcome;
-use crate::words::Root;
+use command_line::{Outcome, Root};
 use schema_link::{LinkError, link};
 use schema_parts::{RawDoc, SchemaSet, find_root};
 use std::alloc::Global;

@@ -2,10 +2,11 @@
 ghost use Rattle.std.specs.Prelude.{◌≡◌, ◌≤◌, length, map};
 ghost use Rattle.schema_parts.specs.Documents.{doc_of};
 ghost use Rattle.transcode_core.specs.Steps.{SchemaIn, Schema, Schemas};
-ghost use Rattle.transcode_core.specs.Causes.{Answers, NoMemory, OneLoad, SomeLoad};
+ghost use Rattle.command_line.specs.Answers.{Answers, NoMemory};
+ghost use Rattle.transcode_core.specs.Causes.{OneLoad, SomeLoad};
 
 use crate::files::{load_file, read_components, read_schema_items};
-use crate::outcome::Outcome;
+use command_line::Outcome;
 use schema_parts::RawDoc;
 use std::alloc::Global;
 use xa_base::{Library, Text};

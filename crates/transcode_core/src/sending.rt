@@ -3,14 +3,14 @@ ghost use Rattle.std.specs.Prelude.{◌≡◌, ◌+◌, ◌*◌, ◌<◌, ◌≤
 ghost use Rattle.validity_check.specs.Counts.{element_count};
 ghost use Rattle.schema_parts.specs.SetParts.{parts_of};
 ghost use Rattle.asn_types.specs.Values.{In};
-ghost use Rattle.transcode_core.specs.Private.Requests.{opened_seen, type_seen};
+ghost use Rattle.transcode_core.specs.Private.Seen.{opened_seen, type_seen};
 ghost use Rattle.transcode_core.specs.Steps.{RootType, IsTypeOf, ValueIn, Encoding};
-ghost use Rattle.transcode_core.specs.Order.{Then};
-ghost use Rattle.transcode_core.specs.Causes.{Answers, NoMemory, IsOfInput};
+ghost use Rattle.command_line.specs.Order.{Then};
+ghost use Rattle.command_line.specs.Answers.{Answers, NoMemory};
+ghost use Rattle.transcode_core.specs.Causes.{IsOfInput};
 
 use crate::opened::{Opened, RootModule};
-use crate::outcome::Outcome;
-use crate::tasks::Syntax;
+use command_line::{Outcome, Syntax};
 use doc_text::Items;
 use per_encode::encode;
 use simple_types::Value;

@@ -1,36 +1,36 @@
 //! The top call.
-ghost use Rattle.std.specs.Prelude.{◌≡◌, ◌⊎◌, ℕ, ◌+◌, ◌*◌, ◌≤◌, true, List, [], ◌∷◌, length, OnOk, IfOk, IfErr, Ok, Err, Some};
+ghost use Rattle.std.specs.Prelude.{◌≡◌, ◌⊎◌, ◌+◌, ◌*◌, ◌≤◌, true, [], ◌∷◌, length, OnOk, IfOk, IfErr, Ok, Err, Some};
 ghost use Rattle.std.specs.Io.KnownBytes.{Appends, IsAtEnd};
 ghost use Rattle.xa_base.specs.Faults.{HasRisen};
 ghost use Rattle.xa_base.specs.Bytes.{AppendsFront};
 ghost use Rattle.schema_parts.specs.SetParts.{parts_of};
 ghost use Rattle.validity_check.specs.Counts.{element_count};
-ghost use Rattle.transcode_core.specs.Lines.{line};
-ghost use Rattle.transcode_core.specs.Private.Requests.{root_seen, seen, opened_seen, type_seen};
-ghost use Rattle.transcode_core.specs.Words as command;
-ghost use Rattle.transcode_core.specs.Tasks.{Octets, reads, is_document};
+ghost use Rattle.command_line.specs.Lines.{line};
+ghost use Rattle.command_line.specs.Seen.{root_seen, seen};
+ghost use Rattle.transcode_core.specs.Private.Seen.{opened_seen, type_seen};
+ghost use Rattle.command_line.specs.Words as command;
+ghost use Rattle.command_line.specs.Tasks.{Octets, reads, is_document};
 ghost use Rattle.transcode_core.specs.Private.Decided.{Decided};
 ghost use Rattle.transcode_core.specs.Trial as trial;
 ghost use Rattle.transcode_core.specs.Trial.{trial_name, trial_schema, trial_root};
-ghost use Rattle.transcode_core.specs.Steps.{Printed, Judged, RootType, IsTypeOf, Typed, ValueIn, Encoding};
-ghost use Rattle.transcode_core.specs.Order.{Give, Then};
+ghost use Rattle.transcode_core.specs.Steps.{Printed, Judged, IsTypeOf, ValueIn, Encoding};
+ghost use Rattle.command_line.specs.Order.{Give, Then};
 ghost use Rattle.transcode_core.specs.Due as due;
-ghost use Rattle.transcode_core.specs.Due.{Requested, SetIn, ItemsIn, Checked, Encoded, Documented, Served, Tried, Answered, Due};
+ghost use Rattle.transcode_core.specs.Due.{SetIn, ItemsIn, Checked, Encoded, Documented, Served, Tried, Answered};
+ghost use Rattle.transcode_core.specs.Runs.{Runs};
 ghost use Rattle.transcode_core.specs.ReadBack.{DocumentedBack, ServedBack, AnsweredBack, ReadBack};
-ghost use Rattle.transcode_core.specs.Causes.{Answers, Never, NoMemory, SomeLoad, OneRead, ReachesFile, reads_input, ReadsInput, IsTold, Takes, TakesInput, LooksAt, TakesOfWords, ReadsItems, ReadsOfWords, StepsUpTo, ReachesInput, IsOfInput, Answering, Deciding, Fails, IsRefusal, WritesNothing, StepsFrom, reads_document, ReadsDocument};
+ghost use Rattle.command_line.specs.Answers.{Answers, NoMemory};
+ghost use Rattle.transcode_core.specs.Causes.{SomeLoad, OneRead, reads_input, ReadsInput, Takes, TakesInput, LooksAt, TakesOfWords, ReadsItems, ReadsOfWords, StepsUpTo, IsOfInput, Answering, Deciding, StepsFrom, reads_document, ReadsDocument};
 
 use crate::files::{read_input, read_input_items};
-use crate::lines::write_line;
 use crate::linking::{link_files, open_set};
 use crate::opened::{Opened, RootModule};
-use crate::outcome::Outcome;
 use crate::receiving::write_input;
 use crate::schemas::load_schemas;
 use crate::sending::encode_items;
-use crate::tasks::{Syntax, Task};
 use crate::trial::{self, schema_files, schema_name, summary, trial_document};
 use crate::typing::map_root;
-use crate::words::{Request, Root, read_words};
+use command_line::{Outcome, Request, Root, Syntax, Task, read_words, write_line};
 use doc_text::Items;
 use map_694::map_set;
 use module_print::print_module;
@@ -45,14 +45,6 @@ use validity::at_most_one;
 use validity_check::CheckError;
 use xa_base::{Failed, Library, Sink, Source, Steps, SureSource, Text, write_all};
 use xer_read::check_items;
-
-// What the words ask for.
-fn requested(words: &[Text]) -> Result<Request<'_>, Outcome>
-    ensures due { Answers seen (Requested words.now) Never result }
-    ensures within { IfOk result (λ request. command.IsWithin (seen request)) }
-{
-    read_words(words)
-}
 
 // The text of the module of the set.
 fn print(alloc: Global, set: &SchemaSet) -> Result<Vec<u8>, Outcome>
@@ -397,7 +389,7 @@ fn decide<F: Library, S: Source, L: Ledger>(
     ensures few { StepsUpTo (ReadsOfWords words.now (S.left input.old)) steps.old steps.new }
     ensures many { ReadsDocument words.now → OnOk result (StepsFrom (ReadsOfWords words.now (S.left input.old)) steps.old steps.new) }
 {
-    match requested(words) {
+    match read_words(words) {
         Ok(request) => answer(alloc, request, files, input, steps),
         Err(outcome) => Err(outcome),
     }
@@ -434,38 +426,32 @@ pub fn run<F: Library, S: Source, K: Sink, E: Sink, L: Ledger>(
     complaints: &mut E,
     steps: &mut Steps<L>,
 ) -> Outcome
-    // A refusal is the first in the order of the steps.
-    ensures refused { IsRefusal result → Due words.now (F.entries files.old) (S.left input.old) result [] }
-    // Done is due, with the bytes that were appended; where the words ask for `to-xml`, these are read back as the items.
-    ensures done { result ≡ Outcome.Done → (bytes : List ℕ) × Due words.now (F.entries files.old) (S.left input.old) Outcome.Done bytes
-        × ReadBack words.now (F.entries files.old) (S.left input.old) bytes × Appends (K.written output.old) (K.written output.new) bytes }
-    // A fault of the outside comes only where that object's count rose, at the step that meets it.
-    ensures load { (file : ℕ) → result ≡ Outcome.LoadFault file → (name : List ℕ) × ReachesFile words.now (F.entries files.old) file name
-        × Fails (F.faults files.old) (F.faults files.new) (F.is_sure files.old) (F.entries files.old) name }
-    ensures read { result ≡ Outcome.ReadFault → HasRisen (S.faults input.old) (S.faults input.new) × ReachesInput words.now (F.entries files.old) }
-    ensures write { result ≡ Outcome.WriteFault → HasRisen (K.faults output.old) (K.faults output.new)
-        × ((bytes : List ℕ) × Due words.now (F.entries files.old) (S.left input.old) Outcome.Done bytes
-        × ReadBack words.now (F.entries files.old) (S.left input.old) bytes × AppendsFront (K.written output.old) (K.written output.new) bytes) }
-    ensures kept { WritesNothing result → output.new ≡ output.old }
-    ensures end { result ≡ Outcome.Done → ReadsInput words.now → IsAtEnd (S.left input.new) }
-    ensures untouched { (input.new ≡ input.old) ⊎ (TakesOfWords words.now (F.entries files.old) (S.left input.old) (S.left input.new) × IsOfInput result) }
-    ensures files { (F.entries files.new ≡ F.entries files.old) × (F.is_sure files.new ≡ F.is_sure files.old) }
-    // Where Done is due and no count rose, it is Done, or memory is missing. The input need not be told where the words
-    // don't ask for it.
-    ensures complete { (entries : List (List ℕ × List ℕ)) (bytes : List ℕ) → F.entries files.old ≡ Some entries → (ReadsInput words.now → IsTold (S.left input.old))
-        → Due words.now (F.entries files.old) (S.left input.old) Outcome.Done bytes → (HasRisen (F.faults files.old) (F.faults files.new) → ⊥) → (HasRisen (S.faults input.old) (S.faults input.new) → ⊥)
-        → (HasRisen (K.faults output.old) (K.faults output.new) → ⊥) → (result ≡ Outcome.Done) ⊎ (result ≡ Outcome.OutOfMemory) }
-    ensures loads { F.faults files.old ≤ F.faults files.new }
-    ensures reads { S.faults input.old ≤ S.faults input.new }
-    ensures writes { K.faults output.old ≤ K.faults output.new }
-    // Complaints receive the whole line, or a front of it where their count rose.
-    ensures complaint { Appends (E.written complaints.old) (E.written complaints.new) (line result)
-        ⊎ (HasRisen (E.faults complaints.old) (E.faults complaints.new) × AppendsFront (E.written complaints.old) (E.written complaints.new) (line result)) }
-    ensures complaints { E.faults complaints.old ≤ E.faults complaints.new }
-    // At most 144 steps through content models for each element of the document that is read.
-    ensures few { StepsUpTo (ReadsOfWords words.now (S.left input.old)) steps.old steps.new }
-    // Done, at least one for each but the root.
-    ensures many { result ≡ Outcome.Done → ReadsDocument words.now → StepsFrom (ReadsOfWords words.now (S.left input.old)) steps.old steps.new }
+    ensures { Runs words.now
+        (record {
+          entries = F.entries files.old;
+          is_sure = F.is_sure files.old;
+          left = S.left input.old;
+          written = K.written output.old;
+          complained = E.written complaints.old;
+          load_faults = F.faults files.old;
+          read_faults = S.faults input.old;
+          write_faults = K.faults output.old;
+          complaint_faults = E.faults complaints.old;
+          steps = steps.old;
+        })
+        (record {
+          entries = F.entries files.new;
+          is_sure = F.is_sure files.new;
+          left = S.left input.new;
+          written = K.written output.new;
+          complained = E.written complaints.new;
+          load_faults = F.faults files.new;
+          read_faults = S.faults input.new;
+          write_faults = K.faults output.new;
+          complaint_faults = E.faults complaints.new;
+          steps = steps.new;
+        })
+        (input.new ≡ input.old) (output.new ≡ output.old) result }
 {
     // What is due is one thing: documents are valid in one way, and have one value, and octets are of one.
     at_most_one();

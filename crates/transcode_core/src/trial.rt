@@ -2,7 +2,7 @@
 ghost use Rattle.std.specs.Prelude.{◌≡◌, ◌++◌, ◌+◌, ◌%◌, ◌<◌, ◌≤◌, [], ◌∷◌, codes, decimal, OnOk, IfOk};
 ghost use Rattle.transcode_core.specs.Trial as trial;
 
-use crate::words::Root;
+use command_line::Root;
 use itoa::Buffer;
 use std::alloc::Global;
 use xa_base::{Entry, Memory, SureLibrary, Text};

@@ -4,12 +4,12 @@ ghost use Rattle.simple_types.specs.Seen.{space_of};
 ghost use Rattle.simple_values.specs.Lexical.{is_128_bits};
 ghost use Rattle.xer_items.specs.Laws.{IsSmall};
 ghost use Rattle.one_value.specs.Statements.{AreSmall};
-ghost use Rattle.transcode_core.specs.Private.Requests.{opened_seen, type_seen};
+ghost use Rattle.transcode_core.specs.Private.Seen.{opened_seen, type_seen};
 ghost use Rattle.transcode_core.specs.Steps.{IsTypeOf, Typed};
-ghost use Rattle.transcode_core.specs.Causes.{Answers, NoMemory};
+ghost use Rattle.command_line.specs.Answers.{Answers, NoMemory};
 
 use crate::opened::{Opened, RootModule};
-use crate::outcome::Outcome;
+use command_line::Outcome;
 use map_694::{map_set, root_type};
 use schema_parts::SchemaSet;
 use simple_types::Simple;

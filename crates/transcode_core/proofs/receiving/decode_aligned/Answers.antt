@@ -1,6 +1,6 @@
 use Rattle.std.proofs.Common.{inl, Err}
 use Rattle.per_decode.specs.declared.errors.DecodeError.TheVariants.{Bad, TooLong}
-use Rattle.transcode_core.specs.Private.Requests.{type_seen}
+use Rattle.transcode_core.specs.Private.Seen.{type_seen}
 use Rattle.transcode_core.proofs.Received.{renamed, all_ended, goes_on, stops_at, too_long, takes, no_fault}
 use Rattle.transcode_core.proofs.receiving.decode_aligned.Goals as goal
 

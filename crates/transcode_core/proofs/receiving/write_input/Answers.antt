@@ -4,10 +4,11 @@ use Rattle.std.specs.Prelude.{Vec}
 use Rattle.std.specs.declared.alloc.Global.{Global}
 use Rattle.label_tree.specs.Rose.{Rose}
 use Rattle.simple_types.specs.declared.labels.ValueLabel.{ValueLabel}
-use Rattle.transcode_core.specs.Private.Requests.{type_seen}
+use Rattle.transcode_core.specs.Private.Seen.{type_seen}
 use Rattle.transcode_core.specs.Steps.{Decoded, Written}
-use Rattle.transcode_core.specs.Causes.{NoMemory, OneRead}
-use Rattle.transcode_core.proofs.Joined.{passed, refused}
+use Rattle.command_line.specs.Answers.{NoMemory}
+use Rattle.transcode_core.specs.Causes.{OneRead}
+use Rattle.command_line.proofs.Joined.{passed, refused}
 use Rattle.transcode_core.proofs.receiving.write_input.Goals as goal
 
 pub returns-in-Ok-clause-due : goal.returns-in-Ok-clause-due

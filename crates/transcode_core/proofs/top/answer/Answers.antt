@@ -1,10 +1,11 @@
 use Rattle.std.proofs.Common.{ℕ, inl}
 use Rattle.std.specs.Prelude.{Vec}
 use Rattle.std.specs.declared.alloc.Global.{Global}
-use Rattle.transcode_core.specs.Words.{Trial}
+use Rattle.command_line.specs.Words.{Trial}
 use Rattle.transcode_core.specs.Due.{Tried}
-use Rattle.transcode_core.specs.Causes.{NoMemory, Answering}
-use Rattle.transcode_core.proofs.Joined.{wider, nothing_said}
+use Rattle.command_line.specs.Answers.{NoMemory}
+use Rattle.transcode_core.specs.Causes.{Answering}
+use Rattle.command_line.proofs.Joined.{wider, nothing_said}
 use Rattle.transcode_core.proofs.top.answer.Goals as goal
 
 pub returns-in-Serve-clause-due : goal.returns-in-Serve-clause-due

@@ -1,14 +1,15 @@
 use Rattle.std.proofs.Common.{ℕ, ◌+◌, ◌≤◌, inl, inr}
 use Rattle.std.specs.Prelude.{Vec, Ok}
 use Rattle.std.specs.declared.alloc.Global.{Global}
-use Rattle.transcode_core.specs.Order.{Then}
-use Rattle.transcode_core.specs.Private.Requests.{opened_seen, type_seen}
+use Rattle.command_line.specs.Order.{Then}
+use Rattle.transcode_core.specs.Private.Seen.{opened_seen, type_seen}
 use Rattle.transcode_core.specs.Steps.{ValueIn, Encoding}
 use Rattle.transcode_core.specs.Due.{ItemsIn}
-use Rattle.transcode_core.specs.Causes.{NoMemory, OneRead, StepsFrom}
+use Rattle.command_line.specs.Answers.{NoMemory}
+use Rattle.transcode_core.specs.Causes.{OneRead, StepsFrom}
 use Rattle.validity_check.specs.Counts.{element_count}
 use Rattle.validity_check.proofs.Counting.{on-ok}
-use Rattle.transcode_core.proofs.Joined.{passed, refused}
+use Rattle.command_line.proofs.Joined.{passed, refused}
 use Rattle.transcode_core.proofs.top.encode_input.Goals as goal
 
 pub returns-in-Ok-clause-due : goal.returns-in-Ok-clause-due

@@ -1,11 +1,13 @@
 use Rattle.std.proofs.Common.{ℕ, inl}
 use Rattle.schema_parts.specs.SetParts.{SetParts, parts_of}
-use Rattle.transcode_core.specs.Order.{Give, Then}
-use Rattle.transcode_core.specs.Private.Requests.{root_seen, opened_seen}
+use Rattle.command_line.specs.Order.{Give, Then}
+use Rattle.command_line.specs.Seen.{root_seen}
+use Rattle.transcode_core.specs.Private.Seen.{opened_seen}
 use Rattle.transcode_core.specs.Steps.{Rooted}
 use Rattle.transcode_core.specs.Due.{SetIn}
-use Rattle.transcode_core.specs.Causes.{NoMemory, SomeLoad}
-use Rattle.transcode_core.proofs.Joined.{passed, refused}
+use Rattle.command_line.specs.Answers.{NoMemory}
+use Rattle.transcode_core.specs.Causes.{SomeLoad}
+use Rattle.command_line.proofs.Joined.{passed, refused}
 use Rattle.transcode_core.proofs.top.open_files.Goals as goal
 
 pub returns-in-Ok-clause-due : goal.returns-in-Ok-clause-due

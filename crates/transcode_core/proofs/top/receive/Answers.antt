@@ -2,12 +2,13 @@ use Rattle.std.proofs.Common.{ℕ, inl, inr}
 use Rattle.std.proofs.lemmas.Result.{IfOk-weaker}
 use Rattle.std.specs.Prelude.{Vec}
 use Rattle.std.specs.declared.alloc.Global.{Global}
-use Rattle.transcode_core.specs.Order.{Then}
-use Rattle.transcode_core.specs.Private.Requests.{opened_seen, type_seen}
+use Rattle.command_line.specs.Order.{Then}
+use Rattle.transcode_core.specs.Private.Seen.{opened_seen, type_seen}
 use Rattle.transcode_core.specs.Steps.{RootType, Typed, Decoded, Written}
-use Rattle.transcode_core.specs.Causes.{NoMemory, OneRead}
+use Rattle.command_line.specs.Answers.{NoMemory}
+use Rattle.transcode_core.specs.Causes.{OneRead}
 use Rattle.transcode_core.proofs.Again.{documented_back}
-use Rattle.transcode_core.proofs.Joined.{passed, refused}
+use Rattle.command_line.proofs.Joined.{passed, refused}
 use Rattle.transcode_core.proofs.top.receive.Goals as goal
 
 pub write_input-requires : goal.write_input-requires

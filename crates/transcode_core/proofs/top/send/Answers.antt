@@ -1,12 +1,13 @@
 use Rattle.std.proofs.Common.{ℕ, inl}
 use Rattle.std.specs.Prelude.{Vec}
 use Rattle.std.specs.declared.alloc.Global.{Global}
-use Rattle.transcode_core.specs.Order.{Then}
-use Rattle.transcode_core.specs.Private.Requests.{opened_seen, type_seen}
+use Rattle.command_line.specs.Order.{Then}
+use Rattle.transcode_core.specs.Private.Seen.{opened_seen, type_seen}
 use Rattle.transcode_core.specs.Steps.{RootType, Typed, ValueIn, Encoding}
 use Rattle.transcode_core.specs.Due.{ItemsIn}
-use Rattle.transcode_core.specs.Causes.{NoMemory, OneRead}
-use Rattle.transcode_core.proofs.Joined.{passed, refused}
+use Rattle.command_line.specs.Answers.{NoMemory}
+use Rattle.transcode_core.specs.Causes.{OneRead}
+use Rattle.command_line.proofs.Joined.{passed, refused}
 use Rattle.transcode_core.proofs.top.send.Goals as goal
 
 pub returns-in-Ok-clause-due : goal.returns-in-Ok-clause-due

@@ -4,8 +4,9 @@ use Rattle.std.specs.declared.alloc.Global.{Global}
 use Rattle.schema_parts.specs.SetParts.{parts_of}
 use Rattle.transcode_core.specs.Steps.{Printed}
 use Rattle.transcode_core.specs.Due.{SetIn}
-use Rattle.transcode_core.specs.Causes.{NoMemory, SomeLoad}
-use Rattle.transcode_core.proofs.Joined.{passed, refused}
+use Rattle.command_line.specs.Answers.{NoMemory}
+use Rattle.transcode_core.specs.Causes.{SomeLoad}
+use Rattle.command_line.proofs.Joined.{passed, refused}
 use Rattle.transcode_core.proofs.top.show.Goals as goal
 
 pub returns-in-Ok-clause-due : goal.returns-in-Ok-clause-due

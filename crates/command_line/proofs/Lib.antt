@@ -1,0 +1,4 @@
+pub mod Fronts
+pub mod WordLemmas
+pub mod FewFiles
+pub mod Joined
