@@ -3,9 +3,9 @@ ghost use Rattle.std.specs.Prelude.{IfOk, string_bytes};
 ghost use Rattle.complaints.specs.Complaints.{IsComplaint};
 
 use crate::words::reason_of;
+use command_line::Outcome;
 use std::alloc::Global;
 use text_places::{tell_place, tell_unit, tell_whole};
-use transcode_core::Outcome;
 use xa_base::Memory;
 
 /// The complaint about an outcome: the name of what it is about, the place, the reason and a remedy. Where the place is a byte of a text whose

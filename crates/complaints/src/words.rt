@@ -1,15 +1,15 @@
 //! The words for people: what each reason means, and what mends it. docs/REASONS.md says the same at greater length.
 ghost use Rattle.std.specs.Prelude.{◌≡◌, ◌++◌, ◌⊎◌, codes};
-ghost use Rattle.transcode_core.specs.Lines as lines;
+ghost use Rattle.command_line.specs.Lines as lines;
 ghost use Rattle.complaints.specs.Complaints.{IsNamed};
 
+use command_line::Outcome;
 use doc_text::DocWhy;
 use facet_rules::FacetWhy;
+use link_names::LinkWhy;
 use per_fields::Why;
-use schema_link::LinkWhy;
 use schema_rules::SchemaWhy;
 use text_places::Reason;
-use transcode_core::Outcome;
 use validity::InvalidWhy;
 
 /// Of a text that is no document.

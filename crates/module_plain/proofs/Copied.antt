@@ -120,7 +120,7 @@ copied_joined before [] [] all = copied_nil
 copied_joined before (x ∷ []) (y ∷ []) all = copied_append x y (copied_same before) all.0
 copied_joined before (x ∷ v ∷ xs) (y ∷ w ∷ ys) all =
     copied_append (44 ∷ listed before (v ∷ xs)) (44 ∷ listed before (w ∷ ys)) (copied_append x y (copied_same before) all.0)
-        (copied_append (listed before (v ∷ xs)) (listed before (w ∷ ys)) (copied_same (44 ∷ [])) (copied_joined before (v ∷ xs) (w ∷ ys) all.1))
+    (copied_append (listed before (v ∷ xs)) (listed before (w ∷ ys)) (copied_same (44 ∷ [])) (copied_joined before (v ∷ xs) (w ∷ ys) all.1))
 copied_joined before [] (y ∷ ys) all = absurd all
 copied_joined before (x ∷ xs) [] all = absurd all
 copied_joined before (x ∷ []) (y ∷ w ∷ ys) all = absurd all.1

@@ -62,8 +62,8 @@ copied_instruction generated f (mark.WhiteSpace Collapse) free = copied_brackete
 copied_instruction generated f (mark.Text item text) free =
     let identifier = unwrap_or (item_identifier f item) [] in
     copied_bracketed (codes "TEXT:" ++ as_item identifier text)
-        (passed_append (codes "TEXT:") (as_item identifier text) (passed_free (codes "TEXT:") refl)
-            (passed_append identifier (as_name identifier text) (passed_free identifier (free item)) (passed_as_name identifier text)))
+    (passed_append (codes "TEXT:") (as_item identifier text) (passed_free (codes "TEXT:") refl)
+    (passed_append identifier (as_name identifier text) (passed_free identifier (free item)) (passed_as_name identifier text)))
 
 copied_ranked_go : (generated : List ℕ) (f : Form) (m : Instruction) (v : Bool) → FreeItems f → Copied (if v then instruction generated f m else []) []
 copied_ranked_go generated f m true free = copied_instruction generated f m free
@@ -124,11 +124,11 @@ copied_block : (levels : ℕ) (xs ys : List (List ℕ)) → AllCopied xs ys → 
 copied_block levels [] [] all = copied_same (codes "{}")
 copied_block levels (x ∷ xs) (y ∷ ys) all =
     copied_append (codes "}") (codes "}")
-        (copied_append (new_line levels) (new_line levels)
-            (copied_append (listed (new_line (suc levels)) (x ∷ xs)) (listed (new_line (suc levels)) (y ∷ ys)) (copied_same (codes "{"))
-                (copied_joined (new_line (suc levels)) (x ∷ xs) (y ∷ ys) all))
-            (copied_same (new_line levels)))
-        (copied_same (codes "}"))
+    (copied_append (new_line levels) (new_line levels)
+    (copied_append (listed (new_line (suc levels)) (x ∷ xs)) (listed (new_line (suc levels)) (y ∷ ys)) (copied_same (codes "{"))
+    (copied_joined (new_line (suc levels)) (x ∷ xs) (y ∷ ys) all))
+    (copied_same (new_line levels)))
+    (copied_same (codes "}"))
 copied_block levels [] (y ∷ ys) all = absurd all
 copied_block levels (x ∷ xs) [] all = absurd all
 
@@ -176,7 +176,7 @@ with_prefixes : (M : List Assignment) (levels : ℕ) (generated : List ℕ) (mar
 with_prefixes M levels generated marks l xs ys all = record {
   is = λ free rest.
       (copied_append (type_of M levels l.form xs) (type_of (unmarked M) levels (unmarked_form l.form) ys)
-          (copied_prefixes generated marks l (free_items (unmarked M) levels l.form ys free)) (copied_type_of M levels l.form xs ys all)).is free rest;
+      (copied_prefixes generated marks l (free_items (unmarked M) levels l.form ys free)) (copied_type_of M levels l.form xs ys all)).is free rest;
 }
 
 mutual
@@ -184,20 +184,17 @@ mutual
       → Copied (printed_type M levels generated marks t) (printed_type (unmarked M) levels generated [] (unmarked_type t))
   copied_type M levels generated marks (node l ts) =
       rw (level_same levels l.form, parts_same l.form)
-          (with_prefixes M levels generated marks l (printed_parts M (level_of_parts levels l.form) (parts_of l.form) ts)
-              (printed_parts (unmarked M) (level_of_parts levels l.form) (map unmarked_part (parts_of l.form)) (unmarked_types ts))
-              (copied_parts M (level_of_parts levels l.form) (parts_of l.form) ts))
+      (with_prefixes M levels generated marks l (printed_parts M (level_of_parts levels l.form) (parts_of l.form) ts)
+      (printed_parts (unmarked M) (level_of_parts levels l.form) (map unmarked_part (parts_of l.form)) (unmarked_types ts))
+      (copied_parts M (level_of_parts levels l.form) (parts_of l.form) ts))
 
   copied_parts : (M : List Assignment) (levels : ℕ) (parts : List Component) (ts : Roses TypeLabel)
       → AllCopied (printed_parts M levels parts ts) (printed_parts (unmarked M) levels (map unmarked_part parts) (unmarked_types ts))
   copied_parts M levels parts none = tt
-  copied_parts M levels parts (more t ts) =
-      elim parts [
-        | [] ↦ tt
-        | part ∷ others ↦
-            (copied_with_type part (printed_type M levels part.identifier part.marks t) (printed_type (unmarked M) levels part.identifier [] (unmarked_type t))
-                (copied_type M levels part.identifier part.marks t), copied_parts M levels others ts)
-      ]
+  copied_parts M levels [] (more t ts) = tt
+  copied_parts M levels (part ∷ others) (more t ts) =
+      (copied_with_type part (printed_type M levels part.identifier part.marks t) (printed_type (unmarked M) levels part.identifier [] (unmarked_type t))
+          (copied_type M levels part.identifier part.marks t), copied_parts M levels others ts)
 
 -- ---- the module
 
@@ -208,8 +205,8 @@ copied_assignments M (a ∷ list) =
     let there = printed_type (unmarked M) 0 a.reference [] (unmarked_type a.body) in
     let front : Copied (a.reference ++ codes " ::= ") (a.reference ++ codes " ::= ") = copied_same (a.reference ++ codes " ::= ") in
     copied_append (flat_map (printed_assignment M) list) (flat_map (printed_assignment (unmarked M)) (map unmarked_assignment list))
-        (copied_append (codes "\n") (codes "\n") (copied_append here there front (copied_type M 0 a.reference a.marks a.body)) (copied_same (codes "\n")))
-        (copied_assignments M list)
+    (copied_append (codes "\n") (codes "\n") (copied_append here there front (copied_type M 0 a.reference a.marks a.body)) (copied_same (codes "\n")))
+    (copied_assignments M list)
 
 pub stripped_body : (M : List Assignment) → Copied (flat_map (printed_assignment M) M) (plain_body M)
 stripped_body M = copied_assignments M M

@@ -1,26 +1,23 @@
 //! The program for people: the commands of the fixed program with options, files by name, and complaints that name lines.
 #![tactic(auto)]
 
-mod answering;
-mod results;
-
 ghost use Rattle.std.specs.Prelude.{◌≡◌};
-ghost use Rattle.transcode_core.specs.Status.{status};
+ghost use Rattle.command_line.specs.Status.{status};
 
+use command_line::{Outcome, write_line};
 use complaints::{NOTE, ROOT, SEVERAL_ROOTS, STAMP, complaint, global_names, path_at};
+use module_plain::plain_module;
 use outside_files::Writing;
 use per_fields::Why;
-use module_plain::plain_module;
-use program_parts::{
-    Asked, Input, Kept, Parsed, Syntax, Task, manual_page, parse_words, save, stamp_line,
+use program_parts::{Asked, Input, Kept, Parsed, Syntax, Task, manual_page, parse_words, save};
+use stamped_results::{
+    Fault, behind_stamp, due_of, module_of, stamp_line, stamp_of_files, stamped,
 };
-use results::{Fault, behind_stamp, due_of, module_of, stamp_of_files, stamped};
 use std::alloc::Global;
 use std::env;
 use std::io::{self, IsTerminal};
 use std::process::ExitCode;
 use text_places::tell_whole;
-use transcode_core::{Outcome, write_line};
 use xa_base::{Failed, Memory, Name, Text, write_all};
 
 // The words, of which the first is the program's name.

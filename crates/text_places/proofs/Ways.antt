@@ -47,9 +47,10 @@ Reached at all kids (Some found) =
 pub reached_more : (at : ℕ) (all kids rest : List (Rose ItemLabel)) (kid : Rose ItemLabel) (found : Option (Rose ItemLabel × List (Rose ItemLabel)))
     → Reached at all kids found → kids ≡ kid ∷ rest → BeginsBy at kid → Reached at all rest (Some (kid, rest))
 reached_more at all kids rest kid None here e by = ([], sym here ∙ e, λ k d lt. absurd (omega arith), by, refl)
-reached_more at all kids rest kid (Some found) (before, split, earlier, last, same) e by =
-    (before ++ found.0 ∷ [],
-    split ∙ ap (λ l. before ++ found.0 ∷ l) (same ∙ e) ∙ sym (append_assoc before (found.0 ∷ []) (kid ∷ rest)),
-    All-push (BeginsBy at) before found.0 earlier last,
-    by,
-    refl)
+reached_more at all kids rest kid (Some found) (before, split, earlier, last, same) e by = (
+  before ++ found.0 ∷ [],
+  split ∙ ap (λ l. before ++ found.0 ∷ l) (same ∙ e) ∙ sym (append_assoc before (found.0 ∷ []) (kid ∷ rest)),
+  All-push (BeginsBy at) before found.0 earlier last,
+  by,
+  refl,
+)

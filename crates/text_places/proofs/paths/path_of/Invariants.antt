@@ -9,7 +9,7 @@ abbrev pub invariant-levels : goal.invariant-levels
 invariant-levels l =
     (steps : List ℕ) × (string_bytes l.path ≡ root_step (label_of l.fn.root) ++ steps)
     × ((elements : List (Rose ItemLabel)) (later : List ℕ) → Way l.at l.node elements later
-        → (all : List (Rose ItemLabel)) × Way l.at l.fn.root all (steps ++ later))
+    → (all : List (Rose ItemLabel)) × Way l.at l.fn.root all (steps ++ later))
 
 abbrev pub decreases-levels : goal.decreases-levels
 decreases-levels l = node_count l.node

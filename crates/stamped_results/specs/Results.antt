@@ -2,7 +2,7 @@
 use Rattle.std.specs.Prelude.{◌≡◌, ℕ, List, [], ◌∷◌, ◌++◌, Option, Some, take, codes}
 use Rattle.std.specs.Io.KnownBytes.{Consumes}
 use Rattle.sha2.specs.Sha256.{sha256}
-use Rattle.transcode_core.specs.declared.outcome.Outcome.TheVariants.{Done}
+use Rattle.command_line.specs.declared.outcome.Outcome.TheVariants.{Done}
 use Rattle.transcode_core.specs.Due.{Due}
 
 -- ---- words

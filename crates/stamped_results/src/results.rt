@@ -2,14 +2,14 @@
 ghost use Rattle.std.specs.Prelude.{◌≡◌, ◌++◌, [], Some, IfOk, IfErr, OnOk};
 ghost use Rattle.std.specs.Io.KnownBytes.{Consumes};
 ghost use Rattle.transcode_core.specs.Due.{Due};
-ghost use Rattle.transcode_core.specs.Causes.{IsRefusal};
-ghost use Rattle.ruvkhiska.specs.Results as rule;
-ghost use Rattle.ruvkhiska.specs.Results.{IsStamped, IsBehindStamp};
+ghost use Rattle.command_line.specs.Answers.{IsRefusal};
+ghost use Rattle.stamped_results.specs.Results as rule;
+ghost use Rattle.stamped_results.specs.Results.{IsStamped, IsBehindStamp};
 
 use crate::answering::answer;
-use program_parts::{LENGTH, stamp_of};
+use crate::stamps::{LENGTH, stamp_of};
+use command_line::Outcome;
 use std::alloc::Global;
-use transcode_core::Outcome;
 use xa_base::{Failed, Library, Memory, Source, SureSource, Text};
 
 /// Why there is nothing to be written.

@@ -1,12 +1,13 @@
 //! The answer to the words of the fixed program, as a value.
 ghost use Rattle.std.specs.Prelude.{◌≡◌, ◌<◌, ◌++◌, ℕ, [], List, Some, None, IfOk, IfErr};
 ghost use Rattle.transcode_core.specs.Due.{Due};
-ghost use Rattle.transcode_core.specs.Causes.{IsRefusal};
+ghost use Rattle.command_line.specs.Answers.{IsRefusal};
 
+use command_line::Outcome;
 use std::alloc::Global;
 use std::marker::Brand;
 use std::sync::ledger::{Blank, Ledger};
-use transcode_core::{Outcome, run};
+use transcode_core::run;
 use xa_base::{Failed, Library, Sink, Source, Steps, Text};
 
 // A sink in memory that grows.
@@ -60,6 +61,7 @@ fn run_counted<F: Library, S: Source, L: Ledger>(
     requires some { 0 < L.parts }
     ensures done { result ≡ Outcome.Done → (bytes : List ℕ) × Due words.now (F.entries files.old) (S.left input.old) Outcome.Done bytes × (output.new.bytes.items ≡ output.old.bytes.items ++ bytes) }
     ensures refused { IsRefusal result → Due words.now (F.entries files.old) (S.left input.old) result [] }
+    ensures entries { F.entries files.new ≡ F.entries files.old }
 {
     let mut steps = Steps::<L>::new(blank);
     run(alloc, words, files, input, output, &mut Silence, &mut steps)
@@ -74,6 +76,7 @@ pub fn answer<F: Library, S: Source>(
 ) -> Result<Vec<u8>, Outcome>
     ensures done { IfOk result (λ bytes. Due words.now (F.entries files.old) (S.left input.old) Outcome.Done bytes.items) }
     ensures refused { IfErr result (λ o. IsRefusal o → Due words.now (F.entries files.old) (S.left input.old) o []) }
+    ensures entries { F.entries files.new ≡ F.entries files.old }
 {
     let mut output = Grown {
         bytes: Vec::new(alloc),
