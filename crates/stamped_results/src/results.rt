@@ -1,5 +1,5 @@
 //! What is to be written: what is due of the words of the fixed program, with a stamp before it or behind one.
-ghost use Rattle.std.specs.Prelude.{◌≡◌, ◌++◌, [], Some, IfOk, IfErr, OnOk};
+ghost use Rattle.std.specs.Prelude.{◌≡◌, ◌∷◌, ◌++◌, [], Some, IfOk, IfErr, OnOk};
 ghost use Rattle.std.specs.Io.KnownBytes.{Consumes};
 ghost use Rattle.transcode_core.specs.Due.{Due};
 ghost use Rattle.command_line.specs.Answers.{IsRefusal};
@@ -18,6 +18,12 @@ pub enum Fault {
     Outcome(Outcome),
     /// The octets begin with another stamp than that of the schemas.
     Stamp,
+}
+
+impl From<Outcome> for Fault {
+    fn from(outcome: Outcome) -> Fault {
+        Fault::Outcome(outcome)
+    }
 }
 
 // The words of the fixed program. An empty root is none.
@@ -111,22 +117,30 @@ pub fn stamped<F: Library, S: Source>(
 {
     let stamp = stamp_of_files(alloc, files, library)?;
     let octets = due_of(alloc, command, root, files, library, input)?;
-    joined(alloc, stamp, &octets).map_err(|_| Outcome::OutOfMemory)
+    match joined(alloc, stamp, &octets) {
+        Ok(whole) => Ok(whole),
+        Err(Memory) => Err(Outcome::OutOfMemory),
+    }
+}
+
+// Takes the next octet, which has to be this one.
+fn take_octet<S: Source>(input: &mut S, due: u8) -> Result<(), Fault>
+    ensures { OnOk result (Consumes (S.left input.old) (S.left input.new) (due ∷ [])) }
+{
+    let mut octet = [0u8; 1];
+    match input.read(&mut octet) {
+        Ok(count) if count == 1 && octet[0] == due => Ok(()),
+        Ok(_) => Err(Fault::Stamp),
+        Err(Failed) => Err(Fault::Outcome(Outcome::ReadFault)),
+    }
 }
 
 // Takes the stamp before the octets.
 fn take_stamp<S: Source>(input: &mut S, stamp: [u8; LENGTH]) -> Result<(), Fault>
     ensures { OnOk result (Consumes (S.left input.old) (S.left input.new) stamp) }
 {
-    let mut there = 0;
-    'octets: while there < LENGTH {
-        let mut octet = [0u8; 1];
-        match input.read(&mut octet) {
-            Ok(0) => return Err(Fault::Stamp),
-            Ok(_) if octet[0] == stamp[there] => there += 1,
-            Ok(_) => return Err(Fault::Stamp),
-            Err(Failed) => return Err(Fault::Outcome(Outcome::ReadFault)),
-        }
+    for octet in stamp {
+        take_octet(input, octet)?;
     }
     Ok(())
 }
@@ -142,7 +156,8 @@ pub fn behind_stamp<F: Library, S: Source>(
 ) -> Result<Vec<u8>, Fault>
     ensures { IfOk result (λ bytes. IsBehindStamp (rule.fixed_words command.now root.now files.now) files.now (F.entries library.old) (S.left input.old) bytes.items) }
 {
-    let stamp = stamp_of_files(alloc, files, library).map_err(Fault::Outcome)?;
+    let stamp = stamp_of_files(alloc, files, library)?;
     take_stamp(input, stamp)?;
-    due_of(alloc, command, root, files, library, input).map_err(Fault::Outcome)
+    let bytes = due_of(alloc, command, root, files, library, input)?;
+    Ok(bytes)
 }

@@ -1,4 +1,4 @@
-use Rattle.complaints.proofs.Telling.{trailing, whole, if_ok}
+use Rattle.complaints.proofs.Wholes.{trailing, whole, if_ok}
 use Rattle.complaints.proofs.telling.complaint.Goals as goal
 
 pub returns-in-Trailing : goal.returns-in-Trailing

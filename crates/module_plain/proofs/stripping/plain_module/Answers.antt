@@ -14,4 +14,7 @@ pub returns : goal.returns
 returns c = λ M e free.
     let body : c.in-Some.body.now ≡ flat_map (printed_assignment M) M = c.in-Some.ensures (flat_map (printed_assignment M) M) e in
     let left : c.in_ok-left.left.items ≡ rule.plain_body M = c.in_ok-left.ensures ∙ ap (stripped Module) body ∙ stripped_alone M free in
-    ?
+    c.in_ok-extend_from_slice-2.ensures.items
+    ∙ ap (λ l. l ++ rule.closing)
+        (c.in_ok-extend_from_slice.ensures.items ∙ ap (λ w. w ++ c.deref.result.now) c.in_ok-whole.ensures.items
+        ∙ ap (λ l. rule.opening ++ l) (c.deref.ensures.value ∙ left))
