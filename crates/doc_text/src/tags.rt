@@ -11,7 +11,7 @@ ghost use Rattle.doc_text.specs.Contexts as contexts;
 ghost use Rattle.doc_text.specs.Private.Entering.{Enters, Stopped, IsPlain, have_utf8, are_named};
 ghost use Rattle.doc_text.specs.declared.error.DocWhy.TheVariants as why;
 
-use crate::duplicates::{expanded_twice, written_twice};
+use crate::duplicates::has_duplicate;
 use crate::error::{DocError, DocWhy};
 use crate::names::{binds, bound_prefix, is_long, is_plain, is_reserved};
 use crate::scope::BindingsInScope;
@@ -235,18 +235,6 @@ fn enter_scope<'a>(
     read_bindings(alloc, attributes)
 }
 
-fn has_duplicate(
-    alloc: Global,
-    tag: &Element<'_>,
-    attributes: &[(Name, Text)],
-) -> Result<bool, Memory>
-    ensures { IfOk result (λ twice. twice ≡ (names.written_twice (tag_seen tag.now).attributes || names.expanded_twice attributes.now)) }
-{
-    let is_written = written_twice(alloc, &tag.attributes)?;
-    let is_expanded = expanded_twice(alloc, attributes)?;
-    Ok(either(is_written, is_expanded))
-}
-
 // What a tag opens.
 #[derive(Drop)]
 pub(crate) struct Head {
@@ -338,7 +326,7 @@ pub(crate) fn enter<'a>(
         });
     }
     let attributes = read_attributes(alloc, scope, &tag.attributes)?;
-    if has_duplicate(alloc, tag, &attributes)? {
+    if has_duplicate(alloc, &tag.attributes, &attributes)? {
         return Err(DocError::Syntax {
             at,
             why: DocWhy::DuplicateAttribute,

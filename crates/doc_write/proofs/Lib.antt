@@ -2,3 +2,4 @@ pub mod Written
 pub mod WrittenSpaces
 pub mod Entries
 pub mod Qualified
+pub mod Telling

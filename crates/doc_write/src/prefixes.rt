@@ -98,7 +98,7 @@ impl<'a> Prefixes<'a> {
         Prefix::Numbered(self.found.len() + 1 - xsi_count)
     }
 
-    fn bind(&mut self, space: &'a [u8]) -> Result<(), AllocError>
+    pub(crate) fn bind(&mut self, space: &'a [u8]) -> Result<(), AllocError>
         ensures { OnOk result (self.new ≡ with_space self.old space.now) }
     {
         if self.is_bound(space) {

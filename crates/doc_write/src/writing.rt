@@ -12,11 +12,11 @@ use item_tree::{ItemNode, ItemRef};
 use std::alloc::{AllocError, Global};
 use xa_base::{Memory, Name, Text};
 
-const XML_DECLARATION: &[u8] = b"<?xml version=\"1.0\" encoding=\"UTF-8\"?>\n";
+pub(crate) const XML_DECLARATION: &[u8] = b"<?xml version=\"1.0\" encoding=\"UTF-8\"?>\n";
 
 // Where characters stand: in an element, or in an attribute's value.
 #[derive(Clone, Copy)]
-enum CharacterPlace {
+pub(crate) enum CharacterPlace {
     Content,
     Value,
 }
@@ -52,7 +52,7 @@ fn split_plain(place: CharacterPlace, bytes: &[u8]) -> (&[u8], &[u8])
     (bytes, &[])
 }
 
-fn write_escaped(out: &mut Vec<u8>, place: CharacterPlace, bytes: &[u8]) -> Result<(), AllocError>
+pub(crate) fn write_escaped(out: &mut Vec<u8>, place: CharacterPlace, bytes: &[u8]) -> Result<(), AllocError>
     ensures { OnOk result (out.new.items ≡ out.old.items ++ flat_map (escape_in place) bytes.now) }
 {
     let mut rest = bytes;
@@ -80,7 +80,7 @@ fn write_name(out: &mut Vec<u8>, qualifier: Qualifier, name: &Name) -> Result<()
 }
 
 // The value of an attribute, behind its name.
-fn write_value(out: &mut Vec<u8>, value: &[u8]) -> Result<(), AllocError>
+pub(crate) fn write_value(out: &mut Vec<u8>, value: &[u8]) -> Result<(), AllocError>
     ensures { OnOk result (out.new.items ≡ out.old.items ++ written_value value.now) }
 {
     out.extend_from_slice(b"=\"")?;
@@ -124,7 +124,7 @@ fn write_declaration(out: &mut Vec<u8>, space: &[u8], prefix: Prefix) -> Result<
     write_value(out, space)
 }
 
-fn write_declarations(out: &mut Vec<u8>, declared: &[(&[u8], Prefix)]) -> Result<(), AllocError>
+pub(crate) fn write_declarations(out: &mut Vec<u8>, declared: &[(&[u8], Prefix)]) -> Result<(), AllocError>
     ensures { OnOk result (out.new.items ≡ out.old.items ++ flat_map written_declaration (map entry_of declared.now)) }
 {
     'entries: for (space, prefix) in declared {

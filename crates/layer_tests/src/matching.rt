@@ -180,6 +180,7 @@ fn follow_counted<A: Abort + AllocGlobal, L: Ledger>(
 }
 
 // A matcher of the content model of the element with this number does as the steps say. Before them it may finish or not.
+#[tactic(auto, using(content_match::proofs::Bounding::bounds_allow))]
 fn follow<A: Abort + AllocGlobal>(
     rt: &A,
     set: &SchemaSet,

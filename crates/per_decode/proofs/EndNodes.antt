@@ -24,20 +24,20 @@ pub sits-bool : SteadyReader bool_at
 unfolding bool_at
 sits-bool X s h = search (rules, sits_then, sits_ok, sits-bits)
 
-pub sits-int : (least greatest : Option ℤ) → SteadyReader (int_at true least greatest)
+pub sits-int : (aligned : Bool) (least greatest : Option ℤ) → SteadyReader (int_at aligned least greatest)
 unfolding int_at
-sits-int least greatest X s h = search (rules, sits_then, sits_ok, sits-whole)
+sits-int aligned least greatest X s h = search (rules, sits_then, sits_ok, sits-whole)
 
-pub sits-enum : (items : ℕ) → SteadyReader (enum_at true items)
+pub sits-enum : (aligned : Bool) (items : ℕ) → SteadyReader (enum_at aligned items)
 unfolding enum_at
-sits-enum items X s h = search (rules, sits_then, sits_ok, sits-number)
+sits-enum aligned items X s h = search (rules, sits_then, sits_ok, sits-number)
 
-pub sits-text_octets : SteadyReader (counted_at true 0 None octets_at)
-sits-text_octets X s h = sits-counted 0 None octets_at sits-octets X s h
+pub sits-text_octets : (aligned : Bool) → SteadyReader (counted_at aligned 0 None octets_at)
+sits-text_octets aligned X s h = sits-counted aligned 0 None octets_at sits-octets X s h
 
-pub sits-text : SteadyReader (text_at true)
+pub sits-text : (aligned : Bool) → SteadyReader (text_at aligned)
 unfolding text_at
-sits-text X s h = sits_then X s.at (counted_at true 0 None octets_at X s) _ (sits-text_octets X s h) (λ x i. record { later = omega arith; inside = i })
+sits-text aligned X s h = sits_then X s.at (counted_at aligned 0 None octets_at X s) _ (sits-text_octets aligned X s h) (λ x i. record { later = omega arith; inside = i })
 
 pub sits-flag : (part : Component) → SteadyReader (flag_at part)
 unfolding flag_at
@@ -64,32 +64,32 @@ module _ (kid : ComponentPlace → Reader (Rose ValueLabel)) (one : (p : Compone
   sits-sequence l ts parts X s h =
       sits_then X s.at (each_at flag_at parts X s) _ (sits-flags parts X s h) (λ f i. sits-kids (value.Sequence f.0) (present_from l 0 parts ts f.0) X f.1 i)
 
-  pub sits-choice : (l : TypeLabel) (ts : List (Rose TypeLabel)) (parts : List Component) → SteadyReader (choice_at true kid l ts parts)
+  pub sits-choice : (aligned : Bool) (l : TypeLabel) (ts : List (Rose TypeLabel)) (parts : List Component) → SteadyReader (choice_at aligned kid l ts parts)
   unfolding choice_at
-  sits-choice l ts parts X s h =
-      sits_then X s.at (number_at true (length parts - 1) X s) _ (sits-number (length parts - 1) X s h)
+  sits-choice aligned l ts parts X s h =
+      sits_then X s.at (number_at aligned (length parts - 1) X s) _ (sits-number aligned (length parts - 1) X s h)
       (λ i j. sits-kids (value.Choice i.0) (alone (place_at l i.0 (slice_get parts i.0) (slice_get ts i.0))) X i.1 j)
 
   pub sits-many : (p : ComponentPlace) (n : ℕ) → SteadyReader (each_at kid (replicate n p))
   sits-many p n X s h = sits-each kid one (replicate n p) X s h
 
-  pub sits-items : (least : ℕ) (most : Option ℕ) (o : Option ComponentPlace) → SteadyReader (items_at true kid least most o)
+  pub sits-items : (aligned : Bool) (least : ℕ) (most : Option ℕ) (o : Option ComponentPlace) → SteadyReader (items_at aligned kid least most o)
   unfolding items_at
-  sits-items least most None X s h = stays X s why.NotAValue h
-  sits-items least most (Some p) X s h =
-      sits_then X s.at (list_at true least most (λ n. each_at kid (replicate n p)) X s) _ (sits-list least most (λ n. each_at kid (replicate n p)) (sits-many p) X s h) (λ vs i. record { later = omega arith; inside = i })
+  sits-items aligned least most None X s h = stays X s why.NotAValue h
+  sits-items aligned least most (Some p) X s h =
+      sits_then X s.at (list_at aligned least most (λ n. each_at kid (replicate n p)) X s) _ (sits-list aligned least most (λ n. each_at kid (replicate n p)) (sits-many p) X s h) (λ vs i. record { later = omega arith; inside = i })
 
-  pub sits-content : (l : TypeLabel) (ts : List (Rose TypeLabel)) (f : Form) → SteadyReader (content_at true kid l ts f)
+  pub sits-content : (aligned : Bool) (l : TypeLabel) (ts : List (Rose TypeLabel)) (f : Form) → SteadyReader (content_at aligned kid l ts f)
   unfolding content_at
-  sits-content l ts form.Bool X s h = sits-bool X s h
-  sits-content l ts (form.Int least greatest) X s h = sits-int least greatest X s h
-  sits-content l ts (form.Numbers numbers) X s h = sits-enum (length numbers) X s h
-  sits-content l ts (form.Words identifiers words) X s h = sits-enum (length words) X s h
-  sits-content l ts (form.Utf8 least most class) X s h = sits-text X s h
-  sits-content l ts (form.Sequence parts) X s h = sits-sequence l ts parts X s h
-  sits-content l ts (form.Choice parts) X s h = sits-choice l ts parts X s h
-  sits-content l ts (form.SequenceOf part least most) X s h = sits-items least most (place_at l 0 (Some part) (slice_get ts 0)) X s h
-  sits-content l ts (form.Ref to) X s h = stays X s why.NotAValue h
+  sits-content aligned l ts form.Bool X s h = sits-bool X s h
+  sits-content aligned l ts (form.Int least greatest) X s h = sits-int aligned least greatest X s h
+  sits-content aligned l ts (form.Numbers numbers) X s h = sits-enum aligned (length numbers) X s h
+  sits-content aligned l ts (form.Words identifiers words) X s h = sits-enum aligned (length words) X s h
+  sits-content aligned l ts (form.Utf8 least most class) X s h = sits-text aligned X s h
+  sits-content aligned l ts (form.Sequence parts) X s h = sits-sequence l ts parts X s h
+  sits-content aligned l ts (form.Choice parts) X s h = sits-choice aligned l ts parts X s h
+  sits-content aligned l ts (form.SequenceOf part least most) X s h = sits-items aligned least most (place_at l 0 (Some part) (slice_get ts 0)) X s h
+  sits-content aligned l ts (form.Ref to) X s h = stays X s why.NotAValue h
 
 sits-enter_by : {A : Type 0} (shallow few : Bool) (X : List Bool) (s : Spot) (k : Spot → Result (A × Spot) Stop) → s.at ≤ length X → Sits X s.at (k (moved s 0 1)) → Sits X s.at (enter_by shallow few s k)
 sits-enter_by false few X s k h i = stays X s why.TooDeep h
@@ -101,19 +101,20 @@ module _ (M : List Assignment) where
   unfolding owned_at
   sits-owned begin t X v h = search (rules, sits_if, sits_ok, sits_err)
 
-  pub sits-node_at : (levels depth : ℕ) (t : Rose TypeLabel) → SteadyReader (node_at true M levels depth t)
+module _ (aligned : Bool) (M : List Assignment) where
+  pub sits-node_at : (levels depth : ℕ) (t : Rose TypeLabel) → SteadyReader (node_at aligned M levels depth t)
   unfolding node_at entered_at
   sits-node_at zero depth t X s h = stays X s why.TooDeep h
   sits-node_at (suc levels) depth t X s h =
       let u = resolve M t in
-      let kid : ComponentPlace → Reader (Rose ValueLabel) = λ p. node_at true M levels (below p.role depth) p.type in
+      let kid : ComponentPlace → Reader (Rose ValueLabel) = λ p. node_at aligned M levels (below p.role depth) p.type in
       let r = moved s 0 1 in
       let at : r.at ≡ s.at = omega arith in
-      let i : Sits X r.at (content_at true kid (label_of u) (kids_of u) (label_of u).form X r) = sits-content kid (λ p. sits-node_at levels (below p.role depth) p.type) (label_of u) (kids_of u) (label_of u).form X r (omega arith) in
-      let j = sits_then X r.at (content_at true kid (label_of u) (kids_of u) (label_of u).form X r) (λ v. owned_at M s.at u v) i (λ v k. sits-owned s.at u X v k) in
-      sits-enter_by (leb depth 64) (ltb s.nodes 1048576) X s (λ r. content_at true kid (label_of u) (kids_of u) (label_of u).form X r >>= λ v. owned_at M s.at u v) h (record { later = omega (arith, j.later, at); inside = j.inside })
+      let i : Sits X r.at (content_at aligned kid (label_of u) (kids_of u) (label_of u).form X r) = sits-content kid (λ p. sits-node_at levels (below p.role depth) p.type) aligned (label_of u) (kids_of u) (label_of u).form X r (omega arith) in
+      let j = sits_then X r.at (content_at aligned kid (label_of u) (kids_of u) (label_of u).form X r) (λ v. owned_at M s.at u v) i (λ v k. sits-owned M s.at u X v k) in
+      sits-enter_by (leb depth 64) (ltb s.nodes 1048576) X s (λ r. content_at aligned kid (label_of u) (kids_of u) (label_of u).form X r >>= λ v. owned_at M s.at u v) h (record { later = omega (arith, j.later, at); inside = j.inside })
 
-  pub sits-node : (depth : ℕ) (t : Rose TypeLabel) → SteadyReader (node_read true M depth t)
+  pub sits-node : (depth : ℕ) (t : Rose TypeLabel) → SteadyReader (node_read aligned M depth t)
   sits-node depth t X s h = sits-node_at (levels_needed M depth t) depth t X s h
 
 pub sits-last : (X : List Bool) (s : Spot) → s.at ≤ length X → Sits X s.at (last_at X s)

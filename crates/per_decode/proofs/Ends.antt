@@ -6,7 +6,7 @@ use Rattle.per_fields.specs.declared.stops.Spot.{Spot}
 use Rattle.per_fields.specs.declared.stops.Stop.{Stop}
 use Rattle.per_fields.specs.declared.stops.Why.TheVariants as why
 use Rattle.per_fields.specs.Reading.{◌>>=◌, Reader, stop_at, stop_if, bits_at, align_at, octets_at, each_at}
-use Rattle.per_fields.specs.Fields.{Piece, Last, Units, unit, within_at, aligned_at, large_octets_at, large_at, number_at, length_from, length_here, count_here, count_at, fragments_at, counted_at, octet_count_here, octet_count_at, from_octets_at, from_at, signed_octets_at, signed_at, ranged_at, whole_at, sized_at, list_at}
+use Rattle.per_fields.specs.Fields.{skip_at, Piece, Last, Units, unit, within_at, aligned_at, large_octets_at, large_at, number_at, length_from, length_here, count_here, count_at, fragments_at, counted_at, octet_count_here, octet_count_at, from_octets_at, from_at, signed_octets_at, signed_at, ranged_at, whole_at, sized_at, list_at}
 use Rattle.per_decode.specs.Private.Giving.{Halt, stopped, short, too_long, failed, memory, end_of, FailsAt}
 
 pub record Sits {B : Type 0} (X : List Bool) (p : ℕ) (r : Result (B × Spot) Stop) : Type 0 where
@@ -83,9 +83,9 @@ pub sits-large : (top : ℕ) (X : List Bool) (s : Spot) → s.at ≤ length X �
 unfolding large_at
 sits-large top X s h = search (rules, sits_then, sits-within, sits-align, sits-large_octets)
 
-pub sits-number : (top : ℕ) (X : List Bool) (s : Spot) → s.at ≤ length X → Sits X s.at (number_at true top X s)
+pub sits-number : (aligned : Bool) (top : ℕ) (X : List Bool) (s : Spot) → s.at ≤ length X → Sits X s.at (number_at aligned top X s)
 unfolding number_at
-sits-number top X s h = search (rules, sits_if, sits_ok, sits-within, sits-aligned, sits-large)
+sits-number aligned top X s h = search (rules, sits_if, sits_ok, sits-within, sits-aligned, sits-large)
 
 -- a field that goes on behind its first bits, from where it begins
 pub sits-length_from : (before begin x : ℕ) (X : List Bool) (s : Spot) → s.at ≤ length X → Sits X s.at (length_from before begin x X s)
@@ -100,9 +100,17 @@ pub sits-count_here : (least : ℕ) (most : Option ℕ) (before total : ℕ) (X 
 unfolding count_here
 sits-count_here least most before total X s h = search (rules, sits_then, sits_if, sits_ok, sits_err, sits-length_here)
 
-pub sits-count : (least : ℕ) (most : Option ℕ) (before total : ℕ) (X : List Bool) (s : Spot) → s.at ≤ length X → Sits X s.at (count_at true least most before total X s)
+-- what is before a field that begins at an octet in the aligned variant
+pub sits-skip : (aligned : Bool) (X : List Bool) (s : Spot) → s.at ≤ length X → Sits X s.at (skip_at aligned X s)
+sits-skip aligned X s h = by aligned
+  where
+    by : (b : Bool) → Sits X s.at (skip_at b X s)
+    by true = sits-align X s h
+    by false = record { later = omega arith; inside = h }
+
+pub sits-count : (aligned : Bool) (least : ℕ) (most : Option ℕ) (before total : ℕ) (X : List Bool) (s : Spot) → s.at ≤ length X → Sits X s.at (count_at aligned least most before total X s)
 unfolding count_at
-sits-count least most before total X s h = search (rules, sits_then, sits-align, sits-count_here)
+sits-count aligned least most before total X s h = sits_then X s.at (skip_at aligned X s) (λ a. count_here least most before total X a.1) (sits-skip aligned X s h) (λ a i. sits-count_here least most before total X a.1 i)
 
 sits-octet_count_by : (X : List Bool) (p : ℕ) (n : Piece × Spot) → p ≤ n.1.at → n.1.at ≤ length X
     → Sits X n.1.at (elim n.0 as (λ _. Result (ℕ × Spot) Stop) [
@@ -126,70 +134,70 @@ sits-octet_count_here X s h =
     by (Ok n) a = let i = sits-octet_count_by X s.at n a.later a.inside in record { later = omega (arith, a.later, i.later); inside = i.inside }
     by (Err e) a = record { later = a.later; inside = a.inside }
 
-pub sits-octet_count : (X : List Bool) (s : Spot) → s.at ≤ length X → Sits X s.at (octet_count_at true X s)
+pub sits-octet_count : (aligned : Bool) (X : List Bool) (s : Spot) → s.at ≤ length X → Sits X s.at (octet_count_at aligned X s)
 unfolding octet_count_at
-sits-octet_count X s h = search (rules, sits_then, sits-align, sits-octet_count_here)
+sits-octet_count aligned X s h = sits_then X s.at (skip_at aligned X s) (λ a. octet_count_here X a.1) (sits-skip aligned X s h) (λ a i. sits-octet_count_here X a.1 i)
 
 pub sits-from_octets : (least : ℤ) (more : ℕ) (X : List Bool) (s : Spot) → s.at ≤ length X → Sits X s.at (from_octets_at least more X s)
 unfolding from_octets_at
 sits-from_octets least more X s h = search (rules, sits_then, sits_if, sits_ok, sits_err, sits-bits)
 
-pub sits-from : (least : ℤ) (X : List Bool) (s : Spot) → s.at ≤ length X → Sits X s.at (from_at true least X s)
+pub sits-from : (aligned : Bool) (least : ℤ) (X : List Bool) (s : Spot) → s.at ≤ length X → Sits X s.at (from_at aligned least X s)
 unfolding from_at
-sits-from least X s h = search (rules, sits_then, sits-octet_count, sits-from_octets)
+sits-from aligned least X s h = search (rules, sits_then, sits-octet_count, sits-from_octets)
 
 pub sits-signed_octets : (greatest : Option ℤ) (more : ℕ) (X : List Bool) (s : Spot) → s.at ≤ length X → Sits X s.at (signed_octets_at greatest more X s)
 unfolding signed_octets_at
 sits-signed_octets greatest more X s h = search (rules, sits_then, sits_if, sits_ok, sits_err, sits-bits)
 
-pub sits-signed : (greatest : Option ℤ) (X : List Bool) (s : Spot) → s.at ≤ length X → Sits X s.at (signed_at true greatest X s)
+pub sits-signed : (aligned : Bool) (greatest : Option ℤ) (X : List Bool) (s : Spot) → s.at ≤ length X → Sits X s.at (signed_at aligned greatest X s)
 unfolding signed_at
-sits-signed greatest X s h = search (rules, sits_then, sits-octet_count, sits-signed_octets)
+sits-signed aligned greatest X s h = search (rules, sits_then, sits-octet_count, sits-signed_octets)
 
-pub sits-ranged : (least greatest : ℤ) (X : List Bool) (s : Spot) → s.at ≤ length X → Sits X s.at (ranged_at true least greatest X s)
+pub sits-ranged : (aligned : Bool) (least greatest : ℤ) (X : List Bool) (s : Spot) → s.at ≤ length X → Sits X s.at (ranged_at aligned least greatest X s)
 unfolding ranged_at
-sits-ranged least greatest X s h = search (rules, sits_then, sits_ok, sits-number)
+sits-ranged aligned least greatest X s h = search (rules, sits_then, sits_ok, sits-number)
 
-pub sits-whole : (least greatest : Option ℤ) (X : List Bool) (s : Spot) → s.at ≤ length X → Sits X s.at (whole_at true least greatest X s)
+pub sits-whole : (aligned : Bool) (least greatest : Option ℤ) (X : List Bool) (s : Spot) → s.at ≤ length X → Sits X s.at (whole_at aligned least greatest X s)
 unfolding whole_at
-sits-whole (Some least) (Some greatest) X s h = sits-ranged least greatest X s h
-sits-whole (Some least) None X s h = sits-from least X s h
-sits-whole None greatest X s h = sits-signed greatest X s h
+sits-whole aligned (Some least) (Some greatest) X s h = sits-ranged aligned least greatest X s h
+sits-whole aligned (Some least) None X s h = sits-from aligned least X s h
+sits-whole aligned None greatest X s h = sits-signed aligned greatest X s h
 
 -- items behind general lengths
-module _ {A : Type 0} (least : ℕ) (most : Option ℕ) (items : ℕ → Reader (List A)) (one : (n : ℕ) → SteadyReader (items n)) where
-  pub sits-fragments : (turns before total : ℕ) (X : List Bool) (s : Spot) → s.at ≤ length X → Sits X s.at (fragments_at true least most items turns before total X s)
+module _ (aligned : Bool) {A : Type 0} (least : ℕ) (most : Option ℕ) (items : ℕ → Reader (List A)) (one : (n : ℕ) → SteadyReader (items n)) where
+  pub sits-fragments : (turns before total : ℕ) (X : List Bool) (s : Spot) → s.at ≤ length X → Sits X s.at (fragments_at aligned least most items turns before total X s)
   unfolding fragments_at
   sits-fragments zero before total X s h = record { later = omega arith; inside = h }
   sits-fragments (suc turns) before total X s h =
-      sits_then X s.at (count_at true least most before total X s) _ (sits-count least most before total X s h) (λ n i. by n.0 n.1 i (sits-fragments turns))
+      sits_then X s.at (count_at aligned least most before total X s) _ (sits-count aligned least most before total X s h) (λ n i. by n.0 n.1 i (sits-fragments turns))
     where
       by : (n : Piece) (r : Spot) → r.at ≤ length X
-          → ((k total : ℕ) (X : List Bool) (s : Spot) → s.at ≤ length X → Sits X s.at (fragments_at true least most items turns k total X s))
+          → ((k total : ℕ) (X : List Bool) (s : Spot) → s.at ≤ length X → Sits X s.at (fragments_at aligned least most items turns k total X s))
           → Sits X r.at (elim n as (λ _. Result (List A × Spot) Stop) [
             | Last k ↦ items k X r
-            | Units k ↦ items (k * unit) X r >>= λ a. fragments_at true least most items turns k (total + k * unit) X a.1 >>= λ b. Ok (a.0 ++ b.0, b.1)
+            | Units k ↦ items (k * unit) X r >>= λ a. fragments_at aligned least most items turns k (total + k * unit) X a.1 >>= λ b. Ok (a.0 ++ b.0, b.1)
           ])
       by (Last k) r i further = one k X r i
       by (Units k) r i further =
           sits_then X r.at (items (k * unit) X r) _ (one (k * unit) X r i) (λ a j.
-          sits_then X a.1.at (fragments_at true least most items turns k (total + k * unit) X a.1) _ (further k (total + k * unit) X a.1 j) (λ b l. record { later = omega arith; inside = l }))
+          sits_then X a.1.at (fragments_at aligned least most items turns k (total + k * unit) X a.1) _ (further k (total + k * unit) X a.1 j) (λ b l. record { later = omega arith; inside = l }))
 
-  pub sits-counted : (X : List Bool) (s : Spot) → s.at ≤ length X → Sits X s.at (counted_at true least most items X s)
+  pub sits-counted : (X : List Bool) (s : Spot) → s.at ≤ length X → Sits X s.at (counted_at aligned least most items X s)
   sits-counted X s h = sits-fragments (suc (length X)) 4 0 X s h
 
-pub sits-sized : {A : Type 0} (least most : ℕ) (items : ℕ → Reader (List A)) → ((n : ℕ) → SteadyReader (items n)) → SteadyReader (sized_at true least most items)
+pub sits-sized : (aligned : Bool) {A : Type 0} (least most : ℕ) (items : ℕ → Reader (List A)) → ((n : ℕ) → SteadyReader (items n)) → SteadyReader (sized_at aligned least most items)
 unfolding sized_at
-sits-sized least most items one X s h = sits_then X s.at (number_at true (most - least) X s) _ (sits-number (most - least) X s h) (λ n i. one (least + n.0) X n.1 i)
+sits-sized aligned least most items one X s h = sits_then X s.at (number_at aligned (most - least) X s) _ (sits-number aligned (most - least) X s h) (λ n i. one (least + n.0) X n.1 i)
 
-pub sits-list : {A : Type 0} (least : ℕ) (most : Option ℕ) (items : ℕ → Reader (List A)) → ((n : ℕ) → SteadyReader (items n)) → SteadyReader (list_at true least most items)
+pub sits-list : (aligned : Bool) {A : Type 0} (least : ℕ) (most : Option ℕ) (items : ℕ → Reader (List A)) → ((n : ℕ) → SteadyReader (items n)) → SteadyReader (list_at aligned least most items)
 unfolding list_at
-sits-list least None items one X s h = sits-counted least None items one X s h
-sits-list {A = A} least (Some most) items one X s h = by (ltb most 65536)
+sits-list aligned least None items one X s h = sits-counted aligned least None items one X s h
+sits-list aligned {A = A} least (Some most) items one X s h = by (ltb most 65536)
   where
-    by : (b : Bool) → Sits X s.at (elim b as (λ _. Result (List A × Spot) Stop) [ true ↦ sized_at true least most items X s | false ↦ counted_at true least (Some most) items X s ])
-    by true = sits-sized least most items one X s h
-    by false = sits-counted least (Some most) items one X s h
+    by : (b : Bool) → Sits X s.at (elim b as (λ _. Result (List A × Spot) Stop) [ true ↦ sized_at aligned least most items X s | false ↦ counted_at aligned least (Some most) items X s ])
+    by true = sits-sized aligned least most items one X s h
+    by false = sits-counted aligned least (Some most) items one X s h
 
 -- one after the other
 pub sits-each : {A B : Type 0} (read : A → Reader B) → ((a : A) → SteadyReader (read a)) → (as' : List A) → SteadyReader (each_at read as')

@@ -8,11 +8,9 @@ pub mod Loop
 pub mod Turns
 pub mod Bodies
 pub mod Final
-pub mod Joining
 pub mod Presence
 pub mod Signs
 pub mod Origins
-pub mod NumberReads
 pub mod OfOctets
 pub mod Parts
 pub mod Forms
@@ -20,3 +18,4 @@ pub mod Lists
 pub mod Visible
 pub mod Newest
 pub mod NoKids
+mod Twice

@@ -64,7 +64,7 @@ module _ {A B : Type 0} (read : A → Reader B) (front : List B) (X : List Bool)
         omega (arith, k.later, step, end-front (front ++ b ∷ []) (each_at read others X r), ap end_of (each_more b r h))
 
 -- THE COMPONENTS OF A SEQUENCE
-module _ (M : List Assignment) (depth : ℕ) (l : TypeLabel) (parts : List Component) (ts : List (Rose TypeLabel)) (flags : List Bool) (told : Type 0) (X : List Bool) (began : Spot) where
+module _ (aligned : Bool) (M : List Assignment) (depth : ℕ) (l : TypeLabel) (parts : List Component) (ts : List (Rose TypeLabel)) (flags : List Bool) (told : Type 0) (X : List Bool) (began : Spot) where
   -- those before number i were read
   pub record Through (i : ℕ) (vs : List (Rose ValueLabel)) (s : Spot) : Type 0 where
     pub done : List ComponentPlace
@@ -72,7 +72,7 @@ module _ (M : List Assignment) (depth : ℕ) (l : TypeLabel) (parts : List Compo
     pub rest : present_from l i (drop i parts) (drop i ts) (drop i flags) ≡ Some ps
     pub all : present_from l 0 parts ts flags ≡ Some (done ++ ps)
     pub fit : FitEach M depth done (roses_of vs)
-    pub so_far : told → with_front vs (each_at (kid_at M depth) ps X s) ≡ each_at (kid_at M depth) (done ++ ps) X began
+    pub so_far : told → with_front vs (each_at (kid_at aligned M depth) ps X s) ≡ each_at (kid_at aligned M depth) (done ++ ps) X began
 
   same_front : {B : Type 0} (r : Result (List B × Spot) Stop) → with_front [] r ≡ r
   same_front (Ok x) = refl
@@ -83,7 +83,7 @@ module _ (M : List Assignment) (depth : ℕ) (l : TypeLabel) (parts : List Compo
     where
       by : (o : Option (List ComponentPlace)) → present_from l 0 parts ts flags ≡ o → Through 0 [] began
       by None is = absurd (there is)
-      by (Some ps) is = record { done = []; ps = ps; rest = is; all = is; fit = fit_none M depth; so_far = λ t. same_front (each_at (kid_at M depth) ps X began) }
+      by (Some ps) is = record { done = []; ps = ps; rest = is; all = is; fit = fit_none M depth; so_far = λ t. same_front (each_at (kid_at aligned M depth) ps X began) }
 
   module _ (i : ℕ) (vs : List (Rose ValueLabel)) (s : Spot) (part : Component) (kid : Rose TypeLabel) (is_part : drop i parts ≡ part ∷ drop (i + 1) parts) (is_kid : drop i ts ≡ kid ∷ drop (i + 1) ts) where
     split : (flag : Bool) → drop i flags ≡ flag ∷ drop (i + 1) flags → (ps : List ComponentPlace) → present_from l i (drop i parts) (drop i ts) (drop i flags) ≡ Some ps
@@ -108,7 +108,7 @@ module _ (M : List Assignment) (depth : ℕ) (l : TypeLabel) (parts : List Compo
         by (Some qs) is e = let same : place_of l i part kid ∷ qs ≡ h.ps = cc in (qs, sym same, is)
 
     pub through_more : drop i flags ≡ true ∷ drop (i + 1) flags → (v : Rose ValueLabel) (r : Spot) → FitsAt M (below (place_of l i part kid).role depth) kid v
-        → (told → kid_at M depth (place_of l i part kid) X s ≡ Ok (v, r)) → Through i vs s → Through (i + 1) (vs ++ v ∷ []) r
+        → (told → kid_at aligned M depth (place_of l i part kid) X s ≡ Ok (v, r)) → Through i vs s → Through (i + 1) (vs ++ v ∷ []) r
     through_more is_flag v r fits gives h =
         let n = next_place is_flag h in
         let p = place_of l i part kid in
@@ -119,15 +119,15 @@ module _ (M : List Assignment) (depth : ℕ) (l : TypeLabel) (parts : List Compo
           rest = n.2;
           all = h.all ∙ ap (λ qs. Some qs) e;
           fit = each-push M depth h.done p vs v h.fit fits;
-          so_far = λ t. sym (each_more (kid_at M depth) vs X s p h.ps n.0 n.1 v r (gives t)) ∙ h.so_far t ∙ ap (λ qs. each_at (kid_at M depth) qs X began) e;
+          so_far = λ t. sym (each_more (kid_at aligned M depth) vs X s p h.ps n.0 n.1 v r (gives t)) ∙ h.so_far t ∙ ap (λ qs. each_at (kid_at aligned M depth) qs X began) e;
         }
 
-    pub through_fails : drop i flags ≡ true ∷ drop (i + 1) flags → ((p : ComponentPlace) → SteadyReader (kid_at M depth p)) → told → (limit : ℕ) (whole : List ℕ) (e : Halt) (taken : ℕ) → s.at ≤ length X
-        → FailsAt limit whole e taken (kid_at M depth (place_of l i part kid) X s) → Through i vs s → FailsAt limit whole e taken (kids_read M depth (present_from l 0 parts ts flags) X began)
+    pub through_fails : drop i flags ≡ true ∷ drop (i + 1) flags → ((p : ComponentPlace) → SteadyReader (kid_at aligned M depth p)) → told → (limit : ℕ) (whole : List ℕ) (e : Halt) (taken : ℕ) → s.at ≤ length X
+        → FailsAt limit whole e taken (kid_at aligned M depth (place_of l i part kid) X s) → Through i vs s → FailsAt limit whole e taken (kids_read aligned M depth (present_from l 0 parts ts flags) X began)
     through_fails is_flag one t limit whole e taken inside fails h =
         let n = next_place is_flag h in
-        let k = each_fails (kid_at M depth) vs X s (place_of l i part kid) h.ps n.0 n.1 one limit whole e taken inside fails in
-        subst (λ o. FailsAt limit whole e taken (kids_read M depth o X began)) (sym h.all) (subst (FailsAt limit whole e taken) (h.so_far t) k)
+        let k = each_fails (kid_at aligned M depth) vs X s (place_of l i part kid) h.ps n.0 n.1 one limit whole e taken inside fails in
+        subst (λ o. FailsAt limit whole e taken (kids_read aligned M depth o X began)) (sym h.all) (subst (FailsAt limit whole e taken) (h.so_far t) k)
 
   -- no part is left
   module _ (i : ℕ) (vs : List (Rose ValueLabel)) (s : Spot) (end : drop i parts ≡ []) (h : Through i vs s) where
@@ -141,8 +141,8 @@ module _ (M : List Assignment) (depth : ℕ) (l : TypeLabel) (parts : List Compo
     whole_done : h.done ++ h.ps ≡ h.done
     whole_done = ap (λ qs. h.done ++ qs) no_place ∙ append-nil h.done
 
-    pub through_end : told → kids_read M depth (present_from l 0 parts ts flags) X began ≡ Ok (vs, s)
-    through_end t = ap (λ o. kids_read M depth o X began) h.all ∙ sym (h.so_far t) ∙ each_done (kid_at M depth) vs X s h.ps no_place
+    pub through_end : told → kids_read aligned M depth (present_from l 0 parts ts flags) X began ≡ Ok (vs, s)
+    through_end t = ap (λ o. kids_read aligned M depth o X began) h.all ∙ sym (h.so_far t) ∙ each_done (kid_at aligned M depth) vs X s h.ps no_place
 
     pub through_fit : FitSome M depth (present_from l 0 parts ts flags) (roses_of vs)
     through_fit = subst (λ o. FitSome M depth o (roses_of vs)) (sym (h.all ∙ ap (λ qs. Some qs) whole_done)) h.fit

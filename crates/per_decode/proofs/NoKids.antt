@@ -48,11 +48,11 @@ pub needs-resolved : (M : List Assignment) → IsKnown M → (depth : ℕ) (t : 
 needs-resolved M known depth t of = omega (arith, needs-within M depth (resolve M t), resolved-levels M known depth t of)
 
 -- WHAT IS READ
-leaf-fields : (M : List Assignment) (a b : ℕ) (u : Rose TypeLabel) (X : List Bool) (s : Spot) → is_leaf (label_of u).form ≡ true → fields_at M a u X s ≡ fields_at M b u X s
+leaf-fields : (aligned : Bool) (M : List Assignment) (a b : ℕ) (u : Rose TypeLabel) (X : List Bool) (s : Spot) → is_leaf (label_of u).form ≡ true → fields_at aligned M a u X s ≡ fields_at aligned M b u X s
 unfolding content_at
-leaf-fields M a b u X s leaf = by (label_of u).form leaf
+leaf-fields aligned M a b u X s leaf = by (label_of u).form leaf
   where
-    by : (f : Form) → is_leaf f ≡ true → content_at true (kid_at M a) (label_of u) (kids_of u) f X s ≡ content_at true (kid_at M b) (label_of u) (kids_of u) f X s
+    by : (f : Form) → is_leaf f ≡ true → content_at aligned (kid_at aligned M a) (label_of u) (kids_of u) f X s ≡ content_at aligned (kid_at aligned M b) (label_of u) (kids_of u) f X s
     by form.Bool e = refl
     by (form.Int least greatest) e = refl
     by (form.Numbers numbers) e = refl
@@ -63,12 +63,12 @@ leaf-fields M a b u X s leaf = by (label_of u).form leaf
     by (form.SequenceOf part least most) e = absurd cc
     by (form.Ref to) e = absurd cc
 
-pub leaf-read : (M : List Assignment) → IsKnown M → (a b : ℕ) (t : Rose TypeLabel) → IsOf M t → (X : List Bool) (s : Spot) → a ≤ 64 → b ≤ 64 → is_leaf (label_of (resolve M t)).form ≡ true → node_read true M a t X s ≡ node_read true M b t X s
-leaf-read M known a b t of X s at_a at_b leaf = node-shallow M known a t of X s at_a ∙ by (ltb s.nodes 1048576) ∙ sym (node-shallow M known b t of X s at_b)
+pub leaf-read : (aligned : Bool) (M : List Assignment) → IsKnown M → (a b : ℕ) (t : Rose TypeLabel) → IsOf M t → (X : List Bool) (s : Spot) → a ≤ 64 → b ≤ 64 → is_leaf (label_of (resolve M t)).form ≡ true → node_read aligned M a t X s ≡ node_read aligned M b t X s
+leaf-read aligned M known a b t of X s at_a at_b leaf = node-shallow aligned M known a t of X s at_a ∙ by (ltb s.nodes 1048576) ∙ sym (node-shallow aligned M known b t of X s at_b)
   where
-    by : (few : Bool) → enter_by true few s (λ r. body_at M a s.at (resolve M t) X r) ≡ enter_by true few s (λ r. body_at M b s.at (resolve M t) X r)
+    by : (few : Bool) → enter_by true few s (λ r. body_at aligned M a s.at (resolve M t) X r) ≡ enter_by true few s (λ r. body_at aligned M b s.at (resolve M t) X r)
     by false = refl
-    by true = ap (λ x. x >>= λ v. owned_at M s.at (resolve M t) v) (leaf-fields M a b (resolve M t) X (moved s 0 1) leaf)
+    by true = ap (λ x. x >>= λ v. owned_at M s.at (resolve M t) v) (leaf-fields aligned M a b (resolve M t) X (moved s 0 1) leaf)
 
 -- WHAT FITS
 same_some : {A : Type 0} (a b : A) → Some a ≡ Some b → a ≡ b
@@ -118,7 +118,7 @@ module _ (M : List Assignment) (known : IsKnown M) (u : Rose TypeLabel) (of : Is
   pub record Inner (depth i inner : ℕ) (part : Component) (kid : Rose TypeLabel) : Type 0 where
     pub of_module : IsOf M kid
     pub fewer : needs M inner (resolve M kid) < levels_needed M depth u
-    pub read : (X : List Bool) (s : Spot) → node_read true M inner kid X s ≡ node_read true M (below (role_of (label_of u) i part) depth) kid X s
+    pub read : (aligned : Bool) (X : List Bool) (s : Spot) → node_read aligned M inner kid X s ≡ node_read aligned M (below (role_of (label_of u) i part) depth) kid X s
     pub fits : (v : Rose ValueLabel) → FitsAt M inner kid v → FitsAt M (below (role_of (label_of u) i part) depth) kid v
 
   pub inner_here : (depth i inner : ℕ) (part : Component) (kid found : Rose TypeLabel) → HasFields (label_of u).form → depth ≤ 64 → slice_get (parts_of (label_of u).form) i ≡ Some part → slice_get (kids_of u) i ≡ Some kid → found ≡ resolve M kid
@@ -140,7 +140,7 @@ module _ (M : List Assignment) (known : IsKnown M) (u : Rose TypeLabel) (of : Is
           record {
             of_module = k.of_module;
             fewer = omega (arith, needs-leaf M inner (resolve M kid) leaf, k.fewer);
-            read = λ X s. leaf-read M known inner (below role depth) kid k.of_module X s (omega (arith, h.2, deep)) low leaf;
+            read = λ aligned X s. leaf-read aligned M known inner (below role depth) kid k.of_module X s (omega (arith, h.2, deep)) low leaf;
             fits = λ v f. leaf-fits M inner (below role depth) kid v low leaf f;
           }
       by (inr h) =
@@ -148,6 +148,6 @@ module _ (M : List Assignment) (known : IsKnown M) (u : Rose TypeLabel) (of : Is
           record {
             of_module = k.of_module;
             fewer = omega (arith, needs-resolved M known inner kid k.of_module, k.fewer, ap (λ n. levels_needed M n kid) e);
-            read = λ X s. ap (λ n. node_read true M n kid X s) e;
+            read = λ aligned X s. ap (λ n. node_read aligned M n kid X s) e;
             fits = λ v f. subst (λ n. FitsAt M n kid v) e f;
           }

@@ -27,31 +27,31 @@ use Rattle.per_decode.proofs.Turns.{bind_same, behind, left_at, left-step}
 use Rattle.per_decode.proofs.EndNodes.{sits-owned}
 use Rattle.per_decode.proofs.Bodies.{owned-own, owned-not}
 
-steady-more : (front : List ℕ) (before total : ℕ) → SteadyReader (octets_more front before total)
-steady-more front before total X s h =
-    sits_then X s.at (fragments_at true 0 None octets_at (suc (length X)) before total X s) (λ b. Ok (front ++ b.0, b.1)) (sits-fragments 0 None octets_at sits-octets (suc (length X)) before total X s h) (λ b i. record { later = omega arith; inside = i })
+steady-more : (aligned : Bool) (front : List ℕ) (before total : ℕ) → SteadyReader (octets_more aligned front before total)
+steady-more aligned front before total X s h =
+    sits_then X s.at (fragments_at aligned 0 None octets_at (suc (length X)) before total X s) (λ b. Ok (front ++ b.0, b.1)) (sits-fragments aligned 0 None octets_at sits-octets (suc (length X)) before total X s h) (λ b i. record { later = omega arith; inside = i })
 
-pub sits-length : (piece : Piece) → SteadyReader (octets_behind piece)
-sits-length (Last n) X s h = sits-octets n X s h
-sits-length (Units k) X s h = sits_then X s.at (octets_at (k * unit) X s) (λ a. octets_more a.0 k (k * unit) X a.1) (sits-octets (k * unit) X s h) (λ a i. steady-more a.0 k (k * unit) X a.1 i)
+pub sits-length : (aligned : Bool) (piece : Piece) → SteadyReader (octets_behind aligned piece)
+sits-length aligned (Last n) X s h = sits-octets n X s h
+sits-length aligned (Units k) X s h = sits_then X s.at (octets_at (k * unit) X s) (λ a. octets_more aligned a.0 k (k * unit) X a.1) (sits-octets (k * unit) X s h) (λ a i. steady-more aligned a.0 k (k * unit) X a.1 i)
 
 -- octets behind a first length of so many units
-module _ (k : ℕ) (X : List Bool) (s : Spot) where
-  pub units_fail : (limit : ℕ) (whole : List ℕ) (e : Halt) (taken : ℕ) → s.at ≤ length X → FailsAt limit whole e taken (octets_at (k * unit) X s) → FailsAt limit whole e taken (octets_behind (Units k) X s)
-  units_fail limit whole e taken inside h = fails_first limit whole e taken X (octets_at (k * unit) X s) (λ a. octets_more a.0 k (k * unit) X a.1) (sits-octets (k * unit) X s inside).inside (λ a i. steady-more a.0 k (k * unit) X a.1 i) h
+module _ (aligned : Bool) (k : ℕ) (X : List Bool) (s : Spot) where
+  pub units_fail : (limit : ℕ) (whole : List ℕ) (e : Halt) (taken : ℕ) → s.at ≤ length X → FailsAt limit whole e taken (octets_at (k * unit) X s) → FailsAt limit whole e taken (octets_behind aligned (Units k) X s)
+  units_fail limit whole e taken inside h = fails_first limit whole e taken X (octets_at (k * unit) X s) (λ a. octets_more aligned a.0 k (k * unit) X a.1) (sits-octets (k * unit) X s inside).inside (λ a i. steady-more aligned a.0 k (k * unit) X a.1 i) h
 
-  pub units_read : (octets : List ℕ) (r : Spot) → octets_at (k * unit) X s ≡ Ok (octets, r) → length octets ≡ k * unit → octets_behind (Units k) X s ≡ octets_more octets k (length octets) X r
-  units_read octets r e long = ap (λ x. x >>= λ a. octets_more a.0 k (k * unit) X a.1) e ∙ ap (λ n. octets_more octets k n X r) (sym long)
+  pub units_read : (octets : List ℕ) (r : Spot) → octets_at (k * unit) X s ≡ Ok (octets, r) → length octets ≡ k * unit → octets_behind aligned (Units k) X s ≡ octets_more aligned octets k (length octets) X r
+  units_read octets r e long = ap (λ x. x >>= λ a. octets_more aligned a.0 k (k * unit) X a.1) e ∙ ap (λ n. octets_more aligned octets k n X r) (sym long)
 
-same_behind : (piece : Piece) (X : List Bool) (r : Spot) → behind 0 None octets_at sits-octets (left_at 0 None octets_at sits-octets) 0 X (piece, r) ≡ octets_behind piece X r
-same_behind (Last n) X r = refl
-same_behind (Units k) X r = let e : 0 + k * unit ≡ k * unit = omega arith in ap (λ n. octets_at (k * unit) X r >>= λ a. octets_more a.0 k n X a.1) e
+same_behind : (aligned : Bool) (piece : Piece) (X : List Bool) (r : Spot) → behind aligned 0 None octets_at sits-octets (left_at aligned 0 None octets_at sits-octets) 0 X (piece, r) ≡ octets_behind aligned piece X r
+same_behind aligned (Last n) X r = refl
+same_behind aligned (Units k) X r = let e : 0 + k * unit ≡ k * unit = omega arith in ap (λ n. octets_at (k * unit) X r >>= λ a. octets_more aligned a.0 k n X a.1) e
 
 -- a text begins with a length
-text-counted : (X : List Bool) (s : Spot) → s.at ≤ length X → counted_at true 0 None octets_at X s ≡ (count_at true 0 None 4 0 X s >>= λ n. octets_behind n.0 X n.1)
-text-counted X s inside =
-    left-step 0 None octets_at sits-octets 4 0 X s inside
-    ∙ bind_same (count_at true 0 None 4 0 X s) (behind 0 None octets_at sits-octets (left_at 0 None octets_at sits-octets) 0 X) (λ n. octets_behind n.0 X n.1) (λ n e. same_behind n.0 X n.1)
+text-counted : (aligned : Bool) (X : List Bool) (s : Spot) → s.at ≤ length X → counted_at aligned 0 None octets_at X s ≡ (count_at aligned 0 None 4 0 X s >>= λ n. octets_behind aligned n.0 X n.1)
+text-counted aligned X s inside =
+    left-step aligned 0 None octets_at sits-octets 4 0 X s inside
+    ∙ bind_same (count_at aligned 0 None 4 0 X s) (behind aligned 0 None octets_at sits-octets (left_at aligned 0 None octets_at sits-octets) 0 X) (λ n. octets_behind aligned n.0 X n.1) (λ n e. same_behind aligned n.0 X n.1)
 
 module _ (M : List Assignment) (begin : ℕ) (t : Rose TypeLabel) where
   pub steady-kept : (X : List Bool) → Steady X (octets_kept M begin t)
@@ -90,22 +90,22 @@ module _ (M : List Assignment) (begin : ℕ) (t : Rose TypeLabel) where
   kept_read read X s octets r e = ap (λ x. x >>= octets_kept M begin t) e
 
   -- THE FIRST LENGTH
-  module _ (X : List Bool) (s : Spot) (inside : s.at ≤ length X) where
-    kept-counted : kept_by M begin t (counted_at true 0 None octets_at) X s ≡ (count_at true 0 None 4 0 X s >>= λ n. kept_by M begin t (octets_behind n.0) X n.1)
-    kept-counted = ap (λ r. r >>= octets_kept M begin t) (text-counted X s inside) ∙ by (count_at true 0 None 4 0 X s)
+  module _ (aligned : Bool) (X : List Bool) (s : Spot) (inside : s.at ≤ length X) where
+    kept-counted : kept_by M begin t (counted_at aligned 0 None octets_at) X s ≡ (count_at aligned 0 None 4 0 X s >>= λ n. kept_by M begin t (octets_behind aligned n.0) X n.1)
+    kept-counted = ap (λ r. r >>= octets_kept M begin t) (text-counted aligned X s inside) ∙ by (count_at aligned 0 None 4 0 X s)
       where
-        by : (r : Result (Piece × Spot) Stop) → ((r >>= λ n. octets_behind n.0 X n.1) >>= octets_kept M begin t) ≡ (r >>= λ n. kept_by M begin t (octets_behind n.0) X n.1)
+        by : (r : Result (Piece × Spot) Stop) → ((r >>= λ n. octets_behind aligned n.0 X n.1) >>= octets_kept M begin t) ≡ (r >>= λ n. kept_by M begin t (octets_behind aligned n.0) X n.1)
         by (Ok n) = refl
         by (Err e) = refl
 
-    pub count_fails : (limit : ℕ) (whole : List ℕ) (e : Halt) (taken : ℕ) → FailsAt limit whole e taken (count_at true 0 None 4 0 X s) → FailsAt limit whole e taken (kept_by M begin t (counted_at true 0 None octets_at) X s)
+    pub count_fails : (limit : ℕ) (whole : List ℕ) (e : Halt) (taken : ℕ) → FailsAt limit whole e taken (count_at aligned 0 None 4 0 X s) → FailsAt limit whole e taken (kept_by M begin t (counted_at aligned 0 None octets_at) X s)
     count_fails limit whole e taken h =
         subst (FailsAt limit whole e taken) (sym kept-counted)
-        (fails_first limit whole e taken X (count_at true 0 None 4 0 X s) (λ n. kept_by M begin t (octets_behind n.0) X n.1) (sits-count 0 None 4 0 X s inside).inside
-        (λ n i. sits_then X n.1.at (octets_behind n.0 X n.1) (octets_kept M begin t) (sits-length n.0 X n.1 i) (steady-kept X)) h)
+        (fails_first limit whole e taken X (count_at aligned 0 None 4 0 X s) (λ n. kept_by M begin t (octets_behind aligned n.0) X n.1) (sits-count aligned 0 None 4 0 X s inside).inside
+        (λ n i. sits_then X n.1.at (octets_behind aligned n.0 X n.1) (octets_kept M begin t) (sits-length aligned n.0 X n.1 i) (steady-kept X)) h)
 
-    pub count_reads : (piece : Piece) (r : Spot) → count_at true 0 None 4 0 X s ≡ Ok (piece, r) → kept_by M begin t (counted_at true 0 None octets_at) X s ≡ kept_by M begin t (octets_behind piece) X r
-    count_reads piece r e = kept-counted ∙ ap (λ c. c >>= λ n. kept_by M begin t (octets_behind n.0) X n.1) e
+    pub count_reads : (piece : Piece) (r : Spot) → count_at aligned 0 None 4 0 X s ≡ Ok (piece, r) → kept_by M begin t (counted_at aligned 0 None octets_at) X s ≡ kept_by M begin t (octets_behind aligned piece) X r
+    count_reads piece r e = kept-counted ∙ ap (λ c. c >>= λ n. kept_by M begin t (octets_behind aligned n.0) X n.1) e
 
 -- WHAT WAS PUT, or a fault
 module _ (M : List Assignment) (known : IsKnown M) (begin : ℕ) (t : Rose TypeLabel) (of : IsOf M t) (octets : List ℕ) (r : Spot) where

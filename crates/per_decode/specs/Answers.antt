@@ -8,9 +8,9 @@ use Rattle.asn_types.specs.Values.{In}
 use Rattle.per_fields.specs.declared.stops.Stop.{Stop}
 use Rattle.per_fields.specs.declared.stops.Why.{Why}
 use Rattle.per_fields.specs.declared.stops.Why.TheVariants.{Short}
-use Rattle.per_fields.specs.Encoding.{complete}
-use Rattle.per_fields.specs.Laws.{Begins}
-use Rattle.per_stops.specs.Stopping.{StopsFirst}
+use Rattle.per_fields.specs.Encoding.{complete_by}
+use Rattle.per_fields.specs.Laws.{BeginsBy}
+use Rattle.per_stops.specs.Stopping.{StopsFirstBy}
 use Rattle.per_decode.specs.declared.decoded.Decoded.{Decoded}
 use Rattle.per_decode.specs.declared.errors.DecodeError.{DecodeError}
 use Rattle.per_decode.specs.declared.errors.DecodeError.TheVariants.{Bad, Failed, TooLong, Memory}
@@ -22,44 +22,50 @@ abbrev pub is_short : Why → Bool
 is_short Short = true
 is_short _ = false
 
--- for the types of a module, and the octets left in a source, of which at most so many may be taken
-module _ (M : List Assignment) (t limit : ℕ) (left : List ℕ) where
+-- the octets left in a source, of which at most so many may be taken
+module _ (limit : ℕ) (left : List ℕ) where
   -- the bits that may be read
   abbrev pub within : List Bool
   within = octet_bits (take limit left)
-
-  -- the first so many octets were taken, and none behind the value, or behind the end of the faulty field
-  pub record Takes (new : Option (List ℕ)) (count : ℕ) : Type 0 where
-    pub inside : count ≤ length left
-    pub limited : count ≤ limit
-    pub rest : new ≡ Some (drop count left)
-    pub value : (v : Rose ValueLabel) → Begins M t within v → 8 * count ≤ length (complete M t v)
-    pub stop : (stop : Stop) → StopsFirst M t within stop → 8 * count ≤ stop.end + 7
 
   -- how a first fault is answered: octets that end at the limit may go on behind it
   abbrev pub fault_of : Stop → DecodeError
   fault_of stop = if is_short stop.why && nat_le limit (length left) then TooLong else Bad stop.bit stop.why
 
+-- this answer, unless the source fails or memory is missing
+abbrev pub IsDue : Answer → Answer → Type 0
+IsDue due answer = (answer ≡ due) ⊎ (answer ≡ Err Failed) ⊎ (answer ≡ Err Memory)
+
+-- in one of the two variants, for the types of a module, and such octets
+module _ (aligned : Bool) (M : List Assignment) (t limit : ℕ) (left : List ℕ) where
+  -- the first so many octets were taken, and none behind the value, or behind the end of the faulty field
+  pub record Takes (new : Option (List ℕ)) (count : ℕ) : Type 0 where
+    pub inside : count ≤ length left
+    pub limited : count ≤ limit
+    pub rest : new ≡ Some (drop count left)
+    pub value : (v : Rose ValueLabel) → BeginsBy aligned M t (within limit left) v → 8 * count ≤ length (complete_by aligned M t v)
+    pub stop : (stop : Stop) → StopsFirstBy aligned M t (within limit left) stop → 8 * count ≤ stop.end + 7
+
   -- the value, and the octets of its complete encoding
   abbrev pub with_octets : Rose ValueLabel → Decoded
-  with_octets v = record { value = v; octets = length (complete M t v) / 8 }
+  with_octets v = record { value = v; octets = length (complete_by aligned M t v) / 8 }
 
   -- What each answer says of the octets, of which so many were taken. A value is told with how many these are, so that the
   -- place of the first octet behind its encoding is known.
   abbrev pub Says : Answer → ℕ → Type 0
-  Says (Ok found) count = Begins M t within found.value × (8 * count ≡ length (complete M t found.value)) × (found.octets ≡ count)
-  Says (Err (Bad bit why)) count = (stop : Stop) × StopsFirst M t within stop × (stop.bit ≡ bit) × (stop.why ≡ why) × (why ≡ Short → length left < limit)
-  Says (Err TooLong) count = (stop : Stop) × StopsFirst M t within stop × (stop.why ≡ Short) × (limit ≤ length left)
-  Says (Err Failed) count = (v : Rose ValueLabel) (n : ℕ) → n ≤ count → In M t v → octet_bits (take n left) ≡ complete M t v → ⊥
+  Says (Ok found) count = BeginsBy aligned M t (within limit left) found.value × (8 * count ≡ length (complete_by aligned M t found.value)) × (found.octets ≡ count)
+  Says (Err (Bad bit why)) count = (stop : Stop) × StopsFirstBy aligned M t (within limit left) stop × (stop.bit ≡ bit) × (stop.why ≡ why) × (why ≡ Short → length left < limit)
+  Says (Err TooLong) count = (stop : Stop) × StopsFirstBy aligned M t (within limit left) stop × (stop.why ≡ Short) × (limit ≤ length left)
+  Says (Err Failed) count = (v : Rose ValueLabel) (n : ℕ) → n ≤ count → In M t v → octet_bits (take n left) ≡ complete_by aligned M t v → ⊥
   Says (Err Memory) count = Unit {0}
 
-  -- this answer, unless the source fails or memory is missing
-  abbrev pub IsDue : Answer → Answer → Type 0
-  IsDue due answer = (answer ≡ due) ⊎ (answer ≡ Err Failed) ⊎ (answer ≡ Err Memory)
-
-  pub record Answers (new : Option (List ℕ)) (answer : Answer) : Type 0 where
+  pub record AnswersBy (new : Option (List ℕ)) (answer : Answer) : Type 0 where
     pub count : ℕ
     pub takes : Takes new count
     pub says : Says answer count
-    pub value : (v : Rose ValueLabel) → Begins M t within v → IsDue (Ok (with_octets v)) answer
-    pub stop : (stop : Stop) → StopsFirst M t within stop → IsDue (Err (fault_of stop)) answer
+    pub value : (v : Rose ValueLabel) → BeginsBy aligned M t (within limit left) v → IsDue (Ok (with_octets v)) answer
+    pub stop : (stop : Stop) → StopsFirstBy aligned M t (within limit left) stop → IsDue (Err (fault_of limit left stop)) answer
+
+-- THE SAME, ALIGNED
+abbrev pub Answers : List Assignment → ℕ → ℕ → List ℕ → Option (List ℕ) → Answer → Type 0
+Answers = AnswersBy true

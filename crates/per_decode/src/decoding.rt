@@ -6,7 +6,7 @@ ghost use Rattle.label_tree.specs.Rose.{node_count};
 ghost use Rattle.asn_types.specs.Refs.{IsOf};
 ghost use Rattle.asn_types.specs.Values.{FitsAt, In};
 ghost use Rattle.per_fields.specs.Nodes.{last_at};
-ghost use Rattle.per_decode.specs.Answers.{Answers};
+ghost use Rattle.per_decode.specs.Answers.{Answers, AnswersBy};
 ghost use Rattle.per_decode.specs.Private.Standing.{GoesOn};
 ghost use Rattle.per_decode.specs.Private.Giving.{Gives, Ended, spot, halt_of, error_of};
 ghost use Rattle.per_decode.specs.Private.Bodies.{IsKnown, complete_at};
@@ -20,7 +20,7 @@ use asn_types::{Module, TypeLabel, resolve};
 use bit_cursor::BitSource;
 use flat_tree::{Builder, Flat, Whole};
 use label_tree::Tree;
-use per_fields::{Stop, Why};
+use per_fields::{Aligned, Stop, Variant, Why};
 use simple_types::ValueLabel;
 use std::alloc::Global;
 use std::marker::{Brand, PhantomData};
@@ -28,7 +28,7 @@ use xa_base::Source;
 
 // What pads the last octet, or stands for no bits.
 #[tactic(auto, unfolding(per_fields::specs::Nodes::last_at))]
-fn last<S: Source, K: Origin>(run: &mut Run<S, K>) -> Result<(), Fault>
+fn last<S: Source, K: Origin, V: Variant>(run: &mut Run<S, K, V>) -> Result<(), Fault>
     requires in_step { IsInStep run.old.bits.position run.old.bits.taken }
     ensures same_reference { run.new.bits.source.ghost_name ≡ run.old.bits.source.ghost_name }
     ensures on { OnOk result (GoesOn run.old.bits.position run.new.bits.position run.new.bits.taken) }
@@ -49,10 +49,10 @@ fn last<S: Source, K: Origin>(run: &mut Run<S, K>) -> Result<(), Fault>
 }
 
 // A value and the end of its encoding, and how many octets this has.
-fn complete<S: Source, K: Origin>(
+fn complete<S: Source, K: Origin, V: Variant>(
     alloc: Global,
     module: &Module,
-    run: &mut Run<S, K>,
+    run: &mut Run<S, K, V>,
     body: &Tree<TypeLabel>,
 ) -> Result<(Flat<ValueLabel>, u64), Fault>
     requires known { IsKnown module.now }
@@ -64,7 +64,7 @@ fn complete<S: Source, K: Origin>(
     ensures fits { IfOk result (λ found. FitsAt module.now 1 body.now found.0) }
     ensures octets { IfOk result (λ found. (run.new.bits.position ≡ 8 * run.new.bits.taken) × (found.1 ≡ run.new.bits.taken)) }
     ensures gives { IsTrue K.told → Gives K.limit K.whole (λ found. found.0) result (spot run.new.bits.position run.new.nodes) run.new.stop run.new.bits.taken
-        (complete_at module.now body.now) (spot run.old.bits.position run.old.nodes) }
+        (complete_at V.ALIGNED module.now body.now) (spot run.old.bits.position run.old.nodes) }
     ensures failed { IsErrOf result Fault.Failed → HasRisen K.faults (S.faults run.new.bits.source.now) }
 {
     let mut values = Builder::new(alloc);
@@ -94,7 +94,7 @@ fn told(fault: Fault, stop: Stop) -> DecodeError
 }
 
 // Decoding from what a source has left: the value, and how many octets were taken.
-fn decode_from<S: Source, K: Origin>(
+fn decode_from<S: Source, K: Origin, V: Variant>(
     alloc: Global,
     module: &Module,
     body: &Tree<TypeLabel>,
@@ -109,10 +109,10 @@ fn decode_from<S: Source, K: Origin>(
     requires faults { S.faults source.old ≡ K.faults }
     ensures fits { IfOk result (λ found. FitsAt module.now 1 body.now found.0 × (node_count found.0 ≤ 1048576)) }
     ensures limited { IfOk result (λ found. found.1 ≤ limit) }
-    ensures told { IsTrue K.told → Ended K.limit K.whole (λ found. found.0) (λ found. found.1) result (S.left source.new) (complete_at module.now body.now) }
+    ensures told { IsTrue K.told → Ended K.limit K.whole (λ found. found.0) (λ found. found.1) result (S.left source.new) (complete_at V.ALIGNED module.now body.now) }
     ensures cause { Counts K.faults (S.faults source.new) (IsErrOf result DecodeError.Failed) }
 {
-    let mut run: Run<S, K> = Run {
+    let mut run: Run<S, K, V> = Run {
         bits: BitSource::new(source, limit),
         nodes: 0,
         stop: Stop {
@@ -121,11 +121,44 @@ fn decode_from<S: Source, K: Origin>(
             end: 0,
         },
         origin: PhantomData,
+        variant: PhantomData,
     };
     match complete(alloc, module, &mut run, body) {
         Ok(found) => Ok(found),
         Err(fault) => Err(told(fault, run.stop)),
     }
+}
+
+/// The value of the type of the assignment with this number, by the complete encoding (X.691, canonical PER in one of the two
+/// variants) with which the octets left in the source begin, and how many octets that encoding has. At most `limit` of them
+/// are taken, and none before a bit of it is needed, so what stands behind the encoding is left in the source.
+///
+/// # Errors
+///
+/// `Bad` tells the first fault of the octets, and `TooLong` that their first `limit` end inside a field. After `Failed`
+/// the octets that were taken may be the front of an encoding.
+pub fn decode_by<S: Source, V: Variant>(
+    alloc: Global,
+    module: &Module,
+    t: u32,
+    source: &mut S,
+    limit: u64,
+) -> Result<Decoded, DecodeError>
+    requires assigned { t < length module.now }
+    requires small { limit ≤ 2 ^ 32 }
+    ensures value { IfOk result (λ found. In module.now t found.value) }
+    ensures limited { IfOk result (λ found. found.octets ≤ limit) }
+    ensures answer { (left : List ℕ) → S.left source.old ≡ Some left → AnswersBy V.ALIGNED module.now t limit left (S.left source.new) result }
+    ensures cause { Counts (S.faults source.old) (S.faults source.new) (IsErrOf result DecodeError.Failed) }
+{
+    // What each module keeps is known once one of its readers was called.
+    let _ = module.count();
+    let body = module.assignment(t).body.root();
+    let found = decode_from::<S, Brand, V>(alloc, module, body, source, limit)?;
+    Ok(Decoded {
+        octets: found.1,
+        value: Whole::of(found.0),
+    })
 }
 
 /// The value of the type of the assignment with this number, by the complete encoding (X.691, canonical aligned PER)
@@ -150,12 +183,5 @@ pub fn decode<S: Source>(
     ensures answer { (left : List ℕ) → S.left source.old ≡ Some left → Answers module.now t limit left (S.left source.new) result }
     ensures cause { Counts (S.faults source.old) (S.faults source.new) (IsErrOf result DecodeError.Failed) }
 {
-    // What each module keeps is known once one of its readers was called.
-    let _ = module.count();
-    let body = module.assignment(t).body.root();
-    let found = decode_from::<S, Brand>(alloc, module, body, source, limit)?;
-    Ok(Decoded {
-        octets: found.1,
-        value: Whole::of(found.0),
-    })
+    decode_by::<S, Aligned>(alloc, module, t, source, limit)
 }

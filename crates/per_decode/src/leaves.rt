@@ -18,14 +18,15 @@ use crate::faults::Fault;
 use crate::run::{Origin, Run};
 use asn_types::Component;
 use flat_tree::Builder;
+use per_fields::Variant;
 use simple_types::{Flags, ValueLabel};
 use std::alloc::Global;
 use xa_base::Source;
 
 /// A BOOLEAN.
 #[tactic(auto, unfolding(per_fields::specs::Nodes::bool_at))]
-pub(crate) fn boolean<S: Source, K: Origin>(
-    run: &mut Run<S, K>,
+pub(crate) fn boolean<S: Source, K: Origin, V: Variant>(
+    run: &mut Run<S, K, V>,
     values: &mut Builder<ValueLabel>,
 ) -> Result<(), Fault>
     requires in_step { IsInStep run.old.bits.position run.old.bits.taken }
@@ -47,9 +48,8 @@ pub(crate) fn boolean<S: Source, K: Origin>(
 /// An INTEGER.
 #[inline(always)]
 #[tactic(auto, unfolding(per_fields::specs::Nodes::int_at))]
-pub(crate) fn integer<S: Source, K: Origin>(
-    alloc: Global,
-    run: &mut Run<S, K>,
+pub(crate) fn integer<S: Source, K: Origin, V: Variant>(
+    run: &mut Run<S, K, V>,
     lo: Option<i128>,
     hi: Option<i128>,
     values: &mut Builder<ValueLabel>,
@@ -62,19 +62,18 @@ pub(crate) fn integer<S: Source, K: Origin>(
     ensures pushed { OnOk result (values.new ≡ added (newest values.new.kids) values.old) }
     ensures leaf { OnOk result ((z : ℤ) × (newest values.new.kids ≡ node (value.Int z) none) × (is_128_bits z ≡ true) × (is_from lo z ≡ true) × (is_to hi z ≡ true)) }
     ensures gives { IsTrue K.told → Gives K.limit K.whole (λ _. newest values.new.kids) result (spot run.new.bits.position run.new.nodes) run.new.stop run.new.bits.taken
-        (int_at true lo hi) (spot run.old.bits.position run.old.nodes) }
+        (int_at V.ALIGNED lo hi) (spot run.old.bits.position run.old.nodes) }
     ensures failed { IsErrOf result Fault.Failed → HasRisen K.faults (S.faults run.new.bits.source.now) }
 {
-    let z = run.whole(alloc, lo, hi)?;
+    let z = run.whole(lo, hi)?;
     values.leaf(ValueLabel::Int(z))?;
     Ok(())
 }
 
 /// One of so many items of an ENUMERATED.
 #[tactic(auto, unfolding(per_fields::specs::Nodes::enum_at))]
-pub(crate) fn enumerated<S: Source, K: Origin>(
-    alloc: Global,
-    run: &mut Run<S, K>,
+pub(crate) fn enumerated<S: Source, K: Origin, V: Variant>(
+    run: &mut Run<S, K, V>,
     items: usize,
     values: &mut Builder<ValueLabel>,
 ) -> Result<(), Fault>
@@ -87,10 +86,10 @@ pub(crate) fn enumerated<S: Source, K: Origin>(
     ensures pushed { OnOk result (values.new ≡ added (newest values.new.kids) values.old) }
     ensures leaf { OnOk result ((i : ℕ) × (newest values.new.kids ≡ node (value.Enum i) none) × (i < items)) }
     ensures gives { IsTrue K.told → Gives K.limit K.whole (λ _. newest values.new.kids) result (spot run.new.bits.position run.new.nodes) run.new.stop run.new.bits.taken
-        (enum_at true items) (spot run.old.bits.position run.old.nodes) }
+        (enum_at V.ALIGNED items) (spot run.old.bits.position run.old.nodes) }
     ensures failed { IsErrOf result Fault.Failed → HasRisen K.faults (S.faults run.new.bits.source.now) }
 {
-    let item = run.number(alloc, (items - 1) as u128)?;
+    let item = run.number((items - 1) as u128)?;
     values.leaf(ValueLabel::Enum(item as u32))?;
     Ok(())
 }
@@ -98,7 +97,7 @@ pub(crate) fn enumerated<S: Source, K: Origin>(
 // Whether a component is there.
 #[inline(always)]
 #[tactic(auto, unfolding(per_fields::specs::Nodes::flag_at))]
-fn presence_bit<S: Source, K: Origin>(run: &mut Run<S, K>, part: &Component) -> Result<bool, Fault>
+fn presence_bit<S: Source, K: Origin, V: Variant>(run: &mut Run<S, K, V>, part: &Component) -> Result<bool, Fault>
     requires in_step { IsInStep run.old.bits.position run.old.bits.taken }
     ensures same_reference { run.new.bits.source.ghost_name ≡ run.old.bits.source.ghost_name }
     ensures on { OnOk result (GoesOn run.old.bits.position run.new.bits.position run.new.bits.taken) }
@@ -118,9 +117,9 @@ fn presence_bit<S: Source, K: Origin>(run: &mut Run<S, K>, part: &Component) -> 
 
 /// Which components are there.
 #[inline(always)]
-pub(crate) fn presence<S: Source, K: Origin>(
+pub(crate) fn presence<S: Source, K: Origin, V: Variant>(
     alloc: Global,
-    run: &mut Run<S, K>,
+    run: &mut Run<S, K, V>,
     parts: &[Component],
     present: &mut Flags,
 ) -> Result<(), Fault>

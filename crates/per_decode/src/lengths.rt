@@ -6,7 +6,7 @@ ghost use Rattle.per_decode.specs.Private.Kept.{octets_more, octets_behind};
 
 use crate::faults::Fault;
 use crate::run::{Origin, Run};
-use per_fields::Why;
+use per_fields::{Variant, Why};
 use simple_values::is_at_most;
 use std::alloc::Global;
 use xa_base::{ROOM, Source};
@@ -42,7 +42,7 @@ fn is_out(least: u32, most: Option<u32>, total: usize, piece: Piece) -> bool
     }
 }
 
-impl<'a, S: Source, K: Origin> Run<'a, S, K> {
+impl<'a, S: Source, K: Origin, V: Variant> Run<'a, S, K, V> {
     ghost use Rattle.std.specs.Prelude.{true, ◌++◌, ◌%◌, IfOk, OnOk, OnErr, Err, IsErrOf, IsTrue, length};
     ghost use Rattle.bit_cursor.specs.Cursors.{IsInStep};
     ghost use Rattle.xa_base.specs.Faults.{HasRisen};
@@ -87,7 +87,7 @@ impl<'a, S: Source, K: Origin> Run<'a, S, K> {
         Ok(Piece::Units(units))
     }
 
-    // A length where reading is aligned.
+    // A length, behind what is before it.
     #[tactic(auto, unfolding(per_fields::specs::Fields::length_here))]
     #[inline(always)]
     fn length_here(&mut self, before: u32) -> Result<Piece, Fault>
@@ -107,7 +107,7 @@ impl<'a, S: Source, K: Origin> Run<'a, S, K> {
         self.length_from(before, begin, x)
     }
 
-    // A length where reading is aligned, of a count within these bounds.
+    // The same of a count within these bounds.
     #[tactic(auto, unfolding(per_fields::specs::Fields::count_here))]
     #[inline(always)]
     fn count_here(
@@ -151,19 +151,19 @@ impl<'a, S: Source, K: Origin> Run<'a, S, K> {
         requires in_step { IsInStep self.old.bits.position self.old.bits.taken }
         ensures same_reference { self.new.bits.source.ghost_name ≡ self.old.bits.source.ghost_name }
         ensures on { OnOk result (GoesOn self.old.bits.position self.new.bits.position self.new.bits.taken) }
-        ensures aligned { OnOk result (self.new.bits.position % 8 ≡ 0) }
+        ensures aligned { OnOk result (V.ALIGNED ≡ true → self.new.bits.position % 8 ≡ 0) }
         ensures nodes { self.new.nodes ≡ self.old.nodes }
         ensures further { OnOk result (self.old.bits.position < self.new.bits.position) }
         ensures piece { IfOk result (λ piece. IsPiece piece × (is_out least most total (piece_of piece) ≡ false)) }
         ensures gives { IsTrue K.told → Gives K.limit K.whole (piece_of) result (spot self.new.bits.position self.new.nodes) self.new.stop self.new.bits.taken
-            (count_at true least most before total) (spot self.old.bits.position self.old.nodes) }
+            (count_at V.ALIGNED least most before total) (spot self.old.bits.position self.old.nodes) }
         ensures failed { IsErrOf result Fault.Failed → HasRisen K.faults (S.faults self.new.bits.source.now) }
     {
-        self.align()?;
+        self.skip()?;
         self.count_here(least, most, before, total)
     }
 
-    // The octets of a number behind the first one, where reading is aligned.
+    // The octets of a number behind the first one, behind what is before their length.
     #[tactic(auto, unfolding(per_fields::specs::Fields::octet_count_here))]
     fn octet_count_here(&mut self) -> Result<u32, Fault>
         requires in_step { IsInStep self.old.bits.position self.old.bits.taken }
@@ -191,23 +191,23 @@ impl<'a, S: Source, K: Origin> Run<'a, S, K> {
         requires in_step { IsInStep self.old.bits.position self.old.bits.taken }
         ensures same_reference { self.new.bits.source.ghost_name ≡ self.old.bits.source.ghost_name }
         ensures on { OnOk result (GoesOn self.old.bits.position self.new.bits.position self.new.bits.taken) }
-        ensures aligned { OnOk result (self.new.bits.position % 8 ≡ 0) }
+        ensures aligned { OnOk result (V.ALIGNED ≡ true → self.new.bits.position % 8 ≡ 0) }
         ensures nodes { self.new.nodes ≡ self.old.nodes }
         ensures few { IfOk result (λ more. more ≤ 15) }
         ensures gives { IsTrue K.told → Gives K.limit K.whole (λ x. x) result (spot self.new.bits.position self.new.nodes) self.new.stop self.new.bits.taken
-            (octet_count_at true) (spot self.old.bits.position self.old.nodes) }
+            (octet_count_at V.ALIGNED) (spot self.old.bits.position self.old.nodes) }
         ensures failed { IsErrOf result Fault.Failed → HasRisen K.faults (S.faults self.new.bits.source.now) }
     {
-        self.align()?;
+        self.skip()?;
         self.octet_count_here()
     }
 
-    /// Fills the first `n` bytes with the next octets, where reading is aligned.
+    /// Fills the first `n` bytes with the next octets.
     #[inline(always)]
     pub(crate) fn fill_few(&mut self, bytes: &mut [u8; ROOM], n: u32) -> Result<(), Fault>
         requires few { n ≤ 22 }
         requires in_step { IsInStep self.old.bits.position self.old.bits.taken }
-        requires aligned { self.old.bits.position % 8 ≡ 0 }
+        requires aligned { V.ALIGNED ≡ true → self.old.bits.position % 8 ≡ 0 }
         ensures same_reference { self.new.bits.source.ghost_name ≡ self.old.bits.source.ghost_name }
         ensures on { OnOk result (GoesOn self.old.bits.position self.new.bits.position self.new.bits.taken) }
         ensures nodes { self.new.nodes ≡ self.old.nodes }
@@ -222,12 +222,12 @@ impl<'a, S: Source, K: Origin> Run<'a, S, K> {
     pub(crate) fn octets_behind(&mut self, alloc: Global, first: Piece) -> Result<Vec<u8>, Fault>
         requires piece { IsPiece first }
         requires in_step { IsInStep self.old.bits.position self.old.bits.taken }
-        requires aligned { self.old.bits.position % 8 ≡ 0 }
+        requires aligned { V.ALIGNED ≡ true → self.old.bits.position % 8 ≡ 0 }
         ensures same_reference { self.new.bits.source.ghost_name ≡ self.old.bits.source.ghost_name }
         ensures on { OnOk result (GoesOn self.old.bits.position self.new.bits.position self.new.bits.taken) }
         ensures nodes { self.new.nodes ≡ self.old.nodes }
         ensures gives { IsTrue K.told → Gives K.limit K.whole (λ octets. octets.items) result (spot self.new.bits.position self.new.nodes) self.new.stop self.new.bits.taken
-            (octets_behind (piece_of first)) (spot self.old.bits.position self.old.nodes) }
+            (octets_behind V.ALIGNED (piece_of first)) (spot self.old.bits.position self.old.nodes) }
         ensures failed { IsErrOf result Fault.Failed → HasRisen K.faults (S.faults self.new.bits.source.now) }
     {
         match first {
@@ -246,7 +246,7 @@ impl<'a, S: Source, K: Origin> Run<'a, S, K> {
         ensures on { OnOk result (GoesOn self.old.bits.position self.new.bits.position self.new.bits.taken) }
         ensures nodes { self.new.nodes ≡ self.old.nodes }
         ensures gives { IsTrue K.told → Gives K.limit K.whole (λ octets. octets.items) result (spot self.new.bits.position self.new.nodes) self.new.stop self.new.bits.taken
-            (octets_more first.items units (length first.items)) (spot self.old.bits.position self.old.nodes) }
+            (octets_more V.ALIGNED first.items units (length first.items)) (spot self.old.bits.position self.old.nodes) }
         ensures failed { IsErrOf result Fault.Failed → HasRisen K.faults (S.faults self.new.bits.source.now) }
     {
         let mut text = first;

@@ -1,6 +1,6 @@
-//! Values from canonical aligned PER (X.691), read from a source of octets, each octet when it is needed.
+//! Values from canonical PER, aligned or not (X.691), read from a source of octets, each octet when it is needed.
 //!
-//! Read first: `specs/Answers`, then `decode` in `src/decoding.rt`.
+//! Read first: `specs/Answers`, then `decode_by` in `src/decoding.rt`.
 #![tactic(auto)]
 
 mod decoded;
@@ -17,5 +17,5 @@ mod texts;
 mod wholes;
 
 pub use decoded::Decoded;
-pub use decoding::decode;
+pub use decoding::{decode, decode_by};
 pub use errors::DecodeError;

@@ -30,7 +30,7 @@ use crate::texts::text;
 use asn_types::{Component, Form, Module, Role, TypeLabel, own, resolve, role};
 use flat_tree::{Builder, Flat};
 use label_tree::Tree;
-use per_fields::{Stop, Why};
+use per_fields::{Stop, Variant, Why};
 use simple_types::{Flags, ValueLabel};
 use std::alloc::Global;
 use xa_base::Source;
@@ -133,10 +133,10 @@ fn owned(
 /// A node of a type, where so many elements stand in one another down to it, and its type is found.
 #[inline(always)]
 #[cycle(nodes)]
-pub(crate) fn node<S: Source, K: Origin>(
+pub(crate) fn node<S: Source, K: Origin, V: Variant>(
     alloc: Global,
     module: &Module,
-    run: &mut Run<S, K>,
+    run: &mut Run<S, K, V>,
     depth: u32,
     node: &Tree<TypeLabel>,
     found: &Tree<TypeLabel>,
@@ -153,7 +153,7 @@ pub(crate) fn node<S: Source, K: Origin>(
     ensures count { OnOk result (run.new.nodes ≡ run.old.nodes + node_count (newest values.new.kids)) }
     ensures fits { OnOk result (FitsAt module.now depth node.now (newest values.new.kids)) }
     ensures gives { IsTrue K.told → Gives K.limit K.whole (λ _. newest values.new.kids) result (spot run.new.bits.position run.new.nodes) run.new.stop run.new.bits.taken
-        (node_read true module.now depth node.now) (spot run.old.bits.position run.old.nodes) }
+        (node_read V.ALIGNED module.now depth node.now) (spot run.old.bits.position run.old.nodes) }
     ensures failed { IsErrOf result Fault.Failed → HasRisen K.faults (S.faults run.new.bits.source.now) }
 {
     let begin = run.position();
@@ -170,10 +170,10 @@ pub(crate) fn node<S: Source, K: Origin>(
 // The fields and the kids of a node that begins at a bit, and its rules.
 #[inline(always)]
 #[cycle(nodes)]
-fn body<S: Source, K: Origin>(
+fn body<S: Source, K: Origin, V: Variant>(
     alloc: Global,
     module: &Module,
-    run: &mut Run<S, K>,
+    run: &mut Run<S, K, V>,
     depth: u32,
     node: &Tree<TypeLabel>,
     found: &Tree<TypeLabel>,
@@ -191,7 +191,7 @@ fn body<S: Source, K: Origin>(
     ensures count { OnOk result (run.new.nodes + 1 ≡ run.old.nodes + node_count (newest values.new.kids)) }
     ensures fits { OnOk result (FitsAt module.now depth node.now (newest values.new.kids)) }
     ensures gives { IsTrue K.told → Gives K.limit K.whole (λ _. newest values.new.kids) result (spot run.new.bits.position run.new.nodes) run.new.stop run.new.bits.taken
-        (bodies.body_at module.now depth begin (resolve module.now node.now)) (spot run.old.bits.position run.old.nodes) }
+        (bodies.body_at V.ALIGNED module.now depth begin (resolve module.now node.now)) (spot run.old.bits.position run.old.nodes) }
     ensures failed { IsErrOf result Fault.Failed → HasRisen K.faults (S.faults run.new.bits.source.now) }
 {
     if let Form::Utf8 { .. } = &found.label().form {
@@ -206,10 +206,10 @@ fn body<S: Source, K: Origin>(
 // The same of a node whose values may break its rules, where its type is found and no text.
 #[inline(never)]
 #[cycle(nodes)]
-fn ruled<S: Source, K: Origin>(
+fn ruled<S: Source, K: Origin, V: Variant>(
     alloc: Global,
     module: &Module,
-    run: &mut Run<S, K>,
+    run: &mut Run<S, K, V>,
     depth: u32,
     node: &Tree<TypeLabel>,
     found: &Tree<TypeLabel>,
@@ -228,7 +228,7 @@ fn ruled<S: Source, K: Origin>(
     ensures count { OnOk result (run.new.nodes + 1 ≡ run.old.nodes + node_count (newest values.new.kids)) }
     ensures fits { OnOk result (FitsAt module.now depth node.now (newest values.new.kids)) }
     ensures gives { IsTrue K.told → Gives K.limit K.whole (λ _. newest values.new.kids) result (spot run.new.bits.position run.new.nodes) run.new.stop run.new.bits.taken
-        (bodies.body_at module.now depth begin (resolve module.now node.now)) (spot run.old.bits.position run.old.nodes) }
+        (bodies.body_at V.ALIGNED module.now depth begin (resolve module.now node.now)) (spot run.old.bits.position run.old.nodes) }
     ensures failed { IsErrOf result Fault.Failed → HasRisen K.faults (S.faults run.new.bits.source.now) }
 {
     let mut read = Builder::new(alloc);
@@ -249,10 +249,10 @@ fn ruled<S: Source, K: Origin>(
 // The fields and the kids of a node of a type that is neither a text nor a reference.
 #[inline(always)]
 #[cycle(nodes)]
-fn fields<S: Source, K: Origin>(
+fn fields<S: Source, K: Origin, V: Variant>(
     alloc: Global,
     module: &Module,
-    run: &mut Run<S, K>,
+    run: &mut Run<S, K, V>,
     depth: u32,
     found: &Tree<TypeLabel>,
     values: &mut Builder<ValueLabel>,
@@ -269,14 +269,14 @@ fn fields<S: Source, K: Origin>(
     ensures fits { OnOk result (FitKids module.now depth found.now (newest values.new.kids)) }
     ensures text { OnOk result (is_no_text (label_of (newest values.new.kids)) ≡ false) }
     ensures gives { IsTrue K.told → Gives K.limit K.whole (λ _. newest values.new.kids) result (spot run.new.bits.position run.new.nodes) run.new.stop run.new.bits.taken
-        (bodies.fields_at module.now depth found.now) (spot run.old.bits.position run.old.nodes) }
+        (bodies.fields_at V.ALIGNED module.now depth found.now) (spot run.old.bits.position run.old.nodes) }
     ensures failed { IsErrOf result Fault.Failed → HasRisen K.faults (S.faults run.new.bits.source.now) }
 {
     match &found.label().form {
         Form::Bool => boolean(run, values),
-        Form::Int { lo, hi } => integer(alloc, run, *lo, *hi, values),
-        Form::Numbers { numbers } => enumerated(alloc, run, numbers.items().len(), values),
-        Form::Words { words, .. } => enumerated(alloc, run, words.items().len(), values),
+        Form::Int { lo, hi } => integer(run, *lo, *hi, values),
+        Form::Numbers { numbers } => enumerated(run, numbers.items().len(), values),
+        Form::Words { words, .. } => enumerated(run, words.items().len(), values),
         Form::Sequence { parts } => sequence(
             alloc,
             module,
@@ -298,10 +298,10 @@ fn fields<S: Source, K: Origin>(
 // The fields and the kids of a SEQUENCE of these components.
 #[inline(never)]
 #[cycle(nodes)]
-fn sequence<S: Source, K: Origin>(
+fn sequence<S: Source, K: Origin, V: Variant>(
     alloc: Global,
     module: &Module,
-    run: &mut Run<S, K>,
+    run: &mut Run<S, K, V>,
     depth: u32,
     found: &Tree<TypeLabel>,
     parts: &[Component],
@@ -319,7 +319,7 @@ fn sequence<S: Source, K: Origin>(
     ensures fits { OnOk result (FitKids module.now depth found.now (newest values.new.kids)) }
     ensures text { OnOk result (is_no_text (label_of (newest values.new.kids)) ≡ false) }
     ensures gives { IsTrue K.told → Gives K.limit K.whole (λ _. newest values.new.kids) result (spot run.new.bits.position run.new.nodes) run.new.stop run.new.bits.taken
-        (sequence_at (bodies.kid_at module.now depth) (label_of found.now) (kids_of found.now) parts.now) (spot run.old.bits.position run.old.nodes) }
+        (sequence_at (bodies.kid_at V.ALIGNED module.now depth) (label_of found.now) (kids_of found.now) parts.now) (spot run.old.bits.position run.old.nodes) }
     ensures failed { IsErrOf result Fault.Failed → HasRisen K.faults (S.faults run.new.bits.source.now) }
 {
     let mut present = Flags::none();
@@ -346,10 +346,10 @@ fn sequence<S: Source, K: Origin>(
 // The components of a SEQUENCE that are present, put into a node that has no kids yet.
 #[inline(always)]
 #[cycle(nodes)]
-fn components<S: Source, K: Origin>(
+fn components<S: Source, K: Origin, V: Variant>(
     alloc: Global,
     module: &Module,
-    run: &mut Run<S, K>,
+    run: &mut Run<S, K, V>,
     depth: u32,
     found: &Tree<TypeLabel>,
     parts: &[Component],
@@ -369,7 +369,7 @@ fn components<S: Source, K: Origin>(
     ensures count { OnOk result (run.new.nodes ≡ run.old.nodes + count_all (roses_of values.new.kids)) }
     ensures fits { OnOk result (bodies.FitSome module.now depth (present_from (label_of found.now) 0 parts.now (kids_of found.now) present.now) (roses_of values.new.kids)) }
     ensures gives { IsTrue K.told → Gives K.limit K.whole (λ _. values.new.kids) result (spot run.new.bits.position run.new.nodes) run.new.stop run.new.bits.taken
-        (bodies.kids_read module.now depth (present_from (label_of found.now) 0 parts.now (kids_of found.now) present.now)) (spot run.old.bits.position run.old.nodes) }
+        (bodies.kids_read V.ALIGNED module.now depth (present_from (label_of found.now) 0 parts.now (kids_of found.now) present.now)) (spot run.old.bits.position run.old.nodes) }
     ensures failed { IsErrOf result Fault.Failed → HasRisen K.faults (S.faults run.new.bits.source.now) }
 {
     'parts: for i in 0..parts.len() {
@@ -387,10 +387,10 @@ fn components<S: Source, K: Origin>(
 // The index and the value of a CHOICE of these alternatives.
 #[inline(never)]
 #[cycle(nodes)]
-fn choice<S: Source, K: Origin>(
+fn choice<S: Source, K: Origin, V: Variant>(
     alloc: Global,
     module: &Module,
-    run: &mut Run<S, K>,
+    run: &mut Run<S, K, V>,
     depth: u32,
     found: &Tree<TypeLabel>,
     parts: &[Component],
@@ -408,10 +408,10 @@ fn choice<S: Source, K: Origin>(
     ensures fits { OnOk result (FitKids module.now depth found.now (newest values.new.kids)) }
     ensures text { OnOk result (is_no_text (label_of (newest values.new.kids)) ≡ false) }
     ensures gives { IsTrue K.told → Gives K.limit K.whole (λ _. newest values.new.kids) result (spot run.new.bits.position run.new.nodes) run.new.stop run.new.bits.taken
-        (choice_at true (bodies.kid_at module.now depth) (label_of found.now) (kids_of found.now) parts.now) (spot run.old.bits.position run.old.nodes) }
+        (choice_at V.ALIGNED (bodies.kid_at V.ALIGNED module.now depth) (label_of found.now) (kids_of found.now) parts.now) (spot run.old.bits.position run.old.nodes) }
     ensures failed { IsErrOf result Fault.Failed → HasRisen K.faults (S.faults run.new.bits.source.now) }
 {
-    let index = run.number(alloc, (parts.len() - 1) as u128)? as u32;
+    let index = run.number((parts.len() - 1) as u128)? as u32;
     let kid = found.kid(index as usize);
     let to = resolve(module, kid);
     let inner = part_depth(found, index, to, depth);
@@ -424,10 +424,10 @@ fn choice<S: Source, K: Origin>(
 // The count and the items of a SEQUENCE OF.
 #[inline(never)]
 #[cycle(nodes)]
-fn sequence_of<S: Source, K: Origin>(
+fn sequence_of<S: Source, K: Origin, V: Variant>(
     alloc: Global,
     module: &Module,
-    run: &mut Run<S, K>,
+    run: &mut Run<S, K, V>,
     depth: u32,
     found: &Tree<TypeLabel>,
     part: &Component,
@@ -447,7 +447,7 @@ fn sequence_of<S: Source, K: Origin>(
     ensures fits { OnOk result (FitKids module.now depth found.now (newest values.new.kids)) }
     ensures text { OnOk result (is_no_text (label_of (newest values.new.kids)) ≡ false) }
     ensures gives { IsTrue K.told → Gives K.limit K.whole (λ _. newest values.new.kids) result (spot run.new.bits.position run.new.nodes) run.new.stop run.new.bits.taken
-        (items_at true (bodies.kid_at module.now depth) min max (bodies.item_place found.now part.now)) (spot run.old.bits.position run.old.nodes) }
+        (items_at V.ALIGNED (bodies.kid_at V.ALIGNED module.now depth) min max (bodies.item_place found.now part.now)) (spot run.old.bits.position run.old.nodes) }
     ensures failed { IsErrOf result Fault.Failed → HasRisen K.faults (S.faults run.new.bits.source.now) }
 {
     let item = found.kid(0);
@@ -460,10 +460,10 @@ fn sequence_of<S: Source, K: Origin>(
 
 // The count and the items of a SEQUENCE OF this type, where so many elements stand in one another down to the items.
 #[cycle(nodes)]
-fn list<S: Source, K: Origin>(
+fn list<S: Source, K: Origin, V: Variant>(
     alloc: Global,
     module: &Module,
-    run: &mut Run<S, K>,
+    run: &mut Run<S, K, V>,
     depth: u32,
     item: &Tree<TypeLabel>,
     min: u32,
@@ -483,13 +483,13 @@ fn list<S: Source, K: Origin>(
     ensures fits { OnOk result (bodies.FitAll module.now depth item.now values.new.kids) }
     ensures size { OnOk result ((min ≤ length values.new.kids) × (is_at_most (length values.new.kids) max ≡ true)) }
     ensures gives { IsTrue K.told → Gives K.limit K.whole (λ _. values.new.kids) result (spot run.new.bits.position run.new.nodes) run.new.stop run.new.bits.taken
-        (list_at true min max (λ n. bodies.many_at module.now depth n item.now)) (spot run.old.bits.position run.old.nodes) }
+        (list_at V.ALIGNED min max (λ n. bodies.many_at V.ALIGNED module.now depth n item.now)) (spot run.old.bits.position run.old.nodes) }
     ensures failed { IsErrOf result Fault.Failed → HasRisen K.faults (S.faults run.new.bits.source.now) }
 {
     match max {
         Some(most) => {
             if most < 65_536 {
-                let more = run.number(alloc, (most - min) as u128)? as u32;
+                let more = run.number((most - min) as u128)? as u32;
                 items(alloc, module, run, depth, item, min + more, values)
             } else {
                 fragments(alloc, module, run, depth, item, min, max, values)
@@ -501,10 +501,10 @@ fn list<S: Source, K: Origin>(
 
 // Items behind general lengths, of a type where so many elements stand in one another down to them.
 #[cycle(nodes)]
-fn fragments<S: Source, K: Origin>(
+fn fragments<S: Source, K: Origin, V: Variant>(
     alloc: Global,
     module: &Module,
-    run: &mut Run<S, K>,
+    run: &mut Run<S, K, V>,
     depth: u32,
     item: &Tree<TypeLabel>,
     min: u32,
@@ -523,7 +523,7 @@ fn fragments<S: Source, K: Origin>(
     ensures fits { OnOk result (bodies.FitAll module.now depth item.now values.new.kids) }
     ensures size { OnOk result ((min ≤ length values.new.kids) × (is_at_most (length values.new.kids) max ≡ true)) }
     ensures gives { IsTrue K.told → Gives K.limit K.whole (λ _. values.new.kids) result (spot run.new.bits.position run.new.nodes) run.new.stop run.new.bits.taken
-        (counted_at true min max (λ n. bodies.many_at module.now depth n item.now)) (spot run.old.bits.position run.old.nodes) }
+        (counted_at V.ALIGNED min max (λ n. bodies.many_at V.ALIGNED module.now depth n item.now)) (spot run.old.bits.position run.old.nodes) }
     ensures failed { IsErrOf result Fault.Failed → HasRisen K.faults (S.faults run.new.bits.source.now) }
 {
     let mut total: usize = 0;
@@ -544,10 +544,10 @@ fn fragments<S: Source, K: Origin>(
 // So many items more, behind those that were read.
 #[inline(always)]
 #[cycle(nodes)]
-fn items<S: Source, K: Origin>(
+fn items<S: Source, K: Origin, V: Variant>(
     alloc: Global,
     module: &Module,
-    run: &mut Run<S, K>,
+    run: &mut Run<S, K, V>,
     depth: u32,
     item: &Tree<TypeLabel>,
     n: u32,
@@ -565,7 +565,7 @@ fn items<S: Source, K: Origin>(
     ensures fits { OnOk result (bodies.FitAll module.now depth item.now values.new.kids) }
     ensures size { OnOk result (length values.new.kids ≡ length values.old.kids + n) }
     ensures gives { IsTrue K.told → Gives K.limit K.whole (λ _. values.new.kids) result (spot run.new.bits.position run.new.nodes) run.new.stop run.new.bits.taken
-        (bodies.more_at module.now depth n item.now values.old.kids) (spot run.old.bits.position run.old.nodes) }
+        (bodies.more_at V.ALIGNED module.now depth n item.now values.old.kids) (spot run.old.bits.position run.old.nodes) }
     ensures failed { IsErrOf result Fault.Failed → HasRisen K.faults (S.faults run.new.bits.source.now) }
 {
     let found = resolve(module, item);

@@ -5,8 +5,7 @@ ghost use Rattle.per_fields.specs.Widths.{width_of, more_of};
 
 use crate::faults::Fault;
 use crate::run::{Origin, Run};
-use per_fields::Why;
-use std::alloc::Global;
+use per_fields::{Variant, Why};
 use xa_base::Source;
 
 /// The least number of bits that hold a number; none for 0.
@@ -25,20 +24,7 @@ pub(crate) fn more_of(x: u128) -> u32
     ((width_of(x) + 7) / 8).saturating_sub(1)
 }
 
-// The number whose bits are those of the octets.
-fn number_of(octets: &[u8]) -> u128
-    requires { length octets.now ≤ 16 }
-    ensures below { result < 2 ^ (8 * length octets.now) }
-    ensures same { bits (8 * length octets.now) result ≡ octet_bits octets.now }
-{
-    let mut number: u128 = 0;
-    for octet in octets {
-        number = number * 256 + *octet as u128;
-    }
-    number
-}
-
-impl<'a, S: Source, K: Origin> Run<'a, S, K> {
+impl<'a, S: Source, K: Origin, V: Variant> Run<'a, S, K, V> {
     ghost use Rattle.std.specs.Prelude.{true, ◌++◌, ◌%◌, IfOk, OnOk, OnErr, Err, IsErrOf, IsTrue, length};
     ghost use Rattle.bit_cursor.specs.Cursors.{IsInStep};
     ghost use Rattle.xa_base.specs.Faults.{HasRisen};
@@ -47,25 +33,42 @@ impl<'a, S: Source, K: Origin> Run<'a, S, K> {
     ghost use Rattle.per_decode.specs.Private.Standing.{GoesOn};
     ghost use Rattle.per_decode.specs.Private.Giving.{Gives, spot};
 
-    /// The next octets as one number, where reading is aligned. Up to 8 of them take no memory.
-    pub(crate) fn take_number(&mut self, alloc: Global, octets: u32) -> Result<u128, Fault>
-        requires few { octets ≤ 16 }
+    /// The next `n` bits, of a field that begins at a bit, as one number.
+    #[inline(always)]
+    pub(crate) fn take_wide(&mut self, begin: u64, n: u32) -> Result<u128, Fault>
+        requires few { n ≤ 128 }
         requires in_step { IsInStep self.old.bits.position self.old.bits.taken }
-        requires aligned { self.old.bits.position % 8 ≡ 0 }
         ensures same_reference { self.new.bits.source.ghost_name ≡ self.old.bits.source.ghost_name }
         ensures on { OnOk result (GoesOn self.old.bits.position self.new.bits.position self.new.bits.taken) }
         ensures nodes { self.new.nodes ≡ self.old.nodes }
-        ensures below { IfOk result (λ x. x < 2 ^ (8 * octets)) }
+        ensures below { IfOk result (λ x. x < 2 ^ n) }
         ensures gives { IsTrue K.told → Gives K.limit K.whole (λ x. x) result (spot self.new.bits.position self.new.nodes) self.new.stop self.new.bits.taken
-            (λ X s. bits_at s.at (8 * octets) X s) (spot self.old.bits.position self.old.nodes) }
+            (bits_at begin n) (spot self.old.bits.position self.old.nodes) }
         ensures failed { IsErrOf result Fault.Failed → HasRisen K.faults (S.faults self.new.bits.source.now) }
     {
-        if octets <= 8 {
-            let begin = self.position();
-            return Ok(self.take_bits(begin, 8 * octets)? as u128);
+        if n <= 64 {
+            return Ok(self.take_bits(begin, n)? as u128);
         }
-        let octets = self.take_octets(alloc, octets)?;
-        Ok(number_of(&octets))
+        self.take_both(begin, n)
+    }
+
+    // The same of more than 64 bits, which are taken at twice.
+    #[inline(never)]
+    fn take_both(&mut self, begin: u64, n: u32) -> Result<u128, Fault>
+        requires many { 64 < n }
+        requires few { n ≤ 128 }
+        requires in_step { IsInStep self.old.bits.position self.old.bits.taken }
+        ensures same_reference { self.new.bits.source.ghost_name ≡ self.old.bits.source.ghost_name }
+        ensures on { OnOk result (GoesOn self.old.bits.position self.new.bits.position self.new.bits.taken) }
+        ensures nodes { self.new.nodes ≡ self.old.nodes }
+        ensures below { IfOk result (λ x. x < 2 ^ n) }
+        ensures gives { IsTrue K.told → Gives K.limit K.whole (λ x. x) result (spot self.new.bits.position self.new.nodes) self.new.stop self.new.bits.taken
+            (bits_at begin n) (spot self.old.bits.position self.old.nodes) }
+        ensures failed { IsErrOf result Fault.Failed → HasRisen K.faults (S.faults self.new.bits.source.now) }
+    {
+        let high = self.take_bits(begin, n - 64)?;
+        let low = self.take_bits(begin, 64)?;
+        Ok(high as u128 * (1u128 << 64) + low as u128)
     }
 
     /// A number of `0..=top` in `n` bits.
@@ -84,6 +87,26 @@ impl<'a, S: Source, K: Origin> Run<'a, S, K> {
     {
         let begin = self.position();
         let x = self.take_bits(begin, n)?;
+        if top < x {
+            return Err(self.stopped(begin, Why::Range));
+        }
+        Ok(x)
+    }
+
+    // A number of `0..=top` in the least bits that hold the greatest.
+    #[tactic(auto, unfolding(per_fields::specs::Fields::within_at))]
+    fn within_wide(&mut self, top: u128) -> Result<u128, Fault>
+        requires in_step { IsInStep self.old.bits.position self.old.bits.taken }
+        ensures same_reference { self.new.bits.source.ghost_name ≡ self.old.bits.source.ghost_name }
+        ensures on { OnOk result (GoesOn self.old.bits.position self.new.bits.position self.new.bits.taken) }
+        ensures nodes { self.new.nodes ≡ self.old.nodes }
+        ensures top { IfOk result (λ x. x ≤ top) }
+        ensures gives { IsTrue K.told → Gives K.limit K.whole (λ x. x) result (spot self.new.bits.position self.new.nodes) self.new.stop self.new.bits.taken
+            (within_at top (width_of top)) (spot self.old.bits.position self.old.nodes) }
+        ensures failed { IsErrOf result Fault.Failed → HasRisen K.faults (S.faults self.new.bits.source.now) }
+    {
+        let begin = self.position();
+        let x = self.take_wide(begin, width_of(top))?;
         if top < x {
             return Err(self.stopped(begin, Why::Range));
         }
@@ -109,10 +132,9 @@ impl<'a, S: Source, K: Origin> Run<'a, S, K> {
 
     // The octets of a number of `0..=top`, one and so many more.
     #[tactic(auto, unfolding(per_fields::specs::Fields::large_octets_at))]
-    fn large_octets(&mut self, alloc: Global, top: u128, more: u32) -> Result<u128, Fault>
+    fn large_octets(&mut self, top: u128, more: u32) -> Result<u128, Fault>
         requires few { more ≤ 15 }
         requires in_step { IsInStep self.old.bits.position self.old.bits.taken }
-        requires aligned { self.old.bits.position % 8 ≡ 0 }
         ensures same_reference { self.new.bits.source.ghost_name ≡ self.old.bits.source.ghost_name }
         ensures on { OnOk result (GoesOn self.old.bits.position self.new.bits.position self.new.bits.taken) }
         ensures nodes { self.new.nodes ≡ self.old.nodes }
@@ -122,7 +144,7 @@ impl<'a, S: Source, K: Origin> Run<'a, S, K> {
         ensures failed { IsErrOf result Fault.Failed → HasRisen K.faults (S.faults self.new.bits.source.now) }
     {
         let begin = self.position();
-        let x = self.take_number(alloc, more + 1)?;
+        let x = self.take_wide(begin, 8 * (more + 1))?;
         if 0 < more && x < 1u128 << (8 * more) {
             return Err(self.stopped(begin, Why::NotShortest));
         }
@@ -134,7 +156,7 @@ impl<'a, S: Source, K: Origin> Run<'a, S, K> {
 
     // The octet count and the octets of a number of `0..=top`.
     #[tactic(auto, unfolding(per_fields::specs::Fields::large_at))]
-    fn large(&mut self, alloc: Global, top: u128) -> Result<u128, Fault>
+    fn large(&mut self, top: u128) -> Result<u128, Fault>
         requires in_step { IsInStep self.old.bits.position self.old.bits.taken }
         ensures same_reference { self.new.bits.source.ghost_name ≡ self.old.bits.source.ghost_name }
         ensures on { OnOk result (GoesOn self.old.bits.position self.new.bits.position self.new.bits.taken) }
@@ -147,24 +169,27 @@ impl<'a, S: Source, K: Origin> Run<'a, S, K> {
         let most = more_of(top);
         let more = self.within(most as u64, width_of(most as u128))? as u32;
         self.align()?;
-        self.large_octets(alloc, top, more)
+        self.large_octets(top, more)
     }
 
     /// A number of `0..=top`.
     #[tactic(auto, unfolding(per_fields::specs::Fields::number_at))]
     #[inline(always)]
-    pub(crate) fn number(&mut self, alloc: Global, top: u128) -> Result<u128, Fault>
+    pub(crate) fn number(&mut self, top: u128) -> Result<u128, Fault>
         requires in_step { IsInStep self.old.bits.position self.old.bits.taken }
         ensures same_reference { self.new.bits.source.ghost_name ≡ self.old.bits.source.ghost_name }
         ensures on { OnOk result (GoesOn self.old.bits.position self.new.bits.position self.new.bits.taken) }
         ensures nodes { self.new.nodes ≡ self.old.nodes }
         ensures top { IfOk result (λ x. x ≤ top) }
         ensures gives { IsTrue K.told → Gives K.limit K.whole (λ x. x) result (spot self.new.bits.position self.new.nodes) self.new.stop self.new.bits.taken
-            (number_at true top) (spot self.old.bits.position self.old.nodes) }
+            (number_at V.ALIGNED top) (spot self.old.bits.position self.old.nodes) }
         ensures failed { IsErrOf result Fault.Failed → HasRisen K.faults (S.faults self.new.bits.source.now) }
     {
         if top == 0 {
             return Ok(0);
+        }
+        if !V::ALIGNED {
+            return self.within_wide(top);
         }
         if top < 255 {
             return Ok(self.within(top as u64, width_of(top))? as u128);
@@ -175,6 +200,6 @@ impl<'a, S: Source, K: Origin> Run<'a, S, K> {
         if top < 65_536 {
             return Ok(self.aligned(top as u64, 16)? as u128);
         }
-        self.large(alloc, top)
+        self.large(top)
     }
 }

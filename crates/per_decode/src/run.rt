@@ -4,7 +4,7 @@ ghost use Rattle.per_decode.specs.Private.Standing.{IsAt};
 
 use crate::faults::{Fault, stopped};
 use bit_cursor::{BitSource, CursorError};
-use per_fields::{Stop, Why};
+use per_fields::{Stop, Variant, Why};
 use std::alloc::Global;
 use std::marker::{Brand, PhantomData};
 use xa_base::Source;
@@ -36,24 +36,27 @@ fn see_octets(octets: &[u8])
     ensures { (k : ℕ) → slice_index octets.now k < 256 }
 {}
 
-/// Reading from a source, since the origin, with the nodes that were begun, and where and why reading stopped once it has.
+/// Reading from a source, since the origin, in one of the two variants, with the nodes that were begun, and where and why
+/// reading stopped once it has.
 #[derive(Drop)]
-pub(crate) struct Run<'a, S: Source, K: Origin> {
+pub(crate) struct Run<'a, S: Source, K: Origin, V: Variant> {
     pub(crate) bits: BitSource<'a, S>,
     pub(crate) nodes: u32,
     pub(crate) stop: Stop,
     pub(crate) origin: PhantomData<K>,
+    pub(crate) variant: PhantomData<V>,
     ghost limited: { bits.limit ≡ K.limit },
     ghost few: { nodes ≤ 1048576 },
     ghost later: { K.faults ≤ S.faults bits.source.now },
     ghost here: { IsTrue K.told → IsAt K.whole K.limit bits.position bits.taken bits.held (S.left bits.source.now) },
 }
 
-impl<'a, S: Source, K: Origin> Run<'a, S, K> {
-    ghost use Rattle.std.specs.Prelude.{◌++◌, ◌%◌, IfOk, OnOk, OnErr, Err, IsErrOf, length};
+impl<'a, S: Source, K: Origin, V: Variant> Run<'a, S, K, V> {
+    ghost use Rattle.std.specs.Prelude.{true, ◌++◌, ◌%◌, IfOk, OnOk, OnErr, Err, IsErrOf, length};
     ghost use Rattle.bit_cursor.specs.Cursors.{IsInStep};
     ghost use Rattle.xa_base.specs.Faults.{HasRisen};
     ghost use Rattle.per_fields.specs.Reading.{bits_at, align_at, octets_at};
+    ghost use Rattle.per_fields.specs.Fields.{skip_at};
     ghost use Rattle.per_decode.specs.Private.Standing.{GoesOn};
     ghost use Rattle.per_decode.specs.Private.Giving.{Gives, spot};
 
@@ -129,43 +132,27 @@ impl<'a, S: Source, K: Origin> Run<'a, S, K> {
         }
     }
 
-    /// The next `n` octets, where reading is aligned.
-    pub(crate) fn take_octets(&mut self, alloc: Global, n: u32) -> Result<Vec<u8>, Fault>
-        requires few { n ≤ 65536 }
+    /// What is before a field that begins at an octet in the aligned variant.
+    #[inline(always)]
+    pub(crate) fn skip(&mut self) -> Result<(), Fault>
         requires in_step { IsInStep self.old.bits.position self.old.bits.taken }
-        requires aligned { self.old.bits.position % 8 ≡ 0 }
         ensures same_reference { self.new.bits.source.ghost_name ≡ self.old.bits.source.ghost_name }
         ensures on { OnOk result (GoesOn self.old.bits.position self.new.bits.position self.new.bits.taken) }
         ensures nodes { self.new.nodes ≡ self.old.nodes }
-        ensures moved { OnOk result (self.new.bits.position ≡ self.old.bits.position + 8 * n) }
-        ensures count { IfOk result (λ octets. length octets.items ≡ n) }
-        ensures gives { IsTrue K.told → Gives K.limit K.whole (λ octets. octets.items) result (spot self.new.bits.position self.new.nodes) self.new.stop self.new.bits.taken
-            (octets_at n) (spot self.old.bits.position self.old.nodes) }
+        ensures aligned { OnOk result (V.ALIGNED ≡ true → self.new.bits.position % 8 ≡ 0) }
+        ensures gives { IsTrue K.told → Gives K.limit K.whole (λ x. 0) result (spot self.new.bits.position self.new.nodes) self.new.stop self.new.bits.taken
+            (skip_at V.ALIGNED) (spot self.old.bits.position self.old.nodes) }
         ensures failed { IsErrOf result Fault.Failed → HasRisen K.faults (S.faults self.new.bits.source.now) }
     {
-        let begin = self.position();
-        match self.bits.take_octets(alloc, n) {
-            Ok(octets) => {
-                see_octets(&octets);
-                Ok(octets)
-            }
-            Err(CursorError::Failed) => Err(Fault::Failed),
-            Err(CursorError::Short) => {
-                self.stop.bit = begin;
-                Err(Fault::Short)
-            }
-            Err(CursorError::TooLong) => {
-                self.stop.bit = begin;
-                Err(Fault::TooLong)
-            }
-            Err(CursorError::Memory) => Err(Fault::Memory),
-            Err(CursorError::Padding) => unreachable!(),
+        if V::ALIGNED {
+            return self.align();
         }
+        Ok(())
     }
 
-    /// Fills the buffer with the next octets, where reading is aligned.
+    // Fills the buffer with the next octets, where reading is at an octet.
     #[inline(always)]
-    pub(crate) fn fill_octets(&mut self, octets: &mut [u8]) -> Result<(), Fault>
+    fn fill_aligned(&mut self, octets: &mut [u8]) -> Result<(), Fault>
         requires few { length octets.old ≤ 65536 }
         requires in_step { IsInStep self.old.bits.position self.old.bits.taken }
         requires aligned { self.old.bits.position % 8 ≡ 0 }
@@ -195,5 +182,76 @@ impl<'a, S: Source, K: Origin> Run<'a, S, K> {
             Err(CursorError::Memory) => unreachable!(),
             Err(CursorError::Padding) => unreachable!(),
         }
+    }
+
+    // The same at any bit.
+    fn fill_across(&mut self, octets: &mut [u8]) -> Result<(), Fault>
+        requires few { length octets.old ≤ 65536 }
+        requires in_step { IsInStep self.old.bits.position self.old.bits.taken }
+        ensures same_reference { self.new.bits.source.ghost_name ≡ self.old.bits.source.ghost_name }
+        ensures on { OnOk result (GoesOn self.old.bits.position self.new.bits.position self.new.bits.taken) }
+        ensures nodes { self.new.nodes ≡ self.old.nodes }
+        ensures moved { OnOk result (self.new.bits.position ≡ self.old.bits.position + 8 * length octets.old) }
+        ensures gives { IsTrue K.told → Gives K.limit K.whole (λ done. octets.new) result (spot self.new.bits.position self.new.nodes) self.new.stop self.new.bits.taken
+            (octets_at (length octets.old)) (spot self.old.bits.position self.old.nodes) }
+        ensures failed { IsErrOf result Fault.Failed → HasRisen K.faults (S.faults self.new.bits.source.now) }
+    {
+        let begin = self.position();
+        match self.bits.fill_across(octets) {
+            Ok(()) => {
+                see_octets(octets);
+                Ok(())
+            }
+            Err(CursorError::Failed) => Err(Fault::Failed),
+            Err(CursorError::Short) => {
+                self.stop.bit = begin;
+                Err(Fault::Short)
+            }
+            Err(CursorError::TooLong) => {
+                self.stop.bit = begin;
+                Err(Fault::TooLong)
+            }
+            Err(CursorError::Memory) => unreachable!(),
+            Err(CursorError::Padding) => unreachable!(),
+        }
+    }
+
+    /// Fills the buffer with the next octets.
+    #[inline(always)]
+    pub(crate) fn fill_octets(&mut self, octets: &mut [u8]) -> Result<(), Fault>
+        requires few { length octets.old ≤ 65536 }
+        requires in_step { IsInStep self.old.bits.position self.old.bits.taken }
+        requires aligned { V.ALIGNED ≡ true → self.old.bits.position % 8 ≡ 0 }
+        ensures same_reference { self.new.bits.source.ghost_name ≡ self.old.bits.source.ghost_name }
+        ensures on { OnOk result (GoesOn self.old.bits.position self.new.bits.position self.new.bits.taken) }
+        ensures nodes { self.new.nodes ≡ self.old.nodes }
+        ensures moved { OnOk result (self.new.bits.position ≡ self.old.bits.position + 8 * length octets.old) }
+        ensures gives { IsTrue K.told → Gives K.limit K.whole (λ done. octets.new) result (spot self.new.bits.position self.new.nodes) self.new.stop self.new.bits.taken
+            (octets_at (length octets.old)) (spot self.old.bits.position self.old.nodes) }
+        ensures failed { IsErrOf result Fault.Failed → HasRisen K.faults (S.faults self.new.bits.source.now) }
+    {
+        if V::ALIGNED {
+            return self.fill_aligned(octets);
+        }
+        self.fill_across(octets)
+    }
+
+    /// The next `n` octets.
+    pub(crate) fn take_octets(&mut self, alloc: Global, n: u32) -> Result<Vec<u8>, Fault>
+        requires few { n ≤ 65536 }
+        requires in_step { IsInStep self.old.bits.position self.old.bits.taken }
+        requires aligned { V.ALIGNED ≡ true → self.old.bits.position % 8 ≡ 0 }
+        ensures same_reference { self.new.bits.source.ghost_name ≡ self.old.bits.source.ghost_name }
+        ensures on { OnOk result (GoesOn self.old.bits.position self.new.bits.position self.new.bits.taken) }
+        ensures nodes { self.new.nodes ≡ self.old.nodes }
+        ensures moved { OnOk result (self.new.bits.position ≡ self.old.bits.position + 8 * n) }
+        ensures count { IfOk result (λ octets. length octets.items ≡ n) }
+        ensures gives { IsTrue K.told → Gives K.limit K.whole (λ octets. octets.items) result (spot self.new.bits.position self.new.nodes) self.new.stop self.new.bits.taken
+            (octets_at n) (spot self.old.bits.position self.old.nodes) }
+        ensures failed { IsErrOf result Fault.Failed → HasRisen K.faults (S.faults self.new.bits.source.now) }
+    {
+        let mut octets = vec![in alloc; 0u8; n as usize]?;
+        self.fill_octets(&mut octets)?;
+        Ok(octets)
     }
 }

@@ -23,17 +23,17 @@ use crate::run::{Origin, Run};
 use asn_types::{Module, TypeLabel, resolve};
 use flat_tree::Builder;
 use label_tree::Tree;
-use per_fields::{Stop, Why};
+use per_fields::{Stop, Variant, Why};
 use simple_types::ValueLabel;
 use std::alloc::Global;
 use xa_base::{ROOM, Source, Text, TextError};
 
 /// The text of a node that begins at a bit, and its rules, where its type is found.
 #[inline(always)]
-pub(crate) fn text<S: Source, K: Origin>(
+pub(crate) fn text<S: Source, K: Origin, V: Variant>(
     alloc: Global,
     module: &Module,
-    run: &mut Run<S, K>,
+    run: &mut Run<S, K, V>,
     node: &Tree<TypeLabel>,
     found: &Tree<TypeLabel>,
     begin: u64,
@@ -51,7 +51,7 @@ pub(crate) fn text<S: Source, K: Origin>(
     ensures leaf { OnOk result ((text : List ℕ) × (newest values.new.kids ≡ text_leaf text)) }
     ensures own { OnOk result (Own module.now node.now (newest values.new.kids)) }
     ensures gives { IsTrue K.told → Gives K.limit K.whole (λ _. newest values.new.kids) result (spot run.new.bits.position run.new.nodes) run.new.stop run.new.bits.taken
-        (kept_by module.now begin (refs.resolve module.now node.now) (counted_at true 0 None octets_at)) (spot run.old.bits.position run.old.nodes) }
+        (kept_by module.now begin (refs.resolve module.now node.now) (counted_at V.ALIGNED 0 None octets_at)) (spot run.old.bits.position run.old.nodes) }
     ensures failed { IsErrOf result Fault.Failed → HasRisen K.faults (S.faults run.new.bits.source.now) }
 {
     let piece = run.count(0, None, MOST_UNITS, 0)?;
@@ -65,10 +65,10 @@ pub(crate) fn text<S: Source, K: Origin>(
 
 // The same behind a length of so few octets. They are read in place.
 #[inline(always)]
-fn short_text<S: Source, K: Origin>(
+fn short_text<S: Source, K: Origin, V: Variant>(
     alloc: Global,
     module: &Module,
-    run: &mut Run<S, K>,
+    run: &mut Run<S, K, V>,
     node: &Tree<TypeLabel>,
     found: &Tree<TypeLabel>,
     begin: u64,
@@ -80,7 +80,7 @@ fn short_text<S: Source, K: Origin>(
     requires of { IsOf module.now node.now }
     requires text { IsText (label_of (refs.resolve module.now node.now)).form }
     requires found { found.now ≡ refs.resolve module.now node.now }
-    requires aligned { run.old.bits.position % 8 ≡ 0 }
+    requires aligned { V.ALIGNED ≡ true → run.old.bits.position % 8 ≡ 0 }
     requires in_step { IsInStep run.old.bits.position run.old.bits.taken }
     ensures same_reference { run.new.bits.source.ghost_name ≡ run.old.bits.source.ghost_name }
     ensures on { OnOk result (GoesOn run.old.bits.position run.new.bits.position run.new.bits.taken) }
@@ -111,10 +111,10 @@ fn short_text<S: Source, K: Origin>(
 
 // The same behind any length.
 #[inline(never)]
-fn long_text<S: Source, K: Origin>(
+fn long_text<S: Source, K: Origin, V: Variant>(
     alloc: Global,
     module: &Module,
-    run: &mut Run<S, K>,
+    run: &mut Run<S, K, V>,
     node: &Tree<TypeLabel>,
     begin: u64,
     first: Piece,
@@ -124,7 +124,7 @@ fn long_text<S: Source, K: Origin>(
     requires known { IsKnown module.now }
     requires of { IsOf module.now node.now }
     requires text { IsText (label_of (refs.resolve module.now node.now)).form }
-    requires aligned { run.old.bits.position % 8 ≡ 0 }
+    requires aligned { V.ALIGNED ≡ true → run.old.bits.position % 8 ≡ 0 }
     requires in_step { IsInStep run.old.bits.position run.old.bits.taken }
     ensures same_reference { run.new.bits.source.ghost_name ≡ run.old.bits.source.ghost_name }
     ensures on { OnOk result (GoesOn run.old.bits.position run.new.bits.position run.new.bits.taken) }
@@ -133,7 +133,7 @@ fn long_text<S: Source, K: Origin>(
     ensures leaf { OnOk result ((text : List ℕ) × (newest values.new.kids ≡ text_leaf text)) }
     ensures own { OnOk result (Own module.now node.now (newest values.new.kids)) }
     ensures gives { IsTrue K.told → Gives K.limit K.whole (λ _. newest values.new.kids) result (spot run.new.bits.position run.new.nodes) run.new.stop run.new.bits.taken
-        (kept_by module.now begin (refs.resolve module.now node.now) (octets_behind (piece_of first))) (spot run.old.bits.position run.old.nodes) }
+        (kept_by module.now begin (refs.resolve module.now node.now) (octets_behind V.ALIGNED (piece_of first))) (spot run.old.bits.position run.old.nodes) }
     ensures failed { IsErrOf result Fault.Failed → HasRisen K.faults (S.faults run.new.bits.source.now) }
 {
     let octets = run.octets_behind(alloc, first)?;

@@ -7,8 +7,7 @@ ghost use Rattle.per_fields.specs.Widths.{distance, raised, magnitude, more_sign
 use crate::faults::Fault;
 use crate::numbers::width_of;
 use crate::run::{Origin, Run};
-use per_fields::Why;
-use std::alloc::Global;
+use per_fields::{Variant, Why};
 use xa_base::Source;
 
 // How far a number is above a lower one.
@@ -48,7 +47,7 @@ fn more_signed(z: i128) -> u32
     width_of(magnitude as u128) / 8
 }
 
-impl<'a, S: Source, K: Origin> Run<'a, S, K> {
+impl<'a, S: Source, K: Origin, V: Variant> Run<'a, S, K, V> {
     ghost use Rattle.std.specs.Prelude.{◌++◌, ◌%◌, IfOk, OnOk, OnErr, Err, IsErrOf, IsTrue, length};
     ghost use Rattle.bit_cursor.specs.Cursors.{IsInStep};
     ghost use Rattle.xa_base.specs.Faults.{HasRisen};
@@ -59,10 +58,9 @@ impl<'a, S: Source, K: Origin> Run<'a, S, K> {
 
     // The octets of a number from a least one, one and so many more.
     #[tactic(auto, unfolding(per_fields::specs::Fields::from_octets_at))]
-    fn from_octets(&mut self, alloc: Global, lo: i128, more: u32) -> Result<i128, Fault>
+    fn from_octets(&mut self, lo: i128, more: u32) -> Result<i128, Fault>
         requires few { more ≤ 15 }
         requires in_step { IsInStep self.old.bits.position self.old.bits.taken }
-        requires aligned { self.old.bits.position % 8 ≡ 0 }
         ensures same_reference { self.new.bits.source.ghost_name ≡ self.old.bits.source.ghost_name }
         ensures on { OnOk result (GoesOn self.old.bits.position self.new.bits.position self.new.bits.taken) }
         ensures nodes { self.new.nodes ≡ self.old.nodes }
@@ -72,7 +70,7 @@ impl<'a, S: Source, K: Origin> Run<'a, S, K> {
         ensures failed { IsErrOf result Fault.Failed → HasRisen K.faults (S.faults self.new.bits.source.now) }
     {
         let begin = self.position();
-        let x = self.take_number(alloc, more + 1)?;
+        let x = self.take_wide(begin, 8 * (more + 1))?;
         if 0 < more && x < 1u128 << (8 * more) {
             return Err(self.stopped(begin, Why::NotShortest));
         }
@@ -84,26 +82,25 @@ impl<'a, S: Source, K: Origin> Run<'a, S, K> {
 
     // A number from a least one, without a greatest.
     #[tactic(auto, unfolding(per_fields::specs::Fields::from_at))]
-    fn from(&mut self, alloc: Global, lo: i128) -> Result<i128, Fault>
+    fn from(&mut self, lo: i128) -> Result<i128, Fault>
         requires in_step { IsInStep self.old.bits.position self.old.bits.taken }
         ensures same_reference { self.new.bits.source.ghost_name ≡ self.old.bits.source.ghost_name }
         ensures on { OnOk result (GoesOn self.old.bits.position self.new.bits.position self.new.bits.taken) }
         ensures nodes { self.new.nodes ≡ self.old.nodes }
         ensures bounds { IfOk result (λ z. is_from (Some lo) z ≡ true) }
         ensures gives { IsTrue K.told → Gives K.limit K.whole (λ x. x) result (spot self.new.bits.position self.new.nodes) self.new.stop self.new.bits.taken
-            (from_at true lo) (spot self.old.bits.position self.old.nodes) }
+            (from_at V.ALIGNED lo) (spot self.old.bits.position self.old.nodes) }
         ensures failed { IsErrOf result Fault.Failed → HasRisen K.faults (S.faults self.new.bits.source.now) }
     {
         let more = self.octet_count()?;
-        self.from_octets(alloc, lo, more)
+        self.from_octets(lo, more)
     }
 
     // The octets of a number in two's complement, one and so many more.
     #[tactic(auto, unfolding(per_fields::specs::Fields::signed_octets_at))]
-    fn signed_octets(&mut self, alloc: Global, hi: Option<i128>, more: u32) -> Result<i128, Fault>
+    fn signed_octets(&mut self, hi: Option<i128>, more: u32) -> Result<i128, Fault>
         requires few { more ≤ 15 }
         requires in_step { IsInStep self.old.bits.position self.old.bits.taken }
-        requires aligned { self.old.bits.position % 8 ≡ 0 }
         ensures same_reference { self.new.bits.source.ghost_name ≡ self.old.bits.source.ghost_name }
         ensures on { OnOk result (GoesOn self.old.bits.position self.new.bits.position self.new.bits.taken) }
         ensures nodes { self.new.nodes ≡ self.old.nodes }
@@ -113,7 +110,7 @@ impl<'a, S: Source, K: Origin> Run<'a, S, K> {
         ensures failed { IsErrOf result Fault.Failed → HasRisen K.faults (S.faults self.new.bits.source.now) }
     {
         let begin = self.position();
-        let x = self.take_number(alloc, more + 1)?;
+        let x = self.take_wide(begin, 8 * (more + 1))?;
         let z = signed_of(x, more);
         if more_signed(z) < more {
             return Err(self.stopped(begin, Why::NotShortest));
@@ -126,24 +123,24 @@ impl<'a, S: Source, K: Origin> Run<'a, S, K> {
 
     // A number without a least one.
     #[tactic(auto, unfolding(per_fields::specs::Fields::signed_at))]
-    fn signed(&mut self, alloc: Global, hi: Option<i128>) -> Result<i128, Fault>
+    fn signed(&mut self, hi: Option<i128>) -> Result<i128, Fault>
         requires in_step { IsInStep self.old.bits.position self.old.bits.taken }
         ensures same_reference { self.new.bits.source.ghost_name ≡ self.old.bits.source.ghost_name }
         ensures on { OnOk result (GoesOn self.old.bits.position self.new.bits.position self.new.bits.taken) }
         ensures nodes { self.new.nodes ≡ self.old.nodes }
         ensures bounds { IfOk result (λ z. is_to hi z ≡ true) }
         ensures gives { IsTrue K.told → Gives K.limit K.whole (λ x. x) result (spot self.new.bits.position self.new.nodes) self.new.stop self.new.bits.taken
-            (signed_at true hi) (spot self.old.bits.position self.old.nodes) }
+            (signed_at V.ALIGNED hi) (spot self.old.bits.position self.old.nodes) }
         ensures failed { IsErrOf result Fault.Failed → HasRisen K.faults (S.faults self.new.bits.source.now) }
     {
         let more = self.octet_count()?;
-        self.signed_octets(alloc, hi, more)
+        self.signed_octets(hi, more)
     }
 
     // A number between two.
     #[tactic(auto, unfolding(per_fields::specs::Fields::ranged_at))]
     #[inline(always)]
-    fn ranged(&mut self, alloc: Global, lo: i128, hi: i128) -> Result<i128, Fault>
+    fn ranged(&mut self, lo: i128, hi: i128) -> Result<i128, Fault>
         requires bounds { AreBounds (Some lo) (Some hi) }
         requires in_step { IsInStep self.old.bits.position self.old.bits.taken }
         ensures same_reference { self.new.bits.source.ghost_name ≡ self.old.bits.source.ghost_name }
@@ -151,10 +148,10 @@ impl<'a, S: Source, K: Origin> Run<'a, S, K> {
         ensures nodes { self.new.nodes ≡ self.old.nodes }
         ensures bounds { IfOk result (λ z. (is_from (Some lo) z ≡ true) × (is_to (Some hi) z ≡ true)) }
         ensures gives { IsTrue K.told → Gives K.limit K.whole (λ x. x) result (spot self.new.bits.position self.new.nodes) self.new.stop self.new.bits.taken
-            (ranged_at true lo hi) (spot self.old.bits.position self.old.nodes) }
+            (ranged_at V.ALIGNED lo hi) (spot self.old.bits.position self.old.nodes) }
         ensures failed { IsErrOf result Fault.Failed → HasRisen K.faults (S.faults self.new.bits.source.now) }
     {
-        let x = self.number(alloc, distance(lo, hi))?;
+        let x = self.number(distance(lo, hi))?;
         match raised(lo, x) {
             Some(z) => Ok(z),
             None => unreachable!(),
@@ -166,7 +163,6 @@ impl<'a, S: Source, K: Origin> Run<'a, S, K> {
     #[inline(always)]
     pub(crate) fn whole(
         &mut self,
-        alloc: Global,
         lo: Option<i128>,
         hi: Option<i128>,
     ) -> Result<i128, Fault>
@@ -177,13 +173,13 @@ impl<'a, S: Source, K: Origin> Run<'a, S, K> {
         ensures nodes { self.new.nodes ≡ self.old.nodes }
         ensures bounds { IfOk result (λ z. (is_from lo z ≡ true) × (is_to hi z ≡ true)) }
         ensures gives { IsTrue K.told → Gives K.limit K.whole (λ x. x) result (spot self.new.bits.position self.new.nodes) self.new.stop self.new.bits.taken
-            (whole_at true lo hi) (spot self.old.bits.position self.old.nodes) }
+            (whole_at V.ALIGNED lo hi) (spot self.old.bits.position self.old.nodes) }
         ensures failed { IsErrOf result Fault.Failed → HasRisen K.faults (S.faults self.new.bits.source.now) }
     {
         match (lo, hi) {
-            (Some(lo), Some(hi)) => self.ranged(alloc, lo, hi),
-            (Some(lo), None) => self.from(alloc, lo),
-            (None, hi) => self.signed(alloc, hi),
+            (Some(lo), Some(hi)) => self.ranged(lo, hi),
+            (Some(lo), None) => self.from(lo),
+            (None, hi) => self.signed(hi),
         }
     }
 }

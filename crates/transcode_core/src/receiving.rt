@@ -13,14 +13,13 @@ ghost use Rattle.transcode_core.specs.Causes.{OneRead, TakesItsField, IsOfInput}
 
 use crate::opened::RootModule;
 use command_line::{Outcome, Syntax};
-use doc_write::write_document;
 use per_decode::{DecodeError, decode};
 use per_stops::stops_first;
 use simple_types::Value;
 use sound_items::items_are_sound;
 use std::alloc::Global;
 use xa_base::{Failed, Source};
-use xer_write::items_of;
+use xer_write::text_of;
 
 /// The greatest length of an encoding, in octets.
 const LIMIT: u64 = 16_777_216;
@@ -95,10 +94,7 @@ fn write_value(alloc: Global, typed: &RootModule, value: &Value) -> Result<Vec<u
     ensures stage { IfErr result IsOfInput }
 {
     items_are_sound();
-    let Ok(items) = items_of(alloc, &typed.module, typed.number, value) else {
-        return Err(Outcome::OutOfMemory);
-    };
-    match write_document(alloc, &items) {
+    match text_of(alloc, &typed.module, typed.number, value) {
         Ok(text) => Ok(text),
         Err(_) => Err(Outcome::OutOfMemory),
     }

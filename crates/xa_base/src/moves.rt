@@ -2,7 +2,7 @@
 ghost use Rattle.std.specs.Prelude.{◌≡◌, ℕ, ◌+◌, ◌^◌, ◌<◌, ◌≤◌, length, IsErrOf, IfOk, OnOk, OnErr, IsErr};
 ghost use Rattle.std.specs.Io.KnownBytes.{Consumes, Appends, IsAtEnd};
 ghost use Rattle.xa_base.specs.Faults.{Counts};
-ghost use Rattle.xa_base.specs.Bytes.{TakesSome, TakesFirst, AppendsFront};
+ghost use Rattle.xa_base.specs.Bytes.{TakesSome, TakesFirst, AppendsFront, LeavesRoom, LacksRoom};
 
 use crate::sinks::Sink;
 use crate::sources::{Failed, Source};
@@ -57,6 +57,9 @@ pub fn write_all<K: Sink>(sink: &mut K, piece: &[u8]) -> Result<(), Failed>
     ensures ok { OnOk result (Appends (K.written sink.old) (K.written sink.new) piece.now) }
     ensures prefix { OnErr result (AppendsFront (K.written sink.old) (K.written sink.new) piece.now) }
     ensures cause { Counts (K.faults sink.old) (K.faults sink.new) (IsErr result) }
+    // Where the room is told, it fails only where the piece is longer.
+    ensures leaves { OnOk result (LeavesRoom (K.free sink.old) (K.free sink.new) (length piece.now)) }
+    ensures lacks { OnErr result (LacksRoom (K.free sink.old) (length piece.now)) }
 {
     let mut done = 0;
     while done < piece.len() {

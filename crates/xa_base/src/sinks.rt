@@ -1,7 +1,8 @@
 //! Where bytes go.
-ghost use Rattle.std.specs.Prelude.{◌≡◌, ◌⊎◌, ℕ, ◌+◌, ◌-◌, ◌^◌, ◌<◌, ◌≤◌, ◌↔◌, [], min, List, length, take, Option, Some, IsErr, is_err, IfOk, OnOk, OnErr, All, Contains};
+ghost use Rattle.std.specs.Prelude.{◌≡◌, ◌⊎◌, ℕ, ◌+◌, ◌-◌, ◌^◌, ◌<◌, ◌≤◌, ◌↔◌, [], min, List, length, take, Option, Some, None, IsErr, is_err, IfOk, OnOk, OnErr, All, Contains};
 ghost use Rattle.std.specs.Io.KnownBytes.{WriteAppends};
 ghost use Rattle.xa_base.specs.Faults.{Counts, count_after, one_more};
+ghost use Rattle.xa_base.specs.Bytes.{LeavesRoom, IsFull};
 ghost use Rattle.xa_base.specs.States.{piece_of, later_pieces};
 
 use crate::sources::{Failed, piece_at};
@@ -17,13 +18,18 @@ pub trait Sink {
     /// How often it has failed. At 2^64 - 1 the count stands.
     ghost faults: { Self → ℕ };
 
+    /// How many bytes there is room for, where the sink tells it and fails only where it is full.
+    ghost free: { Self → Option ℕ };
+
     /// Appends a front of the piece, and tells how many bytes: at least one where the piece has one. After a fault
-    /// the bytes written are as before.
+    /// the bytes written and the room are as before.
     fn write(&mut self, piece: &[u8]) -> Result<usize, Failed>
         ensures most { IfOk result (λ n. n ≤ length piece.now) }
         ensures some { IfOk result (λ n. 0 < length piece.now → 0 < n) }
         ensures bytes { WriteAppends (written self.old) (written self.new) result piece.now }
-        ensures cause { Counts (faults self.old) (faults self.new) (IsErr result) };
+        ensures cause { Counts (faults self.old) (faults self.new) (IsErr result) }
+        ensures leaves { IfOk result (λ n. LeavesRoom (free self.old) (free self.new) n) }
+        ensures full { OnErr result (IsFull (free self.old) × LeavesRoom (free self.old) (free self.new) 0) };
 }
 
 /// A sink in memory with a fixed room, that fails only where it is full.
@@ -86,11 +92,16 @@ impl Sink for SureSink {
 
     ghost faults = { λ s. s.faults };
 
+    ghost free = { λ s. Some (s.room - length s.written) };
+
     fn write(&mut self, piece: &[u8]) -> Result<usize, Failed>
         ensures most { IfOk result (λ n. n ≤ length piece.now) }
         ensures some { IfOk result (λ n. 0 < length piece.now → 0 < n) }
         ensures bytes { WriteAppends (Some self.old.written) (Some self.new.written) result piece.now }
         ensures cause { Counts self.old.faults self.new.faults (IsErr result) }
+        ensures leaves { IfOk result (λ n. LeavesRoom (Some (self.old.room - length self.old.written)) (Some (self.new.room - length self.new.written)) n) }
+        ensures full { OnErr result (IsFull (Some (self.old.room - length self.old.written))
+            × LeavesRoom (Some (self.old.room - length self.old.written)) (Some (self.new.room - length self.new.written)) 0) }
         // It fails just where it is full, and counts each fault.
         ensures fails { IsErr result ↔ ((length self.old.written ≡ self.old.room) × (0 < length piece.now)) }
         ensures faults { self.new.faults ≡ count_after (is_err result) self.old.faults }
@@ -171,11 +182,16 @@ impl Sink for MemorySink {
 
     ghost faults = { λ s. s.faults };
 
+    // It may fail with room left.
+    ghost free = { λ _. None };
+
     fn write(&mut self, piece: &[u8]) -> Result<usize, Failed>
         ensures most { IfOk result (λ n. n ≤ length piece.now) }
         ensures some { IfOk result (λ n. 0 < length piece.now → 0 < n) }
         ensures bytes { WriteAppends (Some self.old.written) (Some self.new.written) result piece.now }
         ensures cause { Counts self.old.faults self.new.faults (IsErr result) }
+        ensures leaves { IfOk result (λ n. LeavesRoom None None n) }
+        ensures full { OnErr result (IsFull None × LeavesRoom None None 0) }
         // It fails just at the calls with the numbers and where it is full, and counts each fault.
         ensures fails { IsErr result ↔ (Contains self.old.fails (one_more self.old.calls) ⊎ ((length self.old.written ≡ self.old.room) × (0 < length piece.now))) }
         ensures faults { self.new.faults ≡ count_after (is_err result) self.old.faults }

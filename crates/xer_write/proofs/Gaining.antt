@@ -1,13 +1,12 @@
 -- What stands in an element, one thing after another.
-use Rattle.std.proofs.Common.{◌≡◌, ℕ, zero, suc, ◌+◌, ◌<◌, Bool, true, false, List, [], ◌∷◌, ◌++◌, length, drop, refl, sym, ◌∙◌, ap, subst, append_assoc, length-append, arith, IsUtf8}
-use Rattle.std.specs.Prelude.{◌==◌, map, Result, Ok, Err, OnOk}
+use Rattle.std.proofs.Common.{◌≡◌, ℕ, zero, suc, ◌+◌, ◌<◌, Bool, true, false, List, [], ◌∷◌, ◌++◌, length, drop, refl, sym, ◌∙◌, ap, subst, append_assoc, length-append, arith, IsUtf8, rules}
+use Rattle.std.proofs.lemmas.Str.{IsUtf8-from_ascii}
+use Rattle.std.specs.Prelude.{◌==◌, map, codes, Result, Ok, Err, OnOk}
 use Rattle.std.proofs.lemmas.Bool.{eqb-true}
 use Rattle.std.proofs.lemmas.List.{append-nil, drop-map, length-map, length_push, same_from_push}
 use Rattle.xa_base.specs.declared.texts.Name.{Name}
 use Rattle.label_tree.specs.Rose.{Rose, node, Roses, none, more, roses_of}
 use Rattle.label_tree.proofs.Roses.{roses_of-list_of}
-use Rattle.flat_tree.specs.Zips.{Zip, Above, added, added_all, closed}
-use Rattle.item_tree.specs.Building.{listed, listed_in}
 use Rattle.simple_types.specs.declared.labels.ValueLabel.{ValueLabel}
 use Rattle.item_tree.specs.declared.label.ItemLabel.{ItemLabel}
 use Rattle.item_tree.specs.declared.label.ItemLabel.TheVariants.{Element, Text}
@@ -18,7 +17,10 @@ use Rattle.xer_write.specs.declared.contents.Contents.{Contents}
 use Rattle.xer_write.specs.declared.contents.Outer.{Outer}
 use Rattle.plain_items.specs.Unplaced.{unplaced, all_unplaced}
 use Rattle.xer_write.specs.Private.Utf8.{AreUtf8, ItemIsUtf8, ItemsAreUtf8}
-use Rattle.xer_write.specs.Private.Gaining.{items_in, value_text, levels, Puts, GainsIn, Gains, MakesRoom, Opens, text_item, text_at, first_text, with_texts_before, through, left_behind}
+use Rattle.xer_write.specs.declared.receiver.Receiver.{Receiver}
+use Rattle.xer_write.specs.Private.Receiving.{Tells, Opens, IsOpen, Closes}
+use Rattle.xer_write.proofs.Receiving.{tells-none, tells-both, tells-element, still-open}
+use Rattle.xer_write.specs.Private.Gaining.{items_in, value_text, levels, Puts, GainsIn, Gains, MakesRoom, TakesElement, Begins, text_item, text_at, first_text, with_texts_before, through, left_behind}
 use Rattle.xer_write.specs.Private.Giving.{mixed_gives}
 
 pub items_in-joined : (a b : Roses Plain) → items_in (joined a b) ≡ items_in a ++ items_in b
@@ -134,102 +136,102 @@ pub items_utf8-front : (a b : List (Rose ItemLabel)) → ItemsAreUtf8 (roses_of 
 items_utf8-front [] b u = (tt, u)
 items_utf8-front (x ∷ a) b u = let rest = items_utf8-front a b u.1 in ((u.0, rest.0), rest.1)
 
+pub true-utf8 : IsUtf8 (codes "true")
+true-utf8 = IsUtf8-from_ascii (codes "true") (search rules)
+
 -- ---- items that were put
 
-nothing_more : (z : Zip ItemLabel) → z ≡ added_all [] z
-nothing_more z = ap (λ ks. record { above = z.above; kids = ks }) (sym (append-nil z.kids))
-
-pub puts-none : (ls : List (List (List ℕ))) (z : Zip ItemLabel) → Puts ls ls z z []
-puts-none ls z = record {
+pub puts-none : (ls : List (List (List ℕ))) (r : Receiver) → Puts ls ls r r [] []
+puts-none ls r = record {
   texts = sym (left-none ls);
-  builder = nothing_more z ∙ ap (λ s. added_all s z) (sym (through-none ls));
+  told = subst (Tells r r []) (sym (through-none ls)) (tells-none r);
   utf8 = subst (λ s. ItemsAreUtf8 (roses_of s)) (sym (through-none ls)) tt;
 }
 
-pub puts-both : (ks ls ms : List (List (List ℕ))) (a b c : Zip ItemLabel) (items others : List (Rose ItemLabel)) → Puts ks ls a b items → Puts ls ms b c others → Puts ks ms a c (items ++ others)
-puts-both ks ls ms a b c items others one other =
+pub puts-both : (ks ls ms : List (List (List ℕ))) (a b c : Receiver) (xs ys : List (Name × List ℕ)) (items others : List (Rose ItemLabel)) → Puts ks ls a b xs items → Puts ls ms b c ys others → Puts ks ms a c (xs ++ ys) (items ++ others)
+puts-both ks ls ms a b c xs ys items others one other =
     let first = through ks items in
     let second : through ls others ≡ through (left_behind ks items) others = ap (λ x. through x others) one.texts in
     let all : first ++ through ls others ≡ through ks (items ++ others) = ap (λ s. first ++ s) second ∙ sym (through-append ks items others) in
     record {
       texts = other.texts ∙ ap (λ x. left_behind x others) one.texts ∙ sym (left-append ks items others);
-      builder = other.builder ∙ ap (added_all (through ls others)) one.builder
-          ∙ ap (λ s. record { above = a.above; kids = s }) (append_assoc a.kids first (through ls others))
-          ∙ ap (λ s. added_all s a) all;
+      told = subst (Tells a c (xs ++ ys)) all (tells-both a b c xs ys first (through ls others) one.told other.told);
       utf8 = subst (λ s. ItemsAreUtf8 (roses_of s)) all (items_utf8-append first (through ls others) one.utf8 other.utf8);
     }
 
-pub puts-as : (ks ls : List (List (List ℕ))) (a b : Zip ItemLabel) (items others : List (Rose ItemLabel)) → items ≡ others → Puts ks ls a b items → Puts ks ls a b others
-puts-as ks ls a b items others same puts = subst (Puts ks ls a b) same puts
+pub puts-as : (ks ls : List (List (List ℕ))) (a b : Receiver) (xs : List (Name × List ℕ)) (items others : List (Rose ItemLabel)) → items ≡ others → Puts ks ls a b xs items → Puts ks ls a b xs others
+puts-as ks ls a b xs items others same puts = subst (Puts ks ls a b xs) same puts
 
-puts-same : (ks ks2 ls ls2 : List (List (List ℕ))) (a a2 b b2 : Zip ItemLabel) (items : List (Rose ItemLabel)) → ks ≡ ks2 → ls ≡ ls2 → a ≡ a2 → b ≡ b2 → Puts ks ls a b items → Puts ks2 ls2 a2 b2 items
-puts-same ks ks2 ls ls2 a a2 b b2 items ek el ea eb puts =
-    subst (λ x. Puts x ls2 a2 b2 items) ek (subst (λ x. Puts ks x a2 b2 items) el (subst (λ x. Puts ks ls x b2 items) ea (subst (λ x. Puts ks ls a x items) eb puts)))
-
--- one item where no texts are due
-pub puts-one : (a : Zip ItemLabel) (item : Rose ItemLabel) → ItemIsUtf8 item → Puts [] [] a (added item a) (item ∷ [])
-puts-one a item u = record { texts = refl; builder = refl; utf8 = (u, tt) }
+pub puts-same : (ks ks2 ls ls2 : List (List (List ℕ))) (a a2 b : Receiver) (xs : List (Name × List ℕ)) (items : List (Rose ItemLabel)) → ks ≡ ks2 → ls ≡ ls2 → a ≡ a2 → Puts ks ls a b xs items → Puts ks2 ls2 a2 b xs items
+puts-same ks ks2 ls ls2 a a2 b xs items ek el ea puts =
+    subst (λ x. Puts x ls2 a2 b xs items) ek (subst (λ x. Puts ks x a2 b xs items) el (subst (λ x. Puts ks ls x b xs items) ea puts))
 
 -- the texts of one more level: the one that is next stands before the item
-pub puts-inner : (ks ls : List (List (List ℕ))) (texts : List (List ℕ)) (a b : Zip ItemLabel) (item : Rose ItemLabel) → Puts ks ls a b (text_item (first_text texts) ++ item ∷ [])
-    → Puts (ks ++ texts ∷ []) (ls ++ drop 1 texts ∷ []) a b (item ∷ [])
+pub puts-inner : (ks ls : List (List (List ℕ))) (texts : List (List ℕ)) (a b : Receiver) (item : Rose ItemLabel) → Puts ks ls a b [] (text_item (first_text texts) ++ item ∷ [])
+    → Puts (ks ++ texts ∷ []) (ls ++ drop 1 texts ∷ []) a b [] (item ∷ [])
 puts-inner ks ls texts a b item puts =
     let same : text_item (first_text texts) ++ item ∷ [] ≡ with_texts_before texts (item ∷ []) = ap (λ s. s ++ item ∷ []) (text_item-first texts) ∙ sym (with_one texts item) in
     let all : through ks (text_item (first_text texts) ++ item ∷ []) ≡ through (ks ++ texts ∷ []) (item ∷ []) = ap (through ks) same ∙ sym (through-last ks texts (item ∷ [])) in
     record {
       texts = ap (λ s. s ++ drop 1 texts ∷ []) (puts.texts ∙ ap (left_behind ks) same) ∙ sym (left-last ks texts (item ∷ []));
-      builder = puts.builder ∙ ap (λ s. added_all s a) all;
+      told = subst (Tells a b []) all puts.told;
       utf8 = subst (λ s. ItemsAreUtf8 (roses_of s)) all puts.utf8;
     }
 
 -- what was put into a mixed type, and the text behind it
-pub puts-mixed : (ks ms : List (List (List ℕ))) (texts : List (List ℕ)) (a b c : Zip ItemLabel) (kids : Roses Plain)
-    → Puts (ks ++ texts ∷ []) (left_behind ks (with_texts_before texts (items_in kids)) ++ drop (length (items_in kids)) texts ∷ []) a b (items_in kids)
-    → Puts (left_behind ks (with_texts_before texts (items_in kids))) ms b c (text_item (first_text (drop (length (items_in kids)) texts)))
-    → Puts ks ms a c (items_in (interleaved texts kids))
-puts-mixed ks ms texts a b c kids inner last =
+pub puts-mixed : (ks ms : List (List (List ℕ))) (texts : List (List ℕ)) (a b c : Receiver) (xs : List (Name × List ℕ)) (kids : Roses Plain)
+    → Puts (ks ++ texts ∷ []) (left_behind ks (with_texts_before texts (items_in kids)) ++ drop (length (items_in kids)) texts ∷ []) a b xs (items_in kids)
+    → Puts (left_behind ks (with_texts_before texts (items_in kids))) ms b c [] (text_item (first_text (drop (length (items_in kids)) texts)))
+    → Puts ks ms a c xs (items_in (interleaved texts kids))
+puts-mixed ks ms texts a b c xs kids inner last =
     let items = items_in kids in
     let before = with_texts_before texts items in
     let out : through (ks ++ texts ∷ []) items ≡ through ks before = through-last ks texts items in
-    let first : Puts ks (left_behind ks before) a b before = record {
+    let first : Puts ks (left_behind ks before) a b xs before = record {
       texts = refl;
-      builder = inner.builder ∙ ap (λ s. added_all s a) out;
+      told = subst (Tells a b xs) out inner.told;
       utf8 = subst (λ s. ItemsAreUtf8 (roses_of s)) out inner.utf8;
     } in
     let behind : text_item (first_text (drop (length items) texts)) ≡ text_at texts (length items) = text_item-first (drop (length items) texts) ∙ text_at-drop (length items) texts in
-    puts-as ks ms a c (before ++ text_item (first_text (drop (length items) texts))) (items_in (interleaved texts kids))
+    puts-as ks ms a c xs (before ++ text_item (first_text (drop (length items) texts))) (items_in (interleaved texts kids))
     (ap (λ s. before ++ s) behind ∙ sym (interleaved-is texts kids))
-    (puts-both ks (left_behind ks before) ms a b c before (text_item (first_text (drop (length items) texts))) first last)
-
-pub still_open : (xs : List (Name × List ℕ)) (ys : List (List ℕ × List ℕ)) (up : List (Above ItemLabel)) → 0 < length up → 0 < length (listed_in xs ys up)
-still_open xs ys [] some = some
-still_open xs ys (a ∷ up) some = some
+    (subst (λ ys. Puts ks ms a c ys (before ++ text_item (first_text (drop (length items) texts)))) (append-nil xs)
+    (puts-both ks (left_behind ks before) ms a b c xs [] before (text_item (first_text (drop (length items) texts))) first last))
 
 -- ---- what was gained
 
 pub gains-nothing : (c : Contents) → Gains c c nothing
-gains-nothing c = record { attributes = sym (append-nil c.attributes.items); puts = puts-none (levels c) c.builder.zip; utf8 = tt }
+gains-nothing c = record { puts = puts-none (levels c) c.receiver; utf8 = tt }
 
 pub gains-both : (a b c : Contents) (g h : Given) → Gains a b g → Gains b c h → Gains a c (both g h)
 gains-both a b c g h one other = record {
-  attributes = other.attributes ∙ ap (λ s. s ++ h.attributes) one.attributes ∙ append_assoc a.attributes.items g.attributes h.attributes;
-  puts = puts-as (levels a) (levels c) a.builder.zip c.builder.zip (items_in g.kids ++ items_in h.kids) (items_in (joined g.kids h.kids)) (sym (items_in-joined g.kids h.kids))
-      (puts-both (levels a) (levels b) (levels c) a.builder.zip b.builder.zip c.builder.zip (items_in g.kids) (items_in h.kids) one.puts other.puts);
+  puts = puts-as (levels a) (levels c) a.receiver c.receiver (g.attributes ++ h.attributes) (items_in g.kids ++ items_in h.kids) (items_in (joined g.kids h.kids)) (sym (items_in-joined g.kids h.kids))
+      (puts-both (levels a) (levels b) (levels c) a.receiver b.receiver c.receiver g.attributes h.attributes (items_in g.kids) (items_in h.kids) one.puts other.puts);
   utf8 = are_utf8-append g.attributes h.attributes one.utf8 other.utf8;
+}
+
+-- an attribute that was told
+pub gains-attribute : (old new : Contents) (name : Name) (words : List ℕ) → levels new ≡ levels old → IsUtf8 words → Tells old.receiver new.receiver ((name, words) ∷ []) [] → Gains old new (given ((name, words) ∷ []) none)
+gains-attribute old new name words el u tells = record {
+  puts = record {
+    texts = el ∙ sym (left-none (levels old));
+    told = subst (Tells old.receiver new.receiver ((name, words) ∷ [])) (sym (through-none (levels old))) tells;
+    utf8 = subst (λ s. ItemsAreUtf8 (roses_of s)) (sym (through-none (levels old))) tt;
+  };
+  utf8 = (u, tt);
 }
 
 pub gains-empty : (c : Contents) (words : List ℕ) → (length words == 0) ≡ true → Gains c c (given [] (text_before words none))
 gains-empty c [] e = gains-nothing c
 gains-empty c (b ∷ bs) e = let none_there = eqb-true (length (b ∷ bs)) 0 e in absurd (omega (arith, none_there))
 
-pub gains-text : (old room new : Contents) (words : List ℕ) → (length words == 0) ≡ false → IsUtf8 words → MakesRoom old room → new.attributes.items ≡ room.attributes.items → levels new ≡ levels room
-    → new.builder.zip ≡ added (node (Text words 0) none) room.builder.zip → Gains old new (given [] (text_before words none))
-gains-text old room new words some u makes ea el eb =
+pub gains-text : (old room new : Contents) (words : List ℕ) → (length words == 0) ≡ false → IsUtf8 words → MakesRoom old room → levels new ≡ levels room
+    → Tells room.receiver new.receiver [] (node (Text words 0) none ∷ []) → Gains old new (given [] (text_before words none))
+gains-text old room new words some u makes el tells =
     let item = node (Text words 0) none in
     record {
-      attributes = ea ∙ makes.attributes ∙ sym (append-nil old.attributes.items);
-      puts = puts-as (levels old) (levels new) old.builder.zip new.builder.zip (item ∷ []) (text_item words) (sym (text_item-some words some))
-          (puts-same (levels old) (levels old) (levels room) (levels new) old.builder.zip old.builder.zip (added item room.builder.zip) new.builder.zip (item ∷ []) refl (sym el) refl (sym eb) (makes.puts item (u, tt)));
+      puts = puts-as (levels old) (levels new) old.receiver new.receiver [] (item ∷ []) (text_item words) (sym (text_item-some words some))
+          (subst (λ ls. Puts (levels old) ls old.receiver new.receiver [] (item ∷ [])) (sym el) (makes new.receiver item (u, tt) tells));
       utf8 = tt;
     }
 
@@ -246,46 +248,55 @@ levels-last (words ∷ outer) texts = ap (λ s. map value_text words ∷ s) (lev
 
 -- the texts of each level, from the outermost on
 pub room-made : (old popped next room new : Contents) (texts left : List (Rose ValueLabel))
-    → old.texts.items ≡ popped.texts.items ++ texts ∷ [] → popped.attributes.items ≡ old.attributes.items → popped.builder.zip ≡ old.builder.zip
+    → old.texts.items ≡ popped.texts.items ++ texts ∷ [] → popped.receiver ≡ old.receiver
     → Gains popped next (given [] (text_before (first_text (map value_text texts)) none)) → left ≡ drop 1 texts → MakesRoom next room
-    → new.texts.items ≡ room.texts.items ++ left ∷ [] → new.attributes.items ≡ room.attributes.items → new.builder.zip ≡ room.builder.zip → MakesRoom old new
-room-made old popped next room new texts left popped_texts popped_attributes popped_builder gains left_is makes new_texts new_attributes new_builder =
+    → new.texts.items ≡ room.texts.items ++ left ∷ [] → new.receiver ≡ room.receiver → MakesRoom old new
+room-made old popped next room new texts left popped_texts popped_receiver gains left_is makes new_texts new_receiver = λ after item u tells.
     let words = map value_text texts in
     let before : levels popped ++ words ∷ [] ≡ levels old = sym (ap (λ (s : List (List (Rose ValueLabel))). map (λ texts. map value_text texts) s) popped_texts ∙ levels-last popped.texts.items texts) in
-    let after : levels room ++ drop 1 words ∷ [] ≡ levels new =
+    let behind : levels room ++ drop 1 words ∷ [] ≡ levels new =
     ap (λ s. levels room ++ s ∷ []) (drop-map value_text 1 texts ∙ ap (map value_text) (sym left_is))
     ∙ sym (ap (λ (s : List (List (Rose ValueLabel))). map (λ texts. map value_text texts) s) new_texts ∙ levels-last room.texts.items left) in
-    record {
-      attributes = new_attributes ∙ makes.attributes ∙ gains.attributes ∙ append-nil popped.attributes.items ∙ popped_attributes;
-      puts = λ item u.
-          puts-same (levels popped ++ words ∷ []) (levels old) (levels room ++ drop 1 words ∷ []) (levels new) popped.builder.zip old.builder.zip (added item room.builder.zip) (added item new.builder.zip) (item ∷ [])
-          before after popped_builder (ap (added item) (sym new_builder))
-          (puts-inner (levels popped) (levels room) words popped.builder.zip (added item room.builder.zip) item
-          (puts-both (levels popped) (levels next) (levels room) popped.builder.zip next.builder.zip (added item room.builder.zip) (text_item (first_text words)) (item ∷ []) gains.puts (makes.puts item u)));
-    }
+    puts-same (levels popped ++ words ∷ []) (levels old) (levels room ++ drop 1 words ∷ []) (levels new) popped.receiver old.receiver after [] (item ∷ [])
+    before behind popped_receiver
+    (puts-inner (levels popped) (levels room) words popped.receiver after item
+    (puts-both (levels popped) (levels next) (levels room) popped.receiver next.receiver after [] [] (text_item (first_text words)) (item ∷ []) gains.puts
+    (makes after item u (subst (λ r. Tells r after [] (item ∷ [])) new_receiver tells))))
+
+-- no texts are due
+pub room-there : (old new : Contents) → levels old ≡ [] → levels new ≡ [] → new.receiver ≡ old.receiver → MakesRoom old new
+room-there old new eo en er = λ after item u tells.
+    puts-same [] (levels old) [] (levels new) old.receiver old.receiver after [] (item ∷ []) (sym eo) (sym en) refl
+    (record { texts = refl; told = subst (λ r. Tells r after [] (item ∷ [])) er tells; utf8 = (u, tt) })
 
 -- ---- elements
 
-pub element-gained : (old begun mid new : Contents) (outer : Outer) (name : Name) (g : Given) → Opens old begun name outer → Gains begun mid g
-    → new.builder.zip ≡ closed (listed mid.attributes.items [] mid.builder.zip) → new.attributes.items ≡ outer.attributes.items → new.texts.items ≡ outer.texts.items
-    → Gains old new (given [] (more (element_of name g) none))
-element-gained old begun mid new outer name g opens gains eb ea et =
+pub begun : (old room new : Contents) (outer : Outer) (name : Name) → MakesRoom old room → outer.texts.items ≡ room.texts.items → new.texts.items ≡ [] → Opens room.receiver new.receiver name outer.tag → Begins old new name outer
+begun old room new outer name makes eo en opens = record {
+  texts = en;
+  outside = room.receiver;
+  opens = opens;
+  puts = λ after item u tells.
+      subst (λ (s : List (List (Rose ValueLabel))). Puts (levels old) (map (λ texts. map value_text texts) s) old.receiver after [] (item ∷ [])) (sym eo) (makes after item u tells);
+}
+
+inner-puts : (old begun mid : Contents) (outer : Outer) (name : Name) (g : Given) → Begins old begun name outer → Gains begun mid g → Puts [] (levels mid) begun.receiver mid.receiver g.attributes (items_in g.kids)
+inner-puts old begun mid outer name g begins gains =
+    subst (λ ls. Puts ls (levels mid) begun.receiver mid.receiver g.attributes (items_in g.kids)) (ap (λ (s : List (List (Rose ValueLabel))). map (λ texts. map value_text texts) s) begins.texts) gains.puts
+
+pub element-gained : (old begun mid new : Contents) (outer : Outer) (name : Name) (g : Given) → Begins old begun name outer → Gains begun mid g
+    → Closes outer.tag mid.receiver new.receiver → new.texts.items ≡ outer.texts.items → Gains old new (given [] (more (element_of name g) none))
+element-gained old begun mid new outer name g begins gains closes et =
     let items = items_in g.kids in
     let top = unplaced (element_of name g) in
-    let outside = opens.outside in
-    let none_before : levels begun ≡ [] = ap (λ (s : List (List (Rose ValueLabel))). map (λ texts. map value_text texts) s) opens.texts in
-    let inner : Puts [] (levels mid) begun.builder.zip mid.builder.zip items = subst (λ ls. Puts ls (levels mid) begun.builder.zip mid.builder.zip items) none_before gains.puts in
-    let attributes : mid.attributes.items ≡ g.attributes = gains.attributes ∙ ap (λ s. s ++ g.attributes) opens.attributes in
-    let built : new.builder.zip ≡ added (node (Element name mid.attributes.items [] 0) (roses_of items)) outside =
-    eb ∙ ap (λ z. closed (listed mid.attributes.items [] z)) (inner.builder ∙ ap (added_all items) opens.builder) in
-    let same : node (Element name mid.attributes.items [] 0) (roses_of items) ≡ top =
-    ap (λ s. node (Element name s [] 0) (roses_of items)) attributes ∙ ap (λ s. node (Element name g.attributes [] 0) s) (roses_of-list_of (all_unplaced g.kids)) in
+    let outside = begins.outside in
+    let inner = inner-puts old begun mid outer name g begins gains in
+    let whole = tells-element outside begun.receiver mid.receiver new.receiver name outer.tag g.attributes items begins.opens inner.told closes in
+    let same : node (Element name g.attributes [] 0) (roses_of items) ≡ top = ap (λ s. node (Element name g.attributes [] 0) s) (roses_of-list_of (all_unplaced g.kids)) in
     let utf8 : ItemIsUtf8 top = (gains.utf8, subst ItemsAreUtf8 (roses_of-list_of (all_unplaced g.kids)) inner.utf8) in
-    let left : map (λ texts. map value_text texts) outer.texts.items ≡ levels new = sym (ap (λ (s : List (List (Rose ValueLabel))). map (λ texts. map value_text texts) s) et) in
     record {
-      attributes = ea ∙ opens.outer_attributes ∙ sym (append-nil old.attributes.items);
-      puts = puts-same (levels old) (levels old) (map (λ texts. map value_text texts) outer.texts.items) (levels new) old.builder.zip old.builder.zip (added top outside) new.builder.zip (top ∷ [])
-          refl left refl (sym (built ∙ ap (λ t. added t outside) same)) (opens.puts top utf8);
+      puts = subst (λ (s : List (List (Rose ValueLabel))). Puts (levels old) (map (λ texts. map value_text texts) s) old.receiver new.receiver [] (top ∷ [])) (sym et)
+          (begins.puts new.receiver top utf8 (subst (λ t. Tells outside new.receiver [] (t ∷ [])) same whole));
       utf8 = tt;
     }
 
@@ -298,37 +309,36 @@ text_item-empty [] e = refl
 text_item-empty (b ∷ bs) e = let none_there = eqb-true (length (b ∷ bs)) 0 e in absurd (omega (arith, none_there))
 
 -- an element in which just a text stands
-pub text-element-gained : (old room new : Contents) (name : Name) (words : List ℕ) → IsUtf8 words → MakesRoom old room → new.attributes.items ≡ room.attributes.items → levels new ≡ levels room
-    → new.builder.zip ≡ added (node (Element name [] [] 0) (roses_of (text_item words))) room.builder.zip
+pub text-element-gained : (old room new : Contents) (name : Name) (words : List ℕ) → IsUtf8 words → MakesRoom old room → levels new ≡ levels room
+    → TakesElement room.receiver new.receiver name [] (text_item words)
     → Gains old new (given [] (more (element_of name (given [] (text_before words none))) none))
-text-element-gained old room new name words u makes ea el eb =
+text-element-gained old room new name words u makes el takes =
     let top = unplaced (element_of name (given [] (text_before words none))) in
     let same : node (Element name [] [] 0) (roses_of (text_item words)) ≡ top =
     ap (λ s. node (Element name [] [] 0) s) (roses_of-list_of (all_unplaced (text_before words none))) in
     record {
-      attributes = ea ∙ makes.attributes ∙ sym (append-nil old.attributes.items);
-      puts = puts-same (levels old) (levels old) (levels room) (levels new) old.builder.zip old.builder.zip (added top room.builder.zip) new.builder.zip (top ∷ []) refl (sym el) refl
-          (sym (eb ∙ ap (λ t. added t room.builder.zip) same)) (makes.puts top (tt, text-utf8 words u));
+      puts = subst (λ ls. Puts (levels old) ls old.receiver new.receiver [] (top ∷ [])) (sym el)
+          (makes new.receiver top (tt, text-utf8 words u) (subst (λ t. Tells room.receiver new.receiver [] (t ∷ [])) same takes));
       utf8 = tt;
     }
 
-pub element-open : (old begun mid : Contents) (outer : Outer) (name : Name) (g : Given) → Opens old begun name outer → Gains begun mid g → 0 < length mid.builder.zip.above
-element-open old begun mid outer name g opens gains =
-    subst (λ (z : Zip ItemLabel). 0 < length z.above) (sym (gains.puts.builder ∙ ap (added_all (through (levels begun) (items_in g.kids))) opens.builder)) (omega arith)
+pub element-open : (old begun mid : Contents) (outer : Outer) (name : Name) (g : Given) → Begins old begun name outer → Gains begun mid g → IsOpen mid.receiver outer.tag
+element-open old begun mid outer name g begins gains =
+    let inner = inner-puts old begun mid outer name g begins gains in
+    still-open begins.outside begun.receiver mid.receiver name outer.tag g.attributes (items_in g.kids) begins.opens inner.told
 
 -- ---- mixed types
 
-pub mixed-ended : (old popped new : Contents) (texts : List (Rose ValueLabel)) → old.texts.items ≡ popped.texts.items ++ texts ∷ [] → popped.attributes.items ≡ old.attributes.items → popped.builder.zip ≡ old.builder.zip
+pub mixed-ended : (old popped new : Contents) (texts : List (Rose ValueLabel)) → old.texts.items ≡ popped.texts.items ++ texts ∷ [] → popped.receiver ≡ old.receiver
     → Gains popped new (given [] (text_before (first_text (map value_text texts)) none)) → (outer : List (List (List ℕ))) (words : List (List ℕ)) → levels old ≡ outer ++ words ∷ []
     → GainsIn outer old new (given [] (text_before (first_text words) none))
-mixed-ended old popped new texts et ea eb gains outer words is =
+mixed-ended old popped new texts et er gains outer words is =
     let there : levels old ≡ levels popped ++ map value_text texts ∷ [] = ap (λ (s : List (List (Rose ValueLabel))). map (λ texts. map value_text texts) s) et ∙ levels-last popped.texts.items texts in
     let same = same_from_push (levels popped) outer (map value_text texts) words (sym there ∙ is) in
     let next : text_item (first_text (map value_text texts)) ≡ text_item (first_text words) = ap (λ s. text_item (first_text s)) same.1 in
     record {
-      attributes = gains.attributes ∙ ap (λ s. s ++ []) ea;
-      puts = puts-as outer (levels new) old.builder.zip new.builder.zip (text_item (first_text (map value_text texts))) (text_item (first_text words)) next
-          (puts-same (levels popped) outer (levels new) (levels new) popped.builder.zip old.builder.zip new.builder.zip new.builder.zip (text_item (first_text (map value_text texts))) same.0 refl eb refl gains.puts);
+      puts = puts-as outer (levels new) old.receiver new.receiver [] (text_item (first_text (map value_text texts))) (text_item (first_text words)) next
+          (puts-same (levels popped) outer (levels new) (levels new) popped.receiver old.receiver new.receiver [] (text_item (first_text (map value_text texts))) same.0 refl er gains.puts);
       utf8 = tt;
     }
 
@@ -337,21 +347,20 @@ no-level old none_there outer words is =
     let count : length (levels old) ≡ length old.texts.items = length-map old.texts.items (λ texts. map value_text texts) in
     absurd (omega (arith, count, none_there, ap length is, length_push outer words))
 
-pub mixed-gained : (old begun mid new : Contents) (texts : List (Rose ValueLabel)) (g : Given) → begun.builder.zip ≡ old.builder.zip → begun.attributes.items ≡ old.attributes.items → begun.texts.items ≡ old.texts.items ++ texts ∷ []
+pub mixed-gained : (old begun mid new : Contents) (texts : List (Rose ValueLabel)) (g : Given) → begun.receiver ≡ old.receiver → begun.texts.items ≡ old.texts.items ++ texts ∷ []
     → Gains begun mid g → ((outer : List (List (List ℕ))) (words : List (List ℕ)) → levels mid ≡ outer ++ words ∷ [] → GainsIn outer mid new (given [] (text_before (first_text words) none)))
     → Gains old new (mixed_gives (map value_text texts) g)
-mixed-gained old begun mid new texts g eb ea et gains ends =
+mixed-gained old begun mid new texts g er et gains ends =
     let words = map value_text texts in
     let items = items_in g.kids in
     let before = with_texts_before words items in
     let level : levels begun ≡ levels old ++ words ∷ [] = ap (λ (s : List (List (Rose ValueLabel))). map (λ texts. map value_text texts) s) et ∙ levels-last old.texts.items texts in
-    let inner : Puts (levels old ++ words ∷ []) (levels mid) old.builder.zip mid.builder.zip items =
-    puts-same (levels begun) (levels old ++ words ∷ []) (levels mid) (levels mid) begun.builder.zip old.builder.zip mid.builder.zip mid.builder.zip items level refl eb refl gains.puts in
+    let inner : Puts (levels old ++ words ∷ []) (levels mid) old.receiver mid.receiver g.attributes items =
+    puts-same (levels begun) (levels old ++ words ∷ []) (levels mid) (levels mid) begun.receiver old.receiver mid.receiver g.attributes items level refl er gains.puts in
     let left : levels mid ≡ left_behind (levels old) before ++ drop (length items) words ∷ [] = inner.texts ∙ left-last (levels old) words items in
     let last = ends (left_behind (levels old) before) (drop (length items) words) left in
     record {
-      attributes = last.attributes ∙ append-nil mid.attributes.items ∙ gains.attributes ∙ ap (λ s. s ++ g.attributes) ea;
-      puts = puts-mixed (levels old) (levels new) words old.builder.zip mid.builder.zip new.builder.zip g.kids (subst (λ ls. Puts (levels old ++ words ∷ []) ls old.builder.zip mid.builder.zip items) left inner) last.puts;
+      puts = puts-mixed (levels old) (levels new) words old.receiver mid.receiver new.receiver g.attributes g.kids (subst (λ ls. Puts (levels old ++ words ∷ []) ls old.receiver mid.receiver g.attributes items) left inner) last.puts;
       utf8 = gains.utf8;
     }
 
@@ -370,6 +379,6 @@ pub on_ok : {A E : Type 0} (r : Result A E) (P Q : Type 0) → (P → Q) → OnO
 on_ok (Ok a) P Q f h = f h
 on_ok (Err e) P Q f h = tt
 
-pub on_ok-three : {A E : Type 0} (r : Result A E) (P Q S T : Type 0) → (P → Q → S → T) → OnOk r P → OnOk r Q → OnOk r S → OnOk r T
-on_ok-three (Ok a) P Q S T f p q s = f p q s
-on_ok-three (Err e) P Q S T f p q s = tt
+pub on_ok-two : {A E : Type 0} (r : Result A E) (P Q S : Type 0) → (P → Q → S) → OnOk r P → OnOk r Q → OnOk r S
+on_ok-two (Ok a) P Q S f p q = f p q
+on_ok-two (Err e) P Q S f p q = tt

@@ -1,3 +1,4 @@
+mod Receiving
 mod Gaining
 mod Giving
 mod Limits

@@ -1,6 +1,6 @@
 -- The items of a value keep what the items of a document keep: texts have no kids, elements stand within 64 levels, and
 -- there are few nodes.
-use Rattle.std.proofs.Common.{◌≡◌, ℕ, suc, ◌+◌, ◌≤◌, Bool, true, false, Option, Some, None, List, [], ◌∷◌, refl, sym, ◌∙◌, ap, subst, arith}
+use Rattle.std.proofs.Common.{◌≡◌, ℕ, suc, ◌+◌, ◌≤◌, Bool, true, false, Option, Some, None, List, [], ◌∷◌, length, refl, sym, ◌∙◌, ap, subst, arith}
 use Rattle.std.specs.Prelude.{map, slice_get, ◌&&◌, not, IsSomeAnd, IsUtf8}
 use Rattle.std.specs.Option.{option_map}
 use Rattle.std.proofs.lemmas.Str.{is_utf8-from_IsUtf8}
@@ -31,8 +31,13 @@ use Rattle.xer_items.specs.Spelling.{is_textual}
 use Rattle.asn_types.specs.Names.{name_told, name_of_part}
 use Rattle.xer_items.specs.Items.{Given, given, nothing, joined, element_of, texts_of, with_texts, completed, placed, inside, gathered, root_of, Xer}
 use Rattle.xer_write.specs.declared.contents.Contents.{Contents}
-use Rattle.flat_tree.specs.Zips.{added}
-use Rattle.flat_tree.specs.Zips.{nothing as outside}
+use Rattle.flat_tree.specs.Zips.{added_all}
+use Rattle.xer_write.specs.declared.receiver.Receiver.{Receiver}
+use Rattle.xer_write.specs.declared.receiver.Receiver.TheVariants as receiver
+use Rattle.xer_write.specs.Private.Receiving.{IsBuilder, IsBegun, IsTree, IsWholeOf, items_built, Tells}
+use Rattle.std.specs.Global.{Vec}
+use Rattle.doc_written.specs.Written.{written}
+use Rattle.xer_write.specs.Private.Giving.{HasTold}
 use Rattle.xer_write.specs.Private.Gaining.{levels, value_text, Puts, Gains}
 use Rattle.xer_items.proofs.Sizes.{nil-kids, inside-size}
 use Rattle.xer_items.specs.Sound.{HasCharacters, AreSoundAttributes, IsSoundLabel, is_text, begins_with_text, IsSound, AreSound}
@@ -196,18 +201,36 @@ root-items M t a v at value sound utf8 =
       few = omega (arith, size, same, few);
     }
 
--- as the code makes it
-pub root-made : (M : List Assignment) (a : Assignment) (v : Rose ValueLabel) (X Y : Contents) (u : Rose TypeLabel) (w : Rose ValueLabel) (name : Name)
-    → u ≡ a.body → w ≡ v → X.builder.zip ≡ outside → X.texts.items ≡ [] → name ≡ name_told a.reference a.marks
+-- as the code tells it
+pub root-told : (M : List Assignment) (a : Assignment) (v : Rose ValueLabel) (X Y : Contents) (u : Rose TypeLabel) (w : Rose ValueLabel) (name : Name)
+    → u ≡ a.body → w ≡ v → X.texts.items ≡ [] → name ≡ name_told a.reference a.marks
     → Gains X Y (given [] (more (element_of name (inside M u w)) none))
-    → (Y.builder.zip ≡ added (unplaced (root_of M a v)) outside) × ItemIsUtf8 (unplaced (root_of M a v))
-root-made M a v X Y u w name eu ew empty outer en gains =
+    → HasTold M a v X.receiver Y
+root-told M a v X Y u w name eu ew outer en gains =
     let top = unplaced (element_of name (inside M u w)) in
     let whole : top ≡ unplaced (root_of M a v) =
     ap (λ z. unplaced (element_of name (inside M z w))) eu ∙ ap (λ z. unplaced (element_of name (inside M a.body z))) ew ∙ ap (λ n. unplaced (element_of n (inside M a.body v))) en in
     let none_before : levels X ≡ [] = ap (λ (s : List (List (Rose ValueLabel))). map (λ texts. map value_text texts) s) outer in
-    let puts : Puts [] (levels Y) X.builder.zip Y.builder.zip (top ∷ []) = subst (λ ls. Puts ls (levels Y) X.builder.zip Y.builder.zip (top ∷ [])) none_before gains.puts in
-    (puts.builder ∙ ap (added top) empty ∙ ap (λ z. added z outside) whole, subst ItemIsUtf8 whole puts.utf8.0)
+    let puts : Puts [] (levels Y) X.receiver Y.receiver [] (top ∷ []) = subst (λ ls. Puts ls (levels Y) X.receiver Y.receiver [] (top ∷ [])) none_before gains.puts in
+    (subst (λ t. Tells X.receiver Y.receiver [] (t ∷ [])) whole puts.told, subst ItemIsUtf8 whole puts.utf8.0)
+
+-- what was told to a builder of items
+pub tree-told : (before after : Receiver) (top : Rose ItemLabel) → IsBuilder before → IsBegun before → Tells before after [] (top ∷ []) → IsTree after × (items_built after ≡ top ∷ [])
+tree-told (receiver.Items a) (receiver.Items b) top is begun tells =
+    let made = tells.1 ∙ ap (added_all (top ∷ [])) begun.0 in
+    ((ap (λ z. z.above) made, ap (λ z. length z.kids) made), ap (λ z. z.kids) made)
+tree-told (receiver.Items a) (receiver.Text b) top is begun tells = absurd tells
+tree-told (receiver.Text a) after top is begun tells = absurd is
+
+-- what was written of it
+pub text-told : (M : List Assignment) (a : Assignment) (v : Rose ValueLabel) (before after : Receiver) (name : Name) (out : Vec ℕ) → IsBegun before → Tells before after [] (unplaced (root_of M a v) ∷ [])
+    → name ≡ name_told a.reference a.marks → IsWholeOf after name (Some out) → out.items ≡ written (unplaced (root_of M a v))
+text-told M a v (receiver.Text x) (receiver.Text y) name out begun tells en whole =
+    let inner = inside M a.body v in
+    subst (λ n. IsWholeOf (receiver.Text y) n (Some out)) en whole x inner.attributes (all_unplaced inner.kids) begun tells
+text-told M a v (receiver.Text x) (receiver.Items y) name out begun tells en whole = absurd tells
+text-told M a v (receiver.Items x) (receiver.Text y) name out begun tells en whole = absurd tells
+text-told M a v (receiver.Items x) (receiver.Items y) name out begun tells en whole = absurd (cc)
 
 pub only-item : (x y : Rose ItemLabel) → x ∷ [] ≡ y ∷ [] → x ≡ y
 only-item x y e = cc

@@ -1,3 +1,4 @@
 pub mod Utf8
+pub mod Receiving
 pub mod Gaining
 pub mod Giving

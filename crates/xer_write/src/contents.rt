@@ -1,55 +1,41 @@
-//! Items as they are put down, and what stands in the innermost element so far.
-ghost use Rattle.std.specs.Prelude.{◌≡◌, ◌<◌, ◌∷◌, [], ◌++◌, ℕ, List, IfOk, OnOk, codes, drop, length, map};
-ghost use Rattle.label_tree.specs.Rose.{node, none, more, roses_of};
-ghost use Rattle.flat_tree.specs.Zips.{added, closed, nothing};
-ghost use Rattle.item_tree.specs.declared.label.ItemLabel.TheVariants as item;
-ghost use Rattle.item_tree.specs.Building.{listed};
+//! Items as they are told, and what stands in the innermost element so far.
+ghost use Rattle.std.specs.Prelude.{◌≡◌, ◌∷◌, [], ◌++◌, ℕ, List, IfOk, OnOk, codes, drop, map};
+ghost use Rattle.label_tree.specs.Rose.{none, more, roses_of};
 ghost use Rattle.plain_items.specs.Mixing.{text_before};
 ghost use Rattle.xer_items.specs.Items.{given, nil_name, element_of};
-ghost use Rattle.xer_write.specs.Private.Gaining.{Gains, GainsIn, MakesRoom, Opens, first_text, levels, text_item, value_text};
+ghost use Rattle.xer_write.specs.Private.Receiving.{name_seen, IsBegun, IsTree, items_built, IsWholeOf, IsOpen, Tells, Closes};
+ghost use Rattle.xer_write.specs.Private.Gaining.{Gains, GainsIn, MakesRoom, Begins, TakesElement, first_text, levels, text_item, value_text};
 
+use crate::receiver::{NameRef, Open, Receiver};
 use crate::spelling::value_text;
 use flat_tree::Kids;
-use item_tree::{ItemBuilder, ItemTree};
+use item_tree::ItemTree;
 use simple_types::ValueLabel;
 use std::alloc::Global;
 use std::iter::Iterator;
 use std::mem;
-use xa_base::{Memory, Name, Text, XSI_SPACE};
+use xa_base::{Memory, Text};
 
-// Adds a text.
-fn put_text(builder: &mut ItemBuilder, text: Text) -> Result<(), Memory>
-    ensures { OnOk result (builder.new.zip ≡ added (node (item.Text text 0) none) builder.old.zip) }
-{
-    builder.text(text, 0)?;
-    Ok(())
-}
-
-// Adds an element of this name in which a text stands, or nothing, where it is empty.
-fn put_with_text(
+// Tells an element of this name in which a text stands, or nothing, where it is empty.
+fn put_with_text<'a>(
     alloc: Global,
-    builder: &mut ItemBuilder,
-    name: Name,
+    receiver: &mut Receiver<'a>,
+    name: NameRef<'a>,
     text: Text,
 ) -> Result<(), Memory>
-    ensures { OnOk result (builder.new.zip ≡ added (node (item.Element name [] [] 0) (roses_of (text_item text))) builder.old.zip) }
+    ensures { OnOk result (TakesElement receiver.old receiver.new (name_seen name.entry) [] (text_item text)) }
 {
-    if text.bytes().is_empty() {
-        let _ = builder.element(name, Vec::new(alloc), Vec::new(alloc), 0)?;
-        return Ok(());
+    let tag = receiver.open(alloc, name)?;
+    if !text.bytes().is_empty() {
+        receiver.put_text(text)?;
     }
-    let _ = builder.open_element(name, Vec::new(alloc), Vec::new(alloc), 0)?;
-    put_text(builder, text)?;
-    builder.close();
-    Ok(())
+    receiver.close(alloc, tag)
 }
 
-/// The items so far, with the attributes of the innermost open element, and the texts that are to stand before its
-/// next items.
+/// What takes the items so far, and the texts that are to stand before the next of them.
 #[derive(Drop)]
 pub(crate) struct Contents<'a> {
-    builder: ItemBuilder,
-    attributes: Vec<(Name, Text)>,
+    receiver: Receiver<'a>,
     // Of each mixed type of which a value is being put into the element the texts that are left, of the innermost last.
     texts: Vec<Kids<'a, ValueLabel>>,
 }
@@ -57,50 +43,60 @@ pub(crate) struct Contents<'a> {
 /// What an element has so far, while one in it is open.
 #[derive(Drop)]
 pub(crate) struct Outer<'a> {
-    attributes: Vec<(Name, Text)>,
+    tag: Open<'a>,
     texts: Vec<Kids<'a, ValueLabel>>,
 }
 
 impl<'a> Contents<'a> {
     /// Nothing so far.
-    pub(crate) fn new(alloc: Global) -> Contents<'a>
-        ensures builder { result.builder.zip ≡ nothing }
+    pub(crate) fn new(alloc: Global, receiver: Receiver<'a>) -> Contents<'a>
+        ensures receiver { result.receiver ≡ receiver.entry }
         ensures texts { result.texts.items ≡ [] }
     {
         Contents {
-            builder: ItemBuilder::new(alloc),
-            attributes: Vec::new(alloc),
+            receiver,
             texts: Vec::new(alloc),
         }
     }
 
     /// The tree, where there is one, and no element is open.
     pub(crate) fn into_tree(self) -> ItemTree
-        requires closed { self.builder.zip.above ≡ [] }
-        requires one { length self.builder.zip.kids ≡ 1 }
-        ensures { self.entry.builder.zip.kids ≡ result ∷ [] }
+        requires { IsTree self.receiver }
+        ensures { items_built self.entry.receiver ≡ result ∷ [] }
     {
-        self.builder.finish()
+        self.receiver.into_tree()
+    }
+
+    /// The text that was written of a root with this name. None where an attribute was told too late.
+    pub(crate) fn into_text(
+        self,
+        alloc: Global,
+        name: NameRef<'a>,
+    ) -> Result<Option<Vec<u8>>, Memory>
+        ensures { IfOk result (λ whole. IsWholeOf self.entry.receiver (name_seen name.entry) whole) }
+    {
+        self.receiver.into_text(alloc, name)
     }
 
     /// Adds an attribute to the innermost open element.
-    pub(crate) fn add_attribute(&mut self, name: Name, text: Text) -> Result<(), Memory>
-        ensures { OnOk result (Gains self.old self.new (given ((name, text) ∷ []) none)) }
+    pub(crate) fn add_attribute(
+        &mut self,
+        alloc: Global,
+        name: NameRef<'a>,
+        text: Text,
+    ) -> Result<(), Memory>
+        ensures { OnOk result (Gains self.old self.new (given ((name_seen name.entry, text) ∷ []) none)) }
     {
         // A text is UTF-8, as is known once it was read.
         let _ = text.as_str();
-        self.attributes.push((name, text))?;
-        Ok(())
+        self.receiver.put_attribute(alloc, name, text)
     }
 
     /// Adds `xsi:nil` with the value `true`.
     pub(crate) fn add_nil(&mut self, alloc: Global) -> Result<(), Memory>
         ensures { OnOk result (Gains self.old self.new (given ((nil_name, codes "true") ∷ []) none)) }
     {
-        let space = Text::from_str(alloc, XSI_SPACE)?;
-        let local = Text::from_str(alloc, "nil")?;
-        let text = Text::from_str(alloc, "true")?;
-        self.add_attribute(Name { space, local }, text)
+        self.receiver.put_nil(alloc)
     }
 
     /// Adds a text, unless it is empty.
@@ -112,7 +108,7 @@ impl<'a> Contents<'a> {
             return Ok(());
         }
         self.make_room(alloc)?;
-        put_text(&mut self.builder, text)
+        self.receiver.put_text(text)
     }
 
     // Adds the next of these texts, if there is one, and hands back those that are left.
@@ -151,50 +147,45 @@ impl<'a> Contents<'a> {
     pub(crate) fn add_text_element(
         &mut self,
         alloc: Global,
-        name: Name,
+        name: NameRef<'a>,
         text: Text,
     ) -> Result<(), Memory>
-        ensures { OnOk result (Gains self.old self.new (given [] (more (element_of name (given [] (text_before text none))) none))) }
+        ensures { OnOk result (Gains self.old self.new (given [] (more (element_of (name_seen name.entry) (given [] (text_before text none))) none))) }
     {
         // A text is UTF-8, as is known once it was read.
         let _ = text.as_str();
         self.make_room(alloc)?;
-        put_with_text(alloc, &mut self.builder, name, text)
+        put_with_text(alloc, &mut self.receiver, name, text)
     }
 
-    /// Begins an element of this name, which gets its attributes at its end. Hands back what the element that it stands in
-    /// has so far.
-    pub(crate) fn begin_element(&mut self, alloc: Global, name: Name) -> Result<Outer<'a>, Memory>
-        ensures { IfOk result (λ outer. Opens self.old self.new name outer) }
+    /// Begins an element of this name. Hands back what the element that it stands in has so far.
+    pub(crate) fn begin_element(
+        &mut self,
+        alloc: Global,
+        name: NameRef<'a>,
+    ) -> Result<Outer<'a>, Memory>
+        ensures { IfOk result (λ outer. Begins self.old self.new (name_seen name.entry) outer) }
     {
         self.make_room(alloc)?;
-        let _ = self
-            .builder
-            .open_element(name, Vec::new(alloc), Vec::new(alloc), 0)?;
-        let attributes = mem::replace(&mut self.attributes, Vec::new(alloc));
+        let tag = self.receiver.open(alloc, name)?;
         let texts = mem::replace(&mut self.texts, Vec::new(alloc));
-        Ok(Outer { attributes, texts })
+        Ok(Outer { tag, texts })
     }
 
-    /// Ends the innermost open element, which gets its attributes.
+    /// Ends the innermost open element.
     pub(crate) fn end_element(&mut self, alloc: Global, outer: Outer<'a>) -> Result<(), Memory>
-        requires { 0 < length self.old.builder.zip.above }
-        ensures builder { OnOk result (self.new.builder.zip ≡ closed (listed self.old.attributes.items [] self.old.builder.zip)) }
-        ensures attributes { OnOk result (self.new.attributes.items ≡ outer.entry.attributes.items) }
+        requires { IsOpen self.old.receiver outer.tag }
+        ensures receiver { OnOk result (Closes outer.entry.tag self.old.receiver self.new.receiver) }
         ensures texts { OnOk result (self.new.texts.items ≡ outer.entry.texts.items) }
     {
-        let Outer { attributes, texts } = outer;
-        let own = mem::replace(&mut self.attributes, attributes);
+        let Outer { tag, texts } = outer;
         self.texts = texts;
-        self.builder.set_lists(own, Vec::new(alloc))?;
-        self.builder.close();
-        Ok(())
+        self.receiver.close(alloc, tag)
     }
 
     /// Has these texts stand before the next items that are added, each before one, until `end_mixed`.
     pub(crate) fn begin_mixed(&mut self, texts: Kids<'a, ValueLabel>) -> Result<(), Memory>
-        ensures builder { OnOk result (self.new.builder.zip ≡ self.old.builder.zip) }
-        ensures attributes { OnOk result (self.new.attributes.items ≡ self.old.attributes.items) }
+        ensures receiver { OnOk result (self.new.receiver ≡ self.old.receiver) }
         ensures texts { OnOk result (self.new.texts.items ≡ self.old.texts.items ++ texts.entry ∷ []) }
     {
         self.texts.push(texts)?;

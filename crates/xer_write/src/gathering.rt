@@ -6,10 +6,12 @@ ghost use Rattle.asn_types.specs.Values as rule;
 ghost use Rattle.asn_types.specs.declared.types.Form.TheVariants as form;
 ghost use Rattle.xer_items.specs.Items.{given, nothing, with_nil, element_of, inside, gathered, texts_of};
 ghost use Rattle.xer_items.specs.Spelling.{is_textual};
+ghost use Rattle.xer_write.specs.Private.Receiving.{name_seen};
 ghost use Rattle.xer_write.specs.Private.Gaining.{Gains, value_text};
 ghost use Rattle.xer_write.specs.Private.Giving.{IsTypeIn, may_be_present, place_seen, place_gives, places_give, parts_give, mixed_gives, type_gives};
 
 use crate::contents::Contents;
+use crate::receiver::NameRef;
 use crate::spelling::{is_textual, spelling};
 use asn_types::{Component, Form, Module, Role, TypeLabel, resolve, role};
 use flat_tree::{Kids, Node};
@@ -18,7 +20,7 @@ use simple_types::ValueLabel;
 use simple_values::is_at_most;
 use std::alloc::Global;
 use std::iter::Iterator;
-use xa_base::{Memory, Name};
+use xa_base::Memory;
 
 /// Where a kid of a value stands: the part, its role, and its type.
 #[derive(Drop)]
@@ -94,8 +96,8 @@ fn add_nil_if(
 #[cycle(gathering)]
 fn gather_at<'a>(
     alloc: Global,
-    module: &Module,
-    place: &Place,
+    module: &'a Module,
+    place: &Place<'a>,
     value: &Node<'a, ValueLabel>,
     out: &mut Contents<'a>,
 ) -> Result<(), Memory>
@@ -104,12 +106,11 @@ fn gather_at<'a>(
 {
     match place.role {
         Role::Attribute => {
-            let attribute = place.part.name(alloc)?;
             let text = spelling(alloc, resolve(module, place.node), value)?;
-            out.add_attribute(attribute, text)
+            out.add_attribute(alloc, NameRef::of_part(place.part), text)
         }
         Role::Element => {
-            let name = place.part.name(alloc)?;
+            let name = NameRef::of_part(place.part);
             gather_element(alloc, module, place.node, value, name, out)
         }
         Role::Group => gather(alloc, module, place.node, value, out),
@@ -122,9 +123,9 @@ fn gather_at<'a>(
 #[cycle(gathering)]
 fn gather_present<'a>(
     alloc: Global,
-    module: &Module,
-    node: &Tree<TypeLabel>,
-    parts: &[Component],
+    module: &'a Module,
+    node: &'a Tree<TypeLabel>,
+    parts: &'a [Component],
     present: &[bool],
     values: &Kids<'a, ValueLabel>,
     out: &mut Contents<'a>,
@@ -155,9 +156,9 @@ fn gather_present<'a>(
 #[cycle(gathering)]
 fn gather_sequence<'a>(
     alloc: Global,
-    module: &Module,
-    node: &Tree<TypeLabel>,
-    parts: &[Component],
+    module: &'a Module,
+    node: &'a Tree<TypeLabel>,
+    parts: &'a [Component],
     value: &Node<'a, ValueLabel>,
     out: &mut Contents<'a>,
 ) -> Result<(), Memory>
@@ -182,9 +183,9 @@ fn gather_sequence<'a>(
 #[cycle(gathering)]
 fn gather_choice<'a>(
     alloc: Global,
-    module: &Module,
-    node: &Tree<TypeLabel>,
-    parts: &[Component],
+    module: &'a Module,
+    node: &'a Tree<TypeLabel>,
+    parts: &'a [Component],
     value: &Node<'a, ValueLabel>,
     out: &mut Contents<'a>,
 ) -> Result<(), Memory>
@@ -213,8 +214,8 @@ fn gather_choice<'a>(
 #[cycle(gathering)]
 fn gather_items<'a>(
     alloc: Global,
-    module: &Module,
-    place: &Place,
+    module: &'a Module,
+    place: &Place<'a>,
     values: &Kids<'a, ValueLabel>,
     out: &mut Contents<'a>,
 ) -> Result<(), Memory>
@@ -231,9 +232,9 @@ fn gather_items<'a>(
 #[cycle(gathering)]
 fn gather_sequence_of<'a>(
     alloc: Global,
-    module: &Module,
-    node: &Tree<TypeLabel>,
-    part: &Component,
+    module: &'a Module,
+    node: &'a Tree<TypeLabel>,
+    part: &'a Component,
     min: u32,
     max: Option<u32>,
     value: &Node<'a, ValueLabel>,
@@ -263,8 +264,8 @@ fn gather_sequence_of<'a>(
 #[cycle(gathering)]
 fn gather_kids<'a>(
     alloc: Global,
-    module: &Module,
-    node: &Tree<TypeLabel>,
+    module: &'a Module,
+    node: &'a Tree<TypeLabel>,
     value: &Node<'a, ValueLabel>,
     out: &mut Contents<'a>,
 ) -> Result<(), Memory>
@@ -288,8 +289,8 @@ fn gather_kids<'a>(
 #[cycle(gathering)]
 fn gather_mixed<'a>(
     alloc: Global,
-    module: &Module,
-    node: &Tree<TypeLabel>,
+    module: &'a Module,
+    node: &'a Tree<TypeLabel>,
     value: &Node<'a, ValueLabel>,
     texts: Kids<'a, ValueLabel>,
     out: &mut Contents<'a>,
@@ -307,8 +308,8 @@ fn gather_mixed<'a>(
 #[cycle(gathering)]
 fn gather_parts<'a>(
     alloc: Global,
-    module: &Module,
-    node: &Tree<TypeLabel>,
+    module: &'a Module,
+    node: &'a Tree<TypeLabel>,
     value: &Node<'a, ValueLabel>,
     out: &mut Contents<'a>,
 ) -> Result<(), Memory>
@@ -331,8 +332,8 @@ fn gather_parts<'a>(
 #[cycle(gathering)]
 fn gather<'a>(
     alloc: Global,
-    module: &Module,
-    node: &Tree<TypeLabel>,
+    module: &'a Module,
+    node: &'a Tree<TypeLabel>,
     value: &Node<'a, ValueLabel>,
     out: &mut Contents<'a>,
 ) -> Result<(), Memory>
@@ -352,14 +353,14 @@ fn gather<'a>(
 #[cycle(gathering)]
 pub(crate) fn gather_element<'a>(
     alloc: Global,
-    module: &Module,
-    node: &Tree<TypeLabel>,
+    module: &'a Module,
+    node: &'a Tree<TypeLabel>,
     value: &Node<'a, ValueLabel>,
-    name: Name,
+    name: NameRef<'a>,
     out: &mut Contents<'a>,
 ) -> Result<(), Memory>
     requires { IsTypeIn module.now node.now }
-    ensures { OnOk result (Gains out.old out.new (given [] (more (element_of name (inside module.now node.now value.now)) none))) }
+    ensures { OnOk result (Gains out.old out.new (given [] (more (element_of (name_seen name.entry) (inside module.now node.now value.now)) none))) }
 {
     let found = resolve(module, node);
     if is_textual(found.label()) {

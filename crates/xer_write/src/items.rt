@@ -1,19 +1,48 @@
-//! The items of a value.
+//! The items of a value, and their text.
 ghost use Rattle.std.specs.Prelude.{◌≡◌, IfOk, IsSomeAnd, Some};
 ghost use Rattle.label_tree.specs.Rose.{Rose};
 ghost use Rattle.plain_items.specs.Plain.{Plain};
 ghost use Rattle.plain_items.specs.Unplaced.{unplaced};
+ghost use Rattle.doc_written.specs.Written.{written};
+ghost use Rattle.doc_written.specs.ReadBack.{ReadsAs};
 ghost use Rattle.xer_items.specs.Items.{Xer};
 ghost use Rattle.asn_types.specs.Values.{In};
 ghost use Rattle.xer_items.specs.Sound.{IsSound};
+ghost use Rattle.xer_write.specs.Private.Giving.{IsTypeIn, HasTold};
 
 use crate::contents::Contents;
 use crate::gathering::gather_element;
-use asn_types::Module;
+use crate::receiver::{NameRef, Receiver};
+use asn_types::{Assignment, Module};
 use doc_text::Items;
+use doc_write::write_document;
 use simple_types::Value;
 use std::alloc::Global;
 use xa_base::Memory;
+
+// Tells the items of a value of the assignment with this number.
+fn told<'a>(
+    alloc: Global,
+    module: &'a Module,
+    assignment: &'a Assignment,
+    value: &'a Value,
+    receiver: Receiver<'a>,
+) -> Result<Contents<'a>, Memory>
+    requires { IsTypeIn module.now assignment.now.body }
+    ensures { IfOk result (λ out. HasTold module.now assignment.now value.now receiver.entry out) }
+{
+    let mut out = Contents::new(alloc, receiver);
+    let name = NameRef::of_assignment(assignment);
+    gather_element(
+        alloc,
+        module,
+        assignment.body.root(),
+        &value.root(),
+        name,
+        &mut out,
+    )?;
+    Ok(out)
+}
 
 /// The items of a value of the assignment with this number, from 0: an element with the name of the assignment, in
 /// which stands what the value gives by the roles of its parts (X.693, EXTENDED-XER). All items have the place 0, and
@@ -30,15 +59,26 @@ pub fn items_of(alloc: Global, module: &Module, t: u32, value: &Value) -> Result
     ensures { IfOk result (λ items. (b : Rose Plain) × (Xer module.now t value.now ≡ Some b) × (items ≡ unplaced b)) }
 {
     let assignment = module.assignment(t);
-    let mut out = Contents::new(alloc);
-    let name = assignment.name(alloc)?;
-    gather_element(
-        alloc,
-        module,
-        assignment.body.root(),
-        &value.root(),
-        name,
-        &mut out,
-    )?;
+    let out = told(alloc, module, assignment, value, Receiver::of_items(alloc))?;
     Ok(Items::of(out.into_tree()))
+}
+
+/// The text of a document with the items of a value, in UTF-8: what `write_document` writes of what `items_of` gives, for
+/// which it asks the same. It is written as the value is visited, and no items are built, where the attributes of each
+/// element stand before what stands in it, as in the map of a linked set.
+pub fn text_of(alloc: Global, module: &Module, t: u32, value: &Value) -> Result<Vec<u8>, Memory>
+    requires value { In module.now t value.now }
+    requires sound { IsSomeAnd (Xer module.now t value.now) IsSound }
+    ensures { IfOk result (λ text. (b : Rose Plain) × (Xer module.now t value.now ≡ Some b) × (text.items ≡ written (unplaced b)) × ReadsAs text.items (unplaced b)) }
+{
+    let assignment = module.assignment(t);
+    let receiver = Receiver::of_text(alloc)?;
+    let out = told(alloc, module, assignment, value, receiver)?;
+    match out.into_text(alloc, NameRef::of_assignment(assignment))? {
+        Some(text) => Ok(text),
+        None => {
+            let items = items_of(alloc, module, t, value)?;
+            write_document(alloc, &items)
+        }
+    }
 }

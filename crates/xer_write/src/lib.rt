@@ -1,4 +1,4 @@
-//! The items of a value, by the encoding instructions of X.693.
+//! The items of a value, by the encoding instructions of X.693, and their text.
 //!
 //! Read first: `specs/Items` of `xer_items`, then `items_of` in `src/items.rt`.
 #![tactic(auto)]
@@ -6,6 +6,7 @@
 mod contents;
 mod gathering;
 mod items;
+mod receiver;
 mod spelling;
 
-pub use items::items_of;
+pub use items::{items_of, text_of};

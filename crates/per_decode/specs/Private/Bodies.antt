@@ -61,13 +61,13 @@ module _ (M : List Assignment) (begin : ℕ) (t : Rose TypeLabel) where
   abbrev pub kept_by : Reader (List ℕ) → Reader (Rose ValueLabel)
   kept_by octets X s = octets X s >>= octets_kept
 
-module _ (M : List Assignment) (depth : ℕ) where
+module _ (aligned : Bool) (M : List Assignment) (depth : ℕ) where
   -- a kid of a node, where so many elements stand in one another down to the node
   abbrev pub kid_at : ComponentPlace → Reader (Rose ValueLabel)
-  kid_at p = node_read true M (values.below p.role depth) p.type
+  kid_at p = node_read aligned M (values.below p.role depth) p.type
 
   abbrev pub fields_at : Rose TypeLabel → Reader (Rose ValueLabel)
-  fields_at t X s = content_at true kid_at (label_of t) (kids_of t) (label_of t).form X s
+  fields_at t X s = content_at aligned kid_at (label_of t) (kids_of t) (label_of t).form X s
 
   -- the fields of a node that begins at a bit, and its rules
   abbrev pub body_at : ℕ → Rose TypeLabel → Reader (Rose ValueLabel)
@@ -78,13 +78,9 @@ module _ (M : List Assignment) (depth : ℕ) where
   kids_read None X s = nothing_at X s
   kids_read (Some ps) X s = each_at kid_at ps X s
 
-  abbrev pub FitSome : Option (List ComponentPlace) → Roses ValueLabel → Type 0
-  FitSome None vs = ⊥
-  FitSome (Some ps) vs = FitEach M depth ps vs
-
   -- so many nodes of a type
   abbrev pub node_of : Rose TypeLabel → ℕ → Reader (Rose ValueLabel)
-  node_of t i X s = node_read true M depth t X s
+  node_of t i X s = node_read aligned M depth t X s
 
   abbrev pub many_at : ℕ → Rose TypeLabel → Reader (List (Rose ValueLabel))
   many_at n t X s = each_at (node_of t) (replicate n 0) X s
@@ -92,6 +88,11 @@ module _ (M : List Assignment) (depth : ℕ) where
   -- behind these
   abbrev pub more_at : ℕ → Rose TypeLabel → List (Rose ValueLabel) → Reader (List (Rose ValueLabel))
   more_at n t front X s = many_at n t X s >>= λ vs. Ok (front ++ vs.0, vs.1)
+
+module _ (M : List Assignment) (depth : ℕ) where
+  abbrev pub FitSome : Option (List ComponentPlace) → Roses ValueLabel → Type 0
+  FitSome None vs = ⊥
+  FitSome (Some ps) vs = FitEach M depth ps vs
 
   -- values of a type
   abbrev pub FitAll : Rose TypeLabel → List (Rose ValueLabel) → Type 0
@@ -103,8 +104,8 @@ abbrev pub item_place : Rose TypeLabel → Component → Option ComponentPlace
 item_place t part = place_at (label_of t) 0 (Some part) (slice_get (kids_of t) 0)
 
 -- a node and the end of its encoding
-abbrev pub complete_at : List Assignment → Rose TypeLabel → Reader (Rose ValueLabel)
-complete_at M t X s = do
-  v ← node_read true M 1 t X s
+abbrev pub complete_at : Bool → List Assignment → Rose TypeLabel → Reader (Rose ValueLabel)
+complete_at aligned M t X s = do
+  v ← node_read aligned M 1 t X s
   z ← last_at X v.1
   Ok (v.0, z.1)

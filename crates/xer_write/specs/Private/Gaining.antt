@@ -1,7 +1,6 @@
 -- What the code has of what stands in an element.
 use Rattle.std.specs.Prelude.{◌≡◌, ℕ, List, [], ◌∷◌, ◌++◌, Option, Some, None, drop, length, map, slice_get}
-use Rattle.label_tree.specs.Rose.{Rose, Roses, none, roses_of, list_of, label_of}
-use Rattle.flat_tree.specs.Zips.{Zip, added, added_all, opened}
+use Rattle.label_tree.specs.Rose.{Rose, node, Roses, none, roses_of, list_of, label_of}
 use Rattle.xa_base.specs.declared.texts.Name.{Name}
 use Rattle.simple_types.specs.declared.labels.ValueLabel.{ValueLabel}
 use Rattle.simple_values.specs.Reading.{spelled_text}
@@ -10,6 +9,8 @@ use Rattle.item_tree.specs.declared.label.ItemLabel.TheVariants.{Element}
 use Rattle.plain_items.specs.Plain.{Plain}
 use Rattle.plain_items.specs.Mixing.{text_before}
 use Rattle.xer_items.specs.Items.{Given}
+use Rattle.xer_write.specs.declared.receiver.Receiver.{Receiver}
+use Rattle.xer_write.specs.Private.Receiving.{Tells, Opens}
 use Rattle.xer_write.specs.declared.contents.Contents.{Contents}
 use Rattle.xer_write.specs.declared.contents.Outer.{Outer}
 use Rattle.plain_items.specs.Unplaced.{all_unplaced}
@@ -60,32 +61,33 @@ left_behind (texts ∷ inner) items = drop (length (through inner items)) texts 
 abbrev pub levels : Contents → List (List (List ℕ))
 levels c = map (λ texts. map value_text texts) c.texts.items
 
--- these items were put behind those that were there, with the texts that stand before them
-pub record Puts (before after : List (List (List ℕ))) (old new : Zip ItemLabel) (items : List (Rose ItemLabel)) : Type 0 where
+-- these attributes were told, and these items behind those that were there, with the texts that stand before them
+pub record Puts (before after : List (List (List ℕ))) (old new : Receiver) (attributes : List (Name × List ℕ)) (items : List (Rose ItemLabel)) : Type 0 where
   pub texts : after ≡ left_behind before items
-  pub builder : new ≡ added_all (through before items) old
+  pub told : Tells old new attributes (through before items)
   pub utf8 : ItemsAreUtf8 (roses_of (through before items))
 
 -- what was given stands behind what was there, where these texts are to stand before items
 pub record GainsIn (before : List (List (List ℕ))) (old new : Contents) (g : Given) : Type 0 where
-  pub attributes : new.attributes.items ≡ old.attributes.items ++ g.attributes
-  pub puts : Puts before (levels new) old.builder.zip new.builder.zip (items_in g.kids)
+  pub puts : Puts before (levels new) old.receiver new.receiver g.attributes (items_in g.kids)
   pub utf8 : AreUtf8 g.attributes
 
 abbrev pub Gains : Contents → Contents → Given → Type 0
 Gains old new g = GainsIn (levels old) old new g
 
--- whatever item is added now, the texts before it are there
-pub record MakesRoom (old new : Contents) : Type 0 where
-  pub attributes : new.attributes.items ≡ old.attributes.items
-  pub puts : (item : Rose ItemLabel) → ItemIsUtf8 item → Puts (levels old) (levels new) old.builder.zip (added item new.builder.zip) (item ∷ [])
+-- whatever item is told now, the texts before it are there
+abbrev pub MakesRoom : Contents → Contents → Type 0
+MakesRoom old new = (after : Receiver) (item : Rose ItemLabel) → ItemIsUtf8 item → Tells new.receiver after [] (item ∷ []) → Puts (levels old) (levels new) old.receiver after [] (item ∷ [])
 
--- an element of this name is open, in which nothing stands
-pub record Opens (old new : Contents) (name : Name) (outer : Outer) : Type 0 where
-  pub attributes : new.attributes.items ≡ []
+-- an element of this name, with these attributes, in which these items stand
+abbrev pub TakesElement : Receiver → Receiver → Name → List (Name × List ℕ) → List (Rose ItemLabel) → Type 0
+TakesElement old new name attributes items = Tells old new [] (node (Element name attributes [] 0) (roses_of items) ∷ [])
+
+-- An element of this name is open, in which nothing stands: whatever is told of it and closed then stands behind what was
+-- there.
+pub record Begins (old new : Contents) (name : Name) (outer : Outer) : Type 0 where
   pub texts : new.texts.items ≡ []
-  pub outer_attributes : outer.attributes.items ≡ old.attributes.items
-  pub outside : Zip ItemLabel
-  pub builder : new.builder.zip ≡ opened (Element name [] [] 0) outside
-  pub puts : (item : Rose ItemLabel) → ItemIsUtf8 item
-      → Puts (levels old) (map (λ texts. map value_text texts) outer.texts.items) old.builder.zip (added item outside) (item ∷ [])
+  pub outside : Receiver
+  pub opens : Opens outside new.receiver name outer.tag
+  pub puts : (after : Receiver) (item : Rose ItemLabel) → ItemIsUtf8 item → Tells outside after [] (item ∷ [])
+      → Puts (levels old) (map (λ texts. map value_text texts) outer.texts.items) old.receiver after [] (item ∷ [])

@@ -9,8 +9,13 @@ use Rattle.asn_types.specs.Modules.{IsModule}
 use Rattle.asn_types.specs.Refs.{IsOf}
 use Rattle.asn_types.specs.Values.{ComponentPlace, places}
 use Rattle.plain_items.specs.Mixing.{interleaved}
-use Rattle.xer_items.specs.Items.{Given, given, nothing, completed, placed, inside, gathered}
+use Rattle.xer_items.specs.Items.{Given, given, nothing, completed, placed, inside, gathered, root_of}
+use Rattle.plain_items.specs.Unplaced.{unplaced}
+use Rattle.xer_write.specs.declared.receiver.Receiver.{Receiver}
+use Rattle.xer_write.specs.declared.contents.Contents.{Contents}
 use Rattle.xer_write.specs.declared.gathering.Place.{Place}
+use Rattle.xer_write.specs.Private.Utf8.{ItemIsUtf8}
+use Rattle.xer_write.specs.Private.Receiving.{Tells}
 
 -- a flag for each component, where each that is absent is optional
 abbrev pub may_be_present : List Component → List Bool → Bool
@@ -45,3 +50,7 @@ module _ (M : List Assignment) where
   -- and with the instructions on the type
   abbrev pub type_gives : Rose TypeLabel → Rose ValueLabel → Given
   type_gives t v = completed (label_of t) (label_of v) (roses_of (kids_of v)) (parts_give t v)
+
+  -- the items of a value were told
+  abbrev pub HasTold : Assignment → Rose ValueLabel → Receiver → Contents → Type 0
+  HasTold a v before out = Tells before out.receiver [] (unplaced (root_of M a v) ∷ []) × ItemIsUtf8 (unplaced (root_of M a v))

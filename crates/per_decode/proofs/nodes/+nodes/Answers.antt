@@ -41,18 +41,18 @@ pub node-returns-then-depth-gt-MOST_DEEP-clause-gives : goal.node-returns-then-d
 node-returns-then-depth-gt-MOST_DEEP-clause-gives g t c = λ told.
     let run = c.args.run.now in
     rw (c.stopped.ensures.fault, c.stopped.ensures.stop, c.stopped.ensures.bits, c.position-begin.ensures)
-    (node-deep c.args.module.now c.requires.known c.args.depth c.args.node.now c.requires.of (input g.K.Origin.limit g.K.Origin.whole) (spot run.bits.position run.nodes) c.if-depth-gt-MOST_DEEP.true, omega (arith, c.requires.in_step), refl)
+    (node-deep g.V.Variant.ALIGNED c.args.module.now c.requires.known c.args.depth c.args.node.now c.requires.of (input g.K.Origin.limit g.K.Origin.whole) (spot run.bits.position run.nodes) c.if-depth-gt-MOST_DEEP.true, omega (arith, c.requires.in_step), refl)
 
 pub node-returns-then-run-ge-MOST_NODES-clause-gives : goal.node-returns-then-run-ge-MOST_NODES-clause-gives
 node-returns-then-run-ge-MOST_NODES-clause-gives g t c = λ told.
     let run = c.args.run.now in
     rw (c.stopped-then-run-ge-MOST_NODES.ensures.fault, c.stopped-then-run-ge-MOST_NODES.ensures.stop, c.stopped-then-run-ge-MOST_NODES.ensures.bits, c.position-begin.ensures)
-    (node-many c.args.module.now c.requires.known c.args.depth c.args.node.now c.requires.of (input g.K.Origin.limit g.K.Origin.whole) (spot run.bits.position run.nodes) c.if-depth-gt-MOST_DEEP.false c.if-run-ge-MOST_NODES.true, omega (arith, c.requires.in_step), refl)
+    (node-many g.V.Variant.ALIGNED c.args.module.now c.requires.known c.args.depth c.args.node.now c.requires.of (input g.K.Origin.limit g.K.Origin.whole) (spot run.bits.position run.nodes) c.if-depth-gt-MOST_DEEP.false c.if-run-ge-MOST_NODES.true, omega (arith, c.requires.in_step), refl)
 
 pub node-returns-clause-gives : goal.node-returns-clause-gives
 node-returns-clause-gives g t c = λ told.
     let run = c.args.run.now in
-    let goes = node-goes c.args.module.now c.requires.known c.args.depth c.args.node.now c.requires.of (input g.K.Origin.limit g.K.Origin.whole) (spot run.bits.position run.nodes) c.if-depth-gt-MOST_DEEP.false c.if-run-ge-MOST_NODES.false in
+    let goes = node-goes g.V.Variant.ALIGNED c.args.module.now c.requires.known c.args.depth c.args.node.now c.requires.of (input g.K.Origin.limit g.K.Origin.whole) (spot run.bits.position run.nodes) c.if-depth-gt-MOST_DEEP.false c.if-run-ge-MOST_NODES.false in
     shows_as g.K.Origin.limit g.K.Origin.whole (λ _. newest c.body.new.values.kids) c.body.result _ _ _ _ _ goes (rw c.position-begin.ensures at (c.body.ensures.gives told))
 
 -- ITS FIELDS AND ITS RULES
@@ -72,7 +72,7 @@ body-returns-in-Utf8 g t c =
       gives = λ told.
           let old = c.args.run.now in
           let new = c.text.new.run in
-          shows_as g.K.Origin.limit g.K.Origin.whole (λ _. v) c.text.result _ _ _ _ _ (text-body M c.requires.known c.args.depth u c.requires.of c.args.begin (input g.K.Origin.limit g.K.Origin.whole) (spot old.bits.position old.nodes) _ _ _ is) (c.text.ensures.gives told);
+          shows_as g.K.Origin.limit g.K.Origin.whole (λ _. v) c.text.result _ _ _ _ _ (text-body g.V.Variant.ALIGNED M c.requires.known c.args.depth u c.requires.of c.args.begin (input g.K.Origin.limit g.K.Origin.whole) (spot old.bits.position old.nodes) _ _ _ is) (c.text.ensures.gives told);
       failed = search rules;
     }
 
@@ -88,7 +88,7 @@ body-fields-requires g t c =
     let d = c.decreases in
     let plain = subst (λ (u : Rose TypeLabel). IsNoText (label_of u).form) c.requires.found (c.has_no_rules.ensures.no_text c.if-has_no_rules.true) in
     let has = resolved-fields M c.requires.known c.args.node.now c.requires.of (λ least most class is. subst IsNoText is plain) in
-    rw c.requires.found (λ κs h. (omega (arith, d, ap (needs M c.args.depth) c.requires.found), (h.0, (h.1, (c.requires.depth, (c.requires.known, (resolved-of-module M c.args.node.now c.requires.of, (has, c.requires.in_step))))))))
+    rw c.requires.found (λ κs h. (omega (arith, d, ap (needs M c.args.depth) c.requires.found), (h.0, (h.1.0, (h.1.1, (c.requires.depth, (c.requires.known, (resolved-of-module M c.args.node.now c.requires.of, (has, c.requires.in_step)))))))))
 
 pub body-returns-then-has_no_rules : goal.body-returns-then-has_no_rules
 body-returns-then-has_no_rules g t c =
@@ -105,8 +105,8 @@ body-returns-then-has_no_rules g t c =
           let old = c.args.run.now in
           let new = c.fields.new.run in
           let i = stands_inside old.bits.position old.bits.taken old.bits.held old.bits.limit g.K.Origin.limit g.K.Origin.whole _ old.limited old.bits.behind old.bits.within (old.here told) in
-          body_plain M c.requires.known c.args.depth c.args.node.now c.requires.of c.args.begin (spot old.bits.position old.nodes) (spot new.bits.position new.nodes) g.K.Origin.limit g.K.Origin.whole new.stop new.bits.taken v c.fields.result i own c.fields.ensures.text
-          (subst (λ u. Gives g.K.Origin.limit g.K.Origin.whole (λ _. v) c.fields.result (spot new.bits.position new.nodes) new.stop new.bits.taken (fields_at M c.args.depth u) (spot old.bits.position old.nodes)) c.requires.found (c.fields.ensures.gives told));
+          body_plain g.V.Variant.ALIGNED M c.requires.known c.args.depth c.args.node.now c.requires.of c.args.begin (spot old.bits.position old.nodes) (spot new.bits.position new.nodes) g.K.Origin.limit g.K.Origin.whole new.stop new.bits.taken v c.fields.result i own c.fields.ensures.text
+          (subst (λ u. Gives g.K.Origin.limit g.K.Origin.whole (λ _. v) c.fields.result (spot new.bits.position new.nodes) new.stop new.bits.taken (fields_at g.V.Variant.ALIGNED M c.args.depth u) (spot old.bits.position old.nodes)) c.requires.found (c.fields.ensures.gives told));
       failed = search rules;
     }
 
@@ -118,7 +118,7 @@ ruled-fields-requires g t c =
     let d = c.decreases in
     let plain = subst (λ (u : Rose TypeLabel). IsNoText (label_of u).form) c.requires.found c.requires.form in
     let has = resolved-fields M c.requires.known c.args.node.now c.requires.of (λ least most class is. subst IsNoText is plain) in
-    rw c.requires.found (λ κs h. (omega (arith, d, ap (needs M c.args.depth) c.requires.found), (h.0, (h.1, (c.requires.depth, (c.requires.known, (resolved-of-module M c.args.node.now c.requires.of, (has, c.requires.in_step))))))))
+    rw c.requires.found (λ κs h. (omega (arith, d, ap (needs M c.args.depth) c.requires.found), (h.0, (h.1.0, (h.1.1, (c.requires.depth, (c.requires.known, (resolved-of-module M c.args.node.now c.requires.of, (has, c.requires.in_step)))))))))
 
 pub ruled-returns-in_err-fields : goal.ruled-returns-in_err-fields
 ruled-returns-in_err-fields g t c =
@@ -132,7 +132,7 @@ ruled-returns-in_err-fields g t c =
           let p = err_from_is_err_and c.from_residual.result c.from_residual.ensures.1 in
           let old = c.args.run.now in
           let i = stands_inside old.bits.position old.bits.taken old.bits.held old.bits.limit g.K.Origin.limit g.K.Origin.whole _ old.limited old.bits.behind old.bits.within (old.here told) in
-          rw (p.1, p.2) (fields_fail c.args.module.now c.requires.known c.args.depth c.args.node.now c.requires.of c.args.begin (input g.K.Origin.limit g.K.Origin.whole) (spot old.bits.position old.nodes) g.K.Origin.limit g.K.Origin.whole (halt_of c.in_err-fields.field-0.0 c.fields.new.run.stop) c.fields.new.run.bits.taken i (rw c.requires.found at (c.in_err-fields.ensures.gives told)));
+          rw (p.1, p.2) (fields_fail g.V.Variant.ALIGNED c.args.module.now c.requires.known c.args.depth c.args.node.now c.requires.of c.args.begin (input g.K.Origin.limit g.K.Origin.whole) (spot old.bits.position old.nodes) g.K.Origin.limit g.K.Origin.whole (halt_of c.in_err-fields.field-0.0 c.fields.new.run.stop) c.fields.new.run.bits.taken i (rw c.requires.found at (c.in_err-fields.ensures.gives told)));
       failed = search rules;
     }
 
@@ -152,9 +152,9 @@ ruled-returns g t c =
       gives = λ told.
           let old = c.args.run.now in
           let new = c.fields.new.run in
-          let read = subst (λ x. fields_at M c.args.depth c.args.found.now (input g.K.Origin.limit g.K.Origin.whole) (spot old.bits.position old.nodes) ≡ Ok (x, spot new.bits.position new.nodes)) is (c.in_ok-fields.ensures.gives told) in
-          body_gives M c.requires.known c.args.depth c.args.node.now c.requires.of c.args.begin (spot old.bits.position old.nodes) v (spot new.bits.position new.nodes) g.K.Origin.limit g.K.Origin.whole c.owned.new.stop new.bits.taken w c.owned.result
-          (subst (λ u. fields_at M c.args.depth u (input g.K.Origin.limit g.K.Origin.whole) (spot old.bits.position old.nodes) ≡ Ok (v, spot new.bits.position new.nodes)) c.requires.found read)
+          let read = subst (λ x. fields_at g.V.Variant.ALIGNED M c.args.depth c.args.found.now (input g.K.Origin.limit g.K.Origin.whole) (spot old.bits.position old.nodes) ≡ Ok (x, spot new.bits.position new.nodes)) is (c.in_ok-fields.ensures.gives told) in
+          body_gives g.V.Variant.ALIGNED M c.requires.known c.args.depth c.args.node.now c.requires.of c.args.begin (spot old.bits.position old.nodes) v (spot new.bits.position new.nodes) g.K.Origin.limit g.K.Origin.whole c.owned.new.stop new.bits.taken w c.owned.result
+          (subst (λ u. fields_at g.V.Variant.ALIGNED M c.args.depth u (input g.K.Origin.limit g.K.Origin.whole) (spot old.bits.position old.nodes) ≡ Ok (v, spot new.bits.position new.nodes)) c.requires.found read)
           (subst (λ (x : Rose ValueLabel). is_no_text (label_of x) ≡ false) is c.in_ok-fields.ensures.text)
           (omega (arith, c.in_ok-fields.ensures.on.1)) same c.owned.ensures.ok (rw c.position-end.ensures at c.owned.ensures.err);
       failed = search rules;
@@ -196,21 +196,21 @@ fields-sequence-requires g t c =
     let d = c.decreases in
     let e = ap (λ l. l.form) (sym c.label.ensures) ∙ c.in-Sequence.is in
     let all = needs-kids c.args.module.now c.args.depth c.args.found.now _ e refl in
-    (λ κs h. (omega (arith, d, all), (h.0, (h.1, (c.requires.depth, (c.requires.known, (c.requires.of, (rw c.items-in-Sequence.ensures e, c.requires.in_step))))))))
+    (λ κs h. (omega (arith, d, all), (h.0, (h.1.0, (h.1.1, (c.requires.depth, (c.requires.known, (c.requires.of, (rw c.items-in-Sequence.ensures e, c.requires.in_step)))))))))
 
 pub fields-choice-requires : goal.fields-choice-requires
 fields-choice-requires g t c =
     let d = c.decreases in
     let e = ap (λ l. l.form) (sym c.label.ensures) ∙ c.in-Choice.is in
     let all = needs-kids c.args.module.now c.args.depth c.args.found.now _ e refl in
-    (λ κs h. (omega (arith, d, all), (h.0, (h.1, (c.requires.depth, (c.requires.known, (c.requires.of, (rw c.items-in-Choice.ensures e, c.requires.in_step))))))))
+    (λ κs h. (omega (arith, d, all), (h.0, (h.1.0, (h.1.1, (c.requires.depth, (c.requires.known, (c.requires.of, (rw c.items-in-Choice.ensures e, c.requires.in_step)))))))))
 
 pub fields-sequence_of-requires : goal.fields-sequence_of-requires
 fields-sequence_of-requires g t c =
     let d = c.decreases in
     let e = ap (λ l. l.form) (sym c.label.ensures) ∙ c.in-SequenceOf.is in
     let all = needs-kids c.args.module.now c.args.depth c.args.found.now _ e refl in
-    (λ κs h. (omega (arith, d, all), (h.0, (h.1, (c.requires.depth, (c.requires.known, (c.requires.of, (e, c.requires.in_step))))))))
+    (λ κs h. (omega (arith, d, all), (h.0, (h.1.0, (h.1.1, (c.requires.depth, (c.requires.known, (c.requires.of, (e, c.requires.in_step)))))))))
 
 pub fields-returns-in-Bool-clause-fits : goal.fields-returns-in-Bool-clause-fits
 fields-returns-in-Bool-clause-fits g t c =
@@ -221,7 +221,7 @@ pub fields-returns-in-Bool-clause-gives : goal.fields-returns-in-Bool-clause-giv
 fields-returns-in-Bool-clause-gives g t c = λ told.
     let e = ap (λ l. l.form) (sym c.label.ensures) ∙ c.in-Bool.is in
     let old = c.args.run.now in
-    shows_as g.K.Origin.limit g.K.Origin.whole (λ _. newest c.boolean.new.values.kids) c.boolean.result _ _ _ _ _ (fields-bool c.args.module.now c.args.depth c.args.found.now (input g.K.Origin.limit g.K.Origin.whole) (spot old.bits.position old.nodes) e) (c.boolean.ensures.gives told)
+    shows_as g.K.Origin.limit g.K.Origin.whole (λ _. newest c.boolean.new.values.kids) c.boolean.result _ _ _ _ _ (fields-bool g.V.Variant.ALIGNED c.args.module.now c.args.depth c.args.found.now (input g.K.Origin.limit g.K.Origin.whole) (spot old.bits.position old.nodes) e) (c.boolean.ensures.gives told)
 
 pub fields-returns-in-Int-clause-fits : goal.fields-returns-in-Int-clause-fits
 fields-returns-in-Int-clause-fits g t c =
@@ -232,7 +232,7 @@ pub fields-returns-in-Int-clause-gives : goal.fields-returns-in-Int-clause-gives
 fields-returns-in-Int-clause-gives g t c = λ told.
     let e = ap (λ l. l.form) (sym c.label.ensures) ∙ c.in-Int.is in
     let old = c.args.run.now in
-    shows_as g.K.Origin.limit g.K.Origin.whole (λ _. newest c.integer.new.values.kids) c.integer.result _ _ _ _ _ (fields-int c.args.module.now c.args.depth c.args.found.now (input g.K.Origin.limit g.K.Origin.whole) (spot old.bits.position old.nodes) _ _ e) (c.integer.ensures.gives told)
+    shows_as g.K.Origin.limit g.K.Origin.whole (λ _. newest c.integer.new.values.kids) c.integer.result _ _ _ _ _ (fields-int g.V.Variant.ALIGNED c.args.module.now c.args.depth c.args.found.now (input g.K.Origin.limit g.K.Origin.whole) (spot old.bits.position old.nodes) _ _ e) (c.integer.ensures.gives told)
 
 pub fields-returns-in-Numbers-clause-fits : goal.fields-returns-in-Numbers-clause-fits
 fields-returns-in-Numbers-clause-fits g t c =
@@ -243,7 +243,7 @@ pub fields-returns-in-Numbers-clause-gives : goal.fields-returns-in-Numbers-clau
 fields-returns-in-Numbers-clause-gives g t c = λ told.
     let e = ap (λ l. l.form) (sym c.label.ensures) ∙ c.in-Numbers.is in
     let old = c.args.run.now in
-    shows_as g.K.Origin.limit g.K.Origin.whole (λ _. newest c.enumerated.new.values.kids) c.enumerated.result _ _ _ _ _ (fields-numbers c.args.module.now c.args.depth c.args.found.now (input g.K.Origin.limit g.K.Origin.whole) (spot old.bits.position old.nodes) _ e) (rw c.items.ensures at (c.enumerated.ensures.gives told))
+    shows_as g.K.Origin.limit g.K.Origin.whole (λ _. newest c.enumerated.new.values.kids) c.enumerated.result _ _ _ _ _ (fields-numbers g.V.Variant.ALIGNED c.args.module.now c.args.depth c.args.found.now (input g.K.Origin.limit g.K.Origin.whole) (spot old.bits.position old.nodes) _ e) (rw c.items.ensures at (c.enumerated.ensures.gives told))
 
 pub fields-returns-in-Words-clause-fits : goal.fields-returns-in-Words-clause-fits
 fields-returns-in-Words-clause-fits g t c =
@@ -254,25 +254,25 @@ pub fields-returns-in-Words-clause-gives : goal.fields-returns-in-Words-clause-g
 fields-returns-in-Words-clause-gives g t c = λ told.
     let e = ap (λ l. l.form) (sym c.label.ensures) ∙ c.in-Words.is in
     let old = c.args.run.now in
-    shows_as g.K.Origin.limit g.K.Origin.whole (λ _. newest c.enumerated-in-Words.new.values.kids) c.enumerated-in-Words.result _ _ _ _ _ (fields-words c.args.module.now c.args.depth c.args.found.now (input g.K.Origin.limit g.K.Origin.whole) (spot old.bits.position old.nodes) _ _ e) (rw c.items-in-Words.ensures at (c.enumerated-in-Words.ensures.gives told))
+    shows_as g.K.Origin.limit g.K.Origin.whole (λ _. newest c.enumerated-in-Words.new.values.kids) c.enumerated-in-Words.result _ _ _ _ _ (fields-words g.V.Variant.ALIGNED c.args.module.now c.args.depth c.args.found.now (input g.K.Origin.limit g.K.Origin.whole) (spot old.bits.position old.nodes) _ _ e) (rw c.items-in-Words.ensures at (c.enumerated-in-Words.ensures.gives told))
 
 pub fields-returns-in-Sequence-clause-gives : goal.fields-returns-in-Sequence-clause-gives
 fields-returns-in-Sequence-clause-gives g t c = λ told.
     let e = ap (λ l. l.form) (sym c.label.ensures) ∙ c.in-Sequence.is in
     let old = c.args.run.now in
-    shows_as g.K.Origin.limit g.K.Origin.whole (λ _. newest c.sequence.new.values.kids) c.sequence.result _ _ _ _ _ (fields-sequence c.args.module.now c.args.depth c.args.found.now (input g.K.Origin.limit g.K.Origin.whole) (spot old.bits.position old.nodes) _ e) (rw c.items-in-Sequence.ensures at (c.sequence.ensures.gives told))
+    shows_as g.K.Origin.limit g.K.Origin.whole (λ _. newest c.sequence.new.values.kids) c.sequence.result _ _ _ _ _ (fields-sequence g.V.Variant.ALIGNED c.args.module.now c.args.depth c.args.found.now (input g.K.Origin.limit g.K.Origin.whole) (spot old.bits.position old.nodes) _ e) (rw c.items-in-Sequence.ensures at (c.sequence.ensures.gives told))
 
 pub fields-returns-in-Choice-clause-gives : goal.fields-returns-in-Choice-clause-gives
 fields-returns-in-Choice-clause-gives g t c = λ told.
     let e = ap (λ l. l.form) (sym c.label.ensures) ∙ c.in-Choice.is in
     let old = c.args.run.now in
-    shows_as g.K.Origin.limit g.K.Origin.whole (λ _. newest c.choice.new.values.kids) c.choice.result _ _ _ _ _ (fields-choice c.args.module.now c.args.depth c.args.found.now (input g.K.Origin.limit g.K.Origin.whole) (spot old.bits.position old.nodes) _ e) (rw c.items-in-Choice.ensures at (c.choice.ensures.gives told))
+    shows_as g.K.Origin.limit g.K.Origin.whole (λ _. newest c.choice.new.values.kids) c.choice.result _ _ _ _ _ (fields-choice g.V.Variant.ALIGNED c.args.module.now c.args.depth c.args.found.now (input g.K.Origin.limit g.K.Origin.whole) (spot old.bits.position old.nodes) _ e) (rw c.items-in-Choice.ensures at (c.choice.ensures.gives told))
 
 pub fields-returns-in-SequenceOf-clause-gives : goal.fields-returns-in-SequenceOf-clause-gives
 fields-returns-in-SequenceOf-clause-gives g t c = λ told.
     let e = ap (λ l. l.form) (sym c.label.ensures) ∙ c.in-SequenceOf.is in
     let old = c.args.run.now in
-    shows_as g.K.Origin.limit g.K.Origin.whole (λ _. newest c.sequence_of.new.values.kids) c.sequence_of.result _ _ _ _ _ (fields-list c.args.module.now c.args.depth c.args.found.now (input g.K.Origin.limit g.K.Origin.whole) (spot old.bits.position old.nodes) _ _ _ e) (c.sequence_of.ensures.gives told)
+    shows_as g.K.Origin.limit g.K.Origin.whole (λ _. newest c.sequence_of.new.values.kids) c.sequence_of.result _ _ _ _ _ (fields-list g.V.Variant.ALIGNED c.args.module.now c.args.depth c.args.found.now (input g.K.Origin.limit g.K.Origin.whole) (spot old.bits.position old.nodes) _ _ _ e) (c.sequence_of.ensures.gives told)
 
 -- A SEQUENCE
 
@@ -281,7 +281,7 @@ sequence-returns-in_err-presence-clause-gives g t c = λ told.
     let p = err_from_is_err_and c.from_residual.result c.from_residual.ensures.1 in
     let old = c.args.run.now in
     let i = stands_inside old.bits.position old.bits.taken old.bits.held old.bits.limit g.K.Origin.limit g.K.Origin.whole _ old.limited old.bits.behind old.bits.within (old.here told) in
-    rw (p.1, p.2) (sequence_fails c.args.module.now c.args.depth (label_of c.args.found.now) (kids_of c.args.found.now) c.args.parts.now (input g.K.Origin.limit g.K.Origin.whole) (spot old.bits.position old.nodes) g.K.Origin.limit g.K.Origin.whole (halt_of c.in_err-presence.field-0.0 c.presence.new.run.stop) c.presence.new.run.bits.taken i (c.in_err-presence.ensures.gives told))
+    rw (p.1, p.2) (sequence_fails g.V.Variant.ALIGNED c.args.module.now c.args.depth (label_of c.args.found.now) (kids_of c.args.found.now) c.args.parts.now (input g.K.Origin.limit g.K.Origin.whole) (spot old.bits.position old.nodes) g.K.Origin.limit g.K.Origin.whole (halt_of c.in_err-presence.field-0.0 c.presence.new.run.stop) c.presence.new.run.bits.taken i (c.in_err-presence.ensures.gives told))
 
 pub sequence-returns-in_err-components-clause-gives : goal.sequence-returns-in_err-components-clause-gives
 sequence-returns-in_err-components-clause-gives g t c = λ told.
@@ -289,7 +289,7 @@ sequence-returns-in_err-components-clause-gives g t c = λ told.
     let old = c.args.run.now in
     let mid = c.presence.new.run in
     let i = stands_inside mid.bits.position mid.bits.taken mid.bits.held mid.bits.limit g.K.Origin.limit g.K.Origin.whole _ mid.limited mid.bits.behind mid.bits.within (mid.here told) in
-    rw (p.1, p.2) (components_fail c.args.module.now c.args.depth (label_of c.args.found.now) (kids_of c.args.found.now) c.args.parts.now (input g.K.Origin.limit g.K.Origin.whole) (spot old.bits.position old.nodes) c.presence.new.present (spot mid.bits.position mid.nodes) (c.in_ok-presence.ensures.gives told) g.K.Origin.limit g.K.Origin.whole (halt_of c.in_err-components.field-0.0 c.components.new.run.stop) c.components.new.run.bits.taken i (rw c.items.ensures at (c.in_err-components.ensures.gives told)))
+    rw (p.1, p.2) (components_fail g.V.Variant.ALIGNED c.args.module.now c.args.depth (label_of c.args.found.now) (kids_of c.args.found.now) c.args.parts.now (input g.K.Origin.limit g.K.Origin.whole) (spot old.bits.position old.nodes) c.presence.new.present (spot mid.bits.position mid.nodes) (c.in_ok-presence.ensures.gives told) g.K.Origin.limit g.K.Origin.whole (halt_of c.in_err-components.field-0.0 c.components.new.run.stop) c.components.new.run.bits.taken i (rw c.items.ensures at (c.in_err-components.ensures.gives told)))
 
 pub sequence-returns-in_err-open-clause-gives : goal.sequence-returns-in_err-open-clause-gives
 sequence-returns-in_err-open-clause-gives g t c = λ told.
@@ -297,7 +297,7 @@ sequence-returns-in_err-open-clause-gives g t c = λ told.
     let old = c.args.run.now in
     let mid = c.presence.new.run in
     let i = stands_inside mid.bits.position mid.bits.taken mid.bits.held mid.bits.limit g.K.Origin.limit g.K.Origin.whole _ mid.limited mid.bits.behind mid.bits.within (mid.here told) in
-    rw (p.1, p.2) (components_full c.args.module.now c.args.depth (label_of c.args.found.now) (kids_of c.args.found.now) c.args.parts.now (input g.K.Origin.limit g.K.Origin.whole) (spot old.bits.position old.nodes) c.presence.new.present (spot mid.bits.position mid.nodes) (c.in_ok-presence.ensures.gives told) g.K.Origin.limit g.K.Origin.whole mid.bits.taken i (omega (arith, c.in_ok-presence.ensures.on.1)))
+    rw (p.1, p.2) (components_full g.V.Variant.ALIGNED c.args.module.now c.args.depth (label_of c.args.found.now) (kids_of c.args.found.now) c.args.parts.now (input g.K.Origin.limit g.K.Origin.whole) (spot old.bits.position old.nodes) c.presence.new.present (spot mid.bits.position mid.nodes) (c.in_ok-presence.ensures.gives told) g.K.Origin.limit g.K.Origin.whole mid.bits.taken i (omega (arith, c.in_ok-presence.ensures.on.1)))
 
 pub sequence-returns-clause-pushed : goal.sequence-returns-clause-pushed
 sequence-returns-clause-pushed g t c = pushed-newest _ _ _ (c.close.ensures ∙ ap closed c.relabel-none.ensures.relabeled ∙ closed-labeled _ _ _ _ _ c.in_ok-open.ensures.ok c.in_ok-components.ensures.above)
@@ -319,7 +319,7 @@ sequence-returns-clause-gives g t c = λ told.
     let old = c.args.run.now in
     let mid = c.presence.new.run in
     let new = c.components.new.run in
-    rw (newest-pushed _ _ _ (c.close.ensures ∙ ap closed c.relabel-none.ensures.relabeled ∙ closed-labeled _ _ _ _ _ c.in_ok-open.ensures.ok c.in_ok-components.ensures.above)) (sequence_reads c.args.module.now c.args.depth (label_of c.args.found.now) (kids_of c.args.found.now) c.args.parts.now (input g.K.Origin.limit g.K.Origin.whole) (spot old.bits.position old.nodes) c.presence.new.present (spot mid.bits.position mid.nodes) (c.in_ok-presence.ensures.gives told) c.components.new.values.kids (spot new.bits.position new.nodes) (rw c.items.ensures at (c.in_ok-components.ensures.gives told)))
+    rw (newest-pushed _ _ _ (c.close.ensures ∙ ap closed c.relabel-none.ensures.relabeled ∙ closed-labeled _ _ _ _ _ c.in_ok-open.ensures.ok c.in_ok-components.ensures.above)) (sequence_reads g.V.Variant.ALIGNED c.args.module.now c.args.depth (label_of c.args.found.now) (kids_of c.args.found.now) c.args.parts.now (input g.K.Origin.limit g.K.Origin.whole) (spot old.bits.position old.nodes) c.presence.new.present (spot mid.bits.position mid.nodes) (c.in_ok-presence.ensures.gives told) c.components.new.values.kids (spot new.bits.position new.nodes) (rw c.items.ensures at (c.in_ok-components.ensures.gives told)))
 
 -- ITS COMPONENTS
 
@@ -333,7 +333,7 @@ components-parts-init g t c =
       same = refl;
       above = refl;
       count = rw c.requires.empty (omega arith);
-      through = rw c.requires.empty (through_none c.args.module.now c.args.depth (label_of c.args.found.now) parts (kids_of c.args.found.now) c.args.present.now (IsTrue g.K.Origin.told) (input g.K.Origin.limit g.K.Origin.whole) _ (places_there (label_of c.args.found.now) 0 parts (kids_of c.args.found.now) c.args.present.now as_many c.requires.present));
+      through = rw c.requires.empty (through_none g.V.Variant.ALIGNED c.args.module.now c.args.depth (label_of c.args.found.now) parts (kids_of c.args.found.now) c.args.present.now (IsTrue g.K.Origin.told) (input g.K.Origin.limit g.K.Origin.whole) _ (places_there (label_of c.args.found.now) 0 parts (kids_of c.args.found.now) c.args.present.now as_many c.requires.present));
     }
 
 pub components-bounds-present-i : goal.components-bounds-present-i
@@ -359,7 +359,7 @@ components-node-requires g t c =
     let there = part_there c.args.module.now c.requires.known c.args.found.now c.requires.of i kid c.kid-kid.ensures in
     let k = inner_here c.args.module.now c.requires.known c.args.found.now c.requires.of c.args.depth i c.part_depth-inner.result there.0 kid c.resolve-to.result.now (subst HasFields (sym c.requires.form) tt) c.requires.depth there.1 c.kid-kid.ensures c.resolve-to.ensures c.part_depth-inner.ensures.same in
     let d = c.decreases in
-    (λ κs h. (omega (arith, d, k.fewer, ap (needs c.args.module.now c.part_depth-inner.result) c.resolve-to.ensures), (h.0, (h.1, (c.part_depth-inner.ensures.few, (c.requires.known, (k.of_module, (c.resolve-to.ensures, c.parts.invariant.in_step))))))))
+    (λ κs h. (omega (arith, d, k.fewer, ap (needs c.args.module.now c.part_depth-inner.result) c.resolve-to.ensures), (h.0, (h.1.0, (h.1.1, (c.part_depth-inner.ensures.few, (c.requires.known, (k.of_module, (c.resolve-to.ensures, c.parts.invariant.in_step)))))))))
 
 pub components-returns-in_err-node-clause-gives : goal.components-returns-in_err-node-clause-gives
 components-returns-in_err-node-clause-gives g t c = λ told.
@@ -377,7 +377,7 @@ components-returns-in_err-node-clause-gives g t c = λ told.
     let old = c.parts.run in
     let new = c.node.new.run in
     let j = stands_inside old.bits.position old.bits.taken old.bits.held old.bits.limit g.K.Origin.limit g.K.Origin.whole _ old.limited old.bits.behind old.bits.within (old.here told) in
-    rw (p.1, p.2) (through_fails c.args.module.now c.args.depth (label_of u) parts (kids_of u) flags (IsTrue g.K.Origin.told) (input g.K.Origin.limit g.K.Origin.whole) (spot c.args.run.now.bits.position c.args.run.now.nodes) i c.parts.values.kids (spot old.bits.position old.nodes) there.0 kid is_part is_kid is_flag (λ p. sits-node c.args.module.now (below p.role c.args.depth) p.type) told g.K.Origin.limit g.K.Origin.whole (halt_of c.in_err-node.field-0.0 new.stop) new.bits.taken j (subst (FailsAt g.K.Origin.limit g.K.Origin.whole (halt_of c.in_err-node.field-0.0 new.stop) new.bits.taken) (k.read (input g.K.Origin.limit g.K.Origin.whole) (spot old.bits.position old.nodes)) (c.in_err-node.ensures.gives told)) c.parts.invariant.through)
+    rw (p.1, p.2) (through_fails g.V.Variant.ALIGNED c.args.module.now c.args.depth (label_of u) parts (kids_of u) flags (IsTrue g.K.Origin.told) (input g.K.Origin.limit g.K.Origin.whole) (spot c.args.run.now.bits.position c.args.run.now.nodes) i c.parts.values.kids (spot old.bits.position old.nodes) there.0 kid is_part is_kid is_flag (λ p. sits-node g.V.Variant.ALIGNED c.args.module.now (below p.role c.args.depth) p.type) told g.K.Origin.limit g.K.Origin.whole (halt_of c.in_err-node.field-0.0 new.stop) new.bits.taken j (subst (FailsAt g.K.Origin.limit g.K.Origin.whole (halt_of c.in_err-node.field-0.0 new.stop) new.bits.taken) (k.read g.V.Variant.ALIGNED (input g.K.Origin.limit g.K.Origin.whole) (spot old.bits.position old.nodes)) (c.in_err-node.ensures.gives told)) c.parts.invariant.through)
 
 pub components-parts-preserved-then-not-present-i : goal.components-parts-preserved-then-not-present-i
 components-parts-preserved-then-not-present-i g t c =
@@ -398,7 +398,7 @@ components-parts-preserved-then-not-present-i g t c =
       same = c.parts.invariant.same;
       above = c.parts.invariant.above;
       count = c.parts.invariant.count;
-      through = through_skip c.args.module.now c.args.depth (label_of u) parts (kids_of u) flags (IsTrue g.K.Origin.told) (input g.K.Origin.limit g.K.Origin.whole) (spot c.args.run.now.bits.position c.args.run.now.nodes) i c.parts.values.kids (spot old.bits.position old.nodes) there.0 kid.0 is_part is_kid is_flag c.parts.invariant.through;
+      through = through_skip g.V.Variant.ALIGNED c.args.module.now c.args.depth (label_of u) parts (kids_of u) flags (IsTrue g.K.Origin.told) (input g.K.Origin.limit g.K.Origin.whole) (spot c.args.run.now.bits.position c.args.run.now.nodes) i c.parts.values.kids (spot old.bits.position old.nodes) there.0 kid.0 is_part is_kid is_flag c.parts.invariant.through;
     }
 
 pub components-parts-preserved : goal.components-parts-preserved
@@ -422,8 +422,8 @@ components-parts-preserved g t c =
       same = c.node.ensures.same_reference ∙ c.parts.invariant.same;
       above = ap (λ z. z.above) c.in_ok-node.ensures.pushed ∙ c.parts.invariant.above;
       count = rw pushed (omega (arith, c.in_ok-node.ensures.count, c.parts.invariant.count, count-push c.parts.values.kids (newest c.node.new.values.kids)));
-      through = rw pushed (through_more c.args.module.now c.args.depth (label_of u) parts (kids_of u) flags (IsTrue g.K.Origin.told) (input g.K.Origin.limit g.K.Origin.whole) (spot c.args.run.now.bits.position c.args.run.now.nodes) i c.parts.values.kids (spot old.bits.position old.nodes) there.0 kid is_part is_kid is_flag (newest c.node.new.values.kids) (spot new.bits.position new.nodes)
-          (k.fits (newest c.node.new.values.kids) c.in_ok-node.ensures.fits) (λ told. sym (k.read (input g.K.Origin.limit g.K.Origin.whole) (spot old.bits.position old.nodes)) ∙ c.in_ok-node.ensures.gives told) c.parts.invariant.through);
+      through = rw pushed (through_more g.V.Variant.ALIGNED c.args.module.now c.args.depth (label_of u) parts (kids_of u) flags (IsTrue g.K.Origin.told) (input g.K.Origin.limit g.K.Origin.whole) (spot c.args.run.now.bits.position c.args.run.now.nodes) i c.parts.values.kids (spot old.bits.position old.nodes) there.0 kid is_part is_kid is_flag (newest c.node.new.values.kids) (spot new.bits.position new.nodes)
+          (k.fits (newest c.node.new.values.kids) c.in_ok-node.ensures.fits) (λ told. sym (k.read g.V.Variant.ALIGNED (input g.K.Origin.limit g.K.Origin.whole) (spot old.bits.position old.nodes)) ∙ c.in_ok-node.ensures.gives told) c.parts.invariant.through);
     }
 
 pub components-returns-clause-gives : goal.components-returns-clause-gives
@@ -431,14 +431,14 @@ components-returns-clause-gives g t c = λ told.
     let u = c.args.found.now in
     let parts = c.args.parts.now in
     let flags = c.args.present.now in
-    through_end c.args.module.now c.args.depth (label_of u) parts (kids_of u) flags (IsTrue g.K.Origin.told) (input g.K.Origin.limit g.K.Origin.whole) (spot c.args.run.now.bits.position c.args.run.now.nodes) c.parts.i c.parts.values.kids (spot c.parts.run.bits.position c.parts.run.nodes) (drop_all c.parts.i parts c.parts-test.false) c.parts.invariant.through told
+    through_end g.V.Variant.ALIGNED c.args.module.now c.args.depth (label_of u) parts (kids_of u) flags (IsTrue g.K.Origin.told) (input g.K.Origin.limit g.K.Origin.whole) (spot c.args.run.now.bits.position c.args.run.now.nodes) c.parts.i c.parts.values.kids (spot c.parts.run.bits.position c.parts.run.nodes) (drop_all c.parts.i parts c.parts-test.false) c.parts.invariant.through told
 
 pub components-returns-clause-fits : goal.components-returns-clause-fits
 components-returns-clause-fits g t c =
     let u = c.args.found.now in
     let parts = c.args.parts.now in
     let flags = c.args.present.now in
-    through_fit c.args.module.now c.args.depth (label_of u) parts (kids_of u) flags (IsTrue g.K.Origin.told) (input g.K.Origin.limit g.K.Origin.whole) (spot c.args.run.now.bits.position c.args.run.now.nodes) c.parts.i c.parts.values.kids (spot c.parts.run.bits.position c.parts.run.nodes) (drop_all c.parts.i parts c.parts-test.false) c.parts.invariant.through
+    through_fit g.V.Variant.ALIGNED c.args.module.now c.args.depth (label_of u) parts (kids_of u) flags (IsTrue g.K.Origin.told) (input g.K.Origin.limit g.K.Origin.whole) (spot c.args.run.now.bits.position c.args.run.now.nodes) c.parts.i c.parts.values.kids (spot c.parts.run.bits.position c.parts.run.nodes) (drop_all c.parts.i parts c.parts-test.false) c.parts.invariant.through
 
 -- A CHOICE
 
@@ -476,14 +476,14 @@ choice-node-requires g t c =
     let old = c.args.run.now in
     let mid = c.number.new.self in
     let d = c.decreases in
-    (λ κs h. (omega (arith, d, k.fewer, ap (needs c.args.module.now c.part_depth-inner.result) c.resolve-to.ensures), (h.0, (h.1, (c.part_depth-inner.ensures.few, (c.requires.known, (k.of_module, (c.resolve-to.ensures, c.in_ok-index.ensures.on.1))))))))
+    (λ κs h. (omega (arith, d, k.fewer, ap (needs c.args.module.now c.part_depth-inner.result) c.resolve-to.ensures), (h.0, (h.1.0, (h.1.1, (c.part_depth-inner.ensures.few, (c.requires.known, (k.of_module, (c.resolve-to.ensures, c.in_ok-index.ensures.on.1)))))))))
 
 pub choice-returns-in_err-index-clause-gives : goal.choice-returns-in_err-index-clause-gives
 choice-returns-in_err-index-clause-gives g t c = λ told.
     let p = err_from_is_err_and c.from_residual.result c.from_residual.ensures.1 in
     let old = c.args.run.now in
     let j = stands_inside old.bits.position old.bits.taken old.bits.held old.bits.limit g.K.Origin.limit g.K.Origin.whole _ old.limited old.bits.behind old.bits.within (old.here told) in
-    rw (p.1, p.2) (choice_fails c.args.module.now c.args.depth (label_of c.args.found.now) (kids_of c.args.found.now) c.args.parts.now (input g.K.Origin.limit g.K.Origin.whole) (spot old.bits.position old.nodes) g.K.Origin.limit g.K.Origin.whole (halt_of c.in_err-index.field-0.0 c.number.new.self.stop) c.number.new.self.bits.taken j (c.in_err-index.ensures.gives told))
+    rw (p.1, p.2) (choice_fails g.V.Variant.ALIGNED c.args.module.now c.args.depth (label_of c.args.found.now) (kids_of c.args.found.now) c.args.parts.now (input g.K.Origin.limit g.K.Origin.whole) (spot old.bits.position old.nodes) g.K.Origin.limit g.K.Origin.whole (halt_of c.in_err-index.field-0.0 c.number.new.self.stop) c.number.new.self.bits.taken j (c.in_err-index.ensures.gives told))
 
 pub choice-returns-in_err-node-clause-gives : goal.choice-returns-in_err-node-clause-gives
 choice-returns-in_err-node-clause-gives g t c = λ told.
@@ -499,7 +499,7 @@ choice-returns-in_err-node-clause-gives g t c = λ told.
     let mid = c.number.new.self in
     let new = c.node.new.run in
     let j = stands_inside mid.bits.position mid.bits.taken mid.bits.held mid.bits.limit g.K.Origin.limit g.K.Origin.whole _ mid.limited mid.bits.behind mid.bits.within (mid.here told) in
-    rw (p.1, p.2) (alternative_fails c.args.module.now c.args.depth (label_of c.args.found.now) (kids_of c.args.found.now) c.args.parts.now (input g.K.Origin.limit g.K.Origin.whole) (spot old.bits.position old.nodes) i (spot mid.bits.position mid.nodes) there.0 kid (c.in_ok-index.ensures.gives told) is_part c.kid-kid.ensures g.K.Origin.limit g.K.Origin.whole (halt_of c.in_err-node.field-0.0 new.stop) new.bits.taken j (subst (FailsAt g.K.Origin.limit g.K.Origin.whole (halt_of c.in_err-node.field-0.0 new.stop) new.bits.taken) (k.read (input g.K.Origin.limit g.K.Origin.whole) (spot mid.bits.position mid.nodes)) (c.in_err-node.ensures.gives told)))
+    rw (p.1, p.2) (alternative_fails g.V.Variant.ALIGNED c.args.module.now c.args.depth (label_of c.args.found.now) (kids_of c.args.found.now) c.args.parts.now (input g.K.Origin.limit g.K.Origin.whole) (spot old.bits.position old.nodes) i (spot mid.bits.position mid.nodes) there.0 kid (c.in_ok-index.ensures.gives told) is_part c.kid-kid.ensures g.K.Origin.limit g.K.Origin.whole (halt_of c.in_err-node.field-0.0 new.stop) new.bits.taken j (subst (FailsAt g.K.Origin.limit g.K.Origin.whole (halt_of c.in_err-node.field-0.0 new.stop) new.bits.taken) (k.read g.V.Variant.ALIGNED (input g.K.Origin.limit g.K.Origin.whole) (spot mid.bits.position mid.nodes)) (c.in_err-node.ensures.gives told)))
 
 pub choice-returns-in_err-open-clause-gives : goal.choice-returns-in_err-open-clause-gives
 choice-returns-in_err-open-clause-gives g t c = λ told.
@@ -514,7 +514,7 @@ choice-returns-in_err-open-clause-gives g t c = λ told.
     let old = c.args.run.now in
     let mid = c.number.new.self in
     let j = stands_inside mid.bits.position mid.bits.taken mid.bits.held mid.bits.limit g.K.Origin.limit g.K.Origin.whole _ mid.limited mid.bits.behind mid.bits.within (mid.here told) in
-    rw (p.1, p.2) (alternative_full c.args.module.now c.args.depth (label_of c.args.found.now) (kids_of c.args.found.now) c.args.parts.now (input g.K.Origin.limit g.K.Origin.whole) (spot old.bits.position old.nodes) i (spot mid.bits.position mid.nodes) there.0 kid (c.in_ok-index.ensures.gives told) is_part c.kid-kid.ensures g.K.Origin.limit g.K.Origin.whole mid.bits.taken j (omega (arith, c.in_ok-index.ensures.on.1)))
+    rw (p.1, p.2) (alternative_full g.V.Variant.ALIGNED c.args.module.now c.args.depth (label_of c.args.found.now) (kids_of c.args.found.now) c.args.parts.now (input g.K.Origin.limit g.K.Origin.whole) (spot old.bits.position old.nodes) i (spot mid.bits.position mid.nodes) there.0 kid (c.in_ok-index.ensures.gives told) is_part c.kid-kid.ensures g.K.Origin.limit g.K.Origin.whole mid.bits.taken j (omega (arith, c.in_ok-index.ensures.on.1)))
 
 pub choice-returns-clause-pushed : goal.choice-returns-clause-pushed
 choice-returns-clause-pushed g t c = pushed-newest _ _ _ (c.close.ensures ∙ closed-one _ _ _ _ _ c.in_ok-open.ensures.ok c.in_ok-node.ensures.pushed)
@@ -553,7 +553,7 @@ choice-returns-clause-gives g t c = λ told.
     let old = c.args.run.now in
     let mid = c.number.new.self in
     let new = c.node.new.run in
-    rw (newest-pushed _ _ _ (c.close.ensures ∙ closed-one _ _ _ _ _ c.in_ok-open.ensures.ok c.in_ok-node.ensures.pushed)) (choice_reads c.args.module.now c.args.depth (label_of c.args.found.now) (kids_of c.args.found.now) c.args.parts.now (input g.K.Origin.limit g.K.Origin.whole) (spot old.bits.position old.nodes) i (spot mid.bits.position mid.nodes) there.0 kid (c.in_ok-index.ensures.gives told) is_part c.kid-kid.ensures (newest c.node.new.values.kids) (spot new.bits.position new.nodes) (sym (k.read (input g.K.Origin.limit g.K.Origin.whole) (spot mid.bits.position mid.nodes)) ∙ c.in_ok-node.ensures.gives told))
+    rw (newest-pushed _ _ _ (c.close.ensures ∙ closed-one _ _ _ _ _ c.in_ok-open.ensures.ok c.in_ok-node.ensures.pushed)) (choice_reads g.V.Variant.ALIGNED c.args.module.now c.args.depth (label_of c.args.found.now) (kids_of c.args.found.now) c.args.parts.now (input g.K.Origin.limit g.K.Origin.whole) (spot old.bits.position old.nodes) i (spot mid.bits.position mid.nodes) there.0 kid (c.in_ok-index.ensures.gives told) is_part c.kid-kid.ensures (newest c.node.new.values.kids) (spot new.bits.position new.nodes) (sym (k.read g.V.Variant.ALIGNED (input g.K.Origin.limit g.K.Origin.whole) (spot mid.bits.position mid.nodes)) ∙ c.in_ok-node.ensures.gives told))
 
 -- A SEQUENCE OF
 
@@ -573,7 +573,7 @@ sequence_of-list-requires g t c =
     let is_place : place_at (label_of u) 0 (Some part) (slice_get (kids_of u) 0) ≡ Some place = ap (λ o. place_at (label_of u) 0 (Some part) o) c.kid-item.ensures in
     let old = c.args.run.now in
     let d = c.decreases in
-    (λ κs h. (omega (arith, d, k.fewer), (h.0, (h.1, (c.below-inner.ensures.few, (c.requires.known, (k.of_module, (sizes_ordered c.args.module.now c.requires.known c.args.found.now c.requires.of part _ _ c.requires.form, (ap (λ z. z.kids) c.in_ok-open.ensures.ok, c.requires.in_step)))))))))
+    (λ κs h. (omega (arith, d, k.fewer), (h.0, (h.1.0, (h.1.1, (c.below-inner.ensures.few, (c.requires.known, (k.of_module, (sizes_ordered c.args.module.now c.requires.known c.args.found.now c.requires.of part _ _ c.requires.form, (ap (λ z. z.kids) c.in_ok-open.ensures.ok, c.requires.in_step))))))))))
 
 pub sequence_of-returns-in_err-list-clause-gives : goal.sequence_of-returns-in_err-list-clause-gives
 sequence_of-returns-in_err-list-clause-gives g t c = λ told.
@@ -588,9 +588,9 @@ sequence_of-returns-in_err-list-clause-gives g t c = λ told.
     let old = c.args.run.now in
     let new = c.list.new.run in
     let j = stands_inside old.bits.position old.bits.taken old.bits.held old.bits.limit g.K.Origin.limit g.K.Origin.whole _ old.limited old.bits.behind old.bits.within (old.here told) in
-    let h = subst (λ n. FailsAt g.K.Origin.limit g.K.Origin.whole (halt_of c.in_err-list.field-0.0 new.stop) new.bits.taken (list_at true c.args.min c.args.max (λ m. many_at c.args.module.now n m item) (input g.K.Origin.limit g.K.Origin.whole) (spot old.bits.position old.nodes))) k.inner_is (c.in_err-list.ensures.gives told) in
-    rw (p.1, p.2) (subst (λ o. FailsAt g.K.Origin.limit g.K.Origin.whole (halt_of c.in_err-list.field-0.0 new.stop) new.bits.taken (items_at true (kid_at c.args.module.now c.args.depth) c.args.min c.args.max o (input g.K.Origin.limit g.K.Origin.whole) (spot old.bits.position old.nodes))) (sym is_place)
-    (list_fails c.args.module.now c.args.depth place c.args.min c.args.max (input g.K.Origin.limit g.K.Origin.whole) (spot old.bits.position old.nodes) g.K.Origin.limit g.K.Origin.whole (halt_of c.in_err-list.field-0.0 new.stop) new.bits.taken j h))
+    let h = subst (λ n. FailsAt g.K.Origin.limit g.K.Origin.whole (halt_of c.in_err-list.field-0.0 new.stop) new.bits.taken (list_at g.V.Variant.ALIGNED c.args.min c.args.max (λ m. many_at g.V.Variant.ALIGNED c.args.module.now n m item) (input g.K.Origin.limit g.K.Origin.whole) (spot old.bits.position old.nodes))) k.inner_is (c.in_err-list.ensures.gives told) in
+    rw (p.1, p.2) (subst (λ o. FailsAt g.K.Origin.limit g.K.Origin.whole (halt_of c.in_err-list.field-0.0 new.stop) new.bits.taken (items_at g.V.Variant.ALIGNED (kid_at g.V.Variant.ALIGNED c.args.module.now c.args.depth) c.args.min c.args.max o (input g.K.Origin.limit g.K.Origin.whole) (spot old.bits.position old.nodes))) (sym is_place)
+    (list_fails g.V.Variant.ALIGNED c.args.module.now c.args.depth place c.args.min c.args.max (input g.K.Origin.limit g.K.Origin.whole) (spot old.bits.position old.nodes) g.K.Origin.limit g.K.Origin.whole (halt_of c.in_err-list.field-0.0 new.stop) new.bits.taken j h))
 
 pub sequence_of-returns-in_err-open-clause-gives : goal.sequence_of-returns-in_err-open-clause-gives
 sequence_of-returns-in_err-open-clause-gives g t c = λ told.
@@ -604,8 +604,8 @@ sequence_of-returns-in_err-open-clause-gives g t c = λ told.
     let is_place : place_at (label_of u) 0 (Some part) (slice_get (kids_of u) 0) ≡ Some place = ap (λ o. place_at (label_of u) 0 (Some part) o) c.kid-item.ensures in
     let old = c.args.run.now in
     let j = stands_inside old.bits.position old.bits.taken old.bits.held old.bits.limit g.K.Origin.limit g.K.Origin.whole _ old.limited old.bits.behind old.bits.within (old.here told) in
-    rw (p.1, p.2) (subst (λ o. FailsAt g.K.Origin.limit g.K.Origin.whole memory old.bits.taken (items_at true (kid_at c.args.module.now c.args.depth) c.args.min c.args.max o (input g.K.Origin.limit g.K.Origin.whole) (spot old.bits.position old.nodes))) (sym is_place)
-    (list_full c.args.module.now c.args.depth place c.args.min c.args.max (input g.K.Origin.limit g.K.Origin.whole) (spot old.bits.position old.nodes) g.K.Origin.limit g.K.Origin.whole old.bits.taken j (omega (arith, c.requires.in_step))))
+    rw (p.1, p.2) (subst (λ o. FailsAt g.K.Origin.limit g.K.Origin.whole memory old.bits.taken (items_at g.V.Variant.ALIGNED (kid_at g.V.Variant.ALIGNED c.args.module.now c.args.depth) c.args.min c.args.max o (input g.K.Origin.limit g.K.Origin.whole) (spot old.bits.position old.nodes))) (sym is_place)
+    (list_full g.V.Variant.ALIGNED c.args.module.now c.args.depth place c.args.min c.args.max (input g.K.Origin.limit g.K.Origin.whole) (spot old.bits.position old.nodes) g.K.Origin.limit g.K.Origin.whole old.bits.taken j (omega (arith, c.requires.in_step))))
 
 pub sequence_of-returns-clause-pushed : goal.sequence_of-returns-clause-pushed
 sequence_of-returns-clause-pushed g t c = pushed-newest _ _ _ (c.close.ensures ∙ closed-list _ _ _ _ c.in_ok-open.ensures.ok c.in_ok-list.ensures.above)
@@ -642,9 +642,9 @@ sequence_of-returns-clause-gives g t c = λ told.
     let is_place : place_at (label_of u) 0 (Some part) (slice_get (kids_of u) 0) ≡ Some place = ap (λ o. place_at (label_of u) 0 (Some part) o) c.kid-item.ensures in
     let old = c.args.run.now in
     let new = c.list.new.run in
-    let h = subst (λ n. (list_at true c.args.min c.args.max (λ m. many_at c.args.module.now n m item) (input g.K.Origin.limit g.K.Origin.whole) (spot old.bits.position old.nodes)) ≡ Ok (c.list.new.values.kids, (spot new.bits.position new.nodes))) k.inner_is (c.in_ok-list.ensures.gives told) in
-    let e = list_reads c.args.module.now c.args.depth place c.args.min c.args.max (input g.K.Origin.limit g.K.Origin.whole) (spot old.bits.position old.nodes) c.list.new.values.kids (spot new.bits.position new.nodes) h in
-    rw (newest-pushed _ _ _ (c.close.ensures ∙ closed-list _ _ _ _ c.in_ok-open.ensures.ok c.in_ok-list.ensures.above)) (subst (λ o. (items_at true (kid_at c.args.module.now c.args.depth) c.args.min c.args.max o (input g.K.Origin.limit g.K.Origin.whole) (spot old.bits.position old.nodes)) ≡ Ok (node value.SequenceOf (roses_of c.list.new.values.kids), (spot new.bits.position new.nodes))) (sym is_place) e)
+    let h = subst (λ n. (list_at g.V.Variant.ALIGNED c.args.min c.args.max (λ m. many_at g.V.Variant.ALIGNED c.args.module.now n m item) (input g.K.Origin.limit g.K.Origin.whole) (spot old.bits.position old.nodes)) ≡ Ok (c.list.new.values.kids, (spot new.bits.position new.nodes))) k.inner_is (c.in_ok-list.ensures.gives told) in
+    let e = list_reads g.V.Variant.ALIGNED c.args.module.now c.args.depth place c.args.min c.args.max (input g.K.Origin.limit g.K.Origin.whole) (spot old.bits.position old.nodes) c.list.new.values.kids (spot new.bits.position new.nodes) h in
+    rw (newest-pushed _ _ _ (c.close.ensures ∙ closed-list _ _ _ _ c.in_ok-open.ensures.ok c.in_ok-list.ensures.above)) (subst (λ o. (items_at g.V.Variant.ALIGNED (kid_at g.V.Variant.ALIGNED c.args.module.now c.args.depth) c.args.min c.args.max o (input g.K.Origin.limit g.K.Origin.whole) (spot old.bits.position old.nodes)) ≡ Ok (node value.SequenceOf (roses_of c.list.new.values.kids), (spot new.bits.position new.nodes))) (sym is_place) e)
 
 -- THE ITEMS, by their count
 
@@ -653,23 +653,23 @@ list-returns-in_err-more-in-Some-clause-gives g t c = λ told.
     let p = err_from_is_err_and c.from_residual.result c.from_residual.ensures.1 in
     let old = c.args.run.now in
     let i = stands_inside old.bits.position old.bits.taken old.bits.held old.bits.limit g.K.Origin.limit g.K.Origin.whole _ old.limited old.bits.behind old.bits.within (old.here told) in
-    rw (p.1, p.2, c.in-Some.is) (count_fails c.args.module.now c.args.depth c.args.item.now c.args.min (input g.K.Origin.limit g.K.Origin.whole) (spot old.bits.position old.nodes) c.in-Some.most g.K.Origin.limit g.K.Origin.whole (halt_of c.in_err-more-in-Some.field-0.0 c.number.new.self.stop) c.number.new.self.bits.taken c.if-most-lt65536.true i (c.in_err-more-in-Some.ensures.gives told))
+    rw (p.1, p.2, c.in-Some.is) (count_fails g.V.Variant.ALIGNED c.args.module.now c.args.depth c.args.item.now c.args.min (input g.K.Origin.limit g.K.Origin.whole) (spot old.bits.position old.nodes) c.in-Some.most g.K.Origin.limit g.K.Origin.whole (halt_of c.in_err-more-in-Some.field-0.0 c.number.new.self.stop) c.number.new.self.bits.taken c.if-most-lt65536.true i (c.in_err-more-in-Some.ensures.gives told))
 
 pub list-returns-in_ok-more-in-Some-clause-gives : goal.list-returns-in_ok-more-in-Some-clause-gives
 list-returns-in_ok-more-in-Some-clause-gives g t c = λ told.
     let old = c.args.run.now in
     let mid = c.number.new.self in
-    rw c.in-Some.is (shows_as g.K.Origin.limit g.K.Origin.whole (λ _. c.items.new.values.kids) c.items.result _ _ _ _ _ (count_told c.args.module.now c.args.depth c.args.item.now c.args.min (input g.K.Origin.limit g.K.Origin.whole) (spot old.bits.position old.nodes) c.in-Some.most c.in_ok-more-in-Some.field-0 (spot mid.bits.position mid.nodes) c.if-most-lt65536.true (c.in_ok-more-in-Some.ensures.gives told)) (rw c.requires.empty at (c.items.ensures.gives told)))
+    rw c.in-Some.is (shows_as g.K.Origin.limit g.K.Origin.whole (λ _. c.items.new.values.kids) c.items.result _ _ _ _ _ (count_told g.V.Variant.ALIGNED c.args.module.now c.args.depth c.args.item.now c.args.min (input g.K.Origin.limit g.K.Origin.whole) (spot old.bits.position old.nodes) c.in-Some.most c.in_ok-more-in-Some.field-0 (spot mid.bits.position mid.nodes) c.if-most-lt65536.true (c.in_ok-more-in-Some.ensures.gives told)) (rw c.requires.empty at (c.items.ensures.gives told)))
 
 pub list-returns-else-most-lt65536-clause-gives : goal.list-returns-else-most-lt65536-clause-gives
 list-returns-else-most-lt65536-clause-gives g t c = λ told.
     let old = c.args.run.now in
-    rw c.in-Some.is (shows_as g.K.Origin.limit g.K.Origin.whole (λ _. c.fragments.new.values.kids) c.fragments.result _ _ _ _ _ (list-large c.args.module.now c.args.depth c.args.item.now c.args.min (input g.K.Origin.limit g.K.Origin.whole) (spot old.bits.position old.nodes) c.in-Some.most c.if-most-lt65536.false) (c.fragments.ensures.gives told))
+    rw c.in-Some.is (shows_as g.K.Origin.limit g.K.Origin.whole (λ _. c.fragments.new.values.kids) c.fragments.result _ _ _ _ _ (list-large g.V.Variant.ALIGNED c.args.module.now c.args.depth c.args.item.now c.args.min (input g.K.Origin.limit g.K.Origin.whole) (spot old.bits.position old.nodes) c.in-Some.most c.if-most-lt65536.false) (c.fragments.ensures.gives told))
 
 pub list-returns-in-None-clause-gives : goal.list-returns-in-None-clause-gives
 list-returns-in-None-clause-gives g t c = λ told.
     let old = c.args.run.now in
-    rw c.in-None.is (shows_as g.K.Origin.limit g.K.Origin.whole (λ _. c.fragments-in-None.new.values.kids) c.fragments-in-None.result _ _ _ _ _ (list-none c.args.module.now c.args.depth c.args.item.now c.args.min (input g.K.Origin.limit g.K.Origin.whole) (spot old.bits.position old.nodes)) (c.fragments-in-None.ensures.gives told))
+    rw c.in-None.is (shows_as g.K.Origin.limit g.K.Origin.whole (λ _. c.fragments-in-None.new.values.kids) c.fragments-in-None.result _ _ _ _ _ (list-none g.V.Variant.ALIGNED c.args.module.now c.args.depth c.args.item.now c.args.min (input g.K.Origin.limit g.K.Origin.whole) (spot old.bits.position old.nodes)) (c.fragments-in-None.ensures.gives told))
 
 -- ITEMS IN FRAGMENTS
 
@@ -686,14 +686,14 @@ fragments-returns-in_err-piece-clause-gives g t c = λ told.
     let old = c.fragments.run in
     let i = stands_inside old.bits.position old.bits.taken old.bits.held old.bits.limit g.K.Origin.limit g.K.Origin.whole _ old.limited old.bits.behind old.bits.within (old.here told) in
     rw (p.1, p.2) (subst (FailsAt g.K.Origin.limit g.K.Origin.whole (halt_of c.in_err-piece.field-0.0 c.count.new.self.stop) c.count.new.self.bits.taken) (c.fragments.invariant.so_far told)
-    (turn_fails c.args.min c.args.max (λ n. many_at c.args.module.now c.args.depth n c.args.item.now) (steady-items c.args.module.now c.args.depth c.args.item.now) c.fragments.values.kids c.fragments.before (length c.fragments.values.kids) (input g.K.Origin.limit g.K.Origin.whole) (spot old.bits.position old.nodes) i g.K.Origin.limit g.K.Origin.whole (halt_of c.in_err-piece.field-0.0 c.count.new.self.stop) c.count.new.self.bits.taken (rw c.fragments.invariant.counted at (c.in_err-piece.ensures.gives told))))
+    (turn_fails g.V.Variant.ALIGNED c.args.min c.args.max (λ n. many_at g.V.Variant.ALIGNED c.args.module.now c.args.depth n c.args.item.now) (steady-items g.V.Variant.ALIGNED c.args.module.now c.args.depth c.args.item.now) c.fragments.values.kids c.fragments.before (length c.fragments.values.kids) (input g.K.Origin.limit g.K.Origin.whole) (spot old.bits.position old.nodes) i g.K.Origin.limit g.K.Origin.whole (halt_of c.in_err-piece.field-0.0 c.count.new.self.stop) c.count.new.self.bits.taken (rw c.fragments.invariant.counted at (c.in_err-piece.ensures.gives told))))
 
 pub fragments-returns-in-Last-clause-gives : goal.fragments-returns-in-Last-clause-gives
 fragments-returns-in-Last-clause-gives g t c = λ told.
     let old = c.fragments.run in
     let mid = c.count.new.self in
     let i = stands_inside old.bits.position old.bits.taken old.bits.held old.bits.limit g.K.Origin.limit g.K.Origin.whole _ old.limited old.bits.behind old.bits.within (old.here told) in
-    let e = turn_last c.args.min c.args.max (λ n. many_at c.args.module.now c.args.depth n c.args.item.now) (steady-items c.args.module.now c.args.depth c.args.item.now) c.fragments.values.kids c.fragments.before (length c.fragments.values.kids) (input g.K.Origin.limit g.K.Origin.whole) (spot old.bits.position old.nodes) i c.in-Last.n (spot mid.bits.position mid.nodes) (rw (c.fragments.invariant.counted, c.in-Last.is) at (c.in_ok-piece.ensures.gives told)) in
+    let e = turn_last g.V.Variant.ALIGNED c.args.min c.args.max (λ n. many_at g.V.Variant.ALIGNED c.args.module.now c.args.depth n c.args.item.now) (steady-items g.V.Variant.ALIGNED c.args.module.now c.args.depth c.args.item.now) c.fragments.values.kids c.fragments.before (length c.fragments.values.kids) (input g.K.Origin.limit g.K.Origin.whole) (spot old.bits.position old.nodes) i c.in-Last.n (spot mid.bits.position mid.nodes) (rw (c.fragments.invariant.counted, c.in-Last.is) at (c.in_ok-piece.ensures.gives told)) in
     shows_as g.K.Origin.limit g.K.Origin.whole (λ _. c.items.new.values.kids) c.items.result _ _ _ _ _ (sym (c.fragments.invariant.so_far told) ∙ e) (c.items.ensures.gives told)
 
 pub fragments-returns-in_err-items-in-Units-clause-gives : goal.fragments-returns-in_err-items-in-Units-clause-gives
@@ -703,7 +703,7 @@ fragments-returns-in_err-items-in-Units-clause-gives g t c = λ told.
     let mid = c.count.new.self in
     let i = stands_inside old.bits.position old.bits.taken old.bits.held old.bits.limit g.K.Origin.limit g.K.Origin.whole _ old.limited old.bits.behind old.bits.within (old.here told) in
     rw (p.1, p.2) (subst (FailsAt g.K.Origin.limit g.K.Origin.whole (halt_of c.in_err-items-in-Units.field-0.0 c.items-in-Units.new.run.stop) c.items-in-Units.new.run.bits.taken) (c.fragments.invariant.so_far told)
-    (turn_off c.args.min c.args.max (λ n. many_at c.args.module.now c.args.depth n c.args.item.now) (steady-items c.args.module.now c.args.depth c.args.item.now) c.fragments.values.kids c.fragments.before (length c.fragments.values.kids) (input g.K.Origin.limit g.K.Origin.whole) (spot old.bits.position old.nodes) i c.in-Units.k (spot mid.bits.position mid.nodes) g.K.Origin.limit g.K.Origin.whole (halt_of c.in_err-items-in-Units.field-0.0 c.items-in-Units.new.run.stop) c.items-in-Units.new.run.bits.taken (rw (c.fragments.invariant.counted, c.in-Units.is) at (c.in_ok-piece.ensures.gives told)) (c.in_err-items-in-Units.ensures.gives told)))
+    (turn_off g.V.Variant.ALIGNED c.args.min c.args.max (λ n. many_at g.V.Variant.ALIGNED c.args.module.now c.args.depth n c.args.item.now) (steady-items g.V.Variant.ALIGNED c.args.module.now c.args.depth c.args.item.now) c.fragments.values.kids c.fragments.before (length c.fragments.values.kids) (input g.K.Origin.limit g.K.Origin.whole) (spot old.bits.position old.nodes) i c.in-Units.k (spot mid.bits.position mid.nodes) g.K.Origin.limit g.K.Origin.whole (halt_of c.in_err-items-in-Units.field-0.0 c.items-in-Units.new.run.stop) c.items-in-Units.new.run.bits.taken (rw (c.fragments.invariant.counted, c.in-Units.is) at (c.in_ok-piece.ensures.gives told)) (c.in_err-items-in-Units.ensures.gives told)))
 
 pub fragments-fragments-preserved : goal.fragments-fragments-preserved
 fragments-fragments-preserved g t c =
@@ -723,8 +723,8 @@ fragments-fragments-preserved g t c =
       fit = c.in_ok-items-in-Units.ensures.fits;
       so_far = λ told.
           let i = stands_inside old.bits.position old.bits.taken old.bits.held old.bits.limit g.K.Origin.limit g.K.Origin.whole _ old.limited old.bits.behind old.bits.within (old.here told) in
-          let e = turn_on c.args.min c.args.max (λ n. many_at c.args.module.now c.args.depth n c.args.item.now) (steady-items c.args.module.now c.args.depth c.args.item.now) c.fragments.values.kids c.fragments.before (length c.fragments.values.kids) (input g.K.Origin.limit g.K.Origin.whole) (spot old.bits.position old.nodes) i c.in-Units.k (spot mid.bits.position mid.nodes) all (spot new.bits.position new.nodes) (rw (c.fragments.invariant.counted, c.in-Units.is) at (c.in_ok-piece.ensures.gives told)) (c.in_ok-items-in-Units.ensures.gives told) in
-          subst (λ n. with_front all (fragments_at true c.args.min c.args.max (λ m. many_at c.args.module.now c.args.depth m c.args.item.now) (suc (length (input g.K.Origin.limit g.K.Origin.whole))) c.in-Units.k n (input g.K.Origin.limit g.K.Origin.whole) (spot new.bits.position new.nodes)) ≡ counted_at true c.args.min c.args.max (λ m. many_at c.args.module.now c.args.depth m c.args.item.now) (input g.K.Origin.limit g.K.Origin.whole) (spot c.args.run.now.bits.position c.args.run.now.nodes))
+          let e = turn_on g.V.Variant.ALIGNED c.args.min c.args.max (λ n. many_at g.V.Variant.ALIGNED c.args.module.now c.args.depth n c.args.item.now) (steady-items g.V.Variant.ALIGNED c.args.module.now c.args.depth c.args.item.now) c.fragments.values.kids c.fragments.before (length c.fragments.values.kids) (input g.K.Origin.limit g.K.Origin.whole) (spot old.bits.position old.nodes) i c.in-Units.k (spot mid.bits.position mid.nodes) all (spot new.bits.position new.nodes) (rw (c.fragments.invariant.counted, c.in-Units.is) at (c.in_ok-piece.ensures.gives told)) (c.in_ok-items-in-Units.ensures.gives told) in
+          subst (λ n. with_front all (fragments_at g.V.Variant.ALIGNED c.args.min c.args.max (λ m. many_at g.V.Variant.ALIGNED c.args.module.now c.args.depth m c.args.item.now) (suc (length (input g.K.Origin.limit g.K.Origin.whole))) c.in-Units.k n (input g.K.Origin.limit g.K.Origin.whole) (spot new.bits.position new.nodes)) ≡ counted_at g.V.Variant.ALIGNED c.args.min c.args.max (λ m. many_at g.V.Variant.ALIGNED c.args.module.now c.args.depth m c.args.item.now) (input g.K.Origin.limit g.K.Origin.whole) (spot c.args.run.now.bits.position c.args.run.now.nodes))
           long (sym e ∙ c.fragments.invariant.so_far told);
     }
 
@@ -734,14 +734,14 @@ pub items-node-requires : goal.items-node-requires
 items-node-requires g t c =
     let M = c.args.module.now in
     let d = c.decreases in
-    (λ κs h. (omega (arith, d, needs-resolved M c.requires.known c.args.depth c.args.item.now c.requires.of, ap (needs M c.args.depth) c.resolve-found.ensures), (h.0, (h.1, (c.requires.depth, (c.requires.known, (c.requires.of, (c.resolve-found.ensures, c.items.invariant.in_step))))))))
+    (λ κs h. (omega (arith, d, needs-resolved M c.requires.known c.args.depth c.args.item.now c.requires.of, ap (needs M c.args.depth) c.resolve-found.ensures), (h.0, (h.1.0, (h.1.1, (c.requires.depth, (c.requires.known, (c.requires.of, (c.resolve-found.ensures, c.items.invariant.in_step)))))))))
 
 pub items-returns-in_err-node-clause-gives : goal.items-returns-in_err-node-clause-gives
 items-returns-in_err-node-clause-gives g t c = λ told.
     let p = err_from_is_err_and c.from_residual.result c.from_residual.ensures.1 in
     let old = c.items.run in
     let i = stands_inside old.bits.position old.bits.taken old.bits.held old.bits.limit g.K.Origin.limit g.K.Origin.whole _ old.limited old.bits.behind old.bits.within (old.here told) in
-    let k = each_fails (node_of c.args.module.now c.args.depth c.args.item.now) c.items.values.kids (input g.K.Origin.limit g.K.Origin.whole) (spot old.bits.position old.nodes) 0 _ _ (replicate-drop c.args.n c.items.counter 0 c.items-test.true) (λ n. sits-node c.args.module.now c.args.depth c.args.item.now) g.K.Origin.limit g.K.Origin.whole (halt_of c.in_err-node.field-0.0 c.node.new.run.stop) c.node.new.run.bits.taken i (c.in_err-node.ensures.gives told) in
+    let k = each_fails (node_of g.V.Variant.ALIGNED c.args.module.now c.args.depth c.args.item.now) c.items.values.kids (input g.K.Origin.limit g.K.Origin.whole) (spot old.bits.position old.nodes) 0 _ _ (replicate-drop c.args.n c.items.counter 0 c.items-test.true) (λ n. sits-node g.V.Variant.ALIGNED c.args.module.now c.args.depth c.args.item.now) g.K.Origin.limit g.K.Origin.whole (halt_of c.in_err-node.field-0.0 c.node.new.run.stop) c.node.new.run.bits.taken i (c.in_err-node.ensures.gives told) in
     rw (p.1, p.2) (subst (FailsAt g.K.Origin.limit g.K.Origin.whole (halt_of c.in_err-node.field-0.0 c.node.new.run.stop) c.node.new.run.bits.taken) (c.items.invariant.so_far told) k)
 
 pub items-items-preserved : goal.items-items-preserved
@@ -762,10 +762,10 @@ items-items-preserved g t c =
       size = rw pushed (omega (arith, c.items.invariant.size, length-append front (v ∷ [])));
       fit = rw pushed (all-push M c.args.depth item front v c.items.invariant.fit c.in_ok-node.ensures.fits);
       so_far = λ told. rw pushed (
-          sym (each_more (node_of M c.args.depth item) front (input g.K.Origin.limit g.K.Origin.whole) (spot old.bits.position old.nodes) 0 _ _ (replicate-drop c.args.n c.items.counter 0 c.items-test.true) v (spot new.bits.position new.nodes) (c.in_ok-node.ensures.gives told)) ∙ c.items.invariant.so_far told);
+          sym (each_more (node_of g.V.Variant.ALIGNED M c.args.depth item) front (input g.K.Origin.limit g.K.Origin.whole) (spot old.bits.position old.nodes) 0 _ _ (replicate-drop c.args.n c.items.counter 0 c.items-test.true) v (spot new.bits.position new.nodes) (c.in_ok-node.ensures.gives told)) ∙ c.items.invariant.so_far told);
     }
 
 pub items-returns-clause-gives : goal.items-returns-clause-gives
 items-returns-clause-gives g t c = λ told.
     let run = c.items.run in
-    sym (c.items.invariant.so_far told) ∙ each_done (node_of c.args.module.now c.args.depth c.args.item.now) c.items.values.kids (input g.K.Origin.limit g.K.Origin.whole) (spot run.bits.position run.nodes) _ (copies-none c.args.n c.items.counter 0 c.items-test.false)
+    sym (c.items.invariant.so_far told) ∙ each_done (node_of g.V.Variant.ALIGNED c.args.module.now c.args.depth c.args.item.now) c.items.values.kids (input g.K.Origin.limit g.K.Origin.whole) (spot run.bits.position run.nodes) _ (copies-none c.args.n c.items.counter 0 c.items-test.false)

@@ -49,7 +49,7 @@ invariant-components-parts g l = record {
   same : l.run.bits.source.ghost_name ≡ l.fn.run.bits.source.ghost_name;
   above : l.values.above ≡ l.fn.values.above;
   count : l.run.nodes ≡ l.fn.run.nodes + count_all (roses_of l.values.kids);
-  through : Through l.«module» l.depth (label_of l.found) l.parts (kids_of l.found) l.present (IsTrue g.K.Origin.told) (input g.K.Origin.limit g.K.Origin.whole) (spot l.fn.run.bits.position l.fn.run.nodes) l.i l.values.kids (spot l.run.bits.position l.run.nodes);
+  through : Through g.V.Variant.ALIGNED l.«module» l.depth (label_of l.found) l.parts (kids_of l.found) l.present (IsTrue g.K.Origin.told) (input g.K.Origin.limit g.K.Origin.whole) (spot l.fn.run.bits.position l.fn.run.nodes) l.i l.values.kids (spot l.run.bits.position l.run.nodes);
 }
 
 abbrev pub invariant-items-items : goal.invariant-items-items
@@ -61,8 +61,8 @@ invariant-items-items g l = record {
   count : l.run.nodes + count_all (roses_of l.fn.values.kids) ≡ l.fn.run.nodes + count_all (roses_of l.values.kids);
   size : length l.values.kids ≡ length l.fn.values.kids + l.counter;
   fit : FitAll l.«module» l.depth l.item l.values.kids;
-  so_far : IsTrue g.K.Origin.told → more_at l.«module» l.depth (l.n - l.counter) l.item l.values.kids (input g.K.Origin.limit g.K.Origin.whole) (spot l.run.bits.position l.run.nodes)
-      ≡ more_at l.«module» l.depth l.n l.item l.fn.values.kids (input g.K.Origin.limit g.K.Origin.whole) (spot l.fn.run.bits.position l.fn.run.nodes);
+  so_far : IsTrue g.K.Origin.told → more_at g.V.Variant.ALIGNED l.«module» l.depth (l.n - l.counter) l.item l.values.kids (input g.K.Origin.limit g.K.Origin.whole) (spot l.run.bits.position l.run.nodes)
+      ≡ more_at g.V.Variant.ALIGNED l.«module» l.depth l.n l.item l.fn.values.kids (input g.K.Origin.limit g.K.Origin.whole) (spot l.fn.run.bits.position l.fn.run.nodes);
 }
 
 abbrev pub invariant-fragments-fragments : goal.invariant-fragments-fragments
@@ -74,8 +74,8 @@ invariant-fragments-fragments g l = record {
   above : l.values.above ≡ l.fn.values.above;
   count : l.run.nodes ≡ l.fn.run.nodes + count_all (roses_of l.values.kids);
   fit : FitAll l.«module» l.depth l.item l.values.kids;
-  so_far : IsTrue g.K.Origin.told → with_front l.values.kids (fragments_at true l.min l.max (λ n. many_at l.«module» l.depth n l.item) (suc (length (input g.K.Origin.limit g.K.Origin.whole))) l.before (length l.values.kids) (input g.K.Origin.limit g.K.Origin.whole) (spot l.run.bits.position l.run.nodes))
-      ≡ counted_at true l.min l.max (λ n. many_at l.«module» l.depth n l.item) (input g.K.Origin.limit g.K.Origin.whole) (spot l.fn.run.bits.position l.fn.run.nodes);
+  so_far : IsTrue g.K.Origin.told → with_front l.values.kids (fragments_at g.V.Variant.ALIGNED l.min l.max (λ n. many_at g.V.Variant.ALIGNED l.«module» l.depth n l.item) (suc (length (input g.K.Origin.limit g.K.Origin.whole))) l.before (length l.values.kids) (input g.K.Origin.limit g.K.Origin.whole) (spot l.run.bits.position l.run.nodes))
+      ≡ counted_at g.V.Variant.ALIGNED l.min l.max (λ n. many_at g.V.Variant.ALIGNED l.«module» l.depth n l.item) (input g.K.Origin.limit g.K.Origin.whole) (spot l.fn.run.bits.position l.fn.run.nodes);
 }
 
 abbrev pub decreases-fragments-fragments : goal.decreases-fragments-fragments

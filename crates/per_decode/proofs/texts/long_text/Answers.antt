@@ -17,7 +17,7 @@ returns-in_err-octets-clause-gives g c = λ told.
     let p = err_from_is_err_and c.from_residual.result c.from_residual.ensures.1 in
     let old = c.args.run.now in
     let i = stands_inside old.bits.position old.bits.taken old.bits.held old.bits.limit g.K.Origin.limit g.K.Origin.whole _ old.limited old.bits.behind old.bits.within (old.here told) in
-    rw (p.1, p.2) (kept_fails c.args.module.now c.args.begin (resolve c.args.module.now c.args.node.now) (octets_behind (piece_of c.args.first)) (sits-length (piece_of c.args.first)) (input g.K.Origin.limit g.K.Origin.whole) (spot old.bits.position old.nodes) g.K.Origin.limit g.K.Origin.whole (halt_of c.in_err-octets.field-0.0 c.octets_behind.new.self.stop) c.octets_behind.new.self.bits.taken i (c.in_err-octets.ensures.gives told))
+    rw (p.1, p.2) (kept_fails c.args.module.now c.args.begin (resolve c.args.module.now c.args.node.now) (octets_behind g.V.Variant.ALIGNED (piece_of c.args.first)) (sits-length g.V.Variant.ALIGNED (piece_of c.args.first)) (input g.K.Origin.limit g.K.Origin.whole) (spot old.bits.position old.nodes) g.K.Origin.limit g.K.Origin.whole (halt_of c.in_err-octets.field-0.0 c.octets_behind.new.self.stop) c.octets_behind.new.self.bits.taken i (c.in_err-octets.ensures.gives told))
 
 pub returns-clause-pushed : goal.returns-clause-pushed
 returns-clause-pushed g c = pushed-told c.copied_text.result _ _ _ c.copied_text.ensures.pushed
@@ -37,7 +37,7 @@ returns-clause-gives g c = λ told.
     let octets = c.deref.result.now in
     let e : octets ≡ c.in_ok-octets.octets.items = search rules in
     shows_as g.K.Origin.limit g.K.Origin.whole (λ _. newest c.copied_text.new.values.kids) c.copied_text.result _ _ _ _ _
-    (kept_read M c.args.begin (resolve M t) (octets_behind (piece_of c.args.first)) (input g.K.Origin.limit g.K.Origin.whole) (spot old.bits.position old.nodes) octets (spot new.bits.position new.nodes)
+    (kept_read M c.args.begin (resolve M t) (octets_behind g.V.Variant.ALIGNED (piece_of c.args.first)) (input g.K.Origin.limit g.K.Origin.whole) (spot old.bits.position old.nodes) octets (spot new.bits.position new.nodes)
     (c.in_ok-octets.ensures.gives told ∙ ap (λ os. Ok (os, spot new.bits.position new.nodes)) (sym e)))
     (text_shows M c.requires.known c.args.begin t c.requires.of octets (spot new.bits.position new.nodes) g.K.Origin.limit g.K.Origin.whole c.copied_text.new.stop new.bits.taken (newest c.copied_text.new.values.kids) c.copied_text.result
     (omega (arith, c.in_ok-octets.ensures.on.1)) (newest-told c.copied_text.result _ _ _ c.copied_text.ensures.pushed) c.copied_text.ensures.ok (rw c.position-end.ensures at c.copied_text.ensures.err))

@@ -15,9 +15,10 @@ use Rattle.asn_types.specs.Values.{place_of, present_from}
 use Rattle.plain_items.specs.Mixing.{text_before}
 use Rattle.xer_items.specs.Items.{given, nothing, both, element_of, gathered, texts_of, with_texts}
 use Rattle.xer_items.specs.Spelling.{is_textual}
+use Rattle.xer_write.specs.Private.Receiving.{name_seen}
 use Rattle.xer_write.specs.Private.Gaining.{Gains}
 use Rattle.xer_write.specs.Private.Giving.{IsTypeIn, may_be_present, place_seen, place_gives, places_give, parts_give, mixed_gives, type_gives}
-use Rattle.xer_write.proofs.Gaining.{gains-nothing, gains-both, mixed-gained, element-gained, element-open, on_ok, on_ok-three}
+use Rattle.xer_write.proofs.Gaining.{gains-nothing, gains-both, mixed-gained, element-gained, element-open, on_ok, on_ok-two}
 use Rattle.xer_write.proofs.Giving.{found-in, kid-in, have-kids, few-parts, allowed-of, inside-text, inside-parts, sequence-give, sequence-other, choice-other, items-other, reference-other, present-some, fit-length, fit-step, give-present, found-absent, give-end, found_from, items_give, items-step, items-end, at-attribute, at-element, at-group, at-content, at-other}
 use Rattle.xer_write.proofs.Parts.{nil-then, with-embed, without-embed, some-at, slice-at, kid-count, flag-at, role-is, give-short, give-missing, choice-made, choice-missed, choice-empty, items-made, items-missed, too-few, too-many}
 use Rattle.xer_write.proofs.gathering.+gathering.Goals as goal
@@ -85,15 +86,15 @@ gather_at-returns-in_ok-text-in-Attribute t c =
     let p = place_seen c.args.place.now in
     let v = c.args.value.now in
     let text = c.in_ok-text-in-Attribute.ensures ∙ ap (λ x. spelled (space_at x) v) c.resolve.ensures in
-    let same = at-attribute m p v c.in-Attribute.is c.in_ok-attribute-in-Attribute.attribute c.in_ok-text-in-Attribute.text c.in_ok-attribute-in-Attribute.ensures text in
+    let same = at-attribute m p v c.in-Attribute.is (name_seen c.of_part.result) c.in_ok-text-in-Attribute.text c.of_part.ensures text in
     subst (λ g. OnOk c.add_attribute.result (Gains c.args.out.now c.add_attribute.new.self g)) same c.add_attribute.ensures
 
-pub gather_at-returns-in_ok-name-in-Element : goal.gather_at-returns-in_ok-name-in-Element
-gather_at-returns-in_ok-name-in-Element t c =
+pub gather_at-returns-in-Element : goal.gather_at-returns-in-Element
+gather_at-returns-in-Element t c =
     let m = c.args.module.now in
     let p = place_seen c.args.place.now in
     let v = c.args.value.now in
-    let same = at-element m p v c.in-Element.is c.in_ok-name-in-Element.name c.in_ok-name-in-Element.ensures in
+    let same = at-element m p v c.in-Element.is (name_seen c.of_part-name.result) c.of_part-name.ensures in
     subst (λ g. OnOk c.gather_element.result (Gains c.args.out.now c.gather_element.new.out g)) same c.gather_element.ensures
 
 pub gather_at-returns-in-Group : goal.gather_at-returns-in-Group
@@ -291,7 +292,7 @@ gather_mixed-returns t c =
     let g = parts_give c.args.module.now c.args.node.now c.args.value.now in
     let begun = c.in_ok-begin_mixed.ensures in
     on_ok c.end_mixed.result _ _
-    (λ ends. mixed-gained c.args.out.now c.begin_mixed.new.self c.gather_kids.new.out c.end_mixed.new.self c.args.texts g begun.builder begun.attributes begun.texts c.in_ok-gather_kids.ensures ends)
+    (λ ends. mixed-gained c.args.out.now c.begin_mixed.new.self c.gather_kids.new.out c.end_mixed.new.self c.args.texts g begun.receiver begun.texts c.in_ok-gather_kids.ensures ends)
     c.end_mixed.ensures
 
 pub gather_element-spelling-requires : goal.gather_element-spelling-requires
@@ -304,7 +305,7 @@ pub gather_element-returns-then-is_textual : goal.gather_element-returns-then-is
 gather_element-returns-then-is_textual t c =
     let m = c.args.module.now in
     let v = c.args.value.now in
-    let name = c.args.name in
+    let name = name_seen c.args.name in
     let textual : is_textual (label_of (resolve m c.args.node.now)) ≡ true =
     ap (λ x. is_textual (label_of x)) (sym c.resolve-found.ensures) ∙ ap is_textual (sym c.label.ensures) ∙ sym c.is_textual.ensures ∙ c.if-is_textual.true in
     let text = c.in_ok-text.ensures ∙ ap (λ x. spelled (space_at x) v) c.resolve-found.ensures in
@@ -325,7 +326,7 @@ gather_element-gather_parts-requires t c =
 pub gather_element-end_element-requires : goal.gather_element-end_element-requires
 gather_element-end_element-requires t c =
     let g = type_gives c.args.module.now c.resolve-found.result.now c.args.value.now in
-    element-open c.args.out.now c.begin_element.new.self c.gather_parts.new.out c.in_ok-outer.outer c.args.name g c.in_ok-outer.ensures c.in_ok-gather_parts.ensures
+    element-open c.args.out.now c.begin_element.new.self c.gather_parts.new.out c.in_ok-outer.outer (name_seen c.args.name) g c.in_ok-outer.ensures c.in_ok-gather_parts.ensures
 
 pub gather_element-returns : goal.gather_element-returns
 gather_element-returns t c =
@@ -335,11 +336,11 @@ gather_element-returns t c =
     let textual : is_textual (label_of (resolve m c.args.node.now)) ≡ false =
     ap (λ x. is_textual (label_of x)) (sym c.resolve-found.ensures) ∙ ap is_textual (sym c.label.ensures) ∙ sym c.is_textual.ensures ∙ c.if-is_textual.false in
     let same = ap (λ x. type_gives m x v) c.resolve-found.ensures ∙ sym (inside-parts m c.args.node.now v textual) in
-    on_ok-three c.end_element.result _ _ _ _
-    (λ builder attributes texts.
-    subst (λ g. Gains c.args.out.now c.end_element.new.self (given [] (more (element_of c.args.name g) none))) same
-    (element-gained c.args.out.now c.begin_element.new.self c.gather_parts.new.out c.end_element.new.self c.in_ok-outer.outer c.args.name (type_gives m u v) c.in_ok-outer.ensures c.in_ok-gather_parts.ensures builder attributes texts))
-    c.end_element.ensures.builder c.end_element.ensures.attributes c.end_element.ensures.texts
+    on_ok-two c.end_element.result _ _ _
+    (λ closes texts.
+    subst (λ g. Gains c.args.out.now c.end_element.new.self (given [] (more (element_of (name_seen c.args.name) g) none))) same
+    (element-gained c.args.out.now c.begin_element.new.self c.gather_parts.new.out c.end_element.new.self c.in_ok-outer.outer (name_seen c.args.name) (type_gives m u v) c.in_ok-outer.ensures c.in_ok-gather_parts.ensures closes texts))
+    c.end_element.ensures.receiver c.end_element.ensures.texts
 
 -- ---- SEQUENCE
 

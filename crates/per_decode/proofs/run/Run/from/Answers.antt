@@ -11,4 +11,4 @@ returns-in_err-more-clause-gives g c = λ told.
     let p = err_from_is_err_and c.from_residual.result c.from_residual.ensures.1 in
     let old = c.args.self.now in
     let i = stands_inside old.bits.position old.bits.taken old.bits.held old.bits.limit g.K.Origin.limit g.K.Origin.whole _ old.limited old.bits.behind old.bits.within (old.here told) in
-    rw (p.1, p.2) (fails_first _ _ (halt_of c.in_err-more.field-0.0 c.octet_count.new.self.stop) c.octet_count.new.self.bits.taken _ _ _ (sits-octet_count _ _ i).inside (λ x j. sits-from_octets c.args.lo x.0 _ x.1 j) (c.in_err-more.ensures.gives told))
+    rw (p.1, p.2) (fails_first _ _ (halt_of c.in_err-more.field-0.0 c.octet_count.new.self.stop) c.octet_count.new.self.bits.taken _ _ _ (sits-octet_count g.V.Variant.ALIGNED _ _ i).inside (λ x j. sits-from_octets c.args.lo x.0 _ x.1 j) (c.in_err-more.ensures.gives told))

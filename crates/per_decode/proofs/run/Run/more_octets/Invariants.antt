@@ -13,8 +13,8 @@ invariant-fragments g l = record {
   on : l.fn.self.bits.position ≤ l.self.bits.position;
   nodes : l.self.nodes ≡ l.fn.self.nodes;
   same : l.self.bits.source.ghost_name ≡ l.fn.self.bits.source.ghost_name;
-  so_far : IsTrue g.K.Origin.told → with_front l.text.items (fragments_at true 0 None octets_at (suc (length (input g.K.Origin.limit g.K.Origin.whole))) l.before (length l.text.items) (input g.K.Origin.limit g.K.Origin.whole) (spot l.self.bits.position l.self.nodes))
-      ≡ octets_more l.fn.first.items l.fn.units (length l.fn.first.items) (input g.K.Origin.limit g.K.Origin.whole) (spot l.fn.self.bits.position l.fn.self.nodes);
+  so_far : IsTrue g.K.Origin.told → with_front l.text.items (fragments_at g.V.Variant.ALIGNED 0 None octets_at (suc (length (input g.K.Origin.limit g.K.Origin.whole))) l.before (length l.text.items) (input g.K.Origin.limit g.K.Origin.whole) (spot l.self.bits.position l.self.nodes))
+      ≡ octets_more g.V.Variant.ALIGNED l.fn.first.items l.fn.units (length l.fn.first.items) (input g.K.Origin.limit g.K.Origin.whole) (spot l.fn.self.bits.position l.fn.self.nodes);
 }
 
 abbrev pub decreases-fragments : goal.decreases-fragments

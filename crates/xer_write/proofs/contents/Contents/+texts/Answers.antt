@@ -18,8 +18,7 @@ add_text-returns t c =
     let room = c.make_room.new.self in
     let some : (length c.args.text == 0) ≡ false = ap (λ s. length s == 0) (sym c.as_str.ensures) ∙ sym c.is_empty.ensures ∙ c.if-is_empty.false in
     on_ok c.put_text.result _ _
-    (λ builder. gains-text c.args.self.now room (record { builder = c.put_text.new.builder; attributes = room.attributes; texts = room.texts }) c.args.text some (subst IsUtf8 c.as_str.ensures c.as_str.utf8)
-    c.in_ok-make_room.ensures refl refl builder)
+    (λ tells. gains-text c.args.self.now room (record { receiver = c.put_text.new.self; texts = room.texts }) c.args.text some (subst IsUtf8 c.as_str.ensures c.as_str.utf8) c.in_ok-make_room.ensures refl tells)
     c.put_text.ensures
 
 pub add_next-returns-clause-gains : goal.add_next-returns-clause-gains
@@ -39,7 +38,7 @@ pub make_room-make_room-requires : goal.make_room-make_room-requires
 make_room-make_room-requires t c =
     let d = c.decreases in
     let old = c.args.self.now in
-    let popped : Contents = record { builder = old.builder; attributes = old.attributes; texts = c.pop.new.self } in
+    let popped : Contents = record { receiver = old.receiver; texts = c.pop.new.self } in
     let same = gains-length popped c.add_next.new.self _ c.in_ok-left.ensures.gains in
     let one = ap length c.in-Some.ensures.items in
     let more = length-append c.pop.new.self.items (c.in-Some.texts ∷ []) in
@@ -49,6 +48,6 @@ pub make_room-returns : goal.make_room-returns
 make_room-returns t c =
     let old = c.args.self.now in
     let room = c.make_room.new.self in
-    let popped : Contents = record { builder = old.builder; attributes = old.attributes; texts = c.pop.new.self } in
-    room-made old popped c.add_next.new.self room (record { builder = room.builder; attributes = room.attributes; texts = c.push.new.self }) c.in-Some.texts c.in_ok-left.left
-    c.in-Some.ensures.items refl refl c.in_ok-left.ensures.gains c.in_ok-left.ensures.left c.in_ok-make_room.ensures c.in_ok-push.ensures.items refl refl
+    let popped : Contents = record { receiver = old.receiver; texts = c.pop.new.self } in
+    room-made old popped c.add_next.new.self room (record { receiver = room.receiver; texts = c.push.new.self }) c.in-Some.texts c.in_ok-left.left
+    c.in-Some.ensures.items refl c.in_ok-left.ensures.gains c.in_ok-left.ensures.left c.in_ok-make_room.ensures c.in_ok-push.ensures.items refl

@@ -1,12 +1,13 @@
 use Rattle.std.proofs.Common.{subst, refl, IsUtf8}
 use Rattle.xer_write.specs.declared.contents.Contents.{Contents}
+use Rattle.xer_write.specs.Private.Receiving.{name_seen}
 use Rattle.xer_write.proofs.Gaining.{text-element-gained, on_ok}
 use Rattle.xer_write.proofs.contents.Contents.add_text_element.Goals as goal
 
 pub returns : goal.returns
 returns c =
     let room = c.make_room.new.self in
-    let new : Contents = record { builder = c.put_with_text.new.builder; attributes = room.attributes; texts = room.texts } in
+    let new : Contents = record { receiver = c.put_with_text.new.receiver; texts = room.texts } in
     on_ok c.put_with_text.result _ _
-    (λ builder. text-element-gained c.args.self.now room new c.args.name c.args.text (subst IsUtf8 c.as_str.ensures c.as_str.utf8) c.in_ok-make_room.ensures refl refl builder)
+    (λ takes. text-element-gained c.args.self.now room new (name_seen c.args.name) c.args.text (subst IsUtf8 c.as_str.ensures c.as_str.utf8) c.in_ok-make_room.ensures refl takes)
     c.put_with_text.ensures

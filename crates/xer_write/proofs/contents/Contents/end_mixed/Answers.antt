@@ -12,5 +12,5 @@ returns-in-None c = λ outer words is.
 pub returns-in_ok-add_next-in-Some : goal.returns-in_ok-add_next-in-Some
 returns-in_ok-add_next-in-Some c =
     let old = c.args.self.now in
-    let popped : Contents = record { builder = old.builder; attributes = old.attributes; texts = c.pop.new.self } in
-    mixed-ended old popped c.add_next.new.self c.in-Some.texts c.in-Some.ensures.items refl refl c.in_ok-add_next-in-Some.ensures.gains
+    let popped : Contents = record { receiver = old.receiver; texts = c.pop.new.self } in
+    mixed-ended old popped c.add_next.new.self c.in-Some.texts c.in-Some.ensures.items refl c.in_ok-add_next-in-Some.ensures.gains

@@ -1,0 +1,17 @@
+-- The bounds of particles (XML Schema Part 1, section 3.9.6).
+use Rattle.content_models.specs.Particle.{Particle, occurs, Term, element, sequence, choice, Particles, none, more}
+use Rattle.content_models.specs.Occurring.{AllowOne}
+
+abbrev mutual
+  -- neither the particle nor one below it has no occurrence at most, or more at least than at most
+  pub BoundsAllow : Particle → Type 0
+  BoundsAllow (occurs t least most) = AllowOne least most × TermBoundsAllow t
+
+  pub TermBoundsAllow : Term → Type 0
+  TermBoundsAllow (element d a) = Unit {0}
+  TermBoundsAllow (sequence ps) = AllBoundsAllow ps
+  TermBoundsAllow (choice ps) = AllBoundsAllow ps
+
+  pub AllBoundsAllow : Particles → Type 0
+  AllBoundsAllow none = Unit {0}
+  AllBoundsAllow (more p ps) = BoundsAllow p × AllBoundsAllow ps

@@ -1,0 +1,238 @@
+//! What takes the items of a value as they are told: they are built, or written as text at once.
+ghost use Rattle.std.specs.Prelude.{◌≡◌, ◌∷◌, [], codes, IfOk, OnOk, IfSome};
+ghost use Rattle.label_tree.specs.Rose.{node, none};
+ghost use Rattle.item_tree.specs.declared.label.ItemLabel.TheVariants as item;
+ghost use Rattle.asn_types.specs.Names as names;
+ghost use Rattle.xer_items.specs.Items.{nil_name};
+
+use asn_types::{Assignment, Component};
+use doc_write::{OpenTag, TextBuilder};
+use item_tree::{ItemBuilder, ItemTree};
+use std::alloc::Global;
+use std::mem;
+use xa_base::{Memory, Name, Text, XSI_SPACE};
+
+/// A name of XML where it stands in a module. Without a namespace it is in none.
+#[derive(Clone, Copy)]
+pub(crate) struct NameRef<'a> {
+    space: Option<&'a Text>,
+    local: &'a Text,
+}
+
+impl<'a> NameRef<'a> {
+    ghost use Rattle.xer_write.specs.Private.Receiving.{name_seen};
+
+    /// The name of the element or attribute that a component stands for.
+    pub(crate) fn of_part(part: &'a Component) -> NameRef<'a>
+        ensures { name_seen result ≡ names.name_of_part part.now }
+    {
+        NameRef {
+            space: part.marks.namespace(),
+            local: part.marks.local_name(&part.identifier),
+        }
+    }
+
+    /// The name of the element that an assignment stands for.
+    pub(crate) fn of_assignment(assignment: &'a Assignment) -> NameRef<'a>
+        ensures { name_seen result ≡ names.name_told assignment.now.reference assignment.now.marks }
+    {
+        NameRef {
+            space: assignment.marks.namespace(),
+            local: assignment.marks.local_name(&assignment.reference),
+        }
+    }
+
+    fn space(self) -> &'a [u8]
+        ensures { result.now ≡ (name_seen self.entry).space }
+    {
+        match self.space {
+            Some(space) => space.bytes(),
+            None => &[],
+        }
+    }
+
+    fn local(self) -> &'a [u8]
+        ensures { result.now ≡ (name_seen self.entry).local }
+    {
+        self.local.bytes()
+    }
+
+    fn to_name(self, alloc: Global) -> Result<Name, Memory>
+        ensures { IfOk result (λ name. name ≡ name_seen self.entry) }
+    {
+        let space = match self.space {
+            Some(space) => space.copy(alloc)?,
+            None => Text::empty(),
+        };
+        let local = self.local.copy(alloc)?;
+        Ok(Name { space, local })
+    }
+}
+
+/// Items that are built, with the attributes of the innermost open element.
+#[derive(Drop)]
+pub(crate) struct Built {
+    builder: ItemBuilder,
+    attributes: Vec<(Name, Text)>,
+}
+
+/// Takes items as they are told.
+#[derive(Drop)]
+pub(crate) enum Receiver<'a> {
+    Items(Built),
+    Text(TextBuilder<'a>),
+}
+
+/// An open element: the attributes of the one that it stands in, or its tag.
+#[derive(Drop)]
+pub(crate) enum Open<'a> {
+    Items(Vec<(Name, Text)>),
+    Text(OpenTag<'a>),
+}
+
+impl<'a> Receiver<'a> {
+    ghost use Rattle.xer_write.specs.Private.Receiving.{name_seen, IsBegun, IsBuilder, IsTree, items_built, IsWholeOf, Tells, Opens, IsOpen, Closes};
+
+    /// Takes items to build them.
+    pub(crate) fn of_items(alloc: Global) -> Receiver<'a>
+        ensures begun { IsBegun result }
+        ensures items { IsBuilder result }
+    {
+        Receiver::Items(Built {
+            builder: ItemBuilder::new(alloc),
+            attributes: Vec::new(alloc),
+        })
+    }
+
+    /// Takes items to write them.
+    pub(crate) fn of_text(alloc: Global) -> Result<Receiver<'a>, Memory>
+        ensures { IfOk result IsBegun }
+    {
+        let text = TextBuilder::new(alloc)?;
+        Ok(Receiver::Text(text))
+    }
+
+    /// The tree that was built, where there is one, and no element is open.
+    pub(crate) fn into_tree(self) -> ItemTree
+        requires { IsTree self }
+        ensures { items_built self.entry ≡ result ∷ [] }
+    {
+        match self {
+            Receiver::Items(built) => built.builder.finish(),
+            Receiver::Text(_) => unreachable!(),
+        }
+    }
+
+    /// The text that was written of a root with this name. None where an attribute was told too late, and where items are
+    /// built.
+    pub(crate) fn into_text(
+        self,
+        alloc: Global,
+        name: NameRef<'a>,
+    ) -> Result<Option<Vec<u8>>, Memory>
+        ensures { IfOk result (λ whole. IsWholeOf self.entry (name_seen name.entry) whole) }
+    {
+        match self {
+            Receiver::Items(_) => Ok(None),
+            Receiver::Text(text) => text.finish(alloc, name.space(), name.local()),
+        }
+    }
+
+    /// Adds an attribute to the innermost open element.
+    pub(crate) fn put_attribute(
+        &mut self,
+        alloc: Global,
+        name: NameRef<'a>,
+        text: Text,
+    ) -> Result<(), Memory>
+        ensures { OnOk result (Tells self.old self.new ((name_seen name.entry, text) ∷ []) []) }
+    {
+        match self {
+            Receiver::Items(built) => {
+                let name = name.to_name(alloc)?;
+                built.attributes.push((name, text))?;
+                Ok(())
+            }
+            Receiver::Text(out) => {
+                out.attribute(name.space(), name.local(), text.bytes())?;
+                Ok(())
+            }
+        }
+    }
+
+    /// Adds `xsi:nil` with the value `true`.
+    pub(crate) fn put_nil(&mut self, alloc: Global) -> Result<(), Memory>
+        ensures { OnOk result (Tells self.old self.new ((nil_name, codes "true") ∷ []) []) }
+    {
+        match self {
+            Receiver::Items(built) => {
+                let space = Text::from_str(alloc, XSI_SPACE)?;
+                let local = Text::from_str(alloc, "nil")?;
+                let text = Text::from_str(alloc, "true")?;
+                built.attributes.push((Name { space, local }, text))?;
+                Ok(())
+            }
+            Receiver::Text(out) => {
+                out.attribute(XSI_SPACE.as_bytes(), b"nil", b"true")?;
+                Ok(())
+            }
+        }
+    }
+
+    /// Adds a text.
+    pub(crate) fn put_text(&mut self, text: Text) -> Result<(), Memory>
+        ensures { OnOk result (Tells self.old self.new [] (node (item.Text text 0) none ∷ [])) }
+    {
+        match self {
+            Receiver::Items(built) => {
+                built.builder.text(text, 0)?;
+                Ok(())
+            }
+            Receiver::Text(out) => {
+                out.text(text.bytes())?;
+                Ok(())
+            }
+        }
+    }
+
+    /// Begins an element of this name.
+    pub(crate) fn open(&mut self, alloc: Global, name: NameRef<'a>) -> Result<Open<'a>, Memory>
+        ensures { IfOk result (λ tag. Opens self.old self.new (name_seen name.entry) tag) }
+    {
+        match self {
+            Receiver::Items(built) => {
+                let name = name.to_name(alloc)?;
+                let _ =
+                    built
+                        .builder
+                        .open_element(name, Vec::new(alloc), Vec::new(alloc), 0)?;
+                let outer = mem::replace(&mut built.attributes, Vec::new(alloc));
+                Ok(Open::Items(outer))
+            }
+            Receiver::Text(out) => {
+                let tag = out.open(name.space(), name.local())?;
+                Ok(Open::Text(tag))
+            }
+        }
+    }
+
+    /// Ends the innermost open element.
+    pub(crate) fn close(&mut self, alloc: Global, tag: Open<'a>) -> Result<(), Memory>
+        requires { IsOpen self.old tag }
+        ensures { OnOk result (Closes tag.entry self.old self.new) }
+    {
+        match (self, tag) {
+            (Receiver::Items(built), Open::Items(outer)) => {
+                let own = mem::replace(&mut built.attributes, outer);
+                built.builder.set_lists(own, Vec::new(alloc))?;
+                built.builder.close();
+                Ok(())
+            }
+            (Receiver::Text(out), Open::Text(tag)) => {
+                out.close(tag)?;
+                Ok(())
+            }
+            _ => unreachable!(),
+        }
+    }
+}
