@@ -22,6 +22,8 @@ impl Sink for Grown {
 
     ghost faults = { λ s. s.faults };
 
+    ghost free = { λ _. None };
+
     fn write(&mut self, piece: &[u8]) -> Result<usize, Failed> {
         match self.bytes.extend_from_slice(piece) {
             Ok(()) => Ok(piece.len()),
@@ -41,6 +43,8 @@ impl Sink for Silence {
     ghost written = { λ _. None };
 
     ghost faults = { λ _. 0 };
+
+    ghost free = { λ _. None };
 
     fn write(&mut self, piece: &[u8]) -> Result<usize, Failed> {
         Ok(piece.len())
