@@ -1,6 +1,5 @@
 -- Complaints that tell no byte.
-use Rattle.std.proofs.Common.{◌≡◌, ℕ, List, [], ◌++◌, codes, decimal, Result, Ok, Err, IfOk, string_bytes, sym, ◌∙◌, ap}
-use Rattle.std.specs.Prelude.{String}
+use Rattle.std.proofs.Common.{◌≡◌, ◌⊎◌, inl, inr, ℕ, List, [], ◌++◌, codes, decimal, Result, Ok, Err, IfOk, ◌∙◌, ap}
 use Rattle.command_line.specs.declared.outcome.Outcome.{Outcome}
 use Rattle.command_line.specs.declared.outcome.Outcome.TheVariants.{Done, Usage, SchemaSyntax, SchemaFault, LinkFault, UnknownRoot, DocSyntax, Invalid, PerFault, Trailing, TooLong, TooManyNodes, LoadFault, ReadFault, WriteFault, OutOfMemory}
 use Rattle.text_places.specs.Telling.{explained}
@@ -43,7 +42,33 @@ whole (Invalid at why) name contents within r means remedy told is named e = abs
 whole (PerFault bit why) name contents within r means remedy told is named e = absurd is
 whole (Trailing at) name contents within r means remedy told is named e = absurd is
 
--- what holds of a value that is there holds as far as the first tells
-pub if_ok : {A E : Type 0} (P Q : A → Type 0) (result : Result A E) → IfOk result P → ((a : A) → P a → Q a) → IfOk result Q
-if_ok P Q (Ok a) given on = on a given
-if_ok P Q (Err e) given on = tt
+-- one of these
+abbrev pub IsOneWhole : Outcome → Type 0
+IsOneWhole o =
+    (o ≡ Done) ⊎ ((o ≡ Usage) ⊎ ((o ≡ UnknownRoot) ⊎ (((k : ℕ) × (o ≡ TooLong k)) ⊎ (((count : ℕ) × (o ≡ TooManyNodes count))
+    ⊎ (((k : ℕ) × (o ≡ LoadFault k)) ⊎ ((o ≡ ReadFault) ⊎ ((o ≡ WriteFault) ⊎ (o ≡ OutOfMemory))))))))
+
+pub is_whole : (o : Outcome) → IsOneWhole o → IsWhole o
+is_whole o (inl e) = rw e tt
+is_whole o (inr (inl e)) = rw e tt
+is_whole o (inr (inr (inl e))) = rw e tt
+is_whole o (inr (inr (inr (inl (k, e))))) = rw e tt
+is_whole o (inr (inr (inr (inr (inl (count, e)))))) = rw e tt
+is_whole o (inr (inr (inr (inr (inr (inl (k, e))))))) = rw e tt
+is_whole o (inr (inr (inr (inr (inr (inr (inl e))))))) = rw e tt
+is_whole o (inr (inr (inr (inr (inr (inr (inr (inl e)))))))) = rw e tt
+is_whole o (inr (inr (inr (inr (inr (inr (inr (inr e)))))))) = rw e tt
+
+-- ---- the text, where there is memory for it
+
+pub trailing_told : {A E : Type 0} (bytes : A → List ℕ) (result : Result A E) (o : Outcome) (at : ℕ) (name contents within r means remedy : List ℕ)
+    → o ≡ Trailing at → IsNamed o r → IfOk result (λ told. bytes told ≡ name ++ codes ": octet " ++ decimal at ++ explained r means remedy [] [])
+    → IfOk result (λ told. IsComplaint o name contents within (bytes told))
+trailing_told bytes (Ok told) o at name contents within r means remedy is named e = trailing o at name contents within r means remedy (bytes told) is named e
+trailing_told bytes (Err error) o at name contents within r means remedy is named e = tt
+
+pub whole_told : {A E : Type 0} (bytes : A → List ℕ) (result : Result A E) (o : Outcome) (name contents within r means remedy : List ℕ)
+    → IsOneWhole o → IsNamed o r → IfOk result (λ told. bytes told ≡ name ++ explained r means remedy [] [])
+    → IfOk result (λ told. IsComplaint o name contents within (bytes told))
+whole_told bytes (Ok told) o name contents within r means remedy is named e = whole o name contents within r means remedy (bytes told) (is_whole o is) named e
+whole_told bytes (Err error) o name contents within r means remedy is named e = tt

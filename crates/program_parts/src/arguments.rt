@@ -80,7 +80,11 @@ fn root<'a>(alloc: Global) -> Arg<'a> {
 }
 
 // A command over a root, files and an input.
-fn over_root<'a>(alloc: Global, command: Command<'a>, input: &'a str) -> Result<Command<'a>, Error> {
+fn over_root<'a>(
+    alloc: Global,
+    command: Command<'a>,
+    input: &'a str,
+) -> Result<Command<'a>, Error> {
     let command = command
         .arg(words(
             alloc,
@@ -254,11 +258,7 @@ fn asked_of<'a>(
 }
 
 // What the words behind a command ask for.
-fn matched<'a>(
-    alloc: Global,
-    name: &str,
-    matches: &ArgMatches<'a>,
-) -> Result<Asked<'a>, Error> {
+fn matched<'a>(alloc: Global, name: &str, matches: &ArgMatches<'a>) -> Result<Asked<'a>, Error> {
     let told = matches.get_str("syntax");
     match syntax_named(told) {
         Some(syntax) => asked_of(alloc, task_of(name), syntax, matches),

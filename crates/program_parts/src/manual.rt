@@ -59,11 +59,15 @@ fn put_line(page: &mut String, line: &str) -> Result<(), AllocError> {
 // Puts the help of a command, or of the program.
 fn put_help(alloc: Global, page: &mut String, name: Option<&str>) -> Result<(), Error> {
     let help = help_of(alloc, name)?;
+    if let Some(name) = name {
+        page.push_str(".SS ")?;
+        put_line(page, name)?;
+    }
     page.push_str(".nf\n")?;
     for line in help.lines() {
         put_line(page, line)?;
     }
-    page.push_str(".fi\n.PP\n")?;
+    page.push_str(".fi\n")?;
     Ok(())
 }
 
@@ -72,6 +76,7 @@ pub fn manual_page(alloc: Global) -> Result<String, Error> {
     let mut page = String::new(alloc);
     put_lines(&mut page, HEAD)?;
     put_help(alloc, &mut page, None)?;
+    page.push_str(".SH COMMANDS\n")?;
     for name in COMMANDS {
         put_help(alloc, &mut page, Some(name))?;
     }
