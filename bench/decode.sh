@@ -6,6 +6,8 @@
 # anew, page by page, while it decodes. Then, where there is valgrind, the instructions that `to-xml` takes in `decode` and
 # `to-per` in `encode`: it counts, so that a run tells the same numbers again.
 #
+# Below them stand the same of the unaligned variant, with how many times the aligned ones they take.
+#
 #     bench/decode.sh          needs the program (`make run`), awk, and rt where the gate hasn't built crates/per_times
 #
 # LINES_OF names other numbers of lines, TIMES how often they take turns.
@@ -41,7 +43,7 @@ keep=glibc.malloc.mmap_threshold=1000000000:glibc.malloc.trim_threshold=10000000
 
 # The least times of so many turns in one process.
 turns() {
-    if ! "$times" "$1" < "$2" > "$work/same" 2> "$work/least" || ! grep -q 'the same came back' "$work/same"; then
+    if ! "$times" "$1" ${3:+"$3"} < "$2" > "$work/same" 2> "$work/least" || ! grep -q 'the same came back' "$work/same"; then
         cat "$work/same" "$work/least" >&2
         exit 1
     fi
@@ -69,6 +71,18 @@ for lines in ${LINES_OF:-10000 100000}; do
     time_row "$lines" "$file" kept < "$work/turns"
     for _ in $(seq "${TIMES:-20}"); do turns 1 "$file"; done | sort -n | head -1 > "$work/turns"
     time_row "$lines" "$file" first < "$work/turns"
+done
+printf '\n%-8s %10s %12s %12s %14s %14s\n' lines octets 'decode: us' 'encode: us' 'of aligned: de' 'en'
+for lines in ${LINES_OF:-10000 100000}; do
+    file=$work/order-$lines
+    "$program" to-per-u '{urn:po}order' "$work/order.xsd" < "$file" > "$file.uper"
+    turns "${TIMES:-20}" "$file.per" > "$work/turns"
+    read -r decode encode < "$work/turns"
+    turns "${TIMES:-20}" "$file.uper" unaligned > "$work/turns"
+    read -r decode_u encode_u < "$work/turns"
+    awk -v lines="$lines" -v octets="$(stat -c %s "$file.uper")" -v d="$decode_u" -v e="$encode_u" -v da="$decode" -v ea="$encode" 'BEGIN {
+        printf "%-8d %10d %12d %12d %14.2f %14.2f\n", lines, octets, d, e, d / da, e / ea
+    }'
 done
 command -v valgrind > /dev/null || exit 0
 printf '%-8s %10s %12s %12s %6s\n' lines octets 'decode: ir' 'encode: ir' ratio

@@ -61,11 +61,16 @@ class Wrong(Exception):
     pass
 
 
-class Module:
-    """A printed module, compiled by the other side in a folder of its own."""
+# The two variants: the flag of the other side's compiler, and our two commands.
+VARIANTS = {"aligned": ("-bper", "to-per", "to-xml"), "unaligned": ("-buper", "to-per-u", "to-xml-u")}
 
-    def __init__(self, files, folder):
-        self.files, self.folder = files, folder
+
+class Module:
+    """A printed module, compiled by the other side in a folder of its own, for one of the two variants."""
+
+    def __init__(self, files, folder, variant):
+        self.files, self.folder, self.variant = files, folder, variant
+        flag, self.to_per, self.to_xml = VARIANTS[variant]
         os.makedirs(folder)
         shown = self.run("show")
         if shown.returncode:
@@ -74,7 +79,7 @@ class Module:
         with open(f"{folder}/Schema-Set.asn1", "w", encoding="utf-8", newline="\n") as file:
             file.write(strip(self.text))
         how = {"cwd": folder, "stdin": subprocess.DEVNULL, "stdout": subprocess.PIPE, "stderr": subprocess.STDOUT}
-        made = subprocess.run([*BOUND, "erlc", "-bper", "Schema-Set.asn1"], timeout=300, **how)
+        made = subprocess.run([*BOUND, "erlc", flag, "Schema-Set.asn1"], timeout=300, **how)
         if made.returncode:
             raise Wrong(f"erlc: {made.stdout.decode()[:400]}")
 
@@ -124,48 +129,50 @@ def main():
         for (root, octets), answer in zip(cases, module.asked([f"decode {module.root_type(root)} {it.hex()}" for root, it in cases])):
             counts["documents"] += 1
             if answer[0].lower() != octets.hex():
-                wrong(module.files, root, octets.hex()[:200], "answered", answer[0])
+                wrong(module.variant, module.files, root, octets.hex()[:200], "answered", answer[0])
 
     with tempfile.TemporaryDirectory() as work:
         TOOL = work
         subprocess.run(["erlc", "-o", work, f"{HERE}/tests/interop.erl"], check=True)
-        modules = {}
-        for name, files in EXAMPLES.items():
-            modules[name] = Module([f"{HERE}/examples/{it}" for it in files], f"{work}/{name}")
-            counts["modules"] += 1
-        for name, module in modules.items():
-            cases = []
-            for at, root, document in DOCUMENTS:
-                if at == name:
-                    made = module.run("to-per", root, octets=document.encode())
-                    if made.returncode:
-                        wrong(root, made.stderr.decode())
-                    cases.append((root, made.stdout))
-            decode_all(module, cases)
-        # A text in fragments (docs/INTEROP.md says what the other side makes of it).
-        for size in (16384, 20000, 100000):
-            long = ORDER % f"<line><sku>{'s' * size}</sku><qty>1</qty></line>"
-            octets = modules["order"].run("to-per", "{urn:po}order", octets=long.encode()).stdout
-            told = modules["order"].asked([f"decode Order {octets.hex()}"])[0][0]
-            print(f"a text of {size} octets:", "agreed" if told.lower() == octets.hex() else f"the other side: {told[:60]}", flush=True)
-        # Random values of the other side's making.
-        for name, root in ROOTS:
-            module = modules[name]
-            for told in module.asked([f"values {module.root_type(root)} {VALUES}"])[0]:
-                if told.startswith("wrong"):
-                    wrong(name, root, told)
-                    continue
-                counts["random values"] += 1
-                octets = bytes.fromhex(told)
-                back = module.run("to-xml", root, octets=octets)
-                if back.returncode:
-                    counts["of these refused as NotAValue"] += 1
-                    if b"NotAValue" not in back.stderr:
-                        wrong(name, root, told, back.stderr.decode())
-                    continue
-                again = module.run("to-per", root, octets=back.stdout)
-                if again.stdout != octets:
-                    wrong(name, root, told, "encoded as", again.stdout.hex(), again.stderr.decode())
+        for variant in VARIANTS:
+            modules = {}
+            for name, files in EXAMPLES.items():
+                modules[name] = Module([f"{HERE}/examples/{it}" for it in files], f"{work}/{variant}-{name}", variant)
+                counts["modules"] += 1
+            for name, module in modules.items():
+                cases = []
+                for at, root, document in DOCUMENTS:
+                    if at == name:
+                        made = module.run(module.to_per, root, octets=document.encode())
+                        if made.returncode:
+                            wrong(variant, root, made.stderr.decode())
+                        cases.append((root, made.stdout))
+                decode_all(module, cases)
+            # A text in fragments (docs/INTEROP.md says what the other side makes of it).
+            for size in (16384, 20000, 100000):
+                long = ORDER % f"<line><sku>{'s' * size}</sku><qty>1</qty></line>"
+                order = modules["order"]
+                octets = order.run(order.to_per, "{urn:po}order", octets=long.encode()).stdout
+                told = order.asked([f"decode Order {octets.hex()}"])[0][0]
+                print(f"{variant}, a text of {size} octets:", "agreed" if told.lower() == octets.hex() else f"the other side: {told[:60]}", flush=True)
+            # Random values of the other side's making.
+            for name, root in ROOTS:
+                module = modules[name]
+                for told in module.asked([f"values {module.root_type(root)} {VALUES}"])[0]:
+                    if told.startswith("wrong"):
+                        wrong(variant, name, root, told)
+                        continue
+                    counts["random values"] += 1
+                    octets = bytes.fromhex(told)
+                    back = module.run(module.to_xml, root, octets=octets)
+                    if back.returncode:
+                        counts["of these refused as NotAValue"] += 1
+                        if b"NotAValue" not in back.stderr:
+                            wrong(variant, name, root, told, back.stderr.decode())
+                        continue
+                    again = module.run(module.to_per, root, octets=back.stdout)
+                    if again.stdout != octets:
+                        wrong(variant, name, root, told, "encoded as", again.stdout.hex(), again.stderr.decode())
         # Random schemas and documents, with the octets that tests/random_cases.py works out of X.691.
         for number in range(first, first + count):
             random_cases.rng.seed(number)
@@ -177,25 +184,27 @@ def main():
             for path, text in zip(files, schema.texts()):
                 with open(path, "w", encoding="utf-8") as file:
                     file.write(text)
-            cases = []
+            cases = {it: [] for it in VARIANTS}
             for i in range(6):
                 element = schema.root if i == 0 else random_cases.rng.choice(schema.globals)
                 root = f"{{{element.file.namespace}}}{element.name}" if element.file.namespace else element.name
                 schema.is_spaced = False
-                document, due = schema.document(element)
-                if len(due) < 16384:
-                    cases.append((root, due))
-            try:
-                module = Module(files, folder)
-            except (Wrong, subprocess.TimeoutExpired) as why:
-                counts["not compiled"] += 1
-                print(f"schema {number}: not compiled: {str(why)[:200]}", flush=True)
-                continue
-            counts["modules"] += 1
-            try:
-                decode_all(module, cases)
-            except Wrong as why:
-                wrong(number, why)
+                document, both = schema.document(element)
+                for variant, due in zip(VARIANTS, both):
+                    if len(due) < 16384:
+                        cases[variant].append((root, due))
+            for variant in VARIANTS:
+                try:
+                    module = Module(files, f"{folder}-{variant}", variant)
+                except (Wrong, subprocess.TimeoutExpired) as why:
+                    counts["not compiled"] += 1
+                    print(f"schema {number}, {variant}: not compiled: {str(why)[:200]}", flush=True)
+                    continue
+                counts["modules"] += 1
+                try:
+                    decode_all(module, cases[variant])
+                except Wrong as why:
+                    wrong(number, variant, why)
     print(", ".join(f"{many} {name}" for name, many in counts.items()))
     return 1 if counts["wrong"] else 0
 

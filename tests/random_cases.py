@@ -2,11 +2,11 @@
 """Random schemas and documents, with expectations from outside the program.
 
 For each number from FIRST on this makes a schema of the profile and six documents that are valid by their making, each with
-the octets that X.691 gives its value: they are worked out here, from the schema as it was made, by the clauses that are named
-below. A case is wrong where
+the octets that X.691 gives its value, aligned and unaligned: they are worked out here, from the schema as it was made, by the
+clauses that are named below. A case is wrong where
 
-- `to-per` doesn't write just these octets;
-- `to-xml` doesn't take them, or what it writes isn't encoded to them again, or isn't valid by xmllint;
+- `to-per` doesn't write just the aligned octets, and `to-per-u` the unaligned ones;
+- `to-xml` or `to-xml-u` doesn't take them, or what it writes isn't encoded to them again, or isn't valid by xmllint;
 - of the document with something changed, four times, `check` doesn't say what `xmllint --schema` says;
 - the schema with something changed, ten times, is taken by `show` and not by xmllint. The other way round is no fault: the
   profile leaves things out, and xmllint takes more than XML Schema does (attributes that are unknown, a facet twice).
@@ -39,18 +39,24 @@ INSTANCE = "http://www.w3.org/2001/XMLSchema-instance"
 rng = random.Random()
 
 
-# The fields of aligned PER.
+# The fields of PER, in both variants.
 
 
 class Bits:
-    def __init__(self):
+    def __init__(self, aligned=True):
+        self.aligned = aligned
         self.bits = []
 
     def put(self, n, width):
         self.bits += [n >> i & 1 for i in reversed(range(width))]
 
-    def align(self):
+    def pad(self):
         self.bits += [0] * (-len(self.bits) % 8)
+
+    def align(self):
+        """Up to the next octet, in the aligned variant alone (11.5.7, 11.9.3.3)."""
+        if self.aligned:
+            self.pad()
 
     def octets(self, octets):
         for octet in octets:
@@ -58,7 +64,7 @@ class Bits:
 
     def complete(self):
         """Whole octets, and one where there is no bit (11.1)."""
-        self.align()
+        self.pad()
         eights = [self.bits[i : i + 8] for i in range(0, len(self.bits), 8)]
         return bytes(int("".join(map(str, eight)), 2) for eight in eights) or b"\0"
 
@@ -73,7 +79,7 @@ def put_between(bits, n, least, greatest):
     size = greatest - least + 1
     if size == 1:
         return
-    if size <= 255:
+    if size <= 255 or not bits.aligned:
         bits.put(n - least, (size - 1).bit_length())
     elif size <= 65536:
         bits.align()
@@ -1022,11 +1028,14 @@ class Schema:
         self.elements = 0
         (text,), encode = root.value()
         at = len(f"<{root.file.prefix}{root.name}")
-        bits = Bits()
-        encode(bits)
+        due = []
+        for aligned in (True, False):
+            bits = Bits(aligned)
+            encode(bits)
+            due.append(bits.complete())
         head = '<?xml version="1.0" encoding="UTF-8"?>\n' * (rng.random() < 0.3)
         spaces = f' xmlns:t="urn:t" xmlns:u="urn:a" xmlns:xsi="{INSTANCE}"'
-        return f"{head}{text[:at]}{spaces}{text[at:]}", bits.complete()
+        return f"{head}{text[:at]}{spaces}{text[at:]}", due
 
 
 def changed(document):
@@ -1167,18 +1176,24 @@ class Cases:
             self.is_wrong(number, document, "the schema is taken, and isn't clear")
             return False
         self.counts["documents"] += 1
+        aligned, unaligned = due
+        self.back(number, root, document, there, aligned, "")
+        self.back(number, root, document, self.run("to-per-u", root, octets=document), unaligned, "-u")
+        return True
+
+    def back(self, number, root, document, there, due, variant):
+        """What was encoded is due, and what it is decoded to is encoded so again."""
         if there.stdout != due:
             told = there.stderr.decode() or there.stdout.hex()
-            self.is_wrong(number, document, f"to-per: {told[:1000]}, due {due.hex()[:1000]}")
-            return True
-        back = self.run("to-xml", root, octets=due)
-        again = self.run("to-per", root, octets=back.stdout)
+            self.is_wrong(number, document, f"to-per{variant}: {told[:1000]}, due {due.hex()[:1000]}")
+            return
+        back = self.run(f"to-xml{variant}", root, octets=due)
+        again = self.run(f"to-per{variant}", root, octets=back.stdout)
         peer = self.peer(back.stdout)
         if peer.returncode != 0:
-            self.is_wrong(number, back.stdout, f"to-xml: {back.stderr.decode()}{peer.stderr.decode()}")
+            self.is_wrong(number, back.stdout, f"to-xml{variant}: {back.stderr.decode()}{peer.stderr.decode()}")
         if again.stdout != due:
-            self.is_wrong(number, document, f"to-xml: {back.stderr.decode()}{again.stderr.decode()}")
-        return True
+            self.is_wrong(number, document, f"to-xml{variant}: {back.stderr.decode()}{again.stderr.decode()}")
 
     def is_valid(self, number, root, document):
         if self.has_tokens and has_empty(document):

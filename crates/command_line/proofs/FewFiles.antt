@@ -76,7 +76,7 @@ few_counted [] = tt
 few_counted (word ∷ []) = lines_if (is_count word) (number_of word) (count_within word)
 few_counted (word ∷ other ∷ words) = tt
 
-few_asked : (words : List (List ℕ)) → AreFew (asked words)
+pub few_asked : (words : List (List ℕ)) → AreFew (asked words)
 few_asked [] = tt
 few_asked (command ∷ words) =
     split (bytes_eq command (codes "show")) _ _ (unless (are_files words) (Some (Show words)) (λ e. few_of words e))

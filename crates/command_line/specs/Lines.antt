@@ -13,7 +13,7 @@ use Rattle.validity.specs.declared.why.InvalidWhy.TheVariants as invalid
 use Rattle.per_fields.specs.declared.stops.Why.{Why}
 use Rattle.per_fields.specs.declared.stops.Why.TheVariants as per
 use Rattle.command_line.specs.declared.outcome.Outcome.{Outcome}
-use Rattle.command_line.specs.declared.outcome.Outcome.TheVariants.{Done, Usage, SchemaSyntax, SchemaFault, LinkFault, UnknownRoot, DocSyntax, Invalid, PerFault, Trailing, TooLong, TooManyNodes, LoadFault, ReadFault, WriteFault, OutOfMemory}
+use Rattle.command_line.specs.declared.outcome.Outcome.TheVariants.{Done, Usage, SchemaSyntax, SchemaFault, LinkFault, UnknownRoot, DocSyntax, Invalid, PerFault, RecordFault, Trailing, TooLong, TooManyNodes, LoadFault, ReadFault, WriteFault, OutOfMemory}
 
 -- the name of a reason against a text
 abbrev pub reason_name : DocWhy → List ℕ
@@ -149,6 +149,7 @@ line UnknownRoot = codes "unknown root\n"
 line (DocSyntax at reason) = codes "input, byte " ++ decimal at ++ codes ": syntax: " ++ reason_name reason ++ codes "\n"
 line (Invalid at reason) = codes "input, byte " ++ decimal at ++ codes ": invalid: " ++ invalid_reason reason ++ codes "\n"
 line (PerFault bit reason) = codes "input, bit " ++ decimal bit ++ codes ": per: " ++ per_reason reason ++ codes "\n"
+line (RecordFault number bit reason) = codes "record " ++ decimal number ++ codes ", bit " ++ decimal bit ++ codes ": per: " ++ per_reason reason ++ codes "\n"
 line (Trailing at) = codes "input, byte " ++ decimal at ++ codes ": trailing\n"
 line (TooLong k) = place k ++ codes ": too long\n"
 line (TooManyNodes count) = codes "value of " ++ decimal count ++ codes " nodes: too many\n"

@@ -67,7 +67,7 @@ fn write_joined<E: Sink>(sink: &mut E, parts: &[&[u8]]) -> Result<(), Failed>
 #[derive(Clone, Copy)]
 struct Parts {
     head: &'static [u8],
-    file: Option<u32>,
+    file: Option<u64>,
     middle: &'static [u8],
     at: Option<u64>,
     tail: &'static [u8],
@@ -94,7 +94,7 @@ fn of_file(file: u32, tail: &'static [u8]) -> Parts
 {
     Parts {
         head: b"file ",
-        file: Some(file),
+        file: Some(u64::from(file)),
         middle: b"",
         at: None,
         tail,
@@ -267,7 +267,7 @@ fn parts_of(outcome: Outcome) -> Parts
         ),
         Outcome::SchemaSyntax { file, at, why } => Parts {
             head: b"file ",
-            file: Some(file),
+            file: Some(u64::from(file)),
             middle: b", byte ",
             at: Some(at),
             tail: b": syntax: ",
@@ -276,7 +276,7 @@ fn parts_of(outcome: Outcome) -> Parts
         },
         Outcome::SchemaFault { file, at, why } => Parts {
             head: b"file ",
-            file: Some(file),
+            file: Some(u64::from(file)),
             middle: b", byte ",
             at: Some(at),
             tail: b": schema: ",
@@ -285,7 +285,7 @@ fn parts_of(outcome: Outcome) -> Parts
         },
         Outcome::LinkFault { file, at, why } => Parts {
             head: b"file ",
-            file: Some(file),
+            file: Some(u64::from(file)),
             middle: b", byte ",
             at: Some(at),
             tail: b": link: ",
@@ -315,6 +315,15 @@ fn parts_of(outcome: Outcome) -> Parts
             head: b"input, bit ",
             file: None,
             middle: b"",
+            at: Some(bit),
+            tail: b": per: ",
+            reason: per_reason(why),
+            end: b"\n",
+        },
+        Outcome::RecordFault { number, bit, why } => Parts {
+            head: b"record ",
+            file: Some(number),
+            middle: b", bit ",
             at: Some(bit),
             tail: b": per: ",
             reason: per_reason(why),

@@ -31,6 +31,9 @@ pub enum Outcome {
     PerFault { bit: u64, why: Why },
     /// An encoding ends before this byte of the input.
     Trailing { at: u64 },
+    /// The record with this number, counted from 1, is no encoding: its first fault, in the field that begins at this bit of
+    /// the record.
+    RecordFault { number: u64, bit: u64, why: Why },
     /// The file has more than 16,777,216 bytes.
     TooLong { file: u32 },
     /// The document is valid, but its value has so many nodes, more than 1,048,576.
@@ -63,6 +66,7 @@ impl Outcome {
             Outcome::Trailing { .. } => 10,
             Outcome::TooLong { .. } => 11,
             Outcome::TooManyNodes { .. } => 12,
+            Outcome::RecordFault { .. } => 15,
             Outcome::LoadFault { .. } => 20,
             Outcome::ReadFault => 21,
             Outcome::WriteFault => 22,

@@ -1,7 +1,7 @@
 -- Complaints that tell no byte.
 use Rattle.std.proofs.Common.{◌≡◌, ◌⊎◌, inl, inr, ℕ, List, [], ◌++◌, codes, decimal, Result, Ok, Err, IfOk, ◌∙◌, ap}
 use Rattle.command_line.specs.declared.outcome.Outcome.{Outcome}
-use Rattle.command_line.specs.declared.outcome.Outcome.TheVariants.{Done, Usage, SchemaSyntax, SchemaFault, LinkFault, UnknownRoot, DocSyntax, Invalid, PerFault, Trailing, TooLong, TooManyNodes, LoadFault, ReadFault, WriteFault, OutOfMemory}
+use Rattle.command_line.specs.declared.outcome.Outcome.TheVariants.{Done, Usage, SchemaSyntax, SchemaFault, LinkFault, UnknownRoot, DocSyntax, Invalid, PerFault, RecordFault, Trailing, TooLong, TooManyNodes, LoadFault, ReadFault, WriteFault, OutOfMemory}
 use Rattle.text_places.specs.Telling.{explained}
 use Rattle.complaints.specs.Complaints.{IsNamed, IsComplaint}
 
@@ -20,6 +20,7 @@ IsWhole (LinkFault k at why) = ⊥
 IsWhole (DocSyntax at why) = ⊥
 IsWhole (Invalid at why) = ⊥
 IsWhole (PerFault bit why) = ⊥
+IsWhole (RecordFault number bit why) = ⊥
 IsWhole (Trailing at) = ⊥
 IsWhole _ = Unit {0}
 
@@ -40,6 +41,7 @@ whole (LinkFault k at why) name contents within r means remedy told is named e =
 whole (DocSyntax at why) name contents within r means remedy told is named e = absurd is
 whole (Invalid at why) name contents within r means remedy told is named e = absurd is
 whole (PerFault bit why) name contents within r means remedy told is named e = absurd is
+whole (RecordFault number bit why) name contents within r means remedy told is named e = absurd is
 whole (Trailing at) name contents within r means remedy told is named e = absurd is
 
 -- one of these

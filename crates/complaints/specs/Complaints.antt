@@ -4,7 +4,7 @@ use Rattle.label_tree.specs.Rose.{Rose}
 use Rattle.item_tree.specs.declared.label.ItemLabel.{ItemLabel}
 use Rattle.doc_text.specs.Documents.{DocOf}
 use Rattle.command_line.specs.declared.outcome.Outcome.{Outcome}
-use Rattle.command_line.specs.declared.outcome.Outcome.TheVariants.{Done, Usage, SchemaSyntax, SchemaFault, LinkFault, UnknownRoot, DocSyntax, Invalid, PerFault, Trailing, TooLong, TooManyNodes, LoadFault, ReadFault, WriteFault, OutOfMemory}
+use Rattle.command_line.specs.declared.outcome.Outcome.TheVariants.{Done, Usage, SchemaSyntax, SchemaFault, LinkFault, UnknownRoot, DocSyntax, Invalid, PerFault, RecordFault, Trailing, TooLong, TooManyNodes, LoadFault, ReadFault, WriteFault, OutOfMemory}
 use Rattle.command_line.specs.Lines as lines
 use Rattle.text_places.specs.Paths.{IsPath}
 use Rattle.text_places.specs.Telling.{IsPlaced, explained}
@@ -17,6 +17,7 @@ IsNamed (LinkFault k at why) name = (lines.link_reason why ≡ name) ⊎ (lines.
 IsNamed (DocSyntax at why) name = name ≡ lines.reason_name why
 IsNamed (Invalid at why) name = name ≡ lines.invalid_reason why
 IsNamed (PerFault bit why) name = name ≡ lines.per_reason why
+IsNamed (RecordFault number bit why) name = name ≡ lines.per_reason why
 IsNamed Done name = name ≡ codes "Done"
 IsNamed Usage name = name ≡ codes "Usage"
 IsNamed UnknownRoot name = name ≡ codes "UnknownRoot"
@@ -47,10 +48,13 @@ abbrev pub IsToldWhole : Outcome → List ℕ → List ℕ → Type 0
 IsToldWhole o name told = (reason means remedy : List ℕ) × IsNamed o reason × (told ≡ name ++ explained reason means remedy [] [])
 
 -- The complaint of an outcome about the text of this name with these contents: one at a byte of them tells its line and its column, one at a
--- bit or an octet tells this, and the others are of the whole.
+-- bit, also of a record, or an octet tells this, and the others are of the whole.
 abbrev pub IsComplaint : Outcome → List ℕ → List ℕ → List ℕ → List ℕ → Type 0
 IsComplaint (PerFault bit why) name contents within told =
     (means remedy : List ℕ) × (told ≡ name ++ codes ": bit " ++ decimal bit ++ explained (lines.per_reason why) means remedy [] [])
+IsComplaint (RecordFault number bit why) name contents within told =
+    (means remedy : List ℕ)
+    × (told ≡ name ++ codes ": record " ++ decimal number ++ codes ", bit " ++ decimal bit ++ explained (lines.per_reason why) means remedy [] [])
 IsComplaint (Trailing at) name contents within told =
     (means remedy : List ℕ) × (told ≡ name ++ codes ": octet " ++ decimal at ++ explained (codes "Trailing") means remedy [] [])
 IsComplaint o name contents within told = MatchOption (byte_of o) (IsToldWhole o name told) (λ at. at ≤ length contents → IsTold o name contents within at told)

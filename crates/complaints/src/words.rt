@@ -570,7 +570,7 @@ pub fn reason_of(outcome: Outcome) -> Reason
         Outcome::SchemaFault { why, .. } => schema_reason(why),
         Outcome::LinkFault { why, .. } => link_reason(why),
         Outcome::Invalid { why, .. } => invalid_reason(why),
-        Outcome::PerFault { why, .. } => octets_reason(why),
+        Outcome::PerFault { why, .. } | Outcome::RecordFault { why, .. } => octets_reason(why),
         Outcome::Done => Reason {
             name: "Done",
             means: "all is done",

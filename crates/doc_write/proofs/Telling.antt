@@ -274,24 +274,24 @@ told-attribute old new name value before pushed named in_tag is e same late ep e
     regroup : (old name value : List ℕ) → ((old ++ 32 ∷ []) ++ name) ++ value ≡ old ++ (((32 ∷ name ++ value) ++ []) ++ [])
     regroup old name value = attribute-regroup old name value ∙ ap (λ t. old ++ t) (sym (append-nil ((32 ∷ name ++ value) ++ []) ∙ append-nil (32 ∷ name ++ value)))
 
-pub begins-element : (old ended new : TextBuilder) (name : Name) (tag : OpenTag) (pushed : List ℕ) → EndsTag old ended → new.prefixes ≡ with_space ended.prefixes name.space
-    → qualifier_text tag.qualifier ≡ before_local new.prefixes name.space → tag.local.now ≡ name.local → new.in_tag ≡ true → new.late ≡ ended.late → pushed ≡ ended.text.items ++ 60 ∷ []
-    → new.text.items ≡ pushed ++ (qualifier_text tag.qualifier ++ name.local) → Begins old new name tag
-begins-element old ended new name tag pushed ends is e local in_tag late ep et on_time =
+pub begins-element : (old ended new : TextBuilder) (name : Name) (tag : OpenTag) (begun : List ℕ) → EndsTag old ended → new.prefixes ≡ with_space ended.prefixes name.space
+    → qualifier_text tag.qualifier ≡ before_local new.prefixes name.space → tag.local.now ≡ name.local → new.in_tag ≡ true → new.late ≡ ended.late → begun ≡ ended.text.items ++ 60 ∷ qualifier_text tag.qualifier
+    → new.text.items ≡ begun ++ name.local → Begins old new name tag
+begins-element old ended new name tag begun ends is e local in_tag late eb et on_time =
     let grows : new.prefixes ≡ with_space old.prefixes name.space = is ∙ ap (λ t. with_space t name.space) ends.prefixes in
     record {
       on_time = sym (late ∙ ends.late) ∙ on_time;
       prefixes = grows;
       in_tag = in_tag;
       text = λ table grown.
-          et ∙ ap (λ t. t ++ (qualifier_text tag.qualifier ++ name.local)) (ep ∙ ap (λ t. t ++ 60 ∷ []) ends.text)
-          ∙ ap (λ n. ((old.text.items ++ end_of_tag old.in_tag) ++ 60 ∷ []) ++ n) (name-kept old.prefixes table new.prefixes name (qualifier_text tag.qualifier) grows e grown)
-          ∙ regroup old.text.items (end_of_tag old.in_tag) (written_name table name);
+          et ∙ ap (λ t. t ++ name.local) (eb ∙ ap (λ t. t ++ 60 ∷ qualifier_text tag.qualifier) ends.text)
+          ∙ regroup old.text.items (end_of_tag old.in_tag) (qualifier_text tag.qualifier) name.local
+          ∙ ap (λ n. old.text.items ++ (end_of_tag old.in_tag ++ 60 ∷ n)) (name-kept old.prefixes table new.prefixes name (qualifier_text tag.qualifier) grows e grown);
       name_is = λ table grown. ap (λ l. qualifier_text tag.qualifier ++ l) local ∙ name-kept old.prefixes table new.prefixes name (qualifier_text tag.qualifier) grows e grown;
     }
   where
-    regroup : (old gt name : List ℕ) → ((old ++ gt) ++ 60 ∷ []) ++ name ≡ old ++ (gt ++ 60 ∷ name)
-    regroup old gt name = simp append_assoc
+    regroup : (old gt before name : List ℕ) → ((old ++ gt) ++ 60 ∷ before) ++ name ≡ old ++ (gt ++ 60 ∷ (before ++ name))
+    regroup old gt before name = simp append_assoc
 
 -- what stands behind the name and the declarations of an element
 abbrev behind : List (List ℕ × List ℕ) → Name → List (Name × List ℕ) → Roses ItemLabel → List ℕ
@@ -358,14 +358,17 @@ pub long-enough : (front rest text : List ℕ) → text ≡ front ++ rest → le
 long-enough front rest text et short = absurd (omega (arith, ap length et, length-append front rest, short))
 
 pub finished : (begun b : TextBuilder) (name : Name) (attributes : List (Name × List ℕ)) (items : Roses ItemLabel) (front declarations text other out : List ℕ) → front ≡ xml_declaration ++ 60 ∷ written_name b.prefixes name
-    → IsBegun begun → Told begun b [] (node (Element name attributes [] 0) items ∷ []) → declarations ≡ flat_map written_declaration b.prefixes → text ≡ b.text.items → other ≡ drop (length front) text
-    → out ≡ ((front ++ declarations) ++ other) ++ 10 ∷ [] → out ≡ written (node (Element name attributes [] 0) items)
+    → IsBegun begun → Told begun b [] (node (Element name attributes [] 0) items ∷ []) → declarations ≡ flat_map written_declaration b.prefixes → text ≡ b.text.items ++ 10 ∷ [] → other ≡ drop (length front) text
+    → out ≡ (front ++ declarations) ++ other → out ≡ written (node (Element name attributes [] 0) items)
 finished begun b name attributes items front declarations text other out ef is told ed et eo out_is =
     let rest = behind b.prefixes name attributes items in
+    let parts : text ≡ front ++ (rest ++ 10 ∷ []) =
+    et ∙ ap (λ t. t ++ 10 ∷ []) (front-and-rest begun b name attributes items front ef is told) ∙ append_assoc front rest (10 ∷ []) in
     whole-text begun b name attributes items front declarations out ef is told ed
-    (out_is ∙ ap (λ t. ((front ++ declarations) ++ t) ++ 10 ∷ []) (split-rest front rest text other (et ∙ front-and-rest begun b name attributes items front ef is told) eo))
+    (out_is ∙ ap (λ t. (front ++ declarations) ++ t) (split-rest front (rest ++ 10 ∷ []) text other parts eo) ∙ sym (append_assoc (front ++ declarations) rest (10 ∷ [])))
 
 pub not-short : (begun b : TextBuilder) (name : Name) (attributes : List (Name × List ℕ)) (items : Roses ItemLabel) (front text : List ℕ) → front ≡ xml_declaration ++ 60 ∷ written_name b.prefixes name
-    → IsBegun begun → Told begun b [] (node (Element name attributes [] 0) items ∷ []) → text ≡ b.text.items → length text < length front → ⊥
+    → IsBegun begun → Told begun b [] (node (Element name attributes [] 0) items ∷ []) → text ≡ b.text.items ++ 10 ∷ [] → length text < length front → ⊥
 not-short begun b name attributes items front text ef is told et short =
-    long-enough front (behind b.prefixes name attributes items) text (et ∙ front-and-rest begun b name attributes items front ef is told) short
+    let rest = behind b.prefixes name attributes items in
+    long-enough front (rest ++ 10 ∷ []) text (et ∙ ap (λ t. t ++ 10 ∷ []) (front-and-rest begun b name attributes items front ef is told) ∙ append_assoc front rest (10 ∷ [])) short

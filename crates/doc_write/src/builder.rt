@@ -73,8 +73,7 @@ impl<'a> TextBuilder<'a> {
             self.late = true;
             return Ok(());
         }
-        self.prefixes.bind(space)?;
-        let qualifier = self.prefixes.qualifier(space);
+        let qualifier = self.prefixes.declared(space)?;
         self.text.push(b' ')?;
         write_qualified(&mut self.text, qualifier, local)?;
         write_value(&mut self.text, value)
@@ -93,10 +92,9 @@ impl<'a> TextBuilder<'a> {
         ensures { IfOk result (λ tag. Begins self.old self.new (record { space = space.now; local = local.now }) tag) }
     {
         self.end_tag()?;
-        self.prefixes.bind(space)?;
-        let qualifier = self.prefixes.qualifier(space);
-        self.text.push(b'<')?;
-        write_qualified(&mut self.text, qualifier, local)?;
+        let qualifier = self.prefixes.declared(space)?;
+        qualifier.write_start(&mut self.text)?;
+        self.text.extend_from_slice(local)?;
         self.in_tag = true;
         Ok(OpenTag { qualifier, local })
     }
@@ -109,8 +107,8 @@ impl<'a> TextBuilder<'a> {
             self.in_tag = false;
             return self.text.extend_from_slice(b"/>");
         }
-        self.text.extend_from_slice(b"</")?;
-        write_qualified(&mut self.text, tag.qualifier, tag.local)?;
+        tag.qualifier.write_end(&mut self.text)?;
+        self.text.extend_from_slice(tag.local)?;
         self.text.push(b'>')?;
         Ok(())
     }
@@ -127,15 +125,16 @@ impl<'a> TextBuilder<'a> {
         if self.late {
             return Ok(None);
         }
+        let mut told = self.text;
+        told.push(b'\n')?;
         let mut out = Vec::from_slice(alloc, XML_DECLARATION)?;
         out.push(b'<')?;
         write_qualified(&mut out, self.prefixes.qualifier(space), local)?;
         let begun = out.as_slice().len();
         write_declarations(&mut out, self.prefixes.entries())?;
-        if let Some((_, rest)) = self.text.split_at_checked(begun) {
+        if let Some((_, rest)) = told.split_at_checked(begun) {
             out.extend_from_slice(rest)?;
         }
-        out.push(b'\n')?;
         Ok(Some(out))
     }
 }

@@ -1,5 +1,5 @@
 //! The prefixes under which the namespaces of a document are declared.
-ghost use Rattle.std.specs.Prelude.{◌≡◌, ◌∷◌, ◌++◌, [], map, OnOk, bytes_eq};
+ghost use Rattle.std.specs.Prelude.{◌≡◌, ◌∷◌, ◌++◌, [], true, false, map, IfOk, OnOk, MatchOption, bytes_eq};
 ghost use Rattle.std.specs.Option.{option_map};
 ghost use Rattle.std.specs.Map.{lookup};
 ghost use Rattle.doc_written.specs.Spaces.{attribute_spaces, label_spaces, spaces};
@@ -152,6 +152,36 @@ impl<'a> Prefixes<'a> {
         Ok(())
     }
 
+    // What stands before the local part of a name in this namespace, where it needs no entry more.
+    #[inline(always)]
+    fn known(&self, space: &[u8]) -> Option<Qualifier>
+        ensures { MatchOption result (is_bound self.now space.now ≡ false) (λ q. (is_bound self.now space.now ≡ true) × (qualifier_text q ≡ before_local self.now space.now)) }
+    {
+        if space.is_empty() {
+            return Some(Qualifier::Absent);
+        }
+        if space == XML_SPACE.as_bytes() {
+            return Some(Qualifier::Xml);
+        }
+        match self.get(space) {
+            Some(prefix) => Some(Qualifier::Declared(prefix)),
+            None => None,
+        }
+    }
+
+    // What stands before the local part of a name in this namespace, which gets an entry where it needs one.
+    #[inline(always)]
+    pub(crate) fn declared(&mut self, space: &'a [u8]) -> Result<Qualifier, AllocError>
+        ensures table { OnOk result (self.new ≡ with_space self.old space.now) }
+        ensures qualifier { IfOk result (λ q. qualifier_text q ≡ before_local self.new space.now) }
+    {
+        if let Some(qualifier) = self.known(space) {
+            return Ok(qualifier);
+        }
+        self.bind(space)?;
+        Ok(self.qualifier(space))
+    }
+
     // What stands before the local part of a name in this namespace.
     #[inline(always)]
     pub(crate) fn qualifier(&self, space: &[u8]) -> Qualifier
@@ -199,6 +229,38 @@ impl Prefix {
             }
         }
     }
+
+    // Writes what begins a start tag of a name with this prefix.
+    #[inline(always)]
+    fn write_start(self, out: &mut Vec<u8>) -> Result<(), AllocError>
+        ensures { OnOk result (out.new.items ≡ out.old.items ++ 60 ∷ (prefix_text self ++ 58 ∷ [])) }
+    {
+        match self {
+            Prefix::Numbered(number) if number < 10 => {
+                out.extend_from_slice(&[b'<', b'n', b'0' + number as u8, b':'])
+            }
+            _ => {
+                out.push(b'<')?;
+                self.write_before_colon(out)
+            }
+        }
+    }
+
+    // Writes what begins an end tag of a name with this prefix.
+    #[inline(always)]
+    fn write_end(self, out: &mut Vec<u8>) -> Result<(), AllocError>
+        ensures { OnOk result (out.new.items ≡ out.old.items ++ 60 ∷ 47 ∷ (prefix_text self ++ 58 ∷ [])) }
+    {
+        match self {
+            Prefix::Numbered(number) if number < 10 => {
+                out.extend_from_slice(&[b'<', b'/', b'n', b'0' + number as u8, b':'])
+            }
+            _ => {
+                out.extend_from_slice(b"</")?;
+                self.write_before_colon(out)
+            }
+        }
+    }
 }
 
 impl Qualifier {
@@ -211,6 +273,34 @@ impl Qualifier {
             Qualifier::Xml => out.extend_from_slice(b"xml:"),
             Qualifier::Declared(prefix) => prefix.write_before_colon(out),
             Qualifier::Unknown => out.extend_from_slice(b":"),
+        }
+    }
+
+    // Writes what begins a start tag.
+    #[inline(always)]
+    pub(crate) fn write_start(self, out: &mut Vec<u8>) -> Result<(), AllocError>
+        ensures { OnOk result (out.new.items ≡ out.old.items ++ 60 ∷ qualifier_text self) }
+    {
+        match self {
+            Qualifier::Declared(prefix) => prefix.write_start(out),
+            _ => {
+                out.push(b'<')?;
+                self.write(out)
+            }
+        }
+    }
+
+    // Writes what begins an end tag.
+    #[inline(always)]
+    pub(crate) fn write_end(self, out: &mut Vec<u8>) -> Result<(), AllocError>
+        ensures { OnOk result (out.new.items ≡ out.old.items ++ 60 ∷ 47 ∷ qualifier_text self) }
+    {
+        match self {
+            Qualifier::Declared(prefix) => prefix.write_end(out),
+            _ => {
+                out.extend_from_slice(b"</")?;
+                self.write(out)
+            }
         }
     }
 }

@@ -97,7 +97,10 @@ pub(crate) fn enumerated<S: Source, K: Origin, V: Variant>(
 // Whether a component is there.
 #[inline(always)]
 #[tactic(auto, unfolding(per_fields::specs::Nodes::flag_at))]
-fn presence_bit<S: Source, K: Origin, V: Variant>(run: &mut Run<S, K, V>, part: &Component) -> Result<bool, Fault>
+fn presence_bit<S: Source, K: Origin, V: Variant>(
+    run: &mut Run<S, K, V>,
+    part: &Component,
+) -> Result<bool, Fault>
     requires in_step { IsInStep run.old.bits.position run.old.bits.taken }
     ensures same_reference { run.new.bits.source.ghost_name ≡ run.old.bits.source.ghost_name }
     ensures on { OnOk result (GoesOn run.old.bits.position run.new.bits.position run.new.bits.taken) }

@@ -19,3 +19,4 @@ mod wholes;
 pub use decoded::Decoded;
 pub use decoding::{decode, decode_by};
 pub use errors::DecodeError;
+pub use per_fields::Why as PerWhy;

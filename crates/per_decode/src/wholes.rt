@@ -161,11 +161,7 @@ impl<'a, S: Source, K: Origin, V: Variant> Run<'a, S, K, V> {
     /// A whole number within bounds.
     #[tactic(auto, unfolding(per_fields::specs::Fields::whole_at))]
     #[inline(always)]
-    pub(crate) fn whole(
-        &mut self,
-        lo: Option<i128>,
-        hi: Option<i128>,
-    ) -> Result<i128, Fault>
+    pub(crate) fn whole(&mut self, lo: Option<i128>, hi: Option<i128>) -> Result<i128, Fault>
         requires bounds { AreBounds lo hi }
         requires in_step { IsInStep self.old.bits.position self.old.bits.taken }
         ensures same_reference { self.new.bits.source.ghost_name ≡ self.old.bits.source.ghost_name }

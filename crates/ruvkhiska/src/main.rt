@@ -109,6 +109,7 @@ fn about<'a>(work: &'a Work<'_>, outcome: Outcome) -> (&'a str, &'a [u8]) {
         Outcome::DocSyntax { .. }
         | Outcome::Invalid { .. }
         | Outcome::PerFault { .. }
+        | Outcome::RecordFault { .. }
         | Outcome::Trailing { .. }
         | Outcome::TooLong { .. }
         | Outcome::TooManyNodes { .. }

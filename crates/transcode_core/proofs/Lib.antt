@@ -8,8 +8,10 @@ pub mod Octets
 pub mod Verdicts
 pub mod Again
 pub mod Running
+pub mod Counted
 pub mod Trials
 pub mod Received
 pub mod Valuing
 pub mod Answering
 pub mod SomeSets
+pub mod Eaching

@@ -21,7 +21,6 @@ use Rattle.transcode_core.specs.Steps.{RootType, IsTypeOf, readable, fault_in}
 use Rattle.transcode_core.specs.Syntaxes.{Fault, fault_of, HasFault}
 use Rattle.command_line.specs.declared.tasks.Syntax.TheVariants.{Aligned}
 use Rattle.schema_parts.specs.Components.{Set}
-use Rattle.per_fields.specs.Laws.{Stops}
 use Rattle.per_stops.specs.Stopping.{StopsFirst}
 use Rattle.per_stops.specs.Laws.{StopsAsRead}
 use Rattle.transcode_core.specs.Causes.{TakesItsField}

@@ -11,7 +11,7 @@ use Rattle.plain_items.specs.Plain.{Plain}
 use Rattle.xa_base.specs.declared.texts.Name.{Name}
 use Rattle.asn_types.specs.declared.modules.Assignment.{Assignment}
 use Rattle.command_line.specs.declared.outcome.Outcome.{Outcome}
-use Rattle.command_line.specs.declared.outcome.Outcome.TheVariants.{Done, Usage, SchemaSyntax, SchemaFault, LinkFault, UnknownRoot, DocSyntax, Invalid, PerFault, Trailing, TooLong, TooManyNodes, LoadFault, ReadFault, WriteFault, OutOfMemory}
+use Rattle.command_line.specs.declared.outcome.Outcome.TheVariants.{Done, Usage, SchemaSyntax, SchemaFault, LinkFault, UnknownRoot, DocSyntax, Invalid, PerFault, RecordFault, Trailing, TooLong, TooManyNodes, LoadFault, ReadFault, WriteFault, OutOfMemory}
 use Rattle.command_line.specs.declared.tasks.Syntax.{Syntax}
 use Rattle.command_line.specs.declared.tasks.Syntax.TheVariants.{Aligned}
 use Rattle.command_line.specs.declared.tasks.Task.{Task}
@@ -52,6 +52,7 @@ module _ (answer : Verdict → Type 0) where
   verdict UnknownRoot bytes is = (Err UnknownRoot, is.0, refl, is.1)
   verdict (DocSyntax at why) bytes is = (Err (DocSyntax at why), is.0, refl, is.1)
   verdict (Invalid at why) bytes is = (Err (Invalid at why), is.0, refl, is.1)
+  verdict (RecordFault number bit why) bytes is = (Err (RecordFault number bit why), is.0, refl, is.1)
   verdict (PerFault bit why) bytes is = (Err (PerFault bit why), is.0, refl, is.1)
   verdict (Trailing at) bytes is = (Err (Trailing at), is.0, refl, is.1)
   verdict (TooLong k) bytes is = (Err (TooLong k), is.0, refl, is.1)
@@ -71,6 +72,7 @@ module _ (answer : Verdict → Type 0) where
   refuses UnknownRoot other is = (is, refl)
   refuses (DocSyntax at why) other is = (is, refl)
   refuses (Invalid at why) other is = (is, refl)
+  refuses (RecordFault number bit why) other is = (is, refl)
   refuses (PerFault bit why) other is = (is, refl)
   refuses (Trailing at) other is = (is, refl)
   refuses (TooLong k) other is = (is, refl)

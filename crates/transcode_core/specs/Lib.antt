@@ -6,4 +6,5 @@ pub mod Due
 pub mod Private
 pub mod ReadBack
 pub mod Again
+pub mod Each
 pub mod Runs

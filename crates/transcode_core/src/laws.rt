@@ -1,14 +1,19 @@
 //! What holds of what is due.
-ghost use Rattle.std.specs.Prelude.{◌≡◌, ◌≤◌, ℕ, List, length, Option, Some, Ok};
+ghost use Rattle.std.specs.Prelude.{◌≡◌, ◌+◌, ◌*◌, ◌≤◌, ℕ, List, length, Option, Some, Ok};
 ghost use Rattle.plain_items.specs.Plain.{Plain};
 ghost use Rattle.label_tree.specs.Rose.{Rose};
 ghost use Rattle.schema_parts.specs.SetParts.{SetParts};
 ghost use Rattle.command_line.specs.declared.outcome.Outcome.{Outcome};
 ghost use Rattle.command_line.specs.declared.outcome.Outcome.TheVariants as outcome;
 ghost use Rattle.command_line.specs.declared.tasks.Syntax.{Syntax};
-ghost use Rattle.transcode_core.specs.Causes.{ReadsInput, IsTold};
+ghost use Rattle.transcode_core.specs.Causes.{ReadsInput, IsTold, ReadsOfWords, StepsFrom};
 ghost use Rattle.transcode_core.specs.Syntaxes.{AllSyntaxes};
-ghost use Rattle.transcode_core.specs.Due.{Encoded, Documented, Due};
+ghost use Rattle.transcode_core.specs.Due.{Requested, Encoded, Documented, Due};
+ghost use Rattle.command_line.specs.Words.{Trial};
+ghost use Rattle.transcode_core.specs.Trial.{trial_document};
+ghost use Rattle.item_tree.specs.declared.label.ItemLabel.{ItemLabel};
+ghost use Rattle.doc_text.specs.Documents.{DocOf};
+ghost use Rattle.validity_check.specs.Counts.{element_count};
 ghost use Rattle.transcode_core.specs.ReadBack.{IsValidText, DocumentedBack, ReadBack};
 ghost use Rattle.transcode_core.specs.Again.{AreThereAndBack, AreSameDocuments};
 
@@ -81,3 +86,11 @@ pub fn there_and_back()
     first_stop();
     stops_first();
 }
+
+/// The trial document has three elements for each of its lines, besides the root. So a `trial` that is Done, of whose document each
+/// element but the root took a step (`Runs`, `many`), took three for each line.
+pub fn trial_elements()
+    ensures count { (lines : ℕ) (items : Rose ItemLabel) → 1 ≤ lines → lines ≤ 100000 → DocOf (trial_document lines) items → element_count items ≡ 3 * lines + 1 }
+    ensures steps { (words : List (List ℕ)) (left : Option (List ℕ)) (before now lines : ℕ) → Requested words (Ok (Trial lines)) → StepsFrom (ReadsOfWords words left) before now
+        → before + 3 * lines ≤ now }
+{}

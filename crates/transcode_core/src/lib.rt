@@ -4,6 +4,7 @@
 //! `specs/Steps`, then `run` in `src/top.rt`.
 #![tactic(auto)]
 
+mod each;
 mod files;
 mod laws;
 mod linking;
@@ -16,6 +17,6 @@ mod trial;
 mod typing;
 
 pub use command_line::{Outcome, write_line};
-pub use laws::{exactly_one_of_both, one_answer, some_answer, there_and_back};
+pub use laws::{exactly_one_of_both, one_answer, some_answer, there_and_back, trial_elements};
 pub use top::run;
 pub use trial::trial_document;

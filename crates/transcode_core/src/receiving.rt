@@ -85,8 +85,8 @@ fn decode_input<S: Source>(
     }
 }
 
-// The document of the value.
-fn write_value(alloc: Global, typed: &RootModule, value: &Value) -> Result<Vec<u8>, Outcome>
+/// The document of the value.
+pub fn write_value(alloc: Global, typed: &RootModule, value: &Value) -> Result<Vec<u8>, Outcome>
     requires typed { (set : Set) × (n : ℕ) × IsTypeOf set n (type_seen typed.now) }
     requires value { In typed.now.module typed.now.number value.now }
     ensures due { Answers (λ text. text.items) (Written (type_seen typed.now) value.now) NoMemory result }

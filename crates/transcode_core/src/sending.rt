@@ -17,7 +17,7 @@ use simple_types::Value;
 use std::alloc::Global;
 use std::sync::ledger::Ledger;
 use xa_base::Steps;
-use xer_read::{ReadError, read_value};
+use xer_read::{ReadValueError, read_value};
 
 // The value of the document, if it is valid: one value, in the map of the set.
 fn value_of<L: Ledger>(
@@ -35,9 +35,9 @@ fn value_of<L: Ledger>(
 {
     match read_value(alloc, &opened.set, opened.root, items, steps) {
         Ok(value) => Ok(value),
-        Err(ReadError::Invalid { at, why }) => Err(Outcome::Invalid { at, why }),
-        Err(ReadError::TooManyNodes { count }) => Err(Outcome::TooManyNodes { count }),
-        Err(ReadError::Memory) => Err(Outcome::OutOfMemory),
+        Err(ReadValueError::Invalid { at, why }) => Err(Outcome::Invalid { at, why }),
+        Err(ReadValueError::TooManyNodes { count }) => Err(Outcome::TooManyNodes { count }),
+        Err(ReadValueError::Memory) => Err(Outcome::OutOfMemory),
     }
 }
 

@@ -87,6 +87,7 @@ fn walk_kid<L: Ledger>(
         (Tells (KidsFault (asked_at (parts_of set.now)) mixed (seen model.now) (roses_of kids) place)) }
     ensures most { steps.new ≤ steps.old + 144 * element_count kid.now }
     ensures least { OnOk result (steps.old + element_count kid.now ≤ steps.new) }
+    ensures later { steps.old ≤ steps.new }
 {
     match kid.label() {
         ItemRef::Text { text, at } => check_between(mixed, text, at),
@@ -126,6 +127,7 @@ fn walk_kids<L: Ledger>(
         (Tells (KidsFault (asked_at (parts_of set.now)) mixed (seen model.now) (roses_of kids.now) at)) }
     ensures most { steps.new ≤ steps.old + (144 * elements_in (roses_of kids.now) + 72) }
     ensures least { OnOk result (steps.old + elements_in (roses_of kids.now) ≤ steps.new) }
+    ensures later { steps.old ≤ steps.new }
 {
     let mut matcher = Matcher::start(plan)?;
     let mut way = Way::new(plans.alloc());
@@ -183,6 +185,7 @@ fn walk_children<L: Ledger>(
         (Tells (KidsFault (asked_at (parts_of set.now)) mixed (seen model.now) (roses_of kids.now) at)) }
     ensures most { steps.new ≤ steps.old + (144 * elements_in (roses_of kids.now) + 72) }
     ensures least { OnOk result (steps.old + elements_in (roses_of kids.now) ≤ steps.new) }
+    ensures later { steps.old ≤ steps.new }
 {
     if !nillable {
         return walk_kids(set, plans, model, plan, mixed, at, kids, values, steps);
@@ -222,6 +225,7 @@ fn walk_inside<L: Ledger>(
         (Tells (InsideFault (asked_at (parts_of set.now)) (inside_told inside.entry) (roses_of kids.now) at)) }
     ensures most { steps.new ≤ steps.old + (144 * elements_in (roses_of kids.now) + 72) }
     ensures least { OnOk result (steps.old + elements_in (roses_of kids.now) ≤ steps.new) }
+    ensures later { steps.old ≤ steps.new }
 {
     match inside {
         Inside::Nothing => walk_nothing(nillable, kids, values),
@@ -268,6 +272,7 @@ fn walk_complex<L: Ledger>(
         (Tells (InsideFault (asked_at (parts_of set.now)) (inside_told declared.now.inside) (roses_of kids.now) at)) }
     ensures most { steps.new ≤ steps.old + (144 * elements_in (roses_of kids.now) + 72) }
     ensures least { OnOk result (steps.old + elements_in (roses_of kids.now) ≤ steps.new) }
+    ensures later { steps.old ≤ steps.new }
 {
     begin_complex(
         plans.alloc(),
@@ -326,6 +331,7 @@ fn walk_filled<L: Ledger>(
         (Tells (InsideFault (asked_at (parts_of set.now)) (inside_told declared.now.inside) (roses_of kids.now) at)) }
     ensures most { steps.new ≤ steps.old + (144 * elements_in (roses_of kids.now) + 72) }
     ensures least { OnOk result (steps.old + elements_in (roses_of kids.now) ≤ steps.new) }
+    ensures later { steps.old ≤ steps.new }
 {
     match plain_type(set, decl, declared.inside) {
         Some(simple) => put_text(simple, at, kids, values),
@@ -357,6 +363,7 @@ pub(crate) fn walk_element<L: Ledger>(
         (Tells (FaultBy (asked_at (parts_of set.now)) decl item.now)) }
     ensures most { steps.new + 72 ≤ steps.old + 144 * element_count item.now }
     ensures least { OnOk result (steps.old + element_count item.now ≤ steps.new + 1) }
+    ensures later { steps.old ≤ steps.new }
 {
     match item.label() {
         ItemRef::Text { .. } => unreachable!(),

@@ -16,10 +16,13 @@ mod error;
 mod laws;
 mod reading;
 mod root;
+mod small;
 mod strings;
 mod texts;
 mod ways;
 
-pub use error::ReadError;
+pub use error::ReadError as ReadValueError;
 pub use laws::read_back;
 pub use reading::{check_items, read_value};
+pub use small::see_simples;
+pub use validity::InvalidWhy;

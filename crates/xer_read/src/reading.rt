@@ -7,7 +7,7 @@ ghost use Rattle.simple_types.specs.Labels.{MayHave};
 ghost use Rattle.schema_parts.specs.SetParts.{parts_of};
 ghost use Rattle.asn_types.specs.declared.modules.Assignment.{Assignment};
 ghost use Rattle.map_assignments.specs.Mapped.{IsMapOf};
-ghost use Rattle.one_value.specs.Statements.{AreSmall, root_at};
+ghost use Rattle.one_value.specs.Statements.{root_at};
 ghost use Rattle.validity.specs.Faults.{FirstFault};
 ghost use Rattle.validity_check.specs.Answers.{Tells, IsValid};
 ghost use Rattle.validity_check.specs.Counts.{element_count};
@@ -16,6 +16,7 @@ ghost use Rattle.xer_read.specs.Answers.{IsValueOf, IsTooLarge, IsOnlyValue, Rea
 
 use crate::error::ReadError;
 use crate::root::walk_root;
+use crate::small::see_simples;
 use doc_text::Items;
 use flat_tree::Whole;
 use schema_parts::SchemaSet;
@@ -44,6 +45,7 @@ pub fn check_items<L: Ledger>(
         (Tells (FirstFault (parts_of set.now) root items.now)) }
     ensures most { steps.new ≤ steps.old + 144 * element_count items.now }
     ensures least { OnOk result (steps.old + element_count items.now ≤ steps.new + 1) }
+    ensures later { steps.old ≤ steps.new }
 {
     let mut values = ValueBuilder::new(alloc, 0);
     walk_root(alloc, set, root, items, &mut values, steps)
@@ -67,7 +69,7 @@ fn finished(values: ValueBuilder) -> Result<Value, ReadError>
 
 /// The value of a document that is valid against the global element with this number: in each map of the set, one of the
 /// root type of the element, and its items are the treated items of the document. No other value of the type has these
-/// items, where the numbers of enumerations have 128 bits, as they have in memory.
+/// items.
 ///
 /// An error tells the first fault; or that the document is valid and its value has more than 1,048,576 nodes, where the
 /// count 2^64 - 1 stands for that number and every greater one; or that memory is missing.
@@ -82,12 +84,14 @@ pub fn read_value<L: Ledger>(
     ensures read { (M : List Assignment) → (is_map : IsMapOf set.now M) → MatchResult result
         (λ value. IsValueOf set.now root items.now M (root_at set.now M is_map root) value × (node_count value ≤ 1048576))
         (ReadTells (FirstFault (parts_of set.now) root items.now) (IsTooLarge set.now root items.now M (root_at set.now M is_map root))) }
-    ensures alone { AreSmall set.now → (M : List Assignment) → (is_map : IsMapOf set.now M) → IfOk result (λ value. IsOnlyValue M (root_at set.now M is_map root) value) }
+    ensures alone { (M : List Assignment) → (is_map : IsMapOf set.now M) → IfOk result (λ value. IsOnlyValue M (root_at set.now M is_map root) value) }
     ensures most { steps.new ≤ steps.old + 144 * element_count items.now }
     ensures least { MatchResult result
         (λ _. steps.old + element_count items.now ≤ steps.new + 1)
         (ReadTells (λ at why. Unit {0}) (λ count. steps.old + element_count items.now ≤ steps.new + 1)) }
+    ensures later { steps.old ≤ steps.new }
 {
+    see_simples(set);
     let mut values = ValueBuilder::new(alloc, MOST_NODES);
     match walk_root(alloc, set, root, items, &mut values, steps) {
         Err(CheckError::Invalid { at, why }) => Err(ReadError::Invalid { at, why }),

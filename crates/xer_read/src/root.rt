@@ -73,6 +73,7 @@ pub(crate) fn walk_root<L: Ledger>(
         (Tells (FirstFault (parts_of set.now) root items.now)) }
     ensures most { steps.new ≤ steps.old + 144 * element_count items.now }
     ensures least { OnOk result (steps.old + element_count items.now ≤ steps.new + 1) }
+    ensures later { steps.old ≤ steps.new }
 {
     let _ = set.element_count();
     let mut plans = Plans::new(alloc, set)?;

@@ -86,6 +86,7 @@ pub(crate) fn open_way<L: Ledger>(
     requires put { (gs : List Child) × (z : Zip ValueLabel) × (now : Zip ValueLabel) × Put (seen model.now) (spot_of matcher.old) gs z now × Stands values.old now }
     ensures ticks { steps.new ≤ steps.old + (4 * levels matcher.old.particle + 4) }
     ensures least { OnOk result (steps.old + 1 ≤ steps.new) }
+    ensures later { steps.old ≤ steps.new }
     ensures particle { matcher.new.particle ≡ matcher.old.particle }
     ensures took { (us : List language.Leaf) → Took matcher.old us
         → MatchResult result (λ leaf. TookMore matcher.old matcher.new us name.now leaf)

@@ -1,4 +1,4 @@
-use Rattle.std.proofs.Common.{true, ◌≡◌, ◌≤◌, ◌*◌, ◌+◌, ◌-◌, suc, length, IsTrue}
+use Rattle.std.proofs.Common.{◌≡◌, ◌≤◌, ◌*◌, ◌+◌, ◌-◌, suc, length, IsTrue}
 use Rattle.bit_cursor.specs.Cursors.{IsInStep}
 use Rattle.label_tree.specs.Rose.{label_of, kids_of, roses_of, count_all}
 use Rattle.per_fields.specs.Levels.{levels_needed}

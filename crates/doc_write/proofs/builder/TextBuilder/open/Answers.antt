@@ -7,7 +7,7 @@ use Rattle.doc_write.proofs.builder.TextBuilder.open.Goals as goal
 pub returns : goal.returns
 returns c =
     let ended = c.end_tag.new.self in
-    let new : TextBuilder = record { prefixes = c.bind.new.self; text = c.write_qualified.new.out; in_tag = true; late = ended.late } in
-    let tag : OpenTag = record { qualifier = c.qualifier-qualifier.result; local = c.args.local } in
-    begins-element c.args.self.now ended new (record { space = c.args.space.now; local = c.args.local.now }) tag _ c.in_ok-end_tag.ensures c.in_ok-bind.ensures c.qualifier-qualifier.ensures refl refl refl
-    c.in_ok-push.ensures.items c.in_ok-write_qualified.ensures
+    let new : TextBuilder = record { prefixes = c.declared.new.self; text = c.extend_from_slice.new.self; in_tag = true; late = ended.late } in
+    let tag : OpenTag = record { qualifier = c.in_ok-qualifier.qualifier; local = c.args.local } in
+    begins-element c.args.self.now ended new (record { space = c.args.space.now; local = c.args.local.now }) tag _ c.in_ok-end_tag.ensures c.in_ok-qualifier.ensures.table c.in_ok-qualifier.ensures.qualifier refl refl refl
+    c.in_ok-write_start.ensures c.in_ok-extend_from_slice.ensures.items

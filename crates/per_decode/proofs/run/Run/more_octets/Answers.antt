@@ -1,4 +1,4 @@
-use Rattle.std.proofs.Common.{true, arith, ◌≡◌, ◌+◌, ◌*◌, None, length, suc, ◌++◌, sym, ap, ◌∙◌, subst}
+use Rattle.std.proofs.Common.{arith, ◌≡◌, ◌+◌, ◌*◌, None, length, suc, ◌++◌, sym, ap, ◌∙◌, subst}
 use Rattle.std.proofs.lemmas.Result.{err_from_is_err_and}
 use Rattle.per_fields.specs.Reading.{octets_at}
 use Rattle.std.proofs.lemmas.List.{length-append}

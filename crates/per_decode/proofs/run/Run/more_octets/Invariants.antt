@@ -1,4 +1,4 @@
-use Rattle.std.proofs.Common.{true, ◌≡◌, ◌≤◌, ◌+◌, ◌-◌, ◌*◌, suc, length, None, IsTrue}
+use Rattle.std.proofs.Common.{◌≡◌, ◌≤◌, ◌+◌, ◌-◌, ◌*◌, suc, length, None, IsTrue}
 use Rattle.bit_cursor.specs.Cursors.{IsInStep}
 use Rattle.per_fields.specs.Reading.{octets_at}
 use Rattle.per_fields.specs.Fields.{fragments_at}

@@ -1,0 +1,2 @@
+pub mod Unaligned
+pub mod Fields

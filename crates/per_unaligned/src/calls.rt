@@ -1,0 +1,55 @@
+//! Encoding and decoding.
+ghost use Rattle.std.specs.Prelude.{◌≡◌, ℕ, ◌^◌, ◌<◌, ◌≤◌, List, Some, IfOk, IsErrOf, length};
+ghost use Rattle.bit_cursor.specs.Bits.{octet_bits};
+ghost use Rattle.xa_base.specs.Faults.{Counts};
+ghost use Rattle.asn_types.specs.Values.{In};
+ghost use Rattle.per_unaligned.specs.Unaligned.{complete_unaligned, AnswersUnaligned};
+
+use asn_types::Module;
+use per_decode::{DecodeError, Decoded, decode_by};
+use per_encode::encode_by;
+use per_fields::Unaligned;
+use simple_types::Value;
+use std::alloc::Global;
+use xa_base::{Memory, Source};
+
+/// The complete encoding of a value of the type of the assignment with this number (X.691, clause 11.1): whole octets, and one
+/// zero octet where the value has no bits.
+///
+/// It goes through the value once, and the time is linear in the value and its octets.
+pub fn encode_unaligned(
+    alloc: Global,
+    module: &Module,
+    t: u32,
+    value: &Value,
+) -> Result<Vec<u8>, Memory>
+    requires { In module.now t value.now }
+    ensures { IfOk result (λ octets. octet_bits octets.items ≡ complete_unaligned module.now t value.now) }
+{
+    encode_by::<Unaligned>(alloc, module, t, value)
+}
+
+/// The value of the type of the assignment with this number, by the complete encoding with which the octets left in the
+/// source begin, and how many octets that encoding has. At most `limit` of them are taken, and none before a bit of it is
+/// needed, so what stands behind the encoding is left in the source.
+///
+/// # Errors
+///
+/// `Bad` tells the first fault of the octets, and `TooLong` that their first `limit` end inside a field. After `Failed`
+/// the octets that were taken may be the front of an encoding.
+pub fn decode_unaligned<S: Source>(
+    alloc: Global,
+    module: &Module,
+    t: u32,
+    source: &mut S,
+    limit: u64,
+) -> Result<Decoded, DecodeError>
+    requires assigned { t < length module.now }
+    requires small { limit ≤ 2 ^ 32 }
+    ensures value { IfOk result (λ found. In module.now t found.value) }
+    ensures limited { IfOk result (λ found. found.octets ≤ limit) }
+    ensures answer { (left : List ℕ) → S.left source.old ≡ Some left → AnswersUnaligned module.now t limit left (S.left source.new) result }
+    ensures cause { Counts (S.faults source.old) (S.faults source.new) (IsErrOf result DecodeError.Failed) }
+{
+    decode_by::<S, Unaligned>(alloc, module, t, source, limit)
+}

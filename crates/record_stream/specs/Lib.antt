@@ -1,0 +1,3 @@
+pub mod Heads
+pub mod Next
+pub mod Cuts

@@ -1,0 +1,9 @@
+use Rattle.doc_text.proofs.Known.{laws}
+use Rattle.transcode_core.proofs.Counted.{counted, trial_steps}
+use Rattle.transcode_core.proofs.laws.trial_elements.Goals as goal
+
+pub returns-clause-count : goal.returns-clause-count
+returns-clause-count c = λ lines items some few is. counted laws lines few items is
+
+pub returns-clause-steps : goal.returns-clause-steps
+returns-clause-steps c = trial_steps laws
