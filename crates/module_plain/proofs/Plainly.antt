@@ -192,9 +192,11 @@ mutual
       → AllCopied (printed_parts M levels parts ts) (printed_parts (unmarked M) levels (map unmarked_part parts) (unmarked_types ts))
   copied_parts M levels parts none = tt
   copied_parts M levels [] (more t ts) = tt
-  copied_parts M levels (part ∷ others) (more t ts) =
-      (copied_with_type part (printed_type M levels part.identifier part.marks t) (printed_type (unmarked M) levels part.identifier [] (unmarked_type t))
-          (copied_type M levels part.identifier part.marks t), copied_parts M levels others ts)
+  copied_parts M levels (part ∷ others) (more t ts) = (
+    copied_with_type part (printed_type M levels part.identifier part.marks t) (printed_type (unmarked M) levels part.identifier [] (unmarked_type t))
+        (copied_type M levels part.identifier part.marks t),
+    copied_parts M levels others ts,
+  )
 
 -- ---- the module
 

@@ -8,18 +8,27 @@ use strsim::osa_distance;
 /// The commands.
 pub const COMMANDS: &[&str] = &["show", "check", "to-per", "to-xml", "trial"];
 
-// The command whose word is nearest to this one, by the least number of characters that are put in, left out, changed or swapped.
-fn nearest(alloc: Global, word: &str) -> Result<&'static str, AllocError> {
+// The number of the command whose word is nearest to this one, by the least number of characters that are put in, left out, changed or
+// swapped.
+fn nearest_at(alloc: Global, word: &str) -> Result<usize, AllocError> {
     let mut least = usize::MAX;
-    let mut found = "show";
-    for name in COMMANDS {
-        let distance = osa_distance(alloc, word, name)?;
+    let mut found = 0;
+    for at in 0..COMMANDS.len() {
+        let distance = osa_distance(alloc, word, COMMANDS[at])?;
         if distance < least {
             least = distance;
-            found = name;
+            found = at;
         }
     }
     Ok(found)
+}
+
+// That command.
+fn nearest(alloc: Global, word: &str) -> Result<&'static str, AllocError> {
+    match COMMANDS.get(nearest_at(alloc, word)?) {
+        Some(name) => Ok(*name),
+        None => Ok("show"),
+    }
 }
 
 /// The help of a command, or of the program where no name is told.

@@ -16,5 +16,5 @@ returns c = λ M e free.
     let left : c.in_ok-left.left.items ≡ rule.plain_body M = c.in_ok-left.ensures ∙ ap (stripped Module) body ∙ stripped_alone M free in
     c.in_ok-extend_from_slice-2.ensures.items
     ∙ ap (λ l. l ++ rule.closing)
-        (c.in_ok-extend_from_slice.ensures.items ∙ ap (λ w. w ++ c.deref.result.now) c.in_ok-whole.ensures.items
-        ∙ ap (λ l. rule.opening ++ l) (c.deref.ensures.value ∙ left))
+    (c.in_ok-extend_from_slice.ensures.items ∙ ap (λ w. w ++ c.deref.result.now) c.in_ok-whole.ensures.items
+    ∙ ap (λ l. rule.opening ++ l) (c.deref.ensures.value ∙ left))

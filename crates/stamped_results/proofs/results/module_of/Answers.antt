@@ -9,4 +9,4 @@ pub returns-clause-refused : goal.returns-clause-refused
 returns-clause-refused g c =
     let left : c.new-nothing.result.left ≡ [] = ap (λ (f : Feed). f.left) c.new-nothing.ensures ∙ c.new.ensures.items in
     subst (λ left. IfErr c.due_of.result (λ o. IsRefusal o → Due (rule.show_words c.args.files.now) (g.F.Library.entries c.args.library.now) (Some left) o [])) left
-        c.due_of.ensures.refused
+    c.due_of.ensures.refused
