@@ -310,20 +310,34 @@ fn out_of_memory(rt: &HostRuntime) -> u8 {
     finished(rt, Outcome::OutOfMemory, Err(Memory))
 }
 
-fn done(rt: &HostRuntime) -> u8 {
-    let words = match read_words(rt) {
-        Ok(words) => words,
-        Err(outcome) => return finished(rt, outcome, Err(Memory)),
-    };
-    match parse_words(rt.alloc(), words.as_slice()) {
-        Ok(Parsed::Asked(asked)) if asked.task == Task::Manual => match manual_page(rt.alloc()) {
-            Ok(page) => write_text(rt, page.as_str()),
-            Err(_) => out_of_memory(rt),
-        },
-        Ok(Parsed::Asked(asked)) => carry_out(rt, &asked),
-        Ok(Parsed::Help(text)) => write_text(rt, text.as_str()),
-        Ok(Parsed::Mistake(text)) => finished(rt, Outcome::Usage, Ok(text)),
+// Does what is asked for, and be it the page of the manual: the exit status.
+fn served(rt: &HostRuntime, asked: &Asked<'_>) -> u8 {
+    if asked.task != Task::Manual {
+        return carry_out(rt, asked);
+    }
+    match manual_page(rt.alloc()) {
+        Ok(page) => write_text(rt, page.as_str()),
         Err(_) => out_of_memory(rt),
+    }
+}
+
+// Does what the words ask for: the exit status.
+fn answered(rt: &HostRuntime, words: &[String]) -> u8 {
+    let parsed = match parse_words(rt.alloc(), words) {
+        Ok(parsed) => parsed,
+        Err(_error) => return out_of_memory(rt),
+    };
+    match parsed {
+        Parsed::Asked(asked) => served(rt, &asked),
+        Parsed::Help(text) => write_text(rt, text.as_str()),
+        Parsed::Mistake(text) => finished(rt, Outcome::Usage, Ok(text)),
+    }
+}
+
+fn done(rt: &HostRuntime) -> u8 {
+    match read_words(rt) {
+        Ok(words) => answered(rt, words.as_slice()),
+        Err(outcome) => finished(rt, outcome, Err(Memory)),
     }
 }
 
