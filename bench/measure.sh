@@ -2,7 +2,7 @@
 # xmllint. Two commands take turns, seven times each; of each the least wall time and the least processor time in seconds
 # and the most memory in kilobytes that a run took are told (the resident set that getrusage tells), and our parts of the
 # peer's. What takes more than ten seconds is stopped.
-program=${PROGRAM:-bin/ruvkhiska}
+program=${PROGRAM:-bin/transcode}
 runs=${RUNS:-7}
 work=$(mktemp -d)
 trap 'rm -rf "$work"' EXIT

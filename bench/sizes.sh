@@ -7,7 +7,7 @@
 # PROGRAM names another program.
 set -eu
 cd "$(dirname "$0")/.."
-program=${PROGRAM:-bin/ruvkhiska}
+program=${PROGRAM:-bin/transcode}
 work=$(mktemp -d)
 trap 'rm -rf "$work"' EXIT
 . bench/orders.sh

@@ -7,7 +7,7 @@
 # PROGRAM names another program.
 set -eu
 cd "$(dirname "$0")/.."
-program=$(realpath "${PROGRAM:-bin/ruvkhiska}")
+program=$(realpath "${PROGRAM:-bin/transcode}")
 work=$(mktemp -d)
 trap 'rm -rf "$work"' EXIT
 cd "$work"

@@ -3,7 +3,8 @@
 
 - README.md has less than 12 KB, and each file that a page names is there.
 - docs/REASONS.md has each reason of the program, from A to Z, and no other; each is told by a row of crates/transcode_rows.
-- Each command of a page, a line `$ ...` with `bin/ruvkhiska` in it, answers what the page says.
+- crates/complaints/src/words.rt, the words of bin/ruvkhiska, says of each reason what docs/REASONS.md does.
+- Each command of a page, a line `$ ...` with `bin/ruvkhiska` or `bin/transcode` in it, answers what the page says.
 - The recipes of docs/CONTENT-MODELS.md: the first model is refused as NotClear, the second is taken, and takes the same documents,
   tried with all of up to four (with the option --long six) child elements.
 - The remedies of docs/REASONS.md for schemas: what is refused, and what is taken in its place.
@@ -11,9 +12,9 @@
 
 It prints a line for each statement that is wrong, and the counts at the end; its status is 1 where any is.
 
-    tests/docs.py [--long]        needs the program (`make run`); a minute
+    tests/docs.py [--long]        needs the programs (`make run`); a minute
 
-PROGRAM names another program, which stands in place of bin/ruvkhiska.
+PROGRAM names another program in place of bin/transcode, PEOPLE one in place of bin/ruvkhiska.
 """
 import itertools
 import os
@@ -23,7 +24,8 @@ import sys
 import tempfile
 
 HERE = os.path.dirname(os.path.dirname(os.path.abspath(__file__)))
-PROGRAM = os.path.abspath(os.environ.get("PROGRAM", os.path.join(HERE, "bin/ruvkhiska")))
+PROGRAM = os.path.abspath(os.environ.get("PROGRAM", os.path.join(HERE, "bin/transcode")))
+PEOPLE = os.path.abspath(os.environ.get("PEOPLE", os.path.join(HERE, "bin/ruvkhiska")))
 XSD = '<xs:schema xmlns:xs="http://www.w3.org/2001/XMLSchema">%s</xs:schema>'
 # The reasons: the table as it is told, the file, the enum.
 TABLES = {
@@ -119,17 +121,45 @@ def try_reasons(docs):
         docs.holds(told in table_of_rows, "no row tells", table, reason)
 
 
+# The words of bin/ruvkhiska: which function has those of which table.
+WORDS = {
+    "syntax": "text_reason",
+    "schema": "schema_reason",
+    "link": "link_reason",
+    "link: Facet": "facet_reason",
+    "invalid": "invalid_reason",
+    "per": "octets_reason",
+}
+
+
+def try_words(docs):
+    """A reason means and asks for the same in both places, but for the marks of code, which a terminal doesn't show."""
+    said = {}
+    for line in text_of("docs/REASONS.md").split("\n"):
+        cells = [it.strip() for it in line.split("|")]
+        if len(cells) == 8 and cells[1] not in ("Reason", "---"):
+            for table in re.split(r", ", cells[2]):
+                said[table, cells[1]] = cells[3].replace("`", ""), cells[5].replace("`", "")
+    words = text_of("crates/complaints/src/words.rt")
+    for table, function in WORDS.items():
+        body = words[words.index(f"pub fn {function}(") :]
+        body = body[: body.index("\n}\n")]
+        for name, means, remedy in re.findall(r'name: "(\w+)",\s+means: "((?:[^"\\]|\\.)*)",\s+remedy: "((?:[^"\\]|\\.)*)"', body):
+            told = means.replace('\\"', '"'), remedy.replace('\\"', '"')
+            docs.holds(said.get((table, name)) == told, table, name, "is", told, "and in docs/REASONS.md", said.get((table, name)))
+
+
 def try_commands(docs):
     for page in pages():
         for block in re.findall(r"(?m)(?:^    .*\n?)+", text_of(page)):
             lines = [it[4:] for it in block.rstrip("\n").split("\n")]
-            if not any(it.startswith("$ ") and "bin/ruvkhiska" in it for it in lines):
+            if not any(it.startswith("$ ") and re.search("bin/(ruvkhiska|transcode)", it) for it in lines):
                 continue
             said = []
             for line in [*lines, "$ "]:
                 if line.startswith("$ "):
                     if said:
-                        command = said[0].replace("bin/ruvkhiska", PROGRAM)
+                        command = said[0].replace("bin/ruvkhiska", PEOPLE).replace("bin/transcode", PROGRAM)
                         ran = subprocess.run(["bash", "-c", command], cwd=HERE, stdout=subprocess.PIPE, stderr=subprocess.STDOUT)
                         told = ran.stdout.decode().rstrip("\n").split("\n")
                         docs.holds(told == (said[1:] or [""]), page, said[0], "answers", told)
@@ -303,13 +333,15 @@ def try_agreement(docs):
 
 
 def main():
-    if not os.access(PROGRAM, os.X_OK):
-        print(f"no program at {PROGRAM}: make run", file=sys.stderr)
-        return 2
+    for program in (PROGRAM, PEOPLE):
+        if not os.access(program, os.X_OK):
+            print(f"no program at {program}: make run", file=sys.stderr)
+            return 2
     with tempfile.TemporaryDirectory() as work:
         docs = Docs(work)
         try_names(docs)
         try_reasons(docs)
+        try_words(docs)
         try_remedies(docs)
         try_agreement(docs)
         try_commands(docs)

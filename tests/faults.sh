@@ -11,7 +11,7 @@
 # PROGRAM names another program, EACH and STEPS other numbers than 2,000 and 300.
 set -eu
 cd "$(dirname "$0")/.."
-program=$(realpath -m "${PROGRAM:-bin/ruvkhiska}")
+program=$(realpath -m "${PROGRAM:-bin/transcode}")
 [ -x "$program" ] || { echo "no program at $program: make run" >&2; exit 2; }
 each=${EACH:-2000}
 steps=${STEPS:-300}

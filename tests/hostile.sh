@@ -18,7 +18,7 @@
 set -eu
 shopt -s nullglob
 cd "$(dirname "$0")/.."
-program=$(realpath -m "${PROGRAM:-bin/ruvkhiska}")
+program=$(realpath -m "${PROGRAM:-bin/transcode}")
 [ -x "$program" ] || { echo "no program at $program: make run" >&2; exit 2; }
 features=$(realpath examples/features.xsd)
 order=$(realpath examples/order.xsd)

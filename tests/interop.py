@@ -9,7 +9,7 @@ import random_cases
 from strip_xer import strip
 
 HERE = os.path.dirname(os.path.dirname(os.path.abspath(__file__)))
-PROGRAM = os.path.abspath(os.environ.get("PROGRAM", os.path.join(HERE, "bin/ruvkhiska")))
+PROGRAM = os.path.abspath(os.environ.get("PROGRAM", os.path.join(HERE, "bin/transcode")))
 EXAMPLES = {
     "order": ["order.xsd"],
     "features": ["features.xsd"],

@@ -1252,7 +1252,7 @@ class Cases:
 
 def main():
     here = os.path.dirname(os.path.dirname(os.path.abspath(__file__)))
-    program = os.path.abspath(os.environ.get("PROGRAM", os.path.join(here, "bin/ruvkhiska")))
+    program = os.path.abspath(os.environ.get("PROGRAM", os.path.join(here, "bin/transcode")))
     first = int(sys.argv[1]) if len(sys.argv) > 1 else 1
     count = int(sys.argv[2]) if len(sys.argv) > 2 else 300
     with tempfile.TemporaryDirectory() as folder:

@@ -1,0 +1,15 @@
+use Rattle.std.proofs.Common.{string_bytes}
+use Rattle.complaints.proofs.Wholes.{trailing_told, whole_told}
+use Rattle.complaints.proofs.telling.complaint.Goals as goal
+
+pub returns-in-Trailing : goal.returns-in-Trailing
+returns-in-Trailing c =
+    let reason = c.reason_of-reason.result in
+    trailing_told string_bytes c.tell_unit-in-Trailing.result c.args.outcome c.in-Trailing.at c.args.name.now c.args.contents.now c.args.within.now reason.name.now
+    reason.means.now reason.remedy.now c.in-Trailing.is c.reason_of-reason.ensures c.tell_unit-in-Trailing.ensures
+
+pub returns-in-Done : goal.returns-in-Done
+returns-in-Done c =
+    let reason = c.reason_of-reason.result in
+    whole_told string_bytes c.tell_whole.result c.args.outcome c.args.name.now c.args.contents.now c.args.within.now reason.name.now reason.means.now
+    reason.remedy.now c.in-Done.is c.reason_of-reason.ensures c.tell_whole.ensures

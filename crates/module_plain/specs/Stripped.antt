@@ -1,0 +1,20 @@
+-- What is left of a text without its encoding instructions, each of which is in brackets with a space behind it (X.680, clause 31.3): a
+-- bracket in a text in quotation marks ends none.
+use Rattle.std.specs.Prelude.{◌==◌, ℕ, List, [], ◌∷◌, ◌++◌, if◌then◌else◌}
+use Rattle.module_plain.specs.declared.stripping.Within.{Within}
+use Rattle.module_plain.specs.declared.stripping.Within.TheVariants.{Module, Instruction, Quotes, Behind}
+
+-- where the byte behind this one stands
+abbrev pub next : Within → ℕ → Within
+next Module b = if b == 91 then Instruction else Module
+next Instruction b = if b == 93 then Behind else if b == 34 then Quotes else Instruction
+next Quotes b = if b == 34 then Instruction else Quotes
+next Behind b = Module
+
+abbrev pub kept : Within → ℕ → List ℕ
+kept Module b = if b == 91 then [] else b ∷ []
+kept _ b = []
+
+abbrev pub stripped : Within → List ℕ → List ℕ
+stripped within [] = []
+stripped within (b ∷ bs) = kept within b ++ stripped (next within b) bs

@@ -1,0 +1,13 @@
+//! The parts of the program that know nothing of schemas: its words, its files and the manual.
+#![tactic(auto)]
+
+mod arguments;
+mod manual;
+mod mistakes;
+mod outside;
+mod syntaxes;
+
+pub use arguments::{Asked, Parsed, Task, parse_words};
+pub use manual::manual_page;
+pub use outside::{Input, Kept, save};
+pub use syntaxes::Syntax;

@@ -1,0 +1,5 @@
+mod Ends
+mod Feeds
+mod Gathered
+mod Parts
+mod Ways

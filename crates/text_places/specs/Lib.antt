@@ -1,0 +1,4 @@
+pub mod Lines
+pub mod Excerpts
+pub mod Telling
+pub mod Paths
