@@ -63,7 +63,7 @@ module _ (laws : Laws) (words : List (List ℕ)) (old new : Outside) (same_input
         files = beside.files;
         complete = λ entries bytes known told due no_load no_read no_write. inl refl;
         sure = λ entries o more known told also is_sure has no_read room.
-          inl (one_due laws words old.entries old.left entries known told Done o bytes more (done_due words old.entries old.left bytes due) also).0;
+            inl (one_due laws words old.entries old.left entries known told Done o bytes more (done_due words old.entries old.left bytes due) also).0;
         loads = beside.loads;
         reads = beside.reads;
         writes = beside.writes;
@@ -89,8 +89,8 @@ module _ (laws : Laws) (words : List (List ℕ)) (old new : Outside) (same_input
         files = beside.files;
         complete = λ entries bytes known told due no_load no_read no_write. absurd (no_write rose);
         sure = λ entries o more known told also is_sure has no_read room.
-          let same = one_due laws words old.entries old.left entries known told Done o bytes more (done_due words old.entries old.left bytes due) also in
-          absurd (no_room old.room (length more) (subst (λ b. LacksRoom old.room (length b)) same.1 lacks) room);
+            let same = one_due laws words old.entries old.left entries known told Done o bytes more (done_due words old.entries old.left bytes due) also in
+            absurd (no_room old.room (length more) (subst (λ b. LacksRoom old.room (length b)) same.1 lacks) room);
         loads = beside.loads;
         reads = beside.reads;
         writes = beside.writes;
@@ -136,7 +136,7 @@ module _ (laws : Laws) (words : List (List ℕ)) (old new : Outside) (same_input
         untouched = beside.untouched;
         files = beside.files;
         complete = λ entries bytes known told due no_load no_read no_write.
-          completed_told laws words old.entries old.left entries bytes old.load_faults new.load_faults old.read_faults new.read_faults old.is_sure o known told due no_load no_read answer;
+            completed_told laws words old.entries old.left entries bytes old.load_faults new.load_faults old.read_faults new.read_faults old.is_sure o known told due no_load no_read answer;
         sure = λ entries due bytes known told is is_sure has no_read room. settled entries o due bytes known told is is_sure has no_read answer;
         loads = beside.loads;
         reads = beside.reads;
