@@ -3,7 +3,7 @@ ghost use Rattle.std.specs.Prelude.{◌≡◌, ◌<◌, ◌++◌, ℕ, [], List,
 ghost use Rattle.transcode_core.specs.Due.{Due};
 ghost use Rattle.command_line.specs.Answers.{IsRefusal};
 
-use command_line::Outcome;
+use command_line::{Outcome, read_each};
 use std::alloc::Global;
 use std::marker::Brand;
 use std::sync::ledger::{Blank, Ledger};
@@ -67,8 +67,14 @@ fn run_counted<F: Library, S: Source, L: Ledger>(
     ensures refused { IsRefusal result → Due words.now (F.entries files.old) (S.left input.old) result [] }
     ensures entries { F.entries files.new ≡ F.entries files.old }
 {
-    let mut steps = Steps::<L>::new(blank);
-    run(alloc, words, files, input, output, &mut Silence, &mut steps)
+    match read_each(words) {
+        // What these words ask for comes record by record, and nothing whole is due of them.
+        Some(_) => Outcome::Usage,
+        None => {
+            let mut steps = Steps::<L>::new(blank);
+            run(alloc, words, files, input, output, &mut Silence, &mut steps)
+        }
+    }
 }
 
 /// What is due to these words, files and input, or why it isn't.
