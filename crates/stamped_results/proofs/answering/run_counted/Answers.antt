@@ -7,7 +7,7 @@ pub returns-in-Some : goal.returns-in-Some
 returns-in-Some g c =
     record {
       done = λ e. let clash : Usage ≡ Done = e in cc;
-      refused = λ _. inl ((nothing_whole _ _ c.in-Some.ensures.found, refl), refl);
+      refused = λ _. inl ((nothing_whole c.args.words.now _ c.in-Some.ensures.found, refl), refl);
       entries = refl;
     }
 
