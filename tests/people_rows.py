@@ -21,6 +21,12 @@ PEOPLE = os.path.abspath(os.environ.get("PEOPLE", os.path.join(HERE, "bin/ruvkhi
 HEAD, END = b'<xs:schema xmlns:xs="http://www.w3.org/2001/XMLSchema">', b"</xs:schema>"
 # A comment with characters of two, three and four bytes and a tab: 11 characters in 17 bytes.
 BEFORE = "<!--é€😀\t-->".encode()
+# The transfer syntaxes that the fixed program has in its words, and this one by an option.
+SYNTAXES = {"to-per-u": ["to-per", "-t", "uper"], "to-xml-u": ["to-xml", "-t", "uper"]}
+
+
+def as_people_say(words):
+    return SYNTAXES.get(words[0], words[:1]) + words[1:]
 
 
 class Row:
@@ -117,7 +123,7 @@ class Complaints:
         for name, contents in files.items():
             with open(os.path.join(self.work, name), "wb") as file:
                 file.write(contents)
-        ran = subprocess.run([PEOPLE, *row.words], input=octets, cwd=self.work, capture_output=True, timeout=120)
+        ran = subprocess.run([PEOPLE, *as_people_say(row.words)], input=octets, cwd=self.work, capture_output=True, timeout=120)
         return ran.returncode, ran.stderr
 
     def holds(self, row, status, front, ran):
