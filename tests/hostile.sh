@@ -338,8 +338,8 @@ make_uses() {
 hostile uses 400 60 0 0 '' check "{$long_space}r" "$schema"
 make_uses_sent() { make_uses "$1"; }
 hostile uses_sent 400 60 0 0 '' to-per "{$long_space}r" "$schema"
-beside uses 400 6 check "{$long_space}r"
-beside uses_sent 400 6 to-per "{$long_space}r"
+beside uses 400 5 check "{$long_space}r"
+beside uses_sent 400 5 to-per "{$long_space}r"
 
 # A text of so many items before 50 that are spelled anew one after another, each by another member of a union of 50
 # lists: each member reads all items again in each form that the text takes.

@@ -1,8 +1,9 @@
 #!/usr/bin/env python3
 """Gives bin/ruvkhiska what each row of crates/transcode_rows that is refused at a place gives the fixed program, and compares the
 place that it tells: the line and the column are counted here, from the byte that the row has. Each reason of the tables is among
-the rows, so each complaint is shown with its line and column. Then each text at fault is given once more, with CR LF for each
-line feed, and once with a comment of characters of several bytes and a tab before the place, on its line.
+the rows, but one that no schema leads to, so each complaint is shown with its line and column. Then each text at fault is given
+once more, with CR LF for each line feed, and once with a comment of characters of several bytes and a tab before the place, on its
+line.
 
 It prints each complaint that is wrong, and the counts at the end; its status is 1 where any is. `tests/people.sh` calls it.
 

@@ -134,11 +134,14 @@ among-allowed M [] t all inside = absurd inside
 among-allowed M (a ∷ others) t all (inl inside) = inside-allowed t a.body inside (All-head (IsAssignment M) a others all).allowed
 among-allowed M (a ∷ others) t all (inr inside) = among-allowed M others t (All-tail (IsAssignment M) a others all) inside
 
+pub of-allowed : (M : List Assignment) → IsModule M → (t : Rose TypeLabel) → IsOf M t → Allowed MayHave t
+of-allowed M is t inside = among-allowed M M t is.assignments inside
+
 parts-by : (t : Rose TypeLabel) → Allowed MayHave t → length (kids_of t) ≡ length (parts_of (label_of t).form)
 parts-by (node l ts) h = length-list_of ts ∙ h.0
 
 pub have-parts : TypesHaveTheirParts
-have-parts M t is inside = parts-by t (among-allowed M M t is.assignments inside)
+have-parts M t is inside = parts-by t (of-allowed M is t inside)
 
 bodies-are : (M : List Assignment) (k : ℕ) (u : Rose TypeLabel) → body_at M k ≡ Some u → IsOf M u
 bodies-are [] k u e = absurd cc

@@ -6,13 +6,9 @@ use Rattle.asn_types.specs.declared.types.Component.{Component}
 use Rattle.asn_types.specs.declared.types.TypeLabel.{TypeLabel}
 use Rattle.asn_types.specs.declared.modules.Assignment.{Assignment}
 use Rattle.asn_types.specs.Modules.{IsModule, AreWellFormed}
-use Rattle.asn_types.specs.Parts.{parts_of}
+use Rattle.asn_types.specs.Parts.{parts_of, IsPart}
 use Rattle.asn_types.specs.Refs.{target, next, resolve, is_element, ChainsWithin, IsOf}
 use Rattle.asn_types.specs.Roles.{role_of}
-
--- the part with number i of a type, and the type of the part
-abbrev pub IsPart : TypeLabel → Roses TypeLabel → ℕ → Component → Rose TypeLabel → Type 0
-IsPart l ts i part t = (slice_get (parts_of l.form) i ≡ Some part) × (slice_get (list_of ts) i ≡ Some t)
 
 -- A part that is no element has the references that its type has,
 abbrev pub PartKeepsReferences : Type 0

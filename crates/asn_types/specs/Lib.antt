@@ -8,5 +8,4 @@ pub mod Refs
 pub mod Roles
 pub mod Simples
 pub mod Spaces
-pub mod Values
 pub mod Private

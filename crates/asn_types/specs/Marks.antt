@@ -22,6 +22,10 @@ abbrev pub is_embed_values : Instruction → Bool
 is_embed_values mark.EmbedValues = true
 is_embed_values _ = false
 
+abbrev pub is_use_order : Instruction → Bool
+is_use_order mark.UseOrder = true
+is_use_order _ = false
+
 abbrev pub is_list : Instruction → Bool
 is_list mark.List = true
 is_list _ = false
@@ -41,6 +45,9 @@ has_use_nil marks = list_any is_use_nil marks
 
 abbrev pub has_embed_values : List Instruction → Bool
 has_embed_values marks = list_any is_embed_values marks
+
+abbrev pub has_use_order : List Instruction → Bool
+has_use_order marks = list_any is_use_order marks
 
 abbrev pub has_list : List Instruction → Bool
 has_list marks = list_any is_list marks

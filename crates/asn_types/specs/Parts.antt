@@ -1,5 +1,6 @@
 -- What stands in a type.
-use Rattle.std.specs.Prelude.{◌≡◌, ℕ, List, [], ◌∷◌, length}
+use Rattle.std.specs.Prelude.{◌≡◌, ℕ, Some, List, [], ◌∷◌, length, slice_get}
+use Rattle.label_tree.specs.Rose.{Rose, Roses, list_of}
 use Rattle.asn_types.specs.declared.types.Component.{Component}
 use Rattle.asn_types.specs.declared.types.Form.{Form}
 use Rattle.asn_types.specs.declared.types.Form.TheVariants as form
@@ -11,6 +12,10 @@ parts_of (form.Sequence parts) = parts
 parts_of (form.Choice parts) = parts
 parts_of (form.SequenceOf part least most) = part ∷ []
 parts_of _ = []
+
+-- the part with number i of a type, and the type of the part
+abbrev pub IsPart : TypeLabel → Roses TypeLabel → ℕ → Component → Rose TypeLabel → Type 0
+IsPart l ts i part t = (slice_get (parts_of l.form) i ≡ Some part) × (slice_get (list_of ts) i ≡ Some t)
 
 -- each has its type
 abbrev pub MayHave : TypeLabel → ℕ → Type 0

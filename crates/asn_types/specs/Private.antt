@@ -1,3 +1,2 @@
-pub mod Placing
 pub mod Seeking
 pub mod Telling

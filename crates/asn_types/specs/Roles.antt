@@ -1,13 +1,14 @@
 -- What a part of a type stands for in a document, by the encoding instructions of X.693.
-use Rattle.std.specs.Prelude.{ℕ, ◌+◌, ◌==◌, ◌&&◌, Bool, false, ℤ, Option, Some, None, length, if◌then◌else◌}
+use Rattle.std.specs.Prelude.{ℕ, ◌+◌, ◌==◌, ◌&&◌, Bool, false, ℤ, List, Option, Some, None, length, if◌then◌else◌}
 use Rattle.xa_base.specs.Limits.{is_empty}
+use Rattle.asn_types.specs.declared.marks.Instruction.{Instruction}
 use Rattle.asn_types.specs.declared.roles.Role.{Role}
-use Rattle.asn_types.specs.declared.roles.Role.TheVariants.{Attribute, Element, Group, Content, Embed, Item, Alternative}
+use Rattle.asn_types.specs.declared.roles.Role.TheVariants.{Attribute, Element, Group, Content, Embed, Order, Item, Alternative}
 use Rattle.asn_types.specs.declared.types.Component.{Component}
 use Rattle.asn_types.specs.declared.types.Form.{Form}
 use Rattle.asn_types.specs.declared.types.Form.TheVariants as form
 use Rattle.asn_types.specs.declared.types.TypeLabel.{TypeLabel}
-use Rattle.asn_types.specs.Marks.{has_attribute, has_untagged, has_use_nil, has_embed_values, has_use_union}
+use Rattle.asn_types.specs.Marks.{has_attribute, has_untagged, has_use_nil, has_embed_values, has_use_order, has_use_union}
 use Rattle.asn_types.specs.Parts.{parts_of}
 
 -- the last part of a USE-NIL type
@@ -17,6 +18,13 @@ is_content l i = has_use_nil l.marks && (i + 1 == length (parts_of l.form))
 -- the first part of an EMBED-VALUES type
 abbrev pub is_embed : TypeLabel → ℕ → Bool
 is_embed l i = (i == 0) && has_embed_values l.marks
+
+-- the first part of a USE-ORDER type, or the second where the first is that of EMBED-VALUES (X.693)
+abbrev pub order_place : List Instruction → ℕ
+order_place marks = if has_embed_values marks then 1 else 0
+
+abbrev pub is_order : TypeLabel → ℕ → Bool
+is_order l i = (i == order_place l.marks) && has_use_order l.marks
 
 -- the part of a SEQUENCE OF, where it has no identifier
 abbrev pub is_item : Form → Component → Bool
@@ -30,9 +38,10 @@ role_of l i component =
     else (if has_untagged component.marks then Group
     else (if is_content l i then Content
     else (if is_embed l i then Embed
+    else (if is_order l i then Order
     else (if is_item l.form component then Item
     else (if has_use_union l.marks then Alternative
-    else Element)))))
+    else Element))))))
 
 abbrev pub int_bounds : Form → Option (Option ℤ × Option ℤ)
 int_bounds (form.Int least greatest) = Some (least, greatest)

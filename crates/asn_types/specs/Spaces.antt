@@ -1,10 +1,15 @@
 -- The simple type for which a type stands, told by its form and its WHITESPACE (X.694, clauses 11 to 13).
+use Rattle.std.specs.Prelude.{ℕ, List}
 use Rattle.label_tree.specs.Rose.{Rose, node, Roses}
 use Rattle.label_tree.specs.Rose as rose
 use Rattle.simple_types.specs.Space.{Space, Spaces, none, more, Booleans, Wholes, Numbers, Words, Characters, ListOf, UnionOf}
+use Rattle.simple_types.specs.declared.labels.ValueLabel.{ValueLabel}
+use Rattle.simple_values.specs.Reading.{spelled}
+use Rattle.asn_types.specs.declared.modules.Assignment.{Assignment}
 use Rattle.asn_types.specs.declared.types.Form.TheVariants as form
 use Rattle.asn_types.specs.declared.types.TypeLabel.{TypeLabel}
 use Rattle.asn_types.specs.Marks.{white_space_of}
+use Rattle.asn_types.specs.Refs.{resolve}
 
 -- Of a type that stands for no simple type this says nothing.
 abbrev mutual
@@ -14,6 +19,7 @@ abbrev mutual
     | form.Int least greatest ↦ Wholes least greatest
     | form.Numbers numbers ↦ Numbers numbers
     | form.Words identifiers words ↦ Words (white_space_of l.marks) words
+    | form.Order identifiers ↦ Booleans
     | form.Utf8 least most class ↦ Characters (white_space_of l.marks) least most class
     | form.SequenceOf part least most ↦ ListOf (first_space ts) least most
     | form.Choice parts ↦ UnionOf (spaces_at ts)
@@ -28,3 +34,7 @@ abbrev mutual
   pub first_space : Roses TypeLabel → Space
   first_space rose.none = Booleans
   first_space (rose.more t ts) = space_at t
+
+-- the canonical spelling of a value, whose type is found through references
+abbrev pub spelling : List Assignment → Rose TypeLabel → Rose ValueLabel → List ℕ
+spelling M t v = spelled (space_at (resolve M t)) v

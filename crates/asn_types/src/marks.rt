@@ -25,6 +25,8 @@ pub enum Instruction {
     UseNil,
     /// The first component has the texts between the child elements.
     EmbedValues,
+    /// The first component, or the second behind that of EMBED-VALUES, has the order of the child elements.
+    UseOrder,
     /// The items are words of one text.
     List,
     /// The alternative is told by the text alone.
@@ -54,6 +56,7 @@ impl Instruction {
             }
             Instruction::UseNil => Ok(Instruction::UseNil),
             Instruction::EmbedValues => Ok(Instruction::EmbedValues),
+            Instruction::UseOrder => Ok(Instruction::UseOrder),
             Instruction::List => Ok(Instruction::List),
             Instruction::UseUnion => Ok(Instruction::UseUnion),
             Instruction::UseNumber => Ok(Instruction::UseNumber),
@@ -116,6 +119,7 @@ enum Sought {
     Untagged,
     UseNil,
     EmbedValues,
+    UseOrder,
     List,
     UseUnion,
 }
@@ -129,6 +133,7 @@ impl Sought {
             Sought::Untagged => matches!(mark, Instruction::Untagged),
             Sought::UseNil => matches!(mark, Instruction::UseNil),
             Sought::EmbedValues => matches!(mark, Instruction::EmbedValues),
+            Sought::UseOrder => matches!(mark, Instruction::UseOrder),
             Sought::List => matches!(mark, Instruction::List),
             Sought::UseUnion => matches!(mark, Instruction::UseUnion),
         }
@@ -229,6 +234,13 @@ impl Marks {
         ensures { result ≡ marked.has_embed_values self.now }
     {
         self.has(Sought::EmbedValues)
+    }
+
+    /// Whether USE-ORDER stands among them.
+    pub fn has_use_order(&self) -> bool
+        ensures { result ≡ marked.has_use_order self.now }
+    {
+        self.has(Sought::UseOrder)
     }
 
     /// Whether LIST stands among them.

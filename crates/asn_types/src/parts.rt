@@ -33,7 +33,7 @@ pub fn role(node: &TypeLabel, part: u32) -> Role
 
 impl TypeLabel {
     /// The role of the part with this number, which is this component.
-    pub(crate) fn role_of(&self, i: usize, component: &Component) -> Role
+    pub fn role_of(&self, i: usize, component: &Component) -> Role
         requires { i < length (parts_of self.now.form) }
         ensures { result ≡ roles.role_of self.now i component.now }
     {
@@ -45,6 +45,8 @@ impl TypeLabel {
             Role::Content
         } else if i == 0 && self.marks.has_embed_values() {
             Role::Embed
+        } else if self.is_order(i) {
+            Role::Order
         } else if self.is_item(component) {
             Role::Item
         } else if self.marks.has_use_union() {
@@ -60,6 +62,13 @@ impl TypeLabel {
         ensures { result ≡ roles.is_content self.now i }
     {
         self.marks.has_use_nil() && self.form.part_count() - i == 1
+    }
+
+    // Whether the part with this number is the order of a USE-ORDER type.
+    fn is_order(&self, i: usize) -> bool
+        ensures { result ≡ roles.is_order self.now i }
+    {
+        i == usize::from(self.marks.has_embed_values()) && self.marks.has_use_order()
     }
 
     // Whether this part is an item without a name.

@@ -13,6 +13,8 @@ pub enum Role {
     Content,
     /// The texts between the child elements: the first part of an EMBED-VALUES type.
     Embed,
+    /// The order of the child elements: the part of a USE-ORDER type behind that of EMBED-VALUES, or its first.
+    Order,
     /// An item without a name, as one of a LIST.
     Item,
     /// An alternative of a USE-UNION type.

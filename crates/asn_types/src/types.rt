@@ -4,7 +4,7 @@ ghost use Rattle.asn_types.specs.Parts.{MayHave, parts_of};
 
 use crate::marks::Marks;
 use label_tree::Shape;
-use simple_types::{Class, NumberList, TextList};
+use simple_types::{Class, NumberList, Standard, TextList};
 use std::alloc::Global;
 use std::marker::Model;
 use xa_base::{Memory, Text};
@@ -12,10 +12,12 @@ use xa_base::{Memory, Text};
 /// A component of a SEQUENCE, an alternative of a CHOICE or the item of a SEQUENCE OF, but for its type.
 #[derive(Drop)]
 pub struct Component {
-    /// Empty for an item of a LIST and for a text between child elements.
+    /// Empty for an item of a LIST, for a text between child elements, and for an item of the order of elements.
     pub identifier: Text,
     /// Whether it may be absent from a SEQUENCE.
     pub optional: bool,
+    /// Its default or fixed value, where it stands for an attribute that has one (X.680, clause 25).
+    pub standard: Standard,
     pub marks: Marks,
 }
 
@@ -25,10 +27,12 @@ impl Component {
         ensures { IfOk result (λ component. component ≡ self.now) }
     {
         let identifier = self.identifier.copy(alloc)?;
+        let standard = self.standard.copy(alloc)?;
         let marks = self.marks.copy(alloc)?;
         Ok(Component {
             identifier,
             optional: self.optional,
+            standard,
             marks,
         })
     }
@@ -95,6 +99,10 @@ pub enum Form {
         identifiers: TextList,
         words: TextList,
     },
+    /// ENUMERATED of items with these identifiers, in this order: the parts that USE-ORDER tells the order of.
+    Order {
+        identifiers: TextList,
+    },
     /// UTF8String of `min` to `max` characters, in a class.
     Utf8 {
         min: u32,
@@ -137,6 +145,10 @@ impl Form {
                 let identifiers = identifiers.copy(alloc)?;
                 let words = words.copy(alloc)?;
                 Ok(Form::Words { identifiers, words })
+            }
+            Form::Order { identifiers } => {
+                let identifiers = identifiers.copy(alloc)?;
+                Ok(Form::Order { identifiers })
             }
             Form::Utf8 { min, max, class } => Ok(Form::Utf8 {
                 min: *min,

@@ -132,6 +132,7 @@ per_reason per.NotShortest = codes "NotShortest"
 per_reason per.Range = codes "Range"
 per_reason per.TooWide = codes "TooWide"
 per_reason per.NotUtf8 = codes "NotUtf8"
+per_reason per.DefaultWritten = codes "DefaultWritten"
 per_reason per.NotAValue = codes "NotAValue"
 
 -- the file of that number, or the input

@@ -130,6 +130,7 @@ fn per_reason(why: Why) -> &'static [u8]
         Why::Range => b"Range",
         Why::TooWide => b"TooWide",
         Why::NotUtf8 => b"NotUtf8",
+        Why::DefaultWritten => b"DefaultWritten",
         Why::NotAValue => b"NotAValue",
     }
 }

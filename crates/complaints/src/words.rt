@@ -553,6 +553,11 @@ pub fn octets_reason(why: Why) -> Reason
             means: "the octets of a text aren't UTF-8",
             remedy: "send the same module, with a checksum",
         },
+        Why::DefaultWritten => Reason {
+            name: "DefaultWritten",
+            means: "a component that may be absent has its default or fixed value",
+            remedy: "encode by CANONICAL-PER",
+        },
         Why::NotAValue => Reason {
             name: "NotAValue",
             means: "all fields were read, but the node breaks a rule of values",

@@ -18,7 +18,7 @@ pub use making::{ItemError, UnionError, list_of, union_of, union_of_lent};
 pub use refusals::{FacetError, FacetWhy};
 pub use restricting::restrict;
 pub use simple_types::{
-    Builtin, Class, Facet, Facets, Flags, NumberList, Simple, SimpleList, TextList, Value,
-    ValueLabel, builtin,
+    Builtin, Class, Facet, Facets, Flags, NumberList, Simple, SimpleList, Standard, TextList,
+    Value, ValueLabel, builtin,
 };
 pub use simple_values::{SimpleError, accept, holds, spell};

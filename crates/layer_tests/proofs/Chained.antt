@@ -22,10 +22,12 @@ module _ (M : List Assignment) where
         attribute = refl;
         embed_values = λ e. absurd (cc);
         use_nil = λ e. absurd (cc);
+        use_order = λ e. absurd (cc);
         list = λ e. absurd (cc);
         use_union = λ e. absurd (cc);
         simple = λ e. absurd (cc);
         attributes = tt;
+        standards = tt;
         chains = chains;
       },
       tt,
@@ -43,10 +45,12 @@ module _ (M : List Assignment) where
         attribute = refl;
         embed_values = λ e. absurd (cc);
         use_nil = λ e. absurd (cc);
+        use_order = λ e. absurd (cc);
         list = λ e. absurd (cc);
         use_union = λ e. absurd (cc);
         simple = λ e. absurd (cc);
         attributes = tt;
+        standards = tt;
         chains = chains;
       },
       tt,

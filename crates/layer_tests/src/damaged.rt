@@ -1,6 +1,6 @@
 //! Encodings with their end cut off, and with a bit turned, in both variants.
 ghost use Rattle.std.specs.Prelude.{◌<◌, length, IfOk};
-ghost use Rattle.asn_types.specs.Values.{In};
+ghost use Rattle.asn_values.specs.Values.{In};
 
 use crate::opening::opened;
 use crate::schemas::{ORDER, SORTS, TRUTHS};

@@ -3,7 +3,8 @@ ghost use Rattle.std.specs.Prelude.{◌≡◌, ◌∷◌, ◌++◌, [], IfOk, On
 ghost use Rattle.asn_types.specs.Parts.{parts_of};
 ghost use Rattle.layer_tests.specs.Chained.{plain, four_references};
 
-use asn_types::{Assignment, Form, Marks, Module, TypeLabel, follow_reference, is_value, resolve};
+use asn_types::{Assignment, Form, Marks, Module, TypeLabel, follow_reference, resolve};
+use asn_values::is_value;
 use flat_tree::Builder;
 use label_tree::{Tree, Whole};
 use per_decode::decode;

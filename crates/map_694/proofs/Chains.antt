@@ -10,14 +10,14 @@ use Rattle.name_map.specs.declared.conversion.NameKind.TheVariants.{Identifier}
 use Rattle.name_map.specs.Conversion.{converted, begun, letter_x, cased, joined}
 use Rattle.xa_base.specs.Limits.{is_empty}
 use Rattle.asn_types.specs.declared.roles.Role.{Role}
-use Rattle.asn_types.specs.declared.roles.Role.TheVariants.{Attribute, Element, Group, Content, Embed, Item, Alternative}
+use Rattle.asn_types.specs.declared.roles.Role.TheVariants.{Attribute, Element, Group, Content, Embed, Order, Item, Alternative}
 use Rattle.asn_types.specs.declared.types.Component.{Component}
 use Rattle.asn_types.specs.declared.types.Form.TheVariants as form
 use Rattle.asn_types.specs.declared.types.TypeLabel.{TypeLabel}
 use Rattle.asn_types.specs.declared.modules.Assignment.{Assignment}
-use Rattle.asn_types.specs.Marks.{has_attribute, has_untagged, has_use_nil, has_use_union}
+use Rattle.asn_types.specs.Marks.{has_attribute, has_untagged, has_use_nil, has_use_order, has_use_union}
 use Rattle.asn_types.specs.Parts.{parts_of}
-use Rattle.asn_types.specs.Roles.{role_of, is_content, is_embed, is_item}
+use Rattle.asn_types.specs.Roles.{role_of, is_content, is_embed, order_place, is_order, is_item}
 use Rattle.asn_types.specs.Refs.{body_at, is_element, NearRefs, NearRefsOf, ChainsWithin}
 use Rattle.schema_parts.specs.Components.{Set}
 use Rattle.map_subjects.specs.declared.subjects.Subject.{Subject}
@@ -34,23 +34,34 @@ use Rattle.map_694.proofs.Places.{located}
 
 -- ---- roles of elements
 
-abbrev picked : Bool → Bool → Bool → Bool → Bool → Bool → Role
-picked a u c d e f =
-    if a then Attribute else (if u then Group else (if c then Content else (if d then Embed else (if e then Item else (if f then Alternative else Element)))))
+abbrev picked : Bool → Bool → Bool → Bool → Bool → Bool → Bool → Role
+picked a u c d o e f =
+    if a then Attribute
+    else (if u then Group else (if c then Content else (if d then Embed else (if o then Order else (if e then Item else (if f then Alternative else Element))))))
 
-picked-element : (a u c d e f : Bool) → a ≡ false → u ≡ false → c ≡ false → d ≡ false → e ≡ false → f ≡ false → picked a u c d e f ≡ Element
-picked-element a u c d e f ha hu hc hd he hf =
-    ap (λ b. picked b u c d e f) ha ∙ ap (λ b. picked false b c d e f) hu ∙ ap (λ b. picked false false b d e f) hc
-    ∙ ap (λ b. picked false false false b e f) hd ∙ ap (λ b. picked false false false false b f) he ∙ ap (λ b. picked false false false false false b) hf
+picked-element : (a u c d o e f : Bool) → a ≡ false → u ≡ false → c ≡ false → d ≡ false → o ≡ false → e ≡ false → f ≡ false → picked a u c d o e f ≡ Element
+picked-element a u c d o e f ha hu hc hd ho he hf =
+    ap (λ b. picked b u c d o e f) ha ∙ ap (λ b. picked false b c d o e f) hu ∙ ap (λ b. picked false false b d o e f) hc
+    ∙ ap (λ b. picked false false false b o e f) hd ∙ ap (λ b. picked false false false false b e f) ho
+    ∙ ap (λ b. picked false false false false false b f) he ∙ ap (λ b. picked false false false false false false b) hf
+
+pub and-false : (b : Bool) → (b && false) ≡ false
+and-false true = refl
+and-false false = refl
+
+-- no part has the order of elements where there is no USE-ORDER
+pub no-order : (l : TypeLabel) (i : ℕ) → has_use_order l.marks ≡ false → is_order l i ≡ false
+no-order l i e = ap (λ b. (i == order_place l.marks) && b) e ∙ and-false (i == order_place l.marks)
 
 -- such a component has the role of an element
 abbrev pub MakesElement : TypeLabel → ℕ → Type 0
 MakesElement l i = (c : Component) → has_attribute c.marks ≡ false → has_untagged c.marks ≡ false → is_item l.form c ≡ false → role_of l i c ≡ Element
 
-pub makes-element : (l : TypeLabel) (i : ℕ) → has_use_nil l.marks ≡ false → has_use_union l.marks ≡ false → is_embed l i ≡ false → MakesElement l i
-makes-element l i nil union embed c a u it =
-    picked-element (has_attribute c.marks) (has_untagged c.marks) (is_content l i) (is_embed l i) (is_item l.form c) (has_use_union l.marks)
-    a u (ap (λ b. b && (i + 1 == length (parts_of l.form))) nil) embed it union
+pub makes-element : (l : TypeLabel) (i : ℕ) → has_use_nil l.marks ≡ false → has_use_order l.marks ≡ false → has_use_union l.marks ≡ false → is_embed l i ≡ false
+    → MakesElement l i
+makes-element l i nil order union embed c a u it =
+    picked-element (has_attribute c.marks) (has_untagged c.marks) (is_content l i) (is_embed l i) (is_order l i) (is_item l.form c) (has_use_union l.marks)
+    a u (ap (λ b. b && (i + 1 == length (parts_of l.form))) nil) embed (no-order l i order) it union
 
 abbrev HaveRoles : TypeLabel → ℕ → Parts → Type 0
 HaveRoles l i finish = Unit {0}
@@ -60,14 +71,10 @@ roles-none : (l : TypeLabel) (i : ℕ) (ps : Parts) → NoElements ps → HaveRo
 roles-none l i finish h = tt
 roles-none l i (part k optional p ps) h = ((λ e. absurd (true≢false (sym e ∙ h.0))), roles-none l (i + 1) ps h.1)
 
-roles-from : (l : TypeLabel) (i : ℕ) (ps : Parts) → has_use_nil l.marks ≡ false → has_use_union l.marks ≡ false → ((j : ℕ) → i ≤ j → is_embed l j ≡ false) → HaveRoles l i ps
-roles-from l i finish nil union embed = tt
-roles-from l i (part k optional p ps) nil union embed =
-    ((λ e. makes-element l i nil union (embed i (omega arith))), roles-from l (i + 1) ps nil union (λ j below. embed j (omega (arith, below))))
-
-pub and-false : (b : Bool) → (b && false) ≡ false
-and-false true = refl
-and-false false = refl
+roles-from : (l : TypeLabel) (i : ℕ) (ps : Parts) → has_use_nil l.marks ≡ false → has_use_order l.marks ≡ false → has_use_union l.marks ≡ false → ((j : ℕ) → i ≤ j → is_embed l j ≡ false) → HaveRoles l i ps
+roles-from l i finish nil order union embed = tt
+roles-from l i (part k optional p ps) nil order union embed =
+    ((λ e. makes-element l i nil order union (embed i (omega arith))), roles-from l (i + 1) ps nil order union (λ j below. embed j (omega (arith, below))))
 
 pub not-first : (j : ℕ) → 0 < j → (j == 0) ≡ false
 not-first j below = elim (eqb_tells j 0) [
@@ -79,16 +86,16 @@ sequence-roles : (nillable mixed : Bool) (parts : List Component) (ps : Parts) �
     → HaveRoles (type_label (form.Sequence parts) (sequence_marks nillable mixed)) 0 ps
 sequence-roles true mixed parts ps h = roles-none (type_label (form.Sequence parts) (sequence_marks true mixed)) 0 ps ((h.0 refl).1)
 sequence-roles false false parts ps h =
-    roles-from (type_label (form.Sequence parts) (sequence_marks false false)) 0 ps refl refl (λ j below. and-false (j == 0))
+    roles-from (type_label (form.Sequence parts) (sequence_marks false false)) 0 ps refl refl refl (λ j below. and-false (j == 0))
 sequence-roles false true parts finish h = tt
 sequence-roles false true parts (part k optional p ps) h = (
   (λ e. absurd (true≢false (sym e ∙ (h.1 refl).0))),
-  roles-from (type_label (form.Sequence parts) (sequence_marks false true)) (0 + 1) ps refl refl
+  roles-from (type_label (form.Sequence parts) (sequence_marks false true)) (0 + 1) ps refl refl refl
       (λ j below. ap (λ b. b && true) (not-first j (omega (arith, below)))),
 )
 
 choice-roles : (parts : List Component) (ps : Parts) → HaveRoles (type_label (form.Choice parts) []) 0 ps
-choice-roles parts ps = roles-from (type_label (form.Choice parts) []) 0 ps refl refl (λ j below. and-false (j == 0))
+choice-roles parts ps = roles-from (type_label (form.Choice parts) []) 0 ps refl refl refl (λ j below. and-false (j == 0))
 
 -- ---- identifiers aren't empty
 
@@ -117,7 +124,7 @@ element-filled content e = absurd cc
 
 pub repeated-element : (l : Label) (least : ℕ) (most : Option ℕ) → is_element_label l ≡ true → role_of (type_label (form.SequenceOf (repeated_part l) least most) []) 0 (repeated_part l) ≡ Element
 repeated-element l least most e =
-    makes-element (type_label (form.SequenceOf (repeated_part l) least most) []) 0 refl refl refl (repeated_part l)
+    makes-element (type_label (form.SequenceOf (repeated_part l) least most) []) 0 refl refl refl refl (repeated_part l)
     (element-no_attribute l (wanted l) e) (element-tagged l (wanted l) e) (element-filled l e)
 
 -- ---- references

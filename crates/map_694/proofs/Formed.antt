@@ -14,8 +14,8 @@ use Rattle.asn_types.specs.declared.types.Form.{Form}
 use Rattle.asn_types.specs.declared.types.Form.TheVariants as form
 use Rattle.asn_types.specs.declared.types.TypeLabel.{TypeLabel}
 use Rattle.asn_types.specs.declared.modules.Assignment.{Assignment}
-use Rattle.asn_types.specs.Marks.{has_attribute, has_use_nil, has_embed_values, has_list, has_use_union}
-use Rattle.asn_types.specs.Modules.{IsForm, IsAnyText, AreTexts, HasTexts, AttributesAreSimple, IsWellFormed, AreWellFormed, AllWellFormed}
+use Rattle.asn_types.specs.Marks.{has_attribute, has_use_nil, has_embed_values, has_use_order, has_list, has_use_union}
+use Rattle.asn_types.specs.Modules.{IsForm, IsAnyText, AreTexts, HasTexts, AttributesAreSimple, HasStandards, IsWellFormed, AreWellFormed, AllWellFormed}
 use Rattle.asn_types.specs.Parts.{parts_of}
 use Rattle.asn_types.specs.Refs.{target, body_at, resolve, ChainsWithin}
 use Rattle.asn_types.specs.Simples.{IsSimple, white_space_marks}
@@ -29,8 +29,9 @@ use Rattle.map_assignments.specs.Planning.{body, texts_type}
 use Rattle.map_assignments.specs.Naming.{type_label, component_of, list_item, identifier_of, text_marks, part_marks, named_part, repeated_part, wanted, sequence_marks, AreTaken, IsSimpleType, AreMembers, IsNamed, AreNamed}
 use Rattle.map_assignments.specs.Mapped.{AreMapped}
 use Rattle.map_assignments.proofs.Simples.{simple-maps}
+use Rattle.map_694.proofs.Free.{members-free, named-free, free-standards}
 use Rattle.map_694.proofs.Shapes.{count_parts, EndsOptional, BeginsTexts, IsSimplePlan, IsPlan, ArePlans, Refers, depth_of, refers-all}
-use Rattle.map_694.proofs.Marked.{AsksNothing, nothing-asked, number-asks, words-ask, space-asks, part-attribute, sequence-no_attribute, sequence-no_list, sequence-no_union, sequence-nil, sequence-embeds}
+use Rattle.map_694.proofs.Marked.{AsksNothing, nothing-asked, number-asks, words-ask, space-asks, part-attribute, sequence-no_attribute, sequence-no_order, sequence-no_list, sequence-no_union, sequence-nil, sequence-embeds}
 use Rattle.map_694.proofs.Resolving.{simple-chains, no-target, follow-none, follow-one}
 use Rattle.map_694.proofs.Places.{located, located-within}
 use Rattle.map_694.proofs.Chains.{chain}
@@ -75,44 +76,47 @@ module _ (place : Subject → ℕ) where
 -- ---- types that stand for simple types
 
 module _ (M : List Assignment) where
-  plainly : (l : TypeLabel) (ts : Roses TypeLabel) → AsksNothing l.marks → IsForm M l.form → AttributesAreSimple M (parts_of l.form) ts → ChainsWithin M 4 (node l ts) → IsWellFormed M l ts
-  plainly l ts asks is attributes chains = record {
+  plainly : (l : TypeLabel) (ts : Roses TypeLabel) → AsksNothing l.marks → IsForm M l.form → AttributesAreSimple M (parts_of l.form) ts → HasStandards M l.form ts
+      → ChainsWithin M 4 (node l ts) → IsWellFormed M l ts
+  plainly l ts asks is attributes standards chains = record {
     form = is;
     attribute = asks.attribute;
     embed_values = λ e. never (has_embed_values l.marks) _ asks.embed_values e;
     use_nil = λ e. never (has_use_nil l.marks) _ asks.use_nil e;
+    use_order = λ e. never (has_use_order l.marks) _ asks.use_order e;
     list = λ e. never (has_list l.marks) _ asks.list e;
     use_union = λ e. never (has_use_union l.marks) _ asks.use_union e;
     simple = λ e. never (has_list l.marks || has_use_union l.marks) _ (ap (λ b. b || has_use_union l.marks) asks.list ∙ asks.use_union) e;
     attributes = attributes;
+    standards = standards;
     chains = chains;
   }
 
-  leaf : (f : Form) (marks : List Instruction) → AsksNothing marks → IsForm M f → parts_of f ≡ [] → ChainsWithin M 4 (node (type_label f marks) rose.none)
+  leaf : (f : Form) (marks : List Instruction) → AsksNothing marks → IsForm M f → parts_of f ≡ [] → HasStandards M f rose.none → ChainsWithin M 4 (node (type_label f marks) rose.none)
       → AreWellFormed M (node (type_label f marks) rose.none)
-  leaf f marks asks is lacks chains =
-      (plainly (type_label f marks) rose.none asks is (subst (λ cs. AttributesAreSimple M cs rose.none) (sym lacks) tt) chains, tt)
+  leaf f marks asks is lacks standards chains =
+      (plainly (type_label f marks) rose.none asks is (subst (λ cs. AttributesAreSimple M cs rose.none) (sym lacks) tt) standards chains, tt)
 
   mutual
     pub simple-formed : (s : Space) (t : Rose TypeLabel) → Sound s → IsSimpleType s t → AreWellFormed M t
-    simple-formed Booleans t sound h = subst (AreWellFormed M) (sym h) (leaf form.Bool [] nothing-asked tt refl (simple-chains M 4 Booleans (node (type_label form.Bool []) rose.none) refl))
+    simple-formed Booleans t sound h = subst (AreWellFormed M) (sym h) (leaf form.Bool [] nothing-asked tt refl tt (simple-chains M 4 Booleans (node (type_label form.Bool []) rose.none) refl))
     simple-formed (Wholes least greatest) t sound h =
         subst (AreWellFormed M) (sym h)
-        (leaf (form.Int least greatest) [] nothing-asked sound refl (simple-chains M 4 (Wholes least greatest) (node (type_label (form.Int least greatest) []) rose.none) refl))
+        (leaf (form.Int least greatest) [] nothing-asked sound refl tt (simple-chains M 4 (Wholes least greatest) (node (type_label (form.Int least greatest) []) rose.none) refl))
     simple-formed (Numbers numbers) t sound h =
         subst (AreWellFormed M) (sym h)
-        (leaf (form.Numbers numbers) (mark.UseNumber ∷ []) number-asks sound refl
+        (leaf (form.Numbers numbers) (mark.UseNumber ∷ []) number-asks sound refl tt
         (simple-chains M 4 (Numbers numbers) (node (type_label (form.Numbers numbers) (mark.UseNumber ∷ [])) rose.none) refl))
     simple-formed (Words how words) t sound h =
         let marks = white_space_marks how ++ text_marks 0 h.identifiers words in
         let l = type_label (form.Words h.identifiers words) marks in
         let each : length h.identifiers ≡ length words = taken-length [] (map identifier_of words) h.identifiers h.taken ∙ length-map words identifier_of in
         subst (AreWellFormed M) (sym h.type)
-        (leaf (form.Words h.identifiers words) marks (words-ask how h.identifiers words) (sound.0, sound.1, each) refl
+        (leaf (form.Words h.identifiers words) marks (words-ask how h.identifiers words) (sound.0, sound.1, each) refl tt
         (subst (ChainsWithin M 4) h.type (simple-chains M 4 (Words how words) t h)))
     simple-formed (Characters how least most class) t sound h =
         subst (AreWellFormed M) (sym h)
-        (leaf (form.Utf8 least most class) (white_space_marks how) (space-asks how) sound refl
+        (leaf (form.Utf8 least most class) (white_space_marks how) (space-asks how) sound refl tt
         (simple-chains M 4 (Characters how least most class) (node (type_label (form.Utf8 least most class) (white_space_marks how)) rose.none) refl))
     simple-formed (ListOf s least most) t sound h =
         let l = type_label (form.SequenceOf list_item least most) (mark.List ∷ []) in
@@ -123,10 +127,12 @@ module _ (M : List Assignment) where
             attribute = refl;
             embed_values = λ e. never _ _ refl e;
             use_nil = λ e. never _ _ refl e;
+            use_order = λ e. never _ _ refl e;
             list = λ e. tt;
             use_union = λ e. never _ _ refl e;
             simple = λ e. (ListOf s least most, sound, simple-maps (ListOf s least most) (node l ts) (h.0, refl, h.2));
             attributes = ((λ e. never _ _ refl e), tt);
+            standards = refl;
             chains = simple-chains M 4 (ListOf s least most) (node l ts) (h.0, refl, h.2);
           },
           (simple-formed s h.0 sound.0 h.2, tt),
@@ -140,10 +146,12 @@ module _ (M : List Assignment) where
             attribute = refl;
             embed_values = λ e. never _ _ refl e;
             use_nil = λ e. never _ _ refl e;
+            use_order = λ e. never _ _ refl e;
             list = λ e. never _ _ refl e;
             use_union = λ e. tt;
             simple = λ e. (UnionOf members, sound, simple-maps (UnionOf members) (node l h.1) (h.0, h.1, refl, h.3));
             attributes = all.1;
+            standards = members-free [] members h.0 h.1 h.3;
             chains = simple-chains M 4 (UnionOf members) (node l h.1) (h.0, h.1, refl, h.3);
           },
           all.2,
@@ -213,10 +221,12 @@ module _ (s : Set) (es : List NamedSubject) (M : List Assignment) (entries : Are
             attribute = sequence-no_attribute nillable mixed;
             embed_values = λ e. texts-first (place_in es) ps h.0 h.1 (g.0.1 (sym (sequence-embeds nillable mixed) ∙ e)) h.3;
             use_nil = λ e. content-last (place_in es) [] ps h.0 h.1 ((g.0.0 (sym (sequence-nil nillable mixed) ∙ e)).0) h.3;
+            use_order = λ e. never (has_use_order marks) _ (sequence-no_order nillable mixed) e;
             list = λ e. never (has_list marks) _ (sequence-no_list nillable mixed) e;
             use_union = λ e. never (has_use_union marks) _ (sequence-no_union nillable mixed) e;
             simple = λ e. never (has_list marks || has_use_union marks) _ (ap (λ b. b || has_use_union marks) (sequence-no_list nillable mixed) ∙ sequence-no_union nillable mixed) e;
             attributes = all.1;
+            standards = free-standards M h.0 h.1 (named-free (place_in es) [] ps h.0 h.1 h.3);
             chains = chains-of (sequence nillable mixed ps) (node l h.1) g (h.0, h.1, refl, h.3);
           },
           all.2,
@@ -225,18 +235,18 @@ module _ (s : Set) (es : List NamedSubject) (M : List Assignment) (entries : Are
         let l = type_label (form.Choice h.0) [] in
         let all = parts-formed [] ps h.0 h.1 g.1 h.3 in
         subst (AreWellFormed M) (sym h.2)
-        (plainly M l h.1 nothing-asked (subst IsCounted (sym all.0) g.0) all.1 (chains-of (choice ps) (node l h.1) g (h.0, h.1, refl, h.3)), all.2)
+        (plainly M l h.1 nothing-asked (subst IsCounted (sym all.0) g.0) all.1 (named-free (place_in es) [] ps h.0 h.1 h.3) (chains-of (choice ps) (node l h.1) g (h.0, h.1, refl, h.3)), all.2)
     named-formed (repeated k p least most) t g h =
         let l = type_label (form.SequenceOf (repeated_part k) least most) [] in
         let ts = rose.more h.0 rose.none in
         subst (AreWellFormed M) (sym h.1) (
-          plainly M l ts nothing-asked g.0 ((λ e. never (has_attribute (part_marks k (wanted k))) _ (part-attribute k (wanted k) ∙ g.1) e), tt)
+          plainly M l ts nothing-asked g.0 ((λ e. never (has_attribute (part_marks k (wanted k))) _ (part-attribute k (wanted k) ∙ g.1) e), tt) refl
               (chains-of (repeated k p least most) (node l ts) g (h.0, refl, h.2)),
           (named-formed p h.0 g.2 h.2, tt),
         )
     named-formed (reference w) t g h =
         subst (AreWellFormed M) (sym h)
-        (leaf M (form.Ref (place_in es w)) [] nothing-asked (located-within s es M entries mapped w g) refl
+        (leaf M (form.Ref (place_in es w)) [] nothing-asked (located-within s es M entries mapped w g) refl tt
         (chains-of (reference w) (node (type_label (form.Ref (place_in es w)) []) rose.none) g refl))
 
     parts-formed : (before : List (List ℕ)) (ps : Parts) (parts : List Component) (ts : Roses TypeLabel) → ArePlans s ps → AreNamed (place_in es) before ps parts ts

@@ -4,6 +4,7 @@ pub mod Resolving
 pub mod Places
 pub mod Chains
 pub mod Formed
+pub mod Free
 pub mod Planned
 pub mod Bodies
 mod Unnamed

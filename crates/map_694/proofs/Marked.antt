@@ -8,7 +8,8 @@ use Rattle.name_map.specs.declared.restoration.NameForm.{NameForm}
 use Rattle.name_map.specs.Restoring.{form_of}
 use Rattle.asn_types.specs.declared.marks.Instruction.{Instruction}
 use Rattle.asn_types.specs.declared.marks.Instruction.TheVariants as mark
-use Rattle.asn_types.specs.Marks.{is_attribute, is_untagged, is_use_nil, is_embed_values, is_list, is_use_union, has_attribute, has_untagged, has_use_nil, has_embed_values, has_list, has_use_union}
+use Rattle.asn_types.specs.Marks.{is_attribute, is_untagged, is_use_nil, is_embed_values, is_use_order, is_list, is_use_union, has_attribute, has_untagged, has_use_nil, has_embed_values, has_use_order, has_list, has_use_union}
+use Rattle.asn_types.specs.Modules.{one_if, nameless_parts}
 use Rattle.asn_types.specs.Simples.{white_space_marks}
 use Rattle.map_subjects.specs.declared.subjects.Subject.{Subject}
 use Rattle.map_subjects.specs.declared.subjects.Subject.TheVariants as subject
@@ -65,20 +66,22 @@ pub record AsksNothing (marks : List Instruction) : Type 0 where
   pub attribute : has_attribute marks ≡ false
   pub embed_values : has_embed_values marks ≡ false
   pub use_nil : has_use_nil marks ≡ false
+  pub use_order : has_use_order marks ≡ false
   pub list : has_list marks ≡ false
   pub use_union : has_use_union marks ≡ false
 
 pub nothing-asked : AsksNothing []
-nothing-asked = record { attribute = refl; embed_values = refl; use_nil = refl; list = refl; use_union = refl }
+nothing-asked = record { attribute = refl; embed_values = refl; use_nil = refl; use_order = refl; list = refl; use_union = refl }
 
 pub number-asks : AsksNothing (mark.UseNumber ∷ [])
-number-asks = record { attribute = refl; embed_values = refl; use_nil = refl; list = refl; use_union = refl }
+number-asks = record { attribute = refl; embed_values = refl; use_nil = refl; use_order = refl; list = refl; use_union = refl }
 
 pub words-ask : (how : WhiteSpace) (gs words : List (List ℕ)) → AsksNothing (white_space_marks how ++ text_marks 0 gs words)
 words-ask how gs words = record {
   attribute = words-lack is_attribute (λ h. refl) (λ i t. refl) how gs words;
   embed_values = words-lack is_embed_values (λ h. refl) (λ i t. refl) how gs words;
   use_nil = words-lack is_use_nil (λ h. refl) (λ i t. refl) how gs words;
+  use_order = words-lack is_use_order (λ h. refl) (λ i t. refl) how gs words;
   list = words-lack is_list (λ h. refl) (λ i t. refl) how gs words;
   use_union = words-lack is_use_union (λ h. refl) (λ i t. refl) how gs words;
 }
@@ -88,6 +91,7 @@ space-asks how = record {
   attribute = space-alone-lacks is_attribute (λ h. refl) (λ i t. refl) how;
   embed_values = space-alone-lacks is_embed_values (λ h. refl) (λ i t. refl) how;
   use_nil = space-alone-lacks is_use_nil (λ h. refl) (λ i t. refl) how;
+  use_order = space-alone-lacks is_use_order (λ h. refl) (λ i t. refl) how;
   list = space-alone-lacks is_list (λ h. refl) (λ i t. refl) how;
   use_union = space-alone-lacks is_use_union (λ h. refl) (λ i t. refl) how;
 }
@@ -145,6 +149,12 @@ sequence-no_union true false = refl
 sequence-no_union false true = refl
 sequence-no_union false false = refl
 
+pub sequence-no_order : (nillable mixed : Bool) → has_use_order (sequence_marks nillable mixed) ≡ false
+sequence-no_order true true = refl
+sequence-no_order true false = refl
+sequence-no_order false true = refl
+sequence-no_order false false = refl
+
 pub sequence-nil : (nillable mixed : Bool) → has_use_nil (sequence_marks nillable mixed) ≡ nillable
 sequence-nil true true = refl
 sequence-nil true false = refl
@@ -156,6 +166,13 @@ sequence-embeds true true = refl
 sequence-embeds true false = refl
 sequence-embeds false true = refl
 sequence-embeds false false = refl
+
+-- how many of its parts at the front have items without an identifier
+pub sequence-nameless : (nillable mixed : Bool) → nameless_parts (sequence_marks nillable mixed) ≡ one_if mixed
+sequence-nameless true true = refl
+sequence-nameless true false = refl
+sequence-nameless false true = refl
+sequence-nameless false false = refl
 
 -- an assignment
 pub is_attribute_subject : Subject → Bool

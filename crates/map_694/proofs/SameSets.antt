@@ -1,8 +1,8 @@
 -- The map of a set depends on the spaces of its simple types, and not on how these are kept.
-use Rattle.std.proofs.Common.{◌≡◌, ℕ, zero, suc, Bool, true, false, ◌&&◌, not, cond, Option, Some, None, List, [], ◌∷◌, ◌++◌, map, refl, sym, ap, subst, ◌∙◌}
+use Rattle.std.proofs.Common.{◌≡◌, ℕ, zero, suc, Bool, true, false, not, cond, Option, Some, None, List, [], ◌∷◌, ◌++◌, map, refl, sym, ap, subst, ◌∙◌}
 use Rattle.std.specs.Prelude.{if◌then◌else◌, slice_get, nat_lt, take, option_and_then}
 use Rattle.std.specs.Option.{option_map}
-use Rattle.std.specs.List.{list_any, Contains}
+use Rattle.std.specs.List.{list_any}
 use Rattle.xa_base.specs.declared.texts.Name.{Name}
 use Rattle.simple_types.specs.Space.{Space, Booleans}
 use Rattle.simple_types.specs.Seen.{space_of}
@@ -27,7 +27,7 @@ use Rattle.map_subjects.specs.Subjects.{is_nillable_of, has_nillable, simple_nam
 use Rattle.map_assignments.specs.Plans.{attribute, base, content, TypePlan, simple, sequence, choice, reference, Parts, finish, part}
 use Rattle.map_assignments.specs.Planning.{simple_plan, simple_type, attributes, particle_part, is_once, is_mixed, with_texts, term_type, particle_parts, top_part, top, content_parts, content_type, rest_parts, complex_plan, nillable_simple_type, own_type, particle_type, in_place, body}
 use Rattle.map_assignments.specs.Naming.{IsNamed}
-use Rattle.map_assignments.specs.Mapped.{IsMapped, AreMapped, IsMapOf}
+use Rattle.map_assignments.specs.Mapped.{AreMapped, IsMapOf}
 
 -- ---- content models, where declarations have the same plans
 

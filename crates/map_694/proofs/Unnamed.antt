@@ -13,7 +13,7 @@ use Rattle.content_models.specs.Seen.{seen}
 use Rattle.xa_base.specs.Limits.{is_empty}
 use Rattle.asn_types.specs.declared.types.Component.{Component}
 use Rattle.asn_types.specs.declared.types.TypeLabel.{TypeLabel}
-use Rattle.asn_types.specs.Modules.{AreItemsNamed, AllItemsNamed}
+use Rattle.asn_types.specs.Modules.{AreItemsNamed, AllItemsNamed, one_if}
 use Rattle.schema_parts.specs.declared.components.ElementDecl.{ElementDecl}
 use Rattle.schema_parts.specs.declared.components.TypeOf.{TypeOf}
 use Rattle.schema_parts.specs.declared.components.TypeOf.TheVariants as kind
@@ -32,7 +32,7 @@ use Rattle.map_subjects.specs.declared.subjects.Subject.TheVariants as subject
 use Rattle.map_assignments.specs.Plans.{a_sequence, a_choice, Label, attribute, element, group, elements, groups, texts, item, base, content, TypePlan, simple, sequence, choice, repeated, reference, Parts, finish, part}
 use Rattle.map_assignments.specs.Planning.{label_of, list_label_of, is_once, is_optional, simple_plan, simple_type, attributes, is_mixed, with_texts, term_type, particle_parts, top_part, top, content_parts, content_type, rest_parts, complex_plan, nillable_simple_type, own_type, particle_type, in_place, body}
 use Rattle.map_assignments.specs.Naming.{identifier_of, wanted, IsSimpleType, AreMembers, IsNamed, AreNamed}
-use Rattle.map_694.proofs.Marked.{sequence-embeds}
+use Rattle.map_694.proofs.Marked.{sequence-nameless}
 
 -- ---- labels
 
@@ -96,10 +96,10 @@ mutual
   simple-items (ListOf s least most) t h = subst (AreItemsNamed false) (sym h.1) (refl, (simple-items s h.0 h.2, tt))
   simple-items (UnionOf members) t h = subst (AreItemsNamed false) (sym h.2) (tt, members-items [] members h.0 h.1 h.3)
 
-  members-items : (before : List (List ℕ)) (ss : Spaces) (parts : List Component) (ts : Roses TypeLabel) → AreMembers before ss parts ts → AllItemsNamed false ts
-  members-items before none parts ts h = subst (AllItemsNamed false) (sym h.1) tt
+  members-items : (before : List (List ℕ)) (ss : Spaces) (parts : List Component) (ts : Roses TypeLabel) → AreMembers before ss parts ts → AllItemsNamed 0 ts
+  members-items before none parts ts h = subst (AllItemsNamed 0) (sym h.1) tt
   members-items before (more s ss) parts ts h =
-      subst (AllItemsNamed false) (sym h.6) (simple-items s h.2 h.7, members-items (before ++ h.0 ∷ []) ss h.1 h.3 h.8)
+      subst (AllItemsNamed 0) (sym h.6) (simple-items s h.2 h.7, members-items (before ++ h.0 ∷ []) ss h.1 h.3 h.8)
 
 module _ (place : Subject → ℕ) where
   mutual
@@ -107,16 +107,18 @@ module _ (place : Subject → ℕ) where
     named-items embedded (simple sp) t g h = subst (λ b. AreItemsNamed b t) (sym g) (simple-items sp t h)
     named-items embedded (sequence nillable mixed ps) t g h =
         subst (AreItemsNamed embedded) (sym h.2)
-        (tt, subst (λ b. AllItemsNamed b h.1) (sym (sequence-embeds nillable mixed)) (parts-items mixed [] ps h.0 h.1 g h.3))
+        (tt, subst (λ n. AllItemsNamed n h.1) (sym (sequence-nameless nillable mixed)) (parts-items mixed [] ps h.0 h.1 g h.3))
     named-items embedded (choice ps) t g h = subst (AreItemsNamed embedded) (sym h.2) (tt, parts-items false [] ps h.0 h.1 g h.3)
     named-items embedded (repeated l p least most) t g h =
         subst (AreItemsNamed embedded) (sym h.1) (label-nameless l ∙ g.0, (named-items false p h.0 g.1 h.2, tt))
     named-items embedded (reference w) t g h = subst (AreItemsNamed embedded) (sym h) (tt, tt)
 
-    parts-items : (embedded : Bool) (before : List (List ℕ)) (ps : Parts) (parts : List Component) (ts : Roses TypeLabel) → ItemsInAll embedded ps → AreNamed place before ps parts ts → AllItemsNamed embedded ts
-    parts-items embedded before finish parts ts g h = subst (AllItemsNamed embedded) (sym h.1) tt
-    parts-items embedded before (part l optional p ps) parts ts g h =
-        subst (AllItemsNamed embedded) (sym h.6) (named-items embedded p h.2 g.0 h.7, parts-items false (before ++ h.0 ∷ []) ps h.1 h.3 g.1 h.8)
+    parts-items : (embedded : Bool) (before : List (List ℕ)) (ps : Parts) (parts : List Component) (ts : Roses TypeLabel) → ItemsInAll embedded ps → AreNamed place before ps parts ts → AllItemsNamed (one_if embedded) ts
+    parts-items embedded before finish parts ts g h = subst (AllItemsNamed (one_if embedded)) (sym h.1) tt
+    parts-items true before (part l optional p ps) parts ts g h =
+        subst (AllItemsNamed 1) (sym h.6) (named-items true p h.2 g.0 h.7, parts-items false (before ++ h.0 ∷ []) ps h.1 h.3 g.1 h.8)
+    parts-items false before (part l optional p ps) parts ts g h =
+        subst (AllItemsNamed 0) (sym h.6) (named-items false p h.2 g.0 h.7, parts-items false (before ++ h.0 ∷ []) ps h.1 h.3 g.1 h.8)
 
 -- ---- the plans of a set
 

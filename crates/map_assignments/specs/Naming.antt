@@ -4,6 +4,7 @@ use Rattle.std.specs.Str.{chars}
 use Rattle.xa_base.specs.declared.texts.Name.{Name}
 use Rattle.label_tree.specs.Rose.{Rose, node, Roses}
 use Rattle.label_tree.specs.Rose as rose
+use Rattle.simple_types.specs.declared.standards.Standard.TheVariants.{Free}
 use Rattle.simple_types.specs.Space.{Space, Spaces, none, more, Booleans, Wholes, Numbers, Words, Characters, ListOf, UnionOf}
 use Rattle.name_map.specs.declared.conversion.NameKind.TheVariants.{Reference, Identifier}
 use Rattle.name_map.specs.declared.restoration.NameForm.{NameForm}
@@ -23,8 +24,9 @@ use Rattle.map_assignments.specs.Plans.{Group, a_sequence, a_choice, Label, attr
 abbrev pub type_label : Form → List Instruction → TypeLabel
 type_label f marks = record { form = f; marks = marks }
 
+-- no part has a default or a fixed value
 abbrev pub component_of : List ℕ → Bool → List Instruction → Component
-component_of identifier optional marks = record { identifier = identifier; optional = optional; marks = marks }
+component_of identifier optional marks = record { identifier = identifier; optional = optional; standard = Free; marks = marks }
 
 -- the name of XML as an identifier and as a reference of ASN.1
 abbrev pub identifier_of : List ℕ → List ℕ

@@ -18,7 +18,7 @@ use asn_types::{Component, Form, Instruction, Marks, TypeLabel};
 use content_models::{ParticleKind, ParticleLabel};
 use label_tree::Tree;
 use name_map::{NameKind, convert};
-use simple_types::Class;
+use simple_types::{Class, Standard};
 use std::alloc::Global;
 use xa_base::{Memory, Text};
 
@@ -106,6 +106,7 @@ fn repeated_part(alloc: Global, kind: &ParticleKind) -> Result<Component, Memory
     Ok(Component {
         identifier,
         optional: false,
+        standard: Standard::Free,
         marks: Marks::of(marks),
     })
 }
@@ -213,6 +214,7 @@ fn texts_type(alloc: Global) -> Result<Tree<TypeLabel>, Memory>
     let part = Component {
         identifier: Text::empty(),
         optional: false,
+        standard: Standard::Free,
         marks: Marks::of(Vec::new(alloc)),
     };
     let form = Form::SequenceOf {

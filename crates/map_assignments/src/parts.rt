@@ -11,6 +11,7 @@ use crate::instructions::push_qualified;
 use asn_types::{Component, Components, Form, Instruction, Marks, TypeLabel};
 use label_tree::Tree;
 use name_map::{NameKind, Scope, convert};
+use simple_types::Standard;
 use std::alloc::Global;
 use xa_base::{Memory, Name, Text};
 
@@ -62,6 +63,7 @@ impl PartList {
         self.components.push(Component {
             identifier,
             optional,
+            standard: Standard::Free,
             marks,
         })?;
         self.kids.push(kid)?;

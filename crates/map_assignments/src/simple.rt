@@ -15,7 +15,7 @@ use crate::words::words_type;
 use asn_types::{Component, Components, Form, Instruction, Marks, TypeLabel};
 use label_tree::Tree;
 use name_map::{NameKind, Scope};
-use simple_types::{Class, NumberList, Simple};
+use simple_types::{Class, NumberList, Simple, Standard};
 use std::alloc::Global;
 use xa_base::{Memory, Text, WhiteSpace};
 
@@ -66,6 +66,7 @@ fn unmarked(alloc: Global, identifier: Text) -> Component
     Component {
         identifier,
         optional: false,
+        standard: Standard::Free,
         marks: Marks::of(Vec::new(alloc)),
     }
 }

@@ -1,12 +1,10 @@
 -- Texts of which the stripped form is known, whatever stands behind them.
-use Rattle.std.proofs.Common.{◌≡◌, ◌==◌, ℕ, Bool, true, false, not, ◌&&◌, List, [], ◌∷◌, ◌++◌, codes, refl, sym, ◌∙◌, ap, append_assoc, rules}
-use Rattle.std.specs.Prelude.{map}
-use Rattle.std.specs.List.{list_all, flat_map, join_with_byte}
-use Rattle.std.proofs.lemmas.List.{append-nil}
+use Rattle.std.proofs.Common.{◌≡◌, ◌==◌, ℕ, Bool, true, false, not, ◌&&◌, List, [], ◌∷◌, ◌++◌, codes, refl, sym, ◌∙◌, ap, append_assoc}
+use Rattle.std.specs.List.{list_all, flat_map}
 use Rattle.std.proofs.lemmas.List.Folds.{list_all-append}
 use Rattle.module_print.specs.Notation.{doubled, quoted, listed}
 use Rattle.module_print.specs.Instructions.{bracketed}
-use Rattle.module_plain.specs.declared.stripping.Within.TheVariants.{Module, Instruction, Quotes, Behind}
+use Rattle.module_plain.specs.declared.stripping.Within.TheVariants.{Module, Instruction, Quotes}
 use Rattle.module_plain.specs.Plain.{is_free}
 use Rattle.module_plain.specs.Stripped.{stripped}
 
@@ -23,19 +21,31 @@ free_parts x y free = both (list_all is_free x) (list_all is_free y) (sym (list_
 pub record Copied (x y : List ℕ) : Type 0 where
   pub is : list_all is_free y ≡ true → (rest : List ℕ) → stripped Module (x ++ rest) ≡ y ++ stripped Module rest
 
+no_second : (p q : Bool) → (p && false && q) ≡ true → ⊥
+no_second true q e = cc
+no_second false q e = cc
+
+no_third : (p q : Bool) → (p && q && false) ≡ true → ⊥
+no_third true true e = cc
+no_third true false e = cc
+no_third false true e = cc
+no_third false false e = cc
+
+no_first : (q : Bool) → (false && q) ≡ true → ⊥
+no_first q e = cc
+
 -- a free text is left as it is
-same_go : (b : ℕ) (bs rest : List ℕ) (v : Bool) → (b == 91) ≡ v → (not (b == 34) && not v && not (b == 93)) ≡ true → stripped Module (bs ++ rest) ≡ bs ++ stripped Module rest
+same_go : (b : ℕ) (bs rest : List ℕ) (v w : Bool) → (b == 91) ≡ v → (b == 34) ≡ w → (not w && not v && not (b == 93)) ≡ true → stripped Module (bs ++ rest) ≡ bs ++ stripped Module rest
     → stripped Module (b ∷ bs ++ rest) ≡ b ∷ bs ++ stripped Module rest
-same_go b bs rest false e free more = rw e (ap (λ l. b ∷ l) more)
-same_go b bs rest true e free more =
-    let never : false ≡ true = (both (not false) false (both (not (b == 34)) false (search (rules, free))).1).1 in
-    absurd (cc)
+same_go b bs rest false false e f free more = rw (e, f) (ap (λ l. b ∷ l) more)
+same_go b bs rest false true e f free more = absurd (no_first (not (b == 93)) free)
+same_go b bs rest true w e f free more = absurd (no_second (not w) (not (b == 93)) free)
 
 same : (x rest : List ℕ) → list_all is_free x ≡ true → stripped Module (x ++ rest) ≡ x ++ stripped Module rest
 same [] rest free = refl
 same (b ∷ bs) rest free =
     let parts = both (is_free b) (list_all is_free bs) free in
-    same_go b bs rest (b == 91) refl parts.0 (same bs rest parts.1)
+    same_go b bs rest (b == 91) (b == 34) refl refl parts.0 (same bs rest parts.1)
 
 pub copied_same : (x : List ℕ) → Copied x x
 copied_same x = record { is = λ free rest. same x rest free }
@@ -51,16 +61,6 @@ copied_append {x} {y} v w first second = record {
 }
 
 -- ---- instructions
-
-no_third : (p q : Bool) → (p && q && false) ≡ true → ⊥
-no_third true true e = cc
-no_third true false e = cc
-no_third false true e = cc
-no_third false false e = cc
-
-no_first : (q : Bool) → (false && q && true) ≡ true → ⊥
-no_first true e = cc
-no_first false e = cc
 
 -- within an instruction a text is passed over
 pub record Passed (x : List ℕ) : Type 0 where

@@ -1,5 +1,5 @@
 -- A printed module stripped is its print without marks.
-use Rattle.std.proofs.Common.{◌≡◌, ◌==◌, ◌-◌, ℕ, zero, suc, ℤ, Bool, true, false, length, take, drop, arith, List, [], ◌∷◌, ◌++◌, Option, Some, None, codes, refl, sym, ◌∙◌, ap, rules}
+use Rattle.std.proofs.Common.{◌≡◌, ◌==◌, ◌-◌, ℕ, zero, suc, ℤ, Bool, true, false, length, take, drop, arith, List, [], ◌∷◌, ◌++◌, Option, Some, None, codes, refl, sym, ◌∙◌, ap}
 use Rattle.std.proofs.lemmas.List.{append-nil, append_assoc, length-append}
 use Rattle.std.proofs.Math.Seq.{drop-append_seam, take-append_seam}
 use Rattle.std.specs.Prelude.{map, slice_get, unwrap_or, if◌then◌else◌}
@@ -19,13 +19,13 @@ use Rattle.asn_types.specs.declared.types.Form.TheVariants as form
 use Rattle.asn_types.specs.declared.types.TypeLabel.{TypeLabel}
 use Rattle.asn_types.specs.declared.modules.Assignment.{Assignment}
 use Rattle.asn_types.specs.Parts.{parts_of}
-use Rattle.module_print.specs.Notation.{quoted, listed, enumerated, new_line, block}
-use Rattle.module_print.specs.Instructions.{in_form, as_name, as_item, item_identifier, number_identifier, instruction, instructions, if_ranked, ranked, ranks, rank, name_prefix, text_prefix, white_space_prefix}
+use Rattle.module_print.specs.Notation.{quoted, fixed_range, listed, enumerated, new_line, block}
+use Rattle.module_print.specs.Instructions.{in_form, as_name, as_item, item_identifier, number_identifier, instruction, instructions, if_ranked, ranked, ranks, rank}
 use Rattle.module_print.specs.Printed as print
-use Rattle.module_print.specs.Printed.{reference_at, numbered_item, level_of_parts, type_of, labelled, if_optional, with_type, prefixes, printed_type, printed_parts, printed_assignment, sequence_of}
+use Rattle.module_print.specs.Printed.{numbered_item, level_of_parts, type_of, labelled, ending, with_type, prefixes, printed_type, printed_parts, printed_assignment, sequence_of}
 use Rattle.module_plain.specs.declared.stripping.Within.TheVariants.{Module}
 use Rattle.module_plain.specs.Stripped.{stripped}
-use Rattle.module_plain.specs.Plain.{plain, is_free, unmarked, unmarked_part, unmarked_form, unmarked_label, unmarked_type, unmarked_types, unmarked_assignment, plain_body}
+use Rattle.module_plain.specs.Plain.{is_free, plain_type, plain_parts, plain_assignment, plain_body}
 use Rattle.module_plain.proofs.Copied.{Copied, AllCopied, Passed, free_parts, copied_same, copied_nil, copied_append, passed_free, passed_append, passed_quoted, copied_bracketed, copied_flat_map, copied_joined, copied_concat}
 
 -- ---- instructions
@@ -53,6 +53,7 @@ copied_instruction generated f (mark.Namespace space) free =
     copied_bracketed (codes "NAMESPACE AS " ++ quoted space) (passed_append (codes "NAMESPACE AS ") (quoted space) (passed_free (codes "NAMESPACE AS ") refl) (passed_quoted space))
 copied_instruction generated f mark.UseNil free = copied_bracketed (codes "USE-NIL") (passed_free (codes "USE-NIL") refl)
 copied_instruction generated f mark.EmbedValues free = copied_bracketed (codes "EMBED-VALUES") (passed_free (codes "EMBED-VALUES") refl)
+copied_instruction generated f mark.UseOrder free = copied_bracketed (codes "USE-ORDER") (passed_free (codes "USE-ORDER") refl)
 copied_instruction generated f mark.List free = copied_bracketed (codes "LIST") (passed_free (codes "LIST") refl)
 copied_instruction generated f mark.UseUnion free = copied_bracketed (codes "USE-UNION") (passed_free (codes "USE-UNION") refl)
 copied_instruction generated f mark.UseNumber free = copied_bracketed (codes "USE-NUMBER") (passed_free (codes "USE-NUMBER") refl)
@@ -102,8 +103,9 @@ free_number [] k free = refl
 free_number (z ∷ zs) zero free = (free_parts (number_identifier z) (codes "(") (free_parts (number_identifier z ++ codes "(") _ (free_parts (number_identifier z ++ codes "(" ++ signed_decimal z) (codes ")") free).0).0).0
 free_number (z ∷ zs) (suc k) free = free_number zs k free
 
-free_items : (M : List Assignment) (levels : ℕ) (f : Form) (parts : List (List ℕ)) → list_all is_free (type_of M levels (unmarked_form f) parts) ≡ true → FreeItems f
+free_items : (M : List Assignment) (levels : ℕ) (f : Form) (parts : List (List ℕ)) → list_all is_free (type_of M levels f parts) ≡ true → FreeItems f
 free_items M levels (form.Words identifiers words) parts free item = free_enumerated identifiers item free
+free_items M levels (form.Order identifiers) parts free item = refl
 free_items M levels (form.Numbers numbers) parts free item = free_number numbers item (free_enumerated (map numbered_item numbers) item free)
 free_items M levels form.Bool parts free item = refl
 free_items M levels (form.Int least greatest) parts free item = refl
@@ -114,11 +116,6 @@ free_items M levels (form.SequenceOf part least most) parts free item = refl
 free_items M levels (form.Ref to) parts free item = refl
 
 -- ---- types
-
-reference_same : (M : List Assignment) (to : ℕ) → reference_at M to ≡ reference_at (unmarked M) to
-reference_same [] to = refl
-reference_same (a ∷ M) zero = refl
-reference_same (a ∷ M) (suc to) = reference_same M to
 
 copied_block : (levels : ℕ) (xs ys : List (List ℕ)) → AllCopied xs ys → Copied (block levels xs) (block levels ys)
 copied_block levels [] [] all = copied_same (codes "{}")
@@ -132,81 +129,58 @@ copied_block levels (x ∷ xs) (y ∷ ys) all =
 copied_block levels [] (y ∷ ys) all = absurd all
 copied_block levels (x ∷ xs) [] all = absurd all
 
-copied_type_of : (M : List Assignment) (levels : ℕ) (f : Form) (xs ys : List (List ℕ)) → AllCopied xs ys → Copied (type_of M levels f xs) (type_of (unmarked M) levels (unmarked_form f) ys)
+copied_type_of : (M : List Assignment) (levels : ℕ) (f : Form) (xs ys : List (List ℕ)) → AllCopied xs ys → Copied (type_of M levels f xs) (type_of M levels f ys)
 copied_type_of M levels form.Bool xs ys all = copied_same _
 copied_type_of M levels (form.Int least greatest) xs ys all = copied_same _
 copied_type_of M levels (form.Numbers numbers) xs ys all = copied_same _
 copied_type_of M levels (form.Words identifiers words) xs ys all = copied_same _
+copied_type_of M levels (form.Order identifiers) xs ys all = copied_same _
 copied_type_of M levels (form.Utf8 least most class) xs ys all = copied_same _
 copied_type_of M levels (form.Sequence components) xs ys all = copied_append (block levels xs) (block levels ys) (copied_same (codes "SEQUENCE ")) (copied_block levels xs ys all)
 copied_type_of M levels (form.Choice alternatives) xs ys all = copied_append (block levels xs) (block levels ys) (copied_same (codes "CHOICE ")) (copied_block levels xs ys all)
 copied_type_of M levels (form.SequenceOf item least most) xs ys all =
     copied_append (flat_map (λ part. part) xs) (flat_map (λ part. part) ys) (copied_same (sequence_of least most)) (copied_concat xs ys all)
-copied_type_of M levels (form.Ref to) xs ys all = rw (← reference_same M to) (copied_same (reference_at M to))
+copied_type_of M levels (form.Ref to) xs ys all = copied_same _
 
-copied_with_type : (part : Component) (x y : List ℕ) → Copied x y → Copied (with_type part x) (with_type (unmarked_part part) y)
-copied_with_type part x y copied =
-    copied_append (if_optional part.optional) (if_optional part.optional) (copied_append x y (copied_same (labelled part.identifier)) copied) (copied_same (if_optional part.optional))
-
-parts_same : (f : Form) → parts_of (unmarked_form f) ≡ map unmarked_part (parts_of f)
-parts_same form.Bool = refl
-parts_same (form.Int least greatest) = refl
-parts_same (form.Numbers numbers) = refl
-parts_same (form.Words identifiers words) = refl
-parts_same (form.Utf8 least most class) = refl
-parts_same (form.Sequence components) = refl
-parts_same (form.Choice alternatives) = refl
-parts_same (form.SequenceOf item least most) = refl
-parts_same (form.Ref to) = refl
-
-level_same : (levels : ℕ) (f : Form) → level_of_parts levels (unmarked_form f) ≡ level_of_parts levels f
-level_same levels form.Bool = refl
-level_same levels (form.Int least greatest) = refl
-level_same levels (form.Numbers numbers) = refl
-level_same levels (form.Words identifiers words) = refl
-level_same levels (form.Utf8 least most class) = refl
-level_same levels (form.Sequence components) = refl
-level_same levels (form.Choice alternatives) = refl
-level_same levels (form.SequenceOf item least most) = refl
-level_same levels (form.Ref to) = refl
+copied_with_type : (M : List Assignment) (part : Component) (t : Rose TypeLabel) (x y : List ℕ) → Copied x y → Copied (with_type M part t x) (with_type M part t y)
+copied_with_type M part t x y copied =
+    let front : Copied (labelled part.identifier ++ x) (labelled part.identifier ++ y) = copied_append x y (copied_same (labelled part.identifier)) copied in
+    copied_append (ending M part t) (ending M part t)
+    (copied_append (fixed_range part.standard) (fixed_range part.standard) front (copied_same (fixed_range part.standard)))
+    (copied_same (ending M part t))
 
 -- a type with its instructions
 with_prefixes : (M : List Assignment) (levels : ℕ) (generated : List ℕ) (marks : List Instruction) (l : TypeLabel) (xs ys : List (List ℕ)) → AllCopied xs ys
-    → Copied (prefixes generated marks l ++ type_of M levels l.form xs) (type_of (unmarked M) levels (unmarked_form l.form) ys)
+    → Copied (prefixes generated marks l ++ type_of M levels l.form xs) (type_of M levels l.form ys)
 with_prefixes M levels generated marks l xs ys all = record {
   is = λ free rest.
-      (copied_append (type_of M levels l.form xs) (type_of (unmarked M) levels (unmarked_form l.form) ys)
-      (copied_prefixes generated marks l (free_items (unmarked M) levels l.form ys free)) (copied_type_of M levels l.form xs ys all)).is free rest;
+      (copied_append (type_of M levels l.form xs) (type_of M levels l.form ys)
+      (copied_prefixes generated marks l (free_items M levels l.form ys free)) (copied_type_of M levels l.form xs ys all)).is free rest;
 }
 
 mutual
-  copied_type : (M : List Assignment) (levels : ℕ) (generated : List ℕ) (marks : List Instruction) (t : Rose TypeLabel)
-      → Copied (printed_type M levels generated marks t) (printed_type (unmarked M) levels generated [] (unmarked_type t))
+  copied_type : (M : List Assignment) (levels : ℕ) (generated : List ℕ) (marks : List Instruction) (t : Rose TypeLabel) → Copied (printed_type M levels generated marks t) (plain_type M levels t)
   copied_type M levels generated marks (node l ts) =
-      rw (level_same levels l.form, parts_same l.form)
-      (with_prefixes M levels generated marks l (printed_parts M (level_of_parts levels l.form) (parts_of l.form) ts)
-      (printed_parts (unmarked M) (level_of_parts levels l.form) (map unmarked_part (parts_of l.form)) (unmarked_types ts))
-      (copied_parts M (level_of_parts levels l.form) (parts_of l.form) ts))
+      with_prefixes M levels generated marks l (printed_parts M (level_of_parts levels l.form) (parts_of l.form) ts) (plain_parts M (level_of_parts levels l.form) (parts_of l.form) ts)
+      (copied_parts M (level_of_parts levels l.form) (parts_of l.form) ts)
 
-  copied_parts : (M : List Assignment) (levels : ℕ) (parts : List Component) (ts : Roses TypeLabel)
-      → AllCopied (printed_parts M levels parts ts) (printed_parts (unmarked M) levels (map unmarked_part parts) (unmarked_types ts))
+  copied_parts : (M : List Assignment) (levels : ℕ) (parts : List Component) (ts : Roses TypeLabel) → AllCopied (printed_parts M levels parts ts) (plain_parts M levels parts ts)
   copied_parts M levels parts none = tt
   copied_parts M levels [] (more t ts) = tt
   copied_parts M levels (part ∷ others) (more t ts) = (
-    copied_with_type part (printed_type M levels part.identifier part.marks t) (printed_type (unmarked M) levels part.identifier [] (unmarked_type t))
-        (copied_type M levels part.identifier part.marks t),
+    copied_with_type M part t (printed_type M levels part.identifier part.marks t) (plain_type M levels t) (copied_type M levels part.identifier part.marks t),
     copied_parts M levels others ts,
   )
 
 -- ---- the module
 
-copied_assignments : (M list : List Assignment) → Copied (flat_map (printed_assignment M) list) (flat_map (printed_assignment (unmarked M)) (map unmarked_assignment list))
+copied_assignments : (M list : List Assignment) → Copied (flat_map (printed_assignment M) list) (flat_map (plain_assignment M) list)
 copied_assignments M [] = copied_nil
 copied_assignments M (a ∷ list) =
     let here = printed_type M 0 a.reference a.marks a.body in
-    let there = printed_type (unmarked M) 0 a.reference [] (unmarked_type a.body) in
+    let there = plain_type M 0 a.body in
     let front : Copied (a.reference ++ codes " ::= ") (a.reference ++ codes " ::= ") = copied_same (a.reference ++ codes " ::= ") in
-    copied_append (flat_map (printed_assignment M) list) (flat_map (printed_assignment (unmarked M)) (map unmarked_assignment list))
+    copied_append (flat_map (printed_assignment M) list) (flat_map (plain_assignment M) list)
     (copied_append (codes "\n") (codes "\n") (copied_append here there front (copied_type M 0 a.reference a.marks a.body)) (copied_same (codes "\n")))
     (copied_assignments M list)
 

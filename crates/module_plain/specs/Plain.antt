@@ -1,46 +1,38 @@
 -- The print of a module without its marks: no encoding instruction and no encoding control of X.693 stands in it, only the notation of
--- X.680, which other compilers of ASN.1 take.
-use Rattle.std.specs.Prelude.{◌==◌, ℕ, Bool, not, ◌&&◌, List, [], ◌++◌, map, codes}
+-- X.680, which other compilers of ASN.1 take. The values behind DEFAULT are those of the module.
+use Rattle.std.specs.Prelude.{◌==◌, ℕ, Bool, not, ◌&&◌, List, [], ◌∷◌, ◌++◌, codes}
 use Rattle.std.specs.List.{flat_map}
 use Rattle.label_tree.specs.Rose.{Rose, node, Roses, none, more}
 use Rattle.asn_types.specs.declared.types.Component.{Component}
-use Rattle.asn_types.specs.declared.types.Form.{Form}
-use Rattle.asn_types.specs.declared.types.Form.TheVariants as form
 use Rattle.asn_types.specs.declared.types.TypeLabel.{TypeLabel}
 use Rattle.asn_types.specs.declared.modules.Assignment.{Assignment}
-use Rattle.module_print.specs.Printed.{printed_assignment}
+use Rattle.asn_types.specs.Parts.{parts_of}
+use Rattle.module_print.specs.Printed.{level_of_parts, type_of, with_type}
 
--- ---- a module without marks
+-- ---- types without their marks
 
-abbrev pub unmarked_part : Component → Component
-unmarked_part part = record part { marks = [] }
+module _ (M : List Assignment) where
+  abbrev mutual
+    -- a type on a line that is indented by so many levels
+    pub plain_type : ℕ → Rose TypeLabel → List ℕ
+    plain_type levels (node l ts) = type_of M levels l.form (plain_parts (level_of_parts levels l.form) (parts_of l.form) ts)
 
-abbrev pub unmarked_form : Form → Form
-unmarked_form (form.Sequence parts) = form.Sequence (map unmarked_part parts)
-unmarked_form (form.Choice parts) = form.Choice (map unmarked_part parts)
-unmarked_form (form.SequenceOf part least most) = form.SequenceOf (unmarked_part part) least most
-unmarked_form other = other
+    -- the parts with these types
+    pub plain_parts : ℕ → List Component → Roses TypeLabel → List (List ℕ)
+    plain_parts levels parts none = []
+    plain_parts levels parts (more t ts) =
+        elim parts [
+          | [] ↦ []
+          | part ∷ others ↦ with_type M part t (plain_type levels t) ∷ plain_parts levels others ts
+        ]
 
-abbrev pub unmarked_label : TypeLabel → TypeLabel
-unmarked_label l = record { form = unmarked_form l.form; marks = [] }
+  -- an assignment (clause 16.1) on lines of its own
+  abbrev pub plain_assignment : Assignment → List ℕ
+  plain_assignment a = a.reference ++ codes " ::= " ++ plain_type 0 a.body ++ codes "\n"
 
-abbrev mutual
-  pub unmarked_type : Rose TypeLabel → Rose TypeLabel
-  unmarked_type (node l ts) = node (unmarked_label l) (unmarked_types ts)
+-- ---- the module
 
-  pub unmarked_types : Roses TypeLabel → Roses TypeLabel
-  unmarked_types none = none
-  unmarked_types (more t ts) = more (unmarked_type t) (unmarked_types ts)
-
-abbrev pub unmarked_assignment : Assignment → Assignment
-unmarked_assignment a = record { reference = a.reference; marks = []; body = unmarked_type a.body }
-
-abbrev pub unmarked : List Assignment → List Assignment
-unmarked M = map unmarked_assignment M
-
--- ---- its print
-
--- the module's name and its defaults (X.680, clause 13)
+-- its name and its defaults (X.680, clause 13)
 abbrev pub opening : List ℕ
 opening = codes "Schema-Set DEFINITIONS AUTOMATIC TAGS ::= BEGIN\n"
 
@@ -49,7 +41,7 @@ closing = codes "END\n"
 
 -- its assignments
 abbrev pub plain_body : List Assignment → List ℕ
-plain_body M = flat_map (printed_assignment (unmarked M)) (unmarked M)
+plain_body M = flat_map (plain_assignment M) M
 
 -- THE PRINT OF A MODULE WITHOUT ITS MARKS
 abbrev pub plain : List Assignment → List ℕ

@@ -4,7 +4,7 @@ ghost use Rattle.std.specs.List.{list_all};
 ghost use Rattle.asn_types.specs.declared.modules.Assignment.{Assignment};
 ghost use Rattle.module_print.specs.Printed as print;
 ghost use Rattle.module_plain.specs.Plain as rule;
-ghost use Rattle.module_plain.specs.Stripped.{next, stripped};
+ghost use Rattle.module_plain.specs.Stripped.{next, is_kept, stripped};
 
 use std::alloc::{AllocError, Global};
 use xa_base::Memory;
@@ -18,10 +18,12 @@ const CLOSING: &[u8] =
 
 const PLAIN_CLOSING: &[u8] = b"END\n";
 
-/// Where a byte of a module stands: outside of an encoding instruction, in one, in a text in quotation marks in one, or behind one.
+/// Where a byte of a module stands: outside of an encoding instruction, there in a text in quotation marks, in an instruction, in
+/// a text in quotation marks in one, or behind one.
 #[derive(Clone, Copy, PartialEq, Eq)]
 pub(crate) enum Within {
     Module,
+    Text,
     Instruction,
     Quotes,
     Behind,
@@ -33,11 +35,24 @@ fn behind(within: Within, byte: u8) -> Within
 {
     match (within, byte) {
         (Within::Module, b'[') => Within::Instruction,
+        (Within::Module, b'"') => Within::Text,
+        (Within::Text, b'"') => Within::Module,
         (Within::Instruction, b']') => Within::Behind,
         (Within::Instruction, b'"') => Within::Quotes,
         (Within::Quotes, b'"') => Within::Instruction,
         (Within::Behind, _) => Within::Module,
         (within, _) => within,
+    }
+}
+
+// Whether a byte belongs to no instruction.
+fn is_kept(within: Within, byte: u8) -> bool
+    ensures { result ≡ is_kept within byte }
+{
+    match within {
+        Within::Module => byte != b'[',
+        Within::Text => true,
+        _ => false,
     }
 }
 
@@ -49,7 +64,7 @@ fn without_instructions(alloc: Global, text: &[u8]) -> Result<Vec<u8>, AllocErro
     let mut within = Within::Module;
     let mut rest = text;
     'bytes: while let [byte, others @ ..] = rest {
-        if within == Within::Module && *byte != b'[' {
+        if is_kept(within, *byte) {
             left.push(*byte)?;
         }
         within = behind(within, *byte);

@@ -1,3 +1,6 @@
 pub mod Listing
 pub mod Texts
+pub mod Standards
 pub mod Typing
+pub mod Valuing
+mod Rows

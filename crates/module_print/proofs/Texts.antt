@@ -2,7 +2,7 @@
 use Rattle.std.proofs.Common.{◌≡◌, ℕ, zero, suc, ◌+◌, ◌<◌, List, ◌∷◌, ◌++◌, length, drop, get_or, codes, refl, sym, ◌∙◌, ap, append_assoc, add-one}
 use Rattle.std.specs.List.{flat_map}
 use Rattle.std.proofs.lemmas.List.{drop_more}
-use Rattle.module_print.specs.Notation.{indent}
+use Rattle.module_print.specs.Notation.{commented, indent}
 
 pub drop-item : {A : Type 0} (xs : List A) (i : ℕ) (x : A) → i < length xs → x ≡ get_or xs i x → drop i xs ≡ x ∷ drop (i + 1) xs
 drop-item xs i x at here = drop_more xs i x at ∙ ap (λ y. y ∷ drop (i + 1) xs) (sym here)
@@ -36,3 +36,14 @@ indent-more levels = by levels ∙ ap indent (sym (add-one levels))
     by : (n : ℕ) → indent n ++ codes "    " ≡ indent (suc n)
     by zero = refl
     by (suc n) = ap (λ t. codes "    " ++ t) (by n)
+
+-- a fixed value in its comment
+pub fixed-written : (old octets begun mid out : List ℕ) → begun ≡ old ++ codes " (CONSTRAINED BY {/* fixed " → mid ≡ begun ++ octets → out ≡ mid ++ codes " */})"
+    → out ≡ old ++ commented (codes "fixed " ++ octets)
+fixed-written old octets begun mid out first second third =
+    third
+    ∙ ap (λ o. o ++ codes " */})") (second ∙ ap (λ o. o ++ octets) first)
+    ∙ regroup old (codes " (CONSTRAINED BY {/* fixed ") octets (codes " */})")
+  where
+    regroup : (a b c d : List ℕ) → ((a ++ b) ++ c) ++ d ≡ a ++ (b ++ (c ++ d))
+    regroup a b c d = simp append_assoc

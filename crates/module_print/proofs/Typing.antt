@@ -28,7 +28,7 @@ printed_type-parts M levels generated marks t l kids is below =
 pub printed_parts-drop : (M : List Assignment) (levels : ℕ) (parts : List Component) (kids : List (Rose TypeLabel)) (i : ℕ) (part : Component) (kid : Rose TypeLabel)
     → i < length parts → part ≡ get_or parts i part → i < length kids → kid ≡ get_or kids i kid
     → printed_parts M levels (drop i parts) (roses_of (drop i kids))
-    ≡ with_type part (printed_type M levels part.identifier part.marks kid) ∷ printed_parts M levels (drop (i + 1) parts) (roses_of (drop (i + 1) kids))
+    ≡ with_type M part kid (printed_type M levels part.identifier part.marks kid) ∷ printed_parts M levels (drop (i + 1) parts) (roses_of (drop (i + 1) kids))
 printed_parts-drop M levels parts kids i part kid at is below here =
     ap (λ ts. printed_parts M levels (drop i parts) ts) (roses_of-drop kids i kid below here)
     ∙ ap (λ ps. printed_parts M levels ps (more kid (roses_of (drop (i + 1) kids)))) (drop-item parts i part at is)

@@ -64,6 +64,7 @@ instruction generated f (mark.Name name) = name_prefix generated name
 instruction generated f (mark.Namespace space) = namespace_prefix space
 instruction generated f mark.UseNil = bracketed (codes "USE-NIL")
 instruction generated f mark.EmbedValues = bracketed (codes "EMBED-VALUES")
+instruction generated f mark.UseOrder = bracketed (codes "USE-ORDER")
 instruction generated f mark.List = bracketed (codes "LIST")
 instruction generated f mark.UseUnion = bracketed (codes "USE-UNION")
 instruction generated f mark.UseNumber = bracketed (codes "USE-NUMBER")
@@ -80,14 +81,15 @@ rank (mark.Name name) = 2
 rank (mark.Namespace space) = 3
 rank mark.UseNil = 4
 rank mark.EmbedValues = 5
-rank mark.List = 6
-rank mark.UseUnion = 7
-rank mark.UseNumber = 8
-rank (mark.WhiteSpace how) = 9
-rank (mark.Text item text) = 10
+rank mark.UseOrder = 6
+rank mark.List = 7
+rank mark.UseUnion = 8
+rank mark.UseNumber = 9
+rank (mark.WhiteSpace how) = 10
+rank (mark.Text item text) = 11
 
 abbrev pub ranks : List ℕ
-ranks = 0 ∷ 1 ∷ 2 ∷ 3 ∷ 4 ∷ 5 ∷ 6 ∷ 7 ∷ 8 ∷ 9 ∷ 10 ∷ []
+ranks = 0 ∷ 1 ∷ 2 ∷ 3 ∷ 4 ∷ 5 ∷ 6 ∷ 7 ∷ 8 ∷ 9 ∷ 10 ∷ 11 ∷ []
 
 abbrev pub if_ranked : List ℕ → Form → ℕ → Instruction → List ℕ
 if_ranked generated f place mark = if rank mark == place then instruction generated f mark else []

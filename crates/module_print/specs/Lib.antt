@@ -1,3 +1,4 @@
 pub mod Notation
 pub mod Instructions
+pub mod Values
 pub mod Printed

@@ -1,11 +1,13 @@
 -- Pieces of the notation of ASN.1 (X.680): quoted texts, numbers, constraints, and lists in braces.
-use Rattle.std.specs.Prelude.{◌==◌, ℕ, zero, suc, ℤ, pos, Option, Some, None, List, [], ◌∷◌, ◌++◌, map, codes, if◌then◌else◌}
+use Rattle.std.specs.Prelude.{◌==◌, ℕ, zero, suc, ◌+◌, ◌/◌, ◌%◌, nat_lt, ℤ, pos, Option, Some, None, List, [], ◌∷◌, ◌++◌, map, codes, if◌then◌else◌}
 use Rattle.std.specs.List.{flat_map, join_with_byte}
 use Rattle.std.specs.Option.{option_map}
 use Rattle.std.specs.Fmt.{signed_decimal}
 use Rattle.std.specs.Ordering.{int_eq}
 use Rattle.simple_types.specs.declared.simples.Class.{Class}
 use Rattle.simple_types.specs.declared.simples.Class.TheVariants.{Any, Language, NmToken, Name, NcName}
+use Rattle.simple_types.specs.declared.standards.Standard.{Standard}
+use Rattle.simple_types.specs.declared.standards.Standard.TheVariants.{Free, Default, Fixed}
 
 -- ---- texts (cstring, clause 12.14)
 
@@ -15,6 +17,18 @@ doubled byte = if byte == 34 then 34 ∷ 34 ∷ [] else byte ∷ []
 
 abbrev pub quoted : List ℕ → List ℕ
 quoted text = 34 ∷ flat_map doubled text ++ 34 ∷ []
+
+-- ---- octets (hstring, clause 12.12)
+
+-- a number below 16, from 0 to 9 and from A to F
+abbrev pub hexadecimal_digit : ℕ → ℕ
+hexadecimal_digit number = if nat_lt number 10 then 48 + number else 55 + number
+
+abbrev pub both_digits : ℕ → List ℕ
+both_digits octet = hexadecimal_digit (octet / 16) ∷ hexadecimal_digit (octet % 16) ∷ []
+
+abbrev pub hexadecimal : List ℕ → List ℕ
+hexadecimal octets = flat_map both_digits octets
 
 -- ---- constraints
 
@@ -56,6 +70,12 @@ class_range Language = commented (codes "language")
 class_range NmToken = commented (codes "NMTOKEN")
 class_range Name = commented (codes "Name")
 class_range NcName = commented (codes "NCName")
+
+-- A fixed value is such a comment too, so that no encoding tells its type from one without it.
+abbrev pub fixed_range : Standard → List ℕ
+fixed_range Free = []
+fixed_range (Default text) = []
+fixed_range (Fixed text) = commented (codes "fixed " ++ hexadecimal text)
 
 -- ---- lists in braces
 

@@ -1,10 +1,12 @@
 -- A module as the notation of ASN.1 (X.680) with the encoding instructions of X.693: one assignment after the other.
-use Rattle.std.specs.Prelude.{ℕ, suc, ℤ, Bool, Option, List, [], ◌∷◌, ◌++◌, map, slice_get, unwrap_or, codes, if◌then◌else◌}
+use Rattle.std.specs.Prelude.{ℕ, suc, ℤ, Option, List, [], ◌∷◌, ◌++◌, map, slice_get, unwrap_or, codes, if◌then◌else◌}
 use Rattle.std.specs.List.{flat_map}
 use Rattle.std.specs.Option.{option_map}
 use Rattle.std.specs.Fmt.{signed_decimal}
 use Rattle.label_tree.specs.Rose.{Rose, node, Roses, none, more}
 use Rattle.simple_types.specs.declared.simples.Class.{Class}
+use Rattle.simple_types.specs.declared.standards.Standard.{Standard}
+use Rattle.simple_types.specs.declared.standards.Standard.TheVariants.{Free, Default, Fixed}
 use Rattle.asn_types.specs.declared.marks.Instruction.{Instruction}
 use Rattle.asn_types.specs.declared.types.Component.{Component}
 use Rattle.asn_types.specs.declared.types.Form.{Form}
@@ -12,8 +14,9 @@ use Rattle.asn_types.specs.declared.types.Form.TheVariants as form
 use Rattle.asn_types.specs.declared.types.TypeLabel.{TypeLabel}
 use Rattle.asn_types.specs.declared.modules.Assignment.{Assignment}
 use Rattle.asn_types.specs.Parts.{parts_of}
-use Rattle.module_print.specs.Notation.{number_range, size_range, class_range, enumerated, block}
+use Rattle.module_print.specs.Notation.{number_range, size_range, class_range, fixed_range, enumerated, block}
 use Rattle.module_print.specs.Instructions.{number_identifier, instructions}
+use Rattle.module_print.specs.Values.{default}
 
 -- the name of the assignment with this number
 abbrev pub reference_at : List Assignment → ℕ → List ℕ
@@ -46,6 +49,7 @@ type_of M levels form.Bool parts = codes "BOOLEAN"
 type_of M levels (form.Int least greatest) parts = integer least greatest
 type_of M levels (form.Numbers numbers) parts = enumerated (map numbered_item numbers)
 type_of M levels (form.Words identifiers words) parts = enumerated identifiers
+type_of M levels (form.Order identifiers) parts = enumerated identifiers
 type_of M levels (form.Utf8 least most class) parts = text_type least most class
 type_of M levels (form.Sequence components) parts = codes "SEQUENCE " ++ block levels parts
 type_of M levels (form.Choice alternatives) parts = codes "CHOICE " ++ block levels parts
@@ -57,12 +61,18 @@ abbrev pub labelled : List ℕ → List ℕ
 labelled [] = []
 labelled (byte ∷ bytes) = (byte ∷ bytes) ++ codes " "
 
-abbrev pub if_optional : Bool → List ℕ
-if_optional optional = if optional then codes " OPTIONAL" else []
+-- what is said of a part that may be absent (clause 25.1)
+abbrev pub if_absent : List Assignment → Rose TypeLabel → Standard → List ℕ
+if_absent M t Free = codes " OPTIONAL"
+if_absent M t (Default text) = default M t text
+if_absent M t (Fixed text) = default M t text
 
--- a component, an alternative or an item with its type (clauses 25, 26 and 29)
-abbrev pub with_type : Component → List ℕ → List ℕ
-with_type part type = labelled part.identifier ++ type ++ if_optional part.optional
+abbrev pub ending : List Assignment → Component → Rose TypeLabel → List ℕ
+ending M part t = if part.optional then if_absent M t part.standard else []
+
+-- a component, an alternative or an item with its type (clauses 25, 26 and 29), which is printed so
+abbrev pub with_type : List Assignment → Component → Rose TypeLabel → List ℕ → List ℕ
+with_type M part t type = labelled part.identifier ++ type ++ fixed_range part.standard ++ ending M part t
 
 -- the instructions of a part or an assignment, then those of its type
 abbrev pub prefixes : List ℕ → List Instruction → TypeLabel → List ℕ
@@ -81,7 +91,7 @@ module _ (M : List Assignment) where
     printed_parts levels parts (more t ts) =
         elim parts [
           | [] ↦ []
-          | part ∷ others ↦ with_type part (printed_type levels part.identifier part.marks t) ∷ printed_parts levels others ts
+          | part ∷ others ↦ with_type M part t (printed_type levels part.identifier part.marks t) ∷ printed_parts levels others ts
         ]
 
   -- an assignment (clause 16.1) on lines of its own

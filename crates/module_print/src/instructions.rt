@@ -112,6 +112,7 @@ fn write_instruction(
         Instruction::Namespace(space) => write_namespace(out, space)?,
         Instruction::UseNil => out.extend_from_slice(b"[USE-NIL] ")?,
         Instruction::EmbedValues => out.extend_from_slice(b"[EMBED-VALUES] ")?,
+        Instruction::UseOrder => out.extend_from_slice(b"[USE-ORDER] ")?,
         Instruction::List => out.extend_from_slice(b"[LIST] ")?,
         Instruction::UseUnion => out.extend_from_slice(b"[USE-UNION] ")?,
         Instruction::UseNumber => out.extend_from_slice(b"[USE-NUMBER] ")?,
@@ -132,15 +133,16 @@ fn rank(mark: &Instruction) -> u8
         Instruction::Namespace(_) => 3,
         Instruction::UseNil => 4,
         Instruction::EmbedValues => 5,
-        Instruction::List => 6,
-        Instruction::UseUnion => 7,
-        Instruction::UseNumber => 8,
-        Instruction::WhiteSpace(_) => 9,
-        Instruction::Text { .. } => 10,
+        Instruction::UseOrder => 6,
+        Instruction::List => 7,
+        Instruction::UseUnion => 8,
+        Instruction::UseNumber => 9,
+        Instruction::WhiteSpace(_) => 10,
+        Instruction::Text { .. } => 11,
     }
 }
 
-const RANKS: [u8; 11] = [0, 1, 2, 3, 4, 5, 6, 7, 8, 9, 10];
+const RANKS: [u8; 12] = [0, 1, 2, 3, 4, 5, 6, 7, 8, 9, 10, 11];
 
 // An instruction where it has this rank.
 fn write_if_ranked(

@@ -7,5 +7,6 @@ mod instructions;
 mod notation;
 mod printing;
 mod types;
+mod values;
 
 pub use printing::print_module;

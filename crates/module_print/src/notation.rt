@@ -1,11 +1,11 @@
 //! Pieces of the notation of ASN.1.
-ghost use Rattle.std.specs.Prelude.{◌≡◌, ◌++◌, OnOk};
+ghost use Rattle.std.specs.Prelude.{◌≡◌, ◌<◌, ◌++◌, OnOk};
 ghost use Rattle.std.specs.List.{flat_map};
 ghost use Rattle.std.specs.Fmt.{signed_decimal};
-ghost use Rattle.module_print.specs.Notation.{doubled, quoted, end_of, range, number_range, size, size_range, class_range, comma, new_line};
+ghost use Rattle.module_print.specs.Notation.{doubled, quoted, hexadecimal_digit, both_digits, hexadecimal, end_of, range, number_range, size, size_range, class_range, fixed_range, comma, new_line};
 
 use itoa::Buffer;
-use simple_types::Class;
+use simple_types::{Class, Standard};
 use std::alloc::AllocError;
 
 // The longest front without a quotation mark, and the rest.
@@ -132,6 +132,50 @@ pub(crate) fn write_class(out: &mut Vec<u8>, class: Class) -> Result<(), AllocEr
         Class::NmToken => out.extend_from_slice(b" (CONSTRAINED BY {/* NMTOKEN */})"),
         Class::Name => out.extend_from_slice(b" (CONSTRAINED BY {/* Name */})"),
         Class::NcName => out.extend_from_slice(b" (CONSTRAINED BY {/* NCName */})"),
+    }
+}
+
+// A hexadecimal digit.
+fn hexadecimal_digit(number: u8) -> u8
+    requires { number < 16 }
+    ensures { result ≡ hexadecimal_digit number }
+{
+    if number < 10 {
+        48 + number
+    } else {
+        55 + number
+    }
+}
+
+fn write_octet(out: &mut Vec<u8>, octet: u8) -> Result<(), AllocError>
+    ensures { OnOk result (out.new.items ≡ out.old.items ++ both_digits octet) }
+{
+    out.push(hexadecimal_digit(octet / 16))?;
+    out.push(hexadecimal_digit(octet % 16))?;
+    Ok(())
+}
+
+fn write_hexadecimal(out: &mut Vec<u8>, octets: &[u8]) -> Result<(), AllocError>
+    ensures { OnOk result (out.new.items ≡ out.old.items ++ hexadecimal octets.now) }
+{
+    'octets: for octet in octets {
+        write_octet(out, *octet)?;
+    }
+    Ok(())
+}
+
+// A fixed value, as a comment.
+pub(crate) fn write_fixed(out: &mut Vec<u8>, standard: &Standard) -> Result<(), AllocError>
+    ensures { OnOk result (out.new.items ≡ out.old.items ++ fixed_range standard.now) }
+{
+    match standard {
+        Standard::Fixed(text) => {
+            out.extend_from_slice(b" (CONSTRAINED BY {/* fixed ")?;
+            write_hexadecimal(out, text.bytes())?;
+            out.extend_from_slice(b" */})")?;
+            Ok(())
+        }
+        _ => Ok(()),
     }
 }
 

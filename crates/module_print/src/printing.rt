@@ -1,5 +1,6 @@
 //! The whole text of a module.
 ghost use Rattle.std.specs.Prelude.{◌≡◌, ◌++◌, OnOk, IfOk};
+ghost use Rattle.asn_types.specs.Modules.{AreWellFormed};
 ghost use Rattle.module_print.specs.Printed.{printed_assignment, opening, closing, printed};
 
 use crate::types::write_type;
@@ -15,10 +16,11 @@ const CLOSING: &[u8] =
 // An assignment, on lines of its own.
 fn write_assignment(
     out: &mut Vec<u8>,
-    assignments: &[Assignment],
+    module: &Module,
     assignment: &Assignment,
 ) -> Result<(), Memory>
-    ensures { OnOk result (out.new.items ≡ out.old.items ++ printed_assignment assignments.now assignment.now) }
+    requires { AreWellFormed module.now assignment.now.body }
+    ensures { OnOk result (out.new.items ≡ out.old.items ++ printed_assignment module.now assignment.now) }
 {
     let Assignment {
         reference,
@@ -27,29 +29,22 @@ fn write_assignment(
     } = assignment;
     out.extend_from_slice(reference.bytes())?;
     out.extend_from_slice(b" ::= ")?;
-    write_type(out, assignments, 0, reference, marks, body.root())?;
+    write_type(out, module, 0, reference, marks, body.root())?;
     out.push(b'\n')?;
     Ok(())
-}
-
-// The text of a module of these assignments.
-pub(crate) fn print_assignments(
-    alloc: Global,
-    assignments: &[Assignment],
-) -> Result<Vec<u8>, Memory>
-    ensures { IfOk result (λ text. text.items ≡ printed assignments.now) }
-{
-    let mut out = Vec::from_slice(alloc, OPENING)?;
-    'assignments: for assignment in assignments {
-        write_assignment(&mut out, assignments, assignment)?;
-    }
-    out.extend_from_slice(CLOSING)?;
-    Ok(out)
 }
 
 /// The text of the module in UTF-8. The time is linear in the length of the text.
 pub fn print_module(alloc: Global, module: &Module) -> Result<Vec<u8>, Memory>
     ensures { IfOk result (λ text. text.items ≡ printed module.now) }
 {
-    print_assignments(alloc, module.assignments())
+    // What each module keeps is known once one of its readers was called.
+    let _ = module.count();
+    let assignments = module.assignments();
+    let mut out = Vec::from_slice(alloc, OPENING)?;
+    'assignments: for assignment in assignments {
+        write_assignment(&mut out, module, assignment)?;
+    }
+    out.extend_from_slice(CLOSING)?;
+    Ok(out)
 }

@@ -1,17 +1,20 @@
 //! Types with their parts.
 ghost use Rattle.std.specs.Prelude.{◌≡◌, ◌++◌, ◌∷◌, [], ◌≤◌, OnOk, suc, map, length};
 ghost use Rattle.label_tree.specs.Rose.{roses_of, Allowed, AllowedAll};
+ghost use Rattle.asn_types.specs.Modules.{IsStandard, AreStandards, AreWellFormed, AllWellFormed};
 ghost use Rattle.asn_types.specs.Parts.{parts_of, MayHave};
 ghost use Rattle.module_print.specs.Notation.{enumerated, block, listed, new_line};
-ghost use Rattle.module_print.specs.Printed.{reference_at, numbered_item, integer, text_type, sequence_of, labelled, if_optional, with_type, prefixes, type_of, level_of_parts, printed_type, printed_parts};
+ghost use Rattle.module_print.specs.Printed.{reference_at, numbered_item, integer, text_type, sequence_of, labelled, ending, with_type, prefixes, type_of, level_of_parts, printed_type, printed_parts};
 
 use crate::instructions::write_instructions;
 use crate::notation::{
-    write_class, write_comma, write_new_line, write_number, write_number_range, write_size_range,
+    write_class, write_comma, write_fixed, write_new_line, write_number, write_number_range,
+    write_size_range,
 };
-use asn_types::{Assignment, Component, Form, Marks, TypeLabel};
+use crate::values::write_default;
+use asn_types::{Component, Form, Marks, Module, TypeLabel};
 use label_tree::Tree;
-use simple_types::Class;
+use simple_types::{Class, Standard};
 use std::alloc::AllocError;
 use xa_base::{Memory, Text};
 
@@ -99,20 +102,32 @@ fn write_identifier(out: &mut Vec<u8>, identifier: &Text) -> Result<(), AllocErr
     Ok(())
 }
 
-fn write_optional(out: &mut Vec<u8>, optional: bool) -> Result<(), AllocError>
-    ensures { OnOk result (out.new.items ≡ out.old.items ++ if_optional optional) }
+// What is said of a part that may be absent.
+fn write_ending(
+    out: &mut Vec<u8>,
+    module: &Module,
+    part: &Component,
+    kid: &Tree<TypeLabel>,
+) -> Result<(), Memory>
+    requires { IsStandard module.now part.now kid.now }
+    ensures { OnOk result (out.new.items ≡ out.old.items ++ ending module.now part.now kid.now) }
 {
-    if optional {
-        out.extend_from_slice(b" OPTIONAL")?;
+    if !part.optional {
+        return Ok(());
+    }
+    match &part.standard {
+        Standard::Free => out.extend_from_slice(b" OPTIONAL")?,
+        Standard::Default(text) => write_default(out, module, kid, text)?,
+        Standard::Fixed(text) => write_default(out, module, kid, text)?,
     }
     Ok(())
 }
 
 // The name of the assignment with this number, if there is one.
-fn write_reference(out: &mut Vec<u8>, assignments: &[Assignment], to: u32) -> Result<(), AllocError>
-    ensures { OnOk result (out.new.items ≡ out.old.items ++ reference_at assignments.now to) }
+fn write_reference(out: &mut Vec<u8>, module: &Module, to: u32) -> Result<(), AllocError>
+    ensures { OnOk result (out.new.items ≡ out.old.items ++ reference_at module.now to) }
 {
-    match assignments.get(to as usize) {
+    match module.assignments().get(to as usize) {
         Some(assignment) => out.extend_from_slice(assignment.reference.bytes()),
         None => Ok(()),
     }
@@ -145,53 +160,57 @@ fn write_closing_brace(out: &mut Vec<u8>, levels: usize) -> Result<(), AllocErro
 #[cycle(types)]
 pub(crate) fn write_type(
     out: &mut Vec<u8>,
-    assignments: &[Assignment],
+    module: &Module,
     levels: usize,
     generated: &Text,
     marks: &Marks,
     tree: &Tree<TypeLabel>,
 ) -> Result<(), Memory>
     requires allowed { Allowed MayHave tree.now }
+    requires sound { AreWellFormed module.now tree.now }
     requires indented { levels ≤ length out.old.items }
-    ensures { OnOk result (out.new.items ≡ out.old.items ++ printed_type assignments.now levels generated.now marks.now tree.now) }
+    ensures { OnOk result (out.new.items ≡ out.old.items ++ printed_type module.now levels generated.now marks.now tree.now) }
 {
     let label = tree.label();
     write_prefixes(out, generated, marks, label)?;
-    write_form(out, assignments, levels, &label.form, tree.kids())
+    write_form(out, module, levels, &label.form, tree.kids())
 }
 
 #[cycle(types)]
 fn write_form(
     out: &mut Vec<u8>,
-    assignments: &[Assignment],
+    module: &Module,
     levels: usize,
     form: &Form,
     kids: &[Tree<TypeLabel>],
 ) -> Result<(), Memory>
     requires count { length kids.now ≡ length (parts_of form.now) }
     requires allowed { AllowedAll MayHave (roses_of kids.now) }
+    requires sound { AllWellFormed module.now (roses_of kids.now) }
+    requires standards { AreStandards module.now (parts_of form.now) (roses_of kids.now) }
     requires indented { levels ≤ length out.old.items }
-    ensures { OnOk result (out.new.items ≡ out.old.items ++ type_of assignments.now levels form.now (printed_parts assignments.now (level_of_parts levels form.now) (parts_of form.now) (roses_of kids.now))) }
+    ensures { OnOk result (out.new.items ≡ out.old.items ++ type_of module.now levels form.now (printed_parts module.now (level_of_parts levels form.now) (parts_of form.now) (roses_of kids.now))) }
 {
     match form {
         Form::Bool => out.extend_from_slice(b"BOOLEAN")?,
         Form::Int { lo, hi } => write_integer(out, *lo, *hi)?,
         Form::Numbers { numbers } => write_numbers(out, numbers.items())?,
         Form::Words { identifiers, .. } => write_words(out, identifiers.items())?,
+        Form::Order { identifiers } => write_words(out, identifiers.items())?,
         Form::Utf8 { min, max, class } => write_text_type(out, *min, *max, *class)?,
         Form::Sequence { parts } => {
             out.extend_from_slice(b"SEQUENCE ")?;
-            write_block(out, assignments, levels, parts.items(), kids)?;
+            write_block(out, module, levels, parts.items(), kids)?;
         }
         Form::Choice { parts } => {
             out.extend_from_slice(b"CHOICE ")?;
-            write_block(out, assignments, levels, parts.items(), kids)?;
+            write_block(out, module, levels, parts.items(), kids)?;
         }
         Form::SequenceOf { part, min, max } => {
             write_sequence_of(out, *min, *max)?;
-            write_part(out, assignments, levels, part, &kids[0])?;
+            write_part(out, module, levels, part, &kids[0])?;
         }
-        Form::Ref { to } => write_reference(out, assignments, *to)?,
+        Form::Ref { to } => write_reference(out, module, *to)?,
     }
     Ok(())
 }
@@ -200,22 +219,24 @@ fn write_form(
 #[cycle(types)]
 fn write_block(
     out: &mut Vec<u8>,
-    assignments: &[Assignment],
+    module: &Module,
     levels: usize,
     parts: &[Component],
     kids: &[Tree<TypeLabel>],
 ) -> Result<(), Memory>
     requires count { length kids.now ≡ length parts.now }
     requires allowed { AllowedAll MayHave (roses_of kids.now) }
+    requires sound { AllWellFormed module.now (roses_of kids.now) }
+    requires standards { AreStandards module.now parts.now (roses_of kids.now) }
     requires indented { levels ≤ length out.old.items }
-    ensures { OnOk result (out.new.items ≡ out.old.items ++ block levels (printed_parts assignments.now (suc levels) parts.now (roses_of kids.now))) }
+    ensures { OnOk result (out.new.items ≡ out.old.items ++ block levels (printed_parts module.now (suc levels) parts.now (roses_of kids.now))) }
 {
     if kids.is_empty() {
         out.extend_from_slice(b"{}")?;
         return Ok(());
     }
     out.push(b'{')?;
-    write_parts(out, assignments, levels + 1, parts, kids)?;
+    write_parts(out, module, levels + 1, parts, kids)?;
     write_closing_brace(out, levels)?;
     Ok(())
 }
@@ -224,19 +245,21 @@ fn write_block(
 #[cycle(types)]
 fn write_parts(
     out: &mut Vec<u8>,
-    assignments: &[Assignment],
+    module: &Module,
     levels: usize,
     parts: &[Component],
     kids: &[Tree<TypeLabel>],
 ) -> Result<(), Memory>
     requires count { length kids.now ≡ length parts.now }
     requires allowed { AllowedAll MayHave (roses_of kids.now) }
-    ensures { OnOk result (out.new.items ≡ out.old.items ++ listed (new_line levels) (printed_parts assignments.now levels parts.now (roses_of kids.now))) }
+    requires sound { AllWellFormed module.now (roses_of kids.now) }
+    requires standards { AreStandards module.now parts.now (roses_of kids.now) }
+    ensures { OnOk result (out.new.items ≡ out.old.items ++ listed (new_line levels) (printed_parts module.now levels parts.now (roses_of kids.now))) }
 {
     'parts: for (i, kid) in kids.iter().enumerate() {
         write_comma(out, i)?;
         write_new_line(out, levels)?;
-        write_part(out, assignments, levels, &parts[i], kid)?;
+        write_part(out, module, levels, &parts[i], kid)?;
     }
     Ok(())
 }
@@ -244,17 +267,20 @@ fn write_parts(
 #[cycle(types)]
 fn write_part(
     out: &mut Vec<u8>,
-    assignments: &[Assignment],
+    module: &Module,
     levels: usize,
     part: &Component,
     kid: &Tree<TypeLabel>,
 ) -> Result<(), Memory>
     requires allowed { Allowed MayHave kid.now }
+    requires sound { AreWellFormed module.now kid.now }
+    requires standard { IsStandard module.now part.now kid.now }
     requires indented { levels ≤ length out.old.items }
-    ensures { OnOk result (out.new.items ≡ out.old.items ++ with_type part.now (printed_type assignments.now levels part.now.identifier part.now.marks kid.now)) }
+    ensures { OnOk result (out.new.items ≡ out.old.items ++ with_type module.now part.now kid.now (printed_type module.now levels part.now.identifier part.now.marks kid.now)) }
 {
     write_identifier(out, &part.identifier)?;
-    write_type(out, assignments, levels, &part.identifier, &part.marks, kid)?;
-    write_optional(out, part.optional)?;
+    write_type(out, module, levels, &part.identifier, &part.marks, kid)?;
+    write_fixed(out, &part.standard)?;
+    write_ending(out, module, part, kid)?;
     Ok(())
 }

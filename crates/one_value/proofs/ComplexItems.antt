@@ -22,7 +22,7 @@ use Rattle.asn_types.specs.declared.types.TypeLabel.{TypeLabel}
 use Rattle.asn_types.specs.Marks.{has_embed_values}
 use Rattle.asn_types.specs.Refs.{resolve}
 use Rattle.asn_types.specs.Roles.{role_of}
-use Rattle.asn_types.specs.Values.{below, FitsAt, child_count, first_count, text_count, is_last_absent}
+use Rattle.asn_values.specs.Values.{below, FitsAt, child_count, first_count, text_count, is_last_absent}
 use Rattle.schema_parts.specs.declared.components.AttributeUse.{AttributeUse}
 use Rattle.schema_parts.specs.declared.components.ComplexDef.{ComplexDef}
 use Rattle.schema_parts.specs.declared.components.Content.{Content}
@@ -39,7 +39,7 @@ use Rattle.map_laws.proofs.Values.{present_children, PartsFit, sequence-value}
 use Rattle.map_laws.proofs.Complexes.{fits-found, children-found, complex-follows}
 use Rattle.map_laws.proofs.Counts.{children-counted}
 use Rattle.map_laws.proofs.Nillables.{nillable-follows}
-use Rattle.xer_items.specs.Spelling.{spelling}
+use Rattle.asn_types.specs.Spaces.{spelling}
 use Rattle.xer_items.specs.Items.{Given, given, nothing, joined, both, placed, inside, element_of, texts_of, with_texts}
 use Rattle.xer_items.specs.Items as items
 use Rattle.validity.specs.Asked.{space_at}
@@ -48,7 +48,7 @@ use Rattle.one_value.proofs.Groups.{told, present_given, sequence-inside, inside
 use Rattle.one_value.proofs.Walking.{last_from}
 use Rattle.one_value.proofs.Attributes.{attribute-gives, rest-silent}
 use Rattle.one_value.proofs.Mixed.{text_in, IsXmlText, texts-xml, TellKids, attributes-tell, rest-tells, elements-tell}
-use Rattle.one_value.proofs.Complexes.{not-textual, nil-mark, embed-mark, last-is, texts-keep, texts-counted}
+use Rattle.one_value.proofs.Complexes.{not-textual, nil-mark, embed-mark, order-mark, last-is, texts-keep, texts-counted}
 use Rattle.one_value.proofs.Spelled.{IsSpelling, AreSpelled, attributes-spelled}
 
 -- ---- nil
@@ -178,7 +178,7 @@ module _ (M : List Assignment) (E : ℕ → Rose TypeLabel → Type 0) (depth : 
       let l = type_label (form.Sequence has.0) [] in
       let a = sequence-value M depth [] has.0 has.1 v (subst (λ x. FitsAt M depth x v) has.2 h) in
       let ea : inside M u v ≡ present_given M l 0 has.0 (list_of has.1) a.flags a.values =
-      ap (λ x. inside M x v) has.2 ∙ ap (λ x. inside M (node l has.1) x) a.is ∙ sequence-inside M depth [] has.0 has.1 a.flags a.values refl a.fit in
+      ap (λ x. inside M x v) has.2 ∙ ap (λ x. inside M (node l has.1) x) a.is ∙ sequence-inside M depth [] has.0 has.1 a.flags a.values refl refl a.fit in
       ap (λ (z : Given). z.kids) ea ∙ empty-content l 0 has.0 (list_of has.1) a.flags a.values has.3 a.fit false
 
   empty-rest : (b : Bool) (l : TypeLabel) → KidsSo Bare l (AreRest E s M b content_.Empty l)
@@ -317,7 +317,7 @@ module _ (M : List Assignment) (E : ℕ → Rose TypeLabel → Type 0) (depth : 
       let ends_as = λ (n m : Bool). items.with_nil (n && last) (with_texts m texts g) in
       let w = with_texts mixed texts g in
       let ev : inside M t v ≡ items.with_nil nil w =
-      inside-found M t whole v same ∙ ap (λ x. inside M whole x) a.is ∙ sequence-inside M depth marks has.0 has.1 a.flags a.values (not-textual has.0 nillable mixed) a.fit
+      inside-found M t whole v same ∙ ap (λ x. inside M whole x) a.is ∙ sequence-inside M depth marks has.0 has.1 a.flags a.values (not-textual has.0 nillable mixed) (order-mark nillable mixed) a.fit
       ∙ ap (λ n. ends_as n (has_embed_values marks)) (nil-mark nillable mixed) ∙ ap (λ m. ends_as nillable m) (embed-mark nillable mixed) in
       let counted : mixed ≡ true → first_count (value.Sequence a.flags) (list_of a.values) ≡ text_count nil (length (children M t v)) =
       λ m. texts-counted M depth marks has.0 has.1 a.flags a.values (subst (FitsAt M depth whole) a.is fits) (embed-mark nillable mixed ∙ m)

@@ -17,7 +17,7 @@ use Rattle.asn_types.specs.declared.types.TypeLabel.{TypeLabel}
 use Rattle.asn_types.specs.declared.types.Form.TheVariants as form
 use Rattle.asn_types.specs.Refs.{resolve}
 use Rattle.asn_types.specs.Simples.{MapsTo}
-use Rattle.asn_types.specs.Values.{FitsAt}
+use Rattle.asn_values.specs.Values.{FitsAt}
 use Rattle.schema_parts.specs.declared.components.ElementDecl.{ElementDecl}
 use Rattle.schema_parts.specs.declared.components.ComplexDef.{ComplexDef}
 use Rattle.schema_parts.specs.declared.components.Content.TheVariants as content_
@@ -37,7 +37,7 @@ use Rattle.map_laws.specs.Standing.{IsSimpleOf, HasNillable, HasComplex, HasCont
 use Rattle.map_laws.specs.Statements.{IsTypeAt}
 use Rattle.map_laws.proofs.Leading.{types-lead}
 use Rattle.map_laws.proofs.Roots.{roots-lead}
-use Rattle.xer_items.specs.Spelling.{spelling}
+use Rattle.asn_types.specs.Spaces.{spelling}
 use Rattle.asn_types.specs.Names.{name_told}
 use Rattle.xer_items.specs.Items.{Given, given, element_of, inside, root_of, Xer}
 use Rattle.xer_items.proofs.Holding.{fitting_holds}

@@ -14,7 +14,7 @@ use Rattle.plain_items.specs.Plain.{Plain, plain_all}
 use Rattle.plain_items.specs.Mixing.{text_before, interleaved}
 use Rattle.asn_types.specs.declared.modules.Assignment.{Assignment}
 use Rattle.asn_types.specs.declared.types.TypeLabel.{TypeLabel}
-use Rattle.asn_types.specs.Values.{FitsAt}
+use Rattle.asn_values.specs.Values.{FitsAt}
 use Rattle.schema_parts.specs.declared.components.ComplexDef.{ComplexDef}
 use Rattle.schema_parts.specs.declared.components.Content.{Content}
 use Rattle.schema_parts.specs.declared.components.Content.TheVariants as content_

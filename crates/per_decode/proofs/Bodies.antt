@@ -10,7 +10,7 @@ use Rattle.asn_types.specs.declared.types.Form.TheVariants as form
 use Rattle.asn_types.specs.declared.types.TypeLabel.{TypeLabel}
 use Rattle.asn_types.specs.Modules.{AreWellFormed}
 use Rattle.asn_types.specs.Refs.{resolve, IsOf}
-use Rattle.asn_types.specs.Values.{below, Own}
+use Rattle.asn_values.specs.Values.{Own}
 use Rattle.asn_types.proofs.Chaining.{well-formed, resolved-of-module}
 use Rattle.per_fields.specs.declared.stops.Spot.{Spot}
 use Rattle.per_fields.specs.declared.stops.Stop.{Stop}
@@ -26,7 +26,7 @@ use Rattle.per_decode.specs.declared.faults.Fault.TheVariants as fault
 use Rattle.per_decode.specs.Private.Giving.{Halt, stopped, halt_of, spot, end_of, FailsAt, Shows, Gives, input}
 use Rattle.per_decode.specs.Private.Bodies.{IsKnown, kid_at, fields_at, body_at, octets_kept, kept_by}
 use Rattle.per_decode.proofs.Ends.{SteadyReader, fails_first}
-use Rattle.per_decode.proofs.EndNodes.{sits-node, sits-content, sits-owned}
+use Rattle.per_decode.proofs.EndNodes.{sits-kid, sits-content, sits-owned}
 use Rattle.per_decode.proofs.Types.{of-tall}
 
 module _ (M : List Assignment) (known : IsKnown M) (t : Rose TypeLabel) (of : IsOf M t) where
@@ -100,7 +100,7 @@ module _ (aligned : Bool) (M : List Assignment) (known : IsKnown M) (depth : ℕ
 
   -- ITS FIELDS AND RULES
   sits-fields : SteadyReader (fields_at aligned M depth (resolve M t))
-  sits-fields X s h = sits-content (kid_at aligned M depth) (λ p. sits-node aligned M (below p.role depth) p.type) aligned (label_of (resolve M t)) (kids_of (resolve M t)) (label_of (resolve M t)).form X s h
+  sits-fields X s h = sits-content (kid_at aligned M depth) (sits-kid aligned M depth) aligned (label_of (resolve M t)) (kids_of (resolve M t)) (label_of (resolve M t)).form X s h
 
   module _ (begin : ℕ) (X : List Bool) (s : Spot) where
     pub fields_fail : (limit : ℕ) (whole : List ℕ) (e : Halt) (taken : ℕ) → s.at ≤ length X → FailsAt limit whole e taken (fields_at aligned M depth (resolve M t) X s) → FailsAt limit whole e taken (body_at aligned M depth begin (resolve M t) X s)

@@ -1,5 +1,5 @@
 -- Reading nodes goes on, and ends in the bits.
-use Rattle.std.proofs.Common.{◌≡◌, ℕ, zero, suc, ◌-◌, ◌≤◌, Bool, true, false, eqb, ltb, leb, List, length, arith, rules, Option, Some, None, Result, Ok, Err}
+use Rattle.std.proofs.Common.{◌≡◌, ℕ, zero, suc, ◌-◌, ◌≤◌, Bool, true, false, not, eqb, ltb, leb, List, length, arith, rules, Option, Some, None, Result, Ok, Err}
 use Rattle.std.specs.Prelude.{ℤ, replicate, slice_get}
 use Rattle.label_tree.specs.Rose.{Rose, label_of, kids_of}
 use Rattle.simple_types.specs.declared.labels.ValueLabel.{ValueLabel}
@@ -10,14 +10,16 @@ use Rattle.asn_types.specs.declared.types.Form.{Form}
 use Rattle.asn_types.specs.declared.types.Form.TheVariants as form
 use Rattle.asn_types.specs.declared.types.TypeLabel.{TypeLabel}
 use Rattle.asn_types.specs.Refs.{resolve}
-use Rattle.asn_types.specs.Values.{ComponentPlace, place_at, present_from, alone, below}
+use Rattle.asn_values.specs.Values.{ComponentPlace, place_at, present_from, alone, below}
 use Rattle.per_fields.specs.declared.stops.Spot.{Spot}
 use Rattle.per_fields.specs.declared.stops.Stop.{Stop}
 use Rattle.per_fields.specs.declared.stops.Why.TheVariants as why
 use Rattle.per_fields.specs.Reading.{◌>>=◌, Reader, stop_at, moved, bits_at, octets_at, each_at}
 use Rattle.per_fields.specs.Fields.{number_at, counted_at, list_at}
-use Rattle.per_fields.specs.Nodes.{bool_at, int_at, enum_at, text_at, flag_at, kids_at, sequence_at, choice_at, items_at, content_at, enter_by, entered_at, owned_at, node_at, node_read, last_by, last_at}
+use Rattle.per_fields.specs.Nodes.{bool_at, int_at, enum_at, text_at, flag_at, kids_at, sequence_at, choice_at, items_at, content_at, enter_by, entered_at, owned_at, unkept_why, kept_at, part_at, node_at, node_read, last_by, last_at}
 use Rattle.per_fields.specs.Levels.{levels_needed}
+use Rattle.per_fields.specs.Owning.{keeps}
+use Rattle.per_decode.specs.Private.Bodies.{kid_at}
 use Rattle.per_decode.proofs.Ends.{Sits, SteadyReader, sits_then, sits_if, sits_ok, sits_err, sits-bits, sits-align, sits-octets, sits-number, sits-whole, sits-counted, sits-list, sits-each}
 
 pub sits-bool : SteadyReader bool_at
@@ -85,6 +87,7 @@ module _ (kid : ComponentPlace → Reader (Rose ValueLabel)) (one : (p : Compone
   sits-content aligned l ts (form.Int least greatest) X s h = sits-int aligned least greatest X s h
   sits-content aligned l ts (form.Numbers numbers) X s h = sits-enum aligned (length numbers) X s h
   sits-content aligned l ts (form.Words identifiers words) X s h = sits-enum aligned (length words) X s h
+  sits-content aligned l ts (form.Order identifiers) X s h = sits-enum aligned (length identifiers) X s h
   sits-content aligned l ts (form.Utf8 least most class) X s h = sits-text aligned X s h
   sits-content aligned l ts (form.Sequence parts) X s h = sits-sequence l ts parts X s h
   sits-content aligned l ts (form.Choice parts) X s h = sits-choice aligned l ts parts X s h
@@ -101,21 +104,34 @@ module _ (M : List Assignment) where
   unfolding owned_at
   sits-owned begin t X v h = search (rules, sits_if, sits_ok, sits_err)
 
+  pub sits-kept : (part : Component) (t : Rose TypeLabel) (begin : ℕ) (X : List Bool) (v : Rose ValueLabel × Spot) → v.1.at ≤ length X → Sits X v.1.at (kept_at M part t begin v)
+  unfolding kept_at
+  sits-kept part t begin X v h =
+      sits_if X v.1.at (not (keeps M part t v.0)) (Err (stop_at begin (unkept_why M part t v.0) v.1.at)) (Ok v) (record { later = omega arith; inside = h }) (record { later = omega arith; inside = h })
+
+  -- a part, where its node does
+  pub sits-part : (p : ComponentPlace) (read : Reader (Rose ValueLabel)) → SteadyReader read → SteadyReader (part_at M p read)
+  sits-part p read one X s h = sits_then X s.at (read X s) (kept_at M p.part p.type s.at) (one X s h) (λ v i. sits-kept p.part p.type s.at X v i)
+
 module _ (aligned : Bool) (M : List Assignment) where
   pub sits-node_at : (levels depth : ℕ) (t : Rose TypeLabel) → SteadyReader (node_at aligned M levels depth t)
   unfolding node_at entered_at
   sits-node_at zero depth t X s h = stays X s why.TooDeep h
   sits-node_at (suc levels) depth t X s h =
       let u = resolve M t in
-      let kid : ComponentPlace → Reader (Rose ValueLabel) = λ p. node_at aligned M levels (below p.role depth) p.type in
+      let kid : ComponentPlace → Reader (Rose ValueLabel) = λ p. part_at M p (node_at aligned M levels (below p.role depth) p.type) in
       let r = moved s 0 1 in
       let at : r.at ≡ s.at = omega arith in
-      let i : Sits X r.at (content_at aligned kid (label_of u) (kids_of u) (label_of u).form X r) = sits-content kid (λ p. sits-node_at levels (below p.role depth) p.type) aligned (label_of u) (kids_of u) (label_of u).form X r (omega arith) in
+      let i : Sits X r.at (content_at aligned kid (label_of u) (kids_of u) (label_of u).form X r) = sits-content kid (λ p. sits-part M p (node_at aligned M levels (below p.role depth) p.type) (sits-node_at levels (below p.role depth) p.type)) aligned (label_of u) (kids_of u) (label_of u).form X r (omega arith) in
       let j = sits_then X r.at (content_at aligned kid (label_of u) (kids_of u) (label_of u).form X r) (λ v. owned_at M s.at u v) i (λ v k. sits-owned M s.at u X v k) in
       sits-enter_by (leb depth 64) (ltb s.nodes 1048576) X s (λ r. content_at aligned kid (label_of u) (kids_of u) (label_of u).form X r >>= λ v. owned_at M s.at u v) h (record { later = omega (arith, j.later, at); inside = j.inside })
 
   pub sits-node : (depth : ℕ) (t : Rose TypeLabel) → SteadyReader (node_read aligned M depth t)
   sits-node depth t X s h = sits-node_at (levels_needed M depth t) depth t X s h
+
+  -- a kid of a node
+  pub sits-kid : (depth : ℕ) (p : ComponentPlace) → SteadyReader (kid_at aligned M depth p)
+  sits-kid depth p = sits-part M p (node_read aligned M (below p.role depth) p.type) (sits-node (below p.role depth) p.type)
 
 pub sits-last : (X : List Bool) (s : Spot) → s.at ≤ length X → Sits X s.at (last_at X s)
 unfolding last_at

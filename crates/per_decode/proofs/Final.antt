@@ -11,7 +11,7 @@ use Rattle.label_tree.specs.Rose.{Rose, node_count}
 use Rattle.simple_types.specs.declared.labels.ValueLabel.{ValueLabel}
 use Rattle.asn_types.specs.declared.modules.Assignment.{Assignment}
 use Rattle.asn_types.specs.Refs.{body_at}
-use Rattle.asn_types.specs.Values.{FitsAt, In}
+use Rattle.asn_values.specs.Values.{FitsAt, In}
 use Rattle.asn_types.proofs.Inside.{body-well_formed}
 use Rattle.per_fields.specs.declared.stops.Spot.{Spot}
 use Rattle.per_fields.specs.declared.stops.Stop.{Stop}

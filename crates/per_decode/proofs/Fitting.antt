@@ -6,6 +6,7 @@ use Rattle.std.proofs.lemmas.List.Sums.{sum_by-cons}
 use Rattle.label_tree.specs.Rose.{Rose, node, Roses, none, more, list_of, roses_of, label_of, kids_of, length_all, node_count, count_all, Allowed, AllowedAll}
 use Rattle.simple_types.specs.declared.labels.ValueLabel.{ValueLabel}
 use Rattle.simple_types.specs.declared.labels.ValueLabel.TheVariants as value
+use Rattle.simple_types.specs.declared.standards.Standard.TheVariants.{Free}
 use Rattle.simple_types.specs.Labels.{MayHave, count_set, flag_count}
 use Rattle.simple_values.specs.Lexical.{is_128_bits, is_from, is_to, is_at_most}
 use Rattle.asn_types.specs.declared.modules.Assignment.{Assignment}
@@ -14,11 +15,12 @@ use Rattle.asn_types.specs.declared.types.Form.{Form}
 use Rattle.asn_types.specs.declared.types.Form.TheVariants as form
 use Rattle.asn_types.specs.declared.types.TypeLabel.{TypeLabel}
 use Rattle.asn_types.specs.Refs.{resolve}
-use Rattle.asn_types.specs.Values.{ComponentPlace, place_of, put_first, present_from, place_at, alone, repeated, none_if, places_in, places, below, FitsAt, FitEach, Own}
-use Rattle.asn_types.specs.Private.Placing.{FitPlaces, FitKids}
-use Rattle.asn_types.proofs.Counting.{fit_none, fits-from_kids}
+use Rattle.asn_values.specs.Values.{ComponentPlace, place_of, put_first, present_from, place_at, alone, repeated, none_if, places_in, places, below, FitsAt, FitEach, Own, Kept}
+use Rattle.asn_values.specs.Private.Placing.{FitPlaces, FitKids}
+use Rattle.asn_values.proofs.Counting.{fit_none, fits-from_kids}
 use Rattle.per_decode.specs.declared.faults.Fault.{Fault}
 use Rattle.per_decode.specs.Private.Bodies.{text_leaf, FitAll, FitSome}
+use Rattle.asn_values.proofs.Standards.{free-kept}
 
 pub list-roses : (vs : List (Rose ValueLabel)) → list_of (roses_of vs) ≡ vs
 list-roses [] = refl
@@ -35,7 +37,7 @@ length-count [] = omega arith
 length-count (node l us ∷ vs) = omega (arith, length-count vs)
 
 module _ (M : List Assignment) (depth : ℕ) where
-  pub each-push : (ps : List ComponentPlace) (p : ComponentPlace) (vs : List (Rose ValueLabel)) (v : Rose ValueLabel) → FitEach M depth ps (roses_of vs) → FitsAt M (below p.role depth) p.type v
+  pub each-push : (ps : List ComponentPlace) (p : ComponentPlace) (vs : List (Rose ValueLabel)) (v : Rose ValueLabel) → FitEach M depth ps (roses_of vs) → FitsAt M (below p.role depth) p.type v × Kept M p.part p.type v
       → FitEach M depth (ps ++ p ∷ []) (roses_of (vs ++ v ∷ []))
   unfolding FitEach
   each-push [] p [] v h k = (k, tt)
@@ -48,10 +50,10 @@ module _ (M : List Assignment) (depth : ℕ) where
   all-push t (w ∷ vs) v h k = (h.0, all-push t vs v h.1 k)
 
   -- values of the type of a place
-  pub all-each : (p : ComponentPlace) (vs : List (Rose ValueLabel)) → FitAll M (below p.role depth) p.type vs → FitEach M depth (replicate (length vs) p) (roses_of vs)
+  pub all-each : (p : ComponentPlace) → p.part.standard ≡ Free → (vs : List (Rose ValueLabel)) → FitAll M (below p.role depth) p.type vs → FitEach M depth (replicate (length vs) p) (roses_of vs)
   unfolding FitEach
-  all-each p [] h = tt
-  all-each p (v ∷ vs) h = (h.0, all-each p vs h.1)
+  all-each p free [] h = tt
+  all-each p free (v ∷ vs) h = ((h.0, free-kept M p.part p.type v free), all-each p free vs h.1)
 
   -- LEAVES
   module _ (t : Rose TypeLabel) where
@@ -71,6 +73,9 @@ module _ (M : List Assignment) (depth : ℕ) where
     pub fit-words : (identifiers words : List (List ℕ)) (i : ℕ) → (label_of t).form ≡ form.Words identifiers words → i < length words → FitKids M depth t (node (value.Enum i) none)
     fit-words identifiers words i e lt = by_places (value.Enum i) (ap (λ f. places_in (label_of t) (kids_of t) f (value.Enum i) 0) e ∙ ap none_if (lt-ltb i (length words) lt))
 
+    pub fit-order : (identifiers : List (List ℕ)) (i : ℕ) → (label_of t).form ≡ form.Order identifiers → i < length identifiers → FitKids M depth t (node (value.Enum i) none)
+    fit-order identifiers i e lt = by_places (value.Enum i) (ap (λ f. places_in (label_of t) (kids_of t) f (value.Enum i) 0) e ∙ ap none_if (lt-ltb i (length identifiers) lt))
+
     fit-text : (least : ℕ) (most : Option ℕ) (class : _) (text : List ℕ) → (label_of t).form ≡ form.Utf8 least most class → FitKids M depth t (node (value.Utf8 text) none)
     fit-text least most class text e = by_places (value.Utf8 text) (ap (λ f. places_in (label_of t) (kids_of t) f (value.Utf8 text) 0) e)
 
@@ -88,23 +93,23 @@ module _ (M : List Assignment) (depth : ℕ) where
         by (Some ps) is h = with_kids (value.Sequence present) ps vs (ap (λ f. places_in (label_of t) (kids_of t) f (value.Sequence present) (length vs)) e ∙ is) h
 
     pub fit-choice : (parts : List Component) (i : ℕ) (part : Component) (kid : Rose TypeLabel) (v : Rose ValueLabel) → (label_of t).form ≡ form.Choice parts
-        → slice_get parts i ≡ Some part → slice_get (kids_of t) i ≡ Some kid → FitsAt M (below (place_of (label_of t) i part kid).role depth) kid v → FitKids M depth t (node (value.Choice i) (roses_of (v ∷ [])))
-    fit-choice parts i part kid v e is_part is_kid h =
+        → slice_get parts i ≡ Some part → slice_get (kids_of t) i ≡ Some kid → part.standard ≡ Free → FitsAt M (below (place_of (label_of t) i part kid).role depth) kid v → FitKids M depth t (node (value.Choice i) (roses_of (v ∷ [])))
+    fit-choice parts i part kid v e is_part is_kid free h =
         let p = place_of (label_of t) i part kid in
         with_kids (value.Choice i) (p ∷ []) (v ∷ [])
         (ap (λ f. places_in (label_of t) (kids_of t) f (value.Choice i) 1) e ∙ ap (λ o. alone (place_at (label_of t) i o (slice_get (kids_of t) i))) is_part ∙ ap (λ o. alone (place_at (label_of t) i (Some part) o)) is_kid)
-        (each-push [] p [] v (fit_none M depth) h)
+        (each-push [] p [] v (fit_none M depth) (h, free-kept M part kid v free))
 
-    pub fit-list : (part : Component) (least : ℕ) (most : Option ℕ) (kid : Rose TypeLabel) (vs : List (Rose ValueLabel)) → (label_of t).form ≡ form.SequenceOf part least most → slice_get (kids_of t) 0 ≡ Some kid
+    pub fit-list : (part : Component) (least : ℕ) (most : Option ℕ) (kid : Rose TypeLabel) (vs : List (Rose ValueLabel)) → (label_of t).form ≡ form.SequenceOf part least most → slice_get (kids_of t) 0 ≡ Some kid → part.standard ≡ Free
         → least ≤ length vs → is_at_most (length vs) most ≡ true → FitAll M (below (place_of (label_of t) 0 part kid).role depth) kid vs → FitKids M depth t (node value.SequenceOf (roses_of vs))
-    fit-list part least most kid vs e is_kid low high h =
+    fit-list part least most kid vs e is_kid free low high h =
         let p = place_of (label_of t) 0 part kid in
         with_kids value.SequenceOf (replicate (length vs) p) vs
         (ap (λ f. places_in (label_of t) (kids_of t) f value.SequenceOf (length vs)) e
         ∙ ap (λ b. cond (b && is_at_most (length vs) most) (repeated (length vs) (place_at (label_of t) 0 (Some part) (slice_get (kids_of t) 0))) None) (le-leb least (length vs) low)
         ∙ ap (λ b. cond b (repeated (length vs) (place_at (label_of t) 0 (Some part) (slice_get (kids_of t) 0))) None) high
         ∙ ap (λ o. repeated (length vs) (place_at (label_of t) 0 (Some part) o)) is_kid)
-        (all-each p vs h)
+        (all-each p free vs h)
 
   -- A VALUE THAT KEEPS THE RULES OF ITS NODE, with the kids that it had
   pub own_fits : {A : Type 0} (t : Rose TypeLabel) (v w : Rose ValueLabel) (answer : Result A Fault) → depth ≤ 64 → FitKids M depth (resolve M t) v → IfOk answer (λ _. w ≡ v) → IfOk answer (λ _. Own M t v) → IfOk answer (λ _. FitsAt M depth t w)
@@ -157,6 +162,7 @@ may l ts form.Bool (value.Bool b) n ps e k = sym k ∙ ap length (sym (same_some
 may l ts (form.Int least greatest) (value.Int z) n ps e k = sym k ∙ none_if-count _ ps e
 may l ts (form.Numbers numbers) (value.Enum i) n ps e k = sym k ∙ none_if-count _ ps e
 may l ts (form.Words identifiers words) (value.Enum i) n ps e k = sym k ∙ none_if-count _ ps e
+may l ts (form.Order identifiers) (value.Enum i) n ps e k = sym k ∙ none_if-count _ ps e
 may l ts (form.Utf8 least most class) (value.Utf8 text) n ps e k = sym k ∙ ap length (sym (same_some [] ps e))
 may l ts (form.Sequence parts) (value.Sequence present) n ps e k = sym k ∙ present-count l 0 parts ts present ps e
 may l ts (form.Choice parts) (value.Choice i) n ps e k = sym k ∙ alone-count _ ps e
@@ -184,4 +190,4 @@ module _ (M : List Assignment) where
     each-allowed : (depth : ℕ) (ps : List ComponentPlace) (vs : Roses ValueLabel) → FitEach M depth ps vs → AllowedAll MayHave vs
     each-allowed depth ps none h = tt
     each-allowed depth [] (more v vs) h = absurd h
-    each-allowed depth (p ∷ ps) (more v vs) h = (fits-allowed (below p.role depth) p.type v h.0, each-allowed depth ps vs h.1)
+    each-allowed depth (p ∷ ps) (more v vs) h = (fits-allowed (below p.role depth) p.type v h.0.0, each-allowed depth ps vs h.1)

@@ -8,17 +8,19 @@ use Rattle.asn_types.specs.declared.modules.Assignment.{Assignment}
 use Rattle.asn_types.specs.declared.types.Component.{Component}
 use Rattle.asn_types.specs.declared.types.Form.TheVariants as form
 use Rattle.asn_types.specs.declared.types.TypeLabel.{TypeLabel}
-use Rattle.asn_types.specs.Values.{ComponentPlace, below, place_of, place_at, present_from, alone}
+use Rattle.asn_values.specs.Values.{ComponentPlace, below, place_of, place_at, present_from, alone}
 use Rattle.per_fields.specs.declared.stops.Spot.{Spot}
 use Rattle.per_fields.specs.declared.stops.Stop.{Stop}
 use Rattle.per_fields.specs.Reading.{◌>>=◌, Reader, each_at}
 use Rattle.per_fields.specs.Fields.{number_at, list_at}
-use Rattle.per_fields.specs.Nodes.{flag_at, bool_at, int_at, enum_at, sequence_at, choice_at, items_at, content_at, kids_at}
+use Rattle.simple_types.specs.declared.standards.Standard.TheVariants.{Free}
+use Rattle.per_fields.specs.Nodes.{node_read, flag_at, bool_at, int_at, enum_at, sequence_at, choice_at, items_at, content_at, kids_at}
 use Rattle.per_decode.specs.declared.faults.Fault.{Fault}
 use Rattle.per_decode.specs.Private.Giving.{Halt, memory, FailsAt, Shows}
 use Rattle.per_decode.specs.Private.Bodies.{kid_at, fields_at, kids_read, many_at, item_place}
 use Rattle.per_decode.proofs.Ends.{Sits, SteadyReader, sits-each, fails_first, sits-number}
-use Rattle.per_decode.proofs.EndNodes.{sits-node, sits-kids, sits-flags}
+use Rattle.per_decode.proofs.EndNodes.{sits-kid, sits-kids, sits-flags}
+use Rattle.per_decode.proofs.Free.{free-read}
 
 -- what a reading shows, another does that is equal to it
 pub shows_as : {A B : Type 0} (limit : ℕ) (whole : List ℕ) (view : A → B) (r : Result A Fault) (new : Spot) (stop : Stop) (taken : ℕ) (found other : Result (B × Spot) Stop) → other ≡ found → Shows limit whole view r new stop taken found → Shows limit whole view r new stop taken other
@@ -41,6 +43,10 @@ module _ (aligned : Bool) (M : List Assignment) (depth : ℕ) (t : Rose TypeLabe
   unfolding content_at
   fields-words identifiers words e = rw e refl
 
+  pub fields-order : (identifiers : List (List ℕ)) → (label_of t).form ≡ form.Order identifiers → fields_at aligned M depth t X s ≡ enum_at aligned (length identifiers) X s
+  unfolding content_at
+  fields-order identifiers e = rw e refl
+
   pub fields-sequence : (parts : List Component) → (label_of t).form ≡ form.Sequence parts → fields_at aligned M depth t X s ≡ sequence_at (kid_at aligned M depth) (label_of t) (kids_of t) parts X s
   unfolding content_at
   fields-sequence parts e = rw e refl
@@ -55,7 +61,7 @@ module _ (aligned : Bool) (M : List Assignment) (depth : ℕ) (t : Rose TypeLabe
 
 module _ (aligned : Bool) (M : List Assignment) (depth : ℕ) where
   steady-kid : (p : ComponentPlace) → SteadyReader (kid_at aligned M depth p)
-  steady-kid p = sits-node aligned M (below p.role depth) p.type
+  steady-kid p = sits-kid aligned M depth p
 
   -- kids and their label
   abbrev put_kids : ValueLabel → List (Rose ValueLabel) × Spot → Result (Rose ValueLabel × Spot) Stop
@@ -134,11 +140,13 @@ module _ (aligned : Bool) (M : List Assignment) (depth : ℕ) where
       alternative_full limit whole taken inside step = alternative_fails limit whole memory taken inside (omega (arith, (steady-kid (place_of l i part kid) X r inside).later, step))
 
   -- THE ITEMS OF A SEQUENCE OF: one place again and again is one type again and again
-  module _ (p : ComponentPlace) where
+  module _ (p : ComponentPlace) (free : p.part.standard ≡ Free) where
     many_same : (n : ℕ) (X : List Bool) (s : Spot) → each_at (kid_at aligned M depth) (replicate n p) X s ≡ many_at aligned M (below p.role depth) n p.type X s
     unfolding each_at
     many_same zero X s = refl
-    many_same (suc n) X s = ap (λ k. kid_at aligned M depth p X s >>= k) (λ i b. many_same n X b.1 i >>= λ bs. Ok (b.0 ∷ bs.0, bs.1))
+    many_same (suc n) X s =
+        ap (λ k. k >>= λ b. each_at (kid_at aligned M depth) (replicate n p) X b.1 >>= λ bs. Ok (b.0 ∷ bs.0, bs.1)) (free-read aligned M (below p.role depth) p.part p.type free X s)
+        ∙ ap (λ k. node_read aligned M (below p.role depth) p.type X s >>= k) (λ i b. many_same n X b.1 i >>= λ bs. Ok (b.0 ∷ bs.0, bs.1))
 
     abbrev same_place : ℕ → Reader (List (Rose ValueLabel))
     same_place n X s = each_at (kid_at aligned M depth) (replicate n p) X s

@@ -3,6 +3,8 @@ pub mod Octets
 pub mod Ends
 pub mod EndNodes
 pub mod Types
+pub mod Free
+pub mod Keeping
 pub mod Fitting
 pub mod Loop
 pub mod Turns

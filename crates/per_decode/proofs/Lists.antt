@@ -5,9 +5,10 @@ use Rattle.std.proofs.lemmas.Bool.{lt-ltb, le-ltb}
 use Rattle.label_tree.specs.Rose.{Rose, node, roses_of}
 use Rattle.simple_types.specs.declared.labels.ValueLabel.{ValueLabel}
 use Rattle.simple_types.specs.declared.labels.ValueLabel.TheVariants as value
+use Rattle.simple_types.specs.declared.standards.Standard.TheVariants.{Free}
 use Rattle.asn_types.specs.declared.modules.Assignment.{Assignment}
 use Rattle.asn_types.specs.declared.types.TypeLabel.{TypeLabel}
-use Rattle.asn_types.specs.Values.{ComponentPlace, below}
+use Rattle.asn_values.specs.Values.{ComponentPlace, below}
 use Rattle.per_fields.specs.declared.stops.Spot.{Spot}
 use Rattle.per_fields.specs.declared.stops.Stop.{Stop}
 use Rattle.per_fields.specs.Reading.{◌>>=◌}
@@ -52,14 +53,14 @@ module _ (aligned : Bool) (M : List Assignment) (depth : ℕ) (t : Rose TypeLabe
       count_told n r small e = list-small small ∙ ap (λ c. c >>= λ n. many_at aligned M depth (least + n.0) t X n.1) e ∙ front_none (many_at aligned M depth (least + n) t X r)
 
 -- a SEQUENCE OF, by its items
-module _ (aligned : Bool) (M : List Assignment) (depth : ℕ) (p : ComponentPlace) (least : ℕ) (most : Option ℕ) (X : List Bool) (s : Spot) where
+module _ (aligned : Bool) (M : List Assignment) (depth : ℕ) (p : ComponentPlace) (free : p.part.standard ≡ Free) (least : ℕ) (most : Option ℕ) (X : List Bool) (s : Spot) where
   abbrev listed : Result (List (Rose ValueLabel) × Spot) Stop
   listed = list_at aligned least most (λ n. many_at aligned M (below p.role depth) n p.type) X s
 
   pub list_fails : (limit : ℕ) (whole : List ℕ) (e : Halt) (taken : ℕ) → s.at ≤ length X → FailsAt limit whole e taken (list_at aligned least most (λ n. many_at aligned M (below p.role depth) n p.type) X s)
       → FailsAt limit whole e taken (items_at aligned (kid_at aligned M depth) least most (Some p) X s)
   list_fails limit whole e taken inside h =
-      subst (FailsAt limit whole e taken) (sym (items_are aligned M depth p least most X s))
+      subst (FailsAt limit whole e taken) (sym (items_are aligned M depth p free least most X s))
       (fails_first limit whole e taken X listed (λ vs. Ok (node value.SequenceOf (roses_of vs.0), vs.1))
       (sits-list aligned least most (λ n. many_at aligned M (below p.role depth) n p.type) (steady-items aligned M (below p.role depth) p.type) X s inside).inside (λ vs i. record { later = omega arith; inside = i }) h)
 
@@ -71,4 +72,4 @@ module _ (aligned : Bool) (M : List Assignment) (depth : ℕ) (p : ComponentPlac
 
   pub list_reads : (vs : List (Rose ValueLabel)) (q : Spot) → list_at aligned least most (λ n. many_at aligned M (below p.role depth) n p.type) X s ≡ Ok (vs, q)
       → items_at aligned (kid_at aligned M depth) least most (Some p) X s ≡ Ok (node value.SequenceOf (roses_of vs), q)
-  list_reads vs q e = items_are aligned M depth p least most X s ∙ ap (λ r. r >>= λ vs. Ok (node value.SequenceOf (roses_of vs.0), vs.1)) e
+  list_reads vs q e = items_are aligned M depth p free least most X s ∙ ap (λ r. r >>= λ vs. Ok (node value.SequenceOf (roses_of vs.0), vs.1)) e

@@ -6,8 +6,8 @@ use Rattle.simple_types.specs.declared.labels.ValueLabel.{ValueLabel}
 use Rattle.asn_types.specs.declared.modules.Assignment.{Assignment}
 use Rattle.asn_types.specs.declared.types.Component.{Component}
 use Rattle.asn_types.specs.declared.types.TypeLabel.{TypeLabel}
-use Rattle.asn_types.specs.Values.{ComponentPlace, place_of, put_first, present_from, below, FitsAt, FitEach}
-use Rattle.asn_types.proofs.Counting.{fit_none}
+use Rattle.asn_values.specs.Values.{ComponentPlace, place_of, put_first, present_from, below, FitsAt, FitEach, Kept}
+use Rattle.asn_values.proofs.Counting.{fit_none}
 use Rattle.per_fields.specs.declared.stops.Spot.{Spot}
 use Rattle.per_fields.specs.declared.stops.Stop.{Stop}
 use Rattle.per_fields.specs.Reading.{◌>>=◌, Reader, each_at}
@@ -107,7 +107,7 @@ module _ (aligned : Bool) (M : List Assignment) (depth : ℕ) (l : TypeLabel) (p
         by None is e = absurd cc
         by (Some qs) is e = let same : place_of l i part kid ∷ qs ≡ h.ps = cc in (qs, sym same, is)
 
-    pub through_more : drop i flags ≡ true ∷ drop (i + 1) flags → (v : Rose ValueLabel) (r : Spot) → FitsAt M (below (place_of l i part kid).role depth) kid v
+    pub through_more : drop i flags ≡ true ∷ drop (i + 1) flags → (v : Rose ValueLabel) (r : Spot) → FitsAt M (below (place_of l i part kid).role depth) kid v × Kept M part kid v
         → (told → kid_at aligned M depth (place_of l i part kid) X s ≡ Ok (v, r)) → Through i vs s → Through (i + 1) (vs ++ v ∷ []) r
     through_more is_flag v r fits gives h =
         let n = next_place is_flag h in

@@ -14,13 +14,13 @@ use Rattle.asn_types.specs.declared.types.TypeLabel.{TypeLabel}
 use Rattle.asn_types.specs.Parts.{parts_of}
 use Rattle.asn_types.specs.Refs.{resolve, IsOf}
 use Rattle.asn_types.specs.Roles.{role_of}
-use Rattle.asn_types.specs.Values.{ComponentPlace, none_if, places_in, places, below, FitsAt, FitEach}
-use Rattle.asn_types.specs.Private.Placing.{FitPlaces}
+use Rattle.asn_values.specs.Values.{ComponentPlace, none_if, places_in, places, below, FitsAt, FitEach}
+use Rattle.asn_values.specs.Private.Placing.{FitPlaces}
 use Rattle.per_fields.specs.declared.stops.Spot.{Spot}
 use Rattle.per_fields.specs.Levels.{levels_needed}
 use Rattle.per_fields.specs.Reading.{◌>>=◌, moved}
-use Rattle.per_fields.specs.Nodes.{content_at, enter_by, owned_at, node_read}
-use Rattle.per_decode.specs.Private.Bodies.{IsKnown, HasFields, is_leaf, kid_at, fields_at, body_at}
+use Rattle.per_fields.specs.Nodes.{content_at, enter_by, owned_at, kept_at, node_read}
+use Rattle.per_decode.specs.Private.Bodies.{IsKnown, HasFields, is_leaf, part_read, kid_at, fields_at, body_at}
 use Rattle.per_decode.proofs.Bodies.{node-shallow}
 use Rattle.per_decode.proofs.Parts.{if_some, Kid, kid_here}
 use Rattle.per_decode.proofs.Types.{resolved-levels}
@@ -57,6 +57,7 @@ leaf-fields aligned M a b u X s leaf = by (label_of u).form leaf
     by (form.Int least greatest) e = refl
     by (form.Numbers numbers) e = refl
     by (form.Words identifiers words) e = refl
+    by (form.Order identifiers) e = refl
     by (form.Utf8 least most class) e = refl
     by (form.Sequence parts) e = absurd cc
     by (form.Choice parts) e = absurd cc
@@ -86,6 +87,7 @@ leaf-places l ts form.Bool (value.Bool b) n ps leaf e = sym (same_some [] ps e)
 leaf-places l ts (form.Int least greatest) (value.Int z) n ps leaf e = none_if-none _ ps e
 leaf-places l ts (form.Numbers numbers) (value.Enum i) n ps leaf e = none_if-none _ ps e
 leaf-places l ts (form.Words identifiers words) (value.Enum i) n ps leaf e = none_if-none _ ps e
+leaf-places l ts (form.Order identifiers) (value.Enum i) n ps leaf e = none_if-none _ ps e
 leaf-places l ts (form.Utf8 least most class) (value.Utf8 text) n ps leaf e = sym (same_some [] ps e)
 leaf-places l ts (form.Sequence parts) v n ps leaf e = absurd cc
 leaf-places l ts (form.Choice parts) v n ps leaf e = absurd cc
@@ -118,7 +120,7 @@ module _ (M : List Assignment) (known : IsKnown M) (u : Rose TypeLabel) (of : Is
   pub record Inner (depth i inner : ℕ) (part : Component) (kid : Rose TypeLabel) : Type 0 where
     pub of_module : IsOf M kid
     pub fewer : needs M inner (resolve M kid) < levels_needed M depth u
-    pub read : (aligned : Bool) (X : List Bool) (s : Spot) → node_read aligned M inner kid X s ≡ node_read aligned M (below (role_of (label_of u) i part) depth) kid X s
+    pub read : (aligned : Bool) (X : List Bool) (s : Spot) → part_read aligned M inner part kid X s ≡ part_read aligned M (below (role_of (label_of u) i part) depth) part kid X s
     pub fits : (v : Rose ValueLabel) → FitsAt M inner kid v → FitsAt M (below (role_of (label_of u) i part) depth) kid v
 
   pub inner_here : (depth i inner : ℕ) (part : Component) (kid found : Rose TypeLabel) → HasFields (label_of u).form → depth ≤ 64 → slice_get (parts_of (label_of u).form) i ≡ Some part → slice_get (kids_of u) i ≡ Some kid → found ≡ resolve M kid
@@ -140,7 +142,7 @@ module _ (M : List Assignment) (known : IsKnown M) (u : Rose TypeLabel) (of : Is
           record {
             of_module = k.of_module;
             fewer = omega (arith, needs-leaf M inner (resolve M kid) leaf, k.fewer);
-            read = λ aligned X s. leaf-read aligned M known inner (below role depth) kid k.of_module X s (omega (arith, h.2, deep)) low leaf;
+            read = λ aligned X s. ap (λ r. r >>= kept_at M part kid s.at) (leaf-read aligned M known inner (below role depth) kid k.of_module X s (omega (arith, h.2, deep)) low leaf);
             fits = λ v f. leaf-fits M inner (below role depth) kid v low leaf f;
           }
       by (inr h) =
@@ -148,6 +150,6 @@ module _ (M : List Assignment) (known : IsKnown M) (u : Rose TypeLabel) (of : Is
           record {
             of_module = k.of_module;
             fewer = omega (arith, needs-resolved M known inner kid k.of_module, k.fewer, ap (λ n. levels_needed M n kid) e);
-            read = λ aligned X s. ap (λ n. node_read aligned M n kid X s) e;
+            read = λ aligned X s. ap (λ n. part_read aligned M n part kid X s) e;
             fits = λ v f. subst (λ n. FitsAt M n kid v) e f;
           }

@@ -3,6 +3,7 @@ use Rattle.std.proofs.Common.{Bool, false, get_or, ◌-◌, ◌≡◌, ℕ, zero
 use Rattle.std.specs.Prelude.{slice_get, replicate, IfSome, ℤ}
 use Rattle.std.proofs.lemmas.List.{drop_more}
 use Rattle.label_tree.specs.Rose.{Rose, node, label_of, kids_of}
+use Rattle.simple_types.specs.declared.standards.Standard.TheVariants.{Free}
 use Rattle.simple_types.specs.Sound.{IsCounted, AreBounds, AreSizes}
 use Rattle.asn_types.specs.declared.modules.Assignment.{Assignment}
 use Rattle.asn_types.specs.declared.roles.Role.{Role}
@@ -14,9 +15,10 @@ use Rattle.asn_types.specs.Modules.{IsForm}
 use Rattle.asn_types.specs.Parts.{parts_of}
 use Rattle.asn_types.specs.Refs.{IsOf}
 use Rattle.asn_types.specs.Roles.{role_of}
-use Rattle.asn_types.specs.Values.{below}
+use Rattle.asn_values.specs.Values.{below}
 use Rattle.asn_types.proofs.Chaining.{well-formed, have-parts, parts-of-module}
 use Rattle.asn_types.proofs.Inside.{form-well_formed}
+use Rattle.asn_values.proofs.Standards.{choice-free, item-free}
 use Rattle.per_fields.specs.Levels.{levels_needed}
 use Rattle.per_decode.specs.Private.Bodies.{IsKnown, HasFields}
 use Rattle.per_decode.proofs.Types.{kid-fewer}
@@ -48,6 +50,12 @@ copies-none n i x le = let e : n - i ≡ 0 = omega arith in ap (λ k. replicate 
 pub if_some : {A : Type 0} (P : A → Type 0) (o : Option A) (x : A) → o ≡ Some x → IfSome o P → P x
 if_some P o x e h = subst (λ o. IfSome o P) e h
 
+-- an element that a slice has at an index
+pub got_here : {A : Type 0} (xs : List A) (i : ℕ) (x : A) → i < length xs → x ≡ get_or xs i x → slice_get xs i ≡ Some x
+got_here [] i x lt is = absurd (omega arith)
+got_here (y ∷ xs) zero x lt is = ap Some (sym is)
+got_here (y ∷ xs) (suc i) x lt is = got_here xs i x (omega arith) is
+
 module _ (M : List Assignment) (known : IsKnown M) (u : Rose TypeLabel) (of : IsOf M u) where
   pub kids-parts : length (kids_of u) ≡ length (parts_of (label_of u).form)
   kids-parts = have-parts M u known.0 of
@@ -75,6 +83,17 @@ module _ (M : List Assignment) (known : IsKnown M) (u : Rose TypeLabel) (of : Is
 
   pub sizes_ordered : (part : Component) (least : ℕ) (most : Option ℕ) → (label_of u).form ≡ form.SequenceOf part least most → AreSizes least most
   sizes_ordered part least most e = subst as_form e its_form
+
+  pub order_counted : (identifiers : List (List ℕ)) → (label_of u).form ≡ form.Order identifiers → IsCounted (length identifiers)
+  order_counted identifiers e = subst as_form e its_form
+
+  -- an alternative has no default or fixed value
+  pub choice_free : (parts : List Component) (i : ℕ) (part : Component) → (label_of u).form ≡ form.Choice parts → slice_get parts i ≡ Some part → part.standard ≡ Free
+  choice_free parts i part e is = choice-free M u parts i part (well-formed M u known.0 of) e is
+
+  -- and an item neither
+  pub item_free : (part : Component) (least : ℕ) (most : Option ℕ) → (label_of u).form ≡ form.SequenceOf part least most → part.standard ≡ Free
+  item_free part least most e = item-free M u part least most (well-formed M u known.0 of) e
 
   -- the part with number i, where it has its type
   pub part_there : (i : ℕ) (kid : Rose TypeLabel) → slice_get (kids_of u) i ≡ Some kid → (part : Component) × (slice_get (parts_of (label_of u).form) i ≡ Some part)

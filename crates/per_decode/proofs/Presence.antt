@@ -5,7 +5,7 @@ use Rattle.std.proofs.lemmas.List.{take_more, take_all}
 use Rattle.label_tree.specs.Rose.{Rose}
 use Rattle.asn_types.specs.declared.types.Component.{Component}
 use Rattle.asn_types.specs.declared.types.TypeLabel.{TypeLabel}
-use Rattle.asn_types.specs.Values.{ComponentPlace, place_of, put_first, present_from}
+use Rattle.asn_values.specs.Values.{ComponentPlace, place_of, put_first, present_from}
 use Rattle.per_fields.specs.Laws.{Present}
 
 -- one that is not optional is there

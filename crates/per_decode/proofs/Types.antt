@@ -10,7 +10,7 @@ use Rattle.asn_types.specs.declared.types.TypeLabel.{TypeLabel}
 use Rattle.asn_types.specs.Parts.{parts_of}
 use Rattle.asn_types.specs.Refs.{target, body_at, resolve, StandsIn, StandsInSome, IsOf}
 use Rattle.asn_types.specs.Roles.{role_of}
-use Rattle.asn_types.specs.Values.{below, place_at}
+use Rattle.asn_values.specs.Values.{below, place_at}
 use Rattle.asn_types.proofs.Chaining.{well-formed, has-four, no-reference}
 use Rattle.asn_types.proofs.Following.{follow-stops}
 use Rattle.per_fields.specs.Levels.{tallest, levels_needed}
@@ -39,6 +39,7 @@ fields-no_target form.Bool h = refl
 fields-no_target (form.Int least greatest) h = refl
 fields-no_target (form.Numbers numbers) h = refl
 fields-no_target (form.Words identifiers words) h = refl
+fields-no_target (form.Order identifiers) h = refl
 fields-no_target (form.Utf8 least most class) h = absurd h
 fields-no_target (form.Sequence parts) h = refl
 fields-no_target (form.Choice parts) h = refl
@@ -58,6 +59,7 @@ module _ (M : List Assignment) where
       by (form.Int least greatest) e k = tt
       by (form.Numbers numbers) e k = tt
       by (form.Words identifiers words) e k = tt
+      by (form.Order identifiers) e k = tt
       by (form.Utf8 least most class) e k = k least most class refl
       by (form.Sequence parts) e k = tt
       by (form.Choice parts) e k = tt

@@ -4,7 +4,7 @@ use Rattle.label_tree.specs.Rose.{Rose}
 use Rattle.bit_cursor.specs.Bits.{octet_bits}
 use Rattle.simple_types.specs.declared.labels.ValueLabel.{ValueLabel}
 use Rattle.asn_types.specs.declared.modules.Assignment.{Assignment}
-use Rattle.asn_types.specs.Values.{In}
+use Rattle.asn_values.specs.Values.{In}
 use Rattle.per_fields.specs.declared.stops.Stop.{Stop}
 use Rattle.per_fields.specs.declared.stops.Why.{Why}
 use Rattle.per_fields.specs.declared.stops.Why.TheVariants.{Short}

@@ -4,7 +4,7 @@ ghost use Rattle.bit_cursor.specs.Cursors.{IsInStep};
 ghost use Rattle.xa_base.specs.Faults.{Counts, HasRisen};
 ghost use Rattle.label_tree.specs.Rose.{node_count};
 ghost use Rattle.asn_types.specs.Refs.{IsOf};
-ghost use Rattle.asn_types.specs.Values.{FitsAt, In};
+ghost use Rattle.asn_values.specs.Values.{FitsAt, In};
 ghost use Rattle.per_fields.specs.Nodes.{last_at};
 ghost use Rattle.per_decode.specs.Answers.{Answers, AnswersBy};
 ghost use Rattle.per_decode.specs.Private.Standing.{GoesOn};

@@ -10,12 +10,14 @@ ghost use Rattle.asn_types.specs.declared.types.Form.TheVariants as form;
 ghost use Rattle.asn_types.specs.Parts.{parts_of};
 ghost use Rattle.asn_types.specs.Refs.{IsOf, resolve};
 ghost use Rattle.asn_types.specs.Roles.{role_of};
-ghost use Rattle.asn_types.specs.Values.{FitsAt, Own, OwnAt, present_from};
-ghost use Rattle.asn_types.specs.Private.Placing.{FitKids};
+ghost use Rattle.asn_values.specs.Values.{FitsAt, Kept, Own, OwnAt, present_from};
+ghost use Rattle.asn_values.specs.Private.Placing.{FitKids};
 ghost use Rattle.per_fields.specs.Laws.{Present};
 ghost use Rattle.per_fields.specs.Fields.{counted_at, list_at};
 ghost use Rattle.simple_types.specs.Sound.{AreSizes};
 ghost use Rattle.simple_values.specs.Lexical.{is_at_most};
+ghost use Rattle.per_fields.specs.Nodes as nodes;
+ghost use Rattle.per_fields.specs.Owning as owning;
 ghost use Rattle.per_fields.specs.Nodes.{sequence_at, choice_at, items_at, is_no_text, node_read};
 ghost use Rattle.per_decode.specs.Private.Standing.{GoesOn};
 ghost use Rattle.per_decode.specs.Private.Giving.{Gives, spot};
@@ -27,13 +29,14 @@ use crate::leaves::{boolean, enumerated, integer, presence};
 use crate::lengths::{MOST_UNITS, Piece, UNIT};
 use crate::run::{Origin, Run};
 use crate::texts::text;
-use asn_types::{Component, Form, Module, Role, TypeLabel, own, resolve, role};
-use flat_tree::{Builder, Flat};
+use asn_types::{Component, Form, Module, Role, TypeLabel, resolve, role};
+use asn_values::{kept, own, spelling};
+use flat_tree::{Builder, Flat, Node};
 use label_tree::Tree;
 use per_fields::{Stop, Variant, Why};
-use simple_types::{Flags, ValueLabel};
+use simple_types::{Flags, Standard, ValueLabel};
 use std::alloc::Global;
-use xa_base::Source;
+use xa_base::{Memory, Source};
 
 /// How many elements may stand in one another.
 const MOST_DEEP: u32 = 64;
@@ -63,6 +66,7 @@ fn is_leaf(found: &Tree<TypeLabel>) -> bool
         | Form::Int { .. }
         | Form::Numbers { .. }
         | Form::Words { .. }
+        | Form::Order { .. }
         | Form::Utf8 { .. } => true,
         Form::Sequence { .. } | Form::Choice { .. } | Form::SequenceOf { .. } | Form::Ref { .. } =>
             false,
@@ -87,7 +91,7 @@ fn part_depth(node: &Tree<TypeLabel>, part: u32, found: &Tree<TypeLabel>, depth:
 }
 
 // Whether every value of a type, which is no reference, keeps the rules of its first node. LIST stands on a SEQUENCE OF
-// alone, USE-UNION on a CHOICE and EMBED-VALUES on a SEQUENCE.
+// alone, USE-UNION on a CHOICE, EMBED-VALUES and USE-ORDER on a SEQUENCE.
 #[inline(always)]
 fn has_no_rules(module: &Module, found: &Tree<TypeLabel>) -> bool
     requires { AreWellFormed module.now found.now }
@@ -97,7 +101,7 @@ fn has_no_rules(module: &Module, found: &Tree<TypeLabel>) -> bool
     let label = found.label();
     match &label.form {
         Form::Utf8 { .. } => false,
-        Form::Sequence { .. } => !label.marks.has_embed_values(),
+        Form::Sequence { .. } => !label.marks.has_embed_values() && !label.marks.has_use_order(),
         Form::Choice { .. } => !label.marks.has_use_union(),
         Form::SequenceOf { .. } => !label.marks.has_list(),
         _ => true,
@@ -127,6 +131,76 @@ fn owned(
         Ok(())
     } else {
         Err(stopped(stop, begin, Why::NotAValue, end))
+    }
+}
+
+// Whether a value has the spelling of the default or fixed value of its part.
+fn is_standard(
+    alloc: Global,
+    module: &Module,
+    part: &Component,
+    kid: &Tree<TypeLabel>,
+    value: &Node<'_, ValueLabel>,
+) -> Result<bool, Memory>
+    requires known { bodies.IsKnown module.now }
+    requires of { IsOf module.now kid.now }
+    ensures { IfOk result (λ b. b ≡ owning.is_standard module.now part.now kid.now value.now) }
+{
+    let text = match &part.standard {
+        Standard::Free => return Ok(false),
+        Standard::Default(text) => text,
+        Standard::Fixed(text) => text,
+    };
+    let spelled = spelling(alloc, resolve(module, kid), value)?;
+    Ok(spelled == *text)
+}
+
+// Why a part isn't kept.
+fn unkept_why(
+    alloc: Global,
+    module: &Module,
+    part: &Component,
+    kid: &Tree<TypeLabel>,
+    value: &Node<'_, ValueLabel>,
+) -> Result<Why, Memory>
+    requires known { bodies.IsKnown module.now }
+    requires of { IsOf module.now kid.now }
+    ensures { IfOk result (λ why. why ≡ nodes.unkept_why module.now part.now kid.now value.now) }
+{
+    if part.optional {
+        if is_standard(alloc, module, part, kid, value)? {
+            return Ok(Why::DefaultWritten);
+        }
+    }
+    Ok(Why::NotAValue)
+}
+
+// Puts the value of a part, which was read from a bit to another, behind others, where it keeps what the part's default or
+// fixed value says.
+#[inline(always)]
+fn unless_standard(
+    alloc: Global,
+    module: &Module,
+    part: &Component,
+    kid: &Tree<TypeLabel>,
+    value: Flat<ValueLabel>,
+    begin: u64,
+    end: u64,
+    stop: &mut Stop,
+    values: &mut Builder<ValueLabel>,
+) -> Result<(), Fault>
+    requires known { bodies.IsKnown module.now }
+    requires of { IsOf module.now kid.now }
+    ensures pushed { OnOk result (values.new ≡ added value values.old) }
+    ensures ok { OnOk result (Kept module.now part.now kid.now value) }
+    ensures err { IfErr result (λ fault. (fault ≡ Fault.Memory) ⊎ ((fault ≡ Fault.Stopped) × (stop.new ≡ record { bit = begin; why = nodes.unkept_why module.now part.now kid.now value; end = end }) × (Kept module.now part.now kid.now value → ⊥))) }
+{
+    if kept(alloc, module, part, kid, &value.root())? {
+        values.append(value.into_trees())?;
+        Ok(())
+    } else {
+        let why = unkept_why(alloc, module, part, kid, &value.root())?;
+        Err(stopped(stop, begin, why, end))
     }
 }
 
@@ -277,6 +351,7 @@ fn fields<S: Source, K: Origin, V: Variant>(
         Form::Int { lo, hi } => integer(run, *lo, *hi, values),
         Form::Numbers { numbers } => enumerated(run, numbers.items().len(), values),
         Form::Words { words, .. } => enumerated(run, words.items().len(), values),
+        Form::Order { identifiers } => enumerated(run, identifiers.items().len(), values),
         Form::Sequence { parts } => sequence(
             alloc,
             module,
@@ -379,9 +454,91 @@ fn components<S: Source, K: Origin, V: Variant>(
         let kid = found.kid(i);
         let to = resolve(module, kid);
         let inner = part_depth(found, i as u32, to, depth);
-        node(alloc, module, run, inner, kid, to, values)?;
+        let part = &parts[i];
+        component(alloc, module, run, inner, part, kid, to, values)?;
     }
     Ok(())
+}
+
+// A component that is present, put behind others: a node, and then its default or fixed value.
+#[inline(always)]
+#[cycle(nodes)]
+fn component<S: Source, K: Origin, V: Variant>(
+    alloc: Global,
+    module: &Module,
+    run: &mut Run<S, K, V>,
+    depth: u32,
+    part: &Component,
+    kid: &Tree<TypeLabel>,
+    found: &Tree<TypeLabel>,
+    values: &mut Builder<ValueLabel>,
+) -> Result<(), Fault>
+    requires depth { depth ≤ 65 }
+    requires known { bodies.IsKnown module.now }
+    requires of { IsOf module.now kid.now }
+    requires found { found.now ≡ resolve module.now kid.now }
+    requires in_step { IsInStep run.old.bits.position run.old.bits.taken }
+    ensures same_reference { run.new.bits.source.ghost_name ≡ run.old.bits.source.ghost_name }
+    ensures on { OnOk result (GoesOn run.old.bits.position run.new.bits.position run.new.bits.taken) }
+    ensures pushed { OnOk result (values.new ≡ added (newest values.new.kids) values.old) }
+    ensures count { OnOk result (run.new.nodes ≡ run.old.nodes + node_count (newest values.new.kids)) }
+    ensures fits { OnOk result (FitsAt module.now depth kid.now (newest values.new.kids)) }
+    ensures kept { OnOk result (Kept module.now part.now kid.now (newest values.new.kids)) }
+    ensures gives { IsTrue K.told → Gives K.limit K.whole (λ _. newest values.new.kids) result (spot run.new.bits.position run.new.nodes) run.new.stop run.new.bits.taken
+        (bodies.part_read V.ALIGNED module.now depth part.now kid.now) (spot run.old.bits.position run.old.nodes) }
+    ensures failed { IsErrOf result Fault.Failed → HasRisen K.faults (S.faults run.new.bits.source.now) }
+{
+    match &part.standard {
+        Standard::Free => node(alloc, module, run, depth, kid, found, values),
+        Standard::Default(_) | Standard::Fixed(_) => {
+            standard(alloc, module, run, depth, part, kid, found, values)
+        }
+    }
+}
+
+// The same of one that has a default or fixed value, which is rare.
+#[inline(never)]
+#[cycle(nodes)]
+fn standard<S: Source, K: Origin, V: Variant>(
+    alloc: Global,
+    module: &Module,
+    run: &mut Run<S, K, V>,
+    depth: u32,
+    part: &Component,
+    kid: &Tree<TypeLabel>,
+    found: &Tree<TypeLabel>,
+    values: &mut Builder<ValueLabel>,
+) -> Result<(), Fault>
+    requires depth { depth ≤ 65 }
+    requires known { bodies.IsKnown module.now }
+    requires of { IsOf module.now kid.now }
+    requires found { found.now ≡ resolve module.now kid.now }
+    requires in_step { IsInStep run.old.bits.position run.old.bits.taken }
+    ensures same_reference { run.new.bits.source.ghost_name ≡ run.old.bits.source.ghost_name }
+    ensures on { OnOk result (GoesOn run.old.bits.position run.new.bits.position run.new.bits.taken) }
+    ensures pushed { OnOk result (values.new ≡ added (newest values.new.kids) values.old) }
+    ensures count { OnOk result (run.new.nodes ≡ run.old.nodes + node_count (newest values.new.kids)) }
+    ensures fits { OnOk result (FitsAt module.now depth kid.now (newest values.new.kids)) }
+    ensures kept { OnOk result (Kept module.now part.now kid.now (newest values.new.kids)) }
+    ensures gives { IsTrue K.told → Gives K.limit K.whole (λ _. newest values.new.kids) result (spot run.new.bits.position run.new.nodes) run.new.stop run.new.bits.taken
+        (bodies.part_read V.ALIGNED module.now depth part.now kid.now) (spot run.old.bits.position run.old.nodes) }
+    ensures failed { IsErrOf result Fault.Failed → HasRisen K.faults (S.faults run.new.bits.source.now) }
+{
+    let begin = run.position();
+    let mut read = Builder::new(alloc);
+    node(alloc, module, run, depth, kid, found, &mut read)?;
+    let end = run.position();
+    unless_standard(
+        alloc,
+        module,
+        part,
+        kid,
+        read.finish_one(),
+        begin,
+        end,
+        &mut run.stop,
+        values,
+    )
 }
 
 // The index and the value of a CHOICE of these alternatives.

@@ -4,7 +4,7 @@ ghost use Rattle.std.specs.Prelude.{◌≡◌, ◌↔◌, IsTrue};
 ghost use Rattle.std.specs.List.{list_all};
 ghost use Rattle.label_tree.specs.Rose.{label_of};
 ghost use Rattle.asn_types.specs.Modules.{AreWellFormed};
-ghost use Rattle.asn_types.specs.Values.{IsTextOf, OwnAt};
+ghost use Rattle.asn_values.specs.Values.{IsTextOf, OwnAt};
 ghost use Rattle.simple_types.specs.declared.labels.ValueLabel.TheVariants as value;
 ghost use Rattle.per_decode.specs.Private.Visible.{is_visible};
 ghost use Rattle.per_decode.specs.Private.Bodies.{IsText, text_leaf};

@@ -6,7 +6,7 @@ ghost use Rattle.bit_cursor.specs.Cursors.{IsInStep};
 ghost use Rattle.xa_base.specs.Faults.{HasRisen};
 ghost use Rattle.asn_types.specs.Refs.{IsOf};
 ghost use Rattle.asn_types.specs.Refs as refs;
-ghost use Rattle.asn_types.specs.Values.{Own};
+ghost use Rattle.asn_values.specs.Values.{Own};
 ghost use Rattle.per_fields.specs.Reading.{octets_at};
 ghost use Rattle.per_fields.specs.Fields.{counted_at};
 ghost use Rattle.per_decode.specs.Private.Standing.{GoesOn};

@@ -15,9 +15,9 @@ use Rattle.asn_types.specs.declared.types.Form.{Form}
 use Rattle.asn_types.specs.declared.types.Form.TheVariants as form
 use Rattle.asn_types.specs.declared.types.TypeLabel.{TypeLabel}
 use Rattle.asn_types.specs.Refs.{resolve}
-use Rattle.asn_types.specs.Values.{ComponentPlace, place_of, put_first, present_from, place_at, alone, repeated, places_in, places, below, FitsAt, FitEach, In}
-use Rattle.asn_types.specs.Private.Placing.{FitPlaces}
-use Rattle.asn_types.proofs.Counting.{fits-kids, drop-past}
+use Rattle.asn_values.specs.Values.{ComponentPlace, place_of, put_first, present_from, place_at, alone, repeated, places_in, places, below, FitsAt, FitEach, In}
+use Rattle.asn_values.specs.Private.Placing.{FitPlaces}
+use Rattle.asn_values.proofs.Counting.{fits-kids, drop-past}
 use Rattle.per_fields.specs.Codec.{AllOf}
 use Rattle.per_fields.specs.Fields.{Writer, then_bits, in_turn, number_bits, whole_bits, counted_bits, list_bits}
 use Rattle.per_fields.specs.Encoding.{octet_writer, flag_bits, node_bits, per, each_per, completed, complete_by}
@@ -71,7 +71,7 @@ module _ (aligned : Bool) (M : List Assignment) where
   each_fit depth [] [] h = tt
   each_fit depth [] (v ∷ vs) h = absurd h
   each_fit depth (p ∷ ps) [] h = absurd h
-  each_fit depth (p ∷ ps) (v ∷ vs) h = ((below p.role depth, h.0), each_fit depth ps vs h.1)
+  each_fit depth (p ∷ ps) (v ∷ vs) h = ((below p.role depth, h.0.0), each_fit depth ps vs h.1)
 
   fit_at : (depth : ℕ) (o : Option (List ComponentPlace)) (vs : List (Rose ValueLabel)) → FitPlaces M depth o (roses_of vs) → FitAt M o vs
   fit_at depth None vs h = h
@@ -137,6 +137,10 @@ module _ (aligned : Bool) (M : List Assignment) where
     pub word-bits : (identifiers words : List (List ℕ)) (i : ℕ) → Is (form.Words identifiers words) (value.Enum i) → (p : ℕ) → resolved_bits aligned M u v p ≡ number_bits aligned (length words - 1) i p
     unfolding node_bits
     word-bits identifiers words i is p = bits_found u v (form.Words identifiers words) (value.Enum i) is.0 is.1 p
+
+    pub order-bits : (identifiers : List (List ℕ)) (i : ℕ) → Is (form.Order identifiers) (value.Enum i) → (p : ℕ) → resolved_bits aligned M u v p ≡ number_bits aligned (length identifiers - 1) i p
+    unfolding node_bits
+    order-bits identifiers i is p = bits_found u v (form.Order identifiers) (value.Enum i) is.0 is.1 p
 
     pub text-bits : (least : ℕ) (most : Option ℕ) (class : Class) (text : List ℕ) → Is (form.Utf8 least most class) (value.Utf8 text) → (p : ℕ) → resolved_bits aligned M u v p ≡ counted_bits aligned (map octet_writer text) p
     unfolding node_bits

@@ -1,7 +1,7 @@
 //! The complete encoding of a value.
 ghost use Rattle.std.specs.Prelude.{◌≡◌, IfOk};
 ghost use Rattle.bit_cursor.specs.Bits.{octet_bits};
-ghost use Rattle.asn_types.specs.Values.{In};
+ghost use Rattle.asn_values.specs.Values.{In};
 ghost use Rattle.per_fields.specs.Encoding.{completed, complete, complete_by};
 
 use crate::nodes::put_node;

@@ -146,6 +146,10 @@ fn put_content<V: Variant>(
             ValueLabel::Enum(i) => put_index::<V>(sink, words.items().len(), *i),
             _ => unreachable!(),
         },
+        Form::Order { identifiers } => match label {
+            ValueLabel::Enum(i) => put_index::<V>(sink, identifiers.items().len(), *i),
+            _ => unreachable!(),
+        },
         Form::Utf8 { .. } => match label {
             ValueLabel::Utf8(text) => put_text::<V>(sink, text.bytes()),
             _ => unreachable!(),

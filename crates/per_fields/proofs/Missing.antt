@@ -6,7 +6,7 @@ use Rattle.asn_types.specs.declared.types.Component.{Component}
 use Rattle.asn_types.specs.declared.types.TypeLabel.{TypeLabel}
 use Rattle.asn_types.specs.Parts.{parts_of}
 use Rattle.asn_types.specs.Refs.{resolve}
-use Rattle.asn_types.specs.Values.{ComponentPlace, place_of, place_at, put_first, present_from}
+use Rattle.asn_values.specs.Values.{ComponentPlace, place_of, place_at, put_first, present_from}
 use Rattle.asn_types.proofs.Chaining.{no-reference, well-formed, have-parts, resolved-of-module}
 use Rattle.per_fields.specs.Laws.{Present, NothingIsMissing}
 

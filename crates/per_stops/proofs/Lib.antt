@@ -1,6 +1,7 @@
 mod Steps
 mod Fields
 mod Fragments
+mod Keeping
 mod Parts
 mod Types
 mod Nodes

@@ -13,7 +13,7 @@ use Rattle.asn_types.specs.Bounds.{HasBounds, AreBounded, IsBounded}
 use Rattle.asn_types.specs.Modules.{AreWellFormed, IsModule}
 use Rattle.asn_types.specs.Parts.{parts_of}
 use Rattle.asn_types.specs.Refs.{resolve, IsOf}
-use Rattle.asn_types.specs.Values.{ComponentPlace, below, FitsAt, Own}
+use Rattle.asn_values.specs.Values.{ComponentPlace, below, FitsAt, Own}
 use Rattle.asn_types.proofs.Chaining.{well-formed, has-four, resolved-of-module}
 use Rattle.asn_types.proofs.Inside.{form-well_formed}
 use Rattle.per_fields.specs.declared.stops.Spot.{Spot}
@@ -24,18 +24,19 @@ use Rattle.per_fields.specs.Reading.{◌>>=◌, Reader, stop_at, moved, stop_if}
 use Rattle.per_fields.specs.Codec.{most_nodes, Taken, Came, Codec}
 use Rattle.per_fields.specs.Encoding.{per}
 use Rattle.per_fields.specs.Levels.{levels_needed}
-use Rattle.per_fields.specs.Nodes.{content_at, is_no_text, owned_at, enter_by, entered_at, node_read, start, last_at, whole_of}
+use Rattle.per_fields.specs.Nodes.{content_at, part_at, is_no_text, owned_at, enter_by, entered_at, node_read, start, last_at, whole_of}
 use Rattle.per_fields.specs.Owning.{owns}
 use Rattle.per_fields.proofs.Codecs.{with_spot}
 use Rattle.per_fields.proofs.Levels.{EachKid, each_both, NeedsFewer, levels-some, kids-need}
 use Rattle.per_fields.proofs.NodeLaws.{below_of, AreOctets, KidCodec, Content, content_write, content_codec}
 use Rattle.per_fields.proofs.Owns.{owns_own, own_owns}
-use Rattle.per_fields.proofs.Recursion.{node_codec}
+use Rattle.per_fields.proofs.Recursion.{node_codec, part_codec}
 use Rattle.per_fields.proofs.Unfolding.{node_recursion}
 use Rattle.per_stops.specs.Faults.{LastStops}
 use Rattle.per_stops.specs.Stopping.{IsNoText, HasOctets, EntryStops, Enters, ContentStops, PartsFit, RuleStops, NodeStops, RootStops}
 use Rattle.per_stops.proofs.Steps.{Iff, Told, Inside, err_is, then_both, then_told}
 use Rattle.per_stops.proofs.Fields.{two_tests, lacking, no_fact, map_told, last_told}
+use Rattle.per_stops.proofs.Keeping.{part_told}
 use Rattle.per_stops.proofs.Parts.{IsKnown, content_told}
 use Rattle.per_stops.proofs.Types.{of-tall, of-bounded, kids-of, are-there}
 
@@ -90,7 +91,7 @@ module _ (aligned : Bool) (M : List Assignment) (is : IsModule M) (bounded : IsB
 
   module _ (depth : ℕ) (t : Rose TypeLabel) (of : IsOf M t) (s : Spot) (stop : Stop) where
     abbrev kid : ComponentPlace → Reader (Rose ValueLabel)
-    kid p = node_read aligned M (below p.role depth) p.type
+    kid p = part_at M p (node_read aligned M (below p.role depth) p.type)
 
     -- the rule of the node
     abbrev Rule : Rose ValueLabel → Spot → Type 0
@@ -233,25 +234,33 @@ module _ (aligned : Bool) (M : List Assignment) (is : IsModule M) (bounded : IsB
       each_both (λ p. IsOf M p.type) (NeedsFewer M depth t) Q each (label_of (resolve M t)) 0 (parts_of (label_of (resolve M t)).form) (kids_of (resolve M t)) (kids-of M (resolve M t) (resolved-of-module M t of))
       (kids-need M depth t deep (has-four M t (well-formed M t is of)) (of-tall M t of))
 
+  -- a part is known where its node is
+  part_known : (depth : ℕ) (p : ComponentPlace) → IsOf M p.type → (Kid Kid' : Spot → Stop → Type 0)
+      → ((s : Spot) (stop : Stop) → Inside X s → Told (node_read aligned M (below p.role depth) p.type X s ≡ Err stop) (Kid s stop) (Kid' s stop))
+      → IsKnown aligned M X depth (λ p. part_at M p (node_read aligned M (below p.role depth) p.type)) (λ p. Kid) (λ p. Kid') p
+  part_known depth p of Kid Kid' known =
+      let codec = read_codec (below p.role depth) p.type of in (
+        part_codec aligned M p (below p.role depth) (node_read aligned M (below p.role depth) p.type) codec,
+        λ s stop inside. part_told aligned M X p depth (node_read aligned M (below p.role depth) p.type) codec (Kid s stop) (Kid' s stop) s stop inside (known s stop inside),
+      )
+
   node_stopped : (m depth : ℕ) (t : Rose TypeLabel) → IsOf M t → (depth ≤ 64 → levels_needed M depth t ≤ m) → (s : Spot) (stop : Stop) → Inside X s → node_read aligned M depth t X s ≡ Err stop → NodeStops aligned M X (suc m) depth t s stop
   unfolding NodeStops
   node_stopped zero depth t of enough s stop inside e =
       (node_told depth t of s stop (λ p. NodeStops aligned M X zero (below p.role depth) p.type) (λ p s stop. ⊥) inside (λ deep. absurd (omega (arith, enough deep, levels-some M 4 t)))).0 e
   node_stopped (suc m) depth t of enough s stop inside e =
       (node_told depth t of s stop (λ p. NodeStops aligned M X (suc m) (below p.role depth) p.type) (λ p s stop. ⊥) inside
-      (λ deep. kids depth t of (IsKnown aligned M X depth (λ p. node_read aligned M (below p.role depth) p.type) (λ p. NodeStops aligned M X (suc m) (below p.role depth) p.type) (λ p s stop. ⊥)) deep
-      (λ p of_p need. (
-        read_codec (below p.role depth) p.type of_p,
-        λ r stop in_. (λ f. node_stopped m (below p.role depth) p.type of_p (λ d. omega (arith, need.1, enough deep)) r stop in_ f, λ h. absurd h),
-      )))).0 e
+      (λ deep. kids depth t of (IsKnown aligned M X depth (λ p. part_at M p (node_read aligned M (below p.role depth) p.type)) (λ p. NodeStops aligned M X (suc m) (below p.role depth) p.type) (λ p s stop. ⊥)) deep
+      (λ p of_p need. part_known depth p of_p (λ s stop. NodeStops aligned M X (suc m) (below p.role depth) p.type s stop) (λ s stop. ⊥)
+      (λ r stop in_. (λ f. node_stopped m (below p.role depth) p.type of_p (λ d. omega (arith, need.1, enough deep)) r stop in_ f, λ h. absurd h))))).0 e
 
   node_stops : (n depth : ℕ) (t : Rose TypeLabel) → IsOf M t → (s : Spot) (stop : Stop) → Inside X s → NodeStops aligned M X n depth t s stop → node_read aligned M depth t X s ≡ Err stop
   unfolding NodeStops
   node_stops zero depth t of s stop inside h = absurd h
   node_stops (suc n) depth t of s stop inside h =
       (node_told depth t of s stop (λ p s stop. Unit {0}) (λ p. NodeStops aligned M X n (below p.role depth) p.type) inside
-      (λ deep. kids depth t of (IsKnown aligned M X depth (λ p. node_read aligned M (below p.role depth) p.type) (λ p s stop. Unit {0}) (λ p. NodeStops aligned M X n (below p.role depth) p.type)) deep
-      (λ p of_p need. (read_codec (below p.role depth) p.type of_p, λ r stop in_. (λ f. tt, λ k. node_stops n (below p.role depth) p.type of_p r stop in_ k))))).1 h
+      (λ deep. kids depth t of (IsKnown aligned M X depth (λ p. part_at M p (node_read aligned M (below p.role depth) p.type)) (λ p s stop. Unit {0}) (λ p. NodeStops aligned M X n (below p.role depth) p.type)) deep
+      (λ p of_p need. part_known depth p of_p (λ s stop. Unit {0}) (λ s stop. NodeStops aligned M X n (below p.role depth) p.type s stop) (λ r stop in_. (λ f. tt, λ k. node_stops n (below p.role depth) p.type of_p r stop in_ k))))).1 h
 
   -- THE ROOT
   pub root_told : (t : Rose TypeLabel) → IsOf M t → (stop : Stop) → Iff (whole_of aligned M t X ≡ Err stop) (RootStops aligned M X t stop)

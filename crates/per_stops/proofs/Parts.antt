@@ -12,7 +12,7 @@ use Rattle.asn_types.specs.declared.types.TypeLabel.{TypeLabel}
 use Rattle.asn_types.specs.Modules.{IsForm}
 use Rattle.asn_types.specs.Parts.{parts_of}
 use Rattle.asn_types.specs.Refs.{target}
-use Rattle.asn_types.specs.Values.{ComponentPlace, place_at, alone, present_from, below, FitsAt}
+use Rattle.asn_values.specs.Values.{ComponentPlace, place_at, alone, present_from, below, FitsAt, Kept}
 use Rattle.per_fields.specs.declared.stops.Spot.{Spot}
 use Rattle.per_fields.specs.declared.stops.Stop.{Stop}
 use Rattle.per_fields.specs.Reading.{◌>>=◌, Reader, bits_at, octets_at, each_at}
@@ -26,7 +26,7 @@ use Rattle.per_fields.proofs.NumberLaws.{number_field}
 use Rattle.per_fields.proofs.Levels.{Each, EachKid, IfPlaces, IfPlace, present-each, kid-each, alone-each, copies-each}
 use Rattle.per_fields.proofs.NodeLaws.{KidCodec, flags_field}
 use Rattle.per_stops.specs.Faults.{NumberStops, FlagsStop}
-use Rattle.per_stops.specs.Stopping.{OctetsStand, OctetsEnd, ValuesStand, PartStops, IfPartStops, ItemsCounted, ItemsNumbered, ItemsStop, ContentStops}
+use Rattle.per_stops.specs.Stopping.{OctetsStand, OctetsEnd, StandardStops, ValuesStand, PartStops, IfPartStops, ItemsCounted, ItemsNumbered, ItemsStop, ContentStops}
 use Rattle.per_stops.proofs.Steps.{Iff, Told, Inside, none_stops, after, came, goes, then_both, bits_end}
 use Rattle.per_stops.proofs.Fields.{map_told, number_told, whole_told, flags_told}
 use Rattle.per_stops.proofs.Fragments.{AreRead, counted, octets_read}
@@ -41,7 +41,11 @@ pub record AreThere (l : TypeLabel) (ts : List (Rose TypeLabel)) (f : Form) : Ty
 module _ (aligned : Bool) (M : List Assignment) (X : List Bool) (depth : ℕ) (kid : ComponentPlace → Reader (Rose ValueLabel)) (Kid Kid' : ComponentPlace → Spot → Stop → Type 0) where
   -- the part is read where the bits of a value stand, and where it stops is known
   abbrev pub IsKnown : ComponentPlace → Type 0
-  IsKnown p = KidCodec aligned M depth kid p × ((s : Spot) (stop : Stop) → Inside X s → Told (kid p X s ≡ Err stop) (Kid p s stop) (Kid' p s stop))
+  IsKnown p = KidCodec aligned M depth kid p × ((s : Spot) (stop : Stop) → Inside X s → Told (kid p X s ≡ Err stop) (Kid p s stop ⊎ StandardStops aligned M X depth p s stop) (Kid' p s stop ⊎ StandardStops aligned M X depth p s stop))
+
+  -- its value fits, and its default or fixed value is kept
+  abbrev Fitting : ComponentPlace → Rose ValueLabel → Type 0
+  Fitting p v = FitsAt M (below p.role depth) p.type v × Kept M p.part p.type v
 
   each_told : (ps : List ComponentPlace) → Each IsKnown ps → (s : Spot) (stop : Stop) → Inside X s → Told (each_at kid ps X s ≡ Err stop) (PartStops aligned M X depth Kid ps s stop) (PartStops aligned M X depth Kid' ps s stop)
   unfolding each_at
@@ -55,21 +59,27 @@ module _ (aligned : Bool) (M : List Assignment) (X : List Bool) (depth : ℕ) (k
           → Told (others (v, r) ≡ Err stop) (PartStops aligned M X depth Kid ps r stop) (PartStops aligned M X depth Kid' ps r stop)
       further v r k = let m = map_told (each_at kid ps X r) (λ bs. v ∷ bs) stop in (λ e. k.0 (m.0 e), λ h. m.1 (k.1 h))
 
-      forth : Kid p s stop ⊎ ((v : Rose ValueLabel) × (r : Spot) × FitsAt M (below p.role depth) p.type v × Came X s r (per aligned M p.type v s.at) (node_count v) × PartStops aligned M X depth Kid ps r stop) → PartStops aligned M X depth Kid (p ∷ ps) s stop
-      forth (inl h) = inl h
-      forth (inr k) = inr (k.0, k.1, (k.2, k.3), k.4)
+      One : (ComponentPlace → Spot → Stop → Type 0) → Type 0
+      One K = K p s stop ⊎ StandardStops aligned M X depth p s stop
 
-      back : PartStops aligned M X depth Kid' (p ∷ ps) s stop → Kid' p s stop ⊎ ((v : Rose ValueLabel) × (r : Spot) × FitsAt M (below p.role depth) p.type v × Came X s r (per aligned M p.type v s.at) (node_count v) × PartStops aligned M X depth Kid' ps r stop)
-      back (inl h) = inl h
-      back (inr k) = inr (k.0, k.1, k.2.0, k.2.1, k.3)
+      Behind : (ComponentPlace → Spot → Stop → Type 0) → Type 0
+      Behind K = (v : Rose ValueLabel) × (r : Spot) × Fitting p v × Came X s r (per aligned M p.type v s.at) (node_count v) × PartStops aligned M X depth K ps r stop
+
+      forth : One Kid ⊎ Behind Kid → PartStops aligned M X depth Kid (p ∷ ps) s stop
+      forth (inl (inl h)) = inl h
+      forth (inl (inr h)) = inr (inl h)
+      forth (inr k) = inr (inr (k.0, k.1, ((k.2.0, k.3), k.2.1), k.4))
+
+      back : PartStops aligned M X depth Kid' (p ∷ ps) s stop → One Kid' ⊎ Behind Kid'
+      back (inl h) = inl (inl h)
+      back (inr (inl h)) = inl (inr h)
+      back (inr (inr k)) = inr (k.0, k.1, (k.2.0.0, k.2.1), k.2.0.1, k.3)
 
       first : ((r : Spot) → Inside X r → Told (each_at kid ps X r ≡ Err stop) (PartStops aligned M X depth Kid ps r stop) (PartStops aligned M X depth Kid' ps r stop))
           → Told ((kid p X s >>= others) ≡ Err stop) (PartStops aligned M X depth Kid (p ∷ ps) s stop) (PartStops aligned M X depth Kid' (p ∷ ps) s stop)
       first rest =
-          let told : Told ((kid p X s >>= others) ≡ Err stop)
-          (Kid p s stop ⊎ ((v : Rose ValueLabel) × (r : Spot) × FitsAt M (below p.role depth) p.type v × Came X s r (per aligned M p.type v s.at) (node_count v) × PartStops aligned M X depth Kid ps r stop))
-          (Kid' p s stop ⊎ ((v : Rose ValueLabel) × (r : Spot) × FitsAt M (below p.role depth) p.type v × Came X s r (per aligned M p.type v s.at) (node_count v) × PartStops aligned M X depth Kid' ps r stop)) =
-          then_both X (FitsAt M (below p.role depth) p.type) node_count (per aligned M p.type) (kid p) known.0.0 others (Kid p s stop) (Kid' p s stop)
+          let told : Told ((kid p X s >>= others) ≡ Err stop) (One Kid ⊎ Behind Kid) (One Kid' ⊎ Behind Kid') =
+          then_both X (Fitting p) node_count (per aligned M p.type) (kid p) known.0.0 others (One Kid) (One Kid')
           (λ v r. PartStops aligned M X depth Kid ps r stop) (λ v r. PartStops aligned M X depth Kid' ps r stop) s stop inside (known.0.1 s stop inside) (λ v r fits in_. further v r (rest r in_)) in
           (λ e. forth (told.0 e), λ h. told.1 (back h))
 
@@ -78,24 +88,24 @@ module _ (aligned : Bool) (M : List Assignment) (X : List Bool) (depth : ℕ) (k
   each_stand [] known s r vs inside e = ap (λ (y : List (Rose ValueLabel) × Spot). y.1) (ok_is ([], s) (vs, r) e)
   each_stand (p ∷ ps) known s r vs inside e =
       let a = bind_ok (kid p X s) (λ b. each_at kid ps X b.1 >>= λ bs. with_spot (b.0 ∷ bs.0) bs.1) (vs, r) e in
-      let c = came X (FitsAt M (below p.role depth) p.type) node_count (per aligned M p.type) (kid p) known.0.0 s a.0.0 a.0.1 inside a.1 in
+      let c = came X (Fitting p) node_count (per aligned M p.type) (kid p) known.0.0 s a.0.0 a.0.1 inside a.1 in
       let b = bind_ok (each_at kid ps X a.0.1) (λ bs. with_spot (a.0.0 ∷ bs.0) bs.1) (vs, r) a.2 in
       let l = each_stand ps known.1 a.0.1 b.0.1 b.0.0 (after X s a.0.1 (per aligned M p.type a.0.0 s.at) (node_count a.0.0) inside c.1) b.1 in
-      (a.0.0, a.0.1, c, subst (λ (y : List (Rose ValueLabel) × Spot). ValuesStand aligned M X depth ps a.0.1 y.1) (ok_is (a.0.0 ∷ b.0.0, b.0.1) (vs, r) b.2) l)
+      (a.0.0, a.0.1, ((c.0.0, c.1), c.0.1), subst (λ (y : List (Rose ValueLabel) × Spot). ValuesStand aligned M X depth ps a.0.1 y.1) (ok_is (a.0.0 ∷ b.0.0, b.0.1) (vs, r) b.2) l)
 
   each_goes : (ps : List ComponentPlace) → Each IsKnown ps → (s r : Spot) → Inside X s → ValuesStand aligned M X depth ps s r → (vs : List (Rose ValueLabel)) × (each_at kid ps X s ≡ Ok (vs, r))
   unfolding each_at
   each_goes [] known s r inside h = ([], ap (λ q. Ok ([], q)) h)
   each_goes (p ∷ ps) known s r inside h =
-      let one = goes X (FitsAt M (below p.role depth) p.type) node_count (per aligned M p.type) (kid p) known.0.0 s h.0 h.1 inside h.2.0 h.2.1 in
-      let others = each_goes ps known.1 h.1 r (after X s h.1 (per aligned M p.type h.0 s.at) (node_count h.0) inside h.2.1) h.3 in
+      let one = goes X (Fitting p) node_count (per aligned M p.type) (kid p) known.0.0 s h.0 h.1 inside (h.2.0.0, h.2.1) h.2.0.1 in
+      let others = each_goes ps known.1 h.1 r (after X s h.1 (per aligned M p.type h.0 s.at) (node_count h.0) inside h.2.0.1) h.3 in
       (h.0 ∷ others.0, ap (λ q. q >>= λ b. each_at kid ps X b.1 >>= λ bs. with_spot (b.0 ∷ bs.0) bs.1) one ∙ ap (λ q. q >>= λ bs. with_spot (h.0 ∷ bs.0) bs.1) others.1)
 
   each_within : (ps : List ComponentPlace) (s r : Spot) → Inside X s → ValuesStand aligned M X depth ps s r → Inside X r × (s.at ≤ r.at)
   each_within [] s r inside h = (subst (Inside X) h inside, omega (arith, ap (λ q. q.at) h))
   each_within (p ∷ ps) s r inside h =
-      let k = each_within ps h.1 r (after X s h.1 (per aligned M p.type h.0 s.at) (node_count h.0) inside h.2.1) h.3 in
-      (k.0, omega (arith, k.1, h.2.1.taken.end))
+      let k = each_within ps h.1 r (after X s h.1 (per aligned M p.type h.0 s.at) (node_count h.0) inside h.2.0.1) h.3 in
+      (k.0, omega (arith, k.1, h.2.0.1.taken.end))
 
   -- items are read where they stand
   items_read : (p : ComponentPlace) → IsKnown p
@@ -198,6 +208,7 @@ module _ (aligned : Bool) (M : List Assignment) (X : List Bool) (depth : ℕ) (k
       (λ e. k.0 (m.0 e), λ h. m.1 (k.1 h))
   content_told l ts (form.Numbers numbers) is known there s stop inside = enum_told (length numbers) s stop inside
   content_told l ts (form.Words identifiers words) is known there s stop inside = enum_told (length words) s stop inside
+  content_told l ts (form.Order identifiers) is known there s stop inside = enum_told (length identifiers) s stop inside
   content_told l ts (form.Utf8 least most class) is known there s stop inside =
       let k = counted aligned X octets_at (OctetsStand X) (OctetsEnd X) (OctetsEnd X) 0 None (octets_read aligned X) s stop inside in
       let m = map_told (counted_at aligned 0 None octets_at X s) (λ text. leaf_of (value.Utf8 text)) stop in

@@ -10,7 +10,7 @@ use Rattle.asn_types.specs.Bounds.{AreBounded, AllBounded, IsBounded}
 use Rattle.asn_types.specs.Modules.{IsModule}
 use Rattle.asn_types.specs.Parts.{parts_of}
 use Rattle.asn_types.specs.Refs.{resolve, StandsIn, StandsInSome, IsOf}
-use Rattle.asn_types.specs.Values.{ComponentPlace, place_of, place_at, put_first, present_from}
+use Rattle.asn_values.specs.Values.{ComponentPlace, place_of, place_at, put_first, present_from}
 use Rattle.asn_types.proofs.Chaining.{no-reference, well-formed, have-parts, parts-of-module, resolved-of-module}
 use Rattle.per_fields.specs.Laws.{Present}
 use Rattle.per_fields.specs.Levels.{tallest}

@@ -1,20 +1,24 @@
 -- Which field or node stops first, where it begins and ends, and why (X.691): the first fault in the order of the fields, that of
--- a node's entry before those of its fields and parts, and the rule of the node behind them all. What stands before the fault is
--- said by the bits of values.
+-- a node's entry before those of its fields and parts, and the rule of the node behind them all. A part that doesn't keep what its
+-- default or fixed value says is told right behind its bits, before the parts behind it. What stands before the fault is said by the
+-- bits of values.
 use Rattle.std.specs.Prelude.{◌≡◌, ℕ, zero, suc, ◌+◌, ◌-◌, ◌*◌, ◌<◌, ◌≤◌, ◌⊎◌, Bool, true, false, Option, Some, None, List, [], ◌∷◌, length, slice_get, replicate, nat_lt, IsUtf8}
 use Rattle.bit_cursor.specs.Bits.{octet_bits}
 use Rattle.label_tree.specs.Rose.{Rose, node, label_of, kids_of, node_count, length_all}
 use Rattle.simple_types.specs.declared.labels.ValueLabel.{ValueLabel}
 use Rattle.simple_types.specs.declared.labels.ValueLabel.TheVariants as value
+use Rattle.simple_types.specs.declared.standards.Standard.TheVariants.{Free, Default, Fixed}
 use Rattle.asn_types.specs.declared.modules.Assignment.{Assignment}
+use Rattle.asn_types.specs.declared.types.Component.{Component}
 use Rattle.asn_types.specs.declared.types.Form.{Form}
 use Rattle.asn_types.specs.declared.types.Form.TheVariants as form
 use Rattle.asn_types.specs.declared.types.TypeLabel.{TypeLabel}
 use Rattle.asn_types.specs.Refs.{resolve}
-use Rattle.asn_types.specs.Values.{ComponentPlace, place_at, alone, present_from, places, below, FitsAt, FitEach, Own}
+use Rattle.asn_types.specs.Spaces.{spelling}
+use Rattle.asn_values.specs.Values.{ComponentPlace, place_at, alone, present_from, places, below, FitsAt, FitEach, Own, Kept}
 use Rattle.per_fields.specs.declared.stops.Spot.{Spot}
 use Rattle.per_fields.specs.declared.stops.Stop.{Stop}
-use Rattle.per_fields.specs.declared.stops.Why.TheVariants.{TooDeep, TooMany, NotUtf8, NotAValue}
+use Rattle.per_fields.specs.declared.stops.Why.TheVariants.{TooDeep, TooMany, NotUtf8, DefaultWritten, NotAValue}
 use Rattle.per_fields.specs.Reading.{stop_at, moved}
 use Rattle.per_fields.specs.Codec.{most_nodes, Came, AllOf}
 use Rattle.per_fields.specs.Encoding.{flag_bits, per}
@@ -63,21 +67,42 @@ EntryStops depth s stop = ((most_deep < depth) × (stop ≡ stop_at s.at TooDeep
 abbrev pub Enters : ℕ → Spot → Type 0
 Enters depth s = (depth ≤ most_deep) × (s.nodes < most_nodes)
 
+-- the spelling of a default or fixed value
+abbrev pub part_text : Component → Option (List ℕ)
+part_text part = elim part.standard [ Free ↦ None | Default text ↦ Some text | Fixed text ↦ Some text ]
+
 module _ (aligned : Bool) (M : List Assignment) (X : List Bool) where
   -- the bits of a value of the type stand from one spot to another, and its nodes are not too many
   abbrev pub ValueStands : ℕ → Rose TypeLabel → Spot → Rose ValueLabel → Spot → Type 0
   ValueStands depth t s v r = FitsAt M depth t v × Came X s r (per aligned M t v s.at) (node_count v)
 
+  -- those of a value of a part, which keeps what its default or fixed value says
+  abbrev pub PartStands : ℕ → ComponentPlace → Spot → Rose ValueLabel → Spot → Type 0
+  PartStands depth p s v r = ValueStands (below p.role depth) p.type s v r × Kept M p.part p.type v
+
   -- those of values of these parts, one behind the other
   abbrev pub ValuesStand : ℕ → List ComponentPlace → Spot → Spot → Type 0
   ValuesStand depth [] s r = s ≡ r
-  ValuesStand depth (p ∷ ps) s r = (v : Rose ValueLabel) × (q : Spot) × ValueStands (below p.role depth) p.type s v q × ValuesStand depth ps q r
+  ValuesStand depth (p ∷ ps) s r = (v : Rose ValueLabel) × (q : Spot) × PartStands depth p s v q × ValuesStand depth ps q r
+
+  -- A part that may be absent has its default or fixed value.
+  abbrev pub IsDefault : ComponentPlace → Rose ValueLabel → Type 0
+  IsDefault p v = (part_text p.part ≡ Some (spelling M p.type v)) × (p.part.optional ≡ true)
+
+  -- The value of a part stands there, but isn't kept: it is told from the part's first bit to its end.
+  abbrev pub StandardStops : ℕ → ComponentPlace → Spot → Stop → Type 0
+  StandardStops depth p s stop =
+      (v : Rose ValueLabel) × (r : Spot) × ValueStands (below p.role depth) p.type s v r × (Kept M p.part p.type v → ⊥)
+      × ((IsDefault p v × (stop ≡ stop_at s.at DefaultWritten r.at)) ⊎ ((IsDefault p v → ⊥) × (stop ≡ stop_at s.at NotAValue r.at)))
 
   module _ (depth : ℕ) (KidStops : ComponentPlace → Spot → Stop → Type 0) where
-    -- one of the parts stops, and the values of those before it stand before it
+    -- one of the parts stops or isn't kept, and the values of those before it stand before it
     abbrev pub PartStops : List ComponentPlace → Spot → Stop → Type 0
     PartStops [] s stop = ⊥
-    PartStops (p ∷ ps) s stop = KidStops p s stop ⊎ ((v : Rose ValueLabel) × (r : Spot) × ValueStands (below p.role depth) p.type s v r × PartStops ps r stop)
+    PartStops (p ∷ ps) s stop =
+        KidStops p s stop
+        ⊎ StandardStops depth p s stop
+        ⊎ ((v : Rose ValueLabel) × (r : Spot) × PartStands depth p s v r × PartStops ps r stop)
 
     -- a type of a module has all its parts: where none are, no module's octets come
     abbrev pub IfPartStops : Option (List ComponentPlace) → Spot → Stop → Type 0
@@ -106,6 +131,7 @@ module _ (aligned : Bool) (M : List Assignment) (X : List Bool) where
     ContentStops l ts (form.Int least greatest) s stop = WholeStops X aligned least greatest s stop
     ContentStops l ts (form.Numbers numbers) s stop = NumberStops X aligned (length numbers - 1) s stop
     ContentStops l ts (form.Words identifiers words) s stop = NumberStops X aligned (length words - 1) s stop
+    ContentStops l ts (form.Order identifiers) s stop = NumberStops X aligned (length identifiers - 1) s stop
     ContentStops l ts (form.Utf8 least most class) s stop = CountedStop aligned X (OctetsStand X) (OctetsEnd X) 0 None s stop
     ContentStops l ts (form.Sequence parts) s stop =
         FlagsStop X parts s stop

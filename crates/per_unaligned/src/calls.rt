@@ -2,7 +2,7 @@
 ghost use Rattle.std.specs.Prelude.{◌≡◌, ℕ, ◌^◌, ◌<◌, ◌≤◌, List, Some, IfOk, IsErrOf, length};
 ghost use Rattle.bit_cursor.specs.Bits.{octet_bits};
 ghost use Rattle.xa_base.specs.Faults.{Counts};
-ghost use Rattle.asn_types.specs.Values.{In};
+ghost use Rattle.asn_values.specs.Values.{In};
 ghost use Rattle.per_unaligned.specs.Unaligned.{complete_unaligned, AnswersUnaligned};
 
 use asn_types::Module;

@@ -11,7 +11,7 @@ use Rattle.simple_types.specs.declared.labels.ValueLabel.{ValueLabel}
 use Rattle.asn_types.specs.declared.modules.Assignment.{Assignment}
 use Rattle.asn_types.specs.Bounds.{IsBounded}
 use Rattle.asn_types.specs.Modules.{IsModule}
-use Rattle.asn_types.specs.Values.{In, FitsAt}
+use Rattle.asn_values.specs.Values.{In, FitsAt}
 use Rattle.per_fields.specs.declared.stops.Stop.{Stop}
 use Rattle.per_fields.specs.Codec.{AllOf}
 use Rattle.per_fields.specs.Encoding.{per, completed, complete_of, complete}

@@ -6,7 +6,7 @@ use Rattle.simple_types.specs.declared.labels.ValueLabel.{ValueLabel}
 use Rattle.asn_types.specs.declared.modules.Assignment.{Assignment}
 use Rattle.asn_types.specs.Bounds.{IsBounded}
 use Rattle.asn_types.specs.Modules.{IsModule}
-use Rattle.asn_types.specs.Values.{In}
+use Rattle.asn_values.specs.Values.{In}
 use Rattle.per_fields.specs.Codec.{AllOf}
 use Rattle.per_fields.specs.Encoding.{complete}
 

@@ -1,7 +1,7 @@
 //! A source behind an octet that was taken of it ahead.
 ghost use Rattle.std.specs.Prelude.{◌≡◌, ℕ, ◌≤◌, ◌<◌, ◌^◌, List, Option, None, Some, IfOk, IsErrOf, length};
 ghost use Rattle.xa_base.specs.Faults.{Counts};
-ghost use Rattle.asn_types.specs.Values.{In};
+ghost use Rattle.asn_values.specs.Values.{In};
 ghost use Rattle.per_decode.specs.Answers.{Answers};
 ghost use Rattle.record_stream.specs.Heads.{left_with, IsUntouched};
 

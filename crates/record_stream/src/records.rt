@@ -2,7 +2,7 @@
 ghost use Rattle.std.specs.Prelude.{◌≡◌, ℕ, ◌+◌, ◌*◌, ◌≤◌, ◌<◌, List, [], length, None, Some, IfOk, IfSome, IsSome, MatchOption, OnOk, OnErr, IsErr, IsErrOf};
 ghost use Rattle.std.specs.Io.KnownBytes.{Keeps, IsAtEnd};
 ghost use Rattle.xa_base.specs.Faults.{Counts, one_more};
-ghost use Rattle.asn_types.specs.Values.{In};
+ghost use Rattle.asn_values.specs.Values.{In};
 ghost use Rattle.per_fields.specs.Encoding.{complete};
 ghost use Rattle.record_stream.specs.Heads.{left_with};
 ghost use Rattle.record_stream.specs.Next.{AnswersNext, told_of};

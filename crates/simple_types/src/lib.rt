@@ -1,4 +1,5 @@
-//! Simple types and abstract values: what they are made of, the space of a type, and the built-in types.
+//! Simple types and abstract values: what they are made of, the space of a type, the built-in types, and default and
+//! fixed values.
 //!
 //! Read first: docs/SIMPLE-TYPES.md, `specs/Space` and `specs/Builtins`, then `src/simples.rt`.
 #![tactic(auto)]
@@ -9,6 +10,7 @@ mod facets;
 mod labels;
 mod lists;
 mod simples;
+mod standards;
 
 pub use builtins::builtin;
 pub use copying::{append_copies, copy};
@@ -16,3 +18,4 @@ pub use facets::{Facet, Facets};
 pub use labels::{Value, ValueLabel};
 pub use lists::{Flags, NumberList, TextList};
 pub use simples::{Builtin, Class, Simple, SimpleList};
+pub use standards::Standard;

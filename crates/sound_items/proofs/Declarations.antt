@@ -11,7 +11,7 @@ use Rattle.asn_types.specs.declared.modules.Assignment.{Assignment}
 use Rattle.asn_types.specs.declared.types.TypeLabel.{TypeLabel}
 use Rattle.asn_types.specs.Names.{name_told}
 use Rattle.asn_types.specs.Refs.{resolve}
-use Rattle.asn_types.specs.Values.{FitsAt}
+use Rattle.asn_values.specs.Values.{FitsAt}
 use Rattle.schema_parts.specs.declared.components.ElementDecl.{ElementDecl}
 use Rattle.schema_parts.specs.declared.components.ComplexDef.{ComplexDef}
 use Rattle.schema_parts.specs.declared.components.Content.TheVariants as content_
@@ -26,7 +26,7 @@ use Rattle.map_laws.specs.Standing.{IsSimpleOf, HasNillable, HasComplex, HasCont
 use Rattle.map_laws.specs.Statements.{IsTypeAt}
 use Rattle.map_laws.proofs.Leading.{types-lead}
 use Rattle.map_laws.proofs.Roots.{roots-lead}
-use Rattle.xer_items.specs.Spelling.{spelling}
+use Rattle.asn_types.specs.Spaces.{spelling}
 use Rattle.xer_items.specs.Items.{element_of, inside, root_of, Xer}
 use Rattle.xer_items.specs.Sound.{IsSound}
 use Rattle.one_value.specs.Statements.{AreSmall, root_at}

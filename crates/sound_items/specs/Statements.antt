@@ -12,7 +12,7 @@ use Rattle.schema_parts.specs.Linked.{IsLinked}
 use Rattle.schema_parts.specs.SetParts.{parts_of}
 use Rattle.validity.specs.Valid.{Valid}
 use Rattle.asn_types.specs.declared.modules.Assignment.{Assignment}
-use Rattle.asn_types.specs.Values.{Fits}
+use Rattle.asn_values.specs.Values.{Fits}
 use Rattle.map_assignments.specs.Mapped.{IsMapOf}
 use Rattle.xer_items.specs.Items.{Xer}
 use Rattle.xer_items.specs.Sound.{IsSound}

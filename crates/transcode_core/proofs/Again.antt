@@ -9,7 +9,7 @@ use Rattle.doc_written.specs.Written.{written}
 use Rattle.plain_items.specs.Plain.{Plain}
 use Rattle.plain_items.specs.Unplaced.{unplaced}
 use Rattle.xer_items.specs.Items.{Xer}
-use Rattle.asn_types.specs.Values.{Fits, In}
+use Rattle.asn_values.specs.Values.{Fits, In}
 use Rattle.simple_types.specs.declared.labels.ValueLabel.{ValueLabel}
 use Rattle.sound_items.specs.Statements.{DocumentsOfValues}
 use Rattle.schema_parts.specs.SetParts.{SetParts}

@@ -28,7 +28,7 @@ use Rattle.validity.specs.Valid.{Valid}
 use Rattle.asn_types.specs.declared.modules.Assignment.{Assignment}
 use Rattle.asn_types.specs.Modules.{IsModule}
 use Rattle.asn_types.specs.Bounds.{IsBounded}
-use Rattle.asn_types.specs.Values.{Fits}
+use Rattle.asn_values.specs.Values.{Fits}
 use Rattle.map_subjects.specs.declared.subjects.Subject.TheVariants as subject
 use Rattle.map_assignments.specs.Mapped.{IsMapOf}
 use Rattle.map_694.proofs.Bodies.{global-named}

@@ -3,7 +3,7 @@ use Rattle.std.proofs.Common.{◌≡◌, ℕ, ◌≤◌, List, length, sym, ap, 
 use Rattle.std.proofs.lemmas.List.{take_all}
 use Rattle.label_tree.specs.Rose.{Rose}
 use Rattle.simple_types.specs.declared.labels.ValueLabel.{ValueLabel}
-use Rattle.asn_types.specs.Values.{In}
+use Rattle.asn_values.specs.Values.{In}
 use Rattle.command_line.specs.declared.outcome.Outcome.{Outcome}
 use Rattle.command_line.specs.declared.outcome.Outcome.TheVariants.{Trailing}
 use Rattle.command_line.specs.declared.tasks.Syntax.{Syntax}

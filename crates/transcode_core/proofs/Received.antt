@@ -4,7 +4,7 @@ use Rattle.std.specs.Prelude.{nat_le}
 use Rattle.std.specs.Io.KnownBytes.{IsAtEnd}
 use Rattle.std.proofs.lemmas.List.{take_all, length-drop, length-append, append-nil}
 use Rattle.std.proofs.lemmas.Bool.{le-leb, lt-leb}
-use Rattle.asn_types.specs.Values.{In}
+use Rattle.asn_values.specs.Values.{In}
 use Rattle.bit_cursor.specs.Bits.{octet_bits}
 use Rattle.bit_cursor.proofs.BitLemmas.{length-octet_bits}
 use Rattle.per_fields.specs.declared.stops.Stop.{Stop}
@@ -33,6 +33,7 @@ short_is why.NotShortest e = cc
 short_is why.Range e = cc
 short_is why.TooWide e = cc
 short_is why.NotUtf8 e = cc
+short_is why.DefaultWritten e = cc
 short_is why.NotAValue e = cc
 
 no_bits : (a b : List Bool) → length (a ++ b) ≡ length a → b ≡ []

@@ -36,7 +36,7 @@ use Rattle.plain_items.specs.Unplaced.{unplaced}
 use Rattle.doc_written.specs.Written.{written}
 use Rattle.simple_types.specs.declared.labels.ValueLabel.{ValueLabel}
 use Rattle.asn_types.specs.declared.modules.Assignment.{Assignment}
-use Rattle.asn_types.specs.Values.{Fits}
+use Rattle.asn_values.specs.Values.{Fits}
 use Rattle.xer_items.specs.Items.{Xer}
 use Rattle.one_value.specs.Statements.{OneValue}
 use Rattle.map_subjects.specs.declared.subjects.Subject.TheVariants as subject

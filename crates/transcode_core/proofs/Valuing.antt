@@ -7,7 +7,7 @@ use Rattle.schema_parts.specs.Components.{Set}
 use Rattle.schema_parts.specs.SetParts.{parts_of}
 use Rattle.validity.specs.declared.why.InvalidWhy.{InvalidWhy}
 use Rattle.validity.specs.Faults.{FirstFault}
-use Rattle.asn_types.specs.Values.{Fits, In}
+use Rattle.asn_values.specs.Values.{Fits, In}
 use Rattle.xer_items.specs.Items.{Xer}
 use Rattle.one_value.specs.Statements.{root_at}
 use Rattle.xer_read.specs.Answers.{IsValueOf, IsTooLarge}

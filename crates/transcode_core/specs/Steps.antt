@@ -24,7 +24,7 @@ use Rattle.link_set.specs.Sets.{SetParts, parts_of, set_of}
 use Rattle.asn_types.specs.declared.modules.Assignment.{Assignment}
 use Rattle.asn_types.specs.Modules.{IsModule}
 use Rattle.asn_types.specs.Bounds.{IsBounded}
-use Rattle.asn_types.specs.Values.{Fits, In}
+use Rattle.asn_values.specs.Values.{Fits, In}
 use Rattle.simple_types.specs.declared.labels.ValueLabel.{ValueLabel}
 use Rattle.one_value.specs.Statements.{AreSmall, root_at}
 use Rattle.xer_items.specs.Items.{Xer}

@@ -2,7 +2,7 @@
 ghost use Rattle.std.specs.Prelude.{◌≡◌, ◌<◌, ◌≤◌, IsTrue, IsFalse, List, [], ℕ, Some, length, IsErr, OnOk, IfOk, IfErr};
 ghost use Rattle.std.specs.Io.KnownBytes.{IsAtEnd};
 ghost use Rattle.xa_base.specs.Faults.{Counts};
-ghost use Rattle.asn_types.specs.Values.{In};
+ghost use Rattle.asn_values.specs.Values.{In};
 ghost use Rattle.schema_parts.specs.Components.{Set};
 ghost use Rattle.transcode_core.specs.Private.Seen.{type_seen};
 ghost use Rattle.transcode_core.specs.Steps.{IsTypeOf, Decoded, Written};

@@ -2,7 +2,7 @@
 ghost use Rattle.std.specs.Prelude.{◌≡◌, ◌+◌, ◌*◌, ◌<◌, ◌≤◌, All, IfOk, OnOk, IfErr};
 ghost use Rattle.validity_check.specs.Counts.{element_count};
 ghost use Rattle.schema_parts.specs.SetParts.{parts_of};
-ghost use Rattle.asn_types.specs.Values.{In};
+ghost use Rattle.asn_values.specs.Values.{In};
 ghost use Rattle.transcode_core.specs.Private.Seen.{opened_seen, type_seen};
 ghost use Rattle.transcode_core.specs.Steps.{RootType, IsTypeOf, ValueIn, Encoding};
 ghost use Rattle.transcode_core.specs.Syntaxes.{per_syntax};

@@ -518,16 +518,18 @@ fn run_whole<F: Library, S: Source, K: Sink, E: Sink, L: Ledger>(
     }
 }
 
-/// Does what the words ask for. `show FILE...`, `check ROOT FILE...`, `to-per ROOT FILE...` and `to-xml ROOT FILE...` load
-/// the schema files in turn and end at the first that can't be loaded, has over 16,777,216 bytes, or has a fault in its
-/// text or as a schema document. Then the files are linked into one set, or the answer is the first fault of linking.
-/// `show` writes the module that the set maps to and leaves the input alone. The others look for the root in the set.
+/// Does what the words ask for. `show FILE...`, `check ROOT FILE...`, `to-per ROOT FILE...`, `to-xml ROOT FILE...` and, with
+/// the words of `to-per` and `to-xml`, `to-per-u` and `to-xml-u` load the schema files in turn and end at the first that can't
+/// be loaded, has over 16,777,216 bytes, or has a fault in its text or as a schema document. Then the files are linked into
+/// one set, or the answer is the first fault of linking. `show` writes the module that the set maps to and leaves the input
+/// alone. The others look for the root in the set.
 ///
-/// `check` and `to-per` read the input, of as many bytes at most, as a document, which is valid against that element or has
-/// a first fault. `check` writes nothing. `to-per` writes the complete encoding, in canonical aligned PER, of the one value
-/// whose items by EXTENDED-XER are the document's treated items, unless it has too many nodes. `to-xml` takes the complete
-/// encoding of a value and nothing else, octet by octet as they come, and writes a document with the items of that value.
-/// `trial N` does what `to-per` does with an order of N lines, over a file and an input of its own, and writes one line.
+/// `check`, `to-per` and `to-per-u` read the input, of as many bytes at most, as a document, which is valid against that
+/// element or has a first fault. `check` writes nothing. `to-per` writes the complete encoding, in canonical aligned PER, of
+/// the one value whose items by EXTENDED-XER are the document's treated items, unless it has too many nodes; `to-per-u` the
+/// one in canonical unaligned PER. `to-xml` takes the complete aligned encoding of a value and nothing else, octet by octet
+/// as they come, `to-xml-u` the unaligned one, and they write a document with the items of that value. `trial N` does what
+/// `to-per` does with an order of N lines, over a file and an input of its own, and writes one line.
 ///
 /// `each-to-xml ROOT FILE...` takes complete encodings that follow one another to the end of the input, of at most
 /// 1,073,741,824 octets in all, and writes the document of each before it takes an octet behind it. So a refusal stands behind

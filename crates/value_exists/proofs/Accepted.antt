@@ -12,6 +12,7 @@ use Rattle.xa_base.specs.declared.white_space.WhiteSpace.{WhiteSpace}
 use Rattle.xa_base.specs.declared.white_space.WhiteSpace.TheVariants.{Preserve, Replace, Collapse}
 use Rattle.xa_base.specs.WhiteSpace.{words_of, treated, IsTreated}
 use Rattle.xa_base.proofs.Collapsing.{treated-treated}
+use Rattle.simple_types.specs.declared.standards.Standard.TheVariants.{Free}
 use Rattle.simple_types.specs.declared.simples.Class.{Class}
 use Rattle.simple_types.specs.declared.labels.ValueLabel.{ValueLabel}
 use Rattle.simple_types.specs.declared.labels.ValueLabel.TheVariants as value
@@ -30,14 +31,15 @@ use Rattle.asn_types.specs.declared.types.Component.{Component}
 use Rattle.asn_types.specs.declared.types.Form.{Form}
 use Rattle.asn_types.specs.declared.types.Form.TheVariants as form
 use Rattle.asn_types.specs.declared.types.TypeLabel.{TypeLabel}
-use Rattle.asn_types.specs.Marks.{is_embed_values, has_attribute, has_untagged, has_embed_values, has_list, has_use_union, white_space_of}
+use Rattle.asn_types.specs.Marks.{is_embed_values, is_use_order, has_attribute, has_untagged, has_embed_values, has_use_order, has_list, has_use_union, white_space_of}
 use Rattle.asn_types.specs.Refs.{target}
 use Rattle.asn_types.specs.Roles.{role_of}
 use Rattle.asn_types.specs.Simples.{counting, white_space_marks, MapsTo}
-use Rattle.asn_types.specs.Values.{ComponentPlace, place_of, place_at, alone, repeated, none_if, places_in, places, below, FitsAt, FitEach, IsTextOf, IsSpelled, HasTextCount, OwnAt}
+use Rattle.asn_values.specs.Values.{ComponentPlace, place_of, place_at, alone, repeated, none_if, places_in, places, below, FitsAt, FitEach, IsTextOf, IsSpelled, HasTextCount, HasOrder, OwnAt}
 use Rattle.map_assignments.specs.Naming.{type_label, text_marks, list_item, IsSimpleType, AreMembers}
 use Rattle.map_assignments.proofs.Simples.{simple-maps}
 use Rattle.map_694.proofs.Resolving.{follow-none}
+use Rattle.map_laws.proofs.Frees.{kept-free}
 use Rattle.value_exists.proofs.Encoded.{words_utf8, treated_utf8, taken_utf8}
 
 -- ---- marks
@@ -67,12 +69,33 @@ space-is Preserve = refl
 space-is Replace = refl
 space-is Collapse = refl
 
+order-counted : (ms : List Instruction) → has_use_order ms ≡ has_use_order (counting ms)
+order-counted [] = refl
+order-counted (mark.Name n ∷ ms) = order-counted ms
+order-counted (mark.Text item text ∷ ms) = order-counted ms
+order-counted (m ∷ ms) = ap (λ b. is_use_order m || b) (order-counted ms)
+
+space-unordered : (how : WhiteSpace) → has_use_order (white_space_marks how) ≡ false
+space-unordered Preserve = refl
+space-unordered Replace = refl
+space-unordered Collapse = refl
+
+no-order : (s : Space) (l : TypeLabel) (us : Roses TypeLabel) → MapsTo s (node l us) → has_use_order l.marks ≡ false
+no-order Booleans l us h = order-counted l.marks ∙ ap has_use_order h.1
+no-order (Wholes least greatest) l us h = order-counted l.marks ∙ ap has_use_order h.1
+no-order (Numbers numbers) l us h = order-counted l.marks ∙ ap has_use_order h.1
+no-order (Words how words) l us h = order-counted l.marks ∙ ap has_use_order h.1.1 ∙ space-unordered how
+no-order (Characters how least most class) l us h = order-counted l.marks ∙ ap has_use_order h.1 ∙ space-unordered how
+no-order (ListOf item least most) l us h = order-counted l.marks ∙ ap has_use_order h.1.1
+no-order (UnionOf members) l us h = order-counted l.marks ∙ ap has_use_order h.1.1
+
 -- a member of a union stands for a part of its own
 alternative : (parts : List Component) (i : ℕ) (c : Component) → c.marks ≡ [] → role_of (type_label (form.Choice parts) (mark.UseUnion ∷ [])) i c ≡ role.Alternative
 alternative parts i c e =
-    ap (λ ms. if has_attribute ms then role.Attribute else (if has_untagged ms then role.Group else (if (i == 0) && false then role.Embed else role.Alternative))) e ∙ by (i == 0)
+    ap (λ ms. if has_attribute ms then role.Attribute else (if has_untagged ms then role.Group else (if (i == 0) && false then role.Embed else (if (i == 0) && false then role.Order else role.Alternative)))) e
+    ∙ by (i == 0)
   where
-    by : (b : Bool) → (if b && false then role.Embed else role.Alternative) ≡ role.Alternative
+    by : (b : Bool) → (if b && false then role.Embed else (if b && false then role.Order else role.Alternative)) ≡ role.Alternative
     by true = refl
     by false = refl
 
@@ -194,6 +217,7 @@ module _ (M : List Assignment) (depth : ℕ) (small : depth ≤ 64) where
     text,
     match-either (has_list l.marks || has_use_union l.marks) (IsSpelled (node l us) v) (s, sound, maps, holds),
     match-false (has_embed_values l.marks) (HasTextCount M l (node l us) v) (no-embed s l us maps),
+    match-false (has_use_order l.marks) (HasOrder M l (node l us) v) (no-order s l us maps),
   )
 
   no-places : (o : Option (List ComponentPlace)) → o ≡ Some [] → EachFits o rose.none
@@ -260,7 +284,7 @@ module _ (M : List Assignment) (depth : ℕ) (small : depth ≤ 64) where
       let l = type_label (form.SequenceOf list_item least most) (mark.List ∷ []) in
       let known = is_read (reads s) text texts values e in
       subst (λ vs. FitEach M depth (replicate (length_all (roses_of vs)) (place_of l 0 list_item u)) (roses_of vs)) (sym known.is)
-      (f text known.value (All-head IsUtf8 text texts each) known.first u is, items-fit s f u is least most texts known.further (All-tail IsUtf8 text texts each) known.rest)
+      ((f text known.value (All-head IsUtf8 text texts each) known.first u is, tt), items-fit s f u is least most texts known.further (All-tail IsUtf8 text texts each) known.rest)
 
   sizes-fit : (b : Bool) (o : Option (List ComponentPlace)) (vs : Roses ValueLabel) → b ≡ true → EachFits o vs → EachFits (if b then o else None) vs
   sizes-fit true o vs e h = h
@@ -293,6 +317,7 @@ module _ (M : List Assignment) (depth : ℕ) (small : depth ≤ 64) where
     pub at : slice_get parts i ≡ Some part
     pub type_at : slice_get (list_of ts) i ≡ Some type
     pub plain : part.marks ≡ []
+    pub free : part.standard ≡ Free
     pub fit : FitsAt M depth type v
 
   abbrev FittingEach : Spaces → Type 0
@@ -308,16 +333,16 @@ module _ (M : List Assignment) (depth : ℕ) (small : depth ≤ 64) where
   unfolding reads taken_by
   more-fit s ss one others text i v u e before parts ts are =
       let identifier = are.0 in
-      let part : Component = record { identifier = identifier; optional = false; marks = [] } in
+      let part : Component = record { identifier = identifier; optional = false; standard = Free; marks = [] } in
       subst (λ ps. FitsMember ps ts i v) (sym are.5) (subst (λ us. FitsMember (part ∷ are.1) us i v) (sym are.6)
       (elim (which (reads s text) (taken_by ss text) i v e) [
         | inl first ↦
             subst (λ n. FitsMember (part ∷ are.1) (rose.more are.2 are.3) n v) (sym first.0)
-            (record { part = part; type = are.2; at = refl; type_at = refl; plain = refl; fit = one text v u first.1 are.2 are.7 })
+            (record { part = part; type = are.2; at = refl; type_at = refl; plain = refl; free = refl; fit = one text v u first.1 are.2 are.7 })
         | inr later ↦
             let rest = others text later.0 v u later.2 (before ++ identifier ∷ []) are.1 are.3 are.8 in
             subst (λ n. FitsMember (part ∷ are.1) (rose.more are.2 are.3) n v) (sym later.1)
-            (record { part = rest.part; type = rest.type; at = rest.at; type_at = rest.type_at; plain = rest.plain; fit = rest.fit })
+            (record { part = rest.part; type = rest.type; at = rest.at; type_at = rest.type_at; plain = rest.plain; free = rest.free; fit = rest.fit })
       ]))
 
   chosen-fits : (parts : List Component) (ts : Roses TypeLabel) (i : ℕ) (v : Rose ValueLabel) → FitsMember parts ts i v
@@ -327,7 +352,7 @@ module _ (M : List Assignment) (depth : ℕ) (small : depth ≤ 64) where
       let l = type_label (form.Choice parts) (mark.UseUnion ∷ []) in
       let vs = rose.more v rose.none in
       let fit : FitsAt M (below (role_of l i m.part) depth) m.type v = subst (λ r. FitsAt M (below r depth) m.type v) (sym (alternative parts i m.part m.plain)) m.fit in
-      subst (λ o. EachFits (alone (place_at l i o (slice_get (list_of ts) i))) vs) (sym m.at) (subst (λ o. EachFits (alone (place_at l i (Some m.part) o)) vs) (sym m.type_at) (fit, tt))
+      subst (λ o. EachFits (alone (place_at l i o (slice_get (list_of ts) i))) vs) (sym m.at) (subst (λ o. EachFits (alone (place_at l i (Some m.part) o)) vs) (sym m.type_at) ((fit, kept-free M m.part m.type v m.free), tt))
 
   unions-fit : (members : Spaces) → FittingEach members → Sound (UnionOf members) → Fitting (UnionOf members)
   unions-fit members f sound text v u e t is =

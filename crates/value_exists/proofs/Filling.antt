@@ -18,7 +18,7 @@ use Rattle.asn_types.specs.declared.types.Form.TheVariants as form
 use Rattle.asn_types.specs.declared.types.TypeLabel.{TypeLabel}
 use Rattle.asn_types.specs.Marks.{has_embed_values}
 use Rattle.asn_types.specs.Refs.{resolve}
-use Rattle.asn_types.specs.Values.{places, below, child_count, first_count, text_count, is_last_absent, FitsAt, FitEach, OwnAt}
+use Rattle.asn_values.specs.Values.{places, below, child_count, first_count, text_count, is_last_absent, FitsAt, FitEach, OwnAt}
 use Rattle.schema_parts.specs.declared.components.AttributeUse.{AttributeUse}
 use Rattle.schema_parts.specs.declared.components.ComplexDef.{ComplexDef}
 use Rattle.schema_parts.specs.declared.components.Content.{Content}
@@ -33,14 +33,15 @@ use Rattle.map_laws.specs.Standing.{Behind, AreTexts, WithTexts, WithAttributes,
 use Rattle.map_laws.proofs.Values.{present_children, PartsFit, sequence-value, sequence-children}
 use Rattle.map_laws.proofs.Complexes.{fits-found}
 use Rattle.map_laws.proofs.Counts.{count-at}
+use Rattle.map_laws.proofs.Frees.{sequence-free, complex-free}
 use Rattle.map_laws.proofs.Giving.{parts-fit-each, sequence-fits, sequence-gives, IsGiven, top-made}
 use Rattle.map_laws.proofs.Nillables.{last_absent, last-at}
-use Rattle.xer_items.specs.Spelling.{spelling}
+use Rattle.asn_types.specs.Spaces.{spelling}
 use Rattle.xer_items.specs.Items.{Given, given, nothing, joined, both, with_nil, with_texts, texts_of, placed, inside}
 use Rattle.one_value.proofs.Groups.{tell, told, present_given, sequence-inside, inside-found, top-shows}
 use Rattle.one_value.proofs.Attributes.{attribute-gives}
 use Rattle.one_value.proofs.Mixed.{text_in}
-use Rattle.one_value.proofs.Complexes.{not-textual, nil-mark, embed-mark}
+use Rattle.one_value.proofs.Complexes.{not-textual, nil-mark, embed-mark, order-mark}
 use Rattle.value_exists.proofs.Texts.{IsText, AttributesAs}
 
 -- ---- what is given for the leaves of a content model: items
@@ -185,8 +186,8 @@ module _ (M : List Assignment) (E : ℕ → Rose TypeLabel → Type 0) (depth : 
       let l = type_label (form.Sequence has.0) [] in
       let all = content-fills c k n h false l 0 has.0 (list_of has.1) has.3 in
       let v = node (value.Sequence all.flags) all.values in
-      let fits : FitsAt M depth (node l has.1) v = sequence-fits M depth small [] has.0 has.1 all.flags all.values all.fit (tt, tt, tt) in
-      let gives : inside M (node l has.1) v ≡ given [] k = sequence-inside M depth [] has.0 has.1 all.flags all.values refl all.fit ∙ all.gives in
+      let fits : FitsAt M depth (node l has.1) v = sequence-fits M depth small [] has.0 has.1 all.flags all.values (sequence-free E s M c u has) all.fit (tt, tt, tt, tt) in
+      let gives : inside M (node l has.1) v ≡ given [] k = sequence-inside M depth [] has.0 has.1 all.flags all.values refl refl all.fit ∙ all.gives in
       let made : children M (node l has.1) v ≡ present_children M l 0 has.0 (list_of has.1) all.flags all.values =
       sequence-gives M depth l has.0 has.1 all.flags all.values (sequence-value M depth [] has.0 has.1 v fits) in
       record {
@@ -299,12 +300,12 @@ module _ (M : List Assignment) (E : ℕ → Rose TypeLabel → Type 0) (depth : 
       → (mixed ≡ true → first_count (value.Sequence flags) (list_of vs)
       ≡ text_count nil (child_count M (node (type_label (form.Sequence cs) (sequence_marks nillable mixed)) us) (node (value.Sequence flags) vs)))
       → OwnAt M (type_label (form.Sequence cs) (sequence_marks nillable mixed)) (node (type_label (form.Sequence cs) (sequence_marks nillable mixed)) us) (node (value.Sequence flags) vs)
-  owns true false nil cs us flags vs last plain first = (tt, tt, tt)
-  owns false false nil cs us flags vs last plain first = (tt, tt, tt)
+  owns true false nil cs us flags vs last plain first = (tt, tt, tt, tt)
+  owns false false nil cs us flags vs last plain first = (tt, tt, tt, tt)
   owns true true nil cs us flags vs last plain first =
-      (tt, tt, first refl ∙ ap (λ b. text_count b (child_count M (node (type_label (form.Sequence cs) (sequence_marks true true)) us) (node (value.Sequence flags) vs))) (sym (last refl)))
+      (tt, tt, first refl ∙ ap (λ b. text_count b (child_count M (node (type_label (form.Sequence cs) (sequence_marks true true)) us) (node (value.Sequence flags) vs))) (sym (last refl)), tt)
   owns false true nil cs us flags vs last plain first =
-      (tt, tt, first refl ∙ ap (λ b. text_count b (child_count M (node (type_label (form.Sequence cs) (sequence_marks false true)) us) (node (value.Sequence flags) vs))) (plain refl))
+      (tt, tt, first refl ∙ ap (λ b. text_count b (child_count M (node (type_label (form.Sequence cs) (sequence_marks false true)) us) (node (value.Sequence flags) vs))) (plain refl), tt)
 
   pub nil-is : (nillable nil last : Bool) → (nillable ≡ true → last ≡ nil) → (nillable ≡ false → nil ≡ false) → (nillable && last) ≡ nil
   nil-is true nil last f g = f refl
@@ -334,7 +335,7 @@ module _ (M : List Assignment) (E : ℕ → Rose TypeLabel → Type 0) (depth : 
       let v = node (value.Sequence all.flags) all.values in
       let whole = node l has.1 in
       let same : resolve M t ≡ resolve M whole = has.2 ∙ sym (follow-none M 4 whole refl) in
-      let each = parts-fit-each M depth l has.0 0 us all.flags all.values all.fit in
+      let each = parts-fit-each M depth l has.0 0 us all.flags all.values (complex-free E s M nillable c (resolve M t) has) all.fit in
       let made : children M whole v ≡ present_children M l 0 has.0 us all.flags all.values = sequence-children M depth marks has.0 has.1 all.flags all.values each in
       let counted : mixed ≡ true → child_count M whole v ≡ n =
       λ e. count-at M depth whole (value.Sequence all.flags) all.values (subst (λ x. elim (places x (value.Sequence all.flags) (length_all all.values)) as (λ _. Type 0) [ None ↦ ⊥ | Some ps ↦ FitEach M depth ps all.values ]) (sym (follow-none M 4 whole refl)) each)
@@ -342,11 +343,11 @@ module _ (M : List Assignment) (E : ℕ → Rose TypeLabel → Type 0) (depth : 
       let last = λ (e : nillable ≡ true). ends-last nil all.flags (all.ends e) in
       let plain = plain-rest nillable nil c.content k n rest in
       let own = owns nillable mixed nil has.0 has.1 all.flags all.values last plain (λ e. filled.first e ∙ ap (text_count nil) (sym (counted e))) in
-      let fits : FitsAt M depth whole v = sequence-fits M depth small marks has.0 has.1 all.flags all.values all.fit own in
+      let fits : FitsAt M depth whole v = sequence-fits M depth small marks has.0 has.1 all.flags all.values (complex-free E s M nillable c (resolve M t) has) all.fit own in
       let given_all = present_given M l 0 has.0 us all.flags all.values in
       let own_texts = texts_of (value.Sequence all.flags) all.values in
       let gives : inside M t v ≡ with_nil nil (with_texts mixed texts (given xs k)) =
-      inside-found M t whole v same ∙ sequence-inside M depth marks has.0 has.1 all.flags all.values (not-textual has.0 nillable mixed) all.fit
+      inside-found M t whole v same ∙ sequence-inside M depth marks has.0 has.1 all.flags all.values (not-textual has.0 nillable mixed) (order-mark nillable mixed) all.fit
       ∙ ap (λ b. with_nil (b && is_last_absent (value.Sequence all.flags)) (with_texts (has_embed_values marks) own_texts given_all)) (nil-mark nillable mixed)
       ∙ ap (λ b. with_nil b (with_texts (has_embed_values marks) own_texts given_all)) (nil-is nillable nil (is_last_absent (value.Sequence all.flags)) last plain)
       ∙ ap (λ m. with_nil nil (with_texts m own_texts given_all)) (embed-mark nillable mixed)

@@ -28,7 +28,7 @@ use Rattle.plain_items.specs.Mixing.{child_elements, behind_first, texts_between
 use Rattle.asn_types.specs.declared.modules.Assignment.{Assignment}
 use Rattle.asn_types.specs.declared.types.Form.TheVariants as form
 use Rattle.asn_types.specs.declared.types.TypeLabel.{TypeLabel}
-use Rattle.asn_types.specs.Values.{below, FitsAt}
+use Rattle.asn_values.specs.Values.{below, FitsAt}
 use Rattle.schema_parts.proofs.Truths.{both}
 use Rattle.map_assignments.specs.Naming.{type_label}
 use Rattle.map_laws.specs.Standing.{AreTexts}
@@ -150,7 +150,7 @@ module _ (M : List Assignment) (depth : ℕ) (small : depth ≤ 64) where
   pub texts-fitting : (texts : List (List ℕ)) → All IsXml texts → ((u : Rose TypeLabel) → AreTexts u → FitsAt M depth u (texts_value texts)) × (map text_in (kids_of (texts_value texts)) ≡ texts)
   texts-fitting texts h = (
     λ u are. subst (λ x. FitsAt M depth x (texts_value texts)) (sym are.type)
-        (list-fits M depth small are.item text_type 0 None (roses_of (map text_value texts)) (zero-below (length_all (roses_of (map text_value texts)))) refl (texts-fit u are texts h)),
+        (list-fits M depth small are.item text_type 0 None (roses_of (map text_value texts)) (zero-below (length_all (roses_of (map text_value texts)))) refl are.is.free (texts-fit u are texts h)),
     texts-in texts,
   )
 

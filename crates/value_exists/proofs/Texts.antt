@@ -22,7 +22,7 @@ use Rattle.asn_types.specs.declared.modules.Assignment.{Assignment}
 use Rattle.asn_types.specs.declared.types.TypeLabel.{TypeLabel}
 use Rattle.asn_types.specs.Refs.{resolve}
 use Rattle.asn_types.specs.Simples.{MapsTo}
-use Rattle.asn_types.specs.Values.{FitsAt}
+use Rattle.asn_values.specs.Values.{FitsAt}
 use Rattle.asn_types.proofs.SimpleLaws.{maps-seen}
 use Rattle.schema_parts.specs.declared.components.AttributeUse.{AttributeUse}
 use Rattle.schema_parts.specs.declared.components.SimpleDef.{SimpleDef}
@@ -36,7 +36,7 @@ use Rattle.map_assignments.proofs.Simples.{simple-maps}
 use Rattle.map_694.proofs.Resolving.{no-target, follow-none}
 use Rattle.map_laws.specs.Standing.{IsSimpleOf}
 use Rattle.map_laws.proofs.Complexes.{fits-found}
-use Rattle.xer_items.specs.Spelling.{spelling}
+use Rattle.asn_types.specs.Spaces.{spelling}
 use Rattle.xer_items.specs.Items.{given, inside}
 use Rattle.xer_items.proofs.Texts.{texts_of_values}
 use Rattle.validity.specs.Asked.{Attribute, space_at, attribute_in}

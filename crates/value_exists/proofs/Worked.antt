@@ -34,7 +34,7 @@ use Rattle.validity.specs.Private.WorkedSets.{unqualified, any_text, any_token, 
 use Rattle.asn_types.specs.declared.modules.Assignment.{Assignment}
 use Rattle.asn_types.specs.declared.types.Component.{Component}
 use Rattle.asn_types.specs.Refs.{follow}
-use Rattle.asn_types.specs.Values.{child_count, count_in, FitsAt, FitEach, Fits}
+use Rattle.asn_values.specs.Values.{child_count, count_in, FitsAt, FitEach, Fits}
 use Rattle.xer_items.specs.Items.{inside, gathered, Xer}
 use Rattle.value_exists.proofs.WorkedTypes.{component, refers, text_type, token_type, order_types, element_types, prices, price_types}
 
@@ -81,12 +81,12 @@ xsi_prefix = (codes "xsi", codes "http://www.w3.org/2001/XMLSchema-instance")
 
 text_fits : (M : List Assignment) (depth : ℕ) → depth ≤ 64 → (bytes : List ℕ) → is_utf8 bytes ≡ true → has_characters 0 None Any bytes ≡ true → FitsAt M depth text_type (words bytes)
 unfolding follow FitsAt FitEach treated
-text_fits M depth small bytes e f = (small, tt, ((IsUtf8-from_is_utf8 bytes e, f, refl), tt, tt))
+text_fits M depth small bytes e f = (small, tt, ((IsUtf8-from_is_utf8 bytes e, f, refl), tt, tt, tt))
 
 token_fits : (M : List Assignment) (depth : ℕ) → depth ≤ 64 → (bytes : List ℕ) → is_utf8 bytes ≡ true → has_characters 0 None Any bytes ≡ true → treated Collapse bytes ≡ bytes
     → FitsAt M depth token_type (words bytes)
 unfolding follow FitsAt FitEach
-token_fits M depth small bytes e f g = (small, tt, ((IsUtf8-from_is_utf8 bytes e, f, g), tt, tt))
+token_fits M depth small bytes e f g = (small, tt, ((IsUtf8-from_is_utf8 bytes e, f, g), tt, tt, tt))
 
 -- ---- an order of one line
 
@@ -308,13 +308,17 @@ line_fits : FitsAt order_types 2 (refers 1) (line_value (codes "A1") (pos 3))
 unfolding order_types follow FitsAt FitEach chars is_xml_char in_class treated words_of is_white_space is_utf8 encode_utf8
 line_fits = (
   omega arith,
-  (token_fits order_types 3 (omega arith) (codes "A1") refl refl refl, ((omega arith, tt, (tt, tt, tt)), tt)),
-  (tt, tt, tt),
+  ((token_fits order_types 3 (omega arith) (codes "A1") refl refl refl, tt), (((omega arith, tt, (tt, tt, tt, tt)), tt), tt)),
+  (tt, tt, tt, tt),
 )
 
 order_fits : Fits order_types 0 order_value
 unfolding order_types follow FitsAt FitEach chars is_xml_char in_class treated words_of is_white_space is_utf8 encode_utf8
-order_fits = (omega arith, ((omega arith, tt, (tt, tt, tt)), ((omega arith, (line_fits, tt), (tt, tt, tt)), tt)), (tt, tt, tt))
+order_fits = (
+  omega arith,
+  (((omega arith, tt, (tt, tt, tt, tt)), tt), (((omega arith, ((line_fits, tt), tt), (tt, tt, tt, tt)), tt), tt)),
+  (tt, tt, tt, tt),
+)
 
 order_items : Xer order_types 0 order_value ≡ Some order_plain
 unfolding order_types follow inside gathered spelled digits
@@ -348,7 +352,7 @@ empty_is_not_valid b h = let inner = h.1.5 in no_empty_list inner.0 inner.1 inne
 
 empty_does_not_fit : Fits order_types 0 empty_value → ⊥
 unfolding order_types follow FitsAt FitEach
-empty_does_not_fit h = h.1.1.0.1
+empty_does_not_fit h = h.1.1.0.0.1
 
 -- ---- an order of two lines and an empty note; white space of its texts is treated
 
@@ -472,8 +476,8 @@ first_line_fits : FitsAt order_types 2 (refers 1) (line_value (codes "B 2") (pos
 unfolding order_types follow FitsAt FitEach chars is_xml_char in_class treated words_of is_white_space is_utf8 encode_utf8
 first_line_fits = (
   omega arith,
-  (token_fits order_types 3 (omega arith) (codes "B 2") refl refl refl, ((omega arith, tt, (tt, tt, tt)), tt)),
-  (tt, tt, tt),
+  ((token_fits order_types 3 (omega arith) (codes "B 2") refl refl refl, tt), (((omega arith, tt, (tt, tt, tt, tt)), tt), tt)),
+  (tt, tt, tt, tt),
 )
 
 two_lines_fits : Fits order_types 0 two_lines_value
@@ -481,10 +485,10 @@ unfolding order_types follow FitsAt FitEach chars in_class treated is_utf8 encod
 two_lines_fits = (
   omega arith,
   (
-    (omega arith, tt, (tt, tt, tt)),
-    ((omega arith, (first_line_fits, (line_fits, tt)), (tt, tt, tt)), (text_fits order_types 2 (omega arith) [] refl refl, tt)),
+    ((omega arith, tt, (tt, tt, tt, tt)), tt),
+    (((omega arith, ((first_line_fits, tt), ((line_fits, tt), tt)), (tt, tt, tt, tt)), tt), ((text_fits order_types 2 (omega arith) [] refl refl, tt), tt)),
   ),
-  (tt, tt, tt),
+  (tt, tt, tt, tt),
 )
 
 two_lines_items : Xer order_types 0 two_lines_value ≡ Some two_lines_plain
@@ -505,7 +509,7 @@ nil_plain = plain (unqualified (codes "k")) ((xsi (codes "nil"), codes "true") �
 
 nil_is_one : AreOne elements 5 nil_item element_types 3 (sequence (false ∷ []) []) nil_plain
 unfolding elements element_types follow FitsAt FitEach inside gathered treated words_of is_white_space
-nil_is_one = ((refl, (none, refl, refl, All-nil (IsRight []), All-nil (Stands []), (refl, refl))), (omega arith, tt, (tt, tt, tt)), refl)
+nil_is_one = ((refl, (none, refl, refl, All-nil (IsRight []), All-nil (Stands []), (refl, refl))), (omega arith, tt, (tt, tt, tt, tt)), refl)
 
 -- <k>5</k>
 five_is_one : AreOne elements 5 (item (unqualified (codes "k")) [] [] 0 (said (codes "5") 3 ∷ [])) element_types 3 (sequence (true ∷ []) (number (pos 5) ∷ []))
@@ -513,7 +517,7 @@ five_is_one : AreOne elements 5 (item (unqualified (codes "k")) [] [] 0 (said (c
 unfolding elements element_types follow FitsAt FitEach inside gathered reads spelled treated words_of is_white_space whole_number digits
 five_is_one = (
   (refl, (roses_of (characters (codes "5") ∷ []), refl, refl, All-nil (IsRight []), All-nil (Stands []), (codes "5", refl, refl))),
-  (omega arith, ((omega arith, tt, (tt, tt, tt)), tt), (tt, tt, tt)),
+  (omega arith, (((omega arith, tt, (tt, tt, tt, tt)), tt), tt), (tt, tt, tt, tt)),
   refl,
 )
 
@@ -613,23 +617,32 @@ mixed_fits = (
   omega arith,
   (
     (
-      omega arith,
-      (text_fits element_types 1 (omega arith) (codes "Hi ") refl refl, (text_fits element_types 1 (omega arith) (codes ", ") refl refl, (text_fits element_types 1 (omega arith) (codes "!") refl refl, tt))),
-      (tt, tt, tt),
-    ),
-    (
       (
         omega arith,
         (
-          (omega arith, (text_fits element_types 2 (omega arith) (codes "x") refl refl, tt), (tt, tt, tt)),
-          ((omega arith, (text_fits element_types 2 (omega arith) (codes "y") refl refl, tt), (tt, tt, tt)), tt),
+          (text_fits element_types 1 (omega arith) (codes "Hi ") refl refl, tt),
+          ((text_fits element_types 1 (omega arith) (codes ", ") refl refl, tt), ((text_fits element_types 1 (omega arith) (codes "!") refl refl, tt), tt)),
         ),
-        (tt, tt, tt),
+        (tt, tt, tt, tt),
+      ),
+      tt,
+    ),
+    (
+      (
+        (
+          omega arith,
+          (
+            ((omega arith, ((text_fits element_types 2 (omega arith) (codes "x") refl refl, tt), tt), (tt, tt, tt, tt)), tt),
+            (((omega arith, ((text_fits element_types 2 (omega arith) (codes "y") refl refl, tt), tt), (tt, tt, tt, tt)), tt), tt),
+          ),
+          (tt, tt, tt, tt),
+        ),
+        tt,
       ),
       tt,
     ),
   ),
-  (tt, tt, refl),
+  (tt, tt, refl, tt),
 )
 
 mixed_items : Xer element_types 6 mixed_value ≡ Some (plain (unqualified (codes "p")) [] mixed_kids)
@@ -647,8 +660,8 @@ no_mixed_is_one = (
   (refl, (none, refl, refl, All-nil (IsRight []), All-nil (Stands []), ([], (0, omega arith, refl), (refl, refl)))),
   (
     omega arith,
-    ((omega arith, (text_fits element_types 1 (omega arith) [] refl refl, tt), (tt, tt, tt)), ((omega arith, tt, (tt, tt, tt)), tt)),
-    (tt, tt, refl),
+    (((omega arith, ((text_fits element_types 1 (omega arith) [] refl refl, tt), tt), (tt, tt, tt, tt)), tt), (((omega arith, tt, (tt, tt, tt, tt)), tt), tt)),
+    (tt, tt, refl, tt),
   ),
   refl,
 )
@@ -662,8 +675,8 @@ list_fits : Fits element_types 11 list_value
 unfolding element_types follow FitsAt FitEach reads spelled words_of treated is_white_space whole_number digits
 list_fits = (
   omega arith,
-  ((omega arith, tt, (tt, tt, tt)), ((omega arith, tt, (tt, tt, tt)), tt)),
-  (tt, (space.ListOf any_byte 1 (Some 3), (omega arith, refl, omega arith), (component [] false [], (refl, refl), (refl, refl), (refl, refl)), refl), tt),
+  (((omega arith, tt, (tt, tt, tt, tt)), tt), (((omega arith, tt, (tt, tt, tt, tt)), tt), tt)),
+  (tt, (space.ListOf any_byte 1 (Some 3), (omega arith, refl, omega arith), (component [] false [], (refl, refl), (refl, refl), (refl, refl)), refl), tt, tt),
 )
 
 list_is_one : AreOne elements 6 (item (unqualified (codes "v")) [] [] 0 (said (codes " 1  255 ") 3 ∷ [])) element_types 11 list_value
@@ -684,7 +697,7 @@ union_fits : Fits element_types 10 (chosen 0 (number (pos 7)))
 unfolding element_types follow FitsAt FitEach reads taken_by spelled spelled_by treated words_of is_white_space whole_number digits
 union_fits = (
   omega arith,
-  ((omega arith, tt, (tt, tt, tt)), tt),
+  (((omega arith, tt, (tt, tt, tt, tt)), tt), tt),
   (
     tt,
     (
@@ -693,6 +706,7 @@ union_fits = (
       (alternatives, (refl, refl), ((refl, refl), ((refl, refl), tt)), ((refl, refl), ((refl, refl), tt))),
       refl,
     ),
+    tt,
     tt,
   ),
 )
@@ -711,7 +725,7 @@ words_fit : Fits element_types 12 (chosen 0 (node (value.Enum 0) none))
 unfolding element_types follow FitsAt FitEach IsStrictlySortedBy reads taken_by spelled spelled_by treated words_of is_white_space whole_number digits chars is_xml_char
 words_fit = (
   omega arith,
-  ((omega arith, tt, (tt, tt, tt)), tt),
+  (((omega arith, tt, (tt, tt, tt, tt)), tt), tt),
   (
     tt,
     (
@@ -720,6 +734,7 @@ words_fit = (
       (alternatives, (refl, refl), ((refl, refl), ((refl, refl), tt)), ((codes "x7" ∷ [], (refl, refl)), ((refl, refl), tt))),
       refl,
     ),
+    tt,
     tt,
   ),
 )
@@ -741,7 +756,7 @@ colour_is_one : AreOne elements 7 (item (unqualified (codes "c")) [] [] 0 (said 
 unfolding elements element_types follow FitsAt FitEach inside reads spelled treated words_of is_white_space
 colour_is_one = (
   (refl, (roses_of (characters (codes "red") ∷ []), refl, refl, All-nil (IsRight []), All-nil (Stands []), (codes " red ", refl, refl))),
-  (omega arith, tt, (tt, tt, tt)),
+  (omega arith, tt, (tt, tt, tt, tt)),
   refl,
 )
 
@@ -764,7 +779,7 @@ attribute_is_one : AreOne elements 13 (item (unqualified (codes "q")) (t_of (cod
 unfolding elements element_types follow FitsAt FitEach inside gathered reads spelled treated chars is_xml_char in_class is_utf8 encode_utf8
 attribute_is_one = (
   (refl, (none, refl, refl, t_right, t_stands (t_of (codes "a\nb") ∷ []), (refl, refl))),
-  (omega arith, (text_fits element_types 1 (omega arith) (codes "a\nb") refl refl, tt), (tt, tt, tt)),
+  (omega arith, ((text_fits element_types 1 (omega arith) (codes "a\nb") refl refl, tt), tt), (tt, tt, tt, tt)),
   refl,
 )
 
@@ -773,7 +788,7 @@ no_attribute_is_one : AreOne elements 13 (item (unqualified (codes "q")) [] [] 0
 unfolding elements element_types follow FitsAt FitEach inside gathered
 no_attribute_is_one = (
   (refl, (none, refl, refl, All-nil (IsRight (asked_at elements 13).attributes), t_stands [], (refl, refl))),
-  (omega arith, tt, (tt, tt, tt)),
+  (omega arith, tt, (tt, tt, tt, tt)),
   refl,
 )
 
@@ -814,7 +829,7 @@ nested_is_one = (
       (z_leaf ∷ [], one_z, (z_leaf, [], z_plain [], none, refl, refl, refl, inner_valid, (refl, refl))),
     ),
   ),
-  (omega arith, ((omega arith, tt, (tt, tt, tt)), tt), (tt, tt, tt)),
+  (omega arith, (((omega arith, tt, (tt, tt, tt, tt)), tt), tt), (tt, tt, tt, tt)),
   refl,
 )
 
@@ -842,7 +857,7 @@ price_is_one : AreOne prices 0 (item (unqualified (codes "price")) (euros ∷ []
 unfolding prices price_types follow FitsAt FitEach inside gathered reads spelled treated words_of is_white_space whole_number digits chars is_xml_char in_class is_utf8 encode_utf8
 price_is_one = (
   (refl, (roses_of (characters (codes "5") ∷ []), refl, refl, euros_right, euros_stand [], (codes " 5 ", refl, refl))),
-  (omega arith, (text_fits price_types 1 (omega arith) (codes "EUR") refl refl, ((omega arith, tt, (tt, tt, tt)), tt)), (tt, tt, tt)),
+  (omega arith, ((text_fits price_types 1 (omega arith) (codes "EUR") refl refl, tt), (((omega arith, tt, (tt, tt, tt, tt)), tt), tt)), (tt, tt, tt, tt)),
   refl,
 )
 
@@ -852,6 +867,6 @@ rebate_is_one : AreOne prices 1 (item (unqualified (codes "rebate")) (euros ∷ 
 unfolding prices price_types follow FitsAt FitEach inside gathered reads spelled treated words_of is_white_space chars is_xml_char in_class is_utf8 encode_utf8
 rebate_is_one = (
   (refl, (none, refl, refl, euros_right, euros_stand [], (refl, refl))),
-  (omega arith, (text_fits price_types 1 (omega arith) (codes "EUR") refl refl, tt), (tt, tt, tt)),
+  (omega arith, ((text_fits price_types 1 (omega arith) (codes "EUR") refl refl, tt), tt), (tt, tt, tt, tt)),
   refl,
 )

@@ -4,6 +4,7 @@ use Rattle.std.specs.Prelude.{ℕ, Bool, ◌^◌, ◌-◌, true, false, pos, neg
 use Rattle.label_tree.specs.Rose.{Rose, node, roses_of}
 use Rattle.xa_base.specs.declared.white_space.WhiteSpace.TheVariants.{Collapse}
 use Rattle.simple_types.specs.declared.simples.Class.TheVariants.{Any}
+use Rattle.simple_types.specs.declared.standards.Standard.TheVariants.{Free}
 use Rattle.schema_parts.specs.declared.components.Content.TheVariants as content
 use Rattle.schema_parts.specs.declared.components.TypeOf.TheVariants as kind
 use Rattle.schema_parts.specs.SetParts.{SetParts}
@@ -17,7 +18,7 @@ use Rattle.asn_types.specs.declared.types.Component.{Component}
 use Rattle.asn_types.specs.declared.types.Form.{Form}
 
 abbrev pub component : List ℕ → Bool → List Instruction → Component
-component identifier optional marks = record { identifier = identifier; optional = optional; marks = marks }
+component identifier optional marks = record { identifier = identifier; optional = optional; standard = Free; marks = marks }
 
 abbrev type : Form → List Instruction → List (Rose TypeLabel) → Rose TypeLabel
 type f marks ts = node (record { form = f; marks = marks }) (roses_of ts)

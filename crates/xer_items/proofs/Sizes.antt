@@ -4,23 +4,24 @@ use Rattle.std.specs.Prelude.{slice_get, ◌&&◌}
 use Rattle.std.specs.Option.{option_map}
 use Rattle.std.proofs.lemmas.List.{length-map}
 use Rattle.label_tree.specs.Rose.{Rose, node, Roses, none, more, label_of, kids_of, list_of, length_all, node_count, count_all}
-use Rattle.label_tree.proofs.Roses.{length-list_of}
+use Rattle.label_tree.proofs.Roses.{length-list_of, roses_of-list_of}
 use Rattle.simple_types.specs.declared.labels.ValueLabel.{ValueLabel}
 use Rattle.simple_types.specs.declared.labels.ValueLabel.TheVariants as value
 use Rattle.simple_values.specs.Reading.{spelled, spelled_text}
-use Rattle.plain_items.specs.Plain.{Plain}
-use Rattle.plain_items.specs.Mixing.{text_before, interleaved}
+use Rattle.plain_items.specs.Plain.{Plain, element, text}
+use Rattle.plain_items.specs.Mixing.{text_before, interleaved, child_elements}
 use Rattle.asn_types.specs.declared.modules.Assignment.{Assignment}
 use Rattle.asn_types.specs.declared.roles.Role.{Role}
-use Rattle.asn_types.specs.declared.roles.Role.TheVariants.{Attribute, Element, Group, Content, Embed, Item, Alternative}
+use Rattle.asn_types.specs.declared.roles.Role.TheVariants.{Attribute, Element, Group, Content, Embed, Order, Item, Alternative}
 use Rattle.asn_types.specs.declared.types.TypeLabel.{TypeLabel}
-use Rattle.asn_types.specs.Marks.{has_embed_values, has_use_nil}
+use Rattle.asn_types.specs.Marks.{has_embed_values, has_use_nil, has_use_order}
 use Rattle.asn_types.specs.Refs.{resolve}
 use Rattle.asn_types.specs.Spaces.{space_at}
-use Rattle.asn_types.specs.Values.{ComponentPlace, places, is_last_absent}
+use Rattle.asn_values.specs.Values.{ComponentPlace, places, is_last_absent, ordered_flags, order_of}
 use Rattle.xer_items.specs.Spelling.{is_textual}
-use Rattle.xer_items.specs.Items.{Given, given, nothing, joined, texts_of, with_texts, with_nil, completed, placed, inside, gathered, root_of}
+use Rattle.xer_items.specs.Items.{Given, given, nothing, joined, with_order, texts_of, with_texts, with_nil, completed, placed, inside, gathered, root_of}
 use Rattle.xer_items.specs.Laws.{FewItems}
+use Rattle.xer_items.proofs.Ordering.{in_order-weight}
 
 abbrev pub size : Roses Plain → ℕ
 size k = count_all k
@@ -45,6 +46,17 @@ size-texts false texts g = omega arith
 pub nil-kids : (b : Bool) (g : Given) → (with_nil b g).kids ≡ g.kids
 nil-kids true g = refl
 nil-kids false g = refl
+
+size-elements : (k : Roses Plain) → size (child_elements k) ≤ size k
+size-elements none = omega arith
+size-elements (more (node (element name attributes) items) k) = omega (arith, size-elements k)
+size-elements (more (node (text words) items) k) = omega (arith, size-elements k)
+
+size-order : (b : Bool) (flags : List Bool) (numbers : List ℕ) (g : Given) → size (with_order b flags numbers g).kids ≤ size g.kids
+size-order true flags numbers g =
+    let same = ap size (roses_of-list_of (child_elements g.kids)) in
+    omega (arith, same, in_order-weight flags numbers (list_of (child_elements g.kids)), size-elements g.kids)
+size-order false flags numbers g = omega arith
 
 -- how many kids the first has
 abbrev first_kids : Roses ValueLabel → ℕ
@@ -85,6 +97,7 @@ module _ (M : List Assignment) where
       by Group = omega arith
       by Content = omega arith
       by Embed = omega arith
+      by Order = omega arith
       by Item = omega arith
       by Alternative = omega arith
 
@@ -110,9 +123,13 @@ module _ (M : List Assignment) where
           | None ↦ omega (arith, first-count vs)
           | Some ps ↦ gathered-size ps vs
         ] in
-        let whole = completed-size (label_of found) v vs kids in
-        let most = textual-size (is_textual (label_of found)) (spelled (space_at found) (node v vs)) (completed (label_of found) v vs kids) (3 * count_all vs + 1 - length_all vs)
-        (omega (arith, length-count vs)) (omega (arith, parts, whole, length-count vs)) in
+        let told = has_use_order (label_of found).marks in
+        let flags = ordered_flags M (label_of found) found (node v vs) in
+        let numbers = order_of found (node v vs) in
+        let ordered = size-order told flags numbers kids in
+        let whole = completed-size (label_of found) v vs (with_order told flags numbers kids) in
+        let most = textual-size (is_textual (label_of found)) (spelled (space_at found) (node v vs)) (completed (label_of found) v vs (with_order told flags numbers kids)) (3 * count_all vs + 1 - length_all vs)
+        (omega (arith, length-count vs)) (omega (arith, parts, ordered, whole, length-count vs)) in
         omega (arith, most, length-count vs, length-list_of vs)
 
     gathered-size : (ps : List ComponentPlace) (vs : Roses ValueLabel) → size (gathered M ps vs).kids + first_kids vs + length_all vs ≤ 3 * count_all vs

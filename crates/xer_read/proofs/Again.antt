@@ -9,7 +9,7 @@ use Rattle.schema_parts.specs.Components.{Set}
 use Rattle.schema_parts.specs.Linked.{IsLinked}
 use Rattle.schema_parts.specs.SetParts.{parts_of}
 use Rattle.asn_types.specs.declared.modules.Assignment.{Assignment}
-use Rattle.asn_types.specs.Values.{In}
+use Rattle.asn_values.specs.Values.{In}
 use Rattle.map_assignments.specs.Mapped.{IsMapOf}
 use Rattle.xer_items.specs.Items.{Xer}
 use Rattle.validity.specs.Laws.{AtMostOne}

@@ -11,8 +11,8 @@ use Rattle.asn_types.specs.declared.types.Form.{Form}
 use Rattle.asn_types.specs.declared.types.Form.TheVariants as form
 use Rattle.asn_types.specs.declared.types.TypeLabel.{TypeLabel}
 use Rattle.asn_types.specs.Refs.{resolve}
-use Rattle.asn_types.specs.Values.{ComponentPlace, place_of, put_first, present_from, alone, none_if, places_in, places, below, FitsAt, FitEach}
-use Rattle.asn_types.specs.Private.Placing.{FitPlaces}
+use Rattle.asn_values.specs.Values.{ComponentPlace, place_of, put_first, present_from, alone, none_if, places_in, places, below, FitsAt, FitEach}
+use Rattle.asn_values.specs.Private.Placing.{FitPlaces}
 
 same_some : {A : Type 0} (a b : A) → Some a ≡ Some b → a ≡ b
 same_some a b e = cc
@@ -49,6 +49,7 @@ may l ts form.Bool (value.Bool b) n ps e k = sym k ∙ ap length (sym (same_some
 may l ts (form.Int least greatest) (value.Int z) n ps e k = sym k ∙ none_if-count _ ps e
 may l ts (form.Numbers numbers) (value.Enum i) n ps e k = sym k ∙ none_if-count _ ps e
 may l ts (form.Words identifiers words) (value.Enum i) n ps e k = sym k ∙ none_if-count _ ps e
+may l ts (form.Order identifiers) (value.Enum i) n ps e k = sym k ∙ none_if-count _ ps e
 may l ts (form.Utf8 least most class) (value.Utf8 text) n ps e k = sym k ∙ ap length (sym (same_some [] ps e))
 may l ts (form.Sequence parts) (value.Sequence present) n ps e k = sym k ∙ present-count l 0 parts ts present ps e
 may l ts (form.Choice parts) (value.Choice i) n ps e k = sym k ∙ alone-count _ ps e
@@ -76,4 +77,4 @@ module _ (M : List Assignment) where
     each-allowed : (depth : ℕ) (ps : List ComponentPlace) (vs : Roses ValueLabel) → FitEach M depth ps vs → AllowedAll MayHave vs
     each-allowed depth ps none h = tt
     each-allowed depth [] (more v vs) h = absurd h
-    each-allowed depth (p ∷ ps) (more v vs) h = (fits-allowed (below p.role depth) p.type v h.0, each-allowed depth ps vs h.1)
+    each-allowed depth (p ∷ ps) (more v vs) h = (fits-allowed (below p.role depth) p.type v h.0.0, each-allowed depth ps vs h.1)

@@ -18,7 +18,7 @@ use Rattle.asn_types.specs.declared.roles.Role.TheVariants as role
 use Rattle.asn_types.specs.declared.types.Component.{Component}
 use Rattle.asn_types.specs.declared.types.Form.TheVariants as form
 use Rattle.asn_types.specs.declared.types.TypeLabel.{TypeLabel}
-use Rattle.asn_types.specs.Values.{below, FitsAt}
+use Rattle.asn_values.specs.Values.{below, FitsAt}
 use Rattle.schema_parts.specs.Linked.{leaves, leaves_of_term, all_leaves}
 use Rattle.map_assignments.specs.Naming.{type_label}
 use Rattle.map_assignments.specs.Planning as planning
@@ -26,6 +26,9 @@ use Rattle.map_laws.specs.Children.{Child, child_of, given_by, children}
 use Rattle.map_laws.specs.Standing as standing
 use Rattle.map_laws.specs.Standing.{IsAs, StandsFor, IsPart, once, at_most_once, several, HasTerm, ArePartsOf, IsTop, parted, whole}
 use Rattle.map_laws.proofs.Values.{gives, present_children, FitsPart, PartsFit, sequence-value, choice-value, ItemsFit, item_children, list-value}
+use Rattle.map_subjects.proofs.Finding.{all-at}
+use Rattle.map_694.proofs.Free.{IsFree}
+use Rattle.map_laws.proofs.Frees.{stands-free, parts-free}
 use Rattle.map_laws.proofs.Giving.{sequence-fits, sequence-gives, choice-fits, list-fits}
 use Rattle.map_laws.proofs.Following.{only-part}
 use Rattle.xer_items.specs.Items.{element_of, inside}
@@ -182,7 +185,7 @@ module _ (M : List Assignment) (E : ℕ → Rose TypeLabel → Type 0) (N : ℕ 
         let j = type_label (form.SequenceOf item least most) [] in
         let items = items-show j item type stands has vs gs bs each k in
         let v = node value.SequenceOf (roses_of vs) in
-        let fits : FitsAt M depth (node j (rose.more type rose.none)) v = list-fits M depth small item type least most (roses_of vs) low high items.0 in
+        let fits : FitsAt M depth (node j (rose.more type rose.none)) v = list-fits M depth small item type least most (roses_of vs) low high (stands-free j 0 false t item stands) items.0 in
         let made = list-value M depth [] item type least most v fits in
         let is_value : v ≡ node value.SequenceOf made.values = made.is in
         let same : roses_of vs ≡ made.values = cc in
@@ -238,7 +241,7 @@ module _ (M : List Assignment) (E : ℕ → Rose TypeLabel → Type 0) (N : ℕ 
         let j = type_label (form.Sequence has.0) [] in
         let all = parts-show ps j 0 has.0 (list_of has.1) has.3 named flags vs gs bs parts k in
         let w = node (value.Sequence flags) (roses_of vs) in
-        let fits : FitsAt M depth (node j has.1) w = sequence-fits M depth small [] has.0 has.1 flags (roses_of vs) all.0 (tt, tt, tt) in
+        let fits : FitsAt M depth (node j has.1) w = sequence-fits M depth small [] has.0 has.1 flags (roses_of vs) (parts-free E ps j false 0 has.0 (list_of has.1) has.3) all.0 (tt, tt, tt, tt) in
         subst (λ y. Shows l i c u y bs) (sym made)
         (group-shows l i optional c u stands w bs (subst (λ x. FitsAt M depth x w) (sym has.2) fits)
         (ap (λ x. told (children M x w)) has.2
@@ -250,7 +253,7 @@ module _ (M : List Assignment) (E : ℕ → Rose TypeLabel → Type 0) (N : ℕ 
         let at : slice_get has.0 one.number ≡ Some one.part = subst (λ n. slice_get has.0 n ≡ Some one.part) same one.at in
         let type_at : slice_get (list_of has.1) one.number ≡ Some one.type = subst (λ n. slice_get (list_of has.1) n ≡ Some one.type) same one.type_at in
         let w = node (value.Choice one.number) (rose.more inner rose.none) in
-        let fits : FitsAt M depth (node j has.1) w = choice-fits M depth small has.0 has.1 one.number one.part one.type inner at type_at one.shows.0 in
+        let fits : FitsAt M depth (node j has.1) w = choice-fits M depth small has.0 has.1 one.number one.part one.type inner at type_at (all-at IsFree has.0 one.number one.part at (parts-free E ps j true 0 has.0 (list_of has.1) has.3)) one.shows.0 in
         let made = choice-value M depth [] has.0 has.1 w fits in
         let is_value : w ≡ node (value.Choice made.number) (rose.more made.own rose.none) = made.is in
         let number : one.number ≡ made.number = cc in

@@ -16,7 +16,7 @@ use Rattle.asn_types.specs.declared.types.Form.TheVariants as form
 use Rattle.asn_types.specs.declared.types.TypeLabel.{TypeLabel}
 use Rattle.asn_types.specs.Marks.{has_embed_values}
 use Rattle.asn_types.specs.Refs.{resolve}
-use Rattle.asn_types.specs.Values.{places, below, child_count, first_count, text_count, is_last_absent, FitsAt, FitEach}
+use Rattle.asn_values.specs.Values.{places, below, child_count, first_count, text_count, is_last_absent, FitsAt, FitEach}
 use Rattle.schema_parts.specs.declared.components.AttributeUse.{AttributeUse}
 use Rattle.schema_parts.specs.declared.components.ComplexDef.{ComplexDef}
 use Rattle.schema_parts.specs.declared.components.Content.{Content}
@@ -31,13 +31,14 @@ use Rattle.map_laws.specs.Standing.{Behind, AreTexts, WithTexts, WithAttributes,
 use Rattle.map_laws.proofs.Values.{present_children, PartsFit, sequence-value, sequence-children}
 use Rattle.map_laws.proofs.Complexes.{fits-found}
 use Rattle.map_laws.proofs.Counts.{count-at}
+use Rattle.map_laws.proofs.Frees.{sequence-free, complex-free}
 use Rattle.map_laws.proofs.Giving.{parts-fit-each, sequence-fits, sequence-gives}
-use Rattle.xer_items.specs.Spelling.{spelling}
+use Rattle.asn_types.specs.Spaces.{spelling}
 use Rattle.xer_items.specs.Items.{given, nothing, both, with_nil, with_texts, texts_of, placed, inside}
 use Rattle.one_value.proofs.Groups.{tell, present_given, sequence-inside, inside-found, top-shows}
 use Rattle.one_value.proofs.Attributes.{attribute-gives}
 use Rattle.one_value.proofs.Mixed.{text_in}
-use Rattle.one_value.proofs.Complexes.{not-textual, nil-mark, embed-mark}
+use Rattle.one_value.proofs.Complexes.{not-textual, nil-mark, embed-mark, order-mark}
 use Rattle.value_exists.proofs.Texts.{IsText}
 use Rattle.value_exists.proofs.Filling.{both-nothing, Ends, ends-more, ends-last, told-roses, nil-is, texts-put, owns}
 use Rattle.content_values.specs.Made as kept
@@ -136,8 +137,8 @@ module _ (M : List Assignment) (E : ℕ → Rose TypeLabel → Type 0) (N : ℕ 
       let l = type_label (form.Sequence has.0) [] in
       let all = content-parts c flags vs k n h false l 0 has.0 (list_of has.1) has.3 in
       let v = node (value.Sequence flags) (roses_of vs) in
-      let fits : FitsAt M depth (node l has.1) v = sequence-fits M depth small [] has.0 has.1 flags (roses_of vs) all.fit (tt, tt, tt) in
-      let gives : inside M (node l has.1) v ≡ given [] k = sequence-inside M depth [] has.0 has.1 flags (roses_of vs) refl all.fit ∙ all.gives in
+      let fits : FitsAt M depth (node l has.1) v = sequence-fits M depth small [] has.0 has.1 flags (roses_of vs) (sequence-free E s M c u has) all.fit (tt, tt, tt, tt) in
+      let gives : inside M (node l has.1) v ≡ given [] k = sequence-inside M depth [] has.0 has.1 flags (roses_of vs) refl refl all.fit ∙ all.gives in
       let made : children M (node l has.1) v ≡ present_children M l 0 has.0 (list_of has.1) flags (roses_of vs) =
       sequence-gives M depth l has.0 has.1 flags (roses_of vs) (sequence-value M depth [] has.0 has.1 v fits) in
       record {
@@ -289,7 +290,7 @@ module _ (M : List Assignment) (E : ℕ → Rose TypeLabel → Type 0) (N : ℕ 
       let v = node (value.Sequence flags) (roses_of values) in
       let whole = node l has.1 in
       let same : resolve M t ≡ resolve M whole = has.2 ∙ sym (follow-none M 4 whole refl) in
-      let each = parts-fit-each M depth l has.0 0 us flags (roses_of values) all.fit in
+      let each = parts-fit-each M depth l has.0 0 us flags (roses_of values) (complex-free E s M nillable c (resolve M t) has) all.fit in
       let made : children M whole v ≡ present_children M l 0 has.0 us flags (roses_of values) = sequence-children M depth marks has.0 has.1 flags (roses_of values) each in
       let counted : mixed ≡ true → child_count M whole v ≡ n =
       λ e. count-at M depth whole (value.Sequence flags) (roses_of values) (subst (λ x. elim (places x (value.Sequence flags) (length_all (roses_of values))) as (λ _. Type 0) [ None ↦ ⊥ | Some ps ↦ FitEach M depth ps (roses_of values) ]) (sym (follow-none M 4 whole refl)) each)
@@ -297,11 +298,11 @@ module _ (M : List Assignment) (E : ℕ → Rose TypeLabel → Type 0) (N : ℕ 
       let last = λ (e : nillable ≡ true). ends-last nil flags (all.ends e) in
       let plain = plain-rest nillable nil c.content rf rv k n rest in
       let own = owns M E depth small s linked nillable mixed nil has.0 has.1 flags (roses_of values) last plain (λ e. filled.first e ∙ ap (text_count nil) (sym (counted e))) in
-      let fits : FitsAt M depth whole v = sequence-fits M depth small marks has.0 has.1 flags (roses_of values) all.fit own in
+      let fits : FitsAt M depth whole v = sequence-fits M depth small marks has.0 has.1 flags (roses_of values) (complex-free E s M nillable c (resolve M t) has) all.fit own in
       let given_all = present_given M l 0 has.0 us flags (roses_of values) in
       let own_texts = texts_of (value.Sequence flags) (roses_of values) in
       let gives : inside M t v ≡ with_nil nil (with_texts mixed texts (given xs k)) =
-      inside-found M t whole v same ∙ sequence-inside M depth marks has.0 has.1 flags (roses_of values) (not-textual has.0 nillable mixed) all.fit
+      inside-found M t whole v same ∙ sequence-inside M depth marks has.0 has.1 flags (roses_of values) (not-textual has.0 nillable mixed) (order-mark nillable mixed) all.fit
       ∙ ap (λ b. with_nil (b && is_last_absent (value.Sequence flags)) (with_texts (has_embed_values marks) own_texts given_all)) (nil-mark nillable mixed)
       ∙ ap (λ b. with_nil b (with_texts (has_embed_values marks) own_texts given_all)) (nil-is M E depth small s linked nillable nil (is_last_absent (value.Sequence flags)) last plain)
       ∙ ap (λ m. with_nil nil (with_texts m own_texts given_all)) (embed-mark nillable mixed)

@@ -14,7 +14,7 @@ use Rattle.schema_parts.specs.SetParts.{parts_of}
 use Rattle.asn_types.specs.declared.modules.Assignment.{Assignment}
 use Rattle.asn_types.specs.Names.{name_told}
 use Rattle.asn_types.specs.Refs.{resolve}
-use Rattle.asn_types.specs.Values.{FitsAt, Fits}
+use Rattle.asn_values.specs.Values.{FitsAt, Fits}
 use Rattle.map_subjects.specs.Subjects.{place_in}
 use Rattle.map_assignments.specs.Mapped.{IsMapOf}
 use Rattle.map_laws.specs.Standing.{HasContent}

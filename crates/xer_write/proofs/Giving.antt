@@ -1,6 +1,6 @@
 -- What values give, as the code finds it.
 use Rattle.std.proofs.Common.{◌≡◌, ℕ, suc, ◌+◌, ◌<◌, ◌≤◌, ◌^◌, Bool, true, false, cond, Option, Some, None, List, [], ◌∷◌, length, get_or, drop, refl, sym, ◌∙◌, ap, subst, arith}
-use Rattle.std.specs.Prelude.{◌||◌, ◌&&◌, replicate, slice_get, nat_le}
+use Rattle.std.specs.Prelude.{◌||◌, ◌&&◌, replicate, slice_get, nat_le, nat_lt}
 use Rattle.std.specs.Option.{is_some}
 use Rattle.label_tree.specs.Rose.{Rose, node, Roses, none, more, roses_of, list_of, label_of, kids_of, length_all, Allowed, AllowedAll}
 use Rattle.std.proofs.lemmas.List.{drop_more, length-drop}
@@ -12,26 +12,27 @@ use Rattle.simple_values.specs.Lexical.{is_at_most}
 use Rattle.simple_values.specs.Reading.{spelled}
 use Rattle.asn_types.specs.declared.modules.Assignment.{Assignment}
 use Rattle.asn_types.specs.declared.roles.Role.{Role}
-use Rattle.asn_types.specs.declared.roles.Role.TheVariants.{Attribute, Element, Group, Content, Embed, Item, Alternative}
+use Rattle.asn_types.specs.declared.roles.Role.TheVariants.{Attribute, Element, Group, Content, Embed, Order, Item, Alternative}
 use Rattle.asn_types.specs.declared.types.Component.{Component}
 use Rattle.asn_types.specs.declared.types.Form.{Form}
 use Rattle.asn_types.specs.declared.types.Form.TheVariants as form
 use Rattle.asn_types.specs.declared.types.TypeLabel.{TypeLabel}
-use Rattle.asn_types.specs.Marks.{has_list, has_use_union}
-use Rattle.asn_types.specs.Modules.{IsForm, IsModule}
+use Rattle.asn_types.specs.Marks.{has_list, has_use_order, has_use_union}
+use Rattle.asn_types.specs.Modules.{IsForm, IsModule, IsSequence}
 use Rattle.asn_types.specs.Parts.{MayHave, parts_of}
 use Rattle.asn_types.specs.Refs.{IsOf, resolve}
 use Rattle.asn_types.specs.Spaces.{space_at}
-use Rattle.asn_types.specs.Values.{ComponentPlace, place_of, put_first, present_from, place_at, alone, repeated, places_in, places}
+use Rattle.asn_values.specs.Values.{ComponentPlace, place_of, put_first, present_from, place_at, alone, repeated, none_if, places_in, places, ordered_flags, order_of}
 use Rattle.asn_types.proofs.Chaining.{well-formed, parts-of-module, have-parts, resolved-of-module}
 use Rattle.asn_types.proofs.Inside.{body-of}
-use Rattle.asn_types.proofs.Counting.{drop-past}
+use Rattle.asn_values.proofs.Counting.{drop-past}
 use Rattle.plain_items.specs.Mixing.{text_before}
 use Rattle.xa_base.specs.declared.texts.Name.{Name}
 use Rattle.asn_types.specs.Names.{name_of_part}
 use Rattle.xer_items.specs.Spelling.{is_leaf, is_textual}
-use Rattle.xer_items.specs.Items.{Given, given, nothing, both, element_of, completed, placed, inside, gathered}
-use Rattle.xer_write.specs.Private.Giving.{IsTypeIn, may_be_present, place_gives, places_give, parts_give, type_gives}
+use Rattle.xer_items.specs.Items.{Given, given, nothing, both, element_of, with_order, completed, placed, inside, gathered}
+use Rattle.xer_write.specs.Private.Giving.{IsTypeIn, may_be_present, place_gives, places_give, parts_give, ordered_give, type_gives}
+use Rattle.xer_items.proofs.Ordering.{unordered, nothing-ordered}
 
 -- ---- the types of a module have as many kids as parts
 
@@ -103,18 +104,6 @@ no_leaf true false true e = absurd (cc)
 no_leaf true false false e = absurd (cc)
 no_leaf false b c e = refl
 
-no_form : (l : TypeLabel) (ts : List (Rose TypeLabel)) (f : Form) (v : ValueLabel) (n : ℕ) → is_leaf f ≡ false → ((parts : List Component) → f ≡ form.Sequence parts → ⊥) → ((parts : List Component) → f ≡ form.Choice parts → ⊥)
-    → ((part : Component) (least : ℕ) (most : Option ℕ) → f ≡ form.SequenceOf part least most → ⊥) → places_in l ts f v n ≡ None
-no_form l ts form.Bool v n leaf a b c = absurd (cc)
-no_form l ts (form.Int least greatest) v n leaf a b c = absurd (cc)
-no_form l ts (form.Numbers numbers) v n leaf a b c = absurd (cc)
-no_form l ts (form.Words identifiers words) v n leaf a b c = absurd (cc)
-no_form l ts (form.Utf8 least most class) v n leaf a b c = absurd (cc)
-no_form l ts (form.Sequence parts) v n leaf a b c = absurd (a parts refl)
-no_form l ts (form.Choice parts) v n leaf a b c = absurd (b parts refl)
-no_form l ts (form.SequenceOf part least most) v n leaf a b c = absurd (c part least most refl)
-no_form l ts (form.Ref to) v n leaf a b c = no_reference l ts to v n
-
 module _ (M : List Assignment) where
   -- ---- values at places
 
@@ -155,10 +144,12 @@ module _ (M : List Assignment) where
   unfolding inside
   inside-is t (node l vs) =
       let found = resolve M t in
-      let one : completed (label_of found) l vs (from found l (length_all vs) vs) ≡ completed (label_of found) l vs (from found l (length (list_of vs)) vs) =
-      ap (λ n. completed (label_of found) l vs (from found l n vs)) (sym (length-list_of vs)) in
-      let other : completed (label_of found) l vs (from found l (length (list_of vs)) vs) ≡ type_gives M found (node l vs) =
-      ap (λ ws. completed (label_of found) l ws (from found l (length (list_of vs)) ws)) (sym (roses_of-list_of vs)) in
+      let told = has_use_order (label_of found).marks in
+      let flags = ordered_flags M (label_of found) found (node l vs) in
+      let numbers = order_of found (node l vs) in
+      let all = λ (n : ℕ) (ws : Roses ValueLabel). completed (label_of found) l ws (with_order told flags numbers (from found l n ws)) in
+      let one : all (length_all vs) vs ≡ all (length (list_of vs)) vs = ap (λ n. all n vs) (sym (length-list_of vs)) in
+      let other : all (length (list_of vs)) vs ≡ type_gives M found (node l vs) = ap (λ ws. all (length (list_of vs)) ws) (sym (roses_of-list_of vs)) in
       ap (λ (g : Given). elim (is_textual (label_of found)) as (λ _. Given) [ true ↦ given [] (text_before (spelled (space_at found) (node l vs)) none) | false ↦ g ]) (one ∙ other)
 
   by_true : (b : Bool) (one other : Given) → b ≡ true → elim b as (λ _. Given) [ true ↦ one | false ↦ other ] ≡ one
@@ -216,12 +207,59 @@ module _ (M : List Assignment) where
       ap (λ x. places_give M (places_in (label_of t) (kids_of t) x (label_of v) (length (kids_of v))) (kids_of v)) f
       ∙ ap (λ o. places_give M o (kids_of v)) (no_items (label_of t) (kids_of t) part least most (label_of v) (length (kids_of v)) differs)
 
+  -- nor does one of the items of an order
+  none-give : (b : Bool) (vs : List (Rose ValueLabel)) → places_give M (none_if b) vs ≡ nothing
+  none-give true vs = gathered-[] (roses_of vs)
+  none-give false vs = refl
+
+  order-give : (l : TypeLabel) (ts : List (Rose TypeLabel)) (identifiers : List (List ℕ)) (v : ValueLabel) (n : ℕ) (vs : List (Rose ValueLabel)) → places_give M (places_in l ts (form.Order identifiers) v n) vs ≡ nothing
+  order-give l ts identifiers (value.Bool b) n vs = refl
+  order-give l ts identifiers (value.Int z) n vs = refl
+  order-give l ts identifiers (value.Enum i) n vs = none-give (nat_lt i (length identifiers)) vs
+  order-give l ts identifiers (value.Utf8 text) n vs = refl
+  order-give l ts identifiers (value.Sequence present) n vs = refl
+  order-give l ts identifiers (value.Choice i) n vs = refl
+  order-give l ts identifiers value.SequenceOf n vs = refl
+
+  no_form : (l : TypeLabel) (ts : List (Rose TypeLabel)) (f : Form) (v : ValueLabel) (n : ℕ) (vs : List (Rose ValueLabel)) → is_leaf f ≡ false → ((parts : List Component) → f ≡ form.Sequence parts → ⊥)
+      → ((parts : List Component) → f ≡ form.Choice parts → ⊥) → ((part : Component) (least : ℕ) (most : Option ℕ) → f ≡ form.SequenceOf part least most → ⊥)
+      → places_give M (places_in l ts f v n) vs ≡ nothing
+  no_form l ts form.Bool v n vs leaf a b c = absurd (cc)
+  no_form l ts (form.Int least greatest) v n vs leaf a b c = absurd (cc)
+  no_form l ts (form.Numbers numbers) v n vs leaf a b c = absurd (cc)
+  no_form l ts (form.Words identifiers words) v n vs leaf a b c = absurd (cc)
+  no_form l ts (form.Order identifiers) v n vs leaf a b c = order-give l ts identifiers v n vs
+  no_form l ts (form.Utf8 least most class) v n vs leaf a b c = absurd (cc)
+  no_form l ts (form.Sequence parts) v n vs leaf a b c = absurd (a parts refl)
+  no_form l ts (form.Choice parts) v n vs leaf a b c = absurd (b parts refl)
+  no_form l ts (form.SequenceOf part least most) v n vs leaf a b c = absurd (c part least most refl)
+  no_form l ts (form.Ref to) v n vs leaf a b c = ap (λ o. places_give M o vs) (no_reference l ts to v n)
+
   -- nor does one of a reference that is left
   pub reference-other : (t : Rose TypeLabel) (v : Rose ValueLabel) → is_textual (label_of t) ≡ false → ((parts : List Component) → (label_of t).form ≡ form.Sequence parts → ⊥)
       → ((parts : List Component) → (label_of t).form ≡ form.Choice parts → ⊥)
       → ((part : Component) (least : ℕ) (most : Option ℕ) → (label_of t).form ≡ form.SequenceOf part least most → ⊥) → parts_give M t v ≡ nothing
   reference-other t v textual a b c =
-      ap (λ o. places_give M o (kids_of v)) (no_form (label_of t) (kids_of t) (label_of t).form (label_of v) (length (kids_of v)) (no_leaf (is_leaf (label_of t).form) (has_list (label_of t).marks) (has_use_union (label_of t).marks) textual) a b c)
+      no_form (label_of t) (kids_of t) (label_of t).form (label_of v) (length (kids_of v)) (kids_of v) (no_leaf (is_leaf (label_of t).form) (has_list (label_of t).marks) (has_use_union (label_of t).marks) textual) a b c
+
+-- ---- the order of a type
+
+pub order-absent : (M : List Assignment) (t : Rose TypeLabel) (v : Rose ValueLabel) → has_use_order (label_of t).marks ≡ false → ordered_give M t v ≡ parts_give M t v
+order-absent M t v e = unordered (has_use_order (label_of t).marks) (ordered_flags M (label_of t) t v) (order_of t v) (parts_give M t v) e
+
+pub order-nothing : (M : List Assignment) (t : Rose TypeLabel) (v : Rose ValueLabel) → parts_give M t v ≡ nothing → ordered_give M t v ≡ nothing
+order-nothing M t v e =
+    let told = has_use_order (label_of t).marks in
+    let flags = ordered_flags M (label_of t) t v in
+    ap (with_order told flags (order_of t v)) e ∙ nothing-ordered told flags (order_of t v)
+
+-- no type has one but a SEQUENCE
+pub no-order : (M : List Assignment) (t : Rose TypeLabel) → IsTypeIn M t → (IsSequence (label_of t).form → ⊥) → has_use_order (label_of t).marks ≡ false
+no-order M (node l ts) h other = by (has_use_order l.marks) refl
+  where
+    by : (b : Bool) → has_use_order l.marks ≡ b → has_use_order l.marks ≡ false
+    by false e = e
+    by true e = absurd (other ((well-formed M (node l ts) h.0 h.1).0.use_order e).sequence)
 
 -- ---- the components that are present
 
@@ -305,15 +343,16 @@ module _ (M : List Assignment) (l : TypeLabel) (parts : List Component) (ts : Li
           ∙ ap (λ x. present_from l i (part ∷ drop (i + 1) parts) x (drop i flags)) type-is
           ∙ ap (λ x. present_from l i (part ∷ drop (i + 1) parts) (t ∷ drop (i + 1) ts) x) flag-is
 
-      some-step : is_some (found (i + 1)) ≡ true
+      pub some-step : is_some (found (i + 1)) ≡ true
       some-step = present-some l (i + 1) (drop (i + 1) parts) (drop (i + 1) ts) (drop (i + 1) flags) types-left ∙ fit-step
 
       -- present
+      pub found-present : flag ≡ true → found i ≡ put_first (place_of l i part t) (found (i + 1))
+      found-present set = found-is ∙ ap (λ f. present_from l i (part ∷ drop (i + 1) parts) (t ∷ drop (i + 1) ts) (f ∷ drop (i + 1) flags)) set
+
       pub give-present : flag ≡ true → (v : Rose ValueLabel) (vs : List (Rose ValueLabel))
           → places_give M (found i) (v ∷ vs) ≡ both (place_gives M (place_of l i part t) v) (places_give M (found (i + 1)) vs)
-      give-present set v vs =
-          ap (λ o. places_give M o (v ∷ vs)) (found-is ∙ ap (λ f. present_from l i (part ∷ drop (i + 1) parts) (t ∷ drop (i + 1) ts) (f ∷ drop (i + 1) flags)) set)
-          ∙ give-first M (place_of l i part t) (found (i + 1)) v vs some-step
+      give-present set v vs = ap (λ o. places_give M o (v ∷ vs)) (found-present set) ∙ give-first M (place_of l i part t) (found (i + 1)) v vs some-step
 
       -- absent
       pub found-absent : flag ≡ false → found i ≡ found (i + 1)
@@ -371,5 +410,6 @@ module _ (M : List Assignment) (p : ComponentPlace) (v : Rose ValueLabel) where
       by Group e = absurd (c e)
       by Content e = absurd (d e)
       by Embed e = sym (by_role Embed e)
+      by Order e = sym (by_role Order e)
       by Item e = sym (by_role Item e)
       by Alternative e = sym (by_role Alternative e)

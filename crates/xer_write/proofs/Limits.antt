@@ -4,12 +4,12 @@ use Rattle.std.proofs.Common.{◌≡◌, ℕ, suc, ◌+◌, ◌≤◌, Bool, tru
 use Rattle.std.specs.Prelude.{map, slice_get, ◌&&◌, not, IsSomeAnd, IsUtf8}
 use Rattle.std.specs.Option.{option_map}
 use Rattle.std.proofs.lemmas.Str.{is_utf8-from_IsUtf8}
-use Rattle.std.specs.List.{list_all}
+use Rattle.std.specs.List.{list_all, AllByRecursion}
 use Rattle.std.specs.Str.{chars, is_utf8}
 use Rattle.xa_base.specs.Characters.{is_xml_char}
 use Rattle.xa_base.specs.Limits.{is_empty, is_xmlns, has_xml_chars}
 use Rattle.xa_base.specs.declared.texts.Name.{Name}
-use Rattle.label_tree.specs.Rose.{Rose, node, Roses, none, more, label_of, length_all, node_count, count_all, AllowedAll}
+use Rattle.label_tree.specs.Rose.{Rose, node, Roses, none, more, label_of, list_of, roses_of, length_all, node_count, count_all, AllowedAll}
 use Rattle.simple_types.specs.declared.labels.ValueLabel.{ValueLabel}
 use Rattle.simple_values.specs.Reading.{spelled}
 use Rattle.item_tree.specs.declared.label.ItemLabel.{ItemLabel}
@@ -17,19 +17,19 @@ use Rattle.item_tree.specs.Labels.{MayHave}
 use Rattle.doc_text.specs.Sound.{AreItems, is_sound_name, has_name, is_sound_attribute, are_sound_attributes, is_sound_label, is_sound, are_sound, levels_all}
 use Rattle.doc_text.specs.Sound as document
 use Rattle.plain_items.specs.Plain.{Plain, element, text}
-use Rattle.plain_items.specs.Mixing.{text_before, interleaved}
+use Rattle.plain_items.specs.Mixing.{text_before, interleaved, child_elements}
 use Rattle.asn_types.specs.declared.modules.Assignment.{Assignment}
 use Rattle.asn_types.specs.declared.roles.Role.{Role}
-use Rattle.asn_types.specs.declared.roles.Role.TheVariants.{Attribute, Element, Group, Content, Embed, Item, Alternative}
+use Rattle.asn_types.specs.declared.roles.Role.TheVariants.{Attribute, Element, Group, Content, Embed, Order, Item, Alternative}
 use Rattle.asn_types.specs.declared.types.Component.{Component}
 use Rattle.asn_types.specs.declared.types.TypeLabel.{TypeLabel}
-use Rattle.asn_types.specs.Marks.{has_embed_values, has_use_nil}
+use Rattle.asn_types.specs.Marks.{has_embed_values, has_use_nil, has_use_order}
 use Rattle.asn_types.specs.Refs.{resolve}
 use Rattle.asn_types.specs.Spaces.{space_at}
-use Rattle.asn_types.specs.Values.{ComponentPlace, places, is_last_absent, below, FitsAt, FitEach, In}
+use Rattle.asn_values.specs.Values.{ComponentPlace, places, is_last_absent, ordered_flags, order_of, below, FitsAt, FitEach, In}
 use Rattle.xer_items.specs.Spelling.{is_textual}
 use Rattle.asn_types.specs.Names.{name_told, name_of_part}
-use Rattle.xer_items.specs.Items.{Given, given, nothing, joined, element_of, texts_of, with_texts, completed, placed, inside, gathered, root_of, Xer}
+use Rattle.xer_items.specs.Items.{Given, given, nothing, joined, element_of, with_order, texts_of, with_texts, completed, placed, inside, gathered, root_of, Xer}
 use Rattle.xer_write.specs.declared.contents.Contents.{Contents}
 use Rattle.flat_tree.specs.Zips.{added_all}
 use Rattle.xer_write.specs.declared.receiver.Receiver.{Receiver}
@@ -39,6 +39,8 @@ use Rattle.std.specs.Global.{Vec}
 use Rattle.doc_written.specs.Written.{written}
 use Rattle.xer_write.specs.Private.Giving.{HasTold}
 use Rattle.xer_write.specs.Private.Gaining.{levels, value_text, Puts, Gains}
+use Rattle.xer_items.specs.Ordering.{in_order}
+use Rattle.xer_items.proofs.Ordering.{in_order-all}
 use Rattle.xer_items.proofs.Sizes.{nil-kids, inside-size}
 use Rattle.xer_items.specs.Sound.{HasCharacters, AreSoundAttributes, IsSoundLabel, is_text, begins_with_text, IsSound, AreSound}
 use Rattle.plain_items.specs.Unplaced.{unplaced_label, unplaced, all_unplaced}
@@ -84,6 +86,32 @@ within-texts : (depth : ℕ) (b : Bool) (texts : List (List ℕ)) (g : Given) �
 within-texts depth true texts g deep h = within-interleaved depth texts g.kids deep h
 within-texts depth false texts g deep h = h
 
+within-elements : (depth : ℕ) (k : Roses Plain) → Within depth k → Within depth (child_elements k)
+within-elements depth none h = h
+within-elements depth (more (node (element name attributes) items) k) h =
+    let rest = within-elements depth k (record { allowed = h.allowed.1; levels = omega (arith, h.levels) }) in
+    record { allowed = (h.allowed.0, rest.allowed); levels = omega (arith, h.levels, rest.levels) }
+within-elements depth (more (node (text words) items) k) h = within-elements depth k (record { allowed = h.allowed.1; levels = omega (arith, h.levels) })
+
+-- each alone, and all together
+within-each : (depth : ℕ) (k : Roses Plain) → Within depth k → AllByRecursion (λ item. Within depth (more item none)) (list_of k)
+within-each depth none h = tt
+within-each depth (more item items) h = (
+  record { allowed = (h.allowed.0, tt); levels = omega (arith, h.levels) },
+  within-each depth items (record { allowed = h.allowed.1; levels = omega (arith, h.levels) }),
+)
+
+within-all : (depth : ℕ) (items : List (Rose Plain)) → depth ≤ 64 → AllByRecursion (λ item. Within depth (more item none)) items → Within depth (roses_of items)
+within-all depth [] deep h = within-none depth deep
+within-all depth (item ∷ items) deep h = within-joined depth (more item none) (roses_of items) h.0 (within-all depth items deep h.1)
+
+within-order : (depth : ℕ) (b : Bool) (flags : List Bool) (numbers : List ℕ) (g : Given) → depth ≤ 64 → Within depth g.kids → Within depth (with_order b flags numbers g).kids
+within-order depth true flags numbers g deep h =
+    let items = list_of (child_elements g.kids) in
+    within-all depth (in_order flags numbers items) deep
+    (in_order-all (λ item. Within depth (more item none)) flags numbers items (within-each depth (child_elements g.kids) (within-elements depth g.kids h)))
+within-order depth false flags numbers g deep h = h
+
 within-completed : (depth : ℕ) (l : TypeLabel) (v : ValueLabel) (vs : Roses ValueLabel) (g : Given) → depth ≤ 64 → Within depth g.kids → Within depth (completed l v vs g).kids
 within-completed depth l v vs g deep h =
     subst (Within depth) (sym (nil-kids (has_use_nil l.marks && is_last_absent v) (with_texts (has_embed_values l.marks) (texts_of v vs) g)))
@@ -105,6 +133,7 @@ module _ (M : List Assignment) where
   within-placed depth Group c t v g deep h = h
   within-placed depth Content c t v g deep h = h
   within-placed depth Embed c t v g deep h = within-none depth deep
+  within-placed depth Order c t v g deep h = within-none depth deep
   within-placed depth Item c t v g deep h = within-none depth deep
   within-placed depth Alternative c t v g deep h = within-none depth deep
 
@@ -121,15 +150,19 @@ module _ (M : List Assignment) where
           | None ↦ (λ f. absurd f)
           | Some ps ↦ (λ f. gathered-within depth ps vs fits.0 f)
         ] in
-        within-textual depth (is_textual (label_of found)) (spelled (space_at found) (node v vs)) (completed (label_of found) v vs kids) fits.0
-        (within-completed depth (label_of found) v vs kids fits.0 (parts fits.1))
+        let told = has_use_order (label_of found).marks in
+        let flags = ordered_flags M (label_of found) found (node v vs) in
+        let numbers = order_of found (node v vs) in
+        let all = with_order told flags numbers kids in
+        within-textual depth (is_textual (label_of found)) (spelled (space_at found) (node v vs)) (completed (label_of found) v vs all) fits.0
+        (within-completed depth (label_of found) v vs all fits.0 (within-order depth told flags numbers kids fits.0 (parts fits.1)))
 
     gathered-within : (depth : ℕ) (ps : List ComponentPlace) (vs : Roses ValueLabel) → depth ≤ 64 → FitEach M depth ps vs → Within depth (gathered M ps vs).kids
     gathered-within depth ps none deep fits = within-none depth deep
     gathered-within depth [] (more v vs) deep fits = absurd fits
     gathered-within depth (p ∷ ps) (more v vs) deep fits =
         within-joined depth (placed M p v (inside M p.type v)).kids (gathered M ps vs).kids
-        (within-placed depth p.role p.part p.type v (inside M p.type v) deep (inside-within (below p.role depth) p.type v fits.0))
+        (within-placed depth p.role p.part p.type v (inside M p.type v) deep (inside-within (below p.role depth) p.type v fits.0.0))
         (gathered-within depth ps vs deep fits.1)
 
 -- ---- soundness, with the UTF-8 that the code knows

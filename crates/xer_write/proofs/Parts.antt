@@ -16,22 +16,22 @@ use Rattle.asn_types.specs.declared.types.TypeLabel.{TypeLabel}
 use Rattle.asn_types.specs.Marks.{has_embed_values, has_use_nil}
 use Rattle.asn_types.specs.Parts.{parts_of}
 use Rattle.asn_types.specs.Roles.{role_of}
-use Rattle.asn_types.specs.Values.{ComponentPlace, place_of, place_at, alone, repeated, is_last_absent}
+use Rattle.asn_values.specs.Values.{ComponentPlace, place_of, place_at, alone, repeated, is_last_absent}
 use Rattle.plain_items.specs.Plain.{Plain}
 use Rattle.xer_items.specs.Items.{Given, given, nothing, joined, both, gathered, texts_of, with_texts, with_nil}
 use Rattle.xer_write.specs.declared.contents.Contents.{Contents}
 use Rattle.xer_write.specs.Private.Gaining.{Gains}
-use Rattle.xer_write.specs.Private.Giving.{may_be_present, place_gives, places_give, parts_give, mixed_gives, type_gives}
+use Rattle.xer_write.specs.Private.Giving.{may_be_present, place_gives, places_give, parts_give, ordered_give, mixed_gives, type_gives}
 use Rattle.xer_write.proofs.Gaining.{gains-both, nil-both}
 use Rattle.xer_write.proofs.Giving.{fit_from, gathered-more, gathered-[], give-none, choice-give, items-give}
 
 -- nil, and then what stands in the element
 pub nil-then : (M : List Assignment) (t : Rose TypeLabel) (v : Rose ValueLabel) (A B C : Contents) (l : TypeLabel) (k : ValueLabel) → l ≡ label_of t → k ≡ label_of v
     → Gains A B (with_nil (has_use_nil l.marks && is_last_absent k) nothing)
-    → Gains B C (with_texts (has_embed_values (label_of t).marks) (texts_of (label_of v) (roses_of (kids_of v))) (parts_give M t v)) → Gains A C (type_gives M t v)
+    → Gains B C (with_texts (has_embed_values (label_of t).marks) (texts_of (label_of v) (roses_of (kids_of v))) (ordered_give M t v)) → Gains A C (type_gives M t v)
 nil-then M t v A B C l k el ek one two =
     let nil = has_use_nil (label_of t).marks && is_last_absent (label_of v) in
-    let inner = with_texts (has_embed_values (label_of t).marks) (texts_of (label_of v) (roses_of (kids_of v))) (parts_give M t v) in
+    let inner = with_texts (has_embed_values (label_of t).marks) (texts_of (label_of v) (roses_of (kids_of v))) (ordered_give M t v) in
     let first : Gains A B (with_nil nil nothing) =
     subst (λ x. Gains A B (with_nil (has_use_nil x.marks && is_last_absent (label_of v)) nothing)) el
     (subst (λ y. Gains A B (with_nil (has_use_nil l.marks && is_last_absent y) nothing)) ek one) in
@@ -82,7 +82,7 @@ role-is l k r parts i part same has got h =
 
 -- ---- one place, or none
 
-joined-none : (k : Roses Plain) → joined k none ≡ k
+pub joined-none : (k : Roses Plain) → joined k none ≡ k
 joined-none none = refl
 joined-none (more x k) = ap (λ z. more x z) (joined-none k)
 

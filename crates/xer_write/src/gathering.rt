@@ -1,19 +1,26 @@
 //! What a value gives to the element that it stands in.
-ghost use Rattle.std.specs.Prelude.{◌≡◌, ◌&&◌, [], true, false, OnOk, MatchOption, length, map, replicate};
-ghost use Rattle.label_tree.specs.Rose.{none, more, label_of, kids_of, roses_of};
-ghost use Rattle.asn_types.specs.Marks.{has_use_nil};
-ghost use Rattle.asn_types.specs.Values as rule;
+ghost use Rattle.std.specs.Prelude.{◌≡◌, ◌&&◌, List, [], Some, true, false, OnOk, MatchOption, length, map, replicate, slice_get};
+ghost use Rattle.label_tree.specs.Rose.{none, more, label_of, kids_of, roses_of, count_all};
+ghost use Rattle.asn_types.specs.Marks.{has_use_nil, has_use_order};
+ghost use Rattle.asn_values.specs.Values as rule;
 ghost use Rattle.asn_types.specs.declared.types.Form.TheVariants as form;
+ghost use Rattle.simple_types.specs.declared.labels.ValueLabel.TheVariants as label;
 ghost use Rattle.xer_items.specs.Items.{given, nothing, with_nil, element_of, inside, gathered, texts_of};
+ghost use Rattle.xer_items.specs.Children.{Child, elements_of};
 ghost use Rattle.xer_items.specs.Spelling.{is_textual};
 ghost use Rattle.xer_write.specs.Private.Receiving.{name_seen};
 ghost use Rattle.xer_write.specs.Private.Gaining.{Gains, value_text};
-ghost use Rattle.xer_write.specs.Private.Giving.{IsTypeIn, may_be_present, place_seen, place_gives, places_give, parts_give, mixed_gives, type_gives};
+ghost use Rattle.xer_write.specs.Private.Giving.{IsTypeIn, may_be_present, place_seen, place_gives, places_give, parts_give, ordered_give, mixed_gives, type_gives};
+ghost use Rattle.xer_write.specs.Private.Keeping.{AreWithin, children_seen};
 
 use crate::contents::Contents;
+use crate::keeping::{ChildElement, keep_present};
+use crate::ordering::{in_order, order_numbers, ordered_flags};
+use crate::presence::{Place, is_last_absent, may_be_present};
 use crate::receiver::NameRef;
-use crate::spelling::{is_textual, spelling};
+use crate::spelling::is_textual;
 use asn_types::{Component, Form, Module, Role, TypeLabel, resolve, role};
+use asn_values::spelling;
 use flat_tree::{Kids, Node};
 use label_tree::Tree;
 use simple_types::ValueLabel;
@@ -21,27 +28,6 @@ use simple_values::is_at_most;
 use std::alloc::Global;
 use std::iter::Iterator;
 use xa_base::Memory;
-
-/// Where a kid of a value stands: the part, its role, and its type.
-#[derive(Drop)]
-struct Place<'a> {
-    role: Role,
-    part: &'a Component,
-    node: &'a Tree<TypeLabel>,
-}
-
-// Whether the last part of a SEQUENCE is absent.
-fn is_last_absent(label: &ValueLabel) -> bool
-    ensures { result ≡ rule.is_last_absent label.now }
-{
-    match label {
-        ValueLabel::Sequence { present } => match present.items().last() {
-            Some(flag) => !*flag,
-            None => false,
-        },
-        _ => false,
-    }
-}
 
 // The texts of the first part, where it is present.
 fn texts_of<'a>(value: &Node<'a, ValueLabel>) -> Option<Kids<'a, ValueLabel>>
@@ -59,21 +45,6 @@ fn texts_of<'a>(value: &Node<'a, ValueLabel>) -> Option<Kids<'a, ValueLabel>>
         },
         _ => None,
     }
-}
-
-// Whether there is a flag for each component, and each that is absent is optional.
-fn may_be_present(parts: &[Component], present: &[bool]) -> bool
-    ensures { result ≡ may_be_present parts.now present.now }
-{
-    if parts.len() != present.len() {
-        return false;
-    }
-    'parts: for i in 0..parts.len() {
-        if !present[i] && !parts[i].optional {
-            return false;
-        }
-    }
-    true
 }
 
 // Adds `xsi:nil` where the content is absent of a type with USE-NIL.
@@ -152,7 +123,66 @@ fn gather_present<'a>(
     Ok(())
 }
 
-// Adds what the value of a SEQUENCE gives.
+// Adds child elements of this value, in this order of their places.
+#[cycle(gathering)]
+fn gather_children<'a>(
+    alloc: Global,
+    module: &'a Module,
+    parent: &Node<'a, ValueLabel>,
+    children: &[ChildElement<'a>],
+    order: &[usize],
+    out: &mut Contents<'a>,
+) -> Result<(), Memory>
+    requires { AreWithin module.now (count_all (roses_of (kids_of parent.now))) (children_seen children.now) }
+    ensures { OnOk result ((cs : List Child) → map (slice_get (children_seen children.now)) order.now ≡ map Some cs → Gains out.old out.new (given [] (elements_of module.now cs))) }
+{
+    let _ = parent;
+    'order: for i in order {
+        let Some(child) = children.get(*i) else {
+            return Ok(());
+        };
+        gather_element(alloc, module, child.node, &child.value, child.name, out)?;
+    }
+    Ok(())
+}
+
+// Adds what the value of a USE-ORDER type gives: its attributes, and then its child elements in their order.
+#[cycle(gathering)]
+fn gather_ordered<'a>(
+    alloc: Global,
+    module: &'a Module,
+    node: &'a Tree<TypeLabel>,
+    parts: &'a [Component],
+    present: &[bool],
+    value: &Node<'a, ValueLabel>,
+    out: &mut Contents<'a>,
+) -> Result<(), Memory>
+    requires node { IsTypeIn module.now node.now }
+    requires form { (label_of node.now).form ≡ form.Sequence parts.now }
+    requires order { has_use_order (label_of node.now).marks ≡ true }
+    requires value { label_of value.now ≡ label.Sequence present.now }
+    requires present { may_be_present parts.now present.now ≡ true }
+    ensures { OnOk result (Gains out.old out.new (ordered_give module.now node.now value.now)) }
+{
+    let mut children = Vec::new(alloc);
+    let values = value.kids();
+    keep_present(
+        alloc,
+        module,
+        node,
+        parts,
+        present,
+        &values,
+        out,
+        &mut children,
+    )?;
+    let flags = ordered_flags(alloc, module, node, parts, value)?;
+    let numbers = order_numbers(alloc, node, parts, present, value)?;
+    let order = in_order(alloc, &flags, &numbers, children.len())?;
+    gather_children(alloc, module, value, &children, &order, out)
+}
+
+// Adds what the value of a SEQUENCE gives, in the order of its type.
 #[cycle(gathering)]
 fn gather_sequence<'a>(
     alloc: Global,
@@ -164,16 +194,18 @@ fn gather_sequence<'a>(
 ) -> Result<(), Memory>
     requires node { IsTypeIn module.now node.now }
     requires form { (label_of node.now).form ≡ form.Sequence parts.now }
-    ensures { OnOk result (Gains out.old out.new (parts_give module.now node.now value.now)) }
+    ensures { OnOk result (Gains out.old out.new (ordered_give module.now node.now value.now)) }
 {
     match value.label() {
         ValueLabel::Sequence { present } => {
             let present = present.items();
-            if may_be_present(parts, present) {
-                gather_present(alloc, module, node, parts, present, &value.kids(), out)
-            } else {
-                Ok(())
+            if !may_be_present(parts, present) {
+                return Ok(());
             }
+            if node.label().marks.has_use_order() {
+                return gather_ordered(alloc, module, node, parts, present, value, out);
+            }
+            gather_present(alloc, module, node, parts, present, &value.kids(), out)
         }
         _ => Ok(()),
     }
@@ -271,7 +303,7 @@ fn gather_kids<'a>(
 ) -> Result<(), Memory>
     requires node { IsTypeIn module.now node.now }
     requires parts { is_textual (label_of node.now) ≡ false }
-    ensures { OnOk result (Gains out.old out.new (parts_give module.now node.now value.now)) }
+    ensures { OnOk result (Gains out.old out.new (ordered_give module.now node.now value.now)) }
 {
     match &node.label().form {
         Form::Sequence { parts } => {
@@ -297,7 +329,7 @@ fn gather_mixed<'a>(
 ) -> Result<(), Memory>
     requires node { IsTypeIn module.now node.now }
     requires parts { is_textual (label_of node.now) ≡ false }
-    ensures { OnOk result (Gains out.old out.new (mixed_gives (map value_text texts.entry) (parts_give module.now node.now value.now))) }
+    ensures { OnOk result (Gains out.old out.new (mixed_gives (map value_text texts.entry) (ordered_give module.now node.now value.now))) }
 {
     out.begin_mixed(texts)?;
     gather_kids(alloc, module, node, value, out)?;

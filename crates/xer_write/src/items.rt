@@ -6,7 +6,7 @@ ghost use Rattle.plain_items.specs.Unplaced.{unplaced};
 ghost use Rattle.doc_written.specs.Written.{written};
 ghost use Rattle.doc_written.specs.ReadBack.{ReadsAs};
 ghost use Rattle.xer_items.specs.Items.{Xer};
-ghost use Rattle.asn_types.specs.Values.{In};
+ghost use Rattle.asn_values.specs.Values.{In};
 ghost use Rattle.xer_items.specs.Sound.{IsSound};
 ghost use Rattle.xer_write.specs.Private.Giving.{IsTypeIn, HasTold};
 
@@ -51,8 +51,9 @@ fn told<'a>(
 /// It asks that they are sound: names are those of XML, no two attributes of an element have one, texts have the
 /// characters of XML alone, and no two are neighbours. The items of a value of the map of a linked set are.
 ///
-/// Each node of the value is visited once, and texts are shared with the value and the module. The stack grows with
-/// the depth of the value alone.
+/// Each node of the value is visited once, and texts are shared with the value and the module. The child elements of a
+/// value of a USE-ORDER type are all found before the first is told, without copies. The stack grows with the depth of the
+/// value alone.
 pub fn items_of(alloc: Global, module: &Module, t: u32, value: &Value) -> Result<Items, Memory>
     requires value { In module.now t value.now }
     requires sound { IsSomeAnd (Xer module.now t value.now) IsSound }

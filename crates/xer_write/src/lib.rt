@@ -6,6 +6,9 @@
 mod contents;
 mod gathering;
 mod items;
+mod keeping;
+mod ordering;
+mod presence;
 mod receiver;
 mod spelling;
 

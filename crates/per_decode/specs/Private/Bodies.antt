@@ -11,12 +11,12 @@ use Rattle.asn_types.specs.declared.types.Form.TheVariants as form
 use Rattle.asn_types.specs.declared.types.TypeLabel.{TypeLabel}
 use Rattle.asn_types.specs.Bounds.{IsBounded}
 use Rattle.asn_types.specs.Modules.{IsModule}
-use Rattle.asn_types.specs.Values as values
-use Rattle.asn_types.specs.Values.{ComponentPlace, FitEach, FitsAt, place_at}
+use Rattle.asn_values.specs.Values as values
+use Rattle.asn_values.specs.Values.{ComponentPlace, FitEach, FitsAt, place_at}
 use Rattle.per_fields.specs.declared.stops.Spot.{Spot}
 use Rattle.per_fields.specs.declared.stops.Stop.{Stop}
 use Rattle.per_fields.specs.Reading.{◌>>=◌, Reader, each_at}
-use Rattle.per_fields.specs.Nodes.{content_at, owned_at, node_read, nothing_at, last_at}
+use Rattle.per_fields.specs.Nodes.{content_at, kept_at, part_at, owned_at, node_read, nothing_at, last_at}
 
 abbrev pub below : Role → ℕ → ℕ
 below role depth = values.below role depth
@@ -47,6 +47,7 @@ is_leaf form.Bool = true
 is_leaf (form.Int least greatest) = true
 is_leaf (form.Numbers numbers) = true
 is_leaf (form.Words identifiers words) = true
+is_leaf (form.Order identifiers) = true
 is_leaf (form.Utf8 least most class) = true
 is_leaf _ = false
 
@@ -62,9 +63,14 @@ module _ (M : List Assignment) (begin : ℕ) (t : Rose TypeLabel) where
   kept_by octets X s = octets X s >>= octets_kept
 
 module _ (aligned : Bool) (M : List Assignment) (depth : ℕ) where
+  -- a part of a type, where so many elements stand in one another down to it: its node, and then its default or fixed value
+  abbrev pub part_read : Component → Rose TypeLabel → Reader (Rose ValueLabel)
+  part_read part t X s = node_read aligned M depth t X s >>= kept_at M part t s.at
+
+module _ (aligned : Bool) (M : List Assignment) (depth : ℕ) where
   -- a kid of a node, where so many elements stand in one another down to the node
   abbrev pub kid_at : ComponentPlace → Reader (Rose ValueLabel)
-  kid_at p = node_read aligned M (values.below p.role depth) p.type
+  kid_at p = part_at M p (node_read aligned M (values.below p.role depth) p.type)
 
   abbrev pub fields_at : Rose TypeLabel → Reader (Rose ValueLabel)
   fields_at t X s = content_at aligned kid_at (label_of t) (kids_of t) (label_of t).form X s

@@ -4,7 +4,7 @@ use Rattle.label_tree.specs.Rose.{Rose, label_of, kids_of}
 use Rattle.simple_types.specs.declared.labels.ValueLabel.{ValueLabel}
 use Rattle.asn_types.specs.declared.modules.Assignment.{Assignment}
 use Rattle.asn_types.specs.declared.types.TypeLabel.{TypeLabel}
-use Rattle.asn_types.specs.Values.{ComponentPlace, places, FitsAt}
+use Rattle.asn_values.specs.Values.{ComponentPlace, places, FitsAt}
 use Rattle.per_fields.specs.Fields.{Writer}
 use Rattle.per_fields.specs.Encoding.{node_bits, per}
 

@@ -14,7 +14,7 @@ use Rattle.schema_parts.specs.SetParts.{parts_of}
 use Rattle.asn_types.specs.declared.modules.Assignment.{Assignment}
 use Rattle.asn_types.specs.declared.types.TypeLabel.{TypeLabel}
 use Rattle.asn_types.specs.Refs.{resolve}
-use Rattle.asn_types.specs.Values.{FitsAt}
+use Rattle.asn_values.specs.Values.{FitsAt}
 use Rattle.map_subjects.specs.Subjects.{place_in}
 use Rattle.map_assignments.specs.Mapped.{IsMapOf}
 use Rattle.map_laws.specs.Standing.{HasContent}

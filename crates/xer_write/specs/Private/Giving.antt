@@ -7,13 +7,14 @@ use Rattle.asn_types.specs.declared.types.TypeLabel.{TypeLabel}
 use Rattle.asn_types.specs.declared.modules.Assignment.{Assignment}
 use Rattle.asn_types.specs.Modules.{IsModule}
 use Rattle.asn_types.specs.Refs.{IsOf}
-use Rattle.asn_types.specs.Values.{ComponentPlace, places}
+use Rattle.asn_types.specs.Marks.{has_use_order}
+use Rattle.asn_values.specs.Values.{ComponentPlace, places, ordered_flags, order_of}
 use Rattle.plain_items.specs.Mixing.{interleaved}
-use Rattle.xer_items.specs.Items.{Given, given, nothing, completed, placed, inside, gathered, root_of}
+use Rattle.xer_items.specs.Items.{Given, given, nothing, with_order, completed, placed, inside, gathered, root_of}
 use Rattle.plain_items.specs.Unplaced.{unplaced}
 use Rattle.xer_write.specs.declared.receiver.Receiver.{Receiver}
 use Rattle.xer_write.specs.declared.contents.Contents.{Contents}
-use Rattle.xer_write.specs.declared.gathering.Place.{Place}
+use Rattle.xer_write.specs.declared.presence.Place.{Place}
 use Rattle.xer_write.specs.Private.Utf8.{ItemIsUtf8}
 use Rattle.xer_write.specs.Private.Receiving.{Tells}
 
@@ -47,9 +48,13 @@ module _ (M : List Assignment) where
   abbrev pub parts_give : Rose TypeLabel → Rose ValueLabel → Given
   parts_give t v = places_give (places t (label_of v) (length (kids_of v))) (kids_of v)
 
-  -- and with the instructions on the type
+  -- the same in the order that the part `order` tells, where there is one
+  abbrev pub ordered_give : Rose TypeLabel → Rose ValueLabel → Given
+  ordered_give t v = with_order (has_use_order (label_of t).marks) (ordered_flags M (label_of t) t v) (order_of t v) (parts_give t v)
+
+  -- and with the other instructions on the type
   abbrev pub type_gives : Rose TypeLabel → Rose ValueLabel → Given
-  type_gives t v = completed (label_of t) (label_of v) (roses_of (kids_of v)) (parts_give t v)
+  type_gives t v = completed (label_of t) (label_of v) (roses_of (kids_of v)) (ordered_give t v)
 
   -- the items of a value were told
   abbrev pub HasTold : Assignment → Rose ValueLabel → Receiver → Contents → Type 0

@@ -3,6 +3,7 @@ use Rattle.label_tree.specs.Rose.{count_all, roses_of, AllowedAll}
 use Rattle.label_tree.proofs.Kids.{kid-count-le, kid-allowed}
 use Rattle.label_tree.proofs.Roses.{node_count-kids, allowed-label, allowed-kids}
 use Rattle.asn_types.specs.Parts.{parts_of, MayHave}
+use Rattle.module_print.proofs.Standards.{well_formed-kids, standards-kids, kid-well_formed, standard-at}
 use Rattle.module_print.proofs.Typing.{still_indented, indented, on_ok, written-type, block-parts, parts-end}
 use Rattle.module_print.proofs.types.+types.Goals as goal
 
@@ -19,7 +20,13 @@ write_type-write_form-requires t c =
         ap length below ∙ allowed-label MayHave tree c.requires.allowed ∙ sym (ap (λ l. length (parts_of l.form)) is),
         (
           subst (λ ts. AllowedAll MayHave (roses_of ts)) (sym below) (allowed-kids MayHave tree c.requires.allowed),
-          still_indented c.args.levels c.args.out.now.items _ _ c.in_ok-write_prefixes.ensures c.requires.indented,
+          (
+            well_formed-kids c.args.module.now tree c.kids.result.now below c.requires.sound,
+            (
+              standards-kids c.args.module.now tree c.label-label.result.now c.kids.result.now is below c.requires.sound,
+              still_indented c.args.levels c.args.out.now.items _ _ c.in_ok-write_prefixes.ensures c.requires.indented,
+            ),
+          ),
         ),
       ),
     )
@@ -27,7 +34,7 @@ write_type-write_form-requires t c =
 pub write_type-returns : goal.write_type-returns
 write_type-returns t c =
     on_ok c.write_form.result _ _
-    (λ e. written-type c.args.assignments.now c.args.levels c.args.generated.now c.args.marks.now c.args.tree.now c.label-label.result.now c.kids.result.now
+    (λ e. written-type c.args.module.now c.args.levels c.args.generated.now c.args.marks.now c.args.tree.now c.label-label.result.now c.kids.result.now
     _ _ _ c.label-label.ensures c.kids.ensures c.in_ok-write_prefixes.ensures e)
     c.write_form.ensures
 
@@ -36,7 +43,7 @@ write_block-returns t c =
     let kids = c.args.kids.now in
     let some : 0 < length kids = search rules in
     c.in_ok-write_closing_brace.ensures
-    ∙ block-parts c.args.assignments.now c.args.levels c.args.parts.now kids c.args.out.now.items c.push.new.self.items c.write_parts.new.out.items
+    ∙ block-parts c.args.module.now c.args.levels c.args.parts.now kids c.args.out.now.items c.push.new.self.items c.write_parts.new.out.items
     some c.requires.count c.in_ok-push.ensures.items c.in_ok-write_parts.ensures
 
 pub write_parts-write_part-requires : goal.write_parts-write_part-requires
@@ -46,8 +53,21 @@ write_parts-write_part-requires t c =
     let at = c.parts-test.true in
     let fewer = kid-count-le kids c.parts.i kid at c.index-kids-i.is in
     let now = c.decreases in
-    (omega (arith, now, fewer), (kid-allowed kids c.parts.i kid at c.index-kids-i.is MayHave c.requires.allowed, indented c.args.levels _ _ c.in_ok-write_new_line.ensures))
+    let same = c.requires.count in
+    let part = c.index-parts-i.result in (
+      omega (arith, now, fewer),
+      (
+        kid-allowed kids c.parts.i kid at c.index-kids-i.is MayHave c.requires.allowed,
+        (
+          kid-well_formed c.args.module.now kids c.parts.i kid at c.index-kids-i.is c.requires.sound,
+          (
+            standard-at c.args.module.now c.args.parts.now kids c.parts.i part kid (omega (arith, at, same)) c.index-parts-i.is at c.index-kids-i.is c.requires.standards,
+            indented c.args.levels _ _ c.in_ok-write_new_line.ensures,
+          ),
+        ),
+      ),
+    )
 
 pub write_parts-returns : goal.write_parts-returns
 write_parts-returns t c =
-    parts-end c.args.assignments.now c.args.levels c.args.parts.now c.args.kids.now c.args.out.now.items c.parts.out.items c.parts.i c.parts-test.false c.parts.invariant
+    parts-end c.args.module.now c.args.levels c.args.parts.now c.args.kids.now c.args.out.now.items c.parts.out.items c.parts.i c.parts-test.false c.parts.invariant

@@ -23,5 +23,5 @@ decreases-write_form l = 5 * count_all (roses_of l.kids.now) + 4
 -- what is written, with the parts that are still to be written
 abbrev pub invariant-write_parts-parts : goal.invariant-write_parts-parts
 invariant-write_parts-parts l =
-    l.out.items ++ listed_from (new_line l.levels) l.i (printed_parts l.assignments l.levels (drop l.i l.parts) (roses_of (drop l.i l.kids)))
-    ≡ l.initial.out.items ++ listed_from (new_line l.levels) 0 (printed_parts l.assignments l.levels l.parts (roses_of l.kids))
+    l.out.items ++ listed_from (new_line l.levels) l.i (printed_parts l.module l.levels (drop l.i l.parts) (roses_of (drop l.i l.kids)))
+    ≡ l.initial.out.items ++ listed_from (new_line l.levels) 0 (printed_parts l.module l.levels l.parts (roses_of l.kids))

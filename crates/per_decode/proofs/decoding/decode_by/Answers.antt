@@ -1,6 +1,6 @@
 use Rattle.std.proofs.Common.{sym, subst, Ok, Err}
 use Rattle.std.proofs.lemmas.Result.{err_from_is_err_and}
-use Rattle.asn_types.specs.Values.{In}
+use Rattle.asn_values.specs.Values.{In}
 use Rattle.asn_types.proofs.Inside.{body-of}
 use Rattle.per_decode.specs.Answers.{AnswersBy}
 use Rattle.per_decode.proofs.Final.{in_module, answers_told}

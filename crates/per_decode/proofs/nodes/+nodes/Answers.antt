@@ -3,32 +3,35 @@ use Rattle.std.specs.Prelude.{slice_get}
 use Rattle.std.proofs.lemmas.List.{length-append, drop_all}
 use Rattle.std.proofs.lemmas.Result.{err_from_is_err_and, on_ok_weaker}
 use Rattle.flat_tree.specs.Zips.{closed}
-use Rattle.label_tree.specs.Rose.{Rose, node, label_of, kids_of, roses_of}
+use Rattle.label_tree.specs.Rose.{Rose, node, label_of, kids_of, roses_of, node_count}
 use Rattle.simple_types.specs.declared.labels.ValueLabel.TheVariants as value
 use Rattle.asn_types.specs.declared.types.Form.TheVariants as form
 use Rattle.asn_types.specs.declared.types.TypeLabel.{TypeLabel}
 use Rattle.asn_types.specs.Parts.{parts_of}
-use Rattle.asn_types.specs.Private.Placing.{FitKids}
+use Rattle.asn_values.specs.Private.Placing.{FitKids}
 use Rattle.asn_types.specs.Modules.{AreWellFormed}
 use Rattle.simple_types.specs.declared.labels.ValueLabel.{ValueLabel}
 use Rattle.asn_types.specs.Refs.{resolve}
-use Rattle.asn_types.specs.Values.{place_of, place_at, below, OwnAt}
+use Rattle.asn_values.specs.Values.{place_of, place_at, FitsAt, OwnAt}
 use Rattle.asn_types.proofs.Chaining.{resolved-of-module, well-formed}
-use Rattle.asn_types.proofs.Counting.{replicate-drop, fits-from_kids}
+use Rattle.asn_values.proofs.Counting.{replicate-drop, fits-from_kids}
+use Rattle.asn_values.proofs.Standards.{free-kept}
 use Rattle.per_fields.specs.Fields.{fragments_at, counted_at, list_at}
 use Rattle.per_fields.specs.Nodes.{items_at, is_no_text}
 use Rattle.per_decode.specs.Private.Giving.{halt_of, memory, input, spot, FailsAt, Gives}
 use Rattle.per_decode.specs.Private.Bodies.{HasFields, IsNoText, fields_at, kid_at, node_of, many_at, FitAll}
 use Rattle.per_decode.proofs.Bodies.{node-deep, node-many, node-goes, fields_fail, text-body, body_gives, body_plain}
-use Rattle.per_decode.proofs.EndNodes.{sits-node}
-use Rattle.per_decode.proofs.Fitting.{length-count, count-push, all-push, own_fits, own_counts, text_fits, fit-bool, fit-int, fit-numbers, fit-words, fit-sequence, fit-choice, fit-list}
-use Rattle.per_decode.proofs.Forms.{shows_as, fields-bool, fields-int, fields-numbers, fields-words, fields-sequence, fields-choice, fields-list, sequence_fails, sequence_reads, components_fail, components_full, choice_fails, choice_reads, alternative_fails, alternative_full}
+use Rattle.per_decode.proofs.EndNodes.{sits-node, sits-kid}
+use Rattle.per_decode.proofs.Fitting.{length-count, count-push, all-push, own_fits, own_counts, text_fits, fit-bool, fit-int, fit-numbers, fit-words, fit-order, fit-sequence, fit-choice, fit-list}
+use Rattle.per_decode.proofs.Forms.{shows_as, fields-bool, fields-int, fields-numbers, fields-words, fields-order, fields-sequence, fields-choice, fields-list, sequence_fails, sequence_reads, components_fail, components_full, choice_fails, choice_reads, alternative_fails, alternative_full}
+use Rattle.per_decode.proofs.Free.{free-read}
+use Rattle.per_decode.proofs.Keeping.{told_of, kept_of, part_gives, part_fails}
 use Rattle.per_decode.proofs.Lists.{steady-items, list-none, list-large, count_fails, count_told, list_fails, list_full, list_reads}
 use Rattle.per_decode.proofs.Loop.{with_front, each_more, each_fails, each_done, through_none, through_skip, through_more, through_fails, through_end, through_fit}
 use Rattle.per_decode.specs.Private.Newest.{newest}
 use Rattle.per_decode.proofs.NoKids.{needs, needs-kids, needs-resolved, inner_here}
 use Rattle.per_decode.proofs.Newest.{newest-pushed, newest-told, pushed-newest, pushed-told, closed-list, closed-one, closed-labeled}
-use Rattle.per_decode.proofs.Parts.{kids-parts, bounds_ordered, numbers_counted, words_counted, components_few, alternatives_counted, sizes_ordered, got, got_split, flag_split, copies-none, part_there, kid_here}
+use Rattle.per_decode.proofs.Parts.{kids-parts, bounds_ordered, numbers_counted, words_counted, components_few, alternatives_counted, sizes_ordered, got, got_split, got_here, flag_split, copies-none, choice_free, item_free, order_counted, part_there, kid_here}
 use Rattle.per_decode.proofs.Presence.{present-length, places_there}
 use Rattle.per_decode.proofs.Standing.{stands_inside}
 use Rattle.per_decode.proofs.Turns.{turn_fails, turn_last, turn_on, turn_off}
@@ -191,6 +194,18 @@ fields-enumerated-requires-in-Words-clause-few g t c =
     let n = words_counted c.args.module.now c.requires.known c.args.found.now c.requires.of _ _ e in
     rw c.items-in-Words.ensures (omega (arith, n.1))
 
+pub fields-enumerated-requires-in-Order-clause-some : goal.fields-enumerated-requires-in-Order-clause-some
+fields-enumerated-requires-in-Order-clause-some g t c =
+    let e = ap (λ l. l.form) (sym c.label.ensures) ∙ c.in-Order.is in
+    let n = order_counted c.args.module.now c.requires.known c.args.found.now c.requires.of _ e in
+    rw c.items-in-Order.ensures (omega (arith, n.0))
+
+pub fields-enumerated-requires-in-Order-clause-few : goal.fields-enumerated-requires-in-Order-clause-few
+fields-enumerated-requires-in-Order-clause-few g t c =
+    let e = ap (λ l. l.form) (sym c.label.ensures) ∙ c.in-Order.is in
+    let n = order_counted c.args.module.now c.requires.known c.args.found.now c.requires.of _ e in
+    rw c.items-in-Order.ensures (omega (arith, n.1))
+
 pub fields-sequence-requires : goal.fields-sequence-requires
 fields-sequence-requires g t c =
     let d = c.decreases in
@@ -255,6 +270,17 @@ fields-returns-in-Words-clause-gives g t c = λ told.
     let e = ap (λ l. l.form) (sym c.label.ensures) ∙ c.in-Words.is in
     let old = c.args.run.now in
     shows_as g.K.Origin.limit g.K.Origin.whole (λ _. newest c.enumerated-in-Words.new.values.kids) c.enumerated-in-Words.result _ _ _ _ _ (fields-words g.V.Variant.ALIGNED c.args.module.now c.args.depth c.args.found.now (input g.K.Origin.limit g.K.Origin.whole) (spot old.bits.position old.nodes) _ _ e) (rw c.items-in-Words.ensures at (c.enumerated-in-Words.ensures.gives told))
+
+pub fields-returns-in-Order-clause-fits : goal.fields-returns-in-Order-clause-fits
+fields-returns-in-Order-clause-fits g t c =
+    let e = ap (λ l. l.form) (sym c.label.ensures) ∙ c.in-Order.is in
+    on_ok_weaker c.enumerated-in-Order.result (λ h. subst (FitKids c.args.module.now c.args.depth c.args.found.now) (sym h.1) (fit-order c.args.module.now c.args.depth c.args.found.now _ h.0 e (rw c.items-in-Order.ensures at h.2))) c.enumerated-in-Order.ensures.leaf
+
+pub fields-returns-in-Order-clause-gives : goal.fields-returns-in-Order-clause-gives
+fields-returns-in-Order-clause-gives g t c = λ told.
+    let e = ap (λ l. l.form) (sym c.label.ensures) ∙ c.in-Order.is in
+    let old = c.args.run.now in
+    shows_as g.K.Origin.limit g.K.Origin.whole (λ _. newest c.enumerated-in-Order.new.values.kids) c.enumerated-in-Order.result _ _ _ _ _ (fields-order g.V.Variant.ALIGNED c.args.module.now c.args.depth c.args.found.now (input g.K.Origin.limit g.K.Origin.whole) (spot old.bits.position old.nodes) _ e) (rw c.items-in-Order.ensures at (c.enumerated-in-Order.ensures.gives told))
 
 pub fields-returns-in-Sequence-clause-gives : goal.fields-returns-in-Sequence-clause-gives
 fields-returns-in-Sequence-clause-gives g t c = λ told.
@@ -350,34 +376,38 @@ pub components-overflow_cast-i : goal.components-overflow_cast-i
 components-overflow_cast-i g t c =
     omega (arith, components_few c.args.module.now c.requires.known c.args.found.now c.requires.of c.args.parts.now c.requires.form, c.parts-test.true)
 
-pub components-node-requires : goal.components-node-requires
-components-node-requires g t c =
+pub components-component-requires : goal.components-component-requires
+components-component-requires g t c =
     let u = c.args.found.now in
     let parts = c.args.parts.now in
     let i = c.parts.i in
     let kid = c.kid-kid.result.now in
-    let there = part_there c.args.module.now c.requires.known c.args.found.now c.requires.of i kid c.kid-kid.ensures in
-    let k = inner_here c.args.module.now c.requires.known c.args.found.now c.requires.of c.args.depth i c.part_depth-inner.result there.0 kid c.resolve-to.result.now (subst HasFields (sym c.requires.form) tt) c.requires.depth there.1 c.kid-kid.ensures c.resolve-to.ensures c.part_depth-inner.ensures.same in
+    let part = c.index-parts-i.result in
+    let here = got_here parts i part c.parts-test.true c.index-parts-i.is in
+    let there = subst (λ f. slice_get (parts_of f) i ≡ Some part) (sym c.requires.form) here in
+    let k = inner_here c.args.module.now c.requires.known c.args.found.now c.requires.of c.args.depth i c.part_depth-inner.result part kid c.resolve-to.result.now (subst HasFields (sym c.requires.form) tt) c.requires.depth there c.kid-kid.ensures c.resolve-to.ensures c.part_depth-inner.ensures.same in
     let d = c.decreases in
     (λ κs h. (omega (arith, d, k.fewer, ap (needs c.args.module.now c.part_depth-inner.result) c.resolve-to.ensures), (h.0, (h.1.0, (h.1.1, (c.part_depth-inner.ensures.few, (c.requires.known, (k.of_module, (c.resolve-to.ensures, c.parts.invariant.in_step)))))))))
 
-pub components-returns-in_err-node-clause-gives : goal.components-returns-in_err-node-clause-gives
-components-returns-in_err-node-clause-gives g t c = λ told.
+pub components-returns-in_err-component-clause-gives : goal.components-returns-in_err-component-clause-gives
+components-returns-in_err-component-clause-gives g t c = λ told.
     let p = err_from_is_err_and c.from_residual.result c.from_residual.ensures.1 in
     let u = c.args.found.now in
     let parts = c.args.parts.now in
     let i = c.parts.i in
     let kid = c.kid-kid.result.now in
-    let there = part_there c.args.module.now c.requires.known c.args.found.now c.requires.of i kid c.kid-kid.ensures in
-    let k = inner_here c.args.module.now c.requires.known c.args.found.now c.requires.of c.args.depth i c.part_depth-inner.result there.0 kid c.resolve-to.result.now (subst HasFields (sym c.requires.form) tt) c.requires.depth there.1 c.kid-kid.ensures c.resolve-to.ensures c.part_depth-inner.ensures.same in
+    let part = c.index-parts-i.result in
+    let here = got_here parts i part c.parts-test.true c.index-parts-i.is in
+    let there = subst (λ f. slice_get (parts_of f) i ≡ Some part) (sym c.requires.form) here in
+    let k = inner_here c.args.module.now c.requires.known c.args.found.now c.requires.of c.args.depth i c.part_depth-inner.result part kid c.resolve-to.result.now (subst HasFields (sym c.requires.form) tt) c.requires.depth there c.kid-kid.ensures c.resolve-to.ensures c.part_depth-inner.ensures.same in
     let flags = c.args.present.now in
-    let is_part = got_split parts i there.0 (subst (λ f. slice_get (parts_of f) i ≡ Some there.0) c.requires.form there.1) in
+    let is_part = got_split parts i part here in
     let is_kid = got_split (kids_of u) i kid c.kid-kid.ensures in
     let is_flag = flag_split flags i true (omega (arith, present-length parts flags c.requires.present, c.parts-test.true)) c.if-not-present-i.false in
     let old = c.parts.run in
-    let new = c.node.new.run in
+    let new = c.component.new.run in
     let j = stands_inside old.bits.position old.bits.taken old.bits.held old.bits.limit g.K.Origin.limit g.K.Origin.whole _ old.limited old.bits.behind old.bits.within (old.here told) in
-    rw (p.1, p.2) (through_fails g.V.Variant.ALIGNED c.args.module.now c.args.depth (label_of u) parts (kids_of u) flags (IsTrue g.K.Origin.told) (input g.K.Origin.limit g.K.Origin.whole) (spot c.args.run.now.bits.position c.args.run.now.nodes) i c.parts.values.kids (spot old.bits.position old.nodes) there.0 kid is_part is_kid is_flag (λ p. sits-node g.V.Variant.ALIGNED c.args.module.now (below p.role c.args.depth) p.type) told g.K.Origin.limit g.K.Origin.whole (halt_of c.in_err-node.field-0.0 new.stop) new.bits.taken j (subst (FailsAt g.K.Origin.limit g.K.Origin.whole (halt_of c.in_err-node.field-0.0 new.stop) new.bits.taken) (k.read g.V.Variant.ALIGNED (input g.K.Origin.limit g.K.Origin.whole) (spot old.bits.position old.nodes)) (c.in_err-node.ensures.gives told)) c.parts.invariant.through)
+    rw (p.1, p.2) (through_fails g.V.Variant.ALIGNED c.args.module.now c.args.depth (label_of u) parts (kids_of u) flags (IsTrue g.K.Origin.told) (input g.K.Origin.limit g.K.Origin.whole) (spot c.args.run.now.bits.position c.args.run.now.nodes) i c.parts.values.kids (spot old.bits.position old.nodes) part kid is_part is_kid is_flag (λ p. sits-kid g.V.Variant.ALIGNED c.args.module.now c.args.depth p) told g.K.Origin.limit g.K.Origin.whole (halt_of c.in_err-component.field-0.0 new.stop) new.bits.taken j (subst (FailsAt g.K.Origin.limit g.K.Origin.whole (halt_of c.in_err-component.field-0.0 new.stop) new.bits.taken) (k.read g.V.Variant.ALIGNED (input g.K.Origin.limit g.K.Origin.whole) (spot old.bits.position old.nodes)) (c.in_err-component.ensures.gives told)) c.parts.invariant.through)
 
 pub components-parts-preserved-then-not-present-i : goal.components-parts-preserved-then-not-present-i
 components-parts-preserved-then-not-present-i g t c =
@@ -407,23 +437,25 @@ components-parts-preserved g t c =
     let parts = c.args.parts.now in
     let i = c.parts.i in
     let kid = c.kid-kid.result.now in
-    let there = part_there c.args.module.now c.requires.known c.args.found.now c.requires.of i kid c.kid-kid.ensures in
-    let k = inner_here c.args.module.now c.requires.known c.args.found.now c.requires.of c.args.depth i c.part_depth-inner.result there.0 kid c.resolve-to.result.now (subst HasFields (sym c.requires.form) tt) c.requires.depth there.1 c.kid-kid.ensures c.resolve-to.ensures c.part_depth-inner.ensures.same in
+    let part = c.index-parts-i.result in
+    let here = got_here parts i part c.parts-test.true c.index-parts-i.is in
+    let there = subst (λ f. slice_get (parts_of f) i ≡ Some part) (sym c.requires.form) here in
+    let k = inner_here c.args.module.now c.requires.known c.args.found.now c.requires.of c.args.depth i c.part_depth-inner.result part kid c.resolve-to.result.now (subst HasFields (sym c.requires.form) tt) c.requires.depth there c.kid-kid.ensures c.resolve-to.ensures c.part_depth-inner.ensures.same in
     let flags = c.args.present.now in
-    let is_part = got_split parts i there.0 (subst (λ f. slice_get (parts_of f) i ≡ Some there.0) c.requires.form there.1) in
+    let is_part = got_split parts i part here in
     let is_kid = got_split (kids_of u) i kid c.kid-kid.ensures in
     let is_flag = flag_split flags i true (omega (arith, present-length parts flags c.requires.present, c.parts-test.true)) c.if-not-present-i.false in
     let old = c.parts.run in
-    let new = c.node.new.run in
-    let pushed = ap (λ z. z.kids) c.in_ok-node.ensures.pushed in
+    let new = c.component.new.run in
+    let pushed = ap (λ z. z.kids) c.in_ok-component.ensures.pushed in
     record {
-      in_step = c.in_ok-node.ensures.on.1;
-      on = omega (arith, c.in_ok-node.ensures.on.0, c.parts.invariant.on);
-      same = c.node.ensures.same_reference ∙ c.parts.invariant.same;
-      above = ap (λ z. z.above) c.in_ok-node.ensures.pushed ∙ c.parts.invariant.above;
-      count = rw pushed (omega (arith, c.in_ok-node.ensures.count, c.parts.invariant.count, count-push c.parts.values.kids (newest c.node.new.values.kids)));
-      through = rw pushed (through_more g.V.Variant.ALIGNED c.args.module.now c.args.depth (label_of u) parts (kids_of u) flags (IsTrue g.K.Origin.told) (input g.K.Origin.limit g.K.Origin.whole) (spot c.args.run.now.bits.position c.args.run.now.nodes) i c.parts.values.kids (spot old.bits.position old.nodes) there.0 kid is_part is_kid is_flag (newest c.node.new.values.kids) (spot new.bits.position new.nodes)
-          (k.fits (newest c.node.new.values.kids) c.in_ok-node.ensures.fits) (λ told. sym (k.read g.V.Variant.ALIGNED (input g.K.Origin.limit g.K.Origin.whole) (spot old.bits.position old.nodes)) ∙ c.in_ok-node.ensures.gives told) c.parts.invariant.through);
+      in_step = c.in_ok-component.ensures.on.1;
+      on = omega (arith, c.in_ok-component.ensures.on.0, c.parts.invariant.on);
+      same = c.component.ensures.same_reference ∙ c.parts.invariant.same;
+      above = ap (λ z. z.above) c.in_ok-component.ensures.pushed ∙ c.parts.invariant.above;
+      count = rw pushed (omega (arith, c.in_ok-component.ensures.count, c.parts.invariant.count, count-push c.parts.values.kids (newest c.component.new.values.kids)));
+      through = rw pushed (through_more g.V.Variant.ALIGNED c.args.module.now c.args.depth (label_of u) parts (kids_of u) flags (IsTrue g.K.Origin.told) (input g.K.Origin.limit g.K.Origin.whole) (spot c.args.run.now.bits.position c.args.run.now.nodes) i c.parts.values.kids (spot old.bits.position old.nodes) part kid is_part is_kid is_flag (newest c.component.new.values.kids) (spot new.bits.position new.nodes)
+          (k.fits (newest c.component.new.values.kids) c.in_ok-component.ensures.fits, c.in_ok-component.ensures.kept) (λ told. sym (k.read g.V.Variant.ALIGNED (input g.K.Origin.limit g.K.Origin.whole) (spot old.bits.position old.nodes)) ∙ c.in_ok-component.ensures.gives told) c.parts.invariant.through);
     }
 
 pub components-returns-clause-gives : goal.components-returns-clause-gives
@@ -439,6 +471,60 @@ components-returns-clause-fits g t c =
     let parts = c.args.parts.now in
     let flags = c.args.present.now in
     through_fit g.V.Variant.ALIGNED c.args.module.now c.args.depth (label_of u) parts (kids_of u) flags (IsTrue g.K.Origin.told) (input g.K.Origin.limit g.K.Origin.whole) (spot c.args.run.now.bits.position c.args.run.now.nodes) c.parts.i c.parts.values.kids (spot c.parts.run.bits.position c.parts.run.nodes) (drop_all c.parts.i parts c.parts-test.false) c.parts.invariant.through
+
+-- A COMPONENT, by its node and its default or fixed value
+
+pub component-node-requires : goal.component-node-requires
+component-node-requires g t c =
+    let d = c.decreases in
+    (λ κs h. (omega (arith, d), (h.0, (h.1.0, (h.1.1, (c.requires.depth, (c.requires.known, (c.requires.of, (c.requires.found, c.requires.in_step)))))))))
+
+pub component-standard-requires : goal.component-standard-requires
+component-standard-requires g t c =
+    let d = c.decreases in
+    (λ κs h. (omega (arith, d), (h.0, (h.1.0, (h.1.1, (c.requires.depth, (c.requires.known, (c.requires.of, (c.requires.found, c.requires.in_step)))))))))
+
+pub component-returns-in-Free-clause-kept : goal.component-returns-in-Free-clause-kept
+component-returns-in-Free-clause-kept g t c = on_ok_weaker c.node.result (λ h. free-kept c.args.module.now c.args.part.now c.args.kid.now (newest c.node.new.values.kids) c.in-Free.is) c.node.ensures.pushed
+
+pub component-returns-in-Free-clause-gives : goal.component-returns-in-Free-clause-gives
+component-returns-in-Free-clause-gives g t c = λ told.
+    let old = c.args.run.now in
+    shows_as g.K.Origin.limit g.K.Origin.whole (λ _. newest c.node.new.values.kids) c.node.result _ _ _ _ _ (free-read g.V.Variant.ALIGNED c.args.module.now c.args.depth c.args.part.now c.args.kid.now c.in-Free.is (input g.K.Origin.limit g.K.Origin.whole) (spot old.bits.position old.nodes)) (c.node.ensures.gives told)
+
+pub standard-node-requires : goal.standard-node-requires
+standard-node-requires g t c =
+    let d = c.decreases in
+    (λ κs h. (omega (arith, d), (h.0, (h.1.0, (h.1.1, (c.requires.depth, (c.requires.known, (c.requires.of, (c.requires.found, c.requires.in_step)))))))))
+
+pub standard-returns-in_err-node-clause-gives : goal.standard-returns-in_err-node-clause-gives
+standard-returns-in_err-node-clause-gives g t c = λ told.
+    let p = err_from_is_err_and c.from_residual.result c.from_residual.ensures.1 in
+    let old = c.args.run.now in
+    let i = stands_inside old.bits.position old.bits.taken old.bits.held old.bits.limit g.K.Origin.limit g.K.Origin.whole _ old.limited old.bits.behind old.bits.within (old.here told) in
+    rw (p.1, p.2) (part_fails g.V.Variant.ALIGNED c.args.module.now c.args.depth c.args.part.now c.args.kid.now (input g.K.Origin.limit g.K.Origin.whole) (spot old.bits.position old.nodes) g.K.Origin.limit g.K.Origin.whole (halt_of c.in_err-node.field-0.0 c.node.new.run.stop) c.node.new.run.bits.taken i (c.in_err-node.ensures.gives told))
+
+pub standard-returns : goal.standard-returns
+standard-returns g t c =
+    let M = c.args.module.now in
+    let v = c.finish_one.result in
+    let w = newest c.unless_standard.new.values.kids in
+    let is : newest c.node.new.values.kids ≡ v = ap newest c.finish_one.ensures in
+    let same = newest-told c.unless_standard.result _ _ v c.unless_standard.ensures.pushed in
+    record {
+      same_reference = search rules;
+      on = search rules;
+      pushed = pushed-told c.unless_standard.result _ _ v c.unless_standard.ensures.pushed;
+      count = told_of (λ u. c.node.new.run.nodes ≡ c.args.run.now.nodes + node_count u) v w c.unless_standard.result (rw is at c.in_ok-node.ensures.count) same;
+      fits = told_of (FitsAt M c.args.depth c.args.kid.now) v w c.unless_standard.result (rw is at c.in_ok-node.ensures.fits) same;
+      kept = kept_of M c.args.part.now c.args.kid.now v w c.unless_standard.result same c.unless_standard.ensures.ok;
+      gives = λ told.
+          let old = c.args.run.now in
+          let new = c.node.new.run in
+          part_gives g.V.Variant.ALIGNED M c.args.depth c.args.part.now c.args.kid.now (spot old.bits.position old.nodes) v (spot new.bits.position new.nodes) g.K.Origin.limit g.K.Origin.whole c.unless_standard.new.stop new.bits.taken w c.unless_standard.result
+          (rw is at (c.in_ok-node.ensures.gives told)) (omega (arith, c.in_ok-node.ensures.on.1)) same c.unless_standard.ensures.ok (rw (c.position-begin.ensures, c.position-end.ensures) at c.unless_standard.ensures.err);
+      failed = search rules;
+    }
 
 -- A CHOICE
 
@@ -493,13 +579,14 @@ choice-returns-in_err-node-clause-gives g t c = λ told.
     let i = c.in_ok-index.field-0 in
     let kid = c.kid-kid.result.now in
     let there = part_there c.args.module.now c.requires.known c.args.found.now c.requires.of i kid c.kid-kid.ensures in
+    let free = choice_free c.args.module.now c.requires.known c.args.found.now c.requires.of parts i there.0 c.requires.form (subst (λ f. slice_get (parts_of f) i ≡ Some there.0) c.requires.form there.1) in
     let k = inner_here c.args.module.now c.requires.known c.args.found.now c.requires.of c.args.depth i c.part_depth-inner.result there.0 kid c.resolve-to.result.now (subst HasFields (sym c.requires.form) tt) c.requires.depth there.1 c.kid-kid.ensures c.resolve-to.ensures c.part_depth-inner.ensures.same in
     let is_part = subst (λ f. slice_get (parts_of f) i ≡ Some there.0) c.requires.form there.1 in
     let old = c.args.run.now in
     let mid = c.number.new.self in
     let new = c.node.new.run in
     let j = stands_inside mid.bits.position mid.bits.taken mid.bits.held mid.bits.limit g.K.Origin.limit g.K.Origin.whole _ mid.limited mid.bits.behind mid.bits.within (mid.here told) in
-    rw (p.1, p.2) (alternative_fails g.V.Variant.ALIGNED c.args.module.now c.args.depth (label_of c.args.found.now) (kids_of c.args.found.now) c.args.parts.now (input g.K.Origin.limit g.K.Origin.whole) (spot old.bits.position old.nodes) i (spot mid.bits.position mid.nodes) there.0 kid (c.in_ok-index.ensures.gives told) is_part c.kid-kid.ensures g.K.Origin.limit g.K.Origin.whole (halt_of c.in_err-node.field-0.0 new.stop) new.bits.taken j (subst (FailsAt g.K.Origin.limit g.K.Origin.whole (halt_of c.in_err-node.field-0.0 new.stop) new.bits.taken) (k.read g.V.Variant.ALIGNED (input g.K.Origin.limit g.K.Origin.whole) (spot mid.bits.position mid.nodes)) (c.in_err-node.ensures.gives told)))
+    rw (p.1, p.2) (alternative_fails g.V.Variant.ALIGNED c.args.module.now c.args.depth (label_of c.args.found.now) (kids_of c.args.found.now) c.args.parts.now (input g.K.Origin.limit g.K.Origin.whole) (spot old.bits.position old.nodes) i (spot mid.bits.position mid.nodes) there.0 kid (c.in_ok-index.ensures.gives told) is_part c.kid-kid.ensures g.K.Origin.limit g.K.Origin.whole (halt_of c.in_err-node.field-0.0 new.stop) new.bits.taken j (subst (FailsAt g.K.Origin.limit g.K.Origin.whole (halt_of c.in_err-node.field-0.0 new.stop) new.bits.taken) (sym (free-read g.V.Variant.ALIGNED c.args.module.now c.part_depth-inner.result there.0 kid free (input g.K.Origin.limit g.K.Origin.whole) (spot mid.bits.position mid.nodes)) ∙ k.read g.V.Variant.ALIGNED (input g.K.Origin.limit g.K.Origin.whole) (spot mid.bits.position mid.nodes)) (c.in_err-node.ensures.gives told)))
 
 pub choice-returns-in_err-open-clause-gives : goal.choice-returns-in_err-open-clause-gives
 choice-returns-in_err-open-clause-gives g t c = λ told.
@@ -534,12 +621,13 @@ choice-returns-clause-fits g t c =
     let i = c.in_ok-index.field-0 in
     let kid = c.kid-kid.result.now in
     let there = part_there c.args.module.now c.requires.known c.args.found.now c.requires.of i kid c.kid-kid.ensures in
+    let free = choice_free c.args.module.now c.requires.known c.args.found.now c.requires.of parts i there.0 c.requires.form (subst (λ f. slice_get (parts_of f) i ≡ Some there.0) c.requires.form there.1) in
     let k = inner_here c.args.module.now c.requires.known c.args.found.now c.requires.of c.args.depth i c.part_depth-inner.result there.0 kid c.resolve-to.result.now (subst HasFields (sym c.requires.form) tt) c.requires.depth there.1 c.kid-kid.ensures c.resolve-to.ensures c.part_depth-inner.ensures.same in
     let is_part = subst (λ f. slice_get (parts_of f) i ≡ Some there.0) c.requires.form there.1 in
     let old = c.args.run.now in
     let mid = c.number.new.self in
     let new = c.node.new.run in
-    rw (newest-pushed _ _ _ (c.close.ensures ∙ closed-one _ _ _ _ _ c.in_ok-open.ensures.ok c.in_ok-node.ensures.pushed)) (fit-choice c.args.module.now c.args.depth c.args.found.now parts i there.0 kid (newest c.node.new.values.kids) c.requires.form is_part c.kid-kid.ensures (k.fits (newest c.node.new.values.kids) c.in_ok-node.ensures.fits))
+    rw (newest-pushed _ _ _ (c.close.ensures ∙ closed-one _ _ _ _ _ c.in_ok-open.ensures.ok c.in_ok-node.ensures.pushed)) (fit-choice c.args.module.now c.args.depth c.args.found.now parts i there.0 kid (newest c.node.new.values.kids) c.requires.form is_part c.kid-kid.ensures free (k.fits (newest c.node.new.values.kids) c.in_ok-node.ensures.fits))
 
 pub choice-returns-clause-gives : goal.choice-returns-clause-gives
 choice-returns-clause-gives g t c = λ told.
@@ -548,12 +636,13 @@ choice-returns-clause-gives g t c = λ told.
     let i = c.in_ok-index.field-0 in
     let kid = c.kid-kid.result.now in
     let there = part_there c.args.module.now c.requires.known c.args.found.now c.requires.of i kid c.kid-kid.ensures in
+    let free = choice_free c.args.module.now c.requires.known c.args.found.now c.requires.of parts i there.0 c.requires.form (subst (λ f. slice_get (parts_of f) i ≡ Some there.0) c.requires.form there.1) in
     let k = inner_here c.args.module.now c.requires.known c.args.found.now c.requires.of c.args.depth i c.part_depth-inner.result there.0 kid c.resolve-to.result.now (subst HasFields (sym c.requires.form) tt) c.requires.depth there.1 c.kid-kid.ensures c.resolve-to.ensures c.part_depth-inner.ensures.same in
     let is_part = subst (λ f. slice_get (parts_of f) i ≡ Some there.0) c.requires.form there.1 in
     let old = c.args.run.now in
     let mid = c.number.new.self in
     let new = c.node.new.run in
-    rw (newest-pushed _ _ _ (c.close.ensures ∙ closed-one _ _ _ _ _ c.in_ok-open.ensures.ok c.in_ok-node.ensures.pushed)) (choice_reads g.V.Variant.ALIGNED c.args.module.now c.args.depth (label_of c.args.found.now) (kids_of c.args.found.now) c.args.parts.now (input g.K.Origin.limit g.K.Origin.whole) (spot old.bits.position old.nodes) i (spot mid.bits.position mid.nodes) there.0 kid (c.in_ok-index.ensures.gives told) is_part c.kid-kid.ensures (newest c.node.new.values.kids) (spot new.bits.position new.nodes) (sym (k.read g.V.Variant.ALIGNED (input g.K.Origin.limit g.K.Origin.whole) (spot mid.bits.position mid.nodes)) ∙ c.in_ok-node.ensures.gives told))
+    rw (newest-pushed _ _ _ (c.close.ensures ∙ closed-one _ _ _ _ _ c.in_ok-open.ensures.ok c.in_ok-node.ensures.pushed)) (choice_reads g.V.Variant.ALIGNED c.args.module.now c.args.depth (label_of c.args.found.now) (kids_of c.args.found.now) c.args.parts.now (input g.K.Origin.limit g.K.Origin.whole) (spot old.bits.position old.nodes) i (spot mid.bits.position mid.nodes) there.0 kid (c.in_ok-index.ensures.gives told) is_part c.kid-kid.ensures (newest c.node.new.values.kids) (spot new.bits.position new.nodes) (sym (sym (free-read g.V.Variant.ALIGNED c.args.module.now c.part_depth-inner.result there.0 kid free (input g.K.Origin.limit g.K.Origin.whole) (spot mid.bits.position mid.nodes)) ∙ k.read g.V.Variant.ALIGNED (input g.K.Origin.limit g.K.Origin.whole) (spot mid.bits.position mid.nodes)) ∙ c.in_ok-node.ensures.gives told))
 
 -- A SEQUENCE OF
 
@@ -582,6 +671,7 @@ sequence_of-returns-in_err-list-clause-gives g t c = λ told.
     let part = c.args.part.now in
     let item = c.kid-item.result.now in
     let is_part : slice_get (parts_of (label_of u).form) 0 ≡ Some part = ap (λ f. slice_get (parts_of f) 0) c.requires.form in
+    let free = item_free c.args.module.now c.requires.known c.args.found.now c.requires.of part _ _ c.requires.form in
     let k = kid_here c.args.module.now c.requires.known c.args.found.now c.requires.of c.args.depth 0 c.below-inner.result part item c.role.result (subst HasFields (sym c.requires.form) tt) c.requires.depth is_part c.kid-item.ensures (rw c.label.ensures at c.role.ensures) c.below-inner.ensures.same in
     let place = place_of (label_of u) 0 part item in
     let is_place : place_at (label_of u) 0 (Some part) (slice_get (kids_of u) 0) ≡ Some place = ap (λ o. place_at (label_of u) 0 (Some part) o) c.kid-item.ensures in
@@ -590,7 +680,7 @@ sequence_of-returns-in_err-list-clause-gives g t c = λ told.
     let j = stands_inside old.bits.position old.bits.taken old.bits.held old.bits.limit g.K.Origin.limit g.K.Origin.whole _ old.limited old.bits.behind old.bits.within (old.here told) in
     let h = subst (λ n. FailsAt g.K.Origin.limit g.K.Origin.whole (halt_of c.in_err-list.field-0.0 new.stop) new.bits.taken (list_at g.V.Variant.ALIGNED c.args.min c.args.max (λ m. many_at g.V.Variant.ALIGNED c.args.module.now n m item) (input g.K.Origin.limit g.K.Origin.whole) (spot old.bits.position old.nodes))) k.inner_is (c.in_err-list.ensures.gives told) in
     rw (p.1, p.2) (subst (λ o. FailsAt g.K.Origin.limit g.K.Origin.whole (halt_of c.in_err-list.field-0.0 new.stop) new.bits.taken (items_at g.V.Variant.ALIGNED (kid_at g.V.Variant.ALIGNED c.args.module.now c.args.depth) c.args.min c.args.max o (input g.K.Origin.limit g.K.Origin.whole) (spot old.bits.position old.nodes))) (sym is_place)
-    (list_fails g.V.Variant.ALIGNED c.args.module.now c.args.depth place c.args.min c.args.max (input g.K.Origin.limit g.K.Origin.whole) (spot old.bits.position old.nodes) g.K.Origin.limit g.K.Origin.whole (halt_of c.in_err-list.field-0.0 new.stop) new.bits.taken j h))
+    (list_fails g.V.Variant.ALIGNED c.args.module.now c.args.depth place free c.args.min c.args.max (input g.K.Origin.limit g.K.Origin.whole) (spot old.bits.position old.nodes) g.K.Origin.limit g.K.Origin.whole (halt_of c.in_err-list.field-0.0 new.stop) new.bits.taken j h))
 
 pub sequence_of-returns-in_err-open-clause-gives : goal.sequence_of-returns-in_err-open-clause-gives
 sequence_of-returns-in_err-open-clause-gives g t c = λ told.
@@ -599,13 +689,14 @@ sequence_of-returns-in_err-open-clause-gives g t c = λ told.
     let part = c.args.part.now in
     let item = c.kid-item.result.now in
     let is_part : slice_get (parts_of (label_of u).form) 0 ≡ Some part = ap (λ f. slice_get (parts_of f) 0) c.requires.form in
+    let free = item_free c.args.module.now c.requires.known c.args.found.now c.requires.of part _ _ c.requires.form in
     let k = kid_here c.args.module.now c.requires.known c.args.found.now c.requires.of c.args.depth 0 c.below-inner.result part item c.role.result (subst HasFields (sym c.requires.form) tt) c.requires.depth is_part c.kid-item.ensures (rw c.label.ensures at c.role.ensures) c.below-inner.ensures.same in
     let place = place_of (label_of u) 0 part item in
     let is_place : place_at (label_of u) 0 (Some part) (slice_get (kids_of u) 0) ≡ Some place = ap (λ o. place_at (label_of u) 0 (Some part) o) c.kid-item.ensures in
     let old = c.args.run.now in
     let j = stands_inside old.bits.position old.bits.taken old.bits.held old.bits.limit g.K.Origin.limit g.K.Origin.whole _ old.limited old.bits.behind old.bits.within (old.here told) in
     rw (p.1, p.2) (subst (λ o. FailsAt g.K.Origin.limit g.K.Origin.whole memory old.bits.taken (items_at g.V.Variant.ALIGNED (kid_at g.V.Variant.ALIGNED c.args.module.now c.args.depth) c.args.min c.args.max o (input g.K.Origin.limit g.K.Origin.whole) (spot old.bits.position old.nodes))) (sym is_place)
-    (list_full g.V.Variant.ALIGNED c.args.module.now c.args.depth place c.args.min c.args.max (input g.K.Origin.limit g.K.Origin.whole) (spot old.bits.position old.nodes) g.K.Origin.limit g.K.Origin.whole old.bits.taken j (omega (arith, c.requires.in_step))))
+    (list_full g.V.Variant.ALIGNED c.args.module.now c.args.depth place free c.args.min c.args.max (input g.K.Origin.limit g.K.Origin.whole) (spot old.bits.position old.nodes) g.K.Origin.limit g.K.Origin.whole old.bits.taken j (omega (arith, c.requires.in_step))))
 
 pub sequence_of-returns-clause-pushed : goal.sequence_of-returns-clause-pushed
 sequence_of-returns-clause-pushed g t c = pushed-newest _ _ _ (c.close.ensures ∙ closed-list _ _ _ _ c.in_ok-open.ensures.ok c.in_ok-list.ensures.above)
@@ -624,12 +715,13 @@ sequence_of-returns-clause-fits g t c =
     let part = c.args.part.now in
     let item = c.kid-item.result.now in
     let is_part : slice_get (parts_of (label_of u).form) 0 ≡ Some part = ap (λ f. slice_get (parts_of f) 0) c.requires.form in
+    let free = item_free c.args.module.now c.requires.known c.args.found.now c.requires.of part _ _ c.requires.form in
     let k = kid_here c.args.module.now c.requires.known c.args.found.now c.requires.of c.args.depth 0 c.below-inner.result part item c.role.result (subst HasFields (sym c.requires.form) tt) c.requires.depth is_part c.kid-item.ensures (rw c.label.ensures at c.role.ensures) c.below-inner.ensures.same in
     let place = place_of (label_of u) 0 part item in
     let is_place : place_at (label_of u) 0 (Some part) (slice_get (kids_of u) 0) ≡ Some place = ap (λ o. place_at (label_of u) 0 (Some part) o) c.kid-item.ensures in
     let old = c.args.run.now in
     let new = c.list.new.run in
-    rw (newest-pushed _ _ _ (c.close.ensures ∙ closed-list _ _ _ _ c.in_ok-open.ensures.ok c.in_ok-list.ensures.above)) (fit-list c.args.module.now c.args.depth c.args.found.now part c.args.min c.args.max item c.list.new.values.kids c.requires.form c.kid-item.ensures c.in_ok-list.ensures.size.0 c.in_ok-list.ensures.size.1 (subst (λ n. FitAll c.args.module.now n item c.list.new.values.kids) k.inner_is c.in_ok-list.ensures.fits))
+    rw (newest-pushed _ _ _ (c.close.ensures ∙ closed-list _ _ _ _ c.in_ok-open.ensures.ok c.in_ok-list.ensures.above)) (fit-list c.args.module.now c.args.depth c.args.found.now part c.args.min c.args.max item c.list.new.values.kids c.requires.form c.kid-item.ensures free c.in_ok-list.ensures.size.0 c.in_ok-list.ensures.size.1 (subst (λ n. FitAll c.args.module.now n item c.list.new.values.kids) k.inner_is c.in_ok-list.ensures.fits))
 
 pub sequence_of-returns-clause-gives : goal.sequence_of-returns-clause-gives
 sequence_of-returns-clause-gives g t c = λ told.
@@ -637,13 +729,14 @@ sequence_of-returns-clause-gives g t c = λ told.
     let part = c.args.part.now in
     let item = c.kid-item.result.now in
     let is_part : slice_get (parts_of (label_of u).form) 0 ≡ Some part = ap (λ f. slice_get (parts_of f) 0) c.requires.form in
+    let free = item_free c.args.module.now c.requires.known c.args.found.now c.requires.of part _ _ c.requires.form in
     let k = kid_here c.args.module.now c.requires.known c.args.found.now c.requires.of c.args.depth 0 c.below-inner.result part item c.role.result (subst HasFields (sym c.requires.form) tt) c.requires.depth is_part c.kid-item.ensures (rw c.label.ensures at c.role.ensures) c.below-inner.ensures.same in
     let place = place_of (label_of u) 0 part item in
     let is_place : place_at (label_of u) 0 (Some part) (slice_get (kids_of u) 0) ≡ Some place = ap (λ o. place_at (label_of u) 0 (Some part) o) c.kid-item.ensures in
     let old = c.args.run.now in
     let new = c.list.new.run in
     let h = subst (λ n. (list_at g.V.Variant.ALIGNED c.args.min c.args.max (λ m. many_at g.V.Variant.ALIGNED c.args.module.now n m item) (input g.K.Origin.limit g.K.Origin.whole) (spot old.bits.position old.nodes)) ≡ Ok (c.list.new.values.kids, (spot new.bits.position new.nodes))) k.inner_is (c.in_ok-list.ensures.gives told) in
-    let e = list_reads g.V.Variant.ALIGNED c.args.module.now c.args.depth place c.args.min c.args.max (input g.K.Origin.limit g.K.Origin.whole) (spot old.bits.position old.nodes) c.list.new.values.kids (spot new.bits.position new.nodes) h in
+    let e = list_reads g.V.Variant.ALIGNED c.args.module.now c.args.depth place free c.args.min c.args.max (input g.K.Origin.limit g.K.Origin.whole) (spot old.bits.position old.nodes) c.list.new.values.kids (spot new.bits.position new.nodes) h in
     rw (newest-pushed _ _ _ (c.close.ensures ∙ closed-list _ _ _ _ c.in_ok-open.ensures.ok c.in_ok-list.ensures.above)) (subst (λ o. (items_at g.V.Variant.ALIGNED (kid_at g.V.Variant.ALIGNED c.args.module.now c.args.depth) c.args.min c.args.max o (input g.K.Origin.limit g.K.Origin.whole) (spot old.bits.position old.nodes)) ≡ Ok (node value.SequenceOf (roses_of c.list.new.values.kids), (spot new.bits.position new.nodes))) (sym is_place) e)
 
 -- THE ITEMS, by their count

@@ -27,6 +27,12 @@ decreases-sequence g l = 10 * levels_needed l.«module».now l.depth l.found.now
 abbrev pub decreases-components : goal.decreases-components
 decreases-components g l = 10 * levels_needed l.«module».now l.depth l.found.now + 4
 
+abbrev pub decreases-component : goal.decreases-component
+decreases-component g l = 10 * needs l.«module».now l.depth l.found.now + 11
+
+abbrev pub decreases-standard : goal.decreases-standard
+decreases-standard g l = 10 * needs l.«module».now l.depth l.found.now + 10
+
 abbrev pub decreases-choice : goal.decreases-choice
 decreases-choice g l = 10 * levels_needed l.«module».now l.depth l.found.now + 5
 

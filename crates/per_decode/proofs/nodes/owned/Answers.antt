@@ -1,5 +1,5 @@
 use Rattle.std.proofs.Common.{subst, inr, IsTrue}
-use Rattle.asn_types.specs.Values.{Own}
+use Rattle.asn_values.specs.Values.{Own}
 use Rattle.per_decode.proofs.nodes.owned.Goals as goal
 
 pub returns-else-branch-clause-err : goal.returns-else-branch-clause-err

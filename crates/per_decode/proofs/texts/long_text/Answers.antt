@@ -1,7 +1,7 @@
 use Rattle.std.proofs.Common.{◌≡◌, arith, rules, sym, ap, ◌∙◌, Ok}
 use Rattle.std.proofs.lemmas.Result.{err_from_is_err_and, on_ok_weaker}
 use Rattle.asn_types.specs.Refs.{resolve}
-use Rattle.asn_types.specs.Values.{Own}
+use Rattle.asn_values.specs.Values.{Own}
 use Rattle.per_decode.specs.Private.Giving.{halt_of, input, spot}
 use Rattle.per_decode.specs.Private.Pieces.{piece_of}
 use Rattle.per_decode.specs.Private.Newest.{newest}

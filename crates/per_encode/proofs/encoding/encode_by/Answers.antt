@@ -1,6 +1,6 @@
 use Rattle.std.proofs.Common.{◌≡◌, ◌++◌, length, ◌∙◌, ap}
 use Rattle.bit_cursor.specs.Bits.{octet_bits}
-use Rattle.asn_types.proofs.Counting.{if_ok}
+use Rattle.asn_values.proofs.Counting.{if_ok}
 use Rattle.per_fields.specs.Encoding.{per, completed, complete_by}
 use Rattle.per_encode.proofs.Kids.{is_assigned, root_fits, complete-root}
 use Rattle.per_encode.proofs.encoding.encode_by.Goals as goal

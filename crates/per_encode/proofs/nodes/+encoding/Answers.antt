@@ -19,7 +19,7 @@ use Rattle.per_encode.specs.Private.Kids.{FitsSomewhere, AllFit, KidsFit, chosen
 use Rattle.per_encode.proofs.Puts.{on_ok, then_written, turn_taken, nothing_left, fragment_taken, last_taken}
 use Rattle.per_encode.proofs.Taken.{take_first, drop_first, take_none, drop_none, take_all}
 use Rattle.per_encode.proofs.Bits.{one_bit}
-use Rattle.per_encode.proofs.Kids.{first_fits, left_due, left_present, left_absent, kid_first, none_left, kids_fit, per-resolved, all_of-drop, both, Is, bool-bits, int-bits, number-bits, word-bits, text-bits, sequence_here, sequence-bits, choice_here, choice_kid, choice-bits, list_here, list_item, list-bits}
+use Rattle.per_encode.proofs.Kids.{first_fits, left_due, left_present, left_absent, kid_first, none_left, kids_fit, per-resolved, all_of-drop, both, Is, bool-bits, int-bits, number-bits, word-bits, order-bits, text-bits, sequence_here, sequence-bits, choice_here, choice_kid, choice-bits, list_here, list_item, list-bits}
 use Rattle.per_encode.proofs.nodes.+encoding.Goals as goal
 use Rattle.per_encode.proofs.nodes.+encoding.Goals.{put_parts-then-present-i+in-Some+in_ok-put_node-in-Some, put_parts-else-present-i}
 
@@ -160,6 +160,17 @@ put_content-returns-in-Enum-label g t c =
     let sink = c.args.sink.now in
     let p = length sink in
     on_ok c.put_index-in-Enum-label.result (λ e. e ∙ ap (λ xs. sink ++ number_bits g.V.Variant.ALIGNED (length xs - 1) i p) c.items-in-Enum-label.ensures ∙ ap (λ bs. sink ++ bs) (sym (word-bits g.V.Variant.ALIGNED M u v c.in-Words.identifiers c.in-Words.words i is p))) c.put_index-in-Enum-label.ensures
+
+pub put_content-returns-in-Enum-label-2 : goal.put_content-returns-in-Enum-label-2
+put_content-returns-in-Enum-label-2 g t c =
+    let M = c.args.module.now in
+    let u = c.args.node.now in
+    let v = c.args.value.now in
+    let i = c.in-Enum-label-2.i in
+    let is : Is g.V.Variant.ALIGNED M u v (form.Order c.in-Order.identifiers) (value.Enum i) = (ap (λ l. l.form) (sym c.label.ensures) ∙ c.in-Order.is, sym c.label-label.ensures ∙ c.in-Enum-label-2.is) in
+    let sink = c.args.sink.now in
+    let p = length sink in
+    on_ok c.put_index-in-Enum-label-2.result (λ e. e ∙ ap (λ xs. sink ++ number_bits g.V.Variant.ALIGNED (length xs - 1) i p) c.items-in-Enum-label-2.ensures ∙ ap (λ bs. sink ++ bs) (sym (order-bits g.V.Variant.ALIGNED M u v c.in-Order.identifiers i is p))) c.put_index-in-Enum-label-2.ensures
 
 pub put_content-returns-in-Utf8-label : goal.put_content-returns-in-Utf8-label
 put_content-returns-in-Utf8-label g t c =

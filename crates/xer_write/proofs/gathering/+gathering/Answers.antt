@@ -1,5 +1,7 @@
-use Rattle.std.proofs.Common.{◌≡◌, ℕ, ◌+◌, ◌<◌, ◌≤◌, false, true, OnOk, List, [], ◌∷◌, length, refl, sym, ap, subst, ◌∙◌, arith}
+use Rattle.std.proofs.Common.{◌≡◌, ℕ, ◌+◌, ◌<◌, ◌≤◌, false, true, OnOk, List, [], ◌∷◌, Some, length, map, get_or, drop, refl, sym, ap, subst, ◌∙◌, arith}
 use Rattle.std.specs.Prelude.{◌&&◌, nat_le, replicate, slice_get}
+use Rattle.std.specs.List.{range_with_len}
+use Rattle.std.proofs.lemmas.List.{length-map}
 use Rattle.std.proofs.lemmas.Bool.{ltb-true}
 use Rattle.label_tree.specs.Rose.{none, more, label_of, kids_of, roses_of, count_all, Allowed}
 use Rattle.label_tree.proofs.Roses.{node_count-kids}
@@ -7,20 +9,26 @@ use Rattle.simple_values.specs.Lexical.{is_at_most}
 use Rattle.simple_values.specs.Reading.{spelled}
 use Rattle.simple_values.proofs.Spellings.{found_at, missed_at}
 use Rattle.asn_types.specs.declared.types.Form.TheVariants as form
-use Rattle.asn_types.specs.Marks.{has_embed_values}
+use Rattle.asn_types.specs.Marks.{has_embed_values, has_use_order}
+use Rattle.asn_types.specs.Modules.{IsSequence}
 use Rattle.asn_types.specs.Parts.{MayHave, parts_of}
 use Rattle.asn_types.specs.Refs.{resolve}
 use Rattle.asn_types.specs.Spaces.{space_at}
-use Rattle.asn_types.specs.Values.{place_of, present_from}
+use Rattle.asn_values.specs.Values.{place_of, present_from, ordered_flags, order_of}
 use Rattle.plain_items.specs.Mixing.{text_before}
-use Rattle.xer_items.specs.Items.{given, nothing, both, element_of, gathered, texts_of, with_texts}
+use Rattle.xer_items.specs.Items.{given, nothing, both, element_of, inside, gathered, texts_of, with_texts}
 use Rattle.xer_items.specs.Spelling.{is_textual}
 use Rattle.xer_write.specs.Private.Receiving.{name_seen}
 use Rattle.xer_write.specs.Private.Gaining.{Gains}
-use Rattle.xer_write.specs.Private.Giving.{IsTypeIn, may_be_present, place_seen, place_gives, places_give, parts_give, mixed_gives, type_gives}
+use Rattle.xer_write.specs.Private.Giving.{IsTypeIn, may_be_present, place_seen, place_gives, places_give, parts_give, ordered_give, mixed_gives, type_gives}
 use Rattle.xer_write.proofs.Gaining.{gains-nothing, gains-both, mixed-gained, element-gained, element-open, on_ok, on_ok-two}
-use Rattle.xer_write.proofs.Giving.{found-in, kid-in, have-kids, few-parts, allowed-of, inside-text, inside-parts, sequence-give, sequence-other, choice-other, items-other, reference-other, present-some, fit-length, fit-step, give-present, found-absent, give-end, found_from, items_give, items-step, items-end, at-attribute, at-element, at-group, at-content, at-other}
+use Rattle.xer_write.proofs.Giving.{found-in, kid-in, have-kids, few-parts, allowed-of, inside-text, inside-parts, sequence-give, sequence-other, choice-other, items-other, reference-other, order-absent, order-nothing, no-order, present-some, fit-length, fit-step, give-present, found-absent, give-end, found_from, items_give, items-step, items-end, at-attribute, at-element, at-group, at-content, at-other}
 use Rattle.xer_write.proofs.Parts.{nil-then, with-embed, without-embed, some-at, slice-at, kid-count, flag-at, role-is, give-short, give-missing, choice-made, choice-missed, choice-empty, items-made, items-missed, too-few, too-many}
+use Rattle.asn_values.proofs.Counting.{drop-past}
+use Rattle.xer_items.specs.Ordering.{in_order}
+use Rattle.xer_items.specs.Children.{elements_of}
+use Rattle.xer_write.specs.Private.Keeping.{Keeps, child_seen, children_seen}
+use Rattle.xer_write.proofs.Children.{at-place, same-length, within-at, seen-at, seen-none, some-item, none-item, order-parts, order-places, told-in-order}
 use Rattle.xer_write.proofs.gathering.+gathering.Goals as goal
 use Rattle.xer_write.proofs.gathering.+gathering.Goals.{gather_present-then-present-i+in-Some+in_ok-gather_at, gather_present-else-present-i, gather_sequence_of-then-count-min-via-then-count-min, gather_sequence_of-then-count-min-via-else-count-min+then-not-is_at_most}
 
@@ -228,7 +236,21 @@ gather_kids-returns-in_default t c =
     (λ parts e. c.in_default.not-Sequence parts (ap (λ l. l.form) c.label.ensures ∙ e))
     (λ parts e. c.in_default.not-Choice parts (ap (λ l. l.form) c.label.ensures ∙ e))
     (λ part least most e. c.in_default.not-SequenceOf part least most (ap (λ l. l.form) c.label.ensures ∙ e)) in
-    subst (Gains o o) (sym same) (gains-nothing o)
+    subst (Gains o o) (sym (order-nothing c.args.module.now c.args.node.now c.args.value.now same)) (gains-nothing o)
+
+pub gather_kids-returns-in-Choice : goal.gather_kids-returns-in-Choice
+gather_kids-returns-in-Choice t c =
+    let m = c.args.module.now in
+    let u = c.args.node.now in
+    let other = no-order m u c.requires.node (λ is. subst IsSequence (ap (λ l. l.form) (sym c.label.ensures) ∙ c.in-Choice.is) is) in
+    subst (λ g. OnOk c.gather_choice.result (Gains c.args.out.now c.gather_choice.new.out g)) (sym (order-absent m u c.args.value.now other)) c.gather_choice.ensures
+
+pub gather_kids-returns-in-SequenceOf : goal.gather_kids-returns-in-SequenceOf
+gather_kids-returns-in-SequenceOf t c =
+    let m = c.args.module.now in
+    let u = c.args.node.now in
+    let other = no-order m u c.requires.node (λ is. subst IsSequence (ap (λ l. l.form) (sym c.label.ensures) ∙ c.in-SequenceOf.is) is) in
+    subst (λ g. OnOk c.gather_sequence_of.result (Gains c.args.out.now c.gather_sequence_of.new.out g)) (sym (order-absent m u c.args.value.now other)) c.gather_sequence_of.ensures
 
 -- ---- the instructions on a type
 
@@ -240,7 +262,7 @@ gather_parts-returns-in-Some t c =
     let m = c.args.module.now in
     let u = c.args.node.now in
     let v = c.args.value.now in
-    let g = parts_give m u v in
+    let g = ordered_give m u v in
     let before = c.add_nil_if.new.out in
     let after = c.gather_mixed.new.out in
     let b = has_embed_values (label_of u).marks in
@@ -256,7 +278,7 @@ gather_parts-returns-in-None t c =
     let m = c.args.module.now in
     let u = c.args.node.now in
     let v = c.args.value.now in
-    let g = parts_give m u v in
+    let g = ordered_give m u v in
     let before = c.add_nil_if.new.out in
     let after = c.gather_kids.new.out in
     let b = has_embed_values (label_of u).marks in
@@ -272,7 +294,7 @@ gather_parts-returns-else-has_embed_values t c =
     let m = c.args.module.now in
     let u = c.args.node.now in
     let v = c.args.value.now in
-    let g = parts_give m u v in
+    let g = ordered_give m u v in
     let before = c.add_nil_if.new.out in
     let after = c.gather_kids-else-has_embed_values.new.out in
     let b = has_embed_values (label_of u).marks in
@@ -289,7 +311,7 @@ gather_mixed-gather_kids-requires t c = let d = c.decreases in (omega (arith, d)
 
 pub gather_mixed-returns : goal.gather_mixed-returns
 gather_mixed-returns t c =
-    let g = parts_give c.args.module.now c.args.node.now c.args.value.now in
+    let g = ordered_give c.args.module.now c.args.node.now c.args.value.now in
     let begun = c.in_ok-begin_mixed.ensures in
     on_ok c.end_mixed.result _ _
     (λ ends. mixed-gained c.args.out.now c.begin_mixed.new.self c.gather_kids.new.out c.end_mixed.new.self c.args.texts g begun.receiver begun.texts c.in_ok-gather_kids.ensures ends)
@@ -449,38 +471,39 @@ gather_present-returns t c =
 pub gather_sequence-gather_present-requires : goal.gather_sequence-gather_present-requires
 gather_sequence-gather_present-requires t c =
     let d = c.decreases in
-    (rw c.kids.ensures (omega (arith, d)), (c.requires.node, (c.requires.form, sym c.may_be_present.ensures ∙ c.if-may_be_present.true)))
+    (rw c.kids.ensures (omega (arith, d)), (c.requires.node, (c.requires.form, sym c.may_be_present.ensures ∙ c.if-not-may_be_present.false)))
 
-pub gather_sequence-returns-then-may_be_present : goal.gather_sequence-returns-then-may_be_present
-gather_sequence-returns-then-may_be_present t c =
+pub gather_sequence-returns-else-has_use_order : goal.gather_sequence-returns-else-has_use_order
+gather_sequence-returns-else-has_use_order t c =
     let m = c.args.module.now in
     let u = c.args.node.now in
     let v = c.args.value.now in
     let parts = c.args.parts.now in
+    let plain : has_use_order (label_of u).marks ≡ false = ap (λ l. has_use_order l.marks) (sym c.label-in-Sequence.ensures) ∙ sym c.has_use_order.ensures ∙ c.if-has_use_order.false in
     let same = ap (λ fs. places_give m (present_from (label_of u) 0 parts (kids_of u) fs) c.kids.result) c.items-present.ensures
     ∙ ap (places_give m (present_from (label_of u) 0 parts (kids_of u) c.in-Sequence.present)) c.kids.ensures
-    ∙ sym (sequence-give m u v parts c.in-Sequence.present c.requires.form (sym c.label.ensures ∙ c.in-Sequence.is)) in
+    ∙ sym (order-absent m u v plain ∙ sequence-give m u v parts c.in-Sequence.present c.requires.form (sym c.label.ensures ∙ c.in-Sequence.is)) in
     subst (λ g. OnOk c.gather_present.result (Gains c.args.out.now c.gather_present.new.out g)) same c.gather_present.ensures
 
-pub gather_sequence-returns-else-may_be_present : goal.gather_sequence-returns-else-may_be_present
-gather_sequence-returns-else-may_be_present t c =
+pub gather_sequence-returns-then-not-may_be_present : goal.gather_sequence-returns-then-not-may_be_present
+gather_sequence-returns-then-not-may_be_present t c =
     let m = c.args.module.now in
     let u = c.args.node.now in
     let v = c.args.value.now in
     let o = c.args.out.now in
     let parts = c.args.parts.now in
     let kids : length (kids_of u) ≡ length parts = have-kids m u c.requires.node ∙ ap (λ f. length (parts_of f)) c.requires.form in
-    let unfit = ap (may_be_present parts) (sym c.items-present.ensures) ∙ sym c.may_be_present.ensures ∙ c.if-may_be_present.false in
+    let unfit = ap (may_be_present parts) (sym c.items-present.ensures) ∙ sym c.may_be_present.ensures ∙ c.if-not-may_be_present.true in
     let found = present_from (label_of u) 0 parts (kids_of u) c.in-Sequence.present in
     let same = sequence-give m u v parts c.in-Sequence.present c.requires.form (sym c.label.ensures ∙ c.in-Sequence.is)
     ∙ give-missing m found (kids_of v) (present-some (label_of u) 0 parts (kids_of u) c.in-Sequence.present kids ∙ unfit) in
-    subst (Gains o o) (sym same) (gains-nothing o)
+    subst (Gains o o) (sym (order-nothing m u v same)) (gains-nothing o)
 
 pub gather_sequence-returns-in_default : goal.gather_sequence-returns-in_default
 gather_sequence-returns-in_default t c =
     let o = c.args.out.now in
     let same = sequence-other c.args.module.now c.args.node.now c.args.value.now c.args.parts.now c.requires.form (λ present e. c.in_default.not-Sequence present (c.label.ensures ∙ e)) in
-    subst (Gains o o) (sym same) (gains-nothing o)
+    subst (Gains o o) (sym (order-nothing c.args.module.now c.args.node.now c.args.value.now same)) (gains-nothing o)
 
 -- ---- SEQUENCE OF
 
@@ -533,3 +556,92 @@ gather_sequence_of-returns t c =
     let same = ap (λ ks. gathered m (replicate (length ks) (record { role = c.role.result; part = part; type = c.kid.result.now })) (roses_of ks)) c.kids-values.ensures
     ∙ items-made m u v part c.args.min c.args.max c.role.result c.kid.result.now c.requires.form (sym c.label.ensures ∙ c.in-SequenceOf.is) c.kid.ensures low high role in
     subst (λ g. OnOk c.gather_items.result (Gains c.args.out.now c.gather_items.new.out g)) same c.gather_items.ensures
+
+-- ---- child elements in an order
+
+pub gather_children-returns-in_default : goal.gather_children-returns-in_default
+gather_children-returns-in_default t c =
+    let children = c.args.children.now in
+    let order = c.args.order.now in
+    let k = c.order.i-index in
+    let i = get_or order k 0 in λ cs e.
+    let there = at-place (slice_get (children_seen children)) order cs k e c.order-test.true in
+    absurd (none-item (slice_get (children_seen children) i) there.item (seen-none child_seen children i (missed_at children i c.in_default.ensures.lookup.0)) there.found)
+
+pub gather_children-gather_element-requires : goal.gather_children-gather_element-requires
+gather_children-gather_element-requires t c =
+    let m = c.args.module.now in
+    let children = c.args.children.now in
+    let i = get_or c.args.order.now c.order.i-index 0 in
+    let child = c.in-Some.child.now in
+    let most = count_all (roses_of (kids_of c.args.parent.now)) in
+    let seen = seen-at child_seen children i child (found_at children i child c.in-Some.ensures.lookup.0 c.in-Some.ensures.lookup.1) in
+    let known = within-at m most (children_seen children) i (child_seen child) c.requires seen in
+    let d = c.decreases in
+    let few = known.1 in
+    (omega (arith, d, few), known.0)
+
+pub gather_children-order-preserved : goal.gather_children-order-preserved
+gather_children-order-preserved t c =
+    let m = c.args.module.now in
+    let children = c.args.children.now in
+    let order = c.args.order.now in
+    let k = c.order.i-index in
+    let i = get_or order k 0 in
+    let child = c.in-Some.child.now in
+    let seen = seen-at child_seen children i child (found_at children i child c.in-Some.ensures.lookup.0 c.in-Some.ensures.lookup.1) in λ cs e new h.
+    let there = at-place (slice_get (children_seen children)) order cs k e c.order-test.true in
+    let same : there.item ≡ child_seen child = some-item (slice_get (children_seen children) i) there.item (child_seen child) there.found seen in
+    let left : drop k cs ≡ child_seen child ∷ drop (k + 1) cs = there.left ∙ ap (λ x. x ∷ drop (k + 1) cs) same in
+    c.order.invariant cs e new
+    (subst (λ xs. Gains c.order.out new (given [] (elements_of m xs))) (sym left)
+    (gains-both c.order.out c.gather_element.new.out new (given [] (more (element_of (name_seen child.name) (inside m child.node.now child.value)) none)) (given [] (elements_of m (drop (k + 1) cs)))
+    c.in_ok-gather_element.ensures h))
+
+pub gather_children-returns : goal.gather_children-returns
+gather_children-returns t c =
+    let m = c.args.module.now in
+    let o = c.order.out in
+    let order = c.args.order.now in
+    let k = c.order.i-index in λ cs e.
+    let long = same-length (slice_get (children_seen c.args.children.now)) order cs e in
+    let none_left : drop k cs ≡ [] = drop-past k cs (omega (arith, long, c.order-test.false)) in
+    c.order.invariant cs e o (subst (λ xs. Gains o o (given [] (elements_of m xs))) (sym none_left) (gains-nothing o))
+
+pub gather_ordered-keep_present-requires-clause-plain : goal.gather_ordered-keep_present-requires-clause-plain
+gather_ordered-keep_present-requires-clause-plain t c = order-parts c.args.module.now c.args.node.now c.requires.node c.requires.order
+
+pub gather_ordered-order_numbers-requires-clause-types : goal.gather_ordered-order_numbers-requires-clause-types
+gather_ordered-order_numbers-requires-clause-types t c = have-kids c.args.module.now c.args.node.now c.requires.node ∙ ap (λ f. length (parts_of f)) c.requires.form
+
+pub gather_ordered-returns : goal.gather_ordered-returns
+gather_ordered-returns t c =
+    let m = c.args.module.now in
+    let u = c.args.node.now in
+    let v = c.args.value.now in
+    let parts = c.args.parts.now in
+    let present = c.args.present.now in
+    let n = count_all (roses_of c.kids-values.result) in
+    let A = c.args.out.now in
+    let B = c.keep_present.new.out in
+    let C = c.gather_children.new.out in
+    let children = c.keep_present.new.children.items in
+    let cs = children_seen children in
+    let flags = ordered_flags m (label_of u) u v in
+    let numbers = order_of u v in
+    let gives = ap (places_give m (present_from (label_of u) 0 parts (kids_of u) present)) c.kids-values.ensures ∙ sym (sequence-give m u v parts present c.requires.form c.requires.value) in
+    let kept : Keeps m n A B [] cs (parts_give m u v) =
+    subst (Keeps m n A B [] cs) gives (subst (λ xs. Keeps m n A B (children_seen xs) cs (places_give m (present_from (label_of u) 0 parts (kids_of u) present) c.kids-values.result)) c.new-children.ensures.items c.in_ok-keep_present.ensures) in
+    let children_are = ap length c.deref-3.ensures.value in
+    let seen_are = length-map children child_seen in
+    let size : c.len.result ≡ length cs = omega (arith, c.len.ensures, c.deref-3.ensures.len, children_are, seen_are) in
+    let made : c.in_ok-order.order.items ≡ in_order flags numbers (range_with_len 0 (length cs)) =
+    c.in_ok-order.ensures
+    ∙ ap (λ fs. in_order fs c.deref-2.result.now (range_with_len 0 c.len.result)) (c.deref.ensures.value ∙ c.in_ok-flags.ensures)
+    ∙ ap (λ ns. in_order flags ns (range_with_len 0 c.len.result)) (c.deref-2.ensures.value ∙ c.in_ok-numbers.ensures)
+    ∙ ap (λ k. in_order flags numbers (range_with_len 0 k)) size in
+    let places : map (slice_get (children_seen c.deref-3.result.now)) c.deref-4.result.now ≡ map Some (in_order flags numbers cs) =
+    ap (λ xs. map (slice_get (children_seen xs)) c.deref-4.result.now) c.deref-3.ensures.value ∙ ap (map (slice_get cs)) (c.deref-4.ensures.value ∙ made) ∙ order-places flags numbers cs in
+    on_ok c.gather_children.result _ _
+    (λ told. told-in-order m n A B C cs (parts_give m u v) (has_use_order (label_of u).marks) flags numbers c.requires.order kept (told (in_order flags numbers cs) places))
+    c.gather_children.ensures

@@ -1,5 +1,9 @@
-use Rattle.std.proofs.Common.{◌≡◌, ◌+◌, ◌*◌, ◌≤◌, true}
+use Rattle.std.proofs.Common.{◌≡◌, ◌+◌, ◌*◌, ◌≤◌, List, [], Some, drop, map, true}
+use Rattle.std.specs.Prelude.{slice_get}
 use Rattle.label_tree.specs.Rose.{node_count, count_all, roses_of, label_of, kids_of}
+use Rattle.xer_items.specs.Items.{given}
+use Rattle.xer_items.specs.Children.{Child, elements_of}
+use Rattle.xer_write.specs.Private.Keeping.{children_seen}
 use Rattle.xer_write.specs.declared.contents.Contents.{Contents}
 use Rattle.xer_write.specs.Private.Gaining.{Gains}
 use Rattle.xer_write.specs.Private.Giving.{place_seen, places_give}
@@ -23,6 +27,12 @@ decreases-gather_choice l = 8 * count_all (roses_of (kids_of l.value.now)) + 7
 
 abbrev pub decreases-gather_sequence_of : goal.decreases-gather_sequence_of
 decreases-gather_sequence_of l = 8 * count_all (roses_of (kids_of l.value.now)) + 7
+
+abbrev pub decreases-gather_ordered : goal.decreases-gather_ordered
+decreases-gather_ordered l = 8 * count_all (roses_of (kids_of l.value.now)) + 6
+
+abbrev pub decreases-gather_children : goal.decreases-gather_children
+decreases-gather_children l = 8 * count_all (roses_of (kids_of l.parent.now)) + 5
 
 abbrev pub decreases-gather_present : goal.decreases-gather_present
 decreases-gather_present l = 8 * count_all (roses_of l.values.now) + 6
@@ -53,3 +63,8 @@ invariant-gather_present-parts l = record {
   gains : (new : Contents) → Gains l.out new (places_give l.«module» (found_from (label_of l.node) l.parts (kids_of l.node) l.present l.i) l.left)
       → Gains l.initial.out new (places_give l.«module» (found_from (label_of l.node) l.parts (kids_of l.node) l.present 0) l.values);
 }
+
+abbrev pub invariant-gather_children-order : goal.invariant-gather_children-order
+invariant-gather_children-order l =
+    (cs : List Child) → map (slice_get (children_seen l.children)) l.order ≡ map Some cs → (new : Contents) → Gains l.out new (given [] (elements_of l.«module» (drop l.i-index cs)))
+    → Gains l.initial.out new (given [] (elements_of l.«module» cs))

@@ -1,7 +1,7 @@
 use Rattle.std.proofs.Common.{◌≡◌, false, sym, ap, ◌∙◌}
 use Rattle.std.specs.Prelude.{◌&&◌}
 use Rattle.asn_types.specs.Marks.{has_use_nil}
-use Rattle.asn_types.specs.Values.{is_last_absent}
+use Rattle.asn_values.specs.Values.{is_last_absent}
 use Rattle.xer_write.proofs.Gaining.{gains-no-nil}
 use Rattle.xer_write.proofs.Parts.{too-many}
 use Rattle.xer_write.proofs.gathering.add_nil_if.Goals.{else-has_use_nil-via-then-has_use_nil+else-is_last_absent, else-has_use_nil-via-else-has_use_nil}

@@ -1,0 +1,9 @@
+pub mod Belonging
+pub mod Counting
+mod Judging
+pub mod JustSet
+mod Ordering
+pub mod Placed
+mod Rows
+mod Spelled
+pub mod Standards

@@ -1,0 +1,41 @@
+-- What the code keeps of the places below a value.
+use Rattle.std.specs.Prelude.{◌≡◌, ℕ, length, List, [], ◌∷◌, map, replicate, Option, Some, None}
+use Rattle.label_tree.specs.Rose.{Rose, Roses, roses_of, label_of, kids_of}
+use Rattle.simple_types.specs.declared.labels.ValueLabel.{ValueLabel}
+use Rattle.asn_types.specs.declared.types.TypeLabel.{TypeLabel}
+use Rattle.asn_values.specs.declared.places.ComponentPlace.{ComponentPlace}
+use Rattle.asn_values.specs.declared.places.Places.{Places}
+use Rattle.asn_values.specs.declared.places.Places.TheVariants.{Each, All}
+use Rattle.asn_types.specs.declared.modules.Assignment.{Assignment}
+use Rattle.asn_types.specs.Refs.{IsOf}
+use Rattle.asn_values.specs.Values as values
+
+abbrev pub place_seen : ComponentPlace → values.ComponentPlace
+place_seen place = record { role = place.role; part = place.part.now; type = place.node.now }
+
+-- of a value with so many kids
+abbrev pub places_seen : ℕ → Places → List values.ComponentPlace
+places_seen n (Each places) = map place_seen places.items
+places_seen n (All place) = replicate n (place_seen place)
+
+-- as the rules say, or nothing where these say so
+abbrev pub Found : ℕ → Option Places → Option (List values.ComponentPlace) → Type 0
+Found n None due = due ≡ None
+Found n (Some places) due = due ≡ Some (places_seen n places)
+
+-- the types of places are those of a module
+abbrev pub ArePlaces : List Assignment → List values.ComponentPlace → Type 0
+ArePlaces M [] = Unit {0}
+ArePlaces M (place ∷ places) = IsOf M place.type × ArePlaces M places
+
+module _ (M : List Assignment) where
+  -- a part that is present fits where it stands
+  abbrev pub FitsPlace : ℕ → values.ComponentPlace → Rose ValueLabel → Type 0
+  FitsPlace depth place v = values.FitsAt M (values.below place.role depth) place.type v × values.Kept M place.part place.type v
+
+  abbrev pub FitPlaces : ℕ → Option (List values.ComponentPlace) → Roses ValueLabel → Type 0
+  FitPlaces depth o vs = elim o [ None ↦ ⊥ | Some places ↦ values.FitEach M depth places vs ]
+
+  -- the kids of a value fit at their places in the type, which is no reference
+  abbrev pub FitKids : ℕ → Rose TypeLabel → Rose ValueLabel → Type 0
+  FitKids depth t v = FitPlaces depth (values.places t (label_of v) (length (kids_of v))) (roses_of (kids_of v))

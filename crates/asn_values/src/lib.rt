@@ -1,0 +1,16 @@
+//! What is a value of an ASN.1 type, and the rules that keep out values that no document has.
+//!
+//! Read first: docs/VALUES.md, `specs/Values` (`Own`, `Kept`, `Fits`, `In`), then `src/values.rt`.
+#![tactic(auto)]
+
+mod keeping;
+mod orders;
+mod places;
+mod rules;
+mod spellings;
+mod values;
+
+pub use keeping::kept;
+pub use rules::own;
+pub use spellings::spelling;
+pub use values::is_value;

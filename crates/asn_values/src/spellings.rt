@@ -1,0 +1,200 @@
+//! The canonical spelling of values, by their types.
+ghost use Rattle.std.specs.Prelude.{◌≡◌, ◌++◌, [], IfOk, OnOk, MatchOption, Some, None, map, string_bytes};
+ghost use Rattle.label_tree.specs.Rose.{label_of, kids_of, roses_of, Allowed, AllowedAll};
+ghost use Rattle.std.specs.List.{join_with_byte};
+ghost use Rattle.simple_types.specs.Space.{UnionOf};
+ghost use Rattle.simple_values.specs.Reading.{spelled, spelled_boolean, spelled_whole, spelled_number, spelled_word, spelled_text, choice_at};
+ghost use Rattle.asn_types.specs.Parts.{MayHave};
+ghost use Rattle.asn_types.specs.Spaces.{space_at, spaces_at};
+
+use asn_types::{Form, TypeLabel};
+use flat_tree::{Kids, Node};
+use itoa::Buffer;
+use label_tree::Tree;
+use simple_types::ValueLabel;
+use std::alloc::Global;
+use std::iter::Iterator;
+use xa_base::{Memory, Text};
+
+fn write_boolean(out: &mut String, label: &ValueLabel) -> Result<(), Memory>
+    ensures { OnOk result (string_bytes out.new ≡ string_bytes out.old ++ spelled_boolean label.now) }
+{
+    match label {
+        ValueLabel::Bool(true) => out.push_str("true")?,
+        ValueLabel::Bool(false) => out.push_str("false")?,
+        _ => {}
+    }
+    Ok(())
+}
+
+fn write_whole(out: &mut String, label: &ValueLabel) -> Result<(), Memory>
+    ensures { OnOk result (string_bytes out.new ≡ string_bytes out.old ++ spelled_whole label.now) }
+{
+    if let ValueLabel::Int(n) = label {
+        out.push_str(Buffer::new().format(*n))?;
+    }
+    Ok(())
+}
+
+fn write_number(out: &mut String, numbers: &[i128], label: &ValueLabel) -> Result<(), Memory>
+    ensures { OnOk result (string_bytes out.new ≡ string_bytes out.old ++ spelled_number numbers.now label.now) }
+{
+    if let ValueLabel::Enum(i) = label {
+        if let Some(n) = numbers.get(*i as usize) {
+            out.push_str(Buffer::new().format(*n))?;
+        }
+    }
+    Ok(())
+}
+
+// The word that a value stands for.
+fn word_of<'a>(words: &'a [Text], label: &ValueLabel) -> Option<&'a Text>
+    ensures { MatchOption result (spelled_word words.now label.now ≡ []) (λ word. spelled_word words.now label.now ≡ word.now) }
+{
+    match label {
+        ValueLabel::Enum(i) => words.get(*i as usize),
+        _ => None,
+    }
+}
+
+fn write_word(out: &mut String, words: &[Text], label: &ValueLabel) -> Result<(), Memory>
+    ensures { OnOk result (string_bytes out.new ≡ string_bytes out.old ++ spelled_word words.now label.now) }
+{
+    if let Some(word) = word_of(words, label) {
+        out.push_str(word.as_str())?;
+    }
+    Ok(())
+}
+
+fn write_text(out: &mut String, label: &ValueLabel) -> Result<(), Memory>
+    ensures { OnOk result (string_bytes out.new ≡ string_bytes out.old ++ spelled_text label.now) }
+{
+    if let ValueLabel::Utf8(text) = label {
+        out.push_str(text.as_str())?;
+    }
+    Ok(())
+}
+
+// The digits of a whole number.
+fn whole_text(alloc: Global, label: &ValueLabel) -> Result<Text, Memory>
+    ensures { IfOk result (λ text. text ≡ spelled_whole label.now) }
+{
+    match label {
+        ValueLabel::Int(n) => Text::from_str(alloc, Buffer::new().format(*n)),
+        _ => Ok(Text::empty()),
+    }
+}
+
+// The text of a UTF8String.
+fn text_of(alloc: Global, label: &ValueLabel) -> Result<Text, Memory>
+    ensures { IfOk result (λ text. text ≡ spelled_text label.now) }
+{
+    match label {
+        ValueLabel::Utf8(text) => text.copy(alloc),
+        _ => Ok(Text::empty()),
+    }
+}
+
+// The items' spellings with a space between each two.
+#[cycle(spelling)]
+fn write_items(
+    out: &mut String,
+    item: &Tree<TypeLabel>,
+    values: &Kids<'_, ValueLabel>,
+) -> Result<(), Memory>
+    requires { Allowed MayHave item.now }
+    ensures { OnOk result (string_bytes out.new ≡ string_bytes out.old ++ join_with_byte 0x20 (map (spelled (space_at item.now)) values.now)) }
+{
+    let mut further = values.again();
+    let Some(first) = further.next() else {
+        return Ok(());
+    };
+    write_spelling(out, item, &first)?;
+    'items: for value in further {
+        out.push(' ')?;
+        write_spelling(out, item, &value)?;
+    }
+    Ok(())
+}
+
+// The alternative that a value chooses, and the value of it.
+fn choice_of<'a>(value: &Node<'a, ValueLabel>) -> Option<(u32, Node<'a, ValueLabel>)>
+    ensures { MatchOption result
+        (choice_at (label_of value.now) (kids_of value.now) ≡ None)
+        (λ choice. choice_at (label_of value.now) (kids_of value.now) ≡ Some choice) }
+{
+    let ValueLabel::Choice(i) = value.label() else {
+        return None;
+    };
+    let chosen = value.kids().next()?;
+    Some((*i, chosen))
+}
+
+#[cycle(spelling)]
+fn write_chosen(
+    out: &mut String,
+    members: &[Tree<TypeLabel>],
+    value: &Node<'_, ValueLabel>,
+) -> Result<(), Memory>
+    requires { AllowedAll MayHave (roses_of members.now) }
+    ensures { OnOk result (string_bytes out.new ≡ string_bytes out.old ++ spelled (UnionOf (spaces_at (roses_of members.now))) value.now) }
+{
+    let Some((i, chosen)) = choice_of(value) else {
+        return Ok(());
+    };
+    match members.get(i as usize) {
+        Some(member) => write_spelling(out, member, &chosen),
+        None => Ok(()),
+    }
+}
+
+// Appends the canonical spelling. A type that stands for no simple type spells its values like those of BOOLEAN.
+#[cycle(spelling)]
+fn write_spelling(
+    out: &mut String,
+    node: &Tree<TypeLabel>,
+    value: &Node<'_, ValueLabel>,
+) -> Result<(), Memory>
+    requires { Allowed MayHave node.now }
+    ensures { OnOk result (string_bytes out.new ≡ string_bytes out.old ++ spelled (space_at node.now) value.now) }
+{
+    let label = value.label();
+    match &node.label().form {
+        Form::Bool => write_boolean(out, label),
+        Form::Int { .. } => write_whole(out, label),
+        Form::Numbers { numbers } => write_number(out, numbers.items(), label),
+        Form::Words { words, .. } => write_word(out, words.items(), label),
+        Form::Order { .. } => write_boolean(out, label),
+        Form::Utf8 { .. } => write_text(out, label),
+        Form::SequenceOf { .. } => write_items(out, node.kid(0), &value.kids()),
+        Form::Choice { .. } => write_chosen(out, node.kids(), value),
+        Form::Sequence { .. } => write_boolean(out, label),
+        Form::Ref { .. } => write_boolean(out, label),
+    }
+}
+
+/// The canonical spelling of a value of the type, which is no reference: of a list the spellings of its items with one
+/// space between each two. It goes by the type alone, whatever the value is: what isn't of the type spells nothing, and
+/// so does all but a truth value where the type stands for no simple type. Texts and words are shared.
+pub fn spelling(
+    alloc: Global,
+    node: &Tree<TypeLabel>,
+    value: &Node<'_, ValueLabel>,
+) -> Result<Text, Memory>
+    requires { Allowed MayHave node.now }
+    ensures { IfOk result (λ text. text ≡ spelled (space_at node.now) value.now) }
+{
+    match &node.label().form {
+        Form::Words { words, .. } => match word_of(words.items(), value.label()) {
+            Some(word) => word.copy(alloc),
+            None => Ok(Text::empty()),
+        },
+        Form::Utf8 { .. } => text_of(alloc, value.label()),
+        Form::Int { .. } => whole_text(alloc, value.label()),
+        _ => {
+            let mut out = String::new(alloc);
+            write_spelling(&mut out, node, value)?;
+            Text::from_string(out)
+        }
+    }
+}

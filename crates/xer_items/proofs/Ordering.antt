@@ -1,0 +1,162 @@
+-- What stands in an order that numbers tell.
+use Rattle.std.proofs.Common.{◌≡◌, ℕ, zero, suc, ◌+◌, ◌-◌, ◌≤◌, Bool, true, false, Option, Some, None, List, [], ◌∷◌, ◌++◌, length, take, drop, refl, sym, ◌∙◌, ap, arith}
+use Rattle.std.specs.Prelude.{map}
+use Rattle.std.specs.List.{AllByRecursion}
+use Rattle.std.specs.Option.{option_map}
+use Rattle.std.proofs.lemmas.List.{length-map, take-map, drop-map, map-append, take-append-drop}
+use Rattle.simple_types.specs.Labels.{count_set}
+use Rattle.label_tree.specs.Rose.{Rose, roses_of, node_count, count_all}
+use Rattle.label_tree.proofs.Roses.{count_all-append}
+use Rattle.xer_items.specs.Ordering.{slots, slot_at, emptied, put_some, taken, in_order}
+use Rattle.plain_items.specs.Plain.{Plain}
+use Rattle.xer_items.specs.Items.{Given, given, nothing, with_order}
+
+-- ---- without USE-ORDER the order of items is as it was
+
+pub unordered : (told : Bool) (flags : List Bool) (numbers : List ℕ) (inner : Given) → told ≡ false → with_order told flags numbers inner ≡ inner
+unordered false flags numbers inner e = refl
+unordered true flags numbers inner e = absurd (cc)
+
+-- ---- what is made of each keeps its place
+
+module _ {A B : Type 0} (f : A → B) where
+  slots-map : (flags : List Bool) (xs : List A) → slots flags (map f xs) ≡ map (option_map f) (slots flags xs)
+  slots-map [] xs = refl
+  slots-map (true ∷ flags) [] = refl
+  slots-map (true ∷ flags) (x ∷ xs) = ap (λ s. Some (f x) ∷ s) (slots-map flags xs)
+  slots-map (false ∷ flags) xs = ap (λ s. None ∷ s) (slots-map flags xs)
+
+  slot-map : (all : List (Option A)) (i : ℕ) → slot_at (map (option_map f) all) i ≡ option_map f (slot_at all i)
+  slot-map [] i = refl
+  slot-map (slot ∷ others) zero = refl
+  slot-map (slot ∷ others) (suc i) = slot-map others i
+
+  emptied-map : (all : List (Option A)) (i : ℕ) → emptied (map (option_map f) all) i ≡ map (option_map f) (emptied all i)
+  emptied-map [] i = refl
+  emptied-map (slot ∷ others) zero = refl
+  emptied-map (slot ∷ others) (suc i) = ap (λ s. option_map f slot ∷ s) (emptied-map others i)
+
+  put-map : (o : Option A) (xs : List A) → put_some (option_map f o) (map f xs) ≡ map f (put_some o xs)
+  put-map None xs = refl
+  put-map (Some x) xs = refl
+
+  taken-map : (all : List (Option A)) (numbers : List ℕ) → taken (map (option_map f) all) numbers ≡ map f (taken all numbers)
+  taken-map all [] = refl
+  taken-map all (i ∷ numbers) =
+      ap (λ o. put_some o (taken (emptied (map (option_map f) all) i) numbers)) (slot-map all i)
+      ∙ ap (λ s. put_some (option_map f (slot_at all i)) (taken s numbers)) (emptied-map all i)
+      ∙ ap (put_some (option_map f (slot_at all i))) (taken-map (emptied all i) numbers)
+      ∙ put-map (slot_at all i) (taken (emptied all i) numbers)
+
+  from-map : (n : ℕ) (flags : List Bool) (numbers : List ℕ) (xs : List A)
+      → take n (map f xs) ++ taken (slots flags (drop n (map f xs))) numbers ≡ map f (take n xs ++ taken (slots flags (drop n xs)) numbers)
+  from-map n flags numbers xs =
+      ap (λ l. l ++ taken (slots flags (drop n (map f xs))) numbers) (take-map f n xs)
+      ∙ ap (λ l. map f (take n xs) ++ taken (slots flags l) numbers) (drop-map f n xs)
+      ∙ ap (λ s. map f (take n xs) ++ taken s numbers) (slots-map flags (drop n xs))
+      ∙ ap (λ l. map f (take n xs) ++ l) (taken-map (slots flags (drop n xs)) numbers)
+      ∙ sym (map-append f (take n xs) (taken (slots flags (drop n xs)) numbers))
+
+  pub in_order-map : (flags : List Bool) (numbers : List ℕ) (xs : List A) → in_order flags numbers (map f xs) ≡ map f (in_order flags numbers xs)
+  in_order-map flags numbers xs =
+      ap (λ n. take (n - count_set flags) (map f xs) ++ taken (slots flags (drop (n - count_set flags) (map f xs))) numbers) (length-map xs f)
+      ∙ from-map (length xs - count_set flags) flags numbers xs
+
+-- ---- nothing is there that wasn't
+
+module _ {A : Type 0} (P : A → Type 0) where
+  abbrev AreAll : List (Option A) → Type 0
+  AreAll all = AllByRecursion (λ o. elim o [ None ↦ Unit {0} | Some x ↦ P x ]) all
+
+  slots-all : (flags : List Bool) (xs : List A) → AllByRecursion P xs → AreAll (slots flags xs)
+  slots-all [] xs h = tt
+  slots-all (true ∷ flags) [] h = tt
+  slots-all (true ∷ flags) (x ∷ xs) h = (h.0, slots-all flags xs h.1)
+  slots-all (false ∷ flags) xs h = (tt, slots-all flags xs h)
+
+  emptied-all : (all : List (Option A)) (i : ℕ) → AreAll all → AreAll (emptied all i)
+  emptied-all [] i h = tt
+  emptied-all (slot ∷ others) zero h = (tt, h.1)
+  emptied-all (slot ∷ others) (suc i) h = (h.0, emptied-all others i h.1)
+
+  put-all : (all : List (Option A)) (i : ℕ) (xs : List A) → AreAll all → AllByRecursion P xs → AllByRecursion P (put_some (slot_at all i) xs)
+  put-all [] i xs h k = k
+  put-all (None ∷ others) zero xs h k = k
+  put-all (Some x ∷ others) zero xs h k = (h.0, k)
+  put-all (slot ∷ others) (suc i) xs h k = put-all others i xs h.1 k
+
+  taken-all : (all : List (Option A)) (numbers : List ℕ) → AreAll all → AllByRecursion P (taken all numbers)
+  taken-all all [] h = tt
+  taken-all all (i ∷ numbers) h = put-all all i (taken (emptied all i) numbers) h (taken-all (emptied all i) numbers (emptied-all all i h))
+
+  both-all : (xs ys : List A) → AllByRecursion P xs → AllByRecursion P ys → AllByRecursion P (xs ++ ys)
+  both-all [] ys h k = k
+  both-all (x ∷ xs) ys h k = (h.0, both-all xs ys h.1 k)
+
+  take-all : (n : ℕ) (xs : List A) → AllByRecursion P xs → AllByRecursion P (take n xs)
+  take-all zero xs h = tt
+  take-all (suc n) [] h = tt
+  take-all (suc n) (x ∷ xs) h = (h.0, take-all n xs h.1)
+
+  drop-all : (n : ℕ) (xs : List A) → AllByRecursion P xs → AllByRecursion P (drop n xs)
+  drop-all zero xs h = h
+  drop-all (suc n) [] h = tt
+  drop-all (suc n) (x ∷ xs) h = drop-all n xs h.1
+
+  pub in_order-all : (flags : List Bool) (numbers : List ℕ) (xs : List A) → AllByRecursion P xs → AllByRecursion P (in_order flags numbers xs)
+  in_order-all flags numbers xs h =
+      let n = length xs - count_set flags in
+      both-all (take n xs) (taken (slots flags (drop n xs)) numbers) (take-all n xs h) (taken-all (slots flags (drop n xs)) numbers (slots-all flags (drop n xs) (drop-all n xs h)))
+
+nothing_left : {A : Type 0} (xs : List A) → AllByRecursion (λ (x : A). ⊥) xs → xs ≡ []
+nothing_left [] h = refl
+nothing_left (x ∷ xs) h = absurd h.0
+
+pub nothing-ordered : (told : Bool) (flags : List Bool) (numbers : List ℕ) → with_order told flags numbers nothing ≡ nothing
+nothing-ordered false flags numbers = refl
+nothing-ordered true flags numbers =
+    ap (λ items. given [] (roses_of items)) (nothing_left (in_order flags numbers []) (in_order-all (λ (item : Rose Plain). ⊥) flags numbers [] tt))
+
+-- ---- nor twice
+
+module _ {L : Type 0} where
+  abbrev weight : List (Rose L) → ℕ
+  weight ts = count_all (roses_of ts)
+
+  abbrev slot_weight : Option (Rose L) → ℕ
+  slot_weight None = 0
+  slot_weight (Some t) = node_count t
+
+  abbrev weights : List (Option (Rose L)) → ℕ
+  weights [] = 0
+  weights (slot ∷ others) = slot_weight slot + weights others
+
+  slots-weight : (flags : List Bool) (ts : List (Rose L)) → weights (slots flags ts) ≤ weight ts
+  slots-weight [] ts = omega arith
+  slots-weight (true ∷ flags) [] = omega arith
+  slots-weight (true ∷ flags) (t ∷ ts) = omega (arith, slots-weight flags ts)
+  slots-weight (false ∷ flags) ts = omega (arith, slots-weight flags ts)
+
+  emptied-weight : (all : List (Option (Rose L))) (i : ℕ) → weights (emptied all i) + slot_weight (slot_at all i) ≡ weights all
+  emptied-weight [] i = omega arith
+  emptied-weight (slot ∷ others) zero = omega arith
+  emptied-weight (slot ∷ others) (suc i) = omega (arith, emptied-weight others i)
+
+  put-weight : (o : Option (Rose L)) (ts : List (Rose L)) → weight (put_some o ts) ≡ slot_weight o + weight ts
+  put-weight None ts = omega arith
+  put-weight (Some t) ts = refl
+
+  taken-weight : (all : List (Option (Rose L))) (numbers : List ℕ) → weight (taken all numbers) ≤ weights all
+  taken-weight all [] = omega arith
+  taken-weight all (i ∷ numbers) =
+      omega (arith, put-weight (slot_at all i) (taken (emptied all i) numbers), taken-weight (emptied all i) numbers, emptied-weight all i)
+
+  pub in_order-weight : (flags : List Bool) (numbers : List ℕ) (ts : List (Rose L)) → count_all (roses_of (in_order flags numbers ts)) ≤ count_all (roses_of ts)
+  in_order-weight flags numbers ts =
+      let n = length ts - count_set flags in
+      let whole = ap weight (take-append-drop n ts) in
+      let parts = count_all-append (take n ts) (drop n ts) in
+      let ends = count_all-append (take n ts) (taken (slots flags (drop n ts)) numbers) in
+      let slotted = slots-weight flags (drop n ts) in
+      let back = taken-weight (slots flags (drop n ts)) numbers in
+      omega (arith, whole, parts, ends, slotted, back)

@@ -1,0 +1,136 @@
+//! What a value of a USE-ORDER type gives: its attributes are told at once, its child elements are kept.
+ghost use Rattle.std.specs.Prelude.{◌≡◌, true, OnOk};
+ghost use Rattle.label_tree.specs.Rose.{label_of, kids_of, roses_of, node_count, count_all};
+ghost use Rattle.asn_types.specs.declared.types.Form.TheVariants as form;
+ghost use Rattle.asn_types.specs.Refs.{resolve as resolved};
+ghost use Rattle.asn_values.specs.Values as rule;
+ghost use Rattle.xer_items.specs.Items.{inside};
+ghost use Rattle.xer_write.specs.Private.Giving.{IsTypeIn, may_be_present, place_seen, place_gives, places_give};
+ghost use Rattle.xer_write.specs.Private.Keeping.{Keeps, GivesPlainly, PartsArePlain, IsPlain, children_seen};
+
+use crate::contents::Contents;
+use crate::presence::{Place, may_be_present};
+use crate::receiver::NameRef;
+use asn_types::{Component, Form, Module, Role, TypeLabel, resolve};
+use asn_values::spelling;
+use flat_tree::{Kids, Node};
+use label_tree::Tree;
+use simple_types::ValueLabel;
+use std::alloc::Global;
+use std::iter::Iterator;
+use xa_base::Memory;
+
+/// A child element that is told later.
+#[derive(Drop)]
+pub(crate) struct ChildElement<'a> {
+    pub(crate) name: NameRef<'a>,
+    pub(crate) node: &'a Tree<TypeLabel>,
+    pub(crate) value: Node<'a, ValueLabel>,
+}
+
+// Tells and keeps what the value at a place gives.
+#[cycle(keeping)]
+fn keep_at<'a>(
+    alloc: Global,
+    module: &'a Module,
+    place: &Place<'a>,
+    value: &Node<'a, ValueLabel>,
+    out: &mut Contents<'a>,
+    children: &mut Vec<ChildElement<'a>>,
+) -> Result<(), Memory>
+    requires node { IsTypeIn module.now place.now.node.now }
+    requires plain { GivesPlainly module.now (place_seen place.now) }
+    ensures { OnOk result (Keeps module.now (node_count value.now) out.old out.new (children_seen children.old.items) (children_seen children.new.items) (place_gives module.now (place_seen place.now) value.now)) }
+{
+    match place.role {
+        Role::Attribute => {
+            let text = spelling(alloc, resolve(module, place.node), value)?;
+            out.add_attribute(alloc, NameRef::of_part(place.part), text)
+        }
+        Role::Element => {
+            let child = ChildElement {
+                name: NameRef::of_part(place.part),
+                node: place.node,
+                value: value.again(),
+            };
+            children.push(child)?;
+            Ok(())
+        }
+        Role::Content => keep_content(alloc, module, place.node, value, out, children),
+        _ => Ok(()),
+    }
+}
+
+// Tells and keeps what a content gives, a SEQUENCE of attributes and child elements.
+#[cycle(keeping)]
+fn keep_content<'a>(
+    alloc: Global,
+    module: &'a Module,
+    node: &'a Tree<TypeLabel>,
+    value: &Node<'a, ValueLabel>,
+    out: &mut Contents<'a>,
+    children: &mut Vec<ChildElement<'a>>,
+) -> Result<(), Memory>
+    requires node { IsTypeIn module.now node.now }
+    requires plain { IsPlain (resolved module.now node.now) }
+    ensures { OnOk result (Keeps module.now (node_count value.now) out.old out.new (children_seen children.old.items) (children_seen children.new.items) (inside module.now node.now value.now)) }
+{
+    let found = resolve(module, node);
+    let Form::Sequence { parts } = &found.label().form else {
+        return Ok(());
+    };
+    let ValueLabel::Sequence { present } = value.label() else {
+        return Ok(());
+    };
+    let parts = parts.items();
+    let present = present.items();
+    if !may_be_present(parts, present) {
+        return Ok(());
+    }
+    keep_present(
+        alloc,
+        module,
+        found,
+        parts,
+        present,
+        &value.kids(),
+        out,
+        children,
+    )
+}
+
+/// Tells and keeps what the components of a SEQUENCE give that are present: the attributes are told, in the order of the
+/// components, and the child elements are kept in that order, those of the content as well.
+#[cycle(keeping)]
+pub(crate) fn keep_present<'a>(
+    alloc: Global,
+    module: &'a Module,
+    node: &'a Tree<TypeLabel>,
+    parts: &'a [Component],
+    present: &[bool],
+    values: &Kids<'a, ValueLabel>,
+    out: &mut Contents<'a>,
+    children: &mut Vec<ChildElement<'a>>,
+) -> Result<(), Memory>
+    requires node { IsTypeIn module.now node.now }
+    requires form { (label_of node.now).form ≡ form.Sequence parts.now }
+    requires present { may_be_present parts.now present.now ≡ true }
+    requires plain { PartsArePlain module.now node.now }
+    ensures { OnOk result (Keeps module.now (count_all (roses_of values.now)) out.old out.new (children_seen children.old.items) (children_seen children.new.items) (places_give module.now (rule.present_from (label_of node.now) 0 parts.now (kids_of node.now) present.now) values.now)) }
+{
+    let mut left = values.again();
+    'parts: for i in 0..parts.len() {
+        if present[i] {
+            let Some(value) = left.next() else {
+                return Ok(());
+            };
+            let place = Place {
+                role: node.label().role_of(i, &parts[i]),
+                part: &parts[i],
+                node: node.kid(i),
+            };
+            keep_at(alloc, module, &place, &value, out, children)?;
+        }
+    }
+    Ok(())
+}

@@ -1,0 +1,194 @@
+//! The order of child elements that a value of a USE-ORDER type tells.
+ghost use Rattle.std.specs.Prelude.{◌≡◌, ◌-◌, ◌≤◌, ◌<◌, ◌^◌, true, IfOk, length, map};
+ghost use Rattle.std.specs.List.{range_with_len};
+ghost use Rattle.label_tree.specs.Rose.{label_of, kids_of};
+ghost use Rattle.simple_types.specs.Labels.{count_set};
+ghost use Rattle.simple_types.specs.declared.labels.ValueLabel.TheVariants as label;
+ghost use Rattle.asn_types.specs.declared.types.Form.TheVariants as form;
+ghost use Rattle.asn_types.specs.Marks.{has_use_order};
+ghost use Rattle.asn_values.specs.Values as rule;
+ghost use Rattle.xer_items.specs.Ordering as ordered;
+ghost use Rattle.xer_write.specs.Private.Giving.{IsTypeIn, may_be_present};
+
+use crate::presence::is_last_absent;
+use asn_types::{Component, Form, Module, Role, TypeLabel, resolve};
+use flat_tree::{Kids, Node};
+use label_tree::Tree;
+use simple_types::ValueLabel;
+use std::alloc::Global;
+use std::iter::Iterator;
+use xa_base::Memory;
+
+// The number of an item of an ENUMERATED.
+fn item_number(value: &Node<'_, ValueLabel>) -> u32
+    ensures { result ≡ rule.item_number value.now }
+{
+    match value.label() {
+        ValueLabel::Enum(i) => *i,
+        _ => 0,
+    }
+}
+
+// The numbers of items of an ENUMERATED.
+fn item_numbers(alloc: Global, values: Kids<'_, ValueLabel>) -> Result<Vec<u32>, Memory>
+    ensures { IfOk result (λ numbers. numbers.items ≡ map rule.item_number values.entry) }
+{
+    let mut numbers = Vec::with_capacity(alloc, values.len())?;
+    'values: for value in values {
+        numbers.push(item_number(&value))?;
+    }
+    Ok(numbers)
+}
+
+/// The numbers that the part `order` of a value has, where the parts of the value may be present.
+pub(crate) fn order_numbers(
+    alloc: Global,
+    node: &Tree<TypeLabel>,
+    parts: &[Component],
+    present: &[bool],
+    value: &Node<'_, ValueLabel>,
+) -> Result<Vec<u32>, Memory>
+    requires types { length (kids_of node.now) ≡ length parts.now }
+    requires form { (label_of node.now).form ≡ form.Sequence parts.now }
+    requires value { label_of value.now ≡ label.Sequence present.now }
+    requires present { may_be_present parts.now present.now ≡ true }
+    ensures { IfOk result (λ numbers. numbers.items ≡ rule.order_of node.now value.now) }
+{
+    let label = node.label();
+    let mut left = value.kids();
+    'parts: for i in 0..parts.len() {
+        if present[i] {
+            let Some(kid) = left.next() else {
+                return Ok(Vec::new(alloc));
+            };
+            if let Role::Order = label.role_of(i, &parts[i]) {
+                return item_numbers(alloc, kid.kids());
+            }
+        }
+    }
+    Ok(Vec::new(alloc))
+}
+
+// Which element parts of a SEQUENCE are present, in their order.
+fn element_flags(
+    alloc: Global,
+    label: &TypeLabel,
+    parts: &[Component],
+    value: &ValueLabel,
+) -> Result<Vec<bool>, Memory>
+    requires { label.now.form ≡ form.Sequence parts.now }
+    ensures { IfOk result (λ flags. flags.items ≡ rule.element_flags label.now value.now) }
+{
+    let ValueLabel::Sequence { present } = value else {
+        return Ok(Vec::new(alloc));
+    };
+    let present = present.items();
+    let mut flags = Vec::new(alloc);
+    'parts: for i in 0..parts.len() {
+        if i >= present.len() {
+            return Ok(flags);
+        }
+        if let Role::Element = label.role_of(i, &parts[i]) {
+            flags.push(present[i])?;
+        }
+    }
+    Ok(flags)
+}
+
+/// Which of the child elements are present that the part `order` of a value has an order of: those of the content in a
+/// type with USE-NIL, where it is present.
+pub(crate) fn ordered_flags(
+    alloc: Global,
+    module: &Module,
+    node: &Tree<TypeLabel>,
+    parts: &[Component],
+    value: &Node<'_, ValueLabel>,
+) -> Result<Vec<bool>, Memory>
+    requires node { IsTypeIn module.now node.now }
+    requires form { (label_of node.now).form ≡ form.Sequence parts.now }
+    requires order { has_use_order (label_of node.now).marks ≡ true }
+    ensures { IfOk result (λ flags. flags.items ≡ rule.ordered_flags module.now (label_of node.now) node.now value.now) }
+{
+    if !node.label().marks.has_use_nil() {
+        return element_flags(alloc, node.label(), parts, value.label());
+    }
+    let count = value.kid_count();
+    if is_last_absent(value.label()) || count == 0 || parts.is_empty() {
+        return Ok(Vec::new(alloc));
+    }
+    let content = value.kid(count - 1);
+    let found = resolve(module, node.kid(parts.len() - 1));
+    match &found.label().form {
+        Form::Sequence { parts } => {
+            element_flags(alloc, found.label(), parts.items(), content.label())
+        }
+        _ => Ok(Vec::new(alloc)),
+    }
+}
+
+// How many flags are set.
+fn set_count(flags: &[bool]) -> usize
+    ensures { result ≡ count_set flags.now }
+{
+    let mut count: usize = 0;
+    'flags: for flag in flags {
+        if *flag {
+            count += 1;
+        }
+    }
+    count
+}
+
+// A slot for each flag, in which the next of these numbers stands where the flag is set.
+fn slots(
+    alloc: Global,
+    flags: &[bool],
+    from: usize,
+    end: usize,
+) -> Result<Vec<Option<usize>>, Memory>
+    requires { from ≤ end }
+    ensures { IfOk result (λ all. all.items ≡ ordered.slots flags.now (range_with_len from (end - from))) }
+{
+    let mut all = Vec::with_capacity(alloc, flags.len())?;
+    let mut next = from;
+    'flags: for flag in flags {
+        if *flag {
+            if next == end {
+                return Ok(all);
+            }
+            all.push(Some(next))?;
+            next += 1;
+        } else {
+            all.push(None)?;
+        }
+    }
+    Ok(all)
+}
+
+/// The places from 0 of so many things, in the order that these numbers tell of the last of them, of which there is one for
+/// each flag that is set. The time grows with the flags and the numbers.
+pub(crate) fn in_order(
+    alloc: Global,
+    flags: &[bool],
+    numbers: &[u32],
+    count: usize,
+) -> Result<Vec<usize>, Memory>
+    ensures { IfOk result (λ order. order.items ≡ ordered.in_order flags.now numbers.now (range_with_len 0 count)) }
+{
+    let front = count.saturating_sub(set_count(flags));
+    let mut order = Vec::with_capacity(alloc, count)?;
+    'front: for i in 0..front {
+        order.push(i)?;
+    }
+    let mut all = slots(alloc, flags, front, count)?;
+    'numbers: for number in numbers {
+        let i = *number as usize;
+        if i < all.len() {
+            if let Some(next) = all[i] {
+                order.push(next)?;
+                all[i] = None;
+            }
+        }
+    }
+    Ok(order)
+}
