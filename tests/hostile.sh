@@ -146,6 +146,13 @@ beside() {
     rm -f "$work"/*.xsd
 }
 
+# The head of a schema, and its root r: any number of elements of a name and a type.
+root_of_many() {
+    printf '%s<xs:element name="r"><xs:complexType><xs:sequence>' "$head"
+    printf '<xs:element name="%s" type="%s" minOccurs="0" maxOccurs="unbounded"/>' "$1" "$2"
+    printf '</xs:sequence></xs:complexType></xs:element>'
+}
+
 # ---- Documents
 
 # The schema of the documents that have no schema of their own has an empty element e, a text s, a number n, an r of any
@@ -305,9 +312,8 @@ make_members_read() {
 hostile members_read 20000 600 0 0 '' to-per l "$schema"
 make_flags() {
     {
-        printf '%s<xs:element name="r"><xs:complexType><xs:sequence>' "$head"
-        printf '<xs:element name="a" type="A" minOccurs="0" maxOccurs="unbounded"/>'
-        printf '</xs:sequence></xs:complexType></xs:element><xs:complexType name="A">'
+        root_of_many a A
+        printf '<xs:complexType name="A">'
         repeat 400 '<xs:attribute name="a%d" type="xs:int"/>'
         printf '</xs:complexType>%s' "$end"
     } > "$schema"
@@ -368,9 +374,8 @@ hostile spelled_anew 4000 600 0 0 '' check u "$schema"
 # be empty, as all but one are; occurrences of 14 choices of 490 names in one another, of which none stands.
 make_filled() {
     {
-        printf '%s<xs:complexType name="E"/><xs:element name="r"><xs:complexType><xs:sequence>' "$head"
-        printf '<xs:element name="e" type="F" minOccurs="0" maxOccurs="unbounded"/></xs:sequence></xs:complexType></xs:element>'
-        printf '<xs:complexType name="F"><xs:sequence>'
+        root_of_many e F
+        printf '<xs:complexType name="E"/><xs:complexType name="F"><xs:sequence>'
         awk 'BEGIN {
             for (i = 0; i < 9800; i++) {
                 if (i % 490 == 0) printf "%s<xs:choice>", (i > 0) ? "</xs:choice>" : ""
@@ -385,9 +390,8 @@ make_filled() {
 hostile filled 24000 200 0 0 '' to-per r "$schema"
 make_empty_choices() {
     {
-        printf '%s<xs:complexType name="E"/><xs:element name="r"><xs:complexType><xs:sequence>' "$head"
-        printf '<xs:element name="e" type="F" minOccurs="0" maxOccurs="unbounded"/></xs:sequence></xs:complexType></xs:element>'
-        printf '<xs:complexType name="F">'
+        root_of_many e F
+        printf '<xs:complexType name="E"/><xs:complexType name="F">'
         awk 'BEGIN {
             for (i = 0; i < 14; i++) {
                 printf "<xs:choice>"
@@ -416,8 +420,7 @@ hostile fragments 252 8 0 9 'input, bit *: per: Short' to-xml s "$features"
 
 # 16 octets that stand for 983,040 elements with a name of 255 bytes.
 make_names_of_octets() {
-    printf '%s<xs:complexType name="E"/><xs:element name="r"><xs:complexType><xs:sequence><xs:element name="%s" type="E" minOccurs="0" maxOccurs="unbounded"/></xs:sequence></xs:complexType></xs:element>%s' \
-        "$head" "$(bytes 255 n)" "$end" > "$schema"
+    { root_of_many "$(bytes 255 n)" E; printf '<xs:complexType name="E"/>%s' "$end"; } > "$schema"
     { bytes $(($1 / 65536)) '\304'; printf '\0'; } > "$input"
 }
 hostile names_of_octets 1048560 700 1 0 '' to-xml r "$schema"
