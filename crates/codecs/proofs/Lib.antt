@@ -1,0 +1,4 @@
+pub mod Codecs
+pub mod Sequences
+pub mod Steps
+pub mod Told

@@ -1,0 +1,112 @@
+-- A part stops where its node stops, and where the node doesn't, but its default or fixed value isn't kept.
+use Rattle.std.proofs.Common.{◌≡◌, ℕ, Bool, true, false, cond, not, ◌&&◌, List, refl, sym, ap, Option, Some, None, Err, inl, inr, ◌⊎◌}
+use Rattle.std.proofs.lemmas.Bool.{and_parts, and_from}
+use Rattle.std.proofs.lemmas.Slice.Eq.{bytes_eq-Decides}
+use Rattle.label_tree.specs.Rose.{Rose, node_count}
+use Rattle.simple_types.specs.declared.labels.ValueLabel.{ValueLabel}
+use Rattle.simple_types.specs.declared.standards.Standard.{Standard}
+use Rattle.simple_types.specs.declared.standards.Standard.TheVariants.{Free, Default, Fixed}
+use Rattle.asn_types.specs.declared.modules.Assignment.{Assignment}
+use Rattle.asn_types.specs.Spaces.{spelling}
+use Rattle.asn_values.specs.Values.{ComponentPlace, below, FitsAt, Kept}
+use Rattle.codecs.specs.declared.spots.Spot.{Spot}
+use Rattle.codecs.specs.Reading.{◌>>=◌, stop_if, with_spot}
+use Rattle.codecs.specs.Codec.{Came, Anything, Codec}
+use Rattle.codecs.proofs.Steps.{Iff, Told, Inside, stop_err, err_stop, none_stops, then_told}
+use Rattle.der_fields.specs.declared.stops.Stop.{Stop}
+use Rattle.der_fields.specs.declared.stops.Why.TheVariants.{DefaultWritten, NotAValue}
+use Rattle.der_fields.specs.Reading.{stop_at, AreOctets, Octets}
+use Rattle.per_fields.specs.Owning.{is_standard_by, is_standard, keeps}
+use Rattle.per_fields.proofs.Owns.{keeps_kept, kept_keeps}
+use Rattle.der_form.specs.Encoding.{TaggedPlace, der}
+use Rattle.der_form.specs.Reading.{unkept_why, kept_at, part_at}
+use Rattle.der_stops.specs.Stopping.{IsDefault, StandardStops}
+
+-- a test that means a fact
+pub lacking : (b : Bool) (P : Type 0) → Iff (b ≡ true) P → Iff (b ≡ false) (P → ⊥)
+lacking true P means = (λ e. absurd cc, λ n. absurd (n (means.0 refl)))
+lacking false P means = (λ e p. absurd (let f = means.1 p in cc), λ n. refl)
+
+pub no_fact : (b : Bool) → Iff (not b ≡ true) (b ≡ false)
+no_fact true = (λ e. absurd cc, λ e. absurd cc)
+no_fact false = (λ e. refl, λ e. refl)
+
+some_is : {A : Type 0} (x y : A) → Some x ≡ Some y → x ≡ y
+some_is x y e = cc
+
+standard_told : (spelled : List ℕ) (s : Standard) → Iff (is_standard_by spelled s ≡ true) (elim s as (λ _. Option (List ℕ)) [ Free ↦ None | Default text ↦ Some text | Fixed text ↦ Some text ] ≡ Some spelled)
+standard_told spelled Free = (λ e. absurd cc, λ e. absurd cc)
+standard_told spelled (Default text) = (λ e. ap Some (sym ((bytes_eq-Decides spelled text).0 e)), λ e. (bytes_eq-Decides spelled text).1 (sym (some_is text spelled e)))
+standard_told spelled (Fixed text) = (λ e. ap Some (sym ((bytes_eq-Decides spelled text).0 e)), λ e. (bytes_eq-Decides spelled text).1 (sym (some_is text spelled e)))
+
+module _ (M : List Assignment) (p : ComponentPlace) where
+  abbrev is_default : Rose ValueLabel → Bool
+  is_default v = p.part.optional && is_standard M p.part p.type v
+
+  default_told : (v : Rose ValueLabel) → Iff (is_default v ≡ true) (IsDefault M p v)
+  default_told v =
+      let s = standard_told (spelling M p.type v) p.part.standard in (
+        λ e. let k = and_parts p.part.optional (is_standard M p.part p.type v) e in (s.0 k.1, k.0),
+        λ h. and_from p.part.optional (is_standard M p.part p.type v) h.1 (s.1 h.0),
+      )
+
+  unkept : (v : Rose ValueLabel) → Iff (not (keeps M p.part p.type v) ≡ true) (Kept M p.part p.type v → ⊥)
+  unkept v =
+      let n = no_fact (keeps M p.part p.type v) in
+      let l = lacking (keeps M p.part p.type v) (Kept M p.part p.type v) (λ e. keeps_kept M p.part p.type v e, λ h. kept_keeps M p.part p.type v h) in
+      (λ e. l.0 (n.0 e), λ h. n.1 (l.1 h))
+
+  -- the part begins at an octet
+  abbrev Unkept : ℕ → Rose ValueLabel → Stop → Type 0
+  Unkept begin v stop =
+      (Kept M p.part p.type v → ⊥)
+      × ((IsDefault M p v × (stop ≡ stop_at begin DefaultWritten)) ⊎ ((IsDefault M p v → ⊥) × (stop ≡ stop_at begin NotAValue)))
+
+  kept_told : (begin : ℕ) (v : Rose ValueLabel) (r : Spot) (stop : Stop) → Iff (kept_at M p.part p.type begin (v, r) ≡ Err stop) (Unkept begin v stop)
+  unfolding kept_at
+  kept_told begin v r stop = (forth, back)
+    where
+      ToldBy : Type 0
+      ToldBy = (IsDefault M p v × (stop ≡ stop_at begin DefaultWritten)) ⊎ ((IsDefault M p v → ⊥) × (stop ≡ stop_at begin NotAValue))
+
+      reason : (b : Bool) → Iff (b ≡ true) (IsDefault M p v) → stop ≡ stop_at begin (cond b DefaultWritten NotAValue) → ToldBy
+      reason true means e = inl (means.0 refl, e)
+      reason false means e = inr ((lacking false (IsDefault M p v) means).0 refl, e)
+
+      again : (b : Bool) → Iff (b ≡ true) (IsDefault M p v) → ToldBy → stop ≡ stop_at begin (cond b DefaultWritten NotAValue)
+      again true means (inl h) = h.1
+      again true means (inr h) = absurd (h.0 (means.0 refl))
+      again false means (inl h) = absurd (let f = means.1 h.0 in cc)
+      again false means (inr h) = h.1
+
+      forth : stop_if (not (keeps M p.part p.type v)) (stop_at begin (unkept_why M p.part p.type v)) (with_spot v r) ≡ Err stop → Unkept begin v stop
+      forth e = elim (stop_err (not (keeps M p.part p.type v)) (stop_at begin (unkept_why M p.part p.type v)) (with_spot v r) stop e) [
+        | inl h ↦ ((unkept v).0 h.0, reason (is_default v) (default_told v) h.1)
+        | inr h ↦ none_stops {S = Stop} v r stop h.1
+      ]
+
+      back : Unkept begin v stop → stop_if (not (keeps M p.part p.type v)) (stop_at begin (unkept_why M p.part p.type v)) (with_spot v r) ≡ Err stop
+      back h = err_stop (not (keeps M p.part p.type v)) (stop_at begin (unkept_why M p.part p.type v)) stop (with_spot v r) ((unkept v).1 h.0) (again (is_default v) (default_told v) h.1)
+
+module _ (M : List Assignment) (p : TaggedPlace) (X : List ℕ) (fine : AreOctets X) where
+  pub part_told : (depth : ℕ) (read : Octets (Rose ValueLabel)) → Codec AreOctets (FitsAt M (below p.place.role depth) p.place.type) node_count (λ v n. der M p.tag p.place.type v) read → (Kid Kid' : Type 0) (s : Spot) (stop : Stop)
+      → Inside X s → Told (read X s ≡ Err stop) Kid Kid' → Told (part_at M p.place read X s ≡ Err stop) (Kid ⊎ StandardStops M depth p X s stop) (Kid' ⊎ StandardStops M depth p X s stop)
+  part_told depth read codec Kid Kid' s stop inside known = (λ e. forth (told.0 e), λ h. told.1 (back h))
+    where
+      Behind : Type 0
+      Behind =
+          (v : Rose ValueLabel) × (r : Spot) × FitsAt M (below p.place.role depth) p.place.type v × Came X s r (der M p.tag p.place.type v) (node_count v) × Unit {0} × Unkept M p.place s.at v stop
+
+      told : Told ((read X s >>= kept_at M p.place.part p.place.type s.at) ≡ Err stop) (Kid ⊎ Behind) (Kid' ⊎ Behind)
+      told =
+          then_told AreOctets Anything X fine (FitsAt M (below p.place.role depth) p.place.type) node_count (λ v n. der M p.tag p.place.type v) read codec (kept_at M p.place.part p.place.type s.at) Kid Kid'
+          (λ v r. Unkept M p.place s.at v stop) (λ v r. Unkept M p.place s.at v stop) s stop inside known
+          (λ v r fits in_. kept_told M p.place s.at v r stop)
+
+      forth : Kid ⊎ Behind → Kid ⊎ StandardStops M depth p X s stop
+      forth (inl h) = inl h
+      forth (inr k) = inr (k.0, k.1, (k.2, k.3), k.5.0, k.5.1)
+
+      back : Kid' ⊎ StandardStops M depth p X s stop → Kid' ⊎ Behind
+      back (inl h) = inl h
+      back (inr k) = inr (k.0, k.1, k.2.0, k.2.1, tt, (k.3, k.4))
