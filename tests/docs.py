@@ -39,8 +39,6 @@ TABLES = {
 }
 # Enums of reasons that are passed on under the names of the others.
 PASSED_ON = {"NoneWhy"}
-# No row tells these: no module of a schema has default values.
-UNTOLD = {("per", "DefaultWritten")}
 
 
 def text_of(path):
@@ -119,7 +117,7 @@ def try_reasons(docs):
     for more in sorted(rows - due):
         docs.holds(False, "docs/REASONS.md has what the program doesn't tell:", more)
     table_of_rows = text_of("crates/transcode_rows/stdin")
-    for table, reason in sorted(due - UNTOLD):
+    for table, reason in sorted(due):
         told = f": {table}{': ' if ':' not in table else ' '}{reason}\n"
         docs.holds(told in table_of_rows, "no row tells", table, reason)
 
@@ -267,10 +265,12 @@ REMEDIES = [
     (content(f"<xs:all>{a('a')}{a('b')}</xs:all>"), "schema", "All", [element_of("a,b")]),
     (content('<xs:attribute name="a"/>'), "schema", "AnySimpleType", [content('<xs:attribute name="a" type="xs:string"/>')]),
     ('<xs:element name="d"/>', "schema", "AnyType", ['<xs:element name="d"><xs:complexType/></xs:element>']),
-    (content('<xs:attribute name="a" type="xs:int" default="1"/>'), "schema", "AttributeDefault", [content('<xs:attribute name="a" type="xs:int"/>')]),
+    (content('<xs:attribute name="a" type="xs:int" default=""/>'), "link", "BadDefault", [content('<xs:attribute name="a" type="xs:int" default="1"/>')]),
+    (content('<xs:attribute ref="a" fixed="2"/>') + '<xs:attribute name="a" type="xs:int" fixed="1"/>', "link", "FixedDiffers", [content('<xs:attribute ref="a"/>') + '<xs:attribute name="a" type="xs:int" fixed="1"/>']),
     ('<xs:element name="d" type="xs:int" fixed="1"/>', "schema", "ElementDefault", [typed("int")]),
     ('<xs:simpleType name="l"><xs:list itemType="xs:NMTOKENS"/></xs:simpleType>', "link", "BadItem", ['<xs:simpleType name="l"><xs:list itemType="xs:NMTOKEN"/></xs:simpleType>']),
     ('<xs:element name="d" type="xs:int"><xs:simpleType><xs:restriction base="xs:int"/></xs:simpleType></xs:element>', "schema", "BothForms", [typed("int")]),
+    (content('<xs:attribute name="a" type="xs:int" use="required" default="1"/>'), "schema", "BothForms", [content(f'<xs:attribute name="a" type="xs:int" {it}/>') for it in ('use="required"', 'default="1"')]),
     (restricted("int", '<xs:maxInclusive value="1.5"/>'), "link: Facet", "BadNumber", [restricted("int", '<xs:maxInclusive value="1"/>')]),
     (restricted("int", '<xs:minInclusive value="9"/><xs:maxInclusive value="1"/>'), "link: Facet", "EmptySpace", []),
     (restricted("int", '<xs:maxLength value="9"/>'), "link: Facet", "Misplaced", []),
@@ -314,7 +314,7 @@ def try_agreement(docs):
     docs.holds(run("show", loose).stdout == run("show", order).stdout, "another layout gives another module")
     files = [f"{HERE}/examples/collisions-{it}.xsd" for it in "123"]
     docs.holds(run("show", *files).stdout == run("show", *reversed(files)).stdout, "the order of files shows in the module")
-    for name in ("order", "features", "names", "boolean"):
+    for name in ("order", "features", "names", "boolean", "defaults"):
         docs.holds(run("show", f"{HERE}/examples/{name}.xsd").stdout.decode() == text_of(f"examples/{name}.asn1"), name)
     docs.holds(run("show", *files).stdout.decode() == text_of("examples/collisions.asn1"), "collisions")
     files = [f"{HERE}/examples/{it}.xsd" for it in ("parcel", "address")]

@@ -146,7 +146,7 @@ faults() {
 }
 
 cd examples
-for schema in boolean names features order; do
+for schema in boolean names features order defaults; do
     faults /dev/null show "$schema.xsd"
 done
 faults /dev/null show collisions-1.xsd collisions-2.xsd collisions-3.xsd
@@ -174,6 +174,7 @@ three() {
 }
 three f boolean.xsd boolean.xml
 three '{urn:po}order' order.xsd order.xml
+three reading defaults.xsd defaults.xml
 while read -r root document; do
     printf '%s' "$document" > "$work/document"
     three "$root" features.xsd "$work/document"

@@ -60,7 +60,7 @@ expect 9 'stamped.per: Stamp: ' to-xml "$root" other.xsd -i stamped.per --stamp
 expect 9 'order.per: Stamp: ' to-xml "$root" order.xsd -i order.per --stamp
 
 # The module for other compilers has nothing of X.693: tests/strip_xer.py, which is written apart from the program, leaves the same.
-for name in order features names boolean; do
+for name in order features names boolean defaults; do
     expect 0 '' show --plain "$examples/$name.xsd"
     grep -q 'XER\|\[' out && { echo "wrong: --plain of $name"; wrong=1; }
     mv out plain
@@ -129,9 +129,8 @@ timeout 60 "$program" show order.xsd > /dev/full 2> err
 [ $? -eq 22 ] || { echo 'wrong: the standard output is full'; wrong=1; }
 grep -q '^output: WriteFault: ' err || { echo 'wrong: what is told of it'; wrong=1; }
 ls | grep -q '\.part$' && { echo 'wrong: a part is left'; wrong=1; }
-(trap '' PIPE; timeout 60 "$program" trial 10 2> err; echo $? > status) | true
-sleep 1
-[ "$(cat status)" = 22 ] || [ "$(cat status)" = 0 ] || { echo "wrong: a closed pipe: $(cat status)"; wrong=1; }
+(sleep 1; timeout 60 "$program" trial 10 2> err; echo $? > status) | true
+[ "$(cat status)" = 22 ] && grep -q '^output: WriteFault: ' err || { echo "wrong: a closed pipe: $(cat status)"; wrong=1; }
 echo kept > old.per
 expect 8 '' to-per "$root" order.xsd -i d.xml -o old.per
 [ "$(cat old.per)" = kept ] || { echo 'wrong: a refusal touches the output'; wrong=1; }
@@ -139,6 +138,24 @@ expect 8 '' to-per "$root" order.xsd -i d.xml -o old.per
 # A terminal is told of octets.
 script -qec "'$program' to-per '$root' order.xsd -i order.xml" /dev/null < /dev/null > terminal
 grep -q 'octets' terminal || { echo 'wrong: no note on a terminal'; wrong=1; }
+
+# It is told how much was read, once over a second has passed, and that line is wiped before anything else is written.
+slowly="(head -c 40 slow.xml; sleep 2; tail -c +41 slow.xml)"
+check="'$program' check '$root' order.xsd"
+told=$(cat order.xsd order.xml | wc -c)
+cp order.xml slow.xml
+script -qec "$slowly | $check" /dev/null < /dev/null > terminal
+printf '\rruvkhiska: %d bytes read\r%40s\r' "$told" '' > due
+grep -qF "$(cat due)" terminal || { echo 'wrong: what is told of a slow input'; wrong=1; }
+script -qec "$check < slow.xml" /dev/null < /dev/null > terminal
+grep -q 'read' terminal && { echo 'wrong: a fast input is told of'; wrong=1; }
+bash -c "$slowly | $check" > out 2> err
+cat out err | grep -q . && { echo 'wrong: something is told elsewhere than on a terminal'; wrong=1; }
+cp d.xml slow.xml
+script -qec "$slowly | $check" /dev/null < /dev/null > terminal
+tr '\r' '\n' < terminal | grep -v '^ *$' | head -n 2 | cut -d : -f 1-3 > lines
+printf 'ruvkhiska: %d bytes read\ninput:3:19\n' "$(cat order.xsd d.xml | wc -c)" > due
+same lines due 'a complaint behind what is told'
 
 # The line and the column of each reason.
 timeout 600 env PEOPLE=$program python3 "$tests/people_rows.py" || wrong=1

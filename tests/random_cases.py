@@ -726,8 +726,30 @@ class Group:
         return elements, encode
 
 
+class Standard:
+    """A default or fixed value: as an attribute of the schema, and the bits of its value, which tell values apart."""
+
+    def __init__(self, kind, type_, text, encode):
+        self.is_fixed = kind == "fixed"
+        self.text, self.encode, self.bits = text, encode, bits_of(encode)
+        self.written = f' {kind}="{escaped(text, is_attribute=True)}"'
+
+    @staticmethod
+    def some(kinds, type_):
+        """One of these kinds; none where the text would be long."""
+        text, encode = type_.value()
+        return Standard(rng.choice(kinds), type_, text, encode) if kinds and len(text) < 100 else None
+
+
+def bits_of(encode):
+    bits = Bits(False)
+    encode(bits)
+    return bits.bits
+
+
 class Attribute:
-    """A local attribute, or a reference to a global one."""
+    """A local attribute, or a reference to a global one. A reference has the default or fixed value of the global one where it has
+    none of its own; a fixed one may only be said again; what is required has no default value."""
 
     def __init__(self, schema):
         self.name = schema.fresh_name()
@@ -735,25 +757,40 @@ class Attribute:
         self.is_required = rng.random() < 0.5
         self.file = schema.here
         how = ' use="required"' * self.is_required
+        kinds = ["fixed"] if self.is_required else ["default", "default", "fixed"]
+        self.standard = Standard.some(kinds, self.type) if rng.random() < 0.3 else None
+        own = self.standard.written if self.standard else ""
         if rng.random() < 0.2:
             self.file = rng.choice(schema.files)
             type_name, inner = schema.simple(self.type)
-            self.file.components.append(f'<xs:attribute name="{self.name}"{type_name}>{inner}</xs:attribute>')
-            self.written = f'<xs:attribute ref="{self.file.prefix}{self.name}"{how}/>'
+            named = Standard.some(["default", "fixed"], self.type) if rng.random() < 0.4 else None
+            if named and named.is_fixed and self.standard:
+                self.standard, own = named, named.written
+            elif named and not self.standard and (named.is_fixed or not self.is_required):
+                self.standard = named
+            theirs = named.written if named else ""
+            self.file.components.append(f'<xs:attribute name="{self.name}"{type_name}{theirs}>{inner}</xs:attribute>')
+            self.written = f'<xs:attribute ref="{self.file.prefix}{self.name}"{how}{own}/>'
         else:
             form, is_qualified = self.file.form_of("attribute")
             self.file = self.file if is_qualified else NONE
             type_name, inner = schema.simple(self.type)
-            self.written = f'<xs:attribute name="{self.name}"{type_name}{how}{form}>{inner}</xs:attribute>'
+            self.written = f'<xs:attribute name="{self.name}"{type_name}{how}{form}{own}>{inner}</xs:attribute>'
 
     def order(self):
         return (self.file.namespace.encode(), self.name.encode())
 
     def value(self):
+        """The default or fixed value of what may be absent has no encoding of its own."""
         if not self.is_required and rng.random() < 0.5:
             return "", (True, None)
-        text, encode = self.type.value()
+        if self.standard and (self.standard.is_fixed or rng.random() < 0.5):
+            text, encode = self.standard.text, self.standard.encode
+        else:
+            text, encode = self.type.value()
         name = self.file.prefix + self.name
+        if self.standard and not self.is_required and bits_of(encode) == self.standard.bits:
+            encode = None
         return f' {name}="{escaped(text, is_attribute=True)}"', (not self.is_required, encode)
 
 

@@ -7,13 +7,15 @@ part of encoding control. The types, and so their packed encodings, stay as they
 import re
 import sys
 
-# An instruction: brackets, in which texts in quotation marks may have any characters.
-INSTRUCTION = re.compile(r'\[[A-Z](?:"(?:[^"]|"")*"|[^"\]])*\] ')
+# A text in quotation marks, or an instruction: brackets, in which such texts stand too. A text may have any characters.
+TEXT = '"(?:[^"]|"")*"'
+TEXT_OR_INSTRUCTION = re.compile(rf'({TEXT})|\[[A-Z](?:{TEXT}|[^"\]])*\] ')
 
 
 def strip(module):
-    front, _, _ = module.partition("ENCODING-CONTROL XER\n")
-    return INSTRUCTION.sub("", front).replace(" XER INSTRUCTIONS ", " ", 1) + "END\n"
+    front, _, _ = module.rpartition("ENCODING-CONTROL XER\n")
+    kept = TEXT_OR_INSTRUCTION.sub(lambda piece: piece[1] or "", front)
+    return kept.replace(" XER INSTRUCTIONS ", " ", 1) + "END\n"
 
 
 if __name__ == "__main__":

@@ -11,6 +11,7 @@ mod spellings;
 mod values;
 
 pub use keeping::kept;
+pub use orders::ordered_flags;
 pub use rules::own;
 pub use spellings::spelling;
 pub use values::is_value;

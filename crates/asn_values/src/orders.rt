@@ -79,8 +79,8 @@ fn element_flags(
     Ok(flags)
 }
 
-// Which of the elements in an order are present: none where the content is absent.
-fn ordered_flags(
+/// Which of the elements that a USE-ORDER type has an order of are present: none where the content of a USE-NIL type is absent.
+pub fn ordered_flags(
     alloc: Global,
     module: &Module,
     node: &Tree<TypeLabel>,

@@ -9,4 +9,4 @@ mod words;
 pub use paths::path_at;
 pub use roots::global_names;
 pub use telling::complaint;
-pub use words::{NOTE, ROOT, SEVERAL_ROOTS, STAMP, reason_of};
+pub use words::{NOTE, READ, ROOT, SEVERAL_ROOTS, STAMP, reason_of};

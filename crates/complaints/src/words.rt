@@ -210,11 +210,6 @@ pub fn schema_reason(why: SchemaWhy) -> Reason
             means: "default or fixed on an element",
             remedy: "drop it, and write the value in each document",
         },
-        SchemaWhy::AttributeDefault => Reason {
-            name: "AttributeDefault",
-            means: "default or fixed on an attribute",
-            remedy: "drop it, and write the value in each document",
-        },
         SchemaWhy::Decimal => Reason {
             name: "Decimal",
             means: "the datatype decimal",
@@ -332,7 +327,7 @@ pub fn schema_reason(why: SchemaWhy) -> Reason
         },
         SchemaWhy::BothForms => Reason {
             name: "BothForms",
-            means: "ref beside what a declaration says, or a type by name beside one in place",
+            means: "ref beside what a declaration says, a type by name beside one in place, or default beside fixed or another use than optional",
             remedy: "keep one of both",
         },
         SchemaWhy::EmptyChoice => Reason {
@@ -417,6 +412,16 @@ pub fn link_reason(why: LinkWhy) -> Reason
             means: "the item of a list is itself a list, or a union with a list in it",
             remedy: "a list of single values",
         },
+        LinkWhy::BadDefault => Reason {
+            name: "BadDefault",
+            means: "an attribute's type doesn't accept its default or fixed value",
+            remedy: "write a value of the type",
+        },
+        LinkWhy::FixedDiffers => Reason {
+            name: "FixedDiffers",
+            means: "a reference to a global attribute with a fixed value has a default value, or another fixed one",
+            remedy: "drop it, the reference has the fixed value anyway",
+        },
         LinkWhy::DuplicateUse => Reason {
             name: "DuplicateUse",
             means: "two attributes of one name in a type",
@@ -462,7 +467,7 @@ pub fn invalid_reason(why: InvalidWhy) -> Reason
         },
         InvalidWhy::BadAttribute => Reason {
             name: "BadAttribute",
-            means: "the attribute's type doesn't accept its text",
+            means: "the attribute's type doesn't accept its text, or its value isn't the fixed one",
             remedy: "mend the document",
         },
         InvalidWhy::TooWide => Reason {
@@ -645,6 +650,9 @@ pub const SEVERAL_ROOTS: Reason = Reason {
 
 /// What is told where octets go to a terminal.
 pub const NOTE: &str = "ruvkhiska: these are octets, not text; -o FILE writes them to a file\n";
+
+/// What is told behind the number of bytes that were read, while that takes long.
+pub const READ: &str = "bytes read";
 
 /// What stands before the name of a root that may be meant.
 pub const ROOT: &str = "  --root ";

@@ -1,63 +1,19 @@
--- The modules with standards and with an order keep what a module keeps.
-use Rattle.std.proofs.Common.{◌≡◌, ℕ, pos, ◌<◌, List, [], ◌∷◌, Some, None, true, false, length, refl, sym, arith}
+-- The module with an order keeps what a module keeps.
+use Rattle.std.proofs.Common.{List, [], ◌∷◌, false, refl, arith}
 use Rattle.std.specs.Prelude.{codes}
 use Rattle.std.specs.List.{IsDistinct}
 use Rattle.std.proofs.lemmas.List.Elements.{All-nil, All-cons}
 use Rattle.label_tree.specs.Rose.{Rose, node, none, roses_of, label_of, kids_of}
-use Rattle.xa_base.specs.declared.white_space.WhiteSpace.TheVariants.{Collapse}
-use Rattle.simple_types.specs.declared.labels.ValueLabel.{ValueLabel}
-use Rattle.simple_types.specs.declared.labels.ValueLabel.TheVariants as value
-use Rattle.simple_types.specs.declared.simples.Class.TheVariants.{Any}
-use Rattle.simple_types.specs.declared.standards.Standard.TheVariants.{Free, Default, Fixed}
+use Rattle.simple_types.specs.declared.standards.Standard.TheVariants.{Free}
 use Rattle.asn_types.specs.declared.marks.Instruction.TheVariants as mark
 use Rattle.asn_types.specs.declared.types.Form.TheVariants as form
 use Rattle.asn_types.specs.declared.types.TypeLabel.{TypeLabel}
 use Rattle.asn_types.specs.declared.modules.Assignment.{Assignment}
-use Rattle.asn_types.specs.Modules.{IsAssignment, IsModule, IsWellFormed, IsSpellingOf, HasOrderPart}
-use Rattle.asn_types.specs.Refs.{NearRefs, ChainsWithin, follow}
-use Rattle.layer_tests.specs.MadeModules.{component, typed, assigned, octet_type, token_type, octet_space, token_space, IsSpelled, standard_parts, with_standards, boolean_type, order_type, ordered_parts, with_order}
-
-octet-spelled : (M : List Assignment) (text : List ℕ) → IsSpelled octet_space text → IsSpellingOf M octet_type text
-unfolding follow
-octet-spelled M text h = (octet_space, h.0, omega arith, (refl, refl), h.1, h.2)
-
-token-spelled : (M : List Assignment) (text : List ℕ) → IsSpelled token_space text → IsSpellingOf M token_type text
-unfolding follow
-token-spelled M text h = (token_space, h.0, tt, (refl, refl), h.1, h.2)
+use Rattle.asn_types.specs.Modules.{IsAssignment, IsModule, IsWellFormed, HasOrderPart}
+use Rattle.asn_types.specs.Refs.{NearRefs, ChainsWithin}
+use Rattle.layer_tests.specs.MadeModules.{component, typed, assigned, boolean_type, order_type, ordered_parts, with_order}
 
 module _ (M : List Assignment) where
-  octet-formed : IsWellFormed M (record { form = form.Int (Some (pos 0)) (Some (pos 255)); marks = [] }) none
-  unfolding ChainsWithin NearRefs
-  octet-formed = record {
-    form = omega arith;
-    attribute = refl;
-    embed_values = λ e. absurd (cc);
-    use_nil = λ e. absurd (cc);
-    use_order = λ e. absurd (cc);
-    list = λ e. absurd (cc);
-    use_union = λ e. absurd (cc);
-    simple = λ e. absurd (cc);
-    attributes = tt;
-    standards = tt;
-    chains = (tt, tt);
-  }
-
-  token-formed : IsWellFormed M (record { form = form.Utf8 0 None Any; marks = mark.WhiteSpace Collapse ∷ [] }) none
-  unfolding ChainsWithin NearRefs
-  token-formed = record {
-    form = tt;
-    attribute = refl;
-    embed_values = λ e. absurd (cc);
-    use_nil = λ e. absurd (cc);
-    use_order = λ e. absurd (cc);
-    list = λ e. absurd (cc);
-    use_union = λ e. absurd (cc);
-    simple = λ e. absurd (cc);
-    attributes = tt;
-    standards = tt;
-    chains = (tt, tt);
-  }
-
   boolean-formed : IsWellFormed M (record { form = form.Bool; marks = [] }) none
   unfolding ChainsWithin NearRefs
   boolean-formed = record {
@@ -88,45 +44,6 @@ module _ (M : List Assignment) where
     attributes = tt;
     standards = tt;
     chains = (tt, tt);
-  }
-
-module _ (v x : List ℕ) (of_octet : IsSpelled octet_space v) (of_token : IsSpelled token_space x) where
-  abbrev standards_label : TypeLabel
-  standards_label = record { form = form.Sequence (standard_parts v x); marks = [] }
-
-  standards-formed : IsWellFormed (with_standards v x) standards_label (roses_of (octet_type ∷ token_type ∷ []))
-  unfolding ChainsWithin NearRefs follow
-  standards-formed = record {
-    form = omega arith;
-    attribute = refl;
-    embed_values = λ e. absurd (cc);
-    use_nil = λ e. absurd (cc);
-    use_order = λ e. absurd (cc);
-    list = λ e. absurd (cc);
-    use_union = λ e. absurd (cc);
-    simple = λ e. absurd (cc);
-    attributes = (λ e. (octet_space, omega arith, (refl, refl)), (λ e. (token_space, tt, (refl, refl)), tt));
-    standards = ((refl, refl, octet-spelled (with_standards v x) v of_octet), ((refl, token-spelled (with_standards v x) x of_token), tt));
-    chains = (tt, ((tt, tt), ((tt, tt), tt)));
-  }
-
-  abbrev standards_assignment : Assignment
-  standards_assignment = assigned (codes "G") (typed (form.Sequence (standard_parts v x)) [] (octet_type ∷ token_type ∷ []))
-
-  standards-assigned : IsAssignment (with_standards v x) standards_assignment
-  standards-assigned = record {
-    allowed = (refl, ((refl, tt), ((refl, tt), tt)));
-    types = (standards-formed, ((octet-formed (with_standards v x), tt), ((token-formed (with_standards v x), tt), tt)));
-    items = (tt, ((tt, tt), ((tt, tt), tt)));
-    attribute = λ e. absurd (cc);
-  }
-
-  pub standards_are_of_module : IsModule (with_standards v x)
-  unfolding IsDistinct
-  standards_are_of_module = record {
-    counted = omega arith;
-    distinct = (tt, tt);
-    assignments = All-cons (IsAssignment (with_standards v x)) standards_assignment [] standards-assigned (All-nil (IsAssignment (with_standards v x)));
   }
 
 abbrev ordered_label : TypeLabel

@@ -1,15 +1,12 @@
-//! Modules with default and fixed values and with an order of elements, which no schema gives so far. They are made by hand.
+//! A module with an order of elements, made by hand: no schema gives one so far.
 ghost use Rattle.std.specs.Prelude.{◌≡◌, ◌∷◌, [], IfOk, length};
-ghost use Rattle.simple_types.specs.Seen.{space_of};
-ghost use Rattle.simple_types.specs.Sound.{Sound};
 ghost use Rattle.layer_tests.specs.MadeModules as made;
 
 use asn_types::{Assignment, Component, Components, Form, Instruction, Marks, Module, TypeLabel};
 use label_tree::{Tree, Whole};
-use simple_types::{Class, Simple, Standard, TextList};
-use simple_values::{accept, spell};
+use simple_types::{Standard, TextList};
 use std::alloc::Global;
-use xa_base::{Memory, Text, WhiteSpace};
+use xa_base::{Memory, Text};
 
 fn component(
     alloc: Global,
@@ -47,78 +44,6 @@ fn whole(tree: Tree<TypeLabel>) -> Result<Whole<TypeLabel>, Memory>
     }
 }
 
-// INTEGER (0..255)
-fn octet_type(alloc: Global) -> Tree<TypeLabel>
-    ensures { result ≡ made.octet_type }
-{
-    let form = Form::Int {
-        lo: Some(0),
-        hi: Some(255),
-    };
-    typed(form, Vec::new(alloc), Vec::new(alloc))
-}
-
-// [WHITESPACE COLLAPSE] UTF8String
-fn token_type(alloc: Global) -> Result<Tree<TypeLabel>, Memory>
-    ensures { IfOk result (λ t. t ≡ made.token_type) }
-{
-    let form = Form::Utf8 {
-        min: 0,
-        max: None,
-        class: Class::Any,
-    };
-    let marks = vec![in alloc; Instruction::WhiteSpace(WhiteSpace::Collapse)]?;
-    Ok(typed(form, marks, Vec::new(alloc)))
-}
-
-// The spelling of the value that the simple type takes from the text.
-fn spelled(alloc: Global, simple: &Simple, text: &str) -> Result<Text, Memory>
-    requires { Sound (space_of simple.now) }
-    ensures { IfOk result (λ text. made.IsSpelled (space_of simple.now) text) }
-{
-    let text = Text::from_str(alloc, text)?;
-    match accept(alloc, simple, &text) {
-        Ok(value) => spell(alloc, simple, &value.root()),
-        Err(_) => Err(Memory),
-    }
-}
-
-#[tactic(auto, unfolding(simple_types::specs::Seen::space_of))]
-fn spelled_octet(alloc: Global, text: &str) -> Result<Text, Memory>
-    ensures { IfOk result (λ text. made.IsSpelled made.octet_space text) }
-{
-    let simple = Simple::Whole {
-        lo: Some(0),
-        hi: Some(255),
-    };
-    spelled(alloc, &simple, text)
-}
-
-#[tactic(auto, unfolding(simple_types::specs::Seen::space_of))]
-fn spelled_token(alloc: Global, text: &str) -> Result<Text, Memory>
-    ensures { IfOk result (λ text. made.IsSpelled made.token_space text) }
-{
-    let simple = Simple::Chars {
-        space: WhiteSpace::Collapse,
-        min: 0,
-        max: None,
-        class: Class::Any,
-    };
-    spelled(alloc, &simple, text)
-}
-
-// v [ATTRIBUTE] .. DEFAULT .., x [ATTRIBUTE] .., fixed, DEFAULT ..
-fn standard_parts(alloc: Global, five: Text, on: Text) -> Result<Vec<Component>, Memory>
-    ensures { IfOk result (λ parts. parts.items ≡ made.standard_parts five on) }
-{
-    let marks = vec![in alloc; Instruction::Attribute]?;
-    let v = component(alloc, "v", true, Standard::Default(five), marks)?;
-    let marks = vec![in alloc; Instruction::Attribute]?;
-    let x = component(alloc, "x", true, Standard::Fixed(on), marks)?;
-    let parts = vec![in alloc; v, x]?;
-    Ok(parts)
-}
-
 // The module of one assignment without encoding instructions.
 fn assigned(
     alloc: Global,
@@ -137,26 +62,6 @@ fn assigned(
         },
     ]?;
     Ok(assignments)
-}
-
-// G ::= SEQUENCE {
-//     v [ATTRIBUTE] INTEGER (0..255) DEFAULT 5,
-//     x [ATTRIBUTE] [WHITESPACE COLLAPSE] UTF8String (CONSTRAINED BY {/* fixed 6F6E */}) DEFAULT "on"
-// }
-pub(crate) fn with_standards(alloc: Global) -> Result<Module, Memory>
-    ensures { IfOk result (λ found. length found ≡ 1) }
-{
-    let five = spelled_octet(alloc, "5")?;
-    let on = spelled_token(alloc, "on")?;
-    let parts = standard_parts(alloc, five, on)?;
-    let token = token_type(alloc)?;
-    let kids = vec![in alloc; octet_type(alloc), token]?;
-    let form = Form::Sequence {
-        parts: Components::of(parts),
-    };
-    let body = whole(typed(form, Vec::new(alloc), kids))?;
-    let assignments = assigned(alloc, "G", body)?;
-    Ok(Module::of(assignments))
 }
 
 // SEQUENCE OF ENUMERATED { a, b }

@@ -28,7 +28,7 @@ none_breaks m clear f b =
     a.4.0 (All-contains KeepsRules (all_placed m []) a.1 (kept_all (all_placed m []) (kept_clear m [] clear)) (a.0, a.2, a.3))
 
 -- what stands from a place on doesn't stand before it
-not_before : (g : LinkingFault) (l : ParticleLabel) (b : Breach) → g.place.file ≡ l.file → g.place.at ≡ l.at → rank_of g.why ≡ 14 → StandsFrom l b
+not_before : (g : LinkingFault) (l : ParticleLabel) (b : Breach) → g.place.file ≡ l.file → g.place.at ≡ l.at → rank_of g.why ≡ 16 → StandsFrom l b
     → Earlier g (fault NotClear (place b.file b.at)) → ⊥
 not_before g l b file at rank (inl s) (inl e) = omega (arith, file, s, e)
 not_before g l b file at rank (inl s) (inr (inl e)) = let d = e.0 in omega (arith, file, s, d)

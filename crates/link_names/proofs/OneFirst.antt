@@ -15,8 +15,8 @@ reason_at n =
     if nat_eq n 0 then why.Limit else if nat_eq n 1 then why.Duplicate else if nat_eq n 2 then why.Unresolved else if nat_eq n 3 then why.ComplexBase
     else if nat_eq n 4 then why.CircularType else if nat_eq n 5 then why.Facet facet.Misplaced else if nat_eq n 6 then why.Facet facet.Widens
     else if nat_eq n 7 then why.Facet facet.NotInBase else if nat_eq n 8 then why.Facet facet.EmptySpace else if nat_eq n 9 then why.Facet facet.BadNumber
-    else if nat_eq n 10 then why.Facet facet.TooWide else if nat_eq n 11 then why.BadItem else if nat_eq n 12 then why.DuplicateUse
-    else if nat_eq n 13 then why.TypesDiffer else why.NotClear
+    else if nat_eq n 10 then why.Facet facet.TooWide else if nat_eq n 11 then why.BadItem else if nat_eq n 12 then why.BadDefault
+    else if nat_eq n 13 then why.FixedDiffers else if nat_eq n 14 then why.DuplicateUse else if nat_eq n 15 then why.TypesDiffer else why.NotClear
 
 reason_of : (w : LinkWhy) → reason_at (rank_of w) ≡ w
 reason_of why.Limit = refl
@@ -31,6 +31,8 @@ reason_of (why.Facet facet.EmptySpace) = refl
 reason_of (why.Facet facet.BadNumber) = refl
 reason_of (why.Facet facet.TooWide) = refl
 reason_of why.BadItem = refl
+reason_of why.BadDefault = refl
+reason_of why.FixedDiffers = refl
 reason_of why.DuplicateUse = refl
 reason_of why.TypesDiffer = refl
 reason_of why.NotClear = refl

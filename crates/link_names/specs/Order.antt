@@ -31,9 +31,11 @@ rank_of why.ComplexBase = 3
 rank_of why.CircularType = 4
 rank_of (why.Facet reason) = rank_of_facet reason
 rank_of why.BadItem = 11
-rank_of why.DuplicateUse = 12
-rank_of why.TypesDiffer = 13
-rank_of why.NotClear = 14
+rank_of why.BadDefault = 12
+rank_of why.FixedDiffers = 13
+rank_of why.DuplicateUse = 14
+rank_of why.TypesDiffer = 15
+rank_of why.NotClear = 16
 
 abbrev pub fault : LinkWhy → Place → LinkingFault
 fault w p = record { place = p; why = w }

@@ -23,6 +23,10 @@ pub enum LinkWhy {
     Facet(FacetWhy),
     /// A list of lists.
     BadItem,
+    /// A default or fixed value of an attribute that its type doesn't accept.
+    BadDefault,
+    /// A reference to an attribute that is fixed, with a default value or another fixed one.
+    FixedDiffers,
     /// A second attribute of one name in a type.
     DuplicateUse,
     /// A second element of one name in a content model, with another type.
@@ -64,9 +68,11 @@ fn rank(why: LinkWhy) -> u8
         LinkWhy::CircularType => 4,
         LinkWhy::Facet(reason) => rank_of_facet(reason),
         LinkWhy::BadItem => 11,
-        LinkWhy::DuplicateUse => 12,
-        LinkWhy::TypesDiffer => 13,
-        LinkWhy::NotClear => 14,
+        LinkWhy::BadDefault => 12,
+        LinkWhy::FixedDiffers => 13,
+        LinkWhy::DuplicateUse => 14,
+        LinkWhy::TypesDiffer => 15,
+        LinkWhy::NotClear => 16,
     }
 }
 

@@ -8,7 +8,6 @@ use Rattle.std.specs.BTreeMap.{BTreeMap}
 use Rattle.std.proofs.lemmas.Bool.Decides.{nat_tests}
 use Rattle.std.proofs.lemmas.List.{length-map}
 use Rattle.xa_base.specs.declared.texts.Name.{Name}
-use Rattle.xa_base.specs.Names.{name_eq}
 use Rattle.simple_types.specs.declared.simples.Builtin.{Builtin}
 use Rattle.link_names.specs.declared.places.Place.{Place}
 use Rattle.link_names.proofs.Placing.{cut}
@@ -17,12 +16,9 @@ use Rattle.link_cycles.proofs.Numbering.{put_placed}
 use Rattle.link_set.specs.Builtins.{rank, is_builtin}
 use Rattle.std.specs.List.{position_from}
 use Rattle.link_set.specs.Numbering as told
-use Rattle.link_set.specs.Numbering.{ComponentNumbers, number_named, number_placed, builtin_numbers, is_called, has_name, stands_at}
+use Rattle.link_set.specs.Numbering.{number_named, number_placed, builtin_numbers, is_called, has_name, stands_at}
 use Rattle.link_set.specs.Private.Told.{entry_of, entries_of, ranked_in}
-use Rattle.link_set.specs.Private.Seen.{told_attribute, attributes_of}
-use Rattle.link_set.specs.Sets.{attribute, attributes, type_of_attribute}
 use Rattle.link_set.specs.declared.numbers.NamedPlace.{NamedPlace}
-use Rattle.link_set.specs.declared.written.WrittenAttribute.{WrittenAttribute}
 
 -- as many entries as components
 pub as_many : {A : Type 0} (es : List NamedPlace) (f : A → told.NamedPlace) (xs : List A) → entries_of es ≡ map f xs → length es ≡ length xs
@@ -70,14 +66,3 @@ one_ranked used first i which lt le is old new so_far k own up w =
     at ∙ ap (λ b. cond b (Some n) (ranked_in old w)) (rank_test k (rank w) ∙ ap (λ m. nat_eq m (rank w)) own)
     ∙ ap (λ o. cond (is_builtin w which) (Some n) o) (so_far w) ∙ sym (number_here (is_builtin w) first i which (drop i used) lt)
     ∙ ap (λ xs. builtin_numbers n xs w) (sym (cut used i which lt le is))
-
--- the type of an attribute, with one attribute more before the others
-pub one_typed : (ns : ComponentNumbers) (as_ : List WrittenAttribute) (i : ℕ) (w : WrittenAttribute) → 0 < i → i ≤ length as_ → w ≡ get_or as_ (i - 1) w
-    → (old new : BTreeMap (Bor Name) ℕ) → ((a : Name) → named_in old a ≡ type_of_attribute (attributes ns (attributes_of (drop i as_))) a)
-    → (n : ℕ) → n ≡ (attribute ns (told_attribute w)).simple
-    → ((a : Name) → named_in new a ≡ cond (name_eq w.attribute.now.name a) (Some n) (named_in old a))
-    → (a : Name) → named_in new a ≡ type_of_attribute (attributes ns (attributes_of (drop (i - 1) as_))) a
-one_typed ns as_ i w lt le is old new so_far n typed up a =
-    up a ∙ ap (λ o. cond (name_eq w.attribute.now.name a) (Some n) o) (so_far a)
-    ∙ ap (λ m. cond (name_eq w.attribute.now.name a) (Some m) (type_of_attribute (attributes ns (attributes_of (drop i as_))) a)) typed
-    ∙ ap (λ xs. type_of_attribute (attributes ns (attributes_of xs)) a) (sym (cut as_ i w lt le is))

@@ -80,7 +80,7 @@ each_sound (t ∷ ts) h =
     All-cons (λ (u : SimpleDef). Sound (space_of u.space)) t ts (All-head IsSound (named_space t) (named_spaces ts) h)
     (each_sound ts (All-tail IsSound (named_space t) (named_spaces ts) h))
 
-sound_simples : (ts : List SimpleDef) (ds : List SimpleDefinition) (ss : List Simple) (used : List Builtin)
+pub sound_simples : (ts : List SimpleDef) (ds : List SimpleDefinition) (ss : List Simple) (used : List Builtin)
     → named_spaces ts ≡ simples ds (map space_of ss) used → All (λ s. Sound (space_of s)) ss → All (λ (t : SimpleDef). Sound (space_of t.space)) ts
 sound_simples ts ds ss used same h =
     let spaces = map space_of ss in

@@ -4,12 +4,15 @@
 use Rattle.std.specs.Prelude.{ℕ, Bool, ◌-◌, List, [], ◌∷◌, ◌++◌, length, map, Option, Some, None, if◌then◌else◌, slice_get}
 use Rattle.xa_base.specs.declared.texts.Name.{Name}
 use Rattle.xa_base.specs.Names.{name_eq, name_cmp}
+use Rattle.std.specs.Option.{option_map}
 use Rattle.std.specs.Ordering.{is_lt}
 use Rattle.label_tree.specs.Rose.{Rose, node, Roses}
 use Rattle.label_tree.specs.Rose as rose
 use Rattle.simple_types.specs.declared.simples.Builtin.{Builtin}
 use Rattle.simple_types.specs.Builtins.{builtin_space}
 use Rattle.simple_types.specs.Space.{Space}
+use Rattle.simple_types.specs.declared.standards.Standard.{Standard}
+use Rattle.simple_types.specs.declared.standards.Standard.TheVariants.{Free, Default, Fixed}
 use Rattle.content_models.specs.declared.particles.ParticleLabel.{ParticleLabel}
 use Rattle.content_models.specs.declared.particles.ParticleKind.{ParticleKind}
 use Rattle.content_models.specs.declared.particles.ParticleKind.TheVariants as particle
@@ -29,6 +32,7 @@ use Rattle.schema_parts.specs.declared.components.GlobalAttribute.{GlobalAttribu
 pub use Rattle.schema_parts.specs.SetParts.{NamedSpace, SetParts, named_space, named_spaces, parts_of}
 use Rattle.link_names.specs.Order.{place, is_before}
 use Rattle.link_cycles.specs.SimpleTypes.{SimpleDefinition, simple_types}
+use Rattle.link_standards.specs.Spellings.{in_spelling}
 use Rattle.link_complex.specs.ComplexTypes.{ComplexDefinition}
 use Rattle.link_set.specs.Builtins.{used_builtins}
 use Rattle.link_set.specs.Numbering.{ComponentNumbers, numbers_in}
@@ -70,16 +74,20 @@ element ns e = record { name = e.element.name; nillable = e.element.nillable; ki
 abbrev pub elements : ComponentNumbers → Lists → List ElementDecl
 elements ns ls = map (element ns) ls.globals ++ map (element ns) ls.locals
 
+-- with the text of its value constraint as written
 abbrev pub attribute : ComponentNumbers → WrittenAttribute → GlobalAttribute
-attribute ns a = record { name = a.attribute.name; simple = simple_of_base ns a.file a.attribute.kind }
+attribute ns a = record { name = a.attribute.name; simple = simple_of_base ns a.file a.attribute.kind; standard = a.attribute.standard }
+
+abbrev pub written_name : WrittenAttribute → Name
+written_name a = a.attribute.name
 
 abbrev pub attributes : ComponentNumbers → List WrittenAttribute → List GlobalAttribute
 attributes ns as_ = map (attribute ns) as_
 
--- the type of the first global attribute of this name
-abbrev pub type_of_attribute : List GlobalAttribute → Name → Option ℕ
-type_of_attribute [] a = None
-type_of_attribute (g ∷ gs) a = if name_eq g.name a then Some g.simple else type_of_attribute gs a
+-- the first global attribute of this name
+abbrev pub named_attribute : List GlobalAttribute → Name → Option GlobalAttribute
+named_attribute [] a = None
+named_attribute (g ∷ gs) a = if name_eq g.name a then Some g else named_attribute gs a
 
 -- ---- complex types
 
@@ -87,19 +95,46 @@ abbrev pub type_of_use : ComponentNumbers → ℕ → Option Base → ℕ
 type_of_use ns file None = 0
 type_of_use ns file (Some base) = simple_of_base ns file base
 
--- a reference has the type of the global attribute
-abbrev pub simple_of_use : ComponentNumbers → (Name → Option ℕ) → ℕ → Use → ℕ
-simple_of_use ns types file u = if u.reference then or_zero (types u.name) else type_of_use ns file u.kind
+abbrev pub simple_of_found : Option GlobalAttribute → ℕ
+simple_of_found None = 0
+simple_of_found (Some g) = g.simple
 
-abbrev pub attribute_use : ComponentNumbers → (Name → Option ℕ) → ℕ → Use → AttributeUse
-attribute_use ns types file u = record { name = u.name; simple = simple_of_use ns types file u; required = u.required }
+-- a reference has the type of the global attribute
+abbrev pub simple_of_use : ComponentNumbers → (Name → Option GlobalAttribute) → ℕ → Use → ℕ
+simple_of_use ns globals file u = if u.reference then simple_of_found (globals u.name) else type_of_use ns file u.kind
+
+abbrev pub standard_of_found : Option GlobalAttribute → Standard
+standard_of_found None = Free
+standard_of_found (Some g) = g.standard
+
+-- a value constraint of its own, or else the other one
+abbrev pub own_or : Standard → Standard → Standard
+own_or Free other = other
+own_or (Default text) other = Default text
+own_or (Fixed text) other = Fixed text
+
+-- what is required is never absent, so a default value says nothing of it
+abbrev pub unless_required : Bool → Standard → Standard
+unless_required required Free = Free
+unless_required required (Default text) = if required then Free else Default text
+unless_required required (Fixed text) = Fixed text
+
+-- a reference without one has that of the global attribute (sections 3.2.2 and 3.5.1)
+abbrev pub standard_of_use : (Name → Option GlobalAttribute) → Use → Standard
+standard_of_use globals u =
+    unless_required u.required (own_or u.standard (if u.reference then standard_of_found (globals u.name) else Free))
+
+-- with the text of its value constraint as written
+abbrev pub attribute_use : ComponentNumbers → (Name → Option GlobalAttribute) → ℕ → Use → AttributeUse
+attribute_use ns globals file u =
+    record { name = u.name; simple = simple_of_use ns globals file u; required = u.required; standard = standard_of_use globals u }
 
 abbrev pub use_before : AttributeUse → AttributeUse → Bool
 use_before a b = is_lt (name_cmp a.name b.name)
 
 -- the uses of a complex type, in the order of their names
-abbrev pub uses : ComponentNumbers → (Name → Option ℕ) → ComplexDefinition → List AttributeUse
-uses ns types c = in_order use_before (map (attribute_use ns types c.place.file) c.body.uses)
+abbrev pub uses : ComponentNumbers → (Name → Option GlobalAttribute) → ComplexDefinition → List AttributeUse
+uses ns globals c = in_order use_before (map (attribute_use ns globals c.place.file) c.body.uses)
 
 -- the element that a local declaration is: a global one by its name, or this one by its place
 abbrev pub number_of_local : ComponentNumbers → ℕ → Local → ℕ
@@ -143,16 +178,16 @@ content_of ns number (raw.Simple base at) = content.Simple (simple_of_reference 
 content_of ns number (raw.ElementOnly model) = content.ElementOnly (numbered number model)
 content_of ns number (raw.Mixed model) = content.Mixed (numbered number model)
 
-abbrev pub complex : ComponentNumbers → (Name → Option ℕ) → List Document → ComplexDefinition → ComplexDef
-complex ns types docs c =
+abbrev pub complex : ComponentNumbers → (Name → Option GlobalAttribute) → List Document → ComplexDefinition → ComplexDef
+complex ns globals docs c =
     record {
       name = c.name;
-      uses = uses ns types c;
+      uses = uses ns globals c;
       content = content_of ns (number_of_declaration ns docs c.place.file) c.body.content;
     }
 
 abbrev pub complexes : ComponentNumbers → List Document → Lists → List ComplexDef
-complexes ns docs ls = map (complex ns (type_of_attribute (attributes ns ls.attributes)) docs) ls.complexes
+complexes ns docs ls = map (complex ns (named_attribute (attributes ns ls.attributes)) docs) ls.complexes
 
 -- ---- simple types
 
@@ -183,6 +218,28 @@ space_of_builtin which = record { name = None; space = builtin_space which }
 abbrev pub simples : List SimpleDefinition → List Space → List Builtin → List NamedSpace
 simples ds spaces used = map space_of_made (in_order made_before (made_types ds spaces)) ++ map space_of_builtin used
 
+-- ---- value constraints in canonical spelling (section 3.2.6)
+
+abbrev pub space_at : List NamedSpace → ℕ → Option Space
+space_at ts n = option_map (λ (t : NamedSpace). t.space) (slice_get ts n)
+
+-- where the type doesn't accept the text, which is a fault, there is none here
+abbrev pub or_free : Option Standard → Standard
+or_free None = Free
+or_free (Some standard) = standard
+
+abbrev pub spelled_standard : List NamedSpace → ℕ → Standard → Standard
+spelled_standard ts n standard = or_free (in_spelling (space_at ts n) standard)
+
+abbrev pub spelled_attribute : List NamedSpace → GlobalAttribute → GlobalAttribute
+spelled_attribute ts g = record { name = g.name; simple = g.simple; standard = spelled_standard ts g.simple g.standard }
+
+abbrev pub spelled_use : List NamedSpace → AttributeUse → AttributeUse
+spelled_use ts u = record { name = u.name; simple = u.simple; required = u.required; standard = spelled_standard ts u.simple u.standard }
+
+abbrev pub spelled_complex : List NamedSpace → ComplexDef → ComplexDef
+spelled_complex ts c = record { name = c.name; uses = map (spelled_use ts) c.uses; content = c.content }
+
 -- ---- the whole set
 
 abbrev pub set_with : List Document → Lists → ComponentNumbers → List Space → SetParts
@@ -191,8 +248,8 @@ set_with docs ls ns spaces =
       elements = elements ns ls;
       globals = length ls.globals;
       simples = simples (simple_types docs) spaces (used_builtins ls);
-      complexes = complexes ns docs ls;
-      attributes = attributes ns ls.attributes;
+      complexes = map (spelled_complex (simples (simple_types docs) spaces (used_builtins ls))) (complexes ns docs ls);
+      attributes = map (spelled_attribute (simples (simple_types docs) spaces (used_builtins ls))) (attributes ns ls.attributes);
     }
 
 -- the set of documents whose simple types, by their numbers in `simple_types`, have these spaces

@@ -1,27 +1,29 @@
 //! Complex types with the numbers of what they name.
-ghost use Rattle.std.specs.Prelude.{◌≡◌, Some, map, IfOk, IfSome};
+ghost use Rattle.std.specs.Prelude.{◌≡◌, Some, map, IfOk, IfSome, if◌then◌else◌};
 ghost use Rattle.std.specs.List.{All};
 ghost use Rattle.std.specs.Option.{option_map};
 ghost use Rattle.label_tree.specs.Rose.{label_of, Allowed};
 ghost use Rattle.content_models.specs.Kids.{MayHave};
+ghost use Rattle.simple_types.specs.declared.standards.Standard.TheVariants.{Free};
 ghost use Rattle.schema_parts.specs.Components.{model_of};
 ghost use Rattle.schema_parts.specs.Documents.{doc_of};
 ghost use Rattle.schema_parts.specs.Seen.{base_of, use_of, uses_in};
-ghost use Rattle.link_cycles.specs.Tables.{named_in};
 ghost use Rattle.link_complex.specs.Seen.{definition_of, definitions_of};
 ghost use Rattle.link_set.specs.Ordered.{in_order};
 ghost use Rattle.link_set.specs.Parts.{HasWholeModel};
 ghost use Rattle.link_set.specs.Sets as told;
-ghost use Rattle.link_set.specs.Private.Told.{told_by};
+ghost use Rattle.link_set.specs.Private.Told.{found_in, told_by};
 
-use crate::references::{number_named, or_zero};
+use crate::elements::AttributeNames;
 use crate::tables::ComponentNumbers;
 use content_models::{Particle, ParticleKind, ParticleLabel};
 use label_tree::{Tree, Whole};
 use link_complex::ComplexType;
-use schema_parts::{AttributeUse, ComplexDef, Content, RawBase, RawContent, RawDoc, RawUse, Uses};
+use schema_parts::{
+    AttributeUse, ComplexDef, Content, GlobalAttribute, RawBase, RawContent, RawDoc, RawUse, Uses,
+};
+use simple_types::Standard;
 use std::alloc::Global;
-use std::collections::BTreeMap;
 use xa_base::{Memory, Name};
 
 fn uses_by_name(mut uses: Vec<AttributeUse>) -> Result<Vec<AttributeUse>, Memory>
@@ -44,6 +46,79 @@ pub(crate) fn name_copy(alloc: Global, name: Option<&Name>) -> Result<Option<Nam
     }
 }
 
+fn simple_of(found: Option<&GlobalAttribute>) -> u32
+    ensures { result ≡ told.simple_of_found (option_map (λ g. g.now) found.entry) }
+{
+    match found {
+        Some(attribute) => attribute.simple,
+        None => 0,
+    }
+}
+
+fn standard_of(alloc: Global, found: Option<&GlobalAttribute>) -> Result<Standard, Memory>
+    ensures { IfOk result (λ standard. standard ≡ told.standard_of_found (option_map (λ g. g.now) found.entry)) }
+{
+    match found {
+        Some(attribute) => attribute.standard.copy(alloc),
+        None => Ok(Standard::Free),
+    }
+}
+
+fn named_standard<'a>(
+    alloc: Global,
+    globals: &AttributeNames<'a, '_>,
+    attribute: &'a RawUse,
+) -> Result<Standard, Memory>
+    ensures { IfOk result (λ standard. standard ≡ (if (use_of attribute.now).reference then told.standard_of_found (found_in globals.now attribute.now.name) else Free)) }
+{
+    if !attribute.reference {
+        return Ok(Standard::Free);
+    }
+    standard_of(alloc, globals.first(&attribute.name))
+}
+
+// Its own, or else that of the attribute that it names.
+fn own_or_named<'a>(
+    alloc: Global,
+    globals: &AttributeNames<'a, '_>,
+    attribute: &'a RawUse,
+) -> Result<Standard, Memory>
+    ensures { IfOk result (λ standard. standard ≡ told.own_or attribute.now.standard
+        (if (use_of attribute.now).reference then told.standard_of_found (found_in globals.now attribute.now.name) else Free)) }
+{
+    match &attribute.standard {
+        Standard::Free => named_standard(alloc, globals, attribute),
+        Standard::Default(_) | Standard::Fixed(_) => attribute.standard.copy(alloc),
+    }
+}
+
+fn unless_required(required: bool, standard: Standard) -> Standard
+    ensures { result ≡ told.unless_required required standard }
+{
+    match standard {
+        Standard::Default(text) => {
+            if required {
+                Standard::Free
+            } else {
+                Standard::Default(text)
+            }
+        }
+        Standard::Free => Standard::Free,
+        Standard::Fixed(text) => Standard::Fixed(text),
+    }
+}
+
+fn standard_of_use<'a>(
+    alloc: Global,
+    globals: &AttributeNames<'a, '_>,
+    attribute: &'a RawUse,
+) -> Result<Standard, Memory>
+    ensures { IfOk result (λ standard. standard ≡ told.standard_of_use (found_in globals.now) (use_of attribute.now)) }
+{
+    let standard = own_or_named(alloc, globals, attribute)?;
+    Ok(unless_required(attribute.required, standard))
+}
+
 impl<'a> ComponentNumbers<'a> {
     fn type_of_use(&self, file: u32, kind: &'a Option<RawBase>) -> u32
         ensures { result ≡ told.type_of_use (told_by self.now) file (option_map base_of kind.now) }
@@ -56,14 +131,14 @@ impl<'a> ComponentNumbers<'a> {
 
     fn simple_of_use(
         &self,
-        types: &BTreeMap<&'a Name, u32>,
+        globals: &AttributeNames<'a, '_>,
         file: u32,
         attribute: &'a RawUse,
     ) -> u32
-        ensures { result ≡ told.simple_of_use (told_by self.now) (named_in types.now) file (use_of attribute.now) }
+        ensures { result ≡ told.simple_of_use (told_by self.now) (found_in globals.now) file (use_of attribute.now) }
     {
         if attribute.reference {
-            return or_zero(number_named(types, &attribute.name));
+            return simple_of(globals.first(&attribute.name));
         }
         self.type_of_use(file, &attribute.kind)
     }
@@ -71,32 +146,34 @@ impl<'a> ComponentNumbers<'a> {
     fn attribute_use(
         &self,
         alloc: Global,
-        types: &BTreeMap<&'a Name, u32>,
+        globals: &AttributeNames<'a, '_>,
         file: u32,
         attribute: &'a RawUse,
     ) -> Result<AttributeUse, Memory>
-        ensures { IfOk result (λ made. made ≡ told.attribute_use (told_by self.now) (named_in types.now) file (use_of attribute.now)) }
+        ensures { IfOk result (λ made. made ≡ told.attribute_use (told_by self.now) (found_in globals.now) file (use_of attribute.now)) }
     {
         let name = attribute.name.copy(alloc)?;
+        let standard = standard_of_use(alloc, globals, attribute)?;
         Ok(AttributeUse {
             name,
-            simple: self.simple_of_use(types, file, attribute),
+            simple: self.simple_of_use(globals, file, attribute),
             required: attribute.required,
+            standard,
         })
     }
 
     fn attribute_uses(
         &self,
         alloc: Global,
-        types: &BTreeMap<&'a Name, u32>,
+        globals: &AttributeNames<'a, '_>,
         file: u32,
         attributes: &'a [RawUse],
     ) -> Result<Vec<AttributeUse>, Memory>
-        ensures { IfOk result (λ made. made.items ≡ map (told.attribute_use (told_by self.now) (named_in types.now) file) (uses_in attributes.now)) }
+        ensures { IfOk result (λ made. made.items ≡ map (told.attribute_use (told_by self.now) (found_in globals.now) file) (uses_in attributes.now)) }
     {
         let mut made = Vec::new(alloc);
         'uses: for attribute in attributes {
-            let one = self.attribute_use(alloc, types, file, attribute)?;
+            let one = self.attribute_use(alloc, globals, file, attribute)?;
             made.push(one)?;
         }
         Ok(made)
@@ -105,13 +182,13 @@ impl<'a> ComponentNumbers<'a> {
     fn uses(
         &self,
         alloc: Global,
-        types: &BTreeMap<&'a Name, u32>,
+        globals: &AttributeNames<'a, '_>,
         complex: ComplexType<'a>,
     ) -> Result<Uses, Memory>
-        ensures { IfOk result (λ made. made ≡ told.uses (told_by self.now) (named_in types.now) (definition_of complex.entry)) }
+        ensures { IfOk result (λ made. made ≡ told.uses (told_by self.now) (found_in globals.now) (definition_of complex.entry)) }
     {
         let file = complex.place.file;
-        let made = self.attribute_uses(alloc, types, file, complex.body.uses.items())?;
+        let made = self.attribute_uses(alloc, globals, file, complex.body.uses.items())?;
         let sorted = uses_by_name(made)?;
         Ok(Uses::of(sorted))
     }
@@ -217,15 +294,15 @@ impl<'a> ComponentNumbers<'a> {
     fn complex(
         &self,
         alloc: Global,
-        types: &BTreeMap<&'a Name, u32>,
+        globals: &AttributeNames<'a, '_>,
         docs: &'a [RawDoc],
         complex: ComplexType<'a>,
     ) -> Result<ComplexDef, Memory>
-        ensures numbered { IfOk result (λ made. made ≡ told.complex (told_by self.now) (named_in types.now) (map doc_of docs.now) (definition_of complex.entry)) }
+        ensures numbered { IfOk result (λ made. made ≡ told.complex (told_by self.now) (found_in globals.now) (map doc_of docs.now) (definition_of complex.entry)) }
         ensures whole { IfOk result HasWholeModel }
     {
         let name = name_copy(alloc, complex.name)?;
-        let uses = self.uses(alloc, types, complex)?;
+        let uses = self.uses(alloc, globals, complex)?;
         let content = self.content(alloc, docs, complex.place.file, &complex.body.content)?;
         Ok(ComplexDef {
             name,
@@ -234,20 +311,20 @@ impl<'a> ComponentNumbers<'a> {
         })
     }
 
-    /// The complex types, where the global attributes have these types.
+    /// The complex types, where the global attributes are these, with the texts of default and fixed values as written.
     pub(crate) fn complexes(
         &self,
         alloc: Global,
-        types: &BTreeMap<&'a Name, u32>,
+        globals: &AttributeNames<'a, '_>,
         docs: &'a [RawDoc],
         complexes: &[ComplexType<'a>],
     ) -> Result<Vec<ComplexDef>, Memory>
-        ensures numbered { IfOk result (λ made. made.items ≡ map (told.complex (told_by self.now) (named_in types.now) (map doc_of docs.now)) (definitions_of complexes.now)) }
+        ensures numbered { IfOk result (λ made. made.items ≡ map (told.complex (told_by self.now) (found_in globals.now) (map doc_of docs.now)) (definitions_of complexes.now)) }
         ensures whole { IfOk result (λ made. All HasWholeModel made.items) }
     {
         let mut made = Vec::new(alloc);
         'complexes: for complex in complexes {
-            let one = self.complex(alloc, types, docs, *complex)?;
+            let one = self.complex(alloc, globals, docs, *complex)?;
             made.push(one)?;
         }
         Ok(made)

@@ -1,13 +1,14 @@
 //! Element and attribute declarations with the numbers of their types.
-ghost use Rattle.std.specs.Prelude.{◌≡◌, ◌++◌, map, IfOk, OnOk};
+ghost use Rattle.std.specs.Prelude.{◌≡◌, ◌++◌, Some, cond, map, IfOk, OnOk};
+ghost use Rattle.std.specs.Option.{option_map};
 ghost use Rattle.xa_base.specs.declared.texts.Name.{Name as NameOf};
-ghost use Rattle.link_cycles.specs.Tables.{named_in};
+ghost use Rattle.xa_base.specs.Names.{name_eq};
+ghost use Rattle.schema_parts.specs.declared.components.GlobalAttribute.{GlobalAttribute as GlobalAttributeOf};
 ghost use Rattle.link_set.specs.Private.Seen.{written_of, elements_of, told_attribute, attributes_of};
 ghost use Rattle.link_set.specs.Sets as told;
-ghost use Rattle.link_set.specs.Private.Told.{listed_by, told_by};
+ghost use Rattle.link_set.specs.Private.Told.{attribute_in, found_in, listed_by, told_by};
 
 use crate::listing::Listed;
-use crate::numbers::put_name;
 use crate::tables::ComponentNumbers;
 use crate::written::{WrittenAttribute, WrittenElement};
 use schema_parts::{ElementDecl, GlobalAttribute};
@@ -64,13 +65,15 @@ impl<'a> ComponentNumbers<'a> {
         ensures { IfOk result (λ declaration. declaration ≡ told.attribute (told_by self.now) (told_attribute written.entry)) }
     {
         let name = written.attribute.name.copy(alloc)?;
+        let standard = written.attribute.standard.copy(alloc)?;
         Ok(GlobalAttribute {
             name,
             simple: self.simple_of_base(written.file, &written.attribute.kind),
+            standard,
         })
     }
 
-    /// The global attributes.
+    /// The global attributes, with the texts of their default and fixed values as written.
     pub(crate) fn attributes(
         &self,
         alloc: Global,
@@ -85,23 +88,53 @@ impl<'a> ComponentNumbers<'a> {
         }
         Ok(made)
     }
+}
 
-    /// The types of the global attributes by their names: of each name, that of the first.
-    pub(crate) fn attribute_types(
-        &self,
+/// Global attributes by their names: of each name, the first.
+#[derive(Drop)]
+pub(crate) struct AttributeNames<'a, 'm> {
+    named: BTreeMap<&'a Name, &'m GlobalAttribute>,
+}
+
+fn put_attribute<'a, 'm>(
+    table: &mut BTreeMap<&'a Name, &'m GlobalAttribute>,
+    name: &'a Name,
+    attribute: &'m GlobalAttribute,
+) -> Result<(), Memory>
+    ensures { OnOk result ((a : NameOf) → attribute_in table.new a ≡ cond (name_eq name.now a) (Some attribute.now) (attribute_in table.old a)) }
+{
+    table.insert(name, attribute)?;
+    Ok(())
+}
+
+impl<'a, 'm> AttributeNames<'a, 'm> {
+    /// Of these, which were made of those that were written. The last is put first, so that each name has the first that has
+    /// it.
+    pub(crate) fn of(
         alloc: Global,
-        attributes: &[WrittenAttribute<'a>],
-    ) -> Result<BTreeMap<&'a Name, u32>, Memory>
-        ensures { IfOk result (λ table. (a : NameOf) → named_in table a ≡ told.type_of_attribute (told.attributes (told_by self.now) (attributes_of attributes.now)) a) }
+        written: &[WrittenAttribute<'a>],
+        attributes: &'m [GlobalAttribute],
+    ) -> Result<AttributeNames<'a, 'm>, Memory>
+        requires { map (λ (g : GlobalAttributeOf). g.name) attributes.now ≡ map told.written_name (attributes_of written.now) }
+        ensures { IfOk result (λ names. found_in names ≡ told.named_attribute attributes.now) }
     {
-        let mut table = BTreeMap::new(alloc);
+        let mut named = BTreeMap::new(alloc);
         let mut i = attributes.len();
         'last_first: while i > 0 {
             i -= 1;
-            let written = attributes[i];
-            let simple = self.simple_of_base(written.file, &written.attribute.kind);
-            put_name(&mut table, Some(&written.attribute.name), simple)?;
+            let one = written[i];
+            put_attribute(&mut named, &one.attribute.name, &attributes[i])?;
         }
-        Ok(table)
+        Ok(AttributeNames { named })
+    }
+
+    /// The first of this name.
+    pub(crate) fn first(&self, name: &'a Name) -> Option<&'m GlobalAttribute>
+        ensures { option_map (λ g. g.now) result ≡ found_in self.now name.now }
+    {
+        match self.named.get(&name) {
+            Some(found) => Some(*found),
+            None => None,
+        }
     }
 }

@@ -12,6 +12,7 @@ mod ordering;
 mod parts;
 mod references;
 mod simples;
+mod spelling;
 mod tables;
 mod written;
 

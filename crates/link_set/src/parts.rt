@@ -2,8 +2,10 @@
 ghost use Rattle.std.specs.Prelude.{◌≡◌, length, map, IfOk};
 ghost use Rattle.std.specs.List.{All};
 ghost use Rattle.simple_types.specs.Seen.{space_of};
+ghost use Rattle.simple_types.specs.Sound.{Sound};
+ghost use Rattle.schema_parts.specs.declared.components.SimpleDef.{SimpleDef as SimpleDefOf};
 ghost use Rattle.schema_parts.specs.Documents.{doc_of};
-ghost use Rattle.link_cycles.specs.SimpleTypes.{simple_types};
+ghost use Rattle.link_simple.specs.Answering.{AreSound};
 ghost use Rattle.link_set.specs.Builtins as builtins_told;
 ghost use Rattle.link_set.specs.Few.{AreFew};
 ghost use Rattle.link_set.specs.Sets as told;
@@ -12,8 +14,10 @@ ghost use Rattle.link_set.specs.Parts.{parts_made, HasWholeModel};
 ghost use Rattle.link_set.specs.Written.{lists_of};
 
 use crate::builtins::used_builtins;
+use crate::elements::AttributeNames;
 use crate::listing::Listed;
 use crate::simples::simples;
+use crate::spelling::{spelled_attributes, spelled_complexes};
 use crate::tables::{ComponentNumbers, count};
 use schema_parts::{ComplexDef, ElementDecl, GlobalAttribute, RawDoc, SimpleDef};
 use simple_types::{Builtin, Simple};
@@ -30,70 +34,79 @@ pub struct SetParts {
     pub attributes: Vec<GlobalAttribute>,
 }
 
+/// The components of a set but for its simple types, with the texts of default and fixed values as written.
+#[derive(Drop)]
+struct Declarations {
+    elements: Vec<ElementDecl>,
+    globals: u32,
+    complexes: Vec<ComplexDef>,
+    attributes: Vec<GlobalAttribute>,
+}
+
+// The complex types, where these are the global attributes.
 fn complexes<'a>(
     alloc: Global,
     docs: &'a [RawDoc],
     listed: &Listed<'a>,
     numbers: &ComponentNumbers<'a>,
+    attributes: &[GlobalAttribute],
 ) -> Result<Vec<ComplexDef>, Memory>
-    ensures numbered { IfOk result (λ complexes. complexes.items ≡ told.complexes (told_by numbers.now) (map doc_of docs.now) (listed_by listed.now)) }
-    ensures whole { IfOk result (λ complexes. All HasWholeModel complexes.items) }
+    requires { attributes.now ≡ told.attributes (told_by numbers.now) (listed_by listed.now).attributes }
+    ensures numbered { IfOk result (λ made. made.items ≡ told.complexes (told_by numbers.now) (map doc_of docs.now) (listed_by listed.now)) }
+    ensures whole { IfOk result (λ made. All HasWholeModel made.items) }
 {
-    let types = numbers.attribute_types(alloc, &listed.attributes)?;
-    let complexes = numbers.complexes(alloc, &types, docs, &listed.types.complexes)?;
-    Ok(complexes)
-}
-
-/// The elements and the global attributes of a set.
-#[derive(Drop)]
-struct Declarations {
-    elements: Vec<ElementDecl>,
-    globals: u32,
-    attributes: Vec<GlobalAttribute>,
+    let names = AttributeNames::of(alloc, &listed.attributes, attributes)?;
+    numbers.complexes(alloc, &names, docs, &listed.types.complexes)
 }
 
 fn declared<'a>(
     alloc: Global,
+    docs: &'a [RawDoc],
     listed: &Listed<'a>,
     numbers: &ComponentNumbers<'a>,
 ) -> Result<Declarations, Memory>
     requires { AreFew (listed_by listed.now) }
-    ensures { IfOk result (λ made. (made.elements.items ≡ told.elements (told_by numbers.now) (listed_by listed.now))
+    ensures numbered { IfOk result (λ made. (made.elements.items ≡ told.elements (told_by numbers.now) (listed_by listed.now))
         × (made.globals ≡ length (listed_by listed.now).globals)
+        × (made.complexes.items ≡ told.complexes (told_by numbers.now) (map doc_of docs.now) (listed_by listed.now))
         × (made.attributes.items ≡ told.attributes (told_by numbers.now) (listed_by listed.now).attributes)) }
+    ensures whole { IfOk result (λ made. All HasWholeModel made.complexes.items) }
 {
     let globals = count(listed.elements.globals.len());
     let elements = numbers.elements(alloc, listed)?;
     let attributes = numbers.attributes(alloc, &listed.attributes)?;
+    let complexes = complexes(alloc, docs, listed, numbers, &attributes)?;
     Ok(Declarations {
         elements,
         globals,
+        complexes,
         attributes,
     })
 }
 
-/// The types of a set.
-#[derive(Drop)]
-struct Types {
-    simples: Vec<SimpleDef>,
-    complexes: Vec<ComplexDef>,
-}
-
-fn typed<'a>(
+// The set of these components, with default and fixed values in canonical spelling.
+fn spelled(
     alloc: Global,
-    docs: &'a [RawDoc],
-    listed: &Listed<'a>,
-    numbers: &ComponentNumbers<'a>,
-    spaces: Vec<Simple>,
-    used: &[Builtin],
-) -> Result<Types, Memory>
-    ensures { IfOk result (λ made. (told.named_spaces made.simples.items ≡ told.simples (simple_types (map doc_of docs.now)) (map space_of spaces.items) used.now)
-        × (made.complexes.items ≡ told.complexes (told_by numbers.now) (map doc_of docs.now) (listed_by listed.now))
-        × All HasWholeModel made.complexes.items) }
+    simples: Vec<SimpleDef>,
+    declarations: Declarations,
+) -> Result<SetParts, Memory>
+    requires sound { All (λ (t : SimpleDefOf). Sound (space_of t.space)) simples.items }
+    requires whole { All HasWholeModel declarations.complexes.items }
+    ensures spelled { IfOk result (λ made. (made.elements ≡ declarations.elements) × (made.globals ≡ declarations.globals)
+        × (made.simples ≡ simples)
+        × (made.complexes.items ≡ map (told.spelled_complex (told.named_spaces simples.items)) declarations.complexes.items)
+        × (made.attributes.items ≡ map (told.spelled_attribute (told.named_spaces simples.items)) declarations.attributes.items)) }
+    ensures whole { IfOk result (λ made. All HasWholeModel made.complexes.items) }
 {
-    let simples = simples(alloc, docs, spaces, used)?;
-    let complexes = complexes(alloc, docs, listed, numbers)?;
-    Ok(Types { simples, complexes })
+    let attributes = spelled_attributes(alloc, &simples, declarations.attributes)?;
+    let complexes = spelled_complexes(alloc, &simples, declarations.complexes)?;
+    Ok(SetParts {
+        elements: declarations.elements,
+        globals: declarations.globals,
+        simples,
+        complexes,
+        attributes,
+    })
 }
 
 fn parts_with<'a>(
@@ -106,24 +119,20 @@ fn parts_with<'a>(
 ) -> Result<SetParts, Memory>
     requires used { used.now ≡ builtins_told.used_builtins (listed_by listed.now) }
     requires few { AreFew (listed_by listed.now) }
+    requires sound { AreSound spaces.items }
     ensures numbered { IfOk result (λ made. parts_made made ≡ told.set_with (map doc_of docs.now) (listed_by listed.now) (told_by numbers.now) (map space_of spaces.items)) }
     ensures whole { IfOk result (λ made. All HasWholeModel made.complexes.items) }
 {
-    let declarations = declared(alloc, listed, numbers)?;
-    let types = typed(alloc, docs, listed, numbers, spaces, used)?;
-    Ok(SetParts {
-        elements: declarations.elements,
-        globals: declarations.globals,
-        simples: types.simples,
-        complexes: types.complexes,
-        attributes: declarations.attributes,
-    })
+    let declarations = declared(alloc, docs, listed, numbers)?;
+    let simples = simples(alloc, docs, spaces, used)?;
+    spelled(alloc, simples, declarations)
 }
 
 /// The parts of the set of the documents, of which there are few, and whose simple types have these spaces in the order of
 /// `link_cycles::simple_types`. The time grows as n log n with the number of components.
 pub fn set_parts(alloc: Global, docs: &[RawDoc], spaces: Vec<Simple>) -> Result<SetParts, Memory>
-    requires { AreFew (lists_of (map doc_of docs.now)) }
+    requires few { AreFew (lists_of (map doc_of docs.now)) }
+    requires sound { AreSound spaces.items }
     ensures set { IfOk result (λ made. parts_made made ≡ told.set_of (map doc_of docs.now) (map space_of spaces.items)) }
     ensures whole { IfOk result (λ made. All HasWholeModel made.complexes.items) }
 {

@@ -1,18 +1,21 @@
 -- Types that are lent, and lists of parts.
-use Rattle.std.proofs.Common.{◌≡◌, ℕ, zero, suc, ◌+◌, ◌<◌, ◌≤◌, arith, List, [], ◌∷◌, ◌++◌, length, drop, get_or, refl, sym, ap, ◌∙◌, Option, Some, None}
-use Rattle.std.specs.Prelude.{IsSome}
+use Rattle.std.proofs.Common.{◌≡◌, ℕ, zero, suc, ◌+◌, ◌<◌, ◌≤◌, arith, List, [], ◌∷◌, ◌++◌, length, drop, get_or, refl, sym, ap, ◌∙◌, Option, Some, None, Result, Ok, Err}
+use Rattle.std.specs.Prelude.{IsSome, IfOk}
 use Rattle.std.specs.Option.{option_map}
 use Rattle.std.specs.Borrow.{Bor}
 use Rattle.simple_types.specs.declared.simples.Simple.{Simple}
 use Rattle.simple_types.specs.Seen.{space_of}
 use Rattle.simple_types.specs.Sound.{Sound}
-use Rattle.simple_types.specs.Space.{Spaces, none, more}
+use Rattle.simple_types.specs.Space.{Space, Spaces, none, more}
 use Rattle.simple_types.specs.Joining.{joined}
 use Rattle.simple_types.proofs.Copies.{joined-none}
 use Rattle.facet_rules.specs.Making.{AreEachSound, lent_spaces}
 use Rattle.facet_rules.proofs.Counting.{cut, lent_more}
+use Rattle.schema_parts.specs.Raw.{Base}
+use Rattle.link_cycles.specs.Cycles as cycles
 use Rattle.link_simple.specs.declared.parts.Part.{Part}
-use Rattle.link_simple.specs.Making.{entry_at, with_space}
+use Rattle.link_simple.specs.Answering.{made_of}
+use Rattle.link_simple.specs.Making.{entry_at, part_space, with_space}
 use Rattle.link_simple.specs.Private.Parts.{entries_of, seen, seen_all, with_front}
 
 pub entry_read : (entries : List (Option Simple)) (n : ℕ) (o : Option Simple) → n < length entries → o ≡ get_or entries n o → entry_at (entries_of entries) n ≡ option_map space_of o
@@ -24,6 +27,17 @@ pub entry_past : (entries : List (Option Simple)) (n : ℕ) → length entries �
 entry_past [] n le = refl
 entry_past (e ∷ es) zero le = absurd (omega (arith, le))
 entry_past (e ∷ es) (suc n) le = entry_past es n (omega (arith, le))
+
+-- where all types are made
+pub made_read : (simples : List Simple) (n : ℕ) (s : Simple) → n < length simples → s ≡ get_or simples n s → entry_at (made_of simples) n ≡ Some (space_of s)
+made_read [] n s lt is = absurd (omega (arith, lt))
+made_read (x ∷ xs) zero s lt is = ap (λ y. Some (space_of y)) (sym is)
+made_read (x ∷ xs) (suc n) s lt is = made_read xs n s (omega (arith, lt)) is
+
+pub made_past : (simples : List Simple) (n : ℕ) → length simples ≤ n → entry_at (made_of simples) n ≡ None
+made_past [] n le = refl
+made_past (x ∷ xs) zero le = absurd (omega (arith, le))
+made_past (x ∷ xs) (suc n) le = made_past xs n (omega (arith, le))
 
 pub is_entry : (o : Option Simple) → IsSome (option_map space_of o) → IsSome o
 is_entry None is = is
@@ -56,3 +70,9 @@ part_lent lent lent_now b ps i p lt is same pushed so_far =
     ap (λ ls. joined (lent_spaces ls) rest) pushed ∙ sym (lent_more lent b rest) ∙ ap (λ s. joined (lent_spaces lent) (more s rest)) same
     ∙ sym (ap (λ qs. joined (lent_spaces lent) (seen_all qs)) (cut ps i p lt is))
     ∙ so_far
+
+-- a type that is named is this one in each file
+pub named_space : {E : Type 0} (ns : cycles.SimpleNumbers) (made : List (Option Space)) (file : ℕ) (b c : Base) (r : Result (Option Part) E)
+    → IfOk r (λ found. (k : ℕ) → option_map seen found ≡ part_space ns made k c) → b ≡ c → IfOk r (λ found. option_map seen found ≡ part_space ns made file b)
+named_space ns made file b c (Ok found) h is = h file ∙ sym (ap (part_space ns made file) is)
+named_space ns made file b c (Err e) h is = tt

@@ -239,7 +239,7 @@ module _
 
 -- all
 
-such_same : (P Q : LinkingFault → Type 0) → ((f : LinkingFault) → P f → Q f) → ((f : LinkingFault) → Q f → P f) → (found : Option LinkingFault) → IsFirstSuch P found → IsFirstSuch Q found
+pub such_same : (P Q : LinkingFault → Type 0) → ((f : LinkingFault) → P f → Q f) → ((f : LinkingFault) → Q f → P f) → (found : Option LinkingFault) → IsFirstSuch P found → IsFirstSuch Q found
 such_same P Q to from None h = λ f q. h f (from f q)
 such_same P Q to from (Some f) h = (to f h.0, λ g q. h.1 g (from g q))
 

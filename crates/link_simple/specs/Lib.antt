@@ -1,3 +1,4 @@
 pub mod Answering
 pub mod Making
 pub mod Private
+pub mod Seen

@@ -13,3 +13,4 @@ mod working;
 
 pub use laws::{one_making, one_restriction};
 pub use making::{MakingError, made};
+pub use parts::{Part, made_type};

@@ -7,8 +7,10 @@ ghost use Rattle.simple_types.specs.Seen.{space_of};
 ghost use Rattle.simple_types.specs.Sound.{Sound};
 ghost use Rattle.facet_rules.specs.Making.{AreEachSound};
 ghost use Rattle.link_cycles.specs.Tables.{told_by};
+ghost use Rattle.link_simple.specs.Answering.{made_of, AreSound};
 ghost use Rattle.link_simple.specs.Making.{space_at, part_space, part_spaces};
-ghost use Rattle.link_simple.specs.Private.Parts.{entries_of, AreEntriesSound, seen, seen_all};
+ghost use Rattle.link_simple.specs.Seen.{seen};
+ghost use Rattle.link_simple.specs.Private.Parts.{entries_of, AreEntriesSound, seen_all};
 
 use link_cycles::SimpleNumbers;
 use schema_parts::{RawBase, RawRef};
@@ -18,13 +20,14 @@ use xa_base::Memory;
 
 /// A part: a built-in type, or one that was made before.
 #[derive(Drop)]
-pub(crate) enum Part<'m> {
+pub enum Part<'m> {
     Own(Simple),
     Lent(&'m Simple),
 }
 
 impl<'m> Part<'m> {
-    pub(crate) fn simple(&self) -> &Simple
+    /// Its simple type.
+    pub fn simple(&self) -> &Simple
         ensures { space_of result.now ≡ seen self.now }
     {
         match self {
@@ -118,4 +121,54 @@ pub(crate) fn parts_of<'m, 'a>(
         }
     }
     Ok(Some(found))
+}
+
+fn made_at<'m>(simples: &'m [Simple], number: Option<usize>) -> Option<Part<'m>>
+    requires { AreSound simples.now }
+    ensures space { option_map seen result ≡ space_at (made_of simples.now) number }
+    ensures sound { IfSome result (λ p. Sound (seen p)) }
+{
+    let n = number?;
+    if n >= simples.len() {
+        return None;
+    }
+    Some(Part::Lent(&simples[n]))
+}
+
+fn named_type<'m, 'a>(
+    alloc: Global,
+    numbers: &SimpleNumbers<'a>,
+    simples: &'m [Simple],
+    reference: &'a RawRef,
+) -> Result<Option<Part<'m>>, Memory>
+    requires { AreSound simples.now }
+    ensures space { IfOk result (λ found. (file : ℕ) → option_map seen found ≡ part_space (told_by numbers.now) (made_of simples.now) file (Named reference.now)) }
+    ensures sound { IfOk result (λ found. IfSome found (λ p. Sound (seen p))) }
+{
+    match reference {
+        RawRef::Builtin(which) => {
+            let simple = builtin(alloc, *which)?;
+            Ok(Some(Part::Own(simple)))
+        }
+        RawRef::Other(name) => Ok(made_at(simples, numbers.number_of(name))),
+    }
+}
+
+/// The simple type that a component has, named or written in place, where all simple types are made: `simples` has them in
+/// the order of `link_cycles::simple_types`. `None` where the name is that of no simple type.
+pub fn made_type<'m, 'a>(
+    alloc: Global,
+    numbers: &SimpleNumbers<'a>,
+    simples: &'m [Simple],
+    file: u32,
+    base: &'a RawBase,
+) -> Result<Option<Part<'m>>, Memory>
+    requires { AreSound simples.now }
+    ensures space { IfOk result (λ found. option_map seen found ≡ part_space (told_by numbers.now) (made_of simples.now) file (base_of base.now)) }
+    ensures sound { IfOk result (λ found. IfSome found (λ p. Sound (seen p))) }
+{
+    match base {
+        RawBase::Named(reference) => named_type(alloc, numbers, simples, reference),
+        RawBase::Inner(body) => Ok(made_at(simples, numbers.number_at(file, body.at))),
+    }
 }

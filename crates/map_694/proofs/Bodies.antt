@@ -1,11 +1,14 @@
 -- The plans of complex types and declarations, and so of all that has an assignment.
-use Rattle.std.proofs.Common.{◌≡◌, ℕ, zero, suc, ◌+◌, ◌<◌, ◌≤◌, Bool, true, false, ◌&&◌, not, cond, Option, Some, None, List, [], ◌∷◌, length, inl, inr, refl, ap, ◌∙◌, arith}
-use Rattle.std.specs.Prelude.{if◌then◌else◌, slice_get, nat_lt, nat_eq, option_and_then}
+use Rattle.std.proofs.Common.{◌≡◌, ℕ, zero, suc, ◌+◌, ◌<◌, ◌≤◌, Bool, true, false, ◌&&◌, not, cond, Option, Some, None, List, [], ◌∷◌, length, All, inl, inr, refl, ap, subst, ◌∙◌, arith}
+use Rattle.std.specs.Prelude.{if◌then◌else◌, slice_get, nat_lt, nat_eq, option_and_then, IsSomeAnd}
 use Rattle.std.proofs.lemmas.Bool.Decides.{Decides-ltb, eqb_tells}
+use Rattle.std.proofs.lemmas.List.Elements.{All-head, All-tail}
 use Rattle.std.proofs.lemmas.Map.Keys.{any_passes_from_place}
 use Rattle.xa_base.specs.declared.texts.Name.{Name}
 use Rattle.label_tree.specs.Rose.{Rose}
 use Rattle.asn_types.specs.declared.types.TypeLabel.{TypeLabel}
+use Rattle.simple_types.specs.declared.standards.Standard.{Standard}
+use Rattle.simple_types.specs.declared.standards.Standard.TheVariants.{Free, Default, Fixed}
 use Rattle.simple_types.specs.Space.{Space, Booleans}
 use Rattle.simple_types.specs.Seen.{space_of}
 use Rattle.simple_types.specs.Sound.{Sound}
@@ -20,7 +23,7 @@ use Rattle.schema_parts.specs.declared.components.GlobalAttribute.{GlobalAttribu
 use Rattle.schema_parts.specs.declared.components.Content.{Content}
 use Rattle.schema_parts.specs.declared.components.Content.TheVariants as content_
 use Rattle.schema_parts.specs.Components.{Set}
-use Rattle.schema_parts.specs.Linked.{IsLinked, IsSimpleType, IsComplexType, IsContent}
+use Rattle.schema_parts.specs.Linked.{IsLinked, IsSimpleType, IsSpellingAt, IsStandardAt, MayBeFor, HasStandard, IsComplexType, IsContent}
 use Rattle.map_subjects.specs.declared.subjects.Subject.{Subject}
 use Rattle.map_subjects.specs.declared.subjects.Subject.TheVariants as subject
 use Rattle.map_subjects.specs.Subjects.{is_nillable_of, has_nillable, complex_name}
@@ -29,7 +32,7 @@ use Rattle.map_subjects.proofs.InOrder.{named-element}
 use Rattle.map_assignments.specs.Plans.{Label, attribute, texts, TypePlan, simple, sequence, choice, repeated, reference, Parts, finish, part}
 use Rattle.map_assignments.specs.Planning.{simple_plan, simple_type, attributes, is_mixed, texts_type, with_texts, top, content_parts, content_type, rest_parts, complex_plan, nillable_simple_type, own_type, particle_type, in_place, body}
 use Rattle.map_assignments.specs.Naming.{IsSimpleType as IsTypeOf, IsNamed}
-use Rattle.map_694.proofs.Shapes.{count_parts, EndsOptional, NoElements, HasName, IsSimplePlan, IsPlan, ArePlans, Refers, ReferInAll, depth_of}
+use Rattle.map_694.proofs.Shapes.{count_parts, EndsOptional, NoElements, HasName, IsSpelling, IsSimplePlan, IsSpelled, MayHaveStandard, IsPlan, ArePlans, Refers, ReferInAll, depth_of}
 use Rattle.map_694.proofs.Planned.{never, plain-sequence, seen-nodes, top-refers, top-plans, top-count}
 
 simple-is-plan : (s : Set) (p : TypePlan) → IsSimplePlan s p → IsPlan s p
@@ -170,7 +173,7 @@ ends-part l optional p (part k other q ps) e = e
 ends-attributes : (s : Set) (us : List AttributeUse) (rest : Parts) → EndsOptional rest → EndsOptional (attributes s us rest)
 ends-attributes s [] rest e = e
 ends-attributes s (u ∷ us) rest e =
-    ends-part (attribute u.name) (not u.required) (simple_type s u.simple) (attributes s us rest) (ends-attributes s us rest e)
+    ends-part (attribute u.name u.standard) (not u.required) (simple_type s u.simple) (attributes s us rest) (ends-attributes s us rest e)
 
 attributes-no_elements : (s : Set) (us : List AttributeUse) (rest : Parts) → NoElements rest → NoElements (attributes s us rest)
 attributes-no_elements s [] rest e = e
@@ -196,9 +199,30 @@ module _ (s : Set) (linked : IsLinked s) where
   simple-plan : (n : ℕ) → IsPlan s (simple_type s n)
   simple-plan n = simple-is-plan s (simple_type s n) (simple-plan-is n)
 
-  attributes-plans : (us : List AttributeUse) (rest : Parts) → ArePlans s rest → ArePlans s (attributes s us rest)
-  attributes-plans [] rest g = g
-  attributes-plans (u ∷ us) rest g = (simple-plan u.simple, (λ e. simple-plan-is u.simple), attributes-plans us rest g)
+  spelled-plan : (n : ℕ) (text : List ℕ) → IsSpellingAt s n text → IsSpelled s (simple_type s n) text
+  spelled-plan n text h = by (slice_get s.simples n) h
+    where
+      named : (t : SimpleDef) (o : Option Name) → IsSpelling (space_of t.space) text → IsSpelled s (elim o [ None ↦ simple (space_of t.space) | Some name ↦ reference (subject.Simple n) ]) text
+      named t None k = k
+      named t (Some a) k = h
+
+      by : (o : Option SimpleDef) → IsSomeAnd o (λ (t : SimpleDef). IsSpelling (space_of t.space) text) → IsSpelled s (elim o [ None ↦ simple Booleans | Some t ↦ simple_plan t n ]) text
+      by None k = absurd k
+      by (Some t) k = named t t.name k
+
+  standard-may : (x : Standard) (required : Bool) (n : ℕ) → IsStandardAt s n x → MayBeFor required x → MayHaveStandard s x (not required) (simple_type s n)
+  standard-may Free required n h m = tt
+  standard-may (Default text) required n h m = (ap not m, spelled-plan n text h)
+  standard-may (Fixed text) required n h m = spelled-plan n text h
+
+  attributes-plans : (us : List AttributeUse) (rest : Parts) → All (HasStandard s) us → ArePlans s rest → ArePlans s (attributes s us rest)
+  attributes-plans [] rest has g = g
+  attributes-plans (u ∷ us) rest has g =
+      let here = All-head (HasStandard s) u us has in (
+        simple-plan u.simple,
+        (λ e. (simple-plan-is u.simple, standard-may u.standard u.required u.simple here.0 here.1)),
+        attributes-plans us rest (All-tail (HasStandard s) u us has) g,
+      )
 
   module _ (T : ℕ → TypePlan) (plans : (d : ℕ) → IsPlan s (T d)) where
     content-parts-plans : (c : Content) → IsContent s c → ArePlans s (content_parts T s c)
@@ -256,7 +280,7 @@ module _ (s : Set) (linked : IsLinked s) where
     complex-is-plan nillable c h =
         whole-plan nillable (is_mixed c.content) (attributes s c.uses (rest_parts T s nillable c.content)) (nillable-ends nillable c)
         (omega (arith, attributes-count s c.uses (rest_parts T s nillable c.content), h.few, rest-count nillable c.content h.content))
-        (attributes-plans c.uses (rest_parts T s nillable c.content) (rest-plans nillable c.content h.content))
+        (attributes-plans c.uses (rest_parts T s nillable c.content) h.standards (rest-plans nillable c.content h.content))
 
   nothing-plan : IsPlan s (sequence false false finish)
   nothing-plan = (plain-sequence finish, omega arith, tt)
@@ -357,10 +381,16 @@ module _ (s : Set) (linked : IsLinked s) where
       by None = tt
       by (Some a) = simple-plan-is a.simple
 
-  pub body-simple : (place : Subject → ℕ) (n : ℕ) (u : Rose TypeLabel) → IsNamed place (body s (subject.Simple n)) u → (sp : Space) × Sound sp × IsTypeOf sp u
+  pub body-simple : (place : Subject → ℕ) (n : ℕ) (u : Rose TypeLabel) → IsNamed place (body s (subject.Simple n)) u
+      → (sp : Space) × Sound sp × IsTypeOf sp u × ((text : List ℕ) → IsSpellingAt s n text → IsSpelling sp text)
   body-simple place n u h = by (slice_get s.simples n) refl h
     where
       by : (o : Option SimpleDef) → slice_get s.simples n ≡ o → IsNamed place (elim o [ None ↦ simple Booleans | Some t ↦ simple (space_of t.space) ]) u
-          → (sp : Space) × Sound sp × IsTypeOf sp u
-      by None f k = (Booleans, tt, k)
-      by (Some t) f k = (space_of t.space, (all-at IsSimpleType s.simples n t f linked.simples).1, k)
+          → (sp : Space) × Sound sp × IsTypeOf sp u × ((text : List ℕ) → IsSpellingAt s n text → IsSpelling sp text)
+      by None f k = (Booleans, tt, k, (λ text g. absurd (subst (λ o. IsSomeAnd o (λ (t : SimpleDef). IsSpelling (space_of t.space) text)) f g)))
+      by (Some t) f k = (
+        space_of t.space,
+        (all-at IsSimpleType s.simples n t f linked.simples).1,
+        k,
+        (λ text g. subst (λ o. IsSomeAnd o (λ (d : SimpleDef). IsSpelling (space_of d.space) text)) f g),
+      )

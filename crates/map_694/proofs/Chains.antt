@@ -112,7 +112,7 @@ unfolding converted
 identifier-filled text = begun-filled Identifier (joined (chars text))
 
 element-filled : (l : Label) → is_element_label l ≡ true → is_empty (wanted l) ≡ false
-element-filled (attribute name) e = absurd cc
+element-filled (attribute name standard) e = absurd cc
 element-filled (element name) e = identifier-filled name.local
 element-filled (group k) e = absurd cc
 element-filled (elements name) e = absurd cc

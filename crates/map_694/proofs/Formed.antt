@@ -5,6 +5,7 @@ use Rattle.std.proofs.lemmas.List.{length-map}
 use Rattle.std.proofs.lemmas.Option.{slice_get_within}
 use Rattle.label_tree.specs.Rose.{Rose, node, Roses, label_of}
 use Rattle.label_tree.specs.Rose as rose
+use Rattle.simple_types.specs.declared.standards.Standard.TheVariants.{Free, Default, Fixed}
 use Rattle.simple_types.specs.Space.{Space, Spaces, none, more, Booleans, Wholes, Numbers, Words, Characters, ListOf, UnionOf, count_members}
 use Rattle.simple_types.specs.Sound.{Sound, AreSound, IsCounted}
 use Rattle.asn_types.specs.declared.marks.Instruction.{Instruction}
@@ -15,22 +16,23 @@ use Rattle.asn_types.specs.declared.types.Form.TheVariants as form
 use Rattle.asn_types.specs.declared.types.TypeLabel.{TypeLabel}
 use Rattle.asn_types.specs.declared.modules.Assignment.{Assignment}
 use Rattle.asn_types.specs.Marks.{has_attribute, has_use_nil, has_embed_values, has_use_order, has_list, has_use_union}
-use Rattle.asn_types.specs.Modules.{IsForm, IsAnyText, AreTexts, HasTexts, AttributesAreSimple, HasStandards, IsWellFormed, AreWellFormed, AllWellFormed}
+use Rattle.asn_types.specs.Modules.{IsForm, IsAnyText, AreTexts, HasTexts, AttributesAreSimple, IsSpellingOf, IsStandard, AreStandards, HasStandards, IsWellFormed, AreWellFormed, AllWellFormed}
 use Rattle.asn_types.specs.Parts.{parts_of}
 use Rattle.asn_types.specs.Refs.{target, body_at, resolve, ChainsWithin}
-use Rattle.asn_types.specs.Simples.{IsSimple, white_space_marks}
+use Rattle.asn_types.specs.Simples.{MapsTo, IsSimple, white_space_marks}
 use Rattle.schema_parts.specs.Components.{Set}
+use Rattle.schema_parts.specs.Linked.{IsSpellingAt}
 use Rattle.map_subjects.specs.declared.subjects.Subject.{Subject}
 use Rattle.map_subjects.specs.declared.subjects.Subject.TheVariants as subject
 use Rattle.map_subjects.specs.declared.subjects.NamedSubject.{NamedSubject}
 use Rattle.map_subjects.specs.Subjects.{place_in, AreEntries}
-use Rattle.map_assignments.specs.Plans.{item, TypePlan, simple, sequence, choice, repeated, reference, Parts, finish, part}
+use Rattle.map_assignments.specs.Plans.{Label, attribute, element, group, elements, groups, texts, item, base, content, TypePlan, simple, sequence, choice, repeated, reference, Parts, finish, part}
 use Rattle.map_assignments.specs.Planning.{body, texts_type}
-use Rattle.map_assignments.specs.Naming.{type_label, component_of, list_item, identifier_of, text_marks, part_marks, named_part, repeated_part, wanted, sequence_marks, AreTaken, IsSimpleType, AreMembers, IsNamed, AreNamed}
+use Rattle.map_assignments.specs.Naming.{type_label, component_of, list_item, identifier_of, text_marks, part_standard, part_marks, named_part, repeated_part, wanted, sequence_marks, AreTaken, IsSimpleType, AreMembers, IsNamed, AreNamed}
 use Rattle.map_assignments.specs.Mapped.{AreMapped}
 use Rattle.map_assignments.proofs.Simples.{simple-maps}
-use Rattle.map_694.proofs.Free.{members-free, named-free, free-standards}
-use Rattle.map_694.proofs.Shapes.{count_parts, EndsOptional, BeginsTexts, IsSimplePlan, IsPlan, ArePlans, Refers, depth_of, refers-all}
+use Rattle.map_694.proofs.Free.{label-free, members-free, named-free}
+use Rattle.map_694.proofs.Shapes.{is_attribute_label, count_parts, EndsOptional, BeginsTexts, IsSpelling, IsSimplePlan, IsSpelled, IsAttributePlan, IsPlan, ArePlans, Refers, depth_of, refers-all}
 use Rattle.map_694.proofs.Marked.{AsksNothing, nothing-asked, number-asks, words-ask, space-asks, part-attribute, sequence-no_attribute, sequence-no_order, sequence-no_list, sequence-no_union, sequence-nil, sequence-embeds}
 use Rattle.map_694.proofs.Resolving.{simple-chains, no-target, follow-none, follow-one}
 use Rattle.map_694.proofs.Places.{located, located-within}
@@ -171,21 +173,21 @@ module _ (M : List Assignment) where
 
   -- ---- references to simple types
 
-  pub itself : (s : Space) (t : Rose TypeLabel) → Sound s → IsSimpleType s t → IsSimple (resolve M t)
-  itself s t sound h = subst IsSimple (sym (follow-none M 4 t (no-target M s t h))) (s, sound, simple-maps s t h)
+  pub itself : (s : Space) (t : Rose TypeLabel) → IsSimpleType s t → MapsTo s (resolve M t)
+  itself s t h = subst (MapsTo s) (sym (follow-none M 4 t (no-target M s t h))) (simple-maps s t h)
 
-  pub referred : (k : ℕ) (s : Space) (t u : Rose TypeLabel) → t ≡ node (type_label (form.Ref k) []) rose.none → body_at M k ≡ Some u → Sound s → IsSimpleType s u → IsSimple (resolve M t)
-  referred k s t u is found sound h =
+  pub referred : (k : ℕ) (s : Space) (t u : Rose TypeLabel) → t ≡ node (type_label (form.Ref k) []) rose.none → body_at M k ≡ Some u → IsSimpleType s u → MapsTo s (resolve M t)
+  referred k s t u is found h =
       let leads : target (label_of t).form ≡ Some k = ap (λ (v : Rose TypeLabel). target (label_of v).form) is in
-      subst IsSimple (sym (follow-one M 3 k t u leads found ∙ follow-none M 3 u (no-target M s u h))) (s, sound, simple-maps s u h)
+      subst (MapsTo s) (sym (follow-one M 3 k t u leads found ∙ follow-none M 3 u (no-target M s u h))) (simple-maps s u h)
 
 -- ---- all types of a map
 
 module _ (s : Set) (es : List NamedSubject) (M : List Assignment) (entries : AreEntries s es) (mapped : AreMapped (place_in es) s [] es M)
     (plans : (w : Subject) → IsPlan s (body s w)) (depths : (w : Subject) → Refers (λ v. depth_of v < depth_of w) (body s w))
-    (simples : (n : ℕ) (u : Rose TypeLabel) → IsNamed (place_in es) (body s (subject.Simple n)) u → (sp : Space) × Sound sp × IsSimpleType sp u) where
+    (simples : (n : ℕ) (u : Rose TypeLabel) → IsNamed (place_in es) (body s (subject.Simple n)) u → (sp : Space) × Sound sp × IsSimpleType sp u × ((text : List ℕ) → IsSpellingAt s n text → IsSpelling sp text)) where
   pub simple-part : (p : TypePlan) (t : Rose TypeLabel) → IsSimplePlan s p → IsNamed (place_in es) p t → IsSimple (resolve M t)
-  simple-part (simple sp) t g h = itself M sp t g h
+  simple-part (simple sp) t g h = (sp, g, itself M sp t h)
   simple-part (sequence nillable mixed ps) t g h = absurd g
   simple-part (choice ps) t g h = absurd g
   simple-part (repeated l p least most) t g h = absurd g
@@ -194,9 +196,40 @@ module _ (s : Set) (es : List NamedSubject) (M : List Assignment) (entries : Are
   simple-part (reference (subject.Simple n)) t g h =
       let found = located s es M entries mapped (subject.Simple n) g in
       let is = simples n found.0 found.2 in
-      referred M (place_in es (subject.Simple n)) is.0 t found.0 h found.1 is.1 is.2
+      (is.0, is.1, referred M (place_in es (subject.Simple n)) is.0 t found.0 h found.1 is.2)
   simple-part (reference (subject.Complex n)) t g h = absurd g
   simple-part (reference (subject.Nillable n)) t g h = absurd g
+
+  -- ---- default and fixed values
+
+  spelled-part : (p : TypePlan) (t : Rose TypeLabel) (text : List ℕ) → IsSimplePlan s p → IsSpelled s p text → IsNamed (place_in es) p t → IsSpellingOf M t text
+  spelled-part (simple sp) t text g k h = (sp, k.0, g, itself M sp t h, k.1, k.2)
+  spelled-part (sequence nillable mixed ps) t text g k h = absurd g
+  spelled-part (choice ps) t text g k h = absurd g
+  spelled-part (repeated l p least most) t text g k h = absurd g
+  spelled-part (reference (subject.Element n)) t text g k h = absurd g
+  spelled-part (reference (subject.Attribute n)) t text g k h = absurd g
+  spelled-part (reference (subject.Simple n)) t text g k h =
+      let found = located s es M entries mapped (subject.Simple n) g in
+      let is = simples n found.0 found.2 in
+      let v = is.3 text k in
+      (is.0, v.0, is.1, referred M (place_in es (subject.Simple n)) is.0 t found.0 h found.1 is.2, v.1, v.2)
+  spelled-part (reference (subject.Complex n)) t text g k h = absurd g
+  spelled-part (reference (subject.Nillable n)) t text g k h = absurd g
+
+  standard-is : (k : Label) (optional : Bool) (p : TypePlan) (g : List ℕ) (t : Rose TypeLabel) → (is_attribute_label k ≡ true → IsAttributePlan s (part_standard k) optional p)
+      → IsNamed (place_in es) p t → IsStandard M (named_part k g optional) t
+  standard-is (attribute name Free) optional p g t f h = tt
+  standard-is (attribute name (Default text)) optional p g t f h = let a = f refl in (refl, a.1.0, spelled-part p t text a.0 a.1.1 h)
+  standard-is (attribute name (Fixed text)) optional p g t f h = let a = f refl in (refl, spelled-part p t text a.0 a.1 h)
+  standard-is (element name) optional p g t f h = tt
+  standard-is (group k) optional p g t f h = tt
+  standard-is (elements name) optional p g t f h = tt
+  standard-is (groups k) optional p g t f h = tt
+  standard-is texts optional p g t f h = tt
+  standard-is item optional p g t f h = tt
+  standard-is base optional p g t f h = tt
+  standard-is content optional p g t f h = tt
 
   shallow : (w : Subject) → depth_of w < 4
   shallow (subject.Element n) = omega arith
@@ -226,7 +259,7 @@ module _ (s : Set) (es : List NamedSubject) (M : List Assignment) (entries : Are
             use_union = λ e. never (has_use_union marks) _ (sequence-no_union nillable mixed) e;
             simple = λ e. never (has_list marks || has_use_union marks) _ (ap (λ b. b || has_use_union marks) (sequence-no_list nillable mixed) ∙ sequence-no_union nillable mixed) e;
             attributes = all.1;
-            standards = free-standards M h.0 h.1 (named-free (place_in es) [] ps h.0 h.1 h.3);
+            standards = all.3;
             chains = chains-of (sequence nillable mixed ps) (node l h.1) g (h.0, h.1, refl, h.3);
           },
           all.2,
@@ -235,12 +268,12 @@ module _ (s : Set) (es : List NamedSubject) (M : List Assignment) (entries : Are
         let l = type_label (form.Choice h.0) [] in
         let all = parts-formed [] ps h.0 h.1 g.1 h.3 in
         subst (AreWellFormed M) (sym h.2)
-        (plainly M l h.1 nothing-asked (subst IsCounted (sym all.0) g.0) all.1 (named-free (place_in es) [] ps h.0 h.1 h.3) (chains-of (choice ps) (node l h.1) g (h.0, h.1, refl, h.3)), all.2)
+        (plainly M l h.1 nothing-asked (subst IsCounted (sym all.0) g.0) all.1 (named-free (place_in es) [] ps h.0 h.1 g.2 h.3) (chains-of (choice ps) (node l h.1) g (h.0, h.1, refl, h.3)), all.2)
     named-formed (repeated k p least most) t g h =
         let l = type_label (form.SequenceOf (repeated_part k) least most) [] in
         let ts = rose.more h.0 rose.none in
         subst (AreWellFormed M) (sym h.1) (
-          plainly M l ts nothing-asked g.0 ((λ e. never (has_attribute (part_marks k (wanted k))) _ (part-attribute k (wanted k) ∙ g.1) e), tt) refl
+          plainly M l ts nothing-asked g.0 ((λ e. never (has_attribute (part_marks k (wanted k))) _ (part-attribute k (wanted k) ∙ g.1) e), tt) (label-free k g.1)
               (chains-of (repeated k p least most) (node l ts) g (h.0, refl, h.2)),
           (named-formed p h.0 g.2 h.2, tt),
         )
@@ -250,13 +283,19 @@ module _ (s : Set) (es : List NamedSubject) (M : List Assignment) (entries : Are
         (chains-of (reference w) (node (type_label (form.Ref (place_in es w)) []) rose.none) g refl))
 
     parts-formed : (before : List (List ℕ)) (ps : Parts) (parts : List Component) (ts : Roses TypeLabel) → ArePlans s ps → AreNamed (place_in es) before ps parts ts
-        → (length parts ≡ count_parts ps) × AttributesAreSimple M parts ts × AllWellFormed M ts
-    parts-formed before finish parts ts g h =
-        (ap length h.0, subst (λ cs. AttributesAreSimple M cs ts) (sym h.0) tt, subst (AllWellFormed M) (sym h.1) tt)
+        → (length parts ≡ count_parts ps) × AttributesAreSimple M parts ts × AllWellFormed M ts × AreStandards M parts ts
+    parts-formed before finish parts ts g h = (
+      ap length h.0,
+      subst (λ cs. AttributesAreSimple M cs ts) (sym h.0) tt,
+      subst (AllWellFormed M) (sym h.1) tt,
+      subst (λ cs. AreStandards M cs ts) (sym h.0) tt,
+    )
     parts-formed before (part k optional p ps) parts ts g h =
         let rest = parts-formed (before ++ h.0 ∷ []) ps h.1 h.3 g.2 h.8 in (
           ap length h.5 ∙ ap suc rest.0,
           subst (λ cs. AttributesAreSimple M cs ts) (sym h.5)
-              (subst (AttributesAreSimple M (named_part k h.0 optional ∷ h.1)) (sym h.6) ((λ e. simple-part p h.2 (g.1 (sym (part-attribute k h.0) ∙ e)) h.7), rest.1)),
+              (subst (AttributesAreSimple M (named_part k h.0 optional ∷ h.1)) (sym h.6) ((λ e. simple-part p h.2 (g.1 (sym (part-attribute k h.0) ∙ e)).0 h.7), rest.1)),
           subst (AllWellFormed M) (sym h.6) (named-formed p h.2 g.0 h.7, rest.2),
+          subst (λ cs. AreStandards M cs ts) (sym h.5)
+              (subst (AreStandards M (named_part k h.0 optional ∷ h.1)) (sym h.6) (standard-is k optional p h.0 h.2 g.1 h.7, rest.3)),
         )

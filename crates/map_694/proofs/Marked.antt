@@ -98,7 +98,7 @@ space-asks how = record {
 
 -- parts
 pub part-attribute : (l : Label) (g : List ℕ) → has_attribute (part_marks l g) ≡ is_attribute_label l
-part-attribute (attribute name) g = refl
+part-attribute (attribute name standard) g = refl
 part-attribute (element name) g = qualified-lack is_attribute (λ t. refl) (λ t. refl) g name
 part-attribute (group k) g = refl
 part-attribute (elements name) g = refl
@@ -109,7 +109,7 @@ part-attribute base g = refl
 part-attribute content g = refl
 
 pub element-tagged : (l : Label) (g : List ℕ) → is_element_label l ≡ true → has_untagged (part_marks l g) ≡ false
-element-tagged (attribute name) g e = absurd cc
+element-tagged (attribute name standard) g e = absurd cc
 element-tagged (element name) g e = qualified-lack is_untagged (λ t. refl) (λ t. refl) g name
 element-tagged (group k) g e = absurd cc
 element-tagged (elements name) g e = absurd cc
@@ -120,7 +120,7 @@ element-tagged base g e = absurd cc
 element-tagged content g e = absurd cc
 
 pub element-no_attribute : (l : Label) (g : List ℕ) → is_element_label l ≡ true → has_attribute (part_marks l g) ≡ false
-element-no_attribute (attribute name) g e = absurd cc
+element-no_attribute (attribute name standard) g e = absurd cc
 element-no_attribute (element name) g e = qualified-lack is_attribute (λ t. refl) (λ t. refl) g name
 element-no_attribute (group k) g e = refl
 element-no_attribute (elements name) g e = refl

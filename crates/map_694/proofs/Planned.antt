@@ -15,7 +15,7 @@ use Rattle.schema_parts.specs.Components.{Set}
 use Rattle.map_subjects.specs.declared.subjects.Subject.{Subject}
 use Rattle.map_assignments.specs.Plans.{TypePlan, repeated, Parts, finish, part}
 use Rattle.map_assignments.specs.Planning.{label_of, list_label_of, is_once, is_optional, term_type, particle_parts, top_part, top}
-use Rattle.map_694.proofs.Shapes.{is_attribute_label, is_element_label, count_parts, IsSequence, IsPlan, ArePlans, Refers, ReferInAll, either-way}
+use Rattle.map_694.proofs.Shapes.{is_attribute_label, is_element_label, count_parts, NoAttributes, IsSequence, IsPlan, ArePlans, Refers, ReferInAll, either-way}
 
 pub never : (A : Type 0) → false ≡ true → A
 never A e = absurd (true≢false (sym e))
@@ -76,6 +76,11 @@ chosen-count true q t p least most rest = refl
 chosen-count false true t p least most rest = refl
 chosen-count false false t p least most rest = refl
 
+chosen-plain : (o q : Bool) (t : Term) (p : TypePlan) (least : ℕ) (most : Option ℕ) (rest : Parts) → NoAttributes rest → NoAttributes (chosen o q t p least most rest)
+chosen-plain true q t p least most rest h = (label-plain t, h)
+chosen-plain false true t p least most rest h = (label-plain t, h)
+chosen-plain false false t p least most rest h = (list-label-plain t, h)
+
 chosen-refers : (P : Subject → Type 0) (o q : Bool) (t : Term) (p : TypePlan) (least : ℕ) (most : Option ℕ) (rest : Parts)
     → MatchBool (is_element_label (label_of t)) (Unit {0}) (Refers P p) → ReferInAll P rest → ReferInAll P (chosen o q t p least most rest)
 chosen-refers P true q t p least most rest h k = (h, k)
@@ -105,6 +110,11 @@ module _ (s : Set) (T : ℕ → TypePlan) where
   parts-count b model.none = omega arith
   parts-count b (model.more (occurs t least most) ps) =
       omega (arith, chosen-count (is_once least most) (is_optional least most && not b) t (term_type T t) least most (particle_parts T b ps), parts-count b ps)
+
+  parts-plain : (b : Bool) (ps : Particles) → NoAttributes (particle_parts T b ps)
+  parts-plain b model.none = tt
+  parts-plain b (model.more (occurs t least most) ps) =
+      chosen-plain (is_once least most) (is_optional least most && not b) t (term_type T t) least most (particle_parts T b ps) (parts-plain b ps)
 
   mutual
     term-refers : (P : Subject → Type 0) (t : Term) → MatchBool (is_element_label (label_of t)) (Unit {0}) (Refers P (term_type T t))
@@ -138,7 +148,7 @@ module _ (s : Set) (T : ℕ → TypePlan) where
       term-plan (model.sequence ps) few h =
           (plain-sequence (particle_parts T false ps), omega (arith, parts-count false ps, few), parts-plans false ps few h)
       term-plan (model.choice ps) few h =
-          ((positive true T ps h.0, omega (arith, parts-count true ps, few)), parts-plans true ps few h.1)
+          ((positive true T ps h.0, omega (arith, parts-count true ps, few)), parts-plans true ps few h.1, parts-plain true ps)
 
       parts-plans : (b : Bool) (ps : Particles) → all_nodes ps ≤ 65536 → AllMayOccur ps → ArePlans s (particle_parts T b ps)
       parts-plans b model.none few h = tt

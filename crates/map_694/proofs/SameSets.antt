@@ -143,8 +143,8 @@ module _ (s t : Set) (h : AreSame s t) where
   attributes-same : (us : List AttributeUse) (rest others : Parts) → rest ≡ others → attributes s us rest ≡ attributes t us others
   attributes-same [] rest others e = e
   attributes-same (u ∷ us) rest others e =
-      ap (λ p. part (attribute u.name) (not u.required) p (attributes s us rest)) (simple-same u.simple)
-      ∙ ap (λ ps. part (attribute u.name) (not u.required) (simple_type t u.simple) ps) (attributes-same us rest others e)
+      ap (λ p. part (attribute u.name u.standard) (not u.required) p (attributes s us rest)) (simple-same u.simple)
+      ∙ ap (λ ps. part (attribute u.name u.standard) (not u.required) (simple_type t u.simple) ps) (attributes-same us rest others e)
 
   module _ (T U : ℕ → TypePlan) (same : (d : ℕ) → T d ≡ U d) where
     content-parts-same : (c : Content) → content_parts T s c ≡ content_parts U t c

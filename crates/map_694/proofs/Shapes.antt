@@ -1,17 +1,25 @@
 -- What is asked of the plan of a type, so that the type is one of a module.
-use Rattle.std.proofs.Common.{◌≡◌, ℕ, suc, ◌<◌, ◌^◌, Bool, true, false, Some}
+use Rattle.std.proofs.Common.{◌≡◌, ℕ, suc, ◌<◌, ◌^◌, Bool, true, false, List, Some}
 use Rattle.std.specs.Prelude.{MatchBool}
 use Rattle.xa_base.specs.declared.texts.Name.{Name}
+use Rattle.label_tree.specs.Rose.{Rose}
+use Rattle.simple_types.specs.declared.labels.ValueLabel.{ValueLabel}
+use Rattle.simple_types.specs.declared.standards.Standard.{Standard}
+use Rattle.simple_types.specs.declared.standards.Standard.TheVariants.{Free, Default, Fixed}
 use Rattle.simple_types.specs.Sound.{Sound, IsCounted, AreSizes}
+use Rattle.simple_types.specs.Space.{Space}
+use Rattle.simple_values.specs.Reading.{Holds, spelled}
 use Rattle.schema_parts.specs.Components.{Set}
+use Rattle.schema_parts.specs.Linked.{IsSpellingAt}
 use Rattle.map_subjects.specs.declared.subjects.Subject.{Subject}
 use Rattle.map_subjects.specs.declared.subjects.Subject.TheVariants as subject
 use Rattle.map_subjects.specs.Subjects.{name_of}
 use Rattle.map_assignments.specs.Plans.{Label, attribute, element, TypePlan, simple, sequence, choice, repeated, reference, Parts, finish, part}
 use Rattle.map_assignments.specs.Planning.{texts_type}
+use Rattle.map_assignments.specs.Naming.{part_standard}
 
 abbrev pub is_attribute_label : Label → Bool
-is_attribute_label (attribute name) = true
+is_attribute_label (attribute name standard) = true
 is_attribute_label _ = false
 
 abbrev pub is_element_label : Label → Bool
@@ -32,6 +40,10 @@ abbrev pub NoElements : Parts → Type 0
 NoElements finish = Unit {0}
 NoElements (part l optional p ps) = (is_element_label l ≡ false) × NoElements ps
 
+abbrev pub NoAttributes : Parts → Type 0
+NoAttributes finish = Unit {0}
+NoAttributes (part l optional p ps) = (is_attribute_label l ≡ false) × NoAttributes ps
+
 -- the first part is the texts between child elements
 abbrev pub BeginsTexts : Parts → Type 0
 BeginsTexts finish = ⊥
@@ -39,6 +51,10 @@ BeginsTexts (part l optional p ps) = (is_element_label l ≡ false) × (p ≡ te
 
 abbrev pub IsSequence : Bool → Bool → Parts → Type 0
 IsSequence nillable mixed ps = (nillable ≡ true → EndsOptional ps × NoElements ps) × (mixed ≡ true → BeginsTexts ps)
+
+-- the text is the spelling of a value of the simple type
+abbrev pub IsSpelling : Space → List ℕ → Type 0
+IsSpelling sp text = (v : Rose ValueLabel) × Holds sp v × (spelled sp v ≡ text)
 
 module _ (s : Set) where
   -- the component has an assignment
@@ -51,17 +67,32 @@ module _ (s : Set) where
   IsSimplePlan (reference (subject.Simple n)) = HasName (subject.Simple n)
   IsSimplePlan _ = ⊥
 
+  -- the text is the spelling of a value of such a plan
+  abbrev pub IsSpelled : TypePlan → List ℕ → Type 0
+  IsSpelled (simple sp) text = IsSpelling sp text
+  IsSpelled (reference (subject.Simple n)) text = IsSpellingAt s n text
+  IsSpelled _ text = ⊥
+
+  -- a part may have this default or fixed value, a default value only where it may be absent
+  abbrev pub MayHaveStandard : Standard → Bool → TypePlan → Type 0
+  MayHaveStandard Free optional p = Unit {0}
+  MayHaveStandard (Default text) optional p = (optional ≡ true) × IsSpelled p text
+  MayHaveStandard (Fixed text) optional p = IsSpelled p text
+
+  abbrev pub IsAttributePlan : Standard → Bool → TypePlan → Type 0
+  IsAttributePlan standard optional p = IsSimplePlan p × MayHaveStandard standard optional p
+
   abbrev mutual
     pub IsPlan : TypePlan → Type 0
     IsPlan (simple sp) = Sound sp
     IsPlan (sequence nillable mixed ps) = IsSequence nillable mixed ps × (count_parts ps < 2 ^ 32) × ArePlans ps
-    IsPlan (choice ps) = IsCounted (count_parts ps) × ArePlans ps
+    IsPlan (choice ps) = IsCounted (count_parts ps) × ArePlans ps × NoAttributes ps
     IsPlan (repeated l p least most) = AreSizes least most × (is_attribute_label l ≡ false) × IsPlan p
     IsPlan (reference w) = HasName w
 
     pub ArePlans : Parts → Type 0
     ArePlans finish = Unit {0}
-    ArePlans (part l optional p ps) = IsPlan p × (is_attribute_label l ≡ true → IsSimplePlan p) × ArePlans ps
+    ArePlans (part l optional p ps) = IsPlan p × (is_attribute_label l ≡ true → IsAttributePlan (part_standard l) optional p) × ArePlans ps
 
 -- what holds of each component that is referred to without passing an element
 module _ (P : Subject → Type 0) where

@@ -57,7 +57,7 @@ longer-some [] b e = absurd cc
 longer-some (x ∷ xs) b e = refl
 
 label-nameless : (l : Label) → is_empty (wanted l) ≡ is_item_label l
-label-nameless (attribute name) = identifier-some name.local
+label-nameless (attribute name standard) = identifier-some name.local
 label-nameless (element name) = identifier-some name.local
 label-nameless (group a_sequence) = refl
 label-nameless (group a_choice) = refl

@@ -3,6 +3,8 @@ use Rattle.std.proofs.Common.{◌≡◌, ℕ, ◌&&◌, Bool, true, false, not, 
 use Rattle.std.proofs.lemmas.List.{append-nil}
 use Rattle.label_tree.specs.Rose.{Rose, node, roses_of}
 use Rattle.label_tree.specs.Rose as rose
+use Rattle.simple_types.specs.declared.standards.Standard.{Standard}
+use Rattle.simple_types.specs.declared.standards.Standard.TheVariants.{Free}
 use Rattle.name_map.specs.declared.conversion.NameKind.TheVariants.{Identifier}
 use Rattle.name_map.specs.Taking.{IsTaken}
 use Rattle.asn_types.specs.declared.marks.Instruction.{Instruction}
@@ -17,7 +19,7 @@ use Rattle.map_assignments.specs.declared.parts.PartList.{PartList}
 use Rattle.map_subjects.specs.declared.subjects.Subject.{Subject}
 use Rattle.map_assignments.specs.Plans.{Label, TypePlan, Parts, part, finish, sequence, choice, repeated}
 use Rattle.map_assignments.specs.Planning.{label_of, list_label_of, is_once, is_optional, particle_part}
-use Rattle.map_assignments.specs.Naming.{type_label, component_of, wanted, part_marks, named_part, repeated_part, sequence_marks, IsNamed, AreNamed}
+use Rattle.map_assignments.specs.Naming.{type_label, component_with, wanted, part_standard, part_marks, named_part, repeated_part, sequence_marks, IsNamed, AreNamed}
 use Rattle.map_assignments.specs.Private.Building.{AddsPart, Adds, LeadsToNamed}
 
 -- one part more
@@ -62,38 +64,40 @@ if_ok (Ok x) P Q f h = f x h
 if_ok (Err e) P Q f h = tt
 
 -- a part whose identifier is taken first, and which is added then
-pub adds-of : (before mid after : PartList) (name converted g : List ℕ) (marks : List ℕ → List Instruction) (ms : List Instruction) (optional : Bool) (kid : Rose TypeLabel)
+pub adds-of : (before mid after : PartList) (name converted g : List ℕ) (standard : Standard) (marks : List ℕ → List Instruction) (ms : List Instruction) (optional : Bool) (kid : Rose TypeLabel)
     → converted ≡ name → IsTaken Identifier before.scope converted g → mid.scope ≡ before.scope ++ g ∷ []
     → mid.components ≡ before.components → mid.kids ≡ before.kids → ms ≡ marks g
-    → after.scope ≡ mid.scope → after.components.items ≡ mid.components.items ++ component_of g optional ms ∷ [] → after.kids.items ≡ mid.kids.items ++ kid ∷ []
-    → AddsPart before after name marks optional kid
-adds-of before mid after name converted g marks ms optional kid same taken noted same_components same_kids same_marks scope component added = record {
+    → after.scope ≡ mid.scope → after.components.items ≡ mid.components.items ++ component_with g optional standard ms ∷ [] → after.kids.items ≡ mid.kids.items ++ kid ∷ []
+    → AddsPart before after name standard marks optional kid
+adds-of before mid after name converted g standard marks ms optional kid same taken noted same_components same_kids same_marks scope component added = record {
   identifier = g;
   taken = subst (λ n. IsTaken Identifier before.scope n g) same taken;
   noted = scope ∙ noted;
-  component = component ∙ ap (λ v. v.items ++ component_of g optional ms ∷ []) same_components ∙ ap (λ m. before.components.items ++ component_of g optional m ∷ []) same_marks;
+  component = component ∙ ap (λ v. v.items ++ component_with g optional standard ms ∷ []) same_components
+      ∙ ap (λ m. before.components.items ++ component_with g optional standard m ∷ []) same_marks;
   kid_added = added ∙ ap (λ v. v.items ++ kid ∷ []) same_kids;
 }
 
--- a part whose instructions are known before
+-- a part whose instructions are known before, and which is no attribute
 pub adds-marked : (before after : PartList) (l : Label) (name : List ℕ) (ms : List Instruction) (optional : Bool) (kid : Rose TypeLabel)
-    → name ≡ wanted l → ((g : List ℕ) → ms ≡ part_marks l g) → AddsPart before after name (λ g. ms) optional kid → Adds before after l optional kid
-adds-marked before after l name ms optional kid same marks added = record {
+    → name ≡ wanted l → Free ≡ part_standard l → ((g : List ℕ) → ms ≡ part_marks l g) → AddsPart before after name Free (λ g. ms) optional kid → Adds before after l optional kid
+adds-marked before after l name ms optional kid same free marks added = record {
   identifier = added.identifier;
   taken = subst (λ n. IsTaken Identifier before.scope n added.identifier) same added.taken;
   noted = added.noted;
-  component = added.component ∙ ap (λ m. before.components.items ++ component_of added.identifier optional m ∷ []) (marks added.identifier);
+  component = added.component ∙ ap (λ x. before.components.items ++ component_with added.identifier optional x ms ∷ []) free
+      ∙ ap (λ m. before.components.items ++ component_with added.identifier optional (part_standard l) m ∷ []) (marks added.identifier);
   kid_added = added.kid_added;
 }
 
 -- the same part by another name for its name and its instructions
 pub adds-same : (before after : PartList) (name same : List ℕ) (ms marks : List Instruction) (optional : Bool) (kid : Rose TypeLabel)
-    → name ≡ same → ms ≡ marks → AddsPart before after name (λ g. ms) optional kid → AddsPart before after same (λ g. marks) optional kid
+    → name ≡ same → ms ≡ marks → AddsPart before after name Free (λ g. ms) optional kid → AddsPart before after same Free (λ g. marks) optional kid
 adds-same before after name same ms marks optional kid is are added = record {
   identifier = added.identifier;
   taken = subst (λ n. IsTaken Identifier before.scope n added.identifier) is added.taken;
   noted = added.noted;
-  component = added.component ∙ ap (λ m. before.components.items ++ component_of added.identifier optional m ∷ []) are;
+  component = added.component ∙ ap (λ m. before.components.items ++ component_with added.identifier optional Free m ∷ []) are;
   kid_added = added.kid_added;
 }
 
@@ -101,6 +105,11 @@ pub list-marks : (kind : ParticleKind) (ps : Particles) (g : List ℕ) → mark.
 list-marks (Element d name) ps g = refl
 list-marks Sequence ps g = refl
 list-marks Choice ps g = refl
+
+pub list-free : (kind : ParticleKind) (ps : Particles) → Free ≡ part_standard (list_label_of (term_seen kind ps))
+list-free (Element d name) ps = refl
+list-free Sequence ps = refl
+list-free Choice ps = refl
 
 -- the part for a particle
 module _ (place : Subject → ℕ) (before after : PartList) (in_choice : Bool) (t : Term) (type : TypePlan) (least : ℕ) (most : Option ℕ) (rest whole : Parts) where

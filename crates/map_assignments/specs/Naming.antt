@@ -4,6 +4,7 @@ use Rattle.std.specs.Str.{chars}
 use Rattle.xa_base.specs.declared.texts.Name.{Name}
 use Rattle.label_tree.specs.Rose.{Rose, node, Roses}
 use Rattle.label_tree.specs.Rose as rose
+use Rattle.simple_types.specs.declared.standards.Standard.{Standard}
 use Rattle.simple_types.specs.declared.standards.Standard.TheVariants.{Free}
 use Rattle.simple_types.specs.Space.{Space, Spaces, none, more, Booleans, Wholes, Numbers, Words, Characters, ListOf, UnionOf}
 use Rattle.name_map.specs.declared.conversion.NameKind.TheVariants.{Reference, Identifier}
@@ -24,9 +25,12 @@ use Rattle.map_assignments.specs.Plans.{Group, a_sequence, a_choice, Label, attr
 abbrev pub type_label : Form → List Instruction → TypeLabel
 type_label f marks = record { form = f; marks = marks }
 
--- no part has a default or a fixed value
+abbrev pub component_with : List ℕ → Bool → Standard → List Instruction → Component
+component_with identifier optional standard marks = record { identifier = identifier; optional = optional; standard = standard; marks = marks }
+
+-- without a default or a fixed value
 abbrev pub component_of : List ℕ → Bool → List Instruction → Component
-component_of identifier optional marks = record { identifier = identifier; optional = optional; standard = Free; marks = marks }
+component_of identifier optional marks = component_with identifier optional Free marks
 
 -- the name of XML as an identifier and as a reference of ASN.1
 abbrev pub identifier_of : List ℕ → List ℕ
@@ -116,7 +120,7 @@ group_name a_choice = codes "choice"
 
 -- what the identifier is made from
 abbrev pub wanted : Label → List ℕ
-wanted (attribute name) = identifier_of name.local
+wanted (attribute name standard) = identifier_of name.local
 wanted (element name) = identifier_of name.local
 wanted (group g) = group_name g
 wanted (elements name) = identifier_of name.local ++ codes "-list"
@@ -128,7 +132,7 @@ wanted content = codes "content"
 
 -- the instructions of a part with this identifier
 abbrev pub part_marks : Label → List ℕ → List Instruction
-part_marks (attribute name) generated = mark.Attribute ∷ qualified_marks generated name
+part_marks (attribute name standard) generated = mark.Attribute ∷ qualified_marks generated name
 part_marks (element name) generated = qualified_marks generated name
 part_marks (group g) generated = mark.Untagged ∷ []
 part_marks (elements name) generated = mark.Untagged ∷ []
@@ -136,8 +140,13 @@ part_marks (groups g) generated = mark.Untagged ∷ []
 part_marks base generated = mark.Untagged ∷ []
 part_marks _ generated = []
 
+-- an attribute alone has a default or a fixed value
+abbrev pub part_standard : Label → Standard
+part_standard (attribute name standard) = standard
+part_standard _ = Free
+
 abbrev pub named_part : Label → List ℕ → Bool → Component
-named_part l identifier optional = component_of identifier optional (part_marks l identifier)
+named_part l identifier optional = component_with identifier optional (part_standard l) (part_marks l identifier)
 
 -- the part of a SEQUENCE OF has its name in no scope
 abbrev pub repeated_part : Label → Component

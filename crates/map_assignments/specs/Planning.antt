@@ -32,7 +32,7 @@ simple_type s n = elim (slice_get s.simples n) [ None ↦ simple Booleans | Some
 
 abbrev pub attributes : Set → List AttributeUse → Parts → Parts
 attributes s [] rest = rest
-attributes s (u ∷ us) rest = part (attribute u.name) (not u.required) (simple_type s u.simple) (attributes s us rest)
+attributes s (u ∷ us) rest = part (attribute u.name u.standard) (not u.required) (simple_type s u.simple) (attributes s us rest)
 
 -- ---- particles (clauses 18 and 19)
 

@@ -1,6 +1,7 @@
 -- Types before their names are chosen: what stands where, and for what each part stands.
 use Rattle.std.specs.Prelude.{ℕ, Bool, Option}
 use Rattle.xa_base.specs.declared.texts.Name.{Name}
+use Rattle.simple_types.specs.declared.standards.Standard.{Standard}
 use Rattle.simple_types.specs.Space.{Space}
 use Rattle.map_subjects.specs.declared.subjects.Subject.{Subject}
 
@@ -10,7 +11,8 @@ pub data Group : Type 0 where
 
 -- What a part stands for.
 pub data Label : Type 0 where
-  attribute : Name → Label
+  -- with its default or fixed value, if it has one
+  attribute : Name → Standard → Label
   element : Name → Label
   group : Group → Label
   -- several elements or groups

@@ -49,7 +49,8 @@ pub(crate) fn push_attributes(
 {
     'uses: for attribute in uses {
         let kid = simple_at(alloc, set, places, attribute.simple)?;
-        parts.push_attribute(&attribute.name, !attribute.required, kid)?;
+        let standard = attribute.standard.copy(alloc)?;
+        parts.push_attribute(&attribute.name, !attribute.required, standard, kid)?;
     }
     Ok(())
 }

@@ -1,5 +1,6 @@
 //! The parts for particles.
 ghost use Rattle.std.specs.Prelude.{◌≡◌, ◌∷◌, ◌&&◌, [], ℕ, IfOk, OnOk, true, false, not};
+ghost use Rattle.simple_types.specs.declared.standards.Standard.TheVariants.{Free};
 ghost use Rattle.label_tree.specs.Rose.{node, Rose};
 ghost use Rattle.label_tree.specs.Rose as rose;
 ghost use Rattle.asn_types.specs.declared.types.TypeLabel.{TypeLabel};
@@ -138,7 +139,7 @@ fn push_group(
     optional: bool,
     kid: Tree<TypeLabel>,
 ) -> Result<(), Memory>
-    ensures { OnOk result (AddsPart parts.old parts.new name.now (λ identifier. Instruction.Untagged ∷ []) optional kid) }
+    ensures { OnOk result (AddsPart parts.old parts.new name.now Free (λ identifier. Instruction.Untagged ∷ []) optional kid) }
 {
     let name = text(alloc, name)?;
     let marks = untagged(alloc)?;

@@ -1,10 +1,11 @@
 //! The parts of a type as they are made.
 ghost use Rattle.std.specs.Prelude.{◌≡◌, ◌++◌, ◌∷◌, [], IfOk, OnOk, OnErr};
 ghost use Rattle.label_tree.specs.Rose.{node, roses_of};
+ghost use Rattle.simple_types.specs.declared.standards.Standard.TheVariants.{Free};
 ghost use Rattle.name_map.specs.declared.conversion.NameKind.TheVariants.{Identifier};
 ghost use Rattle.name_map.specs.Taking.{IsTaken};
 ghost use Rattle.map_assignments.specs.Plans as plan;
-ghost use Rattle.map_assignments.specs.Naming.{type_label, component_of, sequence_marks};
+ghost use Rattle.map_assignments.specs.Naming.{type_label, component_with, sequence_marks};
 ghost use Rattle.map_assignments.specs.Private.Building.{AddsPart, Adds};
 
 use crate::instructions::push_qualified;
@@ -53,17 +54,18 @@ impl PartList {
         &mut self,
         identifier: Text,
         optional: bool,
+        standard: Standard,
         marks: Marks,
         kid: Tree<TypeLabel>,
     ) -> Result<(), Memory>
         ensures scope { OnOk result (self.new.scope ≡ self.old.scope) }
-        ensures component { OnOk result (self.new.components.items ≡ self.old.components.items ++ component_of identifier optional marks ∷ []) }
+        ensures component { OnOk result (self.new.components.items ≡ self.old.components.items ++ component_with identifier optional standard marks ∷ []) }
         ensures kid { OnOk result (self.new.kids.items ≡ self.old.kids.items ++ kid ∷ []) }
     {
         self.components.push(Component {
             identifier,
             optional,
-            standard: Standard::Free,
+            standard,
             marks,
         })?;
         self.kids.push(kid)?;
@@ -75,15 +77,16 @@ impl PartList {
         &mut self,
         name: &Name,
         optional: bool,
+        standard: Standard,
         kid: Tree<TypeLabel>,
     ) -> Result<(), Memory>
-        ensures { OnOk result (Adds self.old self.new (plan.attribute name.now) optional kid) }
+        ensures { OnOk result (Adds self.old self.new (plan.attribute name.now standard) optional kid) }
     {
         let converted = convert(self.alloc, NameKind::Identifier, &name.local)?;
         let identifier = self.take(&converted)?;
         let mut marks = vec![in self.alloc; Instruction::Attribute]?;
         push_qualified(self.alloc, &mut marks, &identifier, name)?;
-        self.add(identifier, optional, Marks::of(marks), kid)
+        self.add(identifier, optional, standard, Marks::of(marks), kid)
     }
 
     /// A part that stands for an element.
@@ -99,7 +102,7 @@ impl PartList {
         let identifier = self.take(&converted)?;
         let mut marks = Vec::new(self.alloc);
         push_qualified(self.alloc, &mut marks, &identifier, name)?;
-        self.add(identifier, optional, Marks::of(marks), kid)
+        self.add(identifier, optional, Standard::Free, Marks::of(marks), kid)
     }
 
     /// A part with an identifier made from this one, and with these instructions.
@@ -110,10 +113,10 @@ impl PartList {
         marks: Marks,
         kid: Tree<TypeLabel>,
     ) -> Result<(), Memory>
-        ensures { OnOk result (AddsPart self.old self.new name.now (λ identifier. marks) optional kid) }
+        ensures { OnOk result (AddsPart self.old self.new name.now Free (λ identifier. marks) optional kid) }
     {
         let identifier = self.take(name)?;
-        self.add(identifier, optional, marks, kid)
+        self.add(identifier, optional, Standard::Free, marks, kid)
     }
 
     /// A SEQUENCE of the parts, with these instructions.

@@ -1,25 +1,20 @@
 -- Texts of which the stripped form is known, whatever stands behind them.
 use Rattle.std.proofs.Common.{◌≡◌, ◌==◌, ℕ, Bool, true, false, not, ◌&&◌, List, [], ◌∷◌, ◌++◌, codes, refl, sym, ◌∙◌, ap, append_assoc}
 use Rattle.std.specs.List.{list_all, flat_map}
-use Rattle.std.proofs.lemmas.List.Folds.{list_all-append}
 use Rattle.module_print.specs.Notation.{doubled, quoted, listed}
 use Rattle.module_print.specs.Instructions.{bracketed}
-use Rattle.module_plain.specs.declared.stripping.Within.TheVariants.{Module, Instruction, Quotes}
-use Rattle.module_plain.specs.Plain.{is_free}
+use Rattle.module_plain.specs.declared.stripping.Within.TheVariants.{Module, Text, Instruction, Quotes}
+use Rattle.module_plain.specs.Names.{is_free, IsFree}
 use Rattle.module_plain.specs.Stripped.{stripped}
 
--- both parts of a text are free
+-- THE STRIPPED FORM of a text is another
+pub record Copied (x y : List ℕ) : Type 0 where
+  pub is : (rest : List ℕ) → stripped Module (x ++ rest) ≡ y ++ stripped Module rest
+
 both : (p q : Bool) → (p && q) ≡ true → (p ≡ true) × (q ≡ true)
 both true true e = (refl, refl)
 both true false e = absurd (cc)
 both false q e = absurd (cc)
-
-pub free_parts : (x y : List ℕ) → list_all is_free (x ++ y) ≡ true → (list_all is_free x ≡ true) × (list_all is_free y ≡ true)
-free_parts x y free = both (list_all is_free x) (list_all is_free y) (sym (list_all-append is_free x y) ∙ free)
-
--- THE STRIPPED FORM of a text is another, if that is free
-pub record Copied (x y : List ℕ) : Type 0 where
-  pub is : list_all is_free y ≡ true → (rest : List ℕ) → stripped Module (x ++ rest) ≡ y ++ stripped Module rest
 
 no_second : (p q : Bool) → (p && false && q) ≡ true → ⊥
 no_second true q e = cc
@@ -34,30 +29,48 @@ no_third false false e = cc
 no_first : (q : Bool) → (false && q) ≡ true → ⊥
 no_first q e = cc
 
--- a free text is left as it is
+-- ---- what is left as it is
+
+-- a free text,
 same_go : (b : ℕ) (bs rest : List ℕ) (v w : Bool) → (b == 91) ≡ v → (b == 34) ≡ w → (not w && not v && not (b == 93)) ≡ true → stripped Module (bs ++ rest) ≡ bs ++ stripped Module rest
     → stripped Module (b ∷ bs ++ rest) ≡ b ∷ bs ++ stripped Module rest
 same_go b bs rest false false e f free more = rw (e, f) (ap (λ l. b ∷ l) more)
 same_go b bs rest false true e f free more = absurd (no_first (not (b == 93)) free)
 same_go b bs rest true w e f free more = absurd (no_second (not w) (not (b == 93)) free)
 
-same : (x rest : List ℕ) → list_all is_free x ≡ true → stripped Module (x ++ rest) ≡ x ++ stripped Module rest
+same : (x rest : List ℕ) → IsFree x → stripped Module (x ++ rest) ≡ x ++ stripped Module rest
 same [] rest free = refl
 same (b ∷ bs) rest free =
     let parts = both (is_free b) (list_all is_free bs) free in
     same_go b bs rest (b == 91) (b == 34) refl refl parts.0 (same bs rest parts.1)
 
-pub copied_same : (x : List ℕ) → Copied x x
-copied_same x = record { is = λ free rest. same x rest free }
+pub copied_free : (x : List ℕ) → IsFree x → Copied x x
+copied_free x free = record { is = λ rest. same x rest free }
+
+-- and one in quotation marks, whatever characters it has
+text_go : (b : ℕ) (bs rest : List ℕ) (v : Bool) → (b == 34) ≡ v → stripped Text (bs ++ 34 ∷ rest) ≡ bs ++ 34 ∷ stripped Module rest
+    → stripped Text ((doubled b ++ bs) ++ 34 ∷ rest) ≡ (doubled b ++ bs) ++ 34 ∷ stripped Module rest
+text_go b bs rest true e more = rw e (ap (λ l. 34 ∷ 34 ∷ l) more)
+text_go b bs rest false e more = rw (e, e) (ap (λ l. b ∷ l) more)
+
+text : (characters rest : List ℕ) → stripped Text (flat_map doubled characters ++ 34 ∷ rest) ≡ flat_map doubled characters ++ 34 ∷ stripped Module rest
+text [] rest = refl
+text (b ∷ bs) rest = text_go b (flat_map doubled bs) rest (b == 34) refl (text bs rest)
+
+pub copied_quoted : (characters : List ℕ) → Copied (quoted characters) (quoted characters)
+copied_quoted characters = record {
+  is = λ rest.
+      ap (λ l. 34 ∷ stripped Text l) (append_assoc (flat_map doubled characters) (34 ∷ []) rest)
+      ∙ ap (λ l. 34 ∷ l) (text characters rest ∙ sym (append_assoc (flat_map doubled characters) (34 ∷ []) (stripped Module rest)));
+}
 
 pub copied_nil : Copied [] []
-copied_nil = record { is = λ free rest. refl }
+copied_nil = record { is = λ rest. refl }
 
 pub copied_append : {x y : List ℕ} (v w : List ℕ) → Copied x y → Copied v w → Copied (x ++ v) (y ++ w)
 copied_append {x} {y} v w first second = record {
-  is = λ free rest.
-      let parts = free_parts y w free in
-      ap (stripped Module) (append_assoc x v rest) ∙ first.is parts.0 (v ++ rest) ∙ ap (λ l. y ++ l) (second.is parts.1 rest) ∙ sym (append_assoc y w (stripped Module rest));
+  is = λ rest.
+      ap (stripped Module) (append_assoc x v rest) ∙ first.is (v ++ rest) ∙ ap (λ l. y ++ l) (second.is rest) ∙ sym (append_assoc y w (stripped Module rest));
 }
 
 -- ---- instructions
@@ -72,13 +85,13 @@ passed_go b bs rest false false e f free more = rw (e, f) more
 passed_go b bs rest true w e f free more = absurd (no_third (not w) (not (b == 91)) free)
 passed_go b bs rest false true e f free more = absurd (no_first (not (b == 91)) free)
 
-passed_free_go : (x rest : List ℕ) → list_all is_free x ≡ true → stripped Instruction (x ++ rest) ≡ stripped Instruction rest
+passed_free_go : (x rest : List ℕ) → IsFree x → stripped Instruction (x ++ rest) ≡ stripped Instruction rest
 passed_free_go [] rest free = refl
 passed_free_go (b ∷ bs) rest free =
     let parts = both (is_free b) (list_all is_free bs) free in
     passed_go b bs rest (b == 93) (b == 34) refl refl parts.0 (passed_free_go bs rest parts.1)
 
-pub passed_free : (x : List ℕ) → list_all is_free x ≡ true → Passed x
+pub passed_free : (x : List ℕ) → IsFree x → Passed x
 passed_free x free = record { is = λ rest. passed_free_go x rest free }
 
 pub passed_append : (x y : List ℕ) → Passed x → Passed y → Passed (x ++ y)
@@ -101,7 +114,7 @@ passed_quoted text = record { is = λ rest. ap (stripped Quotes) (append_assoc (
 
 -- an instruction leaves nothing
 pub copied_bracketed : (x : List ℕ) → Passed x → Copied (bracketed x) []
-copied_bracketed x passed = record { is = λ free rest. ap (stripped Instruction) (append_assoc x (codes "] ") rest) ∙ passed.is (codes "] " ++ rest) }
+copied_bracketed x passed = record { is = λ rest. ap (stripped Instruction) (append_assoc x (codes "] ") rest) ∙ passed.is (codes "] " ++ rest) }
 
 -- ---- lists
 
@@ -115,16 +128,16 @@ AllCopied [] [] = Unit {0}
 AllCopied (x ∷ xs) (y ∷ ys) = Copied x y × AllCopied xs ys
 AllCopied _ _ = ⊥
 
-pub copied_joined : (before : List ℕ) (xs ys : List (List ℕ)) → AllCopied xs ys → Copied (listed before xs) (listed before ys)
-copied_joined before [] [] all = copied_nil
-copied_joined before (x ∷ []) (y ∷ []) all = copied_append x y (copied_same before) all.0
-copied_joined before (x ∷ v ∷ xs) (y ∷ w ∷ ys) all =
-    copied_append (44 ∷ listed before (v ∷ xs)) (44 ∷ listed before (w ∷ ys)) (copied_append x y (copied_same before) all.0)
-    (copied_append (listed before (v ∷ xs)) (listed before (w ∷ ys)) (copied_same (44 ∷ [])) (copied_joined before (v ∷ xs) (w ∷ ys) all.1))
-copied_joined before [] (y ∷ ys) all = absurd all
-copied_joined before (x ∷ xs) [] all = absurd all
-copied_joined before (x ∷ []) (y ∷ w ∷ ys) all = absurd all.1
-copied_joined before (x ∷ v ∷ xs) (y ∷ []) all = absurd all.1
+pub copied_listed : (before : List ℕ) (xs ys : List (List ℕ)) → IsFree before → AllCopied xs ys → Copied (listed before xs) (listed before ys)
+copied_listed before [] [] free all = copied_nil
+copied_listed before (x ∷ []) (y ∷ []) free all = copied_append x y (copied_free before free) all.0
+copied_listed before (x ∷ v ∷ xs) (y ∷ w ∷ ys) free all =
+    copied_append (44 ∷ listed before (v ∷ xs)) (44 ∷ listed before (w ∷ ys)) (copied_append x y (copied_free before free) all.0)
+    (copied_append (listed before (v ∷ xs)) (listed before (w ∷ ys)) (copied_free (44 ∷ []) refl) (copied_listed before (v ∷ xs) (w ∷ ys) free all.1))
+copied_listed before [] (y ∷ ys) free all = absurd all
+copied_listed before (x ∷ xs) [] free all = absurd all
+copied_listed before (x ∷ []) (y ∷ w ∷ ys) free all = absurd all.1
+copied_listed before (x ∷ v ∷ xs) (y ∷ []) free all = absurd all.1
 
 pub copied_concat : (xs ys : List (List ℕ)) → AllCopied xs ys → Copied (flat_map (λ part. part) xs) (flat_map (λ part. part) ys)
 copied_concat [] [] all = copied_nil

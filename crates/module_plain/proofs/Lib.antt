@@ -1,2 +1,4 @@
+mod Free
 mod Copied
+mod Valued
 mod Plainly

@@ -1,6 +1,7 @@
 -- The print of a module without its marks: no encoding instruction and no encoding control of X.693 stands in it, only the notation of
--- X.680, which other compilers of ASN.1 take. The values behind DEFAULT are those of the module.
-use Rattle.std.specs.Prelude.{◌==◌, ℕ, Bool, not, ◌&&◌, List, [], ◌∷◌, ◌++◌, codes}
+-- X.680, which other compilers of ASN.1 take. All else is as in the print of the module: its types, and the values behind DEFAULT, whose
+-- texts may have any characters.
+use Rattle.std.specs.Prelude.{ℕ, List, [], ◌∷◌, ◌++◌, codes}
 use Rattle.std.specs.List.{flat_map}
 use Rattle.label_tree.specs.Rose.{Rose, node, Roses, none, more}
 use Rattle.asn_types.specs.declared.types.Component.{Component}
@@ -46,9 +47,3 @@ plain_body M = flat_map (plain_assignment M) M
 -- THE PRINT OF A MODULE WITHOUT ITS MARKS
 abbrev pub plain : List Assignment → List ℕ
 plain M = opening ++ plain_body M ++ closing
-
--- ---- what its bytes are
-
--- no bracket and no quotation mark: X.680 has them for tags, instructions and texts alone, none of which stands in a print without marks
-abbrev pub is_free : ℕ → Bool
-is_free b = not (b == 34) && not (b == 91) && not (b == 93)

@@ -1,8 +1,8 @@
 //! The text of a module without its encoding instructions and its encoding control.
-ghost use Rattle.std.specs.Prelude.{◌≡◌, ◌++◌, true, ℕ, List, IfOk, MatchOption};
-ghost use Rattle.std.specs.List.{list_all};
+ghost use Rattle.std.specs.Prelude.{◌≡◌, ◌++◌, ℕ, List, IfOk, MatchOption};
 ghost use Rattle.asn_types.specs.declared.modules.Assignment.{Assignment};
 ghost use Rattle.module_print.specs.Printed as print;
+ghost use Rattle.module_plain.specs.Names.{IsNotation};
 ghost use Rattle.module_plain.specs.Plain as rule;
 ghost use Rattle.module_plain.specs.Stripped.{next, is_kept, stripped};
 
@@ -89,7 +89,7 @@ fn between(text: &[u8]) -> Option<&[u8]>
 /// The printed module without its encoding instructions and its encoding control (X.693). A text that doesn't begin and end as printed
 /// modules do comes back as it is.
 pub fn plain_module(alloc: Global, text: &[u8]) -> Result<Vec<u8>, Memory>
-    ensures { (M : List Assignment) → text.now ≡ print.printed M → list_all rule.is_free (rule.plain_body M) ≡ true → IfOk result (λ left. left.items ≡ rule.plain M) }
+    ensures { (M : List Assignment) → text.now ≡ print.printed M → IsNotation M → IfOk result (λ left. left.items ≡ rule.plain M) }
 {
     let Some(body) = between(text) else {
         return Ok(Vec::from_slice(alloc, text)?);

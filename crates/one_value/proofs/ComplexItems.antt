@@ -35,7 +35,7 @@ use Rattle.map_694.proofs.Resolving.{follow-none}
 use Rattle.map_laws.specs.Children.{Child, child_of, given_by, children}
 use Rattle.map_laws.specs.Standing.{Behind, IsOnly, IsInner, IsBase, IsSimpleOf, HasParts, HasInner, WithTexts, WithAttributes, AreContent, AreRest, HasComplex}
 use Rattle.map_laws.specs.ValueStatements.{StandAt}
-use Rattle.map_laws.proofs.Values.{present_children, PartsFit, sequence-value}
+use Rattle.map_laws.proofs.Values.{present_children, PartsKept, PartsFit, sequence-value}
 use Rattle.map_laws.proofs.Complexes.{fits-found, children-found, complex-follows}
 use Rattle.map_laws.proofs.Counts.{children-counted}
 use Rattle.map_laws.proofs.Nillables.{nillable-follows}
@@ -227,18 +227,19 @@ module _ (M : List Assignment) (E : ℕ → Rose TypeLabel → Type 0) (depth : 
     texts-tell true f i (c ∷ cs) (u ∷ us) (false ∷ fs) vs g h = f (i + 1) cs us fs vs g.1 h.1
 
     texts-spelled : (m : Bool) (ds : List AttributeUse)
-        → ((i : ℕ) (cs : List Component) (us : List (Rose TypeLabel)) (fs : List Bool) (vs : Roses ValueLabel) → R i cs us → PartsFit M depth l i cs us fs vs → AreSpelled (space_at (parts_of s)) ds (present_given M l i cs us fs vs).attributes)
-        → (i : ℕ) (cs : List Component) (us : List (Rose TypeLabel)) (fs : List Bool) (vs : Roses ValueLabel) → WithTexts m l R i cs us → PartsFit M depth l i cs us fs vs
+        → ((i : ℕ) (cs : List Component) (us : List (Rose TypeLabel)) (fs : List Bool) (vs : Roses ValueLabel) → R i cs us → PartsFit M depth l i cs us fs vs → PartsKept M cs us fs vs
+        → AreSpelled (space_at (parts_of s)) ds (present_given M l i cs us fs vs).attributes)
+        → (i : ℕ) (cs : List Component) (us : List (Rose TypeLabel)) (fs : List Bool) (vs : Roses ValueLabel) → WithTexts m l R i cs us → PartsFit M depth l i cs us fs vs → PartsKept M cs us fs vs
         → AreSpelled (space_at (parts_of s)) ds (present_given M l i cs us fs vs).attributes
-    texts-spelled false ds f i cs us fs vs g h = f i cs us fs vs g h
-    texts-spelled true ds f i [] us fs vs g h = absurd g
-    texts-spelled true ds f i (c ∷ cs) [] fs vs g h = absurd g
-    texts-spelled true ds f i (c ∷ cs) (u ∷ us) [] vs g h = absurd h
-    texts-spelled true ds f i (c ∷ cs) (u ∷ us) (true ∷ fs) rose.none g h = absurd h
-    texts-spelled true ds f i (c ∷ cs) (u ∷ us) (true ∷ fs) (rose.more v vs) g h =
+    texts-spelled false ds f i cs us fs vs g h k = f i cs us fs vs g h k
+    texts-spelled true ds f i [] us fs vs g h k = absurd g
+    texts-spelled true ds f i (c ∷ cs) [] fs vs g h k = absurd g
+    texts-spelled true ds f i (c ∷ cs) (u ∷ us) [] vs g h k = absurd h
+    texts-spelled true ds f i (c ∷ cs) (u ∷ us) (true ∷ fs) rose.none g h k = absurd h
+    texts-spelled true ds f i (c ∷ cs) (u ∷ us) (true ∷ fs) (rose.more v vs) g h k =
         let rest = present_given M l (i + 1) cs us fs vs in
-        subst (AreSpelled (space_at (parts_of s)) ds) (sym (ap (λ r. (both (placed M (record { role = r; part = c; type = u }) v (inside M u v)) rest).attributes) g.0.is.role)) (f (i + 1) cs us fs vs g.1 h.1)
-    texts-spelled true ds f i (c ∷ cs) (u ∷ us) (false ∷ fs) vs g h = f (i + 1) cs us fs vs g.1 h.1
+        subst (AreSpelled (space_at (parts_of s)) ds) (sym (ap (λ r. (both (placed M (record { role = r; part = c; type = u }) v (inside M u v)) rest).attributes) g.0.is.role)) (f (i + 1) cs us fs vs g.1 h.1 k.1)
+    texts-spelled true ds f i (c ∷ cs) (u ∷ us) (false ∷ fs) vs g h k = f (i + 1) cs us fs vs g.1 h.1 k
 
     -- where no text is counted there is none
     texts-gone : (i : ℕ) (cs : List Component) (us : List (Rose TypeLabel)) (fs : List Bool) (vs : Roses ValueLabel) → WithTexts true l R i cs us → PartsFit M depth l i cs us fs vs
@@ -332,8 +333,8 @@ module _ (M : List Assignment) (E : ℕ → Rose TypeLabel → Type 0) (depth : 
         is = ev ∙ nil-given nil w ∙ ap (λ xs. given (with_nil (nil_as nil) xs) w.kids) (texts-keep mixed texts g);
         from = nilled nillable last;
         spelled = texts-spelled l (WithAttributes s M l rest c.uses) mixed c.uses
-            (λ i cs ts fs vs k fit. attributes-spelled (space_at (parts_of s)) M depth s (λ n u x is_one fits_one. (text_spelled n u x is_one fits_one).1) l rest (rest-silent M depth s E text_inside nillable c.content l) c.uses i cs ts fs vs k fit)
-            0 has.0 us a.flags a.values has.3 a.fit;
+            (λ i cs ts fs vs k fit kept. attributes-spelled (space_at (parts_of s)) M depth s (λ n u x is_one fits_one. (text_spelled n u x is_one fits_one).1) l rest (rest-silent M depth s E text_inside nillable c.content l) c.uses i cs ts fs vs k fit kept)
+            0 has.0 us a.flags a.values has.3 a.fit a.kept;
         content = content-gives c.uses c.content l (children M t v) has.0 us a.flags a.values has.3 a.fit (sym (children-found M t whole v same ∙ a.gives_all)) nil
             (ap (λ b. nillable && b) (sym (last-is a.flags))) stands counted;
       }

@@ -116,7 +116,7 @@ fn with_syntax<'a>(
             "syntax",
             't',
             "SYNTAX",
-            "How values are encoded: per, canonical aligned PER, if none is told",
+            "How values are encoded: per, aligned, if none is told, or uper, unaligned",
         ))?;
     Ok(command)
 }

@@ -5,9 +5,11 @@ mod arguments;
 mod manual;
 mod mistakes;
 mod outside;
+mod progress;
 mod syntaxes;
 
 pub use arguments::{Asked, Parsed, Task, parse_words};
 pub use manual::manual_page;
 pub use outside::{Input, Kept, save};
+pub use progress::Progress;
 pub use syntaxes::Syntax;

@@ -1,11 +1,13 @@
 //! The outside of the program: files and streams, of which what was read is kept for complaints.
-ghost use Rattle.std.specs.Prelude.{◌≡◌, None, false, IfOk, IfErr};
+ghost use Rattle.std.specs.Prelude.{◌≡◌, ◌++◌, None, false, IfSome, IsNone, IfOk, IfErr};
 
+use crate::progress::{Counted, Progress};
 use outside_files::{Buffered, Folder};
 use std::alloc::Global;
 use std::fs::{self, File};
 use std::io::{Stdin, Write};
 use std::rt::Files;
+use std::time::Clock;
 use xa_base::{Failed, Library, LoadError, Memory, Source, Text};
 
 /// A library over the files of the system that keeps the contents of each that it has loaded, and hands these out from then on.
@@ -13,13 +15,15 @@ use xa_base::{Failed, Library, LoadError, Memory, Source, Text};
 pub struct Kept<'a, R> {
     folder: Folder<'a, R>,
     loaded: Vec<(Text, Vec<u8>)>,
+    progress: &'a Progress<'a, R>,
 }
 
-impl<'a, R: Files> Kept<'a, R> {
-    pub fn new(alloc: Global, rt: &'a R) -> Kept<'a, R> {
+impl<'a, R: Files + Clock> Kept<'a, R> {
+    pub fn new(alloc: Global, rt: &'a R, progress: &'a Progress<'a, R>) -> Kept<'a, R> {
         Kept {
             folder: Folder::new(rt),
             loaded: Vec::new(alloc),
+            progress,
         }
     }
 
@@ -63,7 +67,7 @@ fn keep_file(
     }
 }
 
-impl<'a, R: Files> Library for Kept<'a, R> {
+impl<'a, R: Files + Clock> Library for Kept<'a, R> {
     ghost entries = { λ _. None };
 
     ghost is_sure = { λ _. false };
@@ -76,6 +80,7 @@ impl<'a, R: Files> Library for Kept<'a, R> {
             _ => {}
         }
         let bytes = self.folder.load(alloc, name, limit)?;
+        self.progress.add(bytes.len());
         keep_file(alloc, &mut self.loaded, name, &bytes)?;
         Ok(bytes)
     }
@@ -83,37 +88,49 @@ impl<'a, R: Files> Library for Kept<'a, R> {
 
 // Where the input comes from.
 #[derive(Drop)]
-enum Origin<R: Files> {
-    Standard(Buffered<Stdin>),
-    File(Buffered<R::File>),
+enum Origin<'a, R: Files> {
+    Standard(Buffered<Counted<'a, R, Stdin>>),
+    File(Buffered<Counted<'a, R, R::File>>),
     Missing,
 }
 
 /// The input, a file or the standard input, of which what was read may be kept.
 #[derive(Drop)]
-pub struct Input<R: Files> {
-    origin: Origin<R>,
+pub struct Input<'a, R: Files> {
+    origin: Origin<'a, R>,
     kept: Option<Vec<u8>>,
     faults: u64,
 }
 
-impl<R: Files> Input<R> {
+impl<'a, R: Files + Clock> Input<'a, R> {
     /// The standard input.
-    pub fn standard(alloc: Global, stdin: Stdin, keeps: bool) -> Result<Input<R>, Memory> {
-        let origin = Origin::Standard(Buffered::new(alloc, stdin)?);
+    pub fn standard(
+        alloc: Global,
+        stdin: Stdin,
+        progress: &'a Progress<'a, R>,
+        keeps: bool,
+    ) -> Result<Input<'a, R>, Memory> {
+        let counted = Counted::new(stdin, progress);
+        let origin = Origin::Standard(Buffered::new(alloc, counted)?);
         Ok(Input::of(alloc, origin, keeps))
     }
 
     /// The file of this name. Where it can't be opened, each read fails.
-    pub fn file(alloc: Global, rt: &R, name: &str, keeps: bool) -> Result<Input<R>, Memory> {
+    pub fn file(
+        alloc: Global,
+        rt: &R,
+        name: &str,
+        progress: &'a Progress<'a, R>,
+        keeps: bool,
+    ) -> Result<Input<'a, R>, Memory> {
         let origin = match fs::open(rt, name) {
-            Ok(file) => Origin::File(Buffered::new(alloc, file)?),
+            Ok(file) => Origin::File(Buffered::new(alloc, Counted::new(file, progress))?),
             Err(_) => Origin::Missing,
         };
         Ok(Input::of(alloc, origin, keeps))
     }
 
-    fn of(alloc: Global, origin: Origin<R>, keeps: bool) -> Input<R> {
+    fn of(alloc: Global, origin: Origin<'a, R>, keeps: bool) -> Input<'a, R> {
         let kept = if keeps { Some(Vec::new(alloc)) } else { None };
         Input {
             origin,
@@ -132,7 +149,10 @@ impl<R: Files> Input<R> {
 }
 
 // Keeps what was read. Where memory is missing, nothing is kept any more.
-fn keep(kept: &mut Option<Vec<u8>>, bytes: &[u8]) {
+fn keep(kept: &mut Option<Vec<u8>>, bytes: &[u8])
+    ensures more { IfSome kept.new (λ more. IfSome kept.old (λ less. more.items ≡ less.items ++ bytes.now)) }
+    ensures none { IsNone kept.old → IsNone kept.new }
+{
     let fits = match kept {
         Some(kept) => kept.extend_from_slice(bytes).is_ok(),
         None => true,
@@ -142,7 +162,7 @@ fn keep(kept: &mut Option<Vec<u8>>, bytes: &[u8]) {
     }
 }
 
-impl<R: Files> Source for Input<R> {
+impl<'a, R: Files + Clock> Source for Input<'a, R> {
     ghost left = { λ _. None };
 
     ghost faults = { λ s. s.faults };

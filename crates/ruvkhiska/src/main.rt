@@ -5,11 +5,13 @@ ghost use Rattle.std.specs.Prelude.{◌≡◌};
 ghost use Rattle.command_line.specs.Status.{status};
 
 use command_line::{Outcome, write_line};
-use complaints::{NOTE, ROOT, SEVERAL_ROOTS, STAMP, complaint, global_names, path_at};
+use complaints::{NOTE, READ, ROOT, SEVERAL_ROOTS, STAMP, complaint, global_names, path_at};
 use module_plain::plain_module;
 use outside_files::Writing;
 use per_fields::Why;
-use program_parts::{Asked, Input, Kept, Parsed, Syntax, Task, manual_page, parse_words, save};
+use program_parts::{
+    Asked, Input, Kept, Parsed, Progress, Syntax, Task, manual_page, parse_words, save,
+};
 use stamped_results::{
     Fault, behind_stamp, due_of, module_of, stamp_line, stamp_of_files, stamped,
 };
@@ -70,7 +72,7 @@ struct Work<'a> {
     asked: &'a Asked<'a>,
     names: Vec<Text>,
     files: Kept<'a, HostRuntime>,
-    input: Input<HostRuntime>,
+    input: Input<'a, HostRuntime>,
 }
 
 // Tells of a fault: its text, where there is memory for it, else the line of the fixed program. The outcome stands, whatever becomes of it.
@@ -249,14 +251,24 @@ fn text_of(alloc: Global, work: &mut Work<'_>, fault: Fault) -> Result<String, M
     }
 }
 
+// Whether a terminal is told how much was read: not where somebody types there what is read.
+fn is_watched(rt: &HostRuntime, asked: &Asked<'_>) -> bool {
+    let has_input = asked.input.is_some() || matches!(asked.task, Task::Show | Task::Trial);
+    rt.stderr().is_terminal() && (has_input || !rt.stdin().is_terminal())
+}
+
 // Does what is asked for: the exit status.
-fn carry_out(rt: &HostRuntime, asked: &Asked<'_>) -> u8 {
+fn carry_out<'a>(
+    rt: &'a HostRuntime,
+    asked: &'a Asked<'a>,
+    progress: &'a Progress<'a, HostRuntime>,
+) -> u8 {
     let alloc = rt.alloc();
     // The octets of an encoding have no lines, and are read one by one.
     let keeps = asked.task != Task::ToXml;
     let input = match asked.input {
-        Some(name) => Input::file(alloc, rt, name, keeps),
-        None => Input::standard(alloc, rt.stdin(), keeps),
+        Some(name) => Input::file(alloc, rt, name, progress, keeps),
+        None => Input::standard(alloc, rt.stdin(), progress, keeps),
     };
     let Ok(input) = input else {
         return finished(rt, Outcome::OutOfMemory, Err(Memory));
@@ -268,10 +280,12 @@ fn carry_out(rt: &HostRuntime, asked: &Asked<'_>) -> u8 {
     let mut work = Work {
         asked,
         names,
-        files: Kept::new(alloc, rt),
+        files: Kept::new(alloc, rt, progress),
         input,
     };
-    let fault = match result_of(alloc, &mut work) {
+    let result = result_of(alloc, &mut work);
+    progress.end();
+    let fault = match result {
         Ok(bytes) => match write_result(rt, asked, &bytes) {
             Ok(()) => return 0,
             Err(fault) => fault,
@@ -313,7 +327,8 @@ fn out_of_memory(rt: &HostRuntime) -> u8 {
 // Does what is asked for, and be it the page of the manual: the exit status.
 fn served(rt: &HostRuntime, asked: &Asked<'_>) -> u8 {
     if asked.task != Task::Manual {
-        return carry_out(rt, asked);
+        let progress = Progress::new(rt, rt.stderr(), READ, is_watched(rt, asked));
+        return carry_out(rt, asked, &progress);
     }
     match manual_page(rt.alloc()) {
         Ok(page) => write_text(rt, page.as_str()),

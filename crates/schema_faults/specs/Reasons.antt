@@ -47,7 +47,6 @@ left_out_attributes role own =
     (has (codes "substitutionGroup") own, why.SubstitutionGroup)
     ∷ (is_true (codes "abstract") own, why.Abstract)
     ∷ (is_element role && has_default own, why.ElementDefault)
-    ∷ (is_attribute role && has_default own, why.AttributeDefault)
     ∷ []
 
 -- ---- datatypes that are left out

@@ -1,5 +1,5 @@
 -- What an element has to have, and what it may not have at once (XML Schema Part 1, sections 3.2.3, 3.3.3, 3.4.3 and 3.14.3).
-use Rattle.std.specs.Prelude.{ℕ, Bool, false, ◌||◌, ◌&&◌, not, List, codes, Some, None}
+use Rattle.std.specs.Prelude.{ℕ, Bool, true, false, ◌||◌, ◌&&◌, not, List, bytes_eq, codes, Some, None}
 use Rattle.xa_base.specs.Limits.{is_empty}
 use Rattle.label_tree.specs.Rose.{Rose}
 use Rattle.item_tree.specs.declared.label.ItemLabel.{ItemLabel}
@@ -50,9 +50,22 @@ names_type own = has (codes "type") own || has (codes "base") own || has (codes 
 abbrev pub declares : List (List ℕ × List ℕ) → Bool
 declares own = has (codes "name") own || has (codes "type") own || has (codes "nillable") own || has (codes "form") own
 
+-- the use of an attribute, which is `optional` where it doesn't stand
+abbrev pub is_optional : List (List ℕ × List ℕ) → Bool
+is_optional own = elim (beside (codes "use") own) [ None ↦ true | Some value ↦ bytes_eq value (codes "optional") ]
+
+-- a default value beside a fixed one, or for what is never absent or never stands (Part 1, section 3.2.3, rules 1 and 2)
+abbrev pub has_idle_default : List (List ℕ × List ℕ) → Bool
+has_idle_default own = has (codes "default") own && (has (codes "fixed") own || not (is_optional own))
+
+abbrev pub has_both_values : ElementRole → List (List ℕ × List ℕ) → Bool
+has_both_values GlobalAttribute own = has_idle_default own
+has_both_values LocalAttribute own = has_idle_default own
+has_both_values role own = false
+
 abbrev pub has_both_forms : ElementRole → List (List ℕ × List ℕ) → List (Rose ItemLabel) → Bool
 has_both_forms role own kids =
-    (has (codes "ref") own && (declares own || has_inner_type role kids)) || (names_type own && has_inner_type role kids)
+    (has (codes "ref") own && (declares own || has_inner_type role kids)) || (names_type own && has_inner_type role kids) || has_both_values role own
 
 -- no type, by its name, in place or by a reference
 abbrev pub is_untyped : ElementRole → List (List ℕ × List ℕ) → List (Rose ItemLabel) → Bool

@@ -82,8 +82,6 @@ fn left_out_attribute(role: ElementRole, own: &[(Text, Text)]) -> Option<SchemaW
         Some(SchemaWhy::Abstract)
     } else if is_element(role) && has_default(own) {
         Some(SchemaWhy::ElementDefault)
-    } else if is_attribute(role) && has_default(own) {
-        Some(SchemaWhy::AttributeDefault)
     } else {
         None
     }

@@ -75,12 +75,39 @@ fn declares(own: &[(Text, Text)]) -> bool
         || has_attribute("form", own)
 }
 
+fn is_optional(own: &[(Text, Text)]) -> bool
+    ensures { result ≡ rule.is_optional own.now }
+{
+    match value_of("use", own) {
+        Some(value) => value.bytes() == b"optional".as_slice(),
+        None => true,
+    }
+}
+
+// Whether it has a default value that is never taken.
+fn has_idle_default(own: &[(Text, Text)]) -> bool
+    ensures { result ≡ rule.has_idle_default own.now }
+{
+    has_attribute("default", own) && (has_attribute("fixed", own) || !is_optional(own))
+}
+
+fn has_both_values(role: ElementRole, own: &[(Text, Text)]) -> bool
+    ensures { result ≡ rule.has_both_values role own.now }
+{
+    match role {
+        ElementRole::GlobalAttribute | ElementRole::LocalAttribute => has_idle_default(own),
+        _ => false,
+    }
+}
+
 /// Whether it has two forms that exclude each other.
 pub fn has_both_forms(role: ElementRole, own: &[(Text, Text)], kids: &[Tree<ItemLabel>]) -> bool
     ensures { result ≡ rule.has_both_forms role own.now kids.now }
 {
     let inner = has_inner_type(role, kids);
-    (has_attribute("ref", own) && (declares(own) || inner)) || (names_type(own) && inner)
+    (has_attribute("ref", own) && (declares(own) || inner))
+        || (names_type(own) && inner)
+        || has_both_values(role, own)
 }
 
 /// Whether it has no type, by its name, in place or by a reference.

@@ -3,11 +3,13 @@ mod DeclaredParts
 pub mod FewComponents
 mod FirstCircular
 mod FirstDiffering
+mod FirstMisfit
 mod FirstNotMade
 mod Firsts
 pub mod GlobalLists
 pub mod InOrder
 pub mod Items
+mod Joined
 pub mod Kept
 mod KeptComplexes
 pub mod LinkedSet
@@ -21,6 +23,7 @@ pub mod OneSet
 pub mod Passing
 mod PlacesOfParts
 mod ResolvedNames
+mod Respelled
 mod SameTypes
 mod SetChains
 mod SetContents

@@ -1,5 +1,5 @@
 -- The set of documents in which no pass finds a fault hangs together.
-use Rattle.std.proofs.Common.{◌≡◌, ℕ, suc, ◌+◌, arith, inl, inr, List, [], ◌∷◌, length, map, All, Option, Some, None, refl, sym, ap, subst}
+use Rattle.std.proofs.Common.{◌≡◌, ℕ, suc, ◌+◌, arith, inl, inr, List, [], ◌∷◌, length, map, All, Option, Some, None, refl, sym, ap, ◌∙◌, subst}
 use Rattle.std.specs.Prelude.{slice_get}
 use Rattle.std.proofs.lemmas.List.{length-map}
 use Rattle.xa_base.specs.Lists.{HasItem}
@@ -10,6 +10,7 @@ use Rattle.schema_parts.specs.Components.{Set, components}
 use Rattle.schema_parts.specs.Documents.{doc_of}
 use Rattle.schema_parts.specs.Linked.{IsTyped, IsElement, IsAttribute, IsSimpleType, IsLinked}
 use Rattle.schema_parts.specs.Raw.{Document}
+use Rattle.schema_parts.specs.declared.components.ComplexDef.{ComplexDef}
 use Rattle.schema_parts.specs.declared.components.ElementDecl.{ElementDecl}
 use Rattle.schema_parts.specs.declared.components.SimpleDef.{SimpleDef}
 use Rattle.schema_parts.specs.declared.components.TypeOf.{TypeOf}
@@ -26,14 +27,16 @@ use Rattle.link_set.specs.Builtins.{used_builtins}
 use Rattle.link_set.specs.Few.{AreFew}
 use Rattle.link_set.specs.Parts.{HasWholeModel}
 use Rattle.link_set.specs.Sets as sets
-use Rattle.link_set.specs.Sets.{named_spaces, parts_of, set_of, element, simples, type_of_kind, type_of_attribute}
+use Rattle.link_set.specs.Sets.{NamedSpace, named_spaces, parts_of, set_of, element, simples, type_of_kind, spelled_complex}
 use Rattle.link_set.specs.Written.{lists_of, complex_before}
 use Rattle.schema_link.specs.Passes.{passes, ArePassed}
 use Rattle.schema_link.specs.Sets.{AreNumbered}
 use Rattle.schema_link.proofs.FewComponents.{short_list, few_elements, few_complexes}
 use Rattle.schema_link.proofs.InOrder.{length_in_order}
-use Rattle.schema_link.proofs.Items.{of_mapped, in_either, each_item, item_of_all}
+use Rattle.schema_link.proofs.Items.{in_mapped, of_mapped, in_either, each_item, item_of_all}
+use Rattle.schema_link.proofs.Joined.{IsJoined}
 use Rattle.schema_link.proofs.Kept.{Keeps, NumberedFrom, AreFaultless, each_keeps}
+use Rattle.schema_link.proofs.Respelled.{respelled, respelled_linked}
 use Rattle.schema_link.proofs.SetChains.{unnamed_there, descending, short}
 use Rattle.schema_link.proofs.SetContents.{linked_set, complexes_good}
 use Rattle.schema_link.proofs.SetCounts.{made, one_particle, one_declaration}
@@ -57,9 +60,9 @@ faultless_of docs numbered kept passed = record {
   few = short_list (counted_places docs) 10000 (none_beyond (slice_get (counted_places docs) 10000) passed.0);
   apart = passed.1.0;
   resolved = passed.1.1.0;
-  uses = λ f i. passed.1.1.1.1.1.0 f (inl i);
-  typed = λ f i. passed.1.1.1.1.1.0 f (inr i);
-  clear = passed.1.1.1.1.1.1.0;
+  uses = λ f i. passed.1.1.1.1.1.1.0 f (inl i);
+  typed = λ f i. passed.1.1.1.1.1.1.0 f (inr i);
+  clear = passed.1.1.1.1.1.1.1.0;
   numbered = numbered_from 0 docs (λ k d at. let e = numbered k d at in omega (arith, e));
   kept = kept;
 }
@@ -101,9 +104,9 @@ module _ (docs : List Document) (h : AreFaultless docs) (spaces : List Space) (l
             (good.0, typed_in (type_of_kind (numbers docs) r.0.file r.0.element.kind) good.1)
       ]
 
-  linked : All (λ (t : SimpleDef). Sound (space_of t.space)) ts → All HasWholeModel (sets.complexes (numbers docs) docs (lists_of docs))
-      → IsLinked (linked_set docs h ts (simples_count docs spaces long ts named))
-  linked sound whole =
+  joined : All (λ (t : SimpleDef). Sound (space_of t.space)) ts → All HasWholeModel (sets.complexes (numbers docs) docs (lists_of docs))
+      → IsJoined (linked_set docs h ts (simples_count docs spaces long ts named))
+  joined sound whole =
       let same = simples_count docs spaces long ts named in
       let set = linked_set docs h ts same in
       record {
@@ -126,15 +129,25 @@ module _ (docs : List Document) (h : AreFaultless docs) (spaces : List Space) (l
         short = short docs h ts same;
       }
 
+-- content models stay as they are
+whole_as_written : (ts : List NamedSpace) (cs : List ComplexDef) → All HasWholeModel (map (spelled_complex ts) cs) → All HasWholeModel cs
+whole_as_written ts cs whole =
+    each_item HasWholeModel cs (λ c i. item_of_all HasWholeModel (map (spelled_complex ts) cs) whole (spelled_complex ts c) (in_mapped (spelled_complex ts) cs c i))
+
 -- the set that has the parts
 pub set_of_linked : (docs : List Document) → AreFaultless docs → (s : Set) (spaces : List Space) → length spaces ≡ length (simple_types docs) → parts_of s ≡ set_of docs spaces
     → All (λ (t : SimpleDef). Sound (space_of t.space)) s.simples → All HasWholeModel s.complexes → IsLinked s
 set_of_linked docs h s spaces long is sound whole =
     let named = ap (λ (p : sets.SetParts). p.simples) is in
     let complexes = ap (λ (p : sets.SetParts). p.complexes) is in
-    let same : s ≡ linked_set docs h s.simples (simples_count docs spaces long s.simples named) =
+    let written = linked_set docs h s.simples (simples_count docs spaces long s.simples named) in
+    let kinds = simples (simple_types docs) spaces (used_builtins (lists_of docs)) in
+    let same : s ≡ respelled kinds written =
     λ i. components (is i).elements (is i).globals s.simples (is i).complexes (is i).attributes in
-    subst IsLinked (sym same) (linked docs h spaces long s.simples named sound (subst (λ cs. All HasWholeModel cs) complexes whole))
+    let own : s ≡ respelled (named_spaces s.simples) written = same ∙ ap (λ ts. respelled ts written) (sym named) in
+    subst IsLinked (sym own)
+    (respelled_linked written sound (joined docs h spaces long s.simples named sound
+    (whole_as_written kinds written.complexes (subst (λ cs. All HasWholeModel cs) complexes whole))))
 
 pub set_linked : (docs : List RawDoc) (s : Set) (spaces : List Space) → AreNumbered (map doc_of docs) → ArePassed (map doc_of docs) passes
     → length spaces ≡ length (simple_types (map doc_of docs)) → parts_of s ≡ set_of (map doc_of docs) spaces

@@ -11,10 +11,11 @@ use Rattle.link_names.proofs.OneFirst.{one_first}
 use Rattle.link_cycles.specs.SimpleTypes.{simple_types}
 use Rattle.link_complex.specs.Uses.{double_uses}
 use Rattle.link_complex.specs.ElementTypes.{Differs}
-use Rattle.schema_link.specs.Passes.{Pass, Counting, Naming, Resolving, Ordering, Making, Comparing, Clearing, IsFault, passes, IsShownBy, ArePassed}
+use Rattle.schema_link.specs.Passes.{Pass, Counting, Naming, Resolving, Ordering, Making, Valuing, Comparing, Clearing, IsFault, passes, IsShownBy, ArePassed}
 use Rattle.schema_link.proofs.Firsts.{SomeFirst, some_of_both, some_of_list}
 use Rattle.schema_link.proofs.FirstCircular.{some_circular}
 use Rattle.schema_link.proofs.FirstDiffering.{some_differing, some_unclear}
+use Rattle.schema_link.proofs.FirstMisfit.{some_misfit}
 use Rattle.schema_link.proofs.FirstNotMade.{some_not_made}
 
 the_same : (f g : LinkingFault) → Some f ≡ Some g → f ≡ g
@@ -56,8 +57,9 @@ content docs =
 
 pub some_answer : (docs : List Document) → Answer docs passes
 some_answer docs =
-    go_on docs Counting (Naming ∷ Resolving ∷ Ordering ∷ Making ∷ Comparing ∷ Clearing ∷ []) (some_of_list (beyond_limit docs))
-    (λ _. go_on docs Naming (Resolving ∷ Ordering ∷ Making ∷ Comparing ∷ Clearing ∷ []) (some_of_list (duplicates docs))
-    (λ _. go_on docs Resolving (Ordering ∷ Making ∷ Comparing ∷ Clearing ∷ []) (some_of_list (unresolved docs))
-    (λ _. go_on docs Ordering (Making ∷ Comparing ∷ Clearing ∷ []) (some_circular (simple_types docs))
-    (λ none. go_on docs Making (Comparing ∷ Clearing ∷ []) (some_not_made docs none) (λ _. content docs)))))
+    go_on docs Counting (Naming ∷ Resolving ∷ Ordering ∷ Making ∷ Valuing ∷ Comparing ∷ Clearing ∷ []) (some_of_list (beyond_limit docs))
+    (λ _. go_on docs Naming (Resolving ∷ Ordering ∷ Making ∷ Valuing ∷ Comparing ∷ Clearing ∷ []) (some_of_list (duplicates docs))
+    (λ _. go_on docs Resolving (Ordering ∷ Making ∷ Valuing ∷ Comparing ∷ Clearing ∷ []) (some_of_list (unresolved docs))
+    (λ _. go_on docs Ordering (Making ∷ Valuing ∷ Comparing ∷ Clearing ∷ []) (some_circular (simple_types docs))
+    (λ none. go_on docs Making (Valuing ∷ Comparing ∷ Clearing ∷ []) (some_not_made docs none)
+    (λ _. go_on docs Valuing (Comparing ∷ Clearing ∷ []) (some_misfit docs none) (λ _. content docs))))))

@@ -8,6 +8,7 @@ use Rattle.xa_base.specs.declared.texts.Name.{Name}
 use Rattle.xa_base.specs.Lists.{HasItem}
 use Rattle.xa_base.specs.Names.{name_eq}
 use Rattle.xa_base.proofs.NameLaws.{name_eq-Decides}
+use Rattle.simple_types.specs.declared.standards.Standard.TheVariants.{Free}
 use Rattle.schema_parts.specs.Raw.{Document}
 use Rattle.schema_walk.specs.Parts as what
 use Rattle.schema_walk.specs.Parts.{What, Part, in_document, parts}
@@ -58,7 +59,7 @@ abbrev pub element_mention : Place → Name → Mention
 element_mention p a = first_or (mention (need_of role.Element) p a) (of_what p (what.ElementReference a))
 
 abbrev pub attribute_mention : Place → Name → Mention
-attribute_mention p a = first_or (mention (need_of role.Attribute) p a) (of_use p (record { name = a; reference = true; kind = None; required = false; at = p.at }))
+attribute_mention p a = first_or (mention (need_of role.Attribute) p a) (of_use p (record { name = a; reference = true; kind = None; standard = Free; required = false; at = p.at }))
 
 is_there_then : (b : Bool) → unless_there b ≡ None → b ≡ true
 is_there_then true e = refl

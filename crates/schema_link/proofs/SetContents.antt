@@ -21,9 +21,10 @@ use Rattle.schema_parts.specs.Coherent.{leaves_in, name_of}
 use Rattle.schema_parts.specs.Coherent as coherent
 use Rattle.schema_parts.specs.Components as parts_of_set
 use Rattle.schema_parts.specs.Components.{Set, components, element_type}
-use Rattle.schema_parts.specs.Linked.{leaves, leaves_of_model, IsNamed, IsModel, IsContent, IsComplexType, IsUse}
+use Rattle.schema_parts.specs.Linked.{leaves, leaves_of_model, IsNamed, IsModel, IsContent, IsUse, MayBeFor}
 use Rattle.schema_parts.specs.Places.{group_place, places_in_model, places_in_mixed, places_in_content, places_in_use, places_in_local, places_in_element, places_in_attribute, places_in_definition}
 use Rattle.schema_parts.specs.Raw.{Simple, Complex, Kind, NamedKind, SimpleKind, ComplexKind, Local, Reference, Own, Document}
+use Rattle.schema_parts.specs.declared.components.AttributeUse.{AttributeUse}
 use Rattle.schema_parts.specs.declared.components.ComplexDef.{ComplexDef}
 use Rattle.schema_parts.specs.declared.components.ElementDecl.{ElementDecl}
 use Rattle.schema_parts.specs.declared.components.SimpleDef.{SimpleDef}
@@ -42,20 +43,21 @@ use Rattle.link_complex.specs.ComplexTypes as complex
 use Rattle.link_complex.specs.ComplexTypes.{ComplexDefinition, defined, of_document, complex_types, model_of}
 use Rattle.link_complex.specs.ElementTypes.{identity, type_named, typed_elements, type_at, type_of_found}
 use Rattle.link_set.specs.Sets as sets
-use Rattle.link_set.specs.Sets.{or_zero, element, type_of_attribute, type_of_kind, numbered, number_of_local, number_of_found, number_of_declaration, content_of}
+use Rattle.link_set.specs.Sets.{or_zero, element, named_attribute, type_of_kind, numbered, number_of_local, number_of_found, number_of_declaration, content_of}
 use Rattle.link_set.specs.Written.{WrittenElement, written_element, declared_by, global_elements, local_elements, lists_of, complex_before}
 use Rattle.schema_parts.proofs.Placed.{one_place_once}
 use Rattle.schema_link.proofs.DeclaredNumbers.{by_file, IsDeclared, declared, number_same}
 use Rattle.schema_link.proofs.FewComponents.{places_few}
 use Rattle.schema_link.proofs.InOrder.{item_of_order}
 use Rattle.schema_link.proofs.Items.{in_flat, of_flat, in_mapped, of_mapped, each_item, item_of_all, one_at, item_at, some_count, count_all, count_of_part, one_of_sum}
+use Rattle.schema_link.proofs.Joined.{IsJoinedType}
 use Rattle.schema_link.proofs.Kept.{AreFaultless}
 use Rattle.schema_link.proofs.KeptComplexes.{of_known, places_of_complex}
 use Rattle.schema_link.proofs.NumberedModels.{leaves_numbered, height_numbered, bounds_numbered, places_numbered, renumbered, model_size, may_occur}
 use Rattle.schema_link.proofs.PlacesOfParts.{all_places, types_by_places}
 use Rattle.schema_link.proofs.SetModels.{once, type_leaves, document_leaves, leaf_declared, complex_fits, model_clear, same_type}
 use Rattle.schema_link.proofs.SetNames.{complexes_named}
-use Rattle.schema_link.proofs.SetUses.{each_use_good, uses_few, uses_ascend, text_good}
+use Rattle.schema_link.proofs.SetUses.{each_use_good, use_fits, uses_few, uses_ascend, text_good}
 use Rattle.schema_link.proofs.TypedNumbers.{numbers, simple_count}
 
 -- ---- types in place
@@ -341,25 +343,28 @@ module _ (docs : List Document) (h : AreFaultless docs) (ts : List SimpleDef) (e
     content_good (content.ElementOnly m) e whole = model_good m (ap model_of e) whole
     content_good (content.Mixed m) e whole = model_good m (ap model_of e) whole
 
-    pub complex_good : IfSome (parts_of_set.model_of (sets.complex (numbers docs) (type_of_attribute (sets.attributes (numbers docs) (lists_of docs).attributes)) docs c).content) (Allowed MayHave)
-        → IsComplexType linked_set (sets.complex (numbers docs) (type_of_attribute (sets.attributes (numbers docs) (lists_of docs).attributes)) docs c)
+    pub complex_good : IfSome (parts_of_set.model_of (sets.complex (numbers docs) (named_attribute (sets.attributes (numbers docs) (lists_of docs).attributes)) docs c).content) (Allowed MayHave)
+        → IsJoinedType linked_set (sets.complex (numbers docs) (named_attribute (sets.attributes (numbers docs) (lists_of docs).attributes)) docs c)
     complex_good whole = record {
       named = complexes_named docs h c known;
       few = let few = uses_few docs h c known in omega (arith, few);
       uses =
-          each_item (IsUse linked_set) (sets.uses (numbers docs) (type_of_attribute (sets.attributes (numbers docs) (lists_of docs).attributes)) c)
+          each_item (IsUse linked_set) (sets.uses (numbers docs) (named_attribute (sets.attributes (numbers docs) (lists_of docs).attributes)) c)
           (λ v i. let good = each_use_good docs h c known v i in let lt = good.1 in (good.0, omega (arith, lt, enough)));
+      fitting =
+          each_item (λ (u : AttributeUse). MayBeFor u.required u.standard) (sets.uses (numbers docs) (named_attribute (sets.attributes (numbers docs) (lists_of docs).attributes)) c)
+          (λ v i. use_fits docs h c known v i);
       ascending = uses_ascend docs h c known;
       content = content_good c.body.content refl whole;
     }
 
   pub complexes_good : All (λ (x : ComplexDef). IfSome (parts_of_set.model_of x.content) (Allowed MayHave)) (sets.complexes (numbers docs) docs (lists_of docs))
-      → All (IsComplexType linked_set) (sets.complexes (numbers docs) docs (lists_of docs))
+      → All (IsJoinedType linked_set) (sets.complexes (numbers docs) docs (lists_of docs))
   complexes_good whole =
-      let made = sets.complex (numbers docs) (type_of_attribute (sets.attributes (numbers docs) (lists_of docs).attributes)) docs in
-      each_item (IsComplexType linked_set) (sets.complexes (numbers docs) docs (lists_of docs)) (λ x i.
+      let made = sets.complex (numbers docs) (named_attribute (sets.attributes (numbers docs) (lists_of docs).attributes)) docs in
+      each_item (IsJoinedType linked_set) (sets.complexes (numbers docs) docs (lists_of docs)) (λ x i.
       let r = of_mapped made (lists_of docs).complexes x i in
-      subst (IsComplexType linked_set) r.2
+      subst (IsJoinedType linked_set) r.2
       (complex_good r.0 (item_of_order complex_before (complex_types docs) r.0 r.1)
       (item_of_all (λ (y : ComplexDef). IfSome (parts_of_set.model_of y.content) (Allowed MayHave)) (sets.complexes (numbers docs) docs (lists_of docs)) whole (made r.0)
       (in_mapped made (lists_of docs).complexes r.0 r.1))))

@@ -34,7 +34,7 @@ use Rattle.link_complex.specs.ComplexTypes as complex
 use Rattle.link_complex.specs.ComplexTypes.{ComplexDefinition, defined, of_document, complex_types}
 use Rattle.link_set.specs.Numbering.{simple_entry, complex_entry, has_name, is_called}
 use Rattle.link_set.specs.Sets as sets
-use Rattle.link_set.specs.Sets.{or_zero, simple_or_complex, element, type_of_attribute, type_of_kind, numbered, number_of_local, number_of_found, number_of_declaration, content_of}
+use Rattle.link_set.specs.Sets.{or_zero, simple_or_complex, element, named_attribute, type_of_kind, numbered, number_of_local, number_of_found, number_of_declaration, content_of}
 use Rattle.link_set.specs.Written.{WrittenElement, written_element, declared_by, global_elements, local_elements, lists_of, simple_before, complex_before}
 use Rattle.schema_link.proofs.DeclaredNumbers.{complex_number, local_number, locals_placed, declared, number_same}
 use Rattle.schema_link.proofs.GlobalLists.{by_documents, by_kind_of, of_element, of_definition, of_local, listed, complexes_listed}
@@ -149,7 +149,7 @@ count_named n (c ∷ cs) = step (parts_of_set.model_of c.content) refl (count_na
 
 module _ (docs : List Document) where
   abbrev pub made : ComplexDefinition → ComplexDef
-  made c = sets.complex (numbers docs) (type_of_attribute (sets.attributes (numbers docs) (lists_of docs).attributes)) docs c
+  made c = sets.complex (numbers docs) (named_attribute (sets.attributes (numbers docs) (lists_of docs).attributes)) docs c
 
   pub made_leaves : (f : ℕ → ℕ) (k : RawContent) → linked.leaves_of (content_of (numbers docs) f k) ≡ map (renumbered f) (leaves_of_content k)
   made_leaves f content.Empty = refl

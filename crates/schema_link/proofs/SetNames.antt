@@ -24,7 +24,7 @@ use Rattle.link_set.specs.Builtins.{used_builtins}
 use Rattle.link_set.specs.Numbering.{is_called}
 use Rattle.link_set.specs.Ordered.{in_order}
 use Rattle.link_set.specs.Sets as sets
-use Rattle.link_set.specs.Sets.{NamedSpace, named_space, named_spaces, MadeType, made_type, made_types, made_before, space_of_made, space_of_builtin, simples, type_of_attribute}
+use Rattle.link_set.specs.Sets.{NamedSpace, named_space, named_spaces, MadeType, made_type, made_types, made_before, space_of_made, space_of_builtin, simples, named_attribute}
 use Rattle.link_set.specs.Written.{lists_of, complex_before}
 use Rattle.schema_link.proofs.DeclaredParts.{type_once, simple_declarable, complex_declarable}
 use Rattle.schema_link.proofs.GlobalLists.{as_type, by_documents}
@@ -141,7 +141,7 @@ module _ (docs : List Document) (h : AreFaultless docs) (spaces : List Space) (l
       ≡ count_by (λ (c : ComplexDefinition). is_called c.name a) (complex_types docs)
   complex_names a =
       let ns = numbers docs in
-      let one = count_mapped (λ (c : ComplexDef). is_called c.name a) (sets.complex ns (type_of_attribute (sets.attributes ns (lists_of docs).attributes)) docs) (lists_of docs).complexes in
+      let one = count_mapped (λ (c : ComplexDef). is_called c.name a) (sets.complex ns (named_attribute (sets.attributes ns (lists_of docs).attributes)) docs) (lists_of docs).complexes in
       let two = sum_in_order complex_before (λ (c : ComplexDefinition). as_number (is_called c.name a)) (complex_types docs) in
       omega (arith, one, two)
 

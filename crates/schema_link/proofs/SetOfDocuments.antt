@@ -21,7 +21,7 @@ use Rattle.link_complex.specs.ComplexTypes.{complex_types}
 use Rattle.link_set.specs.Builtins.{all_builtins, is_among, used_builtins}
 use Rattle.link_set.specs.Ordered.{in_order}
 use Rattle.link_set.specs.Sets as sets
-use Rattle.link_set.specs.Sets.{NamedSpace, named_space, named_spaces, MadeType, made_type, made_types, made_before, space_of_made, space_of_builtin, element, attribute, simples, type_of_attribute}
+use Rattle.link_set.specs.Sets.{NamedSpace, named_space, named_spaces, MadeType, made_type, made_types, made_before, space_of_made, space_of_builtin, element, attribute, simples, named_attribute}
 use Rattle.link_set.specs.Written as written
 use Rattle.link_set.specs.Written.{WrittenElement, WrittenAttribute, written_element, written_attribute, declared_by, local_elements, global_attributes, lists_of, simple_before, complex_before}
 use Rattle.schema_link.proofs.DeclaredParts.{element_fits, local_fits, attribute_fits, element_once, attribute_once}
@@ -91,7 +91,7 @@ module _ (docs : List Document) (h : AreFaultless docs) where
   complexes_count =
       let ns = numbers docs in
       let few = few_complexes docs h in
-      let a = length-map (lists_of docs).complexes (sets.complex ns (type_of_attribute (sets.attributes ns (lists_of docs).attributes)) docs) in
+      let a = length-map (lists_of docs).complexes (sets.complex ns (named_attribute (sets.attributes ns (lists_of docs).attributes)) docs) in
       let b = length_in_order complex_before (complex_types docs) in
       omega (arith, few, a, b)
 

@@ -18,6 +18,8 @@ use Rattle.xa_base.proofs.Lists.{has_left, has_right}
 use Rattle.xa_base.proofs.NameLaws.{name_eq-Decides, name_cmp_total, exact_names}
 use Rattle.schema_parts.specs.Declarable.{is_declarable_attribute}
 use Rattle.schema_parts.specs.DeclaredNames.{use_named, uses_named}
+use Rattle.simple_types.specs.declared.standards.Standard.TheVariants.{Free}
+use Rattle.schema_parts.specs.Linked.{MayBeFor}
 use Rattle.schema_parts.specs.Raw.{Base, Use, Document}
 use Rattle.schema_parts.specs.TypedUses.{IsTypedUse, AreTypedUses}
 use Rattle.schema_parts.specs.declared.components.AttributeUse.{AttributeUse}
@@ -32,7 +34,7 @@ use Rattle.link_names.specs.References.{of_use}
 use Rattle.link_names.specs.Order.{place}
 use Rattle.link_complex.specs.ComplexTypes.{ComplexDefinition, complex_types}
 use Rattle.link_set.specs.Sets as sets
-use Rattle.link_set.specs.Sets.{or_zero, type_of_attribute, type_of_use, simple_of_use, attribute_use, use_before, uses, simple_of_reference}
+use Rattle.link_set.specs.Sets.{named_attribute, simple_of_found, standard_of_found, own_or, type_of_use, simple_of_use, attribute_use, use_before, uses, simple_of_reference}
 use Rattle.link_set.specs.Written.{lists_of}
 use Rattle.link_set.proofs.Sorted.{NoneBefore, Rises, rises_in_order}
 use Rattle.schema_link.proofs.DeclaredParts.{attribute_declarable}
@@ -42,6 +44,7 @@ use Rattle.schema_link.proofs.Kept.{AreFaultless}
 use Rattle.schema_link.proofs.KeptComplexes.{of_known, few_uses, use_once}
 use Rattle.schema_link.proofs.Members.{complex_part}
 use Rattle.schema_link.proofs.ResolvedNames.{right, attribute_mention, attribute_named}
+use Rattle.schema_link.proofs.Respelled.{unless}
 use Rattle.schema_link.proofs.SetOfDocuments.{attribute_good, attribute_names}
 use Rattle.schema_link.proofs.TypedNumbers.{numbers, simple_count, simple_base, simple_reference}
 
@@ -79,15 +82,15 @@ strictly (u ∷ us) rises once =
       strictly us rises.1 (λ a. let next = count_more (λ (v : AttributeUse). name_eq a v.name) u us in let few = once a in omega (arith, next, few)),
     )
 
--- ---- the type of the first attribute of a name
+-- ---- the first attribute of a name
 
-type_there : (gs : List GlobalAttribute) (a : Name) (g : GlobalAttribute) → HasItem gs g → g.name ≡ a
-    → (x : GlobalAttribute) × HasItem gs x × (type_of_attribute gs a ≡ Some x.simple)
-type_there [] a g i e = absurd i
-type_there (x ∷ xs) a g i e = step (name_eq x.name a) refl i (λ j. type_there xs a g j e)
+found_there : (gs : List GlobalAttribute) (a : Name) (g : GlobalAttribute) → HasItem gs g → g.name ≡ a
+    → (x : GlobalAttribute) × HasItem gs x × (named_attribute gs a ≡ Some x)
+found_there [] a g i e = absurd i
+found_there (x ∷ xs) a g i e = step (name_eq x.name a) refl i (λ j. found_there xs a g j e)
   where
-    step : (b : Bool) → name_eq x.name a ≡ b → HasItem (x ∷ xs) g → (HasItem xs g → (y : GlobalAttribute) × HasItem xs y × (type_of_attribute xs a ≡ Some y.simple))
-        → (y : GlobalAttribute) × HasItem (x ∷ xs) y × ((if b then Some x.simple else type_of_attribute xs a) ≡ Some y.simple)
+    step : (b : Bool) → name_eq x.name a ≡ b → HasItem (x ∷ xs) g → (HasItem xs g → (y : GlobalAttribute) × HasItem xs y × (named_attribute xs a ≡ Some y))
+        → (y : GlobalAttribute) × HasItem (x ∷ xs) y × ((if b then Some x else named_attribute xs a) ≡ Some y)
     step true is h rest = (x, inl refl, refl)
     step false is (inl same) rest = absurd (true≢false (sym ((name_eq-Decides x.name a).1 (ap (λ (y : GlobalAttribute). y.name) same ∙ e)) ∙ is))
     step false is (inr h) rest = let r = rest h in (r.0, inr r.1, r.2)
@@ -98,18 +101,18 @@ typed_use (x ∷ xs) h u (inl same) = subst IsTypedUse same h.0
 typed_use (x ∷ xs) h u (inr i) = typed_use xs h.1 u i
 
 module _ (docs : List Document) (h : AreFaultless docs) where
-  abbrev types : Name → Option ℕ
-  types = type_of_attribute (sets.attributes (numbers docs) (lists_of docs).attributes)
+  abbrev pub globals : Name → Option GlobalAttribute
+  globals = named_attribute (sets.attributes (numbers docs) (lists_of docs).attributes)
 
-  referred : (a : Name) → (g : GlobalComponent) × HasItem (attributes docs) g × (a ≡ g.name) → (is_declarable_attribute a ≡ true) × (or_zero (types a) < simple_count docs)
+  referred : (a : Name) → (g : GlobalComponent) × HasItem (attributes docs) g × (a ≡ g.name) → (is_declarable_attribute a ≡ true) × (simple_of_found (globals a) < simple_count docs)
   referred a r =
       let gs = sets.attributes (numbers docs) (lists_of docs).attributes in
       let named = in_mapped (λ (g : GlobalComponent). g.name) (attributes docs) r.0 r.1 in
       let found = of_mapped (λ (g : GlobalAttribute). g.name) gs r.0.name (subst (λ ns. HasItem ns r.0.name) (sym (attribute_names docs h)) named) in
-      let typed = type_there gs a found.0 found.1 (found.2 ∙ sym r.2) in
-      let good = attribute_good docs h typed.0 typed.1 in
+      let first = found_there gs a found.0 found.1 (found.2 ∙ sym r.2) in
+      let good = attribute_good docs h first.0 first.1 in
       let lt = good.1 in
-      let same : or_zero (types a) ≡ typed.0.simple = ap or_zero typed.2 in
+      let same : simple_of_found (globals a) ≡ first.0.simple = ap simple_of_found first.2 in
       (ap is_declarable_attribute r.2 ∙ attribute_declarable docs h r.0 r.1, omega (arith, lt, same))
 
   module _ (c : ComplexDefinition) (known : HasItem (complex_types docs) c) where
@@ -128,7 +131,7 @@ module _ (docs : List Document) (h : AreFaultless docs) where
         (λ q j. use_part_of u i q (inr (subst (λ o. HasItem (what.in_use_type c.place.file u.at o) q) (sym e) j)))
 
     use_good : (u : Use) → HasItem c.body.uses u → (b : Bool) → u.reference ≡ b
-        → (is_declarable_attribute u.name ≡ true) × ((if b then or_zero (types u.name) else type_of_use (numbers docs) c.place.file u.kind) < simple_count docs)
+        → (is_declarable_attribute u.name ≡ true) × ((if b then simple_of_found (globals u.name) else type_of_use (numbers docs) c.place.file u.kind) < simple_count docs)
     use_good u i true e =
         let p = part c.place.file (Some c.body.at) u.at (what.AttributeUse u) in
         let fine = right docs h.resolved p (use_part_of u i p (inl refl)) (attribute_mention (place c.place.file u.at) u.name) (mentioned u e) in
@@ -141,25 +144,33 @@ module _ (docs : List Document) (h : AreFaultless docs) where
           of_base u i u.kind refl (sym e ∙ typed),
         )
 
-    pub each_use_good : (v : AttributeUse) → HasItem (uses (numbers docs) types c) v → (is_declarable_attribute v.name ≡ true) × (v.simple < simple_count docs)
+    pub each_use_good : (v : AttributeUse) → HasItem (uses (numbers docs) globals c) v → (is_declarable_attribute v.name ≡ true) × (v.simple < simple_count docs)
     each_use_good v i =
-        let made = map (attribute_use (numbers docs) types c.place.file) c.body.uses in
-        let r = of_mapped (attribute_use (numbers docs) types c.place.file) c.body.uses v (item_of_order use_before made v i) in
+        let made = map (attribute_use (numbers docs) globals c.place.file) c.body.uses in
+        let r = of_mapped (attribute_use (numbers docs) globals c.place.file) c.body.uses v (item_of_order use_before made v i) in
         subst (λ (x : AttributeUse). (is_declarable_attribute x.name ≡ true) × (x.simple < simple_count docs)) r.2 (use_good r.0 r.1 r.0.reference refl)
 
-    pub uses_few : length (uses (numbers docs) types c) ≤ 10000
+    pub use_fits : (v : AttributeUse) → HasItem (uses (numbers docs) globals c) v → MayBeFor v.required v.standard
+    use_fits v i =
+        let made = map (attribute_use (numbers docs) globals c.place.file) c.body.uses in
+        let r = of_mapped (attribute_use (numbers docs) globals c.place.file) c.body.uses v (item_of_order use_before made v i) in
+        let u = r.0 in
+        subst (λ (x : AttributeUse). MayBeFor x.required x.standard) r.2
+        (unless u.required (own_or u.standard (if u.reference then standard_of_found (globals u.name) else Free)))
+
+    pub uses_few : length (uses (numbers docs) globals c) ≤ 10000
     uses_few =
-        let a = length_in_order use_before (map (attribute_use (numbers docs) types c.place.file) c.body.uses) in
-        let b = length-map c.body.uses (attribute_use (numbers docs) types c.place.file) in
+        let a = length_in_order use_before (map (attribute_use (numbers docs) globals c.place.file) c.body.uses) in
+        let b = length-map c.body.uses (attribute_use (numbers docs) globals c.place.file) in
         let few = few_uses docs h c known in
         omega (arith, a, b, few)
 
-    pub uses_ascend : IsStrictlySortedBy name_cmp (map (λ (u : AttributeUse). u.name) (uses (numbers docs) types c))
+    pub uses_ascend : IsStrictlySortedBy name_cmp (map (λ (u : AttributeUse). u.name) (uses (numbers docs) globals c))
     uses_ascend =
-        let made = map (attribute_use (numbers docs) types c.place.file) c.body.uses in
-        strictly (uses (numbers docs) types c) (rises_in_order use_before use_order made) (λ a.
+        let made = map (attribute_use (numbers docs) globals c.place.file) c.body.uses in
+        strictly (uses (numbers docs) globals c) (rises_in_order use_before use_order made) (λ a.
         let one = sum_in_order use_before (λ (u : AttributeUse). as_number (name_eq a u.name)) made in
-        let two = count_mapped (λ (u : AttributeUse). name_eq a u.name) (attribute_use (numbers docs) types c.place.file) c.body.uses in
+        let two = count_mapped (λ (u : AttributeUse). name_eq a u.name) (attribute_use (numbers docs) globals c.place.file) c.body.uses in
         let once = use_once docs h c known a in
         omega (arith, one, two, once))
 

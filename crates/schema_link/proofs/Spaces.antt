@@ -14,12 +14,16 @@ use Rattle.link_simple.specs.Making.{IsMaking}
 use Rattle.link_set.specs.Sets.{parts_of, set_of}
 use Rattle.schema_link.specs.declared.passes.LinkError.{LinkError}
 use Rattle.schema_link.specs.Answering.{shown, AnswersPasses, AnswersSimples}
-use Rattle.schema_link.specs.Passes.{Pass, Making, Comparing, Clearing, passes, passes_of_names, passes_of_content, IsShownBy}
+use Rattle.schema_link.specs.Passes.{Pass, Making, Valuing, Comparing, Clearing, passes, passes_of_names, IsShownBy}
 use Rattle.schema_link.specs.Sets.{AnswersSpaces, Links}
 use Rattle.schema_link.proofs.Passing.{goes_on, ends}
 
+-- those behind the making of simple types
+abbrev checks : List Pass
+checks = Valuing ∷ Comparing ∷ Clearing ∷ []
+
 abbrev later : List Pass
-later = Making ∷ Comparing ∷ Clearing ∷ []
+later = Making ∷ checks
 
 each_some : (o : Option LinkingFault) (P Q : LinkingFault → Type 0) → ((f : LinkingFault) → P f → Q f) → IfSome o P → IfSome o Q
 each_some None P Q all h = h
@@ -31,15 +35,15 @@ shown_longer docs (p ∷ ps) qs f (inl first) = inl first
 shown_longer docs (p ∷ ps) qs f (inr behind) = inr (behind.0, shown_longer docs ps qs f behind.1)
 
 pub made_and_clear : (docs : List Document) (simples : Vec Simple Global) (u : Unit {0}) → AnswersSimples docs (Ok simples)
-    → AnswersPasses docs passes_of_content (Ok u) → AnswersSpaces docs later (Ok simples)
+    → AnswersPasses docs checks (Ok u) → AnswersSpaces docs later (Ok simples)
 made_and_clear docs simples u h k = ((h.2.0, k), h.0, h.1)
 
 pub made_not_clear : (docs : List Document) (simples : Vec Simple Global) (e : LinkError) → AnswersSimples docs (Ok simples)
-    → AnswersPasses docs passes_of_content (Err e) → AnswersSpaces docs later (Err e)
-made_not_clear docs simples e h k = goes_on docs Making passes_of_content tt (Err e) h.2 k
+    → AnswersPasses docs checks (Err e) → AnswersSpaces docs later (Err e)
+made_not_clear docs simples e h k = goes_on docs Making checks tt (Err e) h.2 k
 
 pub not_made : (docs : List Document) (e : LinkError) → AnswersSimples docs (Err e) → AnswersSpaces docs later (Err e)
-not_made docs e h = ends docs Making passes_of_content e h
+not_made docs e h = ends docs Making checks e h
 
 pub behind_names : (docs : List Document) (u : Unit {0}) (r : Result (Vec Simple Global) LinkError) → AnswersPasses docs passes_of_names (Ok u)
     → AnswersSpaces docs later r → AnswersSpaces docs passes r

@@ -10,12 +10,13 @@ use Rattle.link_names.specs.Globals.{duplicates}
 use Rattle.link_names.specs.Resolution.{unresolved}
 use Rattle.link_cycles.specs.Cycles.{IsCircular}
 use Rattle.link_simple.specs.Making.{IsNotMade}
+use Rattle.link_standards.specs.Standards.{IsMisfit}
 use Rattle.link_complex.specs.Uses.{double_uses}
 use Rattle.link_complex.specs.ElementTypes.{Differs}
 use Rattle.link_complex.specs.Content.{IsUnclear}
 
 pub data Pass : Type 0 where
-  Counting Naming Resolving Ordering Making Comparing Clearing : Pass
+  Counting Naming Resolving Ordering Making Valuing Comparing Clearing : Pass
 
 abbrev pub IsFault : List Document → Pass → LinkingFault → Type 0
 IsFault docs Counting f = HasItem (beyond_limit docs) f
@@ -23,6 +24,7 @@ IsFault docs Naming f = HasItem (duplicates docs) f
 IsFault docs Resolving f = HasItem (unresolved docs) f
 IsFault docs Ordering f = IsCircular docs f
 IsFault docs Making f = IsNotMade docs f
+IsFault docs Valuing f = IsMisfit docs f
 IsFault docs Comparing f = HasItem (double_uses docs) f ⊎ Differs docs f
 IsFault docs Clearing f = IsUnclear docs f
 
@@ -46,4 +48,4 @@ passes_of_content = Comparing ∷ Clearing ∷ []
 
 -- all, in their order
 abbrev pub passes : List Pass
-passes = Counting ∷ Naming ∷ Resolving ∷ Ordering ∷ Making ∷ Comparing ∷ Clearing ∷ []
+passes = Counting ∷ Naming ∷ Resolving ∷ Ordering ∷ Making ∷ Valuing ∷ Comparing ∷ Clearing ∷ []

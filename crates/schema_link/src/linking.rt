@@ -3,25 +3,40 @@ ghost use Rattle.std.specs.Prelude.{◌≡◌, ◌≤◌, ◌∷◌, [], IsTrue,
 ghost use Rattle.simple_types.specs.Seen.{space_of};
 ghost use Rattle.schema_parts.specs.Documents.{doc_of};
 ghost use Rattle.link_cycles.specs.SimpleTypes.{simple_types};
-ghost use Rattle.link_simple.specs.Answering.{AreSound};
+ghost use Rattle.link_simple.specs.Answering.{made_of, AreSound};
+ghost use Rattle.link_simple.specs.Making.{IsMaking};
+ghost use Rattle.schema_link.specs.Answering.{AnswersPasses};
 ghost use Rattle.link_set.specs.Sets.{parts_of, set_of};
-ghost use Rattle.schema_link.specs.Passes.{Making, Comparing, Clearing, ArePassed, passes_of_names, passes};
+ghost use Rattle.schema_link.specs.Passes.{Making, Valuing, Comparing, Clearing, ArePassed, passes_of_names, passes};
 ghost use Rattle.schema_link.specs.Sets.{AreNumbered, AnswersSpaces, Links};
 
-use crate::passes::{LinkError, check_content, check_names, make_simple_types};
+use crate::passes::{LinkError, check_content, check_names, check_standards, make_simple_types};
 use link_set::set_parts;
 use schema_parts::{RawDoc, SchemaSet};
 use simple_types::Simple;
 use std::alloc::Global;
 use xa_base::Memory;
 
+// The passes behind the making of simple types.
+fn checked(alloc: Global, docs: &[RawDoc], simples: &[Simple]) -> Result<(), LinkError>
+    requires passed { ArePassed (map doc_of docs.now) passes_of_names }
+    requires made { IsMaking (simple_types (map doc_of docs.now)) (made_of simples.now) }
+    requires sound { AreSound simples.now }
+    ensures { AnswersPasses (map doc_of docs.now) (Valuing ∷ Comparing ∷ Clearing ∷ []) result }
+{
+    match check_standards(alloc, docs, simples) {
+        Ok(()) => check_content(alloc, docs),
+        Err(error) => Err(error),
+    }
+}
+
 // The passes from the making of simple types on.
 fn made(alloc: Global, docs: &[RawDoc]) -> Result<Vec<Simple>, LinkError>
     requires { ArePassed (map doc_of docs.now) passes_of_names }
-    ensures { AnswersSpaces (map doc_of docs.now) (Making ∷ Comparing ∷ Clearing ∷ []) result }
+    ensures { AnswersSpaces (map doc_of docs.now) (Making ∷ Valuing ∷ Comparing ∷ Clearing ∷ []) result }
 {
     match make_simple_types(alloc, docs) {
-        Ok(simples) => match check_content(alloc, docs) {
+        Ok(simples) => match checked(alloc, docs, &simples) {
             Ok(()) => Ok(simples),
             Err(error) => Err(error),
         },

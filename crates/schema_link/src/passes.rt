@@ -2,8 +2,11 @@
 ghost use Rattle.std.specs.Prelude.{◌≡◌, ◌∷◌, [], Ok, Err, map, MatchOption, IfOk};
 ghost use Rattle.schema_parts.specs.Documents.{doc_of};
 ghost use Rattle.link_names.specs.Order.{IsFirstSuch};
+ghost use Rattle.link_cycles.specs.SimpleTypes.{simple_types};
+ghost use Rattle.link_simple.specs.Answering.{made_of, AreSound};
+ghost use Rattle.link_simple.specs.Making.{IsMaking};
 ghost use Rattle.schema_link.specs.Answering.{AnswersPasses, AnswersFault, AnswersSimples};
-ghost use Rattle.schema_link.specs.Passes.{Counting, Naming, Resolving, Ordering, Comparing, Clearing, IsFault, ArePassed, passes_of_names, passes_of_content};
+ghost use Rattle.schema_link.specs.Passes.{Counting, Naming, Resolving, Ordering, Valuing, Comparing, Clearing, IsFault, ArePassed, passes_of_names, passes_of_content};
 
 use link_complex::{first_differing, first_double_use, first_unclear};
 use link_cycles::first_circular;
@@ -11,6 +14,7 @@ use link_names::{
     LinkWhy, LinkingFault, first_beyond_limit, first_duplicate, first_of, first_unresolved,
 };
 use link_simple::{MakingError, made};
+use link_standards::first_misfit;
 use schema_parts::RawDoc;
 use simple_types::Simple;
 use std::alloc::Global;
@@ -150,6 +154,20 @@ pub fn make_simple_types(alloc: Global, docs: &[RawDoc]) -> Result<Vec<Simple>, 
             why: fault.why,
         }),
         Err(MakingError::Memory) => Err(LinkError::Memory),
+    }
+}
+
+/// The pass over the default and fixed values of attributes, where those of `check_names` have no fault and all simple types
+/// are made: whether a type doesn't accept one, or a reference to a fixed attribute has another.
+pub fn check_standards(alloc: Global, docs: &[RawDoc], simples: &[Simple]) -> Result<(), LinkError>
+    requires passed { ArePassed (map doc_of docs.now) passes_of_names }
+    requires made { IsMaking (simple_types (map doc_of docs.now)) (made_of simples.now) }
+    requires sound { AreSound simples.now }
+    ensures { AnswersPasses (map doc_of docs.now) (Valuing ∷ []) result }
+{
+    match first_misfit(alloc, docs, simples) {
+        Ok(found) => unless(found),
+        Err(_) => Err(LinkError::Memory),
     }
 }
 

@@ -5,8 +5,12 @@ use Rattle.std.specs.List.Sorted.{IsStrictlySortedBy}
 use Rattle.xa_base.specs.declared.texts.Name.{Name}
 use Rattle.xa_base.specs.Names.{name_eq, name_cmp}
 use Rattle.label_tree.specs.Rose.{Rose, node_count, height}
+use Rattle.simple_types.specs.declared.labels.ValueLabel.{ValueLabel}
+use Rattle.simple_types.specs.declared.standards.Standard.{Standard}
+use Rattle.simple_types.specs.declared.standards.Standard.TheVariants.{Free, Default, Fixed}
 use Rattle.simple_types.specs.Seen.{space_of}
 use Rattle.simple_types.specs.Sound.{Sound}
+use Rattle.simple_values.specs.Reading.{Holds, spelled}
 use Rattle.content_models.specs.declared.particles.ParticleLabel.{ParticleLabel}
 use Rattle.content_models.specs.Particle.{Particle, occurs, Term, element, sequence, choice, Particles, none, more}
 use Rattle.content_models.specs.Clear.{Clear}
@@ -65,6 +69,28 @@ IsAttribute s a = (is_declarable_attribute a.name ≡ true) × (a.simple < lengt
 abbrev pub IsSimpleType : SimpleDef → Type 0
 IsSimpleType t = IfSome t.name (λ name. is_declarable name ≡ true) × Sound (space_of t.space)
 
+-- ---- value constraints
+
+-- the text is the canonical spelling of a value of the simple type with this number (section 3.2.6, clause 2)
+abbrev pub IsSpellingAt : Set → ℕ → List ℕ → Type 0
+IsSpellingAt s n text = IsSomeAnd (slice_get s.simples n) (λ t. (v : Rose ValueLabel) × Holds (space_of t.space) v × (spelled (space_of t.space) v ≡ text))
+
+abbrev pub IsStandardAt : Set → ℕ → Standard → Type 0
+IsStandardAt s n Free = Unit {0}
+IsStandardAt s n (Default text) = IsSpellingAt s n text
+IsStandardAt s n (Fixed text) = IsSpellingAt s n text
+
+-- what is required is never absent, so it has no default value
+abbrev pub MayBeFor : Bool → Standard → Type 0
+MayBeFor required Free = Unit {0}
+MayBeFor required (Default text) = required ≡ false
+MayBeFor required (Fixed text) = Unit {0}
+
+abbrev pub HasStandard : Set → AttributeUse → Type 0
+HasStandard s u = IsStandardAt s u.simple u.standard × MayBeFor u.required u.standard
+
+-- ---- content models
+
 -- there is such a declaration, of this name
 abbrev pub IsNamed : Set → ℕ × Name → Type 0
 IsNamed s leaf = IsSomeAnd (slice_get s.elements leaf.0) (λ e. e.name ≡ leaf.1)
@@ -92,6 +118,7 @@ pub record IsComplexType (s : Set) (c : ComplexDef) : Type 0 where
   pub named : IfSome c.name (λ name. is_declarable name ≡ true)
   pub few : length c.uses ≤ 65536
   pub uses : All (IsUse s) c.uses
+  pub standards : All (HasStandard s) c.uses
   pub ascending : IsStrictlySortedBy name_cmp (map (λ (u : AttributeUse). u.name) c.uses)
   pub content : IsContent s c.content
 
@@ -124,6 +151,7 @@ pub record IsLinked (s : Set) : Type 0 where
   pub simples : All IsSimpleType s.simples
   pub complexes : All (IsComplexType s) s.complexes
   pub attributes : All (IsAttribute s) s.attributes
+  pub standards : All (λ (a : GlobalAttribute). IsStandardAt s a.simple a.standard) s.attributes
   -- no two of one kind have one name; simple and complex types are one kind
   pub elements_apart : IsDistinct name_eq (map (λ (e : ElementDecl). e.name) (global_elements s))
   pub types_apart : IsDistinct name_eq (names_of_types s)

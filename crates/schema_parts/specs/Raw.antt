@@ -2,6 +2,7 @@
 use Rattle.std.specs.Prelude.{ℕ, Bool, List, Option}
 use Rattle.xa_base.specs.declared.texts.Name.{Name}
 use Rattle.simple_types.specs.declared.facets.Facet.{Facet}
+use Rattle.simple_types.specs.declared.standards.Standard.{Standard}
 use Rattle.schema_parts.specs.declared.simple_definitions.RawRef.{RawRef}
 use Rattle.schema_parts.specs.declared.declarations.RawContent.{RawContent}
 
@@ -27,11 +28,13 @@ pub record Simple : Type 0 where
   pub body_at : ℕ
   pub how : How
 
--- an attribute use (section 3.5); without a type where it refers to a global declaration
+-- an attribute use (section 3.5); without a type where it refers to a global declaration. Its value constraint is its own, with
+-- the text as written.
 pub record Use : Type 0 where
   pub name : Name
   pub reference : Bool
   pub kind : Option Base
+  pub standard : Standard
   pub required : Bool
   pub at : ℕ
 
@@ -63,6 +66,7 @@ pub data Local : Type 0 where
 pub record Attribute : Type 0 where
   pub name : Name
   pub kind : Base
+  pub standard : Standard
   pub at : ℕ
 
 -- a type definition with a name

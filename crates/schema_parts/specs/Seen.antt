@@ -45,7 +45,7 @@ abbrev pub simple_of : RawSimple → Simple
 simple_of s = record { at = s.at; body_at = s.body_at; how = how_of s.how }
 
 abbrev pub use_of : RawUse → Use
-use_of u = record { name = u.name; reference = u.reference; kind = option_map base_of u.kind; required = u.required; at = u.at }
+use_of u = record { name = u.name; reference = u.reference; kind = option_map base_of u.kind; standard = u.standard; required = u.required; at = u.at }
 
 abbrev pub uses_in : List RawUse → List Use
 uses_in us = map use_of us
@@ -69,7 +69,7 @@ local_of (local.Reference name at) = Reference name at
 local_of (local.Own element) = Own (element_of element)
 
 abbrev pub attribute_of : RawAttribute → Attribute
-attribute_of a = record { name = a.name; kind = base_of a.kind; at = a.at }
+attribute_of a = record { name = a.name; kind = base_of a.kind; standard = a.standard; at = a.at }
 
 abbrev pub type_of : RawType → TypeDefinition
 type_of (defined.Simple name body) = SimpleType name (simple_of body)

@@ -3,6 +3,7 @@ ghost use Rattle.std.specs.Prelude.{◌≡◌};
 ghost use Rattle.std.specs.Option.{is_none};
 
 use crate::simple_definitions::RawBase;
+use simple_types::Standard;
 use xa_base::Name;
 
 /// An attribute of a complex type: a declaration of its own, or a reference to a global one, whose type is the other's.
@@ -12,6 +13,8 @@ pub struct RawUse {
     pub reference: bool,
     /// `None` for a reference, and for no other.
     pub kind: Option<RawBase>,
+    /// Its own `default` or `fixed`, with the text as written; of a reference too, which may have the other's instead.
+    pub standard: Standard,
     pub required: bool,
     pub at: u64,
     ghost typed: { reference ≡ is_none kind },

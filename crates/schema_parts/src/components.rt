@@ -2,7 +2,7 @@
 ghost use Rattle.std.specs.Prelude.{◌≡◌};
 
 use content_models::Particle;
-use simple_types::Simple;
+use simple_types::{Simple, Standard};
 use std::marker::Model;
 use xa_base::Name;
 
@@ -21,12 +21,14 @@ pub struct ElementDecl {
     pub kind: TypeOf,
 }
 
-/// An attribute use (section 3.5). `simple` is the number of its simple type.
+/// An attribute use (section 3.5). `simple` is the number of its simple type. `standard` is its value constraint, or else that
+/// of the global declaration that it names; a required use has no default value, which could never stand for an absent one.
 #[derive(Drop)]
 pub struct AttributeUse {
     pub name: Name,
     pub simple: u32,
     pub required: bool,
+    pub standard: Standard,
 }
 
 /// The attribute uses of a complex type.
@@ -56,6 +58,13 @@ impl Uses {
     {
         &self.entries
     }
+
+    /// The uses themselves.
+    pub fn into_items(self) -> Vec<AttributeUse>
+        ensures { result.items ≡ self }
+    {
+        self.entries
+    }
 }
 
 /// A simple type, by its space. A built-in one, and one that was written in place, has no name.
@@ -83,9 +92,11 @@ pub struct ComplexDef {
     pub content: Content,
 }
 
-/// A global attribute declaration (section 3.2). `simple` is the number of its simple type.
+/// A global attribute declaration (section 3.2). `simple` is the number of its simple type, and `standard` its value
+/// constraint.
 #[derive(Drop)]
 pub struct GlobalAttribute {
     pub name: Name,
     pub simple: u32,
+    pub standard: Standard,
 }

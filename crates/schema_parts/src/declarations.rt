@@ -6,6 +6,7 @@ ghost use Rattle.schema_parts.specs.Seen.{uses_of, uses_in};
 use crate::attribute_uses::RawUse;
 use crate::simple_definitions::{RawBase, RawRef, RawSimple};
 use content_models::Particle;
+use simple_types::Standard;
 use xa_base::Name;
 
 /// The attributes of a complex type, in the order written.
@@ -75,6 +76,8 @@ pub enum RawLocal {
 pub struct RawAttribute {
     pub name: Name,
     pub kind: RawBase,
+    /// Its `default` or `fixed`, with the text as written.
+    pub standard: Standard,
     pub at: u64,
 }
 

@@ -10,7 +10,8 @@ use std::marker::Model;
 /// own; the global elements have the first numbers of the elements.
 ///
 /// Names of one kind differ, each content model is read without looking ahead, and element particles of one name in a
-/// content model have one type.
+/// content model have one type. A default or fixed value of an attribute is the canonical spelling of a value of its type, and
+/// no attribute that is required has a default value.
 #[derive(Drop)]
 pub struct SchemaSet {
     elements: Vec<ElementDecl>,

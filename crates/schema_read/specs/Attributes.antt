@@ -4,6 +4,8 @@ use Rattle.xa_base.specs.declared.texts.Name.{Name}
 use Rattle.label_tree.specs.Rose.{Rose, roses_of, label_of, kids_of}
 use Rattle.item_tree.specs.declared.label.ItemLabel.{ItemLabel}
 use Rattle.item_tree.specs.declared.label.ItemLabel.TheVariants.{Element, Text}
+use Rattle.simple_types.specs.declared.standards.Standard.{Standard}
+use Rattle.simple_types.specs.declared.standards.Standard.TheVariants.{Free, Default, Fixed}
 use Rattle.schema_parts.specs.Raw.{Base, Use, Attribute}
 use Rattle.xa_base.specs.Entries.{beside}
 use Rattle.schema_rules.specs.Attributes.{own_attributes}
@@ -25,11 +27,20 @@ local_name target default own =
 abbrev pub has_use : List ℕ → List (List ℕ × List ℕ) → Bool
 has_use how own = elim (beside (codes "use") own) [ None ↦ false | Some value ↦ bytes_eq value how ]
 
+-- the value constraint, with the text as written; no declaration without a fault has both attributes (section 3.2.3)
+abbrev pub fixed_of : List (List ℕ × List ℕ) → Standard
+fixed_of own = elim (beside (codes "fixed") own) [ None ↦ Free | Some text ↦ Fixed text ]
+
+abbrev pub standard_of : List (List ℕ × List ℕ) → Standard
+standard_of own = elim (beside (codes "default") own) [ None ↦ fixed_of own | Some text ↦ Default text ]
+
 abbrev pub use_to : Name → List (List ℕ × List ℕ) → ℕ → Use
-use_to name own at = record { name = name; reference = true; kind = None; required = has_use (codes "required") own; at = at }
+use_to name own at =
+    record { name = name; reference = true; kind = None; standard = standard_of own; required = has_use (codes "required") own; at = at }
 
 abbrev pub own_use : Name → Base → List (List ℕ × List ℕ) → ℕ → Use
-own_use name kind own at = record { name = name; reference = false; kind = Some kind; required = has_use (codes "required") own; at = at }
+own_use name kind own at =
+    record { name = name; reference = false; kind = Some kind; standard = standard_of own; required = has_use (codes "required") own; at = at }
 
 -- by a reference, or a declaration of its own
 abbrev pub use_by : List ℕ → Bool → ℕ → List (List ℕ × List ℕ) → List (List ℕ × List ℕ) → List (Rose ItemLabel) → Use
@@ -56,7 +67,8 @@ uses_among target default scope [] = []
 uses_among target default scope (t ∷ ts) = and_use (use_at target default scope (label_of t) (kids_of t)) (uses_among target default scope ts)
 
 abbrev pub attribute_by : List ℕ → ℕ → List (List ℕ × List ℕ) → List (List ℕ × List ℕ) → List (Rose ItemLabel) → Attribute
-attribute_by target at scope own kids = record { name = declared_name target own; kind = declared_type scope own (roses_of kids); at = at }
+attribute_by target at scope own kids =
+    record { name = declared_name target own; kind = declared_type scope own (roses_of kids); standard = standard_of own; at = at }
 
 -- a global attribute declaration
 abbrev pub global_attribute : List ℕ → List (List ℕ × List ℕ) → ItemLabel → List (Rose ItemLabel) → Option Attribute

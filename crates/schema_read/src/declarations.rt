@@ -13,6 +13,7 @@ use doc_text::ItemLabel;
 use label_tree::Tree;
 use schema_parts::{RawAttribute, RawUse, RawUses};
 use schema_rules::{ChildSet, NamespaceScope, is_in, own_attributes, qualification_of, value_of};
+use simple_types::Standard;
 use std::alloc::Global;
 use xa_base::{Memory, Name, Text};
 
@@ -63,6 +64,31 @@ fn has_use(how: &str, own: &[(Text, Text)]) -> bool
     }
 }
 
+fn fixed_of(alloc: Global, own: &[(Text, Text)]) -> Result<Standard, Memory>
+    ensures { IfOk result (λ standard. standard ≡ attributes.fixed_of own.now) }
+{
+    match value_of("fixed", own) {
+        Some(text) => {
+            let text = text.copy(alloc)?;
+            Ok(Standard::Fixed(text))
+        }
+        None => Ok(Standard::Free),
+    }
+}
+
+// The default or fixed value, with the text as written.
+fn standard_of(alloc: Global, own: &[(Text, Text)]) -> Result<Standard, Memory>
+    ensures { IfOk result (λ standard. standard ≡ attributes.standard_of own.now) }
+{
+    match value_of("default", own) {
+        Some(text) => {
+            let text = text.copy(alloc)?;
+            Ok(Standard::Default(text))
+        }
+        None => fixed_of(alloc, own),
+    }
+}
+
 fn use_to(
     alloc: Global,
     scope: &NamespaceScope<'_, '_>,
@@ -73,10 +99,12 @@ fn use_to(
     ensures { IfOk result (λ made. use_of made ≡ attributes.use_to (referred (bindings_in scope.now) text.now) own.now at) }
 {
     let name = referred(alloc, scope, text)?;
+    let standard = standard_of(alloc, own)?;
     Ok(RawUse {
         name,
         reference: true,
         kind: None,
+        standard,
         required: has_use("required", own),
         at,
     })
@@ -95,10 +123,12 @@ fn own_use<'a, 'b>(
 {
     let name = local_name(alloc, setting.target, setting.attributes_qualified, own)?;
     let kind = declared_type(alloc, scope, own, kids)?;
+    let standard = standard_of(alloc, own)?;
     Ok(RawUse {
         name,
         reference: false,
         kind: Some(kind),
+        standard,
         required: has_use("required", own),
         at,
     })
@@ -180,7 +210,13 @@ fn attribute_by<'a, 'b>(
 {
     let kind = declared_type(alloc, scope, own, kids)?;
     let name = declared_name(alloc, target, own)?;
-    Ok(RawAttribute { name, kind, at })
+    let standard = standard_of(alloc, own)?;
+    Ok(RawAttribute {
+        name,
+        kind,
+        standard,
+        at,
+    })
 }
 
 /// The global attribute that the element declares.

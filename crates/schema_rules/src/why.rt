@@ -69,9 +69,6 @@ pub enum SchemaWhy {
     /// The attribute `default` or `fixed` of an element, left out.
     #[error("`default` and `fixed` of elements are left out")]
     ElementDefault,
-    /// The attribute `default` or `fixed` of an attribute, left out.
-    #[error("`default` and `fixed` of attributes are left out")]
-    AttributeDefault,
     /// A reference to the datatype `decimal`, left out.
     #[error("the datatype `decimal` is left out")]
     Decimal,
@@ -141,9 +138,9 @@ pub enum SchemaWhy {
     /// A reference to the datatype `anyType`, left out, or an element without a type (Part 1, section 3.3.2).
     #[error("the datatype `anyType` is left out")]
     AnyType,
-    /// Two ways of saying one thing that exclude each other: `ref` beside what a declaration says, or a type by its
-    /// name beside one in place.
-    #[error("a reference beside what it stands for")]
+    /// Two ways of saying one thing that exclude each other: `ref` beside what a declaration says, a type by its
+    /// name beside one in place, or a default value beside a fixed one or where it is never taken.
+    #[error("two ways of saying one thing")]
     BothForms,
     /// A choice of nothing that has to be made.
     #[error("a choice of nothing")]

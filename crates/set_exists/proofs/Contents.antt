@@ -1,7 +1,8 @@
 -- The content models of documents that are read, each with the numbers of its set: a choice has an alternative, nothing
 -- stands in an element, and bounds are of 32 bits.
-use Rattle.std.proofs.Common.{◌≡◌, ℕ, suc, inl, inr, List, [], ◌∷◌, All, Option, refl, sym, ap, subst}
+use Rattle.std.proofs.Common.{◌≡◌, ℕ, suc, inl, inr, List, [], ◌∷◌, map, All, Option, refl, sym, ap, subst}
 use Rattle.std.specs.Option.{IfSome}
+use Rattle.std.proofs.lemmas.List.Elements.{All-map}
 use Rattle.xa_base.specs.declared.texts.Name.{Name}
 use Rattle.xa_base.specs.Lists.{HasItem}
 use Rattle.label_tree.specs.Rose.{Rose, Roses, node, length_all, Allowed, AllowedAll}
@@ -11,6 +12,7 @@ use Rattle.content_models.specs.declared.particles.ParticleKind.{ParticleKind}
 use Rattle.content_models.specs.declared.particles.ParticleKind.TheVariants as particle
 use Rattle.content_models.specs.declared.particles.ParticleLabel.{ParticleLabel}
 use Rattle.schema_parts.specs.declared.components.ComplexDef.{ComplexDef}
+use Rattle.schema_parts.specs.declared.components.GlobalAttribute.{GlobalAttribute}
 use Rattle.schema_parts.specs.declared.declarations.RawContent.{RawContent}
 use Rattle.schema_parts.specs.declared.declarations.RawContent.TheVariants as raw
 use Rattle.schema_parts.specs.Raw.{Kind, NamedKind, SimpleKind, ComplexKind, Element, Local, Reference, Own, TypeDefinition, SimpleType, ComplexType, Document}
@@ -19,7 +21,7 @@ use Rattle.schema_read.specs.Private.Held.{ContentHeld, KindHeld, LocalHeld, Typ
 use Rattle.link_complex.specs.ComplexTypes.{ComplexDefinition, of_document, complex_types}
 use Rattle.link_set.specs.Numbering.{ComponentNumbers}
 use Rattle.link_set.specs.Parts.{HasWholeModel}
-use Rattle.link_set.specs.Sets.{numbered_kind, numbered, all_numbered, content_of, number_of_declaration, complex, complexes, attributes, type_of_attribute}
+use Rattle.link_set.specs.Sets.{NamedSpace, numbered_kind, numbered, all_numbered, content_of, number_of_declaration, complex, complexes, attributes, named_attribute, spelled_complex}
 use Rattle.link_set.specs.Written.{lists_of, complex_before}
 use Rattle.map_widths.specs.Widths.{IsWideModel, AreWideModels, IfWideModel}
 use Rattle.schema_link.proofs.FewComponents.{each_complex}
@@ -110,7 +112,7 @@ complex_kept d k c i =
 
 -- ---- in the set
 
-module _ (ns : ComponentNumbers) (types : Name → Option ℕ) (docs : List Document) where
+module _ (ns : ComponentNumbers) (globals : Name → Option GlobalAttribute) (docs : List Document) where
   content_whole : (number : ℕ → ℕ) (c : RawContent) → ContentHeld c → IfSome (model_of (content_of ns number c)) (Allowed MayHave)
   content_whole number raw.Empty h = tt
   content_whole number (raw.Simple base at) h = tt
@@ -126,7 +128,7 @@ module _ (ns : ComponentNumbers) (types : Name → Option ℕ) (docs : List Docu
   abbrev IsWhole : ComplexDef → Type 0
   IsWhole c = HasWholeModel c × IfWideModel (model_of c.content)
 
-  complex_whole : (c : ComplexDefinition) → IsKeptIn c → IsWhole (complex ns types docs c)
+  complex_whole : (c : ComplexDefinition) → IsKeptIn c → IsWhole (complex ns globals docs c)
   complex_whole c k =
       let number = number_of_declaration ns docs c.place.file in
       (content_whole number c.body.content k.0, content_wide number c.body.content k.1)
@@ -134,14 +136,19 @@ module _ (ns : ComponentNumbers) (types : Name → Option ℕ) (docs : List Docu
 module _ (docs : List Document) (kept : (d : Document) → HasItem docs d → KeepsContents d) (ns : ComponentNumbers) where
   each_whole : (x : ComplexDef) → HasItem (complexes ns docs (lists_of docs)) x → HasWholeModel x × IfWideModel (model_of x.content)
   each_whole x i =
-      let types = type_of_attribute (attributes ns (lists_of docs).attributes) in
-      let r = of_mapped (complex ns types docs) (lists_of docs).complexes x i in
+      let globals = named_attribute (attributes ns (lists_of docs).attributes) in
+      let r = of_mapped (complex ns globals docs) (lists_of docs).complexes x i in
       let known = of_flat of_document docs r.0 (item_of_order complex_before (complex_types docs) r.0 r.1) in
       subst (λ (c : ComplexDef). HasWholeModel c × IfWideModel (model_of c.content)) r.2
-      (complex_whole ns types docs r.0 (complex_kept known.0 (kept known.0 known.1) r.0 known.2))
+      (complex_whole ns globals docs r.0 (complex_kept known.0 (kept known.0 known.1) r.0 known.2))
 
-  pub all_whole : All HasWholeModel (complexes ns docs (lists_of docs))
-  all_whole = each_item HasWholeModel (complexes ns docs (lists_of docs)) (λ x i. (each_whole x i).0)
+  module _ (ts : List NamedSpace) where
+    pub all_whole : All HasWholeModel (map (spelled_complex ts) (complexes ns docs (lists_of docs)))
+    all_whole =
+        All-map HasWholeModel (spelled_complex ts) (complexes ns docs (lists_of docs))
+        (each_item HasWholeModel (complexes ns docs (lists_of docs)) (λ x i. (each_whole x i).0))
 
-  pub all_wide : All (λ (c : ComplexDef). IfWideModel (model_of c.content)) (complexes ns docs (lists_of docs))
-  all_wide = each_item (λ (c : ComplexDef). IfWideModel (model_of c.content)) (complexes ns docs (lists_of docs)) (λ x i. (each_whole x i).1)
+    pub all_wide : All (λ (c : ComplexDef). IfWideModel (model_of c.content)) (map (spelled_complex ts) (complexes ns docs (lists_of docs)))
+    all_wide =
+        All-map (λ (c : ComplexDef). IfWideModel (model_of c.content)) (spelled_complex ts) (complexes ns docs (lists_of docs))
+        (each_item (λ (c : ComplexDef). IfWideModel (model_of c.content)) (complexes ns docs (lists_of docs)) (λ x i. (each_whole x i).1))

@@ -191,9 +191,9 @@ module _ (docs : List Document) (read : AreRead docs) (passed : ArePassed docs p
         s,
         is,
         set_of_linked docs h s spaces (sym (length-map spaces (λ x. Some x)) ∙ making.0) is
-            (all_weaker IsGoodType (λ (t : SimpleDef). Sound (space_of t.space)) (λ t g. g.0) ts.0 ts.2) (all_whole docs contents (numbers_in (lists_of docs))),
+            (all_weaker IsGoodType (λ (t : SimpleDef). Sound (space_of t.space)) (λ t g. g.0) ts.0 ts.2) (all_whole docs contents (numbers_in (lists_of docs)) parts.simples),
         record {
           simples = all_weaker IsGoodType (λ (t : SimpleDef). IsWide (space_of t.space)) (λ t g. g.1) ts.0 ts.2;
-          complexes = all_wide docs contents (numbers_in (lists_of docs));
+          complexes = all_wide docs contents (numbers_in (lists_of docs)) parts.simples;
         },
       )

@@ -50,14 +50,14 @@ module _ (s : Set) (linked : IsLinked s) where
   apart-none : (n : Name) (ds : List AttributeUse) → Apart n ds → (xs : List (Name × List ℕ)) → AreSpelled (space_at (parts_of s)) ds xs → has_name n xs ≡ false
   apart-none n [] other xs e = ap (has_name n) e
   apart-none n (d ∷ ds) other xs (inl (absent, rest)) = apart-none n ds other.1 xs rest
-  apart-none n (d ∷ ds) other xs (inr (words, ys, e, spelling, rest)) =
+  apart-none n (d ∷ ds) other xs (inr (words, ys, e, spelling, kept, rest)) =
       let one : name_eq d.name n ≡ false = other-name d.name n other.0 in
       ap (has_name n) e ∙ ap (λ b. b || has_name n ys) one ∙ apart-none n ds other.1 ys rest
 
   attributes-sound : (ds : List AttributeUse) → All (IsUse s) ds → AllApart ds → (xs : List (Name × List ℕ)) → AreSpelled (space_at (parts_of s)) ds xs → AreSoundAttributes xs
   attributes-sound [] uses apart xs e = subst AreSoundAttributes (sym e) tt
   attributes-sound (d ∷ ds) uses apart xs (inl (absent, rest)) = attributes-sound ds (All-tail (IsUse s) d ds uses) apart.1 xs rest
-  attributes-sound (d ∷ ds) uses apart xs (inr (words, ys, e, spelling, rest)) =
+  attributes-sound (d ∷ ds) uses apart xs (inr (words, ys, e, spelling, kept, rest)) =
       let named = use-name d.name (All-head (IsUse s) d ds uses).0 in
       subst AreSoundAttributes (sym e)
       ((named.0, named.1, spelling-characters d.simple words spelling), apart-none d.name ds apart.0 ys rest, attributes-sound ds (All-tail (IsUse s) d ds uses) apart.1 ys rest)

@@ -7,6 +7,7 @@ use Rattle.xa_base.specs.WhiteSpace.{is_white_space, words_of, treated}
 use Rattle.label_tree.specs.Rose.{Rose, node, none, roses_of}
 use Rattle.simple_types.specs.Space.{Wholes}
 use Rattle.simple_types.specs.declared.labels.ValueLabel.TheVariants as label
+use Rattle.simple_types.specs.declared.standards.Standard.TheVariants.{Free}
 use Rattle.simple_values.specs.Lexical.{whole_number}
 use Rattle.simple_values.specs.Reading.{leaf, reads}
 use Rattle.content_models.specs.Particle.{Particle}
@@ -107,12 +108,12 @@ unknown_before_bad = inr (refl, inr (refl, inr ((λ b. b), inl (refl, inl refl))
 -- the other way round
 bad_before_unknown : FirstFault parts 0 (item (codes "a") (given (codes "x") (codes "no") ∷ given (codes "q") (codes "1") ∷ []) 7 []) 7 BadAttribute
 unfolding parts reads treated words_of is_white_space whole_number
-bad_before_unknown = inr (refl, inr (refl, inr ((λ b. b), inl (refl, inl refl))))
+bad_before_unknown = inr (refl, inr (refl, inr ((λ b. b), inl (refl, inl (inl refl)))))
 
 -- a number that is too wide, and `x` is missing
 wide_before_missing : FirstFault parts 0 (item (codes "a") (given (codes "y") wide ∷ []) 7 []) 7 TooWide
 unfolding parts reads treated words_of is_white_space whole_number
-wide_before_missing = inr (refl, inr (refl, inr ((λ b. b), inl (refl, inl refl))))
+wide_before_missing = inr (refl, inr (refl, inr ((λ b. b), inl (refl, inl (inl refl)))))
 
 -- `x` is missing, and an element that is nil has a text
 missing_before_nil : FirstFault parts 0 (item (codes "a") (nil_is (codes "true") ∷ []) 7 (said (codes "w") 70 ∷ [])) 7 MissingAttribute
@@ -121,7 +122,7 @@ missing_before_nil =
     inr (refl, inr (refl, inr ((λ b. b), inr (All-nil (IsRight (asked_at parts 0).attributes), inl (refl, refl, (0, x_wanted, omega arith, refl, (refl, refl)))))))
   where
     x_wanted : Attribute
-    x_wanted = record { name = unqualified (codes "x"); space = any_byte; required = true }
+    x_wanted = record { name = unqualified (codes "x"); space = any_byte; required = true; standard = Free }
 
 -- ---- content
 
@@ -130,16 +131,16 @@ both = given (codes "x") (codes "1") ∷ given (codes "y") (codes "2") ∷ []
 
 abbrev wanted : List Attribute
 wanted =
-    record { name = unqualified (codes "x"); space = any_byte; required = true }
-    ∷ record { name = unqualified (codes "y"); space = Wholes None None; required = true } ∷ []
+    record { name = unqualified (codes "x"); space = any_byte; required = true; standard = Free }
+    ∷ record { name = unqualified (codes "y"); space = Wholes None None; required = true; standard = Free } ∷ []
 
 x_right : IsRight wanted (given (codes "x") (codes "1"))
 unfolding reads treated words_of is_white_space whole_number
-x_right = (leaf (label.Int (pos 1)), refl)
+x_right = (leaf (label.Int (pos 1)), refl, tt)
 
 y_right : IsRight wanted (given (codes "y") (codes "2"))
 unfolding reads treated words_of is_white_space whole_number
-y_right = (leaf (label.Int (pos 2)), refl)
+y_right = (leaf (label.Int (pos 2)), refl, tt)
 
 both_right : All (IsRight wanted) both
 both_right =
@@ -148,9 +149,9 @@ both_right =
 
 both_stand : All (Stands both) wanted
 both_stand =
-    All-cons (Stands both) (record { name = unqualified (codes "x"); space = any_byte; required = true }) (record { name = unqualified (codes "y"); space = Wholes None None; required = true } ∷ [])
+    All-cons (Stands both) (record { name = unqualified (codes "x"); space = any_byte; required = true; standard = Free }) (record { name = unqualified (codes "y"); space = Wholes None None; required = true; standard = Free } ∷ [])
     (λ f n. cc)
-    (All-cons (Stands both) (record { name = unqualified (codes "y"); space = Wholes None None; required = true }) [] (λ f n. cc) (All-nil (Stands both)))
+    (All-cons (Stands both) (record { name = unqualified (codes "y"); space = Wholes None None; required = true; standard = Free }) [] (λ f n. cc) (All-nil (Stands both)))
 
 -- an element that is nil has a text, and its content is empty
 nil_before_content : FirstFault parts 0 (item (codes "a") (nil_is (codes "true") ∷ both) 7 (said (codes "w") 70 ∷ [])) 70 NilWithContent

@@ -30,16 +30,17 @@ use Rattle.map_assignments.specs.Naming.{type_label, sequence_marks}
 use Rattle.map_694.proofs.Resolving.{follow-none}
 use Rattle.map_laws.specs.Children.{Child, child_of, given_by, children}
 use Rattle.map_laws.specs.Standing.{Behind, AreTexts, WithTexts, WithAttributes, AreContent, HasParts, HasInner, AreRest, HasComplex}
-use Rattle.map_laws.proofs.Values.{present_children, PartsFit, sequence-value, sequence-children}
+use Rattle.map_laws.proofs.Values.{present_children, PartsKept, PartsFit, sequence-value, sequence-children}
 use Rattle.map_laws.proofs.Complexes.{fits-found}
 use Rattle.map_laws.proofs.Counts.{count-at}
-use Rattle.map_laws.proofs.Frees.{sequence-free, complex-free}
-use Rattle.map_laws.proofs.Giving.{parts-fit-each, sequence-fits, sequence-gives, IsGiven, top-made}
+use Rattle.map_laws.proofs.Frees.{kept-free, free-kept, content-free}
+use Rattle.map_laws.proofs.Giving.{parts-fit-each, kept-fits, sequence-gives, IsGiven, top-made}
 use Rattle.map_laws.proofs.Nillables.{last_absent, last-at}
 use Rattle.asn_types.specs.Spaces.{spelling}
 use Rattle.xer_items.specs.Items.{Given, given, nothing, joined, both, with_nil, with_texts, texts_of, placed, inside}
 use Rattle.one_value.proofs.Groups.{tell, told, present_given, sequence-inside, inside-found, top-shows}
 use Rattle.one_value.proofs.Attributes.{attribute-gives}
+use Rattle.one_value.proofs.Spelled.{IsKept, kept-part}
 use Rattle.one_value.proofs.Mixed.{text_in}
 use Rattle.one_value.proofs.Complexes.{not-textual, nil-mark, embed-mark, order-mark}
 use Rattle.value_exists.proofs.Texts.{IsText, AttributesAs}
@@ -125,6 +126,7 @@ module _ (M : List Assignment) (E : ℕ → Rose TypeLabel → Type 0) (depth : 
     pub flags : List Bool
     pub values : Roses ValueLabel
     pub fit : PartsFit M depth l i cs us flags values
+    pub kept : PartsKept M cs us flags values
     pub gives : present_given M l i cs us flags values ≡ given xs k
     pub counts : mixed ≡ true → length (present_children M l i cs us flags values) ≡ count
     pub ends : nillable ≡ true → Ends nil flags
@@ -140,6 +142,7 @@ module _ (M : List Assignment) (E : ℕ → Rose TypeLabel → Type 0) (depth : 
         flags = all.flags;
         values = all.values;
         fit = all.fit;
+        kept = free-kept M cs us all.flags all.values (content-free E s M (content_.ElementOnly p) l i cs us g);
         gives = top-shows M depth E (seen p) l i cs us all.flags all.values g all.fit ∙ ap (λ z. given [] z) (told-roses made ∙ ap roses_of all.are ∙ sym h.kids);
         counts = λ e. sym (length-map made (tell M)) ∙ ap length all.are ∙ length-map h.gifts item_of ∙ sym h.count;
         ends = λ e. absurd (true≢false (sym e));
@@ -158,6 +161,7 @@ module _ (M : List Assignment) (E : ℕ → Rose TypeLabel → Type 0) (depth : 
         flags = true ∷ [];
         values = rose.more v rose.none;
         fit = (subst (λ r. FitsAt M (below r depth) u v) (sym g.is.role) text.0, tt);
+        kept = (kept-free M c u v (g.is.free refl), tt);
         gives = ap (λ r. both (placed M (record { role = r; part = c; type = u }) v (inside M u v)) nothing) g.is.role ∙ both-nothing (inside M u v) ∙ text.1 ∙ ap (λ z. given [] z) (sym h.3);
         counts = λ e. absurd (true≢false (sym e));
         ends = λ e. absurd (true≢false (sym e));
@@ -166,7 +170,7 @@ module _ (M : List Assignment) (E : ℕ → Rose TypeLabel → Type 0) (depth : 
   content-fills : (c : Content) (k : Roses Plain) (n : ℕ) → ContentGiven c k n → (nil : Bool) (l : TypeLabel) (i : ℕ) (cs : List Component) (us : List (Rose TypeLabel)) → AreContent E s M c l i cs us
       → Fills false nil (is_mixed c) n l i cs us [] k
   content-fills content_.Empty k n h nil l i [] [] g =
-      record { flags = []; values = rose.none; fit = tt; gives = ap (λ z. given [] z) (sym h); counts = λ e. absurd (true≢false (sym e)); ends = λ e. absurd (true≢false (sym e)) }
+      record { flags = []; values = rose.none; fit = tt; kept = tt; gives = ap (λ z. given [] z) (sym h); counts = λ e. absurd (true≢false (sym e)); ends = λ e. absurd (true≢false (sym e)) }
   content-fills content_.Empty k n h nil l i (c ∷ cs) us g = absurd g
   content-fills content_.Empty k n h nil l i [] (u ∷ us) g = absurd g
   content-fills (content_.Simple m) k n h nil l i cs us g = base-fills m k n h nil l i cs us g
@@ -186,7 +190,7 @@ module _ (M : List Assignment) (E : ℕ → Rose TypeLabel → Type 0) (depth : 
       let l = type_label (form.Sequence has.0) [] in
       let all = content-fills c k n h false l 0 has.0 (list_of has.1) has.3 in
       let v = node (value.Sequence all.flags) all.values in
-      let fits : FitsAt M depth (node l has.1) v = sequence-fits M depth small [] has.0 has.1 all.flags all.values (sequence-free E s M c u has) all.fit (tt, tt, tt, tt) in
+      let fits : FitsAt M depth (node l has.1) v = kept-fits M depth small [] has.0 has.1 all.flags all.values all.kept all.fit (tt, tt, tt, tt) in
       let gives : inside M (node l has.1) v ≡ given [] k = sequence-inside M depth [] has.0 has.1 all.flags all.values refl refl all.fit ∙ all.gives in
       let made : children M (node l has.1) v ≡ present_children M l 0 has.0 (list_of has.1) all.flags all.values =
       sequence-gives M depth l has.0 has.1 all.flags all.values (sequence-value M depth [] has.0 has.1 v fits) in
@@ -214,13 +218,14 @@ module _ (M : List Assignment) (E : ℕ → Rose TypeLabel → Type 0) (depth : 
   rest-fills true nil c k n h l i (d ∷ []) (u ∷ x ∷ us) g = absurd g
   rest-fills true nil c k n h l i (d ∷ x ∷ cs) us g = absurd g
   rest-fills true true c k n h l i (d ∷ []) (u ∷ []) g =
-      record { flags = false ∷ []; values = rose.none; fit = (g.is.absent, tt); gives = ap (λ z. given [] z) (sym h.1); counts = λ e. sym h.2; ends = λ e. refl }
+      record { flags = false ∷ []; values = rose.none; fit = (g.is.absent, tt); kept = tt; gives = ap (λ z. given [] z) (sym h.1); counts = λ e. sym h.2; ends = λ e. refl }
   rest-fills true false c k n h l i (d ∷ []) (u ∷ []) g =
       let one = inner-has c k n h u g.type in
       record {
         flags = true ∷ [];
         values = rose.more one.own rose.none;
         fit = (subst (λ r. FitsAt M (below r depth) u one.own) (sym g.is.role) one.fit, tt);
+        kept = (kept-free M d u one.own (g.is.free refl), tt);
         gives = ap (λ r. both (placed M (record { role = r; part = d; type = u }) one.own (inside M u one.own)) nothing) g.is.role ∙ both-nothing (inside M u one.own) ∙ one.gives;
         counts = λ e. ap (λ r. length (given_by r (child_of d u one.own) (children M u one.own) ++ [])) g.is.role ∙ ap length (append-nil (children M u one.own)) ∙ one.counts e;
         ends = λ e. refl;
@@ -241,12 +246,13 @@ module _ (M : List Assignment) (E : ℕ → Rose TypeLabel → Type 0) (depth : 
           flags = false ∷ all.flags;
           values = all.values;
           fit = ((g.0.is.absent ∙ ap not h.0), all.fit);
+          kept = all.kept;
           gives = all.gives;
           counts = all.counts;
           ends = λ e. ends-more nil false all.flags (all.ends e);
         }
     attributes-fill (d ∷ ds) xs (inr h) i (c ∷ cs) (u ∷ us) g =
-        let all = attributes-fill ds h.2 h.5 (i + 1) cs us g.1 in
+        let all = attributes-fill ds h.2 h.6 (i + 1) cs us g.1 in
         let v = h.1 in
         let text = h.4 u g.0.type in
         let made = present_children M l (i + 1) cs us all.flags all.values in
@@ -254,6 +260,7 @@ module _ (M : List Assignment) (E : ℕ → Rose TypeLabel → Type 0) (depth : 
           flags = true ∷ all.flags;
           values = rose.more v all.values;
           fit = (subst (λ r. FitsAt M (below r depth) u v) (sym g.0.is.role) text.0, all.fit);
+          kept = (kept-part M s l i c u v d g.0 (subst (IsKept d) (sym text.2) h.5), all.kept);
           gives = ap (λ z. both z (present_given M l (i + 1) cs us all.flags all.values)) (attribute-gives M depth s l i c u v d g.0)
               ∙ ap (λ z. both (given ((d.name, spelling M u v) ∷ []) rose.none) z) all.gives
               ∙ ap (λ w. given ((d.name, w) ∷ h.2) k) text.2 ∙ ap (λ ys. given ys k) (sym h.3);
@@ -288,6 +295,7 @@ module _ (M : List Assignment) (E : ℕ → Rose TypeLabel → Type 0) (depth : 
         flags = true ∷ rest.flags;
         values = rose.more v rest.values;
         fit = (subst (λ r. FitsAt M (below r depth) u v) (sym g.0.is.role) (h.1 u g.0.type), rest.fit);
+        kept = (kept-free M c u v (g.0.is.free refl), rest.kept);
         gives = ap (λ r. both (placed M (record { role = r; part = c; type = u }) v (inside M u v)) (present_given M l 1 cs us rest.flags rest.values)) g.0.is.role ∙ rest.gives;
         counts = λ e. ap (λ r. length (given_by r (child_of c u v) (children M u v) ++ made)) g.0.is.role ∙ rest.counts e;
         ends = λ e. ends-more nil true rest.flags (rest.ends e);
@@ -335,7 +343,7 @@ module _ (M : List Assignment) (E : ℕ → Rose TypeLabel → Type 0) (depth : 
       let v = node (value.Sequence all.flags) all.values in
       let whole = node l has.1 in
       let same : resolve M t ≡ resolve M whole = has.2 ∙ sym (follow-none M 4 whole refl) in
-      let each = parts-fit-each M depth l has.0 0 us all.flags all.values (complex-free E s M nillable c (resolve M t) has) all.fit in
+      let each = parts-fit-each M depth l has.0 0 us all.flags all.values all.kept all.fit in
       let made : children M whole v ≡ present_children M l 0 has.0 us all.flags all.values = sequence-children M depth marks has.0 has.1 all.flags all.values each in
       let counted : mixed ≡ true → child_count M whole v ≡ n =
       λ e. count-at M depth whole (value.Sequence all.flags) all.values (subst (λ x. elim (places x (value.Sequence all.flags) (length_all all.values)) as (λ _. Type 0) [ None ↦ ⊥ | Some ps ↦ FitEach M depth ps all.values ]) (sym (follow-none M 4 whole refl)) each)
@@ -343,7 +351,7 @@ module _ (M : List Assignment) (E : ℕ → Rose TypeLabel → Type 0) (depth : 
       let last = λ (e : nillable ≡ true). ends-last nil all.flags (all.ends e) in
       let plain = plain-rest nillable nil c.content k n rest in
       let own = owns nillable mixed nil has.0 has.1 all.flags all.values last plain (λ e. filled.first e ∙ ap (text_count nil) (sym (counted e))) in
-      let fits : FitsAt M depth whole v = sequence-fits M depth small marks has.0 has.1 all.flags all.values (complex-free E s M nillable c (resolve M t) has) all.fit own in
+      let fits : FitsAt M depth whole v = kept-fits M depth small marks has.0 has.1 all.flags all.values all.kept all.fit own in
       let given_all = present_given M l 0 has.0 us all.flags all.values in
       let own_texts = texts_of (value.Sequence all.flags) all.values in
       let gives : inside M t v ≡ with_nil nil (with_texts mixed texts (given xs k)) =

@@ -150,7 +150,7 @@ module _ (M : List Assignment) (depth : ℕ) (small : depth ≤ 64) where
   pub texts-fitting : (texts : List (List ℕ)) → All IsXml texts → ((u : Rose TypeLabel) → AreTexts u → FitsAt M depth u (texts_value texts)) × (map text_in (kids_of (texts_value texts)) ≡ texts)
   texts-fitting texts h = (
     λ u are. subst (λ x. FitsAt M depth x (texts_value texts)) (sym are.type)
-        (list-fits M depth small are.item text_type 0 None (roses_of (map text_value texts)) (zero-below (length_all (roses_of (map text_value texts)))) refl are.is.free (texts-fit u are texts h)),
+        (list-fits M depth small are.item text_type 0 None (roses_of (map text_value texts)) (zero-below (length_all (roses_of (map text_value texts)))) refl (are.is.free refl) (texts-fit u are texts h)),
     texts-in texts,
   )
 

@@ -1,9 +1,10 @@
 -- Values of the simple types of a linked set: what is accepted of a text has the treated text as its items.
-use Rattle.std.proofs.Common.{◌≡◌, ℕ, ◌≤◌, ◌⊎◌, inl, inr, Bool, true, false, ◌&&◌, not, Option, Some, None, List, [], ◌∷◌, map, refl, sym, ap, subst, ◌∙◌}
-use Rattle.std.specs.Prelude.{All, Ok, IsUtf8, slice_get, IsSomeAnd}
+use Rattle.std.proofs.Common.{◌≡◌, ℕ, ◌≤◌, ◌⊎◌, inl, inr, Bool, true, false, ◌&&◌, not, Option, Some, None, List, [], ◌∷◌, map, true≢false, refl, sym, ap, subst, ◌∙◌}
+use Rattle.std.specs.Prelude.{All, Ok, IsUtf8, slice_get, IsSomeAnd, if◌then◌else◌}
 use Rattle.std.specs.List.{list_all}
 use Rattle.std.specs.Str.{chars, is_utf8}
 use Rattle.std.proofs.lemmas.List.Elements.{All-nil, All-cons, All-head, All-tail, All-filter}
+use Rattle.std.proofs.lemmas.Slice.Eq.{bytes_eq-Decides}
 use Rattle.std.proofs.lemmas.Str.{IsUtf8-from_is_utf8}
 use Rattle.xa_base.specs.declared.texts.Name.{Name}
 use Rattle.xa_base.specs.Characters.{is_xml_char}
@@ -14,8 +15,10 @@ use Rattle.label_tree.specs.Rose as rose
 use Rattle.simple_types.specs.Space.{Space, Booleans}
 use Rattle.simple_types.specs.Sound.{Sound}
 use Rattle.simple_types.specs.Seen.{space_of}
+use Rattle.simple_types.specs.declared.standards.Standard.{Standard}
+use Rattle.simple_types.specs.declared.standards.Standard.TheVariants.{Free, Default, Fixed}
 use Rattle.simple_types.specs.declared.labels.ValueLabel.{ValueLabel}
-use Rattle.simple_values.specs.Reading.{reads, spelled, Accepts}
+use Rattle.simple_values.specs.Reading.{reads, spelled}
 use Rattle.doc_text.specs.Sound.{is_sound_name, is_sound_attribute, has_name, are_sound_attributes}
 use Rattle.plain_items.specs.Mixing.{text_before}
 use Rattle.asn_types.specs.declared.modules.Assignment.{Assignment}
@@ -27,7 +30,7 @@ use Rattle.asn_types.proofs.SimpleLaws.{maps-seen}
 use Rattle.schema_parts.specs.declared.components.AttributeUse.{AttributeUse}
 use Rattle.schema_parts.specs.declared.components.SimpleDef.{SimpleDef}
 use Rattle.schema_parts.specs.Components.{Set}
-use Rattle.schema_parts.specs.Linked.{IsSimpleType as IsSimpleDefinition, IsLinked}
+use Rattle.schema_parts.specs.Linked.{IsSimpleType as IsSimpleDefinition, MayBeFor, HasStandard, IsLinked}
 use Rattle.schema_parts.specs.SetParts.{parts_of}
 use Rattle.schema_parts.proofs.Truths.{both}
 use Rattle.map_subjects.proofs.Finding.{all-at}
@@ -40,9 +43,10 @@ use Rattle.asn_types.specs.Spaces.{spelling}
 use Rattle.xer_items.specs.Items.{given, inside}
 use Rattle.xer_items.proofs.Texts.{texts_of_values}
 use Rattle.validity.specs.Asked.{Attribute, space_at, attribute_in}
-use Rattle.validity.specs.Attributes.{text_of, left, is_special, declared, Stands, AllRight, spelled_read, put_attribute, treated_text, treated_attributes}
+use Rattle.validity.specs.Attributes.{text_of, left, is_special, declared, IsFixedTo, Takes, Stands, AllRight, spelled_read, put_attribute, treated_text, has_spelling, unless_standard, treated_attributes}
 use Rattle.validity.proofs.Treated.{text_right}
 use Rattle.one_value.proofs.Simples.{found-in}
+use Rattle.one_value.proofs.Spelled.{KeptAs, IsKept, not-false}
 use Rattle.value_exists.proofs.Accepted.{accepted-fits}
 
 -- ---- texts of attributes are UTF-8
@@ -75,6 +79,16 @@ text-encoded (x ∷ xs) n text h e = by (name_eq x.0 n) refl (λ q. text-encoded
         subst IsUtf8 words (All-head IsEncoded x xs h)
     by false q others = others (sym (rw q refl) ∙ e)
 
+-- ---- what stands in treated attributes is kept
+
+-- a required attribute has its fixed value, and one that may be absent has neither its default nor its fixed value
+kept-of : (standard : Standard) (required : Bool) (words : List ℕ) → MayBeFor required standard → IsFixedTo standard words → (not required && has_spelling standard words) ≡ false → KeptAs standard required words
+kept-of Free required words may fixed e = tt
+kept-of (Default text) true words may fixed e = absurd (true≢false may)
+kept-of (Default text) false words may fixed e = λ same. true≢false (sym ((bytes_eq-Decides words text).1 same) ∙ e)
+kept-of (Fixed text) true words may fixed e = (refl, fixed)
+kept-of (Fixed text) false words may fixed e = absurd (true≢false (sym ((bytes_eq-Decides words text).1 fixed) ∙ e))
+
 module _ (s : Set) (linked : IsLinked s) (M : List Assignment) (depth : ℕ) (small : depth ≤ 64) where
   -- a value of each type of the simple type with this number, which gives this text
   abbrev pub IsText : ℕ → List ℕ → Rose ValueLabel → Type 0
@@ -104,13 +118,13 @@ module _ (s : Set) (linked : IsLinked s) (M : List Assignment) (depth : ℕ) (sm
           subst (λ z. FitsAt M depth u v × (inside M u v ≡ given [] (text_before (spelled z v) rose.none)) × (spelling M u v ≡ spelled z v)) (sym asked)
           (accepted-text space sound text encoded v (subst (λ z. reads z text ≡ Ok v) asked e) u k)
 
-  -- ---- attributes in the order of the uses: each has a value, or none where it isn't required
+  -- ---- attributes in the order of the uses: each has a value that is kept, or none where it isn't required
 
   abbrev pub AttributesAs : List AttributeUse → List (Name × List ℕ) → Type 0
   AttributesAs [] xs = xs ≡ []
   AttributesAs (d ∷ ds) xs =
       ((d.required ≡ false) × AttributesAs ds xs)
-      ⊎ ((words : List ℕ) × (v : Rose ValueLabel) × (ys : List (Name × List ℕ)) × (xs ≡ (d.name, words) ∷ ys) × IsText d.simple words v × AttributesAs ds ys)
+      ⊎ ((words : List ℕ) × (v : Rose ValueLabel) × (ys : List (Name × List ℕ)) × (xs ≡ (d.name, words) ∷ ys) × IsText d.simple words v × IsKept d words × AttributesAs ds ys)
 
   abbrev Declared : List Attribute → Attribute → Type 0
   Declared wanted a = declared wanted a.name ≡ Some a
@@ -123,20 +137,32 @@ module _ (s : Set) (linked : IsLinked s) (M : List Assignment) (depth : ℕ) (sm
     abbrev own : AttributeUse → Attribute
     own = attribute_in (parts_of s)
 
-    one-given : (d : AttributeUse) (ds : List AttributeUse) → Declared wanted (own d) → Stands ls (own d) → (xs : List (Name × List ℕ)) → AttributesAs ds xs → (o : Option (List ℕ)) → text_of ls d.name ≡ o
-        → AttributesAs (d ∷ ds) (put_attribute d.name (treated_text (space_at (parts_of s) d.simple) o) xs)
-    one-given d ds known stands xs rest None e = inl (never-true d.required (λ r. stands r e), rest)
-    one-given d ds known stands xs rest (Some text) e =
-        let space = space_at (parts_of s) d.simple in
-        let accepted : (v : Rose ValueLabel) × Accepts space text v =
-        subst (λ o. elim o as (λ _. Type 0) [ None ↦ ⊥ | Some a ↦ (v : Rose ValueLabel) × Accepts a.space text v ]) known (text_right ls wanted d.name ls text right e) in
-        let words = spelled space accepted.0 in
-        let here : treated_text space (Some text) ≡ Some words = ap (spelled_read space) accepted.1 in
-        inr (words, accepted.0, xs, ap (λ o. put_attribute d.name o xs) here, text-given d.simple text (text-encoded ls d.name text encoded e) accepted.0 accepted.1, rest)
+    -- its text, which it takes, is left out where the attribute has it anyway
+    one-taken : (d : AttributeUse) (ds : List AttributeUse) → HasStandard s d → (xs : List (Name × List ℕ)) → AttributesAs ds xs → (text : List ℕ) → text_of ls d.name ≡ Some text → Takes (own d) text
+        → AttributesAs (d ∷ ds) (put_attribute d.name (unless_standard (own d) (treated_text (space_at (parts_of s) d.simple) (Some text))) xs)
+    one-taken d ds may xs rest text e (v, accepts, fixed) =
+        let here : treated_text (space_at (parts_of s) d.simple) (Some text) ≡ Some (spelled (space_at (parts_of s) d.simple) v) = ap (spelled_read (space_at (parts_of s) d.simple)) accepts in
+        subst (λ o. AttributesAs (d ∷ ds) (put_attribute d.name (unless_standard (own d) o) xs)) (sym here)
+        (by (not d.required && has_spelling d.standard (spelled (space_at (parts_of s) d.simple) v)) refl)
+      where
+        by : (b : Bool) → (not d.required && has_spelling d.standard (spelled (space_at (parts_of s) d.simple) v)) ≡ b
+            → AttributesAs (d ∷ ds) (put_attribute d.name (if b then None else Some (spelled (space_at (parts_of s) d.simple) v)) xs)
+        by true q = inl (not-false d.required (both (not d.required) (has_spelling d.standard (spelled (space_at (parts_of s) d.simple) v)) q).0, rest)
+        by false q =
+            let words = spelled (space_at (parts_of s) d.simple) v in
+            inr (words, v, xs, refl, text-given d.simple text (text-encoded ls d.name text encoded e) v accepts, kept-of d.standard d.required words may.1 fixed q, rest)
 
-    pub attributes-given : (ds : List AttributeUse) → All (Declared wanted) (map own ds) → All (Stands ls) (map own ds) → AttributesAs ds (treated_attributes (map own ds) ls)
-    attributes-given [] known stands = refl
-    attributes-given (d ∷ ds) known stands =
-        one-given d ds (All-head (Declared wanted) (own d) (map own ds) known) (All-head (Stands ls) (own d) (map own ds) stands)
-        (treated_attributes (map own ds) ls) (attributes-given ds (All-tail (Declared wanted) (own d) (map own ds) known) (All-tail (Stands ls) (own d) (map own ds) stands))
+    one-given : (d : AttributeUse) (ds : List AttributeUse) → HasStandard s d → Declared wanted (own d) → Stands ls (own d) → (xs : List (Name × List ℕ)) → AttributesAs ds xs
+        → (o : Option (List ℕ)) → text_of ls d.name ≡ o → AttributesAs (d ∷ ds) (put_attribute d.name (unless_standard (own d) (treated_text (space_at (parts_of s) d.simple) o)) xs)
+    one-given d ds may known stands xs rest None e = inl (never-true d.required (λ r. stands r e), rest)
+    one-given d ds may known stands xs rest (Some text) e =
+        one-taken d ds may xs rest text e
+        (subst (λ o. elim o as (λ _. Type 0) [ None ↦ ⊥ | Some a ↦ Takes a text ]) known (text_right ls wanted d.name ls text right e))
+
+    pub attributes-given : (ds : List AttributeUse) → All (HasStandard s) ds → All (Declared wanted) (map own ds) → All (Stands ls) (map own ds) → AttributesAs ds (treated_attributes (map own ds) ls)
+    attributes-given [] may known stands = refl
+    attributes-given (d ∷ ds) may known stands =
+        one-given d ds (All-head (HasStandard s) d ds may) (All-head (Declared wanted) (own d) (map own ds) known) (All-head (Stands ls) (own d) (map own ds) stands)
+        (treated_attributes (map own ds) ls)
+        (attributes-given ds (All-tail (HasStandard s) d ds may) (All-tail (Declared wanted) (own d) (map own ds) known) (All-tail (Stands ls) (own d) (map own ds) stands))
         (text_of ls d.name) refl

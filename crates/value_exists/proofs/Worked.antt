@@ -1,7 +1,7 @@
 -- Worked documents, each beside its value: the document is valid with these treated items, the value fits the root type, and
 -- its items are the same.
-use Rattle.std.proofs.Common.{◌≡◌, ◌+◌, ◌≤◌, ℕ, List, [], ◌∷◌, Some, None, Bool, true, false, inl, inr, refl, ap, arith}
-use Rattle.std.specs.Prelude.{codes, pos, ℤ, All}
+use Rattle.std.proofs.Common.{◌≡◌, ◌+◌, ◌≤◌, ℕ, List, [], ◌∷◌, Some, None, Bool, true, false, inl, inr, true≢false, refl, sym, ap, arith}
+use Rattle.std.specs.Prelude.{codes, pos, ℤ, All, bytes_eq}
 use Rattle.std.specs.Fmt.{digits}
 use Rattle.std.specs.Str.{chars, is_utf8}
 use Rattle.std.specs.Char.{encode_utf8}
@@ -15,6 +15,7 @@ use Rattle.xa_base.specs.Characters.{is_xml_char}
 use Rattle.label_tree.specs.Rose.{Rose, node, none, roses_of}
 use Rattle.simple_types.specs.declared.simples.Class.TheVariants.{Any}
 use Rattle.simple_types.specs.Space as space
+use Rattle.simple_types.specs.declared.standards.Standard.TheVariants.{Free, Default, Fixed}
 use Rattle.simple_types.specs.declared.labels.ValueLabel.{ValueLabel}
 use Rattle.simple_types.specs.declared.labels.ValueLabel.TheVariants as value
 use Rattle.simple_values.specs.Lexical.{whole_number, in_class}
@@ -34,9 +35,10 @@ use Rattle.validity.specs.Private.WorkedSets.{unqualified, any_text, any_token, 
 use Rattle.asn_types.specs.declared.modules.Assignment.{Assignment}
 use Rattle.asn_types.specs.declared.types.Component.{Component}
 use Rattle.asn_types.specs.Refs.{follow}
+use Rattle.asn_types.specs.Spaces.{spelling}
 use Rattle.asn_values.specs.Values.{child_count, count_in, FitsAt, FitEach, Fits}
 use Rattle.xer_items.specs.Items.{inside, gathered, Xer}
-use Rattle.value_exists.proofs.WorkedTypes.{component, refers, text_type, token_type, order_types, element_types, prices, price_types}
+use Rattle.value_exists.proofs.WorkedTypes.{component, refers, text_type, token_type, byte_type, order_types, element_types, prices, price_types, settings, setting_types}
 
 -- a valid element of the declaration, and a value of the assignment, with the same items
 abbrev AreOne : SetParts → ℕ → Rose ItemLabel → List Assignment → ℕ → Rose ValueLabel → Rose Plain → Type 0
@@ -189,11 +191,11 @@ sku_and_qty = (
 )
 
 abbrev id_wanted : Attribute
-id_wanted = record { name = unqualified (codes "id"); space = space.Wholes (Some (pos 0)) (Some (pos 65535)); required = true }
+id_wanted = record { name = unqualified (codes "id"); space = space.Wholes (Some (pos 0)) (Some (pos 65535)); required = true; standard = Free }
 
 id_right : IsRight (asked_at orders 0).attributes (id_of (codes "7"))
 unfolding orders reads treated words_of is_white_space whole_number
-id_right = (number (pos 7), refl)
+id_right = (number (pos 7), refl, tt)
 
 ids_right : All (IsRight (asked_at orders 0).attributes) (id_of (codes "7") ∷ [])
 ids_right = All-cons (IsRight (asked_at orders 0).attributes) (id_of (codes "7")) [] id_right (All-nil (IsRight (asked_at orders 0).attributes))
@@ -395,7 +397,7 @@ lines_and_note = (
 spaced_ids_right : All (IsRight (asked_at orders 0).attributes) (id_of (codes " 07 ") ∷ [])
 unfolding orders reads treated words_of is_white_space whole_number
 spaced_ids_right =
-    All-cons (IsRight (asked_at orders 0).attributes) (id_of (codes " 07 ")) [] (number (pos 7), refl) (All-nil (IsRight (asked_at orders 0).attributes))
+    All-cons (IsRight (asked_at orders 0).attributes) (id_of (codes " 07 ")) [] (number (pos 7), refl, tt) (All-nil (IsRight (asked_at orders 0).attributes))
 
 spaced_sku_valid : ValidBy (asked_at orders) 3 (sku_item (codes " B  2 ") 38) (sku_plain (codes "B 2"))
 unfolding orders reads spelled treated words_of is_white_space chars is_xml_char in_class
@@ -767,11 +769,11 @@ t_of bytes = (unqualified (codes "t"), bytes)
 
 t_right : All (IsRight (asked_at elements 13).attributes) (t_of (codes "a\nb") ∷ [])
 unfolding elements reads treated chars is_xml_char in_class
-t_right = All-cons (IsRight (asked_at elements 13).attributes) (t_of (codes "a\nb")) [] (words (codes "a\nb"), refl) (All-nil (IsRight (asked_at elements 13).attributes))
+t_right = All-cons (IsRight (asked_at elements 13).attributes) (t_of (codes "a\nb")) [] (words (codes "a\nb"), refl, tt) (All-nil (IsRight (asked_at elements 13).attributes))
 
 t_stands : (xs : List (Name × List ℕ)) → All (Stands xs) (asked_at elements 13).attributes
 unfolding elements
-t_stands xs = All-cons (Stands xs) (record { name = unqualified (codes "t"); space = any_text; required = false }) [] (λ f n. cc) (All-nil (Stands xs))
+t_stands xs = All-cons (Stands xs) (record { name = unqualified (codes "t"); space = any_text; required = false; standard = Free }) [] (λ f n. cc) (All-nil (Stands xs))
 
 -- <q t="a&#10;b"/>
 attribute_is_one : AreOne elements 13 (item (unqualified (codes "q")) (t_of (codes "a\nb") ∷ []) [] 0 []) element_types 7 (sequence (true ∷ []) (words (codes "a\nb") ∷ []))
@@ -839,14 +841,14 @@ abbrev euros : Name × List ℕ
 euros = (unqualified (codes "currency"), codes "EUR")
 
 abbrev wanted : Attribute
-wanted = record { name = unqualified (codes "currency"); space = any_text; required = true }
+wanted = record { name = unqualified (codes "currency"); space = any_text; required = true; standard = Free }
 
 abbrev is_true : Name × List ℕ
 is_true = (xsi (codes "nil"), codes "true")
 
 euros_right : All (IsRight (wanted ∷ [])) (euros ∷ [])
 unfolding reads treated chars is_xml_char in_class
-euros_right = All-cons (IsRight (wanted ∷ [])) euros [] (words (codes "EUR"), refl) (All-nil (IsRight (wanted ∷ [])))
+euros_right = All-cons (IsRight (wanted ∷ [])) euros [] (words (codes "EUR"), refl, tt) (All-nil (IsRight (wanted ∷ [])))
 
 euros_stand : (xs : List (Name × List ℕ)) → All (Stands (euros ∷ xs)) (wanted ∷ [])
 euros_stand xs = All-cons (Stands (euros ∷ xs)) wanted [] (λ f n. cc) (All-nil (Stands (euros ∷ xs)))
@@ -868,5 +870,101 @@ unfolding prices price_types follow FitsAt FitEach inside gathered reads spelled
 rebate_is_one = (
   (refl, (none, refl, refl, euros_right, euros_stand [], (refl, refl))),
   (omega arith, ((text_fits price_types 1 (omega arith) (codes "EUR") refl refl, tt), tt), (tt, tt, tt, tt)),
+  refl,
+)
+
+-- ---- attributes with default and fixed values
+
+abbrev v_of : List ℕ → Name × List ℕ
+v_of bytes = (unqualified (codes "v"), bytes)
+
+abbrev x_of : List ℕ → Name × List ℕ
+x_of bytes = (unqualified (codes "x"), bytes)
+
+abbrev v_wanted : Attribute
+v_wanted = record { name = unqualified (codes "v"); space = any_byte; required = false; standard = Default (codes "5") }
+
+abbrev x_wanted : Bool → Attribute
+x_wanted required = record { name = unqualified (codes "x"); space = any_token; required = required; standard = Fixed (codes "on") }
+
+abbrev both_wanted : List Attribute
+both_wanted = v_wanted ∷ x_wanted false ∷ []
+
+both_stand : (xs : List (Name × List ℕ)) → All (Stands xs) both_wanted
+both_stand xs = All-cons (Stands xs) v_wanted (x_wanted false ∷ []) (λ f n. cc) (All-cons (Stands xs) (x_wanted false) [] (λ f n. cc) (All-nil (Stands xs)))
+
+v_right : IsRight both_wanted (v_of (codes "05"))
+unfolding reads treated words_of is_white_space whole_number
+v_right = (number (pos 5), refl, tt)
+
+other_v_right : IsRight both_wanted (v_of (codes "6"))
+unfolding reads treated words_of is_white_space whole_number
+other_v_right = (number (pos 6), refl, tt)
+
+x_right : IsRight both_wanted (x_of (codes " on "))
+unfolding reads spelled treated words_of is_white_space chars is_xml_char in_class
+x_right = (words (codes "on"), refl, refl)
+
+both_right : All (IsRight both_wanted) (v_of (codes "05") ∷ x_of (codes " on ") ∷ [])
+both_right =
+    All-cons (IsRight both_wanted) (v_of (codes "05")) (x_of (codes " on ") ∷ []) v_right
+    (All-cons (IsRight both_wanted) (x_of (codes " on ")) [] x_right (All-nil (IsRight both_wanted)))
+
+-- <g v="05" x=" on "/>: neither says anything
+settings_are_one : AreOne settings 0 (item (unqualified (codes "g")) (v_of (codes "05") ∷ x_of (codes " on ") ∷ []) [] 0 []) setting_types 0 (sequence (false ∷ false ∷ []) [])
+    (plain (unqualified (codes "g")) [] [])
+unfolding settings setting_types follow FitsAt FitEach inside gathered reads spelled treated words_of is_white_space whole_number digits chars is_xml_char in_class
+settings_are_one = ((refl, (none, refl, refl, both_right, both_stand (v_of (codes "05") ∷ x_of (codes " on ") ∷ []), (refl, refl))), (omega arith, tt, (tt, tt, tt, tt)), refl)
+
+other_says_something : spelling setting_types byte_type (number (pos 6)) ≡ codes "5" → ⊥
+unfolding follow spelled digits
+other_says_something e = true≢false (sym (ap (λ text. bytes_eq text (codes "5")) e))
+
+-- <g v="6"/>
+other_setting_is_one : AreOne settings 0 (item (unqualified (codes "g")) (v_of (codes "6") ∷ []) [] 0 []) setting_types 0 (sequence (true ∷ false ∷ []) (number (pos 6) ∷ []))
+    (plain (unqualified (codes "g")) (v_of (codes "6") ∷ []) [])
+unfolding settings setting_types follow FitsAt FitEach inside gathered reads spelled treated words_of is_white_space whole_number digits
+other_setting_is_one = (
+  (
+    refl,
+    (
+      none,
+      refl,
+      refl,
+      All-cons (IsRight both_wanted) (v_of (codes "6")) [] other_v_right (All-nil (IsRight both_wanted)),
+      both_stand (v_of (codes "6") ∷ []),
+      (refl, refl),
+    ),
+  ),
+  (omega arith, (((omega arith, tt, (tt, tt, tt, tt)), other_says_something), tt), (tt, tt, tt, tt)),
+  refl,
+)
+
+-- a default value that stands is of no value
+default_never_stands : Fits setting_types 0 (sequence (true ∷ false ∷ []) (number (pos 5) ∷ [])) → ⊥
+unfolding setting_types follow FitsAt FitEach spelled digits
+default_never_stands h = h.1.0.1 refl
+
+-- <h x="on"/>: what is required stands in the value, though it can be no other
+required_right : IsRight (x_wanted true ∷ []) (x_of (codes "on"))
+unfolding reads spelled treated words_of is_white_space chars is_xml_char in_class
+required_right = (words (codes "on"), refl, refl)
+
+required_is_one : AreOne settings 1 (item (unqualified (codes "h")) (x_of (codes "on") ∷ []) [] 0 []) setting_types 1 (sequence (true ∷ []) (words (codes "on") ∷ []))
+    (plain (unqualified (codes "h")) (x_of (codes "on") ∷ []) [])
+unfolding settings setting_types follow FitsAt FitEach inside gathered reads spelled treated words_of is_white_space chars is_xml_char in_class is_utf8 encode_utf8
+required_is_one = (
+  (
+    refl,
+    (
+      none,
+      refl,
+      refl,
+      All-cons (IsRight (x_wanted true ∷ [])) (x_of (codes "on")) [] required_right (All-nil (IsRight (x_wanted true ∷ []))),
+      All-cons (Stands (x_of (codes "on") ∷ [])) (x_wanted true) [] (λ f n. cc) (All-nil (Stands (x_of (codes "on") ∷ []))),
+      (refl, refl),
+    ),
+  ),
+  (omega arith, ((token_fits setting_types 1 (omega arith) (codes "on") refl refl refl, (refl, refl)), tt), (tt, tt, tt, tt)),
   refl,
 )

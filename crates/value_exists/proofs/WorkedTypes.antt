@@ -1,14 +1,17 @@
--- The modules of three schemas, worked out by hand: an order with its lines, elements of many types, and prices, which have simple
--- content with an attribute. With the last stand the parts of its set. The first two are those of `xer_items/proofs/WorkedModules`.
+-- The modules of four schemas, worked out by hand: an order with its lines, elements of many types, prices, which have simple
+-- content with an attribute, and settings, whose attributes have default and fixed values. With the last two stand the parts of
+-- their sets. The first two are those of `xer_items/proofs/WorkedModules`.
 use Rattle.std.specs.Prelude.{ℕ, Bool, ◌^◌, ◌-◌, true, false, pos, negsuc, Some, None, List, [], ◌∷◌, codes}
 use Rattle.label_tree.specs.Rose.{Rose, node, roses_of}
 use Rattle.xa_base.specs.declared.white_space.WhiteSpace.TheVariants.{Collapse}
 use Rattle.simple_types.specs.declared.simples.Class.TheVariants.{Any}
-use Rattle.simple_types.specs.declared.standards.Standard.TheVariants.{Free}
+use Rattle.simple_types.specs.declared.standards.Standard.{Standard}
+use Rattle.simple_types.specs.declared.standards.Standard.TheVariants.{Free, Default, Fixed}
+use Rattle.schema_parts.specs.declared.components.AttributeUse.{AttributeUse}
 use Rattle.schema_parts.specs.declared.components.Content.TheVariants as content
 use Rattle.schema_parts.specs.declared.components.TypeOf.TheVariants as kind
 use Rattle.schema_parts.specs.SetParts.{SetParts}
-use Rattle.validity.specs.Private.WorkedSets.{unqualified, element_decl, attribute_use, complex_def, unnamed_type, any_text, any_byte}
+use Rattle.validity.specs.Private.WorkedSets.{unqualified, element_decl, attribute_use, complex_def, unnamed_type, any_text, any_token, any_byte}
 use Rattle.asn_types.specs.declared.marks.Instruction.{Instruction}
 use Rattle.asn_types.specs.declared.marks.Instruction.TheVariants as mark
 use Rattle.asn_types.specs.declared.modules.Assignment.{Assignment}
@@ -41,7 +44,7 @@ token_type = type (form.Utf8 0 None Any) (mark.WhiteSpace Collapse ∷ []) []
 abbrev int_type : Rose TypeLabel
 int_type = type (form.Int (Some (negsuc (2 ^ 31 - 1))) (Some (pos (2 ^ 31 - 1)))) [] []
 
-abbrev byte_type : Rose TypeLabel
+abbrev pub byte_type : Rose TypeLabel
 byte_type = type (form.Int (Some (pos 0)) (Some (pos 255))) [] []
 
 -- ---- orders
@@ -158,4 +161,30 @@ price_types =
     ∷ names_element (codes "Rebate") (codes "rebate") (refers 3)
     ∷ assigned (codes "Price-1") (mark.Name (codes "Price") ∷ []) (type (form.Sequence (currency ∷ component (codes "base") false (mark.Untagged ∷ []) ∷ [])) [] (text_type ∷ byte_type ∷ []))
     ∷ assigned (codes "Price-1-nillable") [] (type (form.Sequence (currency ∷ component (codes "content") true [] ∷ [])) (mark.UseNil ∷ []) (text_type ∷ byte_type ∷ []))
+    ∷ []
+
+-- ---- settings: `g` has a byte `v` with a default value and a token `x` with a fixed one; `h` has the token, which is required
+
+abbrev constrained_use : List ℕ → ℕ → Bool → Standard → AttributeUse
+constrained_use local simple required standard = record { name = unqualified local; simple = simple; required = required; standard = standard }
+
+unfoldable pub settings : SetParts
+settings = record {
+  elements = element_decl (unqualified (codes "g")) false (kind.Complex 0) ∷ element_decl (unqualified (codes "h")) false (kind.Complex 1) ∷ [];
+  globals = 2;
+  simples = unnamed_type any_byte ∷ unnamed_type any_token ∷ [];
+  complexes =
+      complex_def None (constrained_use (codes "v") 0 false (Default (codes "5")) ∷ constrained_use (codes "x") 1 false (Fixed (codes "on")) ∷ []) content.Empty
+      ∷ complex_def None (constrained_use (codes "x") 1 true (Fixed (codes "on")) ∷ []) content.Empty ∷ [];
+  attributes = [];
+}
+
+abbrev constrained : List ℕ → Bool → Standard → Component
+constrained identifier optional standard = record { identifier = identifier; optional = optional; standard = standard; marks = mark.Attribute ∷ [] }
+
+unfoldable pub setting_types : List Assignment
+setting_types =
+    names_element (codes "G") (codes "g")
+    (type (form.Sequence (constrained (codes "v") true (Default (codes "5")) ∷ constrained (codes "x") true (Fixed (codes "on")) ∷ [])) [] (byte_type ∷ token_type ∷ []))
+    ∷ names_element (codes "H") (codes "h") (type (form.Sequence (constrained (codes "x") false (Fixed (codes "on")) ∷ [])) [] (token_type ∷ []))
     ∷ []

@@ -25,13 +25,14 @@ use Rattle.schema_parts.specs.declared.components.Content.TheVariants as content
 use Rattle.schema_parts.specs.declared.components.TypeOf.{TypeOf}
 use Rattle.schema_parts.specs.declared.components.TypeOf.TheVariants as kind
 use Rattle.schema_parts.specs.Components.{Set}
-use Rattle.schema_parts.specs.Linked.{leaves, IsNamed, IsLinked}
+use Rattle.schema_parts.specs.Linked.{leaves, IsNamed, HasStandard, IsComplexType, IsLinked}
 use Rattle.schema_parts.specs.SetParts.{parts_of}
 use Rattle.asn_types.specs.declared.modules.Assignment.{Assignment}
 use Rattle.asn_types.specs.declared.types.TypeLabel.{TypeLabel}
 use Rattle.asn_types.specs.Refs.{resolve}
 use Rattle.asn_values.specs.Values.{text_count, FitsAt}
 use Rattle.map_subjects.specs.Subjects.{place_in}
+use Rattle.map_subjects.proofs.Finding.{all-at}
 use Rattle.map_assignments.specs.Mapped.{IsMapOf}
 use Rattle.map_assignments.specs.Planning.{is_mixed}
 use Rattle.map_laws.specs.Standing.{IsSimpleOf, HasNillable, HasComplex, HasContent}
@@ -41,7 +42,7 @@ use Rattle.xer_items.specs.Items as items
 use Rattle.xer_items.specs.Items.{Given, given, with_texts, element_of, inside}
 use Rattle.validity.specs.Asked.{Asked, Attribute, Inside, asked, space_at, attribute_in, inside_of, asked_by, asked_by_type, asked_by_complex, asked_at}
 use Rattle.validity.specs.Asked as ask
-use Rattle.validity.specs.Attributes.{Nil, not_nil, is_nil, bad_nil, nil_by, nil_of, xsi_nil, text_of, left, Stands, AllStand, spelled_read, put_attribute, treated_text, treated_attributes, with_nil}
+use Rattle.validity.specs.Attributes.{Nil, not_nil, is_nil, bad_nil, nil_by, nil_of, xsi_nil, text_of, left, Stands, AllStand, put_attribute, treated_attribute, treated_attributes, with_nil}
 use Rattle.value_exists.proofs.Texts.{IsEncoded, left-encoded, text-encoded, text-given, never-true}
 use Rattle.value_exists.proofs.Kids.{IsXml, only-utf8, between-xml, kids-xml, texts_value, texts-fitting}
 use Rattle.value_exists.proofs.Elements.{nil-nillable, kids-text}
@@ -51,6 +52,7 @@ use Rattle.xer_read.specs.Private.Held as held
 use Rattle.xer_read.specs.Private.Given.{IsTypeFor, Gives}
 use Rattle.xer_read.specs.Private.Keeping.{AllKept}
 use Rattle.xer_read.specs.Private.Contents.{AreThose, IsContentBy, IsContentOf, IsNilContent, AttributesMade, TextsMade, ChildrenMade, NothingMade, RestMade, ComplexMade, is_plain_by, is_plain_at, IsMadeBy, IsMade}
+use Rattle.xer_read.proofs.Attributed.{put-kept}
 use Rattle.xer_read.proofs.Making.{named-top, AreGifts}
 use Rattle.xer_read.proofs.Parting.{ContentAs, RestAs, AttributesIn, TextsIn, complex-made}
 
@@ -88,27 +90,28 @@ module _ (s : Set) (linked : IsLinked s) (M : List Assignment) (is_map : IsMapOf
   -- ---- attributes
 
   module _ (ls : List (Name × List ℕ)) (encoded : All IsEncoded ls) where
-    attributes-in : (ds : List AttributeUse) → All (Stands ls) (map own ds) → (flags : List Bool) (vs : List (Rose ValueLabel)) → AttributesMade (map own ds) ls flags vs
+    attributes-in : (ds : List AttributeUse) → All (HasStandard s) ds → All (Stands ls) (map own ds) → (flags : List Bool) (vs : List (Rose ValueLabel)) → AttributesMade (map own ds) ls flags vs
         → AttributesIn M E N depth small s linked ds (treated_attributes (map own ds) ls) flags vs
-    attributes-in [] stand flags vs h = (refl, h.0, h.1)
-    attributes-in (d ∷ ds) stand [] vs h = absurd h
-    attributes-in (d ∷ ds) stand (false ∷ flags) vs (none, rest) =
+    attributes-in [] standards stand flags vs h = (refl, h.0, h.1)
+    attributes-in (d ∷ ds) standards stand [] vs h = absurd h
+    attributes-in (d ∷ ds) standards stand (false ∷ flags) vs ((none, unless), rest) =
         let ys = treated_attributes (map own ds) ls in
-        let here : put_attribute d.name (treated_text (space_at (parts_of s) d.simple) (text_of ls d.name)) ys ≡ ys = ap (λ o. put_attribute d.name (treated_text (space_at (parts_of s) d.simple) o) ys) none in (
-          never-true s linked M depth small d.required (λ r. All-head (Stands ls) (own d) (map own ds) stand r none),
-          subst (λ zs. AttributesIn M E N depth small s linked ds zs flags vs) (sym here) (attributes-in ds (All-tail (Stands ls) (own d) (map own ds) stand) flags vs rest),
+        let here : put_attribute d.name (treated_attribute (own d) ls) ys ≡ ys = ap (λ o. put_attribute d.name o ys) none in (
+          never-true s linked M depth small d.required (λ r. All-head (Stands ls) (own d) (map own ds) stand r (unless r)),
+          subst (λ zs. AttributesIn M E N depth small s linked ds zs flags vs) (sym here)
+              (attributes-in ds (All-tail (HasStandard s) d ds standards) (All-tail (Stands ls) (own d) (map own ds) stand) flags vs rest),
         )
-    attributes-in (d ∷ ds) stand (true ∷ flags) [] h = absurd h
-    attributes-in (d ∷ ds) stand (true ∷ flags) (v ∷ vs) (words, is, accepts, rest) =
+    attributes-in (d ∷ ds) standards stand (true ∷ flags) [] h = absurd h
+    attributes-in (d ∷ ds) standards stand (true ∷ flags) (v ∷ vs) ((words, is, accepts, fixed, treated), rest) =
         let ys = treated_attributes (map own ds) ls in
         let space = space_at (parts_of s) d.simple in
-        let here : put_attribute d.name (treated_text space (text_of ls d.name)) ys ≡ (d.name, spelled space v) ∷ ys =
-        ap (λ o. put_attribute d.name (treated_text space o) ys) is ∙ ap (λ r. put_attribute d.name (spelled_read space r) ys) accepts in (
+        let here : put_attribute d.name (treated_attribute (own d) ls) ys ≡ (d.name, spelled space v) ∷ ys = ap (λ o. put_attribute d.name o ys) treated in (
           spelled space v,
           ys,
           here,
           text-given s linked M depth small d.simple words (text-encoded ls d.name words encoded is) v accepts,
-          attributes-in ds (All-tail (Stands ls) (own d) (map own ds) stand) flags vs rest,
+          put-kept s d ls v (All-head (HasStandard s) d ds standards).1 (words, is, accepts, fixed, treated),
+          attributes-in ds (All-tail (HasStandard s) d ds standards) (All-tail (Stands ls) (own d) (map own ds) stand) flags vs rest,
         )
 
   -- ---- child elements
@@ -297,15 +300,15 @@ module _ (s : Set) (linked : IsLinked s) (M : List Assignment) (is_map : IsMapOf
       abbrev IsRight : Asked → Type 0
       IsRight a = FitsAt M depth u v × (inside M u v ≡ given (with_nil n (treated_attributes a.attributes (left xs))) vs)
 
-      complex-right : (nillable : Bool) (c : ComplexDef) (a : Asked) → a ≡ asked nillable (map own c.uses) (inside_of (parts_of s) c.content) → HasComplex E s M nillable c (resolve M u) → AllStand a.attributes (left xs)
+      complex-right : (nillable : Bool) (c : ComplexDef) → All (HasStandard s) c.uses → (a : Asked) → a ≡ asked nillable (map own c.uses) (inside_of (parts_of s) c.content) → HasComplex E s M nillable c (resolve M u) → AllStand a.attributes (left xs)
           → nil_of a.nillable xs ≡ n → ReadBy s n a.inside ts content vs → ComplexMade a xs content v → IsRight a
-      complex-right nillable c a e has stand nil h made = subst IsRight (sym e) (go (subst (λ b. AllStand b.attributes (left xs)) e stand) (subst (λ b. nil_of b.nillable xs ≡ n) e nil) (subst (λ b. ReadBy s n b.inside ts content vs) e h) (subst (λ b. ComplexMade b xs content v) e made))
+      complex-right nillable c standards a e has stand nil h made = subst IsRight (sym e) (go (subst (λ b. AllStand b.attributes (left xs)) e stand) (subst (λ b. nil_of b.nillable xs ≡ n) e nil) (subst (λ b. ReadBy s n b.inside ts content vs) e h) (subst (λ b. ComplexMade b xs content v) e made))
         where
           go : AllStand (map own c.uses) (left xs) → nil_of nillable xs ≡ n → ReadBy s n (inside_of (parts_of s) c.content) ts content vs
               → ComplexMade (asked nillable (map own c.uses) (inside_of (parts_of s) c.content)) xs content v → IsRight (asked nillable (map own c.uses) (inside_of (parts_of s) c.content))
           go stand nil h made =
               let ys = treated_attributes (map own c.uses) (left xs) in
-              let attributes = attributes-in (left xs) (left-encoded xs sound_attributes) c.uses stand made.flags made.values made.attributes in
+              let attributes = attributes-in (left xs) (left-encoded xs sound_attributes) c.uses standards stand made.flags made.values made.attributes in
               let r = rest-read nillable ts sound within made.text_flags made.rest_flags made.text_values made.rest_values c.content n (text_of xs xsi_nil) nil content vs h made.texts made.others in
               let all = complex-made M E N depth small s linked nillable c u has r.nil r.kids r.count ys r.texts made.text_flags made.flags made.rest_flags made.text_values made.values made.rest_values r.texts_in attributes r.rest_as in
               subst (λ w. FitsAt M depth u w × (inside M u w ≡ given (with_nil n ys) vs)) (sym made.is) (all.0, all.1 ∙ r.whole ys)
@@ -338,16 +341,16 @@ module _ (s : Set) (linked : IsLinked s) (M : List Assignment) (is_map : IsMapOf
           ]
           → AllStand a.attributes (left xs) → nil_of a.nillable xs ≡ n → ReadBy s n a.inside ts content vs → IsMadeBy plain content.rest v (ComplexMade a xs content v) → IsRight a
       kind-right d (kind.Simple m) true a e plain p has stand nil h made =
-          complex-right true (record { name = None; uses = []; content = content_.Simple m }) a e has stand nil h
+          complex-right true (record { name = None; uses = []; content = content_.Simple m }) (All-nil (HasStandard s)) a e has stand nil h
           (made-complex content.rest v (ComplexMade a xs content v) (subst (λ b. IsMadeBy b content.rest v (ComplexMade a xs content v)) p made))
       kind-right d (kind.Simple m) false a e plain p has stand nil h made =
           plain-right m a e has nil h (subst (λ b. IsMadeBy b content.rest v (ComplexMade a xs content v)) p made)
-      kind-right d (kind.Complex m) nillable a e plain p has stand nil h made = by (slice_get s.complexes m) e has
+      kind-right d (kind.Complex m) nillable a e plain p has stand nil h made = by (slice_get s.complexes m) refl e has
         where
-          by : (o : Option ComplexDef) → a ≡ asked_by_complex (parts_of s) nillable o → IsSomeAnd o (λ (c : ComplexDef). HasComplex E s M nillable c (resolve M u)) → IsRight a
-          by None e has = absurd has
-          by (Some c) e has =
-              complex-right nillable c a e has stand nil h
+          by : (o : Option ComplexDef) → slice_get s.complexes m ≡ o → a ≡ asked_by_complex (parts_of s) nillable o → IsSomeAnd o (λ (c : ComplexDef). HasComplex E s M nillable c (resolve M u)) → IsRight a
+          by None g e has = absurd has
+          by (Some c) g e has =
+              complex-right nillable c (all-at (IsComplexType s) s.complexes m c g linked.complexes).standards a e has stand nil h
               (made-complex content.rest v (ComplexMade a xs content v) (subst (λ b. IsMadeBy b content.rest v (ComplexMade a xs content v)) p made))
 
 -- what is made of an element that was read

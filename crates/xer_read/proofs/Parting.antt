@@ -28,15 +28,16 @@ use Rattle.map_assignments.specs.Naming.{type_label, sequence_marks}
 use Rattle.map_694.proofs.Resolving.{follow-none}
 use Rattle.map_laws.specs.Children.{child_of, given_by, children}
 use Rattle.map_laws.specs.Standing.{Behind, AreTexts, WithTexts, WithAttributes, AreContent, HasParts, HasInner, AreRest, HasComplex}
-use Rattle.map_laws.proofs.Values.{present_children, PartsFit, sequence-value, sequence-children}
+use Rattle.map_laws.proofs.Values.{present_children, PartsFit, PartsKept, sequence-value, sequence-children}
 use Rattle.map_laws.proofs.Complexes.{fits-found}
 use Rattle.map_laws.proofs.Counts.{count-at}
-use Rattle.map_laws.proofs.Frees.{sequence-free, complex-free}
-use Rattle.map_laws.proofs.Giving.{parts-fit-each, sequence-fits, sequence-gives}
+use Rattle.map_laws.proofs.Frees.{kept-free, free-kept, content-free}
+use Rattle.map_laws.proofs.Giving.{parts-fit-each, kept-fits, sequence-gives}
 use Rattle.asn_types.specs.Spaces.{spelling}
 use Rattle.xer_items.specs.Items.{given, nothing, both, with_nil, with_texts, texts_of, placed, inside}
 use Rattle.one_value.proofs.Groups.{tell, present_given, sequence-inside, inside-found, top-shows}
 use Rattle.one_value.proofs.Attributes.{attribute-gives}
+use Rattle.one_value.proofs.Spelled.{IsKept, kept-part}
 use Rattle.one_value.proofs.Mixed.{text_in}
 use Rattle.one_value.proofs.Complexes.{not-textual, nil-mark, embed-mark, order-mark}
 use Rattle.value_exists.proofs.Texts.{IsText}
@@ -51,6 +52,7 @@ module _ (M : List Assignment) (E : ℕ → Rose TypeLabel → Type 0) (N : ℕ 
   record Parted (nillable nil mixed : Bool) (count : ℕ) (flags : List Bool) (values : Roses ValueLabel) (l : TypeLabel) (i : ℕ) (cs : List Component) (us : List (Rose TypeLabel))
       (xs : List (Name × List ℕ)) (k : Roses Plain) : Type 0 where
     pub fit : PartsFit M depth l i cs us flags values
+    pub keeps : PartsKept M cs us flags values
     pub gives : present_given M l i cs us flags values ≡ given xs k
     pub counts : mixed ≡ true → length (present_children M l i cs us flags values) ≡ count
     pub ends : nillable ≡ true → Ends nil flags
@@ -86,6 +88,7 @@ module _ (M : List Assignment) (E : ℕ → Rose TypeLabel → Type 0) (N : ℕ 
       let found = present_children M l i cs us flags (roses_of vs) in
       record {
         fit = all.0;
+        keeps = free-kept M cs us flags (roses_of vs) (content-free E s M (content_.ElementOnly p) l i cs us g);
         gives = top-shows M depth E (seen p) l i cs us flags (roses_of vs) g all.0 ∙ ap (λ z. given [] z) (told-roses M E depth small s linked found ∙ ap roses_of all.1 ∙ sym ek);
         counts = λ e. sym (length-map found (tell M)) ∙ ap length all.1 ∙ sym en;
         ends = λ e. absurd (true≢false (sym e));
@@ -102,6 +105,7 @@ module _ (M : List Assignment) (E : ℕ → Rose TypeLabel → Type 0) (N : ℕ 
       let text = h u g.type in
       record {
         fit = (subst (λ r. FitsAt M (below r depth) u v) (sym g.is.role) text.0, tt);
+        keeps = (kept-free M c u v (g.is.free refl), tt);
         gives = ap (λ r. both (placed M (record { role = r; part = c; type = u }) v (inside M u v)) nothing) g.is.role ∙ both-nothing (inside M u v) ∙ text.1 ∙ ap (λ z. given [] z) (sym ek);
         counts = λ e. absurd (true≢false (sym e));
         ends = λ e. absurd (true≢false (sym e));
@@ -116,7 +120,7 @@ module _ (M : List Assignment) (E : ℕ → Rose TypeLabel → Type 0) (N : ℕ 
       → AreContent E s M c l i cs us → Parted false nil (is_mixed c) n flags (roses_of vs) l i cs us [] k
   content-parts content_.Empty flags vs k n h nil l i [] [] g =
       moved false nil false n [] flags [] vs l i [] [] [] k h.0 h.1
-      (record { fit = tt; gives = ap (λ z. given [] z) (sym h.2); counts = λ e. absurd (true≢false (sym e)); ends = λ e. absurd (true≢false (sym e)) })
+      (record { fit = tt; keeps = tt; gives = ap (λ z. given [] z) (sym h.2); counts = λ e. absurd (true≢false (sym e)); ends = λ e. absurd (true≢false (sym e)) })
   content-parts content_.Empty flags vs k n h nil l i (c ∷ cs) us g = absurd g
   content-parts content_.Empty flags vs k n h nil l i [] (u ∷ us) g = absurd g
   content-parts (content_.Simple m) flags vs k n (words, v, ef, ev, text, ek) nil l i cs us g =
@@ -137,7 +141,7 @@ module _ (M : List Assignment) (E : ℕ → Rose TypeLabel → Type 0) (N : ℕ 
       let l = type_label (form.Sequence has.0) [] in
       let all = content-parts c flags vs k n h false l 0 has.0 (list_of has.1) has.3 in
       let v = node (value.Sequence flags) (roses_of vs) in
-      let fits : FitsAt M depth (node l has.1) v = sequence-fits M depth small [] has.0 has.1 flags (roses_of vs) (sequence-free E s M c u has) all.fit (tt, tt, tt, tt) in
+      let fits : FitsAt M depth (node l has.1) v = kept-fits M depth small [] has.0 has.1 flags (roses_of vs) all.keeps all.fit (tt, tt, tt, tt) in
       let gives : inside M (node l has.1) v ≡ given [] k = sequence-inside M depth [] has.0 has.1 flags (roses_of vs) refl refl all.fit ∙ all.gives in
       let made : children M (node l has.1) v ≡ present_children M l 0 has.0 (list_of has.1) flags (roses_of vs) =
       sequence-gives M depth l has.0 has.1 flags (roses_of vs) (sequence-value M depth [] has.0 has.1 v fits) in
@@ -169,13 +173,14 @@ module _ (M : List Assignment) (E : ℕ → Rose TypeLabel → Type 0) (N : ℕ 
   rest-parts true nil c flags vs k n h l i (d ∷ x ∷ cs) us g = absurd g
   rest-parts true true c flags vs k n h l i (d ∷ []) (u ∷ []) g =
       moved true true (is_mixed c) n (false ∷ []) flags [] vs l i (d ∷ []) (u ∷ []) [] k h.0 h.1
-      (record { fit = (g.is.absent, tt); gives = ap (λ z. given [] z) (sym h.2); counts = λ e. sym h.3; ends = λ e. refl })
+      (record { fit = (g.is.absent, tt); keeps = tt; gives = ap (λ z. given [] z) (sym h.2); counts = λ e. sym h.3; ends = λ e. refl })
   rest-parts true false c flags vs k n h l i (d ∷ []) (u ∷ []) g =
       let own = h.0 in
       let one = inner-has c own k n h.3 u g.type in
       moved true false (is_mixed c) n (true ∷ []) flags (own ∷ []) vs l i (d ∷ []) (u ∷ []) [] k h.1 h.2
       (record {
         fit = (subst (λ r. FitsAt M (below r depth) u own) (sym g.is.role) one.fit, tt);
+        keeps = (kept-free M d u own (g.is.free refl), tt);
         gives = ap (λ r. both (placed M (record { role = r; part = d; type = u }) own (inside M u own)) nothing) g.is.role ∙ both-nothing (inside M u own) ∙ one.gives;
         counts = λ e. ap (λ r. length (given_by r (child_of d u own) (children M u own) ++ [])) g.is.role ∙ ap length (append-nil (children M u own)) ∙ one.counts e;
         ends = λ e. refl;
@@ -183,12 +188,12 @@ module _ (M : List Assignment) (E : ℕ → Rose TypeLabel → Type 0) (N : ℕ 
 
   -- ---- attributes
 
-  -- the parts for attribute uses, which give these attributes
+  -- the parts for attribute uses, which are kept and give these attributes
   abbrev pub AttributesIn : List AttributeUse → List (Name × List ℕ) → List Bool → List (Rose ValueLabel) → Type 0
   AttributesIn [] xs flags vs = (xs ≡ []) × (flags ≡ []) × (vs ≡ [])
   AttributesIn (d ∷ ds) xs (false ∷ flags) vs = (d.required ≡ false) × AttributesIn ds xs flags vs
   AttributesIn (d ∷ ds) xs (true ∷ flags) (v ∷ vs) =
-      (words : List ℕ) × (ys : List (Name × List ℕ)) × (xs ≡ (d.name, words) ∷ ys) × IsText s linked M depth small d.simple words v × AttributesIn ds ys flags vs
+      (words : List ℕ) × (ys : List (Name × List ℕ)) × (xs ≡ (d.name, words) ∷ ys) × IsText s linked M depth small d.simple words v × IsKept d words × AttributesIn ds ys flags vs
   AttributesIn _ _ _ _ = ⊥
 
   module _ (nillable nil mixed : Bool) (count : ℕ) (l : TypeLabel) (R : Behind) (behind : List Bool) (last : List (Rose ValueLabel)) (k : Roses Plain)
@@ -206,17 +211,19 @@ module _ (M : List Assignment) (E : ℕ → Rose TypeLabel → Type 0) (N : ℕ 
         let all = attributes-parts ds xs flags vs h.1 (i + 1) cs us g.1 in
         record {
           fit = ((g.0.is.absent ∙ ap not h.0), all.fit);
+          keeps = all.keeps;
           gives = all.gives;
           counts = all.counts;
           ends = λ e. ends-more nil false (flags ++ behind) (all.ends e);
         }
     attributes-parts (d ∷ ds) xs (true ∷ flags) (v ∷ vs) h i (c ∷ cs) (u ∷ us) g =
         let ys = h.1 in
-        let all = attributes-parts ds ys flags vs h.4 (i + 1) cs us g.1 in
+        let all = attributes-parts ds ys flags vs h.5 (i + 1) cs us g.1 in
         let text = h.3 u g.0.type in
         let found = present_children M l (i + 1) cs us (flags ++ behind) (roses_of (vs ++ last)) in
         record {
           fit = (subst (λ r. FitsAt M (below r depth) u v) (sym g.0.is.role) text.0, all.fit);
+          keeps = (kept-part M s l i c u v d g.0 (subst (IsKept d) (sym text.2) h.4), all.keeps);
           gives = ap (λ z. both z (present_given M l (i + 1) cs us (flags ++ behind) (roses_of (vs ++ last)))) (attribute-gives M depth s l i c u v d g.0)
               ∙ ap (λ z. both (given ((d.name, spelling M u v) ∷ []) rose.none) z) all.gives
               ∙ ap (λ w. given ((d.name, w) ∷ ys) k) text.2 ∙ ap (λ zs. given zs k) (sym h.2);
@@ -257,6 +264,7 @@ module _ (M : List Assignment) (E : ℕ → Rose TypeLabel → Type 0) (N : ℕ 
       let found = present_children M l 1 cs us behind (roses_of last) in
       let whole : Parted nillable nil true count (true ∷ behind) (roses_of (v ∷ last)) l 0 (c ∷ cs) (u ∷ us) xs k = record {
         fit = (subst (λ r. FitsAt M (below r depth) u v) (sym g.0.is.role) (fits u g.0.type), rest.fit);
+        keeps = (kept-free M c u v (g.0.is.free refl), rest.keeps);
         gives = ap (λ r. both (placed M (record { role = r; part = c; type = u }) v (inside M u v)) (present_given M l 1 cs us behind (roses_of last))) g.0.is.role ∙ rest.gives;
         counts = λ e. ap (λ r. length (given_by r (child_of c u v) (children M u v) ++ found)) g.0.is.role ∙ rest.counts e;
         ends = λ e. ends-more nil true behind (rest.ends e);
@@ -290,7 +298,7 @@ module _ (M : List Assignment) (E : ℕ → Rose TypeLabel → Type 0) (N : ℕ 
       let v = node (value.Sequence flags) (roses_of values) in
       let whole = node l has.1 in
       let same : resolve M t ≡ resolve M whole = has.2 ∙ sym (follow-none M 4 whole refl) in
-      let each = parts-fit-each M depth l has.0 0 us flags (roses_of values) (complex-free E s M nillable c (resolve M t) has) all.fit in
+      let each = parts-fit-each M depth l has.0 0 us flags (roses_of values) all.keeps all.fit in
       let made : children M whole v ≡ present_children M l 0 has.0 us flags (roses_of values) = sequence-children M depth marks has.0 has.1 flags (roses_of values) each in
       let counted : mixed ≡ true → child_count M whole v ≡ n =
       λ e. count-at M depth whole (value.Sequence flags) (roses_of values) (subst (λ x. elim (places x (value.Sequence flags) (length_all (roses_of values))) as (λ _. Type 0) [ None ↦ ⊥ | Some ps ↦ FitEach M depth ps (roses_of values) ]) (sym (follow-none M 4 whole refl)) each)
@@ -298,7 +306,7 @@ module _ (M : List Assignment) (E : ℕ → Rose TypeLabel → Type 0) (N : ℕ 
       let last = λ (e : nillable ≡ true). ends-last nil flags (all.ends e) in
       let plain = plain-rest nillable nil c.content rf rv k n rest in
       let own = owns M E depth small s linked nillable mixed nil has.0 has.1 flags (roses_of values) last plain (λ e. filled.first e ∙ ap (text_count nil) (sym (counted e))) in
-      let fits : FitsAt M depth whole v = sequence-fits M depth small marks has.0 has.1 flags (roses_of values) (complex-free E s M nillable c (resolve M t) has) all.fit own in
+      let fits : FitsAt M depth whole v = kept-fits M depth small marks has.0 has.1 flags (roses_of values) all.keeps all.fit own in
       let given_all = present_given M l 0 has.0 us flags (roses_of values) in
       let own_texts = texts_of (value.Sequence flags) (roses_of values) in
       let gives : inside M t v ≡ with_nil nil (with_texts mixed texts (given xs k)) =

@@ -10,15 +10,16 @@ ghost use Rattle.attribute_faults.specs.Texts.{AreTexts};
 ghost use Rattle.xer_read.specs.Private.Contents.{IsTaken, AreTaken, AttributesMade};
 ghost use Rattle.xer_read.specs.Private.Putting.{PartsPut};
 
-use attribute_faults::{Uses, are_few, text_of};
+use attribute_faults::{Uses, are_few, says_nothing, text_of};
 use schema_parts::{AttributeUse, SchemaSet};
 use simple_values::SimpleError;
 use std::alloc::Global;
 use value_builder::ValueBuilder;
 use xa_base::{Memory, Name, Text};
 
-// The part for an attribute use, whose text is this if it stands.
+// The part for an attribute use, whose text is this if it stands. A default or fixed value of what may be absent is no part.
 fn put_attribute(
+    alloc: Global,
     set: &SchemaSet,
     declared: &AttributeUse,
     attributes: &[(Name, Text)],
@@ -35,8 +36,12 @@ fn put_attribute(
     match text {
         None => values.part(false),
         Some(found) => {
+            let simple = set.simple(declared.simple);
+            if says_nothing(alloc, &simple.space, declared, found)? {
+                return values.part(false);
+            }
             values.part(true)?;
-            match values.text(&set.simple(declared.simple).space, found) {
+            match values.text(&simple.space, found) {
                 Ok(()) => Ok(()),
                 Err(SimpleError::Memory) => Err(Memory),
                 Err(SimpleError::BadText) => unreachable!(),
@@ -48,6 +53,7 @@ fn put_attribute(
 
 // The parts for few attribute uses, each of which is looked for one by one.
 fn put_few(
+    alloc: Global,
     set: &SchemaSet,
     uses: &[AttributeUse],
     attributes: &[(Name, Text)],
@@ -60,13 +66,14 @@ fn put_few(
 {
     for declared in uses {
         let text = text_of(attributes, &declared.name);
-        put_attribute(set, declared, attributes, text, values)?;
+        put_attribute(alloc, set, declared, attributes, text, values)?;
     }
     Ok(())
 }
 
 // The parts for attribute uses, whose texts are given in their order.
 fn put_each(
+    alloc: Global,
     set: &SchemaSet,
     uses: &[AttributeUse],
     attributes: &[(Name, Text)],
@@ -82,12 +89,13 @@ fn put_each(
     'uses: for i in 0..uses.len() {
         let declared = &uses[i];
         let text = texts[i];
-        put_attribute(set, declared, attributes, text, values)?;
+        put_attribute(alloc, set, declared, attributes, text, values)?;
     }
     Ok(())
 }
 
-/// The parts for attribute uses: each has the value of its attribute, or is absent where none stands.
+/// The parts for attribute uses: each has the value of its attribute, or is absent where none stands, or where it has its default
+/// or fixed value and isn't required.
 pub(crate) fn put_attributes(
     alloc: Global,
     set: &SchemaSet,
@@ -104,8 +112,8 @@ pub(crate) fn put_attributes(
         return Ok(());
     }
     if are_few(uses.list, attributes) {
-        return put_few(set, uses.list, attributes, values);
+        return put_few(alloc, set, uses.list, attributes, values);
     }
     let texts = uses.texts_of(alloc, attributes)?;
-    put_each(set, uses.list, attributes, &texts, values)
+    put_each(alloc, set, uses.list, attributes, &texts, values)
 }

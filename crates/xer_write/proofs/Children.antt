@@ -5,6 +5,7 @@ use Rattle.std.specs.List.{range_with_len}
 use Rattle.std.specs.Option.{option_map}
 use Rattle.std.proofs.lemmas.Bool.Decides.{eqb_tells}
 use Rattle.std.proofs.lemmas.List.{length-map}
+use Rattle.label_tree.proofs.Roses.{roses_of-list_of}
 use Rattle.label_tree.specs.Rose.{Rose, Roses, node, none, more, label_of, kids_of, list_of, roses_of, node_count}
 use Rattle.plain_items.specs.Plain.{Plain}
 use Rattle.plain_items.specs.Mixing.{child_elements}
@@ -154,27 +155,8 @@ order-parts M (node l ts) h told i part u at type_at =
           };
     }
 
-pub is-sequence : (f : Form) → IsSequence f → (parts : List Component) × (f ≡ form.Sequence parts)
-is-sequence (form.Sequence parts) s = (parts, refl)
-is-sequence form.Bool s = absurd s
-is-sequence (form.Int least greatest) s = absurd s
-is-sequence (form.Numbers numbers) s = absurd s
-is-sequence (form.Words identifiers words) s = absurd s
-is-sequence (form.Order identifiers) s = absurd s
-is-sequence (form.Utf8 least most class) s = absurd s
-is-sequence (form.Choice parts) s = absurd s
-is-sequence (form.SequenceOf part least most) s = absurd s
-is-sequence (form.Ref to) s = absurd s
-
--- the content of a USE-ORDER type
-pub content-sequence : (M : List Assignment) (t : Rose TypeLabel) (u : Rose TypeLabel) → IsTypeIn M t → has_use_order (label_of t).marks ≡ true → has_use_nil (label_of t).marks ≡ true
-    → slice_get (kids_of t) (length (parts_of (label_of t).form) - 1) ≡ Some u → IsSequence (label_of (resolve M u)).form
-content-sequence M (node l ts) u h told nil at =
-    let has : HasOrderPart M l ts = (well-formed M (node l ts) h.0 h.1).0.use_order told in
-    let found : ordered M l ts ≡ Some (label_of (resolve M u)) =
-    ap (λ b. cond b (option_map (λ x. label_of (resolve M x)) (slice_get (list_of ts) (length (parts_of l.form) - 1))) (Some l)) nil
-    ∙ ap (option_map (λ x. label_of (resolve M x))) at in
-    subst (λ k. IsSequence k.form) (same-some has.inner (label_of (resolve M u)) (sym has.inner_found ∙ found)) has.inner_sequence
+pub order-part : (M : List Assignment) (t : Rose TypeLabel) → IsTypeIn M t → has_use_order (label_of t).marks ≡ true → HasOrderPart M (label_of t) (roses_of (kids_of t))
+order-part M (node l ts) h told = subst (HasOrderPart M l) (sym (roses_of-list_of ts)) ((well-formed M (node l ts) h.0 h.1).0.use_order told)
 
 -- ---- what a plain SEQUENCE gives
 

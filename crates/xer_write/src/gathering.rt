@@ -15,12 +15,12 @@ ghost use Rattle.xer_write.specs.Private.Keeping.{AreWithin, children_seen};
 
 use crate::contents::Contents;
 use crate::keeping::{ChildElement, keep_present};
-use crate::ordering::{in_order, order_numbers, ordered_flags};
+use crate::ordering::{in_order, order_numbers};
 use crate::presence::{Place, is_last_absent, may_be_present};
 use crate::receiver::NameRef;
 use crate::spelling::is_textual;
 use asn_types::{Component, Form, Module, Role, TypeLabel, resolve, role};
-use asn_values::spelling;
+use asn_values::{ordered_flags, spelling};
 use flat_tree::{Kids, Node};
 use label_tree::Tree;
 use simple_types::ValueLabel;
@@ -176,7 +176,7 @@ fn gather_ordered<'a>(
         out,
         &mut children,
     )?;
-    let flags = ordered_flags(alloc, module, node, parts, value)?;
+    let flags = ordered_flags(alloc, module, node, value)?;
     let numbers = order_numbers(alloc, node, parts, present, value)?;
     let order = in_order(alloc, &flags, &numbers, children.len())?;
     gather_children(alloc, module, value, &children, &order, out)

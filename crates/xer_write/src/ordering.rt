@@ -5,13 +5,11 @@ ghost use Rattle.label_tree.specs.Rose.{label_of, kids_of};
 ghost use Rattle.simple_types.specs.Labels.{count_set};
 ghost use Rattle.simple_types.specs.declared.labels.ValueLabel.TheVariants as label;
 ghost use Rattle.asn_types.specs.declared.types.Form.TheVariants as form;
-ghost use Rattle.asn_types.specs.Marks.{has_use_order};
 ghost use Rattle.asn_values.specs.Values as rule;
 ghost use Rattle.xer_items.specs.Ordering as ordered;
-ghost use Rattle.xer_write.specs.Private.Giving.{IsTypeIn, may_be_present};
+ghost use Rattle.xer_write.specs.Private.Giving.{may_be_present};
 
-use crate::presence::is_last_absent;
-use asn_types::{Component, Form, Module, Role, TypeLabel, resolve};
+use asn_types::{Component, Role, TypeLabel};
 use flat_tree::{Kids, Node};
 use label_tree::Tree;
 use simple_types::ValueLabel;
@@ -67,63 +65,6 @@ pub(crate) fn order_numbers(
         }
     }
     Ok(Vec::new(alloc))
-}
-
-// Which element parts of a SEQUENCE are present, in their order.
-fn element_flags(
-    alloc: Global,
-    label: &TypeLabel,
-    parts: &[Component],
-    value: &ValueLabel,
-) -> Result<Vec<bool>, Memory>
-    requires { label.now.form ≡ form.Sequence parts.now }
-    ensures { IfOk result (λ flags. flags.items ≡ rule.element_flags label.now value.now) }
-{
-    let ValueLabel::Sequence { present } = value else {
-        return Ok(Vec::new(alloc));
-    };
-    let present = present.items();
-    let mut flags = Vec::new(alloc);
-    'parts: for i in 0..parts.len() {
-        if i >= present.len() {
-            return Ok(flags);
-        }
-        if let Role::Element = label.role_of(i, &parts[i]) {
-            flags.push(present[i])?;
-        }
-    }
-    Ok(flags)
-}
-
-/// Which of the child elements are present that the part `order` of a value has an order of: those of the content in a
-/// type with USE-NIL, where it is present.
-pub(crate) fn ordered_flags(
-    alloc: Global,
-    module: &Module,
-    node: &Tree<TypeLabel>,
-    parts: &[Component],
-    value: &Node<'_, ValueLabel>,
-) -> Result<Vec<bool>, Memory>
-    requires node { IsTypeIn module.now node.now }
-    requires form { (label_of node.now).form ≡ form.Sequence parts.now }
-    requires order { has_use_order (label_of node.now).marks ≡ true }
-    ensures { IfOk result (λ flags. flags.items ≡ rule.ordered_flags module.now (label_of node.now) node.now value.now) }
-{
-    if !node.label().marks.has_use_nil() {
-        return element_flags(alloc, node.label(), parts, value.label());
-    }
-    let count = value.kid_count();
-    if is_last_absent(value.label()) || count == 0 || parts.is_empty() {
-        return Ok(Vec::new(alloc));
-    }
-    let content = value.kid(count - 1);
-    let found = resolve(module, node.kid(parts.len() - 1));
-    match &found.label().form {
-        Form::Sequence { parts } => {
-            element_flags(alloc, found.label(), parts.items(), content.label())
-        }
-        _ => Ok(Vec::new(alloc)),
-    }
 }
 
 // How many flags are set.

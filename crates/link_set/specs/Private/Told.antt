@@ -5,7 +5,9 @@ use Rattle.std.specs.BTreeMap.{BTreeMap, get_by}
 use Rattle.std.specs.Option.{option_map}
 use Rattle.std.specs.Ordering.{nat_cmp}
 use Rattle.xa_base.specs.declared.texts.Name.{Name}
+use Rattle.xa_base.specs.Names.{name_cmp}
 use Rattle.simple_types.specs.declared.simples.Builtin.{Builtin}
+use Rattle.schema_parts.specs.declared.components.GlobalAttribute.{GlobalAttribute}
 use Rattle.link_set.specs.Builtins.{rank}
 use Rattle.link_set.specs.Numbering.{NamedPlace, entry, ComponentNumbers, TypeNumbers}
 use Rattle.link_set.specs.Private.Seen.{elements_of, attributes_of}
@@ -13,6 +15,7 @@ use Rattle.link_set.specs.Written.{Lists}
 use Rattle.link_cycles.specs.Seen.{definitions_of as simples_of}
 use Rattle.link_cycles.specs.Tables.{named_in, placed_in}
 use Rattle.link_complex.specs.Seen.{definitions_of as complexes_of}
+use Rattle.link_set.specs.declared.elements.AttributeNames.{AttributeNames}
 use Rattle.link_set.specs.declared.listing.Listed.{Listed}
 use Rattle.link_set.specs.declared.tables.TypeNumbers.{TypeNumbers as KeptTypes}
 use Rattle.link_set.specs.declared.tables.ComponentNumbers.{ComponentNumbers as KeptNumbers}
@@ -51,3 +54,11 @@ told_by n =
       builtins = ranked_in n.types.builtins;
       complexes = told_types n.types.complexes;
     }
+
+-- the attribute that the table has at the name
+abbrev pub attribute_in : BTreeMap (Bor Name) (Bor GlobalAttribute) → Name → Option GlobalAttribute
+attribute_in table a = option_map (λ (g : Bor GlobalAttribute). g.now) (get_by (λ k. name_cmp a k.now) table)
+
+-- what the names tell of a name
+abbrev pub found_in : AttributeNames → Name → Option GlobalAttribute
+found_in names a = attribute_in names.named a

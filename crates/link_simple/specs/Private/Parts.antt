@@ -7,7 +7,7 @@ use Rattle.simple_types.specs.Sound.{Sound}
 use Rattle.simple_types.specs.Joining.{joined}
 use Rattle.simple_types.specs.Space.{Space, Spaces, none, more}
 use Rattle.link_simple.specs.declared.parts.Part.{Part}
-use Rattle.link_simple.specs.declared.parts.Part.TheVariants as part
+pub use Rattle.link_simple.specs.Seen.{seen}
 use Rattle.link_simple.specs.Making.{entry_at}
 
 abbrev pub entry_of : Option Simple → Option Space
@@ -18,10 +18,6 @@ entries_of entries = map entry_of entries
 
 abbrev pub AreEntriesSound : List (Option Space) → Type 0
 AreEntriesSound made = (n : ℕ) → IfSome (entry_at made n) Sound
-
-abbrev pub seen : Part → Space
-seen (part.Own simple) = space_of simple
-seen (part.Lent simple) = space_of simple.now
 
 abbrev pub seen_all : List Part → Spaces
 seen_all [] = none

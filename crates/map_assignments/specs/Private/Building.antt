@@ -7,6 +7,7 @@ use Rattle.content_models.specs.declared.particles.ParticleKind.{ParticleKind}
 use Rattle.content_models.specs.declared.particles.ParticleKind.TheVariants.{Sequence}
 use Rattle.content_models.specs.Particle.{Term}
 use Rattle.content_models.specs.Seen.{term_seen, seen, all_seen}
+use Rattle.simple_types.specs.declared.standards.Standard.{Standard}
 use Rattle.schema_parts.specs.Components.{Set}
 use Rattle.schema_parts.specs.Linked as linked
 use Rattle.name_map.specs.declared.conversion.NameKind.TheVariants.{Identifier}
@@ -18,18 +19,19 @@ use Rattle.map_assignments.specs.declared.parts.PartList.{PartList}
 use Rattle.map_subjects.specs.declared.subjects.Subject.{Subject}
 use Rattle.map_assignments.specs.Plans.{Label, TypePlan, Parts}
 use Rattle.map_assignments.specs.Planning.{is_once, particle_type, in_place}
-use Rattle.map_assignments.specs.Naming.{component_of, wanted, part_marks, AreNamed}
+use Rattle.map_assignments.specs.Naming.{component_with, wanted, part_standard, part_marks, AreNamed}
 
--- one part more, with an identifier made from this name, and with the instructions that its identifier gives
-pub record AddsPart (before after : PartList) (name : List ℕ) (marks : List ℕ → List Instruction) (optional : Bool) (kid : Rose TypeLabel) : Type 0 where
+-- one part more, with an identifier made from this name, with this default or fixed value, and with the instructions that its
+-- identifier gives
+pub record AddsPart (before after : PartList) (name : List ℕ) (standard : Standard) (marks : List ℕ → List Instruction) (optional : Bool) (kid : Rose TypeLabel) : Type 0 where
   pub identifier : List ℕ
   pub taken : IsTaken Identifier before.scope name identifier
   pub noted : after.scope ≡ before.scope ++ identifier ∷ []
-  pub component : after.components.items ≡ before.components.items ++ component_of identifier optional (marks identifier) ∷ []
+  pub component : after.components.items ≡ before.components.items ++ component_with identifier optional standard (marks identifier) ∷ []
   pub kid_added : after.kids.items ≡ before.kids.items ++ kid ∷ []
 
 abbrev pub Adds : PartList → PartList → Label → Bool → Rose TypeLabel → Type 0
-Adds before after l optional kid = AddsPart before after (wanted l) (part_marks l) optional kid
+Adds before after l optional kid = AddsPart before after (wanted l) (part_standard l) (part_marks l) optional kid
 
 -- Whatever parts follow that are those of the rest, with the parts so far they are those of the whole.
 abbrev pub LeadsToNamed : (Subject → ℕ) → PartList → Parts → Parts → Type 0

@@ -22,7 +22,7 @@ use Rattle.schema_parts.specs.Components.{Set}
 use Rattle.schema_parts.specs.Linked.{leaves, IsNamed}
 use Rattle.schema_parts.specs.SetParts.{parts_of}
 use Rattle.validity.specs.Asked.{Asked, Attribute, Inside, nothing, simple, children, attribute_in, asked_at}
-use Rattle.validity.specs.Attributes.{text_of, left}
+use Rattle.validity.specs.Attributes.{text_of, left, IsFixedTo, Takes, treated_attribute}
 use Rattle.validity.specs.Valid.{only_text, text_kids, KidsValid}
 use Rattle.value_builder.specs.Built.{Built, Stands, Puts, with_parts}
 use Rattle.content_values.specs.Made.{Child, TopMade}
@@ -77,21 +77,30 @@ IsContentOf s inside ts content vs = IsContentBy s inside ts (texts_of content) 
 abbrev pub IsNilContent : Held → Type 0
 IsNilContent content = (content.rest ≡ held.nil) × (texts_of content ≡ node value.SequenceOf rose.none)
 
--- the type of the attribute takes its text, where it stands
+-- the attribute takes its text, where it stands
 abbrev pub IsTaken : List (Name × List ℕ) → Attribute → Type 0
-IsTaken xs a = (words : List ℕ) → text_of xs a.name ≡ Some words → (v : Rose ValueLabel) × Accepts a.space words v
+IsTaken xs a = (words : List ℕ) → text_of xs a.name ≡ Some words → Takes a words
 
 abbrev pub AreTaken : Set → List (Name × List ℕ) → List AttributeUse → Type 0
 AreTaken s xs us = All (λ (u : AttributeUse). IsTaken (left xs) (attribute_in (parts_of s) u)) us
 
 -- ---- what is made
 
--- a part for each attribute that may stand: its value, or none
+-- the attribute doesn't stand in the treated items; one that is required doesn't stand at all
+abbrev pub IsLeftOut : List (Name × List ℕ) → Attribute → Type 0
+IsLeftOut xs a = (treated_attribute a xs ≡ None) × (a.required ≡ true → text_of xs a.name ≡ None)
+
+-- it stands there, as the spelling of this value, which the attribute takes
+abbrev pub IsPut : List (Name × List ℕ) → Attribute → Rose ValueLabel → Type 0
+IsPut xs a v =
+    (words : List ℕ) × (text_of xs a.name ≡ Some words) × Accepts a.space words v × IsFixedTo a.standard (spelled a.space v)
+    × (treated_attribute a xs ≡ Some (spelled a.space v))
+
+-- a part for each attribute that may stand: its value, or none where it is left out
 abbrev pub AttributesMade : List Attribute → List (Name × List ℕ) → List Bool → List (Rose ValueLabel) → Type 0
 AttributesMade [] xs flags vs = (flags ≡ []) × (vs ≡ [])
-AttributesMade (a ∷ wanted) xs (false ∷ flags) vs = (text_of xs a.name ≡ None) × AttributesMade wanted xs flags vs
-AttributesMade (a ∷ wanted) xs (true ∷ flags) (v ∷ vs) =
-    (words : List ℕ) × (text_of xs a.name ≡ Some words) × Accepts a.space words v × AttributesMade wanted xs flags vs
+AttributesMade (a ∷ wanted) xs (false ∷ flags) vs = IsLeftOut xs a × AttributesMade wanted xs flags vs
+AttributesMade (a ∷ wanted) xs (true ∷ flags) (v ∷ vs) = IsPut xs a v × AttributesMade wanted xs flags vs
 AttributesMade _ xs _ _ = ⊥
 
 -- the part for the texts of mixed content

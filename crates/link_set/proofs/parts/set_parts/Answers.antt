@@ -10,10 +10,10 @@ use Rattle.link_set.specs.declared.parts.SetParts.{SetParts as KeptParts}
 use Rattle.link_set.proofs.parts.set_parts.Goals as goal
 
 pub of-requires-2-clause-few : goal.of-requires-2-clause-few
-of-requires-2-clause-few c = subst AreFew (sym c.in_ok-listed.ensures) c.requires
+of-requires-2-clause-few c = subst AreFew (sym c.in_ok-listed.ensures) c.requires.few
 
 pub parts_with-requires-clause-few : goal.parts_with-requires-clause-few
-parts_with-requires-clause-few c = subst AreFew (sym c.in_ok-listed.ensures) c.requires
+parts_with-requires-clause-few c = subst AreFew (sym c.in_ok-listed.ensures) c.requires.few
 
 pub returns-clause-set : goal.returns-clause-set
 returns-clause-set c =

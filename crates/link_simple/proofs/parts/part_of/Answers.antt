@@ -1,22 +1,13 @@
-use Rattle.std.proofs.Common.{◌≡◌, ℕ, List, Option, Result, Ok, Err, sym, ap, ◌∙◌}
-use Rattle.std.specs.Prelude.{IfOk}
-use Rattle.std.specs.Option.{option_map}
-use Rattle.simple_types.specs.Space.{Space}
-use Rattle.link_simple.specs.declared.parts.Part.{Part}
-use Rattle.link_cycles.specs.Cycles as cycles
+use Rattle.std.proofs.Common.{sym, ap, ◌∙◌}
 use Rattle.schema_parts.specs.Seen.{base_of}
-use Rattle.schema_parts.specs.Raw.{Base, Named}
+use Rattle.schema_parts.specs.Raw.{Named}
 use Rattle.schema_parts.proofs.Seen.{named_base, inner_base}
 use Rattle.link_names.specs.Order.{place}
 use Rattle.link_cycles.specs.Tables.{told_by}
 use Rattle.link_simple.specs.Making.{space_at, part_space}
-use Rattle.link_simple.specs.Private.Parts.{entries_of, seen}
+use Rattle.link_simple.specs.Private.Parts.{entries_of}
+use Rattle.link_simple.proofs.Lending.{named_space}
 use Rattle.link_simple.proofs.parts.part_of.Goals as goal
-
-named_space : {E : Type 0} (ns : cycles.SimpleNumbers) (made : List (Option Space)) (file : ℕ) (b c : Base) (r : Result (Option Part) E)
-    → IfOk r (λ found. (k : ℕ) → option_map seen found ≡ part_space ns made k c) → b ≡ c → IfOk r (λ found. option_map seen found ≡ part_space ns made file b)
-named_space ns made file b c (Ok found) h is = h file ∙ sym (ap (part_space ns made file) is)
-named_space ns made file b c (Err e) h is = tt
 
 pub returns-in-Named-clause-space : goal.returns-in-Named-clause-space
 returns-in-Named-clause-space c =

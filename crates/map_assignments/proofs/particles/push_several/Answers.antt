@@ -1,7 +1,7 @@
 use Rattle.std.proofs.Common.{false, ◌∙◌}
 use Rattle.content_models.specs.Seen.{term_seen}
 use Rattle.map_assignments.specs.Planning.{list_label_of}
-use Rattle.map_assignments.proofs.Building.{on_ok, adds-marked, list-marks}
+use Rattle.map_assignments.proofs.Building.{on_ok, adds-marked, list-marks, list-free}
 use Rattle.map_assignments.proofs.particles.push_several.Goals as goal
 
 pub returns : goal.returns
@@ -11,6 +11,6 @@ returns c =
       c.in_ok-made.made,
       c.in_ok-made.ensures ps,
       adds-marked c.args.parts.now c.push_marked.new.self (list_label_of (term_seen c.args.label.now.kind ps)) c.in_ok-name.name c.in_ok-marks.marks false c.in_ok-made.made
-          (c.in_ok-name.ensures ps) (λ g. c.in_ok-marks.ensures ∙ list-marks c.args.label.now.kind ps g) added,
+          (c.in_ok-name.ensures ps) (list-free c.args.label.now.kind ps) (λ g. c.in_ok-marks.ensures ∙ list-marks c.args.label.now.kind ps g) added,
     ))
     c.push_marked.ensures

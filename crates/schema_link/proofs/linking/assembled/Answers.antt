@@ -8,8 +8,8 @@ use Rattle.link_set.proofs.Soundness.{sound_parts}
 use Rattle.schema_link.proofs.LinkedSet.{set_few, set_linked}
 use Rattle.schema_link.proofs.linking.assembled.Goals as goal
 
-pub set_parts-requires : goal.set_parts-requires
-set_parts-requires c = set_few c.args.docs.now c.requires.numbered c.requires.passed
+pub set_parts-requires-clause-few : goal.set_parts-requires-clause-few
+set_parts-requires-clause-few c = set_few c.args.docs.now c.requires.numbered c.requires.passed
 
 pub of-requires : goal.of-requires
 of-requires c =

@@ -7,7 +7,7 @@ use Rattle.validity_check.proofs.Counting.{on-ok}
 use Rattle.value_builder.specs.Built.{Puts, flagged}
 use Rattle.xer_read.specs.Private.Contents.{AttributesMade}
 use Rattle.xer_read.specs.Private.Putting.{PartsPut}
-use Rattle.xer_read.proofs.Attributed.{attribute-absent, attribute-present, never-refused}
+use Rattle.xer_read.proofs.Attributed.{attribute-absent, one, text-accepted, text-sound, attribute-silent, attribute-present, never-refused}
 use Rattle.xer_read.proofs.Putting.{one-part, left-out}
 use Rattle.xer_read.proofs.attributes.put_attribute.Goals as goal
 
@@ -19,19 +19,41 @@ returns-in-None c =
     on-ok c.part.result (Puts (flagged false) old new) (PartsPut P old new)
     (λ h. left-out P old new h (attribute-absent c.args.set.now c.args.declared.now c.args.attributes.now c.requires.declared.0 (rw c.in-None.is at c.requires.text))) c.part.ensures
 
+pub says_nothing-requires-clause-accepted : goal.says_nothing-requires-clause-accepted
+says_nothing-requires-clause-accepted c =
+    let stands = rw c.in-Some.is at c.requires.text in
+    let taken = one c.args.set.now c.args.declared.now c.args.attributes.now c.requires.declared.0 c.in-Some.found.now stands c.simple-simple.result.now c.simple-simple.ensures c.requires.taken in
+    (taken.0, text-accepted c.args.set.now c.args.declared.now c.args.attributes.now c.requires.declared.0 c.in-Some.found.now stands c.simple-simple.result.now c.simple-simple.ensures c.requires.taken)
+
+pub returns-then-branch : goal.returns-then-branch
+returns-then-branch c =
+    let P = AttributesMade (attribute_in (parts_of c.args.set.now) c.args.declared.now ∷ []) (left c.args.attributes.now) in
+    let old = c.args.values.now in
+    let new = c.part-then-branch.new.self in
+    on-ok c.part-then-branch.result (Puts (flagged false) old new) (PartsPut P old new)
+    (λ h. left-out P old new h
+    (attribute-silent c.args.set.now c.args.declared.now c.args.attributes.now c.requires.declared.0 c.in-Some.found.now (rw c.in-Some.is at c.requires.text) c.simple-simple.result.now c.simple-simple.ensures c.requires.taken
+    (rw c.if-branch.true at c.in_ok-says_nothing-in-Some.ensures)))
+    c.part-then-branch.ensures
+
+pub text-requires : goal.text-requires
+text-requires c =
+    text-sound c.args.set.now c.args.declared.now c.args.attributes.now c.requires.declared.0 c.in-Some.found.now (rw c.in-Some.is at c.requires.text) c.simple-simple.result.now c.simple-simple.ensures c.requires.taken c.requires.linked
+
 pub returns-in-Ok : goal.returns-in-Ok
 returns-in-Ok c =
     let P = AttributesMade (attribute_in (parts_of c.args.set.now) c.args.declared.now ∷ []) (left c.args.attributes.now) in
     let read = c.in-Ok.ensures in
     one-part P read.0 c.args.values.now c.part-in-Some.new.self c.text.new.self c.in_ok-part-in-Some.ensures read.2
-    (attribute-present c.args.set.now c.args.declared.now c.args.attributes.now c.requires.declared.0 c.in-Some.found.now (rw c.in-Some.is at c.requires.text) c.simple.result.now c.simple.ensures read.0 read.1)
+    (attribute-present c.args.set.now c.args.declared.now c.args.attributes.now c.requires.declared.0 c.in-Some.found.now (rw c.in-Some.is at c.requires.text) c.simple-simple.result.now c.simple-simple.ensures c.requires.taken
+    (rw c.if-branch.false at c.in_ok-says_nothing-in-Some.ensures) read.0 read.1)
 
 pub unreachable-requires : goal.unreachable-requires
 unreachable-requires c =
-    never-refused c.args.set.now c.args.declared.now c.args.attributes.now c.requires.declared.0 c.in-Some.found.now (rw c.in-Some.is at c.requires.text) c.simple.result.now c.simple.ensures c.requires.taken Bad
+    never-refused c.args.set.now c.args.declared.now c.args.attributes.now c.requires.declared.0 c.in-Some.found.now (rw c.in-Some.is at c.requires.text) c.simple-simple.result.now c.simple-simple.ensures c.requires.taken Bad
     (rw c.in-Err-BadText.field-0-is at c.in-Err-BadText.ensures)
 
 pub unreachable-requires-in-Err-TooWide : goal.unreachable-requires-in-Err-TooWide
 unreachable-requires-in-Err-TooWide c =
-    never-refused c.args.set.now c.args.declared.now c.args.attributes.now c.requires.declared.0 c.in-Some.found.now (rw c.in-Some.is at c.requires.text) c.simple.result.now c.simple.ensures c.requires.taken Wide
+    never-refused c.args.set.now c.args.declared.now c.args.attributes.now c.requires.declared.0 c.in-Some.found.now (rw c.in-Some.is at c.requires.text) c.simple-simple.result.now c.simple-simple.ensures c.requires.taken Wide
     (rw c.in-Err-TooWide.field-0-is at c.in-Err-TooWide.ensures)

@@ -28,7 +28,7 @@ use Rattle.asn_values.proofs.Counting.{drop-past}
 use Rattle.xer_items.specs.Ordering.{in_order}
 use Rattle.xer_items.specs.Children.{elements_of}
 use Rattle.xer_write.specs.Private.Keeping.{Keeps, child_seen, children_seen}
-use Rattle.xer_write.proofs.Children.{at-place, same-length, within-at, seen-at, seen-none, some-item, none-item, order-parts, order-places, told-in-order}
+use Rattle.xer_write.proofs.Children.{at-place, same-length, within-at, seen-at, seen-none, some-item, none-item, order-part, order-parts, order-places, told-in-order}
 use Rattle.xer_write.proofs.gathering.+gathering.Goals as goal
 use Rattle.xer_write.proofs.gathering.+gathering.Goals.{gather_present-then-present-i+in-Some+in_ok-gather_at, gather_present-else-present-i, gather_sequence_of-then-count-min-via-then-count-min, gather_sequence_of-then-count-min-via-else-count-min+then-not-is_at_most}
 
@@ -613,6 +613,9 @@ gather_ordered-keep_present-requires-clause-plain t c = order-parts c.args.modul
 
 pub gather_ordered-order_numbers-requires-clause-types : goal.gather_ordered-order_numbers-requires-clause-types
 gather_ordered-order_numbers-requires-clause-types t c = have-kids c.args.module.now c.args.node.now c.requires.node ∙ ap (λ f. length (parts_of f)) c.requires.form
+
+pub gather_ordered-ordered_flags-requires : goal.gather_ordered-ordered_flags-requires
+gather_ordered-ordered_flags-requires t c = order-part c.args.module.now c.args.node.now c.requires.node c.requires.order
 
 pub gather_ordered-returns : goal.gather_ordered-returns
 gather_ordered-returns t c =

@@ -8,8 +8,9 @@ pub returns : goal.returns
 returns c =
     let g = c.in_ok-identifier.identifier in
     let name = c.args.name.now in
+    let l = attribute name c.args.standard in
     on_ok_three c.add.result _ _ _ _
-    (adds-of c.args.self.now c.take.new.self c.add.new.self (wanted (attribute name)) c.in_ok-converted.converted g (part_marks (attribute name)) c.of.result c.args.optional c.args.kid
+    (adds-of c.args.self.now c.take.new.self c.add.new.self (wanted l) c.in_ok-converted.converted g c.args.standard (part_marks l) c.of.result c.args.optional c.args.kid
     c.in_ok-converted.ensures c.in_ok-identifier.ensures.taken c.in_ok-identifier.ensures.noted c.in_ok-identifier.ensures.components c.in_ok-identifier.ensures.kids
     (c.of.ensures ∙ c.in_ok-push_qualified.ensures ∙ ap (λ ms. ms ++ qualified_marks g name) c.in_ok-marks.ensures.items))
     c.add.ensures.scope c.add.ensures.component c.add.ensures.kid

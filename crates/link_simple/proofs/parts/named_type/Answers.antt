@@ -1,0 +1,16 @@
+use Rattle.std.proofs.Common.{Some, sym, ap, ◌∙◌}
+use Rattle.schema_parts.specs.Raw.{Named}
+use Rattle.link_cycles.specs.Tables.{told_by}
+use Rattle.link_simple.specs.Making.{space_at, part_space}
+use Rattle.link_simple.specs.Answering.{made_of}
+use Rattle.link_simple.proofs.parts.named_type.Goals as goal
+
+pub returns-in_ok-simple-in-Builtin-clause-space : goal.returns-in_ok-simple-in-Builtin-clause-space
+returns-in_ok-simple-in-Builtin-clause-space c = λ file.
+    ap Some c.in_ok-simple-in-Builtin.ensures.space
+    ∙ sym (ap (λ r. part_space (told_by c.args.numbers.now) (made_of c.args.simples.now) file (Named r)) c.in-Builtin.is)
+
+pub returns-in-Other-clause-space : goal.returns-in-Other-clause-space
+returns-in-Other-clause-space c = λ file.
+    c.made_at.ensures.space ∙ ap (space_at (made_of c.args.simples.now)) c.number_of.ensures
+    ∙ sym (ap (λ r. part_space (told_by c.args.numbers.now) (made_of c.args.simples.now) file (Named r)) c.in-Other.is)

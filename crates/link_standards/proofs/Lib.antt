@@ -1,0 +1,2 @@
+mod Declaring
+mod Misfits

@@ -1,0 +1,4 @@
+pub mod Found
+pub mod Seen
+pub mod Spellings
+pub mod Standards
