@@ -36,6 +36,7 @@ TABLES = {
     "link: Facet": ("crates/facet_rules/src/refusals.rt", "FacetWhy"),
     "invalid": ("crates/validity/src/why.rt", "InvalidWhy"),
     "per": ("crates/per_fields/src/stops.rt", "Why"),
+    "der": ("crates/der_fields/src/stops.rt", "Why"),
 }
 # Enums of reasons that are passed on under the names of the others.
 PASSED_ON = {"NoneWhy"}
@@ -130,6 +131,7 @@ WORDS = {
     "link: Facet": "facet_reason",
     "invalid": "invalid_reason",
     "per": "octets_reason",
+    "der": "der_reason",
 }
 
 

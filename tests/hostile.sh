@@ -425,6 +425,69 @@ make_names_of_octets() {
 }
 hostile names_of_octets 1048560 700 1 0 '' to-xml r "$schema"
 
+# ---- Octets of DER
+
+# A length in the least octets; so many empty nodes; and these as the elements e of the root r.
+length() {
+    local digits
+    printf -v digits '%x' "$1"
+    [ $((${#digits} % 2)) -eq 0 ] || digits=0$digits
+    [ "$1" -lt 128 ] || printf '%b' "\\x8$((${#digits} / 2))"
+    printf '%b' "$(sed 's/../\\x&/g' <<< "$digits")"
+}
+empty_nodes() { yes 0 | head -n "$1" | tr '\n' '\0'; }
+root_of_nodes() {
+    { printf '\240'; length $(($1 * 2)); empty_nodes "$1"; } > "$work/nodes"
+    { printf '0'; length "$(wc -c < "$work/nodes")"; cat "$work/nodes"; } > "$input"
+}
+
+# As many elements as 16 MB hold, which are too many; elements in one another, of which the 65th is too deep; as many elements
+# as a value may have, and elements of 400 attributes that may stand, of which none does.
+make_der_announced() { root_of_nodes "$1"; }
+hostile der_announced 8000000 60 0 13 'input, byte *: der: TooMany' from-der r "$features"
+make_der_deep() {
+    local left=$1
+    {
+        printf '0'
+        length "$left"
+        for _ in $(seq 70); do
+            left=$((left - 5))
+            printf '\240'
+            length "$left"
+        done
+        bytes "$left" a
+    } > "$input"
+}
+hostile der_deep 16700000 8 0 13 'input, byte *: der: TooDeep' from-der z "$features"
+make_der_elements() { root_of_nodes "$1"; }
+hostile der_elements 1048574 200 0 0 '' from-der r "$features"
+make_der_flags() {
+    make_flags 1
+    root_of_nodes "$1"
+}
+hostile der_flags 200000 800 1 0 '' from-der r "$schema"
+
+# An identifier of 16 MB; a length of 126 octets, all bits of which are set; nothing but nodes of indefinite length.
+make_der_identifier() { { printf '\277'; bytes "$1" '\377'; } > "$input"; }
+hostile der_identifier 16700000 8 0 13 'input, byte 0: der: Tag' from-der e "$features"
+make_der_length() { { printf '\014\376'; bytes "$1" '\377'; } > "$input"; }
+hostile der_length 16700000 8 0 13 'input, byte 1: der: Short' from-der s "$features"
+make_der_indefinite() { yes 0 | head -n "$1" | tr '\n' '\200' > "$input"; }
+hostile der_indefinite 8000000 8 0 13 'input, byte 1: der: NotShortest' from-der r "$features"
+
+# A number and a text of 16 MB; a list of so many items, both ways.
+make_der_number() { { printf '\002'; length "$1"; bytes "$1" '\177'; } > "$input"; }
+hostile der_number 16700000 8 0 13 'input, byte 5: der: TooWide' from-der n "$features"
+make_der_text() { { printf '\014'; length "$1"; bytes "$1" a; } > "$input"; }
+hostile der_text 16700000 8 0 0 '' from-der s "$features"
+make_der_items() {
+    make_items 0
+    { printf '0'; length $(($1 * 3)); yes "$(printf '\014\001a')" | head -n "$1" | tr -d '\n'; } > "$input"
+}
+hostile der_items 1000000 80 0 0 '' from-der l "$schema"
+make_der_items_sent() { make_items "$1"; }
+hostile der_items_sent 1000000 80 0 0 '' to-der l "$schema"
+
 # ---- Schemas
 
 # So many simple types, each a restriction of the next, and of the one before.
@@ -554,6 +617,18 @@ make_collisions() {
     } > "$schema"
 }
 hostile collisions 9000 200 0 0 '' show "$schema"
+
+# References to an attribute whose default value has 1,000,000 bytes: each use keeps the text, and `show` writes it again.
+make_defaults() {
+    {
+        printf '%s<xs:attribute name="a" type="xs:string" default="' "$head"
+        bytes 1000000 x
+        printf '"/>'
+        repeat "$1" '<xs:complexType name="t%d"><xs:attribute ref="a"/></xs:complexType>'
+        printf '%s' "$end"
+    } > "$schema"
+}
+hostile defaults 200 4 1000000 0 '' show "$schema"
 
 # More components than a set may have; more members than a union; more words than a type; the same facet again and again.
 make_components() { { printf '%s' "$head"; repeat "$1" '<xs:element name="e%d" type="xs:int"/>'; printf '%s' "$end"; } > "$schema"; }

@@ -61,16 +61,20 @@ class Wrong(Exception):
     pass
 
 
-# The two variants: the flag of the other side's compiler, and our two commands.
-VARIANTS = {"aligned": ("-bper", "to-per", "to-xml"), "unaligned": ("-buper", "to-per-u", "to-xml-u")}
+# The transfer syntaxes: the flags of the other side's compiler, and our two commands.
+VARIANTS = {
+    "aligned": (["-bper"], "to-per", "to-xml"),
+    "unaligned": (["-buper"], "to-per-u", "to-xml-u"),
+    "der": (["-bber", "+der"], "to-der", "from-der"),
+}
 
 
 class Module:
-    """A printed module, compiled by the other side in a folder of its own, for one of the two variants."""
+    """A printed module, compiled by the other side in a folder of its own, for one of the transfer syntaxes."""
 
     def __init__(self, files, folder, variant):
         self.files, self.folder, self.variant = files, folder, variant
-        flag, self.to_per, self.to_xml = VARIANTS[variant]
+        flags, self.to_per, self.to_xml = VARIANTS[variant]
         os.makedirs(folder)
         shown = self.run("show")
         if shown.returncode:
@@ -79,7 +83,7 @@ class Module:
         with open(f"{folder}/Schema-Set.asn1", "w", encoding="utf-8", newline="\n") as file:
             file.write(strip(self.text))
         how = {"cwd": folder, "stdin": subprocess.DEVNULL, "stdout": subprocess.PIPE, "stderr": subprocess.STDOUT}
-        made = subprocess.run([*BOUND, "erlc", flag, "Schema-Set.asn1"], timeout=300, **how)
+        made = subprocess.run([*BOUND, "erlc", *flags, "Schema-Set.asn1"], timeout=300, **how)
         if made.returncode:
             raise Wrong(f"erlc: {made.stdout.decode()[:400]}")
 
@@ -173,7 +177,7 @@ def main():
                     again = module.run(module.to_per, root, octets=back.stdout)
                     if again.stdout != octets:
                         wrong(variant, name, root, told, "encoded as", again.stdout.hex(), again.stderr.decode())
-        # Random schemas and documents, with the octets that tests/random_cases.py works out of X.691.
+        # Random schemas and documents, with the octets that tests/random_cases.py works out of X.691 and X.690.
         for number in range(first, first + count):
             random_cases.rng.seed(number)
             schema = random_cases.Schema()
@@ -189,8 +193,8 @@ def main():
                 element = schema.root if i == 0 else random_cases.rng.choice(schema.globals)
                 root = f"{{{element.file.namespace}}}{element.name}" if element.file.namespace else element.name
                 schema.is_spaced = False
-                document, both = schema.document(element)
-                for variant, due in zip(VARIANTS, both):
+                document, octets = schema.document(element)
+                for variant, due in zip(VARIANTS, octets):
                     if len(due) < 16384:
                         cases[variant].append((root, due))
             for variant in VARIANTS:

@@ -1,12 +1,12 @@
 #!/usr/bin/env bash
 # Tries what docs/INTEROP.md says with another implementation of ASN.1, that of Erlang (Debian's erlang-asn1). In PER, aligned and
-# unaligned, with the modules of the examples and of random schemas, as `show` prints them and tests/strip_xer.py strips them:
+# unaligned, and in DER, with the modules of the examples and of random schemas, as `show` prints them and tests/strip_xer.py strips them:
 #
 # - each module is compiled;
 # - of documents, our octets are decoded, and the value is encoded to the same octets again;
 # - random values that the other side makes and encodes are taken by `to-xml`, whose document `to-per` encodes to the same octets
 #   again, or are refused as NotAValue, where they break a rule that stands beside the types (`to-xml-u` and `to-per-u` where they are
-#   unaligned);
+#   unaligned, `from-der` and `to-der` in DER);
 # - of random schemas and documents, the octets that tests/random_cases.py works out are decoded and encoded again.
 #
 # The other side runs under a bound of 6 GB of memory; a module that isn't compiled under it is told and counted, and is no fault

@@ -43,6 +43,11 @@ same out order.per '--root and -t per'
 expect 0 '' to-xml "$root" order.xsd -i order.per -o back.xml
 expect 0 '' to-per "$root" order.xsd -i back.xml
 same out order.per 'there and back'
+expect 0 '' to-per "$root" -t der order.xsd -i order.xml -o order.der
+expect 0 '' to-xml "$root" -t der order.xsd -i order.der -o back.xml
+expect 0 '' to-per "$root" order.xsd -i back.xml
+same out order.per 'there and back by DER'
+expect 13 'order.per: octet 0: Tag: ' to-xml "$root" -t der order.xsd -i order.per
 expect 0 '' check order.xsd -i order.xml
 expect 0 '' trial 10
 
@@ -89,7 +94,7 @@ near to-per to_per order.xsd
 near to-xml toxml order.xsd
 near check chek order.xsd
 near show show --plian order.xsd
-near to-per to-per -t der order.xsd
+near to-per to-per -t ber order.xsd
 near trial trial
 expect 2 'error: ' show
 expect 2 'error: '

@@ -23,7 +23,12 @@ HEAD, END = b'<xs:schema xmlns:xs="http://www.w3.org/2001/XMLSchema">', b"</xs:s
 # A comment with characters of two, three and four bytes and a tab: 11 characters in 17 bytes.
 BEFORE = "<!--é€😀\t-->".encode()
 # The transfer syntaxes that the fixed program has in its words, and this one by an option.
-SYNTAXES = {"to-per-u": ["to-per", "-t", "uper"], "to-xml-u": ["to-xml", "-t", "uper"]}
+SYNTAXES = {
+    "to-per-u": ["to-per", "-t", "uper"],
+    "to-xml-u": ["to-xml", "-t", "uper"],
+    "to-der": ["to-per", "-t", "der"],
+    "from-der": ["to-xml", "-t", "der"],
+}
 
 
 def as_people_say(words):
@@ -136,11 +141,15 @@ class Complaints:
     def row(self, row):
         status, told = row.due
         placed = re.fullmatch(r"(?:file (\d+)|input), byte (\d+): (syntax|schema|link|invalid): (?:Facet )?(\w+)", told)
-        octets = re.fullmatch(r"input, bit (\d+): per: (\w+)", told)
+        bits = re.fullmatch(r"input, bit (\d+): per: (\w+)", told)
+        octets = re.fullmatch(r"input, byte (\d+): der: (\w+)", told)
         trailing = re.fullmatch(r"input, byte (\d+): trailing", told)
-        if octets:
-            self.reasons.add(("per", octets[2]))
-            self.holds(row, status, f"input: bit {octets[1]}: {octets[2]}: ", self.run(row, row.files, row.input))
+        if bits:
+            self.reasons.add(("per", bits[2]))
+            self.holds(row, status, f"input: bit {bits[1]}: {bits[2]}: ", self.run(row, row.files, row.input))
+        elif octets:
+            self.reasons.add(("der", octets[2]))
+            self.holds(row, status, f"input: octet {octets[1]}: {octets[2]}: ", self.run(row, row.files, row.input))
         elif trailing:
             self.holds(row, status, f"input: octet {trailing[1]}: Trailing: ", self.run(row, row.files, row.input))
         elif placed:

@@ -2,11 +2,11 @@
 """Random schemas and documents, with expectations from outside the program.
 
 For each number from FIRST on this makes a schema of the profile and six documents that are valid by their making, each with
-the octets that X.691 gives its value, aligned and unaligned: they are worked out here, from the schema as it was made, by the
-clauses that are named below. A case is wrong where
+the octets that X.691 gives its value, aligned and unaligned, and X.690 by DER: they are worked out here, from the schema as it
+was made, by the clauses that are named below. A case is wrong where
 
-- `to-per` doesn't write just the aligned octets, and `to-per-u` the unaligned ones;
-- `to-xml` or `to-xml-u` doesn't take them, or what it writes isn't encoded to them again, or isn't valid by xmllint;
+- `to-per` doesn't write just the aligned octets, `to-per-u` the unaligned ones and `to-der` those of DER;
+- `to-xml`, `to-xml-u` or `from-der` doesn't take them, or what it writes isn't encoded to them again, or isn't valid by xmllint;
 - of the document with something changed, four times, `check` doesn't say what `xmllint --schema` says;
 - the schema with something changed, ten times, is taken by `show` and not by xmllint. The other way round is no fault: the
   profile leaves things out, and xmllint takes more than XML Schema does (attributes that are unknown, a facet twice).
@@ -36,16 +36,43 @@ MOST = 16_777_216
 
 XSD = "http://www.w3.org/2001/XMLSchema"
 INSTANCE = "http://www.w3.org/2001/XMLSchema-instance"
+# The words that encode and decode, in the order of what is due.
+SYNTAXES = [("to-per", "to-xml"), ("to-per-u", "to-xml-u"), ("to-der", "from-der")]
 rng = random.Random()
 
 
-# The fields of PER, in both variants.
+# The fields of PER, in both variants. An encoding is a function that is given what takes it: bits, or a node of DER.
 
 
 class Bits:
     def __init__(self, aligned=True):
         self.aligned = aligned
         self.bits = []
+
+    def truth(self, truth):
+        self.put(truth, 1)
+
+    def number(self, n, least, greatest):
+        put_number(self, n, least, greatest)
+
+    def item(self, index, count, _):
+        """One of an ENUMERATED, by its place in the order of these (14)."""
+        put_between(self, index, 0, count - 1)
+
+    def text(self, text):
+        """A UTF8String (30)."""
+        put_counted(self, text.encode(), lambda octet: self.put(octet, 8))
+
+    def items(self, encodes, least, most):
+        put_items(self, encodes, least, most)
+
+    def sequence(self, components):
+        put_sequence(self, components)
+
+    def choice(self, index, count, encode):
+        """An alternative of a CHOICE (23)."""
+        put_between(self, index, 0, count - 1)
+        encode(self)
 
     def put(self, n, width):
         self.bits += [n >> i & 1 for i in reversed(range(width))]
@@ -141,11 +168,6 @@ def put_items(bits, encodes, least, most):
         put_counted(bits, encodes, lambda encode: encode(bits))
 
 
-def put_text(bits, text):
-    """A UTF8String (30)."""
-    put_counted(bits, text.encode(), lambda octet: bits.put(octet, 8))
-
-
 def put_sequence(bits, components):
     """A SEQUENCE of components, each of which is OPTIONAL or not, and has an encoding or is absent (19)."""
     for is_optional, encode in components:
@@ -156,8 +178,73 @@ def put_sequence(bits, components):
             encode(bits)
 
 
+# The nodes of DER.
+
+
+def identifier_of(number, is_constructed):
+    """A context-specific tag (8.1.2)."""
+    lead = 0xA0 if is_constructed else 0x80
+    if number < 31:
+        return bytes([lead | number])
+    sevens = [number & 127]
+    while number > 127:
+        number >>= 7
+        sevens.insert(0, 128 | number & 127)
+    return bytes([lead | 31, *sevens])
+
+
+class Node:
+    """A value in DER: the identifier of its type, none where this is a CHOICE, and its contents, octets or nodes."""
+
+    def __init__(self, encode):
+        self.identifier, self.contents = None, []
+        encode(self)
+
+    def truth(self, truth):
+        self.identifier, self.contents = 0x01, b"\xff" if truth else b"\0"
+
+    def number(self, n, *_):
+        octets = 1
+        while not -(1 << 8 * octets - 1) <= n < 1 << 8 * octets - 1:
+            octets += 1
+        self.identifier, self.contents = 0x02, n.to_bytes(octets, "big", signed=True)
+
+    def item(self, _, __, number):
+        self.number(number)
+        self.identifier = 0x0A
+
+    def text(self, text):
+        self.identifier, self.contents = 0x0C, text.encode()
+
+    def items(self, encodes, *_):
+        self.identifier, self.contents = 0x30, [Node(encode).tree() for encode in encodes]
+
+    def sequence(self, components):
+        parts = [Node(encode).tree(number) for number, (_, encode) in enumerate(components) if encode is not None]
+        self.identifier, self.contents = 0x30, parts
+
+    def choice(self, index, _, encode):
+        self.contents = [Node(encode).tree(index)]
+
+    def tree(self, number=None):
+        """An identifier, and octets or trees. Tags are automatic and implicit, but before a CHOICE explicit (X.680, 31.2.7)."""
+        if number is not None:
+            return identifier_of(number, isinstance(self.contents, list)), self.contents
+        return self.contents[0] if self.identifier is None else (bytes([self.identifier]), self.contents)
+
+
+def octets_in(tree):
+    """Identifier, length and contents (8.1.1), the length in the least octets (8.1.3, 10.1)."""
+    identifier, contents = tree
+    if isinstance(contents, list):
+        contents = b"".join(map(octets_in, contents))
+    size = len(contents)
+    octets = bytes([size]) if size < 128 else bytes([0x80 | octets_of(size)]) + size.to_bytes(octets_of(size), "big")
+    return identifier + octets + contents
+
+
 # Simple types. Each can be written as a simpleType of a schema, and makes values: the text in the document, and the
-# encoding, a function that adds to bits.
+# encoding, a function that is given what takes it.
 
 
 def written(facets):
@@ -194,10 +281,10 @@ class Boolean:
     def value(self):
         truth = rng.random() < 0.5
         spelled = rng.choice(["true", "1"] if truth else ["false", "0"])
-        return spelled, lambda bits: bits.put(truth, 1)
+        return spelled, lambda bits: bits.truth(truth)
 
     def encoding(self, text):
-        return lambda bits: bits.put(text in ("true", "1"), 1)
+        return lambda bits: bits.truth(text in ("true", "1"))
 
     def canonical(self, text):
         return "true" if text in ("true", "1") else "false"
@@ -281,7 +368,7 @@ class Integer:
         return text, self.encoding(text)
 
     def encoding(self, text):
-        return lambda bits: put_number(bits, int(text), self.least, self.greatest)
+        return lambda bits: bits.number(int(text), self.least, self.greatest)
 
     def canonical(self, text):
         return str(int(text))
@@ -315,7 +402,7 @@ class Numbers:
 
     def encoding(self, text):
         numbers = sorted(set(self.numbers))
-        return lambda bits: put_between(bits, numbers.index(int(text)), 0, len(numbers) - 1)
+        return lambda bits: bits.item(numbers.index(int(text)), len(numbers), int(text))
 
     def canonical(self, text):
         return str(int(text))
@@ -354,7 +441,7 @@ class Words:
 
     def encoding(self, text):
         index = sorted(self.words, key=str.encode).index(text)
-        return lambda bits: put_between(bits, index, 0, len(self.words) - 1)
+        return lambda bits: bits.item(index, len(self.words), index)
 
     def canonical(self, text):
         return text
@@ -381,7 +468,7 @@ class Word:
         return word, self.encoding(word)
 
     def encoding(self, text):
-        return lambda bits: put_text(bits, text)
+        return lambda bits: bits.text(text)
 
     def canonical(self, text):
         return text
@@ -406,7 +493,7 @@ class SizedWord:
 
     def value(self):
         word = rng.choice("a_é") + "".join(rng.choices("b-1.é日", k=rng.randint(self.least, self.most) - 1))
-        return word, lambda bits: put_text(bits, word)
+        return word, lambda bits: bits.text(word)
 
 
 class Text:
@@ -446,7 +533,7 @@ class Text:
             text += "z" * (self.least - len(text))
             ends = ["", "", " ", "\n", "\t "]
             shown = rng.choice(ends) + text.replace(" ", rng.choice([" ", "  ", "\n\t"])) + rng.choice(ends)
-        return shown, lambda bits: put_text(bits, text)
+        return shown, lambda bits: bits.text(text)
 
 
 class ListOf:
@@ -476,13 +563,13 @@ class ListOf:
         items = [self.item.value() for _ in range(count)]
 
         def encode(bits):
-            put_items(bits, [encode_item for _, encode_item in items], self.least, self.most)
+            bits.items([encode_item for _, encode_item in items], self.least, self.most)
 
         return rng.choice([" ", "  ", "\n"]).join(text for text, _ in items), encode
 
     def encoding(self, text):
         items = [self.item.encoding(item) for item in text.split()]
-        return lambda bits: put_items(bits, items, self.least, self.most)
+        return lambda bits: bits.items(items, self.least, self.most)
 
     def canonical(self, text):
         return " ".join(map(self.item.canonical, text.split()))
@@ -545,11 +632,7 @@ class Union:
                 break
             index = again
 
-        def encode(bits):
-            put_between(bits, index, 0, len(self.members) - 1)
-            self.members[index].encoding(text)(bits)
-
-        return encode
+        return lambda bits: bits.choice(index, len(self.members), self.members[index].encoding(text))
 
 
 class UnionWithList(Union):
@@ -659,7 +742,7 @@ class Particle:
         values = [self.term.value() for _ in range(self.count())]
 
         def encode(bits):
-            put_items(bits, [encode_item for _, encode_item in values], self.least, self.most)
+            bits.items([encode_item for _, encode_item in values], self.least, self.most)
 
         return [element for elements, _ in values for element in elements], (False, encode)
 
@@ -715,15 +798,10 @@ class Group:
     def value(self):
         if self.is_sequence:
             elements, components = components_of(self.particles)
-            return elements, lambda bits: put_sequence(bits, components)
+            return elements, lambda bits: bits.sequence(components)
         index = rng.randrange(len(self.particles))
-        elements, (_, encode_alternative) = self.particles[index].component(is_alternative=True)
-
-        def encode(bits):
-            put_between(bits, index, 0, len(self.particles) - 1)
-            encode_alternative(bits)
-
-        return elements, encode
+        elements, (_, encode) = self.particles[index].component(is_alternative=True)
+        return elements, lambda bits: bits.choice(index, len(self.particles), encode)
 
 
 class Standard:
@@ -926,12 +1004,12 @@ class Element:
             nil = f' xsi:nil="{rng.choice(["true", "1", " true "])}"'
         if not isinstance(self.type, Complex):
             if is_nil:
-                return self.element(nil, ""), lambda bits: put_sequence(bits, [(True, None)])
+                return self.element(nil, ""), lambda bits: bits.sequence([(True, None)])
             text, encode = self.type.value()
             text = self.schema.spaced(self.type, text)
             if not self.is_nillable:
                 return self.element("", text_shown(text)), encode
-            return self.element(nil, text_shown(text)), lambda bits: put_sequence(bits, [(True, encode)])
+            return self.element(nil, text_shown(text)), lambda bits: bits.sequence([(True, encode)])
         written, components = [nil], []
         for attribute in sorted(self.type.attributes, key=Attribute.order):
             text, component = attribute.value()
@@ -943,13 +1021,13 @@ class Element:
             inner, texts = "", []
 
         def encode_texts(bits):
-            put_counted(bits, texts, lambda text: put_text(bits, text))
+            bits.items([lambda bits, text=text: bits.text(text) for text in texts], 0, None)
 
         def encode_content(bits):
             if self.type.simple:
                 content[0][1](bits)
             else:
-                put_sequence(bits, content)
+                bits.sequence(content)
 
         if self.type.is_mixed:
             components.insert(0, (False, encode_texts))
@@ -957,7 +1035,7 @@ class Element:
             components.append((True, None if is_nil else encode_content))
         else:
             components += content
-        return self.element("".join(written), inner), lambda bits: put_sequence(bits, components)
+        return self.element("".join(written), inner), lambda bits: bits.sequence(components)
 
 
 class File:
@@ -1070,6 +1148,8 @@ class Schema:
             bits = Bits(aligned)
             encode(bits)
             due.append(bits.complete())
+        self.nodes = Node(encode).tree()
+        due.append(octets_in(self.nodes))
         head = '<?xml version="1.0" encoding="UTF-8"?>\n' * (rng.random() < 0.3)
         spaces = f' xmlns:t="urn:t" xmlns:u="urn:a" xmlns:xsi="{INSTANCE}"'
         return f"{head}{text[:at]}{spaces}{text[at:]}", due
@@ -1213,24 +1293,24 @@ class Cases:
             self.is_wrong(number, document, "the schema is taken, and isn't clear")
             return False
         self.counts["documents"] += 1
-        aligned, unaligned = due
-        self.back(number, root, document, there, aligned, "")
-        self.back(number, root, document, self.run("to-per-u", root, octets=document), unaligned, "-u")
+        for (encoding, decoding), octets in zip(SYNTAXES, due):
+            self.back(number, root, document, octets, encoding, decoding)
         return True
 
-    def back(self, number, root, document, there, due, variant):
+    def back(self, number, root, document, due, encoding, decoding):
         """What was encoded is due, and what it is decoded to is encoded so again."""
+        there = self.run(encoding, root, octets=document)
         if there.stdout != due:
             told = there.stderr.decode() or there.stdout.hex()
-            self.is_wrong(number, document, f"to-per{variant}: {told[:1000]}, due {due.hex()[:1000]}")
+            self.is_wrong(number, document, f"{encoding}: {told[:1000]}, due {due.hex()[:1000]}")
             return
-        back = self.run(f"to-xml{variant}", root, octets=due)
-        again = self.run(f"to-per{variant}", root, octets=back.stdout)
+        back = self.run(decoding, root, octets=due)
+        again = self.run(encoding, root, octets=back.stdout)
         peer = self.peer(back.stdout)
         if peer.returncode != 0:
-            self.is_wrong(number, back.stdout, f"to-xml{variant}: {back.stderr.decode()}{peer.stderr.decode()}")
+            self.is_wrong(number, back.stdout, f"{decoding}: {back.stderr.decode()}{peer.stderr.decode()}")
         if again.stdout != due:
-            self.is_wrong(number, document, f"to-xml{variant}: {back.stderr.decode()}{again.stderr.decode()}")
+            self.is_wrong(number, document, f"{decoding}: {back.stderr.decode()}{again.stderr.decode()}")
 
     def is_valid(self, number, root, document):
         if self.has_tokens and has_empty(document):

@@ -12,8 +12,10 @@ use Rattle.validity.specs.declared.why.InvalidWhy.{InvalidWhy}
 use Rattle.validity.specs.declared.why.InvalidWhy.TheVariants as invalid
 use Rattle.per_fields.specs.declared.stops.Why.{Why}
 use Rattle.per_fields.specs.declared.stops.Why.TheVariants as per
+use Rattle.der_fields.specs.declared.stops.Why.{Why as DerWhy}
+use Rattle.der_fields.specs.declared.stops.Why.TheVariants as der
 use Rattle.command_line.specs.declared.outcome.Outcome.{Outcome}
-use Rattle.command_line.specs.declared.outcome.Outcome.TheVariants.{Done, Usage, SchemaSyntax, SchemaFault, LinkFault, UnknownRoot, DocSyntax, Invalid, PerFault, RecordFault, Trailing, TooLong, TooManyNodes, LoadFault, ReadFault, WriteFault, OutOfMemory}
+use Rattle.command_line.specs.declared.outcome.Outcome.TheVariants.{Done, Usage, SchemaSyntax, SchemaFault, LinkFault, UnknownRoot, DocSyntax, Invalid, PerFault, RecordFault, DerFault, Trailing, TooLong, TooManyNodes, LoadFault, ReadFault, WriteFault, OutOfMemory}
 
 -- the name of a reason against a text
 abbrev pub reason_name : DocWhy → List ℕ
@@ -123,7 +125,7 @@ invalid_reason invalid.BadText = codes "BadText"
 invalid_reason invalid.UnexpectedElement = codes "UnexpectedElement"
 invalid_reason invalid.MissingElement = codes "MissingElement"
 
--- the name of a reason against octets
+-- the name of a reason against bits
 abbrev pub per_reason : Why → List ℕ
 per_reason per.TooDeep = codes "TooDeep"
 per_reason per.TooMany = codes "TooMany"
@@ -135,6 +137,21 @@ per_reason per.TooWide = codes "TooWide"
 per_reason per.NotUtf8 = codes "NotUtf8"
 per_reason per.DefaultWritten = codes "DefaultWritten"
 per_reason per.NotAValue = codes "NotAValue"
+
+-- the name of a reason against octets
+abbrev pub der_reason : DerWhy → List ℕ
+der_reason der.Short = codes "Short"
+der_reason der.Missing = codes "Missing"
+der_reason der.Tag = codes "Tag"
+der_reason der.TooDeep = codes "TooDeep"
+der_reason der.TooMany = codes "TooMany"
+der_reason der.NotShortest = codes "NotShortest"
+der_reason der.Content = codes "Content"
+der_reason der.TooWide = codes "TooWide"
+der_reason der.Range = codes "Range"
+der_reason der.NotUtf8 = codes "NotUtf8"
+der_reason der.DefaultWritten = codes "DefaultWritten"
+der_reason der.NotAValue = codes "NotAValue"
 
 -- the file of that number, or the input
 abbrev pub place : ℕ → List ℕ
@@ -152,6 +169,7 @@ line (DocSyntax at reason) = codes "input, byte " ++ decimal at ++ codes ": synt
 line (Invalid at reason) = codes "input, byte " ++ decimal at ++ codes ": invalid: " ++ invalid_reason reason ++ codes "\n"
 line (PerFault bit reason) = codes "input, bit " ++ decimal bit ++ codes ": per: " ++ per_reason reason ++ codes "\n"
 line (RecordFault number bit reason) = codes "record " ++ decimal number ++ codes ", bit " ++ decimal bit ++ codes ": per: " ++ per_reason reason ++ codes "\n"
+line (DerFault at reason) = codes "input, byte " ++ decimal at ++ codes ": der: " ++ der_reason reason ++ codes "\n"
 line (Trailing at) = codes "input, byte " ++ decimal at ++ codes ": trailing\n"
 line (TooLong k) = place k ++ codes ": too long\n"
 line (TooManyNodes count) = codes "value of " ++ decimal count ++ codes " nodes: too many\n"

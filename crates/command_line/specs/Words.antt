@@ -6,7 +6,7 @@ use Rattle.xa_base.specs.Characters.{is_xml_char, is_ncname}
 use Rattle.xa_base.specs.Digits.{is_digit, number_of}
 use Rattle.xa_base.specs.Limits.{is_short_space}
 use Rattle.xa_base.specs.declared.texts.Name.{Name}
-use Rattle.command_line.specs.declared.tasks.Syntax.TheVariants.{Aligned, Unaligned}
+use Rattle.command_line.specs.declared.tasks.Syntax.TheVariants.{Aligned, Unaligned, Der}
 use Rattle.command_line.specs.declared.tasks.Task.{Task}
 use Rattle.command_line.specs.declared.tasks.Task.TheVariants.{Check, Send, Receive}
 
@@ -73,6 +73,8 @@ task_of word =
     else if bytes_eq word (codes "to-xml") then Some (Receive Aligned)
     else if bytes_eq word (codes "to-per-u") then Some (Send Unaligned)
     else if bytes_eq word (codes "to-xml-u") then Some (Receive Unaligned)
+    else if bytes_eq word (codes "to-der") then Some (Send Der)
+    else if bytes_eq word (codes "from-der") then Some (Receive Der)
     else None
 
 abbrev pub rooted : Task → List (List ℕ) → Option Asked
@@ -91,7 +93,7 @@ abbrev pub shown : List (List ℕ) → Option Asked
 shown files = if are_files files then Some (Show files) else None
 
 -- `show FILE..`, `trial N`, or a task as `check ROOT FILE..`, `to-per ROOT FILE..` or `to-xml ROOT FILE..`, and `to-per-u` or
--- `to-xml-u` alike
+-- `to-xml-u`, `to-der` or `from-der` alike
 abbrev pub asked : List (List ℕ) → Option Asked
 asked [] = None
 asked (command ∷ words) =

@@ -10,6 +10,7 @@ ghost use Rattle.command_line.specs.Private.Parts.{spelled};
 
 use crate::outcome::Outcome;
 use arrayvec::ArrayVec;
+use der_fields::Why as DerWhy;
 use doc_text::DocWhy;
 use facet_rules::FacetWhy;
 use itoa::Buffer;
@@ -117,7 +118,7 @@ fn numbered(head: &'static [u8], number: u64, tail: &'static [u8]) -> Parts
     }
 }
 
-// The name of a reason against octets.
+// The name of a reason against bits.
 fn per_reason(why: Why) -> &'static [u8]
     ensures { result.now ≡ lines.per_reason why }
 {
@@ -132,6 +133,26 @@ fn per_reason(why: Why) -> &'static [u8]
         Why::NotUtf8 => b"NotUtf8",
         Why::DefaultWritten => b"DefaultWritten",
         Why::NotAValue => b"NotAValue",
+    }
+}
+
+// The name of a reason against octets.
+fn der_reason(why: DerWhy) -> &'static [u8]
+    ensures { result.now ≡ lines.der_reason why }
+{
+    match why {
+        DerWhy::Short => b"Short",
+        DerWhy::Missing => b"Missing",
+        DerWhy::Tag => b"Tag",
+        DerWhy::TooDeep => b"TooDeep",
+        DerWhy::TooMany => b"TooMany",
+        DerWhy::NotShortest => b"NotShortest",
+        DerWhy::Content => b"Content",
+        DerWhy::TooWide => b"TooWide",
+        DerWhy::Range => b"Range",
+        DerWhy::NotUtf8 => b"NotUtf8",
+        DerWhy::DefaultWritten => b"DefaultWritten",
+        DerWhy::NotAValue => b"NotAValue",
     }
 }
 
@@ -329,6 +350,15 @@ fn parts_of(outcome: Outcome) -> Parts
             at: Some(bit),
             tail: b": per: ",
             reason: per_reason(why),
+            end: b"\n",
+        },
+        Outcome::DerFault { at, why } => Parts {
+            head: b"input, byte ",
+            file: None,
+            middle: b"",
+            at: Some(at),
+            tail: b": der: ",
+            reason: der_reason(why),
             end: b"\n",
         },
         Outcome::Trailing { at } => numbered(b"input, byte ", at, b": trailing\n"),

@@ -2,6 +2,7 @@
 ghost use Rattle.std.specs.Prelude.{◌≡◌};
 ghost use Rattle.command_line.specs.Status.{status};
 
+use der_fields::Why as DerWhy;
 use doc_text::DocWhy;
 use link_names::LinkWhy;
 use per_fields::Why;
@@ -29,6 +30,8 @@ pub enum Outcome {
     Invalid { at: u64, why: InvalidWhy },
     /// The input is no encoding: its first fault, in the field that begins at this bit.
     PerFault { bit: u64, why: Why },
+    /// The input is no encoding in DER: its first fault, at this byte.
+    DerFault { at: u64, why: DerWhy },
     /// An encoding ends before this byte of the input.
     Trailing { at: u64 },
     /// The record with this number, counted from 1, is no encoding: its first fault, in the field that begins at this bit of
@@ -66,6 +69,7 @@ impl Outcome {
             Outcome::Trailing { .. } => 10,
             Outcome::TooLong { .. } => 11,
             Outcome::TooManyNodes { .. } => 12,
+            Outcome::DerFault { .. } => 13,
             Outcome::RecordFault { .. } => 15,
             Outcome::LoadFault { .. } => 20,
             Outcome::ReadFault => 21,

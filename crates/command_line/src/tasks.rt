@@ -7,6 +7,8 @@ pub enum Syntax {
     Aligned,
     /// Canonical unaligned PER (X.691).
     Unaligned,
+    /// DER (X.690).
+    Der,
 }
 
 /// What a command does with the root of a set and with the input.

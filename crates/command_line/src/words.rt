@@ -170,6 +170,10 @@ fn task_of(word: &[u8]) -> Option<Task>
         Some(Task::Send(Syntax::Unaligned))
     } else if word == b"to-xml-u".as_slice() {
         Some(Task::Receive(Syntax::Unaligned))
+    } else if word == b"to-der".as_slice() {
+        Some(Task::Send(Syntax::Der))
+    } else if word == b"from-der".as_slice() {
+        Some(Task::Receive(Syntax::Der))
     } else {
         None
     }

@@ -1,11 +1,19 @@
 -- Complaints that tell no byte.
 use Rattle.std.proofs.Common.{◌≡◌, ◌⊎◌, inl, inr, ℕ, List, [], ◌++◌, codes, decimal, Result, Ok, Err, IfOk, ◌∙◌, ap}
 use Rattle.command_line.specs.declared.outcome.Outcome.{Outcome}
-use Rattle.command_line.specs.declared.outcome.Outcome.TheVariants.{Done, Usage, SchemaSyntax, SchemaFault, LinkFault, UnknownRoot, DocSyntax, Invalid, PerFault, RecordFault, Trailing, TooLong, TooManyNodes, LoadFault, ReadFault, WriteFault, OutOfMemory}
+use Rattle.command_line.specs.declared.outcome.Outcome.TheVariants.{Done, Usage, SchemaSyntax, SchemaFault, LinkFault, UnknownRoot, DocSyntax, Invalid, PerFault, RecordFault, DerFault, Trailing, TooLong, TooManyNodes, LoadFault, ReadFault, WriteFault, OutOfMemory}
+use Rattle.command_line.specs.Lines.{der_reason}
+use Rattle.der_fields.specs.declared.stops.Why.{Why}
 use Rattle.text_places.specs.Telling.{explained}
 use Rattle.complaints.specs.Complaints.{IsNamed, IsComplaint}
 
--- an octet
+-- an octet of no encoding, and one behind an encoding
+pub octet : (o : Outcome) (at : ℕ) (why : Why) (name contents within r means remedy told : List ℕ) → o ≡ DerFault at why → IsNamed o r
+    → told ≡ name ++ codes ": octet " ++ decimal at ++ explained r means remedy [] [] → IsComplaint o name contents within told
+octet o at why name contents within r means remedy told is named e =
+    let n : r ≡ der_reason why = rw is at named in
+    rw is (means, remedy, e ∙ ap (λ x. name ++ codes ": octet " ++ decimal at ++ explained x means remedy [] []) n)
+
 pub trailing : (o : Outcome) (at : ℕ) (name contents within r means remedy told : List ℕ) → o ≡ Trailing at → IsNamed o r
     → told ≡ name ++ codes ": octet " ++ decimal at ++ explained r means remedy [] [] → IsComplaint o name contents within told
 trailing o at name contents within r means remedy told is named e =
@@ -21,6 +29,7 @@ IsWhole (DocSyntax at why) = ⊥
 IsWhole (Invalid at why) = ⊥
 IsWhole (PerFault bit why) = ⊥
 IsWhole (RecordFault number bit why) = ⊥
+IsWhole (DerFault at why) = ⊥
 IsWhole (Trailing at) = ⊥
 IsWhole _ = Unit {0}
 
@@ -42,6 +51,7 @@ whole (DocSyntax at why) name contents within r means remedy told is named e = a
 whole (Invalid at why) name contents within r means remedy told is named e = absurd is
 whole (PerFault bit why) name contents within r means remedy told is named e = absurd is
 whole (RecordFault number bit why) name contents within r means remedy told is named e = absurd is
+whole (DerFault at why) name contents within r means remedy told is named e = absurd is
 whole (Trailing at) name contents within r means remedy told is named e = absurd is
 
 -- one of these
@@ -68,6 +78,12 @@ pub trailing_told : {A E : Type 0} (bytes : A → List ℕ) (result : Result A E
     → IfOk result (λ told. IsComplaint o name contents within (bytes told))
 trailing_told bytes (Ok told) o at name contents within r means remedy is named e = trailing o at name contents within r means remedy (bytes told) is named e
 trailing_told bytes (Err error) o at name contents within r means remedy is named e = tt
+
+pub octet_told : {A E : Type 0} (bytes : A → List ℕ) (result : Result A E) (o : Outcome) (at : ℕ) (why : Why) (name contents within r means remedy : List ℕ)
+    → o ≡ DerFault at why → IsNamed o r → IfOk result (λ told. bytes told ≡ name ++ codes ": octet " ++ decimal at ++ explained r means remedy [] [])
+    → IfOk result (λ told. IsComplaint o name contents within (bytes told))
+octet_told bytes (Ok told) o at why name contents within r means remedy is named e = octet o at why name contents within r means remedy (bytes told) is named e
+octet_told bytes (Err error) o at why name contents within r means remedy is named e = tt
 
 pub whole_told : {A E : Type 0} (bytes : A → List ℕ) (result : Result A E) (o : Outcome) (name contents within r means remedy : List ℕ)
     → IsOneWhole o → IsNamed o r → IfOk result (λ told. bytes told ≡ name ++ explained r means remedy [] [])

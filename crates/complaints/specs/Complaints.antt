@@ -4,7 +4,7 @@ use Rattle.label_tree.specs.Rose.{Rose}
 use Rattle.item_tree.specs.declared.label.ItemLabel.{ItemLabel}
 use Rattle.doc_text.specs.Documents.{DocOf}
 use Rattle.command_line.specs.declared.outcome.Outcome.{Outcome}
-use Rattle.command_line.specs.declared.outcome.Outcome.TheVariants.{Done, Usage, SchemaSyntax, SchemaFault, LinkFault, UnknownRoot, DocSyntax, Invalid, PerFault, RecordFault, Trailing, TooLong, TooManyNodes, LoadFault, ReadFault, WriteFault, OutOfMemory}
+use Rattle.command_line.specs.declared.outcome.Outcome.TheVariants.{Done, Usage, SchemaSyntax, SchemaFault, LinkFault, UnknownRoot, DocSyntax, Invalid, PerFault, RecordFault, DerFault, Trailing, TooLong, TooManyNodes, LoadFault, ReadFault, WriteFault, OutOfMemory}
 use Rattle.command_line.specs.Lines as lines
 use Rattle.text_places.specs.Paths.{IsPath}
 use Rattle.text_places.specs.Telling.{IsPlaced, explained}
@@ -18,6 +18,7 @@ IsNamed (DocSyntax at why) name = name ≡ lines.reason_name why
 IsNamed (Invalid at why) name = name ≡ lines.invalid_reason why
 IsNamed (PerFault bit why) name = name ≡ lines.per_reason why
 IsNamed (RecordFault number bit why) name = name ≡ lines.per_reason why
+IsNamed (DerFault at why) name = name ≡ lines.der_reason why
 IsNamed Done name = name ≡ codes "Done"
 IsNamed Usage name = name ≡ codes "Usage"
 IsNamed UnknownRoot name = name ≡ codes "UnknownRoot"
@@ -55,6 +56,8 @@ IsComplaint (PerFault bit why) name contents within told =
 IsComplaint (RecordFault number bit why) name contents within told =
     (means remedy : List ℕ)
     × (told ≡ name ++ codes ": record " ++ decimal number ++ codes ", bit " ++ decimal bit ++ explained (lines.per_reason why) means remedy [] [])
+IsComplaint (DerFault at why) name contents within told =
+    (means remedy : List ℕ) × (told ≡ name ++ codes ": octet " ++ decimal at ++ explained (lines.der_reason why) means remedy [] [])
 IsComplaint (Trailing at) name contents within told =
     (means remedy : List ℕ) × (told ≡ name ++ codes ": octet " ++ decimal at ++ explained (codes "Trailing") means remedy [] [])
 IsComplaint o name contents within told = MatchOption (byte_of o) (IsToldWhole o name told) (λ at. at ≤ length contents → IsTold o name contents within at told)

@@ -60,6 +60,7 @@ pub fn complaint(
         }
         Outcome::PerFault { bit, .. } => tell_unit(alloc, name, ": bit ", bit, reason),
         Outcome::RecordFault { number, bit, .. } => tell_record(alloc, name, number, bit, reason),
+        Outcome::DerFault { at, .. } => tell_unit(alloc, name, ": octet ", at, reason),
         Outcome::Trailing { at } => tell_unit(alloc, name, ": octet ", at, reason),
         Outcome::Done
         | Outcome::Usage

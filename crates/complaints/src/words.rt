@@ -4,6 +4,7 @@ ghost use Rattle.command_line.specs.Lines as lines;
 ghost use Rattle.complaints.specs.Complaints.{IsNamed};
 
 use command_line::Outcome;
+use der_fields::Why as DerWhy;
 use doc_text::DocWhy;
 use facet_rules::FacetWhy;
 use link_names::LinkWhy;
@@ -513,7 +514,7 @@ pub fn invalid_reason(why: InvalidWhy) -> Reason
     }
 }
 
-/// Of octets that are no encoding.
+/// Of octets that are no encoding in PER.
 pub fn octets_reason(why: Why) -> Reason
     ensures { result.name.now ≡ lines.per_reason why }
 {
@@ -571,6 +572,74 @@ pub fn octets_reason(why: Why) -> Reason
     }
 }
 
+/// Of octets that are no encoding in DER.
+pub fn der_reason(why: DerWhy) -> Reason
+    ensures { result.name.now ≡ lines.der_reason why }
+{
+    match why {
+        DerWhy::Short => Reason {
+            name: "Short",
+            means: "the octets end before the node, its length or its contents do",
+            remedy: "send it whole, with its length",
+        },
+        DerWhy::Missing => Reason {
+            name: "Missing",
+            means: "the contents end where a component that isn't optional must follow",
+            remedy: "send the same module, with a checksum",
+        },
+        DerWhy::Tag => Reason {
+            name: "Tag",
+            means: "no node that may follow here has this identifier",
+            remedy: "send the same module, with a checksum",
+        },
+        DerWhy::TooDeep => Reason {
+            name: "TooDeep",
+            means: "the 65th element in one another",
+            remedy: "take these octets for none",
+        },
+        DerWhy::TooMany => Reason {
+            name: "TooMany",
+            means: "the 1,048,577th node",
+            remedy: "split the message",
+        },
+        DerWhy::NotShortest => Reason {
+            name: "NotShortest",
+            means: "a length or a number would fit in fewer octets, or a length is indefinite",
+            remedy: "encode by DER: BER isn't enough",
+        },
+        DerWhy::Content => Reason {
+            name: "Content",
+            means: "a BOOLEAN that isn't one octet, 00 or FF, or a number without octets",
+            remedy: "encode by DER: BER isn't enough",
+        },
+        DerWhy::TooWide => Reason {
+            name: "TooWide",
+            means: "a whole number of more than 128 bits",
+            remedy: "send the same module, with a checksum",
+        },
+        DerWhy::Range => Reason {
+            name: "Range",
+            means: "a number or a count outside its bounds, or that of no item",
+            remedy: "send the same module, with a checksum",
+        },
+        DerWhy::NotUtf8 => Reason {
+            name: "NotUtf8",
+            means: "the octets of a text aren't UTF-8",
+            remedy: "send the same module, with a checksum",
+        },
+        DerWhy::DefaultWritten => Reason {
+            name: "DefaultWritten",
+            means: "a component that may be absent has its default or fixed value",
+            remedy: "encode by DER: BER isn't enough",
+        },
+        DerWhy::NotAValue => Reason {
+            name: "NotAValue",
+            means: "the node was read whole, but it breaks a rule of values",
+            remedy: "docs/INTEROP.md has the rules; both ends need the same schemas",
+        },
+    }
+}
+
 /// The reason of an outcome that isn't `Done`.
 pub fn reason_of(outcome: Outcome) -> Reason
     ensures { IsNamed outcome result.name.now }
@@ -581,6 +650,7 @@ pub fn reason_of(outcome: Outcome) -> Reason
         Outcome::LinkFault { why, .. } => link_reason(why),
         Outcome::Invalid { why, .. } => invalid_reason(why),
         Outcome::PerFault { why, .. } | Outcome::RecordFault { why, .. } => octets_reason(why),
+        Outcome::DerFault { why, .. } => der_reason(why),
         Outcome::Done => Reason {
             name: "Done",
             means: "all is done",

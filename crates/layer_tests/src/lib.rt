@@ -1,21 +1,17 @@
 //! Tests of what no row of transcode_rows shows: what is taken of a source, what becomes of each part of an encoding and of
-//! each bit that is turned, long texts, the order of elements, the leaves and turns that a matcher tells, large documents, and
-//! files as sources, sinks and libraries. What is due is worked out from X.691 and from the language of content models, and
-//! never copied from the program.
+//! each bit that is turned, long texts, the order of elements, the leaves and turns that a matcher tells, and files as sources,
+//! sinks and libraries. What is due is worked out from X.691 and from the language of content models, and never copied from the
+//! program.
 //!
 //! Read first: docs/TESTING.md, then the test of your subject.
 #![tactic(auto)]
 
-#[cfg(test)]
-mod commands;
 #[cfg(test)]
 mod damaged;
 #[cfg(test)]
 mod files;
 #[cfg(test)]
 mod fragments;
-#[cfg(test)]
-mod large;
 #[cfg(test)]
 mod made;
 #[cfg(test)]

@@ -116,7 +116,7 @@ fn with_syntax<'a>(
             "syntax",
             't',
             "SYNTAX",
-            "How values are encoded: per, aligned, if none is told, or uper, unaligned",
+            "How values are encoded: per, aligned, if none is told, uper, unaligned, or der",
         ))?;
     Ok(command)
 }
@@ -191,7 +191,7 @@ fn trial<'a>(alloc: Global) -> Result<Command<'a>, Error> {
 pub fn command<'a>(alloc: Global) -> Result<Command<'a>, Error> {
     let command = Command::new(alloc, "ruvkhiska")
         .version("0.1")
-        .about("XML documents of a schema as the few octets of canonical PER, and back")
+        .about("XML documents of a schema as the few octets of canonical PER, or DER, and back")
         .after_help("Example:\n  ruvkhiska show examples/order.xsd")
         .subcommand_required(true)
         .subcommand(show(alloc)?)?

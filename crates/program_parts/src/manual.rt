@@ -6,7 +6,7 @@ use std::alloc::{AllocError, Global};
 const HEAD: &[&str] = &[
     ".TH RUVKHISKA 1",
     ".SH NAME",
-    "ruvkhiska \\- XML documents of a schema as the few octets of canonical PER, and back",
+    "ruvkhiska \\- XML documents of a schema as the few octets of canonical PER, or DER, and back",
     ".SH DESCRIPTION",
 ];
 
@@ -25,6 +25,7 @@ const TAIL: &[&str] = &[
     "10  something stands behind the encoding",
     "11  a file or the input is too long",
     "12  the value has too many nodes",
+    "13  the octets are no encoding in DER",
     "20  a schema file can't be read",
     "21  the input can't be read",
     "22  the output can't be written",

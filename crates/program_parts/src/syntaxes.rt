@@ -21,6 +21,11 @@ const SYNTAXES: &[Syntax] = &[
         encoding: "to-per-u",
         decoding: "to-xml-u",
     },
+    Syntax {
+        name: "der",
+        encoding: "to-der",
+        decoding: "from-der",
+    },
 ];
 
 /// The syntax of this name, or the first.

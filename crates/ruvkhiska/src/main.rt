@@ -112,6 +112,7 @@ fn about<'a>(work: &'a Work<'_>, outcome: Outcome) -> (&'a str, &'a [u8]) {
         | Outcome::Invalid { .. }
         | Outcome::PerFault { .. }
         | Outcome::RecordFault { .. }
+        | Outcome::DerFault { .. }
         | Outcome::Trailing { .. }
         | Outcome::TooLong { .. }
         | Outcome::TooManyNodes { .. }
@@ -264,7 +265,7 @@ fn carry_out<'a>(
     progress: &'a Progress<'a, HostRuntime>,
 ) -> u8 {
     let alloc = rt.alloc();
-    // The octets of an encoding have no lines, and are read one by one.
+    // The octets of an encoding have no lines.
     let keeps = asked.task != Task::ToXml;
     let input = match asked.input {
         Some(name) => Input::file(alloc, rt, name, progress, keeps),

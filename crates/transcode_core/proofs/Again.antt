@@ -1,5 +1,5 @@
 -- What was written of a document is taken again, and what is written of this has the same treated items.
-use Rattle.std.proofs.Common.{◌≡◌, ℕ, ◌≤◌, List, length, refl, sym, ◌∙◌, subst, inr, Option, Some, None, Ok}
+use Rattle.std.proofs.Common.{◌≡◌, ℕ, ◌≤◌, List, length, refl, sym, ◌∙◌, subst, inr, Option, Some, Ok}
 use Rattle.label_tree.specs.Rose.{Rose}
 use Rattle.item_tree.specs.declared.label.ItemLabel.{ItemLabel}
 use Rattle.doc_text.specs.Documents.{DocOf}
@@ -9,7 +9,7 @@ use Rattle.doc_written.specs.Written.{written}
 use Rattle.plain_items.specs.Plain.{Plain}
 use Rattle.plain_items.specs.Unplaced.{unplaced}
 use Rattle.xer_items.specs.Items.{Xer}
-use Rattle.asn_values.specs.Values.{Fits, In}
+use Rattle.asn_values.specs.Values.{Fits}
 use Rattle.simple_types.specs.declared.labels.ValueLabel.{ValueLabel}
 use Rattle.sound_items.specs.Statements.{DocumentsOfValues}
 use Rattle.schema_parts.specs.SetParts.{SetParts}
@@ -23,17 +23,13 @@ use Rattle.command_line.specs.Words.{Asked, Serve}
 use Rattle.transcode_core.specs.Due.{ItemsIn, Encoded, Documented, Answered, Due}
 use Rattle.transcode_core.specs.ReadBack.{DecodedBack, IsValidText, DocumentedBack, AnsweredBack, ReadBack}
 use Rattle.transcode_core.specs.Again.{AreThereAndBack, AreSameDocuments}
-use Rattle.transcode_core.proofs.Octets.{one_whole}
+use Rattle.transcode_core.proofs.Octets.{value_in, whole_decoded, decoded_whole, one_whole}
 use Rattle.transcode_core.proofs.Single.{Typed-single, Opened-single, ok_inj, some_inj}
 use Rattle.transcode_core.proofs.Deciding.{same_request}
 use Rattle.transcode_core.proofs.Verdicts.{due_done}
 
 same_type : (opened : SetParts × ℕ) (a b : RootType) → Typed opened (Ok a) → Typed opened (Ok b) → b ≡ a
 same_type opened a b p q = ok_inj b a (Typed-single opened (Ok b) (Ok a) q p)
-
-value_in : (syntax : Syntax) (type : RootType) (left : Option (List ℕ)) (v : Rose ValueLabel) → Decoded syntax type left (Ok v) → In type.assignments type.number v
-value_in syntax type None v is = is
-value_in syntax type (Some octets) v is = is.1
 
 module _ (documents : DocumentsOfValues) (opened : SetParts × ℕ) where
   -- a text that is read as the items of a value is valid with them as its treated items
@@ -51,14 +47,14 @@ module _ (documents : DocumentsOfValues) (opened : SetParts × ℕ) where
     value = v;
     decoded = decoded;
     back = back;
-    valid = valid_text type typed v (value_in syntax type left v decoded).0 back.items back.of_value text back.is_read;
+    valid = valid_text type typed v (value_in type syntax left v decoded).0 back.items back.of_value text back.is_read;
   }
 
 -- in a set: the document of what was written of a document
 pub taken_in_set : (syntax : Syntax) (opened : SetParts × ℕ) (document octets : List ℕ) → Encoded syntax opened (Some document) (Ok octets) → length octets ≤ 16777216
     → (text : List ℕ) × Documented syntax opened (Some octets) (Ok text)
 taken_in_set syntax opened document octets (type, typed, (items, read, (v, (treated, judged, valued), encodes))) few =
-    (written (unplaced treated), (type, typed, (v, (few, valued.0, encodes.0), (treated, valued.1, refl))))
+    (written (unplaced treated), (type, typed, (v, decoded_whole type syntax octets v (few, valued.0, encodes.0), (treated, valued.1, refl))))
 
 document_of : (document : List ℕ) (items : Rose ItemLabel) → ItemsIn (Some document) (Ok items) → DocOf document items
 document_of document items (bytes, (is, few), read) = subst (λ (b : List ℕ). DocOf b items) (sym is) read
@@ -69,7 +65,7 @@ pub same_in_set : AllSyntaxes → (syntax : Syntax) (opened : SetParts × ℕ) (
 same_in_set laws syntax opened document octets text (type, (s, of_s, h), (items, read, (v, (treated, judged, valued), encodes))) back =
     let same = same_type opened type back.type (s, of_s, h) back.typed in
     let w = back.value in
-    let whole = subst (λ t. Decoded syntax t (Some octets) (Ok w)) same back.decoded in
+    let whole = whole_decoded type syntax octets w (subst (λ t. Decoded syntax t (Some octets) (Ok w)) same back.decoded) in
     let value : w ≡ v = one_whole laws syntax type h octets w v whole (whole.0, valued.0, encodes.0) in
     let found = back.back.items in
     let its : Xer type.assignments type.number v ≡ Some found =

@@ -37,20 +37,22 @@ use Rattle.module_print.specs.Printed.{printed}
 use Rattle.xer_items.specs.Items.{Xer}
 use Rattle.one_value.specs.Statements.{AreSmall, root_at, ValuesOfItems, ItemsOfValues}
 use Rattle.command_line.specs.declared.tasks.Syntax.{Syntax}
-use Rattle.command_line.specs.declared.tasks.Syntax.TheVariants.{Aligned}
+use Rattle.command_line.specs.declared.tasks.Syntax.TheVariants.{Aligned, Unaligned, Der}
 use Rattle.command_line.specs.declared.tasks.Task.{Task}
 use Rattle.command_line.specs.declared.tasks.Task.TheVariants.{Check, Send, Receive}
-use Rattle.transcode_core.specs.Syntaxes.{BeginsWith, IsOneOfTwo, AllSyntaxes}
+use Rattle.command_line.specs.Tasks.{reads}
+use Rattle.transcode_core.specs.Syntaxes.{BeginsWith, AreOctetsOf, IsOneOfTwo, AllSyntaxes}
 use Rattle.transcode_core.specs.Private.Decided.{Decided}
 use Rattle.transcode_core.proofs.Verdicts.{done_due, refusal_due_of, decided_never}
 use Rattle.command_line.specs.declared.outcome.Outcome.{Outcome}
 use Rattle.command_line.specs.declared.outcome.Outcome.TheVariants.{Done, Usage, SchemaSyntax, SchemaFault, DocSyntax, LinkFault, UnknownRoot, Invalid, Trailing, TooLong, TooManyNodes, LoadFault}
 use Rattle.command_line.specs.Order.{Give, Found, Then}
-use Rattle.transcode_core.specs.Steps.{Loaded, Read, Faultless, SchemaIn, Schema, Schemas, AreParts, Linked, number_named, Rooted, Printed, Input, AreLinked, Judged, RootType, IsTypeOf, IsRootType, Typed, Valued, ValueIn, Encoding, readable, fault_in, Decoded, Written}
+use Rattle.transcode_core.specs.Steps.{Loaded, Read, Faultless, SchemaIn, Schema, Schemas, AreParts, Linked, number_named, Rooted, Printed, Input, AreLinked, Judged, RootType, IsTypeOf, IsRootType, Typed, Valued, ValueIn, Encoding, readable, fault_in, Streamed, DecodedOf, Decoded, Written}
 use Rattle.transcode_core.specs.Due.{Requested, SetIn, Opened, ItemsIn, Checked, Encoded, Documented, Served, TrialSent, Tried, Answered, Due}
 use Rattle.command_line.specs.Words.{Asked, Show, Serve, Trial, asked}
 use Rattle.transcode_core.specs.Trial.{trial_name, trial_schema, trial_root, trial_document, summary}
-use Rattle.transcode_core.specs.Causes.{reads_input, ReadsInput, IsTold}
+use Rattle.transcode_core.specs.Causes.{reads_input, ReadsInput, IsTold, AreRead, IsInput, IsInputOf}
+use Rattle.transcode_core.proofs.Octets.{value_in}
 use Rattle.transcode_core.proofs.Roots.{number-within}
 
 -- an outcome or a result
@@ -83,6 +85,12 @@ loaded_from entries k name (Some bytes) is = elim (cases_lt 16777216 (length byt
   | inr short ↦ (Ok bytes, (is, short))
 ]
 
+Input-answered : (left : List ℕ) → IsAnswered (Input (Some left))
+Input-answered left = elim (cases_lt 16777216 (length left)) [
+  | inl long ↦ (Err (TooLong 0), (long, refl))
+  | inr short ↦ (Ok left, (refl, short))
+]
+
 module _ (document : (bytes : List ℕ) → ((x : tree.Rose ItemLabel) × DocOf bytes x) ⊎ ((at : ℕ) × (why : DocWhy) × BrokenAt bytes at why)) where
   Read-answered : (refusal : ℕ → DocWhy → Outcome) (bytes : List ℕ) → IsAnswered (Read refusal bytes)
   Read-answered refusal bytes = elim (document bytes) [
@@ -105,12 +113,6 @@ module _ (document : (bytes : List ℕ) → ((x : tree.Rose ItemLabel) × DocOf 
   Schemas-answered entries k (name ∷ names) =
       Then-with (Schema (Some entries) k name) (λ first. Then (Schemas (Some entries) (k + 1) names) (λ others. Give (first ∷ others))) (Schema-answered entries k name) (λ first is.
       Then-with (Schemas (Some entries) (k + 1) names) (λ others. Give (first ∷ others)) (Schemas-answered entries (k + 1) names) (λ others rest. Give-answered (first ∷ others)))
-
-  Input-answered : (left : List ℕ) → IsAnswered (Input (Some left))
-  Input-answered left = elim (cases_lt 16777216 (length left)) [
-    | inl long ↦ (Err (TooLong 0), (long, refl))
-    | inr short ↦ (Ok left, (refl, short))
-  ]
 
   ItemsIn-answered : (left : List ℕ) → IsAnswered (ItemsIn (Some left))
   ItemsIn-answered left =
@@ -197,25 +199,49 @@ module _ (values : ValuesOfItems) (parts : SetParts) (n : ℕ) (type : RootType)
 Encoding-answered : AllSyntaxes → (syntax : Syntax) (type : RootType) (v : Rose ValueLabel) → IsAnswered (Encoding syntax type v)
 Encoding-answered laws syntax type v = let octets = (laws syntax).encodes type.assignments type.number v in (Ok octets.0, (octets.1, octets.2))
 
-module _ (laws : AllSyntaxes) (syntax : Syntax) (type : RootType) {s : Set} {n : ℕ} (h : IsTypeOf s n type) (octets : List ℕ) where
-  one_of : (xs : List ℕ) → IsOneOfTwo syntax type.assignments type.number xs
-  one_of xs = (laws syntax).one_of_two type.assignments type.number xs h.is_module h.is_bounded h.within
+module _ (laws : AllSyntaxes) (type : RootType) {s : Set} {n : ℕ} (h : IsTypeOf s n type) (octets : List ℕ) where
+  one_of : (syntax : Syntax) (xs : List ℕ) → AreOctetsOf syntax xs → IsOneOfTwo syntax type.assignments type.number xs
+  one_of syntax xs fine = (laws syntax).one_of_two type.assignments type.number xs h.is_module h.is_bounded h.within fine
 
-  begun : (v : Rose ValueLabel) (at : ℕ) → BeginsWith syntax type.assignments type.number (readable octets) v at → IsAnswered (Decoded syntax type (Some octets))
-  begun v at b = elim (cases_lt at (length octets)) [
-    | inl less ↦ (Err (Trailing at), inr (v, at, b, less, refl))
-    | inr over ↦
-        let few : length octets ≤ 16777216 = omega (arith, over, (one_of (readable octets)).within v at b, length-take 16777216 octets) in
-        let there = subst (λ xs. BeginsWith syntax type.assignments type.number xs v at) (take_all 16777216 octets few) b in
-        let whole = (one_of octets).ends v at there over in
-        (Ok v, (few, whole.0, whole.1))
-  ]
+  -- taken as they are needed
+  module _ (syntax : Syntax) (any : (xs : List ℕ) → AreOctetsOf syntax xs) where
+    begun : (v : Rose ValueLabel) (at : ℕ) → BeginsWith syntax type.assignments type.number (readable octets) v at → IsAnswered (Streamed syntax type (Some octets))
+    begun v at b = elim (cases_lt at (length octets)) [
+      | inl less ↦ (Err (Trailing at), inr (v, at, b, less, refl))
+      | inr over ↦
+          let few : length octets ≤ 16777216 = omega (arith, over, (one_of syntax (readable octets) (any (readable octets))).within v at b, length-take 16777216 octets) in
+          let there = subst (λ xs. BeginsWith syntax type.assignments type.number xs v at) (take_all 16777216 octets few) b in
+          let whole = (one_of syntax octets (any octets)).ends v at there over in
+          (Ok v, (few, whole.0, whole.1))
+    ]
 
-  Decoded-answered : IsAnswered (Decoded syntax type (Some octets))
-  Decoded-answered = elim (one_of (readable octets)).either [
-    | inl is ↦ begun is.0 is.1 is.2
-    | inr has ↦ (Err (fault_in octets has.0), inl (has.0, has.1, refl))
-  ]
+    streamed_answered : IsAnswered (Streamed syntax type (Some octets))
+    streamed_answered = elim (one_of syntax (readable octets) (any (readable octets))).either [
+      | inl is ↦ begun is.0 is.1 is.2
+      | inr has ↦ (Err (fault_in octets has.0), inl (has.0, has.1, refl))
+    ]
+
+  -- all there
+  module _ (syntax : Syntax) (fine : AreOctetsOf syntax octets) where
+    begun_all : (v : Rose ValueLabel) (at : ℕ) → BeginsWith syntax type.assignments type.number octets v at → IsAnswered (DecodedOf syntax type octets)
+    begun_all v at b = elim (cases_lt at (length octets)) [
+      | inl less ↦ (Err (Trailing at), (fine, inr (v, at, b, less, refl)))
+      | inr over ↦ let whole = (one_of syntax octets fine).ends v at b over in (Ok v, (whole.0, whole.1))
+    ]
+
+    decoded_of_answered : IsAnswered (DecodedOf syntax type octets)
+    decoded_of_answered = elim (one_of syntax octets fine).either [
+      | inl is ↦ begun_all is.0 is.1 is.2
+      | inr has ↦ (Err has.0.refusal, (fine, inl (has.0, has.1, refl)))
+    ]
+
+Decoded-answered : AllSyntaxes → (syntax : Syntax) (type : RootType) (s : Set) (n : ℕ) → IsTypeOf s n type → (octets : List ℕ) → AreOctetsOf syntax octets
+    → IsAnswered (Decoded syntax type (Some octets))
+Decoded-answered laws Aligned type s n h octets fine = streamed_answered laws type h octets Aligned (λ _. tt)
+Decoded-answered laws Unaligned type s n h octets fine = streamed_answered laws type h octets Unaligned (λ _. tt)
+Decoded-answered laws Der type s n h octets fine =
+    Then-with (Input (Some octets)) (λ bytes. DecodedOf Der type bytes) (Input-answered octets) (λ bytes all.
+    decoded_of_answered laws type h bytes Der (subst (λ xs. AreOctetsOf Der xs) all.0 fine))
 
 Written-answered : ItemsOfValues → (parts : SetParts) (n : ℕ) (type : RootType) → IsRootType parts n type → (v : Rose ValueLabel) → Fits type.assignments type.number v
     → IsAnswered (Written type v)
@@ -284,45 +310,47 @@ module _ (laws : Laws) (entries : List (List ℕ × List ℕ)) (sets : SetLaws e
       Valued-answered laws.values opened.0 opened.1 type typed items (items_are left items read) treated judged)) (λ value valued.
       Encoding-answered laws.syntaxes syntax type value)))
 
-  Documented-answered : (syntax : Syntax) (opened : SetParts × ℕ) → IsOpened opened → (left : List ℕ) → IsAnswered (Documented syntax opened (Some left))
-  Documented-answered syntax opened h left =
+  Documented-answered : (syntax : Syntax) (opened : SetParts × ℕ) → IsOpened opened → (left : List ℕ) → AreOctetsOf syntax left → IsAnswered (Documented syntax opened (Some left))
+  Documented-answered syntax opened h left fine =
       Then-with (Typed opened) (λ type. Then (Decoded syntax type (Some left)) (λ value. Written type value)) (Typed-answered opened.0 opened.1 h.map h.global) (λ type typed.
-      Then-with (Decoded syntax type (Some left)) (λ value. Written type value) (Decoded-answered laws.syntaxes syntax type typed.2 left) (λ value decoded.
-      Written-answered laws.items_of opened.0 opened.1 type typed value decoded.1.0))
+      Then-with (Decoded syntax type (Some left)) (λ value. Written type value) (Decoded-answered laws.syntaxes syntax type typed.0 opened.1 typed.2 left fine) (λ value decoded.
+      Written-answered laws.items_of opened.0 opened.1 type typed value (value_in type syntax (Some left) value decoded).0))
 
-  Served-answered : (task : Task) (opened : SetParts × ℕ) → IsOpened opened → (left : List ℕ) → IsAnswered (Served task opened (Some left))
-  Served-answered Check opened h left = Checked-answered opened h left
-  Served-answered (Send syntax) opened h left = Encoded-answered syntax opened h left
-  Served-answered (Receive syntax) opened h left = Documented-answered syntax opened h left
+  Served-answered : (task : Task) (opened : SetParts × ℕ) → IsOpened opened → (left : List ℕ) → AreRead (reads task) (Some left) → IsAnswered (Served task opened (Some left))
+  Served-answered Check opened h left fine = Checked-answered opened h left
+  Served-answered (Send syntax) opened h left fine = Encoded-answered syntax opened h left
+  Served-answered (Receive syntax) opened h left fine = Documented-answered syntax opened h left fine
 
   -- a task over files and an input that are told
-  task_answered : (task : Task) (root : Name) (files : List (List ℕ)) (left : List ℕ) → IsAnswered (Then (Opened (Some entries) root files) (λ opened. Served task opened (Some left)))
-  task_answered task root files left =
-      Then-with (Opened (Some entries) root files) (λ opened. Served task opened (Some left)) (Opened-answered root files) (λ opened is. Served-answered task opened (is_opened root files opened is) left)
+  task_answered : (task : Task) (root : Name) (files : List (List ℕ)) (left : List ℕ) → AreRead (reads task) (Some left)
+      → IsAnswered (Then (Opened (Some entries) root files) (λ opened. Served task opened (Some left)))
+  task_answered task root files left fine =
+      Then-with (Opened (Some entries) root files) (λ opened. Served task opened (Some left)) (Opened-answered root files) (λ opened is. Served-answered task opened (is_opened root files opened is) left fine)
 
 Tried-answered : Laws → SetLaws ((trial_name, trial_schema) ∷ []) → (lines : ℕ) → IsAnswered (Tried lines)
 Tried-answered laws sets lines =
     Then-with (TrialSent lines) (λ octets. Give (summary lines (length (trial_document lines)) (length octets)))
-    (task_answered laws ((trial_name, trial_schema) ∷ []) sets (Send Aligned) trial_root (trial_name ∷ []) (trial_document lines)) (λ octets sent.
+    (task_answered laws ((trial_name, trial_schema) ∷ []) sets (Send Aligned) trial_root (trial_name ∷ []) (trial_document lines) tt) (λ octets sent.
     Give-answered (summary lines (length (trial_document lines)) (length octets)))
 
 module _ (laws : Laws) (sets : (entries : List (List ℕ × List ℕ)) → SetLaws entries) (entries : List (List ℕ × List ℕ)) where
-  Answered-answered : (left : Option (List ℕ)) (request : Asked) → (reads_input request ≡ true → IsTold left) → IsAnswered (Answered (Some entries) left request)
-  Answered-answered left (Show files) told =
+  Answered-answered : (left : Option (List ℕ)) (request : Asked) → (reads_input request ≡ true → IsTold left) → IsInput left request → IsAnswered (Answered (Some entries) left request)
+  Answered-answered left (Show files) told fine =
       Then-with (SetIn (Some entries) files) (λ parts. Printed parts) (SetIn-answered laws entries (sets entries) files) (λ parts set. Printed-answered parts (has_map laws entries (sets entries) files parts set))
-  Answered-answered (Some left) (Serve task root files) told = task_answered laws entries (sets entries) task root files left
-  Answered-answered None (Serve task root files) told = absurd (told refl)
-  Answered-answered left (Trial lines) told = Tried-answered laws (sets ((trial_name, trial_schema) ∷ [])) lines
+  Answered-answered (Some left) (Serve task root files) told fine = task_answered laws entries (sets entries) task root files left fine
+  Answered-answered None (Serve task root files) told fine = absurd (told refl)
+  Answered-answered left (Trial lines) told fine = Tried-answered laws (sets ((trial_name, trial_schema) ∷ [])) lines
 
   -- at least one verdict is decided
-  Decided-answered : (words : List (List ℕ)) (left : Option (List ℕ)) → (ReadsInput words → IsTold left) → IsAnswered (Decided words (Some entries) left)
-  Decided-answered words left told =
+  Decided-answered : (words : List (List ℕ)) (left : Option (List ℕ)) → (ReadsInput words → IsTold left) → IsInputOf words left → IsAnswered (Decided words (Some entries) left)
+  Decided-answered words left told fine =
       Then-with (Requested words) (λ request. Answered (Some entries) left request) (Found-answered (asked words) Usage) (λ request asks.
-      Answered-answered left request (λ reads. told (request, asks, reads)))
+      Answered-answered left request (λ reads. told (request, asks, reads)) (fine request asks))
 
   -- at least one outcome is due, with a list of bytes
-  pub Due-answered : (words : List (List ℕ)) (left : Option (List ℕ)) → (ReadsInput words → IsTold left) → (o : Outcome) × (bytes : List ℕ) × Due words (Some entries) left o bytes
-  Due-answered words left told = let v = Decided-answered words left told in by v.0 v.1
+  pub Due-answered : (words : List (List ℕ)) (left : Option (List ℕ)) → (ReadsInput words → IsTold left) → IsInputOf words left
+      → (o : Outcome) × (bytes : List ℕ) × Due words (Some entries) left o bytes
+  Due-answered words left told fine = let v = Decided-answered words left told fine in by v.0 v.1
     where
       by : (v : Result (List ℕ) Outcome) → Decided words (Some entries) left v → (o : Outcome) × (bytes : List ℕ) × Due words (Some entries) left o bytes
       by (Ok bytes) is = (Done, bytes, done_due words (Some entries) left bytes is)

@@ -1,5 +1,5 @@
 -- Of the octets of records one outcome is due, with one list of bytes.
-use Rattle.std.proofs.Common.{◌≡◌, ◌⊎◌, ℕ, zero, suc, ◌+◌, ◌-◌, ◌<◌, ◌≤◌, true, List, [], ◌∷◌, ◌++◌, length, take, drop, refl, sym, ap, ◌∙◌, subst, inl, inr, arith, Option, Some, None, Ok}
+use Rattle.std.proofs.Common.{◌≡◌, ◌⊎◌, ℕ, ◌+◌, ◌-◌, ◌<◌, true, List, [], ◌∷◌, ◌++◌, length, take, drop, refl, sym, ap, ◌∙◌, subst, inl, inr, arith, Some, Ok}
 use Rattle.label_tree.specs.Rose.{Rose}
 use Rattle.simple_types.specs.declared.labels.ValueLabel.{ValueLabel}
 use Rattle.per_fields.specs.declared.stops.Stop.{Stop}
@@ -10,8 +10,8 @@ use Rattle.record_stream.specs.Next.{within, fault_of, most_of}
 use Rattle.record_stream.proofs.Cutting.{one_cut_of}
 use Rattle.schema_parts.specs.Components.{Set}
 use Rattle.command_line.specs.declared.outcome.Outcome.{Outcome}
-use Rattle.command_line.specs.declared.outcome.Outcome.TheVariants.{Done, Usage, SchemaSyntax, SchemaFault, LinkFault, UnknownRoot, DocSyntax, Invalid, PerFault, RecordFault, Trailing, TooLong, TooManyNodes, LoadFault, ReadFault, WriteFault, OutOfMemory}
-use Rattle.transcode_core.specs.Steps.{RootType, IsTypeOf, Written}
+use Rattle.command_line.specs.declared.outcome.Outcome.TheVariants.{Done, Usage, SchemaSyntax, SchemaFault, LinkFault, UnknownRoot, DocSyntax, Invalid, PerFault, DerFault, RecordFault, Trailing, TooLong, TooManyNodes, LoadFault, ReadFault, WriteFault, OutOfMemory}
+use Rattle.transcode_core.specs.Steps.{RootType, IsTypeOf}
 use Rattle.transcode_core.specs.Each.{each_limit, Documents, outcome_of, EndsAs, EachDue}
 use Rattle.transcode_core.proofs.Single.{Written-single, ok_inj}
 
@@ -43,6 +43,7 @@ module _ (type : RootType) where
     seen (DocSyntax at why) h = inr h
     seen (Invalid at why) h = inr h
     seen (PerFault bit why) h = inr h
+    seen (DerFault at why) h = inr h
     seen (RecordFault n bit why) h = inr h
     seen (Trailing at) h = inr h
     seen (TooLong k) h = inr h

@@ -1,5 +1,5 @@
 -- Records that were written so far, the next of them, and how they end.
-use Rattle.std.proofs.Common.{◌≡◌, ◌≢◌, ◌⊎◌, ℕ, suc, ◌+◌, ◌-◌, ◌*◌, ◌^◌, ◌<◌, ◌≤◌, min, List, [], ◌∷◌, ◌++◌, length, take, drop, refl, sym, ap, ◌∙◌, subst, inl, inr, arith, append_assoc, length-append, Option, Some, None, Result, Ok, Err}
+use Rattle.std.proofs.Common.{◌≡◌, ◌⊎◌, ℕ, ◌+◌, ◌-◌, ◌*◌, ◌<◌, ◌≤◌, List, [], ◌∷◌, ◌++◌, length, take, drop, refl, sym, ap, ◌∙◌, subst, inl, inr, arith, append_assoc, length-append, Option, Some, None, Ok, Err}
 use Rattle.std.specs.Io.KnownBytes.{Appends}
 use Rattle.std.proofs.lemmas.List.{append-nil, drop-drop, length-drop}
 use Rattle.std.proofs.Math.Seq.{take-append-add}
@@ -17,13 +17,13 @@ use Rattle.per_stops.specs.Stopping.{StopsFirst}
 use Rattle.record_stream.specs.declared.errors.RecordError.{RecordError}
 use Rattle.record_stream.specs.declared.errors.RecordError.TheVariants as record_error
 use Rattle.record_stream.specs.Heads.{left_with}
-use Rattle.record_stream.specs.Cuts.{BeginWith, IsCut}
+use Rattle.record_stream.specs.Cuts.{BeginWith}
 use Rattle.record_stream.specs.Next.{AnswersNext, Answer, IsDue, within, fault_of, most_of}
 use Rattle.record_stream.proofs.Cutting.{begin_none, begin_more, begin_front, few_values}
 use Rattle.record_stream.proofs.Ending.{cut_at_end, cut_at_stop, cut_at_failure}
 use Rattle.schema_parts.specs.Components.{Set}
 use Rattle.command_line.specs.declared.outcome.Outcome.{Outcome}
-use Rattle.command_line.specs.declared.outcome.Outcome.TheVariants.{Done, TooLong, ReadFault, WriteFault, OutOfMemory}
+use Rattle.command_line.specs.declared.outcome.Outcome.TheVariants.{Done, TooLong, WriteFault, OutOfMemory}
 use Rattle.transcode_core.specs.Steps.{RootType, IsTypeOf, Written}
 use Rattle.transcode_core.specs.Each.{each_limit, Documents, outcome_of, EndsAs, EachDue, FirstDue, TakenDue, IsOfRecords, EachEnds}
 

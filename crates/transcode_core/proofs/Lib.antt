@@ -3,6 +3,7 @@ pub mod SetLaws
 pub mod Roots
 pub mod Single
 pub mod Loading
+pub mod DerOctets
 pub mod Syntaxes
 pub mod Octets
 pub mod Verdicts
@@ -11,6 +12,7 @@ pub mod Running
 pub mod Counted
 pub mod Trials
 pub mod Received
+pub mod Taken
 pub mod Valuing
 pub mod Answering
 pub mod SomeSets

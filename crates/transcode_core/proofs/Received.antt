@@ -66,13 +66,13 @@ module _ (aligned : Bool) (type : RootType) {s : Set} {n : ℕ} (h : IsTypeOf s 
       (omega (arith, ap length whole, length-octet_bits left, all, a.says.1)) in
       (few, a.says.0.value, whole ∙ ap (λ bs. complete_by aligned type.assignments type.number found.value ++ bs) none ∙ append-nil (complete_by aligned type.assignments type.number found.value))
 
-  pub all_ended : (old new : Option (List ℕ)) (found : Decoded) → In type.assignments type.number found.value → Says old new (Ok found) → IsAtEnd new → step.Decoded (per_syntax aligned) type old (Ok found.value)
+  pub all_ended : (old new : Option (List ℕ)) (found : Decoded) → In type.assignments type.number found.value → Says old new (Ok found) → IsAtEnd new → step.Streamed (per_syntax aligned) type old (Ok found.value)
   all_ended None new found is_in says is = is_in
   all_ended (Some left) new found is_in says is = let e = ended left new found (says left refl) is in (e.0, e.1, encoding_per type.assignments type.number left aligned found.value e.2)
 
   -- more is left
   pub goes_on : (old new : Option (List ℕ)) (found : Decoded) → Says old new (Ok found) → ((left : List ℕ) → new ≡ Some left → 0 < length left)
-      → step.Decoded (per_syntax aligned) type old (Err (Trailing found.octets))
+      → step.Streamed (per_syntax aligned) type old (Err (Trailing found.octets))
   goes_on None new found says more = tt
   goes_on (Some left) new found says more =
       let a = says left refl in
@@ -88,7 +88,7 @@ module _ (aligned : Bool) (type : RootType) {s : Set} {n : ℕ} (h : IsTypeOf s 
       rw (e, no) refl
 
   -- a first fault
-  pub stops_at : (old new : Option (List ℕ)) (bit : ℕ) (w : Why) → Says old new (Err (error.Bad bit w)) → step.Decoded (per_syntax aligned) type old (Err (PerFault bit w))
+  pub stops_at : (old new : Option (List ℕ)) (bit : ℕ) (w : Why) → Says old new (Err (error.Bad bit w)) → step.Streamed (per_syntax aligned) type old (Err (PerFault bit w))
   stops_at None new bit w says = tt
   stops_at (Some left) new bit w says =
       let a = says left refl in
@@ -96,7 +96,7 @@ module _ (aligned : Bool) (type : RootType) {s : Set} {n : ℕ} (h : IsTypeOf s 
       let same = told left stop (is_short stop.why) refl (λ e. a.says.4 (sym a.says.3 ∙ e)) in
       inl (fault_of stop, read_stops left stop a.says.1, sym (same ∙ ap (λ b. PerFault b stop.why) a.says.2 ∙ ap (λ r. PerFault bit r) a.says.3))
 
-  pub too_long : (old new : Option (List ℕ)) → Says old new (Err error.TooLong) → step.Decoded (per_syntax aligned) type old (Err (TooLong 0))
+  pub too_long : (old new : Option (List ℕ)) → Says old new (Err error.TooLong) → step.Streamed (per_syntax aligned) type old (Err (TooLong 0))
   too_long None new says = tt
   too_long (Some left) new says =
       let a = says left refl in

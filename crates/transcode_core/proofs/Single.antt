@@ -1,5 +1,5 @@
 -- Where contents are told, at most one outcome or result is due.
-use Rattle.std.proofs.Common.{◌≡◌, ◌⊎◌, ℕ, ◌+◌, Bool, true, List, [], ◌∷◌, length, map, refl, sym, ap, ◌∙◌, subst, inl, inr, arith, Option, Some, None, Result, Ok, Err}
+use Rattle.std.proofs.Common.{◌≡◌, ◌⊎◌, ℕ, ◌+◌, ◌≤◌, Bool, true, List, [], ◌∷◌, length, map, refl, sym, ap, ◌∙◌, subst, inl, inr, arith, Option, Some, None, Result, Ok, Err}
 use Rattle.xa_base.specs.Faults.{HasRisen}
 use Rattle.xa_base.specs.Entries.{beside}
 use Rattle.xa_base.specs.declared.texts.Name.{Name}
@@ -14,14 +14,14 @@ use Rattle.command_line.specs.declared.outcome.Outcome.TheVariants.{Done, Schema
 use Rattle.command_line.specs.Order.{Give, Found, Then}
 use Rattle.schema_faults.specs.Faults.{first_fault, reasons}
 use Rattle.schema_faults.specs.declared.faults.DocumentFault.{DocumentFault}
-use Rattle.transcode_core.specs.Steps.{Loaded, Read, Faultless, Linked, Printed, Schema, Schemas, Input, Judged, RootType, IsRootType, Typed, Valued, Encoding, Decoded, Written}
+use Rattle.transcode_core.specs.Steps.{Loaded, Read, Faultless, Linked, Printed, Schema, Schemas, Input, Judged, RootType, IsRootType, Typed, Valued, Encoding, Streamed, DecodedOf, Decoded, Written}
 use Rattle.transcode_core.specs.Due.{SetIn, Opened, ItemsIn, Checked, Encoded, Documented, Served, Tried, Answered, Due}
 use Rattle.transcode_core.specs.Private.Decided.{Decided}
 use Rattle.command_line.specs.declared.tasks.Syntax.{Syntax}
-use Rattle.command_line.specs.declared.tasks.Syntax.TheVariants.{Aligned}
+use Rattle.command_line.specs.declared.tasks.Syntax.TheVariants.{Aligned, Unaligned, Der}
 use Rattle.command_line.specs.declared.tasks.Task.{Task}
 use Rattle.command_line.specs.declared.tasks.Task.TheVariants.{Check, Send, Receive}
-use Rattle.transcode_core.specs.Syntaxes.{AllSyntaxes}
+use Rattle.transcode_core.specs.Syntaxes.{AreOctetsOf, AllSyntaxes}
 use Rattle.command_line.specs.Words.{Asked, Show, Serve, Trial}
 use Rattle.command_line.specs.Answers.{IsRefusal}
 use Rattle.transcode_core.specs.Causes.{reads_input, ReadsInput, IsTold, Deciding}
@@ -43,7 +43,7 @@ use Rattle.map_subjects.specs.declared.subjects.Subject.TheVariants as subject
 use Rattle.map_subjects.specs.declared.subjects.NamedSubject.{NamedSubject}
 use Rattle.map_subjects.specs.Subjects.{AreEntries, place_in}
 use Rattle.transcode_core.specs.Trial.{trial_name, trial_schema, trial_root, trial_document}
-use Rattle.transcode_core.proofs.Octets.{one_whole, whole_or_none, one_refusal}
+use Rattle.transcode_core.proofs.Octets.{one_whole, whole_or_none, one_refusal, value_or_none, one_no_encoding}
 use Rattle.transcode_core.proofs.Verdicts.{outcome_of, bytes_of, decided, due_done}
 use Rattle.validity.specs.Laws.{AtMostOne}
 use Rattle.schema_parts.specs.declared.components.SimpleDef.{SimpleDef}
@@ -274,12 +274,23 @@ Written-single type v (Err o) w none also = absurd none
 Written-single type v (Ok x) (Err o) due none = absurd none
 Written-single type v (Ok x) (Ok y) (a, of_a, is) (b, of_b, was) = ap (λ z. Ok z) (is ∙ (ap (λ z. written (unplaced z)) (some_inj a b (sym of_a ∙ of_b)) ∙ sym was))
 
-module _ (laws : AllSyntaxes) (syntax : Syntax) (parts : SetParts) (n : ℕ) (type : RootType) where
-  pub Decoded-single : IsRootType parts n type → (octets : List ℕ) → IsSingle (Decoded syntax type (Some octets))
-  Decoded-single (s, of_s, h) octets (Ok v) (Ok w) p q = ap (λ z. Ok z) (one_whole laws syntax type h octets v w p q)
-  Decoded-single (s, of_s, h) octets (Ok v) (Err o) p q = absurd (whole_or_none laws syntax type h octets v o p q)
-  Decoded-single (s, of_s, h) octets (Err o) (Ok v) q p = absurd (whole_or_none laws syntax type h octets v o p q)
-  Decoded-single (s, of_s, h) octets (Err o) (Err m) p q = ap (λ z. Err z) (one_refusal laws syntax type h octets o m p q)
+module _ (laws : AllSyntaxes) (parts : SetParts) (n : ℕ) (type : RootType) where
+  streamed_single : (syntax : Syntax) → ((xs : List ℕ) → AreOctetsOf syntax xs) → IsRootType parts n type → (octets : List ℕ) → IsSingle (Streamed syntax type (Some octets))
+  streamed_single syntax any (s, of_s, h) octets (Ok v) (Ok w) p q = ap (λ z. Ok z) (one_whole laws syntax type h octets v w p q)
+  streamed_single syntax any (s, of_s, h) octets (Ok v) (Err o) p q = absurd (whole_or_none laws syntax type h octets any v o p q)
+  streamed_single syntax any (s, of_s, h) octets (Err o) (Ok v) q p = absurd (whole_or_none laws syntax type h octets any v o p q)
+  streamed_single syntax any (s, of_s, h) octets (Err o) (Err m) p q = ap (λ z. Err z) (one_refusal laws syntax type h octets any o m p q)
+
+  decoded_of_single : (syntax : Syntax) → IsRootType parts n type → (octets : List ℕ) → length octets ≤ 16777216 → IsSingle (DecodedOf syntax type octets)
+  decoded_of_single syntax (s, of_s, h) octets few (Ok v) (Ok w) p q = ap (λ z. Ok z) (one_whole laws syntax type h octets v w (few, p.0, p.1) (few, q.0, q.1))
+  decoded_of_single syntax (s, of_s, h) octets few (Ok v) (Err o) p q = absurd (value_or_none laws syntax type h octets v o (few, p.0, p.1) q)
+  decoded_of_single syntax (s, of_s, h) octets few (Err o) (Ok v) q p = absurd (value_or_none laws syntax type h octets v o (few, p.0, p.1) q)
+  decoded_of_single syntax (s, of_s, h) octets few (Err o) (Err m) p q = ap (λ z. Err z) (one_no_encoding laws syntax type h octets o m p q)
+
+  pub Decoded-single : (syntax : Syntax) → IsRootType parts n type → (octets : List ℕ) → IsSingle (Decoded syntax type (Some octets))
+  Decoded-single Aligned is octets = streamed_single Aligned (λ _. tt) is octets
+  Decoded-single Unaligned is octets = streamed_single Unaligned (λ _. tt) is octets
+  Decoded-single Der is octets = Then-with _ _ (Input-single octets) (λ bytes all. decoded_of_single Der is bytes all.1)
 
 -- the laws from which it follows
 pub record Laws : Type 1 where
@@ -298,7 +309,7 @@ Encoded-single laws syntax opened left =
 pub Documented-single : Laws → (syntax : Syntax) (opened : SetParts × ℕ) (left : List ℕ) → IsSingle (Documented syntax opened (Some left))
 Documented-single laws syntax opened left =
     Then-with _ _ (Typed-single opened) (λ type is.
-    Then-single _ _ (Decoded-single laws.octets syntax opened.0 opened.1 type is left) (λ value.
+    Then-single _ _ (Decoded-single laws.octets opened.0 opened.1 type syntax is left) (λ value.
     Written-single type value))
 
 Served-single : Laws → (task : Task) (opened : SetParts × ℕ) (left : List ℕ) → IsSingle (Served task opened (Some left))

@@ -12,8 +12,12 @@ use Rattle.bit_cursor.proofs.BitLemmas.{bits-number, number-lt, length-bits, num
 use Rattle.per_fields.specs.Encoding.{complete_by}
 use Rattle.per_fields.specs.Laws as law
 use Rattle.per_stops.specs.Laws.{OneOfTwoBy}
-use Rattle.command_line.specs.declared.tasks.Syntax.TheVariants.{Aligned, Unaligned}
-use Rattle.transcode_core.specs.Syntaxes.{Fault, fault_of, per_syntax, IsPer, BeginsWithPer, HasPerFault, IsEncoding, BeginsWith, HasFault, IsOneOfTwo, SyntaxLaw, AllSyntaxes}
+use Rattle.command_line.specs.declared.tasks.Syntax.TheVariants.{Aligned, Unaligned, Der}
+use Rattle.der_fields.specs.Reading.{AreOctets}
+use Rattle.der_form.specs.Encoding.{distinguished}
+use Rattle.der_stops.specs.Laws as der
+use Rattle.transcode_core.specs.Syntaxes.{Fault, fault_of, der_fault_of, per_syntax, IsPer, BeginsWithPer, HasPerFault, IsEncoding, BeginsWith, HasFault, HaveEightBits, AreOctetsOf, IsOneOfTwo, SyntaxLaw, AllSyntaxes}
+use Rattle.transcode_core.proofs.DerOctets.{distinguished_octets}
 
 -- ---- octets are told by their bits
 
@@ -65,7 +69,7 @@ octets_of (suc n) bs long =
     let small : number front < 256 = let lt = number-lt front in subst (λ k. number front < 2 ^ k) eight lt in
     (number front ∷ rest.0, ap (λ l. l ++ octet_bits rest.0) same ∙ ap (λ l. front ++ l) rest.1 ∙ cut, All-cons (λ x. x < 256) (number front) rest.0 small rest.2)
 
-no_rest : (a b : List Bool) → length (a ++ b) ≤ length a → b ≡ []
+pub no_rest : {A : Type 0} (a b : List A) → length (a ++ b) ≤ length a → b ≡ []
 no_rest a [] e = refl
 no_rest a (x ∷ b) e = absurd (omega (arith, e, length-append a (x ∷ b)))
 
@@ -96,6 +100,18 @@ module _ (M : List Assignment) (t : ℕ) (octets : List ℕ) where
   pub fault_per : (aligned : Bool) (fault : Fault) → HasPerFault aligned M t octets fault → HasFault (per_syntax aligned) M t octets fault
   fault_per true fault has = has
   fault_per false fault has = has
+
+pub bits_per : (aligned : Bool) (octets : List ℕ) → All (λ x. x < 256) octets → HaveEightBits (per_syntax aligned) octets
+bits_per true octets all = all
+bits_per false octets all = all
+
+per_bits : (aligned : Bool) (octets : List ℕ) → HaveEightBits (per_syntax aligned) octets → All (λ x. x < 256) octets
+per_bits true octets all = all
+per_bits false octets all = all
+
+octets_per : (aligned : Bool) (octets : List ℕ) → AreOctetsOf (per_syntax aligned) octets
+octets_per true octets = tt
+octets_per false octets = tt
 
 -- the laws of octets from which it follows
 pub record PerLaws (aligned : Bool) : Type 0 where
@@ -140,13 +156,47 @@ module _ (aligned : Bool) (laws : PerLaws aligned) where
 
   per_law : SyntaxLaw (per_syntax aligned)
   per_law = record {
-    one_of_two = per_one;
+    one_of_two = λ M t octets is_module bounded below all. per_one M t octets is_module bounded below;
     encodes = λ M t v. (
         let o = octets_of (length (complete_by aligned M t v) / 8) (complete_by aligned M t v) (omega (arith, laws.whole M t v)) in
-        (o.0, encoding_per M t o.0 aligned v o.1, o.2));
-    one_encoding = λ M t v xs ys h k p q. same_octets xs ys h k (per_encoding M t xs aligned v p ∙ sym (per_encoding M t ys aligned v q));
+        (o.0, encoding_per M t o.0 aligned v o.1, bits_per aligned o.0 o.2));
+    one_encoding = λ M t v xs ys h k p q. same_octets xs ys (per_bits aligned xs h) (per_bits aligned ys k) (per_encoding M t xs aligned v p ∙ sym (per_encoding M t ys aligned v q));
+    octets = λ M t v octets value is few. octets_per aligned octets;
   }
 
-pub all_syntaxes : ((aligned : Bool) → PerLaws aligned) → AllSyntaxes
-all_syntaxes laws Aligned = per_law true (laws true)
-all_syntaxes laws Unaligned = per_law false (laws false)
+-- ---- DER
+
+module _ (laws : der.OneOfTwo) where
+  der_one : (M : List Assignment) (t : ℕ) (octets : List ℕ) → IsModule M → IsBounded M → t < length M → AreOctets octets → IsOneOfTwo Der M t octets
+  der_one M t octets is_module bounded below all =
+      let h = laws M t octets is_module bounded below all in
+      record {
+        either = elim h.either [
+          | inl is ↦ inl (is.0, length (distinguished M t is.0), (is.1, refl))
+          | inr stops ↦ inr (der_fault_of octets stops.0, (stops.0, stops.1, refl))
+        ];
+        not_both = λ v count fault begins has. h.not_both v has.0 begins.0 has.1;
+        one_value = λ v w m n p q. (
+            let same : v ≡ w = (h.one_value v w p.0 q.0).0 in
+            (same, p.1 ∙ ap (λ (u : Rose ValueLabel). length (distinguished M t u)) same ∙ sym q.1));
+        one_fault = λ f g p q. p.2 ∙ ap (der_fault_of octets) (h.one_stop p.0 q.0 p.1 q.1) ∙ sym q.2;
+        within = λ v count p. omega (arith, p.1, ap length p.0.is, length-append (distinguished M t v) p.0.rest);
+        begins = λ v value is. (record { rest = []; is = is ∙ sym (append-nil (distinguished M t v)); value = value }, ap length is);
+        ends = λ v count p most. (
+          p.0.value,
+          p.0.is ∙ ap (λ xs. distinguished M t v ++ xs) (no_rest (distinguished M t v) p.0.rest (omega (arith, p.1, ap length p.0.is, most))) ∙ append-nil (distinguished M t v),
+        );
+      }
+
+  der_law : SyntaxLaw Der
+  der_law = record {
+    one_of_two = der_one;
+    encodes = λ M t v. (distinguished M t v, refl, tt);
+    one_encoding = λ M t v xs ys h k p q. p ∙ sym q;
+    octets = λ M t v octets value is few. subst AreOctets (sym is) (distinguished_octets M t v value (subst (λ xs. length xs ≤ 16777216) is few));
+  }
+
+pub all_syntaxes : ((aligned : Bool) → PerLaws aligned) → der.OneOfTwo → AllSyntaxes
+all_syntaxes laws stops Aligned = per_law true (laws true)
+all_syntaxes laws stops Unaligned = per_law false (laws false)
+all_syntaxes laws stops Der = der_law stops

@@ -11,14 +11,14 @@ use Rattle.plain_items.specs.Plain.{Plain}
 use Rattle.xa_base.specs.declared.texts.Name.{Name}
 use Rattle.asn_types.specs.declared.modules.Assignment.{Assignment}
 use Rattle.command_line.specs.declared.outcome.Outcome.{Outcome}
-use Rattle.command_line.specs.declared.outcome.Outcome.TheVariants.{Done, Usage, SchemaSyntax, SchemaFault, LinkFault, UnknownRoot, DocSyntax, Invalid, PerFault, RecordFault, Trailing, TooLong, TooManyNodes, LoadFault, ReadFault, WriteFault, OutOfMemory}
+use Rattle.command_line.specs.declared.outcome.Outcome.TheVariants.{Done, Usage, SchemaSyntax, SchemaFault, LinkFault, UnknownRoot, DocSyntax, Invalid, PerFault, RecordFault, DerFault, Trailing, TooLong, TooManyNodes, LoadFault, ReadFault, WriteFault, OutOfMemory}
 use Rattle.command_line.specs.declared.tasks.Syntax.{Syntax}
-use Rattle.command_line.specs.declared.tasks.Syntax.TheVariants.{Aligned, Unaligned}
+use Rattle.command_line.specs.declared.tasks.Syntax.TheVariants.{Aligned, Unaligned, Der}
 use Rattle.command_line.specs.declared.tasks.Task.{Task}
 use Rattle.command_line.specs.declared.tasks.Task.TheVariants.{Check, Send, Receive}
 use Rattle.command_line.specs.Order.{Give, Then}
 use Rattle.transcode_core.specs.Syntaxes.{Fault, HasFault}
-use Rattle.transcode_core.specs.Steps.{Loaded, Read, Faultless, SchemaIn, Schema, Schemas, Linked, Rooted, Printed, Input, Judged, RootType, Typed, Valued, ValueIn, Encoding, readable, Decoded, Written}
+use Rattle.transcode_core.specs.Steps.{Loaded, Read, Faultless, SchemaIn, Schema, Schemas, Linked, Rooted, Printed, Input, Judged, RootType, Typed, Valued, ValueIn, Encoding, readable, AreNoEncoding, Streamed, Decoded, Written}
 use Rattle.command_line.specs.Words.{Asked, Show, Serve, Trial}
 use Rattle.transcode_core.specs.Trial.{trial_name, trial_schema, trial_root, trial_document, summary}
 use Rattle.transcode_core.specs.Due.{Requested, SetIn, Opened, ItemsIn, Encoded, Served, TrialSent, Answered, Whole, Due}
@@ -54,6 +54,7 @@ module _ (answer : Verdict → Type 0) where
   verdict (Invalid at why) bytes is = (Err (Invalid at why), is.0, refl, is.1)
   verdict (RecordFault number bit why) bytes is = (Err (RecordFault number bit why), is.0, refl, is.1)
   verdict (PerFault bit why) bytes is = (Err (PerFault bit why), is.0, refl, is.1)
+  verdict (DerFault at why) bytes is = (Err (DerFault at why), is.0, refl, is.1)
   verdict (Trailing at) bytes is = (Err (Trailing at), is.0, refl, is.1)
   verdict (TooLong k) bytes is = (Err (TooLong k), is.0, refl, is.1)
   verdict (TooManyNodes count) bytes is = (Err (TooManyNodes count), is.0, refl, is.1)
@@ -74,6 +75,7 @@ module _ (answer : Verdict → Type 0) where
   refuses (Invalid at why) other is = (is, refl)
   refuses (RecordFault number bit why) other is = (is, refl)
   refuses (PerFault bit why) other is = (is, refl)
+  refuses (DerFault at why) other is = (is, refl)
   refuses (Trailing at) other is = (is, refl)
   refuses (TooLong k) other is = (is, refl)
   refuses (TooManyNodes count) other is = (is, refl)
@@ -194,12 +196,24 @@ not_fault Aligned M t octets fault (stop, stops, is) e =
     let clash : Done ≡ PerFault stop.bit stop.why = e ∙ ap (λ (f : Fault). f.refusal) is in cc
 not_fault Unaligned M t octets fault (stop, stops, is) e =
     let clash : Done ≡ PerFault stop.bit stop.why = e ∙ ap (λ (f : Fault). f.refusal) is in cc
+not_fault Der M t octets fault (stop, stops, is) e =
+    let clash : Done ≡ DerFault stop.at stop.why = e ∙ ap (λ (f : Fault). f.refusal) is in cc
+
+not_streamed : (syntax : Syntax) (type : RootType) (left : Option (List ℕ)) → Streamed syntax type left (Err Done) → ⊥
+not_streamed syntax type None none = none
+not_streamed syntax type (Some octets) (inl (fault, has, e)) =
+    not_told (fault.is_open && nat_le 16777216 (length octets)) fault.refusal (not_fault syntax type.assignments type.number (readable octets) fault has) e
+not_streamed syntax type (Some octets) (inr (v, at, begins, less, e)) = cc
+
+not_no_encoding : (syntax : Syntax) (type : RootType) (octets : List ℕ) → AreNoEncoding syntax type octets Done → ⊥
+not_no_encoding syntax type octets (fine, inl (fault, has, e)) = not_fault syntax type.assignments type.number octets fault has e
+not_no_encoding syntax type octets (fine, inr (v, at, begins, less, e)) = cc
 
 not_decoded : (syntax : Syntax) (type : RootType) (left : Option (List ℕ)) → Decoded syntax type left (Err Done) → ⊥
-not_decoded syntax type None none = none
-not_decoded syntax type (Some octets) (inl (fault, has, e)) =
-    not_told (fault.is_open && nat_le 16777216 (length octets)) fault.refusal (not_fault syntax type.assignments type.number (readable octets) fault has) e
-not_decoded syntax type (Some octets) (inr (v, at, begins, less, e)) = cc
+not_decoded Aligned type left is = not_streamed Aligned type left is
+not_decoded Unaligned type left is = not_streamed Unaligned type left is
+not_decoded Der type left (inl long) = not_input left long
+not_decoded Der type left (inr (octets, all, none)) = not_no_encoding Der type octets none
 
 typed_never : (opened : SetParts × ℕ) → NeverDone RootType (Typed opened)
 typed_never opened = record { never = λ none. none }

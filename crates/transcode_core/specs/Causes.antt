@@ -8,8 +8,9 @@ use Rattle.schema_parts.specs.Raw.{Document}
 use Rattle.schema_parts.specs.SetParts.{SetParts}
 use Rattle.transcode_core.specs.Steps.{Schemas, RootType, Typed, readable}
 use Rattle.command_line.specs.declared.tasks.Syntax.{Syntax}
+use Rattle.command_line.specs.declared.tasks.Syntax.TheVariants.{Aligned, Unaligned, Der}
 use Rattle.command_line.specs.Tasks.{Reads, ADocument, Octets, reads, is_document}
-use Rattle.transcode_core.specs.Syntaxes.{Fault, HasFault}
+use Rattle.transcode_core.specs.Syntaxes.{Fault, HasFault, AreOctetsOf}
 use Rattle.command_line.specs.Words.{Asked, Show, Serve, Trial}
 use Rattle.transcode_core.specs.Due.{Requested, Opened, ItemsIn}
 use Rattle.transcode_core.specs.Trial.{trial_document}
@@ -68,6 +69,21 @@ abbrev pub IsTold : Option (List ℕ) → Type 0
 IsTold None = ⊥
 IsTold (Some left) = Unit {0}
 
+-- what is left, where it is told, is octets as the syntax takes them that is read
+abbrev pub AreRead : Reads → Option (List ℕ) → Type 0
+AreRead ADocument left = Unit {0}
+AreRead (Octets syntax) None = Unit {0}
+AreRead (Octets syntax) (Some octets) = AreOctetsOf syntax octets
+
+abbrev pub IsInput : Option (List ℕ) → Asked → Type 0
+IsInput left (Show files) = Unit {0}
+IsInput left (Serve task root files) = AreRead (reads task) left
+IsInput left (Trial lines) = Unit {0}
+
+-- the same of the words, and of other words nothing
+abbrev pub IsInputOf : List (List ℕ) → Option (List ℕ) → Type 0
+IsInputOf words left = (request : Asked) → Requested words (Ok request) → IsInput left request
+
 -- it does, and the files and the root pass
 abbrev pub ComesToInput : Option (List (List ℕ × List ℕ)) → Asked → Type 0
 ComesToInput entries (Show files) = ⊥
@@ -79,10 +95,16 @@ abbrev pub TakesItsField : Syntax → RootType → Option (List ℕ) → Option 
 TakesItsField syntax type old new = (left : List ℕ) → old ≡ Some left → (fault : Fault) → HasFault syntax type.assignments type.number (readable left) fault
     → (count : ℕ) × (new ≡ Some (drop count left)) × (8 * count ≤ fault.end + 7)
 
+-- the same in a transfer syntax; of octets that are all taken before any is looked at nothing is said
+abbrev pub TakesOctets : Syntax → RootType → Option (List ℕ) → Option (List ℕ) → Type 0
+TakesOctets Aligned type old new = TakesItsField Aligned type old new
+TakesOctets Unaligned type old new = TakesItsField Unaligned type old new
+TakesOctets Der type old new = Unit {0}
+
 -- what is taken of the input behind the files and the root
 abbrev pub Takes : Reads → SetParts × ℕ → Option (List ℕ) → Option (List ℕ) → Type 0
 Takes ADocument opened old new = Unit {0}
-Takes (Octets syntax) opened old new = (type : RootType) × Typed opened (Ok type) × TakesItsField syntax type old new
+Takes (Octets syntax) opened old new = (type : RootType) × Typed opened (Ok type) × TakesOctets syntax type old new
 
 -- what a command that comes to the input takes of it
 abbrev pub TakesInput : Option (List (List ℕ × List ℕ)) → Asked → Option (List ℕ) → Option (List ℕ) → Type 0

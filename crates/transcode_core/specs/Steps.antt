@@ -1,5 +1,5 @@
 -- Each step with what it passes on and what it refuses.
-use Rattle.std.specs.Prelude.{◌≡◌, ◌⊎◌, ℕ, zero, suc, ◌&&◌, ◌+◌, ◌<◌, ◌≤◌, ⊤, All, nat_le, List, [], ◌∷◌, map, take, length, Option, Some, None, Result, Ok, Err, if◌then◌else◌}
+use Rattle.std.specs.Prelude.{◌≡◌, ◌⊎◌, ℕ, zero, suc, ◌&&◌, ◌+◌, ◌<◌, ◌≤◌, ⊤, nat_le, List, [], ◌∷◌, map, take, length, Option, Some, None, Result, Ok, Err, if◌then◌else◌}
 use Rattle.std.specs.Option.{option_map}
 use Rattle.label_tree.specs.Rose.{Rose, node_count, shown_count}
 use Rattle.xa_base.specs.Entries.{HasEntry, HasLonger, Lacks}
@@ -39,8 +39,9 @@ use Rattle.link_simple.specs.Making.{IsMaking}
 use Rattle.command_line.specs.declared.outcome.Outcome.{Outcome}
 use Rattle.command_line.specs.declared.outcome.Outcome.TheVariants.{SchemaSyntax, SchemaFault, LinkFault, UnknownRoot, Invalid, PerFault, Trailing, TooLong, TooManyNodes, LoadFault}
 use Rattle.command_line.specs.declared.tasks.Syntax.{Syntax}
+use Rattle.command_line.specs.declared.tasks.Syntax.TheVariants.{Aligned, Unaligned, Der}
 use Rattle.command_line.specs.Order.{Give, Found, Then}
-use Rattle.transcode_core.specs.Syntaxes.{Fault, IsEncoding, BeginsWith, HasFault}
+use Rattle.transcode_core.specs.Syntaxes.{Fault, IsEncoding, BeginsWith, HasFault, HaveEightBits, AreOctetsOf}
 
 -- the contents of file k, if they are no more than the limit
 abbrev pub Loaded : Option (List (List ℕ × List ℕ)) → ℕ → List ℕ → Result (List ℕ) Outcome → Type 0
@@ -160,8 +161,10 @@ ValueIn opened type items = Then (Judged opened.0 opened.1 items) (λ treated. V
 
 -- the encoding of a value
 abbrev pub Encoding : Syntax → RootType → Rose ValueLabel → Result (List ℕ) Outcome → Type 0
-Encoding syntax type v (Ok octets) = IsEncoding syntax type.assignments type.number v octets × All (λ x. x < 256) octets
+Encoding syntax type v (Ok octets) = IsEncoding syntax type.assignments type.number v octets × HaveEightBits syntax octets
 Encoding syntax type v (Err o) = ⊥
+
+-- ---- octets that are taken as they are needed, none behind a first fault
 
 -- the octets among which an encoding is looked for: as many as an input may have
 abbrev pub readable : List ℕ → List ℕ
@@ -185,12 +188,33 @@ IsOfOctets (TooLong zero) = Unit {0}
 IsOfOctets o = ⊥
 
 -- where they are told, all octets that are left are the encoding of this value; or they are of none
-abbrev pub Decoded : Syntax → RootType → Option (List ℕ) → Result (Rose ValueLabel) Outcome → Type 0
-Decoded syntax type None (Ok v) = In type.assignments type.number v
-Decoded syntax type None (Err o) = IsOfOctets o
-Decoded syntax type (Some octets) (Ok v) =
+abbrev pub Streamed : Syntax → RootType → Option (List ℕ) → Result (Rose ValueLabel) Outcome → Type 0
+Streamed syntax type None (Ok v) = In type.assignments type.number v
+Streamed syntax type None (Err o) = IsOfOctets o
+Streamed syntax type (Some octets) (Ok v) =
     (length octets ≤ 16777216) × In type.assignments type.number v × IsEncoding syntax type.assignments type.number v octets
-Decoded syntax type (Some octets) (Err o) = IsNoEncoding syntax type octets o
+Streamed syntax type (Some octets) (Err o) = IsNoEncoding syntax type octets o
+
+-- ---- octets that are all there before any is looked at
+
+-- they are octets that have a first fault, or go on behind the encoding of a value
+abbrev pub AreNoEncoding : Syntax → RootType → List ℕ → Outcome → Type 0
+AreNoEncoding syntax type octets o =
+    AreOctetsOf syntax octets
+    × (((fault : Fault) × HasFault syntax type.assignments type.number octets fault × (o ≡ fault.refusal))
+    ⊎ ((v : Rose ValueLabel) × (at : ℕ) × BeginsWith syntax type.assignments type.number octets v at × (at < length octets) × (o ≡ Trailing at)))
+
+-- they are the encoding of this value, or of none
+abbrev pub DecodedOf : Syntax → RootType → List ℕ → Result (Rose ValueLabel) Outcome → Type 0
+DecodedOf syntax type octets (Ok v) = In type.assignments type.number v × IsEncoding syntax type.assignments type.number v octets
+DecodedOf syntax type octets (Err o) = AreNoEncoding syntax type octets o
+
+-- ---- the value of which the input is the encoding: PER is decoded as its octets come, DER when the whole input is there, as a document
+
+abbrev pub Decoded : Syntax → RootType → Option (List ℕ) → Result (Rose ValueLabel) Outcome → Type 0
+Decoded Aligned type left = Streamed Aligned type left
+Decoded Unaligned type left = Streamed Unaligned type left
+Decoded Der type left = Then (Input left) (λ octets. DecodedOf Der type octets)
 
 -- the text that is written of the items of the value (X.693)
 abbrev pub Written : RootType → Rose ValueLabel → Result (List ℕ) Outcome → Type 0

@@ -6,7 +6,7 @@ ghost use Rattle.schema_parts.specs.SetParts.{SetParts};
 ghost use Rattle.command_line.specs.declared.outcome.Outcome.{Outcome};
 ghost use Rattle.command_line.specs.declared.outcome.Outcome.TheVariants as outcome;
 ghost use Rattle.command_line.specs.declared.tasks.Syntax.{Syntax};
-ghost use Rattle.transcode_core.specs.Causes.{ReadsInput, IsTold, ReadsOfWords, StepsFrom};
+ghost use Rattle.transcode_core.specs.Causes.{ReadsInput, IsTold, IsInputOf, ReadsOfWords, StepsFrom};
 ghost use Rattle.transcode_core.specs.Syntaxes.{AllSyntaxes};
 ghost use Rattle.transcode_core.specs.Due.{Requested, Encoded, Documented, Due};
 ghost use Rattle.command_line.specs.Words.{Trial};
@@ -17,6 +17,7 @@ ghost use Rattle.validity_check.specs.Counts.{element_count};
 ghost use Rattle.transcode_core.specs.ReadBack.{IsValidText, DocumentedBack, ReadBack};
 ghost use Rattle.transcode_core.specs.Again.{AreThereAndBack, AreSameDocuments};
 
+use der_stops::stops_first as stops_of_der;
 use doc_text::{document_items, one_answer as document_answer};
 use map_laws::maps_exist;
 use map_widths::{maps_are_bounded, maps_are_modules};
@@ -35,6 +36,7 @@ pub fn exactly_one_of_both()
 {
     octets_of_either();
     stops_of_either();
+    stops_of_der();
 }
 
 /// Of all words, over files that are told, at most one outcome is due, with one list of bytes; where the words ask for the
@@ -47,12 +49,13 @@ pub fn one_answer()
     one_value();
     octets_of_either();
     stops_of_either();
+    stops_of_der();
 }
 
 /// Of all words, over files that are told, an outcome is due, with a list of bytes; where the words ask for the input, this is
-/// told too. So with the law above just one is due.
+/// told too, and where they ask for octets in DER, it is of octets. So with the law above just one is due.
 pub fn some_answer()
-    ensures { (words : List (List ℕ)) (entries : List (List ℕ × List ℕ)) (left : Option (List ℕ)) → (ReadsInput words → IsTold left)
+    ensures { (words : List (List ℕ)) (entries : List (List ℕ × List ℕ)) (left : Option (List ℕ)) → (ReadsInput words → IsTold left) → IsInputOf words left
         → (o : Outcome) × (bytes : List ℕ) × Due words (Some entries) left o bytes }
 {
     document_answer();
@@ -67,10 +70,11 @@ pub fn some_answer()
     items_of_values();
     octets_of_either();
     stops_of_either();
+    stops_of_der();
 }
 
-/// What `to-per` writes of a document, `to-xml` takes over the same files, unless it is too long to be an input. What it writes
-/// there, which by `run` is read back (`ReadBack`), is a valid document with the treated items of the first. Both are said of a
+/// What `to-per` writes of a document, `to-xml` takes over the same files, unless it is too long to be an input; and so of the other
+/// transfer syntaxes. What it writes there, which by `run` is read back (`ReadBack`), is a valid document with the treated items of the first. Both are said of a
 /// set with its root, and of words.
 pub fn there_and_back()
     ensures taken_in_set { (syntax : Syntax) (opened : SetParts × ℕ) (document octets : List ℕ) → Encoded syntax opened (Some document) (Ok octets) → length octets ≤ 16777216
@@ -85,6 +89,7 @@ pub fn there_and_back()
 {
     octets_of_either();
     stops_of_either();
+    stops_of_der();
 }
 
 /// The trial document has three elements for each of its lines, besides the root. So a `trial` that is Done, of whose document each

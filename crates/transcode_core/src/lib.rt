@@ -5,6 +5,7 @@
 #![tactic(auto)]
 
 mod each;
+mod eight_bits;
 mod files;
 mod laws;
 mod linking;

@@ -5,15 +5,18 @@ ghost use Rattle.xa_base.specs.Faults.{Counts};
 ghost use Rattle.asn_values.specs.Values.{In};
 ghost use Rattle.schema_parts.specs.Components.{Set};
 ghost use Rattle.transcode_core.specs.Private.Seen.{type_seen};
-ghost use Rattle.transcode_core.specs.Steps.{IsTypeOf, Decoded, Written};
+ghost use Rattle.transcode_core.specs.Steps.{IsTypeOf, Streamed, DecodedOf, Decoded, Written};
 ghost use Rattle.transcode_core.specs.Syntaxes.{per_syntax};
 ghost use Rattle.transcode_core.specs.ReadBack.{WrittenBack, DecodedBack};
 ghost use Rattle.command_line.specs.Order.{Then};
 ghost use Rattle.command_line.specs.Answers.{Answers, NoMemory};
-ghost use Rattle.transcode_core.specs.Causes.{OneRead, TakesItsField, IsOfInput};
+ghost use Rattle.transcode_core.specs.Causes.{OneRead, TakesItsField, TakesOctets, IsOfInput};
 
+use crate::eight_bits::see_octets;
+use crate::files::read_input;
 use crate::opened::RootModule;
 use command_line::{Outcome, Syntax};
+use der_decode::{DecodeError as DerError, decode_der};
 use per_decode::{DecodeError, decode_by};
 use per_fields::{Aligned, Unaligned, Variant};
 use simple_types::Value;
@@ -45,7 +48,7 @@ fn decode_per<S: Source, V: Variant>(
     input: &mut S,
 ) -> Result<Value, Outcome>
     requires { (set : Set) × (n : ℕ) × IsTypeOf set n (type_seen typed.now) }
-    ensures due { Answers (λ value. value) (Decoded (per_syntax V.ALIGNED) (type_seen typed.now) (S.left input.old)) (OneRead (S.faults input.old) (S.faults input.new)) result }
+    ensures due { Answers (λ value. value) (Streamed (per_syntax V.ALIGNED) (type_seen typed.now) (S.left input.old)) (OneRead (S.faults input.old) (S.faults input.new)) result }
     ensures kept { IfOk result (λ value. In typed.now.module typed.now.number value) }
     ensures end { OnOk result (IsAtEnd (S.left input.new)) }
     ensures stage { IfErr result IsOfInput }
@@ -65,6 +68,47 @@ fn decode_per<S: Source, V: Variant>(
     }
 }
 
+// The value of which these octets are the encoding in DER: all that there are.
+fn decode_octets(alloc: Global, typed: &RootModule, octets: &[u8]) -> Result<Value, Outcome>
+    requires typed { (set : Set) × (n : ℕ) × IsTypeOf set n (type_seen typed.now) }
+    requires few { length octets.now ≤ 16777216 }
+    ensures due { Answers (λ value. value) (DecodedOf Syntax.Der (type_seen typed.now) octets.now) NoMemory result }
+    ensures kept { IfOk result (λ value. In typed.now.module typed.now.number value) }
+    ensures stage { IfErr result IsOfInput }
+{
+    see_octets(octets);
+    match decode_der(alloc, &typed.module, typed.number, octets) {
+        Ok(decoded) => {
+            if decoded.octets == octets.len() as u64 {
+                Ok(decoded.value)
+            } else {
+                Err(Outcome::Trailing { at: decoded.octets })
+            }
+        }
+        Err(DerError::Bad { at, why }) => Err(Outcome::DerFault { at, why }),
+        Err(DerError::Memory) => Err(Outcome::OutOfMemory),
+    }
+}
+
+// The value of which the whole input is the encoding in DER.
+fn decode_whole<S: Source>(
+    alloc: Global,
+    typed: &RootModule,
+    input: &mut S,
+) -> Result<Value, Outcome>
+    requires { (set : Set) × (n : ℕ) × IsTypeOf set n (type_seen typed.now) }
+    ensures due { Answers (λ value. value) (Decoded Syntax.Der (type_seen typed.now) (S.left input.old)) (OneRead (S.faults input.old) (S.faults input.new)) result }
+    ensures kept { IfOk result (λ value. In typed.now.module typed.now.number value) }
+    ensures end { OnOk result (IsAtEnd (S.left input.new)) }
+    ensures stage { IfErr result IsOfInput }
+    ensures later { S.faults input.old ≤ S.faults input.new }
+{
+    match read_input(alloc, input) {
+        Ok(octets) => decode_octets(alloc, typed, &octets),
+        Err(outcome) => Err(outcome),
+    }
+}
+
 // The value of which the input is the encoding.
 fn decode_input<S: Source>(
     alloc: Global,
@@ -77,12 +121,13 @@ fn decode_input<S: Source>(
     ensures kept { IfOk result (λ value. In typed.now.module typed.now.number value) }
     ensures end { OnOk result (IsAtEnd (S.left input.new)) }
     ensures stage { IfErr result IsOfInput }
-    ensures taken { TakesItsField syntax (type_seen typed.now) (S.left input.old) (S.left input.new) }
+    ensures taken { TakesOctets syntax (type_seen typed.now) (S.left input.old) (S.left input.new) }
     ensures later { S.faults input.old ≤ S.faults input.new }
 {
     match syntax {
         Syntax::Aligned => decode_per::<S, Aligned>(alloc, typed, input),
         Syntax::Unaligned => decode_per::<S, Unaligned>(alloc, typed, input),
+        Syntax::Der => decode_whole(alloc, typed, input),
     }
 }
 
@@ -114,7 +159,7 @@ pub fn write_input<S: Source>(
     ensures back { IfOk result (λ text. DecodedBack syntax (type_seen typed.now) (S.left input.old) text.items) }
     ensures end { OnOk result (IsAtEnd (S.left input.new)) }
     ensures stage { IfErr result IsOfInput }
-    ensures taken { TakesItsField syntax (type_seen typed.now) (S.left input.old) (S.left input.new) }
+    ensures taken { TakesOctets syntax (type_seen typed.now) (S.left input.old) (S.left input.new) }
     ensures later { S.faults input.old ≤ S.faults input.new }
 {
     match decode_input(alloc, syntax, typed, input) {

@@ -1,5 +1,5 @@
 //! From the items of a document to the encoding of its value.
-ghost use Rattle.std.specs.Prelude.{◌≡◌, ◌+◌, ◌*◌, ◌<◌, ◌≤◌, All, IfOk, OnOk, IfErr};
+ghost use Rattle.std.specs.Prelude.{◌≡◌, ◌+◌, ◌*◌, ◌≤◌, IfOk, OnOk, IfErr};
 ghost use Rattle.validity_check.specs.Counts.{element_count};
 ghost use Rattle.schema_parts.specs.SetParts.{parts_of};
 ghost use Rattle.asn_values.specs.Values.{In};
@@ -10,8 +10,10 @@ ghost use Rattle.command_line.specs.Order.{Then};
 ghost use Rattle.command_line.specs.Answers.{Answers, NoMemory};
 ghost use Rattle.transcode_core.specs.Causes.{IsOfInput};
 
+use crate::eight_bits::see_octets;
 use crate::opened::{Opened, RootModule};
 use command_line::{Outcome, Syntax};
+use der_encode::encode_der;
 use doc_text::Items;
 use per_encode::encode_by;
 use per_fields::{Aligned, Unaligned, Variant};
@@ -44,19 +46,6 @@ fn value_of<L: Ledger>(
     }
 }
 
-fn see_octet(octet: u8)
-    ensures { octet < 256 }
-{}
-
-// Octets have 8 bits: their type says so, and here it becomes a fact on them.
-fn see_octets(octets: &[u8])
-    ensures { All (λ x. x < 256) octets.now }
-{
-    'octets: for octet in octets {
-        see_octet(*octet);
-    }
-}
-
 // The encoding of the value in one of the two variants of canonical PER.
 fn encode_per<V: Variant>(
     alloc: Global,
@@ -76,6 +65,22 @@ fn encode_per<V: Variant>(
     }
 }
 
+// The encoding of the value in DER.
+fn encode_distinguished(
+    alloc: Global,
+    typed: &RootModule,
+    value: &Value,
+) -> Result<Vec<u8>, Outcome>
+    requires { In typed.now.module typed.now.number value.now }
+    ensures due { Answers (λ octets. octets.items) (Encoding Syntax.Der (type_seen typed.now) value.now) NoMemory result }
+    ensures stage { IfErr result IsOfInput }
+{
+    match encode_der(alloc, &typed.module, typed.number, value) {
+        Ok(octets) => Ok(octets),
+        Err(_) => Err(Outcome::OutOfMemory),
+    }
+}
+
 // The encoding of the value.
 fn encode_value(
     alloc: Global,
@@ -90,6 +95,7 @@ fn encode_value(
     match syntax {
         Syntax::Aligned => encode_per::<Aligned>(alloc, typed, value),
         Syntax::Unaligned => encode_per::<Unaligned>(alloc, typed, value),
+        Syntax::Der => encode_distinguished(alloc, typed, value),
     }
 }
 

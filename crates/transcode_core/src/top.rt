@@ -33,6 +33,7 @@ use crate::sending::encode_items;
 use crate::trial::{self, schema_files, schema_name, summary, trial_document};
 use crate::typing::map_root;
 use command_line::{Outcome, Request, Root, Syntax, Task, read_each, read_words, write_line};
+use der_stops::stops_first as stops_of_der;
 use doc_text::Items;
 use map_694::map_set;
 use module_print::print_module;
@@ -500,6 +501,7 @@ fn run_whole<F: Library, S: Source, K: Sink, E: Sink, L: Ledger>(
     one_value();
     octets_of_either();
     stops_of_either();
+    stops_of_der();
     match decide(alloc, words, files, input, steps) {
         Ok(bytes) => match write_all(output, &bytes) {
             Ok(()) => {
@@ -519,17 +521,18 @@ fn run_whole<F: Library, S: Source, K: Sink, E: Sink, L: Ledger>(
 }
 
 /// Does what the words ask for. `show FILE...`, `check ROOT FILE...`, `to-per ROOT FILE...`, `to-xml ROOT FILE...` and, with
-/// the words of `to-per` and `to-xml`, `to-per-u` and `to-xml-u` load the schema files in turn and end at the first that can't
-/// be loaded, has over 16,777,216 bytes, or has a fault in its text or as a schema document. Then the files are linked into
-/// one set, or the answer is the first fault of linking. `show` writes the module that the set maps to and leaves the input
-/// alone. The others look for the root in the set.
+/// the words of `to-per` and `to-xml`, `to-per-u` and `to-xml-u`, `to-der` and `from-der` load the schema files in turn and
+/// end at the first that can't be loaded, has over 16,777,216 bytes, or has a fault in its text or as a schema document. Then
+/// the files are linked into one set, or the answer is the first fault of linking. `show` writes the module that the set maps
+/// to and leaves the input alone. The others look for the root in the set.
 ///
-/// `check`, `to-per` and `to-per-u` read the input, of as many bytes at most, as a document, which is valid against that
-/// element or has a first fault. `check` writes nothing. `to-per` writes the complete encoding, in canonical aligned PER, of
-/// the one value whose items by EXTENDED-XER are the document's treated items, unless it has too many nodes; `to-per-u` the
-/// one in canonical unaligned PER. `to-xml` takes the complete aligned encoding of a value and nothing else, octet by octet
-/// as they come, `to-xml-u` the unaligned one, and they write a document with the items of that value. `trial N` does what
-/// `to-per` does with an order of N lines, over a file and an input of its own, and writes one line.
+/// `check`, `to-per`, `to-per-u` and `to-der` read the input, of as many bytes at most, as a document, which is valid against
+/// that element or has a first fault. `check` writes nothing. `to-per` writes the complete encoding, in canonical aligned PER,
+/// of the one value whose items by EXTENDED-XER are the document's treated items, unless it has too many nodes; `to-per-u` the
+/// one in canonical unaligned PER, `to-der` the one in DER. `to-xml` takes the complete aligned encoding of a value and nothing
+/// else, octet by octet as they come, `to-xml-u` the unaligned one, `from-der` the one in DER, of which it reads the whole
+/// input, as `to-der` does; and they write a document with the items of that value. `trial N` does what `to-per` does with an
+/// order of N lines, over a file and an input of its own, and writes one line.
 ///
 /// `each-to-xml ROOT FILE...` takes complete encodings that follow one another to the end of the input, of at most
 /// 1,073,741,824 octets in all, and writes the document of each before it takes an octet behind it. So a refusal stands behind

@@ -1,6 +1,12 @@
 use Rattle.std.proofs.Common.{string_bytes}
-use Rattle.complaints.proofs.Wholes.{trailing_told, whole_told}
+use Rattle.complaints.proofs.Wholes.{octet_told, trailing_told, whole_told}
 use Rattle.complaints.proofs.telling.complaint.Goals as goal
+
+pub returns-in-DerFault : goal.returns-in-DerFault
+returns-in-DerFault c =
+    let reason = c.reason_of-reason.result in
+    octet_told string_bytes c.tell_unit-in-DerFault.result c.args.outcome c.in-DerFault.at c.in-DerFault.why c.args.name.now c.args.contents.now c.args.within.now reason.name.now
+    reason.means.now reason.remedy.now c.in-DerFault.is c.reason_of-reason.ensures c.tell_unit-in-DerFault.ensures
 
 pub returns-in-Trailing : goal.returns-in-Trailing
 returns-in-Trailing c =

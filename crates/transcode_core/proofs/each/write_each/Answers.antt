@@ -1,4 +1,4 @@
-use Rattle.std.proofs.Common.{ap, refl, sym, ◌∙◌, inl, inr, arith, Ok, Err, None, Some}
+use Rattle.std.proofs.Common.{ap, refl, ◌∙◌, inl, inr, arith, Ok, Err, None, Some}
 use Rattle.transcode_core.specs.Private.Seen.{type_seen}
 use Rattle.transcode_core.proofs.Eaching.{so_far_none, so_far_more, each_done, each_err, each_unwritten, each_over}
 use Rattle.transcode_core.proofs.each.write_each.Goals as goal

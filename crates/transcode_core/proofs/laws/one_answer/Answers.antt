@@ -9,5 +9,5 @@ returns c =
       pieces = laws;
       valid = c.at_most_one.ensures;
       value = c.one_value.ensures;
-      octets = all_syntaxes (λ aligned. record { stops = c.either_variant-2.ensures.one_of_two aligned; whole = c.either_variant.ensures.whole_octets aligned });
+      octets = all_syntaxes (λ aligned. record { stops = c.either_variant-2.ensures.one_of_two aligned; whole = c.either_variant.ensures.whole_octets aligned }) c.stops_first.ensures.one_of_two;
     })

@@ -5,3 +5,6 @@ returns-in-Aligned-clause-taken g c = rw c.in-Aligned.is c.decode_per.ensures.ta
 
 pub returns-in-Unaligned-clause-taken : goal.returns-in-Unaligned-clause-taken
 returns-in-Unaligned-clause-taken g c = rw c.in-Unaligned.is c.decode_per-in-Unaligned.ensures.taken
+
+pub returns-in-Der-clause-taken : goal.returns-in-Der-clause-taken
+returns-in-Der-clause-taken g c = rw c.in-Der.is tt

@@ -1,0 +1,6 @@
+pub mod Windows
+pub mod Signs
+pub mod Leaves
+pub mod Newest
+pub mod Showing
+pub mod Bodies

@@ -1,0 +1,145 @@
+//! Identifiers (X.690, clauses 8.1.2, 8.13 and 8.14).
+ghost use Rattle.std.specs.Prelude.{◌≡◌, ◌≤◌, ◌∷◌, [], length, drop};
+ghost use Rattle.der_fields.specs.Octets.{begins, context_identifier, form_bit};
+ghost use Rattle.der_form.specs.Encoding.{identifier, is_constructed, is_open, universal_identifier};
+
+use asn_types::Form;
+use std::marker::Model;
+
+// How many octets there are at most: a number of 32 bits is in five of 7 bits, behind the first octet (clause 8.1.2.4).
+const MOST: usize = 6;
+
+// The octets of an identifier, at the end of so many.
+#[derive(Drop)]
+struct Identifier {
+    octets: [u8; MOST],
+    begin: usize,
+}
+
+impl Model for Identifier {
+    ghost use Rattle.std.specs.Prelude.{List, ℕ, ◌≤◌, drop};
+
+    ghost Value = { List ℕ };
+
+    ghost view = { λ a. drop a.begin a.octets };
+
+    ghost invariant = { λ a. a.begin ≤ 6 };
+}
+
+impl Identifier {
+    // An identifier of one octet.
+    fn one(octet: u8) -> Identifier
+        ensures { result ≡ octet ∷ [] }
+    {
+        Identifier {
+            octets: [0, 0, 0, 0, 0, octet],
+            begin: MOST - 1,
+        }
+    }
+
+    // The context-specific tag with this number, from 31 on: octets of 7 bits, from the last to the first, and what stands before
+    // them (clause 8.1.2.4).
+    fn large(constructed: bool, number: u32) -> Identifier
+        requires { 31 ≤ number }
+        ensures { result ≡ context_identifier constructed number }
+    {
+        let mut octets = [0u8; MOST];
+        let mut begin = MOST - 1;
+        octets[begin] = (number % 128) as u8;
+        let mut left = number / 128;
+        'sevens: while 0 < left {
+            begin -= 1;
+            octets[begin] = 128 + (left % 128) as u8;
+            left /= 128;
+        }
+        begin -= 1;
+        octets[begin] = 159 + form_bit(constructed);
+        Identifier { octets, begin }
+    }
+
+    // The context-specific tag of a component or an alternative.
+    fn context(constructed: bool, number: u32) -> Identifier
+        ensures { result ≡ context_identifier constructed number }
+    {
+        if number < 31 {
+            return Identifier::one(128 + form_bit(constructed) + number as u8);
+        }
+        Identifier::large(constructed, number)
+    }
+
+    // That of a node of a type of this form, with this tag or without one.
+    fn of(tag: Option<u32>, form: &Form) -> Identifier
+        ensures { result ≡ identifier tag form.now }
+    {
+        match tag {
+            None => Identifier::one(universal(form)),
+            Some(number) => Identifier::context(is_constructed(form), number),
+        }
+    }
+
+    fn items(&self) -> &[u8]
+        ensures same { result.now ≡ self.now }
+        ensures few { length result.now ≤ 6 }
+    {
+        &self.octets[self.begin..]
+    }
+}
+
+// The bit that tells whether an encoding has others in it (clause 8.1.2.5).
+fn form_bit(constructed: bool) -> u8
+    ensures same { result ≡ form_bit constructed }
+    ensures few { result ≤ 32 }
+{
+    if constructed { 32 } else { 0 }
+}
+
+// The identifier of a type of this form.
+fn universal(form: &Form) -> u8
+    ensures { universal_identifier form.now ≡ result ∷ [] }
+{
+    match form {
+        Form::Bool => 0x01,
+        Form::Int { .. } => 0x02,
+        Form::Numbers { .. } | Form::Words { .. } | Form::Order { .. } => 0x0A,
+        Form::Utf8 { .. } => 0x0C,
+        _ => 0x30,
+    }
+}
+
+// Whether encodings of a type of this form have others in them.
+fn is_constructed(form: &Form) -> bool
+    ensures { result ≡ is_constructed form.now }
+{
+    match form {
+        Form::Sequence { .. } | Form::Choice { .. } | Form::SequenceOf { .. } => true,
+        _ => false,
+    }
+}
+
+/// Whether a node has no octets but those of an alternative: a CHOICE without a tag.
+pub(crate) fn is_open(tag: Option<u32>, form: &Form) -> bool
+    ensures { result ≡ is_open tag form.now }
+{
+    match (tag, form) {
+        (None, Form::Choice { .. }) => true,
+        _ => false,
+    }
+}
+
+/// How many octets the identifier of a node has.
+pub(crate) fn identifier_size(tag: Option<u32>, form: &Form) -> u64
+    ensures size { result ≡ length (identifier tag form.now) }
+    ensures few { result ≤ 6 }
+{
+    let identifier = Identifier::of(tag, form);
+    identifier.items().len() as u64
+}
+
+/// Whether octets, from one on, begin with the identifier of a node.
+pub(crate) fn begins_so(octets: &[u8], at: u64, tag: Option<u32>, form: &Form) -> bool
+    requires { at ≤ length octets.now }
+    ensures { result ≡ begins (identifier tag form.now) (drop at octets.now) }
+{
+    let identifier = Identifier::of(tag, form);
+    octets[at as usize..].starts_with(identifier.items())
+}

@@ -1,0 +1,4 @@
+pub mod Least
+pub mod Sevens
+pub mod Kids
+pub mod Parts

@@ -1,0 +1,25 @@
+//! The distinguished encoding of a value.
+ghost use Rattle.std.specs.Prelude.{◌≡◌, IfOk};
+ghost use Rattle.asn_values.specs.Values.{In};
+ghost use Rattle.der_form.specs.Encoding.{distinguished};
+
+use crate::nodes::put_node;
+use asn_types::Module;
+use simple_types::Value;
+use std::alloc::Global;
+use xa_base::Memory;
+
+/// The octets of a value of the type of the assignment with this number.
+///
+/// It goes through the value once, and the time is linear in the value and its octets.
+pub fn encode_der(alloc: Global, module: &Module, t: u32, value: &Value) -> Result<Vec<u8>, Memory>
+    requires { In module.now t value.now }
+    ensures { IfOk result (λ octets. octets.items ≡ distinguished module.now t value.now) }
+{
+    let mut back = Vec::new(alloc);
+    let body = module.assignment(t).body.root();
+    let root = value.root();
+    put_node(alloc, &mut back, module, None, body, &root)?;
+    back.reverse();
+    Ok(back)
+}

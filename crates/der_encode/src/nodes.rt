@@ -1,0 +1,200 @@
+//! The nodes of a value, each from its last octet to its first.
+ghost use Rattle.std.specs.Prelude.{◌≡◌, ◌++◌, ◌∷◌, [], OnOk, IfOk, reverse};
+ghost use Rattle.label_tree.specs.Rose.{kids_of};
+ghost use Rattle.der_form.specs.Encoding.{der, identifier, universal_identifier, bool_octet, item_number, is_open, is_constructed};
+ghost use Rattle.der_encode.specs.Private.Kids.{HasItem, FitsSomewhere, PartsFit, parts_octets, ItemsFit, items_octets, KidsFit, resolved_octets};
+
+use crate::octets::{put_context, put_length, put_signed, put_text};
+use asn_types::{Form, Module, TypeLabel, resolve};
+use flat_tree::Node;
+use label_tree::Tree;
+use simple_types::ValueLabel;
+use std::alloc::Global;
+use xa_base::Memory;
+
+// The kids of a value, side by side: a tree tells them from the first to the last alone, and here the last is wanted first. Each node is
+// in one such list, so all of them take a time that is linear in the nodes.
+fn kids_of<'a>(
+    alloc: Global,
+    value: &Node<'a, ValueLabel>,
+) -> Result<Vec<Node<'a, ValueLabel>>, Memory>
+    ensures { IfOk result (λ kids. kids.items ≡ kids_of value.now) }
+{
+    let mut kids = Vec::new(alloc);
+    'kids: for kid in value.kids() {
+        kids.push(kid)?;
+    }
+    Ok(kids)
+}
+
+// Whether encodings of a type of this form have others in them (clause 8.1.2.5).
+fn is_constructed(form: &Form) -> bool
+    ensures { result ≡ is_constructed form.now }
+{
+    matches!(
+        form,
+        Form::Sequence { .. } | Form::Choice { .. } | Form::SequenceOf { .. }
+    )
+}
+
+// Whether a node has no identifier of its own: a CHOICE without a tag (clause 8.13).
+fn is_open(tag: Option<usize>, form: &Form) -> bool
+    ensures { result ≡ is_open tag form.now }
+{
+    match tag {
+        Some(_number) => false,
+        None => matches!(form, Form::Choice { .. }),
+    }
+}
+
+// The identifier of a type (clause 8.1.2.2).
+fn universal_identifier(form: &Form) -> u8
+    ensures { universal_identifier form.now ≡ result ∷ [] }
+{
+    match form {
+        Form::Bool => 0x01,
+        Form::Int { .. } => 0x02,
+        Form::Numbers { .. } => 0x0A,
+        Form::Words { .. } => 0x0A,
+        Form::Order { .. } => 0x0A,
+        Form::Utf8 { .. } => 0x0C,
+        _ => 0x30,
+    }
+}
+
+// The identifier of a node.
+fn put_identifier(back: &mut Vec<u8>, tag: Option<usize>, form: &Form) -> Result<(), Memory>
+    ensures { OnOk result (back.new.items ≡ back.old.items ++ reverse (identifier tag form.now)) }
+{
+    match tag {
+        Some(number) => put_context(back, is_constructed(form), number),
+        None => {
+            back.push(universal_identifier(form))?;
+            Ok(())
+        }
+    }
+}
+
+// TRUE has all bits set (clauses 8.2.2 and 11.1).
+fn bool_octet(b: bool) -> u8
+    ensures { result ≡ bool_octet b }
+{
+    if b { 0xFF } else { 0x00 }
+}
+
+// The number of an item of an ENUMERATED.
+fn item_number(form: &Form, i: u32) -> i128
+    requires { HasItem form.now i }
+    ensures { result ≡ item_number form.now i }
+{
+    match form {
+        Form::Numbers { numbers } => numbers.items()[i as usize],
+        _ => i128::from(i),
+    }
+}
+
+// The components of a SEQUENCE that are present, the last first.
+#[cycle(encoding)]
+fn put_parts(
+    alloc: Global,
+    back: &mut Vec<u8>,
+    module: &Module,
+    types: &[Tree<TypeLabel>],
+    present: &[bool],
+    mut kids: Vec<Node<'_, ValueLabel>>,
+) -> Result<(), Memory>
+    requires { PartsFit module.now types.now present.now kids.items }
+    ensures { OnOk result (back.new.items ≡ back.old.items ++ reverse (parts_octets module.now 0 types.now present.now kids.entry.items)) }
+{
+    let mut i = present.len();
+    'parts: while 0 < i {
+        i -= 1;
+        if present[i] {
+            let Some(kid) = kids.pop() else {
+                unreachable!();
+            };
+            put_node(alloc, back, module, Some(i), &types[i], &kid)?;
+        }
+    }
+    Ok(())
+}
+
+// Items, the last first.
+#[cycle(encoding)]
+fn put_items(
+    alloc: Global,
+    back: &mut Vec<u8>,
+    module: &Module,
+    item: &Tree<TypeLabel>,
+    mut kids: Vec<Node<'_, ValueLabel>>,
+) -> Result<(), Memory>
+    requires { ItemsFit module.now item.now kids.items }
+    ensures { OnOk result (back.new.items ≡ back.old.items ++ reverse (items_octets module.now item.now kids.entry.items)) }
+{
+    'items: while let Some(kid) = kids.pop() {
+        put_node(alloc, back, module, None, item, &kid)?;
+    }
+    Ok(())
+}
+
+// The contents of a value of a type that is no reference (clauses 8.2 to 8.4, 8.9, 8.10, 8.13 and 8.23).
+#[cycle(encoding)]
+fn put_contents(
+    alloc: Global,
+    back: &mut Vec<u8>,
+    module: &Module,
+    node: &Tree<TypeLabel>,
+    value: &Node<'_, ValueLabel>,
+) -> Result<(), Memory>
+    requires { KidsFit module.now node.now value.now }
+    ensures { OnOk result (back.new.items ≡ back.old.items ++ reverse (resolved_octets module.now node.now value.now)) }
+{
+    match value.label() {
+        ValueLabel::Bool(b) => {
+            back.push(bool_octet(*b))?;
+            Ok(())
+        }
+        ValueLabel::Int(number) => put_signed(back, *number),
+        ValueLabel::Enum(i) => put_signed(back, item_number(&node.label().form, *i)),
+        ValueLabel::Utf8(text) => put_text(back, text.bytes()),
+        ValueLabel::Sequence { present } => {
+            let kids = kids_of(alloc, value)?;
+            put_parts(alloc, back, module, node.kids(), present.items(), kids)
+        }
+        ValueLabel::Choice(i) => {
+            let alternative = node.kid(*i as usize);
+            let inner = value.kid(0);
+            put_node(alloc, back, module, Some(*i as usize), alternative, &inner)
+        }
+        ValueLabel::SequenceOf => {
+            let item = node.kid(0);
+            let kids = kids_of(alloc, value)?;
+            put_items(alloc, back, module, item, kids)
+        }
+    }
+}
+
+/// The octets of a value of the type, or of that to which it refers, with this tag or without one.
+#[cycle(encoding)]
+pub(crate) fn put_node(
+    alloc: Global,
+    back: &mut Vec<u8>,
+    module: &Module,
+    tag: Option<usize>,
+    node: &Tree<TypeLabel>,
+    value: &Node<'_, ValueLabel>,
+) -> Result<(), Memory>
+    requires { FitsSomewhere module.now node.now value.now }
+    ensures { OnOk result (back.new.items ≡ back.old.items ++ reverse (der module.now tag node.now value.now)) }
+{
+    let found = resolve(module, node);
+    let form = &found.label().form;
+    let before = back.len();
+    put_contents(alloc, back, module, found, value)?;
+    if is_open(tag, form) {
+        return Ok(());
+    }
+    let length = back.len() - before;
+    put_length(back, length)?;
+    put_identifier(back, tag, form)
+}
