@@ -23,10 +23,12 @@ echo '<xs:schema xmlns:xs="http://www.w3.org/2001/XMLSchema"><xs:element name="z
     '</xs:complexType></xs:element></xs:schema>' > deep.xsd
 { for i in {1..63}; do printf '<z>%s' "$shorts"; done; printf '<b>1</b>'; for i in {1..63}; do printf '</z>'; done; } > check
 cp check to-per
+cp check to-der
 "$program" to-per z deep.xsd < to-per > to-xml
+"$program" to-der z deep.xsd < to-der > from-der
 : > show
 
-for command in show check to-per to-xml; do
+for command in show check to-per to-xml to-der from-der; do
     least=-
     words=("$command" z deep.xsd)
     [ "$command" != show ] || words=(show deep.xsd)

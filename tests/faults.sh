@@ -164,20 +164,23 @@ p <p>Hi <b>x</b>!</p>
 END
 }
 
-# The three commands that read an input, over a document.
-three() {
+# The commands that read an input, over a document.
+inputs() {
     local root=$1 schema=$2 document=$3
     faults "$document" check "$root" "$schema"
     faults "$document" to-per "$root" "$schema"
     "$program" to-per "$root" "$schema" < "$document" > "$work/octets"
     faults "$work/octets" to-xml "$root" "$schema"
+    faults "$document" to-der "$root" "$schema"
+    "$program" to-der "$root" "$schema" < "$document" > "$work/octets"
+    faults "$work/octets" from-der "$root" "$schema"
 }
-three f boolean.xsd boolean.xml
-three '{urn:po}order' order.xsd order.xml
-three reading defaults.xsd defaults.xml
+inputs f boolean.xsd boolean.xml
+inputs '{urn:po}order' order.xsd order.xml
+inputs reading defaults.xsd defaults.xml
 while read -r root document; do
     printf '%s' "$document" > "$work/document"
-    three "$root" features.xsd "$work/document"
+    inputs "$root" features.xsd "$work/document"
 done < <(documents)
 
 # An invalid document, a broken one, and octets that are no encoding.
@@ -187,6 +190,7 @@ printf '<f>true</g>' > "$work/document"
 faults "$work/document" to-per f boolean.xsd
 printf '\001' > "$work/document"
 faults "$work/document" to-xml f boolean.xsd
+faults "$work/document" from-der f boolean.xsd
 
 # The trial reads its document: its 1,000th allocation is wanted.
 run 1000 1000 /dev/null trial 1000

@@ -18,3 +18,4 @@ pub mod Answering
 pub mod SomeSets
 pub mod Eaching
 pub mod EachLaws
+pub mod Ready

@@ -3,6 +3,7 @@ pub mod Trial
 pub mod Causes
 pub mod Steps
 pub mod Due
+pub mod Preparing
 pub mod Private
 pub mod ReadBack
 pub mod Again

@@ -17,7 +17,7 @@ use std::alloc::Global;
 use xa_base::{Library, LoadError, ReadError, Source, Text, read_all};
 
 /// The greatest length of a file, and of the input, in bytes.
-const LIMIT: u64 = 16_777_216;
+pub const LIMIT: u64 = 16_777_216;
 
 /// The contents of a file.
 pub fn load_file<F: Library>(

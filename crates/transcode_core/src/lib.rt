@@ -4,12 +4,16 @@
 //! `specs/Steps`, then `run` in `src/top.rt`.
 #![tactic(auto)]
 
+mod documents;
 mod each;
 mod eight_bits;
 mod files;
+mod judging;
 mod laws;
 mod linking;
 mod opened;
+mod opening;
+mod prepared;
 mod receiving;
 mod schemas;
 mod sending;
@@ -19,5 +23,6 @@ mod typing;
 
 pub use command_line::{Outcome, write_line};
 pub use laws::{exactly_one_of_both, one_answer, some_answer, there_and_back, trial_elements};
+pub use prepared::Prepared;
 pub use top::run;
 pub use trial::trial_document;

@@ -1,53 +1,44 @@
 //! The top call.
-ghost use Rattle.std.specs.Prelude.{◌≡◌, ◌⊎◌, ℕ, ◌+◌, ◌*◌, ◌≤◌, true, [], ◌∷◌, length, OnOk, IfOk, IfErr, Ok, Err, Some};
+ghost use Rattle.std.specs.Prelude.{◌≡◌, ◌⊎◌, ℕ, ◌≤◌, true, [], ◌∷◌, length, OnOk, IfOk, IfErr, Ok, Err, Some};
 ghost use Rattle.std.specs.Io.KnownBytes.{Appends, IsAtEnd};
 ghost use Rattle.xa_base.specs.Faults.{HasRisen};
 ghost use Rattle.xa_base.specs.Bytes.{AppendsFront};
 ghost use Rattle.schema_parts.specs.SetParts.{SetParts, parts_of};
-ghost use Rattle.validity_check.specs.Counts.{element_count};
 ghost use Rattle.command_line.specs.Lines.{line};
 ghost use Rattle.command_line.specs.Seen.{root_seen, seen};
-ghost use Rattle.transcode_core.specs.Private.Seen.{opened_seen, type_seen};
+ghost use Rattle.transcode_core.specs.Private.Seen.{opened_seen};
 ghost use Rattle.command_line.specs.Words as command;
-ghost use Rattle.command_line.specs.Tasks.{Octets, reads, is_document};
+ghost use Rattle.command_line.specs.Tasks.{reads, is_document};
 ghost use Rattle.transcode_core.specs.Private.Decided.{Decided};
 ghost use Rattle.transcode_core.specs.Trial as trial;
 ghost use Rattle.transcode_core.specs.Trial.{trial_name, trial_schema, trial_root};
-ghost use Rattle.transcode_core.specs.Steps.{RootType, Typed, Printed, Judged, IsTypeOf, ValueIn, Encoding};
+ghost use Rattle.transcode_core.specs.Steps.{RootType, Typed, Printed};
 ghost use Rattle.command_line.specs.Order.{Give, Then};
 ghost use Rattle.transcode_core.specs.Due as due;
-ghost use Rattle.transcode_core.specs.Due.{SetIn, ItemsIn, Checked, Encoded, Documented, Served, Tried, Answered};
+ghost use Rattle.transcode_core.specs.Due.{SetIn, ItemsIn, Served, Tried, Answered};
 ghost use Rattle.transcode_core.specs.Runs.{Runs, RunsAs};
 ghost use Rattle.transcode_core.specs.Each.{EachEnds};
-ghost use Rattle.transcode_core.specs.ReadBack.{DocumentedBack, ServedBack, AnsweredBack, ReadBack};
+ghost use Rattle.transcode_core.specs.ReadBack.{ServedBack, AnsweredBack, ReadBack};
 ghost use Rattle.command_line.specs.Answers.{IsRefusal, Answers, NoMemory};
 ghost use Rattle.transcode_core.specs.Causes.{SomeLoad, OneRead, reads_input, ReadsInput, Takes, TakesInput, LooksAt, TakesOfWords, ReadsItems, ReadsOfWords, StepsUpTo, IsOfInput, Answering, Deciding, StepsFrom, reads_document, ReadsDocument};
 
-use crate::each::write_records;
-use crate::files::{read_input, read_input_items};
-use crate::linking::{link_files, open_set};
-use crate::opened::{Opened, RootModule};
-use crate::receiving::write_input;
-use crate::schemas::load_schemas;
-use crate::sending::encode_items;
+use crate::judging::check_input;
+use crate::opened::Opened;
+use crate::opening::{open_files, read_set};
+use crate::prepared::Prepared;
 use crate::trial::{self, schema_files, schema_name, summary, trial_document};
-use crate::typing::map_root;
 use command_line::{Outcome, Request, Root, Syntax, Task, read_each, read_words, write_line};
 use der_stops::stops_first as stops_of_der;
-use doc_text::Items;
 use map_694::map_set;
 use module_print::print_module;
 use one_value::one_value;
 use per_fields::either_variant as octets_of_either;
 use per_stops::either_variant as stops_of_either;
 use schema_parts::SchemaSet;
-use sound_items::documents_of_values;
 use std::alloc::Global;
 use std::sync::ledger::Ledger;
 use validity::at_most_one;
-use validity_check::CheckError;
 use xa_base::{Failed, Library, Sink, Source, Steps, SureSource, Text, write_all};
-use xer_read::check_items;
 
 // The text of the module of the set.
 fn print(alloc: Global, set: &SchemaSet) -> Result<Vec<u8>, Outcome>
@@ -59,52 +50,6 @@ fn print(alloc: Global, set: &SchemaSet) -> Result<Vec<u8>, Outcome>
     match print_module(alloc, &module) {
         Ok(text) => Ok(text),
         Err(_) => Err(Outcome::OutOfMemory),
-    }
-}
-
-// The set that these files are.
-fn read_set<F: Library>(alloc: Global, files: &mut F, names: &[Text]) -> Result<SchemaSet, Outcome>
-    requires { length names.now ≤ 64 }
-    ensures due { Answers parts_of (SetIn (F.entries files.old) names.now)
-        (SomeLoad (F.faults files.old) (F.faults files.new) (F.is_sure files.old) (F.entries files.old) names.now) result }
-    ensures files { (F.entries files.new ≡ F.entries files.old) × (F.is_sure files.new ≡ F.is_sure files.old) }
-    ensures later { F.faults files.old ≤ F.faults files.new }
-{
-    match load_schemas(alloc, files, names) {
-        Ok(documents) => link_files(alloc, &documents),
-        Err(outcome) => Err(outcome),
-    }
-}
-
-// The set that these files are, with the root in it.
-fn open_files<F: Library>(
-    alloc: Global,
-    files: &mut F,
-    root: Root<'_>,
-    names: &[Text],
-) -> Result<Opened, Outcome>
-    requires { length names.now ≤ 64 }
-    ensures due { Answers opened_seen (due.Opened (F.entries files.old) (root_seen root.entry) names.now)
-        (SomeLoad (F.faults files.old) (F.faults files.new) (F.is_sure files.old) (F.entries files.old) names.now) result }
-    ensures files { (F.entries files.new ≡ F.entries files.old) × (F.is_sure files.new ≡ F.is_sure files.old) }
-    ensures later { F.faults files.old ≤ F.faults files.new }
-{
-    match read_set(alloc, files, names) {
-        Ok(set) => open_set(alloc, root, set),
-        Err(outcome) => Err(outcome),
-    }
-}
-
-// The items of the document in the input.
-fn read_items<S: Source>(alloc: Global, input: &mut S) -> Result<Items, Outcome>
-    ensures due { Answers (λ items. items) (ItemsIn (S.left input.old)) (OneRead (S.faults input.old) (S.faults input.new)) result }
-    ensures end { OnOk result (IsAtEnd (S.left input.new)) }
-    ensures stage { IfErr result IsOfInput }
-    ensures later { S.faults input.old ≤ S.faults input.new }
-{
-    match read_input(alloc, input) {
-        Ok(bytes) => read_input_items(alloc, &bytes),
-        Err(outcome) => Err(outcome),
     }
 }
 
@@ -122,111 +67,25 @@ fn show<F: Library>(alloc: Global, files: &mut F, names: &[Text]) -> Result<Vec<
     }
 }
 
-// Whether the document is valid for the root: it has no bytes to write.
-fn judge<L: Ledger>(
+// The same of a task that wants the map of the set.
+fn serve_prepared<S: Source, L: Ledger>(
     alloc: Global,
-    opened: &Opened,
-    items: &Items,
-    steps: &mut Steps<L>,
-) -> Result<Vec<u8>, Outcome>
-    ensures due { Answers (λ bytes. bytes.items) (Then (Judged (parts_of opened.now.set) opened.now.root items.now) (λ _. Give [])) NoMemory result }
-    ensures stage { IfErr result IsOfInput }
-    ensures most { steps.new ≤ steps.old + 144 * element_count items.now }
-    ensures later { steps.old ≤ steps.new }
-    ensures least { OnOk result (steps.old + element_count items.now ≤ steps.new + 1) }
-{
-    // What each linked set keeps is known once one of its readers was called.
-    let _ = opened.set.element_count();
-    match check_items(alloc, &opened.set, opened.root, items, steps) {
-        Ok(()) => Ok(Vec::new(alloc)),
-        Err(CheckError::Invalid { at, why }) => Err(Outcome::Invalid { at, why }),
-        Err(CheckError::Memory) => Err(Outcome::OutOfMemory),
-    }
-}
-
-// Whether the document in the input is.
-fn check_input<S: Source, L: Ledger>(
-    alloc: Global,
-    opened: &Opened,
+    task: Task,
+    opened: Opened,
     input: &mut S,
     steps: &mut Steps<L>,
 ) -> Result<Vec<u8>, Outcome>
-    ensures due { Answers (λ bytes. bytes.items) (Checked (opened_seen opened.now) (S.left input.old)) (OneRead (S.faults input.old) (S.faults input.new)) result }
+    ensures due { Answers (λ bytes. bytes.items) (Served task (opened_seen opened) (S.left input.old)) (OneRead (S.faults input.old) (S.faults input.new)) result }
+    ensures back { IfOk result (λ bytes. ServedBack (reads task) (opened_seen opened) (S.left input.old) bytes.items) }
     ensures end { OnOk result (IsAtEnd (S.left input.new)) }
     ensures stage { IfErr result IsOfInput }
+    ensures taken { (input.new ≡ input.old) ⊎ Takes (reads task) (opened_seen opened) (S.left input.old) (S.left input.new) }
     ensures later { S.faults input.old ≤ S.faults input.new }
-    ensures few { StepsUpTo (λ items. ItemsIn (S.left input.old) (Ok items)) steps.old steps.new }
-    ensures many { OnOk result (StepsFrom (λ items. ItemsIn (S.left input.old) (Ok items)) steps.old steps.new) }
+    ensures few { StepsUpTo (LooksAt (reads task) (S.left input.old)) steps.old steps.new }
+    ensures many { is_document (reads task) ≡ true → OnOk result (StepsFrom (LooksAt (reads task) (S.left input.old)) steps.old steps.new) }
 {
-    match read_items(alloc, input) {
-        Ok(items) => judge(alloc, opened, &items, steps),
-        Err(outcome) => Err(outcome),
-    }
-}
-
-// The encoding of the value of the document in the input.
-fn encode_input<S: Source, L: Ledger>(
-    alloc: Global,
-    syntax: Syntax,
-    opened: &Opened,
-    typed: &RootModule,
-    input: &mut S,
-    steps: &mut Steps<L>,
-) -> Result<Vec<u8>, Outcome>
-    requires { IsTypeOf opened.now.set opened.now.root (type_seen typed.now) }
-    ensures due { Answers (λ bytes. bytes.items)
-        (Then (ItemsIn (S.left input.old)) (λ items. Then (ValueIn (opened_seen opened.now) (type_seen typed.now) items) (λ value. Encoding syntax (type_seen typed.now) value)))
-        (OneRead (S.faults input.old) (S.faults input.new)) result }
-    ensures end { OnOk result (IsAtEnd (S.left input.new)) }
-    ensures stage { IfErr result IsOfInput }
-    ensures later { S.faults input.old ≤ S.faults input.new }
-    ensures few { StepsUpTo (λ items. ItemsIn (S.left input.old) (Ok items)) steps.old steps.new }
-    ensures many { OnOk result (StepsFrom (λ items. ItemsIn (S.left input.old) (Ok items)) steps.old steps.new) }
-{
-    match read_items(alloc, input) {
-        Ok(items) => encode_items(alloc, syntax, opened, typed, &items, steps),
-        Err(outcome) => Err(outcome),
-    }
-}
-
-// The encoding of the value of the document in the input, in this set.
-fn send<S: Source, L: Ledger>(
-    alloc: Global,
-    syntax: Syntax,
-    opened: &Opened,
-    input: &mut S,
-    steps: &mut Steps<L>,
-) -> Result<Vec<u8>, Outcome>
-    ensures due { Answers (λ bytes. bytes.items) (Encoded syntax (opened_seen opened.now) (S.left input.old)) (OneRead (S.faults input.old) (S.faults input.new)) result }
-    ensures end { OnOk result (IsAtEnd (S.left input.new)) }
-    ensures stage { IfErr result IsOfInput }
-    ensures later { S.faults input.old ≤ S.faults input.new }
-    ensures few { StepsUpTo (λ items. ItemsIn (S.left input.old) (Ok items)) steps.old steps.new }
-    ensures many { OnOk result (StepsFrom (λ items. ItemsIn (S.left input.old) (Ok items)) steps.old steps.new) }
-{
-    match map_root(alloc, opened) {
-        Ok(typed) => encode_input(alloc, syntax, opened, &typed, input, steps),
-        Err(outcome) => Err(outcome),
-    }
-}
-
-// The document of the value of which the input is the encoding, in this set.
-fn receive<S: Source>(
-    alloc: Global,
-    syntax: Syntax,
-    opened: &Opened,
-    input: &mut S,
-) -> Result<Vec<u8>, Outcome>
-    ensures due { Answers (λ bytes. bytes.items) (Documented syntax (opened_seen opened.now) (S.left input.old)) (OneRead (S.faults input.old) (S.faults input.new)) result }
-    ensures back { IfOk result (λ bytes. DocumentedBack syntax (opened_seen opened.now) (S.left input.old) bytes.items) }
-    ensures end { OnOk result (IsAtEnd (S.left input.new)) }
-    ensures stage { IfErr result IsOfInput }
-    ensures taken { (input.new ≡ input.old) ⊎ Takes (Octets syntax) (opened_seen opened.now) (S.left input.old) (S.left input.new) }
-    ensures later { S.faults input.old ≤ S.faults input.new }
-{
-    documents_of_values();
-    match map_root(alloc, opened) {
-        Ok(typed) => write_input(alloc, syntax, &typed, input),
+    match Prepared::of(alloc, opened) {
+        Ok(prepared) => prepared.serve(alloc, task, input, steps),
         Err(outcome) => Err(outcome),
     }
 }
@@ -235,23 +94,22 @@ fn receive<S: Source>(
 fn serve_input<S: Source, L: Ledger>(
     alloc: Global,
     task: Task,
-    opened: &Opened,
+    opened: Opened,
     input: &mut S,
     steps: &mut Steps<L>,
 ) -> Result<Vec<u8>, Outcome>
-    ensures due { Answers (λ bytes. bytes.items) (Served task (opened_seen opened.now) (S.left input.old)) (OneRead (S.faults input.old) (S.faults input.new)) result }
-    ensures back { IfOk result (λ bytes. ServedBack (reads task) (opened_seen opened.now) (S.left input.old) bytes.items) }
+    ensures due { Answers (λ bytes. bytes.items) (Served task (opened_seen opened) (S.left input.old)) (OneRead (S.faults input.old) (S.faults input.new)) result }
+    ensures back { IfOk result (λ bytes. ServedBack (reads task) (opened_seen opened) (S.left input.old) bytes.items) }
     ensures end { OnOk result (IsAtEnd (S.left input.new)) }
     ensures stage { IfErr result IsOfInput }
-    ensures taken { (input.new ≡ input.old) ⊎ Takes (reads task) (opened_seen opened.now) (S.left input.old) (S.left input.new) }
+    ensures taken { (input.new ≡ input.old) ⊎ Takes (reads task) (opened_seen opened) (S.left input.old) (S.left input.new) }
     ensures later { S.faults input.old ≤ S.faults input.new }
     ensures few { StepsUpTo (LooksAt (reads task) (S.left input.old)) steps.old steps.new }
     ensures many { is_document (reads task) ≡ true → OnOk result (StepsFrom (LooksAt (reads task) (S.left input.old)) steps.old steps.new) }
 {
     match task {
-        Task::Check => check_input(alloc, opened, input, steps),
-        Task::Send(syntax) => send(alloc, syntax, opened, input, steps),
-        Task::Receive(syntax) => receive(alloc, syntax, opened, input),
+        Task::Check => check_input(alloc, &opened, input, steps),
+        Task::Send(_) | Task::Receive(_) => serve_prepared(alloc, task, opened, input, steps),
     }
 }
 
@@ -278,7 +136,7 @@ fn serve<F: Library, S: Source, L: Ledger>(
     ensures many { is_document (reads task) ≡ true → OnOk result (StepsFrom (LooksAt (reads task) (S.left input.old)) steps.old steps.new) }
 {
     match open_files(alloc, files, root, names) {
-        Ok(opened) => serve_input(alloc, task, &opened, input, steps),
+        Ok(opened) => serve_input(alloc, task, opened, input, steps),
         Err(outcome) => Err(outcome),
     }
 }
@@ -408,27 +266,6 @@ fn complain<E: Sink>(outcome: Outcome, complaints: &mut E)
     let _ = write_line(&outcome, complaints);
 }
 
-// What is told of the records that the input has left, in this set: their documents are written.
-fn write_opened<S: Source, K: Sink>(
-    alloc: Global,
-    opened: &Opened,
-    input: &mut S,
-    output: &mut K,
-) -> Outcome
-    ensures answer { ((input.new ≡ input.old) × (output.new ≡ output.old) × (result ≡ Outcome.OutOfMemory))
-        ⊎ ((type : RootType) × Typed (opened_seen opened.now) (Ok type) × EachEnds type
-        (record { left = S.left input.old; written = K.written output.old; read_faults = S.faults input.old; write_faults = K.faults output.old })
-        (record { left = S.left input.new; written = K.written output.new; read_faults = S.faults input.new; write_faults = K.faults output.new }) result) }
-    ensures end { result ≡ Outcome.Done → IsAtEnd (S.left input.new) }
-    ensures reads { S.faults input.old ≤ S.faults input.new }
-    ensures writes { K.faults output.old ≤ K.faults output.new }
-{
-    match map_root(alloc, opened) {
-        Ok(typed) => write_records(alloc, &typed, input, output),
-        Err(outcome) => outcome,
-    }
-}
-
 // What `each-to-xml` makes of this root, these files and the input.
 fn serve_each<F: Library, S: Source, K: Sink>(
     alloc: Global,
@@ -451,8 +288,8 @@ fn serve_each<F: Library, S: Source, K: Sink>(
     ensures reads { S.faults input.old ≤ S.faults input.new }
     ensures writes { K.faults output.old ≤ K.faults output.new }
 {
-    match open_files(alloc, files, root, names) {
-        Ok(opened) => write_opened(alloc, &opened, input, output),
+    match Prepared::open(alloc, files, root, names) {
+        Ok(prepared) => prepared.write_each(alloc, input, output),
         Err(outcome) => outcome,
     }
 }

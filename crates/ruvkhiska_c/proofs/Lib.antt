@@ -1,0 +1,4 @@
+pub mod KeptBox
+pub mod ListedBox
+pub mod GivenBox
+pub mod Refusals

@@ -1,0 +1,125 @@
+//! What C has between calls: slots that know whether they are open.
+ghost use Rattle.std.specs.Prelude.{◌≡◌, ◌↔◌, IsTrue, IsSome, None, Some, length};
+
+use crate::given::Given;
+use crate::kept::Kept;
+use crate::listed::Listed;
+use messages::{Message, Prepared, SchemaFiles};
+use std::alloc::Global;
+use std::ptr::null;
+
+/// In C `struct { bool is_open; void *at; }`, zeros at first, and never copied while it is open: what was prepared.
+#[repr(C)]
+#[derive(Drop)]
+pub struct Converter {
+    pub(crate) is_open: bool,
+    pub(crate) kept: Kept,
+    ghost tied: { IsTrue is_open ↔ IsSome kept.value },
+}
+
+/// The same of the files that are added.
+#[repr(C)]
+#[derive(Drop)]
+pub struct Files {
+    pub(crate) is_open: bool,
+    pub(crate) listed: Listed,
+    ghost tied: { IsTrue is_open ↔ IsSome listed.value },
+}
+
+/// In C `struct { bool is_given; const uint8_t *data; size_t count; void *at; }`, zeros at first: an answer.
+#[repr(C)]
+#[derive(Drop)]
+pub struct Bytes {
+    pub(crate) is_given: bool,
+    pub(crate) data: *const u8,
+    pub(crate) count: usize,
+    pub(crate) given: Given,
+    ghost tied: { IsTrue is_given ↔ IsSome given.value },
+}
+
+pub(crate) fn closed(alloc: Global) -> Converter
+    ensures { result.kept.value ≡ None }
+{
+    Converter {
+        is_open: false,
+        kept: Kept::none(alloc),
+    }
+}
+
+pub(crate) fn open(b: Box<Prepared>) -> Converter
+    ensures { result.kept.value ≡ Some b.value }
+{
+    Converter {
+        is_open: true,
+        kept: Kept::of(b),
+    }
+}
+
+pub(crate) fn close(converter: Converter) {
+    let Converter { is_open, kept } = converter;
+    if is_open {
+        drop(kept.into_box());
+    }
+}
+
+pub(crate) fn no_files(alloc: Global) -> Files
+    ensures { result.listed.value ≡ None }
+{
+    Files {
+        is_open: false,
+        listed: Listed::none(alloc),
+    }
+}
+
+pub(crate) fn hold(b: Box<SchemaFiles>) -> Files
+    ensures { result.listed.value ≡ Some b.value }
+{
+    Files {
+        is_open: true,
+        listed: Listed::of(b),
+    }
+}
+
+pub(crate) fn drop_files(files: Files) {
+    let Files { is_open, listed } = files;
+    if is_open {
+        drop(listed.into_box());
+    }
+}
+
+pub(crate) fn nothing(alloc: Global) -> Bytes
+    ensures { result.given.value ≡ None }
+{
+    Bytes {
+        is_given: false,
+        data: null(),
+        count: 0,
+        given: Given::none(alloc),
+    }
+}
+
+pub(crate) fn give(b: Box<Message>) -> Bytes
+    ensures value { result.given.value ≡ Some b.value }
+    ensures count { result.count ≡ length b.value.bytes.items }
+{
+    let data = b.bytes.as_ptr();
+    let count = b.bytes.len();
+    Bytes {
+        is_given: true,
+        data,
+        count,
+        given: Given::of(b),
+    }
+}
+
+pub(crate) fn free(answer: Bytes) {
+    let Bytes {
+        is_given,
+        data: _,
+        count: _,
+        given,
+    } = answer;
+    if is_given {
+        drop(given.into_box());
+    }
+}

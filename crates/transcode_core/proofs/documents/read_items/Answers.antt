@@ -1,0 +1,20 @@
+use Rattle.std.proofs.Common.{inl}
+use Rattle.label_tree.specs.Rose.{Rose}
+use Rattle.item_tree.specs.declared.label.ItemLabel.{ItemLabel}
+use Rattle.command_line.specs.declared.outcome.Outcome.TheVariants.{DocSyntax}
+use Rattle.transcode_core.specs.Steps.{Input, Read}
+use Rattle.command_line.specs.Answers.{NoMemory}
+use Rattle.transcode_core.specs.Causes.{OneRead}
+use Rattle.command_line.proofs.Joined.{passed, refused}
+use Rattle.transcode_core.proofs.documents.read_items.Goals as goal
+
+pub returns-in-Ok-clause-due : goal.returns-in-Ok-clause-due
+returns-in-Ok-clause-due g c =
+    passed (Input (g.S.Source.left c.args.input.now)) (λ bytes. Read (λ at why. DocSyntax at why) bytes) NoMemory
+    (OneRead (g.S.Source.faults c.args.input.now) (g.S.Source.faults c.read_input.new.input)) (λ (items : Rose ItemLabel). items) c.in-Ok.bytes.items c.read_input_items.result
+    c.in-Ok.ensures.due (rw c.deref.ensures.value at c.read_input_items.ensures.due) (λ o h. inl h)
+
+pub returns-in-Err-clause-due : goal.returns-in-Err-clause-due
+returns-in-Err-clause-due g c =
+    let cause = OneRead (g.S.Source.faults c.args.input.now) (g.S.Source.faults c.read_input.new.input) in
+    refused (Input (g.S.Source.left c.args.input.now)) (λ bytes. Read (λ at why. DocSyntax at why) bytes) cause cause (λ (items : Rose ItemLabel). items) c.in-Err.outcome c.in-Err.ensures.due (λ h. h)

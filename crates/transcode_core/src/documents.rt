@@ -1,0 +1,36 @@
+//! The items of a document, from a source or lent.
+ghost use Rattle.std.specs.Prelude.{◌≤◌, Some, OnOk, IfErr};
+ghost use Rattle.std.specs.Io.KnownBytes.{IsAtEnd};
+ghost use Rattle.command_line.specs.Answers.{Answers, NoMemory};
+ghost use Rattle.transcode_core.specs.Due.{ItemsIn};
+ghost use Rattle.transcode_core.specs.Causes.{OneRead, IsOfInput};
+
+use crate::files::{LIMIT, read_input, read_input_items};
+use command_line::Outcome;
+use doc_text::Items;
+use std::alloc::Global;
+use xa_base::Source;
+
+/// The items of the document in the input.
+pub fn read_items<S: Source>(alloc: Global, input: &mut S) -> Result<Items, Outcome>
+    ensures due { Answers (λ items. items) (ItemsIn (S.left input.old)) (OneRead (S.faults input.old) (S.faults input.new)) result }
+    ensures end { OnOk result (IsAtEnd (S.left input.new)) }
+    ensures stage { IfErr result IsOfInput }
+    ensures later { S.faults input.old ≤ S.faults input.new }
+{
+    match read_input(alloc, input) {
+        Ok(bytes) => read_input_items(alloc, &bytes),
+        Err(outcome) => Err(outcome),
+    }
+}
+
+/// The items of the document that these bytes are: they are read where they lie.
+pub fn lent_items(alloc: Global, document: &[u8]) -> Result<Items, Outcome>
+    ensures due { Answers (λ items. items) (ItemsIn (Some document.now)) NoMemory result }
+    ensures stage { IfErr result IsOfInput }
+{
+    if document.len() as u64 > LIMIT {
+        return Err(Outcome::TooLong { file: 0 });
+    }
+    read_input_items(alloc, document)
+}

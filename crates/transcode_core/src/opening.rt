@@ -1,0 +1,54 @@
+//! The set that files are, and the root in it.
+ghost use Rattle.std.specs.Prelude.{◌≡◌, ◌≤◌, length};
+ghost use Rattle.schema_parts.specs.SetParts.{parts_of};
+ghost use Rattle.command_line.specs.Seen.{root_seen};
+ghost use Rattle.command_line.specs.Answers.{Answers};
+ghost use Rattle.transcode_core.specs.Private.Seen.{opened_seen};
+ghost use Rattle.transcode_core.specs.Due.{SetIn};
+ghost use Rattle.transcode_core.specs.Due as due;
+ghost use Rattle.transcode_core.specs.Causes.{SomeLoad};
+
+use crate::linking::{link_files, open_set};
+use crate::opened::Opened;
+use crate::schemas::load_schemas;
+use command_line::{Outcome, Root};
+use schema_parts::SchemaSet;
+use std::alloc::Global;
+use xa_base::{Library, Text};
+
+/// The set that these files are.
+pub fn read_set<F: Library>(
+    alloc: Global,
+    files: &mut F,
+    names: &[Text],
+) -> Result<SchemaSet, Outcome>
+    requires { length names.now ≤ 64 }
+    ensures due { Answers parts_of (SetIn (F.entries files.old) names.now)
+        (SomeLoad (F.faults files.old) (F.faults files.new) (F.is_sure files.old) (F.entries files.old) names.now) result }
+    ensures files { (F.entries files.new ≡ F.entries files.old) × (F.is_sure files.new ≡ F.is_sure files.old) }
+    ensures later { F.faults files.old ≤ F.faults files.new }
+{
+    match load_schemas(alloc, files, names) {
+        Ok(documents) => link_files(alloc, &documents),
+        Err(outcome) => Err(outcome),
+    }
+}
+
+/// The set that these files are, with the root in it.
+pub fn open_files<F: Library>(
+    alloc: Global,
+    files: &mut F,
+    root: Root<'_>,
+    names: &[Text],
+) -> Result<Opened, Outcome>
+    requires { length names.now ≤ 64 }
+    ensures due { Answers opened_seen (due.Opened (F.entries files.old) (root_seen root.entry) names.now)
+        (SomeLoad (F.faults files.old) (F.faults files.new) (F.is_sure files.old) (F.entries files.old) names.now) result }
+    ensures files { (F.entries files.new ≡ F.entries files.old) × (F.is_sure files.new ≡ F.is_sure files.old) }
+    ensures later { F.faults files.old ≤ F.faults files.new }
+{
+    match read_set(alloc, files, names) {
+        Ok(set) => open_set(alloc, root, set),
+        Err(outcome) => Err(outcome),
+    }
+}
