@@ -1,6 +1,6 @@
 #!/usr/bin/env bash
-# What converting an order costs, in one run: `check`, `to-per` and `to-xml` beside a few lines of C over expat that only parse
-# the document, and beside `xmllint --noout --schema`, which only checks it.
+# What converting an order costs, in one run: `check`, and the conversions to each transfer syntax and back, beside a few lines of
+# C over expat that only parse the document, and beside `xmllint --noout --schema`, which only checks it.
 #
 # Of an order of 10,000 lines the instructions, in millions, counted by valgrind's callgrind, so that a run tells the same
 # numbers again; of one of 100,000 lines the least processor seconds of fifteen runs that take turns, and the most memory in
@@ -21,7 +21,9 @@ root='{urn:po}order'
 
 for lines in "$counted" "$timed"; do
     order "$lines" > "$work/order-$lines"
-    "$program" to-per "$root" "$work/order.xsd" < "$work/order-$lines" > "$work/order-$lines.per"
+    for command in to-per to-per-u to-der; do
+        "$program" "$command" "$root" "$work/order.xsd" < "$work/order-$lines" > "$work/order-$lines.$command"
+    done
 done
 
 # The command of a row, with its input first.
@@ -30,7 +32,9 @@ command_of() {
     case $1 in
         expat) command=("$document" "$work/parse") ;;
         xmllint) command=(/dev/null xmllint --huge --noout --schema "$work/order.xsd" "$document") ;;
-        to-xml) command=("$document.per" "$program" to-xml "$root" "$work/order.xsd") ;;
+        to-xml) command=("$document.to-per" "$program" to-xml "$root" "$work/order.xsd") ;;
+        to-xml-u) command=("$document.to-per-u" "$program" to-xml-u "$root" "$work/order.xsd") ;;
+        from-der) command=("$document.to-der" "$program" from-der "$root" "$work/order.xsd") ;;
         *) command=("$document" "$program" "$1" "$root" "$work/order.xsd") ;;
     esac
 }
@@ -42,7 +46,7 @@ instructions() {
         awk '/Collected/ { printf "%.1f", $NF / 1000000 }'
 }
 
-rows='check to-per to-xml expat xmllint'
+rows='check to-per to-per-u to-der to-xml to-xml-u from-der expat xmllint'
 for _ in $(seq "$runs"); do
     for row in $rows; do
         command_of "$row" "$timed"

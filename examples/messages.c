@@ -1,7 +1,7 @@
 /*
  * Encodes and decodes a file of messages, each a document on a line of its own, over schemas that are read once.
  *
- *     messages SPACE LOCAL SYNTAX MESSAGES SCHEMA...      SYNTAX is 0 (aligned PER) or 1 (unaligned)
+ *     messages SPACE LOCAL SYNTAX MESSAGES SCHEMA...      SYNTAX is 0 (aligned PER), 1 (unaligned) or 2 (DER)
  *
  * Of each message it writes the octets in hexadecimal and the document that they stand for, or why it is refused.
  * docs/LIBRARY.md has the line that compiles and links it.

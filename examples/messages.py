@@ -1,6 +1,6 @@
 """Encodes and decodes a file of messages, each a document on a line of its own, over schemas that are read once.
 
-    messages.py LIBRARY SPACE LOCAL SYNTAX MESSAGES SCHEMA...      SYNTAX is 0 (aligned PER) or 1 (unaligned)
+    messages.py LIBRARY SPACE LOCAL SYNTAX MESSAGES SCHEMA...      SYNTAX is 0 (aligned PER), 1 (unaligned) or 2 (DER)
 
 LIBRARY is the shared object; docs/LIBRARY.md has the line that links it. It writes what examples/messages.c does.
 """

@@ -1,10 +1,10 @@
 #!/usr/bin/env python3
 """Tries what README.md and docs/ say.
 
-- README.md has less than 12 KB, and each file that a page names is there.
-- docs/REASONS.md has each reason of the program, from A to Z, and no other; each is told by a row of crates/transcode_rows, but
-  for one that no schema leads to.
-- crates/complaints/src/words.rt, the words of bin/ruvkhiska, says of each reason what docs/REASONS.md does.
+- README.md has less than 12 KB, each file that a page names is there, and so is each name of the code.
+- docs/REASONS.md has each reason of the program, from A to Z, and no other; each is told by a row of crates/transcode_rows.
+- crates/complaints/src/words.rt, the words of bin/ruvkhiska, says of each reason what docs/REASONS.md does, and the page has all its
+  words.
 - Each command of a page, a line `$ ...` with `bin/ruvkhiska` or `bin/transcode` in it, answers what the page says.
 - The recipes of docs/CONTENT-MODELS.md: the first model is refused as NotClear, the second is taken, and takes the same documents,
   tried with all of up to four (with the option --long six) child elements.
@@ -95,6 +95,24 @@ def try_names(docs):
             docs.holds(os.path.isfile(f"{HERE}/docs/{name}.md") or name == "README", page, "names", f"{name}.md")
 
 
+def try_code(docs):
+    """A word in marks of code that is written as names of the code are, as `IsMapOf` or `read_value`, stands in the code or in an
+    example."""
+    names = set()
+    for top in ("crates", "examples", "include"):
+        for folder, below, files in os.walk(f"{HERE}/{top}"):
+            below[:] = [it for it in below if it != "out"]
+            for name in files:
+                names.add(name.split(".")[0])
+                if name.endswith((".rt", ".antt", ".asn1", ".h")):
+                    names |= set(re.findall(r"[A-Za-z]\w*", text_of(f"{folder}/{name}")))
+            names |= set(below)
+    for page in pages():
+        for name in re.findall(r"`([A-Za-z]\w*)`", re.sub(r"(?ms)^```.*?^```|^    .*?$", "", text_of(page))):
+            if "_" in name or re.search("[A-Z].*[a-z]", name):
+                docs.holds(name in names, page, "names", name, "which isn't in the code")
+
+
 def try_reasons(docs):
     due = set()
     for table, (path, enum) in TABLES.items():
@@ -150,6 +168,8 @@ def try_words(docs):
         for name, means, remedy in re.findall(r'name: "(\w+)",\s+means: "((?:[^"\\]|\\.)*)",\s+remedy: "((?:[^"\\]|\\.)*)"', body):
             told = means.replace('\\"', '"'), remedy.replace('\\"', '"')
             docs.holds(said.get((table, name)) == told, table, name, "is", told, "and in docs/REASONS.md", said.get((table, name)))
+    for name in re.findall(r'name: "(\w+)"', words[words.index("pub fn reason_of(") :]):
+        docs.holds(name == "Done" or f"`{name}`" in text_of("docs/REASONS.md"), "docs/REASONS.md lacks the word", name)
 
 
 def try_commands(docs):
@@ -325,14 +345,17 @@ def try_agreement(docs):
         if name.startswith("refused-"):
             docs.holds(run("show", f"{HERE}/examples/{name}").returncode in (4, 5), name, "is taken")
     # A round trip.
-    features = f"{HERE}/examples/features.xsd"
     for root, there, due in [
         ("f", '<f><!-- c -->1<?p i?></f>', "<f>true</f>"),
         ("i", '<i xmlns:p="urn:p"> 007 </i>', "<i>7</i>"),
         ("q", "<q  t = 'a'></q>", '<q t="a"/>'),
         ("z", "<z>\n  <z/>\n</z>", "<z><z/></z>"),
+        ("k", '<k xmlns:xsi="http://www.w3.org/2001/XMLSchema-instance" xsi:nil="false">5</k>', "<k>5</k>"),
+        ("reading", '<reading version="02" unit="celsius" sensor="a"> +21 </reading>', '<reading sensor="a">21</reading>'),
+        ("reading", '<reading sensor="a" unit="kelvin">294</reading>', '<reading sensor="a" unit="kelvin">294</reading>'),
     ]:
-        schema = f"{HERE}/examples/boolean.xsd" if root == "f" else features
+        name = {"f": "boolean", "reading": "defaults"}.get(root, "features")
+        schema = f"{HERE}/examples/{name}.xsd"
         back = run("to-xml", root, schema, octets=run("to-per", root, schema, octets=there.encode()).stdout).stdout.decode()
         docs.holds(back == f'<?xml version="1.0" encoding="UTF-8"?>\n{due}\n', there, "comes back as", back)
 
@@ -345,6 +368,7 @@ def main():
     with tempfile.TemporaryDirectory() as work:
         docs = Docs(work)
         try_names(docs)
+        try_code(docs)
         try_reasons(docs)
         try_words(docs)
         try_remedies(docs)

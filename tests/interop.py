@@ -15,6 +15,7 @@ EXAMPLES = {
     "features": ["features.xsd"],
     "names": ["names.xsd"],
     "boolean": ["boolean.xsd"],
+    "defaults": ["defaults.xsd"],
     "parcel": ["parcel.xsd", "address.xsd"],
     "collisions": ["collisions-1.xsd", "collisions-2.xsd", "collisions-3.xsd"],
 }
@@ -26,6 +27,8 @@ DOCUMENTS = [
     ("order", "{urn:po}order", ORDER % f"<line><sku>{'s' * 16383}</sku><qty>1</qty></line><note> é</note>"),
     ("parcel", "{urn:parcel}parcel", '<parcel xmlns="urn:parcel" express="true"><address xmlns="urn:address"><name>Ann</name><code>1010</code></address><grams>250</grams></parcel>'),
     ("boolean", "f", "<f>true</f>"),
+    ("defaults", "reading", '<reading sensor="a" unit="celsius" version="2">21</reading>'),
+    ("defaults", "reading", '<reading sensor="a" unit="kelvin">294</reading>'),
     ("names", "t", "<t><a.b>1</a.b><a_b>0</a_b><_1x>1</_1x><é>0</é></t>"),
     ("features", "c", "<c>Green</c>"),
     ("features", "e", "<e/>"),

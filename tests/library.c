@@ -63,6 +63,7 @@ void rattle_dealloc(void *at) {
 static const char first[] = "<order xmlns=\"urn:po\" id=\"7\"><line><sku>A1</sku><qty>3</qty></line></order>";
 static const char second[] = "<order xmlns=\"urn:po\" id=\"8\"><line><sku>a part with a name that is longer than others</sku><qty>100</qty></line><note>by ship</note></order>";
 static const uint8_t first_octets[] = {0x00, 0x00, 0x07, 0x01, 0x02, 0x41, 0x31, 0x04};
+static const uint8_t first_in_der[] = {0x30, 0x0E, 0x80, 0x01, 0x07, 0xA1, 0x09, 0x30, 0x07, 0x80, 0x02, 0x41, 0x31, 0x81, 0x01, 0x03};
 
 static uint8_t schema[65536];
 static size_t schema_count;
@@ -115,6 +116,11 @@ static int sequence(void) {
     /* An answer that is there stays where the next is refused. */
     AGAIN(ruvkhiska_encode(&converter, RUVKHISKA_UNALIGNED, BYTES(second), &octets, &why), is_bytes(&octets, first_octets, sizeof first_octets));
     AGAIN(ruvkhiska_decode(&converter, RUVKHISKA_UNALIGNED, octets.data, octets.count, &document, &why), document.is_given);
+    AGAIN(ruvkhiska_encode(&converter, RUVKHISKA_DER, BYTES(first), &octets, &why), octets.is_given);
+    MUST(is_bytes(&octets, first_in_der, sizeof first_in_der));
+    AGAIN(ruvkhiska_decode(&converter, RUVKHISKA_DER, octets.data, octets.count, &document, &why), document.is_given);
+    AGAIN(ruvkhiska_encode(&converter, RUVKHISKA_DER, document.data, document.count, &other, &why), other.is_given);
+    MUST(is_bytes(&other, first_in_der, sizeof first_in_der));
     /* A converter that is open stays open where another set isn't prepared. */
     AGAIN(ruvkhiska_open(&files, BYTES("urn:po"), BYTES("order"), &converter, &why), converter.is_open && ruvkhiska_check(&converter, BYTES(first), &why) == RUVKHISKA_DONE);
     ruvkhiska_drop_files(&files);
@@ -127,6 +133,9 @@ static int sequence(void) {
     status = ruvkhiska_decode(&converter, RUVKHISKA_ALIGNED, BYTES("\x00\x00\x07"), &document, &why);
     if (status == RUVKHISKA_OUT_OF_MEMORY) felt++;
     else MUST(status == RUVKHISKA_PER_FAULT && document.is_given);
+    status = ruvkhiska_decode(&converter, RUVKHISKA_DER, BYTES("\x31\x00"), &document, &why);
+    if (status == RUVKHISKA_OUT_OF_MEMORY) felt++;
+    else MUST(status == RUVKHISKA_DER_FAULT && is_line("input, byte 0: der: Tag\n") && document.is_given);
     ruvkhiska_free(&octets);
     ruvkhiska_free(&octets);
     ruvkhiska_free(&document);
@@ -195,8 +204,8 @@ static int many(unsigned long messages) {
     size_t opened = held, early = 0;
     most = held;
     for (unsigned long i = 0; i < messages; i++) {
-        MUST(ruvkhiska_encode(&converter, i & 1, BYTES(first), &octets, &why) == RUVKHISKA_DONE);
-        MUST(ruvkhiska_decode(&converter, i & 1, octets.data, octets.count, &document, &why) == RUVKHISKA_DONE);
+        MUST(ruvkhiska_encode(&converter, i % 3, BYTES(first), &octets, &why) == RUVKHISKA_DONE);
+        MUST(ruvkhiska_decode(&converter, i % 3, octets.data, octets.count, &document, &why) == RUVKHISKA_DONE);
         if (i == 999) early = most;
         if (wrong > 10) break;
     }

@@ -66,13 +66,17 @@ by_program() {
     done < examples/orders.txt
 }
 
-for syntax in 0 1; do
+for syntax in 0 1 2; do
     "$work/messages" urn:po order "$syntax" examples/orders.txt examples/order.xsd > "$work/by-c" || fail "examples/messages.c: status $?"
     python3 examples/messages.py "$work/libruvkhiska.so" urn:po order "$syntax" examples/orders.txt examples/order.xsd > "$work/by-python" ||
         fail "examples/messages.py: status $?"
     cmp "$work/by-c" "$work/by-python" || fail "C and Python answer otherwise, syntax $syntax"
     if [ -x "$program" ]; then
-        if [ "$syntax" = 0 ]; then by_program to-per to-xml; else by_program to-per-u to-xml-u; fi > "$work/by-program"
+        case $syntax in
+            0) by_program to-per to-xml ;;
+            1) by_program to-per-u to-xml-u ;;
+            2) by_program to-der from-der ;;
+        esac > "$work/by-program"
         cmp "$work/by-c" "$work/by-program" || fail "the program answers otherwise, syntax $syntax"
     else
         echo "no program at $program: its answers aren't compared"

@@ -1,7 +1,7 @@
 #!/usr/bin/env python3
 """Gives bin/ruvkhiska what each row of crates/transcode_rows that is refused at a place gives the fixed program, and compares the
 place that it tells: the line and the column are counted here, from the byte that the row has. Each reason of the tables is among
-the rows, but one that no schema leads to, so each complaint is shown with its line and column. Then each text at fault is given
+the rows, so each complaint is shown with its line and column. Then each text at fault is given
 once more, with CR LF for each line feed, and once with a comment of characters of several bytes and a tab before the place, on its
 line.
 
@@ -37,7 +37,7 @@ def as_people_say(words):
 
 class Row:
     def __init__(self, title):
-        self.title, self.words, self.files, self.input, self.due = title, [], {}, bytearray(), None
+        self.title, self.words, self.files, self.input, self.due, self.written = title, [], {}, bytearray(), None, bytearray()
         self.is_plain = True
 
 
@@ -52,6 +52,8 @@ def rows_of(path):
             row.files[into[1]].extend(more)
         elif into[0] == "input":
             row.input.extend(more)
+        elif into[0] == "due":
+            row.written.extend(more)
 
     def marked(text):
         nonlocal mark

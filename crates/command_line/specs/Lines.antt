@@ -160,7 +160,7 @@ place (suc k) = codes "file " ++ decimal (suc k)
 
 abbrev pub line : Outcome → List ℕ
 line Done = []
-line Usage = codes "usage: show FILE... | check ROOT FILE... | to-per ROOT FILE... | to-xml ROOT FILE... | trial N\n"
+line Usage = codes "usage: show FILE... | check ROOT FILE... | to-per ROOT FILE... | to-xml ROOT FILE... | trial N | to-per-u ROOT FILE... | to-xml-u ROOT FILE... | to-der ROOT FILE... | from-der ROOT FILE... | each-to-xml ROOT FILE...\n"
 line (SchemaSyntax k at reason) = codes "file " ++ decimal k ++ codes ", byte " ++ decimal at ++ codes ": syntax: " ++ reason_name reason ++ codes "\n"
 line (SchemaFault k at reason) = codes "file " ++ decimal k ++ codes ", byte " ++ decimal at ++ codes ": schema: " ++ schema_reason reason ++ codes "\n"
 line (LinkFault k at reason) = codes "file " ++ decimal k ++ codes ", byte " ++ decimal at ++ codes ": link: " ++ link_reason reason ++ codes "\n"

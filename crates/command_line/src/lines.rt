@@ -20,8 +20,8 @@ use schema_rules::SchemaWhy;
 use validity::InvalidWhy;
 use xa_base::{Failed, Sink, write_all};
 
-// The room for a line. The longest, that of the usage, has 99 bytes.
-const ROOM: usize = 128;
+// The room for a line. The longest, that of the usage, has 216 bytes.
+const ROOM: usize = 256;
 
 // The pieces as one, if there is room for them.
 fn joined(parts: &[&[u8]]) -> Option<ArrayVec<u8, ROOM>>
@@ -286,7 +286,7 @@ fn parts_of(outcome: Outcome) -> Parts
     match outcome {
         Outcome::Done => plain(b""),
         Outcome::Usage => plain(
-            b"usage: show FILE... | check ROOT FILE... | to-per ROOT FILE... | to-xml ROOT FILE... | trial N\n",
+            b"usage: show FILE... | check ROOT FILE... | to-per ROOT FILE... | to-xml ROOT FILE... | trial N | to-per-u ROOT FILE... | to-xml-u ROOT FILE... | to-der ROOT FILE... | from-der ROOT FILE... | each-to-xml ROOT FILE...\n",
         ),
         Outcome::SchemaSyntax { file, at, why } => Parts {
             head: b"file ",

@@ -86,7 +86,6 @@ pub fn decode_der(
     octets: &[u8],
 ) -> Result<Decoded, DecodeError>
     requires assigned { t < length module.now }
-    requires small { length octets.now ≤ 2 ^ 32 }
     ensures value { IfOk result (λ found. In module.now t found.value) }
     ensures answer { Says module.now t octets.now result }
 {

@@ -1,9 +1,10 @@
 //! Identifiers (X.690, clauses 8.1.2, 8.13 and 8.14).
 ghost use Rattle.std.specs.Prelude.{◌≡◌, ◌≤◌, ◌∷◌, [], length, drop};
 ghost use Rattle.der_fields.specs.Octets.{begins, context_identifier, form_bit};
-ghost use Rattle.der_form.specs.Encoding.{identifier, is_constructed, is_open, universal_identifier};
+ghost use Rattle.der_form.specs.Encoding.{identifier, is_open};
 
 use asn_types::Form;
+use der_form::{is_constructed, universal_identifier};
 use std::marker::Model;
 
 // How many octets there are at most: a number of 32 bits is in five of 7 bits, behind the first octet (clause 8.1.2.4).
@@ -72,7 +73,7 @@ impl Identifier {
         ensures { result ≡ identifier tag form.now }
     {
         match tag {
-            None => Identifier::one(universal(form)),
+            None => Identifier::one(universal_identifier(form)),
             Some(number) => Identifier::context(is_constructed(form), number),
         }
     }
@@ -91,29 +92,6 @@ fn form_bit(constructed: bool) -> u8
     ensures few { result ≤ 32 }
 {
     if constructed { 32 } else { 0 }
-}
-
-// The identifier of a type of this form.
-fn universal(form: &Form) -> u8
-    ensures { universal_identifier form.now ≡ result ∷ [] }
-{
-    match form {
-        Form::Bool => 0x01,
-        Form::Int { .. } => 0x02,
-        Form::Numbers { .. } | Form::Words { .. } | Form::Order { .. } => 0x0A,
-        Form::Utf8 { .. } => 0x0C,
-        _ => 0x30,
-    }
-}
-
-// Whether encodings of a type of this form have others in them.
-fn is_constructed(form: &Form) -> bool
-    ensures { result ≡ is_constructed form.now }
-{
-    match form {
-        Form::Sequence { .. } | Form::Choice { .. } | Form::SequenceOf { .. } => true,
-        _ => false,
-    }
 }
 
 /// Whether a node has no octets but those of an alternative: a CHOICE without a tag.

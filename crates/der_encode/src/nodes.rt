@@ -1,11 +1,12 @@
 //! The nodes of a value, each from its last octet to its first.
 ghost use Rattle.std.specs.Prelude.{◌≡◌, ◌++◌, ◌∷◌, [], OnOk, IfOk, reverse};
 ghost use Rattle.label_tree.specs.Rose.{kids_of};
-ghost use Rattle.der_form.specs.Encoding.{der, identifier, universal_identifier, bool_octet, item_number, is_open, is_constructed};
+ghost use Rattle.der_form.specs.Encoding.{der, identifier, bool_octet, item_number, is_open};
 ghost use Rattle.der_encode.specs.Private.Kids.{HasItem, FitsSomewhere, PartsFit, parts_octets, ItemsFit, items_octets, KidsFit, resolved_octets};
 
 use crate::octets::{put_context, put_length, put_signed, put_text};
 use asn_types::{Form, Module, TypeLabel, resolve};
+use der_form::{is_constructed, universal_identifier};
 use flat_tree::Node;
 use label_tree::Tree;
 use simple_types::ValueLabel;
@@ -27,16 +28,6 @@ fn kids_of<'a>(
     Ok(kids)
 }
 
-// Whether encodings of a type of this form have others in them (clause 8.1.2.5).
-fn is_constructed(form: &Form) -> bool
-    ensures { result ≡ is_constructed form.now }
-{
-    matches!(
-        form,
-        Form::Sequence { .. } | Form::Choice { .. } | Form::SequenceOf { .. }
-    )
-}
-
 // Whether a node has no identifier of its own: a CHOICE without a tag (clause 8.13).
 fn is_open(tag: Option<usize>, form: &Form) -> bool
     ensures { result ≡ is_open tag form.now }
@@ -44,21 +35,6 @@ fn is_open(tag: Option<usize>, form: &Form) -> bool
     match tag {
         Some(_number) => false,
         None => matches!(form, Form::Choice { .. }),
-    }
-}
-
-// The identifier of a type (clause 8.1.2.2).
-fn universal_identifier(form: &Form) -> u8
-    ensures { universal_identifier form.now ≡ result ∷ [] }
-{
-    match form {
-        Form::Bool => 0x01,
-        Form::Int { .. } => 0x02,
-        Form::Numbers { .. } => 0x0A,
-        Form::Words { .. } => 0x0A,
-        Form::Order { .. } => 0x0A,
-        Form::Utf8 { .. } => 0x0C,
-        _ => 0x30,
     }
 }
 

@@ -3,6 +3,8 @@
 //! Read first: `specs/Encoding` (`der`, `distinguished`) and `specs/Reading`, then `src/laws.rt`.
 #![tactic(auto)]
 
+mod forms;
 mod laws;
 
+pub use forms::{is_constructed, universal_identifier};
 pub use laws::{first_stop, nodes};

@@ -1,5 +1,5 @@
 //! Schema files in memory.
-ghost use Rattle.std.specs.Prelude.{◌≡◌, ◌≤◌, ◌++◌, [], ◌∷◌, true, Some, None, MatchOption, MatchResult, IfOk, length, bytes_eq};
+ghost use Rattle.std.specs.Prelude.{◌≡◌, ◌<◌, ◌≤◌, ◌++◌, [], ◌∷◌, true, Some, None, MatchOption, MatchResult, IfOk, length, bytes_eq};
 ghost use Rattle.xa_base.specs.Entries.{beside};
 ghost use Rattle.command_line.specs.Seen.{root_seen};
 ghost use Rattle.command_line.specs.Answers.{Answers, NoMemory};
@@ -164,7 +164,7 @@ impl SchemaFiles {
     /// Adds a file, of which the name and the contents are copied.
     pub fn add(&mut self, alloc: Global, name: &str, contents: &[u8]) -> Result<(), AddError>
         ensures { MatchResult result
-            (λ _. self.new ≡ self.old ++ (name.now, contents.now) ∷ [])
+            (λ _. (self.new ≡ self.old ++ (name.now, contents.now) ∷ []) × (length self.old < 64))
             (λ error. (self.new ≡ self.old) × (error ≡ AddError.TooMany → length self.old ≡ 64)) }
     {
         if self.files.len() == MOST {

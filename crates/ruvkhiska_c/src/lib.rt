@@ -3,7 +3,7 @@
 //! Read first: `specs/Statuses`, then the calls below; `src/slots.rt` has what C holds between them.
 #![tactic(auto)]
 
-ghost use Rattle.std.specs.Prelude.{◌≡◌, ◌≢◌, ◌↔◌, ◌⊎◌, ◌++◌, [], ◌∷◌, pos, take, length, IsUtf8, IfSome, IfErr, IfOk, IsSomeAnd, MatchResult, None, Some, Ok};
+ghost use Rattle.std.specs.Prelude.{◌≡◌, ◌≢◌, ◌↔◌, ◌⊎◌, ◌<◌, ◌++◌, [], ◌∷◌, pos, take, length, IsUtf8, IfSome, IfErr, IfOk, IsSomeAnd, MatchResult, None, Some, Ok};
 ghost use Rattle.command_line.specs.Answers.{Answers, NoMemory, IsRefusal};
 ghost use Rattle.command_line.specs.Status.{status};
 ghost use Rattle.transcode_core.specs.Preparing.{prepared_seen};
@@ -63,7 +63,9 @@ pub extern "C" fn ruvkhiska_add(
 ) -> i32
     ensures added { result ≡ pos 0 → files_in files.new.listed.value ≡ files_in files.old.listed.value ++ (name.now, contents.now) ∷ [] }
     ensures unchanged { result ≢ pos 0 → files_in files.new.listed.value ≡ files_in files.old.listed.value }
+    ensures takes { result ≡ pos 0 → IsUtf8 name.now × (length (files_in files.old.listed.value) < 64) }
     ensures usage { result ≡ pos 2 → IsUtf8 name.now → length (files_in files.old.listed.value) ≡ 64 }
+    ensures not_utf8 { (IsUtf8 name.now → ⊥) → result ≡ pos 2 }
     ensures statuses { (result ≡ pos 0) ⊎ ((result ≡ pos 2) ⊎ (result ≡ pos 30)) }
 {
     let Ok(name) = from_utf8(name) else {
@@ -124,6 +126,7 @@ pub extern "C" fn ruvkhiska_open(
     ensures opened { result ≡ pos 0 → IsSomeAnd converter.new.kept.value (λ p. PreparedOf (files_in files.old.listed.value) space.now local.now (Ok (prepared_seen p))) }
     ensures refused { result ≢ pos 0 → Refuses (PreparedOf (files_in files.old.listed.value) space.now local.now) result (take complaint.new.count complaint.new.text) }
     ensures unchanged { result ≢ pos 0 → converter.new.kept.value ≡ converter.old.kept.value }
+    ensures quiet { result ≡ pos 0 → complaint.new.count ≡ 0 }
 {
     match prepare_slot(alloc, files, space, local) {
         Ok(b) => {
@@ -155,6 +158,7 @@ pub extern "C" fn ruvkhiska_check(
     ensures is_closed { (result ≡ pos 40) ↔ (converter.old.kept.value ≡ None) }
     ensures valid { result ≡ pos 0 → IfSome converter.old.kept.value (λ p. Checked (prepared_seen p) (Some document.now) (Ok [])) }
     ensures refused { result ≢ pos 0 → IfSome converter.old.kept.value (λ p. Refuses (Checked (prepared_seen p) (Some document.now)) result (take complaint.new.count complaint.new.text)) }
+    ensures quiet { (result ≡ pos 0) ⊎ (result ≡ pos 40) → complaint.new.count ≡ 0 }
 {
     complaint.count = 0;
     let Converter { is_open, kept } = replace(converter, closed(alloc));
@@ -182,6 +186,7 @@ fn hand_out(
         (λ o. (result ≡ pos (status o)) × (answer.new.given.value ≡ answer.old.given.value) × IsLine o (take complaint.new.count complaint.new.text)) }
     ensures not_closed { result ≢ pos 40 }
     ensures not_done { IfErr answered (λ _. result ≢ pos 0) }
+    ensures quiet { result ≡ pos 0 → complaint.new.count ≡ 0 }
 {
     match answered {
         Ok(b) => {
@@ -209,6 +214,7 @@ pub extern "C" fn ruvkhiska_encode(
         EncodedBy syntax (prepared_seen p) document.now (Ok m.bytes.items) × (answer.new.count ≡ length m.bytes.items))) }
     ensures refused { result ≢ pos 0 → IfSome converter.old.kept.value (λ p. Refuses (EncodedBy syntax (prepared_seen p) document.now) result (take complaint.new.count complaint.new.text)) }
     ensures unchanged { result ≢ pos 0 → answer.new.given.value ≡ answer.old.given.value }
+    ensures quiet { (result ≡ pos 0) ⊎ (result ≡ pos 40) → complaint.new.count ≡ 0 }
 {
     let Converter { is_open, kept } = replace(converter, closed(alloc));
     if !is_open {
@@ -239,6 +245,7 @@ pub extern "C" fn ruvkhiska_decode(
         IfSome (syntax_numbered syntax) (λ s. DocumentedBack s (prepared_seen p) (Some octets.now) m.bytes.items))) }
     ensures refused { result ≢ pos 0 → IfSome converter.old.kept.value (λ p. Refuses (DocumentedBy syntax (prepared_seen p) octets.now) result (take complaint.new.count complaint.new.text)) }
     ensures unchanged { result ≢ pos 0 → answer.new.given.value ≡ answer.old.given.value }
+    ensures quiet { (result ≡ pos 0) ⊎ (result ≡ pos 40) → complaint.new.count ≡ 0 }
 {
     let Converter { is_open, kept } = replace(converter, closed(alloc));
     if !is_open {
