@@ -1,4 +1,6 @@
 //! Complaints for people: where a fault stands, by file, line and column, why it is one, and what mends it.
+//!
+//! Read first: `specs/Complaints`, then `src/telling.rt`.
 #![tactic(auto)]
 
 mod paths;

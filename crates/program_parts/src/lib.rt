@@ -1,4 +1,6 @@
 //! The parts of the program that know nothing of schemas: its words, its files and the manual.
+//!
+//! Read first: `src/arguments.rt`, then `src/outside.rt`.
 #![tactic(auto)]
 
 mod arguments;

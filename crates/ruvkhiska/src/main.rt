@@ -1,4 +1,6 @@
 //! The program for people: the commands of the fixed program with options, files by name, and complaints that name lines.
+//!
+//! Read first: `specs/Results` of `stamped_results`, then `main` below.
 #![tactic(auto)]
 
 ghost use Rattle.std.specs.Prelude.{◌≡◌};

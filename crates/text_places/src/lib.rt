@@ -1,4 +1,6 @@
 //! Where a byte of a text stands, for people: its line and its column, and the line itself with a mark beneath.
+//!
+//! Read first: `specs/Lines`, `specs/Excerpts`, `specs/Paths`, then `src/telling.rt`.
 #![tactic(auto)]
 
 mod excerpts;
