@@ -284,7 +284,7 @@ REMEDIES = [
     }.items()
 ] + [
     (f"<xs:element name='d' type='b' abstract='true'/><xs:simpleType name='b'><xs:restriction base='xs:int'/></xs:simpleType>", "schema", "Abstract", []),
-    (content(f"<xs:all>{a('a')}{a('b')}</xs:all>"), "schema", "All", [element_of("a,b")]),
+    (content(f"<xs:all minOccurs='0'>{a('a')}{a('b')}</xs:all>"), "schema", "OptionalAll", [content("<xs:all>" + "".join(f'<xs:element name="{it}" type="xs:int" minOccurs="0"/>' for it in "ab") + "</xs:all>")]),
     (content('<xs:attribute name="a"/>'), "schema", "AnySimpleType", [content('<xs:attribute name="a" type="xs:string"/>')]),
     ('<xs:element name="d"/>', "schema", "AnyType", ['<xs:element name="d"><xs:complexType/></xs:element>']),
     (content('<xs:attribute name="a" type="xs:int" default=""/>'), "link", "BadDefault", [content('<xs:attribute name="a" type="xs:int" default="1"/>')]),
@@ -336,7 +336,7 @@ def try_agreement(docs):
     docs.holds(run("show", loose).stdout == run("show", order).stdout, "another layout gives another module")
     files = [f"{HERE}/examples/collisions-{it}.xsd" for it in "123"]
     docs.holds(run("show", *files).stdout == run("show", *reversed(files)).stdout, "the order of files shows in the module")
-    for name in ("order", "features", "names", "boolean", "defaults"):
+    for name in ("order", "features", "names", "boolean", "defaults", "any-order"):
         docs.holds(run("show", f"{HERE}/examples/{name}.xsd").stdout.decode() == text_of(f"examples/{name}.asn1"), name)
     docs.holds(run("show", *files).stdout.decode() == text_of("examples/collisions.asn1"), "collisions")
     files = [f"{HERE}/examples/{it}.xsd" for it in ("parcel", "address")]

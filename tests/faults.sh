@@ -178,6 +178,7 @@ inputs() {
 inputs f boolean.xsd boolean.xml
 inputs '{urn:po}order' order.xsd order.xml
 inputs reading defaults.xsd defaults.xml
+inputs contact any-order.xsd any-order.xml
 while read -r root document; do
     printf '%s' "$document" > "$work/document"
     inputs "$root" features.xsd "$work/document"

@@ -344,8 +344,8 @@ make_uses() {
 hostile uses 400 60 0 0 '' check "{$long_space}r" "$schema"
 make_uses_sent() { make_uses "$1"; }
 hostile uses_sent 400 60 0 0 '' to-per "{$long_space}r" "$schema"
-beside uses 400 5 check "{$long_space}r"
-beside uses_sent 400 5 to-per "{$long_space}r"
+beside uses 400 3 check "{$long_space}r"
+beside uses_sent 400 3 to-per "{$long_space}r"
 
 # A text of so many items before 50 that are spelled anew one after another, each by another member of a union of 50
 # lists: each member reads all items again in each form that the text takes.
@@ -406,6 +406,59 @@ make_empty_choices() {
 }
 hostile empty_choices 20000 200 0 0 '' to-per r "$schema"
 
+# Elements of an all of 20, in the order opposite to that of the schema; elements of an all of 490 that may be absent, of
+# which none stands: the matcher keeps a mark for each.
+make_any_order() {
+    {
+        root_of_many a A
+        printf '<xs:complexType name="E"/><xs:complexType name="A"><xs:all>'
+        repeat 20 '<xs:element name="e%d" type="E"/>'
+        printf '</xs:all></xs:complexType>%s' "$end"
+    } > "$schema"
+    awk -v count="$1" 'BEGIN {
+        for (i = 19; i >= 0; i--) kids = kids "<e" i "/>"
+        printf "<r>"
+        for (i = 0; i < count; i++) printf "<a>%s</a>", kids
+        printf "</r>"
+    }' < /dev/null > "$input"
+}
+hostile any_order 100000 40 0 0 '' check r "$schema"
+make_any_order_sent() { make_any_order "$1"; }
+hostile any_order_sent 24000 80 0 0 '' to-per r "$schema"
+beside any_order 100000 8 check r
+beside any_order_sent 24000 16 to-per r
+make_marks() {
+    {
+        root_of_many a A
+        printf '<xs:complexType name="A"><xs:all>'
+        repeat 490 '<xs:element name="e%d" type="xs:int" minOccurs="0"/>'
+        printf '</xs:all></xs:complexType>%s' "$end"
+    } > "$schema"
+    { printf '<r>'; repeat "$1" '<a/>'; printf '</r>'; } > "$input"
+}
+hostile marks 200000 800 1 0 '' to-per r "$schema"
+
+# Such lists of which none stands, in each of the 490 elements of an all: their values are kept until the last has come, and all
+# together are no more than one value may be.
+make_apart() {
+    {
+        printf '%s<xs:element name="r"><xs:complexType><xs:all>' "$head"
+        repeat 490 '<xs:element name="l%d" type="L"/>'
+        printf '</xs:all></xs:complexType></xs:element><xs:complexType name="L"><xs:sequence>'
+        printf '<xs:element name="e" type="E" minOccurs="0" maxOccurs="unbounded"/>'
+        printf '</xs:sequence></xs:complexType><xs:complexType name="E"><xs:sequence>'
+        repeat 490 '<xs:element name="a%d" type="xs:int" minOccurs="0" maxOccurs="unbounded"/>'
+        printf '</xs:sequence></xs:complexType>%s' "$end"
+    } > "$schema"
+    awk -v count=$(($1 / 490)) 'BEGIN {
+        for (i = 0; i < count; i++) lists = lists "<e/>"
+        printf "<r>"
+        for (i = 489; i >= 0; i--) printf "<l%d>%s</l%d>", i, lists, i
+        printf "</r>"
+    }' < /dev/null > "$input"
+}
+hostile apart 196000 600 1 12 'value of * nodes: too many' to-per r "$schema"
+
 # ---- Octets
 
 # A list of 2^32 items without bits, which 65,536 octets announce; texts in fragments of which the last isn't there.
@@ -417,6 +470,16 @@ make_fragments() {
     printf '\304' >> "$input"
 }
 hostile fragments 252 8 0 9 'input, bit *: per: Short' to-xml s "$features"
+
+# An order of one element that names it 2^32 times, and 983,040 times: a number of one has no bits.
+make_order_of_one() {
+    printf '%s<xs:element name="r"><xs:complexType><xs:all><xs:element name="a" type="xs:boolean" minOccurs="0"/>' "$head" > "$schema"
+    printf '</xs:all></xs:complexType></xs:element>%s' "$end" >> "$schema"
+    { printf '\0'; bytes "$1" '\304'; printf '\0'; } > "$input"
+}
+hostile order_of_one 65536 3000 1 9 'input, bit 136: per: TooMany' to-xml r "$schema"
+make_order_again() { make_order_of_one $(($1 / 65536)); }
+hostile order_again 983040 200 1 9 'input, bit 0: per: NotAValue' to-xml r "$schema"
 
 # 16 octets that stand for 983,040 elements with a name of 255 bytes.
 make_names_of_octets() {

@@ -17,6 +17,7 @@ EXAMPLES = {
     "boolean": ["boolean.xsd"],
     "defaults": ["defaults.xsd"],
     "parcel": ["parcel.xsd", "address.xsd"],
+    "any-order": ["any-order.xsd"],
     "collisions": ["collisions-1.xsd", "collisions-2.xsd", "collisions-3.xsd"],
 }
 ORDER = '<order xmlns="urn:po" id="7">%s</order>'
@@ -26,6 +27,8 @@ DOCUMENTS = [
     ("order", "{urn:po}order", ORDER % ("<line><sku>A1</sku><qty>1</qty></line>" * 17000)),
     ("order", "{urn:po}order", ORDER % f"<line><sku>{'s' * 16383}</sku><qty>1</qty></line><note> é</note>"),
     ("parcel", "{urn:parcel}parcel", '<parcel xmlns="urn:parcel" express="true"><address xmlns="urn:address"><name>Ann</name><code>1010</code></address><grams>250</grams></parcel>'),
+    ("any-order", "contact", '<contact id="7"><letters year="2026"><received>3</received><answered>1</answered></letters><name>Ada</name></contact>'),
+    ("any-order", "contact", '<contact id="7"><name>Ada</name><note>By <from>Ada</from> on <order>5</order></note><letters year="7"><received>0</received></letters></contact>'),
     ("boolean", "f", "<f>true</f>"),
     ("defaults", "reading", '<reading sensor="a" unit="celsius" version="2">21</reading>'),
     ("defaults", "reading", '<reading sensor="a" unit="kelvin">294</reading>'),
@@ -50,7 +53,7 @@ DOCUMENTS = [
     ("features", "z", "<z><z><z/></z></z>"),
 ]
 # The roots of whose types random values are made by the other side; of a recursive type, as that of z, it finds no end.
-ROOTS = [("order", "{urn:po}order"), ("names", "t"), ("boolean", "f"), ("parcel", "{urn:parcel}parcel")]
+ROOTS = [("order", "{urn:po}order"), ("names", "t"), ("boolean", "f"), ("parcel", "{urn:parcel}parcel"), ("any-order", "contact")]
 ROOTS += [("features", it) for it in "ceikmnpqrsuvw"]
 
 

@@ -682,8 +682,12 @@ class Particle:
     BOUNDS += [(0, 254), (0, 255), (1, 65536), (0, 65535), (0, 65536)]
     BACK = [(0, 1), (0, 1), (0, None), (0, 3)]
 
-    def __init__(self, schema, depth, term=None):
-        self.least, self.most = rng.choice(self.BOUNDS)
+    # In an `all`, and that itself.
+    SINGLE = [(1, 1), (1, 1), (0, 1)]
+    ONCE = [(1, 1)]
+
+    def __init__(self, schema, depth, term=None, bounds=BOUNDS):
+        self.least, self.most = rng.choice(bounds)
         if term is None:
             form = rng.random()
             if depth <= 0 or form < 0.7:
@@ -694,7 +698,7 @@ class Particle:
         self.schema = schema
         self.file = schema.here
         if term in schema.open or isinstance(term, Element) and term.type in schema.open:
-            self.least, self.most = rng.choice(self.BACK)
+            self.least, self.most = (0, 1) if bounds is self.SINGLE else rng.choice(self.BACK)
         if term.may_be_empty():
             self.least = self.most = 1
 
@@ -804,6 +808,47 @@ class Group:
         return elements, lambda bits: bits.choice(index, len(self.particles), encode)
 
 
+class All:
+    """Elements of different names, each at most once, in any order. The SEQUENCE has them in the order of the schema, and before
+    its attributes the order that the document has: the places of those that stand, counted from 0 (X.693, USE-ORDER)."""
+
+    is_sequence = False
+
+    def __init__(self, schema, depth):
+        self.particles = []
+        many = rng.random() < 0.1
+        for _ in range(rng.choice([20, 200, 255, 256, 257]) if many else rng.randint(1, 6)):
+            term = schema.element_again(depth) or Element(schema, 0 if many else depth - 1)
+            self.particles.append(Particle(schema, depth, term, Particle.SINGLE))
+        self.never = ""
+        if rng.random() < 0.15:
+            self.never = f'<xs:element name="{schema.fresh_name()}" type="xs:int" minOccurs="0" maxOccurs="0"/>'
+
+    def written(self, _):
+        inner = [particle.written() for particle in self.particles]
+        inner.insert(rng.randint(0, len(inner)), self.never)
+        return f"<xs:all>{''.join(inner)}</xs:all>"
+
+    def may_be_empty(self):
+        return all(particle.may_be_empty() for particle in self.particles)
+
+    def first_names(self):
+        return {name for particle in self.particles for name in particle.term.first_names()}
+
+    def is_clear(self, follow):
+        return not follow and len(self.first_names()) == len(self.particles)
+
+    def value(self):
+        """The elements in the order of the document, the components, and the order."""
+        stand, components = [], []
+        for number, particle in enumerate(self.particles):
+            elements, component = particle.component()
+            stand += [(number, element) for element in elements]
+            components.append(component)
+        rng.shuffle(stand)
+        return [element for _, element in stand], components, [number for number, _ in stand]
+
+
 class Standard:
     """A default or fixed value: as an attribute of the schema, and the bits of its value, which tell values apart."""
 
@@ -885,7 +930,7 @@ class Complex:
             schema.open.append(self)
         self.attributes = [Attribute(schema) for _ in range(rng.choice([0, 0, 1, 2, 3]))]
         self.simple = self.top = None
-        self.is_mixed = False
+        self.is_mixed = self.is_all = False
         attributes = "".join(attribute.written for attribute in self.attributes)
         form = rng.random()
         if rng.random() < 0.1 and form >= 0.15:
@@ -896,12 +941,16 @@ class Complex:
             body = f"<xs:simpleContent><xs:extension base={base}>{attributes}</xs:extension></xs:simpleContent>"
         elif form < 0.9:
             self.is_mixed = rng.random() < 0.25
-            self.top = Particle(schema, depth, Group(schema, depth, rng.random() < 0.65))
+            self.is_all = rng.random() < 0.2
+            if self.is_all:
+                self.top = Particle(schema, depth, All(schema, depth), Particle.ONCE)
+            else:
+                self.top = Particle(schema, depth, Group(schema, depth, rng.random() < 0.65))
             schema.models.append(self.top)
             body = self.top.written() + attributes
         else:
             self.is_mixed = rng.random() < 0.4
-            body = rng.choice(["", "<xs:sequence/>"]) + attributes
+            body = rng.choice(["", "<xs:sequence/>", "<xs:all/>"]) + attributes
         mixed = ' mixed="true"' * self.is_mixed
         self.type_name, self.written = "", f"<xs:complexType{mixed}>{body}</xs:complexType>"
         if is_named:
@@ -912,28 +961,31 @@ class Complex:
         schema.here = here
 
     def content(self):
-        """The text of the content, and its components; with the texts between elements where it is mixed."""
+        """The text of the content, its components, the texts between elements where it is mixed, and the order of an `all`."""
         if self.simple:
             text, encode = self.simple.value()
-            return text_shown(self.schema.spaced(self.simple, text)), [(False, encode)], None
+            return text_shown(self.schema.spaced(self.simple, text)), [(False, encode)], None, None
         if self.top is None and self.is_mixed:
             text = rng.choice(["", "x", "a b"])
-            return text_shown(text), [], [text]
+            return text_shown(text), [], [text], None
         if self.top is None:
-            return rng.choice(["", "<!-- c -->"]), [], None
-        if self.top.is_once() and self.top.term.is_sequence:
+            return rng.choice(["", "<!-- c -->"]), [], None, None
+        order = None
+        if self.is_all:
+            elements, components, order = self.top.term.value()
+        elif self.top.is_once() and self.top.term.is_sequence:
             elements, components = components_of(self.top.term.particles)
         else:
             elements, component = self.top.component()
             components = [component]
         if not self.is_mixed:
             inner = between_elements() + "".join(element + between_elements() for element in elements)
-            return inner, components, None
+            return inner, components, None, order
         texts = rng.choices(["", "", "x", " ", "a b", "\n", "é<&"], k=len(elements) + 1)
         inner = text_shown(texts[0])
         for element, text in zip(elements, texts[1:]):
             inner += element + text_shown(text)
-        return inner, components, texts
+        return inner, components, texts, order
 
 
 class Element:
@@ -1016,12 +1068,16 @@ class Element:
             written.append(text)
             components.append(component)
         rng.shuffle(written)
-        inner, content, texts = self.type.content()
+        inner, content, texts, order = self.type.content()
         if is_nil:
-            inner, texts = "", []
+            inner, texts, order = "", [], []
 
         def encode_texts(bits):
             bits.items([lambda bits, text=text: bits.text(text) for text in texts], 0, None)
+
+        def encode_order(bits):
+            count = len(self.type.top.term.particles)
+            bits.items([lambda bits, number=number: bits.item(number, count, number) for number in order], 0, None)
 
         def encode_content(bits):
             if self.type.simple:
@@ -1029,6 +1085,8 @@ class Element:
             else:
                 bits.sequence(content)
 
+        if self.type.is_all:
+            components.insert(0, (False, encode_order))
         if self.type.is_mixed:
             components.insert(0, (False, encode_texts))
         if self.is_nillable:

@@ -5,5 +5,6 @@ pub mod JustSet
 mod Ordering
 pub mod Placed
 mod Rows
+pub mod Slots
 mod Spelled
 pub mod Standards

@@ -1,3 +1,4 @@
+pub mod Ordering
 pub mod Orders
 pub mod Values
 pub mod Private

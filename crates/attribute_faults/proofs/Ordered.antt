@@ -102,7 +102,7 @@ module _ (us : List AttributeUse) (sorted : Ascend us) (space : List ℕ) where
     split : (a b : ℕ) → (a < b) ⊎ (b ≤ a)
     split a b = grind arith
 
-    pub reaches_down : place < run.start → IsRunOf us space (record { start = place; end = run.end })
+    pub reaches_down : place < run.start → IsRunOf us space (record { start = place; end = run.end; last = run.last; next = run.next })
     reaches_down less = record {
       within = h.within;
       same = λ k d low high. elim (split k run.start) [
@@ -111,7 +111,7 @@ module _ (us : List AttributeUse) (sorted : Ascend us) (space : List ℕ) where
       ];
     }
 
-    pub reaches_up : run.end ≤ place → place < length us → IsRunOf us space (record { start = run.start; end = place + 1 })
+    pub reaches_up : run.end ≤ place → place < length us → IsRunOf us space (record { start = run.start; end = place + 1; last = run.last; next = run.next })
     reaches_up more there = record {
       within = omega (arith, there);
       same = λ k d low high. elim (split k run.end) [

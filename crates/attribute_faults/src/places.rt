@@ -29,6 +29,10 @@ pub(crate) fn is_same(one: &Name, other: &Name) -> bool
 pub(crate) struct Run {
     start: usize,
     end: usize,
+    // Where the last name was found.
+    last: usize,
+    // Where the next one is looked for first: attributes often stand in the order of the uses, or against it.
+    next: usize,
 }
 
 impl Run {
@@ -36,7 +40,12 @@ impl Run {
     pub(crate) fn none() -> Run
         ensures { (us : List AttributeUse) (space : List ℕ) → IsRunOf us space result }
     {
-        Run { start: 0, end: 0 }
+        Run {
+            start: 0,
+            end: 0,
+            last: 0,
+            next: 0,
+        }
     }
 
     // The same uses where they have the namespace of the name, else none.
@@ -64,19 +73,36 @@ impl Run {
             Run {
                 start: place,
                 end: place + 1,
+                ..self
             }
         } else if place < self.start {
             Run {
                 start: place,
-                end: self.end,
+                ..self
             }
         } else if self.end <= place {
             Run {
-                start: self.start,
                 end: place + 1,
+                ..self
             }
         } else {
             self
+        }
+    }
+
+    // The same uses, where a name was found at this place.
+    fn found(self, place: usize) -> Run
+        ensures { (us : List AttributeUse) (space : List ℕ) → IsRunOf us space self → IsRunOf us space result }
+    {
+        let next = if self.last < place {
+            place.saturating_add(1)
+        } else {
+            place.saturating_sub(1)
+        };
+        Run {
+            last: place,
+            next,
+            ..self
         }
     }
 }
@@ -116,8 +142,23 @@ fn place_among_few(uses: &[AttributeUse], name: &Name) -> Option<usize>
     None
 }
 
-/// The number of the use of this name, if there is one, among uses that ascend. Many are searched by halves, and what is
-/// learnt of their namespaces is kept for the next name.
+// The middle of the numbers from one to before another.
+fn middle(low: usize, high: usize) -> usize
+    requires { low ≤ high }
+    ensures { low < high → (low ≤ result) × (result < high) }
+{
+    low + (high - low) / 2
+}
+
+// Where a search among so many uses begins: at this number, or else in the middle.
+fn first_look(count: usize, next: usize) -> usize
+    ensures { 0 < count → result < count }
+{
+    if next < count { next } else { middle(0, count) }
+}
+
+/// The number of the use of this name, if there is one, among uses that ascend. Many are searched by halves, from where the
+/// name may stand by where the last ones stood, and what is learnt of their namespaces is kept for the next name.
 pub(crate) fn place_of(uses: &[AttributeUse], name: &Name, run: &mut Run) -> Option<usize>
     requires ascending { Ascend uses.now }
     requires run { IsRun uses.now run.old }
@@ -130,12 +171,21 @@ pub(crate) fn place_of(uses: &[AttributeUse], name: &Name, run: &mut Run) -> Opt
     *run = run.of(uses, name);
     let mut low = 0;
     let mut high = uses.len();
+    let mut place = first_look(high, run.next);
     'halves: while low < high {
-        let middle = low + (high - low) / 2;
-        match compare(uses, middle, name, run) {
-            Ordering::Less => low = middle + 1,
-            Ordering::Greater => high = middle,
-            Ordering::Equal => return Some(middle),
+        match compare(uses, place, name, run) {
+            Ordering::Less => {
+                low = place + 1;
+                place = middle(low, high);
+            }
+            Ordering::Greater => {
+                high = place;
+                place = middle(low, high);
+            }
+            Ordering::Equal => {
+                *run = run.found(place);
+                return Some(place);
+            }
         }
     }
     None

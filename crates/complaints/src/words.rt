@@ -131,11 +131,6 @@ pub fn schema_reason(why: SchemaWhy) -> Reason
             means: "notation is left out",
             remedy: "drop it",
         },
-        SchemaWhy::All => Reason {
-            name: "All",
-            means: "all is left out",
-            remedy: "a sequence in one order",
-        },
         SchemaWhy::IdentityConstraint => Reason {
             name: "IdentityConstraint",
             means: "key, keyref and unique are left out",
@@ -210,6 +205,11 @@ pub fn schema_reason(why: SchemaWhy) -> Reason
             name: "ElementDefault",
             means: "default or fixed on an element",
             remedy: "drop it, and write the value in each document",
+        },
+        SchemaWhy::OptionalAll => Reason {
+            name: "OptionalAll",
+            means: "an all with minOccurs 0 is left out",
+            remedy: "minOccurs 0 at each element in it",
         },
         SchemaWhy::Decimal => Reason {
             name: "Decimal",

@@ -1,13 +1,13 @@
 -- A particle whose bounds allow an occurrence may occur, since each choice in a tree of particles has an alternative.
-use Rattle.std.proofs.Common.{◌≡◌, ℕ, ◌≤◌, refl, arith}
+use Rattle.std.proofs.Common.{◌≤◌, arith}
 use Rattle.label_tree.specs.Rose.{Rose, node, Roses, Allowed, AllowedAll, length_all}
 use Rattle.label_tree.specs.Rose as rose
 use Rattle.content_models.specs.Kids.{KindMayHave, MayHave}
-use Rattle.content_models.specs.Particle.{Particle, occurs, Term, element, sequence, choice, Particles, none, more}
-use Rattle.content_models.specs.Occurring.{AllowOne, IsMore, MayOccur, TermMayOccur, AllMayOccur}
+use Rattle.content_models.specs.Particle.{Particle, occurs, Term, element, sequence, choice, all, Particles, none, more}
+use Rattle.content_models.specs.Occurring.{IsMore, MayOccur, TermMayOccur, AllMayOccur}
 use Rattle.content_models.specs.Seen.{term_seen, seen, all_seen}
 use Rattle.content_models.specs.declared.particles.ParticleKind.{ParticleKind}
-use Rattle.content_models.specs.declared.particles.ParticleKind.TheVariants.{Element, Sequence, Choice}
+use Rattle.content_models.specs.declared.particles.ParticleKind.TheVariants.{Element, Sequence, Choice, All}
 use Rattle.content_models.specs.declared.particles.ParticleLabel.{ParticleLabel}
 use Rattle.content_match.specs.Bounds.{BoundsAllow, TermBoundsAllow, AllBoundsAllow}
 
@@ -20,6 +20,7 @@ term_occurs : (kind : ParticleKind) (ts : Roses ParticleLabel) → KindMayHave k
 term_occurs (Element decl name) ts may bounds each = tt
 term_occurs Sequence ts may bounds each = each bounds
 term_occurs Choice ts may bounds each = (some_kid ts may, each bounds)
+term_occurs All ts may bounds each = each bounds
 
 mutual
   pub occurs_within : (t : Rose ParticleLabel) → Allowed MayHave t → BoundsAllow (seen t) → MayOccur (seen t)
@@ -38,6 +39,7 @@ mutual
   term_bounds (element d a) may = tt
   term_bounds (sequence ps) may = all_bounds ps may
   term_bounds (choice ps) (some, may) = all_bounds ps may
+  term_bounds (all ps) may = all_bounds ps may
 
   all_bounds : (ps : Particles) → AllMayOccur ps → AllBoundsAllow ps
   all_bounds none may = tt

@@ -1,5 +1,5 @@
 -- The bounds of particles (XML Schema Part 1, section 3.9.6).
-use Rattle.content_models.specs.Particle.{Particle, occurs, Term, element, sequence, choice, Particles, none, more}
+use Rattle.content_models.specs.Particle.{Particle, occurs, Term, element, sequence, choice, all, Particles, none, more}
 use Rattle.content_models.specs.Occurring.{AllowOne}
 
 abbrev mutual
@@ -11,6 +11,7 @@ abbrev mutual
   TermBoundsAllow (element d a) = Unit {0}
   TermBoundsAllow (sequence ps) = AllBoundsAllow ps
   TermBoundsAllow (choice ps) = AllBoundsAllow ps
+  TermBoundsAllow (all ps) = AllBoundsAllow ps
 
   pub AllBoundsAllow : Particles → Type 0
   AllBoundsAllow none = Unit {0}

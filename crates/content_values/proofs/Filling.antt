@@ -6,7 +6,7 @@ use Rattle.label_tree.specs.Rose as rose
 use Rattle.simple_types.specs.declared.labels.ValueLabel.{ValueLabel}
 use Rattle.simple_types.specs.declared.labels.ValueLabel.TheVariants as value
 use Rattle.simple_values.specs.Lexical.{is_at_most}
-use Rattle.content_models.specs.Particle.{Particle, occurs, Term, element, sequence, choice, Particles, none, more}
+use Rattle.content_models.specs.Particle.{Particle, occurs, Term, element, sequence, choice, all, Particles, none, more}
 use Rattle.content_models.specs.Clear.{is_zero, empties, empties_term, all_empty, any_empty, Rule1}
 use Rattle.content_spots.proofs.Entering.{both_true}
 use Rattle.content_values.specs.Bounds.{is_once, is_optional}
@@ -91,6 +91,7 @@ mutual
   pub term-empty : (t : Term) → TermKeepsRule1 t → empties_term t ≡ true → TermMade t (empty_term t) []
   term-empty (element d a) k e = absurd (cc)
   term-empty (sequence ps) k e = (empty_flags ps, empty_values ps, refl, parts-empty ps k e)
+  term-empty (all ps) k e = absurd k
   term-empty (choice ps) k e = (empty_place ps, empty_chosen ps, refl, one-empty ps k e)
 
   pub parts-empty : (ps : Particles) → AllKeepRule1 ps → all_empty ps ≡ true → PartsMade ps (empty_flags ps) (empty_values ps) []

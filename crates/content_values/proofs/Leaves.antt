@@ -2,9 +2,9 @@
 use Rattle.std.proofs.Common.{◌≡◌, ℕ, zero, suc, ◌+◌, Bool, true, false, List, [], ◌∷◌, ◌++◌, Option, Some, sym, ◌∙◌, ap}
 use Rattle.flat_tree.specs.Zips.{Zip}
 use Rattle.simple_types.specs.declared.labels.ValueLabel.{ValueLabel}
-use Rattle.content_models.specs.Particle.{Particle, occurs, Term, element, sequence, choice, Particles, none, more}
+use Rattle.content_models.specs.Particle.{Particle, occurs, Term, element, sequence, choice, all, Particles, none, more}
 use Rattle.content_models.specs.Language.{Turn, Leaf, leaf_at, turn_of, size_of}
-use Rattle.content_spots.specs.Spots.{Spot, at, Inner, here, inside, leaf_of, leaf_of_term, leaf_in}
+use Rattle.content_spots.specs.Spots.{Spot, at, Inner, here, inside, among, leaf_of, leaf_of_term, leaf_in}
 use Rattle.content_values.specs.Bounds.{is_single, is_parted}
 use Rattle.content_values.specs.Made.{Child}
 use Rattle.content_values.specs.Reached.{Reached, TermReached, OrderReached, OneReached, PartedReached, TopReached}
@@ -26,6 +26,9 @@ mutual
       → TermReached t s gs d before now → leaf_of_term t n path s ≡ Some l → d ≡ l.decl
   leaf-reached_term (element c a) n path here gs d before now l r e = let same : leaf_at n c a path ≡ l = cc in sym r.1 ∙ ap (λ (x : Leaf). x.decl) same
   leaf-reached_term (element c a) n path (inside j s) gs d before now l r e = absurd r
+  leaf-reached_term (element c a) n path (among j ms) gs d before now l r e = absurd r
+  leaf-reached_term (all ps) n path s gs d before now l r e = absurd r
+  leaf-reached_term (choice ps) n path (among j ms) gs d before now l r e = absurd r
   leaf-reached_term (sequence ps) n path s gs d before now l r e = leaf-reached_order ps (suc n) path s gs d _ now l r e
   leaf-reached_term (choice ps) n path here gs d before now l r e = absurd r
   leaf-reached_term (choice ps) n path (inside j s) gs d before now l r e = leaf-reached_one ps (suc n) path j s gs d _ now l r e
@@ -34,6 +37,7 @@ mutual
       → OrderReached ps s gs d before now → leaf_in ps n path s ≡ Some l → d ≡ l.decl
   leaf-reached_order none n path s gs d before now l r e = absurd r
   leaf-reached_order (more p ps) n path here gs d before now l r e = absurd r
+  leaf-reached_order (more p ps) n path (among j ms) gs d before now l r e = absurd r
   leaf-reached_order (more p ps) n path (inside zero s) gs d before now l r e = leaf-reached false p n path s gs d _ now l r e
   leaf-reached_order (more p ps) n path (inside (suc j) s) gs d before now l (flags, vs, a, b, q, m, r) e = leaf-reached_order ps (n + size_of p) path (inside j s) b d _ now l r e
 
@@ -47,6 +51,7 @@ parted-leaf : (t : Term) (least : ℕ) (most : Option ℕ) (s : Spot) (gs : List
     → PartedReached t s gs d before now → leaf_of (occurs t least most) 0 [] s ≡ Some l → d ≡ l.decl
 parted-leaf (element c a) least most s gs d before now l r e = absurd r
 parted-leaf (choice ps) least most s gs d before now l r e = absurd r
+parted-leaf (all ps) least most s gs d before now l r e = absurd r
 parted-leaf (sequence ps) least most (at i s) gs d before now l r e = leaf-reached_order ps 1 (turn_of 0 i ∷ []) s gs d before now l r.1 e
 
 -- the child element that comes next is one of the declaration that the leaf has

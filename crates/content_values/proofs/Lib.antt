@@ -5,3 +5,4 @@ pub mod Leaves
 pub mod Reaching
 pub mod Topping
 pub mod Tops
+pub mod Ways

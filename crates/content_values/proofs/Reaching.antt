@@ -9,11 +9,12 @@ use Rattle.xa_base.specs.Names.{name_eq}
 use Rattle.simple_types.specs.declared.labels.ValueLabel.{ValueLabel}
 use Rattle.simple_types.specs.declared.labels.ValueLabel.TheVariants as value
 use Rattle.simple_values.specs.Lexical.{is_at_most}
-use Rattle.content_models.specs.Particle.{Particle, occurs, Term, element, sequence, choice, Particles, none, more}
+use Rattle.content_models.specs.Particle.{Particle, occurs, Term, element, sequence, choice, all, Particles, none, more}
 use Rattle.content_models.specs.Clear.{all_empty}
 use Rattle.content_models.specs.Occurring.{AllowOne, MayOccur, TermMayOccur, AllMayOccur}
-use Rattle.content_spots.specs.Spots.{Spot, at, Inner, here, inside, may_repeat, may_stop, enter, enter_term, enter_order, enter_one, finishes, finishes_term, finishes_order, finishes_one, next, next_term, next_order, next_one}
-use Rattle.content_spots.proofs.Entering.{cond_some, both_true}
+use Rattle.content_spots.specs.Spots.{Spot, at, Inner, here, inside, among, may_repeat, may_stop, enter, enter_term, enter_order, enter_one, finishes, finishes_term, finishes_order, finishes_one, next, next_term, next_order, next_one}
+use Rattle.content_spots.proofs.Entering.{both_true}
+use Rattle.content_spots.proofs.Options.{cond_some}
 use Rattle.value_builder.specs.Built.{flagged, with_parts}
 use Rattle.value_builder.proofs.Parts.{parts-present, parts-more, part-present}
 use Rattle.content_values.specs.Bounds.{is_single}
@@ -93,6 +94,9 @@ mutual
       → (d : ℕ) × ((z : Zip ValueLabel) → TermReached t s [] d z (entered_term t s z))
   enter_term-reached (element d b) a here m k e = (d, λ z. (refl, refl, refl))
   enter_term-reached (element d b) a (inside j s) m k e = absurd (let x = (cond_some (name_eq a b) (Some here) (inside j s) e).1 in cc)
+  enter_term-reached (element d b) a (among j ms) m k e = absurd (let x = (cond_some (name_eq a b) (Some here) (among j ms) e).1 in cc)
+  enter_term-reached (all ps) a s m k e = absurd k
+  enter_term-reached (choice ps) a (among j ms) m k e = absurd (invert.enter_one-among ps a j ms e)
   enter_term-reached (sequence ps) a s m k e = let r = enter_order-reached ps a s m k e in (r.0, λ z. r.1 (opened (value.Sequence []) z))
   enter_term-reached (choice ps) a here m k e = absurd (invert.enter_one-here ps a e)
   enter_term-reached (choice ps) a (inside j s) m k e = let r = enter_one-reached ps a j s m.1 k e in (r.0, λ z. r.1 (opened (value.Choice j) z))
@@ -101,6 +105,7 @@ mutual
       → (d : ℕ) × ((z : Zip ValueLabel) → OrderReached ps s [] d z (entered_order ps s z))
   enter_order-reached none a s m k e = absurd (cc)
   enter_order-reached (more p ps) a here m k e = absurd (invert.enter_order-here (more p ps) a e)
+  enter_order-reached (more p ps) a (among j ms) m k e = absurd (invert.enter_order-among (more p ps) a j ms e)
   enter_order-reached (more p ps) a (inside zero s) m k e =
       let r = enter-reached false p a s m.0 k.0 (invert.enter_order-first p ps a s e) in (r.0, λ z. r.1 (flagged true z))
   enter_order-reached (more p ps) a (inside (suc j) s) m k e =
@@ -159,6 +164,9 @@ mutual
   end_term-reached (element d a) here gs g before way k r f =
       (g.value, ap (added g.value) r.2, (g, ap (λ zs. zs ++ g ∷ []) r.0, sym r.1, refl))
   end_term-reached (element d a) (inside j s) gs g before way k r f = absurd r
+  end_term-reached (element d a) (among j ms) gs g before way k r f = absurd r
+  end_term-reached (choice ps) (among j ms) gs g before way k r f = absurd r
+  end_term-reached (all ps) s gs g before way k r f = absurd r
   end_term-reached (sequence ps) s gs g before way k r f =
       let x = end_order-reached ps s gs g (opened (value.Sequence []) before) way k r f in
       (node (value.Sequence x.0) (roses_of x.1), ap closed x.2, (x.0, x.1, refl, x.3))
@@ -172,6 +180,7 @@ mutual
       → (flags : List Bool) × (vs : List (Rose ValueLabel)) × (ended_order ps s (added g.value way) ≡ with_parts flags vs before) × PartsMade ps flags vs (gs ++ g ∷ [])
   end_order-reached none s gs g before way k r f = absurd r
   end_order-reached (more p ps) here gs g before way k r f = absurd r
+  end_order-reached (more p ps) (among j ms) gs g before way k r f = absurd r
   end_order-reached (more p ps) (inside zero s) gs g before way k r f =
       let x = both_true (finishes p s) (all_empty ps) f in
       let y = end-reached false p s gs g (flagged true before) way k.0 r x.0 in (
@@ -285,7 +294,10 @@ mutual
       → TermReached t s gs g.decl before way → next_term t s a ≡ Some u → TermMoves t s u gs g before way
   move_term-reached (element d b) a s u gs g before way m k r e = absurd (cc (e))
   move_term-reached (sequence ps) a s u gs g before way m k r e = move_order-reached ps a s u gs g (opened (value.Sequence []) before) way m k r e
+  move_term-reached (all ps) a s u gs g before way m k r e = absurd r
   move_term-reached (choice ps) a here u gs g before way m k r e = absurd r
+  move_term-reached (choice ps) a (among j ms) u gs g before way m k r e = absurd r
+  move_term-reached (choice ps) a (inside j s) (among i ns) gs g before way m k r e = absurd (invert.next_one-among ps (inside j s) a i ns e)
   move_term-reached (choice ps) a (inside j s) here gs g before way m k r e = absurd (invert.next_one-here ps (inside j s) a e)
   move_term-reached (choice ps) a (inside j s) (inside i u) gs g before way m k r e =
       let x = move_one-reached ps a j i s u gs g (opened (value.Choice j) before) way m.1 k r e in
@@ -296,6 +308,8 @@ mutual
       → (d : ℕ) × OrderReached ps u (gs ++ g ∷ []) d before (moved_order ps s u (added g.value way))
   move_order-reached none a s u gs g before way m k r e = absurd r
   move_order-reached (more p ps) a here u gs g before way m k r e = absurd r
+  move_order-reached (more p ps) a (among j ms) u gs g before way m k r e = absurd r
+  move_order-reached (more p ps) a (inside j s) (among i ns) gs g before way m k r e = absurd (invert.next_order-among (more p ps) (inside j s) a i ns e)
   move_order-reached (more p ps) a (inside j s) here gs g before way m k r e = absurd (invert.next_order-here (more p ps) (inside j s) a e)
   move_order-reached (more p ps) a (inside zero s) (inside zero u) gs g before way m k r e =
       move-reached false p a s u gs g (flagged true before) way m.0 k.0 r (invert.next_order-first p ps a s u e)

@@ -4,7 +4,7 @@ use Rattle.label_tree.specs.Rose.{Rose}
 use Rattle.flat_tree.specs.Zips.{Zip, added}
 use Rattle.xa_base.specs.declared.texts.Name.{Name}
 use Rattle.simple_types.specs.declared.labels.ValueLabel.{ValueLabel}
-use Rattle.content_models.specs.Particle.{Particle, occurs, Term, element, sequence, choice, none, more}
+use Rattle.content_models.specs.Particle.{Particle, occurs, Term, element, sequence, choice, all, none, more}
 use Rattle.content_models.specs.Clear.{empties, all_empty}
 use Rattle.content_spots.specs.Spots.{Spot, at, inside, may_repeat, may_stop, enter, next, finishes, finishes_order}
 use Rattle.content_spots.proofs.Entering.{both_true}
@@ -37,6 +37,7 @@ parted-enters : (t : Term) (least : ℕ) (most : Option ℕ) (a : Name) (s : Spo
     → enter (occurs t least most) a ≡ Some s → (d : ℕ) × PartedReached t s [] d before (order_entered t (inner_in s) before)
 parted-enters (element e b) least most a s before p k h = absurd (cc)
 parted-enters (choice ps) least most a s before p k h = absurd (cc)
+parted-enters (all ps) least most a s before p k h = absurd k.1.1
 parted-enters (sequence ps) least most a (at i s) before p k h =
     let x = invert.enter-term (sequence ps) least most a i s h in
     let r = enter_order-reached ps a s k.0.1 k.1.1 x.1 in
@@ -61,6 +62,7 @@ parted-moves : (t : Term) (least : ℕ) (most : Option ℕ) (a : Name) (s u : Sp
     → (d : ℕ) × PartedReached t u (front ++ last ∷ []) d before (order_moved t (inner_in s) (inner_in u) (added last.value way))
 parted-moves (element e b) least most a s u front last before way p k r h = absurd (cc)
 parted-moves (choice ps) least most a s u front last before way p k r h = absurd (cc)
+parted-moves (all ps) least most a s u front last before way p k r h = absurd r
 parted-moves (sequence ps) least most a (at i s) (at j u) front last before way p k r h = go (invert.next-term (sequence ps) least most a i j s u h)
   where
     go : invert.Onwards (sequence ps) most i s a j u
@@ -89,6 +91,7 @@ parted-ends : (t : Term) (least : ℕ) (most : Option ℕ) (s : Spot) (front : L
     → (flags : List Bool) × (vs : List (Rose ValueLabel)) × PartedMade t flags vs (front ++ last ∷ []) × (order_ended t (inner_in s) (added last.value way) ≡ with_parts flags vs before)
 parted-ends (element e b) least most s front last before way p k r h = absurd (cc)
 parted-ends (choice ps) least most s front last before way p k r h = absurd (cc)
+parted-ends (all ps) least most s front last before way p k r h = absurd r
 parted-ends (sequence ps) least most (at i s) front last before way p k r h =
     let x = both_true (finishes_order ps s) (may_stop least i) h in
     let y = end_order-reached ps s front last before way k.1.1 r.1 x.0 in
@@ -118,6 +121,7 @@ parted-empty : (t : Term) (least : ℕ) (most : Option ℕ) (before : Zip ValueL
     → (flags : List Bool) × (vs : List (Rose ValueLabel)) × PartedMade t flags vs [] × (order_emptied t before ≡ with_parts flags vs before)
 parted-empty (element e b) least most before p k h = absurd (cc)
 parted-empty (choice ps) least most before p k h = absurd (cc)
+parted-empty (all ps) least most before p k h = absurd k.1.1
 parted-empty (sequence ps) least most before p k h = (empty_flags ps, empty_values ps, parts-empty ps k.1.1 (once-empty least most (all_empty ps) p h), refl)
 
 pub top-empty : (p : Particle) (before : Zip ValueLabel) → IsFillable p → empties p ≡ true

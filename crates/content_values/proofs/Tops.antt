@@ -9,8 +9,8 @@ use Rattle.content_models.specs.declared.particles.ParticleKind.{ParticleKind}
 use Rattle.content_models.specs.declared.particles.ParticleKind.TheVariants as kinds
 use Rattle.content_models.specs.declared.particles.ParticleLabel.{ParticleLabel}
 use Rattle.content_models.specs.Seen.{seen, term_seen}
-use Rattle.content_models.specs.Particle.{Particle, occurs, Term, element, sequence, choice, Particles, none, more}
-use Rattle.content_models.specs.Clear.{empties, empties_term, all_empty}
+use Rattle.content_models.specs.Particle.{Particle, occurs, Term, element, sequence, choice, all, Particles, none, more}
+use Rattle.content_models.specs.Clear.{empties, empties_term, all_empty, IsNoAll, IsNoAllTerm}
 use Rattle.content_spots.specs.Spots.{Spot, may_repeat, enter, enter_term, enter_order, finishes, finishes_term, finishes_order, next, next_term, next_order}
 use Rattle.content_spots.specs.Laws.{step_from, may_end}
 use Rattle.content_spots.proofs.Entering.{both_true}
@@ -19,7 +19,7 @@ use Rattle.content_match.specs.declared.places.Turn.{Turn}
 use Rattle.value_builder.specs.Built.{Built, Stands, Puts, flagged, with_parts}
 use Rattle.content_values.specs.Bounds.{is_once, is_parted}
 use Rattle.content_values.specs.Made.{Child, TopMade}
-use Rattle.content_values.specs.Reached.{IsFillable, TopReached, Put}
+use Rattle.content_values.specs.Reached.{TermKeepsRule1, IsFillable, TopReached, Put}
 use Rattle.content_values.specs.Private.Empty.{term_of, emptied}
 use Rattle.content_values.specs.Private.Moves.{turn_in, inner_in, entered, entered_order, ended, ended_order, moved, moved_order, order_entered, order_moved, order_ended, order_emptied, top_entered, top_moved, top_ended, top_emptied}
 use Rattle.content_values.proofs.Filling.{once-empty}
@@ -35,19 +35,28 @@ parted t = is_parted (term_of t) (label_of t).min (label_of t).max
 pub parted-known : (t : Rose ParticleLabel) (l : ParticleLabel) (b : Bool) → l ≡ label_of t → ((ps : Particles) → b ≡ is_parted (term_seen l.kind ps) l.min l.max) → parted t ≡ b
 parted-known t l b e f = sym (f (kids_seen (kids_of t)) ∙ ap (λ (m : ParticleLabel). is_parted (term_seen m.kind (kids_seen (kids_of t))) m.min m.max) e)
 
-sequence-kind : (kind : ParticleKind) (ps : Particles) (least : ℕ) (most : Option ℕ) → is_parted (term_seen kind ps) least most ≡ true → term_seen kind ps ≡ sequence ps
-sequence-kind (kinds.Element d a) ps least most h = absurd (cc)
-sequence-kind kinds.Sequence ps least most h = refl
-sequence-kind kinds.Choice ps least most h = absurd (cc)
+-- what is filled is no all
+no-all : (t : Term) → TermKeepsRule1 t → IsNoAllTerm t
+no-all (element d a) k = tt
+no-all (sequence ps) k = tt
+no-all (choice ps) k = tt
+no-all (all ps) k = k
 
-pub parted-term : (t : Rose ParticleLabel) (kids : List (Rose ParticleLabel)) → kids ≡ kids_of t → parted t ≡ true → term_of t ≡ sequence (kids_seen kids)
-parted-term t kids e h =
-    sequence-kind (label_of t).kind (kids_seen (kids_of t)) (label_of t).min (label_of t).max h ∙ ap (λ ks. sequence (kids_seen ks)) (sym e)
+pub fillable-no-all : (p : Particle) → IsFillable p → IsNoAll p
+fillable-no-all (occurs t least most) k = no-all t k.1.1
 
-parted-once : (t : Term) (least : ℕ) (most : Option ℕ) → is_parted t least most ≡ true → is_once least most ≡ true
-parted-once (element d a) least most h = absurd (cc)
-parted-once (sequence ps) least most h = h
-parted-once (choice ps) least most h = absurd (cc)
+sequence-kind : (kind : ParticleKind) (ps : Particles) (least : ℕ) (most : Option ℕ) → IsNoAllTerm (term_seen kind ps) → is_parted (term_seen kind ps) least most ≡ true → term_seen kind ps ≡ sequence ps
+sequence-kind (kinds.Element d a) ps least most n h = absurd (cc)
+sequence-kind kinds.Sequence ps least most n h = refl
+sequence-kind kinds.Choice ps least most n h = absurd (cc)
+sequence-kind kinds.All ps least most n h = absurd n
+
+pub parted-term : (t : Rose ParticleLabel) (kids : List (Rose ParticleLabel)) → kids ≡ kids_of t → IsNoAll (seen t) → parted t ≡ true → term_of t ≡ sequence (kids_seen kids)
+parted-term t kids e n h =
+    sequence-kind (label_of t).kind (kids_seen (kids_of t)) (label_of t).min (label_of t).max (subst IsNoAll (seen-is t) n) h ∙ ap (λ ks. sequence (kids_seen ks)) (sym e)
+
+parted-once : (t : Term) (ps : Particles) (least : ℕ) (most : Option ℕ) → t ≡ sequence ps → is_parted t least most ≡ true → is_once least most ≡ true
+parted-once t ps least most e h = subst (λ u. is_parted u least most ≡ true) e h
 
 once-last : (least : ℕ) (most : Option ℕ) (i : ℕ) → is_once least most ≡ true → may_repeat most i ≡ true → ⊥
 once-last least None i h e = cc
@@ -66,14 +75,14 @@ module _ (t : Rose ParticleLabel) (ps : Particles) (is : term_of t ≡ sequence 
   pub parted-empties : empties (seen t) ≡ true → all_empty ps ≡ true
   parted-empties e =
       sym (ap empties_term is)
-      ∙ once-empty (label_of t).min (label_of t).max (empties_term (term_of t)) (parted-once (term_of t) (label_of t).min (label_of t).max once) (empties-seen t e)
+      ∙ once-empty (label_of t).min (label_of t).max (empties_term (term_of t)) (parted-once (term_of t) ps (label_of t).min (label_of t).max is once) (empties-seen t e)
 
   pub parted-moves : (a : Name) (s u : Spot) → next (seen t) s a ≡ Some u → next_order ps (inner_in s) a ≡ Some (inner_in u)
   parted-moves a s u e = go (next-seen t a s u e)
     where
       go : invert.Onwards (term_of t) (label_of t).max (turn_in s) (inner_in s) a (turn_in u) (inner_in u) → next_order ps (inner_in s) a ≡ Some (inner_in u)
       go (inl h) = sym (ap (λ x. next_term x (inner_in s) a) is) ∙ h.1
-      go (inr h) = absurd (once-last (label_of t).min (label_of t).max (turn_in s) (parted-once (term_of t) (label_of t).min (label_of t).max once) h.2)
+      go (inr h) = absurd (once-last (label_of t).min (label_of t).max (turn_in s) (parted-once (term_of t) ps (label_of t).min (label_of t).max is once) h.2)
 
   pub parted-entered : (s : Spot) (z : Zip ValueLabel) → entered_order ps (inner_in s) z ≡ top_entered (seen t) s z
   parted-entered s z =

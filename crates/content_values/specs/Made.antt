@@ -1,12 +1,12 @@
 -- How a value of a content model is made of the values of child elements: a part for each particle, and in it the child
--- elements in their order.
+-- elements in their order. The child elements of an all are told in the order of its particles, not in that of the document.
 use Rattle.std.specs.Prelude.{◌≡◌, ℕ, zero, suc, Bool, true, false, nat_le, List, [], ◌∷◌, ◌++◌, length, Option}
 use Rattle.label_tree.specs.Rose.{Rose, node, roses_of}
 use Rattle.label_tree.specs.Rose as rose
 use Rattle.simple_types.specs.declared.labels.ValueLabel.{ValueLabel}
 use Rattle.simple_types.specs.declared.labels.ValueLabel.TheVariants as value
 use Rattle.simple_values.specs.Lexical.{is_at_most}
-use Rattle.content_models.specs.Particle.{Particle, occurs, Term, element, sequence, choice, Particles, none, more}
+use Rattle.content_models.specs.Particle.{Particle, occurs, Term, element, sequence, choice, all, Particles, none, more}
 use Rattle.content_values.specs.Bounds.{is_optional, is_single, is_parted}
 
 -- a child element, by its declaration and its value
@@ -35,12 +35,13 @@ abbrev pub IsOne : ℕ → Rose ValueLabel → List Child → Type 0
 IsOne d v gs = (g : Child) × (gs ≡ g ∷ []) × (g.decl ≡ d) × (g.value ≡ v)
 
 abbrev mutual
-  -- one occurrence
+  -- one occurrence; an all has none, since it stands at the top alone
   pub TermMade : Term → Rose ValueLabel → List Child → Type 0
   TermMade (element d a) v gs = IsOne d v gs
   TermMade (sequence ps) v gs =
       (flags : List Bool) × (vs : List (Rose ValueLabel)) × (v ≡ node (value.Sequence flags) (roses_of vs)) × PartsMade ps flags vs gs
   TermMade (choice ps) v gs = (i : ℕ) × (w : Rose ValueLabel) × (v ≡ node (value.Choice i) (rose.more w rose.none)) × ChosenMade ps i w gs
+  TermMade (all ps) v gs = ⊥
 
   -- the parts for particles: a flag for each, and the values of those that stand
   pub PartsMade : Particles → List Bool → List (Rose ValueLabel) → List Child → Type 0
@@ -58,6 +59,7 @@ abbrev mutual
 
 abbrev pub PartedMade : Term → List Bool → List (Rose ValueLabel) → List Child → Type 0
 PartedMade (sequence ps) flags vs gs = PartsMade ps flags vs gs
+PartedMade (all ps) flags vs gs = PartsMade ps flags vs gs
 PartedMade _ flags vs gs = ⊥
 
 -- the parts for a top particle

@@ -1,16 +1,16 @@
 -- What is put down of a content model's value when the way to a leaf is open: the child elements before it stand in their
 -- parts, and each group on the way is begun, with empty parts for what stands empty before the leaf. The child element at the
--- leaf comes next.
+-- leaf comes next. In an all no way is open: its child elements come in any order, and each has a value of its own.
 use Rattle.std.specs.Prelude.{◌≡◌, ℕ, zero, suc, Bool, true, false, List, [], ◌∷◌, ◌++◌, length, Option, Some, None}
 use Rattle.label_tree.specs.Rose.{Rose}
 use Rattle.flat_tree.specs.Zips.{Zip, opened, added, added_all}
 use Rattle.simple_types.specs.declared.labels.ValueLabel.{ValueLabel}
 use Rattle.simple_types.specs.declared.labels.ValueLabel.TheVariants as value
 use Rattle.simple_values.specs.Lexical.{is_at_most}
-use Rattle.content_models.specs.Particle.{Particle, occurs, Term, element, sequence, choice, Particles, none, more}
+use Rattle.content_models.specs.Particle.{Particle, occurs, Term, element, sequence, choice, all, Particles, none, more}
 use Rattle.content_models.specs.Clear.{Rule1}
 use Rattle.content_models.specs.Occurring.{MayOccur}
-use Rattle.content_spots.specs.Spots.{Spot, at, Inner, here, inside}
+use Rattle.content_spots.specs.Spots.{Spot, at, Inner, here, inside, among}
 use Rattle.value_builder.specs.Built.{flagged, with_parts}
 use Rattle.content_values.specs.Bounds.{is_single, is_parted}
 use Rattle.content_values.specs.Made.{Child, Each, TermMade, PartsMade}
@@ -36,14 +36,18 @@ abbrev mutual
   pub TermReached : Term → Inner → List Child → ℕ → Zip ValueLabel → Zip ValueLabel → Type 0
   TermReached (element e a) here gs d before now = (gs ≡ []) × (e ≡ d) × (now ≡ before)
   TermReached (element e a) (inside j s) gs d before now = ⊥
+  TermReached (element e a) (among j ms) gs d before now = ⊥
   TermReached (sequence ps) s gs d before now = OrderReached ps s gs d (opened (value.Sequence []) before) now
   TermReached (choice ps) here gs d before now = ⊥
   TermReached (choice ps) (inside j s) gs d before now = OneReached ps j s gs d (opened (value.Choice j) before) now
+  TermReached (choice ps) (among j ms) gs d before now = ⊥
+  TermReached (all ps) s gs d before now = ⊥
 
   -- the particles of a sequence, whose parts are those of the innermost open SEQUENCE
   pub OrderReached : Particles → Inner → List Child → ℕ → Zip ValueLabel → Zip ValueLabel → Type 0
   OrderReached none s gs d before now = ⊥
   OrderReached (more p ps) here gs d before now = ⊥
+  OrderReached (more p ps) (among j ms) gs d before now = ⊥
   OrderReached (more p ps) (inside zero s) gs d before now = Reached false p s gs d (flagged true before) now
   OrderReached (more p ps) (inside (suc j) s) gs d before now =
       (flags : List Bool) × (vs : List (Rose ValueLabel)) × (a : List Child) × (b : List Child) × (gs ≡ a ++ b) × PartsMade (more p none) flags vs a
@@ -75,7 +79,7 @@ Put p (Some s) gs before now =
 
 -- ---- what is asked of a content model
 
--- the bounds of each particle are 1 and 1, or no occurrence of it is empty
+-- the bounds of each particle are 1 and 1, or no occurrence of it is empty; and none is an all
 abbrev mutual
   pub KeepsRule1 : Particle → Type 0
   KeepsRule1 (occurs t least most) = Rule1 t least most × TermKeepsRule1 t
@@ -84,6 +88,7 @@ abbrev mutual
   TermKeepsRule1 (element d a) = Unit {0}
   TermKeepsRule1 (sequence ps) = AllKeepRule1 ps
   TermKeepsRule1 (choice ps) = AllKeepRule1 ps
+  TermKeepsRule1 (all ps) = ⊥
 
   pub AllKeepRule1 : Particles → Type 0
   AllKeepRule1 none = Unit {0}

@@ -57,6 +57,8 @@ fn put_empty_term(particle: &Tree<ParticleLabel>, values: &mut ValueBuilder) -> 
             values.close();
             Ok(())
         }
+        // It stands at the top alone, and there its particles are parts by themselves.
+        ParticleKind::All => values.leaf(ValueLabel::SequenceOf),
     }
 }
 

@@ -74,6 +74,7 @@ pub(crate) fn end_term(
                 Ok(())
             }
         },
+        ParticleKind::All => unreachable!(),
     }
 }
 

@@ -80,6 +80,7 @@ pub(crate) fn enter_term(
                 )
             }
         },
+        ParticleKind::All => unreachable!(),
     }
 }
 

@@ -42,12 +42,13 @@ pub(crate) fn is_single(label: &ParticleLabel, in_choice: bool) -> bool
     is_optional(label)
 }
 
-// Whether the particles of a top particle are parts by themselves: it is a sequence that stands once.
+// Whether the particles of a top particle are parts by themselves: it is a sequence that stands once, or an all.
 pub(crate) fn is_parted(label: &ParticleLabel) -> bool
     ensures { (ps : Particles) → result ≡ bounds.is_parted (term_seen label.now.kind ps) label.now.min label.now.max }
 {
     match label.kind {
         ParticleKind::Sequence => is_once(label),
+        ParticleKind::All => true,
         _ => false,
     }
 }
@@ -65,6 +66,7 @@ pub(crate) fn may_be_empty(particle: &Tree<ParticleLabel>) -> bool
         ParticleKind::Element { .. } => false,
         ParticleKind::Sequence => all_may_be_empty(particle.kids()),
         ParticleKind::Choice => one_may_be_empty(particle.kids()),
+        ParticleKind::All => all_may_be_empty(particle.kids()),
     }
 }
 

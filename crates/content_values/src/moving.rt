@@ -61,6 +61,7 @@ fn step_term(
             ),
             _ => unreachable!(),
         },
+        ParticleKind::All => unreachable!(),
     }
 }
 

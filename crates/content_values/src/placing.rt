@@ -7,7 +7,7 @@ ghost use Rattle.simple_types.specs.declared.labels.ValueLabel.{ValueLabel};
 ghost use Rattle.content_models.specs.Seen.{seen};
 ghost use Rattle.content_spots.specs.Spots as spots;
 ghost use Rattle.content_spots.specs.Spots.{Spot, finishes};
-ghost use Rattle.content_models.specs.Clear.{empties};
+ghost use Rattle.content_models.specs.Clear.{empties, IsNoAll};
 ghost use Rattle.content_match.specs.Private.Standing.{spot_of};
 ghost use Rattle.value_builder.specs.Built.{Puts};
 ghost use Rattle.content_values.specs.Private.Moves.{turn_in, top_entered, top_moved, top_ended, top_emptied};
@@ -73,6 +73,7 @@ fn put_first(
     values: &mut ValueBuilder,
 ) -> Result<(), Memory>
     requires few { node_count top.now < 2 ^ 31 }
+    requires no_all { IsNoAll (seen top.now) }
     requires leads { (a : Name) × (spots.enter (seen top.now) a ≡ Some (spot_of to.turns.now to.kids.now)) }
     ensures { OnOk result (Puts (top_entered (seen top.now) (spot_of to.entry.turns.now to.entry.kids.now)) values.old values.new) }
 {
@@ -94,6 +95,7 @@ fn put_next(
     values: &mut ValueBuilder,
 ) -> Result<(), Memory>
     requires few { node_count top.now < 2 ^ 31 }
+    requires no_all { IsNoAll (seen top.now) }
     requires leads { (a : Name) × (spots.next (seen top.now) (spot_of from.turns.now from.kids.now) a ≡ Some (spot_of to.turns.now to.kids.now)) }
     ensures { OnOk result (Puts (top_moved (seen top.now) (spot_of from.entry.turns.now from.entry.kids.now) (spot_of to.entry.turns.now to.entry.kids.now)) values.old values.new) }
 {
@@ -114,6 +116,7 @@ fn put_last(
     values: &mut ValueBuilder,
 ) -> Result<(), Memory>
     requires few { node_count top.now < 2 ^ 31 }
+    requires no_all { IsNoAll (seen top.now) }
     requires done { finishes (seen top.now) (spot_of from.turns.now from.kids.now) ≡ true }
     ensures { OnOk result (Puts (top_ended (seen top.now) (spot_of from.entry.turns.now from.entry.kids.now)) values.old values.new) }
 {
@@ -130,6 +133,7 @@ fn put_last(
 // What is due where there is no leaf.
 fn put_none(top: &Tree<ParticleLabel>, values: &mut ValueBuilder) -> Result<(), Memory>
     requires few { node_count top.now < 2 ^ 31 }
+    requires no_all { IsNoAll (seen top.now) }
     requires empty { empties (seen top.now) ≡ true }
     ensures { OnOk result (Puts (top_emptied (seen top.now)) values.old values.new) }
 {

@@ -1,15 +1,17 @@
 -- Tests of names on bytes.
-use Rattle.std.proofs.Common.{◌≡◌, ℕ, ◌≤◌, Bool, true, false, cond, List, [], ◌∷◌, ◌+◌, length, take, drop, refl, sym, arith}
-use Rattle.std.specs.Prelude.{◌&&◌, not, nat_le, ◌==◌}
+use Rattle.std.proofs.Common.{◌≡◌, ℕ, ◌≤◌, Bool, true, false, cond, List, [], ◌∷◌, ◌++◌, ◌+◌, length, take, drop, refl, sym, ap, ◌∙◌, arith}
+use Rattle.std.specs.Prelude.{◌&&◌, ◌||◌, not, nat_le, ◌==◌, bytes_eq}
 use Rattle.std.specs.List.{list_all}
 use Rattle.std.proofs.lemmas.Bool.Decides.{nat_tests}
-use Rattle.std.proofs.lemmas.List.{length-take, length-drop}
+use Rattle.std.proofs.lemmas.List.{length-take, length-drop, append-nil, take-append-drop}
+use Rattle.std.proofs.lemmas.Slice.Eq.{bytes_eq-Decides}
 use Rattle.xa_base.specs.Limits.{is_short_part}
+use Rattle.xa_base.specs.Namespaces.{xmlns_prefix}
 use Rattle.doc_pieces.specs.Reading.{is_ascii_ncname}
 use Rattle.doc_pieces.proofs.AsciiNames.{ncname_colons}
 use Rattle.doc_pieces.proofs.Spelled.{ascii_spelled}
 use Rattle.doc_pieces.proofs.Tools.{and_true}
-use Rattle.doc_text.specs.Namespaces.{is_long}
+use Rattle.doc_text.specs.Namespaces.{is_long, binds}
 use Rattle.doc_pieces.specs.QNames.{colon_at, has_colon, prefix_of, local_of, is_qname}
 use Rattle.doc_text.specs.Private.Entering.{IsPlain}
 
@@ -57,3 +59,27 @@ plain_name written h e =
       alone = rw none refl;
       whole = rw none refl;
     }
+
+-- ---- names that bind
+
+from_start : (b : Bool) (written : List ℕ) (n : ℕ) → cond b (take n written) [] ≡ xmlns_prefix → (rest : List ℕ) × (written ≡ xmlns_prefix ++ rest)
+from_start true written n e = (drop n written, sym (take-append-drop n written) ∙ ap (λ xs. xs ++ drop n written) e)
+from_start false written n e = absurd (omega (arith, ap length e))
+
+-- a name that binds begins as `xmlns`
+begins : (written : List ℕ) → binds written ≡ true → (rest : List ℕ) × (written ≡ xmlns_prefix ++ rest)
+unfolding binds prefix_of
+begins written e = go (bytes_eq written xmlns_prefix) refl (bytes_eq (prefix_of written) xmlns_prefix) refl e
+  where
+    go : (p : Bool) → bytes_eq written xmlns_prefix ≡ p → (q : Bool) → bytes_eq (prefix_of written) xmlns_prefix ≡ q → (p || q) ≡ true → (rest : List ℕ) × (written ≡ xmlns_prefix ++ rest)
+    go true is q other e = ([], (bytes_eq-Decides written xmlns_prefix).0 is ∙ sym (append-nil xmlns_prefix))
+    go false is true other e = from_start (has_colon written) written (colon_at written) ((bytes_eq-Decides (prefix_of written) xmlns_prefix).0 other)
+    go false is false other e = absurd (cc e)
+
+-- so only of those is more to be asked
+pub begins_or_not : (written : List ℕ) (begun : Bool) → ((rest : List ℕ) → written ≡ xmlns_prefix ++ rest → begun ≡ true) → begun ≡ false → false ≡ binds written
+begins_or_not written begun starts none = go (binds written) refl
+  where
+    go : (r : Bool) → binds written ≡ r → false ≡ binds written
+    go false e = sym e
+    go true e = absurd (let yes : begun ≡ true = starts (begins written e).0 (begins written e).1 in cc (yes, none))

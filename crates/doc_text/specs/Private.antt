@@ -3,3 +3,4 @@ pub mod Entering
 pub mod Noting
 pub mod Building
 pub mod Scopes
+pub mod Hashes

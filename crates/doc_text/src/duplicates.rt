@@ -1,7 +1,9 @@
 //! What stands twice among the attributes of a tag.
-ghost use Rattle.std.specs.Prelude.{◌≡◌, ◌||◌, List, ℕ, map, filter, IfOk};
+ghost use Rattle.std.specs.List.Sorted.{IsStrictlyIncreasing};
+ghost use Rattle.std.specs.Prelude.{◌≡◌, ◌||◌, List, ℕ, false, map, filter, IfOk, IsTrue};
 ghost use Rattle.doc_pieces.specs.Found.{attribute_of};
 ghost use Rattle.doc_text.specs.Namespaces as names;
+ghost use Rattle.doc_text.specs.Private.Hashes.{hash_of};
 
 use crate::names::binds;
 use doc_pieces::Attribute;
@@ -31,12 +33,49 @@ fn bound_twice(alloc: Global, attributes: &[Attribute<'_>]) -> Result<bool, Memo
     Ok(twice)
 }
 
-// Whether two have one expanded name. They are told apart by their local names where these differ, since a namespace may be
-// long, and that of many.
+// The hash of a name. Of the namespace it takes the length alone, since a namespace may be long, and that of many names.
+fn hash_of(name: &Name) -> u64
+    ensures { result ≡ hash_of name.now }
+{
+    let start = name.space.bytes().len() as u64;
+    name.local.bytes().iter().fold(start, |hash, byte| {
+        hash.wrapping_mul(257).wrapping_add(*byte as u64)
+    })
+}
+
+// Whether each number is below the next.
+fn are_ascending(numbers: &[u64]) -> bool
+    ensures { IsTrue result → IsStrictlyIncreasing numbers.now }
+{
+    'places: for i in 1..numbers.len() {
+        if numbers[i - 1] >= numbers[i] {
+            return false;
+        }
+    }
+    true
+}
+
+// Whether the hashes of the names differ, and so the names.
+fn have_own_hashes(alloc: Global, attributes: &[(Name, Text)]) -> Result<bool, Memory>
+    ensures { IfOk result (λ own. IsTrue own → names.expanded_twice attributes.now ≡ false) }
+{
+    let mut hashes = Vec::with_capacity(alloc, attributes.len())?;
+    for attribute in attributes {
+        hashes.push(hash_of(&attribute.0))?;
+    }
+    hashes.sort_unstable();
+    Ok(are_ascending(&hashes))
+}
+
+// Whether two have one expanded name. Where two have one hash, all are told apart by their local names where these differ,
+// and else by their namespaces.
 fn expanded_twice(alloc: Global, attributes: &[(Name, Text)]) -> Result<bool, Memory>
     ensures { IfOk result (λ twice. twice ≡ names.expanded_twice attributes.now) }
 {
     if attributes.len() < 2 {
+        return Ok(false);
+    }
+    if have_own_hashes(alloc, attributes)? {
         return Ok(false);
     }
     let mut later = BTreeSet::new(alloc);

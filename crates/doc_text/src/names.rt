@@ -23,12 +23,14 @@ pub(crate) fn is_long(written: &[u8]) -> bool
     !(is_short_part(prefix_of(written)) && is_short_part(local_of(written)))
 }
 
-// Whether an attribute of this name binds a namespace.
+// Whether an attribute of this name binds a namespace. Most don't begin as those that do.
+#[inline(always)]
 #[tactic(auto, unfolding(crate::specs::Namespaces::binds))]
 pub(crate) fn binds(written: &[u8]) -> bool
     ensures { result ≡ names.binds written.now }
 {
-    written == b"xmlns".as_slice() || prefix_of(written) == b"xmlns".as_slice()
+    written.starts_with(b"xmlns")
+        && (written == b"xmlns".as_slice() || prefix_of(written) == b"xmlns".as_slice())
 }
 
 // The prefix that it binds, empty for the default namespace.

@@ -1,5 +1,7 @@
 //! The items of documents, in one vector of small entries: names, lists and texts stand beside them, and entries have
 //! their numbers.
+//!
+//! Read first: `specs/Meaning`, then `specs/Building`.
 #![tactic(auto)]
 
 mod builder;

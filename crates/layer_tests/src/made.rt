@@ -1,4 +1,4 @@
-//! A module with an order of elements, made by hand: no schema gives one so far.
+//! A module with an order of elements, made by hand.
 ghost use Rattle.std.specs.Prelude.{◌≡◌, ◌∷◌, [], IfOk, length};
 ghost use Rattle.layer_tests.specs.MadeModules as made;
 

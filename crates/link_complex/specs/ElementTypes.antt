@@ -74,6 +74,7 @@ of_label types l = elim l.kind [
   | particle.Element decl name ↦ typed_particle name (place l.file l.at) (types decl) ∷ []
   | particle.Sequence ↦ []
   | particle.Choice ↦ []
+  | particle.All ↦ []
 ]
 
 abbrev pub of_part : (ℕ → Option TypeIdentity) → What → List TypedParticle

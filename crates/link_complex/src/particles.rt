@@ -88,6 +88,7 @@ fn push_label<'a>(
         }
         ParticleKind::Sequence => Ok(()),
         ParticleKind::Choice => Ok(()),
+        ParticleKind::All => Ok(()),
     }
 }
 

@@ -23,6 +23,7 @@ kind_allowed : (number : ℕ → ℕ) (k : ParticleKind) (n : ℕ) → KindMayHa
 kind_allowed number (particle.Element decl name) n h = h
 kind_allowed number particle.Sequence n h = h
 kind_allowed number particle.Choice n h = h
+kind_allowed number particle.All n h = h
 
 same_length : (number : ℕ → ℕ) (ts : Roses ParticleLabel) → length_all (all_numbered number ts) ≡ length_all ts
 same_length number rose.none = refl

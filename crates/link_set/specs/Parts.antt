@@ -10,6 +10,6 @@ use Rattle.link_set.specs.declared.parts.SetParts.{SetParts as KeptParts}
 abbrev pub parts_made : KeptParts → SetParts
 parts_made p = parts_of (components p.elements.items p.globals p.simples.items p.complexes.items p.attributes.items)
 
--- in the content model, if there is one, each choice has an alternative, and nothing stands in an element
+-- in the content model, if there is one, each choice has an alternative and each `all` a particle, and nothing stands in an element
 abbrev pub HasWholeModel : ComplexDef → Type 0
 HasWholeModel c = IfSome (model_of c.content) (Allowed MayHave)

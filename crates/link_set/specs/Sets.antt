@@ -160,6 +160,7 @@ abbrev pub numbered_kind : (ℕ → ℕ) → ParticleKind → ParticleKind
 numbered_kind number (particle.Element decl name) = particle.Element (number decl) name
 numbered_kind number particle.Sequence = particle.Sequence
 numbered_kind number particle.Choice = particle.Choice
+numbered_kind number particle.All = particle.All
 
 abbrev pub numbered_label : (ℕ → ℕ) → ParticleLabel → ParticleLabel
 numbered_label number l = record { kind = numbered_kind number l.kind; min = l.min; max = l.max; file = l.file; at = l.at }

@@ -212,6 +212,7 @@ impl<'a> ComponentNumbers<'a> {
             }
             ParticleKind::Sequence => Ok(ParticleKind::Sequence),
             ParticleKind::Choice => Ok(ParticleKind::Choice),
+            ParticleKind::All => Ok(ParticleKind::All),
         }
     }
 

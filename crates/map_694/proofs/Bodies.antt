@@ -1,7 +1,8 @@
 -- The plans of complex types and declarations, and so of all that has an assignment.
-use Rattle.std.proofs.Common.{◌≡◌, ℕ, zero, suc, ◌+◌, ◌<◌, ◌≤◌, Bool, true, false, ◌&&◌, not, cond, Option, Some, None, List, [], ◌∷◌, length, All, inl, inr, refl, ap, subst, ◌∙◌, arith}
+use Rattle.std.proofs.Common.{◌≡◌, ℕ, zero, suc, ◌+◌, ◌<◌, ◌≤◌, ◌^◌, Bool, true, false, ◌&&◌, not, cond, Option, Some, None, List, [], ◌∷◌, length, All, inl, inr, refl, ap, subst, ◌∙◌, arith}
 use Rattle.std.specs.Prelude.{if◌then◌else◌, slice_get, nat_lt, nat_eq, option_and_then, IsSomeAnd}
 use Rattle.std.proofs.lemmas.Bool.Decides.{Decides-ltb, eqb_tells}
+use Rattle.std.proofs.lemmas.List.{length-map}
 use Rattle.std.proofs.lemmas.List.Elements.{All-head, All-tail}
 use Rattle.std.proofs.lemmas.Map.Keys.{any_passes_from_place}
 use Rattle.xa_base.specs.declared.texts.Name.{Name}
@@ -11,7 +12,7 @@ use Rattle.simple_types.specs.declared.standards.Standard.{Standard}
 use Rattle.simple_types.specs.declared.standards.Standard.TheVariants.{Free, Default, Fixed}
 use Rattle.simple_types.specs.Space.{Space, Booleans}
 use Rattle.simple_types.specs.Seen.{space_of}
-use Rattle.simple_types.specs.Sound.{Sound}
+use Rattle.simple_types.specs.Sound.{Sound, IsCounted}
 use Rattle.content_models.specs.Seen.{seen}
 use Rattle.schema_parts.specs.declared.components.ElementDecl.{ElementDecl}
 use Rattle.schema_parts.specs.declared.components.TypeOf.{TypeOf}
@@ -29,17 +30,18 @@ use Rattle.map_subjects.specs.declared.subjects.Subject.TheVariants as subject
 use Rattle.map_subjects.specs.Subjects.{is_nillable_of, has_nillable, complex_name}
 use Rattle.map_subjects.proofs.Finding.{all-at}
 use Rattle.map_subjects.proofs.InOrder.{named-element}
-use Rattle.map_assignments.specs.Plans.{Label, attribute, texts, TypePlan, simple, sequence, choice, repeated, reference, Parts, finish, part}
-use Rattle.map_assignments.specs.Planning.{simple_plan, simple_type, attributes, is_mixed, texts_type, with_texts, top, content_parts, content_type, rest_parts, complex_plan, nillable_simple_type, own_type, particle_type, in_place, body}
+use Rattle.map_assignments.specs.Plans.{Label, attribute, texts, order, content, TypePlan, simple, sequence, choice, repeated, order_items, reference, Parts, finish, part}
+use Rattle.map_assignments.specs.Planning.{simple_plan, simple_type, attributes, is_mixed, is_ordered, order_plan, order_type, labels_before, labels, with_order, texts_type, with_texts, top, content_parts, content_type, rest_parts, complex_plan, nillable_simple_type, own_type, particle_type, in_place, body}
 use Rattle.map_assignments.specs.Naming.{IsSimpleType as IsTypeOf, IsNamed}
-use Rattle.map_694.proofs.Shapes.{count_parts, EndsOptional, NoElements, HasName, IsSpelling, IsSimplePlan, IsSpelled, MayHaveStandard, IsPlan, ArePlans, Refers, ReferInAll, depth_of}
-use Rattle.map_694.proofs.Planned.{never, plain-sequence, seen-nodes, top-refers, top-plans, top-count}
+use Rattle.map_694.proofs.Shapes.{count_parts, EndsOptional, NoElements, InOrder, HasName, IsSpelling, IsSimplePlan, IsSpelled, MayHaveStandard, IsPlan, ArePlans, Refers, ReferInAll, depth_of}
+use Rattle.map_694.proofs.Planned.{never, plain-sequence, seen-nodes, top-refers, top-plans, top-count, all-elements}
 
 simple-is-plan : (s : Set) (p : TypePlan) → IsSimplePlan s p → IsPlan s p
 simple-is-plan s (simple sp) g = g
-simple-is-plan s (sequence nillable mixed ps) g = absurd g
+simple-is-plan s (sequence nillable mixed ordered ps) g = absurd g
 simple-is-plan s (choice ps) g = absurd g
 simple-is-plan s (repeated l p least most) g = absurd g
+simple-is-plan s (order_items firsts ls) g = absurd g
 simple-is-plan s (reference (subject.Element n)) g = absurd g
 simple-is-plan s (reference (subject.Attribute n)) g = absurd g
 simple-is-plan s (reference (subject.Simple n)) g = g
@@ -81,20 +83,26 @@ module _ (s : Set) (P : Subject → Type 0) (simples : (n : ℕ) → P (subject.
     rest-refer true c = (content-type-refers c, tt)
     rest-refer false c = content-parts-refer c
 
+    with-order-refer : (ordered : Bool) (firsts ls : List Label) (rest : Parts) → ReferInAll P rest → ReferInAll P (with_order ordered (order_type firsts ls) rest)
+    with-order-refer true firsts ls rest h = (tt, h)
+    with-order-refer false firsts ls rest h = h
+
     with-texts-refer : (mixed : Bool) (rest : Parts) → ReferInAll P rest → ReferInAll P (with_texts mixed rest)
     with-texts-refer true rest h = (tt, h)
     with-texts-refer false rest h = h
 
     complex-refers : (nillable : Bool) (c : ComplexDef) → Refers P (complex_plan T s nillable c)
     complex-refers nillable c =
-        with-texts-refer (is_mixed c.content) (attributes s c.uses (rest_parts T s nillable c.content))
-        (attributes-refer c.uses (rest_parts T s nillable c.content) (rest-refer nillable c.content))
+        with-texts-refer (is_mixed c.content) (with_order (is_ordered c.content) (order_plan T s nillable c) (attributes s c.uses (rest_parts T s nillable c.content)))
+        (with-order-refer (is_ordered c.content) (if nillable then [] else labels_before (is_mixed c.content) c.uses) (labels (content_parts T s c.content))
+        (attributes s c.uses (rest_parts T s nillable c.content))
+        (attributes-refer c.uses (rest_parts T s nillable c.content) (rest-refer nillable c.content)))
 
   in-place-refers : (levels : ℕ) (nillable : Bool) (n : ℕ) → Refers P (in_place s levels nillable n)
   in-place-refers zero nillable n = tt
   in-place-refers (suc levels) nillable n = by (slice_get s.complexes n)
     where
-      by : (o : Option ComplexDef) → Refers P (elim o [ None ↦ sequence false false finish | Some c ↦ complex_plan (particle_type s (in_place s levels)) s nillable c ])
+      by : (o : Option ComplexDef) → Refers P (elim o [ None ↦ sequence false false false finish | Some c ↦ complex_plan (particle_type s (in_place s levels)) s nillable c ])
       by None = tt
       by (Some c) = complex-refers (particle_type s (in_place s levels)) nillable c
 
@@ -115,7 +123,7 @@ module _ (s : Set) (P : Subject → Type 0) (simples : (n : ℕ) → P (subject.
       named n (Some a) = to-type e.nillable n
 
       of-complex : (n : ℕ) (o : Option ComplexDef) → Refers P (elim o [
-        | None ↦ sequence false false finish
+        | None ↦ sequence false false false finish
         | Some c ↦ elim c.name [ None ↦ inner e.nillable n | Some name ↦ reference (if e.nillable then subject.Nillable n else subject.Complex n) ]
       ])
       of-complex n None = tt
@@ -124,7 +132,7 @@ module _ (s : Set) (P : Subject → Type 0) (simples : (n : ℕ) → P (subject.
       by : (k : TypeOf) → Refers P (elim k [
         | kind.Simple n ↦ if e.nillable then nillable_simple_type s n else simple_type s n
         | kind.Complex n ↦ elim (slice_get s.complexes n) [
-          | None ↦ sequence false false finish
+          | None ↦ sequence false false false finish
           | Some c ↦ elim c.name [ None ↦ inner e.nillable n | Some name ↦ reference (if e.nillable then subject.Nillable n else subject.Complex n) ]
         ]
       ])
@@ -183,6 +191,56 @@ pub attributes-count : (s : Set) (us : List AttributeUse) (rest : Parts) → cou
 attributes-count s [] rest = omega arith
 attributes-count s (u ∷ us) rest = let h = attributes-count s us rest in omega (arith, h)
 
+-- few parts stand before those of the elements
+firsts-few : (nillable mixed : Bool) (us : List AttributeUse) → length us ≤ 65536 → length (if nillable then [] else labels_before mixed us) < 2 ^ 32
+firsts-few true mixed us few = omega arith
+firsts-few false true us few = omega (arith, few, length-map us (λ (u : AttributeUse). attribute u.name u.standard))
+firsts-few false false us few = omega (arith, few, length-map us (λ (u : AttributeUse). attribute u.name u.standard))
+
+-- a type whose elements may stand in any order
+all-content : (T : ℕ → TypePlan) (s : Set) (nillable : Bool) (c : ComplexDef) → is_ordered c.content ≡ true → IsContent s c.content
+    → InOrder nillable (is_mixed c.content) (with_texts (is_mixed c.content) (part order false (order_plan T s nillable c) (attributes s c.uses (rest_parts T s nillable c.content))))
+    × IsCounted (length (labels (content_parts T s c.content)))
+all-content T s nillable c e h = by c.content e h
+  where
+    parts-of : (k : Content) → Parts
+    parts-of k =
+        with_texts (is_mixed k)
+        (part order false (order_type (if nillable then [] else labels_before (is_mixed k) c.uses) (labels (content_parts T s k))) (attributes s c.uses (rest_parts T s nillable k)))
+
+    same : (n mixed : Bool) (k : Content) (parts : Parts) → content_parts T s k ≡ parts → content_type T s k ≡ sequence false false false parts
+        → rest_parts T s n k ≡ (if n then part content true (sequence false false false parts) finish else parts)
+    same true mixed k parts e f = ap (λ p. part content true p finish) f
+    same false mixed k parts e f = e
+
+    by : (k : Content) → is_ordered k ≡ true → IsContent s k → InOrder nillable (is_mixed k) (parts-of k) × IsCounted (length (labels (content_parts T s k)))
+    by content_.Empty e h = absurd cc
+    by (content_.Simple n) e h = absurd cc
+    by (content_.ElementOnly particle) e h =
+        let all = all-elements s T (seen particle) e (omega (arith, seen-nodes particle, h.few)) h.occurring h.clear in (
+          record {
+            set = s;
+            uses = c.uses;
+            elements = top T (seen particle);
+            are_elements = all.0;
+            is = ap (λ r. part order false (order_type (if nillable then [] else labels_before false c.uses) (labels (top T (seen particle)))) (attributes s c.uses r))
+                (same nillable false (content_.ElementOnly particle) (top T (seen particle)) refl refl);
+          },
+          all.1,
+        )
+    by (content_.Mixed particle) e h =
+        let all = all-elements s T (seen particle) e (omega (arith, seen-nodes particle, h.few)) h.occurring h.clear in (
+          record {
+            set = s;
+            uses = c.uses;
+            elements = top T (seen particle);
+            are_elements = all.0;
+            is = ap (λ r. with_texts true (part order false (order_type (if nillable then [] else labels_before true c.uses) (labels (top T (seen particle)))) (attributes s c.uses r)))
+                (same nillable true (content_.Mixed particle) (top T (seen particle)) refl refl);
+          },
+          all.1,
+        )
+
 module _ (s : Set) (linked : IsLinked s) where
   pub simple-plan-is : (n : ℕ) → IsSimplePlan s (simple_type s n)
   simple-plan-is n = by (slice_get s.simples n) refl
@@ -238,14 +296,14 @@ module _ (s : Set) (linked : IsLinked s) where
     content-parts-count (content_.Mixed particle) h = top-count s T (seen particle) (omega (arith, seen-nodes particle, h.few))
 
     content-type-plan : (c : Content) → IsContent s c → IsPlan s (content_type T s c)
-    content-type-plan content_.Empty h = (plain-sequence finish, omega arith, tt)
+    content-type-plan content_.Empty h = (plain-sequence finish, omega arith, tt, (λ e. never _ e))
     content-type-plan (content_.Simple n) h = simple-plan n
     content-type-plan (content_.ElementOnly particle) h =
         let few : count_parts (top T (seen particle)) ≤ 65536 = content-parts-count (content_.ElementOnly particle) h in
-        (plain-sequence (top T (seen particle)), omega (arith, few), content-parts-plans (content_.ElementOnly particle) h)
+        (plain-sequence (top T (seen particle)), omega (arith, few), content-parts-plans (content_.ElementOnly particle) h, (λ e. never _ e))
     content-type-plan (content_.Mixed particle) h =
         let few : count_parts (top T (seen particle)) ≤ 65536 = content-parts-count (content_.Mixed particle) h in
-        (plain-sequence (top T (seen particle)), omega (arith, few), content-parts-plans (content_.Mixed particle) h)
+        (plain-sequence (top T (seen particle)), omega (arith, few), content-parts-plans (content_.Mixed particle) h, (λ e. never _ e))
 
     rest-plans : (nillable : Bool) (c : Content) → IsContent s c → ArePlans s (rest_parts T s nillable c)
     rest-plans true c h = (content-type-plan c h, (λ e. never _ e), tt)
@@ -259,14 +317,15 @@ module _ (s : Set) (linked : IsLinked s) where
     texts-plan = (tt, refl, tt)
 
     -- behind the texts of mixed content
-    whole-plan : (nillable mixed : Bool) (rest : Parts) → (nillable ≡ true → EndsOptional rest × NoElements rest) → count_parts rest ≤ 131072 → ArePlans s rest
-        → IsPlan s (sequence nillable mixed (with_texts mixed rest))
-    whole-plan nillable true rest ends few g = (
+    whole-plan : (nillable mixed ordered : Bool) (rest : Parts) → (nillable ≡ true → EndsOptional rest × NoElements rest) → count_parts rest ≤ 131073 → ArePlans s rest
+        → (ordered ≡ true → InOrder nillable mixed (with_texts mixed rest)) → IsPlan s (sequence nillable mixed ordered (with_texts mixed rest))
+    whole-plan nillable true ordered rest ends few g o = (
       ((λ e. let h = ends e in (ends-part texts false texts_type rest h.0, (refl, h.1))), (λ e. (refl, refl))),
       omega (arith, few),
       (texts-plan, (λ e. never _ e), g),
+      o,
     )
-    whole-plan nillable false rest ends few g = ((ends, (λ e. never _ e)), omega (arith, few), g)
+    whole-plan nillable false ordered rest ends few g o = ((ends, (λ e. never _ e)), omega (arith, few), g, o)
 
     nillable-ends : (nillable : Bool) (c : ComplexDef) → nillable ≡ true
         → EndsOptional (attributes s c.uses (rest_parts T s nillable c.content)) × NoElements (attributes s c.uses (rest_parts T s nillable c.content))
@@ -278,15 +337,31 @@ module _ (s : Set) (linked : IsLinked s) where
 
     complex-is-plan : (nillable : Bool) (c : ComplexDef) → IsComplexType s c → IsPlan s (complex_plan T s nillable c)
     complex-is-plan nillable c h =
-        whole-plan nillable (is_mixed c.content) (attributes s c.uses (rest_parts T s nillable c.content)) (nillable-ends nillable c)
-        (omega (arith, attributes-count s c.uses (rest_parts T s nillable c.content), h.few, rest-count nillable c.content h.content))
-        (attributes-plans c.uses (rest_parts T s nillable c.content) h.standards (rest-plans nillable c.content h.content))
+        by (is_ordered c.content) refl
+      where
+        rest : Parts
+        rest = attributes s c.uses (rest_parts T s nillable c.content)
 
-  nothing-plan : IsPlan s (sequence false false finish)
-  nothing-plan = (plain-sequence finish, omega arith, tt)
+        few : count_parts rest ≤ 131072
+        few = omega (arith, attributes-count s c.uses (rest_parts T s nillable c.content), h.few, rest-count nillable c.content h.content)
+
+        plans_of : ArePlans s rest
+        plans_of = attributes-plans c.uses (rest_parts T s nillable c.content) h.standards (rest-plans nillable c.content h.content)
+
+        by : (b : Bool) → is_ordered c.content ≡ b
+            → IsPlan s (sequence nillable (is_mixed c.content) b (with_texts (is_mixed c.content) (with_order b (order_plan T s nillable c) rest)))
+        by false e = whole-plan nillable (is_mixed c.content) false rest (nillable-ends nillable c) (let f = few in omega (arith, f)) plans_of (λ e. never _ e)
+        by true e =
+            let all = all-content T s nillable c e h.content in
+            whole-plan nillable (is_mixed c.content) true (part order false (order_plan T s nillable c) rest)
+            (λ n. let ends = nillable-ends nillable c n in (ends-part order false (order_plan T s nillable c) rest ends.0, (refl, ends.1)))
+            (let f = few in omega (arith, f)) ((tt, refl, (all.1, firsts-few nillable (is_mixed c.content) c.uses h.few)), (λ e. never _ e), plans_of) (λ t. all.0)
+
+  nothing-plan : IsPlan s (sequence false false false finish)
+  nothing-plan = (plain-sequence finish, omega arith, tt, (λ e. never _ e))
 
   nillable-simple-plan : (n : ℕ) → IsPlan s (nillable_simple_type s n)
-  nillable-simple-plan n = (((λ e. (refl, (refl, tt))), (λ e. never _ e)), omega arith, (simple-plan n, (λ e. never _ e), tt))
+  nillable-simple-plan n = (((λ e. (refl, (refl, tt))), (λ e. never _ e)), omega arith, (simple-plan n, (λ e. never _ e), tt), (λ e. never _ e))
 
   pub nillable-has : (n i : ℕ) (e : ElementDecl) → slice_get s.elements i ≡ Some e → e.nillable ≡ true → e.kind ≡ kind.Complex n → has_nillable s n ≡ true
   nillable-has n i e got b k =
@@ -316,7 +391,7 @@ module _ (s : Set) (linked : IsLinked s) where
       named n c (Some a) k f g = to-type e.nillable n c a refl k f g
 
       of-complex : (n : ℕ) (o : Option ComplexDef) → e.kind ≡ kind.Complex n → slice_get s.complexes n ≡ o → IsPlan s (elim o [
-        | None ↦ sequence false false finish
+        | None ↦ sequence false false false finish
         | Some c ↦ elim c.name [ None ↦ inner e.nillable n | Some name ↦ reference (if e.nillable then subject.Nillable n else subject.Complex n) ]
       ])
       of-complex n None k f = nothing-plan
@@ -325,7 +400,7 @@ module _ (s : Set) (linked : IsLinked s) where
       by : (k : TypeOf) → e.kind ≡ k → IsPlan s (elim k [
         | kind.Simple n ↦ if e.nillable then nillable_simple_type s n else simple_type s n
         | kind.Complex n ↦ elim (slice_get s.complexes n) [
-          | None ↦ sequence false false finish
+          | None ↦ sequence false false false finish
           | Some c ↦ elim c.name [ None ↦ inner e.nillable n | Some name ↦ reference (if e.nillable then subject.Nillable n else subject.Complex n) ]
         ]
       ])
@@ -349,7 +424,7 @@ module _ (s : Set) (linked : IsLinked s) where
   in-place-plan (suc levels) nillable n = by (λ b m. in-place-plan levels b m) (slice_get s.complexes n) refl
     where
       by : ((b : Bool) (m : ℕ) → IsPlan s (in_place s levels b m)) → (o : Option ComplexDef) → slice_get s.complexes n ≡ o
-          → IsPlan s (elim o [ None ↦ sequence false false finish | Some c ↦ complex_plan (particle_type s (in_place s levels)) s nillable c ])
+          → IsPlan s (elim o [ None ↦ sequence false false false finish | Some c ↦ complex_plan (particle_type s (in_place s levels)) s nillable c ])
       by within None f = nothing-plan
       by within (Some c) f =
           complex-is-plan (particle_type s (in_place s levels)) (λ d. particle-plan (in_place s levels) within d) nillable c

@@ -23,23 +23,23 @@ use Rattle.schema_parts.specs.Components.{Set}
 use Rattle.map_subjects.specs.declared.subjects.Subject.{Subject}
 use Rattle.map_subjects.specs.declared.subjects.NamedSubject.{NamedSubject}
 use Rattle.map_subjects.specs.Subjects.{place_in, AreEntries}
-use Rattle.map_assignments.specs.Plans.{Label, attribute, element, group, elements, groups, texts, item, base, content, TypePlan, simple, sequence, choice, repeated, reference, Parts, finish, part}
+use Rattle.map_assignments.specs.Plans.{Label, attribute, element, group, elements, groups, texts, order, item, base, content, TypePlan, simple, sequence, choice, repeated, order_items, reference, Parts, finish, part}
 use Rattle.map_assignments.specs.Planning.{body}
 use Rattle.map_assignments.specs.Naming.{type_label, identifier_of, wanted, named_part, repeated_part, sequence_marks, IsNamed, AreNamed}
 use Rattle.map_assignments.specs.Mapped.{AreMapped}
-use Rattle.map_694.proofs.Shapes.{is_element_label, NoElements, IsSequence, IsPlan, ArePlans, Refers, ReferInAll, depth_of, either-way, passed, refers-weaker}
+use Rattle.map_694.proofs.Shapes.{is_element_label, NoElements, IsSequence, InOrder, IsPlan, ArePlans, Refers, ReferInAll, depth_of, either-way, passed, refers-weaker}
 use Rattle.map_694.proofs.Marked.{element-tagged, element-no_attribute}
 use Rattle.map_694.proofs.Resolving.{simple-near}
 use Rattle.map_694.proofs.Places.{located}
 
 -- ---- roles of elements
 
-abbrev picked : Bool → Bool → Bool → Bool → Bool → Bool → Bool → Role
+abbrev pub picked : Bool → Bool → Bool → Bool → Bool → Bool → Bool → Role
 picked a u c d o e f =
     if a then Attribute
     else (if u then Group else (if c then Content else (if d then Embed else (if o then Order else (if e then Item else (if f then Alternative else Element))))))
 
-picked-element : (a u c d o e f : Bool) → a ≡ false → u ≡ false → c ≡ false → d ≡ false → o ≡ false → e ≡ false → f ≡ false → picked a u c d o e f ≡ Element
+pub picked-element : (a u c d o e f : Bool) → a ≡ false → u ≡ false → c ≡ false → d ≡ false → o ≡ false → e ≡ false → f ≡ false → picked a u c d o e f ≡ Element
 picked-element a u c d o e f ha hu hc hd ho he hf =
     ap (λ b. picked b u c d o e f) ha ∙ ap (λ b. picked false b c d o e f) hu ∙ ap (λ b. picked false false b d o e f) hc
     ∙ ap (λ b. picked false false false b o e f) hd ∙ ap (λ b. picked false false false false b e f) ho
@@ -59,9 +59,9 @@ MakesElement l i = (c : Component) → has_attribute c.marks ≡ false → has_u
 
 pub makes-element : (l : TypeLabel) (i : ℕ) → has_use_nil l.marks ≡ false → has_use_order l.marks ≡ false → has_use_union l.marks ≡ false → is_embed l i ≡ false
     → MakesElement l i
-makes-element l i nil order union embed c a u it =
+makes-element l i nil untold union embed c a u it =
     picked-element (has_attribute c.marks) (has_untagged c.marks) (is_content l i) (is_embed l i) (is_order l i) (is_item l.form c) (has_use_union l.marks)
-    a u (ap (λ b. b && (i + 1 == length (parts_of l.form))) nil) embed (no-order l i order) it union
+    a u (ap (λ b. b && (i + 1 == length (parts_of l.form))) nil) embed (no-order l i untold) it union
 
 abbrev HaveRoles : TypeLabel → ℕ → Parts → Type 0
 HaveRoles l i finish = Unit {0}
@@ -72,9 +72,9 @@ roles-none l i finish h = tt
 roles-none l i (part k optional p ps) h = ((λ e. absurd (true≢false (sym e ∙ h.0))), roles-none l (i + 1) ps h.1)
 
 roles-from : (l : TypeLabel) (i : ℕ) (ps : Parts) → has_use_nil l.marks ≡ false → has_use_order l.marks ≡ false → has_use_union l.marks ≡ false → ((j : ℕ) → i ≤ j → is_embed l j ≡ false) → HaveRoles l i ps
-roles-from l i finish nil order union embed = tt
-roles-from l i (part k optional p ps) nil order union embed =
-    ((λ e. makes-element l i nil order union (embed i (omega arith))), roles-from l (i + 1) ps nil order union (λ j below. embed j (omega (arith, below))))
+roles-from l i finish nil untold union embed = tt
+roles-from l i (part k optional p ps) nil untold union embed =
+    ((λ e. makes-element l i nil untold union (embed i (omega arith))), roles-from l (i + 1) ps nil untold union (λ j below. embed j (omega (arith, below))))
 
 pub not-first : (j : ℕ) → 0 < j → (j == 0) ≡ false
 not-first j below = elim (eqb_tells j 0) [
@@ -82,17 +82,51 @@ not-first j below = elim (eqb_tells j 0) [
   | inr h ↦ h.0
 ]
 
-sequence-roles : (nillable mixed : Bool) (parts : List Component) (ps : Parts) → IsSequence nillable mixed ps
-    → HaveRoles (type_label (form.Sequence parts) (sequence_marks nillable mixed)) 0 ps
-sequence-roles true mixed parts ps h = roles-none (type_label (form.Sequence parts) (sequence_marks true mixed)) 0 ps ((h.0 refl).1)
-sequence-roles false false parts ps h =
-    roles-from (type_label (form.Sequence parts) (sequence_marks false false)) 0 ps refl refl refl (λ j below. and-false (j == 0))
-sequence-roles false true parts finish h = tt
-sequence-roles false true parts (part k optional p ps) h = (
+pub not-same : (j n : ℕ) → n < j → (j == n) ≡ false
+not-same j n below = elim (eqb_tells j n) [
+  | inl h ↦ absurd (omega (arith, below, h.1))
+  | inr h ↦ h.0
+]
+
+-- behind the part that has the order
+pub later-elements : (l : TypeLabel) (n : ℕ) → order_place l.marks ≡ n → has_use_nil l.marks ≡ false → has_use_union l.marks ≡ false → ((j : ℕ) → n ≤ j → is_embed l j ≡ false)
+    → (j : ℕ) → n < j → MakesElement l j
+later-elements l n at nil union embeds j below c a u it =
+    picked-element (has_attribute c.marks) (has_untagged c.marks) (is_content l j) (is_embed l j) (is_order l j) (is_item l.form c) (has_use_union l.marks)
+    a u (ap (λ b. b && (j + 1 == length (parts_of l.form))) nil) (embeds j (omega (arith, below)))
+    (ap (λ k. (j == k) && has_use_order l.marks) at ∙ ap (λ b. b && has_use_order l.marks) (not-same j n below)) it union
+
+roles-later : (l : TypeLabel) (i : ℕ) (ps : Parts) → ((j : ℕ) → i ≤ j → MakesElement l j) → HaveRoles l i ps
+roles-later l i finish makes = tt
+roles-later l i (part k optional p ps) makes = ((λ e. makes i (omega arith)), roles-later l (i + 1) ps (λ j below. makes j (omega (arith, below))))
+
+sequence-roles : (nillable mixed ordered : Bool) (parts : List Component) (ps : Parts) → IsSequence nillable mixed ps → (ordered ≡ true → InOrder nillable mixed ps)
+    → HaveRoles (type_label (form.Sequence parts) (sequence_marks nillable mixed ordered)) 0 ps
+sequence-roles true mixed ordered parts ps h o = roles-none (type_label (form.Sequence parts) (sequence_marks true mixed ordered)) 0 ps ((h.0 refl).1)
+sequence-roles false false false parts ps h o =
+    roles-from (type_label (form.Sequence parts) (sequence_marks false false false)) 0 ps refl refl refl (λ j below. and-false (j == 0))
+sequence-roles false true false parts finish h o = tt
+sequence-roles false true false parts (part k optional p ps) h o = (
   (λ e. absurd (true≢false (sym e ∙ (h.1 refl).0))),
-  roles-from (type_label (form.Sequence parts) (sequence_marks false true)) (0 + 1) ps refl refl refl
+  roles-from (type_label (form.Sequence parts) (sequence_marks false true false)) (0 + 1) ps refl refl refl
       (λ j below. ap (λ b. b && true) (not-first j (omega (arith, below)))),
 )
+sequence-roles false false true parts ps h o =
+    let l = type_label (form.Sequence parts) (sequence_marks false false true) in
+    subst (HaveRoles l 0) (sym ((o refl).is)) (
+      (λ e. absurd cc),
+      roles-later l (0 + 1) _ (λ j below. later-elements l 0 refl refl refl (λ i less. and-false (i == 0)) j (omega (arith, below))),
+    )
+sequence-roles false true true parts ps h o =
+    let l = type_label (form.Sequence parts) (sequence_marks false true true) in
+    subst (HaveRoles l 0) (sym ((o refl).is)) (
+      (λ e. absurd cc),
+      (
+        (λ e. absurd cc),
+        roles-later l (0 + 1 + 1) _
+            (λ j below. later-elements l 1 refl refl refl (λ i less. ap (λ b. b && true) (not-first i (omega (arith, less)))) j (omega (arith, below))),
+      ),
+    )
 
 choice-roles : (parts : List Component) (ps : Parts) → HaveRoles (type_label (form.Choice parts) []) 0 ps
 choice-roles parts ps = roles-from (type_label (form.Choice parts) []) 0 ps refl refl refl (λ j below. and-false (j == 0))
@@ -118,6 +152,7 @@ element-filled (group k) e = absurd cc
 element-filled (elements name) e = absurd cc
 element-filled (groups k) e = absurd cc
 element-filled texts e = absurd cc
+element-filled order e = absurd cc
 element-filled item e = absurd cc
 element-filled base e = absurd cc
 element-filled content e = absurd cc
@@ -144,14 +179,15 @@ module _ (s : Set) (place : Subject → ℕ) (P : ℕ → Type 0) where
 
     pub named-near : (p : TypePlan) (t : Rose TypeLabel) → IsPlan s p → Refers (λ w. P (place w)) p → IsNamed place p t → NearRefs P t
     named-near (simple sp) t g r h = simple-near P sp t h
-    named-near (sequence nillable mixed ps) t g r h =
+    named-near (sequence nillable mixed ordered ps) t g r h =
         subst (NearRefs P) (sym h.2)
-        (tt, parts-near (type_label (form.Sequence h.0) (sequence_marks nillable mixed)) 0 [] ps h.0 h.1 (λ c. refl) g.2 (sequence-roles nillable mixed h.0 ps g.0) r h.3)
+        (tt, parts-near (type_label (form.Sequence h.0) (sequence_marks nillable mixed ordered)) 0 [] ps h.0 h.1 (λ c. refl) g.2 (sequence-roles nillable mixed ordered h.0 ps g.0 g.3) r h.3)
     named-near (choice ps) t g r h =
         subst (NearRefs P) (sym h.2) (tt, parts-near (type_label (form.Choice h.0) []) 0 [] ps h.0 h.1 (λ c. refl) g.1 (choice-roles h.0 ps) r h.3)
     named-near (repeated l p least most) t g r h =
         subst (NearRefs P) (sym h.1)
         (tt, (at-part l (role_of (type_label (form.SequenceOf (repeated_part l) least most) []) 0 (repeated_part l)) p h.0 (repeated-element l least most) r (λ q. named-near p h.0 g.2 q h.2), tt))
+    named-near (order_items firsts ls) t g r h = subst (NearRefs P) (sym h.type) (tt, tt)
     named-near (reference w) t g r h = subst (NearRefs P) (sym h) (r, tt)
 
     parts-near : (l : TypeLabel) (i : ℕ) (before : List (List ℕ)) (ps : Parts) (parts : List Component) (ts : Roses TypeLabel) → ((c : Component) → is_item l.form c ≡ false)

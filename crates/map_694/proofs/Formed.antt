@@ -26,14 +26,15 @@ use Rattle.map_subjects.specs.declared.subjects.Subject.{Subject}
 use Rattle.map_subjects.specs.declared.subjects.Subject.TheVariants as subject
 use Rattle.map_subjects.specs.declared.subjects.NamedSubject.{NamedSubject}
 use Rattle.map_subjects.specs.Subjects.{place_in, AreEntries}
-use Rattle.map_assignments.specs.Plans.{Label, attribute, element, group, elements, groups, texts, item, base, content, TypePlan, simple, sequence, choice, repeated, reference, Parts, finish, part}
+use Rattle.map_assignments.specs.Plans.{Label, attribute, element, group, elements, groups, texts, order, item, base, content, TypePlan, simple, sequence, choice, repeated, order_items, reference, Parts, finish, part}
 use Rattle.map_assignments.specs.Planning.{body, texts_type}
 use Rattle.map_assignments.specs.Naming.{type_label, component_of, list_item, identifier_of, text_marks, part_standard, part_marks, named_part, repeated_part, wanted, sequence_marks, AreTaken, IsSimpleType, AreMembers, IsNamed, AreNamed}
 use Rattle.map_assignments.specs.Mapped.{AreMapped}
 use Rattle.map_assignments.proofs.Simples.{simple-maps}
 use Rattle.map_694.proofs.Free.{label-free, members-free, named-free}
 use Rattle.map_694.proofs.Shapes.{is_attribute_label, count_parts, EndsOptional, BeginsTexts, IsSpelling, IsSimplePlan, IsSpelled, IsAttributePlan, IsPlan, ArePlans, Refers, depth_of, refers-all}
-use Rattle.map_694.proofs.Marked.{AsksNothing, nothing-asked, number-asks, words-ask, space-asks, part-attribute, sequence-no_attribute, sequence-no_order, sequence-no_list, sequence-no_union, sequence-nil, sequence-embeds}
+use Rattle.map_694.proofs.Ordered.{order-part}
+use Rattle.map_694.proofs.Marked.{AsksNothing, nothing-asked, number-asks, words-ask, space-asks, part-attribute, sequence-no_attribute, sequence-order, sequence-no_list, sequence-no_union, sequence-nil, sequence-embeds}
 use Rattle.map_694.proofs.Resolving.{simple-chains, no-target, follow-none, follow-one}
 use Rattle.map_694.proofs.Places.{located, located-within}
 use Rattle.map_694.proofs.Chains.{chain}
@@ -188,9 +189,10 @@ module _ (s : Set) (es : List NamedSubject) (M : List Assignment) (entries : Are
     (simples : (n : ℕ) (u : Rose TypeLabel) → IsNamed (place_in es) (body s (subject.Simple n)) u → (sp : Space) × Sound sp × IsSimpleType sp u × ((text : List ℕ) → IsSpellingAt s n text → IsSpelling sp text)) where
   pub simple-part : (p : TypePlan) (t : Rose TypeLabel) → IsSimplePlan s p → IsNamed (place_in es) p t → IsSimple (resolve M t)
   simple-part (simple sp) t g h = (sp, g, itself M sp t h)
-  simple-part (sequence nillable mixed ps) t g h = absurd g
+  simple-part (sequence nillable mixed ordered ps) t g h = absurd g
   simple-part (choice ps) t g h = absurd g
   simple-part (repeated l p least most) t g h = absurd g
+  simple-part (order_items firsts ls) t g h = absurd g
   simple-part (reference (subject.Element n)) t g h = absurd g
   simple-part (reference (subject.Attribute n)) t g h = absurd g
   simple-part (reference (subject.Simple n)) t g h =
@@ -204,9 +206,10 @@ module _ (s : Set) (es : List NamedSubject) (M : List Assignment) (entries : Are
 
   spelled-part : (p : TypePlan) (t : Rose TypeLabel) (text : List ℕ) → IsSimplePlan s p → IsSpelled s p text → IsNamed (place_in es) p t → IsSpellingOf M t text
   spelled-part (simple sp) t text g k h = (sp, k.0, g, itself M sp t h, k.1, k.2)
-  spelled-part (sequence nillable mixed ps) t text g k h = absurd g
+  spelled-part (sequence nillable mixed ordered ps) t text g k h = absurd g
   spelled-part (choice ps) t text g k h = absurd g
   spelled-part (repeated l p least most) t text g k h = absurd g
+  spelled-part (order_items firsts ls) t text g k h = absurd g
   spelled-part (reference (subject.Element n)) t text g k h = absurd g
   spelled-part (reference (subject.Attribute n)) t text g k h = absurd g
   spelled-part (reference (subject.Simple n)) t text g k h =
@@ -227,6 +230,7 @@ module _ (s : Set) (es : List NamedSubject) (M : List Assignment) (entries : Are
   standard-is (elements name) optional p g t f h = tt
   standard-is (groups k) optional p g t f h = tt
   standard-is texts optional p g t f h = tt
+  standard-is order optional p g t f h = tt
   standard-is item optional p g t f h = tt
   standard-is base optional p g t f h = tt
   standard-is content optional p g t f h = tt
@@ -244,23 +248,23 @@ module _ (s : Set) (es : List NamedSubject) (M : List Assignment) (entries : Are
   mutual
     pub named-formed : (p : TypePlan) (t : Rose TypeLabel) → IsPlan s p → IsNamed (place_in es) p t → AreWellFormed M t
     named-formed (simple sp) t g h = simple-formed M sp t g h
-    named-formed (sequence nillable mixed ps) t g h =
-        let marks = sequence_marks nillable mixed in
+    named-formed (sequence nillable mixed ordered ps) t g h =
+        let marks = sequence_marks nillable mixed ordered in
         let l = type_label (form.Sequence h.0) marks in
         let all = parts-formed [] ps h.0 h.1 g.2 h.3 in
         subst (AreWellFormed M) (sym h.2) (
           record {
             form = subst (λ n. n < 2 ^ 32) (sym all.0) g.1;
-            attribute = sequence-no_attribute nillable mixed;
-            embed_values = λ e. texts-first (place_in es) ps h.0 h.1 (g.0.1 (sym (sequence-embeds nillable mixed) ∙ e)) h.3;
-            use_nil = λ e. content-last (place_in es) [] ps h.0 h.1 ((g.0.0 (sym (sequence-nil nillable mixed) ∙ e)).0) h.3;
-            use_order = λ e. never (has_use_order marks) _ (sequence-no_order nillable mixed) e;
-            list = λ e. never (has_list marks) _ (sequence-no_list nillable mixed) e;
-            use_union = λ e. never (has_use_union marks) _ (sequence-no_union nillable mixed) e;
-            simple = λ e. never (has_list marks || has_use_union marks) _ (ap (λ b. b || has_use_union marks) (sequence-no_list nillable mixed) ∙ sequence-no_union nillable mixed) e;
+            attribute = sequence-no_attribute nillable mixed ordered;
+            embed_values = λ e. texts-first (place_in es) ps h.0 h.1 (g.0.1 (sym (sequence-embeds nillable mixed ordered) ∙ e)) h.3;
+            use_nil = λ e. content-last (place_in es) [] ps h.0 h.1 ((g.0.0 (sym (sequence-nil nillable mixed ordered) ∙ e)).0) h.3;
+            use_order = λ e. order-part (place_in es) M nillable mixed ordered ps h.0 h.1 (sym (sequence-order nillable mixed ordered) ∙ e) g.3 h.3;
+            list = λ e. never (has_list marks) _ (sequence-no_list nillable mixed ordered) e;
+            use_union = λ e. never (has_use_union marks) _ (sequence-no_union nillable mixed ordered) e;
+            simple = λ e. never (has_list marks || has_use_union marks) _ (ap (λ b. b || has_use_union marks) (sequence-no_list nillable mixed ordered) ∙ sequence-no_union nillable mixed ordered) e;
             attributes = all.1;
             standards = all.3;
-            chains = chains-of (sequence nillable mixed ps) (node l h.1) g (h.0, h.1, refl, h.3);
+            chains = chains-of (sequence nillable mixed ordered ps) (node l h.1) g (h.0, h.1, refl, h.3);
           },
           all.2,
         )
@@ -277,6 +281,11 @@ module _ (s : Set) (es : List NamedSubject) (M : List Assignment) (entries : Are
               (chains-of (repeated k p least most) (node l ts) g (h.0, refl, h.2)),
           (named-formed p h.0 g.2 h.2, tt),
         )
+    named-formed (order_items firsts ls) t g h =
+        let many : length h.identifiers ≡ length ls = taken-length h.taken (map wanted ls) h.identifiers h.then_taken ∙ length-map ls wanted in
+        subst (AreWellFormed M) (sym h.type)
+        (leaf M (form.Order h.identifiers) [] nothing-asked (subst IsCounted (sym many) g.0) refl tt
+        (subst (ChainsWithin M 4) h.type (chains-of (order_items firsts ls) t g h)))
     named-formed (reference w) t g h =
         subst (AreWellFormed M) (sym h)
         (leaf M (form.Ref (place_in es w)) [] nothing-asked (located-within s es M entries mapped w g) refl tt

@@ -7,7 +7,7 @@ use Rattle.simple_types.specs.Space.{Spaces, none, more}
 use Rattle.asn_types.specs.declared.types.Component.{Component}
 use Rattle.asn_types.specs.declared.types.TypeLabel.{TypeLabel}
 use Rattle.map_subjects.specs.declared.subjects.Subject.{Subject}
-use Rattle.map_assignments.specs.Plans.{Label, attribute, element, group, elements, groups, texts, item, base, content, Parts, finish, part}
+use Rattle.map_assignments.specs.Plans.{Label, attribute, element, group, elements, groups, texts, order, item, base, content, Parts, finish, part}
 use Rattle.map_assignments.specs.Naming.{component_of, named_part, part_standard, AreMembers, AreNamed}
 use Rattle.map_694.proofs.Shapes.{is_attribute_label, NoAttributes}
 
@@ -24,6 +24,7 @@ label-free (group k) e = refl
 label-free (elements name) e = refl
 label-free (groups k) e = refl
 label-free texts e = refl
+label-free order e = refl
 label-free item e = refl
 label-free base e = refl
 label-free content e = refl

@@ -3,6 +3,7 @@ pub mod Marked
 pub mod Resolving
 pub mod Places
 pub mod Chains
+mod Ordered
 pub mod Formed
 pub mod Free
 pub mod Planned

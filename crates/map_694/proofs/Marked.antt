@@ -1,5 +1,5 @@
 -- Which instructions stand on the types and parts of a map.
-use Rattle.std.proofs.Common.{◌≡◌, ℕ, suc, Bool, true, false, ◌||◌, Option, Some, None, List, [], ◌∷◌, ◌++◌, refl, ap, ◌∙◌}
+use Rattle.std.proofs.Common.{◌≡◌, ℕ, suc, ◌+◌, Bool, true, false, ◌||◌, Option, Some, None, List, [], ◌∷◌, ◌++◌, refl, ap, ◌∙◌}
 use Rattle.std.specs.List.{list_any}
 use Rattle.xa_base.specs.declared.texts.Name.{Name}
 use Rattle.xa_base.specs.declared.white_space.WhiteSpace.{WhiteSpace}
@@ -13,7 +13,7 @@ use Rattle.asn_types.specs.Modules.{one_if, nameless_parts}
 use Rattle.asn_types.specs.Simples.{white_space_marks}
 use Rattle.map_subjects.specs.declared.subjects.Subject.{Subject}
 use Rattle.map_subjects.specs.declared.subjects.Subject.TheVariants as subject
-use Rattle.map_assignments.specs.Plans.{Label, attribute, element, group, elements, groups, texts, item, base, content}
+use Rattle.map_assignments.specs.Plans.{Label, attribute, element, group, elements, groups, texts, order, item, base, content}
 use Rattle.map_assignments.specs.Naming.{name_if, name_marks, namespace_marks, qualified_marks, text_if, text_marks, part_marks, sequence_marks}
 use Rattle.map_assignments.specs.Mapped.{assignment_marks}
 use Rattle.map_694.proofs.Shapes.{is_attribute_label, is_element_label}
@@ -104,9 +104,30 @@ part-attribute (group k) g = refl
 part-attribute (elements name) g = refl
 part-attribute (groups k) g = refl
 part-attribute texts g = refl
+part-attribute order g = refl
 part-attribute item g = refl
 part-attribute base g = refl
 part-attribute content g = refl
+
+-- which labels are those of groups
+abbrev pub is_untagged_label : Label → Bool
+is_untagged_label (group k) = true
+is_untagged_label (elements name) = true
+is_untagged_label (groups k) = true
+is_untagged_label base = true
+is_untagged_label _ = false
+
+pub part-untagged : (l : Label) (g : List ℕ) → has_untagged (part_marks l g) ≡ is_untagged_label l
+part-untagged (attribute name standard) g = qualified-lack is_untagged (λ t. refl) (λ t. refl) g name
+part-untagged (element name) g = qualified-lack is_untagged (λ t. refl) (λ t. refl) g name
+part-untagged (group k) g = refl
+part-untagged (elements name) g = refl
+part-untagged (groups k) g = refl
+part-untagged texts g = refl
+part-untagged order g = refl
+part-untagged item g = refl
+part-untagged base g = refl
+part-untagged content g = refl
 
 pub element-tagged : (l : Label) (g : List ℕ) → is_element_label l ≡ true → has_untagged (part_marks l g) ≡ false
 element-tagged (attribute name standard) g e = absurd cc
@@ -115,6 +136,7 @@ element-tagged (group k) g e = absurd cc
 element-tagged (elements name) g e = absurd cc
 element-tagged (groups k) g e = absurd cc
 element-tagged texts g e = absurd cc
+element-tagged order g e = absurd cc
 element-tagged item g e = absurd cc
 element-tagged base g e = absurd cc
 element-tagged content g e = absurd cc
@@ -126,53 +148,82 @@ element-no_attribute (group k) g e = refl
 element-no_attribute (elements name) g e = refl
 element-no_attribute (groups k) g e = refl
 element-no_attribute texts g e = refl
+element-no_attribute order g e = refl
 element-no_attribute item g e = refl
 element-no_attribute base g e = refl
 element-no_attribute content g e = refl
 
 -- a SEQUENCE
-pub sequence-no_attribute : (nillable mixed : Bool) → has_attribute (sequence_marks nillable mixed) ≡ false
-sequence-no_attribute true true = refl
-sequence-no_attribute true false = refl
-sequence-no_attribute false true = refl
-sequence-no_attribute false false = refl
+pub sequence-no_attribute : (nillable mixed ordered : Bool) → has_attribute (sequence_marks nillable mixed ordered) ≡ false
+sequence-no_attribute true true true = refl
+sequence-no_attribute true true false = refl
+sequence-no_attribute true false true = refl
+sequence-no_attribute true false false = refl
+sequence-no_attribute false true true = refl
+sequence-no_attribute false true false = refl
+sequence-no_attribute false false true = refl
+sequence-no_attribute false false false = refl
 
-pub sequence-no_list : (nillable mixed : Bool) → has_list (sequence_marks nillable mixed) ≡ false
-sequence-no_list true true = refl
-sequence-no_list true false = refl
-sequence-no_list false true = refl
-sequence-no_list false false = refl
+pub sequence-no_list : (nillable mixed ordered : Bool) → has_list (sequence_marks nillable mixed ordered) ≡ false
+sequence-no_list true true true = refl
+sequence-no_list true true false = refl
+sequence-no_list true false true = refl
+sequence-no_list true false false = refl
+sequence-no_list false true true = refl
+sequence-no_list false true false = refl
+sequence-no_list false false true = refl
+sequence-no_list false false false = refl
 
-pub sequence-no_union : (nillable mixed : Bool) → has_use_union (sequence_marks nillable mixed) ≡ false
-sequence-no_union true true = refl
-sequence-no_union true false = refl
-sequence-no_union false true = refl
-sequence-no_union false false = refl
+pub sequence-no_union : (nillable mixed ordered : Bool) → has_use_union (sequence_marks nillable mixed ordered) ≡ false
+sequence-no_union true true true = refl
+sequence-no_union true true false = refl
+sequence-no_union true false true = refl
+sequence-no_union true false false = refl
+sequence-no_union false true true = refl
+sequence-no_union false true false = refl
+sequence-no_union false false true = refl
+sequence-no_union false false false = refl
 
-pub sequence-no_order : (nillable mixed : Bool) → has_use_order (sequence_marks nillable mixed) ≡ false
-sequence-no_order true true = refl
-sequence-no_order true false = refl
-sequence-no_order false true = refl
-sequence-no_order false false = refl
+pub sequence-order : (nillable mixed ordered : Bool) → has_use_order (sequence_marks nillable mixed ordered) ≡ ordered
+sequence-order true true true = refl
+sequence-order true true false = refl
+sequence-order true false true = refl
+sequence-order true false false = refl
+sequence-order false true true = refl
+sequence-order false true false = refl
+sequence-order false false true = refl
+sequence-order false false false = refl
 
-pub sequence-nil : (nillable mixed : Bool) → has_use_nil (sequence_marks nillable mixed) ≡ nillable
-sequence-nil true true = refl
-sequence-nil true false = refl
-sequence-nil false true = refl
-sequence-nil false false = refl
+pub sequence-nil : (nillable mixed ordered : Bool) → has_use_nil (sequence_marks nillable mixed ordered) ≡ nillable
+sequence-nil true true true = refl
+sequence-nil true true false = refl
+sequence-nil true false true = refl
+sequence-nil true false false = refl
+sequence-nil false true true = refl
+sequence-nil false true false = refl
+sequence-nil false false true = refl
+sequence-nil false false false = refl
 
-pub sequence-embeds : (nillable mixed : Bool) → has_embed_values (sequence_marks nillable mixed) ≡ mixed
-sequence-embeds true true = refl
-sequence-embeds true false = refl
-sequence-embeds false true = refl
-sequence-embeds false false = refl
+pub sequence-embeds : (nillable mixed ordered : Bool) → has_embed_values (sequence_marks nillable mixed ordered) ≡ mixed
+sequence-embeds true true true = refl
+sequence-embeds true true false = refl
+sequence-embeds true false true = refl
+sequence-embeds true false false = refl
+sequence-embeds false true true = refl
+sequence-embeds false true false = refl
+sequence-embeds false false true = refl
+sequence-embeds false false false = refl
 
 -- how many of its parts at the front have items without an identifier
-pub sequence-nameless : (nillable mixed : Bool) → nameless_parts (sequence_marks nillable mixed) ≡ one_if mixed
-sequence-nameless true true = refl
-sequence-nameless true false = refl
-sequence-nameless false true = refl
-sequence-nameless false false = refl
+pub sequence-nameless : (nillable mixed ordered : Bool) → nameless_parts (sequence_marks nillable mixed ordered) ≡ one_if mixed + one_if ordered
+sequence-nameless true true true = refl
+sequence-nameless true true false = refl
+sequence-nameless true false true = refl
+sequence-nameless true false false = refl
+sequence-nameless false true true = refl
+sequence-nameless false true false = refl
+sequence-nameless false false true = refl
+sequence-nameless false false false = refl
 
 -- an assignment
 pub is_attribute_subject : Subject → Bool

@@ -24,7 +24,7 @@ use Rattle.map_subjects.specs.declared.subjects.Subject.{Subject}
 use Rattle.map_subjects.specs.declared.subjects.NamedSubject.{NamedSubject}
 use Rattle.map_subjects.specs.Subjects.{entry_cmp, AreEntries, place_in}
 use Rattle.map_subjects.proofs.InOrder.{turned}
-use Rattle.map_assignments.specs.Plans.{TypePlan, simple, sequence, choice, repeated, reference, Parts, finish, part}
+use Rattle.map_assignments.specs.Plans.{TypePlan, simple, sequence, choice, repeated, order_items, reference, Parts, finish, part}
 use Rattle.map_assignments.specs.Planning.{body}
 use Rattle.map_assignments.specs.Naming.{type_label, component_of, list_item, identifier_of, text_marks, named_part, repeated_part, sequence_marks, wanted, AreTaken, IsSimpleType, AreMembers, IsNamed, AreNamed}
 use Rattle.map_assignments.specs.Mapped.{assignment_marks, wanted_reference, AreMapped, IsMapOf}
@@ -46,7 +46,7 @@ taken-once kind before name g h (inr (na, n, la, ea)) (inr (nb, m, lb, eb)) = ea
       ]
     ]
 
-all-taken-once : (before names gs hs : List (List ℕ)) → AreTaken before names gs → AreTaken before names hs → gs ≡ hs
+pub all-taken-once : (before names gs hs : List (List ℕ)) → AreTaken before names gs → AreTaken before names hs → gs ≡ hs
 all-taken-once before [] [] [] a b = refl
 all-taken-once before [] [] (h ∷ hs) a b = absurd b
 all-taken-once before [] (g ∷ gs) hs a b = absurd a
@@ -91,15 +91,19 @@ module _ (place : Subject → ℕ) where
   mutual
     named-once : (p : TypePlan) (t u : Rose TypeLabel) → IsNamed place p t → IsNamed place p u → t ≡ u
     named-once (simple s) t u a b = simple-once s t u a b
-    named-once (sequence nillable mixed ps) t u a b =
+    named-once (sequence nillable mixed ordered ps) t u a b =
         let both = parts-once [] ps a.0 b.0 a.1 b.1 a.3 b.3 in
-        let marks = sequence_marks nillable mixed in
+        let marks = sequence_marks nillable mixed ordered in
         a.2 ∙ ap (λ cs. node (type_label (form.Sequence cs) marks) a.1) both.0 ∙ ap (λ vs. node (type_label (form.Sequence b.0) marks) vs) both.1 ∙ sym b.2
     named-once (choice ps) t u a b =
         let both = parts-once [] ps a.0 b.0 a.1 b.1 a.3 b.3 in
         a.2 ∙ ap (λ cs. node (type_label (form.Choice cs) []) a.1) both.0 ∙ ap (λ vs. node (type_label (form.Choice b.0) []) vs) both.1 ∙ sym b.2
     named-once (repeated l p least most) t u a b =
         a.1 ∙ ap (λ v. node (type_label (form.SequenceOf (repeated_part l) least most) []) (rose.more v rose.none)) (named-once p a.0 b.0 a.2 b.2) ∙ sym b.1
+    named-once (order_items firsts ls) t u a b =
+        let e = all-taken-once [] (map wanted firsts) a.taken b.taken a.before_taken b.before_taken in
+        let f = all-taken-once a.taken (map wanted ls) a.identifiers b.identifiers a.then_taken (subst (λ x. AreTaken x (map wanted ls) b.identifiers) (sym e) b.then_taken) in
+        a.type ∙ ap (λ ids. node (type_label (form.Order ids) []) rose.none) f ∙ sym b.type
     named-once (reference w) t u a b = a ∙ sym b
 
     parts-once : (before : List (List ℕ)) (ps : Parts) (cs ds : List Component) (ts us : Roses TypeLabel) → AreNamed place before ps cs ts → AreNamed place before ps ds us

@@ -25,7 +25,7 @@ use Rattle.map_subjects.specs.declared.subjects.Subject.TheVariants as subject
 use Rattle.map_subjects.specs.declared.subjects.NamedSubject.{NamedSubject}
 use Rattle.map_subjects.specs.Subjects.{is_nillable_of, has_nillable, simple_name, complex_name, name_of, AreEntries, place_in}
 use Rattle.map_assignments.specs.Plans.{attribute, base, content, TypePlan, simple, sequence, choice, reference, Parts, finish, part}
-use Rattle.map_assignments.specs.Planning.{simple_plan, simple_type, attributes, particle_part, is_once, is_mixed, with_texts, term_type, particle_parts, top_part, top, content_parts, content_type, rest_parts, complex_plan, nillable_simple_type, own_type, particle_type, in_place, body}
+use Rattle.map_assignments.specs.Planning.{simple_plan, simple_type, attributes, particle_part, is_once, is_mixed, is_ordered, with_texts, with_order, order_type, labels_before, labels, term_type, particle_parts, top_part, top, content_parts, content_type, rest_parts, complex_plan, nillable_simple_type, own_type, particle_type, in_place, body}
 use Rattle.map_assignments.specs.Naming.{IsNamed}
 use Rattle.map_assignments.specs.Mapped.{AreMapped, IsMapOf}
 
@@ -35,8 +35,9 @@ module _ (T U : ℕ → TypePlan) (same : (d : ℕ) → T d ≡ U d) where
   mutual
     term-same : (t : Term) → term_type T t ≡ term_type U t
     term-same (model.element d name) = same d
-    term-same (model.sequence ps) = ap (sequence false false) (parts-same false ps)
+    term-same (model.sequence ps) = ap (sequence false false false) (parts-same false ps)
     term-same (model.choice ps) = ap choice (parts-same true ps)
+    term-same (model.all ps) = ap (sequence false false false) (parts-same false ps)
 
     parts-same : (b : Bool) (ps : Particles) → particle_parts T b ps ≡ particle_parts U b ps
     parts-same b model.none = refl
@@ -50,6 +51,7 @@ module _ (T U : ℕ → TypePlan) (same : (d : ℕ) → T d ≡ U d) where
   top-same : (p : Particle) → top T p ≡ top U p
   top-same (occurs (model.element d name) least most) = top-part-same (model.element d name) least most
   top-same (occurs (model.choice ps) least most) = top-part-same (model.choice ps) least most
+  top-same (occurs (model.all ps) least most) = parts-same false ps
   top-same (occurs (model.sequence ps) least most) =
       ap (λ x. if is_once least most then x else top_part T (model.sequence ps) least most) (parts-same false ps)
       ∙ ap (λ x. if is_once least most then particle_parts U false ps else x) (top-part-same (model.sequence ps) least most)
@@ -106,7 +108,7 @@ abbrev of_particle : Set → (Bool → ℕ → TypePlan) → ℕ → Bool → Op
 of_particle s inner d b o = if b then reference (subject.Element d) else of_declaration s inner o
 
 abbrev of_type : Set → ℕ → Bool → Option ComplexDef → TypePlan
-of_type s levels nillable o = elim o [ None ↦ sequence false false finish | Some c ↦ complex_plan (particle_type s (in_place s levels)) s nillable c ]
+of_type s levels nillable o = elim o [ None ↦ sequence false false false finish | Some c ↦ complex_plan (particle_type s (in_place s levels)) s nillable c ]
 
 abbrev of_attribute : Set → Option GlobalAttribute → TypePlan
 of_attribute s o = elim o [ None ↦ simple Booleans | Some a ↦ simple_type s a.simple ]
@@ -115,7 +117,7 @@ abbrev of_simple : Set → Bool → ℕ → TypePlan
 of_simple s b n = if b then nillable_simple_type s n else simple_type s n
 
 abbrev of_complex : (Bool → ℕ → TypePlan) → Bool → ℕ → Option ComplexDef → TypePlan
-of_complex i nillable n o = elim o [ None ↦ sequence false false finish | Some c ↦ to_named (i nillable n) nillable n c.name ]
+of_complex i nillable n o = elim o [ None ↦ sequence false false false finish | Some c ↦ to_named (i nillable n) nillable n c.name ]
 
 abbrev of_kind : Set → (Bool → ℕ → TypePlan) → Bool → TypeOf → TypePlan
 of_kind s i nillable k = elim k [ kind.Simple n ↦ of_simple s nillable n | kind.Complex n ↦ of_complex i nillable n (slice_get s.complexes n) ]
@@ -156,8 +158,8 @@ module _ (s t : Set) (h : AreSame s t) where
     content-type-same : (c : Content) → content_type T s c ≡ content_type U t c
     content-type-same content_.Empty = refl
     content-type-same (content_.Simple n) = simple-same n
-    content-type-same (content_.ElementOnly particle) = ap (sequence false false) (top-same T U same (seen particle))
-    content-type-same (content_.Mixed particle) = ap (sequence false false) (top-same T U same (seen particle))
+    content-type-same (content_.ElementOnly particle) = ap (sequence false false false) (top-same T U same (seen particle))
+    content-type-same (content_.Mixed particle) = ap (sequence false false false) (top-same T U same (seen particle))
 
     rest-same : (nillable : Bool) (c : Content) → rest_parts T s nillable c ≡ rest_parts U t nillable c
     rest-same true c = ap (λ p. part content true p finish) (content-type-same c)
@@ -165,11 +167,14 @@ module _ (s t : Set) (h : AreSame s t) where
 
     complex-same : (nillable : Bool) (c : ComplexDef) → complex_plan T s nillable c ≡ complex_plan U t nillable c
     complex-same nillable c =
-        ap (λ ps. sequence nillable (is_mixed c.content) (with_texts (is_mixed c.content) ps))
+        let firsts = if nillable then [] else labels_before (is_mixed c.content) c.uses in
+        ap (λ ps. sequence nillable (is_mixed c.content) (is_ordered c.content) (with_texts (is_mixed c.content) (with_order (is_ordered c.content) (order_type firsts (labels (content_parts T s c.content))) ps)))
         (attributes-same c.uses (rest_parts T s nillable c.content) (rest_parts U t nillable c.content) (rest-same nillable c.content))
+        ∙ ap (λ qs. sequence nillable (is_mixed c.content) (is_ordered c.content) (with_texts (is_mixed c.content) (with_order (is_ordered c.content) (order_type firsts (labels qs)) (attributes t c.uses (rest_parts U t nillable c.content)))))
+        (content-parts-same c.content)
 
   nillable-simple-same : (n : ℕ) → nillable_simple_type s n ≡ nillable_simple_type t n
-  nillable-simple-same n = ap (λ p. sequence true false (part content true p finish)) (simple-same n)
+  nillable-simple-same n = ap (λ p. sequence true false false (part content true p finish)) (simple-same n)
 
   module _ (inner other : Bool → ℕ → TypePlan) (same : (b : Bool) (n : ℕ) → inner b n ≡ other b n) where
     name-same : (b : Bool) (n : ℕ) (o : Option Name) → to_named (inner b n) b n o ≡ to_named (other b n) b n o

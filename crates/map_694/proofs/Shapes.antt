@@ -1,6 +1,6 @@
 -- What is asked of the plan of a type, so that the type is one of a module.
-use Rattle.std.proofs.Common.{◌≡◌, ℕ, suc, ◌<◌, ◌^◌, Bool, true, false, List, Some}
-use Rattle.std.specs.Prelude.{MatchBool}
+use Rattle.std.proofs.Common.{◌≡◌, ℕ, suc, ◌<◌, ◌^◌, Bool, true, false, List, [], length, Some}
+use Rattle.std.specs.Prelude.{MatchBool, if◌then◌else◌}
 use Rattle.xa_base.specs.declared.texts.Name.{Name}
 use Rattle.label_tree.specs.Rose.{Rose}
 use Rattle.simple_types.specs.declared.labels.ValueLabel.{ValueLabel}
@@ -9,13 +9,14 @@ use Rattle.simple_types.specs.declared.standards.Standard.TheVariants.{Free, Def
 use Rattle.simple_types.specs.Sound.{Sound, IsCounted, AreSizes}
 use Rattle.simple_types.specs.Space.{Space}
 use Rattle.simple_values.specs.Reading.{Holds, spelled}
+use Rattle.schema_parts.specs.declared.components.AttributeUse.{AttributeUse}
 use Rattle.schema_parts.specs.Components.{Set}
 use Rattle.schema_parts.specs.Linked.{IsSpellingAt}
 use Rattle.map_subjects.specs.declared.subjects.Subject.{Subject}
 use Rattle.map_subjects.specs.declared.subjects.Subject.TheVariants as subject
 use Rattle.map_subjects.specs.Subjects.{name_of}
-use Rattle.map_assignments.specs.Plans.{Label, attribute, element, TypePlan, simple, sequence, choice, repeated, reference, Parts, finish, part}
-use Rattle.map_assignments.specs.Planning.{texts_type}
+use Rattle.map_assignments.specs.Plans.{Label, attribute, element, content, TypePlan, simple, sequence, choice, repeated, order_items, reference, Parts, finish, part}
+use Rattle.map_assignments.specs.Planning.{texts_type, order_type, labels_before, labels, with_texts, with_order, attributes}
 use Rattle.map_assignments.specs.Naming.{part_standard}
 
 abbrev pub is_attribute_label : Label → Bool
@@ -52,6 +53,19 @@ BeginsTexts (part l optional p ps) = (is_element_label l ≡ false) × (p ≡ te
 abbrev pub IsSequence : Bool → Bool → Parts → Type 0
 IsSequence nillable mixed ps = (nillable ≡ true → EndsOptional ps × NoElements ps) × (mixed ≡ true → BeginsTexts ps)
 
+abbrev pub AreElements : Parts → Type 0
+AreElements finish = Unit {0}
+AreElements (part l optional p ps) = (is_element_label l ≡ true) × AreElements ps
+
+-- The plan of a type whose elements may stand in any order: they stand behind the attributes, or in a content of their own.
+pub record InOrder (nillable mixed : Bool) (ps : Parts) : Type 0 where
+  pub set : Set
+  pub uses : List AttributeUse
+  pub elements : Parts
+  pub are_elements : AreElements elements
+  pub is : ps ≡ with_texts mixed (with_order true (order_type (if nillable then [] else labels_before mixed uses) (labels elements))
+      (attributes set uses (if nillable then part content true (sequence false false false elements) finish else elements)))
+
 -- the text is the spelling of a value of the simple type
 abbrev pub IsSpelling : Space → List ℕ → Type 0
 IsSpelling sp text = (v : Rose ValueLabel) × Holds sp v × (spelled sp v ≡ text)
@@ -85,9 +99,10 @@ module _ (s : Set) where
   abbrev mutual
     pub IsPlan : TypePlan → Type 0
     IsPlan (simple sp) = Sound sp
-    IsPlan (sequence nillable mixed ps) = IsSequence nillable mixed ps × (count_parts ps < 2 ^ 32) × ArePlans ps
+    IsPlan (sequence nillable mixed ordered ps) = IsSequence nillable mixed ps × (count_parts ps < 2 ^ 32) × ArePlans ps × (ordered ≡ true → InOrder nillable mixed ps)
     IsPlan (choice ps) = IsCounted (count_parts ps) × ArePlans ps × NoAttributes ps
     IsPlan (repeated l p least most) = AreSizes least most × (is_attribute_label l ≡ false) × IsPlan p
+    IsPlan (order_items firsts ls) = IsCounted (length ls) × (length firsts < 2 ^ 32)
     IsPlan (reference w) = HasName w
 
     pub ArePlans : Parts → Type 0
@@ -99,9 +114,10 @@ module _ (P : Subject → Type 0) where
   abbrev mutual
     pub Refers : TypePlan → Type 0
     Refers (simple sp) = Unit {0}
-    Refers (sequence nillable mixed ps) = ReferInAll ps
+    Refers (sequence nillable mixed ordered ps) = ReferInAll ps
     Refers (choice ps) = ReferInAll ps
     Refers (repeated l p least most) = MatchBool (is_element_label l) (Unit {0}) (Refers p)
+    Refers (order_items firsts ls) = Unit {0}
     Refers (reference w) = P w
 
     pub ReferInAll : Parts → Type 0
@@ -133,9 +149,10 @@ module _ (s : Set) (P Q : Subject → Type 0) (f : (w : Subject) → HasName s w
   mutual
     pub refers-weaker : (p : TypePlan) → IsPlan s p → Refers P p → Refers Q p
     refers-weaker (simple sp) g h = tt
-    refers-weaker (sequence nillable mixed ps) g h = refer-weaker ps g.2 h
+    refers-weaker (sequence nillable mixed ordered ps) g h = refer-weaker ps g.2 h
     refers-weaker (choice ps) g h = refer-weaker ps g.1 h
     refers-weaker (repeated l p least most) g h = within (is_element_label l) (Refers P p) (Refers Q p) (refers-weaker p g.2) h
+    refers-weaker (order_items firsts ls) g h = tt
     refers-weaker (reference w) g h = f w g h
 
     pub refer-weaker : (ps : Parts) → ArePlans s ps → ReferInAll P ps → ReferInAll Q ps
@@ -147,9 +164,10 @@ module _ (P : Subject → Type 0) (f : (w : Subject) → P w) where
   mutual
     pub refers-all : (p : TypePlan) → Refers P p
     refers-all (simple sp) = tt
-    refers-all (sequence nillable mixed ps) = refer-all ps
+    refers-all (sequence nillable mixed ordered ps) = refer-all ps
     refers-all (choice ps) = refer-all ps
     refers-all (repeated l p least most) = either-way (is_element_label l) (Refers P p) (refers-all p)
+    refers-all (order_items firsts ls) = tt
     refers-all (reference w) = f w
 
     refer-all : (ps : Parts) → ReferInAll P ps

@@ -6,7 +6,7 @@ use Rattle.asn_types.specs.Parts.{MayHave}
 use Rattle.asn_types.specs.declared.types.Component.{Component}
 use Rattle.asn_types.specs.declared.types.TypeLabel.{TypeLabel}
 use Rattle.map_subjects.specs.declared.subjects.Subject.{Subject}
-use Rattle.map_assignments.specs.Plans.{TypePlan, Parts, simple, sequence, choice, repeated, reference, finish, part}
+use Rattle.map_assignments.specs.Plans.{TypePlan, Parts, simple, sequence, choice, repeated, order_items, reference, finish, part}
 use Rattle.map_assignments.specs.Naming.{IsSimpleType, AreMembers, IsNamed, AreNamed}
 
 mutual
@@ -30,9 +30,10 @@ module _ (place : Subject → ℕ) where
   mutual
     pub named-allowed : (p : TypePlan) (t : Rose TypeLabel) → IsNamed place p t → Allowed MayHave t
     named-allowed (simple s) t h = simple-allowed s t h
-    named-allowed (sequence nillable mixed ps) t h = subst (Allowed MayHave) (sym h.2) (parts-allowed [] ps h.0 h.1 h.3)
+    named-allowed (sequence nillable mixed ordered ps) t h = subst (Allowed MayHave) (sym h.2) (parts-allowed [] ps h.0 h.1 h.3)
     named-allowed (choice ps) t h = subst (Allowed MayHave) (sym h.2) (parts-allowed [] ps h.0 h.1 h.3)
     named-allowed (repeated l p least most) t h = subst (Allowed MayHave) (sym h.1) (refl, (named-allowed p h.0 h.2, tt))
+    named-allowed (order_items firsts ls) t h = subst (Allowed MayHave) (sym h.type) (refl, tt)
     named-allowed (reference w) t h = subst (Allowed MayHave) (sym h) (refl, tt)
 
     parts-allowed : (before : List (List ℕ)) (ps : Parts) (parts : List Component) (ts : Roses TypeLabel) → AreNamed place before ps parts ts

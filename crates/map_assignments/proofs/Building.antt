@@ -11,7 +11,7 @@ use Rattle.asn_types.specs.declared.marks.Instruction.{Instruction}
 use Rattle.asn_types.specs.declared.marks.Instruction.TheVariants as mark
 use Rattle.asn_types.specs.declared.types.Form.TheVariants as form
 use Rattle.content_models.specs.declared.particles.ParticleKind.{ParticleKind}
-use Rattle.content_models.specs.declared.particles.ParticleKind.TheVariants.{Element, Sequence, Choice}
+use Rattle.content_models.specs.declared.particles.ParticleKind.TheVariants.{Element, Sequence, Choice, All as AllKind}
 use Rattle.content_models.specs.Particle.{Term, Particles}
 use Rattle.content_models.specs.Seen.{term_seen}
 use Rattle.asn_types.specs.declared.types.TypeLabel.{TypeLabel}
@@ -105,11 +105,13 @@ pub list-marks : (kind : ParticleKind) (ps : Particles) (g : List ℕ) → mark.
 list-marks (Element d name) ps g = refl
 list-marks Sequence ps g = refl
 list-marks Choice ps g = refl
+list-marks AllKind ps g = refl
 
 pub list-free : (kind : ParticleKind) (ps : Particles) → Free ≡ part_standard (list_label_of (term_seen kind ps))
 list-free (Element d name) ps = refl
 list-free Sequence ps = refl
 list-free Choice ps = refl
+list-free AllKind ps = refl
 
 -- the part for a particle
 module _ (place : Subject → ℕ) (before after : PartList) (in_choice : Bool) (t : Term) (type : TypePlan) (least : ℕ) (most : Option ℕ) (rest whole : Parts) where
@@ -138,10 +140,10 @@ module _ (place : Subject → ℕ) (before after : PartList) (in_choice : Bool) 
       ∙ ap (λ b. if b then part (label_of t) true type rest else part (list_label_of t) false (repeated (label_of t) type least most) rest) f) lead)
 
 -- a SEQUENCE and a CHOICE of the parts
-pub named-sequence : (place : Subject → ℕ) (made : PartList) (t : Rose TypeLabel) (marks : List Instruction) (nillable mixed : Bool) (whole : Parts)
-    → t ≡ node (type_label (form.Sequence made.components.items) marks) (roses_of made.kids.items) → marks ≡ sequence_marks nillable mixed
-    → LeadsToNamed place made finish whole → IsNamed place (sequence nillable mixed whole) t
-named-sequence place made t marks nillable mixed whole is same lead =
+pub named-sequence : (place : Subject → ℕ) (made : PartList) (t : Rose TypeLabel) (marks : List Instruction) (nillable mixed ordered : Bool) (whole : Parts)
+    → t ≡ node (type_label (form.Sequence made.components.items) marks) (roses_of made.kids.items) → marks ≡ sequence_marks nillable mixed ordered
+    → LeadsToNamed place made finish whole → IsNamed place (sequence nillable mixed ordered whole) t
+named-sequence place made t marks nillable mixed ordered whole is same lead =
     (made.components.items, roses_of made.kids.items, is ∙ ap (λ m. node (type_label (form.Sequence made.components.items) m) (roses_of made.kids.items)) same, leads-end place made whole lead)
 
 pub named-choice : (place : Subject → ℕ) (made : PartList) (t : Rose TypeLabel) (marks : List Instruction) (whole : Parts)

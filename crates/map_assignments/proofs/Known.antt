@@ -7,7 +7,7 @@ use Rattle.xa_base.specs.declared.texts.Name.{Name}
 use Rattle.label_tree.specs.Rose.{Rose, node, roses_of, label_of, kids_of}
 use Rattle.label_tree.proofs.Roses.{roses_of-list_of}
 use Rattle.content_models.specs.declared.particles.ParticleLabel.{ParticleLabel}
-use Rattle.content_models.specs.declared.particles.ParticleKind.TheVariants.{Element, Sequence, Choice}
+use Rattle.content_models.specs.declared.particles.ParticleKind.TheVariants.{Element, Sequence, Choice, All as AllKind}
 use Rattle.content_models.specs.Particle.{occurs}
 use Rattle.content_models.specs.Seen.{term_seen, seen, all_seen}
 use Rattle.schema_parts.specs.Components.{Set}
@@ -62,6 +62,13 @@ pub known-alternatives : (s : Set) (t : Rose ParticleLabel) (l : ParticleLabel) 
     → AreKnown s kids
 known-alternatives s (node l ts) m kids known is below kind =
     let same : l.kind ≡ Choice = ap (λ (k : ParticleLabel). k.kind) (sym is) ∙ kind in
+    subst (λ us. All (linked.IsNamed s) (linked.all_leaves (all_seen us))) (sym (roses_of-list_of ts) ∙ ap roses_of (sym below))
+    (subst (λ k. All (linked.IsNamed s) (linked.leaves (occurs (term_seen k (all_seen ts)) l.min l.max))) same known)
+
+pub known-all : (s : Set) (t : Rose ParticleLabel) (l : ParticleLabel) (kids : List (Rose ParticleLabel)) → IsKnown s t → l ≡ label_of t → kids ≡ kids_of t → l.kind ≡ AllKind
+    → AreKnown s kids
+known-all s (node l ts) m kids known is below kind =
+    let same : l.kind ≡ AllKind = ap (λ (k : ParticleLabel). k.kind) (sym is) ∙ kind in
     subst (λ us. All (linked.IsNamed s) (linked.all_leaves (all_seen us))) (sym (roses_of-list_of ts) ∙ ap roses_of (sym below))
     (subst (λ k. All (linked.IsNamed s) (linked.leaves (occurs (term_seen k (all_seen ts)) l.min l.max))) same known)
 

@@ -1,9 +1,9 @@
 -- The parts for content models.
-use Rattle.std.proofs.Common.{◌≡◌, ℕ, Bool, true, false, if◌then◌else◌, List, Option, refl, sym, ap, ◌∙◌}
+use Rattle.std.proofs.Common.{◌≡◌, ℕ, Bool, true, false, if◌then◌else◌, List, Option, ◌⊎◌, inl, inr, refl, sym, ap, ◌∙◌}
 use Rattle.label_tree.specs.Rose.{Rose, roses_of, label_of, kids_of}
 use Rattle.content_models.specs.declared.particles.ParticleLabel.{ParticleLabel}
 use Rattle.content_models.specs.declared.particles.ParticleKind.{ParticleKind}
-use Rattle.content_models.specs.declared.particles.ParticleKind.TheVariants.{Element, Sequence, Choice}
+use Rattle.content_models.specs.declared.particles.ParticleKind.TheVariants.{Element, Sequence, Choice, All as AllKind}
 use Rattle.content_models.specs.Particle as model
 use Rattle.content_models.specs.Particle.{occurs, Particles}
 use Rattle.content_models.specs.Seen.{term_seen, seen, all_seen}
@@ -15,30 +15,38 @@ use Rattle.map_assignments.specs.Planning.{particle_part, term_type, particle_pa
 use Rattle.map_assignments.specs.Private.Building.{term_of, is_plain}
 use Rattle.map_assignments.proofs.Known.{seen-parts, term-parts}
 
-pub plain-sequence : (kind : ParticleKind) (least : ℕ) (most : Option ℕ) → is_plain kind least most ≡ true → kind ≡ Sequence
+pub plain-sequence : (kind : ParticleKind) (least : ℕ) (most : Option ℕ) → is_plain kind least most ≡ true → (kind ≡ Sequence) ⊎ (kind ≡ AllKind)
 plain-sequence (Element d name) least most e = absurd (cc)
-plain-sequence Sequence least most e = refl
+plain-sequence Sequence least most e = inl refl
 plain-sequence Choice least most e = absurd (cc)
+plain-sequence AllKind least most e = inr refl
 
 -- the type of what a nillable element has
-pub content-sequence : (T : ℕ → TypePlan) (s : Set) (c : Content) → ((n : ℕ) → c ≡ content.Simple n → ⊥) → content_type T s c ≡ sequence false false (content_parts T s c)
+pub content-sequence : (T : ℕ → TypePlan) (s : Set) (c : Content) → ((n : ℕ) → c ≡ content.Simple n → ⊥) → content_type T s c ≡ sequence false false false (content_parts T s c)
 content-sequence T s content.Empty h = refl
 content-sequence T s (content.Simple n) h = absurd (h n refl)
 content-sequence T s (content.ElementOnly particle) h = refl
 content-sequence T s (content.Mixed particle) h = refl
 
 module _ (T : ℕ → TypePlan) where
+  -- a sequence, or an all where it isn't the top
+  pub group-type : (kind : ParticleKind) (ps : Particles) → (kind ≡ Sequence) ⊎ (kind ≡ AllKind) → term_type T (term_seen kind ps) ≡ sequence false false false (particle_parts T false ps)
+  group-type kind ps (inl is) = ap (λ k. term_type T (term_seen k ps)) is
+  group-type kind ps (inr is) = ap (λ k. term_type T (term_seen k ps)) is
+
   plain : (kind : ParticleKind) (ps : Particles) (least : ℕ) (most : Option ℕ) → is_plain kind least most ≡ true
       → top T (occurs (term_seen kind ps) least most) ≡ particle_parts T false ps
   plain (Element d name) ps least most e = absurd (cc)
   plain Sequence ps least most e = ap (λ b. if b then particle_parts T false ps else top_part T (model.sequence ps) least most) e
   plain Choice ps least most e = absurd (cc)
+  plain AllKind ps least most e = refl
 
   other : (kind : ParticleKind) (ps : Particles) (least : ℕ) (most : Option ℕ) → is_plain kind least most ≡ false
       → top T (occurs (term_seen kind ps) least most) ≡ particle_part false (term_seen kind ps) (term_type T (term_seen kind ps)) least most finish
   other (Element d name) ps least most e = refl
   other Sequence ps least most e = ap (λ b. if b then particle_parts T false ps else top_part T (model.sequence ps) least most) e
   other Choice ps least most e = refl
+  other AllKind ps least most e = absurd (cc)
 
   -- the parts of a content model
   module _ (t : Rose ParticleLabel) (l : ParticleLabel) (kids : List (Rose ParticleLabel)) (is : l ≡ label_of t) (below : kids ≡ kids_of t) where

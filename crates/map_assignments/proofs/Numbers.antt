@@ -20,7 +20,7 @@ use Rattle.map_subjects.specs.declared.subjects.Subject.{Subject}
 use Rattle.map_subjects.specs.declared.subjects.Subject.TheVariants.{Element, Attribute, Simple, Complex, Nillable}
 use Rattle.map_subjects.specs.declared.subjects.NamedSubject.{NamedSubject}
 use Rattle.map_subjects.specs.Subjects.{same_subject, place_in}
-use Rattle.map_assignments.specs.Plans.{TypePlan, Parts, simple, sequence, choice, repeated, reference, finish, part}
+use Rattle.map_assignments.specs.Plans.{TypePlan, Parts, simple, sequence, choice, repeated, order_items, reference, finish, part}
 use Rattle.map_assignments.specs.Planning.{body}
 use Rattle.map_assignments.specs.Naming.{type_label, IsNamed, AreNamed}
 use Rattle.map_assignments.specs.Mapped.{wanted_reference, AreMapped}
@@ -64,9 +64,10 @@ module _ (f g : Subject → ℕ) (same : (w : Subject) → f w ≡ g w) where
   mutual
     pub named-same : (p : TypePlan) (t : Rose TypeLabel) → IsNamed f p t → IsNamed g p t
     named-same (simple s) t h = h
-    named-same (sequence nillable mixed ps) t h = (h.0, h.1, h.2, parts-same [] ps h.0 h.1 h.3)
+    named-same (sequence nillable mixed ordered ps) t h = (h.0, h.1, h.2, parts-same [] ps h.0 h.1 h.3)
     named-same (choice ps) t h = (h.0, h.1, h.2, parts-same [] ps h.0 h.1 h.3)
     named-same (repeated l p least most) t h = (h.0, h.1, named-same p h.0 h.2)
+    named-same (order_items firsts ls) t h = h
     named-same (reference w) t h = subst (λ k. t ≡ node (type_label (form.Ref k) []) rose.none) (same w) h
 
     parts-same : (before : List (List ℕ)) (ps : Parts) (parts : List Component) (ts : Roses TypeLabel) → AreNamed f before ps parts ts → AreNamed g before ps parts ts

@@ -7,6 +7,7 @@ use Rattle.name_map.specs.Taking.{IsTaken}
 use Rattle.asn_types.specs.declared.marks.Instruction.{Instruction}
 use Rattle.name_map.specs.Restoring.{form_of}
 use Rattle.map_assignments.specs.Naming.{AreTaken, identifier_of, text_marks, text_if}
+use Rattle.map_assignments.specs.Private.Building.{LeadsToNames}
 
 -- Whatever identifiers follow, with those taken so far they are taken for all names.
 abbrev pub LeadsToTaken : List (List ℕ) → List (List ℕ) → List (List ℕ) → Type 0
@@ -44,3 +45,14 @@ texts-next before after whole gs words i g word at_g here_g at here is so_far =
     ∙ ap (λ hs. before ++ text_marks i hs (word ∷ drop (i + 1) words)) (sym (drop-next gs i g at_g here_g))
     ∙ ap (λ ws. before ++ text_marks i (drop i gs) ws) (sym (drop-next words i word at here))
     ∙ so_far
+
+-- ---- identifiers for an order of elements
+
+pub names-next : (first scope made after grown : List (List ℕ)) (name g : List ℕ) (rest names : List (List ℕ)) → IsTaken Identifier scope name g → after ≡ scope ++ g ∷ []
+    → grown ≡ made ++ g ∷ [] → LeadsToNames first scope made (name ∷ rest) names → LeadsToNames first after grown rest names
+names-next first scope made after grown name g rest names taken noted is so_far gs more =
+    subst (AreTaken first names) (sym (append_assoc made (g ∷ []) gs) ∙ ap (λ a. a ++ gs) (sym is))
+    (so_far (g ∷ gs) (taken, subst (λ a. AreTaken a rest gs) noted more))
+
+pub names-end : (first scope made names : List (List ℕ)) → LeadsToNames first scope made [] names → AreTaken first names made
+names-end first scope made names so_far = subst (AreTaken first names) (append-nil made) (so_far [] tt)

@@ -20,7 +20,7 @@ use Rattle.asn_types.specs.declared.types.Form.TheVariants as form
 use Rattle.asn_types.specs.declared.types.TypeLabel.{TypeLabel}
 use Rattle.asn_types.specs.Simples.{white_space_marks}
 use Rattle.map_subjects.specs.declared.subjects.Subject.{Subject}
-use Rattle.map_assignments.specs.Plans.{Group, a_sequence, a_choice, Label, attribute, element, group, elements, groups, texts, item, base, content, TypePlan, simple, sequence, choice, repeated, reference, Parts, finish, part}
+use Rattle.map_assignments.specs.Plans.{Group, a_sequence, a_choice, Label, attribute, element, group, elements, groups, texts, order, item, base, content, TypePlan, simple, sequence, choice, repeated, order_items, reference, Parts, finish, part}
 
 abbrev pub type_label : Form → List Instruction → TypeLabel
 type_label f marks = record { form = f; marks = marks }
@@ -126,6 +126,7 @@ wanted (group g) = group_name g
 wanted (elements name) = identifier_of name.local ++ codes "-list"
 wanted (groups g) = group_name g ++ codes "-list"
 wanted texts = codes "embed-values"
+wanted order = codes "order"
 wanted item = []
 wanted base = codes "base"
 wanted content = codes "content"
@@ -152,8 +153,17 @@ named_part l identifier optional = component_with identifier optional (part_stan
 abbrev pub repeated_part : Label → Component
 repeated_part l = named_part l (wanted l) false
 
-abbrev pub sequence_marks : Bool → Bool → List Instruction
-sequence_marks nillable mixed = (if nillable then mark.UseNil ∷ [] else []) ++ (if mixed then mark.EmbedValues ∷ [] else [])
+abbrev pub sequence_marks : Bool → Bool → Bool → List Instruction
+sequence_marks nillable mixed ordered =
+    (if nillable then mark.UseNil ∷ [] else []) ++ (if mixed then mark.EmbedValues ∷ [] else []) ++ (if ordered then mark.UseOrder ∷ [] else [])
+
+-- The items of the order of child elements are the identifiers of their parts, in their order (X.693, USE-ORDER).
+pub record IsItemsType (before ls : List Label) (t : Rose TypeLabel) : Type 0 where
+  pub taken : List (List ℕ)
+  pub identifiers : List (List ℕ)
+  pub before_taken : AreTaken [] (map wanted before) taken
+  pub then_taken : AreTaken taken (map wanted ls) identifiers
+  pub type : IsLeaf (form.Order identifiers) [] t
 
 -- ---- types with their names
 
@@ -161,13 +171,14 @@ module _ (place : Subject → ℕ) where
   abbrev mutual
     pub IsNamed : TypePlan → Rose TypeLabel → Type 0
     IsNamed (simple s) t = IsSimpleType s t
-    IsNamed (sequence nillable mixed ps) t =
+    IsNamed (sequence nillable mixed ordered ps) t =
         (parts : List Component) × (ts : Roses TypeLabel)
-        × (t ≡ node (type_label (form.Sequence parts) (sequence_marks nillable mixed)) ts) × AreNamed [] ps parts ts
+        × (t ≡ node (type_label (form.Sequence parts) (sequence_marks nillable mixed ordered)) ts) × AreNamed [] ps parts ts
     IsNamed (choice ps) t =
         (parts : List Component) × (ts : Roses TypeLabel) × (t ≡ node (type_label (form.Choice parts) []) ts) × AreNamed [] ps parts ts
     IsNamed (repeated l p least most) t =
         (u : Rose TypeLabel) × (t ≡ node (type_label (form.SequenceOf (repeated_part l) least most) []) (rose.more u rose.none)) × IsNamed p u
+    IsNamed (order_items before ls) t = IsItemsType before ls t
     IsNamed (reference w) t = IsLeaf (form.Ref (place w)) [] t
 
     -- parts, behind those with these identifiers

@@ -1,5 +1,5 @@
 -- The type of each component of a set (X.694): its parts in their order, before they have names.
-use Rattle.std.specs.Prelude.{ℕ, zero, suc, ◌==◌, ◌&&◌, nat_lt, not, Bool, true, false, List, [], ◌∷◌, Option, Some, None, slice_get, if◌then◌else◌}
+use Rattle.std.specs.Prelude.{ℕ, zero, suc, ◌==◌, ◌&&◌, nat_lt, not, Bool, true, false, List, [], ◌∷◌, ◌++◌, map, Option, Some, None, slice_get, if◌then◌else◌}
 use Rattle.xa_base.specs.declared.white_space.WhiteSpace.TheVariants.{Preserve}
 use Rattle.simple_types.specs.declared.simples.Class.TheVariants.{Any}
 use Rattle.simple_types.specs.Space.{Booleans, Characters}
@@ -17,7 +17,7 @@ use Rattle.schema_parts.specs.declared.components.Content.TheVariants as content
 use Rattle.schema_parts.specs.Components.{Set}
 use Rattle.map_subjects.specs.declared.subjects.Subject.{Subject}
 use Rattle.map_subjects.specs.declared.subjects.Subject.TheVariants as subject
-use Rattle.map_assignments.specs.Plans.{a_sequence, a_choice, Label, attribute, element, group, elements, groups, texts, item, base, content, TypePlan, simple, sequence, choice, repeated, reference, Parts, finish, part}
+use Rattle.map_assignments.specs.Plans.{a_sequence, a_choice, Label, attribute, element, group, elements, groups, texts, order, item, base, content, TypePlan, simple, sequence, choice, repeated, order_items, reference, Parts, finish, part}
 
 -- ---- simple types (clauses 11 to 13)
 
@@ -41,11 +41,13 @@ abbrev pub label_of : Term → Label
 label_of (model.element d name) = element name
 label_of (model.sequence ps) = group a_sequence
 label_of (model.choice ps) = group a_choice
+label_of (model.all ps) = group a_sequence
 
 abbrev pub list_label_of : Term → Label
 list_label_of (model.element d name) = elements name
 list_label_of (model.sequence ps) = groups a_sequence
 list_label_of (model.choice ps) = groups a_choice
+list_label_of (model.all ps) = groups a_sequence
 
 -- the bounds 1 and 1
 abbrev pub is_once : ℕ → Option ℕ → Bool
@@ -75,13 +77,43 @@ texts_type = repeated item (simple (Characters Preserve 0 None Any)) 0 None
 abbrev pub with_texts : Bool → Parts → Parts
 with_texts mixed rest = if mixed then part texts false texts_type rest else rest
 
+-- ---- elements in any order (X.694 on groups with the compositor all, X.693 on USE-ORDER)
+
+-- an all; one without particles, which no linked set has, would have no order to tell
+abbrev pub is_all : Particle → Bool
+is_all (occurs (model.all (model.more p ps)) least most) = true
+is_all _ = false
+
+abbrev pub is_ordered : Content → Bool
+is_ordered (content_.ElementOnly particle) = is_all (seen particle)
+is_ordered (content_.Mixed particle) = is_all (seen particle)
+is_ordered _ = false
+
+-- what the parts before those of the elements stand for
+abbrev pub labels_before : Bool → List AttributeUse → List Label
+labels_before mixed uses = (if mixed then texts ∷ [] else []) ++ order ∷ map (λ (u : AttributeUse). attribute u.name u.standard) uses
+
+-- what these parts stand for
+abbrev pub labels : Parts → List Label
+labels finish = []
+labels (part l optional p ps) = l ∷ labels ps
+
+-- the order of child elements: SEQUENCE OF the ENUMERATED of the identifiers of their parts
+abbrev pub order_type : List Label → List Label → TypePlan
+order_type before ls = repeated item (order_items before ls) 0 None
+
+-- it stands behind the texts and before the attributes
+abbrev pub with_order : Bool → TypePlan → Parts → Parts
+with_order ordered type rest = if ordered then part order false type rest else rest
+
 -- where each declaration has this type at a particle
 module _ (T : ℕ → TypePlan) where
   abbrev mutual
     pub term_type : Term → TypePlan
     term_type (model.element d name) = T d
-    term_type (model.sequence ps) = sequence false false (particle_parts false ps)
+    term_type (model.sequence ps) = sequence false false false (particle_parts false ps)
     term_type (model.choice ps) = choice (particle_parts true ps)
+    term_type (model.all ps) = sequence false false false (particle_parts false ps)
 
     pub particle_parts : Bool → Particles → Parts
     particle_parts in_choice model.none = finish
@@ -90,9 +122,11 @@ module _ (T : ℕ → TypePlan) where
   abbrev pub top_part : Term → ℕ → Option ℕ → Parts
   top_part t least most = particle_part false t (term_type t) least most finish
 
-  -- the particles of a top sequence that stands once are parts of the type itself; another top particle is one part
+  -- The particles of a top sequence that stands once are parts of the type itself, and so are those of an all, which stands
+  -- nowhere else in a linked set and always once. Another top particle is one part.
   abbrev pub top : Particle → Parts
   top (occurs (model.sequence ps) least most) = if is_once least most then particle_parts false ps else top_part (model.sequence ps) least most
+  top (occurs (model.all ps) least most) = particle_parts false ps
   top (occurs t least most) = top_part t least most
 
   -- ---- complex types (clauses 20 and 26)
@@ -106,21 +140,27 @@ module _ (T : ℕ → TypePlan) where
 
   -- the type of what a nillable element has where it isn't nil
   abbrev pub content_type : Set → Content → TypePlan
-  content_type s content_.Empty = sequence false false finish
+  content_type s content_.Empty = sequence false false false finish
   content_type s (content_.Simple n) = simple_type s n
-  content_type s (content_.ElementOnly particle) = sequence false false (top (seen particle))
-  content_type s (content_.Mixed particle) = sequence false false (top (seen particle))
+  content_type s (content_.ElementOnly particle) = sequence false false false (top (seen particle))
+  content_type s (content_.Mixed particle) = sequence false false false (top (seen particle))
 
   -- behind the attributes stand the parts of the content, or for a nillable element one OPTIONAL part with all of it
   abbrev pub rest_parts : Set → Bool → Content → Parts
   rest_parts s nillable c = if nillable then part content true (content_type s c) finish else content_parts s c
 
+  -- the type of the part `order`: the parts of the elements stand behind those of the type, or in its content alone
+  abbrev pub order_plan : Set → Bool → ComplexDef → TypePlan
+  order_plan s nillable c =
+      order_type (if nillable then [] else labels_before (is_mixed c.content) c.uses) (labels (content_parts s c.content))
+
   abbrev pub complex_plan : Set → Bool → ComplexDef → TypePlan
   complex_plan s nillable c =
-      sequence nillable (is_mixed c.content) (with_texts (is_mixed c.content) (attributes s c.uses (rest_parts s nillable c.content)))
+      sequence nillable (is_mixed c.content) (is_ordered c.content)
+      (with_texts (is_mixed c.content) (with_order (is_ordered c.content) (order_plan s nillable c) (attributes s c.uses (rest_parts s nillable c.content))))
 
 abbrev pub nillable_simple_type : Set → ℕ → TypePlan
-nillable_simple_type s n = sequence true false (part content true (simple_type s n) finish)
+nillable_simple_type s n = sequence true false false (part content true (simple_type s n) finish)
 
 -- ---- declarations (clauses 14 and 15)
 
@@ -130,7 +170,7 @@ module _ (s : Set) where
   own_type inner e = elim e.kind [
     | kind.Simple n ↦ if e.nillable then nillable_simple_type s n else simple_type s n
     | kind.Complex n ↦ elim (slice_get s.complexes n) [
-      | None ↦ sequence false false finish
+      | None ↦ sequence false false false finish
       | Some c ↦ elim c.name [ None ↦ inner e.nillable n | Some name ↦ reference (if e.nillable then subject.Nillable n else subject.Complex n) ]
     ]
   ]
@@ -143,9 +183,9 @@ module _ (s : Set) where
 
   -- The type of the complex type n, in which so many types without a name may stand in one another, itself included.
   abbrev pub in_place : ℕ → Bool → ℕ → TypePlan
-  in_place zero nillable n = sequence false false finish
+  in_place zero nillable n = sequence false false false finish
   in_place (suc levels) nillable n =
-      elim (slice_get s.complexes n) [ None ↦ sequence false false finish | Some c ↦ complex_plan (particle_type (in_place levels)) s nillable c ]
+      elim (slice_get s.complexes n) [ None ↦ sequence false false false finish | Some c ↦ complex_plan (particle_type (in_place levels)) s nillable c ]
 
   -- in a linked set no more than 21 types without a name stand in one another
   abbrev pub body : Subject → TypePlan

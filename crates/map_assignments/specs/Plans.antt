@@ -1,5 +1,5 @@
 -- Types before their names are chosen: what stands where, and for what each part stands.
-use Rattle.std.specs.Prelude.{ℕ, Bool, Option}
+use Rattle.std.specs.Prelude.{ℕ, Bool, Option, List}
 use Rattle.xa_base.specs.declared.texts.Name.{Name}
 use Rattle.simple_types.specs.declared.standards.Standard.{Standard}
 use Rattle.simple_types.specs.Space.{Space}
@@ -20,7 +20,9 @@ pub data Label : Type 0 where
   groups : Group → Label
   -- the texts between child elements
   texts : Label
-  -- one of them
+  -- the order of child elements that may stand in any order
+  order : Label
+  -- one of the texts, or of the elements in their order
   item : Label
   -- the text of a complex type with simple content
   base : Label
@@ -31,11 +33,14 @@ mutual
   pub data TypePlan : Type 0 where
     -- a simple type in place
     simple : Space → TypePlan
-    -- SEQUENCE; whether USE-NIL and EMBED-VALUES stand on it
-    sequence : Bool → Bool → Parts → TypePlan
+    -- SEQUENCE; whether USE-NIL, EMBED-VALUES and USE-ORDER stand on it
+    sequence : Bool → Bool → Bool → Parts → TypePlan
     choice : Parts → TypePlan
     -- SEQUENCE OF so many
     repeated : Label → TypePlan → ℕ → Option ℕ → TypePlan
+    -- ENUMERATED of the identifiers of parts that stand for the latter, in a scope where parts that stand for the former
+    -- have theirs before
+    order_items : List Label → List Label → TypePlan
     -- the type of an assignment
     reference : Subject → TypePlan
 

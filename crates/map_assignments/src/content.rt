@@ -1,24 +1,26 @@
 //! The types of declarations, and of complex types with their content models.
-ghost use Rattle.std.specs.Prelude.{◌≡◌, ◌<◌, ℕ, IfOk, OnOk, length, true};
+ghost use Rattle.std.specs.Prelude.{◌≡◌, ◌<◌, ℕ, IfOk, OnOk, [], length, true, if◌then◌else◌};
 ghost use Rattle.label_tree.specs.Rose.{roses_of};
 ghost use Rattle.content_models.specs.Seen.{seen, all_seen};
+ghost use Rattle.schema_parts.specs.Components.{Set};
 ghost use Rattle.schema_parts.specs.Linked.{IsLinked, IsTyped, IsComplexType, IsContent};
 ghost use Rattle.map_subjects.specs.declared.subjects.Subject.{Subject};
-ghost use Rattle.map_assignments.specs.Plans.{Parts, finish};
+ghost use Rattle.map_assignments.specs.Plans.{TypePlan, Parts, finish};
 ghost use Rattle.map_assignments.specs.Planning as plan;
 ghost use Rattle.map_assignments.specs.Naming.{IsNamed, sequence_marks};
 ghost use Rattle.map_assignments.specs.Private.Placing.{place_of};
 ghost use Rattle.map_assignments.specs.Private.Building.{LeadsToNamed, declared, term_of, IsKnown, AreKnown};
 
 use crate::attributes::{push_attributes, simple_at};
-use crate::particles::{is_plain, push_base, push_nillable, push_particle, push_texts};
+use crate::orders::order_type;
+use crate::particles::{is_plain, push_base, push_nillable, push_order, push_particle, push_texts};
 use crate::parts::PartList;
 use crate::places::Places;
 use asn_types::{Instruction, Marks, TypeLabel};
 use content_models::{ParticleKind, ParticleLabel};
 use label_tree::Tree;
 use map_subjects::Subject;
-use schema_parts::{ComplexDef, Content, ElementDecl, SchemaSet, TypeOf};
+use schema_parts::{AttributeUse, ComplexDef, Content, ElementDecl, SchemaSet, TypeOf};
 use std::alloc::Global;
 use xa_base::Memory;
 
@@ -28,9 +30,35 @@ fn is_mixed(content: &Content) -> bool
     matches!(content, Content::Mixed(_))
 }
 
-// USE-NIL and EMBED-VALUES.
-fn sequence_marks(alloc: Global, nillable: bool, mixed: bool) -> Result<Marks, Memory>
-    ensures { IfOk result (λ marks. marks ≡ sequence_marks nillable mixed) }
+// Whether it is an all, which has particles.
+fn is_all(particle: &Tree<ParticleLabel>) -> bool
+    ensures { result ≡ plan.is_all (seen particle.now) }
+{
+    match particle.label().kind {
+        ParticleKind::All => particle.kids().len() > 0,
+        _ => false,
+    }
+}
+
+// Whether child elements may stand in any order.
+fn is_ordered(content: &Content) -> bool
+    ensures { result ≡ plan.is_ordered content.now }
+{
+    match content {
+        Content::ElementOnly(particle) => is_all(particle.root()),
+        Content::Mixed(particle) => is_all(particle.root()),
+        _ => false,
+    }
+}
+
+// USE-NIL, EMBED-VALUES and USE-ORDER.
+fn sequence_marks(
+    alloc: Global,
+    nillable: bool,
+    mixed: bool,
+    ordered: bool,
+) -> Result<Marks, Memory>
+    ensures { IfOk result (λ marks. marks ≡ sequence_marks nillable mixed ordered) }
 {
     let mut marks = Vec::new(alloc);
     if nillable {
@@ -38,6 +66,9 @@ fn sequence_marks(alloc: Global, nillable: bool, mixed: bool) -> Result<Marks, M
     }
     if mixed {
         marks.push(Instruction::EmbedValues)?;
+    }
+    if ordered {
+        marks.push(Instruction::UseOrder)?;
     }
     Ok(Marks::of(marks))
 }
@@ -62,6 +93,51 @@ fn begin(alloc: Global, mixed: bool) -> Result<PartList, Memory>
     }
 }
 
+// The part for the order of the elements, where the content model is an all.
+fn push_all_order(
+    alloc: Global,
+    parts: &mut PartList,
+    nillable: bool,
+    mixed: bool,
+    uses: &[AttributeUse],
+    particle: &Tree<ParticleLabel>,
+) -> Result<(), Memory>
+    ensures { OnOk result ((place : Subject → ℕ) (T : ℕ → TypePlan) (rest whole : Parts)
+        → LeadsToNamed place parts.old (plan.with_order (plan.is_all (seen particle.now))
+        (plan.order_type (if nillable then [] else plan.labels_before mixed uses.now) (plan.labels (plan.top T (seen particle.now)))) rest) whole
+        → LeadsToNamed place parts.new rest whole) }
+{
+    if is_all(particle) {
+        let kid = order_type(alloc, nillable, mixed, uses, particle.kids())?;
+        push_order(alloc, parts, kid)
+    } else {
+        Ok(())
+    }
+}
+
+// The part for the order of the elements, where they may stand in any order.
+fn push_content_order(
+    alloc: Global,
+    parts: &mut PartList,
+    nillable: bool,
+    definition: &ComplexDef,
+) -> Result<(), Memory>
+    ensures { OnOk result ((place : Subject → ℕ) (T : ℕ → TypePlan) (s : Set) (rest whole : Parts)
+        → LeadsToNamed place parts.old (plan.with_order (plan.is_ordered definition.now.content) (plan.order_plan T s nillable definition.now) rest) whole
+        → LeadsToNamed place parts.new rest whole) }
+{
+    let uses = definition.uses.items();
+    match &definition.content {
+        Content::ElementOnly(particle) => {
+            push_all_order(alloc, parts, nillable, false, uses, particle.root())
+        }
+        Content::Mixed(particle) => {
+            push_all_order(alloc, parts, nillable, true, uses, particle.root())
+        }
+        _ => Ok(()),
+    }
+}
+
 // The type of nillable elements of the simple type with this number.
 fn nillable_simple_type(
     alloc: Global,
@@ -76,7 +152,7 @@ fn nillable_simple_type(
     let kid = simple_at(alloc, set, places, n)?;
     let mut parts = PartList::new(alloc);
     push_nillable(alloc, &mut parts, kid)?;
-    let marks = sequence_marks(alloc, true, false)?;
+    let marks = sequence_marks(alloc, true, false, false)?;
     Ok(parts.into_sequence(marks))
 }
 
@@ -173,9 +249,10 @@ fn complex_type(
     let content = &definition.content;
     let mixed = is_mixed(content);
     let mut parts = begin(alloc, mixed)?;
+    push_content_order(alloc, &mut parts, nillable, definition)?;
     push_attributes(alloc, &mut parts, set, places, definition.uses.items())?;
     push_rest(alloc, &mut parts, set, places, levels, nillable, content)?;
-    let marks = sequence_marks(alloc, nillable, mixed)?;
+    let marks = sequence_marks(alloc, nillable, mixed, is_ordered(content))?;
     Ok(parts.into_sequence(marks))
 }
 
@@ -293,7 +370,7 @@ fn term_type(
     let marks = Marks::of(Vec::new(alloc));
     match label.kind {
         ParticleKind::Element { decl, .. } => particle_type(alloc, set, places, levels, decl),
-        ParticleKind::Sequence => {
+        ParticleKind::Sequence | ParticleKind::All => {
             push_particles(
                 alloc,
                 &mut parts,

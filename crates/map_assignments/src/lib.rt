@@ -7,6 +7,7 @@ mod attributes;
 mod content;
 mod instructions;
 mod map;
+mod orders;
 mod particles;
 mod parts;
 mod places;

@@ -1,5 +1,5 @@
 //! The parts for particles.
-ghost use Rattle.std.specs.Prelude.{◌≡◌, ◌∷◌, ◌&&◌, [], ℕ, IfOk, OnOk, true, false, not};
+ghost use Rattle.std.specs.Prelude.{◌≡◌, ◌∷◌, ◌&&◌, [], ℕ, IfOk, OnOk, true, false, not, map};
 ghost use Rattle.simple_types.specs.declared.standards.Standard.TheVariants.{Free};
 ghost use Rattle.label_tree.specs.Rose.{node, Rose};
 ghost use Rattle.label_tree.specs.Rose as rose;
@@ -9,7 +9,7 @@ ghost use Rattle.content_models.specs.Seen.{term_seen};
 ghost use Rattle.map_subjects.specs.declared.subjects.Subject.{Subject};
 ghost use Rattle.map_assignments.specs.Plans.{TypePlan, Parts};
 ghost use Rattle.map_assignments.specs.Plans as plan;
-ghost use Rattle.map_assignments.specs.Planning.{label_of, list_label_of, is_once, is_optional, particle_part, texts_type};
+ghost use Rattle.map_assignments.specs.Planning.{label_of, list_label_of, is_once, is_optional, particle_part, texts_type, labels};
 ghost use Rattle.map_assignments.specs.Naming.{type_label, repeated_part, wanted, IsNamed};
 ghost use Rattle.map_assignments.specs.Private.Building.{AddsPart, Adds, LeadsToNamed, is_plain};
 
@@ -46,12 +46,13 @@ fn is_once(min: u32, max: Option<u32>) -> bool
     }
 }
 
-/// Whether the particles of a group stand for themselves where it is the top one: a sequence that stands once.
+/// Whether the particles of a group stand for themselves where it is the top one: a sequence that stands once, or an all.
 pub(crate) fn is_plain(label: &ParticleLabel) -> bool
     ensures { result ≡ is_plain label.now.kind label.now.min label.now.max }
 {
     match label.kind {
         ParticleKind::Sequence => is_once(label.min, label.max),
+        ParticleKind::All => true,
         _ => false,
     }
 }
@@ -79,7 +80,7 @@ fn name_of(alloc: Global, kind: &ParticleKind) -> Result<Text, Memory>
 {
     match kind {
         ParticleKind::Element { name, .. } => convert(alloc, NameKind::Identifier, &name.local),
-        ParticleKind::Sequence => text(alloc, "sequence"),
+        ParticleKind::Sequence | ParticleKind::All => text(alloc, "sequence"),
         ParticleKind::Choice => text(alloc, "choice"),
     }
 }
@@ -92,6 +93,20 @@ fn list_name_of(alloc: Global, kind: &ParticleKind) -> Result<Text, Memory>
     let mut made = String::from_str(alloc, name.as_str())?;
     made.push_str("-list")?;
     Text::from_string(made)
+}
+
+/// What the identifier of the part for a particle of a sequence is made from.
+pub(crate) fn part_name(alloc: Global, label: &ParticleLabel) -> Result<Text, Memory>
+    ensures { IfOk result (λ made. (ps : Particles) (type : TypePlan) (rest : Parts)
+        → map wanted (labels (particle_part false (term_seen label.now.kind ps) type label.now.min label.now.max rest)) ≡ made ∷ map wanted (labels rest)) }
+{
+    if is_once(label.min, label.max) {
+        name_of(alloc, &label.kind)
+    } else if is_optional_part(false, label.min, label.max) {
+        name_of(alloc, &label.kind)
+    } else {
+        list_name_of(alloc, &label.kind)
+    }
 }
 
 // The part of a SEQUENCE OF such occurrences.
@@ -158,7 +173,9 @@ fn push_one(
 {
     match kind {
         ParticleKind::Element { name, .. } => parts.push_element(name, optional, kid),
-        ParticleKind::Sequence => push_group(alloc, parts, "sequence", optional, kid),
+        ParticleKind::Sequence | ParticleKind::All => {
+            push_group(alloc, parts, "sequence", optional, kid)
+        }
         ParticleKind::Choice => push_group(alloc, parts, "choice", optional, kid),
     }
 }
@@ -235,6 +252,20 @@ pub(crate) fn push_texts(alloc: Global, parts: &mut PartList) -> Result<(), Memo
 {
     let kid = texts_type(alloc)?;
     let name = text(alloc, "embed-values")?;
+    let marks = Marks::of(Vec::new(alloc));
+    parts.push_marked(&name, false, marks, kid)
+}
+
+/// The part for the order of the child elements.
+pub(crate) fn push_order(
+    alloc: Global,
+    parts: &mut PartList,
+    kid: Tree<TypeLabel>,
+) -> Result<(), Memory>
+    ensures { OnOk result ((place : Subject → ℕ) (type : TypePlan) (rest whole : Parts) → IsNamed place type kid
+        → LeadsToNamed place parts.old (plan.part plan.order false type rest) whole → LeadsToNamed place parts.new rest whole) }
+{
+    let name = text(alloc, "order")?;
     let marks = Marks::of(Vec::new(alloc));
     parts.push_marked(&name, false, marks, kid)
 }

@@ -21,7 +21,7 @@ use Rattle.schema_parts.specs.declared.components.Content.TheVariants as content
 use Rattle.schema_parts.specs.Components.{Set}
 use Rattle.map_assignments.specs.Naming.{type_label}
 use Rattle.map_694.proofs.Free.{IsFree, AreFree}
-use Rattle.map_laws.specs.Standing.{AreNone, IsOnly, StandsFor, IsPart, once, at_most_once, several, HasTerm, ArePartsOf, IsTop, parted, whole, IsInner, AreContent, HasParts, HasInner, AreRest, IsBase}
+use Rattle.map_laws.specs.Standing.{AreNone, IsOnly, StandsFor, IsPart, once, at_most_once, several, HasTerm, ArePartsOf, IsTop, parted, ordered, whole, IsInner, AreContent, HasParts, HasInner, AreRest, IsBase}
 use Rattle.map_laws.specs.ValueStatements.{KeptFor}
 use Rattle.map_laws.proofs.Values.{PartsKept}
 
@@ -72,6 +72,7 @@ pub stands-free : (l : TypeLabel) (i : ℕ) (optional : Bool) (t : Term) (c : Co
 stands-free l i optional (model.element d name) c h = h.0.free refl
 stands-free l i optional (model.sequence ps) c h = h.free refl
 stands-free l i optional (model.choice ps) c h = h.free refl
+stands-free l i optional (model.all ps) c h = h.free refl
 
 pub part-free : (l : TypeLabel) (i : ℕ) (b : Bool) (t : Term) (least : ℕ) (most : Option ℕ) (T : Rose TypeLabel → Type 0) (c : Component) (u : Rose TypeLabel)
     → IsPart l i b t least most T c u → IsFree c
@@ -103,6 +104,7 @@ module _ (E : ℕ → Rose TypeLabel → Type 0) where
 
   pub top-free : (p : Particle) (l : TypeLabel) (i : ℕ) (cs : List Component) (us : List (Rose TypeLabel)) → IsTop E p l i cs us → AreFree cs
   top-free p l i cs us (parted ps is g) = parts-free ps l false i cs us g
+  top-free p l i cs us (ordered ps is single g) = parts-free ps l false i cs us g
   top-free p l i cs us (whole t least most is in_one g) =
       only-free (IsPart l i false t least most (HasTerm E t)) (λ c u h. part-free l i false t least most (HasTerm E t) c u h) cs us g
 

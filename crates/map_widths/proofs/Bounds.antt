@@ -30,8 +30,8 @@ use Rattle.xa_base.specs.declared.texts.Name.{Name}
 use Rattle.map_subjects.specs.declared.subjects.Subject.{Subject}
 use Rattle.map_subjects.specs.declared.subjects.Subject.TheVariants as subject
 use Rattle.map_subjects.specs.declared.subjects.NamedSubject.{NamedSubject}
-use Rattle.map_assignments.specs.Plans.{content, TypePlan, simple, sequence, choice, repeated, reference, Parts, finish, part}
-use Rattle.map_assignments.specs.Planning.{simple_plan, simple_type, attributes, label_of, list_label_of, is_once, is_optional, particle_part, is_mixed, with_texts, term_type, particle_parts, top_part, top, content_parts, content_type, rest_parts, complex_plan, nillable_simple_type, own_type, particle_type, in_place, body}
+use Rattle.map_assignments.specs.Plans.{Label, content, TypePlan, simple, sequence, choice, repeated, order_items, reference, Parts, finish, part}
+use Rattle.map_assignments.specs.Planning.{simple_plan, simple_type, attributes, label_of, list_label_of, is_once, is_optional, particle_part, is_mixed, is_ordered, with_texts, with_order, order_type, order_plan, labels, labels_before, term_type, particle_parts, top_part, top, content_parts, content_type, rest_parts, complex_plan, nillable_simple_type, own_type, particle_type, in_place, body}
 use Rattle.map_assignments.specs.Naming.{IsSimpleType, AreMembers, IsNamed, AreNamed}
 use Rattle.map_assignments.specs.Mapped.{AreMapped, IsMapOf}
 use Rattle.map_widths.specs.Widths.{IsWide, AreWide, IsWideModel, AreWideModels, IfWideModel, HasWidths}
@@ -56,9 +56,10 @@ mutual
 abbrev mutual
   IsWidePlan : TypePlan → Type 0
   IsWidePlan (simple s) = IsWide s
-  IsWidePlan (sequence nillable mixed ps) = AreWidePlans ps
+  IsWidePlan (sequence nillable mixed ordered ps) = AreWidePlans ps
   IsWidePlan (choice ps) = AreWidePlans ps
   IsWidePlan (repeated l p least most) = IsWidePlan p × (least < 2 ^ 32) × IsSize most
+  IsWidePlan (order_items firsts ls) = Unit {0}
   IsWidePlan (reference w) = Unit {0}
 
   AreWidePlans : Parts → Type 0
@@ -69,9 +70,10 @@ module _ (place : Subject → ℕ) where
   mutual
     named_bounded : (p : TypePlan) (t : Rose TypeLabel) → IsWidePlan p → IsNamed place p t → AreBounded t
     named_bounded (simple s) t wide h = simple_bounded s t wide h
-    named_bounded (sequence nillable mixed ps) t wide h = subst AreBounded (sym h.2) (tt, parts_bounded [] ps h.0 h.1 wide h.3)
+    named_bounded (sequence nillable mixed ordered ps) t wide h = subst AreBounded (sym h.2) (tt, parts_bounded [] ps h.0 h.1 wide h.3)
     named_bounded (choice ps) t wide h = subst AreBounded (sym h.2) (tt, parts_bounded [] ps h.0 h.1 wide h.3)
     named_bounded (repeated l p least most) t wide h = subst AreBounded (sym h.1) ((wide.1, wide.2), (named_bounded p h.0 wide.0 h.2, tt))
+    named_bounded (order_items firsts ls) t wide h = subst AreBounded (sym h.type) (tt, tt)
     named_bounded (reference w) t wide h = subst AreBounded (sym h) (tt, tt)
 
     parts_bounded : (before : List (List ℕ)) (ps : Parts) (parts : List Component) (ts : Roses TypeLabel) → AreWidePlans ps → AreNamed place before ps parts ts → AllBounded ts
@@ -89,6 +91,7 @@ abbrev mutual
   IsWideTerm (model.element d name) = Unit {0}
   IsWideTerm (model.sequence ps) = AreWideParticles ps
   IsWideTerm (model.choice ps) = AreWideParticles ps
+  IsWideTerm (model.all ps) = AreWideParticles ps
 
   AreWideParticles : Particles → Type 0
   AreWideParticles model.none = Unit {0}
@@ -98,6 +101,7 @@ kind_wide : (k : ParticleKind) (ps : Particles) → AreWideParticles ps → IsWi
 kind_wide (particle.Element decl name) ps h = tt
 kind_wide particle.Sequence ps h = h
 kind_wide particle.Choice ps h = h
+kind_wide particle.All ps h = h
 
 mutual
   model_wide : (m : Rose ParticleLabel) → IsWideModel m → IsWideParticle (seen m)
@@ -146,12 +150,17 @@ module _ (s : Set) (wide : HasWidths s) where
   texts_wide true rest h = (((omega arith, tt), omega arith, tt), h)
   texts_wide false rest h = h
 
+  order_wide : (ordered : Bool) (firsts ls : List Label) (rest : Parts) → AreWidePlans rest → AreWidePlans (with_order ordered (order_type firsts ls) rest)
+  order_wide true firsts ls rest h = ((tt, omega arith, tt), h)
+  order_wide false firsts ls rest h = h
+
   module _ (T : ℕ → TypePlan) (types : (d : ℕ) → IsWidePlan (T d)) where
     mutual
       term_wide : (t : Term) → IsWideTerm t → IsWidePlan (term_type T t)
       term_wide (model.element d name) h = types d
       term_wide (model.sequence ps) h = particles_wide false ps h
       term_wide (model.choice ps) h = particles_wide true ps h
+      term_wide (model.all ps) h = particles_wide false ps h
 
       particles_wide : (in_choice : Bool) (ps : Particles) → AreWideParticles ps → AreWidePlans (particle_parts T in_choice ps)
       particles_wide in_choice model.none h = tt
@@ -167,6 +176,7 @@ module _ (s : Set) (wide : HasWidths s) where
         either_way (λ qs. AreWidePlans qs) (is_once least most) (particle_parts T false ps) (top_part T (model.sequence ps) least most)
         (particles_wide false ps h.2) (top_part_wide (model.sequence ps) least most h)
     top_wide (occurs (model.choice ps) least most) h = top_part_wide (model.choice ps) least most h
+    top_wide (occurs (model.all ps) least most) h = particles_wide false ps h.2
 
     content_parts_wide : (c : Content) → IfWideModel (model_of c) → AreWidePlans (content_parts T s c)
     content_parts_wide content_.Empty h = tt
@@ -182,10 +192,12 @@ module _ (s : Set) (wide : HasWidths s) where
 
     complex_wide : (nillable : Bool) (c : ComplexDef) → IfWideModel (model_of c.content) → IsWidePlan (complex_plan T s nillable c)
     complex_wide nillable c h =
-        texts_wide (is_mixed c.content) (attributes s c.uses (rest_parts T s nillable c.content))
+        let behind = attributes s c.uses (rest_parts T s nillable c.content) in
+        texts_wide (is_mixed c.content) (with_order (is_ordered c.content) (order_plan T s nillable c) behind)
+        (order_wide (is_ordered c.content) (if nillable then [] else labels_before (is_mixed c.content) c.uses) (labels (content_parts T s c.content)) behind
         (attributes_wide c.uses (rest_parts T s nillable c.content)
         (either_way (λ ps. AreWidePlans ps) nillable (part content true (content_type T s c.content) finish) (content_parts T s c.content)
-        (content_type_wide c.content h, tt) (content_parts_wide c.content h)))
+        (content_type_wide c.content h, tt) (content_parts_wide c.content h))))
 
   nillable_simple_wide : (n : ℕ) → IsWidePlan (nillable_simple_type s n)
   nillable_simple_wide n = (simple_wide n, tt)
@@ -199,7 +211,7 @@ module _ (s : Set) (wide : HasWidths s) where
         named n (Some name) = tt
 
         complex : (n : ℕ) (o : Option ComplexDef) → IsWidePlan (elim o [
-          | None ↦ sequence false false finish
+          | None ↦ sequence false false false finish
           | Some c ↦ elim c.name [ None ↦ inner e.nillable n | Some name ↦ reference (if e.nillable then subject.Nillable n else subject.Complex n) ]
         ])
         complex n None = tt
@@ -208,7 +220,7 @@ module _ (s : Set) (wide : HasWidths s) where
         by : (k : TypeOf) → IsWidePlan (elim k [
           | kind.Simple n ↦ if e.nillable then nillable_simple_type s n else simple_type s n
           | kind.Complex n ↦ elim (slice_get s.complexes n) [
-            | None ↦ sequence false false finish
+            | None ↦ sequence false false false finish
             | Some c ↦ elim c.name [ None ↦ inner e.nillable n | Some name ↦ reference (if e.nillable then subject.Nillable n else subject.Complex n) ]
           ]
         ])
@@ -229,7 +241,7 @@ module _ (s : Set) (wide : HasWidths s) where
   in_place_wide (suc levels) nillable n = by (λ b m. in_place_wide levels b m) (slice_get s.complexes n) refl
     where
       by : ((b : Bool) (m : ℕ) → IsWidePlan (in_place s levels b m)) → (o : Option ComplexDef) → slice_get s.complexes n ≡ o
-          → IsWidePlan (elim o [ None ↦ sequence false false finish | Some c ↦ complex_plan (particle_type s (in_place s levels)) s nillable c ])
+          → IsWidePlan (elim o [ None ↦ sequence false false false finish | Some c ↦ complex_plan (particle_type s (in_place s levels)) s nillable c ])
       by below None is = tt
       by below (Some c) is =
           complex_wide (particle_type s (in_place s levels)) (particle_type_wide (in_place s levels) below) nillable c

@@ -19,21 +19,23 @@ use Rattle.asn_types.specs.declared.roles.Role.TheVariants as role
 use Rattle.asn_types.specs.declared.types.Component.{Component}
 use Rattle.asn_types.specs.declared.types.Form.TheVariants as form
 use Rattle.asn_types.specs.declared.types.TypeLabel.{TypeLabel}
-use Rattle.asn_types.specs.Marks.{has_embed_values}
+use Rattle.asn_types.specs.Marks.{has_use_order}
 use Rattle.asn_types.specs.Refs.{resolve}
 use Rattle.asn_types.specs.Roles.{role_of}
-use Rattle.asn_values.specs.Values.{below, FitsAt, child_count, first_count, text_count, is_last_absent}
+use Rattle.asn_values.specs.Values.{below, FitsAt, child_count, first_count, text_count, is_last_absent, ordered_flags, order_of}
 use Rattle.schema_parts.specs.declared.components.AttributeUse.{AttributeUse}
 use Rattle.schema_parts.specs.declared.components.ComplexDef.{ComplexDef}
 use Rattle.schema_parts.specs.declared.components.Content.{Content}
 use Rattle.schema_parts.specs.declared.components.Content.TheVariants as content_
 use Rattle.schema_parts.specs.Components.{Set, model_of}
+use Rattle.schema_parts.specs.Linked.{IsContent}
 use Rattle.schema_parts.specs.SetParts.{parts_of}
-use Rattle.map_assignments.specs.Planning.{is_mixed}
+use Rattle.map_assignments.specs.Planning.{is_mixed, is_ordered}
 use Rattle.map_assignments.specs.Naming.{type_label, sequence_marks}
+use Rattle.map_694.proofs.Marked.{sequence-order}
 use Rattle.map_694.proofs.Resolving.{follow-none}
-use Rattle.map_laws.specs.Children.{Child, child_of, given_by, children}
-use Rattle.map_laws.specs.Standing.{Behind, IsOnly, IsInner, IsBase, IsSimpleOf, HasParts, HasInner, WithTexts, WithAttributes, AreContent, AreRest, HasComplex}
+use Rattle.map_laws.specs.Children.{Child, child_of, given_by, as_told, children}
+use Rattle.map_laws.specs.Standing.{Behind, IsOnly, IsInner, IsBase, IsSimpleOf, HasParts, HasInner, WithTexts, WithOrder, order_count, WithAttributes, AreContent, AreRest, HasComplex}
 use Rattle.map_laws.specs.ValueStatements.{StandAt}
 use Rattle.map_laws.proofs.Values.{present_children, PartsKept, PartsFit, sequence-value}
 use Rattle.map_laws.proofs.Complexes.{fits-found, children-found, complex-follows}
@@ -44,11 +46,12 @@ use Rattle.xer_items.specs.Items.{Given, given, nothing, joined, both, placed, i
 use Rattle.xer_items.specs.Items as items
 use Rattle.validity.specs.Asked.{space_at}
 use Rattle.validity.specs.Attributes.{Nil, not_nil, is_nil, nil_by, with_nil}
-use Rattle.one_value.proofs.Groups.{told, present_given, sequence-inside, inside-found}
+use Rattle.one_value.proofs.Groups.{told, order-shows, order-keeps, present_given, as_ordered, sequence-inside, inside-found}
+use Rattle.xer_items.proofs.Ordering.{unordered}
 use Rattle.one_value.proofs.Walking.{last_from}
 use Rattle.one_value.proofs.Attributes.{attribute-gives, rest-silent}
-use Rattle.one_value.proofs.Mixed.{text_in, IsXmlText, texts-xml, TellKids, attributes-tell, rest-tells, elements-tell}
-use Rattle.one_value.proofs.Complexes.{not-textual, nil-mark, embed-mark, order-mark, last-is, texts-keep, texts-counted}
+use Rattle.one_value.proofs.Mixed.{text_in, IsXmlText, texts-xml, TellKids, attributes-tell, order-tells, texts-tell, rest-tells, elements-tell}
+use Rattle.one_value.proofs.Complexes.{last-is, texts-keep, shows-so}
 use Rattle.one_value.proofs.Spelled.{IsSpelling, AreSpelled, attributes-spelled}
 
 -- ---- nil
@@ -212,20 +215,6 @@ module _ (M : List Assignment) (E : ℕ → Rose TypeLabel → Type 0) (depth : 
   -- ---- texts in front
 
   module _ (l : TypeLabel) (R : Behind) where
-    texts-tell : (m : Bool) → TellKids M depth s l R → TellKids M depth s l (WithTexts m l R)
-    texts-tell false f i cs us fs vs g h = f i cs us fs vs g h
-    texts-tell true f i [] us fs vs g h = absurd g
-    texts-tell true f i (c ∷ cs) [] fs vs g h = absurd g
-    texts-tell true f i (c ∷ cs) (u ∷ us) [] vs g h = absurd h
-    texts-tell true f i (c ∷ cs) (u ∷ us) (true ∷ fs) rose.none g h = absurd h
-    texts-tell true f i (c ∷ cs) (u ∷ us) (true ∷ fs) (rose.more v vs) g h =
-        let rest = present_given M l (i + 1) cs us fs vs in
-        let made = present_children M l (i + 1) cs us fs vs in
-        ap (λ r. (both (placed M (record { role = r; part = c; type = u }) v (inside M u v)) rest).kids) g.0.is.role
-        ∙ f (i + 1) cs us fs vs g.1 h.1
-        ∙ sym (ap (λ r. told M (given_by r (child_of c u v) (children M u v) ++ made)) g.0.is.role)
-    texts-tell true f i (c ∷ cs) (u ∷ us) (false ∷ fs) vs g h = f (i + 1) cs us fs vs g.1 h.1
-
     texts-spelled : (m : Bool) (ds : List AttributeUse)
         → ((i : ℕ) (cs : List Component) (us : List (Rose TypeLabel)) (fs : List Bool) (vs : Roses ValueLabel) → R i cs us → PartsFit M depth l i cs us fs vs → PartsKept M cs us fs vs
         → AreSpelled (space_at (parts_of s)) ds (present_given M l i cs us fs vs).attributes)
@@ -240,6 +229,21 @@ module _ (M : List Assignment) (E : ℕ → Rose TypeLabel → Type 0) (depth : 
         let rest = present_given M l (i + 1) cs us fs vs in
         subst (AreSpelled (space_at (parts_of s)) ds) (sym (ap (λ r. (both (placed M (record { role = r; part = c; type = u }) v (inside M u v)) rest).attributes) g.0.is.role)) (f (i + 1) cs us fs vs g.1 h.1 k.1)
     texts-spelled true ds f i (c ∷ cs) (u ∷ us) (false ∷ fs) vs g h k = f (i + 1) cs us fs vs g.1 h.1 k
+
+    order-spelled : (all : Bool) (count : ℕ) (ds : List AttributeUse)
+        → ((i : ℕ) (cs : List Component) (us : List (Rose TypeLabel)) (fs : List Bool) (vs : Roses ValueLabel) → R i cs us → PartsFit M depth l i cs us fs vs → PartsKept M cs us fs vs
+        → AreSpelled (space_at (parts_of s)) ds (present_given M l i cs us fs vs).attributes)
+        → (i : ℕ) (cs : List Component) (us : List (Rose TypeLabel)) (fs : List Bool) (vs : Roses ValueLabel) → WithOrder all count l R i cs us → PartsFit M depth l i cs us fs vs → PartsKept M cs us fs vs
+        → AreSpelled (space_at (parts_of s)) ds (present_given M l i cs us fs vs).attributes
+    order-spelled false count ds f i cs us fs vs g h k = f i cs us fs vs g h k
+    order-spelled true count ds f i [] us fs vs g h k = absurd g
+    order-spelled true count ds f i (c ∷ cs) [] fs vs g h k = absurd g
+    order-spelled true count ds f i (c ∷ cs) (u ∷ us) [] vs g h k = absurd h
+    order-spelled true count ds f i (c ∷ cs) (u ∷ us) (true ∷ fs) rose.none g h k = absurd h
+    order-spelled true count ds f i (c ∷ cs) (u ∷ us) (true ∷ fs) (rose.more v vs) g h k =
+        let rest = present_given M l (i + 1) cs us fs vs in
+        subst (AreSpelled (space_at (parts_of s)) ds) (sym (ap (λ r. (both (placed M (record { role = r; part = c; type = u }) v (inside M u v)) rest).attributes) g.0.is.role)) (f (i + 1) cs us fs vs g.1 h.1 k.1)
+    order-spelled true count ds f i (c ∷ cs) (u ∷ us) (false ∷ fs) vs g h k = f (i + 1) cs us fs vs g.1 h.1 k
 
     -- where no text is counted there is none
     texts-gone : (i : ℕ) (cs : List Component) (us : List (Rose TypeLabel)) (fs : List Bool) (vs : Roses ValueLabel) → WithTexts true l R i cs us → PartsFit M depth l i cs us fs vs
@@ -264,24 +268,30 @@ module _ (M : List Assignment) (E : ℕ → Rose TypeLabel → Type 0) (depth : 
   -- ---- what the parts give
 
   content-gives : (ds : List AttributeUse) (x : Content) (l : TypeLabel) (ms : List Child) (cs : List Component) (us : List (Rose TypeLabel)) (fs : List Bool) (vs : Roses ValueLabel)
-      → WithTexts (is_mixed x) l (WithAttributes s M l (AreRest E s M nillable x l) ds) 0 cs us → PartsFit M depth l 0 cs us fs vs
-      → present_children M l 0 cs us fs vs ≡ ms → (nil : Bool) → (nillable && last_from false fs) ≡ nil
+      → WithTexts (is_mixed x) l (WithOrder (is_ordered x) (order_count x) l (WithAttributes s M l (AreRest E s M nillable x l) ds)) 0 cs us → PartsFit M depth l 0 cs us fs vs
+      → (outer : Given) → (is_ordered x ≡ false → outer ≡ present_given M l 0 cs us fs vs)
+      → ((present_given M l 0 cs us fs vs).kids ≡ told M (present_children M l 0 cs us fs vs) → outer.kids ≡ told M ms) → (nil : Bool) → (nillable && last_from false fs) ≡ nil
       → ((p : Rose ParticleLabel) → model_of x ≡ Some p → Stands M E depth nil p ms)
       → (is_mixed x ≡ true → first_count (value.Sequence fs) (list_of vs) ≡ text_count nil (length ms))
-      → ContentGives M E depth s x nil (with_texts (is_mixed x) (texts_of (value.Sequence fs) vs) (present_given M l 0 cs us fs vs)).kids
-  content-gives ds content_.Empty l ms cs us fs vs g h made nil is stands counted =
-      attributes-so Bare l (AreRest E s M nillable content_.Empty l) (empty-rest nillable l) ds 0 cs us fs vs g h false
-  content-gives ds (content_.Simple n) l ms cs us fs vs g h made nil is stands counted =
+      → ContentGives M E depth s x nil (with_texts (is_mixed x) (texts_of (value.Sequence fs) vs) outer).kids
+  content-gives ds content_.Empty l ms cs us fs vs g h outer plain shows nil is stands counted =
+      ap (λ (z : Given). z.kids) (plain refl) ∙ attributes-so Bare l (AreRest E s M nillable content_.Empty l) (empty-rest nillable l) ds 0 cs us fs vs g h false
+  content-gives ds (content_.Simple n) l ms cs us fs vs g h outer plain shows nil is stands counted =
       let k = (present_given M l 0 cs us fs vs).kids in
       let it : TextOf s n (nillable && last_from false fs) k = attributes-so (TextOf s n) l (AreRest E s M nillable (content_.Simple n) l) (simple-rest n nillable refl l) ds 0 cs us fs vs g h false in
-      subst (λ b. TextOf s n b k) is it
-  content-gives ds (content_.ElementOnly p) l ms cs us fs vs g h made nil is stands counted = (
-    ms,
-    stands p refl,
-    attributes-tell M depth s l (AreRest E s M nillable (content_.ElementOnly p) l) (elements-tell M depth s E nillable p l) ds 0 cs us fs vs g h ∙ ap (told M) made,
-  )
-  content-gives ds (content_.Mixed p) l ms cs us fs vs g h made nil is stands counted =
-      let R = WithAttributes s M l (AreRest E s M nillable (content_.Mixed p) l) ds in
+      subst (λ (z : Given). TextOf s n nil z.kids) (sym (plain refl)) (subst (λ b. TextOf s n b k) is it)
+  content-gives ds (content_.ElementOnly p) l ms cs us fs vs g h outer plain shows nil is stands counted =
+      let R = WithAttributes s M l (AreRest E s M nillable (content_.ElementOnly p) l) ds in
+      let x = content_.ElementOnly p in (
+        ms,
+        stands p refl,
+        shows
+            (order-tells M depth s l R (attributes-tell M depth s l (AreRest E s M nillable (content_.ElementOnly p) l) (elements-tell M depth s E nillable p l) ds) (is_ordered x) (order_count x) 0 cs us fs vs g h),
+      )
+  content-gives ds (content_.Mixed p) l ms cs us fs vs g h outer plain shows nil is stands counted =
+      let A = WithAttributes s M l (AreRest E s M nillable (content_.Mixed p) l) ds in
+      let x = content_.Mixed p in
+      let R = WithOrder (is_ordered x) (order_count x) l A in
       let texts = texts_of (value.Sequence fs) vs in (
         texts,
         ms,
@@ -289,52 +299,61 @@ module _ (M : List Assignment) (E : ℕ → Rose TypeLabel → Type 0) (depth : 
         λ e. texts-gone l R 0 cs us fs vs g h (counted refl ∙ ap (λ b. text_count b (length ms)) e),
         texts-fit l R 0 cs us fs vs g h,
         ap (interleaved texts)
-            (texts-tell l R true (attributes-tell M depth s l (AreRest E s M nillable (content_.Mixed p) l) (rest-tells M depth s E nillable p l) ds) 0 cs us fs vs g h ∙ ap (told M) made),
+            (shows (texts-tell M depth s l R (order-tells M depth s l A (attributes-tell M depth s l (AreRest E s M nillable (content_.Mixed p) l) (rest-tells M depth s E nillable p l) ds) (is_ordered x) (order_count x)) true
+            0 cs us fs vs g h)),
       )
 
-  stands-by : (c : ComplexDef) (t : Rose TypeLabel) → HasComplex E s M nillable c (resolve M t) → (v : Rose ValueLabel) → FitsAt M depth t v → (b : Bool) → nillable ≡ b
+  stands-by : (c : ComplexDef) → IsContent s c.content → (t : Rose TypeLabel) → HasComplex E s M nillable c (resolve M t) → (v : Rose ValueLabel) → FitsAt M depth t v → (b : Bool) → nillable ≡ b
       → (p : Rose ParticleLabel) → model_of c.content ≡ Some p → Stands M E depth (nillable && is_last_absent (label_of v)) p (children M t v)
-  stands-by c t has v h false is p modelled =
-      inr (ap (λ z. z && is_last_absent (label_of v)) is, complex-follows M E depth s c p modelled t (resolve M t) refl (subst (λ z. HasComplex E s M z c (resolve M t)) is has) v h)
-  stands-by c t has v h true is p modelled =
+  stands-by c ok t has v h false is p modelled =
+      inr (ap (λ z. z && is_last_absent (label_of v)) is, complex-follows M E depth s c ok p modelled t (resolve M t) refl (subst (λ z. HasComplex E s M z c (resolve M t)) is has) v h)
+  stands-by c ok t has v h true is p modelled =
       subst (λ z. Stands M E depth (z && is_last_absent (label_of v)) p (children M t v)) (sym is)
-      (nillable-follows M E depth s c p modelled t (resolve M t) refl (subst (λ z. HasComplex E s M z c (resolve M t)) is has) v h)
+      (nillable-follows M E depth s c ok p modelled t (resolve M t) refl (subst (λ z. HasComplex E s M z c (resolve M t)) is has) v h)
 
-  pub complex-gives : (c : ComplexDef) (t : Rose TypeLabel) → HasComplex E s M nillable c (resolve M t) → (v : Rose ValueLabel) → FitsAt M depth t v → ComplexGives M E depth s nillable c (inside M t v)
-  complex-gives c t has v h =
+  pub complex-gives : (c : ComplexDef) → IsContent s c.content → (t : Rose TypeLabel) → HasComplex E s M nillable c (resolve M t) → (v : Rose ValueLabel) → FitsAt M depth t v
+      → ComplexGives M E depth s nillable c (inside M t v)
+  complex-gives c ok t has v h =
       let mixed = is_mixed c.content in
-      let marks = sequence_marks nillable mixed in
+      let all = is_ordered c.content in
+      let marks = sequence_marks nillable mixed all in
       let l = type_label (form.Sequence has.0) marks in
       let us = list_of has.1 in
       let whole = node l has.1 in
       let same : resolve M t ≡ resolve M whole = has.2 ∙ sym (follow-none M 4 whole refl) in
       let fits = fits-found M depth t whole v same h in
       let a = sequence-value M depth marks has.0 has.1 v fits in
+      let va = node (value.Sequence a.flags) a.values in
       let g = present_given M l 0 has.0 us a.flags a.values in
+      let raw = present_children M l 0 has.0 us a.flags a.values in
+      let outer = as_ordered M whole va g in
       let last = is_last_absent (value.Sequence a.flags) in
       let nil = nillable && last in
       let rest = AreRest E s M nillable c.content l in
       let texts = texts_of (value.Sequence a.flags) a.values in
-      let ends_as = λ (n m : Bool). items.with_nil (n && last) (with_texts m texts g) in
-      let w = with_texts mixed texts g in
-      let ev : inside M t v ≡ items.with_nil nil w =
-      inside-found M t whole v same ∙ ap (λ x. inside M whole x) a.is ∙ sequence-inside M depth marks has.0 has.1 a.flags a.values (not-textual has.0 nillable mixed) (order-mark nillable mixed) a.fit
-      ∙ ap (λ n. ends_as n (has_embed_values marks)) (nil-mark nillable mixed) ∙ ap (λ m. ends_as nillable m) (embed-mark nillable mixed) in
+      let w = with_texts mixed texts outer in
+      let so = shows-so M depth nillable mixed all has.0 has.1 v fits a in
+      let ev : inside M t v ≡ items.with_nil nil w = inside-found M t whole v same ∙ so.0 in
+      let told_so : children M t v ≡ as_told M whole v raw = children-found M t whole v same ∙ a.gives_all in
       let counted : mixed ≡ true → first_count (value.Sequence a.flags) (list_of a.values) ≡ text_count nil (length (children M t v)) =
-      λ m. texts-counted M depth marks has.0 has.1 a.flags a.values (subst (FitsAt M depth whole) a.is fits) (embed-mark nillable mixed ∙ m)
-      ∙ ap (λ n. text_count (n && last) (child_count M whole (node (value.Sequence a.flags) a.values))) (nil-mark nillable mixed)
-      ∙ ap (text_count nil) (ap (child_count M whole) (sym a.is) ∙ children-counted M depth whole v fits ∙ ap length (sym (children-found M t whole v same))) in
+      λ m. so.1 m ∙ ap (λ x. text_count nil (length x)) (sym told_so) in
       let stands : (p : Rose ParticleLabel) → model_of c.content ≡ Some p → Stands M E depth nil p (children M t v) =
-      λ p e. subst (λ x. Stands M E depth (nillable && is_last_absent (label_of x)) p (children M t v)) a.is (stands-by c t has v h nillable refl p e) in
+      λ p e. subst (λ x. Stands M E depth (nillable && is_last_absent (label_of x)) p (children M t v)) a.is (stands-by c ok t has v h nillable refl p e) in
+      let plain : all ≡ false → outer ≡ g = λ e. unordered (has_use_order marks) (ordered_flags M l whole va) (order_of whole va) g (sequence-order nillable mixed all ∙ e) in
+      let shows : g.kids ≡ told M raw → outer.kids ≡ told M (children M t v) =
+      λ e. order-shows M (has_use_order marks) (ordered_flags M l whole va) (order_of whole va) g raw e ∙ ap (λ z. told M (as_told M whole z raw)) (sym a.is) ∙ ap (told M) (sym told_so) in
+      let keeps = order-keeps M (has_use_order marks) (ordered_flags M l whole va) (order_of whole va) g in
       record {
         nil = nil;
         attributes = g.attributes;
         kids = w.kids;
-        is = ev ∙ nil-given nil w ∙ ap (λ xs. given (with_nil (nil_as nil) xs) w.kids) (texts-keep mixed texts g);
+        is = ev ∙ nil-given nil w ∙ ap (λ xs. given (with_nil (nil_as nil) xs) w.kids) (texts-keep mixed texts outer ∙ keeps);
         from = nilled nillable last;
-        spelled = texts-spelled l (WithAttributes s M l rest c.uses) mixed c.uses
-            (λ i cs ts fs vs k fit kept. attributes-spelled (space_at (parts_of s)) M depth s (λ n u x is_one fits_one. (text_spelled n u x is_one fits_one).1) l rest (rest-silent M depth s E text_inside nillable c.content l) c.uses i cs ts fs vs k fit kept)
+        spelled = texts-spelled l (WithOrder all (order_count c.content) l (WithAttributes s M l rest c.uses)) mixed c.uses
+            (λ i cs ts fs vs k fit kept. order-spelled l (WithAttributes s M l rest c.uses) all (order_count c.content) c.uses
+            (λ j ds xs f ws m fit2 kept2. attributes-spelled (space_at (parts_of s)) M depth s (λ n u x is_one fits_one. (text_spelled n u x is_one fits_one).1) l rest (rest-silent M depth s E text_inside nillable c.content l) c.uses j ds xs f ws m fit2 kept2)
+            i cs ts fs vs k fit kept)
             0 has.0 us a.flags a.values has.3 a.fit a.kept;
-        content = content-gives c.uses c.content l (children M t v) has.0 us a.flags a.values has.3 a.fit (sym (children-found M t whole v same ∙ a.gives_all)) nil
+        content = content-gives c.uses c.content l (children M t v) has.0 us a.flags a.values has.3 a.fit outer plain shows nil
             (ap (λ b. nillable && b) (sym (last-is a.flags))) stands counted;
       }

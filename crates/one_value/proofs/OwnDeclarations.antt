@@ -25,7 +25,7 @@ use Rattle.schema_parts.specs.declared.components.TypeOf.{TypeOf}
 use Rattle.schema_parts.specs.declared.components.TypeOf.TheVariants as kind
 use Rattle.schema_parts.specs.Components.{Set}
 use Rattle.schema_parts.specs.SetParts.{parts_of}
-use Rattle.schema_parts.specs.Linked.{IsComplexType, IsLinked}
+use Rattle.schema_parts.specs.Linked.{IsTyped, IsElement, IsComplexType, IsLinked}
 use Rattle.map_subjects.specs.Subjects.{place_in}
 use Rattle.map_subjects.proofs.Finding.{all-at}
 use Rattle.map_assignments.specs.Planning.{particle_type, in_place}
@@ -105,7 +105,7 @@ module _ (s : Set) (M : List Assignment) (linked : IsLinked s) (small : AreSmall
   -- by the kind of the declaration
   content-by : (depth : ℕ) → ((d : ℕ) (a : Name) (t : Rose TypeLabel) (x : Rose ValueLabel) → E d t → FitsAt M (suc depth) t x → IsOwnForm asks d (element_of a (inside M t x)))
       → (d : ℕ) (e : ElementDecl) → slice_get s.elements d ≡ Some e → (u : Rose TypeLabel) → HasContent E s M e (resolve M u) → Owns depth d u
-  content-by depth below-owns d e is u has v fits name = by e.kind e.nillable (ap (asked_by (parts_of s)) is) has
+  content-by depth below-owns d e is u has v fits name = by e.kind (all-at (IsElement s) s.elements d e is linked.elements).1 e.nillable (ap (asked_by (parts_of s)) is) has
     where
       by-complex : (nillable : Bool) (o : Option ComplexDef) (n : ℕ) → slice_get s.complexes n ≡ o → asks d ≡ asked_by_complex (parts_of s) nillable o
           → IsSomeAnd o (λ (c : ComplexDef). HasComplex E s M nillable c (resolve M u)) → IsOwnForm asks d (element_of name (inside M u v))
@@ -113,20 +113,20 @@ module _ (s : Set) (M : List Assignment) (linked : IsLinked s) (small : AreSmall
       by-complex nillable (Some c) n g i h =
           let ok = all-at (IsComplexType s) s.complexes n c g linked.complexes in
           complex-owns M E depth s asks below-owns d nillable c i (sorted-apart c.uses ok.ascending) (fair_at s linked d) (inside M u v)
-          (complex-gives M E depth s (text-inside s linked small M) (text-spelled s linked small M depth) nillable c u h v fits) name
+          (complex-gives M E depth s (text-inside s linked small M) (text-spelled s linked small M depth) nillable c ok.content u h v fits) name
 
-      by : (k : TypeOf) (nillable : Bool) → asks d ≡ asked_by_type (parts_of s) nillable k → elim k as (λ _. Type 0) [
+      by : (k : TypeOf) → IsTyped s k → (nillable : Bool) → asks d ≡ asked_by_type (parts_of s) nillable k → elim k as (λ _. Type 0) [
         | kind.Simple n ↦ MatchBool nillable (HasNillable s M n (resolve M u)) (IsSimpleOf s n (resolve M u))
         | kind.Complex n ↦ IsSomeAnd (slice_get s.complexes n) (λ (c : ComplexDef). HasComplex E s M nillable c (resolve M u))
       ] → IsOwnForm asks d (element_of name (inside M u v))
-      by (kind.Simple n) true i h =
+      by (kind.Simple n) below true i h =
           let c : ComplexDef = record { name = None; uses = []; content = content_.Simple n } in
           complex-owns M E depth s asks below-owns d true c i tt (fair_at s linked d) (inside M u v)
-          (complex-gives M E depth s (text-inside s linked small M) (text-spelled s linked small M depth) true c u h v fits) name
-      by (kind.Simple n) false i h =
+          (complex-gives M E depth s (text-inside s linked small M) (text-spelled s linked small M depth) true c below u h v fits) name
+      by (kind.Simple n) below false i h =
           let t = text-spelled s linked small M depth n u v h fits in
           simple-owns d (space_at (parts_of s) n) i u v (spelling M u v) t.0 t.1 name
-      by (kind.Complex n) nillable i h = by-complex nillable (slice_get s.complexes n) n refl i h
+      by (kind.Complex n) below nillable i h = by-complex nillable (slice_get s.complexes n) n refl i h
 
   pub content-owns : (levels depth : ℕ) → 65 ≤ depth + levels → (d : ℕ) (e : ElementDecl) → slice_get s.elements d ≡ Some e → (u : Rose TypeLabel) → HasContent E s M e (resolve M u) → Owns depth d u
   content-owns zero depth enough d e is u has v fits name = absurd (let deep = depth-is M depth u v fits in omega (arith, deep, enough))

@@ -7,7 +7,7 @@ use Rattle.schema_rules.specs.Digits.{is_large}
 use Rattle.schema_rules.specs.Children.{child_count}
 use Rattle.schema_rules.specs.declared.children.ChildSet.TheVariants.{TakenParticles, Attributes, Enumerations}
 use Rattle.schema_rules.specs.declared.roles.ElementRole.{ElementRole}
-use Rattle.schema_rules.specs.declared.roles.ElementRole.TheVariants.{Restriction, GlobalComplexType, InnerComplexType, Extension, Sequence, Choice}
+use Rattle.schema_rules.specs.declared.roles.ElementRole.TheVariants.{Restriction, GlobalComplexType, InnerComplexType, Extension, Sequence, Choice, All}
 
 -- a number of occurrences of 2^32 or more
 abbrev pub has_large : List ℕ → List (List ℕ × List ℕ) → Bool
@@ -18,6 +18,7 @@ has_large name own = elim (beside name own) [ None ↦ false | Some value ↦ is
 abbrev pub is_too_large : ElementRole → ℕ → List (Rose ItemLabel) → Bool
 is_too_large Sequence level kids = nat_le 16 level || nat_lt 500 (child_count TakenParticles kids)
 is_too_large Choice level kids = nat_le 16 level || nat_lt 500 (child_count TakenParticles kids)
+is_too_large All level kids = nat_le 16 level || nat_lt 500 (child_count TakenParticles kids)
 is_too_large GlobalComplexType level kids = nat_lt 400 (child_count Attributes kids)
 is_too_large InnerComplexType level kids = nat_lt 400 (child_count Attributes kids)
 is_too_large Extension level kids = nat_lt 400 (child_count Attributes kids)
@@ -31,6 +32,7 @@ is_over_limit role level own kids = has_large (codes "minOccurs") own || has_lar
 abbrev pub level_inside : ElementRole → ℕ → ℕ
 level_inside Sequence level = if nat_lt level 17 then level + 1 else 17
 level_inside Choice level = if nat_lt level 17 then level + 1 else 17
+level_inside All level = if nat_lt level 17 then level + 1 else 17
 level_inside GlobalComplexType level = 0
 level_inside InnerComplexType level = 0
 level_inside role level = level

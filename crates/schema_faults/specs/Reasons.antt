@@ -1,5 +1,5 @@
 -- The reasons against an element whose name may stand where it stands, in their order.
-use Rattle.std.specs.Prelude.{ℕ, Bool, true, false, ◌||◌, ◌&&◌, not, nat_le, List, [], ◌∷◌, codes, Option, Some, None, unwrap_or, if◌then◌else◌}
+use Rattle.std.specs.Prelude.{◌==◌, ℕ, Bool, true, false, ◌||◌, ◌&&◌, not, nat_le, List, [], ◌∷◌, codes, Option, Some, None, unwrap_or, if◌then◌else◌}
 use Rattle.std.specs.List.{list_any, list_all}
 use Rattle.std.specs.Option.{option_or}
 use Rattle.xa_base.specs.Entries.{beside, first_true}
@@ -9,26 +9,31 @@ use Rattle.simple_values.specs.Lexical.{boolean_of}
 use Rattle.item_tree.specs.declared.label.ItemLabel.{ItemLabel}
 use Rattle.item_tree.specs.declared.label.ItemLabel.TheVariants.{Element, Text}
 use Rattle.schema_rules.specs.Attributes.{has, has_unknown, own_attributes}
-use Rattle.schema_rules.specs.Values.{has_bad_value, never_occurs}
+use Rattle.schema_rules.specs.Values.{has_bad_value, least_of, never_occurs}
 use Rattle.schema_rules.specs.References.{TypeName, Known, LeftOut, Elsewhere, type_name}
 use Rattle.schema_rules.specs.Children.{is_in}
 use Rattle.schema_faults.specs.Requirements.{lacks_required, has_both_forms, is_untyped}
 use Rattle.schema_faults.specs.Limits.{is_over_limit}
 use Rattle.schema_rules.specs.declared.children.ChildSet.TheVariants.{Particles}
 use Rattle.schema_rules.specs.declared.roles.ElementRole.{ElementRole}
-use Rattle.schema_rules.specs.declared.roles.ElementRole.TheVariants.{GlobalElement, LocalElement, GlobalAttribute, LocalAttribute, Choice}
+use Rattle.schema_rules.specs.declared.roles.ElementRole.TheVariants.{GlobalElement, LocalElement, GlobalAttribute, LocalAttribute, Choice, All, AllElement}
 use Rattle.schema_rules.specs.declared.why.SchemaWhy.{SchemaWhy}
 use Rattle.schema_rules.specs.declared.why.SchemaWhy.TheVariants as why
 
 abbrev pub is_element : ElementRole → Bool
 is_element GlobalElement = true
 is_element LocalElement = true
+is_element AllElement = true
 is_element role = false
 
 abbrev pub is_attribute : ElementRole → Bool
 is_attribute GlobalAttribute = true
 is_attribute LocalAttribute = true
 is_attribute role = false
+
+abbrev pub is_all : ElementRole → Bool
+is_all All = true
+is_all role = false
 
 abbrev pub is_choice : ElementRole → Bool
 is_choice Choice = true
@@ -47,6 +52,7 @@ left_out_attributes role own =
     (has (codes "substitutionGroup") own, why.SubstitutionGroup)
     ∷ (is_true (codes "abstract") own, why.Abstract)
     ∷ (is_element role && has_default own, why.ElementDefault)
+    ∷ (is_all role && (least_of own == 0), why.OptionalAll)
     ∷ []
 
 -- ---- datatypes that are left out

@@ -8,12 +8,13 @@ use Rattle.schema_rules.specs.Attributes.{has}
 use Rattle.schema_rules.specs.Children.{has_child}
 use Rattle.schema_rules.specs.declared.children.ChildSet.TheVariants.{Types, SimpleTypes, Varieties, Derivations}
 use Rattle.schema_rules.specs.declared.roles.ElementRole.{ElementRole}
-use Rattle.schema_rules.specs.declared.roles.ElementRole.TheVariants.{Schema, Composition, GlobalElement, LocalElement, GlobalAttribute, LocalAttribute, GlobalSimpleType, InnerSimpleType, Restriction, List as ListRole, Union, Facet, GlobalComplexType, InnerComplexType, SimpleContent, Extension, Sequence, Choice}
+use Rattle.schema_rules.specs.declared.roles.ElementRole.TheVariants.{Schema, Composition, GlobalElement, LocalElement, GlobalAttribute, LocalAttribute, GlobalSimpleType, InnerSimpleType, Restriction, List as ListRole, Union, Facet, GlobalComplexType, InnerComplexType, SimpleContent, Extension, Sequence, Choice, All, AllElement}
 
 -- a type in place, where one by its name may stand instead
 abbrev pub has_inner_type : ElementRole → List (Rose ItemLabel) → Bool
 has_inner_type GlobalElement kids = has_child Types kids
 has_inner_type LocalElement kids = has_child Types kids
+has_inner_type AllElement kids = has_child Types kids
 has_inner_type GlobalAttribute kids = has_child SimpleTypes kids
 has_inner_type LocalAttribute kids = has_child SimpleTypes kids
 has_inner_type Restriction kids = has_child SimpleTypes kids
@@ -26,6 +27,7 @@ names_members own = elim (beside (codes "memberTypes") own) [ None ↦ false | S
 abbrev pub lacks_required : ElementRole → List (List ℕ × List ℕ) → List (Rose ItemLabel) → Bool
 lacks_required GlobalElement own kids = not (has (codes "name") own)
 lacks_required LocalElement own kids = not (has (codes "name") own) && not (has (codes "ref") own)
+lacks_required AllElement own kids = not (has (codes "name") own) && not (has (codes "ref") own)
 lacks_required GlobalAttribute own kids = not (has (codes "name") own)
 lacks_required LocalAttribute own kids = not (has (codes "name") own) && not (has (codes "ref") own)
 lacks_required GlobalSimpleType own kids = not (has (codes "name") own) || not (has_child Varieties kids)
@@ -42,6 +44,7 @@ lacks_required Composition own kids = false
 lacks_required InnerComplexType own kids = false
 lacks_required Sequence own kids = false
 lacks_required Choice own kids = false
+lacks_required All own kids = false
 
 abbrev pub names_type : List (List ℕ × List ℕ) → Bool
 names_type own = has (codes "type") own || has (codes "base") own || has (codes "itemType") own

@@ -31,7 +31,7 @@ fn is_too_large(role: ElementRole, level: u32, kids: &[Tree<ItemLabel>]) -> bool
     ensures { result ≡ limit.is_too_large role level kids.now }
 {
     match role {
-        ElementRole::Sequence | ElementRole::Choice => {
+        ElementRole::Sequence | ElementRole::Choice | ElementRole::All => {
             MOST_LEVELS <= level || MOST_PARTICLES < child_count(ChildSet::TakenParticles, kids)
         }
         ElementRole::GlobalComplexType | ElementRole::InnerComplexType | ElementRole::Extension => {
@@ -60,7 +60,9 @@ pub fn level_inside(role: ElementRole, level: u32) -> u32
     ensures { result ≡ limit.level_inside role level }
 {
     match role {
-        ElementRole::Sequence | ElementRole::Choice => { if level < 17 { level + 1 } else { 17 } }
+        ElementRole::Sequence | ElementRole::Choice | ElementRole::All => {
+            if level < 17 { level + 1 } else { 17 }
+        }
         ElementRole::GlobalComplexType | ElementRole::InnerComplexType => 0,
         _ => level,
     }

@@ -13,7 +13,7 @@ use doc_text::ItemLabel;
 use label_tree::Tree;
 use schema_rules::{
     ChildSet, ElementRole, NamespaceScope, SchemaWhy, TypeName, has_attribute, has_bad_value,
-    has_unknown, is_in, never_occurs, own_attributes, type_of, value_of,
+    has_unknown, is_in, least_of, never_occurs, own_attributes, type_of, value_of,
 };
 use simple_values::boolean_of;
 use std::alloc::Global;
@@ -38,7 +38,16 @@ fn has_default(own: &[(Text, Text)]) -> bool
 fn is_element(role: ElementRole) -> bool
     ensures { result ≡ reason.is_element role }
 {
-    matches!(role, ElementRole::GlobalElement | ElementRole::LocalElement)
+    matches!(
+        role,
+        ElementRole::GlobalElement | ElementRole::LocalElement | ElementRole::AllElement
+    )
+}
+
+fn is_all(role: ElementRole) -> bool
+    ensures { result ≡ reason.is_all role }
+{
+    matches!(role, ElementRole::All)
 }
 
 fn is_attribute(role: ElementRole) -> bool
@@ -82,6 +91,8 @@ fn left_out_attribute(role: ElementRole, own: &[(Text, Text)]) -> Option<SchemaW
         Some(SchemaWhy::Abstract)
     } else if is_element(role) && has_default(own) {
         Some(SchemaWhy::ElementDefault)
+    } else if is_all(role) && least_of(own) == 0 {
+        Some(SchemaWhy::OptionalAll)
     } else {
         None
     }

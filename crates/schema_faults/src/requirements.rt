@@ -12,7 +12,9 @@ fn has_inner_type(role: ElementRole, kids: &[Tree<ItemLabel>]) -> bool
     ensures { result ≡ rule.has_inner_type role kids.now }
 {
     match role {
-        ElementRole::GlobalElement | ElementRole::LocalElement => has_child(ChildSet::Types, kids),
+        ElementRole::GlobalElement | ElementRole::LocalElement | ElementRole::AllElement => {
+            has_child(ChildSet::Types, kids)
+        }
         ElementRole::GlobalAttribute
         | ElementRole::LocalAttribute
         | ElementRole::Restriction
@@ -39,8 +41,9 @@ pub fn lacks_required(role: ElementRole, own: &[(Text, Text)], kids: &[Tree<Item
         ElementRole::GlobalElement
         | ElementRole::GlobalAttribute
         | ElementRole::GlobalComplexType => !has_attribute("name", own),
-        ElementRole::LocalElement | ElementRole::LocalAttribute => !has_attribute("name", own)
-            && !has_attribute("ref", own),
+        ElementRole::LocalElement | ElementRole::AllElement | ElementRole::LocalAttribute => {
+            !has_attribute("name", own) && !has_attribute("ref", own)
+        }
         ElementRole::GlobalSimpleType => !has_attribute("name", own)
             || !has_child(ChildSet::Varieties, kids),
         ElementRole::InnerSimpleType => !has_child(ChildSet::Varieties, kids),
@@ -54,7 +57,8 @@ pub fn lacks_required(role: ElementRole, own: &[(Text, Text)], kids: &[Tree<Item
         | ElementRole::Composition
         | ElementRole::InnerComplexType
         | ElementRole::Sequence
-        | ElementRole::Choice => { false }
+        | ElementRole::Choice
+        | ElementRole::All => { false }
     }
 }
 

@@ -80,7 +80,7 @@ breach_in model (Some b) h = (Some (fault NotClear (place b.file b.at)), some_an
 unclear_in : (model : Option (Rose ParticleLabel)) → SomeFirst (BreaksIn model)
 unclear_in None = some_of_none (BreaksIn None) (λ f h. h)
 unclear_in (Some model) =
-    let o = breach_of model (λ (a : Name). false) in
+    let o = breach_of false model (λ (a : Name). false) in
     breach_in model o (decides_clear model (λ (a : Name). false) (λ a. refl) o refl)
 
 pub some_unclear : (docs : List Document) → SomeFirst (IsUnclear docs)

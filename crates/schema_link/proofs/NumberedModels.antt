@@ -12,7 +12,7 @@ use Rattle.label_tree.specs.Rose.{Rose, node, Roses, node_count, count_all, heig
 use Rattle.label_tree.specs.Rose as rose
 use Rattle.content_models.specs.Kids.{MayHave, KindMayHave}
 use Rattle.content_models.specs.Occurring.{AllowOne, IsMore, MayOccur, TermMayOccur, AllMayOccur}
-use Rattle.content_models.specs.Particle.{occurs, sequence, choice, Particles, none, more}
+use Rattle.content_models.specs.Particle.{occurs, sequence, choice, all, Particles, none, more}
 use Rattle.content_models.specs.Seen.{term_seen, seen, all_seen}
 use Rattle.content_models.specs.Undeclared.{undeclared, undeclared_term, all_undeclared}
 use Rattle.content_models.specs.declared.particles.ParticleKind.{ParticleKind}
@@ -44,6 +44,7 @@ module _ (f : ℕ → ℕ) where
   kind_leaves (particle.Element decl name) ps qs e = refl
   kind_leaves particle.Sequence ps qs e = e
   kind_leaves particle.Choice ps qs e = e
+  kind_leaves particle.All ps qs e = e
 
   mutual
     pub leaves_numbered : (t : Rose ParticleLabel) → leaves (seen (numbered f t)) ≡ map renumbered (leaves (seen t))
@@ -58,6 +59,7 @@ module _ (f : ℕ → ℕ) where
   kind_undeclared (particle.Element decl name) ps qs e = refl
   kind_undeclared particle.Sequence ps qs e = ap sequence e
   kind_undeclared particle.Choice ps qs e = ap choice e
+  kind_undeclared particle.All ps qs e = ap all e
 
   mutual
     pub undeclared_numbered : (t : Rose ParticleLabel) → undeclared (seen (numbered f t)) ≡ undeclared (seen t)
@@ -84,12 +86,14 @@ module _ (f : ℕ → ℕ) where
     each_bounds_numbered (rose.more t ts) = ap₂ (λ a b. a && b) (bounds_numbered t) (each_bounds_numbered ts)
 
   kind_place : (k : ParticleKind) (l m : ParticleLabel) → m.at ≡ l.at → l.kind ≡ k → m.kind ≡ numbered_kind f k → group_place m ≡ group_place l
-  kind_place (particle.Element decl name) l m at e d = ap (λ x. elim x [ particle.Element a b ↦ [] | particle.Sequence ↦ m.at ∷ [] | particle.Choice ↦ m.at ∷ [] ]) d
-      ∙ sym (ap (λ x. elim x [ particle.Element a b ↦ [] | particle.Sequence ↦ l.at ∷ [] | particle.Choice ↦ l.at ∷ [] ]) e)
-  kind_place particle.Sequence l m at e d = ap (λ x. elim x [ particle.Element a b ↦ [] | particle.Sequence ↦ m.at ∷ [] | particle.Choice ↦ m.at ∷ [] ]) d
-      ∙ ap (λ n. n ∷ []) at ∙ sym (ap (λ x. elim x [ particle.Element a b ↦ [] | particle.Sequence ↦ l.at ∷ [] | particle.Choice ↦ l.at ∷ [] ]) e)
-  kind_place particle.Choice l m at e d = ap (λ x. elim x [ particle.Element a b ↦ [] | particle.Sequence ↦ m.at ∷ [] | particle.Choice ↦ m.at ∷ [] ]) d
-      ∙ ap (λ n. n ∷ []) at ∙ sym (ap (λ x. elim x [ particle.Element a b ↦ [] | particle.Sequence ↦ l.at ∷ [] | particle.Choice ↦ l.at ∷ [] ]) e)
+  kind_place (particle.Element decl name) l m at e d = ap (λ x. elim x [ particle.Element a b ↦ [] | particle.Sequence ↦ m.at ∷ [] | particle.Choice ↦ m.at ∷ [] | particle.All ↦ m.at ∷ [] ]) d
+      ∙ sym (ap (λ x. elim x [ particle.Element a b ↦ [] | particle.Sequence ↦ l.at ∷ [] | particle.Choice ↦ l.at ∷ [] | particle.All ↦ l.at ∷ [] ]) e)
+  kind_place particle.Sequence l m at e d = ap (λ x. elim x [ particle.Element a b ↦ [] | particle.Sequence ↦ m.at ∷ [] | particle.Choice ↦ m.at ∷ [] | particle.All ↦ m.at ∷ [] ]) d
+      ∙ ap (λ n. n ∷ []) at ∙ sym (ap (λ x. elim x [ particle.Element a b ↦ [] | particle.Sequence ↦ l.at ∷ [] | particle.Choice ↦ l.at ∷ [] | particle.All ↦ l.at ∷ [] ]) e)
+  kind_place particle.Choice l m at e d = ap (λ x. elim x [ particle.Element a b ↦ [] | particle.Sequence ↦ m.at ∷ [] | particle.Choice ↦ m.at ∷ [] | particle.All ↦ m.at ∷ [] ]) d
+      ∙ ap (λ n. n ∷ []) at ∙ sym (ap (λ x. elim x [ particle.Element a b ↦ [] | particle.Sequence ↦ l.at ∷ [] | particle.Choice ↦ l.at ∷ [] | particle.All ↦ l.at ∷ [] ]) e)
+  kind_place particle.All l m at e d = ap (λ x. elim x [ particle.Element a b ↦ [] | particle.Sequence ↦ m.at ∷ [] | particle.Choice ↦ m.at ∷ [] | particle.All ↦ m.at ∷ [] ]) d
+      ∙ ap (λ n. n ∷ []) at ∙ sym (ap (λ x. elim x [ particle.Element a b ↦ [] | particle.Sequence ↦ l.at ∷ [] | particle.Choice ↦ l.at ∷ [] | particle.All ↦ l.at ∷ [] ]) e)
 
   mutual
     pub places_numbered : (t : Rose ParticleLabel) → places_in_model (numbered f t) ≡ places_in_model t
@@ -111,11 +115,15 @@ kind_size : (k : ParticleKind) (l : ParticleLabel) (ts : Roses ParticleLabel) �
 kind_size (particle.Element decl name) l ts e may rest = let none_below = no_kids ts may in omega (arith, none_below)
 kind_size particle.Sequence l ts e may rest =
     let a = length-append (group_place l) (places_among ts) in
-    let b : length (group_place l) ≡ 1 = ap (λ x. length {A = ℕ} (elim x [ particle.Element c d ↦ [] | particle.Sequence ↦ l.at ∷ [] | particle.Choice ↦ l.at ∷ [] ])) e in
+    let b : length (group_place l) ≡ 1 = ap (λ x. length {A = ℕ} (elim x [ particle.Element c d ↦ [] | particle.Sequence ↦ l.at ∷ [] | particle.Choice ↦ l.at ∷ [] | particle.All ↦ l.at ∷ [] ])) e in
     omega (arith, rest, a, b)
 kind_size particle.Choice l ts e may rest =
     let a = length-append (group_place l) (places_among ts) in
-    let b : length (group_place l) ≡ 1 = ap (λ x. length {A = ℕ} (elim x [ particle.Element c d ↦ [] | particle.Sequence ↦ l.at ∷ [] | particle.Choice ↦ l.at ∷ [] ])) e in
+    let b : length (group_place l) ≡ 1 = ap (λ x. length {A = ℕ} (elim x [ particle.Element c d ↦ [] | particle.Sequence ↦ l.at ∷ [] | particle.Choice ↦ l.at ∷ [] | particle.All ↦ l.at ∷ [] ])) e in
+    omega (arith, rest, a, b)
+kind_size particle.All l ts e may rest =
+    let a = length-append (group_place l) (places_among ts) in
+    let b : length (group_place l) ≡ 1 = ap (λ x. length {A = ℕ} (elim x [ particle.Element c d ↦ [] | particle.Sequence ↦ l.at ∷ [] | particle.Choice ↦ l.at ∷ [] | particle.All ↦ l.at ∷ [] ])) e in
     omega (arith, rest, a, b)
 
 mutual
@@ -143,9 +151,10 @@ some_kid rose.none h = absurd (omega (arith, h))
 some_kid (rose.more t ts) h = tt
 
 kind_occurs : (k : ParticleKind) (ts : Roses ParticleLabel) → KindMayHave k (length_all ts) → AllMayOccur (all_seen ts) → TermMayOccur (term_seen k (all_seen ts))
-kind_occurs (particle.Element decl name) ts may all = tt
-kind_occurs particle.Sequence ts may all = all
-kind_occurs particle.Choice ts may all = (some_kid ts may, all)
+kind_occurs (particle.Element decl name) ts may each = tt
+kind_occurs particle.Sequence ts may each = each
+kind_occurs particle.Choice ts may each = (some_kid ts may, each)
+kind_occurs particle.All ts may each = each
 
 mutual
   pub may_occur : (t : Rose ParticleLabel) → Allowed MayHave t → all_allow_one t ≡ true → MayOccur (seen t)
@@ -202,9 +211,9 @@ module _ (locals : List Local) (types : ℕ → Option TypeIdentity) where
   here behind l p ps decl name a e gives is same =
       let two = and_parts (nat_lt behind l.at) (label_declared locals l) is in
       let declared : has_place l.at (slice_get locals decl) ≡ true =
-      sym (ap (λ k. elim k [ particle.Element d n ↦ has_place l.at (slice_get locals d) | particle.Sequence ↦ true | particle.Choice ↦ true ]) e) ∙ two.1 in
+      sym (ap (λ k. elim k [ particle.Element d n ↦ has_place l.at (slice_get locals d) | particle.Sequence ↦ true | particle.Choice ↦ true | particle.All ↦ true ]) e) ∙ two.1 in
       let given : give p ≡ typed_particle name (place l.file l.at) (types decl) ∷ [] =
-      gives ∙ ap (λ k. elim k [ particle.Element d n ↦ typed_particle n (place l.file l.at) (types d) ∷ [] | particle.Sequence ↦ [] | particle.Choice ↦ [] ]) e in
+      gives ∙ ap (λ k. elim k [ particle.Element d n ↦ typed_particle n (place l.file l.at) (types d) ∷ [] | particle.Sequence ↦ [] | particle.Choice ↦ [] | particle.All ↦ [] ]) e in
       subst (IsLeafIn locals types behind (p ∷ ps)) same (record {
         file = l.file;
         at = l.at;
@@ -221,6 +230,8 @@ module _ (locals : List Local) (types : ℕ → Option TypeIdentity) where
   kind_leaf particle.Sequence behind l p ps kids a e gives is rest h =
       in_front behind p ps a (further behind l.at ps a (ltb-true behind l.at (and_parts (nat_lt behind l.at) (label_declared locals l) is).0) (rest h))
   kind_leaf particle.Choice behind l p ps kids a e gives is rest h =
+      in_front behind p ps a (further behind l.at ps a (ltb-true behind l.at (and_parts (nat_lt behind l.at) (label_declared locals l) is).0) (rest h))
+  kind_leaf particle.All behind l p ps kids a e gives is rest h =
       in_front behind p ps a (further behind l.at ps a (ltb-true behind l.at (and_parts (nat_lt behind l.at) (label_declared locals l) is).0) (rest h))
 
   mutual

@@ -190,13 +190,16 @@ mixed_size (node l rose.none) = kind_one l.kind refl
   where
     kind_one : (k : ParticleKind) → l.kind ≡ k → length (group_place l ++ []) ≤ 1
     kind_one (particle.Element decl name) e =
-        let b : length {A = ℕ} (group_place l ++ []) ≡ 0 = ap (λ x. length {A = ℕ} (elim x [ particle.Element c d ↦ [] | particle.Sequence ↦ l.at ∷ [] | particle.Choice ↦ l.at ∷ [] ] ++ [])) e in
+        let b : length {A = ℕ} (group_place l ++ []) ≡ 0 = ap (λ x. length {A = ℕ} (elim x [ particle.Element c d ↦ [] | particle.Sequence ↦ l.at ∷ [] | particle.Choice ↦ l.at ∷ [] | particle.All ↦ l.at ∷ [] ] ++ [])) e in
         omega (arith, b)
     kind_one particle.Sequence e =
-        let b : length {A = ℕ} (group_place l ++ []) ≡ 1 = ap (λ x. length {A = ℕ} (elim x [ particle.Element c d ↦ [] | particle.Sequence ↦ l.at ∷ [] | particle.Choice ↦ l.at ∷ [] ] ++ [])) e in
+        let b : length {A = ℕ} (group_place l ++ []) ≡ 1 = ap (λ x. length {A = ℕ} (elim x [ particle.Element c d ↦ [] | particle.Sequence ↦ l.at ∷ [] | particle.Choice ↦ l.at ∷ [] | particle.All ↦ l.at ∷ [] ] ++ [])) e in
         omega (arith, b)
     kind_one particle.Choice e =
-        let b : length {A = ℕ} (group_place l ++ []) ≡ 1 = ap (λ x. length {A = ℕ} (elim x [ particle.Element c d ↦ [] | particle.Sequence ↦ l.at ∷ [] | particle.Choice ↦ l.at ∷ [] ] ++ [])) e in
+        let b : length {A = ℕ} (group_place l ++ []) ≡ 1 = ap (λ x. length {A = ℕ} (elim x [ particle.Element c d ↦ [] | particle.Sequence ↦ l.at ∷ [] | particle.Choice ↦ l.at ∷ [] | particle.All ↦ l.at ∷ [] ] ++ [])) e in
+        omega (arith, b)
+    kind_one particle.All e =
+        let b : length {A = ℕ} (group_place l ++ []) ≡ 1 = ap (λ x. length {A = ℕ} (elim x [ particle.Element c d ↦ [] | particle.Sequence ↦ l.at ∷ [] | particle.Choice ↦ l.at ∷ [] | particle.All ↦ l.at ∷ [] ] ++ [])) e in
         omega (arith, b)
 mixed_size (node l (rose.more t ts)) = omega arith
 

@@ -231,7 +231,7 @@ clear_found m (Some b) h none = absurd (none (fault NotClear (place b.file b.at)
 pub clear_model : (m : Rose ParticleLabel) → ((f : LinkingFault) → BreaksIn (Some m) f → ⊥) → Clear (seen m) []
 clear_model m none =
     let nothing : Name → Bool = λ a. false in
-    clear_found m (breach_of m nothing) (decides_clear m nothing (λ a. refl) (breach_of m nothing) refl) none
+    clear_found m (breach_of false m nothing) (decides_clear m nothing (λ a. refl) (breach_of false m nothing) refl) none
 
 module _ (docs : List Document) (h : AreFaultless docs) (c : ComplexDefinition) (known : HasItem (complex_types docs) c) (m : Rose ParticleLabel) (is : model_of c.body.content ≡ Some m) where
   pub model_clear : (f : ℕ → ℕ) → Clear (seen (numbered f m)) []

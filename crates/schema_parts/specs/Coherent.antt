@@ -65,6 +65,7 @@ abbrev pub IsFrom : ℕ → ParticleKind → Type 0
 IsFrom n (particle.Element decl name) = n ≤ decl
 IsFrom n particle.Sequence = Unit {0}
 IsFrom n particle.Choice = Unit {0}
+IsFrom n particle.All = Unit {0}
 
 -- it was written in this file, and the number of its declaration is this or a greater one
 abbrev pub Stands : ℕ → ℕ → ParticleLabel → Type 0

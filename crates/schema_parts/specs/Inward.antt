@@ -53,7 +53,7 @@ has_place at (Some local) = nat_eq (local_place local) at
 -- an element of a content model has the place of its declaration
 abbrev pub label_declared : List Local → ParticleLabel → Bool
 label_declared locals label =
-    elim label.kind [ particle.Element decl name ↦ has_place label.at (slice_get locals decl) | particle.Sequence ↦ true | particle.Choice ↦ true ]
+    elim label.kind [ particle.Element decl name ↦ has_place label.at (slice_get locals decl) | particle.Sequence ↦ true | particle.Choice ↦ true | particle.All ↦ true ]
 
 abbrev pub label_inward : List Local → ℕ → ParticleLabel → Bool
 label_inward locals place label = nat_lt place label.at && label_declared locals label

@@ -12,7 +12,7 @@ use Rattle.simple_types.specs.Seen.{space_of}
 use Rattle.simple_types.specs.Sound.{Sound}
 use Rattle.simple_values.specs.Reading.{Holds, spelled}
 use Rattle.content_models.specs.declared.particles.ParticleLabel.{ParticleLabel}
-use Rattle.content_models.specs.Particle.{Particle, occurs, Term, element, sequence, choice, Particles, none, more}
+use Rattle.content_models.specs.Particle.{Particle, occurs, Term, element, sequence, choice, all, Particles, none, more}
 use Rattle.content_models.specs.Clear.{Clear}
 use Rattle.content_models.specs.Occurring.{MayOccur}
 use Rattle.content_models.specs.Seen.{seen}
@@ -37,6 +37,7 @@ abbrev mutual
   leaves_of_term (element d a) = (d, a) ∷ []
   leaves_of_term (sequence ps) = all_leaves ps
   leaves_of_term (choice ps) = all_leaves ps
+  leaves_of_term (all ps) = all_leaves ps
 
   pub all_leaves : Particles → List (ℕ × Name)
   all_leaves none = []

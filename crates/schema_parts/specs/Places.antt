@@ -60,7 +60,7 @@ places_in_use u = u.at ∷ places_in_type u.kind
 
 -- that of a group; an element of a content model has its place by its declaration
 abbrev pub group_place : ParticleLabel → List ℕ
-group_place label = elim label.kind [ particle.Element decl name ↦ [] | particle.Sequence ↦ label.at ∷ [] | particle.Choice ↦ label.at ∷ [] ]
+group_place label = elim label.kind [ particle.Element decl name ↦ [] | particle.Sequence ↦ label.at ∷ [] | particle.Choice ↦ label.at ∷ [] | particle.All ↦ label.at ∷ [] ]
 
 abbrev mutual
   pub places_in_model : Rose ParticleLabel → List ℕ

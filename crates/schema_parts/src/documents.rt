@@ -122,7 +122,7 @@ impl RawDoc {
     }
 
     /// The places of all that the limit of 10,000 components counts, ascending: each `element`, `attribute`,
-    /// `simpleType`, `complexType`, `sequence` and `choice`, also where it may not occur.
+    /// `simpleType`, `complexType`, `sequence`, `choice` and `all`, also where it may not occur.
     pub fn counted(&self) -> &[u64]
         ensures { result.now ≡ (doc_of self.now).counted }
     {

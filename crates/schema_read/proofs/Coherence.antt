@@ -77,12 +77,14 @@ nothing_left (node l rose.none) is = by_kind l.kind (is)
         → leaves_of_model (node (record { kind = kind; min = l.min; max = l.max; file = l.file; at = l.at }) rose.none) ≡ []
     by_kind particle.Sequence is = refl
     by_kind particle.Choice is = refl
+    by_kind particle.All is = refl
     by_kind (particle.Element decl name) is = absurd (cc)
 nothing_left (node l (rose.more t ts)) is = by_kind l.kind (is)
   where
     by_kind : (kind : ParticleKind) → is_nothing (node (record { kind = kind; min = l.min; max = l.max; file = l.file; at = l.at }) (rose.more t ts)) ≡ true
         → leaves_of_model (node (record { kind = kind; min = l.min; max = l.max; file = l.file; at = l.at }) (rose.more t ts)) ≡ []
     by_kind particle.Sequence is = absurd (let e : length (t ∷ list_of ts) ≡ 0 = eqb-true (length (t ∷ list_of ts)) 0 is in omega (arith, e))
+    by_kind particle.All is = absurd (let e : length (t ∷ list_of ts) ≡ 0 = eqb-true (length (t ∷ list_of ts)) 0 is in omega (arith, e))
     by_kind particle.Choice is = absurd (let e : false ≡ true = is in cc)
     by_kind (particle.Element decl name) is = absurd (let e : false ≡ true = is in cc)
 
@@ -162,7 +164,7 @@ module _ (said : Settings) where
       (made (leaf_of said.file at n (element_name said scope own) own) (declared said at scope own inner))
       (made (group_of said.file at name own particles.value) particles.locals)
       (leaf_holds n at scope own inner (beside (codes "ref") own) h)
-      (holds_group said.file n (label_of (group_of said.file at name own particles.value)) (bytes_eq name (codes "choice")) particles.value particles.locals refl refl g)
+      (holds_group said.file n (label_of (group_of said.file at name own particles.value)) (bytes_eq name (codes "choice")) (bytes_eq name (codes "all")) particles.value particles.locals refl refl g)
 
   and_some_holds : (n : ℕ) (v : Option (Rose ParticleLabel)) (ls : List Local) (rest : Made (List (Rose ParticleLabel)))
       → Holds said.file n (listed v) ls → HoldsParticles (n + length ls) rest → Holds said.file n (and_some v rest.value) (ls ++ rest.locals)

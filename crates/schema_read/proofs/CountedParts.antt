@@ -24,7 +24,7 @@ use Rattle.schema_rules.specs.Values.{least_of, most_of, never_occurs}
 use Rattle.schema_rules.specs.Children.{names_in, is_in}
 use Rattle.schema_rules.specs.declared.children.ChildSet.TheVariants.{Particles, Attributes}
 use Rattle.schema_rules.specs.declared.roles.ElementRole.{ElementRole}
-use Rattle.schema_rules.specs.declared.roles.ElementRole.TheVariants.{LocalElement, GlobalComplexType, InnerComplexType, Sequence, Choice}
+use Rattle.schema_rules.specs.declared.roles.ElementRole.TheVariants.{GlobalComplexType, InnerComplexType, Sequence, Choice, All}
 use Rattle.schema_rules.specs.declared.roles.Position.{Position}
 use Rattle.schema_faults.specs.Limits.{level_inside}
 use Rattle.schema_faults.specs.Reasons.{is_true, occurs}
@@ -38,7 +38,7 @@ use Rattle.schema_read.specs.Settings.{Settings}
 use Rattle.schema_read.specs.Contents.{is_named, simple_content, is_nothing, content_of_nothing, content_of, model_of, complex_by, complex_with, empty_place}
 use Rattle.schema_read.specs.Particles.{Made, made, made_some, element_name, kind_by, element_by, declared, declared_with, reference_to, leaf_of, group_of, particle_by, and_some, first_kind, first_group, complex_of, particle_at, particles_among, group_among, inner_kind, complex_type}
 use Rattle.schema_read.proofs.Faultless.{none_parts}
-use Rattle.schema_read.proofs.FaultlessRoles.{one_of, HasParticles, HasTypes, IsParticle, particle_cases, IsComplex, complex_cases}
+use Rattle.schema_read.proofs.FaultlessRoles.{one_of, HasParticles, HasTypes, local_types, IsGroupRole, name_of_group, group_particles, IsParticle, its_element, its_group, particle_cases, IsComplex, complex_cases}
 use Rattle.schema_read.proofs.CountedTypes.{looked, count-append, count-more, both_counted, SimpleCounted, simple_type_counted, UseCounted, use_at_counted, FoundCounted, simple_content_counted}
 
 -- ---- particles and attributes are other children
@@ -58,9 +58,18 @@ complex_places (Some body) = places_in_complex body
 no_attribute : (name : List ℕ) → list_any (bytes_eq name) (names_in Particles) ≡ true → list_any (bytes_eq name) (names_in Attributes) ≡ false
 no_attribute name is = one_of (λ w. list_any (bytes_eq w) (names_in Attributes) ≡ false) name (names_in Particles) is (refl, (refl, (refl, (refl, (refl, (refl, tt))))))
 
-group_place_of : (least : ℕ) (most : Option ℕ) (file at : ℕ) (b : Bool) → group_place (record { kind = cond b particle.Choice particle.Sequence; min = least; max = most; file = file; at = at }) ≡ at ∷ []
-group_place_of least most file at true = refl
-group_place_of least most file at false = refl
+group_place_of : (least : ℕ) (most : Option ℕ) (file at : ℕ) (b c : Bool)
+    → group_place (record { kind = cond b particle.Choice (cond c particle.All particle.Sequence); min = least; max = most; file = file; at = at }) ≡ at ∷ []
+group_place_of least most file at true c = refl
+group_place_of least most file at false true = refl
+group_place_of least most file at false false = refl
+
+-- a group is counted, and looked into
+group_counted_name : (role : ElementRole) → IsGroupRole role → (list_any (bytes_eq (name_of_group role)) counted_names ≡ true) × (looked (name_of_group role) ≡ true)
+group_counted_name Sequence h = (refl, refl)
+group_counted_name Choice h = (refl, refl)
+group_counted_name All h = (refl, refl)
+group_counted_name role h = absurd h
 
 module _ (test : ℕ → Bool) where
   abbrev count : List ℕ → ℕ
@@ -125,7 +134,7 @@ module _ (test : ℕ → Bool) where
     group_counted less most at name own particles le h =
         let label : ParticleLabel = label_of (group_of said.file at name own particles.value) in
         let a = count-append test (group_place label) (places_among (roses_of particles.value)) in
-        let e = ap (count_by test) (group_place_of (least_of own) (most_of own) said.file at (bytes_eq name (codes "choice"))) in
+        let e = ap (count_by test) (group_place_of (least_of own) (most_of own) said.file at (bytes_eq name (codes "choice")) (bytes_eq name (codes "all"))) in
         omega (arith, le, h, a, e)
 
     particle_by_counted : (less most n : ℕ) (name : List ℕ) (at : ℕ) (scope own : List (List ℕ × List ℕ)) (inner : Made Kind) (particles : Made (List (Rose ParticleLabel)))
@@ -204,13 +213,13 @@ module _ (test : ℕ → Bool) where
     none_counted most = omega arith
 
     -- a particle that the profile has is counted
-    here_counted : (outer : List (List ℕ × List ℕ)) (level : ℕ) (name : Name) (attributes : List (Name × List ℕ)) (declares : List (List ℕ × List ℕ)) (at : ℕ) (kids : Roses ItemLabel)
-        → is_schema_name name ≡ true → IsParticle outer level name attributes declares kids
+    here_counted : (parent : ElementRole) (outer : List (List ℕ × List ℕ)) (level : ℕ) (name : Name) (attributes : List (Name × List ℕ)) (declares : List (List ℕ × List ℕ)) (at : ℕ) (kids : Roses ItemLabel)
+        → is_schema_name name ≡ true → IsParticle parent outer level name attributes declares kids
         → count (at ∷ []) + count (counted_among kids) ≤ count (counted_at (node (Element name attributes declares at) kids))
-    here_counted outer level name attributes declares at kids schema by =
+    here_counted parent outer level name attributes declares at kids schema by =
         elim by [
-          | inl one ↦ by_word one.0 refl refl
-          | inr other ↦ elim other [ inl one ↦ by_word one.0 refl refl | inr one ↦ by_word one.0 refl refl ]
+          | inl one ↦ by_word one.named refl refl
+          | inr one ↦ let two = group_counted_name one.role one.group in by_word one.named two.0 two.1
         ]
       where
         by_word : {w : List ℕ} → name.local ≡ w → list_any (bytes_eq w) counted_names ≡ true → looked w ≡ true
@@ -264,25 +273,15 @@ module _ (test : ℕ → Bool) where
           (λ is.
           let member = (and_parts is_one (not (never_occurs (own_attributes attributes))) is).0 in
           let two = and_parts (is_schema_name name) (list_any (bytes_eq name.local) (names_in Particles)) member in
-          let by : IsParticle outer level name attributes declares kids = particle_cases parent before outer level name attributes declares at kids h has member in
+          let by : IsParticle parent outer level name attributes declares kids = particle_cases parent before outer level name attributes declares at kids h has member in
           particle_by_counted less most n name.local at scope (own_attributes attributes) inner particles
-          (here_counted outer level name attributes declares at kids two.0 by)
+          (here_counted parent outer level name attributes declares at kids two.0 by)
           (λ word.
-          elim by [
-            | inl one ↦ kind_counted LocalElement tt None scope level (n + 1) kids one.1.inside
-            | inr other ↦ elim other [
-              | inl one ↦ absurd (both_ways (bytes_eq name.local (codes "element")) (ap (λ l. bytes_eq l (codes "element")) one.0) word)
-              | inr one ↦ absurd (both_ways (bytes_eq name.local (codes "element")) (ap (λ l. bytes_eq l (codes "element")) one.0) word)
-            ]
-          ])
+          let one = its_element parent outer level name attributes declares kids by word in
+          kind_counted one.role (local_types one.role one.is_local) None scope (level_inside one.role level) (n + 1) kids one.inside)
           (λ word.
-          elim by [
-            | inl one ↦ absurd (both_ways (bytes_eq name.local (codes "element")) word (ap (λ l. bytes_eq l (codes "element")) one.0))
-            | inr other ↦ elim other [
-              | inl one ↦ among_counted Sequence tt None scope (level_inside Sequence level) n kids one.1.inside
-              | inr one ↦ among_counted Choice tt None scope (level_inside Choice level) n kids one.1.inside
-            ]
-          ]))
+          let one = its_group parent outer level name attributes declares kids by word in
+          among_counted one.role (group_particles one.role one.group) None scope (level_inside one.role level) n kids one.inside))
           (λ is. none_counted most)
 
       among_counted : (parent : ElementRole) → HasParticles parent → (before : Option Position) (scope : List (List ℕ × List ℕ)) (level n : ℕ) (ts : Roses ItemLabel)

@@ -17,9 +17,9 @@ use Rattle.schema_rules.specs.Values.{least_of, most_of, never_occurs}
 use Rattle.schema_rules.specs.Children.{is_in, child_count}
 use Rattle.schema_rules.specs.declared.children.ChildSet.TheVariants.{Particles, TakenParticles}
 use Rattle.schema_rules.specs.declared.roles.ElementRole.{ElementRole}
-use Rattle.schema_rules.specs.declared.roles.ElementRole.TheVariants.{LocalElement, GlobalComplexType, InnerComplexType, Sequence, Choice}
+use Rattle.schema_rules.specs.declared.roles.ElementRole.TheVariants.{GlobalComplexType, InnerComplexType, Sequence, Choice, All}
 use Rattle.schema_rules.specs.declared.roles.Position.{Position}
-use Rattle.schema_faults.specs.Limits.{has_large}
+use Rattle.schema_faults.specs.Limits.{has_large, level_inside, is_over_limit}
 use Rattle.schema_faults.specs.Reasons.{is_true, occurs}
 use Rattle.schema_faults.specs.Faults.{position_behind, reasons_at, reasons_among}
 use Rattle.schema_faults.specs.Shown.{NoneAtAll}
@@ -30,7 +30,7 @@ use Rattle.schema_read.specs.Settings.{Settings}
 use Rattle.schema_read.specs.Contents.{is_named, extended, extended_among, simple_content_at, simple_content, is_nothing, content_of_nothing, content_of, model_of, complex_by, complex_with, empty_place}
 use Rattle.schema_read.specs.Particles.{Made, made, made_some, element_name, kind_by, element_by, declared, declared_with, reference_to, leaf_of, group_of, particle_by, and_some, first_kind, first_group, complex_of, particle_at, particles_among, group_among, inner_kind, complex_type}
 use Rattle.schema_read.proofs.Faultless.{none_parts}
-use Rattle.schema_read.proofs.FaultlessRoles.{HasParticles, HasTypes, IsParticle, particle_cases, IsComplex, complex_cases}
+use Rattle.schema_read.proofs.FaultlessRoles.{HasParticles, HasTypes, local_types, IsGroupRole, group_particles, IsParticle, its_element, its_group, particle_cases, IsComplex, complex_cases}
 use Rattle.schema_read.proofs.Occurrences.{may_occur}
 
 pub locals_fit_append : (ls ms : List Local) → locals_fit ls ≡ true → locals_fit ms ≡ true → locals_fit (ls ++ ms) ≡ true
@@ -110,8 +110,24 @@ ComplexFits m = IfComplexFits m.value × (locals_fit m.locals ≡ true)
 low_level : (level : ℕ) (b : Bool) → (nat_le 16 level || b) ≡ false → level < 16
 low_level level b h = leb-false 16 level (or_parts (nat_le 16 level) b h).0
 
-next_level : (level : ℕ) → level < 16 → cond (nat_lt level 17) (level + 1) 17 ≡ level + 1
-next_level level lt = cond-true (nat_lt level 17) (level + 1) 17 (lt-ltb level 17 (omega (arith, lt)))
+one_more : (level : ℕ) → level < 16 → cond (nat_lt level 17) (level + 1) 17 ≡ level + 1
+one_more level lt = cond-true (nat_lt level 17) (level + 1) 17 (lt-ltb level 17 (omega (arith, lt)))
+
+-- the groups round what stands in a group
+next_level : (role : ElementRole) → IsGroupRole role → (level : ℕ) → level < 16 → level_inside role level ≡ level + 1
+next_level Sequence h level lt = one_more level lt
+next_level Choice h level lt = one_more level lt
+next_level All h level lt = one_more level lt
+next_level role h level lt = absurd h
+
+level_by : (level : ℕ) (a b : Bool) → (a || (nat_le 16 level || b)) ≡ false → level < 16
+level_by level a b few = low_level level b (or_parts a (nat_le 16 level || b) few).1
+
+group_level : (role : ElementRole) → IsGroupRole role → (level : ℕ) (own : List (List ℕ × List ℕ)) (kids : List (Rose ItemLabel)) → is_over_limit role level own kids ≡ false → level < 16
+group_level Sequence h level own kids few = level_by level (has_large (codes "minOccurs") own || has_large (codes "maxOccurs") own) (nat_lt 500 (child_count TakenParticles kids)) few
+group_level Choice h level own kids few = level_by level (has_large (codes "minOccurs") own || has_large (codes "maxOccurs") own) (nat_lt 500 (child_count TakenParticles kids)) few
+group_level All h level own kids few = level_by level (has_large (codes "minOccurs") own || has_large (codes "maxOccurs") own) (nat_lt 500 (child_count TakenParticles kids)) few
+group_level role h level own kids few = absurd h
 
 fits_from : (t : Rose ParticleLabel) → IsFitting 0 t → fits t ≡ true
 fits_from t h = let le = h.0 in and_from (nat_le (height t) 17) (all_allow_one t) (le-leb (height t) 17 (omega (arith, le))) h.1
@@ -194,10 +210,6 @@ module _ (said : Settings) where
 
   -- ---- all parts
 
-  -- the groups round what stands in a group
-  group_level : (level : ℕ) (b : Bool) (own : List (List ℕ × List ℕ)) → ((has_large (codes "minOccurs") own || has_large (codes "maxOccurs") own) || (nat_le 16 level || b)) ≡ false → level < 16
-  group_level level b own few = low_level level b (or_parts (has_large (codes "minOccurs") own || has_large (codes "maxOccurs") own) (nat_le 16 level || b) few).1
-
   mutual
     at_fits : (parent : ElementRole) → HasParticles parent → (before : Option Position) (outer : List (List ℕ × List ℕ)) (level n : ℕ) (t : Rose ItemLabel) → level ≤ 16
         → NoneAtAll (reasons_at parent before outer level t) → GroupFits level (particle_at said outer n t)
@@ -212,32 +224,22 @@ module _ (said : Settings) where
         (λ is.
         let parts = and_parts is_one (not (never_occurs own)) is in
         let stays : never_occurs own ≡ false = not-true (never_occurs own) parts.1 in
-        let by : IsParticle outer level name attributes declares kids = particle_cases parent before outer level name attributes declares at kids h has parts.0 in
+        let by : IsParticle parent outer level name attributes declares kids = particle_cases parent before outer level name attributes declares at kids h has parts.0 in
         let allows : allow_one (least_of own) (most_of own) ≡ true = elim by [
-          | inl one ↦ may_occur LocalElement scope own one.1.passes.good stays
-          | inr other ↦ elim other [ inl one ↦ may_occur Sequence scope own one.1.passes.good stays | inr one ↦ may_occur Choice scope own one.1.passes.good stays ]
+          | inl one ↦ may_occur one.role scope own one.passes.good stays
+          | inr one ↦ may_occur one.role scope own one.passes.good stays
         ] in
         particle_by_fits level n name.local at scope own inner particles low allows
         (λ word.
-        elim by [
-          | inl one ↦ kind_fits_in LocalElement tt None scope level (n + 1) kids one.1.inside
-          | inr other ↦ elim other [
-            | inl one ↦ absurd (both_ways (bytes_eq name.local (codes "element")) (ap (λ l. bytes_eq l (codes "element")) one.0) word)
-            | inr one ↦ absurd (both_ways (bytes_eq name.local (codes "element")) (ap (λ l. bytes_eq l (codes "element")) one.0) word)
-          ]
-        ])
+        let one = its_element parent outer level name attributes declares kids by word in
+        kind_fits_in one.role (local_types one.role one.is_local) None scope (level_inside one.role level) (n + 1) kids one.inside)
         (λ word.
-        elim by [
-          | inl one ↦ absurd (both_ways (bytes_eq name.local (codes "element")) word (ap (λ l. bytes_eq l (codes "element")) one.0))
-          | inr other ↦ elim other [
-            | inl one ↦
-                let lt : level < 16 = group_level level (nat_lt 500 (child_count TakenParticles (list_of kids))) own one.1.passes.few in
-                (lt, among_fits_in Sequence tt None scope (level + 1) n kids (omega (arith, lt)) (subst (λ l. NoneAtAll (reasons_among Sequence None scope l kids)) (next_level level lt) one.1.inside))
-            | inr one ↦
-                let lt : level < 16 = group_level level (nat_lt 500 (child_count TakenParticles (list_of kids))) own one.1.passes.few in
-                (lt, among_fits_in Choice tt None scope (level + 1) n kids (omega (arith, lt)) (subst (λ l. NoneAtAll (reasons_among Choice None scope l kids)) (next_level level lt) one.1.inside))
-          ]
-        ]))
+        let one = its_group parent outer level name attributes declares kids by word in
+        let lt : level < 16 = group_level one.role one.group level own (list_of kids) one.passes.few in (
+          lt,
+          among_fits_in one.role (group_particles one.role one.group) None scope (level + 1) n kids (omega (arith, lt))
+              (subst (λ l. NoneAtAll (reasons_among one.role None scope l kids)) (next_level one.role one.group level lt) one.inside),
+        )))
         (λ is. (tt, refl))
 
     among_fits_in : (parent : ElementRole) → HasParticles parent → (before : Option Position) (scope : List (List ℕ × List ℕ)) (level n : ℕ) (ts : Roses ItemLabel) → level ≤ 16

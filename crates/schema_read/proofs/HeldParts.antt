@@ -1,6 +1,6 @@
 -- The values of the code can hold what is read of a document without a fault: each choice has a particle, and a place is below the end of the document.
 use Rattle.std.proofs.Common.{◌≡◌, ℕ, ◌+◌, ◌<◌, ◌≤◌, ◌^◌, Bool, true, false, cond, List, [], ◌∷◌, ◌++◌, length, Option, Some, None, inl, inr, refl, ap, sym, subst, arith}
-use Rattle.std.specs.Prelude.{◌&&◌, not, bytes_eq, codes}
+use Rattle.std.specs.Prelude.{◌==◌, ◌&&◌, not, bytes_eq, codes}
 use Rattle.std.specs.List.{list_any}
 use Rattle.std.proofs.lemmas.Bool.{and_parts, or_cases, cond_both, both_ways, not-true}
 use Rattle.label_tree.specs.Rose.{Rose, node, Roses, roses_of, list_of, label_of, kids_of, length_all, Allowed, AllowedAll}
@@ -19,10 +19,10 @@ use Rattle.schema_rules.specs.Values.{never_occurs}
 use Rattle.schema_rules.specs.Children.{is_in}
 use Rattle.schema_rules.specs.declared.children.ChildSet.TheVariants.{Particles}
 use Rattle.schema_rules.specs.declared.roles.ElementRole.{ElementRole}
-use Rattle.schema_rules.specs.declared.roles.ElementRole.TheVariants.{LocalElement, GlobalComplexType, InnerComplexType, Sequence, Choice}
+use Rattle.schema_rules.specs.declared.roles.ElementRole.TheVariants.{GlobalComplexType, InnerComplexType, Sequence, Choice, All}
 use Rattle.schema_rules.specs.declared.roles.Position.{Position}
 use Rattle.schema_faults.specs.Limits.{level_inside}
-use Rattle.schema_faults.specs.Reasons.{is_true, occurs}
+use Rattle.schema_faults.specs.Reasons.{is_true, occurs, is_empty_choice}
 use Rattle.schema_faults.specs.Faults.{position_behind, reasons_at, reasons_among}
 use Rattle.schema_faults.specs.Shown.{NoneAtAll}
 use Rattle.schema_read.specs.Names.{type_ref, referred}
@@ -34,7 +34,7 @@ use Rattle.schema_read.specs.Particles.{Made, made, made_some, element_name, kin
 use Rattle.schema_read.specs.Private.Held.{ContentHeld, BodyHeld, FoundHeld, KindHeld, LocalsHeld}
 use Rattle.schema_read.proofs.Coherence.{HasNoModel, content_none}
 use Rattle.schema_read.proofs.Faultless.{none_parts}
-use Rattle.schema_read.proofs.FaultlessRoles.{HasParticles, HasTypes, IsParticle, particle_cases, IsComplex, complex_cases}
+use Rattle.schema_read.proofs.FaultlessRoles.{HasParticles, HasTypes, local_types, IsGroupRole, IsAll, HasGroup, name_of_group, group_particles, no_group_in_both, IsParticle, its_element, its_group, particle_cases, IsComplex, complex_cases}
 use Rattle.schema_read.proofs.ItemPlaces.{Spans, SpansAll, span_all_le}
 
 pub locals_held_append : (ls ms : List Local) → LocalsHeld ls → LocalsHeld ms → LocalsHeld (ls ++ ms)
@@ -62,15 +62,30 @@ extended_held (Some found) h = no_model_held found.0 h
 abbrev pub KindsHeld : Made Kind → Type 0
 KindsHeld m = KindHeld m.value × LocalsHeld m.locals
 
-abbrev ParticleHeld : Made (Rose ParticleLabel) → Type 0
-ParticleHeld m = Allowed MayHave m.value × LocalsHeld m.locals
+-- a particle, unless it is a group that counts as none
+abbrev TopHeld : Rose ParticleLabel → Type 0
+TopHeld t = is_nothing t ≡ false → Allowed MayHave t
 
-abbrev IfAllowed : Option (Rose ParticleLabel) → Type 0
-IfAllowed None = Unit {0}
-IfAllowed (Some t) = Allowed MayHave t
+-- it stands in an element of this role: in a group it is a particle in any case
+abbrev StandsHeld : ElementRole → Rose ParticleLabel → Type 0
+StandsHeld parent t = TopHeld t × (IsGroupRole parent → Allowed MayHave t)
+
+abbrev ParticleHeld : ElementRole → Made (Rose ParticleLabel) → Type 0
+ParticleHeld parent m = StandsHeld parent m.value × LocalsHeld m.locals
+
+abbrev IfStands : ElementRole → Option (Rose ParticleLabel) → Type 0
+IfStands parent None = Unit {0}
+IfStands parent (Some t) = StandsHeld parent t
+
+abbrev FoundIn : ElementRole → Made (Option (Rose ParticleLabel)) → Type 0
+FoundIn parent m = IfStands parent m.value × LocalsHeld m.locals
+
+abbrev IfTop : Option (Rose ParticleLabel) → Type 0
+IfTop None = Unit {0}
+IfTop (Some t) = TopHeld t
 
 abbrev GroupHeld : Made (Option (Rose ParticleLabel)) → Type 0
-GroupHeld m = IfAllowed m.value × LocalsHeld m.locals
+GroupHeld m = IfTop m.value × LocalsHeld m.locals
 
 abbrev ParticlesHeld : Made (List (Rose ParticleLabel)) → Type 0
 ParticlesHeld m = AllowedAll MayHave (roses_of m.value) × LocalsHeld m.locals
@@ -103,6 +118,12 @@ not_empty : (never any : Bool) → (true && not never && not any) ≡ false → 
 not_empty true any h is = absurd (let e : true ≡ false = is in cc)
 not_empty false true h is = refl
 not_empty false false h is = absurd (let e : true ≡ false = h in cc)
+
+-- ---- a group by its role
+
+filled_from : (ts : Roses ParticleLabel) → (length (list_of ts) == 0) ≡ false → 1 ≤ length_all ts
+filled_from rose.none is = absurd (let e : true ≡ false = is in cc)
+filled_from (rose.more t ts) is = omega arith
 
 module _ (said : Settings) where
   particle_there : (scope : List (List ℕ × List ℕ)) (n : ℕ) (t : Rose ItemLabel) → occurs (label_of t) ≡ true → IsThere (particle_at said scope n t).value
@@ -137,26 +158,43 @@ module _ (said : Settings) where
   leaf_held at scope own inner None h = kind_by_held scope own inner h
   leaf_held at scope own inner (Some text) h = (tt, tt)
 
-  particle_by_held : (n : ℕ) (name : List ℕ) (at : ℕ) (scope own : List (List ℕ × List ℕ)) (inner : Made Kind) (particles : Made (List (Rose ParticleLabel)))
+  -- its kind may have these particles
+  abbrev MayStand : (parent : ElementRole) (name : List ℕ) (at : ℕ) (own : List (List ℕ × List ℕ)) → List (Rose ParticleLabel) → Type 0
+  MayStand parent name at own ts =
+      (is_nothing (group_of said.file at name own ts) ≡ false → KindMayHave (compositor name) (length_all (roses_of ts)))
+      × (IsGroupRole parent → KindMayHave (compositor name) (length_all (roses_of ts)))
+
+  may_stand_in : (parent role : ElementRole) → IsGroupRole role → (IsAll role → HasGroup parent) → (name : List ℕ) → name ≡ name_of_group role → (at : ℕ) (own : List (List ℕ × List ℕ)) (kids : List (Rose ItemLabel))
+      (ts : List (Rose ParticleLabel)) → is_empty_choice role own kids ≡ false → never_occurs own ≡ false → (list_any (λ kid. occurs (label_of kid)) kids ≡ true → 1 ≤ length_all (roses_of ts))
+      → MayStand parent name at own ts
+  may_stand_in parent Sequence g lone name is at own kids ts filled stays there = subst (λ w. MayStand parent w at own ts) (sym is) (λ some. tt, λ group. tt)
+  may_stand_in parent Choice g lone name is at own kids ts filled stays there =
+      let one = there (not_empty (never_occurs own) (list_any (λ kid. occurs (label_of kid)) kids) filled stays) in
+      subst (λ w. MayStand parent w at own ts) (sym is) (λ some. one, λ group. one)
+  may_stand_in parent All g lone name is at own kids ts filled stays there =
+      subst (λ w. MayStand parent w at own ts) (sym is) (λ some. filled_from (roses_of ts) some, λ group. absurd (no_group_in_both parent group (lone tt)))
+  may_stand_in parent role g lone name is at own kids ts filled stays there = absurd g
+
+  particle_by_held : (parent : ElementRole) (n : ℕ) (name : List ℕ) (at : ℕ) (scope own : List (List ℕ × List ℕ)) (inner : Made Kind) (particles : Made (List (Rose ParticleLabel)))
       → (bytes_eq name (codes "element") ≡ true → KindsHeld inner)
-      → (bytes_eq name (codes "element") ≡ false → KindMayHave (compositor name) (length_all (roses_of particles.value)) × ParticlesHeld particles)
-      → ParticleHeld (particle_by said n name at scope own inner particles)
-  particle_by_held n name at scope own inner particles h g =
+      → (bytes_eq name (codes "element") ≡ false → MayStand parent name at own particles.value × ParticlesHeld particles)
+      → ParticleHeld parent (particle_by said n name at scope own inner particles)
+  particle_by_held parent n name at scope own inner particles h g =
       cond_both (bytes_eq name (codes "element"))
       (made (leaf_of said.file at n (element_name said scope own) own) (declared said at scope own inner))
-      (made (group_of said.file at name own particles.value) particles.locals) (λ m. ParticleHeld m)
-      (λ is. ((refl, tt), leaf_held at scope own inner (beside (codes "ref") own) (h is)))
-      (λ is. let k = g is in ((k.0, k.1.0), k.1.1))
+      (made (group_of said.file at name own particles.value) particles.locals) (λ m. ParticleHeld parent m)
+      (λ is. ((λ some. (refl, tt), λ group. (refl, tt)), leaf_held at scope own inner (beside (codes "ref") own) (h is)))
+      (λ is. let k = g is in ((λ some. (k.0.0 some, k.1.0), λ group. (k.0.1 group, k.1.0)), k.1.1))
 
-  and_some_held : (v : Option (Rose ParticleLabel)) (ls : List Local) (rest : Made (List (Rose ParticleLabel)))
-      → GroupHeld (made v ls) → ParticlesHeld rest → ParticlesHeld (made (and_some v rest.value) (ls ++ rest.locals))
-  and_some_held None ls rest h g = (g.0, locals_held_append ls rest.locals h.1 g.1)
-  and_some_held (Some t) ls rest h g = ((h.0, g.0), locals_held_append ls rest.locals h.1 g.1)
+  and_some_held : (parent : ElementRole) → IsGroupRole parent → (v : Option (Rose ParticleLabel)) (ls : List Local) (rest : Made (List (Rose ParticleLabel)))
+      → FoundIn parent (made v ls) → ParticlesHeld rest → ParticlesHeld (made (and_some v rest.value) (ls ++ rest.locals))
+  and_some_held parent group None ls rest h g = (g.0, locals_held_append ls rest.locals h.1 g.1)
+  and_some_held parent group (Some t) ls rest h g = ((h.0.1 group, g.0), locals_held_append ls rest.locals h.1 g.1)
 
-  first_group_held : (v : Option (Rose ParticleLabel)) (ls : List Local) (rest : Made (Option (Rose ParticleLabel)))
-      → GroupHeld (made v ls) → GroupHeld rest → GroupHeld (first_group (made v ls) rest)
-  first_group_held None ls rest h g = (g.0, locals_held_append ls rest.locals h.1 g.1)
-  first_group_held (Some t) ls rest h g = h
+  first_group_held : (parent : ElementRole) (v : Option (Rose ParticleLabel)) (ls : List Local) (rest : Made (Option (Rose ParticleLabel)))
+      → FoundIn parent (made v ls) → GroupHeld rest → GroupHeld (first_group (made v ls) rest)
+  first_group_held parent None ls rest h g = (g.0, locals_held_append ls rest.locals h.1 g.1)
+  first_group_held parent (Some t) ls rest h g = (h.0.0, h.1)
 
   first_kind_held : (s : Option Simple) (v : Option Complex) (ls : List Local) (rest : Made Kind) → ComplexHeld (made v ls) → KindsHeld rest → KindsHeld (first_kind s (made v ls) rest)
   first_kind_held (Some body) v ls rest h g = (tt, tt)
@@ -171,11 +209,11 @@ module _ (said : Settings) where
   model_held true group h = h
   model_held false group h = h
 
-  content_by_held : (b mixed : Bool) (at : ℕ) (group : Rose ParticleLabel) → Allowed MayHave group → ContentHeld (cond b (content_of_nothing said.file mixed at) (model_of mixed group))
+  content_by_held : (b mixed : Bool) (at : ℕ) (group : Rose ParticleLabel) → (b ≡ false → Allowed MayHave group) → ContentHeld (cond b (content_of_nothing said.file mixed at) (model_of mixed group))
   content_by_held true mixed at group h = nothing_held mixed at
-  content_by_held false mixed at group h = model_held mixed group h
+  content_by_held false mixed at group h = model_held mixed group (h refl)
 
-  content_of_held : (mixed : Bool) (at : ℕ) (group : Option (Rose ParticleLabel)) → IfAllowed group → ContentHeld (content_of said.file mixed at group)
+  content_of_held : (mixed : Bool) (at : ℕ) (group : Option (Rose ParticleLabel)) → IfTop group → ContentHeld (content_of said.file mixed at group)
   content_of_held mixed at None h = nothing_held mixed at
   content_of_held mixed at (Some group) h = content_by_held (is_nothing group) mixed at group h
 
@@ -188,54 +226,38 @@ module _ (said : Settings) where
 
   mutual
     at_held : (parent : ElementRole) → HasParticles parent → (before : Option Position) (outer : List (List ℕ × List ℕ)) (level n least end : ℕ) (t : Rose ItemLabel) → end < 2 ^ 64
-        → Spans least end t → NoneAtAll (reasons_at parent before outer level t) → GroupHeld (particle_at said outer n t)
+        → Spans least end t → NoneAtAll (reasons_at parent before outer level t) → FoundIn parent (particle_at said outer n t)
     at_held parent has before outer level n least end (node (Text text at) kids) low spans h = (tt, tt)
     at_held parent has before outer level n least end (node (Element name attributes declares at) kids) low spans h =
         let scope = declares ++ outer in
         let own = own_attributes attributes in
         let inner : Made Kind = inner_kind said scope (n + 1) kids in
         let particles : Made (List (Rose ParticleLabel)) = particles_among said scope n kids in
-        cond_both (occurs (Element name attributes declares at)) (made_some (particle_by said n name.local at scope own inner particles)) (made None []) (λ m. GroupHeld m)
+        cond_both (occurs (Element name attributes declares at)) (made_some (particle_by said n name.local at scope own inner particles)) (made None []) (λ m. FoundIn parent m)
         (λ is.
         let parts = and_parts (is_in Particles (Element name attributes declares at)) (not (never_occurs own)) is in
         let stays : never_occurs own ≡ false = not-true (never_occurs own) parts.1 in
-        let by : IsParticle outer level name attributes declares kids = particle_cases parent before outer level name attributes declares at kids h has parts.0 in
-        particle_by_held n name.local at scope own inner particles
+        let by : IsParticle parent outer level name attributes declares kids = particle_cases parent before outer level name attributes declares at kids h has parts.0 in
+        particle_by_held parent n name.local at scope own inner particles
         (λ word.
-        elim by [
-          | inl one ↦ kind_held_in LocalElement tt None scope (level_inside LocalElement level) (n + 1) (at + 1) end kids low spans.1 one.1.inside
-          | inr other ↦ elim other [
-            | inl one ↦ absurd (both_ways (bytes_eq name.local (codes "element")) (ap (λ l. bytes_eq l (codes "element")) one.0) word)
-            | inr one ↦ absurd (both_ways (bytes_eq name.local (codes "element")) (ap (λ l. bytes_eq l (codes "element")) one.0) word)
-          ]
-        ])
+        let one = its_element parent outer level name attributes declares kids by word in
+        kind_held_in one.role (local_types one.role one.is_local) None scope (level_inside one.role level) (n + 1) (at + 1) end kids low spans.1 one.inside)
         (λ word.
-        elim by [
-          | inl one ↦ absurd (both_ways (bytes_eq name.local (codes "element")) word (ap (λ l. bytes_eq l (codes "element")) one.0))
-          | inr other ↦ elim other [
-            | inl one ↦ (
-              subst (λ w. KindMayHave (compositor w) (length_all (roses_of particles.value))) (sym one.0) tt,
-              among_held_in Sequence tt None scope (level_inside Sequence level) n (at + 1) end kids low spans.1 one.1.inside,
-            )
-            | inr one ↦
-                let any = list_any (λ kid. occurs (label_of kid)) (list_of kids) in
-                let there = some_particle scope n kids (not_empty (never_occurs own) any one.1.passes.filled stays) in (
-                  subst (λ w. KindMayHave (compositor w) (length_all (roses_of particles.value))) (sym one.0) there,
-                  among_held_in Choice tt None scope (level_inside Choice level) n (at + 1) end kids low spans.1 one.1.inside,
-                )
-          ]
-        ]))
+        let one = its_group parent outer level name attributes declares kids by word in (
+          may_stand_in parent one.role one.group one.lone name.local one.named at own (list_of kids) particles.value one.passes.filled stays (λ any. some_particle scope n kids any),
+          among_held_in one.role one.group None scope (level_inside one.role level) n (at + 1) end kids low spans.1 one.inside,
+        )))
         (λ is. (tt, tt))
 
-    among_held_in : (parent : ElementRole) → HasParticles parent → (before : Option Position) (scope : List (List ℕ × List ℕ)) (level n least end : ℕ) (ts : Roses ItemLabel) → end < 2 ^ 64
+    among_held_in : (parent : ElementRole) → IsGroupRole parent → (before : Option Position) (scope : List (List ℕ × List ℕ)) (level n least end : ℕ) (ts : Roses ItemLabel) → end < 2 ^ 64
         → SpansAll least end ts → NoneAtAll (reasons_among parent before scope level ts) → ParticlesHeld (particles_among said scope n ts)
-    among_held_in parent has before scope level n least end rose.none low spans h = (tt, tt)
-    among_held_in parent has before scope level n least end (rose.more t ts) low spans h =
+    among_held_in parent group before scope level n least end rose.none low spans h = (tt, tt)
+    among_held_in parent group before scope level n least end (rose.more t ts) low spans h =
         let two = none_parts (reasons_at parent before scope level t) (reasons_among parent (position_behind parent before (label_of t)) scope level ts) h in
         let first : Made (Option (Rose ParticleLabel)) = particle_at said scope n t in
         let le = span_all_le spans.0 end ts spans.2 in
-        and_some_held first.value first.locals (particles_among said scope (n + length first.locals) ts) (at_held parent has before scope level n least spans.0 t (omega (arith, le, low)) spans.1 two.0)
-        (among_held_in parent has (position_behind parent before (label_of t)) scope level (n + length first.locals) spans.0 end ts low spans.2 two.1)
+        and_some_held parent group first.value first.locals (particles_among said scope (n + length first.locals) ts) (at_held parent (group_particles parent group) before scope level n least spans.0 t (omega (arith, le, low)) spans.1 two.0)
+        (among_held_in parent group (position_behind parent before (label_of t)) scope level (n + length first.locals) spans.0 end ts low spans.2 two.1)
 
     group_held_in : (parent : ElementRole) → HasParticles parent → (before : Option Position) (scope : List (List ℕ × List ℕ)) (level n least end : ℕ) (ts : Roses ItemLabel) → end < 2 ^ 64
         → SpansAll least end ts → NoneAtAll (reasons_among parent before scope level ts) → GroupHeld (group_among said scope n ts)
@@ -244,7 +266,7 @@ module _ (said : Settings) where
         let two = none_parts (reasons_at parent before scope level t) (reasons_among parent (position_behind parent before (label_of t)) scope level ts) h in
         let first : Made (Option (Rose ParticleLabel)) = particle_at said scope n t in
         let le = span_all_le spans.0 end ts spans.2 in
-        first_group_held first.value first.locals (group_among said scope (n + length first.locals) ts) (at_held parent has before scope level n least spans.0 t (omega (arith, le, low)) spans.1 two.0)
+        first_group_held parent first.value first.locals (group_among said scope (n + length first.locals) ts) (at_held parent has before scope level n least spans.0 t (omega (arith, le, low)) spans.1 two.0)
         (group_held_in parent has (position_behind parent before (label_of t)) scope level (n + length first.locals) spans.0 end ts low spans.2 two.1)
 
     pub kind_held_in : (parent : ElementRole) → HasTypes parent → (before : Option Position) (scope : List (List ℕ × List ℕ)) (level n least end : ℕ) (ts : Roses ItemLabel) → end < 2 ^ 64

@@ -134,7 +134,8 @@ pub has_place_of : (at : ℕ) (o : Option Local) (l : Local) → o ≡ Some l �
 has_place_of at o l is same = ap (has_place at) is ∙ eq-eqb (local_place l) at same
 
 -- a group has no declaration
-pub group_declared : (all : List Local) (least : ℕ) (most : Option ℕ) (file at : ℕ) (b : Bool)
-    → label_declared all (record { kind = cond b particle.Choice particle.Sequence; min = least; max = most; file = file; at = at }) ≡ true
-group_declared all least most file at true = refl
-group_declared all least most file at false = refl
+pub group_declared : (all : List Local) (least : ℕ) (most : Option ℕ) (file at : ℕ) (b c : Bool)
+    → label_declared all (record { kind = cond b particle.Choice (cond c particle.All particle.Sequence); min = least; max = most; file = file; at = at }) ≡ true
+group_declared all least most file at true c = refl
+group_declared all least most file at false true = refl
+group_declared all least most file at false false = refl

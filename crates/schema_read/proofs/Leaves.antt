@@ -70,6 +70,7 @@ from_later : (n m : ℕ) → n ≤ m → (kind : ParticleKind) → IsFrom m kind
 from_later n m le (particle.Element decl name) h = omega (arith, le, h)
 from_later n m le particle.Sequence h = tt
 from_later n m le particle.Choice h = tt
+from_later n m le particle.All h = tt
 
 module _ (file : ℕ) where
   mutual
@@ -105,16 +106,18 @@ group_leaves [] = refl
 group_leaves (t ∷ ts) = ap (λ l. leaves_of_model t ++ l) (group_leaves ts)
 
 -- the leaves of a group are those of its particles
-pub leaves_of_group : (label : ParticleLabel) (b : Bool) (trees : List (Rose ParticleLabel)) → label.kind ≡ cond b particle.Choice particle.Sequence
+pub leaves_of_group : (label : ParticleLabel) (b c : Bool) (trees : List (Rose ParticleLabel)) → label.kind ≡ cond b particle.Choice (cond c particle.All particle.Sequence)
     → leaves_of_model (node label (roses_of trees)) ≡ leaves_of_models trees
-leaves_of_group label b trees is = by_kind label.kind b is ∙ group_leaves trees
+leaves_of_group label b c trees is = by_kind label.kind b c is ∙ group_leaves trees
   where
-    by_kind : (kind : ParticleKind) (b : Bool) → kind ≡ cond b particle.Choice particle.Sequence
+    by_kind : (kind : ParticleKind) (b c : Bool) → kind ≡ cond b particle.Choice (cond c particle.All particle.Sequence)
         → leaves_of_model (node (record { kind = kind; min = label.min; max = label.max; file = label.file; at = label.at }) (roses_of trees)) ≡ all_leaves (all_seen (roses_of trees))
-    by_kind particle.Choice b is = refl
-    by_kind particle.Sequence b is = refl
-    by_kind (particle.Element decl name) true is = absurd (cc)
-    by_kind (particle.Element decl name) false is = absurd (cc)
+    by_kind particle.Choice b c is = refl
+    by_kind particle.Sequence b c is = refl
+    by_kind particle.All b c is = refl
+    by_kind (particle.Element decl name) true c is = absurd (cc)
+    by_kind (particle.Element decl name) false true is = absurd (cc)
+    by_kind (particle.Element decl name) false false is = absurd (cc)
 
 -- ---- both
 
@@ -157,20 +160,22 @@ module _ (file n : ℕ) where
         nested = (h.stand, h.nested);
       }
 
-  pub holds_group : (label : ParticleLabel) (b : Bool) (trees : List (Rose ParticleLabel)) (ls : List Local) → label.file ≡ file → label.kind ≡ cond b particle.Choice particle.Sequence
+  pub holds_group : (label : ParticleLabel) (b c : Bool) (trees : List (Rose ParticleLabel)) (ls : List Local) → label.file ≡ file → label.kind ≡ cond b particle.Choice (cond c particle.All particle.Sequence)
       → Holds file n trees ls → Holds file n (node label (roses_of trees) ∷ []) ls
-  holds_group label b trees ls written is h =
+  holds_group label b c trees ls written is h =
       record {
         once = λ test.
             let e : count_by test (leaves_of_models (node label (roses_of trees) ∷ [])) ≡ count_by test (leaves_of_models trees) =
-            ap (count_by test) (append-nil (leaves_of_model (node label (roses_of trees))) ∙ leaves_of_group label b trees is) in
+            ap (count_by test) (append-nil (leaves_of_model (node label (roses_of trees))) ∙ leaves_of_group label b c trees is) in
             omega (arith, e, h.once test);
-        stand = (((written, from_by label.kind b is), group_stands file n trees h.stand), tt);
+        stand = (((written, from_by label.kind b c is), group_stands file n trees h.stand), tt);
         nested = h.nested;
       }
     where
-      from_by : (kind : ParticleKind) (b : Bool) → kind ≡ cond b particle.Choice particle.Sequence → IsFrom n kind
-      from_by particle.Choice b is = tt
-      from_by particle.Sequence b is = tt
-      from_by (particle.Element decl name) true is = absurd (cc)
-      from_by (particle.Element decl name) false is = absurd (cc)
+      from_by : (kind : ParticleKind) (b c : Bool) → kind ≡ cond b particle.Choice (cond c particle.All particle.Sequence) → IsFrom n kind
+      from_by particle.Choice b c is = tt
+      from_by particle.Sequence b c is = tt
+      from_by particle.All b c is = tt
+      from_by (particle.Element decl name) true c is = absurd (cc)
+      from_by (particle.Element decl name) false true is = absurd (cc)
+      from_by (particle.Element decl name) false false is = absurd (cc)

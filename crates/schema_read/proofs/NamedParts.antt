@@ -24,7 +24,7 @@ use Rattle.schema_rules.specs.Values.{never_occurs}
 use Rattle.schema_rules.specs.Children.{names_in, is_in}
 use Rattle.schema_rules.specs.declared.children.ChildSet.TheVariants.{Particles, Attributes}
 use Rattle.schema_rules.specs.declared.roles.ElementRole.{ElementRole}
-use Rattle.schema_rules.specs.declared.roles.ElementRole.TheVariants.{GlobalAttribute, LocalAttribute, LocalElement, GlobalComplexType, InnerComplexType, Sequence, Choice}
+use Rattle.schema_rules.specs.declared.roles.ElementRole.TheVariants.{GlobalAttribute, LocalAttribute, LocalElement, AllElement, GlobalComplexType, InnerComplexType}
 use Rattle.schema_rules.specs.declared.roles.Position.{Position}
 use Rattle.schema_faults.specs.Requirements.{lacks_required}
 use Rattle.schema_faults.specs.Limits.{level_inside}
@@ -38,7 +38,7 @@ use Rattle.schema_read.specs.Settings.{Settings}
 use Rattle.schema_read.specs.Contents.{is_named, extended, extended_among, simple_content_at, simple_content, complex_by, complex_with}
 use Rattle.schema_read.specs.Particles.{Made, made, made_some, element_name, kind_by, element_by, declared, declared_with, reference_to, leaf_of, group_of, particle_by, first_kind, first_group, complex_of, particle_at, particles_among, group_among, inner_kind, complex_type}
 use Rattle.schema_read.proofs.Faultless.{none_parts, Passes}
-use Rattle.schema_read.proofs.FaultlessRoles.{HasParticles, HasTypes, IsParticle, particle_cases, IsComplex, complex_cases, standing, there, as_role}
+use Rattle.schema_read.proofs.FaultlessRoles.{HasParticles, HasTypes, IsLocal, local_types, group_particles, IsParticle, its_element, its_group, particle_cases, IsComplex, complex_cases, standing, there, as_role}
 use Rattle.schema_read.proofs.OwnNames.{Texts, own_texts, own_name, IsSpace, local_space, may_be_declared, IsAttribute, may_be_attribute, named_or_reference}
 use Rattle.schema_read.proofs.VariedParts.{Clean, attribute_role, in_extension, in_content, word_of, attribute_word}
 
@@ -84,6 +84,11 @@ has_a_name : (role : ElementRole) → IsAttribute role → (own : List (List ℕ
 has_a_name GlobalAttribute is own kids h none = not-false (has (codes "name") own) h
 has_a_name LocalAttribute is own kids h none = named_or_reference own h none
 has_a_name role is own kids h none = absurd is
+
+local_has_a_name : (role : ElementRole) → IsLocal role → (own : List (List ℕ × List ℕ)) (kids : List (Rose ItemLabel)) → lacks_required role own kids ≡ false → beside (codes "ref") own ≡ None → has (codes "name") own ≡ true
+local_has_a_name LocalElement is own kids h none = named_or_reference own h none
+local_has_a_name AllElement is own kids h none = named_or_reference own h none
+local_has_a_name role is own kids h none = absurd is
 
 module _ (target : List ℕ) (default : Bool) (fine : IsSpace target) where
   use_by_named : (role : ElementRole) → IsAttribute role → (level at : ℕ) (scope own : List (List ℕ × List ℕ)) (kids : List (Rose ItemLabel)) → Passes role scope level own kids → Texts own
@@ -243,27 +248,18 @@ module _ (said : Settings) (fine : IsSpace said.target) where
         cond_both (occurs (Element name attributes declares at)) (made_some (particle_by said n name.local at scope own inner particles)) (made None [])
         (λ (m : Made (Option (Rose ParticleLabel))). locals_named m.locals ≡ true)
         (λ is.
-        let by : IsParticle outer level name attributes declares kids = particle_cases parent before outer level name attributes declares at kids h has (and_parts is_one (not (never_occurs own)) is).0 in
+        let by : IsParticle parent outer level name attributes declares kids = particle_cases parent before outer level name attributes declares at kids h has (and_parts is_one (not (never_occurs own)) is).0 in
         cond_both (bytes_eq name.local (codes "element"))
         (made (leaf_of said.file at n (element_name said scope own) own) (declared said at scope own inner))
         (made (group_of said.file at name.local own particles.value) particles.locals) (λ (m : Made (Rose ParticleLabel)). locals_named m.locals ≡ true)
         (λ word.
-        elim by [
-          | inl one ↦ leaf_named at scope own inner (beside (codes "ref") own) (kind_named_in LocalElement tt None scope level (n + 1) kids one.1.inside s.1)
-              (λ none. own_name LocalElement scope own one.1.passes.good s.0 (named_or_reference own one.1.passes.required none))
-          | inr other ↦ elim other [
-            | inl one ↦ absurd (both_ways (bytes_eq name.local (codes "element")) (ap (λ l. bytes_eq l (codes "element")) one.0) word)
-            | inr one ↦ absurd (both_ways (bytes_eq name.local (codes "element")) (ap (λ l. bytes_eq l (codes "element")) one.0) word)
-          ]
-        ])
+        let one = its_element parent outer level name attributes declares kids by word in
+        leaf_named at scope own inner (beside (codes "ref") own)
+        (kind_named_in one.role (local_types one.role one.is_local) None scope (level_inside one.role level) (n + 1) kids one.inside s.1)
+        (λ none. own_name one.role scope own one.passes.good s.0 (local_has_a_name one.role one.is_local own (list_of kids) one.passes.required none)))
         (λ word.
-        elim by [
-          | inl one ↦ absurd (both_ways (bytes_eq name.local (codes "element")) word (ap (λ l. bytes_eq l (codes "element")) one.0))
-          | inr other ↦ elim other [
-            | inl one ↦ among_named_in Sequence tt None scope (level_inside Sequence level) n kids one.1.inside s.1
-            | inr one ↦ among_named_in Choice tt None scope (level_inside Choice level) n kids one.1.inside s.1
-          ]
-        ]))
+        let one = its_group parent outer level name attributes declares kids by word in
+        among_named_in one.role (group_particles one.role one.group) None scope (level_inside one.role level) n kids one.inside s.1))
         (λ is. refl)
 
     among_named_in : (parent : ElementRole) → HasParticles parent → (before : Option Position) (scope : List (List ℕ × List ℕ)) (level n : ℕ) (ts : Roses ItemLabel)

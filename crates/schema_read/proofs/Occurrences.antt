@@ -6,7 +6,7 @@ use Rattle.std.proofs.lemmas.Bool.{and_from, and_parts, and_cases, or_parts, cas
 use Rattle.xa_base.specs.Entries.{beside}
 use Rattle.xa_base.specs.Digits.{is_digit, is_numeral, number_from, number_of}
 use Rattle.schema_rules.specs.Digits.{is_zero, small, is_over}
-use Rattle.schema_rules.specs.Values.{digits_of, is_crossed, declares_xmlns, has_malformed, has_bad_value, least_of, most_of, never_occurs}
+use Rattle.schema_rules.specs.Values.{digits_of, is_crossed, is_no_all, declares_xmlns, has_malformed, has_bad_value, least_of, most_of, never_occurs}
 use Rattle.schema_rules.specs.declared.roles.ElementRole.{ElementRole}
 use Rattle.schema_parts.specs.Bounds.{allow_one}
 
@@ -69,7 +69,8 @@ pub may_occur : (role : ElementRole) (scope own : List (List ℕ × List ℕ)) �
 may_occur role scope own good occurs =
     let least = digits_of (codes "minOccurs") own in
     let most = digits_of (codes "maxOccurs") own in
-    let parts = or_parts (has_malformed scope own || declares_xmlns role own) (is_crossed own) good in
+    let parts = or_parts (has_malformed scope own || declares_xmlns role own) (is_crossed own)
+    (or_parts (has_malformed scope own || declares_xmlns role own || is_crossed own) (is_no_all role own) good).0 in
     allow_by (least_of own) most (is_numeral most) refl
     (λ numeral.
     let one : 1 ≤ number_of most = positive_by (beside (codes "maxOccurs") own) occurs numeral in

@@ -17,7 +17,7 @@ use Rattle.xa_base.specs.WhiteSpace.{treated}
 use Rattle.doc_text.specs.Sound.{is_sound_name, is_sound_attribute, has_name, are_sound_attributes}
 use Rattle.schema_parts.specs.Declarable.{kept_spaces, is_declarable, is_declarable_attribute}
 use Rattle.schema_rules.specs.Attributes.{kept_as_written, in_use, own_attributes, has}
-use Rattle.schema_rules.specs.Values.{is_declared_name, is_target, is_well_formed, has_malformed, is_named, declares_xmlns, is_crossed, has_bad_value}
+use Rattle.schema_rules.specs.Values.{is_declared_name, is_target, is_well_formed, has_malformed, is_named, declares_xmlns, is_crossed, is_no_all, has_bad_value}
 use Rattle.schema_rules.specs.declared.roles.ElementRole.{ElementRole}
 use Rattle.schema_rules.specs.declared.roles.ElementRole.TheVariants.{GlobalAttribute, LocalAttribute}
 use Rattle.schema_read.specs.Names.{value_or_empty}
@@ -74,7 +74,7 @@ formed_target scope v h = h
 
 well_formed : (role : ElementRole) (scope own : List (List ℕ × List ℕ)) → has_bad_value role scope own ≡ false → Entries (λ name value. is_well_formed scope name value ≡ true) own
 well_formed role scope own good =
-    all_formed scope own (or_parts (has_malformed scope own) (declares_xmlns role own) (or_parts (has_malformed scope own || declares_xmlns role own) (is_crossed own) good).0).0
+    all_formed scope own (or_parts (has_malformed scope own) (declares_xmlns role own) (or_parts (has_malformed scope own || declares_xmlns role own) (is_crossed own) (or_parts (has_malformed scope own || declares_xmlns role own || is_crossed own) (is_no_all role own) good).0).0).0
 
 -- ---- a name that is declared
 
@@ -154,7 +154,7 @@ pub may_be_attribute : (role : ElementRole) → IsAttribute role → (scope own 
     → (space : List ℕ) → IsSpace space → is_declarable_attribute (record { space = space; local = value_or_empty (codes "name") own }) ≡ true
 may_be_attribute role is scope own good texts there space h =
     let n : Name = record { space = space; local = value_or_empty (codes "name") own } in
-    let other = unlike_xmlns role is own (or_parts (has_malformed scope own) (declares_xmlns role own) (or_parts (has_malformed scope own || declares_xmlns role own) (is_crossed own) good).0).1 in
+    let other = unlike_xmlns role is own (or_parts (has_malformed scope own) (declares_xmlns role own) (or_parts (has_malformed scope own || declares_xmlns role own) (is_crossed own) (or_parts (has_malformed scope own || declares_xmlns role own || is_crossed own) (is_no_all role own) good).0).0).1 in
     and_from (is_declarable n) (not (is_xmlns n)) (may_be_declared n h (own_name role scope own good texts there))
     (not_from_false (is_xmlns n) (and_right (is_empty space) (bytes_eq n.local xmlns_prefix) (named_other (beside (codes "name") own) other)))
 

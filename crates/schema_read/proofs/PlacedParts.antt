@@ -207,7 +207,7 @@ module _ (said : Settings) where
       (λ all place lt s each.
       let label : ParticleLabel = label_of (group_of said.file at name own ts) in
       and_from (label_inward all place label) (each_inward all at (roses_of ts))
-      (and_from (nat_lt place at) (label_declared all label) (lt-ltb place at (omega (arith, lt, le))) (group_declared all (least_of own) (most_of own) said.file at (bytes_eq name (codes "choice"))))
+      (and_from (nat_lt place at) (label_declared all label) (lt-ltb place at (omega (arith, lt, le))) (group_declared all (least_of own) (most_of own) said.file at (bytes_eq name (codes "choice")) (bytes_eq name (codes "all"))))
       (each at (omega arith))) h
 
   particle_by_sits : (least end n : ℕ) (name : List ℕ) (at : ℕ) (scope own : List (List ℕ × List ℕ)) (inner : Made Kind) (particles : Made (List (Rose ParticleLabel)))

@@ -1,5 +1,5 @@
 -- How many complex types stand in one another in a document without a fault, by the levels of its elements.
-use Rattle.std.proofs.Common.{◌≡◌, ℕ, zero, suc, ◌+◌, ◌*◌, ◌≤◌, Bool, true, false, cond, List, [], ◌∷◌, ◌++◌, length, Option, Some, None, inl, inr, refl, ap, subst, sym, arith}
+use Rattle.std.proofs.Common.{◌≡◌, ℕ, zero, suc, ◌+◌, ◌*◌, ◌≤◌, Bool, true, false, cond, List, [], ◌∷◌, ◌++◌, length, Option, Some, None, inl, inr, refl, ap, subst, sym, ◌∙◌, arith}
 use Rattle.std.specs.Prelude.{not, bytes_eq, codes, slice_get, IfSome, IsSomeAnd}
 use Rattle.std.proofs.lemmas.Bool.{and_parts, cond_both, both_ways}
 use Rattle.std.proofs.lemmas.Option.{slice_get_read}
@@ -23,7 +23,7 @@ use Rattle.schema_rules.specs.Values.{never_occurs}
 use Rattle.schema_rules.specs.Children.{is_in}
 use Rattle.schema_rules.specs.declared.children.ChildSet.TheVariants.{Particles}
 use Rattle.schema_rules.specs.declared.roles.ElementRole.{ElementRole}
-use Rattle.schema_rules.specs.declared.roles.ElementRole.TheVariants.{LocalElement, GlobalComplexType, InnerComplexType, Sequence, Choice}
+use Rattle.schema_rules.specs.declared.roles.ElementRole.TheVariants.{GlobalComplexType, InnerComplexType}
 use Rattle.schema_rules.specs.declared.roles.Position.{Position}
 use Rattle.schema_faults.specs.Limits.{level_inside}
 use Rattle.schema_faults.specs.Reasons.{is_true, occurs}
@@ -37,7 +37,7 @@ use Rattle.schema_read.specs.Contents.{is_named, simple_content, is_nothing, con
 use Rattle.schema_read.specs.Particles.{Made, made, made_some, element_name, kind_by, element_by, declared, declared_with, reference_to, leaf_of, group_of, particle_by, and_some, first_kind, first_group, complex_of, particle_at, particles_among, group_among, inner_kind, complex_type}
 use Rattle.schema_read.proofs.Coherence.{HasNoModel, content_none}
 use Rattle.schema_read.proofs.Faultless.{none_parts}
-use Rattle.schema_read.proofs.FaultlessRoles.{HasParticles, HasGroup, HasTypes, IsParticle, particle_cases, IsGroup, group_cases, IsComplex, complex_cases}
+use Rattle.schema_read.proofs.FaultlessRoles.{HasParticles, HasGroup, HasTypes, local_types, group_particles, no_element_name, IsParticle, its_element, its_group, particle_cases, IsGroup, group_cases, IsComplex, complex_cases}
 use Rattle.schema_read.proofs.Leaves.{leaves_of_group}
 use Rattle.schema_read.proofs.PlacedParts.{Stretch, stretch_left, stretch_right}
 
@@ -204,7 +204,7 @@ module _ (all : List Local) where
         → ParticleShort n most (made (group_of said.file at name own particles.value) particles.locals)
     group_short n most at name own particles h =
         let t : Rose ParticleLabel = group_of said.file at name own particles.value in
-        let e : leaves_of_model t ≡ leaves_of_models particles.value = leaves_of_group (label_of t) (bytes_eq name (codes "choice")) particles.value refl in
+        let e : leaves_of_model t ≡ leaves_of_models particles.value = leaves_of_group (label_of t) (bytes_eq name (codes "choice")) (bytes_eq name (codes "all")) particles.value refl in
         short_as n (LeavesBegin most (leaves_of_models particles.value)) (LeavesBegin most (leaves_of_model t)) particles.locals (λ g. subst (LeavesBegin most) (sym e) g) h
 
     particle_by_short : (n most : ℕ) (name : List ℕ) (at : ℕ) (scope own : List (List ℕ × List ℕ)) (inner : Made Kind) (particles : Made (List (Rose ParticleLabel)))
@@ -285,24 +285,14 @@ module _ (all : List Local) where
           let low : levels_all kids + 1 ≤ most = omega (arith, le) in
           cond_both (occurs (Element name attributes declares at)) (made_some (particle_by said n name.local at scope own inner particles)) (made None []) (λ m. GroupShort n most m)
           (λ is.
-          let by : IsParticle outer level name attributes declares kids = particle_cases parent before outer level name attributes declares at kids h has (and_parts is_one (not (never_occurs own)) is).0 in
+          let by : IsParticle parent outer level name attributes declares kids = particle_cases parent before outer level name attributes declares at kids h has (and_parts is_one (not (never_occurs own)) is).0 in
           particle_by_short n most name.local at scope own inner particles few
           (λ word.
-          elim by [
-            | inl one ↦ kind_short LocalElement tt None scope level (n + 1) most kids deep few one.1.inside
-            | inr other ↦ elim other [
-              | inl one ↦ absurd (both_ways (bytes_eq name.local (codes "element")) (ap (λ l. bytes_eq l (codes "element")) one.0) word)
-              | inr one ↦ absurd (both_ways (bytes_eq name.local (codes "element")) (ap (λ l. bytes_eq l (codes "element")) one.0) word)
-            ]
-          ])
+          let one = its_element parent outer level name attributes declares kids by word in
+          kind_short one.role (local_types one.role one.is_local) None scope (level_inside one.role level) (n + 1) most kids deep few one.inside)
           (λ word.
-          elim by [
-            | inl one ↦ absurd (both_ways (bytes_eq name.local (codes "element")) word (ap (λ l. bytes_eq l (codes "element")) one.0))
-            | inr other ↦ elim other [
-              | inl one ↦ among_short Sequence tt None scope (level_inside Sequence level) n most kids low few one.1.inside
-              | inr one ↦ among_short Choice tt None scope (level_inside Choice level) n most kids low few one.1.inside
-            ]
-          ]))
+          let one = its_group parent outer level name attributes declares kids by word in
+          among_short one.role (group_particles one.role one.group) None scope (level_inside one.role level) n most kids low few one.inside))
           (λ is. no_group n most)
 
       among_short : (parent : ElementRole) → HasParticles parent → (before : Option Position) (scope : List (List ℕ × List ℕ)) (level n most : ℕ) (ts : Roses ItemLabel) → levels_all ts + 1 ≤ most → most ≤ 65
@@ -329,18 +319,11 @@ module _ (all : List Local) where
           let low : levels_all kids + 1 ≤ most = omega (arith, le) in
           cond_both (occurs (Element name attributes declares at)) (made_some (particle_by said n name.local at scope own inner particles)) (made None []) (λ m. GroupShort n most m)
           (λ is.
-          let by : IsGroup outer level name attributes declares kids = group_cases parent before outer level name attributes declares at kids h has (and_parts is_one (not (never_occurs own)) is).0 in
+          let by : IsGroup parent outer level name attributes declares kids = group_cases parent before outer level name attributes declares at kids h has (and_parts is_one (not (never_occurs own)) is).0 in
           particle_by_short n most name.local at scope own inner particles few
           (λ word.
-          elim by [
-            | inl one ↦ absurd (both_ways (bytes_eq name.local (codes "element")) (ap (λ l. bytes_eq l (codes "element")) one.0) word)
-            | inr one ↦ absurd (both_ways (bytes_eq name.local (codes "element")) (ap (λ l. bytes_eq l (codes "element")) one.0) word)
-          ])
-          (λ word.
-          elim by [
-            | inl one ↦ among_short Sequence tt None scope (level_inside Sequence level) n most kids low few one.1.inside
-            | inr one ↦ among_short Choice tt None scope (level_inside Choice level) n most kids low few one.1.inside
-          ]))
+          absurd (both_ways (bytes_eq name.local (codes "element")) (ap (λ l. bytes_eq l (codes "element")) by.named ∙ no_element_name by.role by.group) word))
+          (λ word. among_short by.role (group_particles by.role by.group) None scope (level_inside by.role level) n most kids low few by.inside))
           (λ is. no_group n most)
 
       group_among_short : (parent : ElementRole) → HasGroup parent → (before : Option Position) (scope : List (List ℕ × List ℕ)) (level n most : ℕ) (ts : Roses ItemLabel) → levels_all ts ≤ most → most ≤ 65

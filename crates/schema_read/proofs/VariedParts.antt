@@ -22,7 +22,7 @@ use Rattle.schema_rules.specs.Values.{never_occurs}
 use Rattle.schema_rules.specs.Children.{names_in, is_in}
 use Rattle.schema_rules.specs.declared.children.ChildSet.TheVariants.{Particles, Attributes}
 use Rattle.schema_rules.specs.declared.roles.ElementRole.{ElementRole}
-use Rattle.schema_rules.specs.declared.roles.ElementRole.TheVariants.{Schema, GlobalAttribute, LocalAttribute, LocalElement, GlobalComplexType, InnerComplexType, SimpleContent, Extension, Sequence, Choice}
+use Rattle.schema_rules.specs.declared.roles.ElementRole.TheVariants.{Schema, GlobalAttribute, LocalAttribute, GlobalComplexType, InnerComplexType, SimpleContent, Extension}
 use Rattle.schema_rules.specs.declared.roles.Position.{Position}
 use Rattle.schema_rules.specs.declared.roles.Position.TheVariants.{Anywhere, Alone}
 use Rattle.schema_rules.specs.declared.roles.Part.{Part}
@@ -37,7 +37,7 @@ use Rattle.schema_read.specs.Settings.{Settings}
 use Rattle.schema_read.specs.Contents.{is_named, extended, extended_among, simple_content_at, simple_content, complex_by, complex_with}
 use Rattle.schema_read.specs.Particles.{Made, made, made_some, element_name, kind_by, element_by, declared, declared_with, reference_to, leaf_of, group_of, particle_by, first_kind, first_group, complex_of, particle_at, particles_among, group_among, inner_kind, complex_type}
 use Rattle.schema_read.proofs.Faultless.{none_parts}
-use Rattle.schema_read.proofs.FaultlessRoles.{one_of, HasParticles, HasTypes, IsParticle, particle_cases, IsComplex, complex_cases, none_there, role_there, standing, there, as_role}
+use Rattle.schema_read.proofs.FaultlessRoles.{one_of, HasParticles, HasTypes, local_types, group_particles, IsParticle, its_element, its_group, particle_cases, IsComplex, complex_cases, none_there, role_there, standing, there, as_role}
 use Rattle.schema_read.proofs.VariedTypes.{SimpleVaried, simple_varied, inner_varied, declared_type_varied}
 
 pub locals_varied_append : (ls ms : List Local) → locals_varied ls ≡ true → locals_varied ms ≡ true → locals_varied (ls ++ ms) ≡ true
@@ -259,26 +259,17 @@ module _ (said : Settings) where
         cond_both (occurs (Element name attributes declares at)) (made_some (particle_by said n name.local at scope own inner particles)) (made None [])
         (λ (m : Made (Option (Rose ParticleLabel))). locals_varied m.locals ≡ true)
         (λ is.
-        let by : IsParticle outer level name attributes declares kids = particle_cases parent before outer level name attributes declares at kids h has (and_parts is_one (not (never_occurs own)) is).0 in
+        let by : IsParticle parent outer level name attributes declares kids = particle_cases parent before outer level name attributes declares at kids h has (and_parts is_one (not (never_occurs own)) is).0 in
         cond_both (bytes_eq name.local (codes "element"))
         (made (leaf_of said.file at n (element_name said scope own) own) (declared said at scope own inner))
         (made (group_of said.file at name.local own particles.value) particles.locals) (λ (m : Made (Rose ParticleLabel)). locals_varied m.locals ≡ true)
-        (λ word. leaf_varied at scope own inner (beside (codes "ref") own)
-        (elim by [
-          | inl one ↦ kind_varied_in LocalElement tt None scope level (n + 1) kids one.1.inside
-          | inr other ↦ elim other [
-            | inl one ↦ absurd (both_ways (bytes_eq name.local (codes "element")) (ap (λ l. bytes_eq l (codes "element")) one.0) word)
-            | inr one ↦ absurd (both_ways (bytes_eq name.local (codes "element")) (ap (λ l. bytes_eq l (codes "element")) one.0) word)
-          ]
-        ]))
         (λ word.
-        elim by [
-          | inl one ↦ absurd (both_ways (bytes_eq name.local (codes "element")) word (ap (λ l. bytes_eq l (codes "element")) one.0))
-          | inr other ↦ elim other [
-            | inl one ↦ among_varied_in Sequence tt None scope (level_inside Sequence level) n kids one.1.inside
-            | inr one ↦ among_varied_in Choice tt None scope (level_inside Choice level) n kids one.1.inside
-          ]
-        ]))
+        let one = its_element parent outer level name attributes declares kids by word in
+        leaf_varied at scope own inner (beside (codes "ref") own)
+        (kind_varied_in one.role (local_types one.role one.is_local) None scope (level_inside one.role level) (n + 1) kids one.inside))
+        (λ word.
+        let one = its_group parent outer level name attributes declares kids by word in
+        among_varied_in one.role (group_particles one.role one.group) None scope (level_inside one.role level) n kids one.inside))
         (λ is. refl)
 
     among_varied_in : (parent : ElementRole) → HasParticles parent → (before : Option Position) (scope : List (List ℕ × List ℕ)) (level n : ℕ) (ts : Roses ItemLabel)

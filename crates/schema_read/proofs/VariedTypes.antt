@@ -24,7 +24,7 @@ use Rattle.schema_rules.specs.Attributes.{in_use, own_attributes}
 use Rattle.schema_rules.specs.Children.{names_in, is_in, has_child, child_count}
 use Rattle.schema_rules.specs.declared.children.ChildSet.TheVariants.{Varieties, SimpleTypes, Enumerations}
 use Rattle.schema_rules.specs.declared.roles.ElementRole.{ElementRole}
-use Rattle.schema_rules.specs.declared.roles.ElementRole.TheVariants.{Schema, GlobalElement, LocalElement, GlobalAttribute, LocalAttribute, GlobalSimpleType, InnerSimpleType, Restriction, List as ListRole, Union}
+use Rattle.schema_rules.specs.declared.roles.ElementRole.TheVariants.{Schema, GlobalElement, LocalElement, AllElement, GlobalAttribute, LocalAttribute, GlobalSimpleType, InnerSimpleType, Restriction, List as ListRole, Union}
 use Rattle.schema_rules.specs.declared.roles.Position.{Position}
 use Rattle.schema_rules.specs.declared.roles.Position.TheVariants.{Anywhere, First, Alone}
 use Rattle.schema_rules.specs.declared.roles.Part.{Part}
@@ -43,6 +43,7 @@ simple_role : (parent : ElementRole) (p : Part) → beside (codes "simpleType") 
 simple_role Schema p is = inl (role_there GlobalSimpleType Anywhere p is)
 simple_role GlobalElement p is = inr (role_there InnerSimpleType Alone p is)
 simple_role LocalElement p is = inr (role_there InnerSimpleType Alone p is)
+simple_role AllElement p is = inr (role_there InnerSimpleType Alone p is)
 simple_role GlobalAttribute p is = inr (role_there InnerSimpleType Alone p is)
 simple_role LocalAttribute p is = inr (role_there InnerSimpleType Alone p is)
 simple_role Restriction p is = inr (role_there InnerSimpleType First p is)

@@ -61,13 +61,15 @@ simple_content said scope (t ∷ ts) = option_or (simple_content_at said scope (
 abbrev pub nothing : ℕ → ℕ → Rose ParticleLabel
 nothing file at = node (record { kind = particle.Sequence; min = 1; max = Some 1; file = file; at = at }) none
 
-abbrev pub is_sequence : ParticleKind → Bool
-is_sequence particle.Sequence = true
-is_sequence particle.Choice = false
-is_sequence (particle.Element decl name) = false
+-- a group that takes each of its particles
+abbrev pub takes_each : ParticleKind → Bool
+takes_each particle.Sequence = true
+takes_each particle.All = true
+takes_each particle.Choice = false
+takes_each (particle.Element decl name) = false
 
 abbrev pub is_nothing : Rose ParticleLabel → Bool
-is_nothing group = is_sequence (label_of group).kind && length (kids_of group) == 0
+is_nothing group = takes_each (label_of group).kind && length (kids_of group) == 0
 
 -- Where there is no group, a mixed type has a sequence of nothing.
 abbrev pub content_of_nothing : ℕ → Bool → ℕ → RawContent
@@ -76,7 +78,7 @@ content_of_nothing file mixed at = if mixed then content.Mixed (nothing file at)
 abbrev pub model_of : Bool → Rose ParticleLabel → RawContent
 model_of mixed group = if mixed then content.Mixed group else content.ElementOnly group
 
--- A sequence of nothing counts as no group.
+-- A sequence or an `all` of nothing counts as no group.
 abbrev pub content_by : ℕ → Bool → ℕ → Rose ParticleLabel → RawContent
 content_by file mixed empty_at group = if is_nothing group then content_of_nothing file mixed empty_at else model_of mixed group
 

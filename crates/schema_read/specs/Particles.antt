@@ -72,7 +72,7 @@ leaf_of file at decl name own =
     node (record { kind = particle.Element decl name; min = least_of own; max = most_of own; file = file; at = at }) rose.none
 
 abbrev pub compositor : List ℕ → ParticleKind
-compositor name = if bytes_eq name (codes "choice") then particle.Choice else particle.Sequence
+compositor name = if bytes_eq name (codes "choice") then particle.Choice else if bytes_eq name (codes "all") then particle.All else particle.Sequence
 
 abbrev pub group_of : ℕ → ℕ → List ℕ → List (List ℕ × List ℕ) → List (Rose ParticleLabel) → Rose ParticleLabel
 group_of file at name own particles =

@@ -155,7 +155,7 @@ fn is_nothing(group: &Tree<ParticleLabel>) -> bool
     ensures { result ≡ contents.is_nothing group.now }
 {
     match group.label().kind {
-        ParticleKind::Sequence => group.kids().is_empty(),
+        ParticleKind::Sequence | ParticleKind::All => group.kids().is_empty(),
         _ => false,
     }
 }

@@ -50,6 +50,8 @@ fn compositor(name: &str) -> ParticleKind
 {
     if name == "choice" {
         ParticleKind::Choice
+    } else if name == "all" {
+        ParticleKind::All
     } else {
         ParticleKind::Sequence
     }

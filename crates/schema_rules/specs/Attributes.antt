@@ -8,7 +8,7 @@ use Rattle.xa_base.specs.declared.white_space.WhiteSpace.TheVariants.{Collapse}
 use Rattle.xa_base.specs.declared.texts.Name.{Name}
 use Rattle.xa_base.specs.Limits.{is_empty}
 use Rattle.schema_rules.specs.declared.roles.ElementRole.{ElementRole}
-use Rattle.schema_rules.specs.declared.roles.ElementRole.TheVariants.{Schema, Composition, GlobalElement, LocalElement, GlobalAttribute, LocalAttribute, GlobalSimpleType, InnerSimpleType, Restriction, List as ListRole, Union, Facet, GlobalComplexType, InnerComplexType, SimpleContent, Extension, Sequence, Choice}
+use Rattle.schema_rules.specs.declared.roles.ElementRole.TheVariants.{Schema, Composition, GlobalElement, LocalElement, GlobalAttribute, LocalAttribute, GlobalSimpleType, InnerSimpleType, Restriction, List as ListRole, Union, Facet, GlobalComplexType, InnerComplexType, SimpleContent, Extension, Sequence, Choice, All, AllElement}
 
 -- ---- values in use
 
@@ -50,6 +50,7 @@ attributes_of Schema = codes "targetNamespace" ∷ codes "elementFormDefault" �
 attributes_of Composition = codes "schemaLocation" ∷ codes "namespace" ∷ []
 attributes_of GlobalElement = global_element_attributes
 attributes_of LocalElement = local_element_attributes
+attributes_of AllElement = local_element_attributes
 attributes_of GlobalAttribute = codes "name" ∷ codes "type" ∷ codes "default" ∷ codes "fixed" ∷ []
 attributes_of LocalAttribute = local_attribute_attributes
 attributes_of GlobalSimpleType = codes "name" ∷ []
@@ -64,6 +65,7 @@ attributes_of SimpleContent = []
 attributes_of Extension = codes "base" ∷ []
 attributes_of Sequence = codes "minOccurs" ∷ codes "maxOccurs" ∷ []
 attributes_of Choice = codes "minOccurs" ∷ codes "maxOccurs" ∷ []
+attributes_of All = codes "minOccurs" ∷ codes "maxOccurs" ∷ []
 
 abbrev pub is_listed : ElementRole → List ℕ → Bool
 is_listed role name = list_any (bytes_eq name) common_attributes || list_any (bytes_eq name) (attributes_of role)

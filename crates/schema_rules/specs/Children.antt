@@ -15,7 +15,7 @@ names_in SimpleTypes = codes "simpleType" ∷ []
 names_in Varieties = codes "restriction" ∷ codes "list" ∷ codes "union" ∷ []
 names_in Derivations = codes "extension" ∷ codes "restriction" ∷ []
 names_in Particles = codes "element" ∷ codes "sequence" ∷ codes "choice" ∷ codes "any" ∷ codes "group" ∷ codes "all" ∷ []
-names_in TakenParticles = codes "element" ∷ codes "sequence" ∷ codes "choice" ∷ []
+names_in TakenParticles = codes "element" ∷ codes "sequence" ∷ codes "choice" ∷ codes "all" ∷ []
 names_in Attributes = codes "attribute" ∷ []
 names_in Enumerations = codes "enumeration" ∷ []
 

@@ -8,7 +8,7 @@ use Rattle.xa_base.specs.declared.texts.Name.{Name}
 use Rattle.schema_rules.specs.declared.why.SchemaWhy.{SchemaWhy}
 use Rattle.schema_rules.specs.declared.why.SchemaWhy.TheVariants as why
 use Rattle.schema_rules.specs.declared.roles.ElementRole.{ElementRole}
-use Rattle.schema_rules.specs.declared.roles.ElementRole.TheVariants.{Schema, Composition, GlobalElement, LocalElement, GlobalAttribute, LocalAttribute, GlobalSimpleType, InnerSimpleType, Restriction, List as ListRole, Union, Facet, GlobalComplexType, InnerComplexType, SimpleContent, Extension, Sequence, Choice}
+use Rattle.schema_rules.specs.declared.roles.ElementRole.TheVariants.{Schema, Composition, GlobalElement, LocalElement, GlobalAttribute, LocalAttribute, GlobalSimpleType, InnerSimpleType, Restriction, List as ListRole, Union, Facet, GlobalComplexType, InnerComplexType, SimpleContent, Extension, Sequence, Choice, All, AllElement}
 use Rattle.schema_rules.specs.declared.roles.Position.{Position}
 use Rattle.schema_rules.specs.declared.roles.Position.TheVariants.{Anywhere, First, Alone}
 use Rattle.schema_rules.specs.declared.roles.Part.{Part}
@@ -21,7 +21,7 @@ use Rattle.schema_rules.specs.declared.elements.Placement.TheVariants.{Skipped, 
 abbrev pub left_out_elements : List (List ℕ × SchemaWhy)
 left_out_elements =
     (codes "any", why.Wildcard) ∷ (codes "anyAttribute", why.Wildcard) ∷ (codes "redefine", why.Redefine) ∷ (codes "notation", why.NotationElement)
-    ∷ (codes "all", why.All) ∷ (codes "key", why.IdentityConstraint) ∷ (codes "keyref", why.IdentityConstraint) ∷ (codes "unique", why.IdentityConstraint)
+    ∷ (codes "key", why.IdentityConstraint) ∷ (codes "keyref", why.IdentityConstraint) ∷ (codes "unique", why.IdentityConstraint)
     ∷ (codes "group", why.Group) ∷ (codes "attributeGroup", why.Group) ∷ (codes "complexContent", why.ComplexContent)
     ∷ (codes "pattern", why.Pattern) ∷ (codes "totalDigits", why.TotalDigits) ∷ (codes "fractionDigits", why.FractionDigits) ∷ []
 
@@ -39,7 +39,7 @@ element_names =
     codes "schema" ∷ codes "include" ∷ codes "import" ∷ codes "element" ∷ codes "attribute" ∷ codes "simpleType" ∷ codes "restriction" ∷ codes "list"
     ∷ codes "union" ∷ codes "length" ∷ codes "minLength" ∷ codes "maxLength" ∷ codes "minInclusive" ∷ codes "maxInclusive" ∷ codes "minExclusive"
     ∷ codes "maxExclusive" ∷ codes "enumeration" ∷ codes "whiteSpace" ∷ codes "complexType" ∷ codes "simpleContent" ∷ codes "extension"
-    ∷ codes "sequence" ∷ codes "choice" ∷ []
+    ∷ codes "sequence" ∷ codes "choice" ∷ codes "all" ∷ []
 
 -- ---- places
 
@@ -72,7 +72,7 @@ union_children = (codes "simpleType", part InnerSimpleType Anywhere) ∷ []
 
 abbrev pub complex_type_children : List (List ℕ × Part)
 complex_type_children =
-    (codes "simpleContent", part SimpleContent Alone) ∷ (codes "sequence", part Sequence First) ∷ (codes "choice", part Choice First) ∷ (codes "attribute", part LocalAttribute Anywhere) ∷ []
+    (codes "simpleContent", part SimpleContent Alone) ∷ (codes "sequence", part Sequence First) ∷ (codes "choice", part Choice First) ∷ (codes "all", part All First) ∷ (codes "attribute", part LocalAttribute Anywhere) ∷ []
 
 abbrev pub simple_content_children : List (List ℕ × Part)
 simple_content_children = (codes "extension", part Extension Alone) ∷ []
@@ -83,11 +83,16 @@ extension_children = (codes "attribute", part LocalAttribute Anywhere) ∷ []
 abbrev pub group_children : List (List ℕ × Part)
 group_children = (codes "element", part LocalElement Anywhere) ∷ (codes "sequence", part Sequence Anywhere) ∷ (codes "choice", part Choice Anywhere) ∷ []
 
+-- an `all` is made of elements alone (Part 1, section 3.8.2)
+abbrev pub all_children : List (List ℕ × Part)
+all_children = (codes "element", part AllElement Anywhere) ∷ []
+
 abbrev pub children : ElementRole → List (List ℕ × Part)
 children Schema = schema_children
 children Composition = []
 children GlobalElement = element_children
 children LocalElement = element_children
+children AllElement = element_children
 children GlobalAttribute = attribute_children
 children LocalAttribute = attribute_children
 children GlobalSimpleType = simple_type_children
@@ -102,6 +107,7 @@ children SimpleContent = simple_content_children
 children Extension = extension_children
 children Sequence = group_children
 children Choice = group_children
+children All = all_children
 
 -- one of this position may stand behind the one before, if there is one
 abbrev pub may_stand : Option Position → Position → Bool
@@ -139,7 +145,7 @@ placement parent before name =
 -- ---- what is counted
 
 abbrev pub counted_names : List (List ℕ)
-counted_names = codes "element" ∷ codes "attribute" ∷ codes "simpleType" ∷ codes "complexType" ∷ codes "sequence" ∷ codes "choice" ∷ []
+counted_names = codes "element" ∷ codes "attribute" ∷ codes "simpleType" ∷ codes "complexType" ∷ codes "sequence" ∷ codes "choice" ∷ codes "all" ∷ []
 
 abbrev pub is_counted : Name → Bool
 is_counted name = is_schema_name name && list_any (bytes_eq name.local) counted_names

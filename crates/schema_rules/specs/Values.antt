@@ -1,5 +1,5 @@
 -- The values of attributes of schema documents (XML Schema Part 1, section 3, with the types of its schema in appendix A).
-use Rattle.std.specs.Prelude.{ℕ, Bool, true, false, ◌||◌, ◌&&◌, not, List, [], ◌∷◌, bytes_eq, codes, Option, Some, None, unwrap_or, if◌then◌else◌}
+use Rattle.std.specs.Prelude.{ℕ, Bool, true, false, ◌||◌, ◌&&◌, not, List, [], ◌∷◌, bytes_eq, nat_lt, codes, Option, Some, None, unwrap_or, if◌then◌else◌}
 use Rattle.std.specs.List.{list_any, list_all}
 use Rattle.std.specs.Option.{is_some}
 use Rattle.std.specs.Str.{chars}
@@ -13,7 +13,7 @@ use Rattle.simple_values.specs.Lexical.{boolean_of}
 use Rattle.schema_rules.specs.Digits.{is_over, is_zero, small}
 use Rattle.schema_rules.specs.References.{resolved, type_name}
 use Rattle.schema_rules.specs.declared.roles.ElementRole.{ElementRole}
-use Rattle.schema_rules.specs.declared.roles.ElementRole.TheVariants.{GlobalAttribute, LocalAttribute}
+use Rattle.schema_rules.specs.declared.roles.ElementRole.TheVariants.{GlobalAttribute, LocalAttribute, All, AllElement}
 use Rattle.schema_rules.specs.declared.values.ValueForm.{ValueForm}
 use Rattle.schema_rules.specs.declared.values.ValueForm.TheVariants.{Truth, Qualification, Prescription, Digits, DigitsOrUnbounded, NcName, Reference, TypeName, TypeNames, TargetNamespace}
 
@@ -82,9 +82,6 @@ digits_of name own = elim (beside name own) [ None ↦ codes "1" | Some value �
 abbrev pub is_crossed : List (List ℕ × List ℕ) → Bool
 is_crossed own = is_over (digits_of (codes "minOccurs") own) (digits_of (codes "maxOccurs") own)
 
-abbrev pub has_bad_value : ElementRole → List (List ℕ × List ℕ) → List (List ℕ × List ℕ) → Bool
-has_bad_value role scope own = has_malformed scope own || declares_xmlns role own || is_crossed own
-
 -- ---- occurrences
 
 abbrev pub occurrences : List ℕ → Option ℕ
@@ -100,3 +97,18 @@ most_of own = occurrences (digits_of (codes "maxOccurs") own)
 -- a particle that is dropped (Part 1, section 3.9.6)
 abbrev pub never_occurs : List (List ℕ × List ℕ) → Bool
 never_occurs own = elim (beside (codes "maxOccurs") own) [ None ↦ false | Some value ↦ is_zero value ]
+
+-- it may occur more than once
+abbrev pub recurs : List (List ℕ × List ℕ) → Bool
+recurs own = elim (most_of own) [ None ↦ true | Some most ↦ nat_lt 1 most ]
+
+-- An `all` occurs once or may be absent, and each element in it, too (Part 1, sections 3.8.2 and 3.8.6, 'All Group Limited').
+abbrev pub is_no_all : ElementRole → List (List ℕ × List ℕ) → Bool
+is_no_all All own = never_occurs own || recurs own || is_over (digits_of (codes "minOccurs") own) (codes "1")
+is_no_all AllElement own = recurs own
+is_no_all role own = false
+
+-- ---- all of them
+
+abbrev pub has_bad_value : ElementRole → List (List ℕ × List ℕ) → List (List ℕ × List ℕ) → Bool
+has_bad_value role scope own = has_malformed scope own || declares_xmlns role own || is_crossed own || is_no_all role own

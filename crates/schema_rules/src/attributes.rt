@@ -141,7 +141,7 @@ fn is_of(role: ElementRole, name: &str) -> bool
         ElementRole::Schema => is_of_schema(name),
         ElementRole::Composition => matches!(name, "schemaLocation" | "namespace"),
         ElementRole::GlobalElement => is_of_global_element(name),
-        ElementRole::LocalElement => is_of_local_element(name),
+        ElementRole::LocalElement | ElementRole::AllElement => is_of_local_element(name),
         ElementRole::GlobalAttribute => is_of_global_attribute(name),
         ElementRole::LocalAttribute => is_of_local_attribute(name),
         ElementRole::GlobalSimpleType => name == "name",
@@ -151,7 +151,7 @@ fn is_of(role: ElementRole, name: &str) -> bool
         ElementRole::Facet => matches!(name, "value" | "fixed"),
         ElementRole::GlobalComplexType => is_of_global_complex_type(name),
         ElementRole::InnerComplexType => matches!(name, "mixed" | "abstract"),
-        ElementRole::Sequence | ElementRole::Choice => is_of_group(name),
+        ElementRole::Sequence | ElementRole::Choice | ElementRole::All => is_of_group(name),
         ElementRole::InnerSimpleType | ElementRole::SimpleContent => false,
     }
 }

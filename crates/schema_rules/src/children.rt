@@ -39,6 +39,12 @@ fn is_particle(name: &str) -> bool
     )
 }
 
+fn is_taken_particle(name: &str) -> bool
+    ensures { result ≡ list_any (bytes_eq name.now) (children.names_in ChildSet.TakenParticles) }
+{
+    matches!(name, "element" | "sequence" | "choice" | "all")
+}
+
 fn is_variety(name: &str) -> bool
     ensures { result ≡ list_any (bytes_eq name.now) (children.names_in ChildSet.Varieties) }
 {
@@ -54,7 +60,7 @@ fn belongs(set: ChildSet, name: &str) -> bool
         ChildSet::Varieties => is_variety(name),
         ChildSet::Derivations => matches!(name, "extension" | "restriction"),
         ChildSet::Particles => is_particle(name),
-        ChildSet::TakenParticles => matches!(name, "element" | "sequence" | "choice"),
+        ChildSet::TakenParticles => is_taken_particle(name),
         ChildSet::Attributes => name == "attribute",
         ChildSet::Enumerations => name == "enumeration",
     }

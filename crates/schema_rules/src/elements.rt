@@ -26,7 +26,6 @@ fn left_out_element(name: &str) -> Option<SchemaWhy>
         "any" | "anyAttribute" => Some(SchemaWhy::Wildcard),
         "redefine" => Some(SchemaWhy::Redefine),
         "notation" => Some(SchemaWhy::NotationElement),
-        "all" => Some(SchemaWhy::All),
         "key" | "keyref" | "unique" => Some(SchemaWhy::IdentityConstraint),
         "group" | "attributeGroup" => Some(SchemaWhy::Group),
         "complexContent" => Some(SchemaWhy::ComplexContent),
@@ -77,6 +76,7 @@ fn is_known(name: &str) -> bool
             | "extension"
             | "sequence"
             | "choice"
+            | "all"
     )
 }
 
@@ -141,7 +141,7 @@ pub fn is_counted(name: &Name) -> bool
     is_schema_name(name)
         && matches!(
             name.local.as_str(),
-            "element" | "attribute" | "simpleType" | "complexType" | "sequence" | "choice"
+            "element" | "attribute" | "simpleType" | "complexType" | "sequence" | "choice" | "all"
         )
 }
 

@@ -13,8 +13,10 @@ pub enum ElementRole {
     Composition,
     /// `element` in `schema`.
     GlobalElement,
-    /// `element` in a group: a declaration or a reference.
+    /// `element` in a sequence or a choice: a declaration or a reference.
     LocalElement,
+    /// `element` in an `all`: a declaration or a reference.
+    AllElement,
     /// `attribute` in `schema`.
     GlobalAttribute,
     /// `attribute` in a complex type or an extension: a declaration or a reference.
@@ -43,6 +45,8 @@ pub enum ElementRole {
     Sequence,
     /// `choice`, a group.
     Choice,
+    /// `all`, a group that stands in no other.
+    All,
 }
 
 /// Where an element may stand among the elements of its parent.
@@ -151,6 +155,7 @@ fn child_of_complex_type(name: &str) -> Option<Part>
         "simpleContent" => Part::of(ElementRole::SimpleContent, Position::Alone),
         "sequence" => Part::of(ElementRole::Sequence, Position::First),
         "choice" => Part::of(ElementRole::Choice, Position::First),
+        "all" => Part::of(ElementRole::All, Position::First),
         "attribute" => Part::of(ElementRole::LocalAttribute, Position::Anywhere),
         _ => None,
     }
@@ -185,13 +190,23 @@ fn child_of_group(name: &str) -> Option<Part>
     }
 }
 
+fn child_of_all(name: &str) -> Option<Part>
+    ensures { result ≡ beside name.now table.all_children }
+{
+    match name {
+        "element" => Part::of(ElementRole::AllElement, Position::Anywhere),
+        _ => None,
+    }
+}
+
 /// What an element of this name is in a parent of this role, if it may stand there.
 pub(crate) fn child_of(parent: ElementRole, name: &str) -> Option<Part>
     ensures { result ≡ beside name.now (table.children parent) }
 {
     match parent {
         ElementRole::Schema => child_of_schema(name),
-        ElementRole::GlobalElement | ElementRole::LocalElement => child_of_element(name),
+        ElementRole::GlobalElement | ElementRole::LocalElement | ElementRole::AllElement =>
+            child_of_element(name),
         ElementRole::GlobalAttribute | ElementRole::LocalAttribute | ElementRole::List =>
             child_of_attribute(name),
         ElementRole::GlobalSimpleType | ElementRole::InnerSimpleType => child_of_simple_type(name),
@@ -203,6 +218,7 @@ pub(crate) fn child_of(parent: ElementRole, name: &str) -> Option<Part>
         ElementRole::SimpleContent => child_of_simple_content(name),
         ElementRole::Extension => child_of_extension(name),
         ElementRole::Sequence | ElementRole::Choice => child_of_group(name),
+        ElementRole::All => child_of_all(name),
         ElementRole::Composition | ElementRole::Facet => None,
     }
 }

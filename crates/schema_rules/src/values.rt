@@ -177,17 +177,6 @@ fn is_crossed(own: &[(Text, Text)]) -> bool
     is_over(digits_of("minOccurs", own), digits_of("maxOccurs", own))
 }
 
-/// Whether a value isn't of its form, or two don't fit together.
-pub fn has_bad_value(
-    role: ElementRole,
-    scope: &NamespaceScope<'_, '_>,
-    own: &[(Text, Text)],
-) -> bool
-    ensures { result ≡ table.has_bad_value role (bindings_in scope.now) own.now }
-{
-    has_malformed(scope, own) || declares_xmlns(role, own) || is_crossed(own)
-}
-
 // The number of occurrences that the text is, below 2^32.
 fn occurrences(text: &[u8]) -> Option<u32>
     ensures { result ≡ table.occurrences text.now }
@@ -221,4 +210,42 @@ pub fn never_occurs(own: &[(Text, Text)]) -> bool
         Some(value) => is_zero(value.bytes()),
         None => false,
     }
+}
+
+// Whether it may occur more than once.
+fn recurs(own: &[(Text, Text)]) -> bool
+    ensures { result ≡ table.recurs own.now }
+{
+    match most_of(own) {
+        Some(most) => most > 1,
+        None => true,
+    }
+}
+
+// Whether it is an `all` or an element in one that would occur otherwise than at most once, or an `all` that never
+// occurs.
+fn is_no_all(role: ElementRole, own: &[(Text, Text)]) -> bool
+    ensures { result ≡ table.is_no_all role own.now }
+{
+    match role {
+        ElementRole::All => {
+            never_occurs(own) || recurs(own) || is_over(digits_of("minOccurs", own), b"1")
+        }
+        ElementRole::AllElement => recurs(own),
+        _ => false,
+    }
+}
+
+/// Whether a value isn't of its form, or two don't fit together, or an `all` doesn't occur as one may.
+pub fn has_bad_value(
+    role: ElementRole,
+    scope: &NamespaceScope<'_, '_>,
+    own: &[(Text, Text)],
+) -> bool
+    ensures { result ≡ table.has_bad_value role (bindings_in scope.now) own.now }
+{
+    has_malformed(scope, own)
+        || declares_xmlns(role, own)
+        || is_crossed(own)
+        || is_no_all(role, own)
 }

@@ -20,9 +20,6 @@ pub enum SchemaWhy {
     /// `notation`, left out.
     #[error("`notation` is left out")]
     NotationElement,
-    /// `all`, left out.
-    #[error("`all` is left out")]
-    All,
     /// `key`, `keyref` or `unique`, left out.
     #[error("identity constraints are left out")]
     IdentityConstraint,
@@ -69,6 +66,9 @@ pub enum SchemaWhy {
     /// The attribute `default` or `fixed` of an element, left out.
     #[error("`default` and `fixed` of elements are left out")]
     ElementDefault,
+    /// The attribute `minOccurs` of an `all` that is zero, left out.
+    #[error("an `all` that may be absent is left out")]
+    OptionalAll,
     /// A reference to the datatype `decimal`, left out.
     #[error("the datatype `decimal` is left out")]
     Decimal,

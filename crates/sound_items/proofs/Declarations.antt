@@ -57,7 +57,7 @@ module _ (s : Set) (M : List Assignment) (linked : IsLinked s) (small : AreSmall
       by-complex nillable n (Some c) g h =
           let is = all-at (IsComplexType s) s.complexes n c g linked.complexes in
           complex-sound s linked M E depth below-sound nillable c is.uses (sorted-apart c.uses is.ascending) is.content (inside M u v)
-          (complex-gives M E depth s (text-inside s linked small M) (text-spelled s linked small M depth) nillable c u h v fits) name fine
+          (complex-gives M E depth s (text-inside s linked small M) (text-spelled s linked small M depth) nillable c is.content u h v fits) name fine
 
       by : (k : TypeOf) (nillable : Bool) → IsTyped s k → elim k as (λ _. Type 0) [
         | kind.Simple n ↦ MatchBool nillable (HasNillable s M n (resolve M u)) (IsSimpleOf s n (resolve M u))
@@ -66,7 +66,7 @@ module _ (s : Set) (M : List Assignment) (linked : IsLinked s) (small : AreSmall
       by (kind.Simple n) true typed h =
           let c : ComplexDef = record { name = None; uses = []; content = content_.Simple n } in
           complex-sound s linked M E depth below-sound true c (All-nil (IsUse s)) tt typed (inside M u v)
-          (complex-gives M E depth s (text-inside s linked small M) (text-spelled s linked small M depth) true c u h v fits) name fine
+          (complex-gives M E depth s (text-inside s linked small M) (text-spelled s linked small M depth) true c typed u h v fits) name fine
       by (kind.Simple n) false typed h =
           let t = text-spelled s linked small M depth n u v h fits in
           subst (λ z. IsSound (element_of name z)) (sym t.0) ((fine, tt), alone-sound (spelling M u v) (spelling-characters s linked n (spelling M u v) t.1))

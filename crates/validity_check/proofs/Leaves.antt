@@ -3,8 +3,8 @@ use Rattle.std.proofs.Common.{◌≡◌, ℕ, zero, suc, ◌+◌, ◌<◌, inl, 
 use Rattle.std.specs.Prelude.{All, slice_get, IsSomeAnd}
 use Rattle.std.proofs.lemmas.List.Elements.{All-nil, All-cons, All-head, All-tail, All-append}
 use Rattle.xa_base.specs.declared.texts.Name.{Name}
-use Rattle.content_models.specs.Particle.{Particle, occurs, Term, element, sequence, choice, Particles, none, more}
-use Rattle.content_models.specs.Language.{Turn, Leaf, turn_of, leaf_at, size_of, Times, Lang, Body, InOrder, OneOf}
+use Rattle.content_models.specs.Particle.{Particle, occurs, Term, element, sequence, choice, all, Particles, none, more}
+use Rattle.content_models.specs.Language.{Turn, Leaf, turn_of, leaf_at, size_of, Times, joined, Lang, Body, InOrder, OneOf, AnyOrder}
 use Rattle.schema_parts.specs.declared.components.ElementDecl.{ElementDecl}
 use Rattle.schema_parts.specs.Components.{Set}
 use Rattle.schema_parts.specs.Linked.{leaves, leaves_of_term, all_leaves, IsNamed}
@@ -29,6 +29,13 @@ module _ (P : ℕ → Name → Type 0) where
   times-have B f zero i w e = subst (λ v. All HasSuch v) (sym e) (All-nil HasSuch)
   times-have B f (suc k) i w (x, y, e, b, t) = subst (λ v. All HasSuch v) (sym e) (All-append HasSuch x y (f i x b) (times-have B f k (suc i) y t))
 
+  -- a list between others
+  between : (ys : List (List Leaf)) (x : List Leaf) (zs : List (List Leaf)) → All HasSuch x → All HasSuch (joined (ys ++ zs)) → All HasSuch (joined (ys ++ x ∷ zs))
+  between [] x zs b h = All-append HasSuch x (joined zs) b h
+  between (y ∷ ys) x zs b h =
+      let both = split_all HasSuch y (joined (ys ++ zs)) h in
+      All-append HasSuch y (joined (ys ++ x ∷ zs)) both.0 (between ys x zs b both.1)
+
   mutual
     particle-has : (p : Particle) (n : ℕ) (path : List Turn) (w : List Leaf) → All IsSuch (leaves p) → Lang p n path w → All HasSuch w
     particle-has (occurs t least most) n path w h (k, within, ts) =
@@ -39,6 +46,7 @@ module _ (P : ℕ → Name → Type 0) where
         subst (λ v. All HasSuch v) (sym e) (All-cons HasSuch (leaf_at n d a path) [] (All-head IsSuch (d, a) [] h) (All-nil HasSuch))
     term-has (sequence ps) n path w h b = order-has ps (suc n) path w h b
     term-has (choice ps) n path w h b = one-has ps (suc n) path w h b
+    term-has (all ps) n path w h (xs, e, b) = subst (λ v. All HasSuch v) (sym e) (any-has ps (suc n) path xs h b)
 
     order-has : (ps : Particles) (n : ℕ) (path : List Turn) (w : List Leaf) → All IsSuch (all_leaves ps) → InOrder ps n path w → All HasSuch w
     order-has none n path w h e = subst (λ v. All HasSuch v) (sym e) (All-nil HasSuch)
@@ -50,6 +58,12 @@ module _ (P : ℕ → Name → Type 0) where
     one-has none n path w h b = absurd b
     one-has (more p ps) n path w h (inl b) = particle-has p n path w (split_all IsSuch (leaves p) (all_leaves ps) h).0 b
     one-has (more p ps) n path w h (inr c) = one-has ps (n + size_of p) path w (split_all IsSuch (leaves p) (all_leaves ps) h).1 c
+
+    any-has : (ps : Particles) (n : ℕ) (path : List Turn) (xs : List (List Leaf)) → All IsSuch (all_leaves ps) → AnyOrder ps n path xs → All HasSuch (joined xs)
+    any-has none n path xs h e = subst (λ v. All HasSuch (joined v)) (sym e) (All-nil HasSuch)
+    any-has (more p ps) n path xs h (ys, x, zs, e, b, c) =
+        let both = split_all IsSuch (leaves p) (all_leaves ps) h in
+        subst (λ v. All HasSuch (joined v)) (sym e) (between ys x zs (particle-has p n path x both.0 b) (any-has ps (n + size_of p) path (ys ++ zs) both.1 c))
 
   -- of the last of some leaves with which a list begins
   pub last_has : (p : Particle) (us : List Leaf) (l : Leaf) → All IsSuch (leaves p) → Begins p (us ++ l ∷ []) → P l.decl l.name

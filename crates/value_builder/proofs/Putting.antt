@@ -1,10 +1,10 @@
 -- What is put down, step by step.
-use Rattle.std.proofs.Common.{◌≡◌, ℕ, ◌+◌, ◌-◌, ◌^◌, ◌≤◌, min, ◌∙◌, ap, arith, refl, sym, subst}
-use Rattle.label_tree.specs.Rose.{Rose, node_count, shown_count}
-use Rattle.flat_tree.specs.Zips.{Zip, zip_count, added}
+use Rattle.std.proofs.Common.{◌≡◌, ℕ, List, [], ◌+◌, ◌-◌, ◌^◌, ◌≤◌, min, ◌∙◌, ap, arith, refl, sym, subst}
+use Rattle.label_tree.specs.Rose.{Rose, roses_of, node_count, count_all, shown_count}
+use Rattle.flat_tree.specs.Zips.{Zip, zip_count, added, added_all}
 use Rattle.simple_types.specs.declared.labels.ValueLabel.{ValueLabel}
-use Rattle.value_builder.specs.Built.{Built, Stands, Puts}
-use Rattle.value_builder.proofs.Counts.{count-added}
+use Rattle.value_builder.specs.Built.{Built, nothing_of, Stands, Puts}
+use Rattle.value_builder.proofs.Counts.{count-added, count-added_all}
 
 -- nothing, and one step after another
 pub puts-nothing : (b : Built) → Puts (λ z. z) b b
@@ -53,6 +53,20 @@ pub puts-counted : (old new : Built) (v : Rose ValueLabel) (nodes : ℕ) → nod
     → (new.nodes ≤ new.most → new.kept ≡ added v old.kept) → Puts (added v) old new
 puts-counted old new v nodes shown most now kept =
     puts-more (added v) (node_count v) old new (count-added v) most (omega arith) kept
+
+-- all that another holds, which is kept
+pub puts-appended : (old new other : Built) (nodes : ℕ) (ts vs : List (Rose ValueLabel)) → Stands other (added_all vs (nothing_of 0).kept) → 1 ≤ other.most → other.nodes ≤ other.most
+    → nodes ≡ other.nodes → ts ≡ other.kept.kids → new.most ≡ old.most → new.nodes ≡ min (old.nodes + nodes) (2 ^ 64 - 1)
+    → (new.nodes ≤ new.most → new.kept ≡ added_all ts old.kept) → Puts (added_all vs) old new
+puts-appended old new other nodes ts vs st some fits count trees most now kept =
+    let n = st.nodes some in
+    let c = count-added_all vs (nothing_of 0).kept in
+    puts-more (added_all vs) (count_all (roses_of vs)) old new (count-added_all vs) most (omega arith)
+    (λ within. kept within ∙ ap (λ us. added_all us old.kept) (trees ∙ ap (λ (z : Zip ValueLabel). z.kids) (st.kept some fits)))
+
+-- with no node open
+pub appended-closed : (other : Built) (vs : List (Rose ValueLabel)) → Stands other (added_all vs (nothing_of 0).kept) → 1 ≤ other.most → other.nodes ≤ other.most → other.kept.above ≡ []
+appended-closed other vs st some fits = ap (λ (z : Zip ValueLabel). z.above) (st.kept some fits)
 
 -- one node that isn't kept
 pub puts-unkept : (f : Zip ValueLabel → Zip ValueLabel) (old new this : Built) → new ≡ this → ((z : Zip ValueLabel) → zip_count (f z) ≡ zip_count z + 1)

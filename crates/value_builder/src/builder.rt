@@ -1,7 +1,7 @@
 //! What is put down of a value.
-ghost use Rattle.std.specs.Prelude.{◌≡◌, length, ◌<◌, ◌+◌, ◌-◌, ◌^◌, ◌≤◌, min, ◌↔◌, Err, IsTrue, OnOk, MatchResult};
+ghost use Rattle.std.specs.Prelude.{◌≡◌, length, ◌<◌, ◌+◌, ◌-◌, ◌^◌, ◌≤◌, min, ◌↔◌, ℕ, Err, IsTrue, List, OnOk, MatchResult};
 ghost use Rattle.label_tree.specs.Rose.{Rose, node, none};
-ghost use Rattle.flat_tree.specs.Zips.{opened, added, closed};
+ghost use Rattle.flat_tree.specs.Zips.{Zip, zip_count, opened, added, added_all, closed};
 ghost use Rattle.simple_types.specs.declared.labels.ValueLabel.{ValueLabel};
 ghost use Rattle.simple_types.specs.Seen.{space_of};
 ghost use Rattle.simple_types.specs.Sound.{Sound};
@@ -52,6 +52,13 @@ impl ValueBuilder {
             nodes: 0,
             most,
         }
+    }
+
+    /// How many nodes may be kept.
+    pub fn most(&self) -> u32
+        ensures { result ≡ self.now.most }
+    {
+        self.most
     }
 
     /// How many nodes were put down.
@@ -140,8 +147,30 @@ impl ValueBuilder {
         Ok(())
     }
 
-    // Whether so many more may be kept.
-    fn has_room(&self, nodes: u64) -> bool
+    /// Moves all that another holds, which is all kept and has no node open, behind what is there.
+    pub fn append(&mut self, other: ValueBuilder) -> Result<(), Memory>
+        requires some { 1 ≤ other.most }
+        requires kept { other.nodes ≤ other.most }
+        requires closed { (vs : List (Rose ValueLabel)) × Stands other (added_all vs (nothing_of 0).kept) }
+        ensures { OnOk result ((vs : List (Rose ValueLabel)) → Stands other (added_all vs (nothing_of 0).kept) → Puts (added_all vs) self.old self.new) }
+    {
+        self.nodes = self.nodes.saturating_add(other.nodes);
+        if self.is_kept() {
+            self.kept.append(other.kept.finish())?;
+        }
+        Ok(())
+    }
+
+    /// So many nodes more are put down, which are too many: they are counted alone.
+    pub fn count_alone(&mut self, nodes: u64)
+        requires { self.old.most < min (self.old.nodes + nodes) (2 ^ 64 - 1) }
+        ensures { (f : Zip ValueLabel → Zip ValueLabel) (more : ℕ) → nodes ≡ min more (2 ^ 64 - 1) → ((z : Zip ValueLabel) → zip_count (f z) ≡ zip_count z + more) → Puts f self.old self.new }
+    {
+        self.nodes = self.nodes.saturating_add(nodes);
+    }
+
+    /// Whether so many more may be kept.
+    pub fn has_room(&self, nodes: u64) -> bool
         ensures { IsTrue result ↔ (min (self.now.nodes + nodes) (2 ^ 64 - 1) ≤ self.now.most) }
     {
         self.nodes.saturating_add(nodes) <= u64::from(self.most)

@@ -27,7 +27,7 @@ use Rattle.schema_parts.specs.declared.components.ComplexDef.{ComplexDef}
 use Rattle.schema_parts.specs.declared.components.Content.{Content}
 use Rattle.schema_parts.specs.declared.components.Content.TheVariants as content_
 use Rattle.schema_parts.specs.Components.{Set}
-use Rattle.schema_parts.specs.Linked.{HasStandard, IsLinked}
+use Rattle.schema_parts.specs.Linked.{HasStandard, IsContent, IsLinked}
 use Rattle.schema_parts.specs.SetParts.{parts_of}
 use Rattle.schema_parts.proofs.Truths.{both}
 use Rattle.map_assignments.specs.Planning.{is_mixed}
@@ -211,11 +211,11 @@ module _ (s : Set) (linked : IsLinked s) (M : List Assignment) (E : ℕ → Rose
       rest-found c vs is_nil o e h = nil-found c vs (nil-nillable nillable o e) h.1
       rest-found c vs not_nil o e h = content-found c vs h
 
-    pub complex-found : (d : ℕ) (c : ComplexDef) → All (HasStandard s) c.uses → asks d ≡ asked nillable (map (attribute_in (parts_of s)) c.uses) (inside_of (parts_of s) c.content) → IsFair (asks d)
+    pub complex-found : (d : ℕ) (c : ComplexDef) → IsContent s c.content → All (HasStandard s) c.uses → asks d ≡ asked nillable (map (attribute_in (parts_of s)) c.uses) (inside_of (parts_of s) c.content) → IsFair (asks d)
         → (high : ℕ) → AllExist asks M E depth small high → (u : Rose TypeLabel) → HasComplex E s M nillable c (resolve M u)
         → (name : Name) (xs : List (Name × List ℕ)) (declares : List (List ℕ × List ℕ)) (at : ℕ) (ks : Roses ItemLabel) → is_sound (node (Element name xs declares at) ks) ≡ true → levels_all ks ≤ high
         → (b : Rose Plain) → ValidBy asks d (node (Element name xs declares at) ks) b → Found u name b
-    complex-found d c standards asks_is fair high exists u has name xs declares at ks sound within b h =
+    complex-found d c ok standards asks_is fair high exists u has name xs declares at ks sound within b h =
         let wanted = map (attribute_in (parts_of s)) c.uses in
         let a = asked nillable wanted (inside_of (parts_of s) c.content) in
         let fair_as : IsFair a = subst IsFair asks_is fair in
@@ -224,5 +224,5 @@ module _ (s : Set) (linked : IsLinked s) (M : List Assignment) (E : ℕ → Rose
         let ys = treated_attributes wanted (left xs) in
         let attributes = attributes-given s linked M depth small (left xs) wanted right (left-encoded xs soundness.0) c.uses standards (declared_each wanted fair_as.apart) stand in
         let r = rest-found high exists ks soundness.1 within c.content vs (nil_of nillable xs) (text_of xs xsi_nil) refl inner in
-        let made = complex-fills M E depth small s linked nillable c u has ys attributes r.nil r.kids r.count r.rest r.texts r.texts_given in
+        let made = complex-fills M E depth small s linked nillable c ok u has ys attributes r.nil r.kids r.count r.rest r.texts r.texts_given in
         (made.0, made.1, ap (element_of name) (made.2 ∙ r.whole ys) ∙ sym eb)

@@ -25,7 +25,7 @@ use Rattle.schema_parts.specs.declared.components.TypeOf.{TypeOf}
 use Rattle.schema_parts.specs.declared.components.TypeOf.TheVariants as kind
 use Rattle.schema_parts.specs.Components.{Set}
 use Rattle.schema_parts.specs.SetParts.{parts_of}
-use Rattle.schema_parts.specs.Linked.{HasStandard, IsComplexType, IsLinked}
+use Rattle.schema_parts.specs.Linked.{HasStandard, IsTyped, IsElement, IsContent, IsComplexType, IsLinked}
 use Rattle.map_subjects.specs.Subjects.{place_in}
 use Rattle.map_subjects.proofs.Finding.{all-at}
 use Rattle.map_assignments.specs.Planning.{particle_type, in_place}
@@ -90,25 +90,25 @@ module _ (s : Set) (M : List Assignment) (linked : IsLinked s) (is_map : IsMapOf
   -- by the kind of the declaration
   content-by : (high depth : ℕ) (small : depth ≤ 64) → AllExist asks M E depth small high → (d : ℕ) (e : ElementDecl) → slice_get s.elements d ≡ Some e → (u : Rose TypeLabel) → HasContent E s M e (resolve M u)
       → Has high depth small d u
-  content-by high depth small exist d e is u has = by e.kind e.nillable (ap (asked_by (parts_of s)) is) has
+  content-by high depth small exist d e is u has = by e.kind (all-at (IsElement s) s.elements d e is linked.elements).1 e.nillable (ap (asked_by (parts_of s)) is) has
     where
-      complex-by : (nillable : Bool) (c : ComplexDef) → All (HasStandard s) c.uses → asks d ≡ asked_by_complex (parts_of s) nillable (Some c) → HasComplex E s M nillable c (resolve M u) → Has high depth small d u
-      complex-by nillable c standards i h name xs declares at ks sound within b valid =
-          complex-found s linked M E depth small asks nillable d c standards i (fair_at s linked d) high exist u h name xs declares at ks sound within b valid
+      complex-by : (nillable : Bool) (c : ComplexDef) → IsContent s c.content → All (HasStandard s) c.uses → asks d ≡ asked_by_complex (parts_of s) nillable (Some c) → HasComplex E s M nillable c (resolve M u) → Has high depth small d u
+      complex-by nillable c ok standards i h name xs declares at ks sound within b valid =
+          complex-found s linked M E depth small asks nillable d c ok standards i (fair_at s linked d) high exist u h name xs declares at ks sound within b valid
 
       by-complex : (nillable : Bool) (o : Option ComplexDef) (n : ℕ) → slice_get s.complexes n ≡ o → asks d ≡ asked_by_complex (parts_of s) nillable o → IsSomeAnd o (λ (c : ComplexDef). HasComplex E s M nillable c (resolve M u)) → Has high depth small d u
       by-complex nillable None n g i h = absurd h
-      by-complex nillable (Some c) n g i h = let ok = all-at (IsComplexType s) s.complexes n c g linked.complexes in complex-by nillable c ok.standards i h
+      by-complex nillable (Some c) n g i h = let ok = all-at (IsComplexType s) s.complexes n c g linked.complexes in complex-by nillable c ok.content ok.standards i h
 
-      by : (k : TypeOf) (nillable : Bool) → asks d ≡ asked_by_type (parts_of s) nillable k → elim k as (λ _. Type 0) [
+      by : (k : TypeOf) → IsTyped s k → (nillable : Bool) → asks d ≡ asked_by_type (parts_of s) nillable k → elim k as (λ _. Type 0) [
         | kind.Simple n ↦ MatchBool nillable (HasNillable s M n (resolve M u)) (IsSimpleOf s n (resolve M u))
         | kind.Complex n ↦ IsSomeAnd (slice_get s.complexes n) (λ (c : ComplexDef). HasComplex E s M nillable c (resolve M u))
       ] → Has high depth small d u
-      by (kind.Simple n) true i h = complex-by true (record { name = None; uses = []; content = content_.Simple n }) (All-nil (HasStandard s)) i h
-      by (kind.Simple n) false i h = λ name xs declares at ks sound within b valid.
+      by (kind.Simple n) below true i h = complex-by true (record { name = None; uses = []; content = content_.Simple n }) below (All-nil (HasStandard s)) i h
+      by (kind.Simple n) below false i h = λ name xs declares at ks sound within b valid.
           simple-found s linked M E depth small asks d (space_at (parts_of s) n) i u
           (λ text encoded v e. let t = text-given s linked M depth small n text encoded v e u h in (t.0, t.1)) name xs declares at ks sound b valid
-      by (kind.Complex n) nillable i h = by-complex nillable (slice_get s.complexes n) n refl i h
+      by (kind.Complex n) below nillable i h = by-complex nillable (slice_get s.complexes n) n refl i h
 
   content-has : (high depth : ℕ) (small : depth ≤ 64) → depth + high ≤ 64 → (d : ℕ) (e : ElementDecl) → slice_get s.elements d ≡ Some e → (u : Rose TypeLabel) → HasContent E s M e (resolve M u) → Has high depth small d u
   content-has zero depth small enough d e is u has =

@@ -37,8 +37,9 @@ use Rattle.asn_types.specs.declared.types.Component.{Component}
 use Rattle.asn_types.specs.Refs.{follow}
 use Rattle.asn_types.specs.Spaces.{spelling}
 use Rattle.asn_values.specs.Values.{child_count, count_in, FitsAt, FitEach, Fits}
+use Rattle.asn_values.proofs.JustSet.{just_set}
 use Rattle.xer_items.specs.Items.{inside, gathered, Xer}
-use Rattle.value_exists.proofs.WorkedTypes.{component, refers, text_type, token_type, byte_type, order_types, element_types, prices, price_types, settings, setting_types}
+use Rattle.value_exists.proofs.WorkedTypes.{component, refers, text_type, token_type, byte_type, order_types, element_types, prices, price_types, settings, setting_types, any_model, any_order, any_types}
 
 -- a valid element of the declaration, and a value of the assignment, with the same items
 abbrev AreOne : SetParts → ℕ → Rose ItemLabel → List Assignment → ℕ → Rose ValueLabel → Rose Plain → Type 0
@@ -968,3 +969,109 @@ required_is_one = (
   (omega arith, ((token_fits setting_types 1 (omega arith) (codes "on") refl refl refl, (refl, refl)), tt), (tt, tt, tt, tt)),
   refl,
 )
+
+-- ---- children in any order: the value has them in the order of the schema, and its first part tells that of the document
+
+abbrev any_a : Leaf
+any_a = leaf_at 1 1 (unqualified (codes "a")) (turn_of 0 0 ∷ turn_of 1 0 ∷ [])
+
+abbrev any_b : Leaf
+any_b = leaf_at 2 2 (unqualified (codes "b")) (turn_of 0 0 ∷ turn_of 2 0 ∷ [])
+
+any_taken : Lang (seen any_model) 0 [] (any_b ∷ any_a ∷ [])
+any_taken = (
+  1,
+  (omega arith, omega arith),
+  (
+    any_b ∷ any_a ∷ [],
+    [],
+    refl,
+    (
+      (any_b ∷ []) ∷ (any_a ∷ []) ∷ [],
+      refl,
+      (
+        (any_b ∷ []) ∷ [],
+        any_a ∷ [],
+        [],
+        refl,
+        (1, (omega arith, omega arith), (any_a ∷ [], [], refl, refl, refl)),
+        ([], any_b ∷ [], [], refl, (1, (omega arith, omega arith), (any_b ∷ [], [], refl, refl, refl)), refl),
+      ),
+    ),
+    refl,
+  ),
+)
+
+-- <y><b>1</b><a>02</a></y>
+abbrev any_item : Rose ItemLabel
+any_item =
+    item (unqualified (codes "y")) [] [] 0
+    (item (unqualified (codes "b")) [] [] 3 (said (codes "1") 6 ∷ []) ∷ item (unqualified (codes "a")) [] [] 11 (said (codes "02") 14 ∷ []) ∷ [])
+
+abbrev number_plain : List ℕ → List ℕ → Rose Plain
+number_plain local digits_are = plain (unqualified local) [] (characters digits_are ∷ [])
+
+abbrev any_plain : Rose Plain
+any_plain = plain (unqualified (codes "y")) [] (number_plain (codes "b") (codes "1") ∷ number_plain (codes "a") (codes "2") ∷ [])
+
+abbrev numbered : ℕ → Rose ValueLabel
+numbered i = node (value.Enum i) none
+
+abbrev any_value : Rose ValueLabel
+any_value = sequence (true ∷ true ∷ true ∷ []) (several (numbered 1 ∷ numbered 0 ∷ []) ∷ number (pos 2) ∷ number (pos 1) ∷ [])
+
+any_valid : Valid any_order 0 any_item any_plain
+unfolding any_order reads spelled treated words_of is_white_space whole_number digits
+any_valid = (
+  refl,
+  (
+    roses_of (number_plain (codes "b") (codes "1") ∷ number_plain (codes "a") (codes "2") ∷ []),
+    refl,
+    refl,
+    All-nil (IsRight []),
+    All-nil (Stands []),
+    (
+      any_b ∷ any_a ∷ [],
+      any_taken,
+      (
+        any_b,
+        any_a ∷ [],
+        number_plain (codes "b") (codes "1"),
+        roses_of (number_plain (codes "a") (codes "2") ∷ []),
+        refl,
+        refl,
+        refl,
+        (roses_of (characters (codes "1") ∷ []), refl, refl, All-nil (IsRight []), All-nil (Stands []), (codes "1", refl, refl)),
+        (
+          any_a,
+          [],
+          number_plain (codes "a") (codes "2"),
+          none,
+          refl,
+          refl,
+          refl,
+          (roses_of (characters (codes "2") ∷ []), refl, refl, All-nil (IsRight []), All-nil (Stands []), (codes "02", refl, refl)),
+          (refl, refl),
+        ),
+      ),
+    ),
+  ),
+)
+
+any_fits : Fits any_types 0 any_value
+unfolding any_types follow FitsAt FitEach
+any_fits = (
+  omega arith,
+  (
+    ((omega arith, (((omega arith, tt, (tt, tt, tt, tt)), tt), (((omega arith, tt, (tt, tt, tt, tt)), tt), tt)), (tt, tt, tt, tt)), tt),
+    (((omega arith, tt, (tt, tt, tt, tt)), tt), (((omega arith, tt, (tt, tt, tt, tt)), tt), tt)),
+  ),
+  (tt, tt, tt, (just_set (true ∷ true ∷ []) (1 ∷ 0 ∷ [])).0 refl),
+)
+
+any_items : Xer any_types 0 any_value ≡ Some any_plain
+unfolding any_types follow inside gathered spelled digits
+any_items = refl
+
+any_is_one : AreOne any_order 0 any_item any_types 0 any_value any_plain
+any_is_one = (any_valid, any_fits, any_items)

@@ -1,17 +1,19 @@
--- The modules of four schemas, worked out by hand: an order with its lines, elements of many types, prices, which have simple
--- content with an attribute, and settings, whose attributes have default and fixed values. With the last two stand the parts of
--- their sets. The first two are those of `xer_items/proofs/WorkedModules`.
+-- The modules of five schemas, worked out by hand: an order with its lines, elements of many types, prices, which have simple
+-- content with an attribute, settings, whose attributes have default and fixed values, and elements in any order. With the last
+-- three stand the parts of their sets. The first two are those of `xer_items/proofs/WorkedModules`.
 use Rattle.std.specs.Prelude.{ℕ, Bool, ◌^◌, ◌-◌, true, false, pos, negsuc, Some, None, List, [], ◌∷◌, codes}
 use Rattle.label_tree.specs.Rose.{Rose, node, roses_of}
 use Rattle.xa_base.specs.declared.white_space.WhiteSpace.TheVariants.{Collapse}
 use Rattle.simple_types.specs.declared.simples.Class.TheVariants.{Any}
 use Rattle.simple_types.specs.declared.standards.Standard.{Standard}
 use Rattle.simple_types.specs.declared.standards.Standard.TheVariants.{Free, Default, Fixed}
+use Rattle.content_models.specs.declared.particles.ParticleKind.TheVariants as particle
+use Rattle.content_models.specs.declared.particles.ParticleLabel.{ParticleLabel}
 use Rattle.schema_parts.specs.declared.components.AttributeUse.{AttributeUse}
 use Rattle.schema_parts.specs.declared.components.Content.TheVariants as content
 use Rattle.schema_parts.specs.declared.components.TypeOf.TheVariants as kind
 use Rattle.schema_parts.specs.SetParts.{SetParts}
-use Rattle.validity.specs.Private.WorkedSets.{unqualified, element_decl, attribute_use, complex_def, unnamed_type, any_text, any_token, any_byte}
+use Rattle.validity.specs.Private.WorkedSets.{unqualified, element_decl, particle_of, element_particle, attribute_use, complex_def, unnamed_type, any_text, any_token, any_byte}
 use Rattle.asn_types.specs.declared.marks.Instruction.{Instruction}
 use Rattle.asn_types.specs.declared.marks.Instruction.TheVariants as mark
 use Rattle.asn_types.specs.declared.modules.Assignment.{Assignment}
@@ -187,4 +189,28 @@ setting_types =
     names_element (codes "G") (codes "g")
     (type (form.Sequence (constrained (codes "v") true (Default (codes "5")) ∷ constrained (codes "x") true (Fixed (codes "on")) ∷ [])) [] (byte_type ∷ token_type ∷ []))
     ∷ names_element (codes "H") (codes "h") (type (form.Sequence (constrained (codes "x") false (Fixed (codes "on")) ∷ [])) [] (token_type ∷ []))
+    ∷ []
+
+-- ---- children in any order: `y` has an `a` and may have a `b`
+
+abbrev pub any_model : Rose ParticleLabel
+any_model = particle_of particle.All 1 (Some 1) (element_particle 1 (unqualified (codes "a")) 1 (Some 1) ∷ element_particle 2 (unqualified (codes "b")) 0 (Some 1) ∷ [])
+
+unfoldable pub any_order : SetParts
+any_order = record {
+  elements =
+      element_decl (unqualified (codes "y")) false (kind.Complex 0) ∷ element_decl (unqualified (codes "a")) false (kind.Simple 0)
+      ∷ element_decl (unqualified (codes "b")) false (kind.Simple 0) ∷ [];
+  globals = 1;
+  simples = unnamed_type any_byte ∷ [];
+  complexes = complex_def None [] (content.ElementOnly any_model) ∷ [];
+  attributes = [];
+}
+
+-- [USE-ORDER] SEQUENCE { order SEQUENCE OF ENUMERATED { a, b }, a INTEGER (0..255), b INTEGER (0..255) OPTIONAL }
+unfoldable pub any_types : List Assignment
+any_types =
+    names_element (codes "Y") (codes "y")
+    (type (form.Sequence (component (codes "order") false [] ∷ component (codes "a") false [] ∷ component (codes "b") true [] ∷ [])) (mark.UseOrder ∷ [])
+    (type (form.SequenceOf (component [] false []) 0 None) [] (type (form.Order (codes "a" ∷ codes "b" ∷ [])) [] [] ∷ []) ∷ byte_type ∷ byte_type ∷ []))
     ∷ []

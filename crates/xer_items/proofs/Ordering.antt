@@ -1,13 +1,11 @@
 -- What stands in an order that numbers tell.
-use Rattle.std.proofs.Common.{◌≡◌, ℕ, zero, suc, ◌+◌, ◌-◌, ◌≤◌, Bool, true, false, Option, Some, None, List, [], ◌∷◌, ◌++◌, length, take, drop, refl, sym, ◌∙◌, ap, arith}
-use Rattle.std.specs.Prelude.{map}
+use Rattle.std.proofs.Common.{◌≡◌, ℕ, zero, suc, ◌+◌, ◌-◌, ◌≤◌, Bool, true, false, Option, Some, None, List, [], ◌∷◌, ◌++◌, length, take, drop, refl, ap, arith}
 use Rattle.std.specs.List.{AllByRecursion}
-use Rattle.std.specs.Option.{option_map}
-use Rattle.std.proofs.lemmas.List.{length-map, take-map, drop-map, map-append, take-append-drop}
+use Rattle.std.proofs.lemmas.List.{take-append-drop}
 use Rattle.simple_types.specs.Labels.{count_set}
 use Rattle.label_tree.specs.Rose.{Rose, roses_of, node_count, count_all}
 use Rattle.label_tree.proofs.Roses.{count_all-append}
-use Rattle.xer_items.specs.Ordering.{slots, slot_at, emptied, put_some, taken, in_order}
+use Rattle.asn_values.specs.Ordering.{slots, slot_at, emptied, put_some, taken, in_order}
 use Rattle.plain_items.specs.Plain.{Plain}
 use Rattle.xer_items.specs.Items.{Given, given, nothing, with_order}
 
@@ -16,51 +14,6 @@ use Rattle.xer_items.specs.Items.{Given, given, nothing, with_order}
 pub unordered : (told : Bool) (flags : List Bool) (numbers : List ℕ) (inner : Given) → told ≡ false → with_order told flags numbers inner ≡ inner
 unordered false flags numbers inner e = refl
 unordered true flags numbers inner e = absurd (cc)
-
--- ---- what is made of each keeps its place
-
-module _ {A B : Type 0} (f : A → B) where
-  slots-map : (flags : List Bool) (xs : List A) → slots flags (map f xs) ≡ map (option_map f) (slots flags xs)
-  slots-map [] xs = refl
-  slots-map (true ∷ flags) [] = refl
-  slots-map (true ∷ flags) (x ∷ xs) = ap (λ s. Some (f x) ∷ s) (slots-map flags xs)
-  slots-map (false ∷ flags) xs = ap (λ s. None ∷ s) (slots-map flags xs)
-
-  slot-map : (all : List (Option A)) (i : ℕ) → slot_at (map (option_map f) all) i ≡ option_map f (slot_at all i)
-  slot-map [] i = refl
-  slot-map (slot ∷ others) zero = refl
-  slot-map (slot ∷ others) (suc i) = slot-map others i
-
-  emptied-map : (all : List (Option A)) (i : ℕ) → emptied (map (option_map f) all) i ≡ map (option_map f) (emptied all i)
-  emptied-map [] i = refl
-  emptied-map (slot ∷ others) zero = refl
-  emptied-map (slot ∷ others) (suc i) = ap (λ s. option_map f slot ∷ s) (emptied-map others i)
-
-  put-map : (o : Option A) (xs : List A) → put_some (option_map f o) (map f xs) ≡ map f (put_some o xs)
-  put-map None xs = refl
-  put-map (Some x) xs = refl
-
-  taken-map : (all : List (Option A)) (numbers : List ℕ) → taken (map (option_map f) all) numbers ≡ map f (taken all numbers)
-  taken-map all [] = refl
-  taken-map all (i ∷ numbers) =
-      ap (λ o. put_some o (taken (emptied (map (option_map f) all) i) numbers)) (slot-map all i)
-      ∙ ap (λ s. put_some (option_map f (slot_at all i)) (taken s numbers)) (emptied-map all i)
-      ∙ ap (put_some (option_map f (slot_at all i))) (taken-map (emptied all i) numbers)
-      ∙ put-map (slot_at all i) (taken (emptied all i) numbers)
-
-  from-map : (n : ℕ) (flags : List Bool) (numbers : List ℕ) (xs : List A)
-      → take n (map f xs) ++ taken (slots flags (drop n (map f xs))) numbers ≡ map f (take n xs ++ taken (slots flags (drop n xs)) numbers)
-  from-map n flags numbers xs =
-      ap (λ l. l ++ taken (slots flags (drop n (map f xs))) numbers) (take-map f n xs)
-      ∙ ap (λ l. map f (take n xs) ++ taken (slots flags l) numbers) (drop-map f n xs)
-      ∙ ap (λ s. map f (take n xs) ++ taken s numbers) (slots-map flags (drop n xs))
-      ∙ ap (λ l. map f (take n xs) ++ l) (taken-map (slots flags (drop n xs)) numbers)
-      ∙ sym (map-append f (take n xs) (taken (slots flags (drop n xs)) numbers))
-
-  pub in_order-map : (flags : List Bool) (numbers : List ℕ) (xs : List A) → in_order flags numbers (map f xs) ≡ map f (in_order flags numbers xs)
-  in_order-map flags numbers xs =
-      ap (λ n. take (n - count_set flags) (map f xs) ++ taken (slots flags (drop (n - count_set flags) (map f xs))) numbers) (length-map xs f)
-      ∙ from-map (length xs - count_set flags) flags numbers xs
 
 -- ---- nothing is there that wasn't
 

@@ -1,6 +1,8 @@
 -- What is made of an element's attributes and content gives its treated items, wherever it stands.
-use Rattle.std.proofs.Common.{◌≡◌, ℕ, suc, ◌+◌, ◌≤◌, Bool, true, false, not, Option, Some, None, List, [], ◌∷◌, length, map, true≢false, refl, sym, ap, subst, ◌∙◌, arith}
+use Rattle.std.proofs.Common.{◌≡◌, ℕ, suc, ◌+◌, ◌≤◌, ◌<◌, Bool, true, false, not, Option, Some, None, List, [], ◌∷◌, length, map, true≢false, refl, sym, ap, subst, ◌∙◌, arith}
 use Rattle.std.specs.Prelude.{All, Ok, IsUtf8, slice_get, IsSomeAnd, MatchBool}
+use Rattle.std.specs.List.{AllByRecursion}
+use Rattle.std.proofs.lemmas.List.Sorted.{length_permutation}
 use Rattle.std.proofs.lemmas.List.Elements.{All-nil, All-head, All-tail}
 use Rattle.xa_base.specs.declared.texts.Name.{Name}
 use Rattle.label_tree.specs.Rose.{Rose, node, Roses, roses_of, length_all}
@@ -11,11 +13,12 @@ use Rattle.simple_types.specs.declared.labels.ValueLabel.TheVariants as value
 use Rattle.simple_values.specs.Reading.{reads, spelled}
 use Rattle.content_models.specs.declared.particles.ParticleLabel.{ParticleLabel}
 use Rattle.content_models.specs.Particle.{Particle}
+use Rattle.content_models.specs.Clear.{IsNoAll}
 use Rattle.content_models.specs.Seen.{seen}
 use Rattle.item_tree.specs.declared.label.ItemLabel.{ItemLabel}
 use Rattle.doc_text.specs.Sound.{are_sound_attributes, are_sound, levels_all}
 use Rattle.plain_items.specs.Plain.{Plain}
-use Rattle.plain_items.specs.Mixing.{text_before, texts_between, AllElements}
+use Rattle.plain_items.specs.Mixing.{text_before, texts_between, interleaved, AllElements}
 use Rattle.plain_items.proofs.Mixing.{puts_together}
 use Rattle.schema_parts.specs.declared.components.AttributeUse.{AttributeUse}
 use Rattle.schema_parts.specs.declared.components.ElementDecl.{ElementDecl}
@@ -25,36 +28,40 @@ use Rattle.schema_parts.specs.declared.components.Content.TheVariants as content
 use Rattle.schema_parts.specs.declared.components.TypeOf.{TypeOf}
 use Rattle.schema_parts.specs.declared.components.TypeOf.TheVariants as kind
 use Rattle.schema_parts.specs.Components.{Set}
-use Rattle.schema_parts.specs.Linked.{leaves, IsNamed, HasStandard, IsComplexType, IsLinked}
+use Rattle.schema_parts.specs.Linked.{leaves, IsNamed, HasStandard, IsContent, IsComplexType, IsLinked}
 use Rattle.schema_parts.specs.SetParts.{parts_of}
 use Rattle.asn_types.specs.declared.modules.Assignment.{Assignment}
 use Rattle.asn_types.specs.declared.types.TypeLabel.{TypeLabel}
 use Rattle.asn_types.specs.Refs.{resolve}
-use Rattle.asn_values.specs.Values.{text_count, FitsAt}
+use Rattle.asn_values.specs.Values.{text_count, AreJustSet, FitsAt}
+use Rattle.asn_values.specs.Ordering.{slots, taken, in_order}
+use Rattle.asn_values.proofs.JustSet.{just_set}
+use Rattle.asn_values.proofs.Slots.{in_order-permutes, in_order-whole}
 use Rattle.map_subjects.specs.Subjects.{place_in}
 use Rattle.map_subjects.proofs.Finding.{all-at}
 use Rattle.map_assignments.specs.Mapped.{IsMapOf}
-use Rattle.map_assignments.specs.Planning.{is_mixed}
-use Rattle.map_laws.specs.Standing.{IsSimpleOf, HasNillable, HasComplex, HasContent}
+use Rattle.map_assignments.specs.Planning.{is_mixed, is_all, is_ordered}
+use Rattle.map_laws.specs.Standing.{count_elements, order_count, IsSimpleOf, HasNillable, HasComplex, HasContent}
 use Rattle.map_laws.specs.Statements.{IsTypeAt}
 use Rattle.map_laws.proofs.Leading.{types-lead}
 use Rattle.xer_items.specs.Items as items
-use Rattle.xer_items.specs.Items.{Given, given, with_texts, element_of, inside}
+use Rattle.xer_items.specs.Items.{Given, given, with_order, with_texts, element_of, inside}
 use Rattle.validity.specs.Asked.{Asked, Attribute, Inside, asked, space_at, attribute_in, inside_of, asked_by, asked_by_type, asked_by_complex, asked_at}
 use Rattle.validity.specs.Asked as ask
 use Rattle.validity.specs.Attributes.{Nil, not_nil, is_nil, bad_nil, nil_by, nil_of, xsi_nil, text_of, left, Stands, AllStand, put_attribute, treated_attribute, treated_attributes, with_nil}
 use Rattle.value_exists.proofs.Texts.{IsEncoded, left-encoded, text-encoded, text-given, never-true}
 use Rattle.value_exists.proofs.Kids.{IsXml, only-utf8, between-xml, kids-xml, texts_value, texts-fitting}
 use Rattle.value_exists.proofs.Elements.{nil-nillable, kids-text}
-use Rattle.content_values.specs.Made.{Child}
+use Rattle.content_values.specs.Made.{Child, TopMade}
 use Rattle.xer_read.specs.Private.Held.{Beside, Held, texts_of}
 use Rattle.xer_read.specs.Private.Held as held
 use Rattle.xer_read.specs.Private.Given.{IsTypeFor, Gives}
 use Rattle.xer_read.specs.Private.Keeping.{AllKept}
-use Rattle.xer_read.specs.Private.Contents.{AreThose, IsContentBy, IsContentOf, IsNilContent, AttributesMade, TextsMade, ChildrenMade, NothingMade, RestMade, ComplexMade, is_plain_by, is_plain_at, IsMadeBy, IsMade}
+use Rattle.xer_read.specs.Private.Contents.{AreThose, AreOrdered, IsContentBy, IsContentOf, IsNilContent, AttributesMade, TextsMade, ChildrenMade, OrderedMade, NothingMade, RestMade, ComplexMade, is_plain_by, is_plain_at, IsMadeBy, IsMade}
 use Rattle.xer_read.proofs.Attributed.{put-kept}
 use Rattle.xer_read.proofs.Making.{named-top, AreGifts}
-use Rattle.xer_read.proofs.Parting.{ContentAs, RestAs, AttributesIn, TextsIn, complex-made}
+use Rattle.xer_read.proofs.Sorting.{no-all-plain, all-many, numbers-below, told-elements, in-order, order-made}
+use Rattle.xer_read.proofs.Parting.{FlagsIn, IsTold, ContentAs, RestAs, AttributesIn, TextsIn, complex-made}
 
 -- what is read of an element, nil or not
 abbrev pub ReadBy : Set → Nil → Inside → Roses ItemLabel → Held → Roses Plain → Type 0
@@ -73,6 +80,7 @@ made-complex held.nil v P h = h
 made-complex held.nothing v P h = h
 made-complex (held.text w) v P h = h
 made-complex (held.children model gs) v P h = h
+made-complex (held.ordered model flags gs) v P h = h
 
 module _ (s : Set) (linked : IsLinked s) (M : List Assignment) (is_map : IsMapOf s M) (depth : ℕ) (small : depth ≤ 64) where
   abbrev asks : ℕ → Asked
@@ -145,14 +153,19 @@ module _ (s : Set) (linked : IsLinked s) (M : List Assignment) (is_map : IsMapOf
   -- ---- contents
 
   -- what is read for a content gives these kids
-  record RestRead (nillable : Bool) (n : Nil) (c : schema.Content) (vs : Roses Plain) (front rest : List Bool) (first last : List (Rose ValueLabel)) : Type 0 where
+  record RestRead (nillable : Bool) (n : Nil) (c : schema.Content) (numbers : List ℕ) (vs : Roses Plain) (front rest : List Bool) (first last : List (Rose ValueLabel)) : Type 0 where
     pub nil : Bool
     pub kids : Roses Plain
     pub count : ℕ
     pub texts : List (List ℕ)
+    pub flags : List Bool
     pub rest_as : RestAs M E N depth small s linked nillable nil c rest last kids count
     pub texts_in : TextsIn M E N depth small s linked (is_mixed c) (text_count nil count) texts front first
-    pub whole : (xs : List (Name × List ℕ)) → items.with_nil nil (with_texts (is_mixed c) texts (given xs kids)) ≡ given (with_nil n xs) vs
+    pub told : is_ordered c ≡ true → IsTold nillable nil (order_count c) numbers flags rest last
+    pub whole : (xs : List (Name × List ℕ)) → items.with_nil nil (with_texts (is_mixed c) texts (with_order (is_ordered c) flags numbers (given xs kids))) ≡ given (with_nil n xs) vs
+
+  never : {A : Type 0} → false ≡ true → A
+  never e = absurd (true≢false (sym e))
 
   texts-in : (words : List (List ℕ)) → All IsXml words → (texts : Rose ValueLabel) → texts ≡ texts_value words → (wanted : ℕ) → length words ≡ wanted → (flags : List Bool) (vs : List (Rose ValueLabel))
       → flags ≡ true ∷ [] → vs ≡ texts ∷ [] → TextsIn M E N depth small s linked true wanted words flags vs
@@ -164,6 +177,10 @@ module _ (s : Set) (linked : IsLinked s) (M : List Assignment) (is_map : IsMapOf
   nothing-put true xs = refl
   nothing-put false xs = refl
 
+  none-ordered : (b : Bool) (xs : List (Name × List ℕ)) → with_order b [] [] (given xs rose.none) ≡ given xs rose.none
+  none-ordered true xs = refl
+  none-ordered false xs = refl
+
   nil-texts : (c : schema.Content) (texts : Rose ValueLabel) → texts ≡ node value.SequenceOf rose.none → (flags : List Bool) (vs : List (Rose ValueLabel)) → TextsMade (inside_of (parts_of s) c) texts flags vs
       → TextsIn M E N depth small s linked (is_mixed c) 0 [] flags vs
   nil-texts content_.Empty texts is flags vs h = h
@@ -173,7 +190,7 @@ module _ (s : Set) (linked : IsLinked s) (M : List Assignment) (is_map : IsMapOf
 
   nil-read : (nillable : Bool) → nillable ≡ true → (c : schema.Content) (content : Held) (vs : Roses Plain) → IsNilContent content → vs ≡ rose.none
       → (front rest : List Bool) (first last : List (Rose ValueLabel)) → TextsMade (inside_of (parts_of s) c) (texts_of content) front first → RestMade nillable content.rest rest last
-      → RestRead nillable is_nil c vs front rest first last
+      → RestRead nillable is_nil c content.order vs front rest first last
   nil-read nillable may c content vs nil e front rest first last texts others =
       let made : RestMade nillable held.nil rest last = subst (λ r. RestMade nillable r rest last) nil.0 others in
       record {
@@ -181,9 +198,13 @@ module _ (s : Set) (linked : IsLinked s) (M : List Assignment) (is_map : IsMapOf
         kids = rose.none;
         count = 0;
         texts = [];
+        flags = [];
         rest_as = subst (λ b. RestAs M E N depth small s linked b true c rest last rose.none 0) (sym may) (made.0, made.1, refl, refl);
         texts_in = nil-texts c (texts_of content) nil.1 front first texts;
-        whole = λ xs. ap (items.with_nil true) (nothing-put (is_mixed c) xs) ∙ ap (λ z. given (with_nil is_nil xs) z) (sym e);
+        told = λ is. subst (λ b. IsTold b true (order_count c) content.order [] rest last) (sym may)
+            (subst (λ ns. IsTold true true (order_count c) ns [] rest last) (sym nil.2) (record { just = (just_set [] []).0 refl; below = tt; flags_are = refl }));
+        whole = λ xs. ap (λ z. items.with_nil true (with_texts (is_mixed c) [] z)) (ap (λ ns. with_order (is_ordered c) [] ns (given xs rose.none)) nil.2 ∙ none-ordered (is_ordered c) xs)
+            ∙ ap (items.with_nil true) (nothing-put (is_mixed c) xs) ∙ ap (λ z. given (with_nil is_nil xs) z) (sym e);
       }
 
   nothing-rest : (nillable : Bool) (flags : List Bool) (vs : List (Rose ValueLabel)) → NothingMade nillable flags vs → RestAs M E N depth small s linked nillable false content_.Empty flags vs rose.none 0
@@ -201,6 +222,28 @@ module _ (s : Set) (linked : IsLinked s) (M : List Assignment) (is_map : IsMapOf
       (node (value.Sequence fs) (roses_of ws), ef, ev, (fs, ws, refl, (gs, bs, named-top N (seen p) named, h, given_all, refl, refl))) in
       (all, all)
 
+  -- those of an all, in the order of its particles
+  ordered-rest : (nillable : Bool) (p : Rose ParticleLabel) (fs : List Bool) (gs : List Child) (bs : List (Rose Plain)) (flags : List Bool) (vs : List (Rose ValueLabel)) → All (IsNamed s) (leaves (seen p))
+      → AreGifts M E N depth small gs bs → OrderedMade nillable (seen p) fs gs flags vs
+      → RestAs M E N depth small s linked nillable false (content_.ElementOnly p) flags vs (roses_of bs) (length bs) × RestAs M E N depth small s linked nillable false (content_.Mixed p) flags vs (roses_of bs) (length bs)
+      × FlagsIn nillable false fs flags vs
+  ordered-rest false p fs gs bs flags vs named given_all (ef, h) =
+      let all : ContentAs M E N depth small s linked (content_.ElementOnly p) flags vs (roses_of bs) (length bs) =
+      (gs, bs, named-top N (seen p) named, subst (λ z. TopMade (seen p) z vs gs) (sym ef) h, given_all, refl, refl) in
+      (all, all, ef)
+  ordered-rest true p fs gs bs flags vs named given_all (ws, ef, ev, h) =
+      let all : RestAs M E N depth small s linked true false (content_.ElementOnly p) flags vs (roses_of bs) (length bs) =
+      (node (value.Sequence fs) (roses_of ws), ef, ev, (fs, ws, refl, (gs, bs, named-top N (seen p) named, h, given_all, refl, refl))) in
+      (all, all, (ws, ev))
+
+  -- an all has as many particles as there are flags
+  ordered-many : (nillable : Bool) (p : Particle) (fs : List Bool) (gs : List Child) (flags : List Bool) (vs : List (Rose ValueLabel)) → is_all p ≡ true → OrderedMade nillable p fs gs flags vs → length fs ≡ count_elements p
+  ordered-many nillable p fs gs flags vs all h = all-many p fs (made nillable h).0 gs all (made nillable h).1
+    where
+      made : (b : Bool) → OrderedMade b p fs gs flags vs → (ws : List (Rose ValueLabel)) × TopMade p fs ws gs
+      made false k = (vs, k.1)
+      made true (ws, ef, ev, k) = (ws, k)
+
   module _ (nillable : Bool) (ts : Roses ItemLabel) (sound : are_sound ts ≡ true) (within : suc depth + levels_all ts ≤ 65) (front rest : List Bool) (first last : List (Rose ValueLabel)) where
     children-made : (q : Particle) (model : Rose ParticleLabel) (gs : List Child) → q ≡ seen model → ChildrenMade nillable (seen model) gs rest last → ChildrenMade nillable q gs rest last
     children-made q model gs e h = subst (λ z. ChildrenMade nillable z gs rest last) (sym e) h
@@ -213,9 +256,10 @@ module _ (s : Set) (linked : IsLinked s) (M : List Assignment) (is_map : IsMapOf
         by false = (spelled (space_at (parts_of s) m) v, v, ef, ev, text-given s linked M depth small m words encoded v accepts, is)
         by true = (v, ef, ev, (spelled (space_at (parts_of s) m) v, text-given s linked M depth small m words encoded v accepts, is))
 
-    mixed-read : (p : Rose ParticleLabel) (texts : Rose ValueLabel) (gs : List Child) (vs : Roses Plain) → AreThose s true (seen p) ts texts gs vs → front ≡ true ∷ [] → first ≡ texts ∷ []
-        → ChildrenMade nillable (seen p) gs rest last → RestRead nillable not_nil (content_.Mixed p) vs front rest first last
-    mixed-read p texts gs vs those ef ev made =
+    mixed-read : (p : Rose ParticleLabel) (texts : Rose ValueLabel) (numbers : List ℕ) (gs : List Child) (vs : Roses Plain) → IsNoAll (seen p) → AreThose s true (seen p) ts texts gs vs → front ≡ true ∷ [] → first ≡ texts ∷ []
+        → ChildrenMade nillable (seen p) gs rest last → RestRead nillable not_nil (content_.Mixed p) numbers vs front rest first last
+    mixed-read p texts numbers gs vs no_all those ef ev made =
+        let plain = no-all-plain (seen p) no_all in
         let around = those.mixed_is refl in
         let bs = those.items in
         let long = length_all-roses_of bs in
@@ -229,67 +273,145 @@ module _ (s : Set) (linked : IsLinked s) (M : List Assignment) (is_map : IsMapOf
           kids = roses_of bs;
           count = length bs;
           texts = around.words;
+          flags = [];
           rest_as = (children-rest nillable p gs bs rest last those.named (gifts (levels_all ts) within gs bs those.kept) made).1;
           texts_in = texts-in around.words xml texts around.texts_are (length bs + 1) (omega (arith, many)) front first ef ev;
-          whole = λ xs. ap (λ z. given xs z) (sym around.is);
+          told = λ is. never (sym plain ∙ is);
+          whole = λ xs. ap (λ b. with_texts true around.words (with_order b [] numbers (given xs (roses_of bs)))) plain ∙ ap (λ z. given xs z) (sym around.is);
         }
 
-    plain-read : (p : Rose ParticleLabel) (texts : Rose ValueLabel) (gs : List Child) (vs : Roses Plain) → AreThose s false (seen p) ts texts gs vs → front ≡ [] → first ≡ []
-        → ChildrenMade nillable (seen p) gs rest last → RestRead nillable not_nil (content_.ElementOnly p) vs front rest first last
-    plain-read p texts gs vs those ef ev made =
+    plain-read : (p : Rose ParticleLabel) (texts : Rose ValueLabel) (numbers : List ℕ) (gs : List Child) (vs : Roses Plain) → IsNoAll (seen p) → AreThose s false (seen p) ts texts gs vs → front ≡ [] → first ≡ []
+        → ChildrenMade nillable (seen p) gs rest last → RestRead nillable not_nil (content_.ElementOnly p) numbers vs front rest first last
+    plain-read p texts numbers gs vs no_all those ef ev made =
+        let plain = no-all-plain (seen p) no_all in
         let bs = those.items in
         record {
           nil = false;
           kids = roses_of bs;
           count = length bs;
           texts = [];
+          flags = [];
           rest_as = (children-rest nillable p gs bs rest last those.named (gifts (levels_all ts) within gs bs those.kept) made).0;
           texts_in = (ef, ev);
-          whole = λ xs. ap (λ z. given xs z) (sym (those.plain_is refl));
+          told = λ is. never (sym plain ∙ is);
+          whole = λ xs. ap (λ b. with_order b [] numbers (given xs (roses_of bs))) plain ∙ ap (λ z. given xs z) (sym (those.plain_is refl));
         }
 
-    content-read : (c : schema.Content) (texts : Rose ValueLabel) (r : Beside) (vs : Roses Plain) → IsContentBy s (inside_of (parts_of s) c) ts texts r vs → TextsMade (inside_of (parts_of s) c) texts front first
-        → RestMade nillable r rest last → RestRead nillable not_nil c vs front rest first last
-    content-read content_.Empty texts held.nil vs h t o = absurd h
-    content-read content_.Empty texts (held.text v) vs h t o = absurd h
-    content-read content_.Empty texts (held.children model gs) vs h t o = absurd h
-    content-read content_.Empty texts held.nothing vs h t o = record {
+    -- what is told of an all
+    ordered-told : (p : Rose ParticleLabel) (numbers : List ℕ) (fs : List Bool) (gs : List Child) → is_all (seen p) ≡ true → AreJustSet numbers fs → FlagsIn nillable false fs rest last
+        → OrderedMade nillable (seen p) fs gs rest last → IsTold nillable false (count_elements (seen p)) numbers fs rest last
+    ordered-told p numbers fs gs all just flags made = record {
+      just = just;
+      below = subst (λ n. AllByRecursion (λ i. i < n) numbers) (ordered-many nillable (seen p) fs gs rest last all made) (numbers-below fs numbers just);
+      flags_are = flags;
+    }
+
+    mixed-ordered : (p : Rose ParticleLabel) (texts : Rose ValueLabel) (numbers : List ℕ) (fs : List Bool) (gs : List Child) (vs : Roses Plain) → is_all (seen p) ≡ true
+        → AreOrdered s true (seen p) ts texts numbers fs gs vs → front ≡ true ∷ [] → first ≡ texts ∷ []
+        → OrderedMade nillable (seen p) fs gs rest last → RestRead nillable not_nil (content_.Mixed p) numbers vs front rest first last
+    mixed-ordered p texts numbers fs gs vs all those ef ev made =
+        let around = those.mixed_is refl in
+        let bs = those.items in
+        let told = taken (slots fs bs) numbers in
+        let same : in_order fs numbers bs ≡ told = in_order-whole fs numbers bs (sym those.many) in
+        let as_many : length told ≡ length bs = ap length (sym same) ∙ length_permutation bs (in_order fs numbers bs) (in_order-permutes fs numbers bs those.just) in
+        let long = length_all-roses_of told in
+        let many = around.many in
+        let enough : length around.words ≡ suc (length_all (roses_of told)) = omega (arith, long, many) in
+        let elements = elements-kept s (levels_all ts) gs bs those.kept in
+        let together = puts_together around.words (roses_of told) (subst (λ z. AllElements (roses_of z)) same (told-elements fs numbers bs elements)) enough in
+        let between : texts_between vs ≡ around.words = ap texts_between around.is ∙ together.1 in
+        let xml : All IsXml around.words = subst (λ w. All IsXml w) between (between-xml vs (kids-xml asks M E depth small ts sound those.leaves_are vs those.valid)) in
+        let rests = ordered-rest nillable p fs gs bs rest last those.named (gifts (levels_all ts) within gs bs those.kept) made in
+        record {
+          nil = false;
+          kids = roses_of bs;
+          count = length bs;
+          texts = around.words;
+          flags = fs;
+          rest_as = rests.1;
+          texts_in = texts-in around.words xml texts around.texts_are (length bs + 1) (omega (arith, many, as_many)) front first ef ev;
+          told = λ is. ordered-told p numbers fs gs all those.just rests.2 made;
+          whole = λ xs. ap (λ b. with_texts true around.words (with_order b fs numbers (given xs (roses_of bs)))) all
+              ∙ ap (λ z. given xs (interleaved around.words z)) (in-order fs numbers bs elements ∙ ap roses_of same) ∙ ap (λ z. given xs z) (sym around.is);
+        }
+
+    plain-ordered : (p : Rose ParticleLabel) (texts : Rose ValueLabel) (numbers : List ℕ) (fs : List Bool) (gs : List Child) (vs : Roses Plain) → is_all (seen p) ≡ true
+        → AreOrdered s false (seen p) ts texts numbers fs gs vs → front ≡ [] → first ≡ []
+        → OrderedMade nillable (seen p) fs gs rest last → RestRead nillable not_nil (content_.ElementOnly p) numbers vs front rest first last
+    plain-ordered p texts numbers fs gs vs all those ef ev made =
+        let bs = those.items in
+        let same : in_order fs numbers bs ≡ taken (slots fs bs) numbers = in_order-whole fs numbers bs (sym those.many) in
+        let elements = elements-kept s (levels_all ts) gs bs those.kept in
+        let rests = ordered-rest nillable p fs gs bs rest last those.named (gifts (levels_all ts) within gs bs those.kept) made in
+        record {
+          nil = false;
+          kids = roses_of bs;
+          count = length bs;
+          texts = [];
+          flags = fs;
+          rest_as = rests.0;
+          texts_in = (ef, ev);
+          told = λ is. ordered-told p numbers fs gs all those.just rests.2 made;
+          whole = λ xs. ap (λ b. with_order b fs numbers (given xs (roses_of bs))) all
+              ∙ ap (λ z. given xs z) (in-order fs numbers bs elements ∙ ap roses_of same ∙ sym (those.plain_is refl));
+        }
+
+    ordered-moved : (q : Particle) (model : Rose ParticleLabel) (fs : List Bool) (gs : List Child) → q ≡ seen model → OrderedMade nillable (seen model) fs gs rest last → OrderedMade nillable q fs gs rest last
+    ordered-moved q model fs gs e h = subst (λ z. OrderedMade nillable z fs gs rest last) (sym e) h
+
+    content-read : (c : schema.Content) (texts : Rose ValueLabel) (numbers : List ℕ) (r : Beside) (vs : Roses Plain) → IsContentBy s (inside_of (parts_of s) c) ts texts numbers r vs
+        → TextsMade (inside_of (parts_of s) c) texts front first → RestMade nillable r rest last → RestRead nillable not_nil c numbers vs front rest first last
+    content-read content_.Empty texts numbers held.nil vs h t o = absurd h
+    content-read content_.Empty texts numbers (held.text v) vs h t o = absurd h
+    content-read content_.Empty texts numbers (held.children model gs) vs h t o = absurd h
+    content-read content_.Empty texts numbers (held.ordered model fs gs) vs h t o = absurd h
+    content-read content_.Empty texts numbers held.nothing vs h t o = record {
       nil = false;
       kids = rose.none;
       count = 0;
       texts = [];
+      flags = [];
       rest_as = nothing-rest nillable rest last o;
       texts_in = t;
+      told = λ is. never is;
       whole = λ xs. ap (λ z. given xs z) (sym h.1);
     }
-    content-read (content_.Simple m) texts held.nil vs h t o = absurd h
-    content-read (content_.Simple m) texts held.nothing vs h t o = absurd h
-    content-read (content_.Simple m) texts (held.children model gs) vs h t o = absurd h
-    content-read (content_.Simple m) texts (held.text v) vs (words, only, accepts, is) t o = record {
+    content-read (content_.Simple m) texts numbers held.nil vs h t o = absurd h
+    content-read (content_.Simple m) texts numbers held.nothing vs h t o = absurd h
+    content-read (content_.Simple m) texts numbers (held.children model gs) vs h t o = absurd h
+    content-read (content_.Simple m) texts numbers (held.ordered model fs gs) vs h t o = absurd h
+    content-read (content_.Simple m) texts numbers (held.text v) vs (words, only, accepts, is) t o = record {
       nil = false;
       kids = vs;
       count = 0;
       texts = [];
+      flags = [];
       rest_as = text-rest m v vs words (only-utf8 ts sound words only) accepts (is ∙ kids-text (spelled (space_at (parts_of s) m) v)) o.0 o.1;
       texts_in = t;
+      told = λ is. never is;
       whole = λ xs. refl;
     }
-    content-read (content_.ElementOnly p) texts held.nil vs h t o = absurd h
-    content-read (content_.ElementOnly p) texts held.nothing vs h t o = absurd h
-    content-read (content_.ElementOnly p) texts (held.text v) vs h t o = absurd h
-    content-read (content_.ElementOnly p) texts (held.children model gs) vs h t o =
-        plain-read p texts gs vs h.1 t.0 t.1 (children-made (seen p) model gs h.0 o)
-    content-read (content_.Mixed p) texts held.nil vs h t o = absurd h
-    content-read (content_.Mixed p) texts held.nothing vs h t o = absurd h
-    content-read (content_.Mixed p) texts (held.text v) vs h t o = absurd h
-    content-read (content_.Mixed p) texts (held.children model gs) vs h t o =
-        mixed-read p texts gs vs h.1 t.0 t.1 (children-made (seen p) model gs h.0 o)
+    content-read (content_.ElementOnly p) texts numbers held.nil vs h t o = absurd h
+    content-read (content_.ElementOnly p) texts numbers held.nothing vs h t o = absurd h
+    content-read (content_.ElementOnly p) texts numbers (held.text v) vs h t o = absurd h
+    content-read (content_.ElementOnly p) texts numbers (held.children model gs) vs h t o =
+        plain-read p texts numbers gs vs h.1 h.2 t.0 t.1 (children-made (seen p) model gs h.0 o)
+    content-read (content_.ElementOnly p) texts numbers (held.ordered model fs gs) vs h t o =
+        plain-ordered p texts numbers fs gs vs h.1 h.2 t.0 t.1 (ordered-moved (seen p) model fs gs h.0 o)
+    content-read (content_.Mixed p) texts numbers held.nil vs h t o = absurd h
+    content-read (content_.Mixed p) texts numbers held.nothing vs h t o = absurd h
+    content-read (content_.Mixed p) texts numbers (held.text v) vs h t o = absurd h
+    content-read (content_.Mixed p) texts numbers (held.children model gs) vs h t o =
+        mixed-read p texts numbers gs vs h.1 h.2 t.0 t.1 (children-made (seen p) model gs h.0 o)
+    content-read (content_.Mixed p) texts numbers (held.ordered model fs gs) vs h t o =
+        mixed-ordered p texts numbers fs gs vs h.1 h.2 t.0 t.1 (ordered-moved (seen p) model fs gs h.0 o)
 
     rest-read : (c : schema.Content) (n : Nil) (o : Option (List ℕ)) → nil_by nillable o ≡ n → (content : Held) (vs : Roses Plain) → ReadBy s n (inside_of (parts_of s) c) ts content vs
-        → TextsMade (inside_of (parts_of s) c) (texts_of content) front first → RestMade nillable content.rest rest last → RestRead nillable n c vs front rest first last
+        → TextsMade (inside_of (parts_of s) c) (texts_of content) front first → RestMade nillable content.rest rest last → RestRead nillable n c content.order vs front rest first last
     rest-read c bad_nil o e content vs h t m = absurd h
     rest-read c is_nil o e content vs h t m = nil-read nillable (nil-nillable nillable o e) c content vs h.0 h.1 front rest first last t m
-    rest-read c not_nil o e content vs h t m = content-read c (texts_of content) content.rest vs h t m
+    rest-read c not_nil o e content vs h t m = content-read c (texts_of content) content.order content.rest vs h t m
 
   -- ---- elements
 
@@ -300,9 +422,9 @@ module _ (s : Set) (linked : IsLinked s) (M : List Assignment) (is_map : IsMapOf
       abbrev IsRight : Asked → Type 0
       IsRight a = FitsAt M depth u v × (inside M u v ≡ given (with_nil n (treated_attributes a.attributes (left xs))) vs)
 
-      complex-right : (nillable : Bool) (c : ComplexDef) → All (HasStandard s) c.uses → (a : Asked) → a ≡ asked nillable (map own c.uses) (inside_of (parts_of s) c.content) → HasComplex E s M nillable c (resolve M u) → AllStand a.attributes (left xs)
+      complex-right : (nillable : Bool) (c : ComplexDef) → (is_ordered c.content ≡ true → IsContent s c.content) → All (HasStandard s) c.uses → (a : Asked) → a ≡ asked nillable (map own c.uses) (inside_of (parts_of s) c.content) → HasComplex E s M nillable c (resolve M u) → AllStand a.attributes (left xs)
           → nil_of a.nillable xs ≡ n → ReadBy s n a.inside ts content vs → ComplexMade a xs content v → IsRight a
-      complex-right nillable c standards a e has stand nil h made = subst IsRight (sym e) (go (subst (λ b. AllStand b.attributes (left xs)) e stand) (subst (λ b. nil_of b.nillable xs ≡ n) e nil) (subst (λ b. ReadBy s n b.inside ts content vs) e h) (subst (λ b. ComplexMade b xs content v) e made))
+      complex-right nillable c ok standards a e has stand nil h made = subst IsRight (sym e) (go (subst (λ b. AllStand b.attributes (left xs)) e stand) (subst (λ b. nil_of b.nillable xs ≡ n) e nil) (subst (λ b. ReadBy s n b.inside ts content vs) e h) (subst (λ b. ComplexMade b xs content v) e made))
         where
           go : AllStand (map own c.uses) (left xs) → nil_of nillable xs ≡ n → ReadBy s n (inside_of (parts_of s) c.content) ts content vs
               → ComplexMade (asked nillable (map own c.uses) (inside_of (parts_of s) c.content)) xs content v → IsRight (asked nillable (map own c.uses) (inside_of (parts_of s) c.content))
@@ -310,7 +432,8 @@ module _ (s : Set) (linked : IsLinked s) (M : List Assignment) (is_map : IsMapOf
               let ys = treated_attributes (map own c.uses) (left xs) in
               let attributes = attributes-in (left xs) (left-encoded xs sound_attributes) c.uses standards stand made.flags made.values made.attributes in
               let r = rest-read nillable ts sound within made.text_flags made.rest_flags made.text_values made.rest_values c.content n (text_of xs xsi_nil) nil content vs h made.texts made.others in
-              let all = complex-made M E N depth small s linked nillable c u has r.nil r.kids r.count ys r.texts made.text_flags made.flags made.rest_flags made.text_values made.values made.rest_values r.texts_in attributes r.rest_as in
+              let all = complex-made M E N depth small s linked nillable c ok u has r.nil r.kids r.count ys r.texts content.order r.flags made.text_flags made.order_flags made.flags made.rest_flags
+              made.text_values made.order_values made.values made.rest_values r.texts_in (order-made (parts_of s) c.content content.order made.order_flags made.order_values made.order) attributes r.rest_as r.told in
               subst (λ w. FitsAt M depth u w × (inside M u w ≡ given (with_nil n ys) vs)) (sym made.is) (all.0, all.1 ∙ r.whole ys)
 
       -- an element of a simple type that can't be nil
@@ -318,11 +441,12 @@ module _ (s : Set) (linked : IsLinked s) (M : List Assignment) (is_map : IsMapOf
           → IsMadeBy true content.rest v (ComplexMade a xs content v) → IsRight a
       plain-right m a e has nil h made = subst IsRight (sym e) (by n refl (subst (λ b. nil_of b.nillable xs ≡ n) e nil) (subst (λ b. ReadBy s n b.inside ts content vs) e h))
         where
-          text-right : (k : Nil) (r : Beside) → k ≡ not_nil → IsContentBy s (ask.simple (space_at (parts_of s) m)) ts (texts_of content) r vs → IsMadeBy true r v (ComplexMade a xs content v)
+          text-right : (k : Nil) (r : Beside) → k ≡ not_nil → IsContentBy s (ask.simple (space_at (parts_of s) m)) ts (texts_of content) content.order r vs → IsMadeBy true r v (ComplexMade a xs content v)
               → FitsAt M depth u v × (inside M u v ≡ given (with_nil k []) vs)
           text-right k held.nil q h made = absurd h
           text-right k held.nothing q h made = absurd h
           text-right k (held.children model gs) q h made = absurd h
+          text-right k (held.ordered model fs gs) q h made = absurd h
           text-right k (held.text w) q (words, only, accepts, is) made =
               let space = space_at (parts_of s) m in
               let one = text-given s linked M depth small m words (only-utf8 ts sound words only) w accepts u has in
@@ -341,7 +465,7 @@ module _ (s : Set) (linked : IsLinked s) (M : List Assignment) (is_map : IsMapOf
           ]
           → AllStand a.attributes (left xs) → nil_of a.nillable xs ≡ n → ReadBy s n a.inside ts content vs → IsMadeBy plain content.rest v (ComplexMade a xs content v) → IsRight a
       kind-right d (kind.Simple m) true a e plain p has stand nil h made =
-          complex-right true (record { name = None; uses = []; content = content_.Simple m }) (All-nil (HasStandard s)) a e has stand nil h
+          complex-right true (record { name = None; uses = []; content = content_.Simple m }) (λ e. never e) (All-nil (HasStandard s)) a e has stand nil h
           (made-complex content.rest v (ComplexMade a xs content v) (subst (λ b. IsMadeBy b content.rest v (ComplexMade a xs content v)) p made))
       kind-right d (kind.Simple m) false a e plain p has stand nil h made =
           plain-right m a e has nil h (subst (λ b. IsMadeBy b content.rest v (ComplexMade a xs content v)) p made)
@@ -350,7 +474,7 @@ module _ (s : Set) (linked : IsLinked s) (M : List Assignment) (is_map : IsMapOf
           by : (o : Option ComplexDef) → slice_get s.complexes m ≡ o → a ≡ asked_by_complex (parts_of s) nillable o → IsSomeAnd o (λ (c : ComplexDef). HasComplex E s M nillable c (resolve M u)) → IsRight a
           by None g e has = absurd has
           by (Some c) g e has =
-              complex-right nillable c (all-at (IsComplexType s) s.complexes m c g linked.complexes).standards a e has stand nil h
+              complex-right nillable c (λ e. (all-at (IsComplexType s) s.complexes m c g linked.complexes).content) (all-at (IsComplexType s) s.complexes m c g linked.complexes).standards a e has stand nil h
               (made-complex content.rest v (ComplexMade a xs content v) (subst (λ b. IsMadeBy b content.rest v (ComplexMade a xs content v)) p made))
 
 -- what is made of an element that was read

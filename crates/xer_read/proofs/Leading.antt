@@ -5,10 +5,10 @@ use Rattle.label_tree.specs.Rose.{Rose}
 use Rattle.flat_tree.specs.Zips.{Zip, opened, added_all}
 use Rattle.simple_types.specs.declared.labels.ValueLabel.{ValueLabel}
 use Rattle.simple_types.specs.declared.labels.ValueLabel.TheVariants as value
-use Rattle.content_models.specs.Particle.{Particle, occurs, Term, element, sequence, choice, Particles, none, more}
+use Rattle.content_models.specs.Particle.{Particle, occurs, Term, element, sequence, choice, all, Particles, none, more}
 use Rattle.content_models.specs.Language.{Turn, Leaf, turn_of, leaf_at, size_of}
-use Rattle.content_models.specs.Clear.{Clear, ClearInOrder, ClearOneOf}
-use Rattle.content_spots.specs.Spots.{Spot, at, Inner, here, inside, leaf_of, leaf_of_term, leaf_in}
+use Rattle.content_models.specs.Clear.{Clear, ClearInOrder, ClearOneOf, IsNoAll}
+use Rattle.content_spots.specs.Spots.{Spot, at, Inner, here, inside, among, leaf_of, leaf_of_term, leaf_in}
 use Rattle.content_spots.specs.Laws.{EndsAt, step_from}
 use Rattle.content_match.specs.Taking.{Matched, TookMore, spot_of}
 use Rattle.content_match.specs.declared.places.Leaf as matched
@@ -60,6 +60,9 @@ mutual
   term-decl : (t : Term) (s : Inner) (gs : List Child) (d : ℕ) (before now : Zip ValueLabel) (n : ℕ) (path : List Turn) (l : Leaf) → TermReached t s gs d before now → leaf_of_term t n path s ≡ Some l → l.decl ≡ d
   term-decl (element e a) here gs d before now n path l h q = leaf-decl n e a path l q ∙ h.1
   term-decl (element e a) (inside j s) gs d before now n path l h q = absurd h
+  term-decl (element e a) (among j ms) gs d before now n path l h q = absurd h
+  term-decl (all ps) s gs d before now n path l h q = absurd h
+  term-decl (choice ps) (among j ms) gs d before now n path l h q = absurd h
   term-decl (sequence ps) s gs d before now n path l h q = order-decl ps s gs d (opened (value.Sequence []) before) now (suc n) path l h q
   term-decl (choice ps) here gs d before now n path l h q = absurd h
   term-decl (choice ps) (inside j s) gs d before now n path l h q = one-decl ps j s gs d (opened (value.Choice j) before) now (suc n) path l h q
@@ -67,6 +70,7 @@ mutual
   order-decl : (ps : Particles) (s : Inner) (gs : List Child) (d : ℕ) (before now : Zip ValueLabel) (n : ℕ) (path : List Turn) (l : Leaf) → OrderReached ps s gs d before now → leaf_in ps n path s ≡ Some l → l.decl ≡ d
   order-decl none s gs d before now n path l h q = absurd h
   order-decl (more p ps) here gs d before now n path l h q = absurd h
+  order-decl (more p ps) (among j ms) gs d before now n path l h q = absurd h
   order-decl (more p ps) (inside zero s) gs d before now n path l h q = particle-decl false p s gs d (flagged true before) now n path l h q
   order-decl (more p ps) (inside (suc j) s) gs d before now n path l (flags, vs, a, b, e, made, h) q =
       order-decl ps (inside j s) b d (with_parts flags vs before) now (n + size_of p) path l h q
@@ -79,6 +83,7 @@ mutual
 parted-decl : (t : Term) (least : ℕ) (most : Option ℕ) (s : Spot) (gs : List Child) (d : ℕ) (before now : Zip ValueLabel) (l : Leaf) → PartedReached t s gs d before now → leaf_of (occurs t least most) 0 [] s ≡ Some l → l.decl ≡ d
 parted-decl (element e a) least most s gs d before now l h q = absurd h
 parted-decl (choice ps) least most s gs d before now l h q = absurd h
+parted-decl (all ps) least most s gs d before now l h q = absurd h
 parted-decl (sequence ps) least most (at i s) gs d before now l h q = order-decl ps s gs d before now 1 ([] ++ turn_of 0 i ∷ []) l h.1 q
 
 pub top-decl : (p : Particle) (s : Spot) (gs : List Child) (d : ℕ) (before now : Zip ValueLabel) (l : Leaf) → TopReached p s gs d before now → leaf_of p 0 [] s ≡ Some l → l.decl ≡ d
@@ -113,15 +118,16 @@ step-goes p q a from to o s e f g h = cc
 -- ---- rule 1
 
 mutual
-  pub clear-rule1 : (p : Particle) (follow : _) → Clear p follow → KeepsRule1 p
-  clear-rule1 (occurs (element d a) least most) follow h = (h.0, tt)
-  clear-rule1 (occurs (sequence ps) least most) follow h = (h.0, order-rule1 ps _ h.3)
-  clear-rule1 (occurs (choice ps) least most) follow h = (h.0, one-rule1 ps _ h.3)
+  pub clear-rule1 : (p : Particle) (follow : _) → Clear p follow → IsNoAll p → KeepsRule1 p
+  clear-rule1 (occurs (element d a) least most) follow h n = (h.0, tt)
+  clear-rule1 (occurs (sequence ps) least most) follow h n = (h.0, order-rule1 ps _ h.4)
+  clear-rule1 (occurs (choice ps) least most) follow h n = (h.0, one-rule1 ps _ h.4)
+  clear-rule1 (occurs (all ps) least most) follow h n = absurd n
 
   order-rule1 : (ps : Particles) (follow : _) → ClearInOrder ps follow → AllKeepRule1 ps
   order-rule1 none follow h = tt
-  order-rule1 (more p ps) follow h = (clear-rule1 p _ h.0, order-rule1 ps follow h.1)
+  order-rule1 (more p ps) follow h = (clear-rule1 p _ h.0 h.2, order-rule1 ps follow h.1)
 
   one-rule1 : (ps : Particles) (follow : _) → ClearOneOf ps follow → AllKeepRule1 ps
   one-rule1 none follow h = tt
-  one-rule1 (more p ps) follow h = (clear-rule1 p follow h.0, one-rule1 ps follow h.1)
+  one-rule1 (more p ps) follow h = (clear-rule1 p follow h.0 h.2, one-rule1 ps follow h.1)

@@ -24,7 +24,7 @@ use Rattle.map_assignments.specs.Naming.{type_label}
 use Rattle.map_assignments.specs.Planning as planning
 use Rattle.map_laws.specs.Children.{Child, child_of, given_by, children}
 use Rattle.map_laws.specs.Standing as standing
-use Rattle.map_laws.specs.Standing.{IsAs, StandsFor, IsPart, once, at_most_once, several, HasTerm, ArePartsOf, IsTop, parted, whole}
+use Rattle.map_laws.specs.Standing.{IsAs, StandsFor, IsPart, once, at_most_once, several, HasTerm, ArePartsOf, IsTop, parted, ordered, whole}
 use Rattle.map_laws.proofs.Values.{gives, present_children, FitsPart, PartsFit, sequence-value, choice-value, ItemsFit, item_children, list-value}
 use Rattle.map_subjects.proofs.Finding.{all-at}
 use Rattle.map_694.proofs.Free.{IsFree}
@@ -60,6 +60,7 @@ parted-same : (t : Term) (least : ℕ) (most : Option ℕ) → is_parted t least
 parted-same (model.element d a) least most = refl
 parted-same (model.sequence ps) least most = once-same least most
 parted-same (model.choice ps) least most = refl
+parted-same (model.all ps) least most = refl
 
 neither : (x y : Bool) → x ≡ false → y ≡ false → (x || y) ≡ false
 neither x y e f = rw (e, f) refl
@@ -78,6 +79,7 @@ module _ (N : ℕ → Name → Type 0) where
     NamedTerm (model.element d a) = N d a
     NamedTerm (model.sequence ps) = NamedAll ps
     NamedTerm (model.choice ps) = NamedAll ps
+    NamedTerm (model.all ps) = NamedAll ps
 
     pub NamedAll : Particles → Type 0
     NamedAll model.none = Unit {0}
@@ -102,6 +104,7 @@ module _ (N : ℕ → Name → Type 0) where
     named-term (model.element d a) h = All-head HasName (d, a) [] h
     named-term (model.sequence ps) h = named-all ps h
     named-term (model.choice ps) h = named-all ps h
+    named-term (model.all ps) h = named-all ps h
 
     named-all : (ps : Particles) → All HasName (all_leaves ps) → NamedAll ps
     named-all model.none h = tt
@@ -114,6 +117,7 @@ optional-is : (x : Term) (l : TypeLabel) (i : ℕ) (optional : Bool) (c : Compon
 optional-is (model.element d name) l i optional c is = is.0.absent
 optional-is (model.sequence ps) l i optional c is = is.absent
 optional-is (model.choice ps) l i optional c is = is.absent
+optional-is (model.all ps) l i optional c is = is.absent
 
 module _ (M : List Assignment) (E : ℕ → Rose TypeLabel → Type 0) (N : ℕ → Name → Type 0) (depth : ℕ) (small : depth ≤ 64) where
   -- of each type at the declaration the value is one, and it gives the item under each name of the declaration
@@ -246,6 +250,7 @@ module _ (M : List Assignment) (E : ℕ → Rose TypeLabel → Type 0) (N : ℕ 
         (group-shows l i optional c u stands w bs (subst (λ x. FitsAt M depth x w) (sym has.2) fits)
         (ap (λ x. told (children M x w)) has.2
         ∙ ap told (sequence-gives M depth j has.0 has.1 flags (roses_of vs) (sequence-value M depth [] has.0 has.1 w fits)) ∙ all.1))
+    term-shows (model.all ps) l i optional c u stands has named v gs bs made k = absurd made
     term-shows (model.choice ps) l i optional c u stands has named v gs bs (place, inner, made_is, chosen) k =
         let j = type_label (form.Choice has.0) [] in
         let one = choice-shows ps j 0 has.0 (list_of has.1) has.3 named place inner gs bs chosen k in
@@ -313,6 +318,8 @@ module _ (M : List Assignment) (E : ℕ → Rose TypeLabel → Type 0) (N : ℕ 
   pub top-shows : (p : Particle) (l : TypeLabel) (i : ℕ) (cs : List Component) (us : List (Rose TypeLabel)) → IsTop E p l i cs us → NamedTop N p
       → (flags : List Bool) (vs : List (Rose ValueLabel)) (gs : List kept.Child) (bs : List (Rose Plain)) → TopMade p flags vs gs → AreGifts gs bs → PartsShow l i cs us flags vs bs
   top-shows p l i cs us (parted ps is g) named flags vs gs bs h k =
+      parts-show ps l i cs us g (subst (NamedTop N) is named) flags vs gs bs (subst (λ q. TopMade q flags vs gs) is h) k
+  top-shows p l i cs us (ordered ps is single g) named flags vs gs bs h k =
       parts-show ps l i cs us g (subst (NamedTop N) is named) flags vs gs bs (subst (λ q. TopMade q flags vs gs) is h) k
   top-shows p l i cs us (whole t least most is in_one g) named flags vs gs bs h k =
       let made : TopMade (occurs t least most) flags vs gs = subst (λ q. TopMade q flags vs gs) is h in

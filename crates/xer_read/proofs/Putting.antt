@@ -12,16 +12,21 @@ use Rattle.value_builder.proofs.Putting.{puts-both}
 use Rattle.validity.specs.Asked.{Asked}
 use Rattle.validity.specs.Attributes.{left}
 use Rattle.xer_read.specs.Private.Putting.{PartsPut}
-use Rattle.xer_read.specs.Private.Contents.{TextsMade, AttributesMade, Begins}
+use Rattle.xer_read.specs.Private.Contents.{is_ordered, TextsMade, OrderMade, AttributesMade, Begins}
 
 pub puts-as : (f g : Zip ValueLabel → Zip ValueLabel) (a b : Built) → ((z : Zip ValueLabel) → f z ≡ g z) → Puts f a b → Puts g a b
 puts-as f g a b same h = record { most = h.most; stands = λ z s. subst (Stands b) (same z) (h.stands z s) }
 
 -- a SEQUENCE with all its parts, which is closed
-pub sequence-closed : (tf f rf : List Bool) (tv v rv : List (Rose ValueLabel)) (z : Zip ValueLabel)
-    → closed (with_parts rf rv (with_parts f v (with_parts tf tv (opened (value.Sequence []) z)))) ≡ added (node (value.Sequence (tf ++ (f ++ rf))) (roses_of (tv ++ (v ++ rv)))) z
-sequence-closed tf f rf tv v rv z =
-    ap (λ fs. added (node (value.Sequence fs) (roses_of ((tv ++ v) ++ rv))) z) (append_assoc tf f rf) ∙ ap (λ vs. added (node (value.Sequence (tf ++ (f ++ rf))) (roses_of vs)) z) (append_assoc tv v rv)
+pub sequence-closed : (tf nf f rf : List Bool) (tv nv v rv : List (Rose ValueLabel)) (z : Zip ValueLabel)
+    → closed (with_parts rf rv (with_parts f v (with_parts nf nv (with_parts tf tv (opened (value.Sequence []) z)))))
+    ≡ added (node (value.Sequence (tf ++ (nf ++ (f ++ rf)))) (roses_of (tv ++ (nv ++ (v ++ rv))))) z
+sequence-closed tf nf f rf tv nv v rv z =
+    ap (λ fs. added (node (value.Sequence fs) (roses_of (((tv ++ nv) ++ v) ++ rv))) z) (four tf nf f rf)
+    ∙ ap (λ vs. added (node (value.Sequence (tf ++ (nf ++ (f ++ rf)))) (roses_of vs)) z) (four tv nv v rv)
+  where
+    four : {A : Type 0} (a b c d : List A) → ((a ++ b) ++ c) ++ d ≡ a ++ (b ++ (c ++ d))
+    four a b c d = append_assoc (a ++ b) c d ∙ append_assoc a b (c ++ d)
 
 -- ---- parts
 
@@ -76,15 +81,20 @@ part-put (Ok x) P F a b c h (v, p, k) =
     (v, p, puts-as (λ z. added v (flagged true z)) (with_parts (true ∷ []) (v ∷ [])) a c (part-present v) (puts-both (flagged true) (added v) a b c h k))
 part-put (Err e) P F a b c h k = k
 
-pub begins-put : (a : Asked) (xs : List (Name × List ℕ)) (texts : List (Rose ValueLabel)) (one two three four : Built) → Puts (opened (value.Sequence [])) one two
-    → PartsPut (TextsMade a.inside (node value.SequenceOf (roses_of texts))) two three → PartsPut (AttributesMade a.attributes (left xs)) three four → Begins a xs texts one four
-begins-put a xs texts one two three four h k m = record {
+pub begins-put : (a : Asked) (xs : List (Name × List ℕ)) (texts : List (Rose ValueLabel)) (numbers : List ℕ) (one two three four five : Built) → Puts (opened (value.Sequence [])) one two
+    → PartsPut (TextsMade a.inside (node value.SequenceOf (roses_of texts))) two three → PartsPut (OrderMade (is_ordered a.inside) numbers) three four
+    → PartsPut (AttributesMade a.attributes (left xs)) four five → Begins a xs texts numbers one five
+begins-put a xs texts numbers one two three four five h k o m = record {
   text_flags = k.flags;
   text_values = k.values;
+  order_flags = o.flags;
+  order_values = o.values;
   flags = m.flags;
   values = m.values;
   texts_made = k.holds;
+  order_made = o.holds;
   attributes_made = m.holds;
-  puts = puts-both (λ z. with_parts k.flags k.values (opened (value.Sequence []) z)) (with_parts m.flags m.values) one three four
-      (puts-both (opened (value.Sequence [])) (with_parts k.flags k.values) one two three h k.puts) m.puts;
+  puts = puts-both (λ z. with_parts o.flags o.values (with_parts k.flags k.values (opened (value.Sequence []) z))) (with_parts m.flags m.values) one four five
+      (puts-both (λ z. with_parts k.flags k.values (opened (value.Sequence []) z)) (with_parts o.flags o.values) one three four
+      (puts-both (opened (value.Sequence [])) (with_parts k.flags k.values) one two three h k.puts) o.puts) m.puts;
 }

@@ -48,7 +48,7 @@ joined-none rose.none = refl
 joined-none (rose.more u us) = ap (λ z. rose.more u z) (joined-none us)
 
 -- what a text among child elements gives
-abbrev text_kept : Bool → List ℕ → Roses Plain
+abbrev pub text_kept : Bool → List ℕ → Roses Plain
 text_kept true words = rose.more (node (text words) rose.none) rose.none
 text_kept false words = rose.none
 
@@ -62,7 +62,7 @@ between-joined true blank words ws vs ks h = ap (λ z. joined z ks) h
 between-joined false blank words ws vs ks h = (h.0, ap (λ z. joined z ks) h.1)
 
 module _ (asks : ℕ → Asked) (m : Bool) where
-  text-valid : (ts : Roses ItemLabel) (i : ℕ) (t : Rose ItemLabel) (us : List Leaf) (words : List ℕ) (at : ℕ) → kid_at ts i ≡ Some t → label_of t ≡ Text words at → (m ≡ true) ⊎ (is_blank words ≡ true)
+  pub text-valid : (ts : Roses ItemLabel) (i : ℕ) (t : Rose ItemLabel) (us : List Leaf) (words : List ℕ) (at : ℕ) → kid_at ts i ≡ Some t → label_of t ≡ Text words at → (m ≡ true) ⊎ (is_blank words ≡ true)
       → (vs : Roses Plain) → KidsValid asks m (front i ts) us vs → KidsValid asks m (front (suc i) ts) us (joined vs (text_kept m words))
   text-valid rose.none i t us words at k l b vs h = absurd (cc)
   text-valid (rose.more (node (Element n xs declares c) ks) ts) zero t us words at k l b vs h =
@@ -81,7 +81,7 @@ module _ (asks : ℕ → Asked) (m : Bool) where
   text-valid (rose.more (node (Element n xs declares c) ks) ts) (suc i) t us words at k l b vs (y, v, bb, ws, ew, eu, nm, val, h) =
       (y, v, bb, joined ws (text_kept m words), ew, ap (λ z. joined z (text_kept m words)) eu, nm, val, text-valid ts i t v words at k l b ws h)
 
-  element-valid : (ts : Roses ItemLabel) (i : ℕ) (t : Rose ItemLabel) (us : List Leaf) (n : Name) (l : Leaf) (b : Rose Plain) → kid_at ts i ≡ Some t → IsElementNamed (label_of t) n → l.name ≡ n
+  pub element-valid : (ts : Roses ItemLabel) (i : ℕ) (t : Rose ItemLabel) (us : List Leaf) (n : Name) (l : Leaf) (b : Rose Plain) → kid_at ts i ≡ Some t → IsElementNamed (label_of t) n → l.name ≡ n
       → ValidBy asks l.decl t b → (vs : Roses Plain) → KidsValid asks m (front i ts) us vs → KidsValid asks m (front (suc i) ts) (us ++ l ∷ []) (joined vs (rose.more b rose.none))
   element-valid rose.none i t us n l b k e nm val vs h = absurd (cc)
   element-valid (rose.more (node (Text others c) ks) ts) zero t us n l b k e nm val vs h =
@@ -97,7 +97,7 @@ module _ (asks : ℕ → Asked) (m : Bool) where
 
 -- ---- the child elements among them
 
-text-adds : (m : Bool) (words : List ℕ) (us : Roses Plain) → child_elements (joined us (text_kept m words)) ≡ child_elements us
+pub text-adds : (m : Bool) (words : List ℕ) (us : Roses Plain) → child_elements (joined us (text_kept m words)) ≡ child_elements us
 text-adds true words us = go us
   where
     go : (us : Roses Plain) → child_elements (joined us (text_kept true words)) ≡ child_elements us
@@ -106,19 +106,19 @@ text-adds true words us = go us
     go (rose.more (node (text others) ks) us) = go us
 text-adds false words us = ap child_elements (joined-none us)
 
-element-adds : (b : Rose Plain) → child_elements (rose.more b rose.none) ≡ rose.more b rose.none → (us : Roses Plain) → child_elements (joined us (rose.more b rose.none)) ≡ joined (child_elements us) (rose.more b rose.none)
+pub element-adds : (b : Rose Plain) → child_elements (rose.more b rose.none) ≡ rose.more b rose.none → (us : Roses Plain) → child_elements (joined us (rose.more b rose.none)) ≡ joined (child_elements us) (rose.more b rose.none)
 element-adds b is rose.none = is
 element-adds b is (rose.more (node (element n xs) ks) us) = ap (λ z. rose.more (node (element n xs) ks) z) (element-adds b is us)
 element-adds b is (rose.more (node (text others) ks) us) = element-adds b is us
 
 -- ---- levels
 
-level-within : (ts : Roses ItemLabel) (i : ℕ) (t : Rose ItemLabel) → kid_at ts i ≡ Some t → levels t ≤ levels_all ts
+pub level-within : (ts : Roses ItemLabel) (i : ℕ) (t : Rose ItemLabel) → kid_at ts i ≡ Some t → levels t ≤ levels_all ts
 level-within rose.none i t k = absurd (cc)
 level-within (rose.more u ts) zero t k = let e : u ≡ t = cc in let f = ap levels e in omega (arith, f)
 level-within (rose.more u ts) (suc i) t k = let h = level-within ts i t k in omega (arith, h)
 
-roses-more : (bs : List (Rose Plain)) (b : Rose Plain) → joined (roses_of bs) (rose.more b rose.none) ≡ roses_of (bs ++ b ∷ [])
+pub roses-more : (bs : List (Rose Plain)) (b : Rose Plain) → joined (roses_of bs) (rose.more b rose.none) ≡ roses_of (bs ++ b ∷ [])
 roses-more [] b = refl
 roses-more (c ∷ bs) b = ap (λ z. rose.more c z) (roses-more bs b)
 

@@ -12,6 +12,7 @@ use Rattle.simple_types.specs.declared.labels.ValueLabel.TheVariants as value
 use Rattle.simple_values.specs.Reading.{spelled}
 use Rattle.content_models.specs.declared.particles.ParticleLabel.{ParticleLabel}
 use Rattle.content_models.specs.Particle.{Particle}
+use Rattle.content_models.specs.Clear.{IsNoAll}
 use Rattle.content_models.specs.Seen.{seen}
 use Rattle.content_spots.specs.Spots.{Spot}
 use Rattle.content_spots.specs.Laws.{may_end}
@@ -42,7 +43,7 @@ use Rattle.xer_read.specs.Private.Held.{Beside, Held, texts_of}
 use Rattle.xer_read.specs.Private.Held as held
 use Rattle.xer_read.specs.Private.Given.{IsReadAs, IsElementOf, Gives, IsRead}
 use Rattle.xer_read.specs.Private.Keeping.{strings_from, strings_put}
-use Rattle.xer_read.specs.Private.Contents.{IsContentBy, IsContentOf, is_plain_at, NothingMade, ComplexMade, IsMadeBy, IsMade, IsFilled, IsNilFilled, ChildrenPut, InsidePut, Begins, ComplexPut}
+use Rattle.xer_read.specs.Private.Contents.{IsContentBy, IsContentOf, is_plain_at, NothingMade, RestMade, ComplexMade, IsMadeBy, IsMade, IsFilled, IsNilFilled, ChildrenPut, InsidePut, Begins, ComplexPut}
 use Rattle.xer_read.specs.Private.Putting.{ValuePut, PartsPut}
 use Rattle.xer_read.proofs.Putting.{sequence-closed}
 use Rattle.xer_read.proofs.Mixing.{strings-between, elements-alone}
@@ -80,13 +81,14 @@ text-inside s nillable space ts z old new v (words, only, accepts) puts stands =
   stands = puts.stands z stands;
 }
 
-pub children-inside : (s : Set) (nillable mixed : Bool) (model : Rose ParticleLabel) (ts : Roses ItemLabel) (z : Zip ValueLabel) (new : Built) → are_sound ts ≡ true → All (IsNamed s) (leaves (seen model))
+pub children-inside : (s : Set) (nillable mixed : Bool) (model : Rose ParticleLabel) (ts : Roses ItemLabel) (z : Zip ValueLabel) (new : Built) → are_sound ts ≡ true → All (IsNamed s) (leaves (seen model)) → IsNoAll (seen model)
     → ChildrenPut s nillable mixed (seen model) ts z new → InsidePut s nillable (children mixed (seen model)) ts z new
-children-inside s nillable mixed model ts z new sound named h = record {
+children-inside s nillable mixed model ts z new sound named no_all h = record {
   rest = held.children model h.gs;
   vs = h.vs;
   is = (
     refl,
+    no_all,
     record {
       named = named;
       leaves_are = h.leaves_are;
@@ -142,59 +144,73 @@ module _ (s : Set) (nillable : Bool) (ts : Roses ItemLabel) (z : Zip ValueLabel)
   text-judged space (Ok x) (v, read, puts) = text-inside s nillable space ts z old new v read puts stands
   text-judged space (Err e) h = h
 
-pub children-judged : (s : Set) (nillable mixed : Bool) (model : Rose ParticleLabel) (ts : Roses ItemLabel) (z : Zip ValueLabel) (new : Built) (F : CheckError → Type 0) → are_sound ts ≡ true → All (IsNamed s) (leaves (seen model))
+pub children-judged : (s : Set) (nillable mixed : Bool) (model : Rose ParticleLabel) (ts : Roses ItemLabel) (z : Zip ValueLabel) (new : Built) (F : CheckError → Type 0) → are_sound ts ≡ true → All (IsNamed s) (leaves (seen model)) → IsNoAll (seen model)
     → (r : Result (Unit {0}) CheckError) → MatchResult r (λ _. ChildrenPut s nillable mixed (seen model) ts z new) F → MatchResult r (λ _. InsidePut s nillable (children mixed (seen model)) ts z new) F
-children-judged s nillable mixed model ts z new F sound named (Ok x) h = children-inside s nillable mixed model ts z new sound named h
-children-judged s nillable mixed model ts z new F sound named (Err e) h = h
+children-judged s nillable mixed model ts z new F sound named no_all (Ok x) h = children-inside s nillable mixed model ts z new sound named no_all h
+children-judged s nillable mixed model ts z new F sound named no_all (Err e) h = h
 
 -- ---- the value of a complex type
 
 -- what stands behind its attributes is put down there
-abbrev pub begun_at : (a : Asked) (xs : List (Name × List ℕ)) (texts : List (Rose ValueLabel)) (old mid : Built) → Begins a xs texts old mid → Zip ValueLabel → Zip ValueLabel
-begun_at a xs texts old mid h z = with_parts h.flags h.values (with_parts h.text_flags h.text_values (opened (value.Sequence []) z))
+abbrev pub begun_at : (a : Asked) (xs : List (Name × List ℕ)) (texts : List (Rose ValueLabel)) (numbers : List ℕ) (old mid : Built) → Begins a xs texts numbers old mid → Zip ValueLabel → Zip ValueLabel
+begun_at a xs texts numbers old mid h z = with_parts h.flags h.values (with_parts h.order_flags h.order_values (with_parts h.text_flags h.text_values (opened (value.Sequence []) z)))
 
-pub complex-put : (s : Set) (a : Asked) (xs : List (Name × List ℕ)) (ts : Roses ItemLabel) (z : Zip ValueLabel) (old mid before after : Built) (begins : Begins a xs (strings_put false ts) old mid)
-    → InsidePut s a.nillable a.inside ts (begun_at a xs (strings_put false ts) old mid begins z) before → Puts closed before after → ComplexPut s a xs ts z after
-complex-put s a xs ts z old mid before after begins inner closes = record {
-  content = record { texts = strings_put false ts; rest = inner.rest };
-  vs = inner.vs;
-  is = inner.is;
-  value = node (value.Sequence (begins.text_flags ++ (begins.flags ++ inner.flags))) (roses_of (begins.text_values ++ (begins.values ++ inner.values)));
-  made = record {
-    text_flags = begins.text_flags;
-    text_values = begins.text_values;
-    flags = begins.flags;
-    values = begins.values;
-    rest_flags = inner.flags;
-    rest_values = inner.values;
-    is = refl;
-    texts = begins.texts_made;
-    attributes = begins.attributes_made;
-    others = inner.made;
-  };
-  stands = subst (Stands after) (sequence-closed begins.text_flags begins.flags inner.flags begins.text_values begins.values inner.values z)
-      (closes.stands (with_parts inner.flags inner.values (begun_at a xs (strings_put false ts) old mid begins z)) inner.stands);
-}
+module _ (s : Set) (a : Asked) (xs : List (Name × List ℕ)) (ts : Roses ItemLabel) (z : Zip ValueLabel) (old mid before after : Built) (numbers : List ℕ) (begins : Begins a xs (strings_put false ts) numbers old mid) where
+  -- with what stands beside texts, order and attributes
+  pub complex-by : (rest : Beside) (vs : Roses Plain) → IsContentOf s a.inside ts (record { texts = strings_put false ts; order = numbers; rest = rest }) vs
+      → (flags : List Bool) (values : List (Rose ValueLabel)) → RestMade a.nillable rest flags values → Stands before (with_parts flags values (begun_at a xs (strings_put false ts) numbers old mid begins z))
+      → Puts closed before after → ComplexPut s a xs ts z after
+  complex-by rest vs is flags values others stands closes = record {
+    content = record { texts = strings_put false ts; order = numbers; rest = rest };
+    vs = vs;
+    is = is;
+    value = node (value.Sequence (begins.text_flags ++ (begins.order_flags ++ (begins.flags ++ flags)))) (roses_of (begins.text_values ++ (begins.order_values ++ (begins.values ++ values))));
+    made = record {
+      text_flags = begins.text_flags;
+      text_values = begins.text_values;
+      order_flags = begins.order_flags;
+      order_values = begins.order_values;
+      flags = begins.flags;
+      values = begins.values;
+      rest_flags = flags;
+      rest_values = values;
+      is = refl;
+      texts = begins.texts_made;
+      order = begins.order_made;
+      attributes = begins.attributes_made;
+      others = others;
+    };
+    stands = subst (Stands after) (sequence-closed begins.text_flags begins.order_flags begins.flags flags begins.text_values begins.order_values begins.values values z)
+        (closes.stands (with_parts flags values (begun_at a xs (strings_put false ts) numbers old mid begins z)) stands);
+  }
+
+pub complex-put : (s : Set) (a : Asked) (xs : List (Name × List ℕ)) (ts : Roses ItemLabel) (z : Zip ValueLabel) (old mid before after : Built) (begins : Begins a xs (strings_put false ts) [] old mid)
+    → InsidePut s a.nillable a.inside ts (begun_at a xs (strings_put false ts) [] old mid begins z) before → Puts closed before after → ComplexPut s a xs ts z after
+complex-put s a xs ts z old mid before after begins inner closes =
+    complex-by s a xs ts z old mid before after [] begins inner.rest inner.vs inner.is inner.flags inner.values inner.made inner.stands closes
 
 -- of one that is nil
-pub nil-put : (a : Asked) (xs : List (Name × List ℕ)) (old mid before after : Built) (begins : Begins a xs [] old mid) → Puts (flagged false) mid before → Puts closed before after
+pub nil-put : (a : Asked) (xs : List (Name × List ℕ)) (old mid before after : Built) (begins : Begins a xs [] [] old mid) → Puts (flagged false) mid before → Puts closed before after
     → (v : Rose ValueLabel) × IsNilFilled a xs v × Puts (added v) old after
 nil-put a xs old mid before after begins flags closes =
-    let v = node (value.Sequence (begins.text_flags ++ (begins.flags ++ false ∷ []))) (roses_of (begins.text_values ++ (begins.values ++ []))) in
-    let content : Held = record { texts = []; rest = held.nil } in (
+    let v = node (value.Sequence (begins.text_flags ++ (begins.order_flags ++ (begins.flags ++ false ∷ [])))) (roses_of (begins.text_values ++ (begins.order_values ++ (begins.values ++ [])))) in
+    let content : Held = record { texts = []; order = []; rest = held.nil } in (
       v,
       (
         content,
-        (refl, refl),
+        (refl, refl, refl),
         record {
           text_flags = begins.text_flags;
           text_values = begins.text_values;
+          order_flags = begins.order_flags;
+          order_values = begins.order_values;
           flags = begins.flags;
           values = begins.values;
           rest_flags = false ∷ [];
           rest_values = [];
           is = refl;
           texts = begins.texts_made;
+          order = begins.order_made;
           attributes = begins.attributes_made;
           others = (refl, refl);
         },
@@ -203,26 +219,28 @@ nil-put a xs old mid before after begins flags closes =
         most = closes.most ∙ flags.most ∙ begins.puts.most;
         stands = λ z st.
             subst (Stands after)
-            (ap closed (part-absent (begun_at a xs [] old mid begins z)) ∙ sequence-closed begins.text_flags begins.flags (false ∷ []) begins.text_values begins.values [] z)
-            (closes.stands (flagged false (begun_at a xs [] old mid begins z)) (flags.stands (begun_at a xs [] old mid begins z) (begins.puts.stands z st)));
+            (ap closed (part-absent (begun_at a xs [] [] old mid begins z))
+            ∙ sequence-closed begins.text_flags begins.order_flags begins.flags (false ∷ []) begins.text_values begins.order_values begins.values [] z)
+            (closes.stands (flagged false (begun_at a xs [] [] old mid begins z)) (flags.stands (begun_at a xs [] [] old mid begins z) (begins.puts.stands z st)));
       },
     )
 
 -- the value is that of a complex type, where it isn't that of a text
-made-as : (s : Set) (plain : Bool) (inside : Inside) (ts : Roses ItemLabel) (texts : Rose ValueLabel) (r : Beside) (vs : Roses Plain) (v : Rose ValueLabel) (P : Type 0) → IsContentBy s inside ts texts r vs
+made-as : (s : Set) (plain : Bool) (inside : Inside) (ts : Roses ItemLabel) (texts : Rose ValueLabel) (order : List ℕ) (r : Beside) (vs : Roses Plain) (v : Rose ValueLabel) (P : Type 0) → IsContentBy s inside ts texts order r vs
     → ((space : Space) → inside ≡ simple space → plain ≡ false) → P → IsMadeBy plain r v P
-made-as s plain inside ts texts held.nil vs v P h apart p = p
-made-as s plain inside ts texts held.nothing vs v P h apart p = p
-made-as s plain inside ts texts (held.children model gs) vs v P h apart p = p
-made-as s plain nothing ts texts (held.text w) vs v P h apart p = absurd h
-made-as s plain (children mixed q) ts texts (held.text w) vs v P h apart p = absurd h
-made-as s plain (simple space) ts texts (held.text w) vs v P h apart p = subst (λ b. MatchBool b (v ≡ w) P) (sym (apart space refl)) p
+made-as s plain inside ts texts order held.nil vs v P h apart p = p
+made-as s plain inside ts texts order held.nothing vs v P h apart p = p
+made-as s plain inside ts texts order (held.children model gs) vs v P h apart p = p
+made-as s plain inside ts texts order (held.ordered model flags gs) vs v P h apart p = p
+made-as s plain nothing ts texts order (held.text w) vs v P h apart p = absurd h
+made-as s plain (children mixed q) ts texts order (held.text w) vs v P h apart p = absurd h
+made-as s plain (simple space) ts texts order (held.text w) vs v P h apart p = subst (λ b. MatchBool b (v ≡ w) P) (sym (apart space refl)) p
 
 pub complex-filled : (s : Set) (d : ℕ) (a : Asked) (xs : List (Name × List ℕ)) (ts : Roses ItemLabel) (z : Zip ValueLabel) (new : Built) → ((space : Space) → a.inside ≡ simple space → is_plain_at s d ≡ false)
     → ComplexPut s a xs ts z new → ValuePut (IsFilled s d a xs ts) z new
 complex-filled s d a xs ts z new apart h = record {
   value = h.value;
-  holds = (h.content, h.vs, h.is, made-as s (is_plain_at s d) a.inside ts (texts_of h.content) h.content.rest h.vs h.value (ComplexMade a xs h.content h.value) h.is apart h.made);
+  holds = (h.content, h.vs, h.is, made-as s (is_plain_at s d) a.inside ts (texts_of h.content) h.content.order h.content.rest h.vs h.value (ComplexMade a xs h.content h.value) h.is apart h.made);
   stands = h.stands;
 }
 
@@ -230,7 +248,7 @@ complex-filled s d a xs ts z new apart h = record {
 pub plain-filled : (s : Set) (d : ℕ) (a : Asked) (xs : List (Name × List ℕ)) (ts : Roses ItemLabel) (z : Zip ValueLabel) (old new : Built) (space : Space) → a.inside ≡ simple space → is_plain_at s d ≡ true → (v : Rose ValueLabel)
     → IsReadAs space ts v → Puts (added v) old new → Stands old z → ValuePut (IsFilled s d a xs ts) z new
 plain-filled s d a xs ts z old new space inside_is plain v (words, only, accepts) puts stands =
-    let content : Held = record { texts = []; rest = held.text v } in
+    let content : Held = record { texts = []; order = []; rest = held.text v } in
     let vs = text_kids (spelled space v) in
     record {
       value = v;
@@ -255,19 +273,22 @@ plain-judged s d a xs ts z old new space place inside_is plain stands (Ok x) (v,
 plain-judged s d a xs ts z old new space place inside_is plain stands (Err e) h = subst (λ i. Tells (InsideFault (asked_at (parts_of s)) i ts place) e) (sym inside_is) h
 
 -- such a content is valid
-content-valid : (s : Set) (inside : Inside) (ts : Roses ItemLabel) (texts : Rose ValueLabel) (r : Beside) (vs : Roses Plain) → IsContentBy s inside ts texts r vs → ContentValid (asked_at (parts_of s)) inside ts vs
-content-valid s nothing ts texts held.nil vs h = absurd h
-content-valid s nothing ts texts held.nothing vs h = h
-content-valid s nothing ts texts (held.text v) vs h = absurd h
-content-valid s nothing ts texts (held.children model gs) vs h = absurd h
-content-valid s (simple space) ts texts held.nil vs h = absurd h
-content-valid s (simple space) ts texts held.nothing vs h = absurd h
-content-valid s (simple space) ts texts (held.text v) vs (words, only, accepts, is) = (words, only, subst (λ r. Spells space r vs) (sym accepts) is)
-content-valid s (simple space) ts texts (held.children model gs) vs h = absurd h
-content-valid s (children mixed p) ts texts held.nil vs h = absurd h
-content-valid s (children mixed p) ts texts held.nothing vs h = absurd h
-content-valid s (children mixed p) ts texts (held.text v) vs h = absurd h
-content-valid s (children mixed p) ts texts (held.children model gs) vs h = (h.1.leaves_are, h.1.lang, h.1.valid)
+content-valid : (s : Set) (inside : Inside) (ts : Roses ItemLabel) (texts : Rose ValueLabel) (order : List ℕ) (r : Beside) (vs : Roses Plain) → IsContentBy s inside ts texts order r vs → ContentValid (asked_at (parts_of s)) inside ts vs
+content-valid s nothing ts texts order held.nil vs h = absurd h
+content-valid s nothing ts texts order held.nothing vs h = h
+content-valid s nothing ts texts order (held.text v) vs h = absurd h
+content-valid s nothing ts texts order (held.children model gs) vs h = absurd h
+content-valid s nothing ts texts order (held.ordered model flags gs) vs h = absurd h
+content-valid s (simple space) ts texts order held.nil vs h = absurd h
+content-valid s (simple space) ts texts order held.nothing vs h = absurd h
+content-valid s (simple space) ts texts order (held.text v) vs (words, only, accepts, is) = (words, only, subst (λ r. Spells space r vs) (sym accepts) is)
+content-valid s (simple space) ts texts order (held.children model gs) vs h = absurd h
+content-valid s (simple space) ts texts order (held.ordered model flags gs) vs h = absurd h
+content-valid s (children mixed p) ts texts order held.nil vs h = absurd h
+content-valid s (children mixed p) ts texts order held.nothing vs h = absurd h
+content-valid s (children mixed p) ts texts order (held.text v) vs h = absurd h
+content-valid s (children mixed p) ts texts order (held.children model gs) vs h = (h.2.leaves_are, h.2.lang, h.2.valid)
+content-valid s (children mixed p) ts texts order (held.ordered model flags gs) vs h = (h.2.leaves_are, h.2.lang, h.2.valid)
 
 -- ---- an element
 
@@ -342,7 +363,7 @@ module _ (s : Set) (linked : IsLinked s) (d : ℕ) (n : Name) (xs : List (Name �
           subst (λ ks. IsFilled s d (asks d) xs (roses_of ks) m.value) are (subst (λ b. IsFilled s d b xs (roses_of kids) m.value) asked_is (subst (λ zs. IsFilled s d a zs (roses_of kids) m.value) same m.holds)) in
           record {
             value = m.value;
-            holds = element-read false (good-tag false good) vs (content-valid s (asks d).inside (roses_of (kids_of t)) (texts_of content) content.rest vs right) content right m.value filled;
+            holds = element-read false (good-tag false good) vs (content-valid s (asks d).inside (roses_of (kids_of t)) (texts_of content) content.order content.rest vs right) content right m.value filled;
             stands = m.stands;
           }
       filled-read new z good (Err e) h = inside_judged s d a ys n xs declares place t is asked_is same good kids are (refused e) h

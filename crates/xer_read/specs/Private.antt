@@ -1,5 +1,6 @@
 pub mod Given
 pub mod Held
+pub mod Slots
 pub mod Keeping
 pub mod Putting
 pub mod Contents

@@ -1,7 +1,7 @@
 //! The value of an element whose type is complex, or which may be nil: all of it but its child elements.
-ghost use Rattle.std.specs.Prelude.{◌≡◌, ◌<◌, ◌∷◌, [], true, false, length, All, OnOk, MatchOption, MatchResult};
+ghost use Rattle.std.specs.Prelude.{◌≡◌, ◌<◌, ◌≤◌, ◌∷◌, [], true, false, length, ℕ, List, Option, All, OnOk, MatchOption, MatchResult};
 ghost use Rattle.label_tree.specs.Rose.{Rose, roses_of, none};
-ghost use Rattle.flat_tree.specs.Zips.{opened, added};
+ghost use Rattle.flat_tree.specs.Zips.{Zip, opened, added};
 ghost use Rattle.simple_types.specs.declared.labels.ValueLabel.{ValueLabel};
 ghost use Rattle.simple_types.specs.Seen.{space_of};
 ghost use Rattle.simple_types.specs.Space.{Space};
@@ -14,12 +14,16 @@ ghost use Rattle.validity.specs.Asked as asked;
 ghost use Rattle.validity.specs.Faults.{FirstKid, why_kid};
 ghost use Rattle.validity_check.specs.Answers.{Tells, TextFault};
 ghost use Rattle.validity_check.specs.Told.{inside_told, told};
-ghost use Rattle.value_builder.specs.Built.{Puts, flagged, with_parts};
+ghost use Rattle.value_builder.specs.Built.{Stands, Puts, flagged, with_parts};
+ghost use Rattle.content_values.specs.Made.{Child};
+ghost use Rattle.xer_read.specs.Private.Slots.{Keeps, part_flags, part_values, order_value};
 ghost use Rattle.xer_read.specs.Private.Keeping.{strings_put};
-ghost use Rattle.xer_read.specs.Private.Contents.{AreTaken, is_plain_at, NothingMade, IsNilFilled, Begins};
+ghost use Rattle.xer_read.specs.Private.Contents.{AreTaken, is_plain_at, is_ordered, OrderMade, NothingMade, IsNilFilled, Begins, IsGathered, ComplexPut};
 ghost use Rattle.xer_read.specs.Private.Putting.{PartsPut};
 
 use crate::attributes::put_attributes;
+use crate::gathering::Gathered;
+use crate::orders::any_order;
 use crate::strings::put_texts;
 use crate::texts::put_text;
 use item_tree::ItemKids;
@@ -71,23 +75,50 @@ pub(crate) fn no_components() -> ValueLabel
     }
 }
 
-/// A SEQUENCE is open, with the parts for texts and attributes.
+// The numbers as a SEQUENCE OF ENUMERATED.
+fn put_numbers(numbers: &[u32], values: &mut ValueBuilder) -> Result<(), Memory>
+    ensures { OnOk result (Puts (added (order_value numbers.now)) values.old values.new) }
+{
+    values.open(ValueLabel::SequenceOf)?;
+    'numbers: for number in numbers {
+        values.leaf(ValueLabel::Enum(*number))?;
+    }
+    values.close();
+    Ok(())
+}
+
+// The part for the order of child elements, and no part where they come in the order of the content model.
+fn put_order(inside: Inside<'_>, numbers: &[u32], values: &mut ValueBuilder) -> Result<(), Memory>
+    ensures { OnOk result (PartsPut (OrderMade (is_ordered (inside_told inside.entry)) numbers.now) values.old values.new) }
+{
+    match any_order(inside) {
+        None => Ok(()),
+        Some(_) => {
+            values.part(true)?;
+            put_numbers(numbers, values)
+        }
+    }
+}
+
+/// A SEQUENCE is open, with the parts for texts, for the order of child elements that come in any, and for attributes.
 pub(crate) fn begin_complex(
     alloc: Global,
     set: &SchemaSet,
     declared: &Declared,
     attributes: &[(Name, Text)],
     nil: bool,
+    numbers: &[u32],
     kids: &ItemKids<'_>,
     values: &mut ValueBuilder,
 ) -> Result<(), Memory>
     requires linked { IsLinked set.now }
     requires uses { All (IsUse set.now) declared.now.uses.list.now }
     requires taken { AreTaken set.now attributes.now declared.now.uses.list.now }
-    ensures { OnOk result (Begins (told (parts_of set.now) declared.now) attributes.now (strings_put nil (roses_of kids.now)) values.old values.new) }
+    ensures { OnOk result (Begins (told (parts_of set.now) declared.now) attributes.now (strings_put nil (roses_of kids.now)) numbers.now values.old values.new) }
 {
     values.open(no_components())?;
     put_texts(alloc, declared.inside, nil, kids, values)?;
+    put_order(declared.inside, numbers, values)?;
     put_attributes(alloc, set, &declared.uses, attributes, values)
 }
 
@@ -157,7 +188,7 @@ fn put_nil(
     requires taken { AreTaken set.now attributes.now declared.now.uses.list.now }
     ensures { OnOk result ((v : Rose ValueLabel) × IsNilFilled (told (parts_of set.now) declared.now) attributes.now v × Puts (added v) values.old values.new) }
 {
-    begin_complex(alloc, set, declared, attributes, true, kids, values)?;
+    begin_complex(alloc, set, declared, attributes, true, &[], kids, values)?;
     values.part(false)?;
     values.close();
     Ok(())
@@ -181,5 +212,52 @@ pub(crate) fn walk_nil(
 {
     check_empty(kids.again())?;
     put_nil(alloc, set, declared, attributes, kids, values)?;
+    Ok(())
+}
+
+// The parts for child elements that came in any order, which are those of one part where the element may be nil.
+fn put_gathered(nillable: bool, gathered: Gathered, values: &mut ValueBuilder) -> Result<(), Memory>
+    requires most { gathered.most ≡ values.old.most }
+    requires outside { 1 ≤ values.old.most → gathered.outside ≤ values.old.nodes }
+    requires keeps { (numbers : List ℕ) × (children : List (Option Child)) × Keeps gathered numbers children }
+    requires stands { (z : Zip ValueLabel) × Stands values.old z }
+    ensures { OnOk result ((numbers : List ℕ) (children : List (Option Child)) → Keeps gathered numbers children
+        → Puts (with_parts (part_flags nillable children) (part_values nillable children)) values.old values.new) }
+{
+    if !nillable {
+        return gathered.put_parts(values);
+    }
+    begin_part(values)?;
+    gathered.put_parts(values)?;
+    values.close();
+    Ok(())
+}
+
+/// The value of an element whose child elements came in any order and are gathered.
+pub(crate) fn put_ordered(
+    alloc: Global,
+    set: &SchemaSet,
+    declared: &Declared,
+    attributes: &[(Name, Text)],
+    gathered: Gathered,
+    kids: &ItemKids<'_>,
+    values: &mut ValueBuilder,
+) -> Result<(), Memory>
+    requires linked { IsLinked set.now }
+    requires uses { All (IsUse set.now) declared.now.uses.list.now }
+    requires taken { AreTaken set.now attributes.now declared.now.uses.list.now }
+    requires sound { are_sound (roses_of kids.now) ≡ true }
+    requires most { gathered.most ≡ values.old.most }
+    requires outside { gathered.outside ≡ values.old.nodes }
+    requires gathered { IsGathered set.now (inside_told declared.now.inside) (roses_of kids.now) gathered }
+    requires stands { (z : Zip ValueLabel) × Stands values.old z }
+    ensures { OnOk result ((z : Zip ValueLabel) → Stands values.old z → ComplexPut set.now (told (parts_of set.now) declared.now) attributes.now (roses_of kids.now) z values.new) }
+{
+    let numbers = gathered.numbers();
+    begin_complex(
+        alloc, set, declared, attributes, false, numbers, kids, values,
+    )?;
+    put_gathered(declared.nillable, gathered, values)?;
+    values.close();
     Ok(())
 }

@@ -1,12 +1,15 @@
 //! The walk over an element and its kids, one by one.
-ghost use Rattle.std.specs.Prelude.{◌≡◌, ◌⊎◌, ℕ, ◌+◌, ◌-◌, ◌*◌, ◌^◌, ◌<◌, ◌≤◌, true, false, List, [], length, slice_index_or, All, MatchResult, OnOk};
+ghost use Rattle.std.specs.Prelude.{◌≡◌, ◌⊎◌, ℕ, ◌+◌, ◌-◌, ◌*◌, ◌^◌, ◌<◌, ◌≤◌, true, false, List, [], length, slice_index_or, All, Some, MatchResult, OnOk, IfOk};
 ghost use Rattle.label_tree.specs.Rose.{Rose, label_of, roses_of, node_count, count_all};
 ghost use Rattle.xa_base.specs.WhiteSpace.{is_blank};
 ghost use Rattle.item_tree.specs.declared.label.ItemLabel.{ItemLabel};
 ghost use Rattle.doc_text.specs.Sound.{is_text, is_sound, are_sound};
 ghost use Rattle.flat_tree.specs.Zips.{Zip, added};
 ghost use Rattle.simple_types.specs.declared.labels.ValueLabel.{ValueLabel};
-ghost use Rattle.content_models.specs.Particle.{Particle};
+ghost use Rattle.content_models.specs.Particle.{Particle, Particles, occurs, all};
+ghost use Rattle.content_models.specs.Clear.{IsNoAll};
+ghost use Rattle.content_models.specs.declared.particles.ParticleLabel.{ParticleLabel};
+ghost use Rattle.map_assignments.specs.Planning.{is_all};
 ghost use Rattle.content_models.specs.Seen.{seen};
 ghost use Rattle.content_match.specs.Taking.{levels};
 ghost use Rattle.schema_parts.specs.Linked.{IsUse, IsModel, IsLinked};
@@ -18,11 +21,15 @@ ghost use Rattle.validity_check.specs.Counts.{element_count, elements_in};
 ghost use Rattle.validity_check.specs.Told.{inside_told, told, IsFittingInside};
 ghost use Rattle.value_builder.specs.Built.{Stands};
 ghost use Rattle.xer_read.specs.Private.Given.{IsRead};
-ghost use Rattle.xer_read.specs.Private.Keeping.{Reached};
-ghost use Rattle.xer_read.specs.Private.Contents.{AreTaken, IsFilled, ChildrenPut, InsidePut, ComplexPut};
+ghost use Rattle.xer_read.specs.Private.Keeping.{Reached, Gathers};
+ghost use Rattle.xer_read.specs.Private.Contents.{AreTaken, HasNoAll, IsFilled, ChildrenPut, KidsGathered, InsidePut, ComplexPut};
 ghost use Rattle.xer_read.specs.Private.Putting.{IsWay, ValuePut};
 
-use crate::complex::{begin_complex, begin_part, plain_type, walk_nil, walk_nothing, walk_text};
+use crate::complex::{
+    begin_complex, begin_part, plain_type, put_ordered, walk_nil, walk_nothing, walk_text,
+};
+use crate::gathering::Gathered;
+use crate::orders::{AnyOrder, any_order, last_number, take_name};
 use crate::texts::put_text;
 use crate::ways::{Way, finish, open_way};
 use content_match::{Matcher, Plan};
@@ -72,6 +79,7 @@ fn walk_kid<L: Ledger>(
     requires linked { IsLinked set.now }
     requires plans { plans.old ≡ set.now }
     requires model { IsModel set.now model.now }
+    requires no_all { IsNoAll (seen model.now) }
     requires way { IsWay way.old matcher.old values.old.most }
     requires taken { matcher.old.taken < 2 ^ 32 - 1 }
     requires reached { (kids : List (Rose ItemLabel)) × (i : ℕ) × (z : Zip ValueLabel) × Reached set.now mixed (seen model.now) kids i matcher.old z values.old }
@@ -115,6 +123,7 @@ fn walk_kids<L: Ledger>(
     requires linked { IsLinked set.now }
     requires plans { plans.old ≡ set.now }
     requires model { IsModel set.now model.now }
+    requires no_all { IsNoAll (seen model.now) }
     requires plan { plan.now ≡ seen model.now }
     requires sound { are_sound (roses_of kids.now) ≡ true }
     requires few { count_all (roses_of kids.now) < 2 ^ 31 }
@@ -173,6 +182,7 @@ fn walk_children<L: Ledger>(
     requires linked { IsLinked set.now }
     requires plans { plans.old ≡ set.now }
     requires model { IsModel set.now model.now }
+    requires no_all { IsNoAll (seen model.now) }
     requires plan { plan.now ≡ seen model.now }
     requires sound { are_sound (roses_of kids.now) ≡ true }
     requires few { count_all (roses_of kids.now) < 2 ^ 31 }
@@ -214,6 +224,7 @@ fn walk_inside<L: Ledger>(
     requires linked { IsLinked set.now }
     requires plans { plans.old ≡ set.now }
     requires inside { IsFittingInside set.now inside }
+    requires no_all { HasNoAll (inside_told inside) }
     requires sound { are_sound (roses_of kids.now) ≡ true }
     requires few { count_all (roses_of kids.now) < 2 ^ 31 }
     requires stands { (z : Zip ValueLabel) × Stands values.old z }
@@ -243,7 +254,160 @@ fn walk_inside<L: Ledger>(
     }
 }
 
-// An element whose value has parts.
+// The next kid of an element whose child elements come in any order can follow those before it, and is valid.
+#[cycle(walking)]
+fn gather_kid<L: Ledger>(
+    set: &SchemaSet,
+    plans: &mut Plans,
+    matcher: &mut Matcher,
+    mixed: bool,
+    kid: &ItemNode<'_>,
+    gathered: &mut Gathered,
+    steps: &mut Steps<L>,
+) -> Result<(), CheckError>
+    requires linked { IsLinked set.now }
+    requires plans { plans.old ≡ set.now }
+    requires model { (model : Rose ParticleLabel) × IsModel set.now model × (matcher.old.particle ≡ seen model) }
+    requires taken { matcher.old.taken < 2 ^ 32 - 1 }
+    requires gathers { (ps : Particles) × (kids : List (Rose ItemLabel)) × (i : ℕ) × (matcher.old.particle ≡ occurs (all ps) 1 (Some 1)) × Gathers set.now mixed ps kids i matcher.old gathered.old }
+    requires sound { is_sound kid.now ≡ true }
+    requires few { node_count kid.now < 2 ^ 31 }
+    ensures same { plans.new ≡ set.now }
+    ensures particle { OnOk result (matcher.new.particle ≡ matcher.old.particle) }
+    ensures limit { OnOk result (gathered.new.most ≡ gathered.old.most) }
+    ensures outside { OnOk result (gathered.new.outside ≡ gathered.old.outside) }
+    ensures judged { (ps : Particles) (kids : List (Rose ItemLabel)) (place i : ℕ) → matcher.old.particle ≡ occurs (all ps) 1 (Some 1) → i < length kids → kid.now ≡ slice_index_or kids i kid.now
+        → Gathers set.now mixed ps kids i matcher.old gathered.old
+        → MatchResult result
+        (λ _. Gathers set.now mixed ps kids (i + 1) matcher.new gathered.new)
+        (Tells (KidsFault (asked_at (parts_of set.now)) mixed matcher.old.particle (roses_of kids) place)) }
+    ensures most { steps.new ≤ steps.old + 144 * element_count kid.now }
+    ensures least { OnOk result (steps.old + element_count kid.now ≤ steps.new) }
+    ensures later { steps.old ≤ steps.new }
+{
+    match kid.label() {
+        ItemRef::Text { text, at } => check_between(mixed, text, at),
+        ItemRef::Element { name, at, .. } => match take_name(matcher, name, at, steps) {
+            Err(error) => Err(error),
+            Ok(leaf) => {
+                let mut value = ValueBuilder::new(plans.alloc(), gathered.left());
+                match walk_element(set, plans, leaf.decl, kid, &mut value, steps) {
+                    Err(error) => Err(error),
+                    Ok(()) => {
+                        gathered.keep(last_number(matcher), value)?;
+                        Ok(())
+                    }
+                }
+            }
+        },
+    }
+}
+
+// The kids follow the all of the plan, and each is valid. The element stands at this place.
+#[cycle(walking)]
+fn gather_kids<L: Ledger>(
+    set: &SchemaSet,
+    plans: &mut Plans,
+    model: &Particle,
+    plan: &Plan,
+    mixed: bool,
+    at: u64,
+    kids: &ItemKids<'_>,
+    values: &ValueBuilder,
+    steps: &mut Steps<L>,
+) -> Result<Gathered, CheckError>
+    requires linked { IsLinked set.now }
+    requires plans { plans.old ≡ set.now }
+    requires model { IsModel set.now model.now }
+    requires ordered { is_all (seen model.now) ≡ true }
+    requires plan { plan.now ≡ seen model.now }
+    requires sound { are_sound (roses_of kids.now) ≡ true }
+    requires few { count_all (roses_of kids.now) < 2 ^ 31 }
+    ensures same { plans.new ≡ set.now }
+    ensures limit { IfOk result (λ gathered. gathered.most ≡ values.now.most) }
+    ensures outside { IfOk result (λ gathered. gathered.outside ≡ values.now.nodes) }
+    ensures judged { MatchResult result
+        (λ gathered. KidsGathered set.now mixed (seen model.now) (roses_of kids.now) gathered)
+        (Tells (KidsFault (asked_at (parts_of set.now)) mixed (seen model.now) (roses_of kids.now) at)) }
+    ensures most { steps.new ≤ steps.old + (144 * elements_in (roses_of kids.now) + 72) }
+    ensures least { OnOk result (steps.old + elements_in (roses_of kids.now) ≤ steps.new) }
+    ensures later { steps.old ≤ steps.new }
+{
+    let mut matcher = Matcher::start(plan)?;
+    let mut gathered = Gathered::new(plans.alloc(), model, values)?;
+    for kid in kids.again() {
+        gather_kid(set, plans, &mut matcher, mixed, &kid, &mut gathered, steps)?;
+    }
+    match finish(&matcher, at, steps) {
+        Err(error) => Err(error),
+        Ok(()) => Ok(gathered),
+    }
+}
+
+// An element whose child elements come in any order. Their values stand behind the order in which they came, so that they are
+// gathered first.
+#[cycle(walking)]
+fn walk_ordered<L: Ledger>(
+    set: &SchemaSet,
+    plans: &mut Plans,
+    declared: &Declared,
+    attributes: &[(Name, Text)],
+    inside: AnyOrder<'_>,
+    at: u64,
+    kids: &ItemKids<'_>,
+    values: &mut ValueBuilder,
+    steps: &mut Steps<L>,
+) -> Result<(), CheckError>
+    requires linked { IsLinked set.now }
+    requires plans { plans.old ≡ set.now }
+    requires fitting { IsFittingInside set.now declared.now.inside }
+    requires inside { declared.now.inside ≡ Inside.Children inside.mixed inside.complex inside.model }
+    requires ordered { is_all (seen inside.model.now) ≡ true }
+    requires uses { All (IsUse set.now) declared.now.uses.list.now }
+    requires taken { AreTaken set.now attributes.now declared.now.uses.list.now }
+    requires sound { are_sound (roses_of kids.now) ≡ true }
+    requires few { count_all (roses_of kids.now) < 2 ^ 31 }
+    requires stands { (z : Zip ValueLabel) × Stands values.old z }
+    ensures same { plans.new ≡ set.now }
+    ensures limit { OnOk result (values.new.most ≡ values.old.most) }
+    ensures judged { (z : Zip ValueLabel) → Stands values.old z → MatchResult result
+        (λ _. ComplexPut set.now (told (parts_of set.now) declared.now) attributes.now (roses_of kids.now) z values.new)
+        (Tells (InsideFault (asked_at (parts_of set.now)) (inside_told declared.now.inside) (roses_of kids.now) at)) }
+    ensures most { steps.new ≤ steps.old + (144 * elements_in (roses_of kids.now) + 72) }
+    ensures least { OnOk result (steps.old + elements_in (roses_of kids.now) ≤ steps.new) }
+    ensures later { steps.old ≤ steps.new }
+{
+    let plan = plans.plan(inside.complex, inside.model)?;
+    let plan = plan.as_ref();
+    let mixed = inside.mixed;
+    match gather_kids(
+        set,
+        plans,
+        inside.model,
+        plan,
+        mixed,
+        at,
+        kids,
+        values,
+        steps,
+    ) {
+        Err(error) => Err(error),
+        Ok(gathered) => {
+            put_ordered(
+                plans.alloc(),
+                set,
+                declared,
+                attributes,
+                gathered,
+                kids,
+                values,
+            )?;
+            Ok(())
+        }
+    }
+}
+
+// An element whose value has parts, and whose child elements come in the order of the content model.
 #[cycle(walking)]
 fn walk_complex<L: Ledger>(
     set: &SchemaSet,
@@ -258,6 +422,7 @@ fn walk_complex<L: Ledger>(
     requires linked { IsLinked set.now }
     requires plans { plans.old ≡ set.now }
     requires inside { IsFittingInside set.now declared.now.inside }
+    requires no_all { HasNoAll (inside_told declared.now.inside) }
     requires uses { All (IsUse set.now) declared.now.uses.list.now }
     requires taken { AreTaken set.now attributes.now declared.now.uses.list.now }
     requires sound { are_sound (roses_of kids.now) ≡ true }
@@ -278,6 +443,7 @@ fn walk_complex<L: Ledger>(
         declared,
         attributes,
         false,
+        &[],
         kids,
         values,
     )?;
@@ -332,7 +498,12 @@ fn walk_filled<L: Ledger>(
 {
     match plain_type(set, decl, declared.inside) {
         Some(simple) => put_text(simple, at, kids, values),
-        None => walk_complex(set, plans, declared, attributes, at, kids, values, steps),
+        None => match any_order(declared.inside) {
+            Some(inside) => walk_ordered(
+                set, plans, declared, attributes, inside, at, kids, values, steps,
+            ),
+            None => walk_complex(set, plans, declared, attributes, at, kids, values, steps),
+        },
     }
 }
 

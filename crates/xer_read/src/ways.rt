@@ -2,6 +2,7 @@
 ghost use Rattle.std.specs.Prelude.{◌≡◌, [], ◌∷◌, ◌++◌, ◌+◌, ◌-◌, ◌*◌, ◌^◌, ◌<◌, ◌≤◌, ℕ, List, Some, true, OnOk, MatchResult, IfOk};
 ghost use Rattle.label_tree.specs.Rose.{node_count};
 ghost use Rattle.simple_types.specs.declared.labels.ValueLabel.{ValueLabel};
+ghost use Rattle.content_models.specs.Clear.{IsNoAll};
 ghost use Rattle.content_models.specs.Seen.{seen};
 ghost use Rattle.content_models.specs.Language as language;
 ghost use Rattle.content_models.specs.Language.{names, Lang, Viable};
@@ -56,6 +57,7 @@ impl Way {
 
     // It leads to the leaf where the matcher stands.
     fn follow(&mut self, matcher: &Matcher) -> Result<(), Memory>
+        requires { IsNoAll matcher.now.particle }
         ensures { OnOk result (LeadsTo self.new matcher.now) }
     {
         self.turns.clear();

@@ -24,10 +24,10 @@ use Rattle.asn_types.specs.Roles.{role_of, is_content, is_embed, is_order, is_it
 use Rattle.asn_types.proofs.Chaining.{well-formed}
 use Rattle.asn_values.specs.Values.{is_last_absent}
 use Rattle.xer_items.specs.Spelling.{is_leaf, is_textual}
-use Rattle.xer_items.specs.Ordering.{in_order}
+use Rattle.asn_values.specs.Ordering.{in_order}
 use Rattle.xer_items.specs.Items.{Given, given, nothing, both, joined, element_of, with_order, texts_of, with_texts, with_nil, inside}
 use Rattle.xer_items.specs.Children.{Child, elements_of}
-use Rattle.xer_items.proofs.Ordering.{in_order-map}
+use Rattle.asn_values.proofs.Slots.{in_order-map}
 use Rattle.xer_items.proofs.Children.{joined_elements, joined_children, elements_in_order}
 use Rattle.xer_write.specs.declared.contents.Contents.{Contents}
 use Rattle.xer_write.specs.Private.Gaining.{Gains}

@@ -39,7 +39,7 @@ use Rattle.std.specs.Global.{Vec}
 use Rattle.doc_written.specs.Written.{written}
 use Rattle.xer_write.specs.Private.Giving.{HasTold}
 use Rattle.xer_write.specs.Private.Gaining.{levels, value_text, Puts, Gains}
-use Rattle.xer_items.specs.Ordering.{in_order}
+use Rattle.asn_values.specs.Ordering.{in_order}
 use Rattle.xer_items.proofs.Ordering.{in_order-all}
 use Rattle.xer_items.proofs.Sizes.{nil-kids, inside-size}
 use Rattle.xer_items.specs.Sound.{HasCharacters, AreSoundAttributes, IsSoundLabel, is_text, begins_with_text, IsSound, AreSound}

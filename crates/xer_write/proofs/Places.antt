@@ -3,7 +3,7 @@ use Rattle.std.proofs.Common.{◌≡◌, ℕ, zero, suc, ◌+◌, ◌-◌, ◌<�
 use Rattle.std.specs.List.{range_with_len}
 use Rattle.std.proofs.lemmas.List.{drop_more}
 use Rattle.simple_types.specs.Labels.{count_set}
-use Rattle.xer_items.specs.Ordering.{slots, slot_at, emptied, put_some, taken, in_order}
+use Rattle.asn_values.specs.Ordering.{slots, slot_at, emptied, put_some, taken, in_order}
 
 -- ---- numbers in a row
 

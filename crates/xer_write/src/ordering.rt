@@ -6,7 +6,7 @@ ghost use Rattle.simple_types.specs.Labels.{count_set};
 ghost use Rattle.simple_types.specs.declared.labels.ValueLabel.TheVariants as label;
 ghost use Rattle.asn_types.specs.declared.types.Form.TheVariants as form;
 ghost use Rattle.asn_values.specs.Values as rule;
-ghost use Rattle.xer_items.specs.Ordering as ordered;
+ghost use Rattle.asn_values.specs.Ordering as ordered;
 ghost use Rattle.xer_write.specs.Private.Giving.{may_be_present};
 
 use asn_types::{Component, Role, TypeLabel};

@@ -7,7 +7,7 @@ use Rattle.simple_types.specs.declared.labels.ValueLabel.{ValueLabel}
 use Rattle.simple_types.specs.declared.labels.ValueLabel.TheVariants as value
 use Rattle.content_models.specs.declared.particles.ParticleLabel.{ParticleLabel}
 use Rattle.content_models.specs.Seen.{term_seen, all_seen}
-use Rattle.content_models.specs.Particle.{Particle, occurs, Term, element, sequence, choice, Particles, none, more}
+use Rattle.content_models.specs.Particle.{Particle, occurs, Term, element, sequence, choice, all, Particles, none, more}
 use Rattle.content_models.specs.Clear.{empties}
 use Rattle.value_builder.specs.Built.{with_parts}
 use Rattle.content_values.specs.Bounds.{is_once, is_optional}
@@ -38,6 +38,7 @@ abbrev mutual
   empty_term (element d a) = node value.SequenceOf rose.none
   empty_term (sequence ps) = node (value.Sequence (empty_flags ps)) (roses_of (empty_values ps))
   empty_term (choice ps) = node (value.Choice (empty_place ps)) (rose.more (empty_chosen ps) rose.none)
+  empty_term (all ps) = node value.SequenceOf rose.none
 
   -- the values of those that can't be left out
   pub empty_values : Particles → List (Rose ValueLabel)

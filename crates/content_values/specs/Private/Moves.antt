@@ -3,8 +3,8 @@ use Rattle.std.specs.Prelude.{ℕ, zero, suc, ◌==◌, Bool, true, false, cond,
 use Rattle.flat_tree.specs.Zips.{Zip, opened, closed}
 use Rattle.simple_types.specs.declared.labels.ValueLabel.{ValueLabel}
 use Rattle.simple_types.specs.declared.labels.ValueLabel.TheVariants as value
-use Rattle.content_models.specs.Particle.{Particle, occurs, Term, element, sequence, choice, Particles, none, more}
-use Rattle.content_spots.specs.Spots.{Spot, at, Inner, here, inside}
+use Rattle.content_models.specs.Particle.{Particle, occurs, Term, element, sequence, choice, all, Particles, none, more}
+use Rattle.content_spots.specs.Spots.{Spot, at, Inner, here, inside, among}
 use Rattle.value_builder.specs.Built.{flagged}
 use Rattle.content_values.specs.Bounds.{is_single, is_parted}
 use Rattle.content_values.specs.Private.Empty.{emptied}
@@ -33,10 +33,13 @@ abbrev mutual
   entered_term (sequence ps) s z = entered_order ps s (opened (value.Sequence []) z)
   entered_term (choice ps) here z = z
   entered_term (choice ps) (inside j s) z = entered_one ps j s (opened (value.Choice j) z)
+  entered_term (choice ps) (among j ms) z = z
+  entered_term (all ps) s z = z
 
   pub entered_order : Particles → Inner → Zip ValueLabel → Zip ValueLabel
   entered_order none s z = z
   entered_order (more p ps) here z = z
+  entered_order (more p ps) (among j ms) z = z
   entered_order (more p ps) (inside zero s) z = entered false p s (flagged true z)
   entered_order (more p ps) (inside (suc j) s) z = entered_order ps (inside j s) (emptied (more p none) z)
 
@@ -55,10 +58,13 @@ abbrev mutual
   ended_term (sequence ps) s z = closed (ended_order ps s z)
   ended_term (choice ps) here z = z
   ended_term (choice ps) (inside j s) z = closed (ended_one ps j s z)
+  ended_term (choice ps) (among j ms) z = z
+  ended_term (all ps) s z = z
 
   pub ended_order : Particles → Inner → Zip ValueLabel → Zip ValueLabel
   ended_order none s z = z
   ended_order (more p ps) here z = z
+  ended_order (more p ps) (among j ms) z = z
   ended_order (more p ps) (inside zero s) z = emptied ps (ended false p s z)
   ended_order (more p ps) (inside (suc j) s) z = ended_order ps (inside j s) z
 
@@ -77,12 +83,17 @@ abbrev mutual
   moved_term (sequence ps) s u z = moved_order ps s u z
   moved_term (choice ps) here u z = z
   moved_term (choice ps) (inside j s) here z = z
+  moved_term (choice ps) (inside j s) (among k ms) z = z
+  moved_term (choice ps) (among j ms) u z = z
+  moved_term (all ps) s u z = z
   moved_term (choice ps) (inside j s) (inside k u) z = moved_one ps j s u z
 
   pub moved_order : Particles → Inner → Inner → Zip ValueLabel → Zip ValueLabel
   moved_order none s u z = z
   moved_order (more p ps) here u z = z
   moved_order (more p ps) (inside j s) here z = z
+  moved_order (more p ps) (inside j s) (among k ms) z = z
+  moved_order (more p ps) (among j ms) u z = z
   moved_order (more p ps) (inside zero s) (inside zero u) z = moved p s u z
   moved_order (more p ps) (inside zero s) (inside (suc k) u) z = entered_order ps (inside k u) (ended false p s z)
   moved_order (more p ps) (inside (suc j) s) (inside zero u) z = z
@@ -121,6 +132,7 @@ top_ended (occurs t least most) s z =
 
 abbrev pub order_emptied : Term → Zip ValueLabel → Zip ValueLabel
 order_emptied (sequence ps) z = emptied ps z
+order_emptied (all ps) z = emptied ps z
 order_emptied _ z = z
 
 abbrev pub top_emptied : Particle → Zip ValueLabel → Zip ValueLabel

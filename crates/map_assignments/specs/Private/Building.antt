@@ -1,10 +1,11 @@
 -- How the parts of a type are made one after another; for private contracts.
-use Rattle.std.specs.Prelude.{◌≡◌, ℕ, Bool, false, Option, List, [], ◌∷◌, ◌++◌}
+use Rattle.std.specs.Prelude.{◌≡◌, ℕ, Bool, true, false, Option, None, List, [], ◌∷◌, ◌++◌}
 use Rattle.std.specs.List.{All}
 use Rattle.label_tree.specs.Rose.{Rose, node, roses_of}
+use Rattle.label_tree.specs.Rose as rose
 use Rattle.content_models.specs.declared.particles.ParticleLabel.{ParticleLabel}
 use Rattle.content_models.specs.declared.particles.ParticleKind.{ParticleKind}
-use Rattle.content_models.specs.declared.particles.ParticleKind.TheVariants.{Sequence}
+use Rattle.content_models.specs.declared.particles.ParticleKind.TheVariants.{Sequence, All as AllKind}
 use Rattle.content_models.specs.Particle.{Term}
 use Rattle.content_models.specs.Seen.{term_seen, seen, all_seen}
 use Rattle.simple_types.specs.declared.standards.Standard.{Standard}
@@ -14,12 +15,13 @@ use Rattle.name_map.specs.declared.conversion.NameKind.TheVariants.{Identifier}
 use Rattle.name_map.specs.Taking.{IsTaken}
 use Rattle.asn_types.specs.declared.marks.Instruction.{Instruction}
 use Rattle.asn_types.specs.declared.types.Component.{Component}
+use Rattle.asn_types.specs.declared.types.Form.TheVariants as form
 use Rattle.asn_types.specs.declared.types.TypeLabel.{TypeLabel}
 use Rattle.map_assignments.specs.declared.parts.PartList.{PartList}
 use Rattle.map_subjects.specs.declared.subjects.Subject.{Subject}
-use Rattle.map_assignments.specs.Plans.{Label, TypePlan, Parts}
+use Rattle.map_assignments.specs.Plans.{Label, item, TypePlan, Parts}
 use Rattle.map_assignments.specs.Planning.{is_once, particle_type, in_place}
-use Rattle.map_assignments.specs.Naming.{component_with, wanted, part_standard, part_marks, AreNamed}
+use Rattle.map_assignments.specs.Naming.{type_label, component_with, wanted, part_standard, part_marks, repeated_part, AreTaken, AreNamed}
 
 -- one part more, with an identifier made from this name, with this default or fixed value, and with the instructions that its
 -- identifier gives
@@ -46,9 +48,10 @@ declared s levels = particle_type s (in_place s levels)
 abbrev pub term_of : Rose ParticleLabel → Term
 term_of (node l ts) = term_seen l.kind (all_seen ts)
 
--- a sequence that stands once
+-- a sequence that stands once, or an all
 abbrev pub is_plain : ParticleKind → ℕ → Option ℕ → Bool
 is_plain Sequence least most = is_once least most
+is_plain AllKind least most = true
 is_plain _ least most = false
 
 -- each element particle names a declaration of the set
@@ -57,3 +60,19 @@ IsKnown s t = All (linked.IsNamed s) (linked.leaves (seen t))
 
 abbrev pub AreKnown : Set → List (Rose ParticleLabel) → Type 0
 AreKnown s ts = All (linked.IsNamed s) (linked.all_leaves (all_seen (roses_of ts)))
+
+-- ---- the order of child elements
+
+-- Whatever identifiers follow behind those of the scope, with those that are made they are taken for all names behind the
+-- first.
+abbrev pub LeadsToNames : List (List ℕ) → List (List ℕ) → List (List ℕ) → List (List ℕ) → List (List ℕ) → Type 0
+LeadsToNames first scope made rest names = (gs : List (List ℕ)) → AreTaken scope rest gs → AreTaken first names (made ++ gs)
+
+-- and where all that are taken are made
+abbrev pub LeadsToScope : List (List ℕ) → List (List ℕ) → List (List ℕ) → Type 0
+LeadsToScope scope rest names = LeadsToNames [] scope scope rest names
+
+-- the type of the order of elements whose parts have these identifiers
+abbrev pub order_tree : List (List ℕ) → Rose TypeLabel
+order_tree names =
+    node (type_label (form.SequenceOf (repeated_part item) 0 None) []) (rose.more (node (type_label (form.Order names) []) rose.none) rose.none)

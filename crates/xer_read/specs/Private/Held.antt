@@ -1,5 +1,5 @@
 -- The content of an element by its values.
-use Rattle.std.specs.Prelude.{List}
+use Rattle.std.specs.Prelude.{ℕ, Bool, List}
 use Rattle.label_tree.specs.Rose.{Rose, node, roses_of}
 use Rattle.simple_types.specs.declared.labels.ValueLabel.{ValueLabel}
 use Rattle.simple_types.specs.declared.labels.ValueLabel.TheVariants as value
@@ -12,10 +12,13 @@ pub data Beside : Type 0 where
   nothing : Beside
   text : Rose ValueLabel → Beside
   children : Rose ParticleLabel → List Child → Beside
+  -- the child elements of an all, in the order of its particles, with a flag for each particle
+  ordered : Rose ParticleLabel → List Bool → List Child → Beside
 
--- and with those texts
+-- with those texts, and with the numbers of an all's particles in the order of the child elements
 pub record Held : Type 0 where
   pub texts : List (Rose ValueLabel)
+  pub order : List ℕ
   pub rest : Beside
 
 -- the texts as one value

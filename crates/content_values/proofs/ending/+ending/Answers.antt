@@ -5,7 +5,7 @@ use Rattle.label_tree.proofs.Roses.{node_count-kids}
 use Rattle.label_tree.proofs.Kids.{kid-count-le, count_all-drop-le}
 use Rattle.flat_tree.specs.Zips.{closed}
 use Rattle.content_models.specs.Seen.{seen}
-use Rattle.content_models.specs.Particle.{sequence, choice}
+use Rattle.content_models.specs.Particle.{sequence, choice, all}
 use Rattle.content_models.specs.declared.particles.ParticleKind.TheVariants as kinds
 use Rattle.content_spots.specs.Spots.{finishes_term, finishes_order, finishes_one, here, inside}
 use Rattle.content_match.specs.Private.Standing.{spot_of}
@@ -15,6 +15,7 @@ use Rattle.content_values.specs.Bounds.{is_single}
 use Rattle.content_values.specs.Private.Empty.{term_of, emptied}
 use Rattle.content_values.specs.Private.Moves.{inner_in, items_closed, ended, ended_term, ended_order}
 use Rattle.content_values.proofs.Kids.{kids_seen, term-by, finishes-seen, ended-by, order-ends-within, order-ends-at, order-ended-at, one-ends-within, one-ends-at, one-ended-at, on-ok, no-order-here, no-one-here, rest-is}
+use Rattle.content_values.proofs.Ways.{never-ended}
 use Rattle.content_values.proofs.ending.+ending.Goals as goal
 
 pub end-returns : goal.end-returns
@@ -111,6 +112,13 @@ end_term-unreachable-requires t c =
     let p = c.args.particle.now in
     let is : term_of p ≡ choice (kids_seen (kids_of p)) = term-by p c.label.result.now (kids_of p) kinds.Choice c.label.ensures refl c.in-Choice.is in
     no-one-here (kids_seen (kids_of p)) (sym (ap (λ u. finishes_term u here) is) ∙ subst (λ i. finishes_term (term_of p) i ≡ true) c.in-None.ensures c.requires.done)
+
+pub end_term-unreachable-requires-in-All : goal.end_term-unreachable-requires-in-All
+end_term-unreachable-requires-in-All t c =
+    let p = c.args.particle.now in
+    let ps = kids_seen (kids_of p) in
+    let is : term_of p ≡ all ps = term-by p c.label.result.now (kids_of p) kinds.All c.label.ensures refl c.in-All.is in
+    never-ended ps c.args.from.turns.now c.args.from.kids.now (sym (ap (λ u. finishes_term u (inner_in (spot_of c.args.from.turns.now c.args.from.kids.now))) is) ∙ c.requires.done)
 
 pub end_term-bounds-kids-lower : goal.end_term-bounds-kids-lower
 end_term-bounds-kids-lower t c =

@@ -6,9 +6,9 @@ use Rattle.label_tree.proofs.Kids.{kid-count-le, count_all-take-le}
 use Rattle.flat_tree.specs.Zips.{opened}
 use Rattle.simple_types.specs.declared.labels.ValueLabel.TheVariants as value
 use Rattle.content_models.specs.Seen.{seen}
-use Rattle.content_models.specs.Particle.{sequence, choice}
+use Rattle.content_models.specs.Particle.{sequence, choice, all}
 use Rattle.content_models.specs.declared.particles.ParticleKind.TheVariants as kinds
-use Rattle.content_spots.specs.Spots.{enter_term, enter_one, inside}
+use Rattle.content_spots.specs.Spots.{enter_term, enter_one, inside, pick, unmarked}
 use Rattle.content_match.specs.Private.Standing.{spot_of}
 use Rattle.value_builder.specs.Built.{flagged}
 use Rattle.value_builder.proofs.Putting.{puts-then, puts-both}
@@ -17,6 +17,7 @@ use Rattle.content_values.specs.Private.Empty.{term_of, emptied}
 use Rattle.content_values.specs.Private.Moves.{inner_in, items_opened, entered, entered_term, entered_order}
 use Rattle.content_values.proofs.Inverting.{enter_order-here, enter_one-here}
 use Rattle.content_values.proofs.Kids.{kids_seen, term-by, enter-seen, entered-by, order-within, order-enters-at, order-entered-at, one-within, one-enters-at, one-entered-at, on-ok, kid-there}
+use Rattle.content_values.proofs.Ways.{never-entered}
 use Rattle.content_values.proofs.entering.+entering.Goals as goal
 
 pub enter-returns : goal.enter-returns
@@ -112,6 +113,14 @@ enter_term-unreachable-requires t c =
     let a = c.requires.leads.0 in
     let is : term_of p ≡ choice (kids_seen (kids_of p)) = term-by p c.label.result.now (kids_of p) kinds.Choice c.label.ensures refl c.in-Choice.is in
     enter_one-here (kids_seen (kids_of p)) a (sym (ap (λ u. enter_term u a) is) ∙ c.requires.leads.1 ∙ ap Some c.in-None.ensures)
+
+pub enter_term-unreachable-requires-in-All : goal.enter_term-unreachable-requires-in-All
+enter_term-unreachable-requires-in-All t c =
+    let p = c.args.particle.now in
+    let a = c.requires.leads.0 in
+    let ps = kids_seen (kids_of p) in
+    let is : term_of p ≡ all ps = term-by p c.label.result.now (kids_of p) kinds.All c.label.ensures refl c.in-All.is in
+    never-entered (pick ps (unmarked ps) a) c.args.to.turns.now c.args.to.kids.now (sym (ap (λ u. enter_term u a) is) ∙ c.requires.leads.1)
 
 pub enter_term-bounds-kids-lower : goal.enter_term-bounds-kids-lower
 enter_term-bounds-kids-lower t c =

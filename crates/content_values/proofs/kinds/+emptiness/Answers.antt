@@ -18,6 +18,12 @@ may_be_empty-one_may_be_empty-requires t c =
     let k = node_count-kids c.args.particle.now in
     (rw c.kids-in-Choice.ensures (omega (arith, d, k)), tt)
 
+pub may_be_empty-all_may_be_empty-requires-in-All : goal.may_be_empty-all_may_be_empty-requires-in-All
+may_be_empty-all_may_be_empty-requires-in-All t c =
+    let d = c.decreases in
+    let k = node_count-kids c.args.particle.now in
+    (rw c.kids-in-All.ensures (omega (arith, d, k)), tt)
+
 pub all_may_be_empty-may_be_empty-requires : goal.all_may_be_empty-may_be_empty-requires
 all_may_be_empty-may_be_empty-requires t c =
     let d = c.decreases in
@@ -43,3 +49,10 @@ may_be_empty-returns-in-Choice t c =
     let label = c.label-label.result.now in
     empties-by particle label c.one_may_be_empty.result c.label-label.ensures c.if-label-eq0.false
     (c.one_may_be_empty.ensures ∙ sym (ap empties_term (term-by particle label c.kids-in-Choice.result.now kinds.Choice c.label-label.ensures c.kids-in-Choice.ensures c.in-Choice.is)))
+
+pub may_be_empty-returns-in-All : goal.may_be_empty-returns-in-All
+may_be_empty-returns-in-All t c =
+    let particle = c.args.particle.now in
+    let label = c.label-label.result.now in
+    empties-by particle label c.all_may_be_empty-in-All.result c.label-label.ensures c.if-label-eq0.false
+    (c.all_may_be_empty-in-All.ensures ∙ sym (ap empties_term (term-by particle label c.kids-in-All.result.now kinds.All c.label-label.ensures c.kids-in-All.ensures c.in-All.is)))

@@ -3,7 +3,7 @@ use Rattle.label_tree.specs.Rose.{roses_of, count_all, kids_of, label_of}
 use Rattle.label_tree.proofs.Roses.{node_count-kids}
 use Rattle.label_tree.proofs.Kids.{kid-count-le}
 use Rattle.content_models.specs.Seen.{seen}
-use Rattle.content_models.specs.Particle.{sequence, choice}
+use Rattle.content_models.specs.Particle.{sequence, choice, all}
 use Rattle.content_models.specs.declared.particles.ParticleKind.TheVariants as kinds
 use Rattle.content_spots.specs.Spots.{next_term, next_order, next_one, inside}
 use Rattle.content_match.specs.Private.Standing.{spot_of}
@@ -12,6 +12,7 @@ use Rattle.content_values.specs.Private.Empty.{term_of}
 use Rattle.content_values.specs.Private.Moves.{turn_in, inner_in, entered_term, ended_term, moved, moved_term, moved_order}
 use Rattle.content_values.proofs.Inverting as invert
 use Rattle.content_values.proofs.Kids.{kids_seen, term-by, next-seen, stays, goes, moved-stays, moved-goes, order-moves-within, order-stays-at, order-stayed-at, one-moves-within, one-moves-at, one-moved-at, on-ok}
+use Rattle.content_values.proofs.Ways.{never-left}
 use Rattle.content_values.proofs.moving.+moving.Goals as goal
 use Rattle.content_values.proofs.moving.+moving.Goals.{step_order-in_default-via-in-Some+in_default, step_order-in_default-via-in_default, step_term-in_default-via-in-Some+in_default, step_term-in_default-via-in_default}
 
@@ -202,6 +203,15 @@ step_term-step-requires t c =
       omega (arith, d, less),
       (omega (arith, few, n, same, fewer), (a, one-moves-at kids old.kid kid h.0 c.index-kids-old.is a s u f)),
     )
+
+pub step_term-unreachable-requires-in-All : goal.step_term-unreachable-requires-in-All
+step_term-unreachable-requires-in-All t c =
+    let p = c.args.particle.now in
+    let ps = kids_seen (kids_of p) in
+    let a = c.requires.leads.0 in
+    let is : term_of p ≡ all ps = term-by p c.label.result.now (kids_of p) kinds.All c.label.ensures refl c.in-All.is in
+    never-left ps c.args.from.turns.now c.args.from.kids.now a (inner_in (spot_of c.args.to.turns.now c.args.to.kids.now))
+    (sym (ap (λ x. next_term x (inner_in (spot_of c.args.from.turns.now c.args.from.kids.now)) a) is) ∙ c.requires.leads.1)
 
 pub step_term-unreachable-requires-in_default : goal.step_term-unreachable-requires-in_default
 step_term-unreachable-requires-in_default t c =

@@ -1,6 +1,7 @@
 use Rattle.std.proofs.Common.{◌≡◌, ◌<◌, true, sym, subst}
 use Rattle.label_tree.specs.Rose.{node_count}
 use Rattle.content_models.specs.Seen.{seen}
+use Rattle.content_models.specs.Clear.{IsNoAll}
 use Rattle.content_models.specs.Clear.{empties}
 use Rattle.content_spots.specs.Spots.{finishes}
 use Rattle.content_spots.specs.Laws.{may_end}
@@ -8,8 +9,11 @@ use Rattle.content_match.specs.Private.Standing.{spot_of, spot_now}
 use Rattle.value_builder.specs.Built.{Puts}
 use Rattle.content_values.specs.Private.Moves.{top_ended, top_emptied}
 use Rattle.content_values.proofs.Kids.{on-ok}
-use Rattle.content_values.proofs.Tops.{now-some, now-none, turns-none, turns-some, last-finished, none-finished}
+use Rattle.content_values.proofs.Tops.{fillable-no-all, now-some, now-none, turns-none, turns-some, last-finished, none-finished}
 use Rattle.content_values.proofs.placing.put_end.Goals as goal
+
+pub put_none-requires-clause-no_all : goal.put_none-requires-clause-no_all
+put_none-requires-clause-no_all c = subst (λ t. IsNoAll (seen t)) (sym c.root.ensures.root) (fillable-no-all (seen c.args.model.now) c.requires.fillable)
 
 pub put_none-requires-clause-few : goal.put_none-requires-clause-few
 put_none-requires-clause-few c = subst (λ t. node_count t < 2147483648) (sym c.root.ensures.root) c.requires.few
@@ -33,6 +37,9 @@ returns-then-is_empty c =
           (λ put. none-finished p (spot_now from.turns.now from.kids.now) old new c.requires.fillable start c.requires.ends (subst (λ t. Puts (top_emptied (seen t)) old new) c.root.ensures.root put))
           c.put_none.ensures;
     }
+
+pub put_last-requires-clause-no_all : goal.put_last-requires-clause-no_all
+put_last-requires-clause-no_all c = subst (λ t. IsNoAll (seen t)) (sym c.root-else-is_empty.ensures.root) (fillable-no-all (seen c.args.model.now) c.requires.fillable)
 
 pub put_last-requires-clause-few : goal.put_last-requires-clause-few
 put_last-requires-clause-few c = subst (λ t. node_count t < 2147483648) (sym c.root-else-is_empty.ensures.root) c.requires.few

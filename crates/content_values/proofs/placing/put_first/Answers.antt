@@ -20,7 +20,7 @@ enter_order-requires-clause-leads c =
     let top = c.args.top.now in
     let kids = c.kids.result.now in
     let once = parted-known top c.label.result.now true c.label.ensures (λ ps. sym c.if-is_parted.true ∙ c.is_parted.ensures ps) in
-    let is = parted-term top kids c.kids.ensures once in
+    let is = parted-term top kids c.kids.ensures c.requires.no_all once in
     (c.requires.leads.0, parted-enters top (kids_seen kids) is once c.requires.leads.0 (spot_of c.args.to.turns.now c.args.to.kids.now) c.requires.leads.1)
 
 pub returns-then-is_parted : goal.returns-then-is_parted
@@ -29,7 +29,7 @@ returns-then-is_parted c =
     let kids = c.kids.result.now in
     let u = spot_of c.args.to.turns.now c.args.to.kids.now in
     let once = parted-known top c.label.result.now true c.label.ensures (λ ps. sym c.if-is_parted.true ∙ c.is_parted.ensures ps) in
-    let is = parted-term top kids c.kids.ensures once in
+    let is = parted-term top kids c.kids.ensures c.requires.no_all once in
     on-ok c.enter_order.result _ _ (λ put. puts-as (entered_order (kids_seen kids) (inner_in u)) (top_entered (seen top) u) _ _ (λ z. parted-entered top (kids_seen kids) is once u z) put) c.enter_order.ensures
 
 pub enter-requires-clause-leads : goal.enter-requires-clause-leads

@@ -19,7 +19,7 @@ end_order-requires-clause-done c =
     let top = c.args.top.now in
     let kids = c.kids.result.now in
     let once = parted-known top c.label.result.now true c.label.ensures (λ ps. sym c.if-is_parted.true ∙ c.is_parted.ensures ps) in
-    let is = parted-term top kids c.kids.ensures once in
+    let is = parted-term top kids c.kids.ensures c.requires.no_all once in
     parted-finishes top (kids_seen kids) is once (spot_of c.args.from.turns.now c.args.from.kids.now) c.requires.done
 
 pub returns-then-is_parted : goal.returns-then-is_parted
@@ -28,7 +28,7 @@ returns-then-is_parted c =
     let kids = c.kids.result.now in
     let s = spot_of c.args.from.turns.now c.args.from.kids.now in
     let once = parted-known top c.label.result.now true c.label.ensures (λ ps. sym c.if-is_parted.true ∙ c.is_parted.ensures ps) in
-    let is = parted-term top kids c.kids.ensures once in
+    let is = parted-term top kids c.kids.ensures c.requires.no_all once in
     on-ok c.end_order.result _ _ (λ put. puts-as (ended_order (kids_seen kids) (inner_in s)) (top_ended (seen top) s) _ _ (λ z. parted-ended top (kids_seen kids) is once s z) put) c.end_order.ensures
 
 pub end-requires-clause-done : goal.end-requires-clause-done

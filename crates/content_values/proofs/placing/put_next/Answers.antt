@@ -19,7 +19,7 @@ step_order-requires-clause-leads c =
     let top = c.args.top.now in
     let kids = c.kids.result.now in
     let once = parted-known top c.label.result.now true c.label.ensures (λ ps. sym c.if-is_parted.true ∙ c.is_parted.ensures ps) in
-    let is = parted-term top kids c.kids.ensures once in (
+    let is = parted-term top kids c.kids.ensures c.requires.no_all once in (
       c.requires.leads.0,
       parted-moves top (kids_seen kids) is once c.requires.leads.0 (spot_of c.args.from.turns.now c.args.from.kids.now) (spot_of c.args.to.turns.now c.args.to.kids.now) c.requires.leads.1,
     )
@@ -31,7 +31,7 @@ returns-then-is_parted c =
     let s = spot_of c.args.from.turns.now c.args.from.kids.now in
     let u = spot_of c.args.to.turns.now c.args.to.kids.now in
     let once = parted-known top c.label.result.now true c.label.ensures (λ ps. sym c.if-is_parted.true ∙ c.is_parted.ensures ps) in
-    let is = parted-term top kids c.kids.ensures once in
+    let is = parted-term top kids c.kids.ensures c.requires.no_all once in
     on-ok c.step_order.result _ _
     (λ put. puts-as (moved_order (kids_seen kids) (inner_in s) (inner_in u)) (top_moved (seen top) s u) _ _ (λ z. parted-moved top (kids_seen kids) is once s u z) put) c.step_order.ensures
 

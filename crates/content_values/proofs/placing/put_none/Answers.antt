@@ -20,7 +20,7 @@ put_empty_parts-requires-clause-empty c =
     let top = c.args.top.now in
     let kids = c.kids.result.now in
     let once = parted-known top c.label.result.now true c.label.ensures (λ ps. sym c.if-is_parted.true ∙ c.is_parted.ensures ps) in
-    let is = parted-term top kids c.kids.ensures once in
+    let is = parted-term top kids c.kids.ensures c.requires.no_all once in
     parted-empties top (kids_seen kids) is once c.requires.empty
 
 pub returns-then-is_parted : goal.returns-then-is_parted
@@ -28,7 +28,7 @@ returns-then-is_parted c =
     let top = c.args.top.now in
     let kids = c.kids.result.now in
     let once = parted-known top c.label.result.now true c.label.ensures (λ ps. sym c.if-is_parted.true ∙ c.is_parted.ensures ps) in
-    let is = parted-term top kids c.kids.ensures once in
+    let is = parted-term top kids c.kids.ensures c.requires.no_all once in
     on-ok c.put_empty_parts.result _ _ (λ put. puts-as (emptied (kids_seen kids)) (top_emptied (seen top)) _ _ (λ z. parted-emptied top (kids_seen kids) is once z) put) c.put_empty_parts.ensures
 
 pub returns-else-is_parted : goal.returns-else-is_parted

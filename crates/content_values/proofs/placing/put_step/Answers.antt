@@ -1,14 +1,18 @@
 use Rattle.std.proofs.Common.{◌≡◌, ◌<◌, Some, sym, ◌∙◌, ap, subst}
 use Rattle.label_tree.specs.Rose.{node_count}
 use Rattle.content_models.specs.Seen.{seen}
+use Rattle.content_models.specs.Clear.{IsNoAll}
 use Rattle.content_spots.specs.Spots.{enter, next}
 use Rattle.content_spots.specs.Laws.{step_from}
 use Rattle.content_match.specs.Private.Standing.{spot_of, spot_now}
 use Rattle.value_builder.specs.Built.{Puts}
 use Rattle.content_values.specs.Private.Moves.{top_entered, top_moved}
 use Rattle.content_values.proofs.Kids.{on-ok}
-use Rattle.content_values.proofs.Tops.{now-is, now-some, now-none, turns-none, turns-some, first-promised, next-promised}
+use Rattle.content_values.proofs.Tops.{fillable-no-all, now-is, now-some, now-none, turns-none, turns-some, first-promised, next-promised}
 use Rattle.content_values.proofs.placing.put_step.Goals as goal
+
+pub put_first-requires-clause-no_all : goal.put_first-requires-clause-no_all
+put_first-requires-clause-no_all c = subst (λ t. IsNoAll (seen t)) (sym c.root.ensures.root) (fillable-no-all (seen c.args.model.now) c.requires.fillable)
 
 pub put_first-requires-clause-few : goal.put_first-requires-clause-few
 put_first-requires-clause-few c = subst (λ t. node_count t < 2147483648) (sym c.root.ensures.root) c.requires.few
@@ -41,6 +45,9 @@ returns-then-is_empty c =
           (c.requires.step.3 ∙ ap Some there) (c.requires.step.2 ∙ ap Some there) (subst (λ t. Puts (top_entered (seen t) u) old new) c.root.ensures.root put))
           c.put_first.ensures;
     }
+
+pub put_next-requires-clause-no_all : goal.put_next-requires-clause-no_all
+put_next-requires-clause-no_all c = subst (λ t. IsNoAll (seen t)) (sym c.root-else-is_empty.ensures.root) (fillable-no-all (seen c.args.model.now) c.requires.fillable)
 
 pub put_next-requires-clause-few : goal.put_next-requires-clause-few
 put_next-requires-clause-few c = subst (λ t. node_count t < 2147483648) (sym c.root-else-is_empty.ensures.root) c.requires.few

@@ -1,17 +1,17 @@
-use Rattle.std.proofs.Common.{true, false, refl, sym, ap, subst, ◌∙◌, arith}
+use Rattle.std.proofs.Common.{true, false, inl, inr, refl, sym, ap, subst, ◌∙◌, arith}
 use Rattle.std.proofs.lemmas.List.{drop_all}
 use Rattle.label_tree.specs.Rose.{roses_of, kids_of, count_all}
 use Rattle.label_tree.proofs.Roses.{node_count-kids, node_count-positive}
 use Rattle.label_tree.proofs.Kids.{roses_of-drop, kid-count-le}
 use Rattle.content_models.specs.Seen.{term_seen, seen, all_seen}
 use Rattle.map_assignments.specs.Plans.{finish}
-use Rattle.map_assignments.specs.Planning.{simple_type, attributes, is_mixed, with_texts, rest_parts, content_parts, content_type, top, term_type, particle_parts}
+use Rattle.map_assignments.specs.Planning.{simple_type, attributes, is_mixed, is_ordered, with_texts, with_order, order_plan, rest_parts, content_parts, content_type, top, term_type, particle_parts}
 use Rattle.map_assignments.specs.Naming.{IsNamed, sequence_marks}
 use Rattle.map_assignments.specs.Private.Placing.{place_of}
-use Rattle.map_assignments.specs.Private.Building.{LeadsToNamed, declared}
+use Rattle.map_assignments.specs.Private.Building.{LeadsToNamed, declared, AreKnown}
 use Rattle.map_assignments.proofs.Building.{on_ok, leads-init, named-sequence, named-choice}
-use Rattle.map_assignments.proofs.Known.{known-element, known-kids, known-alternatives, known-kid, term-parts}
-use Rattle.map_assignments.proofs.Models.{plain-sequence, content-sequence, top-plain, top-other, parts-more}
+use Rattle.map_assignments.proofs.Known.{known-element, known-kids, known-alternatives, known-all, known-kid, term-parts}
+use Rattle.map_assignments.proofs.Models.{plain-sequence, group-type, content-sequence, top-plain, top-other, parts-more}
 use Rattle.map_assignments.proofs.content.+content.Goals as goal
 
 pub complex_type-returns : goal.complex_type-returns
@@ -20,12 +20,16 @@ complex_type-returns t c =
     let place = place_of c.args.places.now in
     let d = c.args.definition.now in
     let rest = rest_parts (declared s c.args.levels) s c.args.nillable d.content in
+    let T = declared s c.args.levels in
     let parts = attributes s d.uses rest in
-    let whole = with_texts (is_mixed d.content) parts in
-    let begun = subst (λ b. LeadsToNamed place c.in_ok-parts.parts parts (with_texts b parts)) c.is_mixed-mixed.ensures (c.in_ok-parts.ensures place parts) in
-    let behind = c.in_ok-push_attributes.ensures rest whole (subst (λ us. LeadsToNamed place c.in_ok-parts.parts (attributes s us rest) whole) (sym c.items.ensures) begun) in
-    named-sequence place c.push_rest.new.parts c.into_sequence.result c.in_ok-marks.marks c.args.nillable (is_mixed d.content) whole c.into_sequence.ensures
-    (c.in_ok-marks.ensures ∙ ap (sequence_marks c.args.nillable) c.is_mixed-mixed.ensures) (c.in_ok-push_rest.ensures whole behind)
+    let ordered = with_order (is_ordered d.content) (order_plan T s c.args.nillable d) parts in
+    let whole = with_texts (is_mixed d.content) ordered in
+    let begun = subst (λ b. LeadsToNamed place c.in_ok-parts.parts ordered (with_texts b ordered)) c.is_mixed-mixed.ensures (c.in_ok-parts.ensures place ordered) in
+    let told = c.in_ok-push_content_order.ensures place T s parts whole begun in
+    let behind = c.in_ok-push_attributes.ensures rest whole (subst (λ us. LeadsToNamed place c.push_content_order.new.parts (attributes s us rest) whole) (sym c.items.ensures) told) in
+    named-sequence place c.push_rest.new.parts c.into_sequence.result c.in_ok-marks.marks c.args.nillable (is_mixed d.content) (is_ordered d.content) whole c.into_sequence.ensures
+    (c.in_ok-marks.ensures ∙ ap (λ b. sequence_marks c.args.nillable b c.is_ordered.result) c.is_mixed-mixed.ensures ∙ ap (sequence_marks c.args.nillable (is_mixed d.content)) c.is_ordered.ensures)
+    (c.in_ok-push_rest.ensures whole behind)
 
 pub content_type-returns : goal.content_type-returns
 content_type-returns t c =
@@ -35,7 +39,7 @@ content_type-returns t c =
     let whole = content_parts T s c.args.content.now in
     let new = c.new-parts in
     subst (λ p. IsNamed place p c.into_sequence.result) (sym (content-sequence T s c.args.content.now c.in_default.not-Simple))
-    (named-sequence place c.push_content.new.parts c.into_sequence.result c.of-marks.result false false whole c.into_sequence.ensures (c.of-marks.ensures ∙ c.new.ensures.items)
+    (named-sequence place c.push_content.new.parts c.into_sequence.result c.of-marks.result false false false whole c.into_sequence.ensures (c.of-marks.ensures ∙ c.new.ensures.items)
     (c.in_ok-push_content.ensures whole (leads-init place new.result whole new.ensures.scope new.ensures.components new.ensures.kids)))
 
 pub push_content-returns-in_ok-kid-in-Simple : goal.push_content-returns-in_ok-kid-in-Simple
@@ -95,8 +99,11 @@ push_top-push_particles-requires t c =
     let now = c.decreases in
     let fewer = ap (λ ts. count_all (roses_of ts)) below in
     let all = node_count-kids particle in
-    let kind = plain-sequence l.kind l.min l.max (sym c.is_plain.ensures ∙ c.if-is_plain.true) in
-    (omega (arith, now, fewer, all), (c.requires.linked, known-kids c.args.set.now particle l c.kids.result.now c.requires.known c.label-label.ensures below kind))
+    let known : AreKnown c.args.set.now c.kids.result.now = elim (plain-sequence l.kind l.min l.max (sym c.is_plain.ensures ∙ c.if-is_plain.true)) [
+      | inl kind ↦ known-kids c.args.set.now particle l c.kids.result.now c.requires.known c.label-label.ensures below kind
+      | inr kind ↦ known-all c.args.set.now particle l c.kids.result.now c.requires.known c.label-label.ensures below kind
+    ] in
+    (omega (arith, now, fewer, all), (c.requires.linked, known))
 
 pub push_top-returns-then-is_plain : goal.push_top-returns-then-is_plain
 push_top-returns-then-is_plain t c =
@@ -131,7 +138,11 @@ term_type-push_particles-requires t c =
     let now = c.decreases in
     let fewer = ap (λ ts. count_all (roses_of ts)) below in
     let all = node_count-kids particle in
-    (omega (arith, now, fewer, all), (c.requires.linked, known-kids c.args.set.now particle c.label-label.result.now c.kids.result.now c.requires.known c.label-label.ensures below c.in-Sequence.is))
+    let known : AreKnown c.args.set.now c.kids.result.now = elim c.in-Sequence.is [
+      | inl kind ↦ known-kids c.args.set.now particle c.label-label.result.now c.kids.result.now c.requires.known c.label-label.ensures below kind
+      | inr kind ↦ known-all c.args.set.now particle c.label-label.result.now c.kids.result.now c.requires.known c.label-label.ensures below kind
+    ] in
+    (omega (arith, now, fewer, all), (c.requires.linked, known))
 
 pub term_type-push_particles-requires-in-Choice : goal.term_type-push_particles-requires-in-Choice
 term_type-push_particles-requires-in-Choice t c =
@@ -149,9 +160,9 @@ term_type-returns-in_ok-push_particles-in-Sequence t c =
     let ps = all_seen (roses_of c.kids.result.now) in
     let whole = particle_parts T false ps in
     let new = c.new-parts in
-    subst (λ m. IsNamed place (term_type T m) c.into_sequence.result)
-    (sym (term-parts c.args.particle.now c.label-label.result.now c.kids.result.now c.label-label.ensures c.kids.ensures ∙ ap (λ k. term_seen k ps) c.in-Sequence.is))
-    (named-sequence place c.push_particles.new.parts c.into_sequence.result c.of-marks.result false false whole c.into_sequence.ensures (c.of-marks.ensures ∙ c.new.ensures.items)
+    subst (λ p. IsNamed place p c.into_sequence.result)
+    (sym (ap (term_type T) (term-parts c.args.particle.now c.label-label.result.now c.kids.result.now c.label-label.ensures c.kids.ensures) ∙ group-type T c.label-label.result.now.kind ps c.in-Sequence.is))
+    (named-sequence place c.push_particles.new.parts c.into_sequence.result c.of-marks.result false false false whole c.into_sequence.ensures (c.of-marks.ensures ∙ c.new.ensures.items)
     (c.in_ok-push_particles-in-Sequence.ensures whole (leads-init place new.result whole new.ensures.scope new.ensures.components new.ensures.kids)))
 
 pub term_type-returns-in_ok-push_particles-in-Choice : goal.term_type-returns-in_ok-push_particles-in-Choice

@@ -11,5 +11,5 @@ returns c =
     let type = simple_type c.args.set.now c.args.n in
     let whole = part content true type finish in
     let new = c.new-parts in
-    named-sequence place c.push_nillable.new.parts c.into_sequence.result c.in_ok-marks.marks true false whole c.into_sequence.ensures c.in_ok-marks.ensures
+    named-sequence place c.push_nillable.new.parts c.into_sequence.result c.in_ok-marks.marks true false false whole c.into_sequence.ensures c.in_ok-marks.ensures
     (c.in_ok-push_nillable.ensures place type whole c.in_ok-kid.ensures (leads-init place new.result whole new.ensures.scope new.ensures.components new.ensures.kids))

@@ -1,5 +1,5 @@
 use Rattle.std.proofs.Common.{◌≡◌, ◌+◌, ◌≤◌, ◌++◌, [], ◌∷◌, true, false, refl, sym, ◌∙◌, ap, subst, arith, add-one, length}
-use Rattle.std.specs.Prelude.{All}
+use Rattle.std.specs.Prelude.{All, Some, None, slice_get}
 use Rattle.std.proofs.lemmas.Result.{err_from_is_err_and}
 use Rattle.label_tree.specs.Rose.{Rose, roses_of, none, count_all}
 use Rattle.flat_tree.specs.Zips.{opened, added}
@@ -10,6 +10,9 @@ use Rattle.simple_types.specs.Seen.{space_of}
 use Rattle.item_tree.specs.Seen.{item_seen}
 use Rattle.doc_text.specs.Sound.{is_text, are_sound}
 use Rattle.content_models.specs.Seen.{seen}
+use Rattle.content_models.specs.Clear.{IsNoAll}
+use Rattle.content_models.specs.Occurring.{MayOccur}
+use Rattle.content_match.proofs.Standing.{spot_matched}
 use Rattle.content_match.specs.Private.Standing.{spot_now}
 use Rattle.content_match.specs.Taking.{levels, spot_of}
 use Rattle.schema_parts.specs.Linked.{leaves, IsNamed}
@@ -28,14 +31,17 @@ use Rattle.validity_check.proofs.Shape.{kid_sound, kids_sound}
 use Rattle.validity_check.proofs.Levels.{model_levels}
 use Rattle.validity_check.proofs.Tagging.{tag_refused}
 use Rattle.validity_check.proofs.Walking.{leaf_declared}
-use Rattle.value_builder.specs.Built.{Puts, flagged, with_parts}
+use Rattle.value_builder.specs.Built.{nothing_of, Puts, flagged, with_parts}
 use Rattle.content_values.specs.Reached.{Put}
 use Rattle.xer_read.specs.Private.Given.{IsReadAs}
-use Rattle.xer_read.specs.Private.Keeping.{strings_put, Reached}
-use Rattle.xer_read.specs.Private.Contents.{IsNilFilled, ChildrenPut}
+use Rattle.xer_read.specs.Private.Keeping.{strings_put, Reached, Gathers}
+use Rattle.xer_read.specs.Private.Slots.{no_slots, filled_at, Keeps}
+use Rattle.xer_read.specs.Private.Contents.{HasNoAll, IsNilFilled, ChildrenPut, KidsGathered, IsGathered}
 use Rattle.xer_read.proofs.Leading.{clear-rule1}
 use Rattle.xer_read.proofs.Attributed.{all-taken}
 use Rattle.xer_read.proofs.Reaching.{none-reached, end-refused, end-put, text-judged, name-refused, kid-judged}
+use Rattle.xer_read.proofs.Collecting as collecting
+use Rattle.xer_read.proofs.Finishing.{starts}
 use Rattle.xer_read.proofs.Whole as whole
 use Rattle.xer_read.proofs.Whole.{inner-children, begun_at, complex-put, nothing-judged, children-judged, complex-judged, plain-judged, nil-read, filled-read}
 use Rattle.xer_read.proofs.elements.+walking.Goals as goal
@@ -43,7 +49,7 @@ use Rattle.xer_read.proofs.elements.+walking.Goals as goal
 -- ---- one kid
 
 pub walk_kid-open_way-requires-clause-fillable : goal.walk_kid-open_way-requires-clause-fillable
-walk_kid-open_way-requires-clause-fillable g t c = (c.requires.model.occurring, clear-rule1 (seen c.args.model.now) [] c.requires.model.clear)
+walk_kid-open_way-requires-clause-fillable g t c = (c.requires.model.occurring, clear-rule1 (seen c.args.model.now) [] c.requires.model.clear c.requires.no_all)
 
 pub walk_kid-walk_element-requires : goal.walk_kid-walk_element-requires
 walk_kid-walk_element-requires g t c κs within =
@@ -113,7 +119,8 @@ walk_kids-loop-kid-init g t c =
     record {
       all = cc (c.into_iter-kid-iterator.ensures.into_iter_gives, c.again-kid-items.ensures);
       plans = c.requires.plans;
-      way = λ _. ap (λ ts. spot_now ts way.kids.items) c.new-way.ensures.turns ∙ ap (λ ts. spot_now ts k.kids) (sym took.turns);
+      way = λ _. ap (λ ts. spot_now ts way.kids.items) c.new-way.ensures.turns ∙ ap (λ ts. spot_now ts k.kids) (sym took.turns)
+          ∙ sym (spot_matched k (subst IsNoAll (sym (c.in_ok-matcher.ensures.plan ∙ c.requires.plan)) c.requires.no_all));
       limit = refl;
       reached = λ z stands.
           none-reached c.args.set.now c.args.mixed (seen c.args.model.now) c.args.kids.now k z c.args.values.now (c.in_ok-matcher.ensures.plan ∙ c.requires.plan) took stands;
@@ -148,10 +155,13 @@ walk_kids-walk_kid-requires g t c κs within =
             (
               c.requires.model,
               (
-                (λ some. c.loop-kid.invariant.way (subst (λ m. 1 ≤ m) c.loop-kid.invariant.limit some)),
+                c.requires.no_all,
                 (
-                  omega (arith, below, long, few, count, taken),
-                  ((kids, i, c.requires.stands.0, w), (kid_sound (roses_of kids) i kid c.requires.sound (kid_here kids i kid below read), omega (arith, k, few))),
+                  (λ some. c.loop-kid.invariant.way (subst (λ m. 1 ≤ m) c.loop-kid.invariant.limit some)),
+                  (
+                    omega (arith, below, long, few, count, taken),
+                    ((kids, i, c.requires.stands.0, w), (kid_sound (roses_of kids) i kid c.requires.sound (kid_here kids i kid below read), omega (arith, k, few))),
+                  ),
                 ),
               ),
             ),
@@ -237,13 +247,14 @@ walk_kids-returns-in-Err-clause-most g t c =
     omega (arith, l, so_far, all, s)
 
 pub walk_kids-put_end-requires-clause-fillable : goal.walk_kids-put_end-requires-clause-fillable
-walk_kids-put_end-requires-clause-fillable g t c = (c.requires.model.occurring, clear-rule1 (seen c.args.model.now) [] c.requires.model.clear)
+walk_kids-put_end-requires-clause-fillable g t c = (c.requires.model.occurring, clear-rule1 (seen c.args.model.now) [] c.requires.model.clear c.requires.no_all)
 
 pub walk_kids-put_end-requires-clause-ends : goal.walk_kids-put_end-requires-clause-ends
 walk_kids-put_end-requires-clause-ends g t c =
     let r = c.loop-kid.invariant.reached c.requires.stands.0 c.requires.stands.1 in
     whole.ends-at (seen c.args.model.now) c.loop-kid.matcher.particle (spot_now c.turns.result.now c.kids.result.now) (spot_of c.loop-kid.matcher) r.particle
-    (ap (λ ts. spot_now ts c.kids.result.now) c.turns.ensures ∙ ap (λ ks. spot_now c.loop-kid.matcher.turns ks) c.kids.ensures) c.in-Ok.ensures.ends
+    (ap (λ ts. spot_now ts c.kids.result.now) c.turns.ensures ∙ ap (λ ks. spot_now c.loop-kid.matcher.turns ks) c.kids.ensures
+    ∙ sym (spot_matched c.loop-kid.matcher (subst IsNoAll (sym r.particle) c.requires.no_all))) c.in-Ok.ensures.ends
 
 pub walk_kids-returns-in_err-put_end-in-Ok-clause-most : goal.walk_kids-returns-in_err-put_end-in-Ok-clause-most
 walk_kids-returns-in_err-put_end-in-Ok-clause-most g t c =
@@ -261,7 +272,8 @@ walk_kids-returns-clause-judged g t c = λ z stands.
     let r = c.loop-kid.invariant.reached z stands in
     let past = whole.all-before kids before c.loop-kid.kid-iterator c.loop-kid.invariant.all c.in-None.ensures.steps.0 in
     let way : spot_now c.turns.result.now c.kids.result.now ≡ spot_of c.loop-kid.matcher =
-    ap (λ ts. spot_now ts c.kids.result.now) c.turns.ensures ∙ ap (λ ks. spot_now c.loop-kid.matcher.turns ks) c.kids.ensures in
+    ap (λ ts. spot_now ts c.kids.result.now) c.turns.ensures ∙ ap (λ ks. spot_now c.loop-kid.matcher.turns ks) c.kids.ensures
+    ∙ sym (spot_matched c.loop-kid.matcher (subst IsNoAll (sym r.particle) c.requires.no_all)) in
     let (flags, values, made, now) = c.in_ok-put_end-in-Ok.ensures.made r.gs z r.all (subst (λ o. Put (seen c.args.model.now) o r.gs z r.all) (sym way) r.put) r.stands in
     end-put c.args.set.now c.args.mixed (seen c.args.model.now) kids c.args.at (length before) c.loop-kid.matcher z c.loop-kid.values r past (c.in-Ok.ensures.finished r.us r.took) flags values made c.put_end.new.values now
 
@@ -324,8 +336,297 @@ walk_inside-returns-in_ok-plan-in-Children-clause-judged g t c = λ z stands.
     let fits = subst (λ x. IsFittingInside c.args.set.now x) c.in-Children.is c.requires.inside in
     rw c.in-Children.is
     (children-judged c.args.set.now c.args.nillable c.in-Children.mixed c.in-Children.model.now ts z c.walk_children.new.values
-    (Tells (InsideFault (asked_at (parts_of c.args.set.now)) (inside_told (Children c.in-Children.mixed c.in-Children.complex c.in-Children.model)) ts c.args.at)) c.requires.sound fits.1.named
+    (Tells (InsideFault (asked_at (parts_of c.args.set.now)) (inside_told (Children c.in-Children.mixed c.in-Children.complex c.in-Children.model)) ts c.args.at)) c.requires.sound fits.1.named (subst (λ x. HasNoAll (inside_told x)) c.in-Children.is c.requires.no_all)
     c.walk_children.result (c.walk_children.ensures.judged z stands))
+
+-- ---- child elements that come in any order
+
+pub gather_kid-take_name-requires-clause-took : goal.gather_kid-take_name-requires-clause-took
+gather_kid-take_name-requires-clause-took g t c = let r = c.requires.gathers.4 in (r.us, r.took)
+
+pub gather_kid-walk_element-requires : goal.gather_kid-walk_element-requires
+gather_kid-walk_element-requires g t c κs within =
+    let d = c.decreases in
+    let (ps, kids, i, all_is, r) = c.requires.gathers in
+    let (model, keeps, same) = c.requires.model in
+    let e = c.in-Ok.ensures in (
+      omega (arith, d),
+      (
+        within,
+        (
+          c.requires.linked,
+          (
+            c.requires.plans,
+            (
+              leaf_declared c.args.set.now c.args.matcher.now c.take_name.new.matcher r.us c.in-Element.name.now c.in-Ok.leaf e.particle (e.took r.us r.took)
+                  (names_declared c.args.set.now c.args.matcher.now.particle (subst (λ q. All (IsNamed c.args.set.now) (leaves q)) (sym same) keeps.named)),
+              (ap is_text (sym c.label.ensures ∙ ap item_seen c.in-Element.is), (c.requires.sound, (c.requires.few, ((nothing_of 0).kept, starts c.left.result c.new-value.result c.new-value.ensures)))),
+            ),
+          ),
+        ),
+      ),
+    )
+
+pub gather_kid-last_number-requires : goal.gather_kid-last_number-requires
+gather_kid-last_number-requires g t c =
+    let (ps, kids, i, all_is, r) = c.requires.gathers in
+    let e = c.in-Ok.ensures in
+    let further = e.took r.us r.took in
+    let found = collecting.picks-on ps c.args.matcher.now c.take_name.new.matcher r.us c.in-Element.name.now further.last all_is e.particle e.goes further.took.leads.ends in
+    (ps, found.kid, found.marks, e.particle ∙ all_is, found.to_is)
+
+pub gather_kid-keep-requires-clause-empty : goal.gather_kid-keep-requires-clause-empty
+gather_kid-keep-requires-clause-empty g t c = λ some.
+    let (ps, kids, i, all_is, r) = c.requires.gathers in
+    let e = c.in-Ok.ensures in
+    let further = e.took r.us r.took in
+    let found = collecting.picks-on ps c.args.matcher.now c.take_name.new.matcher r.us c.in-Element.name.now further.last all_is e.particle e.goes further.took.leads.ends in
+    subst (λ n. slice_get c.args.gathered.now.slots.items n ≡ Some None) (sym (c.last_number.ensures ps found.kid found.marks (e.particle ∙ all_is) found.to_is))
+    (collecting.slot-free c.args.set.now c.args.mixed ps kids 0 i c.args.matcher.now c.args.gathered.now all_is r (spot_of c.take_name.new.matcher) c.in-Element.name.now further.last found some)
+
+pub gather_kid-returns-in-Text-clause-judged : goal.gather_kid-returns-in-Text-clause-judged
+gather_kid-returns-in-Text-clause-judged g t c = λ ps kids place i all_is below here r.
+    collecting.text-judged c.args.set.now c.args.mixed ps kids place i c.args.matcher.now c.args.gathered.now all_is r c.args.kid.now below here
+    c.in-Text.text.now c.in-Text.at (sym c.label.ensures ∙ ap item_seen c.in-Text.is) c.check_between.result c.check_between.ensures
+
+pub gather_kid-returns-in-Err-clause-judged : goal.gather_kid-returns-in-Err-clause-judged
+gather_kid-returns-in-Err-clause-judged g t c = λ ps kids place i all_is below here r.
+    collecting.name-refused c.args.set.now c.args.mixed ps kids place i c.args.matcher.now c.args.gathered.now all_is r c.args.kid.now below here
+    c.in-Element.name.now c.in-Element.attributes.now c.in-Element.declares.now c.in-Element.at (sym c.label.ensures ∙ ap item_seen c.in-Element.is) c.in-Err.error (c.in-Err.ensures.took r.us r.took)
+
+pub gather_kid-returns-in-Err-clause-most : goal.gather_kid-returns-in-Err-clause-most
+gather_kid-returns-in-Err-clause-most g t c =
+    let (model, keeps, same) = c.requires.model in
+    let n = element_counts c.args.kid.now c.in-Element.name.now c.in-Element.attributes.now c.in-Element.declares.now c.in-Element.at (sym c.label.ensures ∙ ap item_seen c.in-Element.is) in
+    let s = c.in-Err.ensures.ticks in
+    let l : levels c.args.matcher.now.particle ≤ 17 = subst (λ q. levels q ≤ 17) (sym same) (model_levels c.args.set.now model keeps) in
+    omega (arith, n, s, l)
+
+pub gather_kid-returns-in-Err-walk_element-clause-judged : goal.gather_kid-returns-in-Err-walk_element-clause-judged
+gather_kid-returns-in-Err-walk_element-clause-judged g t c = λ ps kids place i all_is below here r.
+    let (model, keeps, same) = c.requires.model in
+    let e = c.in-Ok.ensures in
+    collecting.kid-refused c.args.set.now c.args.mixed ps kids place i c.args.matcher.now c.args.gathered.now all_is r c.args.kid.now below here
+    c.in-Element.name.now c.in-Element.attributes.now c.in-Element.declares.now c.in-Element.at (sym c.label.ensures ∙ ap item_seen c.in-Element.is) c.take_name.new.matcher c.in-Ok.leaf e.particle (e.took r.us r.took)
+    (subst (λ q. All (IsNamed c.args.set.now) (leaves q)) (sym same) keeps.named) e.goes
+    c.in-Err-walk_element.error (c.in-Err-walk_element.ensures.judged (nothing_of 0).kept (starts c.left.result c.new-value.result c.new-value.ensures))
+
+pub gather_kid-returns-in-Err-walk_element-clause-most : goal.gather_kid-returns-in-Err-walk_element-clause-most
+gather_kid-returns-in-Err-walk_element-clause-most g t c =
+    let (model, keeps, same) = c.requires.model in
+    let s = c.in-Ok.ensures.ticks in
+    let m = c.walk_element.ensures.most in
+    let l : levels c.args.matcher.now.particle ≤ 17 = subst (λ q. levels q ≤ 17) (sym same) (model_levels c.args.set.now model keeps) in
+    omega (arith, s, m, l)
+
+pub gather_kid-returns-in_ok-keep-in-Ok-walk_element-clause-judged : goal.gather_kid-returns-in_ok-keep-in-Ok-walk_element-clause-judged
+gather_kid-returns-in_ok-keep-in-Ok-walk_element-clause-judged g t c = λ ps kids place i all_is below here r.
+    let (model, keeps, same) = c.requires.model in
+    let e = c.in-Ok.ensures in
+    let put = c.in-Ok-walk_element.ensures.judged (nothing_of 0).kept (starts c.left.result c.new-value.result c.new-value.ensures) in
+    let further = e.took r.us r.took in
+    let named = subst (λ q. All (IsNamed c.args.set.now) (leaves q)) (sym same) keeps.named in
+    let found = collecting.picks c.args.set.now c.args.mixed ps kids place i c.args.matcher.now c.args.gathered.now all_is r c.args.kid.now below here
+    c.in-Element.name.now c.in-Element.attributes.now c.in-Element.declares.now c.in-Element.at (sym c.label.ensures ∙ ap item_seen c.in-Element.is) c.take_name.new.matcher c.in-Ok.leaf e.particle further
+    named e.goes in
+    let number = c.last_number.ensures ps found.kid found.marks (e.particle ∙ all_is) found.to_is in
+    collecting.kid-gathered c.args.set.now c.args.mixed ps kids place i c.args.matcher.now c.args.gathered.now all_is r c.args.kid.now below here
+    c.in-Element.name.now c.in-Element.attributes.now c.in-Element.declares.now c.in-Element.at (sym c.label.ensures ∙ ap item_seen c.in-Element.is) c.take_name.new.matcher c.in-Ok.leaf e.particle further
+    named e.goes
+    put.value put.holds c.keep.new.self
+    (subst (λ n. Keeps c.keep.new.self (r.numbers ++ n ∷ []) (filled_at r.children n (record { decl = c.in-Ok.leaf.decl; value = put.value }))) number
+    (c.in_ok-keep-in-Ok-walk_element.ensures.keeps r.numbers r.children (record { decl = c.in-Ok.leaf.decl; value = put.value }) r.kept_are put.stands))
+
+pub gather_kid-returns-in_ok-keep-in-Ok-walk_element-clause-most : goal.gather_kid-returns-in_ok-keep-in-Ok-walk_element-clause-most
+gather_kid-returns-in_ok-keep-in-Ok-walk_element-clause-most g t c =
+    let (model, keeps, same) = c.requires.model in
+    let s = c.in-Ok.ensures.ticks in
+    let m = c.walk_element.ensures.most in
+    let l : levels c.args.matcher.now.particle ≤ 17 = subst (λ q. levels q ≤ 17) (sym same) (model_levels c.args.set.now model keeps) in
+    omega (arith, s, m, l)
+
+pub gather_kid-returns-in_err-keep-in-Ok-walk_element-clause-most : goal.gather_kid-returns-in_err-keep-in-Ok-walk_element-clause-most
+gather_kid-returns-in_err-keep-in-Ok-walk_element-clause-most g t c =
+    let (model, keeps, same) = c.requires.model in
+    let s = c.in-Ok.ensures.ticks in
+    let m = c.walk_element.ensures.most in
+    let l : levels c.args.matcher.now.particle ≤ 17 = subst (λ q. levels q ≤ 17) (sym same) (model_levels c.args.set.now model keeps) in
+    omega (arith, s, m, l)
+
+-- ---- all child elements that come in any order
+
+pub gather_kids-loop-kid-init : goal.gather_kids-loop-kid-init
+gather_kids-loop-kid-init g t c =
+    let k = c.in_ok-matcher.matcher in
+    let gathered = c.in_ok-gathered.gathered in
+    record {
+      all = cc (c.into_iter-kid-iterator.ensures.into_iter_gives, c.again-kid-items.ensures);
+      plans = c.requires.plans;
+      particle = c.in_ok-matcher.ensures.plan ∙ c.requires.plan;
+      limit = c.in_ok-gathered.ensures.most;
+      outside = c.in_ok-gathered.ensures.outside;
+      gathers = λ ps e.
+          collecting.none-gathered c.args.set.now c.args.mixed ps c.args.kids.now k gathered c.in_ok-matcher.ensures.took (subst (λ p. Keeps gathered [] (no_slots p)) e c.in_ok-gathered.ensures.keeps);
+      most = omega arith;
+      least = omega arith;
+    }
+
+pub gather_kids-gather_kid-requires : goal.gather_kids-gather_kid-requires
+gather_kids-gather_kid-requires g t c κs within =
+    let d = c.decreases in
+    let kids = c.args.kids.now in
+    let before = c.loop-kid.yielded in
+    let i = length before in
+    let all = c.loop-kid.invariant.all in
+    let kid = c.in-Some.kid in
+    let next = c.in-Some.ensures.steps in
+    let (ps, whole_is, single) = collecting.all-whole (seen c.args.model.now) c.requires.ordered c.requires.model.clear in
+    let w = c.loop-kid.invariant.gathers ps whole_is in
+    let below = cursor.kid_within kids before c.loop-kid.kid-iterator all kid c.next.new.self next in
+    let read = cursor.kid_read kids before c.loop-kid.kid-iterator all kid c.next.new.self next in
+    let k = kid_count kids i kid below read in
+    let long = at_least_length kids in
+    let few = c.requires.few in
+    let count = w.took.count in
+    let taken = w.few in (
+      omega (arith, d, k),
+      (
+        within,
+        (
+          c.requires.linked,
+          (
+            c.loop-kid.invariant.plans,
+            (
+              (c.args.model.now, c.requires.model, c.loop-kid.invariant.particle),
+              (
+                omega (arith, below, long, few, count, taken),
+                ((ps, kids, i, c.loop-kid.invariant.particle ∙ whole_is, w), (kid_sound (roses_of kids) i kid c.requires.sound (kid_here kids i kid below read), omega (arith, k, few))),
+              ),
+            ),
+          ),
+        ),
+      ),
+    )
+
+pub gather_kids-loop-kid-preserved : goal.gather_kids-loop-kid-preserved
+gather_kids-loop-kid-preserved g t c =
+    let kids = c.args.kids.now in
+    let before = c.loop-kid.yielded in
+    let i = length before in
+    let left = c.loop-kid.kid-iterator in
+    let all = c.loop-kid.invariant.all in
+    let kid = c.in-Some.kid in
+    let later = c.next.new.self in
+    let next = c.in-Some.ensures.steps in
+    let below = cursor.kid_within kids before left all kid later next in
+    let read = cursor.kid_read kids before left all kid later next in
+    let more = one_more (roses_of kids) i kid (kid_here kids i kid below read) in
+    let long : length (before ++ kid ∷ []) ≡ i + 1 = cursor.one_more kids before left all kid later next in
+    let so_far = c.loop-kid.invariant.most in
+    let m = c.in_ok-gather_kid.ensures.most in
+    let least = c.loop-kid.invariant.least in
+    let l = c.in_ok-gather_kid.ensures.least in
+    record {
+      all = cursor.all_after kids before left all kid later next;
+      plans = c.in_ok-gather_kid.ensures.same;
+      particle = c.in_ok-gather_kid.ensures.particle ∙ c.loop-kid.invariant.particle;
+      limit = c.in_ok-gather_kid.ensures.limit ∙ c.loop-kid.invariant.limit;
+      outside = c.in_ok-gather_kid.ensures.outside ∙ c.loop-kid.invariant.outside;
+      gathers = λ ps e.
+          subst (λ n. Gathers c.args.set.now c.args.mixed ps kids n c.gather_kid.new.matcher c.gather_kid.new.gathered) (sym long)
+          (c.in_ok-gather_kid.ensures.judged ps kids c.args.at i (c.loop-kid.invariant.particle ∙ e) below read (c.loop-kid.invariant.gathers ps e));
+      most = rw long (rw add-one (omega (arith, more, so_far, m)));
+      least = rw long (rw add-one (omega (arith, more, least, l)));
+    }
+
+pub gather_kids-returns-in_err-gather_kid-clause-judged : goal.gather_kids-returns-in_err-gather_kid-clause-judged
+gather_kids-returns-in_err-gather_kid-clause-judged g t c =
+    let kids = c.args.kids.now in
+    let before = c.loop-kid.yielded in
+    let left = c.loop-kid.kid-iterator in
+    let all = c.loop-kid.invariant.all in
+    let kid = c.in-Some.kid in
+    let later = c.next.new.self in
+    let next = c.in-Some.ensures.steps in
+    let (ps, whole_is, single) = collecting.all-whole (seen c.args.model.now) c.requires.ordered c.requires.model.clear in
+    let p = err_from_is_err_and c.from_residual-in_err-gather_kid.result c.from_residual-in_err-gather_kid.ensures.1 in
+    rw (p.1, p.2)
+    (collecting.told-as c.args.set.now c.args.mixed (roses_of kids) c.args.at c.loop-kid.matcher.particle (seen c.args.model.now) c.loop-kid.invariant.particle _
+    (c.in_err-gather_kid.ensures.judged ps kids c.args.at (length before) (c.loop-kid.invariant.particle ∙ whole_is) (cursor.kid_within kids before left all kid later next)
+    (cursor.kid_read kids before left all kid later next) (c.loop-kid.invariant.gathers ps whole_is)))
+
+pub gather_kids-returns-in_err-gather_kid-clause-most : goal.gather_kids-returns-in_err-gather_kid-clause-most
+gather_kids-returns-in_err-gather_kid-clause-most g t c =
+    let kids = c.args.kids.now in
+    let before = c.loop-kid.yielded in
+    let i = length before in
+    let left = c.loop-kid.kid-iterator in
+    let all = c.loop-kid.invariant.all in
+    let kid = c.in-Some.kid in
+    let later = c.next.new.self in
+    let next = c.in-Some.ensures.steps in
+    let here = kid_here kids i kid (cursor.kid_within kids before left all kid later next) (cursor.kid_read kids before left all kid later next) in
+    let most = up_to (roses_of kids) i kid here in
+    let so_far = c.loop-kid.invariant.most in
+    let m = c.in_err-gather_kid.ensures.most in
+    omega (arith, most, so_far, m)
+
+pub gather_kids-returns-in-Err-clause-judged : goal.gather_kids-returns-in-Err-clause-judged
+gather_kids-returns-in-Err-clause-judged g t c =
+    let kids = c.args.kids.now in
+    let before = c.loop-kid.yielded in
+    let (ps, whole_is, single) = collecting.all-whole (seen c.args.model.now) c.requires.ordered c.requires.model.clear in
+    let r = c.loop-kid.invariant.gathers ps whole_is in
+    let past = whole.all-before kids before c.loop-kid.kid-iterator c.loop-kid.invariant.all c.in-None.ensures.steps.0 in
+    collecting.told-as c.args.set.now c.args.mixed (roses_of kids) c.args.at c.loop-kid.matcher.particle (seen c.args.model.now) c.loop-kid.invariant.particle c.in-Err.error
+    (collecting.end-refused c.args.set.now c.args.mixed ps kids c.args.at (length before) c.loop-kid.matcher c.loop-kid.gathered (c.loop-kid.invariant.particle ∙ whole_is) r past c.in-Err.error
+    (c.in-Err.ensures.finished r.us r.took))
+
+pub gather_kids-returns-in-Err-clause-most : goal.gather_kids-returns-in-Err-clause-most
+gather_kids-returns-in-Err-clause-most g t c =
+    let l : levels c.loop-kid.matcher.particle ≤ 17 = subst (λ q. levels q ≤ 17) (sym c.loop-kid.invariant.particle) (model_levels c.args.set.now c.args.model.now c.requires.model) in
+    let so_far = c.loop-kid.invariant.most in
+    let all = fewer (roses_of c.args.kids.now) (length c.loop-kid.yielded) in
+    let s = c.in-Err.ensures.ticks.1 in
+    omega (arith, l, so_far, all, s)
+
+pub gather_kids-returns-clause-judged : goal.gather_kids-returns-clause-judged
+gather_kids-returns-clause-judged g t c =
+    let kids = c.args.kids.now in
+    let before = c.loop-kid.yielded in
+    let (ps, whole_is, single) = collecting.all-whole (seen c.args.model.now) c.requires.ordered c.requires.model.clear in
+    let r = c.loop-kid.invariant.gathers ps whole_is in
+    let past = whole.all-before kids before c.loop-kid.kid-iterator c.loop-kid.invariant.all c.in-None.ensures.steps.0 in
+    subst (λ p. KidsGathered c.args.set.now c.args.mixed p (roses_of kids) c.loop-kid.gathered) c.loop-kid.invariant.particle
+    (collecting.end-gathered c.args.set.now c.args.mixed ps kids c.args.at (length before) c.loop-kid.matcher c.loop-kid.gathered (c.loop-kid.invariant.particle ∙ whole_is) r past
+    (c.in-Ok.ensures.finished r.us r.took) c.in-Ok.ensures.ends single (subst MayOccur whole_is c.requires.model.occurring).1)
+
+pub gather_kids-returns-clause-most : goal.gather_kids-returns-clause-most
+gather_kids-returns-clause-most g t c =
+    let l : levels c.loop-kid.matcher.particle ≤ 17 = subst (λ q. levels q ≤ 17) (sym c.loop-kid.invariant.particle) (model_levels c.args.set.now c.args.model.now c.requires.model) in
+    let so_far = c.loop-kid.invariant.most in
+    let all = fewer (roses_of c.args.kids.now) (length c.loop-kid.yielded) in
+    let s = c.in-Ok.ensures.ticks.1 in
+    omega (arith, l, so_far, all, s)
+
+pub gather_kids-returns-clause-least : goal.gather_kids-returns-clause-least
+gather_kids-returns-clause-least g t c =
+    let past = whole.all-before c.args.kids.now c.loop-kid.yielded c.loop-kid.kid-iterator c.loop-kid.invariant.all c.in-None.ensures.steps.0 in
+    let so_far = c.loop-kid.invariant.least in
+    let all = all-counted c.args.kids.now (length c.loop-kid.yielded) past in
+    let s = c.in-Ok.ensures.ticks.0 in
+    omega (arith, so_far, all, s)
+
+-- ---- an element whose child elements come in any order
+
+pub walk_ordered-returns-in-Err-clause-judged : goal.walk_ordered-returns-in-Err-clause-judged
+walk_ordered-returns-in-Err-clause-judged g t c = λ z stands.
+    subst (λ i. Tells (InsideFault (asked_at (parts_of c.args.set.now)) (inside_told i) (roses_of c.args.kids.now) c.args.at) c.in-Err.error) (sym c.requires.inside) c.in-Err.ensures.judged
+
+pub walk_ordered-put_ordered-requires-clause-gathered : goal.walk_ordered-put_ordered-requires-clause-gathered
+walk_ordered-put_ordered-requires-clause-gathered g t c =
+    let fits = subst (λ x. IsFittingInside c.args.set.now x) c.requires.inside c.requires.fitting in
+    subst (λ i. IsGathered c.args.set.now (inside_told i) (roses_of c.args.kids.now) c.in-Ok.gathered) (sym c.requires.inside) (c.requires.ordered, fits.1.named, c.in-Ok.ensures.judged)
 
 -- ---- a value with parts
 
@@ -333,7 +634,7 @@ pub walk_complex-returns-in-Err-clause-judged : goal.walk_complex-returns-in-Err
 walk_complex-returns-in-Err-clause-judged g t c = λ z stands.
     let begins = c.in_ok-begin_complex.ensures in
     c.in-Err.ensures.judged
-    (begun_at (told (parts_of c.args.set.now) c.args.declared.now) c.args.attributes.now (strings_put false (roses_of c.args.kids.now)) c.args.values.now c.begin_complex.new.values begins z) (begins.puts.stands z stands)
+    (begun_at (told (parts_of c.args.set.now) c.args.declared.now) c.args.attributes.now (strings_put false (roses_of c.args.kids.now)) [] c.args.values.now c.begin_complex.new.values begins z) (begins.puts.stands z stands)
 
 pub walk_complex-returns-in-Ok-clause-judged : goal.walk_complex-returns-in-Ok-clause-judged
 walk_complex-returns-in-Ok-clause-judged g t c = λ z stands.
@@ -343,7 +644,7 @@ walk_complex-returns-in-Ok-clause-judged g t c = λ z stands.
     let old = c.args.values.now in
     let mid = c.begin_complex.new.values in
     let begins = c.in_ok-begin_complex.ensures in
-    complex-put c.args.set.now a xs ts z old mid c.walk_inside.new.values c.close.new.self begins (c.in-Ok.ensures.judged (begun_at a xs (strings_put false ts) old mid begins z) (begins.puts.stands z stands)) c.close.ensures
+    complex-put c.args.set.now a xs ts z old mid c.walk_inside.new.values c.close.new.self begins (c.in-Ok.ensures.judged (begun_at a xs (strings_put false ts) [] old mid begins z) (begins.puts.stands z stands)) c.close.ensures
 
 -- ---- an element that isn't nil
 
@@ -359,8 +660,14 @@ walk_filled-returns-in-Some-clause-least g t c =
     match-ok c.put_text.result (λ _. (v : Rose ValueLabel) × IsReadAs space ts v × Puts (added v) c.args.values.now c.put_text.new.values) (Tells (TextFault space ts c.args.at))
     (c.args.steps.now + elements_in ts ≤ c.args.steps.now) (λ x h. let empty = text-without ts h.1.0 h.1.1 in omega (arith, empty)) c.put_text.ensures
 
-pub walk_filled-returns-in-None-clause-judged : goal.walk_filled-returns-in-None-clause-judged
-walk_filled-returns-in-None-clause-judged g t c = λ z stands.
+pub walk_filled-returns-in-Some-any_order-clause-judged : goal.walk_filled-returns-in-Some-any_order-clause-judged
+walk_filled-returns-in-Some-any_order-clause-judged g t c = λ z stands.
+    let a = told (parts_of c.args.set.now) c.args.declared.now in
+    complex-judged c.args.set.now c.args.decl a c.args.attributes.now (roses_of c.args.kids.now) z c.walk_ordered.new.values
+    (Tells (InsideFault (asked_at (parts_of c.args.set.now)) (inside_told c.args.declared.now.inside) (roses_of c.args.kids.now) c.args.at)) c.in-None.ensures c.walk_ordered.result (c.walk_ordered.ensures.judged z stands)
+
+pub walk_filled-returns-in-None-any_order-clause-judged : goal.walk_filled-returns-in-None-any_order-clause-judged
+walk_filled-returns-in-None-any_order-clause-judged g t c = λ z stands.
     let a = told (parts_of c.args.set.now) c.args.declared.now in
     complex-judged c.args.set.now c.args.decl a c.args.attributes.now (roses_of c.args.kids.now) z c.walk_complex.new.values
     (Tells (InsideFault (asked_at (parts_of c.args.set.now)) (inside_told c.args.declared.now.inside) (roses_of c.args.kids.now) c.args.at)) c.in-None.ensures c.walk_complex.result (c.walk_complex.ensures.judged z stands)

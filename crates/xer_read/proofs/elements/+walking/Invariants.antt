@@ -3,10 +3,12 @@ use Rattle.label_tree.specs.Rose.{roses_of, node_count, count_all}
 use Rattle.flat_tree.specs.Zips.{Zip}
 use Rattle.simple_types.specs.declared.labels.ValueLabel.{ValueLabel}
 use Rattle.content_models.specs.Seen.{seen}
+use Rattle.content_models.specs.Particle.{Particles}
+use Rattle.content_match.specs.Private.Alls.{whole}
 use Rattle.validity.specs.Faults.{front}
 use Rattle.validity_check.specs.Counts.{elements_in}
 use Rattle.value_builder.specs.Built.{Stands}
-use Rattle.xer_read.specs.Private.Keeping.{Reached}
+use Rattle.xer_read.specs.Private.Keeping.{Reached, Gathers}
 use Rattle.xer_read.specs.Private.Putting.{IsWay}
 use Rattle.xer_read.proofs.elements.+walking.Given as goal
 
@@ -25,6 +27,15 @@ decreases-walk_inside g l = 8 * count_all (roses_of l.kids.now) + 4
 abbrev pub decreases-walk_complex : goal.decreases-walk_complex
 decreases-walk_complex g l = 8 * count_all (roses_of l.kids.now) + 5
 
+abbrev pub decreases-gather_kid : goal.decreases-gather_kid
+decreases-gather_kid g l = 8 * node_count l.kid.now + 1
+
+abbrev pub decreases-gather_kids : goal.decreases-gather_kids
+decreases-gather_kids g l = 8 * count_all (roses_of l.kids.now) + 2
+
+abbrev pub decreases-walk_ordered : goal.decreases-walk_ordered
+decreases-walk_ordered g l = 8 * count_all (roses_of l.kids.now) + 5
+
 abbrev pub decreases-walk_filled : goal.decreases-walk_filled
 decreases-walk_filled g l = 8 * count_all (roses_of l.kids.now) + 6
 
@@ -38,6 +49,18 @@ invariant-walk_kids-loop-kid g l = record {
   way : IsWay l.way l.matcher l.initial.values.most;
   limit : l.values.most ≡ l.initial.values.most;
   reached : (z : Zip ValueLabel) → Stands l.initial.values z → Reached l.set l.mixed (seen l.model) l.kids (length l.yielded) l.matcher z l.values;
+  most : l.steps ≤ l.initial.steps + 144 * elements_in (front (length l.yielded) (roses_of l.kids));
+  least : l.initial.steps + elements_in (front (length l.yielded) (roses_of l.kids)) ≤ l.steps;
+}
+
+abbrev pub invariant-gather_kids-loop-kid : goal.invariant-gather_kids-loop-kid
+invariant-gather_kids-loop-kid g l = record {
+  all : l.yielded ++ l.kid-iterator ≡ l.kids;
+  plans : l.plans ≡ l.set;
+  particle : l.matcher.particle ≡ seen l.model;
+  limit : l.gathered.most ≡ l.values.most;
+  outside : l.gathered.outside ≡ l.values.nodes;
+  gathers : (ps : Particles) → seen l.model ≡ whole ps → Gathers l.set l.mixed ps l.kids (length l.yielded) l.matcher l.gathered;
   most : l.steps ≤ l.initial.steps + 144 * elements_in (front (length l.yielded) (roses_of l.kids));
   least : l.initial.steps + elements_in (front (length l.yielded) (roses_of l.kids)) ≤ l.steps;
 }

@@ -25,7 +25,7 @@ use Rattle.xer_write.proofs.Gaining.{gains-nothing, gains-both, mixed-gained, el
 use Rattle.xer_write.proofs.Giving.{found-in, kid-in, have-kids, few-parts, allowed-of, inside-text, inside-parts, sequence-give, sequence-other, choice-other, items-other, reference-other, order-absent, order-nothing, no-order, present-some, fit-length, fit-step, give-present, found-absent, give-end, found_from, items_give, items-step, items-end, at-attribute, at-element, at-group, at-content, at-other}
 use Rattle.xer_write.proofs.Parts.{nil-then, with-embed, without-embed, some-at, slice-at, kid-count, flag-at, role-is, give-short, give-missing, choice-made, choice-missed, choice-empty, items-made, items-missed, too-few, too-many}
 use Rattle.asn_values.proofs.Counting.{drop-past}
-use Rattle.xer_items.specs.Ordering.{in_order}
+use Rattle.asn_values.specs.Ordering.{in_order}
 use Rattle.xer_items.specs.Children.{elements_of}
 use Rattle.xer_write.specs.Private.Keeping.{Keeps, child_seen, children_seen}
 use Rattle.xer_write.proofs.Children.{at-place, same-length, within-at, seen-at, seen-none, some-item, none-item, order-part, order-parts, order-places, told-in-order}

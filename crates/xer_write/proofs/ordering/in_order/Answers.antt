@@ -1,7 +1,7 @@
 use Rattle.std.proofs.Common.{rules, ◌≡◌, ◌+◌, ◌<◌, ◌∙◌, sym, ap, ◌++◌, ◌∷◌, [], Some, None, drop, get_or, length, arith}
 use Rattle.std.proofs.lemmas.List.{drop_more}
 use Rattle.std.specs.List.{range_with_len}
-use Rattle.xer_items.specs.Ordering.{taken, in_order}
+use Rattle.asn_values.specs.Ordering.{taken, in_order}
 use Rattle.xer_write.proofs.Places.{range-more, take-some, take-empty, take-past, all-ordered}
 use Rattle.xer_write.proofs.ordering.in_order.Goals as goal
 use Rattle.xer_write.proofs.ordering.in_order.Goals.{then-i-len+in-Some+in_ok-push-2, then-i-len+in_default, else-i-len}

@@ -1,6 +1,6 @@
 use Rattle.std.proofs.Common.{◌≡◌, ◌++◌, drop}
 use Rattle.std.specs.List.{range_with_len}
-use Rattle.xer_items.specs.Ordering.{taken, in_order}
+use Rattle.asn_values.specs.Ordering.{taken, in_order}
 use Rattle.xer_write.proofs.ordering.in_order.Given as goal
 
 abbrev pub invariant-front : goal.invariant-front

@@ -1,6 +1,6 @@
 use Rattle.std.proofs.Common.{ℕ, ◌<◌, ◌+◌, ◌-◌, ◌∙◌, sym, ap, ◌++◌, ◌∷◌, [], drop, Some, None, arith}
 use Rattle.std.specs.List.{range_with_len}
-use Rattle.xer_items.specs.Ordering.{slots}
+use Rattle.asn_values.specs.Ordering.{slots}
 use Rattle.xer_write.proofs.Places.{slot-taken, slot-left}
 use Rattle.xer_write.proofs.ordering.slots.Goals as goal
 use Rattle.xer_write.proofs.ordering.slots.Goals.{then-flag+else-next-end+in_ok-push, else-flag+in_ok-push-2}

@@ -1,6 +1,6 @@
 use Rattle.std.proofs.Common.{◌≡◌, ◌≤◌, ◌-◌, ◌++◌, drop}
 use Rattle.std.specs.List.{range_with_len}
-use Rattle.xer_items.specs.Ordering.{slots}
+use Rattle.asn_values.specs.Ordering.{slots}
 use Rattle.xer_write.proofs.ordering.slots.Given as goal
 
 abbrev pub invariant-flags : goal.invariant-flags

@@ -1,0 +1,74 @@
+-- What a plan and a matcher keep of an all.
+use Rattle.std.specs.Prelude.{◌≡◌, ℕ, suc, ◌^◌, ◌<◌, List, [], ◌∷◌, length, Option, Some, None, MatchOption, Bool, true, false, not}
+use Rattle.label_tree.specs.Rose.{Rose, roses_of, label_of, depth_all}
+use Rattle.xa_base.specs.declared.texts.Name.{Name}
+use Rattle.content_models.specs.Particle.{Particle, occurs, all, Particles, none, more}
+use Rattle.content_models.specs.Clear.{empties}
+use Rattle.content_spots.specs.Spots.{picked, pick, missing, unmarked}
+use Rattle.content_match.specs.Private.Plans.{count_of, pick_one, is_needed, TellsOne, ArePlans, particles_of}
+use Rattle.content_match.specs.Private.Standing.{spot_among, IsLeafAt, SamePlace}
+use Rattle.content_match.specs.declared.places.Leaf.{Leaf}
+use Rattle.content_match.specs.declared.places.Position.{Position}
+use Rattle.content_match.specs.declared.plans.AllPlan.{AllPlan}
+use Rattle.content_match.specs.declared.plans.PlanLabel.{PlanLabel}
+
+-- the content model that is an all of these
+abbrev pub whole : Particles → Particle
+whole ps = occurs (all ps) 1 (Some 1)
+
+-- the kids of an all
+abbrev pub kids_in : AllPlan → Particles
+kids_in a = particles_of (roses_of a.kids.items)
+
+abbrev pub levels_in : AllPlan → ℕ
+levels_in a = suc (depth_all (roses_of a.kids.items))
+
+-- of each kid, whether it may not be empty
+abbrev pub needed : List (Rose PlanLabel) → List Bool
+needed [] = []
+needed (t ∷ ts) = is_needed (label_of t) ∷ needed ts
+
+-- how many are set
+abbrev pub wanted_in : List Bool → ℕ
+wanted_in [] = 0
+wanted_in (true ∷ bs) = suc (wanted_in bs)
+wanted_in (false ∷ bs) = wanted_in bs
+
+-- for each kid a mark, on none
+abbrev pub no_marks : List (Rose PlanLabel) → List Bool
+no_marks [] = []
+no_marks (t ∷ ts) = false ∷ no_marks ts
+
+-- The plans are those of the kids, the table tells the kid of a name, and the number is that of the kids that may not be
+-- empty.
+pub record IsAllPlan (a : AllPlan) : Type 0 where
+  pub tells : TellsOne a.group (kids_in a)
+  pub are_plans : ArePlans 1 (kids_in a) (roses_of a.kids.items)
+  pub count : a.required ≡ wanted_in (needed a.kids.items)
+  pub few : length a.kids.items < 2 ^ 32
+
+abbrev pub AreRequired : Particles → List Bool → Type 0
+AreRequired none [] = Unit {0}
+AreRequired none (b ∷ bs) = ⊥
+AreRequired (more p ps) [] = ⊥
+AreRequired (more p ps) (b ∷ bs) = (b ≡ not (empties p)) × AreRequired ps bs
+
+-- There is a mark for each kid, and the number is that of the kids without one that may not be empty.
+pub record IsMarked (ps : Particles) (required marks : List Bool) (left : ℕ) : Type 0 where
+  pub required_are : AreRequired ps required
+  pub marks_fit : length marks ≡ count_of ps
+  pub left_is : left ≡ missing ps marks
+
+-- before the first leaf the marks are on no kid
+abbrev pub AreMarks : Particles → List ℕ → List Bool → Type 0
+AreMarks ps [] ms = ms ≡ unmarked ps
+AreMarks ps (k ∷ ks) ms = Unit {0}
+
+-- A name that begins the kid can't come next, and all stays; or the kid takes it, and this is its leaf.
+abbrev pub KidTaken : AllPlan → ℕ → Position → Position → Option Leaf → Type 0
+KidTaken a k old new result =
+    MatchOption result
+    (((b : Name) → pick_one (kids_in a) b ≡ Some k → pick (kids_in a) old.marks.items b ≡ None) × SamePlace old new)
+    (λ leaf. ((b : Name) → pick_one (kids_in a) b ≡ Some k → pick (kids_in a) old.marks.items b ≡ Some (picked k new.marks.items))
+    × (new.kids.items ≡ k ∷ []) × (new.turns.items ≡ record { particle = 0; turn = 0 } ∷ record { particle = leaf.particle; turn = 0 } ∷ [])
+    × IsLeafAt (whole (kids_in a)) (spot_among new.kids.items new.marks.items) new.turns.items leaf)

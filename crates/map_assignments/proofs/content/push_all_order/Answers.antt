@@ -1,0 +1,28 @@
+use Rattle.std.proofs.Common.{[], if◌then◌else◌, sym, ap, subst, ◌∙◌}
+use Rattle.content_models.specs.Seen.{seen}
+use Rattle.map_assignments.specs.Planning.{labels, labels_before, order_type, with_order, top}
+use Rattle.map_assignments.specs.Naming.{IsNamed}
+use Rattle.map_assignments.specs.Private.Building.{LeadsToNamed}
+use Rattle.map_assignments.proofs.Building.{on_ok}
+use Rattle.map_assignments.proofs.Ordering.{all-top}
+use Rattle.map_assignments.proofs.content.push_all_order.Goals as goal
+
+pub returns-in_ok-kid : goal.returns-in_ok-kid
+returns-in_ok-kid c =
+    let particle = c.args.particle.now in
+    let firsts = if c.args.nillable then [] else labels_before c.args.mixed c.args.uses.now in
+    let is = sym c.is_all.ensures ∙ c.if-is_all.true in
+    on_ok c.push_order.result _ _
+    (λ h place T rest whole lead.
+    let type = order_type firsts (labels (top T (seen particle))) in
+    h place type rest whole
+    (subst (λ ps. IsNamed place (order_type firsts (labels ps)) c.in_ok-kid.kid) (sym (all-top T particle c.kids.result.now c.kids.ensures is)) (c.in_ok-kid.ensures place T))
+    (subst (λ b. LeadsToNamed place c.args.parts.now (with_order b type rest) whole) is lead))
+    c.push_order.ensures
+
+pub returns-else-is_all : goal.returns-else-is_all
+returns-else-is_all c =
+    let particle = c.args.particle.now in
+    let firsts = if c.args.nillable then [] else labels_before c.args.mixed c.args.uses.now in
+    λ place T rest whole lead.
+    subst (λ b. LeadsToNamed place c.args.parts.now (with_order b (order_type firsts (labels (top T (seen particle)))) rest) whole) (sym c.is_all.ensures ∙ c.if-is_all.false) lead
