@@ -1,0 +1,3 @@
+pub mod PrintedBounds
+pub mod Ranking
+mod Rows

@@ -1,0 +1,11 @@
+pub mod Told
+pub mod Resolving
+pub mod Simple
+pub mod Defaults
+pub mod Orders
+pub mod Marks
+pub mod Listed
+pub mod Faults
+pub mod Meaning
+pub mod Printable
+pub mod ReadBack

@@ -1,0 +1,13 @@
+pub mod NameReading
+pub mod BoundReading
+pub mod MarkReading
+pub mod ValueReading
+pub mod TypeReading
+pub mod ModuleReading
+pub mod NamesRead
+pub mod Depth
+pub mod ValuesRead
+pub mod MarksRead
+pub mod TypeDepth
+pub mod ModulesRead
+pub mod TextsRead

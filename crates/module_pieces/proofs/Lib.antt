@@ -1,0 +1,4 @@
+mod Firsts
+mod Listing
+mod Numerals
+mod XmlTexts

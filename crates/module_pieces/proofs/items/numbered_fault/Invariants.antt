@@ -1,0 +1,7 @@
+use Rattle.std.proofs.Common.{◌≡◌, None, [], drop}
+use Rattle.module_faults.specs.Listed.{first}
+use Rattle.module_faults.specs.Faults.{numbered_faults}
+use Rattle.module_pieces.proofs.items.numbered_fault.Given as goal
+
+abbrev pub invariant-items : goal.invariant-items
+invariant-items l = first (numbered_faults l.seen l.last (drop l.item-index l.items)) ≡ first (numbered_faults [] None l.items)

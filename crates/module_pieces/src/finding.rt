@@ -1,0 +1,13 @@
+//! Faults one behind another.
+ghost use Rattle.std.specs.Prelude.{◌≡◌};
+ghost use Rattle.module_faults.specs.Listed as listed;
+
+use module_faults::{Fault, ModuleWhy};
+
+/// A fault here, for this reason, unless it is so.
+#[tactic(auto, unfolding(module_faults::specs::Listed::first))]
+pub fn unless(holds: bool, at: u64, why: ModuleWhy) -> Option<Fault>
+    ensures { result ≡ listed.first (listed.unless holds at why) }
+{
+    if holds { None } else { Some(Fault { at, why }) }
+}

@@ -1,0 +1,97 @@
+//! Names and texts beside the identifiers of ASN.1.
+ghost use Rattle.std.specs.Prelude.{◌≡◌, ◌∷◌, IfOk, bytes_eq, chars};
+ghost use Rattle.std.specs.List.{list_all};
+ghost use Rattle.xa_base.specs.Characters.{is_xml_char};
+ghost use Rattle.name_map.specs.Restoring.{capitalized, uncapitalized, form_of};
+ghost use Rattle.module_faults.specs.Told as told;
+
+use module_text::NameAs;
+use std::alloc::Global;
+use xa_base::{Memory, is_xml_char};
+
+fn are_xml_chars(text: &str) -> bool
+    ensures { result ≡ list_all is_xml_char (chars text.now) }
+{
+    text.chars().all(|c| is_xml_char(c))
+}
+
+/// Whether the bytes are UTF-8 of XML characters alone.
+pub fn is_xml_text(bytes: &[u8]) -> bool
+    ensures { result ≡ told.is_xml_text bytes.now }
+{
+    match simdutf8::basic::from_utf8(bytes) {
+        Ok(text) => are_xml_chars(text),
+        Err(_) => false,
+    }
+}
+
+// Whether raising the first letter of the one name gives the other.
+fn is_capitalized(generated: &[u8], original: &[u8]) -> bool
+    ensures { result ≡ bytes_eq (capitalized generated.now) original.now }
+{
+    match (generated, original) {
+        ([], []) => true,
+        ([a, generated @ ..], [b, original @ ..]) => a.to_ascii_uppercase() == *b
+            && generated == original,
+        _ => false,
+    }
+}
+
+// Whether lowering the first letter of the one name gives the other.
+fn is_uncapitalized(generated: &[u8], original: &[u8]) -> bool
+    ensures { result ≡ bytes_eq (uncapitalized generated.now) original.now }
+{
+    match (generated, original) {
+        ([], []) => true,
+        ([a, generated @ ..], [b, original @ ..]) => a.to_ascii_lowercase() == *b
+            && generated == original,
+        _ => false,
+    }
+}
+
+// Whether no form but quotation marks tells the name back.
+fn is_quoted(generated: &[u8], name: &[u8]) -> bool
+    ensures { result ≡ told.is_form (NameAs.Quoted name.now) (form_of generated.now name.now) }
+{
+    generated != name && !is_capitalized(generated, name) && !is_uncapitalized(generated, name)
+}
+
+/// Whether the name is told in the form that tells it back, with XML characters alone.
+pub fn is_told_so(generated: &[u8], name: &NameAs) -> bool
+    ensures { result ≡ told.is_told_so generated.now name.now }
+{
+    match name {
+        NameAs::Capitalized => matches!(generated.first(), Some(b'a'..=b'z')),
+        NameAs::Uncapitalized => matches!(generated.first(), Some(b'A'..=b'Z')),
+        NameAs::Quoted { name } => {
+            let name = name.bytes();
+            is_quoted(generated, name) && is_xml_text(name)
+        }
+    }
+}
+
+// The bytes with this first byte in place of theirs.
+fn begun(alloc: Global, first: u8, rest: &[u8]) -> Result<Vec<u8>, Memory>
+    ensures { IfOk result (λ bytes. bytes.items ≡ first ∷ rest.now) }
+{
+    let mut bytes = Vec::with_capacity(alloc, rest.len().saturating_add(1))?;
+    bytes.push(first)?;
+    bytes.extend_from_slice(rest)?;
+    Ok(bytes)
+}
+
+/// The name that is told.
+pub fn told_name(alloc: Global, generated: &[u8], name: &NameAs) -> Result<Vec<u8>, Memory>
+    ensures { IfOk result (λ bytes. bytes.items ≡ told.told_name generated.now name.now) }
+{
+    match (name, generated) {
+        (NameAs::Quoted { name }, _) => Ok(Vec::from_slice(alloc, name.bytes())?),
+        (_, []) => Ok(Vec::new(alloc)),
+        (NameAs::Capitalized, [first, rest @ ..]) => begun(alloc, first.to_ascii_uppercase(), rest),
+        (NameAs::Uncapitalized, [first, rest @ ..]) => begun(
+            alloc,
+            first.to_ascii_lowercase(),
+            rest,
+        ),
+    }
+}

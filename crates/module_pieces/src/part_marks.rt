@@ -1,0 +1,106 @@
+//! Encoding instructions of parts and assignments.
+ghost use Rattle.std.specs.Prelude.{◌≡◌, None};
+ghost use Rattle.module_faults.specs.Listed.{first};
+ghost use Rattle.module_faults.specs.Told as told;
+ghost use Rattle.module_faults.specs.Marks as may;
+ghost use Rattle.module_faults.specs.Faults as rule;
+ghost use Rattle.module_text.specs.Ranks.{rank_of_part_mark};
+
+use crate::finding::unless;
+use crate::names::{is_told_so, is_xml_text};
+use module_faults::{Fault, ModuleWhy};
+use module_text::{NameAs, PartMark, PartMarkKind};
+
+fn is_attribute(mark: &PartMark) -> bool
+    ensures { result ≡ told.is_attribute mark.now }
+{
+    matches!(mark.kind, PartMarkKind::Attribute)
+}
+
+fn is_untagged(mark: &PartMark) -> bool
+    ensures { result ≡ told.is_untagged mark.now }
+{
+    matches!(mark.kind, PartMarkKind::Untagged)
+}
+
+fn is_name(mark: &PartMark) -> bool
+    ensures { result ≡ told.is_name mark.now }
+{
+    matches!(mark.kind, PartMarkKind::Name { .. })
+}
+
+/// Whether ATTRIBUTE stands among them.
+pub fn has_attribute(marks: &[PartMark]) -> bool
+    ensures { result ≡ told.has_attribute marks.now }
+{
+    marks.iter().any(is_attribute)
+}
+
+/// Whether UNTAGGED stands among them.
+pub fn has_untagged(marks: &[PartMark]) -> bool
+    ensures { result ≡ told.has_untagged marks.now }
+{
+    marks.iter().any(is_untagged)
+}
+
+/// Whether there are none but NAME.
+pub fn have_names_alone(marks: &[PartMark]) -> bool
+    ensures { result ≡ told.have_names_alone marks.now }
+{
+    marks.iter().all(is_name)
+}
+
+fn rank(kind: &PartMarkKind) -> u8
+    ensures { result ≡ rank_of_part_mark kind.now }
+{
+    match kind {
+        PartMarkKind::Attribute => 0,
+        PartMarkKind::Untagged => 1,
+        PartMarkKind::Name { .. } => 2,
+        PartMarkKind::Namespace { .. } => 3,
+    }
+}
+
+// Whether the name may be told beside this one.
+fn may_name(generated: &[u8], name: &NameAs) -> bool
+    ensures { result ≡ may.may_name generated.now name.now }
+{
+    !generated.is_empty() && is_told_so(generated, name)
+}
+
+// Whether an instruction may stand at a part or an assignment of this name.
+fn may_stand(simple: bool, generated: &[u8], kind: &PartMarkKind) -> bool
+    ensures { result ≡ may.part_mark_may simple generated.now kind.now }
+{
+    match kind {
+        PartMarkKind::Attribute => simple,
+        PartMarkKind::Untagged => true,
+        PartMarkKind::Name { name } => may_name(generated, name),
+        PartMarkKind::Namespace { space } => is_xml_text(space.bytes()),
+    }
+}
+
+// The same behind an instruction of this rank.
+fn stands(simple: bool, generated: &[u8], before: Option<u8>, mark: &PartMark) -> bool
+    ensures { result ≡ may.part_mark_stands simple generated.now before mark.now }
+{
+    before != Some(rank(&mark.kind)) && may_stand(simple, generated, &mark.kind)
+}
+
+/// The first fault of the instructions of a part or an assignment of this name, whose type stands for a simple type or not.
+#[tactic(auto, using(crate::proofs::Firsts::firsts))]
+pub fn part_mark_fault(simple: bool, generated: &[u8], marks: &[PartMark]) -> Option<Fault>
+    ensures { result ≡ first (rule.part_mark_faults simple generated.now None marks.now) }
+{
+    let mut before = None;
+    'marks: for mark in marks {
+        if !stands(simple, generated, before, mark) {
+            return Some(Fault {
+                at: mark.at,
+                why: ModuleWhy::Spelling,
+            });
+        }
+        before = Some(rank(&mark.kind));
+    }
+    None
+}

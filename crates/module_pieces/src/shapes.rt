@@ -1,0 +1,92 @@
+//! What EMBED-VALUES and USE-NIL ask of a type, and what its parts are.
+ghost use Rattle.std.specs.Prelude.{◌≡◌};
+ghost use Rattle.label_tree.specs.Rose.{roses_of};
+ghost use Rattle.module_faults.specs.Orders as rule;
+
+use label_tree::Tree;
+use module_text::{Absence, PlainForm, PlainLabel};
+use simple_types::Class;
+
+/// Whether the type is a SEQUENCE.
+pub fn is_sequence(form: &PlainForm) -> bool
+    ensures { result ≡ rule.is_sequence form.now }
+{
+    matches!(form, PlainForm::Sequence { .. })
+}
+
+/// Whether the type is a SEQUENCE OF.
+pub fn is_sequence_of(form: &PlainForm) -> bool
+    ensures { result ≡ rule.is_sequence_of form.now }
+{
+    matches!(form, PlainForm::SequenceOf { .. })
+}
+
+/// Whether the type is a CHOICE.
+pub fn is_choice(form: &PlainForm) -> bool
+    ensures { result ≡ rule.is_choice form.now }
+{
+    matches!(form, PlainForm::Choice { .. })
+}
+
+/// Whether a part of which this is said may be absent.
+pub fn may_be_absent(absence: &Absence) -> bool
+    ensures { result ≡ rule.may_be_absent absence.now }
+{
+    !matches!(absence, Absence::Never)
+}
+
+fn is_any(class: Class) -> bool
+    ensures { result ≡ rule.is_any class }
+{
+    matches!(class, Class::Any)
+}
+
+// Whether the type is UTF8String without constraints.
+fn is_any_text(form: &PlainForm) -> bool
+    ensures { result ≡ rule.is_any_text form.now }
+{
+    match form {
+        PlainForm::Utf8 { size: None, class } => is_any(*class),
+        _ => false,
+    }
+}
+
+/// Whether the type is a SEQUENCE OF without a size.
+pub fn is_any_list(form: &PlainForm) -> bool
+    ensures { result ≡ rule.is_any_list form.now }
+{
+    matches!(form, PlainForm::SequenceOf { size: None, .. })
+}
+
+// Whether the type is such a list of such texts.
+fn is_text_list(node: &Tree<PlainLabel>) -> bool
+    ensures { result ≡ rule.is_text_list node.now }
+{
+    match node.kids().first() {
+        Some(kid) => is_any_list(&node.label().form) && is_any_text(&kid.label().form),
+        None => false,
+    }
+}
+
+/// Whether the type is a SEQUENCE whose first part is a list of texts.
+pub fn has_texts(form: &PlainForm, kids: &[Tree<PlainLabel>]) -> bool
+    ensures { result ≡ rule.has_texts form.now (roses_of kids.now) }
+{
+    match kids.first() {
+        Some(kid) => is_sequence(form) && is_text_list(kid),
+        None => false,
+    }
+}
+
+/// Whether the type is a SEQUENCE whose last part may be absent.
+pub fn has_content(form: &PlainForm) -> bool
+    ensures { result ≡ rule.has_content form.now }
+{
+    match form {
+        PlainForm::Sequence { parts } => match parts.items().last() {
+            Some(part) => may_be_absent(&part.absence),
+            None => false,
+        },
+        _ => false,
+    }
+}

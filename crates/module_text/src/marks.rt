@@ -1,0 +1,56 @@
+//! Encoding instructions as they are written.
+use crate::written::Written;
+use xa_base::Text;
+
+/// How a name or a text is told beside the identifier or the reference.
+#[derive(Drop)]
+pub enum NameAs {
+    /// CAPITALIZED.
+    Capitalized,
+    /// UNCAPITALIZED.
+    Uncapitalized,
+    /// In quotation marks. Those inside are not doubled here.
+    Quoted { name: Written },
+}
+
+/// An instruction of a part or of an assignment.
+#[derive(Drop)]
+pub enum PartMarkKind {
+    Attribute,
+    Untagged,
+    Name { name: NameAs },
+    Namespace { space: Written },
+}
+
+/// An instruction of a part or of an assignment, where it stands.
+#[derive(Drop)]
+pub struct PartMark {
+    /// Its opening bracket.
+    pub at: u64,
+    pub kind: PartMarkKind,
+}
+
+/// An instruction of a type.
+#[derive(Drop)]
+pub enum TypeMarkKind {
+    UseNil,
+    EmbedValues,
+    UseOrder,
+    List,
+    UseUnion,
+    UseNumber,
+    /// WHITESPACE REPLACE.
+    Replace,
+    /// WHITESPACE COLLAPSE.
+    Collapse,
+    /// TEXT of the item with this identifier.
+    Text { identifier: Text, text: NameAs },
+}
+
+/// An instruction of a type, where it stands.
+#[derive(Drop)]
+pub struct TypeMark {
+    /// Its opening bracket.
+    pub at: u64,
+    pub kind: TypeMarkKind,
+}

@@ -1,0 +1,16 @@
+//! Assignments.
+use crate::marks::PartMark;
+use crate::types::PlainLabel;
+use crate::written::PlainList;
+use label_tree::Tree;
+use xa_base::Text;
+
+/// A type with a name. What a whole text tells is a list of these.
+#[derive(Drop)]
+pub struct PlainAssignment {
+    /// Its first byte.
+    pub at: u64,
+    pub reference: Text,
+    pub marks: PlainList<PartMark>,
+    pub body: Tree<PlainLabel>,
+}

@@ -1,0 +1,15 @@
+pub mod Steps
+pub mod Then
+pub mod Or
+pub mod Many
+pub mod As
+pub mod WordLaws
+pub mod Fixed
+pub mod Sunken
+pub mod Whole
+pub mod Early
+pub mod Judging
+pub mod Stepping
+pub mod Giving
+pub mod Matching
+pub mod Nested
