@@ -251,7 +251,8 @@ pub(crate) fn put_ordered(
     requires outside { gathered.outside ≡ values.old.nodes }
     requires gathered { IsGathered set.now (inside_told declared.now.inside) (roses_of kids.now) gathered }
     requires stands { (z : Zip ValueLabel) × Stands values.old z }
-    ensures { OnOk result ((z : Zip ValueLabel) → Stands values.old z → ComplexPut set.now (told (parts_of set.now) declared.now) attributes.now (roses_of kids.now) z values.new) }
+    ensures limit { OnOk result (values.new.most ≡ values.old.most) }
+    ensures put { OnOk result ((z : Zip ValueLabel) → Stands values.old z → ComplexPut set.now (told (parts_of set.now) declared.now) attributes.now (roses_of kids.now) z values.new) }
 {
     let numbers = gathered.numbers();
     begin_complex(

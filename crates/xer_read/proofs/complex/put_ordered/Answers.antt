@@ -30,8 +30,14 @@ put_gathered-requires-clause-stands c =
       begins.puts.stands c.requires.stands.0 c.requires.stands.1,
     )
 
-pub returns : goal.returns
-returns c = λ z stands.
+pub returns-clause-limit : goal.returns-clause-limit
+returns-clause-limit c =
+    let (numbers, children, keeps) = gathered-keeps c.args.set.now c.args.declared.now.inside (roses_of c.args.kids.now) c.args.gathered c.requires.gathered in
+    let put = c.in_ok-put_gathered.ensures numbers children keeps in
+    c.close.ensures.most ∙ put.most ∙ c.in_ok-begin_complex.ensures.puts.most
+
+pub returns-clause-put : goal.returns-clause-put
+returns-clause-put c = λ z stands.
     let a = told (parts_of c.args.set.now) c.args.declared.now in
     let ts = roses_of c.args.kids.now in
     let begins = subst (λ ns. Begins a c.args.attributes.now (strings_put false ts) ns c.args.values.now c.begin_complex.new.values) c.numbers-numbers.ensures c.in_ok-begin_complex.ensures in
