@@ -9,7 +9,7 @@ use Rattle.content_match.specs.Private.Alls.{whole, kids_in}
 use Rattle.content_match.specs.Private.Plans.{IsPlan, particle_of}
 use Rattle.content_match.specs.Private.Standing.{OnWay, Stands, spot_of, spot_now, spot_in}
 use Rattle.content_match.specs.Private.Tops.{particle_of_top, height_of, marks_of, required_of, IsTop, StandsAt, spot_at, Gone}
-use Rattle.content_match.specs.Taking.{Matched, levels, levels_of_all}
+use Rattle.content_match.specs.Taking.{Matched, levels}
 use Rattle.content_match.specs.Taking as taking
 use Rattle.content_match.specs.declared.places.Leaf.{Leaf}
 use Rattle.content_match.specs.declared.places.Position.{Position}

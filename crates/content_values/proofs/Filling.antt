@@ -1,7 +1,7 @@
 -- Particles of which no child element is have the empty parts.
 use Rattle.std.proofs.Common.{◌≡◌, ℕ, zero, suc, inl, inr, Bool, true, false, not, ◌&&◌, ◌||◌, cond, nat_le, List, [], ◌∷◌, Option, Some, None, refl, sym, subst}
 use Rattle.std.proofs.Math.Dec.{leb-zero}
-use Rattle.label_tree.specs.Rose.{Rose, node, roses_of}
+use Rattle.label_tree.specs.Rose.{Rose, node}
 use Rattle.label_tree.specs.Rose as rose
 use Rattle.simple_types.specs.declared.labels.ValueLabel.{ValueLabel}
 use Rattle.simple_types.specs.declared.labels.ValueLabel.TheVariants as value

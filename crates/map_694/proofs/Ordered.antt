@@ -1,19 +1,17 @@
 -- The part that has the order of the elements of a type (X.693, USE-ORDER).
-use Rattle.std.proofs.Common.{◌≡◌, ℕ, zero, suc, ◌+◌, ◌-◌, ◌<◌, ◌≤◌, Bool, true, false, ◌&&◌, ◌||◌, cond, Option, Some, None, List, [], ◌∷◌, ◌++◌, length, map, inl, inr, refl, sym, ap, subst, ◌∙◌, append_assoc, not, arith}
+use Rattle.std.proofs.Common.{◌≡◌, ℕ, zero, suc, ◌+◌, ◌-◌, ◌<◌, ◌≤◌, Bool, true, false, ◌&&◌, cond, Some, List, [], ◌∷◌, ◌++◌, length, map, inl, inr, refl, sym, ap, subst, ◌∙◌, append_assoc, not, arith}
 use Rattle.std.specs.Prelude.{slice_get, if◌then◌else◌, ◌==◌}
 use Rattle.std.specs.Option.{option_map}
 use Rattle.std.proofs.lemmas.Bool.Decides.{eqb_tells}
-use Rattle.label_tree.specs.Rose.{Rose, node, Roses, list_of, label_of}
+use Rattle.label_tree.specs.Rose.{Rose, Roses, list_of, label_of}
 use Rattle.label_tree.specs.Rose as rose
-use Rattle.asn_types.specs.declared.marks.Instruction.{Instruction}
-use Rattle.asn_types.specs.declared.roles.Role.{Role}
-use Rattle.asn_types.specs.declared.roles.Role.TheVariants.{Attribute, Element, Group, Content, Embed, Order, Item, Alternative}
+use Rattle.asn_types.specs.declared.roles.Role.TheVariants.{Order}
 use Rattle.asn_types.specs.declared.types.Component.{Component}
 use Rattle.asn_types.specs.declared.types.Form.TheVariants as form
 use Rattle.asn_types.specs.declared.types.TypeLabel.{TypeLabel}
 use Rattle.asn_types.specs.declared.modules.Assignment.{Assignment}
-use Rattle.asn_types.specs.Marks.{has_attribute, has_untagged, has_use_nil, has_embed_values, has_use_order, has_use_union}
-use Rattle.asn_types.specs.Modules.{ordered, parts_from, element_parts, group_parts, is_group, IsOrderOf, HasOrderPart, one_if}
+use Rattle.asn_types.specs.Marks.{has_attribute, has_untagged, has_use_nil, has_use_order, has_use_union}
+use Rattle.asn_types.specs.Modules.{ordered, parts_from, is_group, IsOrderOf, HasOrderPart}
 use Rattle.asn_types.specs.Parts.{parts_of}
 use Rattle.asn_types.specs.Refs.{resolve, is_element, target}
 use Rattle.asn_types.specs.Roles.{role_of, is_content, is_embed, order_place, is_order, is_item}
@@ -22,10 +20,10 @@ use Rattle.schema_parts.specs.Components.{Set}
 use Rattle.map_subjects.specs.declared.subjects.Subject.{Subject}
 use Rattle.map_assignments.specs.Plans.{Label, attribute, element, group, elements, groups, texts, order, item, base, content, TypePlan, sequence, Parts, finish, part}
 use Rattle.map_assignments.specs.Planning.{attributes, labels, labels_before, order_type, with_order, with_texts}
-use Rattle.map_assignments.specs.Naming.{type_label, wanted, named_part, part_marks, repeated_part, sequence_marks, AreTaken, IsItemsType, IsNamed, AreNamed}
-use Rattle.map_694.proofs.Shapes.{is_element_label, is_attribute_label, AreElements, InOrder}
-use Rattle.map_694.proofs.Marked.{part-attribute, part-untagged, element-tagged, element-no_attribute, sequence-nil, sequence-order, sequence-embeds, sequence-no_union, is_untagged_label}
-use Rattle.map_694.proofs.Chains.{MakesElement, makes-element, picked, picked-element, later-elements, not-first, and-false}
+use Rattle.map_assignments.specs.Naming.{type_label, wanted, named_part, repeated_part, sequence_marks, AreTaken, IsNamed, AreNamed}
+use Rattle.map_694.proofs.Shapes.{is_element_label, AreElements, InOrder}
+use Rattle.map_694.proofs.Marked.{part-attribute, part-untagged, element-tagged, element-no_attribute, is_untagged_label}
+use Rattle.map_694.proofs.Chains.{MakesElement, makes-element, picked, later-elements, not-first, and-false}
 use Rattle.map_694.proofs.Once.{all-taken-once}
 use Rattle.map_694.proofs.Resolving.{follow-none}
 

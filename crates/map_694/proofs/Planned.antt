@@ -1,5 +1,5 @@
 -- The plans of the components of a linked set are plans of types of a module.
-use Rattle.std.proofs.Common.{◌≡◌, ℕ, zero, suc, [], length, ap, subst, ◌^◌, ◌+◌, ◌<◌, ◌≤◌, Bool, true, false, ◌&&◌, not, Option, Some, None, true≢false, refl, sym, ◌∙◌, arith}
+use Rattle.std.proofs.Common.{◌≡◌, ℕ, zero, suc, [], length, ap, subst, ◌+◌, ◌<◌, ◌≤◌, Bool, true, false, ◌&&◌, not, Option, Some, None, true≢false, refl, sym, ◌∙◌, arith}
 use Rattle.std.specs.Prelude.{MatchBool, if◌then◌else◌}
 use Rattle.label_tree.specs.Rose.{Rose, node, Roses, node_count, count_all}
 use Rattle.label_tree.specs.Rose as rose

@@ -6,7 +6,7 @@ use Rattle.label_tree.proofs.Roses.{roses_of-list_of}
 use Rattle.content_models.specs.declared.particles.ParticleLabel.{ParticleLabel}
 use Rattle.content_models.specs.declared.particles.ParticleKind.{ParticleKind}
 use Rattle.content_models.specs.declared.particles.ParticleKind.TheVariants.{Element, Sequence, Choice, All as AllKind}
-use Rattle.content_models.specs.Particle.{occurs, Term, Particles}
+use Rattle.content_models.specs.Particle.{occurs, Term}
 use Rattle.content_models.specs.Seen.{term_seen, seen, all_seen}
 use Rattle.schema_parts.specs.declared.components.AttributeUse.{AttributeUse}
 use Rattle.schema_parts.specs.declared.components.Content.{Content}

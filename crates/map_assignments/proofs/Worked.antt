@@ -3,7 +3,7 @@
 --     Y ::= [USE-ORDER] SEQUENCE { order SEQUENCE OF ENUMERATED { a, b }, a BOOLEAN, b BOOLEAN OPTIONAL }
 --
 -- and the type of nillable elements of it, whose elements stand in its content.
-use Rattle.std.proofs.Common.{◌≡◌, ℕ, zero, suc, Bool, true, false, Option, Some, None, List, [], ◌∷◌, ◌<◌, codes, inl, refl, sym, ap, subst, arith}
+use Rattle.std.proofs.Common.{◌≡◌, ℕ, zero, suc, Bool, true, false, Some, None, List, [], ◌∷◌, ◌<◌, codes, inl, refl, sym, ap, subst, arith}
 use Rattle.std.specs.List.{Contains}
 use Rattle.std.specs.Prelude.{slice_index_or}
 use Rattle.xa_base.specs.declared.texts.Name.{Name}

@@ -4,7 +4,7 @@ use Rattle.std.proofs.lemmas.List.{map-append}
 use Rattle.xa_base.specs.declared.texts.Name.{Name}
 use Rattle.content_models.specs.Language.{Turn, Leaf, turn_of, leaf_at, joined, Times, Lang, Body, InOrder, AnyOrder}
 use Rattle.content_models.specs.Particle as model
-use Rattle.content_models.specs.Particle.{Particle, occurs, Term, Particles}
+use Rattle.content_models.specs.Particle.{Particle, occurs, Particles}
 use Rattle.content_models.specs.Clear.{first_of_any, AreSingle, Clear}
 use Rattle.asn_values.specs.Ordering.{slot_at, emptied, put_some, taken}
 use Rattle.asn_values.specs.Orders.{is_set, cleared, are_just_set}

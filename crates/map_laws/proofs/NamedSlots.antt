@@ -9,7 +9,7 @@ use Rattle.std.proofs.lemmas.List.Sums.{sum_by-cons}
 use Rattle.xa_base.specs.declared.texts.Name.{Name}
 use Rattle.simple_types.specs.Labels.{flag_count, count_set}
 use Rattle.content_models.specs.Particle as model
-use Rattle.content_models.specs.Particle.{Particle, occurs, Term, Particles}
+use Rattle.content_models.specs.Particle.{occurs, Particles}
 use Rattle.content_models.specs.Clear.{IsNameIn, first_of_any, AreSingle, AllApart}
 use Rattle.asn_values.specs.Ordering.{slots, slot_at, emptied, put_some, taken}
 use Rattle.asn_values.specs.Orders.{is_set, cleared, are_just_set}

@@ -1,23 +1,20 @@
 -- Numbers and bounds without a fault are printed as they are written.
-use Rattle.std.proofs.Common.{◌≡◌, ℕ, zero, suc, ◌<◌, ◌^◌, Bool, true, false, ◌&&◌, not, Option, Some, None, List, [], ◌∷◌, ◌++◌, refl, sym, ap, ◌∙◌, subst, codes}
-use Rattle.std.specs.Prelude.{ℤ, pos, negsuc, bytes_eq, int_lt, nat_lt, if◌then◌else◌, is_some}
-use Rattle.std.specs.Option.{option_map}
+use Rattle.std.proofs.Common.{◌≡◌, ℕ, zero, suc, Bool, true, false, ◌&&◌, Option, Some, None, List, [], ◌∷◌, ◌++◌, refl, sym, ap, ◌∙◌, codes}
+use Rattle.std.specs.Prelude.{ℤ, int_lt}
 use Rattle.std.specs.Fmt.{signed_decimal}
 use Rattle.std.specs.Ordering.{int_eq}
 use Rattle.std.proofs.lemmas.Bool.{true≢false}
 use Rattle.std.proofs.lemmas.Bool.Decides.{Decides-int_eq}
 use Rattle.std.proofs.lemmas.Slice.Eq.{bytes_eq-Decides}
-use Rattle.std.proofs.lemmas.Cmp.{int_cmp_total, tied_itself}
-use Rattle.module_print.specs.Notation.{end_of, from_to, range, number_range, size, size_range}
+use Rattle.module_print.specs.Notation.{from_to, number_range}
 use Rattle.module_text.specs.declared.bounds.PlainNumber.{PlainNumber}
-use Rattle.module_text.specs.declared.bounds.PlainEnds.{PlainEnds}
 use Rattle.module_text.specs.declared.bounds.PlainEnds.TheVariants as ends
 use Rattle.module_text.specs.declared.bounds.PlainRange.{PlainRange}
 use Rattle.module_text.specs.declared.bounds.PlainRange.TheVariants as range_
-use Rattle.module_text.specs.Texts.{ends_text, range_text, number_range_text, size_text}
+use Rattle.module_text.specs.Texts.{number_range_text}
 use Rattle.module_faults.specs.declared.reasons.Fault.{Fault}
 use Rattle.module_faults.specs.declared.reasons.ModuleWhy.{ModuleWhy}
-use Rattle.module_faults.specs.Listed.{fault, unless}
+use Rattle.module_faults.specs.Listed.{unless}
 use Rattle.module_faults.specs.Told as told
 use Rattle.module_faults.specs.Faults as rule
 

@@ -1,15 +1,14 @@
 -- Texts with their faults: each line says what the first fault of a text is, and all of it computes.
-use Rattle.std.proofs.Common.{◌≡◌, ℕ, Bool, Option, Some, None, List, [], ◌∷◌, ◌++◌, refl, codes}
+use Rattle.std.proofs.Common.{◌≡◌, ℕ, Bool, Option, Some, None, List, [], ◌∷◌, refl, codes}
 use Rattle.std.specs.Fmt.{digits}
 use Rattle.std.specs.Str.{chars, is_utf8}
 use Rattle.label_tree.specs.Rose.{Rose, node, roses_of}
 use Rattle.xa_base.specs.Characters.{is_xml_char}
 use Rattle.xa_base.specs.WhiteSpace.{treated, words_of, is_white_space}
-use Rattle.simple_types.specs.declared.simples.Class.TheVariants.{Any, Language, NmToken, NcName, Name as ClassName}
+use Rattle.simple_types.specs.declared.simples.Class.TheVariants.{Any}
 use Rattle.simple_values.specs.Lexical.{whole_number, in_class}
 use Rattle.simple_values.specs.Reading.{reads, spelled}
 use Rattle.name_map.specs.ReservedWords.{reserved_words}
-use Rattle.module_print.specs.Printed.{opening, closing}
 use Rattle.module_text.specs.declared.bounds.PlainNumber.{PlainNumber}
 use Rattle.module_text.specs.declared.bounds.PlainEnds.TheVariants as ends
 use Rattle.module_text.specs.declared.bounds.PlainRange.TheVariants as range
@@ -33,7 +32,6 @@ use Rattle.module_text.specs.declared.types.PlainForm.{PlainForm}
 use Rattle.module_text.specs.declared.types.PlainForm.TheVariants as form
 use Rattle.module_text.specs.declared.types.PlainLabel.{PlainLabel}
 use Rattle.module_text.specs.declared.modules.PlainAssignment.{PlainAssignment}
-use Rattle.module_faults.specs.declared.reasons.Fault.{Fault}
 use Rattle.module_faults.specs.declared.reasons.ModuleWhy.TheVariants.{Duplicate, Unresolved, LongChain, Spelling}
 use Rattle.module_faults.specs.Resolving.{follow, near_references, all_references, chains_within}
 use Rattle.module_faults.specs.Simple.{simple_told}

@@ -1,6 +1,5 @@
 -- Values behind DEFAULT, and fixed values: the text for which each stands, and whether it is printed so.
-use Rattle.std.specs.Prelude.{ℕ, ◌+◌, ◌-◌, ◌*◌, ◌==◌, Bool, true, false, ◌&&◌, nat_lt, ℤ, pos, Option, Some, None, Result, Ok, Err, List, [], ◌∷◌, ◌++◌, map, length, slice_get, position, codes, bytes_eq, is_some, option_and_then, if◌then◌else◌}
-use Rattle.std.specs.Option.{option_map}
+use Rattle.std.specs.Prelude.{ℕ, ◌+◌, ◌-◌, ◌*◌, Bool, true, false, ◌&&◌, nat_lt, Option, Some, None, Ok, Err, List, [], ◌∷◌, slice_get, position, codes, bytes_eq, option_and_then, if◌then◌else◌}
 use Rattle.std.specs.Fmt.{signed_decimal}
 use Rattle.std.specs.List.{join_with_byte}
 use Rattle.label_tree.specs.Rose.{Rose, node, Roses, none, more, list_of}
@@ -8,11 +7,8 @@ use Rattle.simple_types.specs.Space.{Space}
 use Rattle.simple_types.specs.declared.labels.ValueLabel.{ValueLabel}
 use Rattle.simple_types.specs.declared.labels.ValueLabel.TheVariants as label
 use Rattle.simple_values.specs.Reading.{Reading, reads, spelled}
-use Rattle.module_text.specs.declared.marks.PartMark.{PartMark}
-use Rattle.module_text.specs.declared.values.PlainValue.{PlainValue}
 use Rattle.module_text.specs.declared.values.PlainValue.TheVariants as value
 use Rattle.module_text.specs.declared.values.PlainValueLabel.{PlainValueLabel}
-use Rattle.module_text.specs.declared.values.PlainOctets.{PlainOctets}
 use Rattle.module_text.specs.declared.types.NumberedItem.{NumberedItem}
 use Rattle.module_text.specs.declared.types.PlainName.{PlainName}
 use Rattle.module_text.specs.declared.types.PlainPart.{PlainPart}

@@ -1,8 +1,7 @@
 -- What is wrong with a plain text, thing by thing, in the order in which it stands, and at one thing in the order Duplicate,
 -- Unresolved, LongChain, Spelling. Each thing stands at its first byte, so the first of these faults is that of the least place.
-use Rattle.std.specs.Prelude.{ℕ, zero, suc, ◌+◌, ◌-◌, Bool, true, false, ◌&&◌, ◌||◌, not, nat_lt, int_lt, int_le, ℤ, pos, Option, Some, None, List, [], ◌∷◌, ◌++◌, length, map, is_some, is_none, codes, bytes_eq, slice_get, if◌then◌else◌}
+use Rattle.std.specs.Prelude.{ℕ, zero, suc, ◌+◌, ◌-◌, Bool, true, false, ◌&&◌, ◌||◌, not, nat_lt, int_lt, ℤ, pos, Option, Some, None, List, [], ◌∷◌, ◌++◌, is_some, codes, bytes_eq, if◌then◌else◌}
 use Rattle.std.specs.List.{list_any}
-use Rattle.std.specs.Fmt.{signed_decimal}
 use Rattle.label_tree.specs.Rose.{Rose, node, Roses, none, more, label_of, list_of}
 use Rattle.xa_base.specs.Limits.{is_empty}
 use Rattle.simple_types.specs.Space.{Space}
@@ -29,10 +28,10 @@ use Rattle.module_text.specs.Ranks.{rank_of_part_mark, rank_of_type_mark}
 use Rattle.module_text.specs.Texts.{parts_of}
 use Rattle.module_faults.specs.declared.reasons.ModuleWhy.TheVariants as why
 use Rattle.module_faults.specs.declared.spots.Spot.{Spot}
-use Rattle.module_faults.specs.declared.spots.Spot.TheVariants.{Elsewhere, Order, OrderItem}
+use Rattle.module_faults.specs.declared.spots.Spot.TheVariants.{Elsewhere, Order}
 use Rattle.module_faults.specs.Told.{whole_of, is_printed_number, size_of, words_of, has_attribute, has_embed_values, has_use_order, has_list}
 use Rattle.module_faults.specs.Resolving.{role_of, resolve, number_of, chains_end}
-use Rattle.module_faults.specs.Simple.{simple_told, is_simple, is_order_item, item_spot, text_lt}
+use Rattle.module_faults.specs.Simple.{simple_told, is_order_item, item_spot, text_lt}
 use Rattle.module_faults.specs.Defaults.{default_told, canonical_value, octets_of}
 use Rattle.module_faults.specs.Orders.{is_order, is_sequence_of}
 use Rattle.module_faults.specs.Marks.{part_mark_stands, type_mark_may, stands_once, next_item}

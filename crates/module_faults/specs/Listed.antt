@@ -1,5 +1,5 @@
 -- Faults, how lists of them are made, and which of them is the first.
-use Rattle.std.specs.Prelude.{◌≡◌, ℕ, ◌<◌, ◌≤◌, ◌⊎◌, Bool, true, false, Option, Some, None, List, [], ◌∷◌, ◌++◌, All, if◌then◌else◌}
+use Rattle.std.specs.Prelude.{◌≡◌, ℕ, ◌<◌, ◌≤◌, ◌⊎◌, Bool, Option, Some, None, List, [], ◌∷◌, All, if◌then◌else◌}
 use Rattle.module_faults.specs.declared.reasons.ModuleWhy.{ModuleWhy}
 use Rattle.module_faults.specs.declared.reasons.ModuleWhy.TheVariants as why
 use Rattle.module_faults.specs.declared.reasons.Fault.{Fault}

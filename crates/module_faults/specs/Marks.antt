@@ -1,7 +1,7 @@
 -- Whether an encoding instruction may stand where it does: each stands once but TEXT, and each has what it asks of its type.
-use Rattle.std.specs.Prelude.{ℕ, suc, ◌+◌, ◌==◌, Bool, true, false, ◌&&◌, ◌||◌, not, nat_lt, Option, Some, None, List, [], ◌∷◌, position, drop, is_some, bytes_eq, if◌then◌else◌}
+use Rattle.std.specs.Prelude.{ℕ, suc, ◌+◌, ◌==◌, Bool, true, false, ◌&&◌, ◌||◌, not, Option, Some, None, List, [], ◌∷◌, position, drop, is_some, bytes_eq, if◌then◌else◌}
 use Rattle.std.specs.Option.{option_map}
-use Rattle.label_tree.specs.Rose.{Rose, node, Roses}
+use Rattle.label_tree.specs.Rose.{node, Roses}
 use Rattle.xa_base.specs.WhiteSpace.{has_bytes}
 use Rattle.module_text.specs.declared.marks.NameAs.{NameAs}
 use Rattle.module_text.specs.declared.marks.PartMarkKind.{PartMarkKind}
@@ -9,17 +9,14 @@ use Rattle.module_text.specs.declared.marks.PartMarkKind.TheVariants as part_mar
 use Rattle.module_text.specs.declared.marks.PartMark.{PartMark}
 use Rattle.module_text.specs.declared.marks.TypeMarkKind.{TypeMarkKind}
 use Rattle.module_text.specs.declared.marks.TypeMarkKind.TheVariants as type_mark
-use Rattle.module_text.specs.declared.marks.TypeMark.{TypeMark}
 use Rattle.module_text.specs.declared.types.PlainName.{PlainName}
 use Rattle.module_text.specs.declared.types.PlainForm.{PlainForm}
 use Rattle.module_text.specs.declared.types.PlainForm.TheVariants as form
 use Rattle.module_text.specs.declared.types.PlainLabel.{PlainLabel}
 use Rattle.module_text.specs.declared.modules.PlainAssignment.{PlainAssignment}
-use Rattle.module_text.specs.Ranks.{rank_of_part_mark, rank_of_type_mark}
+use Rattle.module_text.specs.Ranks.{rank_of_part_mark}
 use Rattle.module_faults.specs.declared.spots.Spot.{Spot}
-use Rattle.module_faults.specs.declared.spots.Spot.TheVariants.{OrderItem}
 use Rattle.module_faults.specs.Told.{is_told_so, is_xml_text}
-use Rattle.module_faults.specs.Resolving.{resolve}
 use Rattle.module_faults.specs.Simple.{is_simple, is_order_item}
 use Rattle.module_faults.specs.Orders.{has_texts, has_content, has_order_part, is_sequence_of, is_choice}
 

@@ -1,7 +1,6 @@
 -- The module that a plain text tells. It is one where the text has no fault.
-use Rattle.std.specs.Prelude.{ℕ, ◌+◌, Bool, true, false, ℤ, Option, Some, None, List, [], ◌∷◌, map, unwrap_or, if◌then◌else◌}
-use Rattle.std.specs.Option.{option_map}
-use Rattle.label_tree.specs.Rose.{Rose, node, Roses, none, more, label_of, list_of}
+use Rattle.std.specs.Prelude.{ℕ, ◌+◌, Bool, true, false, Option, Some, None, List, [], ◌∷◌, map, unwrap_or}
+use Rattle.label_tree.specs.Rose.{Rose, node, Roses, none, more, list_of}
 use Rattle.xa_base.specs.declared.white_space.WhiteSpace.TheVariants as white
 use Rattle.simple_types.specs.declared.simples.Class.{Class}
 use Rattle.simple_types.specs.declared.standards.Standard.{Standard}

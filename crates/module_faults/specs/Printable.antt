@@ -1,5 +1,5 @@
 -- The modules that can be read back from their print: what is printed of each tells all of it.
-use Rattle.std.specs.Prelude.{◌≡◌, ◌≢◌, ℕ, ◌+◌, ◌<◌, ◌≤◌, Bool, true, false, ◌&&◌, not, nat_lt, nat_le, Option, Some, None, List, [], ◌∷◌, length, map, filter, chars, bytes_eq, All, if◌then◌else◌}
+use Rattle.std.specs.Prelude.{◌≡◌, ◌≢◌, ℕ, ◌+◌, ◌≤◌, Bool, true, false, ◌&&◌, not, nat_lt, None, List, [], ◌∷◌, map, filter, chars, bytes_eq, All, if◌then◌else◌}
 use Rattle.std.specs.List.{list_all, Contains, IsDistinct}
 use Rattle.label_tree.specs.Rose.{Rose, node, Roses, none, more, height}
 use Rattle.xa_base.specs.Characters.{is_xml_char}

@@ -7,7 +7,6 @@ use Rattle.asn_types.specs.declared.roles.Role.{Role}
 use Rattle.asn_types.specs.declared.roles.Role.TheVariants.{Attribute, Element, Group, Content, Embed, Order, Item, Alternative}
 use Rattle.asn_types.specs.Refs.{is_element}
 use Rattle.module_text.specs.declared.marks.TypeMark.{TypeMark}
-use Rattle.module_text.specs.declared.types.PlainName.{PlainName}
 use Rattle.module_text.specs.declared.types.PlainPart.{PlainPart}
 use Rattle.module_text.specs.declared.types.PlainForm.{PlainForm}
 use Rattle.module_text.specs.declared.types.PlainForm.TheVariants as form

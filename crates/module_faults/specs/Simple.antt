@@ -1,10 +1,9 @@
 -- The simple type for which a plain type stands, if it stands for one (X.694, clauses 11 to 13): its form, its instructions but
 -- for TEXT, and its parts are as such a type is mapped, and what it is made of is sound.
-use Rattle.std.specs.Prelude.{ℕ, ◌^◌, Bool, true, false, ◌&&◌, not, nat_lt, nat_le, int_le, int_lt, is_some, bytes_eq, ℤ, Option, Some, None, List, [], ◌∷◌, length, map, if◌then◌else◌}
+use Rattle.std.specs.Prelude.{ℕ, ◌^◌, Bool, true, false, ◌&&◌, not, nat_lt, nat_le, int_le, int_lt, is_some, bytes_eq, ℤ, Option, Some, None, List, [], ◌∷◌, length, if◌then◌else◌}
 use Rattle.std.specs.List.{list_all}
 use Rattle.std.specs.Ordering.{is_lt, nat_cmp}
 use Rattle.std.specs.Cmp.Lexicographic.{slice_cmp}
-use Rattle.std.specs.Option.{option_map}
 use Rattle.label_tree.specs.Rose.{Rose, node, Roses}
 use Rattle.label_tree.specs.Rose as rose
 use Rattle.simple_types.specs.declared.simples.Class.{Class}
@@ -12,10 +11,7 @@ use Rattle.xa_base.specs.declared.white_space.WhiteSpace.{WhiteSpace}
 use Rattle.xa_base.specs.WhiteSpace.{treated}
 use Rattle.simple_types.specs.Sound.{has_list, is_union}
 use Rattle.simple_types.specs.Space.{Space, Spaces, none, more, Booleans, Wholes, Numbers, Words, Characters, ListOf, UnionOf, count_members}
-use Rattle.module_text.specs.declared.marks.TypeMark.{TypeMark}
-use Rattle.module_text.specs.declared.marks.TypeMarkKind.{TypeMarkKind}
 use Rattle.module_text.specs.declared.types.NumberedItem.{NumberedItem}
-use Rattle.module_text.specs.declared.types.PlainName.{PlainName}
 use Rattle.module_text.specs.declared.types.PlainPart.{PlainPart}
 use Rattle.module_text.specs.declared.types.PlainForm.TheVariants as form
 use Rattle.module_text.specs.declared.types.PlainLabel.{PlainLabel}

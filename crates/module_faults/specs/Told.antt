@@ -1,7 +1,6 @@
 -- What the pieces of a plain text say: numbers, names beside an identifier, bounds, words, encoding instructions.
-use Rattle.std.specs.Prelude.{◌≡◌, ℕ, ◌<◌, ◌^◌, ◌==◌, Bool, true, false, ◌&&◌, ◌||◌, not, nat_lt, ℤ, pos, negsuc, Option, Some, None, List, [], ◌∷◌, map, filter, bytes_eq, decimal, chars, if◌then◌else◌}
+use Rattle.std.specs.Prelude.{ℕ, ◌^◌, Bool, true, false, ◌&&◌, nat_lt, ℤ, pos, Option, Some, None, List, [], ◌∷◌, bytes_eq, chars, if◌then◌else◌}
 use Rattle.std.specs.List.{list_all, list_any, filter_map}
-use Rattle.std.specs.Option.{option_map}
 use Rattle.std.specs.Str.{is_utf8}
 use Rattle.std.specs.Fmt.{signed_decimal}
 use Rattle.xa_base.specs.declared.white_space.WhiteSpace.{WhiteSpace}
@@ -18,7 +17,6 @@ use Rattle.module_text.specs.declared.bounds.PlainRange.{PlainRange}
 use Rattle.module_text.specs.declared.bounds.PlainRange.TheVariants as range
 use Rattle.module_text.specs.declared.marks.NameAs.{NameAs}
 use Rattle.module_text.specs.declared.marks.NameAs.TheVariants as as_
-use Rattle.module_text.specs.declared.marks.PartMarkKind.{PartMarkKind}
 use Rattle.module_text.specs.declared.marks.PartMarkKind.TheVariants as part_mark
 use Rattle.module_text.specs.declared.marks.PartMark.{PartMark}
 use Rattle.module_text.specs.declared.marks.TypeMarkKind.{TypeMarkKind}

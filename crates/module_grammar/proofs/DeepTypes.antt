@@ -19,7 +19,7 @@ use Rattle.module_text.specs.declared.types.PlainForm.TheVariants as form
 use Rattle.module_text.specs.declared.types.PlainLabel.{PlainLabel}
 use Rattle.module_text.specs.declared.modules.PlainAssignment.{PlainAssignment}
 use Rattle.module_grammar.specs.TypeReading as reading
-use Rattle.module_grammar.specs.TypeReading.{Typed, TypedPart, Form}
+use Rattle.module_grammar.specs.TypeReading.{Typed, TypedPart}
 use Rattle.module_grammar.specs.Depth.{listed_deep, value_deep, absence_deep}
 use Rattle.module_grammar.specs.TypeDepth.{start_told, paired, typed_part_text, part_deep, form_deep, type_deep, assignment_deep, module_deep}
 use Rattle.module_grammar.specs.ModulesRead.{IsModuleHere}

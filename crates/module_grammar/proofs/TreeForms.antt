@@ -9,7 +9,7 @@ use Rattle.plain_text.proofs.As.{Renames}
 use Rattle.module_text.specs.Names.{is_reference, is_type_word}
 use Rattle.module_text.specs.Plain.{HasParts, IsNumbered, IsName, IsForm, AreTypes, IsComponent, IsAlternative, IsItem}
 use Rattle.module_text.specs.Texts
-use Rattle.module_text.specs.Texts.{item_text, number_range_text, size_text, form_text, part_texts, level_of_parts, type_text}
+use Rattle.module_text.specs.Texts.{item_text, number_range_text, size_text, form_text, part_texts, level_of_parts}
 use Rattle.module_text.specs.Places.{placed_number, placed_name, placed_item, placed_items, placed_names, placed_form, placed_types, parts_at, type_texts, placed_number_range, placed_size}
 use Rattle.module_text.specs.declared.bounds.PlainNumber.{PlainNumber}
 use Rattle.module_text.specs.declared.bounds.PlainEnds.{PlainEnds}

@@ -15,7 +15,7 @@ use Rattle.module_text.specs.declared.marks.TypeMark.{TypeMark}
 use Rattle.module_text.specs.declared.marks.TypeMarkKind.{TypeMarkKind}
 use Rattle.module_text.specs.declared.marks.TypeMarkKind.TheVariants as type_mark
 use Rattle.module_grammar.specs.TypeReading
-use Rattle.module_grammar.specs.TypeReading.{Typed, TypedPart, Form, Word, Boolean, Integer, Utf8String, Enumerated, Sequence, Choice, Other, opening, between, closing, block_at, component_at, alternative_at, item_at, sequence_of_at, tail_at, plain_reference_at, form_at, typed_of, typed_at, label_at, type_at}
+use Rattle.module_grammar.specs.TypeReading.{Typed, TypedPart, Form, Word, Boolean, Integer, Utf8String, Enumerated, Sequence, Choice, Other, opening, between, block_at, component_at, alternative_at, item_at, sequence_of_at, tail_at, plain_reference_at, form_at, typed_of, label_at, type_at}
 use Rattle.module_grammar.specs.TypeDepth.{start_told, typed_part_text, part_deep, tail_deep, form_deep, type_deep}
 use Rattle.module_grammar.proofs.Unread.{first_of_front}
 use Rattle.module_grammar.proofs.MarkLaws.{type_kind_text, type_text_is, TypeMarksHere, type_marks_law, NoMark, PartMarkStops, part_marks_end}
@@ -35,7 +35,7 @@ use Rattle.module_text.specs.declared.types.NumberedItem.{NumberedItem}
 use Rattle.module_text.specs.declared.types.PlainName.{PlainName}
 use Rattle.module_text.specs.declared.types.PlainForm.TheVariants as form
 use Rattle.module_grammar.proofs.BlockLaws.{block_text, BlockFine, block_sunk, block_written, block_early}
-use Rattle.module_grammar.proofs.FormLaws.{EnumeratedFine, TailFine, tail_text, tail_law}
+use Rattle.module_grammar.proofs.FormLaws.{TailFine, tail_text, tail_law}
 use Rattle.module_grammar.proofs.FormLaws as forms
 use Rattle.module_grammar.proofs.TreeForms.{FormHere, WordFine, whole_text, form_renames}
 use Rattle.module_grammar.proofs.TypeLaws as laws

@@ -16,7 +16,7 @@ use Rattle.plain_text.proofs.Sunken.{Opens, first_node, sunk_law}
 use Rattle.module_text.specs.Names.{is_type_word, is_capital, is_small, is_reference, goes_on}
 use Rattle.module_text.specs.Plain.{IsTypeMark, IsComponent, IsAlternative, IsItem}
 use Rattle.module_text.specs.Texts
-use Rattle.module_text.specs.Texts.{level_of_parts, as_text, type_mark_text, part_mark_text, part_marks_text, type_marks_text, type_text}
+use Rattle.module_text.specs.Texts.{level_of_parts, type_mark_text, part_mark_text, part_marks_text, type_marks_text, type_text}
 use Rattle.module_text.specs.Places.{placed_types, parts_at}
 use Rattle.module_text.specs.declared.marks.PartMark.{PartMark}
 use Rattle.module_text.specs.declared.marks.PartMarkKind.{PartMarkKind}
@@ -32,7 +32,7 @@ use Rattle.module_text.specs.declared.types.PlainForm.TheVariants as form
 use Rattle.module_text.specs.declared.types.PlainLabel.{PlainLabel}
 use Rattle.module_grammar.specs.NameReading.{piece_at, begun, identifier_at, name_here}
 use Rattle.module_grammar.specs.TypeReading
-use Rattle.module_grammar.specs.TypeReading.{Typed, TypedPart, Form, label_at, component_at, alternative_at, item_at, tail_at, plain_reference_at, form_of, form_at, typed_of, typed_at, start_at, type_at}
+use Rattle.module_grammar.specs.TypeReading.{Typed, TypedPart, Form, label_at, component_at, alternative_at, item_at, tail_at, plain_reference_at, form_at, typed_of, start_at, type_at}
 use Rattle.module_grammar.specs.TypeDepth.{paired, start_told, typed_part_text, part_deep, tail_deep, form_deep, type_deep}
 use Rattle.module_grammar.proofs.Booleans.{both, is_other, capital_no_small}
 use Rattle.module_grammar.proofs.Unread.{as_fails, then_fails, before_fails, word_fails}

@@ -1,6 +1,6 @@
 -- Steps of the loops over lists whose first fault is sought.
-use Rattle.std.proofs.Common.{◌≡◌, ℕ, Bool, true, false, ◌&&◌, ◌||◌, not, Option, Some, None, List, [], ◌∷◌, ◌++◌, refl, sym, ap, ◌∙◌, append_assoc, drop, length, min, ◌<◌, ◌≤◌, arith}
-use Rattle.std.specs.Prelude.{ℤ, bytes_eq, nat_le}
+use Rattle.std.proofs.Common.{◌≡◌, ℕ, Bool, true, false, ◌||◌, Option, Some, None, List, [], ◌∷◌, ◌++◌, refl, sym, ap, ◌∙◌, append_assoc, drop, length, min, ◌<◌, ◌≤◌, arith}
+use Rattle.std.specs.Prelude.{ℤ, nat_le}
 use Rattle.std.proofs.lemmas.Bool.{leb-true, leb-false}
 use Rattle.std.proofs.lemmas.List.{at_drop_all}
 use Rattle.module_text.specs.declared.marks.PartMark.{PartMark}
@@ -11,7 +11,7 @@ use Rattle.module_faults.specs.declared.reasons.Fault.{Fault}
 use Rattle.module_faults.specs.declared.reasons.ModuleWhy.TheVariants.{Duplicate, Spelling}
 use Rattle.module_faults.specs.Listed.{fault, first}
 use Rattle.module_faults.specs.Told.{whole_of}
-use Rattle.module_faults.specs.Simple.{with_number, numbers_of}
+use Rattle.module_faults.specs.Simple.{with_number}
 use Rattle.module_faults.specs.Marks.{part_mark_stands}
 use Rattle.module_faults.specs.Faults.{part_mark_faults, has_text, item_faults, numbered_faults, is_word_above, word_faults}
 use Rattle.module_pieces.proofs.Firsts.{first-front, first-behind}

@@ -1,5 +1,5 @@
 -- Texts of whole numbers: they are ASCII, and what the code keeps of them is what they write.
-use Rattle.std.proofs.Common.{◌≡◌, ℕ, zero, suc, ◌<◌, ◌≤◌, ◌+◌, Bool, true, false, ◌&&◌, not, cond, Option, Some, None, List, [], ◌∷◌, get_or, refl, sym, ap, subst, arith, drop, ◌^◌}
+use Rattle.std.proofs.Common.{◌≡◌, ℕ, zero, suc, ◌<◌, ◌≤◌, ◌+◌, Bool, true, false, cond, Option, Some, None, List, [], ◌∷◌, refl, sym, ap, subst, arith, drop, ◌^◌}
 use Rattle.std.specs.Prelude.{nat_le, ℤ, pos, negsuc, IsUtf8, ◌==◌, FitsSigned, if◌then◌else◌}
 use Rattle.std.specs.List.{list_all}
 use Rattle.std.specs.Str.{IsAscii}

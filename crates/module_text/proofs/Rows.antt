@@ -1,8 +1,7 @@
 -- A text with each form, what it tells, and where it stands: all of it computes.
-use Rattle.std.proofs.Common.{◌≡◌, ℕ, true, Some, None, List, [], ◌∷◌, ◌++◌, refl, codes}
+use Rattle.std.proofs.Common.{◌≡◌, ℕ, Some, None, List, [], ◌∷◌, ◌++◌, refl, codes}
 use Rattle.label_tree.specs.Rose.{Rose, node, roses_of}
-use Rattle.simple_types.specs.declared.simples.Class.{Class}
-use Rattle.simple_types.specs.declared.simples.Class.TheVariants.{Any, NmToken}
+use Rattle.simple_types.specs.declared.simples.Class.TheVariants.{NmToken}
 use Rattle.module_print.specs.Printed.{opening, closing}
 use Rattle.module_text.specs.declared.bounds.PlainNumber.{PlainNumber}
 use Rattle.module_text.specs.declared.bounds.PlainEnds.TheVariants as ends
@@ -17,10 +16,7 @@ use Rattle.module_text.specs.declared.marks.TypeMark.{TypeMark}
 use Rattle.module_text.specs.declared.values.PlainValue.{PlainValue}
 use Rattle.module_text.specs.declared.values.PlainValue.TheVariants as value
 use Rattle.module_text.specs.declared.values.PlainValueLabel.{PlainValueLabel}
-use Rattle.module_text.specs.declared.values.PlainOctets.{PlainOctets}
-use Rattle.module_text.specs.declared.values.Absence.{Absence}
 use Rattle.module_text.specs.declared.values.Absence.TheVariants as absence
-use Rattle.module_text.specs.declared.types.NumberedItem.{NumberedItem}
 use Rattle.module_text.specs.declared.types.PlainName.{PlainName}
 use Rattle.module_text.specs.declared.types.PlainPart.{PlainPart}
 use Rattle.module_text.specs.declared.types.PlainForm.{PlainForm}

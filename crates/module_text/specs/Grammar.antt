@@ -1,5 +1,5 @@
 -- The plain grammar as a language: the texts of plain trees. What is said of bytes that are none of them.
-use Rattle.std.specs.Prelude.{◌≡◌, ℕ, ◌≤◌, Option, Some, None, List, [], ◌∷◌, ◌++◌, length}
+use Rattle.std.specs.Prelude.{◌≡◌, ℕ, ◌≤◌, List, [], ◌∷◌, ◌++◌, length}
 use Rattle.module_text.specs.declared.modules.PlainAssignment.{PlainAssignment}
 use Rattle.module_text.specs.Texts.{text_of}
 use Rattle.module_text.specs.Plain.{IsPlain}

@@ -1,5 +1,5 @@
 -- Where the things of a text stand, each at its first byte.
-use Rattle.std.specs.Prelude.{◌≡◌, ℕ, zero, suc, ◌+◌, ◌==◌, Option, Some, None, List, [], ◌∷◌, ◌++◌, length, codes, if◌then◌else◌}
+use Rattle.std.specs.Prelude.{◌≡◌, ℕ, zero, suc, ◌+◌, Option, List, [], ◌∷◌, ◌++◌, length, codes}
 use Rattle.std.specs.Option.{option_map}
 use Rattle.label_tree.specs.Rose.{Rose, node, Roses, none, more}
 use Rattle.module_print.specs.Notation.{new_line}
@@ -24,7 +24,7 @@ use Rattle.module_text.specs.declared.types.PlainForm.{PlainForm}
 use Rattle.module_text.specs.declared.types.PlainForm.TheVariants as form
 use Rattle.module_text.specs.declared.types.PlainLabel.{PlainLabel}
 use Rattle.module_text.specs.declared.modules.PlainAssignment.{PlainAssignment}
-use Rattle.module_text.specs.Texts.{part_mark_text, type_mark_text, part_marks_text, type_marks_text, value_text, fixed_text, item_text, parts_of, level_of_parts, form_text, part_text, part_texts, type_text, assignment_text}
+use Rattle.module_text.specs.Texts.{part_mark_text, type_mark_text, part_marks_text, type_marks_text, value_text, fixed_text, item_text, parts_of, level_of_parts, form_text, part_text, type_text, assignment_text}
 
 -- behind these bytes
 abbrev pub behind : List ℕ → ℕ → ℕ

@@ -1,5 +1,5 @@
 -- What a value of a complex type gives to its element: attributes in canonical spelling, and what its content gives.
-use Rattle.std.proofs.Common.{◌≡◌, ℕ, ◌+◌, ◌&&◌, ◌⊎◌, inl, inr, Bool, true, false, Option, Some, None, List, [], ◌∷◌, ◌++◌, length, map, refl, sym, ap, subst, ◌∙◌}
+use Rattle.std.proofs.Common.{◌≡◌, ℕ, ◌+◌, ◌&&◌, ◌⊎◌, inl, inr, Bool, true, false, Option, Some, None, List, [], ◌∷◌, length, map, refl, sym, ap, subst, ◌∙◌}
 use Rattle.std.specs.Prelude.{codes, All}
 use Rattle.std.proofs.lemmas.List.Elements.{All-nil}
 use Rattle.xa_base.specs.declared.texts.Name.{Name}
@@ -22,7 +22,7 @@ use Rattle.asn_types.specs.declared.types.TypeLabel.{TypeLabel}
 use Rattle.asn_types.specs.Marks.{has_use_order}
 use Rattle.asn_types.specs.Refs.{resolve}
 use Rattle.asn_types.specs.Roles.{role_of}
-use Rattle.asn_values.specs.Values.{below, FitsAt, child_count, first_count, text_count, is_last_absent, ordered_flags, order_of}
+use Rattle.asn_values.specs.Values.{below, FitsAt, first_count, text_count, is_last_absent, ordered_flags, order_of}
 use Rattle.schema_parts.specs.declared.components.AttributeUse.{AttributeUse}
 use Rattle.schema_parts.specs.declared.components.ComplexDef.{ComplexDef}
 use Rattle.schema_parts.specs.declared.components.Content.{Content}
@@ -34,15 +34,14 @@ use Rattle.map_assignments.specs.Planning.{is_mixed, is_ordered}
 use Rattle.map_assignments.specs.Naming.{type_label, sequence_marks}
 use Rattle.map_694.proofs.Marked.{sequence-order}
 use Rattle.map_694.proofs.Resolving.{follow-none}
-use Rattle.map_laws.specs.Children.{Child, child_of, given_by, as_told, children}
+use Rattle.map_laws.specs.Children.{Child, as_told, children}
 use Rattle.map_laws.specs.Standing.{Behind, IsOnly, IsInner, IsBase, IsSimpleOf, HasParts, HasInner, WithTexts, WithOrder, order_count, WithAttributes, AreContent, AreRest, HasComplex}
 use Rattle.map_laws.specs.ValueStatements.{StandAt}
 use Rattle.map_laws.proofs.Values.{present_children, PartsKept, PartsFit, sequence-value}
 use Rattle.map_laws.proofs.Complexes.{fits-found, children-found, complex-follows}
-use Rattle.map_laws.proofs.Counts.{children-counted}
 use Rattle.map_laws.proofs.Nillables.{nillable-follows}
 use Rattle.asn_types.specs.Spaces.{spelling}
-use Rattle.xer_items.specs.Items.{Given, given, nothing, joined, both, placed, inside, element_of, texts_of, with_texts}
+use Rattle.xer_items.specs.Items.{Given, given, joined, both, placed, inside, texts_of, with_texts}
 use Rattle.xer_items.specs.Items as items
 use Rattle.validity.specs.Asked.{space_at}
 use Rattle.validity.specs.Attributes.{Nil, not_nil, is_nil, nil_by, with_nil}
@@ -50,7 +49,7 @@ use Rattle.one_value.proofs.Groups.{told, order-shows, order-keeps, present_give
 use Rattle.xer_items.proofs.Ordering.{unordered}
 use Rattle.one_value.proofs.Walking.{last_from}
 use Rattle.one_value.proofs.Attributes.{attribute-gives, rest-silent}
-use Rattle.one_value.proofs.Mixed.{text_in, IsXmlText, texts-xml, TellKids, attributes-tell, order-tells, texts-tell, rest-tells, elements-tell}
+use Rattle.one_value.proofs.Mixed.{text_in, IsXmlText, texts-xml, attributes-tell, order-tells, texts-tell, rest-tells, elements-tell}
 use Rattle.one_value.proofs.Complexes.{last-is, texts-keep, shows-so}
 use Rattle.one_value.proofs.Spelled.{IsSpelling, AreSpelled, attributes-spelled}
 

@@ -3,7 +3,7 @@ use Rattle.std.proofs.Common.{◌≡◌, ℕ, zero, suc, ◌+◌, ◌≤◌, nat
 use Rattle.std.specs.Prelude.{slice_get, IsSomeAnd, MatchBool, Ok}
 use Rattle.std.specs.Option.{option_map}
 use Rattle.xa_base.specs.declared.texts.Name.{Name}
-use Rattle.label_tree.specs.Rose.{Rose, node, Roses, label_of}
+use Rattle.label_tree.specs.Rose.{Rose, node, label_of}
 use Rattle.label_tree.specs.Rose as rose
 use Rattle.simple_types.specs.Space.{Space, Booleans}
 use Rattle.simple_types.specs.declared.labels.ValueLabel.{ValueLabel}

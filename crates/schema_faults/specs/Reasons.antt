@@ -1,6 +1,6 @@
 -- The reasons against an element whose name may stand where it stands, in their order.
 use Rattle.std.specs.Prelude.{◌==◌, ℕ, Bool, true, false, ◌||◌, ◌&&◌, not, nat_le, List, [], ◌∷◌, codes, Option, Some, None, unwrap_or, if◌then◌else◌}
-use Rattle.std.specs.List.{list_any, list_all}
+use Rattle.std.specs.List.{list_any}
 use Rattle.std.specs.Option.{option_or}
 use Rattle.xa_base.specs.Entries.{beside, first_true}
 use Rattle.xa_base.specs.WhiteSpace.{is_blank, words_of}

@@ -8,7 +8,7 @@ use Rattle.std.proofs.lemmas.List.{length-map}
 use Rattle.xa_base.specs.declared.texts.Name.{Name}
 use Rattle.xa_base.specs.Lists.{HasItem}
 use Rattle.xa_base.proofs.Lists.{has_left, has_right}
-use Rattle.label_tree.specs.Rose.{Rose, node, Roses, node_count, height, Allowed}
+use Rattle.label_tree.specs.Rose.{Rose, node, height, Allowed}
 use Rattle.label_tree.specs.Rose as rose
 use Rattle.content_models.specs.Kids.{MayHave}
 use Rattle.content_models.specs.Seen.{seen}
@@ -17,7 +17,7 @@ use Rattle.content_models.specs.declared.particles.ParticleKind.TheVariants as p
 use Rattle.content_models.specs.declared.particles.ParticleLabel.{ParticleLabel}
 use Rattle.schema_parts.specs.Bounds.{fits, all_allow_one, content_fits}
 use Rattle.schema_parts.specs.Chains.{leaves_of_content}
-use Rattle.schema_parts.specs.Coherent.{leaves_in, name_of}
+use Rattle.schema_parts.specs.Coherent.{leaves_in}
 use Rattle.schema_parts.specs.Coherent as coherent
 use Rattle.schema_parts.specs.Components as parts_of_set
 use Rattle.schema_parts.specs.Components.{Set, components, element_type}

@@ -21,7 +21,7 @@ use Rattle.content_models.proofs.Renumbering.{law_of_declaration_numbers}
 use Rattle.content_models.proofs.Telling.{decides_clear}
 use Rattle.schema_parts.specs.Bounds.{content_fits, kind_fits, local_fits, type_fits, elements_fit, types_fit, locals_fit}
 use Rattle.schema_parts.specs.Chains.{leaves_of_content}
-use Rattle.schema_parts.specs.Coherent.{IsCoherent, leaves_in, leaves_of_models, model_in_content, model_in_kind, model_in_local, model_in_type, models_in_elements, models_in_types, models_in_locals, name_of}
+use Rattle.schema_parts.specs.Coherent.{leaves_in, leaves_of_models, model_in_content, model_in_kind, model_in_local, model_in_type, models_in_elements, models_in_types, models_in_locals, name_of}
 use Rattle.schema_parts.specs.Coherent as coherent
 use Rattle.schema_parts.specs.Inward.{has_place, content_inward, body_inward, kind_inward, local_inward, definition_inward, elements_inward, attributes_inward, types_inward, locals_inward, uses_inward}
 use Rattle.schema_parts.specs.Linked.{leaves_of_model}

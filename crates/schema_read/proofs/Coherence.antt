@@ -11,7 +11,7 @@ use Rattle.content_models.specs.declared.particles.ParticleKind.{ParticleKind}
 use Rattle.content_models.specs.declared.particles.ParticleKind.TheVariants as particle
 use Rattle.content_models.specs.declared.particles.ParticleLabel.{ParticleLabel}
 use Rattle.schema_parts.specs.declared.declarations.RawContent.{RawContent}
-use Rattle.schema_parts.specs.Raw.{Simple, Complex, Kind, Local, Use, Attribute, Document}
+use Rattle.schema_parts.specs.Raw.{Simple, Complex, Kind, Local, Use}
 use Rattle.schema_parts.specs.Raw as raw
 use Rattle.schema_parts.specs.Linked.{leaves_of_model}
 use Rattle.schema_parts.specs.Coherent.{model_in_content, model_in_kind, leaves_of_models}

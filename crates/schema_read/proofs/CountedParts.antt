@@ -2,7 +2,7 @@
 use Rattle.std.proofs.Common.{◌≡◌, ℕ, ◌+◌, ◌≤◌, Bool, true, false, cond, List, [], ◌∷◌, ◌++◌, length, Option, Some, None, inl, inr, refl, ap, subst, ◌∙◌, arith, count_by}
 use Rattle.std.specs.Prelude.{not, bytes_eq, codes}
 use Rattle.std.specs.List.{list_any, flat_map}
-use Rattle.std.proofs.lemmas.Bool.{and_parts, and_from, and_left, and_right, cond_both, both_ways, cases_Bool}
+use Rattle.std.proofs.lemmas.Bool.{and_parts, and_from, and_left, and_right, cond_both, cases_Bool}
 use Rattle.std.proofs.lemmas.List.Concat.{flat_map-append}
 use Rattle.std.proofs.lemmas.Slice.Eq.{bytes_eq-Decides}
 use Rattle.xa_base.specs.declared.texts.Name.{Name}
@@ -15,7 +15,7 @@ use Rattle.content_models.specs.declared.particles.ParticleKind.TheVariants as p
 use Rattle.content_models.specs.declared.particles.ParticleLabel.{ParticleLabel}
 use Rattle.schema_parts.specs.declared.declarations.RawContent.{RawContent}
 use Rattle.schema_parts.specs.Raw as raw
-use Rattle.schema_parts.specs.Raw.{Use, Simple, Complex, Kind, NamedKind, SimpleKind, ComplexKind, Local, Reference, Own}
+use Rattle.schema_parts.specs.Raw.{Use, Simple, Complex, Kind, NamedKind, Local}
 use Rattle.schema_parts.specs.Places.{places_in_use, group_place, places_in_model, places_among, places_in_mixed, places_in_content, places_in_complex, places_in_kind, places_in_local}
 use Rattle.xa_base.specs.Entries.{beside}
 use Rattle.schema_rules.specs.Elements.{is_schema_name, counted_names}

@@ -1,8 +1,8 @@
 -- The particles that are read of a document without a fault may occur, and stand in at most 16 levels of groups.
-use Rattle.std.proofs.Common.{◌≡◌, ℕ, suc, ◌+◌, ◌<◌, ◌≤◌, max, Bool, true, false, cond, List, [], ◌∷◌, ◌++◌, length, Option, Some, None, inl, inr, refl, ap, subst, arith}
+use Rattle.std.proofs.Common.{◌≡◌, ℕ, suc, ◌+◌, ◌<◌, ◌≤◌, max, Bool, true, false, cond, List, [], ◌∷◌, ◌++◌, length, Option, Some, None, inl, inr, refl, subst, arith}
 use Rattle.std.specs.Prelude.{◌||◌, not, bytes_eq, codes, nat_le, nat_lt}
 use Rattle.std.specs.Option.{option_or}
-use Rattle.std.proofs.lemmas.Bool.{and_parts, and_from, or_parts, cond_both, both_ways, cond-true, le-leb, leb-false, lt-ltb, not-true}
+use Rattle.std.proofs.lemmas.Bool.{and_parts, and_from, or_parts, cond_both, cond-true, le-leb, leb-false, lt-ltb, not-true}
 use Rattle.label_tree.specs.Rose.{Rose, node, Roses, roses_of, list_of, label_of, kids_of, height, depth_all}
 use Rattle.label_tree.specs.Rose as rose
 use Rattle.item_tree.specs.declared.label.ItemLabel.{ItemLabel}

@@ -1,9 +1,9 @@
 -- The values of the code can hold what is read of a document without a fault: each choice has a particle, and a place is below the end of the document.
-use Rattle.std.proofs.Common.{◌≡◌, ℕ, ◌+◌, ◌<◌, ◌≤◌, ◌^◌, Bool, true, false, cond, List, [], ◌∷◌, ◌++◌, length, Option, Some, None, inl, inr, refl, ap, sym, subst, arith}
+use Rattle.std.proofs.Common.{◌≡◌, ℕ, ◌+◌, ◌<◌, ◌≤◌, ◌^◌, Bool, true, false, cond, List, [], ◌∷◌, ◌++◌, length, Option, Some, None, inl, inr, refl, sym, subst, arith}
 use Rattle.std.specs.Prelude.{◌==◌, ◌&&◌, not, bytes_eq, codes}
 use Rattle.std.specs.List.{list_any}
-use Rattle.std.proofs.lemmas.Bool.{and_parts, or_cases, cond_both, both_ways, not-true}
-use Rattle.label_tree.specs.Rose.{Rose, node, Roses, roses_of, list_of, label_of, kids_of, length_all, Allowed, AllowedAll}
+use Rattle.std.proofs.lemmas.Bool.{and_parts, or_cases, cond_both, not-true}
+use Rattle.label_tree.specs.Rose.{Rose, node, Roses, roses_of, list_of, label_of, length_all, Allowed, AllowedAll}
 use Rattle.label_tree.specs.Rose as rose
 use Rattle.item_tree.specs.declared.label.ItemLabel.{ItemLabel}
 use Rattle.item_tree.specs.declared.label.ItemLabel.TheVariants.{Element, Text}

@@ -3,14 +3,14 @@ use Rattle.std.proofs.Common.{◌≡◌, ℕ, ◌+◌, ◌<◌, ◌≤◌, Bool,
 use Rattle.std.specs.Prelude.{nat_lt, ◌&&◌, bytes_eq, codes, slice_get}
 use Rattle.std.proofs.lemmas.Bool.{lt-ltb, and_from, and_parts}
 use Rattle.std.proofs.lemmas.List.{map-append}
-use Rattle.label_tree.specs.Rose.{Rose, node, Roses, roses_of, list_of, label_of, kids_of}
+use Rattle.label_tree.specs.Rose.{Rose, node, Roses, roses_of, list_of, label_of}
 use Rattle.label_tree.specs.Rose as rose
 use Rattle.item_tree.specs.declared.label.ItemLabel.{ItemLabel}
 use Rattle.item_tree.specs.declared.label.ItemLabel.TheVariants.{Element, Text}
 use Rattle.content_models.specs.declared.particles.ParticleLabel.{ParticleLabel}
 use Rattle.schema_parts.specs.declared.declarations.RawContent.{RawContent}
 use Rattle.schema_parts.specs.Raw as raw
-use Rattle.schema_parts.specs.Raw.{Use, Simple, Complex, Kind, NamedKind, SimpleKind, ComplexKind, Local, Reference, Own}
+use Rattle.schema_parts.specs.Raw.{Use, Simple, Complex, Kind, NamedKind, SimpleKind, Local, Reference, Own}
 use Rattle.schema_parts.specs.Places.{local_place}
 use Rattle.schema_parts.specs.Inward.{has_place, label_declared, label_inward, model_inward, each_inward, content_inward, body_inward, uses_inward, kind_inward, local_inward, locals_inward}
 use Rattle.xa_base.specs.declared.texts.Name.{Name}

@@ -4,7 +4,7 @@ use Rattle.std.specs.Prelude.{not, bytes_eq, codes, slice_get, IfSome, IsSomeAnd
 use Rattle.std.proofs.lemmas.Bool.{and_parts, cond_both, both_ways}
 use Rattle.std.proofs.lemmas.Option.{slice_get_read}
 use Rattle.xa_base.specs.declared.texts.Name.{Name}
-use Rattle.label_tree.specs.Rose.{Rose, node, Roses, roses_of, list_of, label_of, kids_of}
+use Rattle.label_tree.specs.Rose.{Rose, node, Roses, list_of, label_of}
 use Rattle.label_tree.specs.Rose as rose
 use Rattle.doc_text.specs.Sound.{levels, levels_all}
 use Rattle.item_tree.specs.declared.label.ItemLabel.{ItemLabel}
@@ -13,7 +13,7 @@ use Rattle.content_models.specs.declared.particles.ParticleLabel.{ParticleLabel}
 use Rattle.schema_parts.specs.declared.declarations.RawContent.{RawContent}
 use Rattle.schema_parts.specs.declared.declarations.RawContent.TheVariants as content
 use Rattle.schema_parts.specs.Raw as raw
-use Rattle.schema_parts.specs.Raw.{Use, Simple, Complex, Kind, NamedKind, SimpleKind, ComplexKind, Local, Reference, Own}
+use Rattle.schema_parts.specs.Raw.{Use, Simple, Complex, Kind, NamedKind, Local, Reference, Own}
 use Rattle.schema_parts.specs.Linked.{leaves_of_model}
 use Rattle.schema_parts.specs.Coherent.{model_in_content, leaves_of_models}
 use Rattle.schema_parts.specs.Chains.{leaves_of_content, complex_in_kind, complex_in_local, HasComplex, IsJustIn, IsChain, BeginsShort}

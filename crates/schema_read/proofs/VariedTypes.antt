@@ -12,7 +12,7 @@ use Rattle.xa_base.specs.Entries.{beside}
 use Rattle.xa_base.specs.Limits.{is_empty}
 use Rattle.xa_base.specs.WhiteSpace.{words_of, treated}
 use Rattle.xa_base.proofs.Collapsing.{treated-treated}
-use Rattle.label_tree.specs.Rose.{Rose, node, Roses, roses_of, list_of, label_of, kids_of}
+use Rattle.label_tree.specs.Rose.{Rose, node, Roses, list_of, label_of}
 use Rattle.label_tree.specs.Rose as rose
 use Rattle.item_tree.specs.declared.label.ItemLabel.{ItemLabel}
 use Rattle.item_tree.specs.declared.label.ItemLabel.TheVariants.{Element, Text}

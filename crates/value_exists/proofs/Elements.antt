@@ -5,7 +5,7 @@ use Rattle.std.specs.List.{list_all}
 use Rattle.std.proofs.lemmas.List.{length-map}
 use Rattle.std.proofs.lemmas.List.Elements.{All-nil}
 use Rattle.xa_base.specs.declared.texts.Name.{Name}
-use Rattle.label_tree.specs.Rose.{Rose, node, Roses, roses_of, label_of, length_all}
+use Rattle.label_tree.specs.Rose.{Rose, node, Roses, length_all}
 use Rattle.label_tree.specs.Rose as rose
 use Rattle.label_tree.proofs.Roses.{length_all-roses_of}
 use Rattle.simple_types.specs.Space.{Space}
@@ -33,8 +33,8 @@ use Rattle.schema_parts.proofs.Truths.{both}
 use Rattle.map_assignments.specs.Planning.{is_mixed}
 use Rattle.map_laws.specs.Standing.{HasComplex}
 use Rattle.xer_items.specs.Items as items
-use Rattle.xer_items.specs.Items.{Given, given, with_texts, element_of, inside}
-use Rattle.validity.specs.Asked.{Asked, Attribute, asked, space_at, attribute_in, inside_of}
+use Rattle.xer_items.specs.Items.{given, with_texts, element_of, inside}
+use Rattle.validity.specs.Asked.{Asked, asked, space_at, attribute_in, inside_of}
 use Rattle.validity.specs.Asked as ask
 use Rattle.validity.specs.Attributes.{Nil, not_nil, is_nil, bad_nil, nil_by, nil_of, xsi_type, xsi_nil, text_of, left, AllRight, AllStand, treated_attributes, with_nil}
 use Rattle.validity.specs.Valid.{only_text, text_kids, Spells, treated_element, ValidBy}

@@ -4,7 +4,7 @@ use Rattle.std.specs.Prelude.{All, slice_get, IsSomeAnd, MatchBool}
 use Rattle.std.specs.Option.{option_map}
 use Rattle.std.proofs.lemmas.List.Elements.{All-nil}
 use Rattle.xa_base.specs.declared.texts.Name.{Name}
-use Rattle.label_tree.specs.Rose.{Rose, node, Roses, label_of}
+use Rattle.label_tree.specs.Rose.{Rose, node, Roses}
 use Rattle.label_tree.specs.Rose as rose
 use Rattle.simple_types.specs.Space.{Booleans}
 use Rattle.simple_types.specs.declared.labels.ValueLabel.{ValueLabel}

@@ -4,7 +4,7 @@ use Rattle.std.specs.Prelude.{All, slice_index_or, if◌then◌else◌}
 use Rattle.std.specs.List.{AllByRecursion}
 use Rattle.std.proofs.lemmas.List.{length-map}
 use Rattle.xa_base.specs.declared.texts.Name.{Name}
-use Rattle.label_tree.specs.Rose.{Rose, node, Roses, list_of, roses_of, label_of, kids_of, length_all}
+use Rattle.label_tree.specs.Rose.{Rose, node, Roses, list_of, roses_of, kids_of, length_all}
 use Rattle.label_tree.specs.Rose as rose
 use Rattle.simple_types.specs.declared.labels.ValueLabel.{ValueLabel}
 use Rattle.simple_types.specs.declared.labels.ValueLabel.TheVariants as value

@@ -45,7 +45,7 @@ use Rattle.map_laws.specs.Standing.{count_elements, order_count, IsSimpleOf, Has
 use Rattle.map_laws.specs.Statements.{IsTypeAt}
 use Rattle.map_laws.proofs.Leading.{types-lead}
 use Rattle.xer_items.specs.Items as items
-use Rattle.xer_items.specs.Items.{Given, given, with_order, with_texts, element_of, inside}
+use Rattle.xer_items.specs.Items.{given, with_order, with_texts, element_of, inside}
 use Rattle.validity.specs.Asked.{Asked, Attribute, Inside, asked, space_at, attribute_in, inside_of, asked_by, asked_by_type, asked_by_complex, asked_at}
 use Rattle.validity.specs.Asked as ask
 use Rattle.validity.specs.Attributes.{Nil, not_nil, is_nil, bad_nil, nil_by, nil_of, xsi_nil, text_of, left, Stands, AllStand, put_attribute, treated_attribute, treated_attributes, with_nil}

@@ -4,7 +4,7 @@ use Rattle.std.specs.Prelude.{if◌then◌else◌}
 use Rattle.std.specs.List.{AllByRecursion}
 use Rattle.std.proofs.lemmas.List.{length-map}
 use Rattle.xa_base.specs.declared.texts.Name.{Name}
-use Rattle.label_tree.specs.Rose.{Rose, node, Roses, list_of, roses_of, label_of, kids_of, length_all}
+use Rattle.label_tree.specs.Rose.{Rose, node, Roses, list_of, roses_of, kids_of, length_all}
 use Rattle.label_tree.specs.Rose as rose
 use Rattle.simple_types.specs.declared.labels.ValueLabel.{ValueLabel}
 use Rattle.simple_types.specs.declared.labels.ValueLabel.TheVariants as value
@@ -22,7 +22,7 @@ use Rattle.asn_types.specs.declared.roles.Role.TheVariants as role
 use Rattle.asn_types.specs.Marks.{has_embed_values, has_use_order}
 use Rattle.asn_types.specs.Refs.{resolve, is_element}
 use Rattle.asn_types.specs.Roles.{role_of}
-use Rattle.asn_values.specs.Values.{below, child_count, first_count, text_count, is_last_absent, is_order_role, item_number, flags_from, ordered_flags, order_of, AreJustSet, HasOrder, places, OwnAt, FitEach, FitsAt}
+use Rattle.asn_values.specs.Values.{below, child_count, first_count, text_count, is_last_absent, is_order_role, item_number, flags_from, ordered_flags, order_of, AreJustSet, places, FitEach, FitsAt}
 use Rattle.schema_parts.specs.declared.components.AttributeUse.{AttributeUse}
 use Rattle.schema_parts.specs.declared.components.ComplexDef.{ComplexDef}
 use Rattle.schema_parts.specs.declared.components.Content.{Content}
@@ -45,7 +45,6 @@ use Rattle.map_laws.proofs.Frees.{kept-free, free-kept, content-free}
 use Rattle.map_laws.proofs.Giving.{parts-fit-each, kept-fits, sequence-gives}
 use Rattle.asn_types.specs.Spaces.{spelling}
 use Rattle.xer_items.specs.Items.{Given, given, nothing, both, with_order, with_nil, with_texts, texts_of, placed, inside}
-use Rattle.xer_items.specs.Spelling.{is_textual}
 use Rattle.one_value.proofs.Complexes.{not-textual}
 use Rattle.one_value.proofs.Groups.{tell, present_given, ordered-inside, sequence-inside, inside-found, top-shows}
 use Rattle.one_value.proofs.Attributes.{attribute-gives}

@@ -1,11 +1,11 @@
 -- Child elements in the order that numbers tell, and the elements of an all.
-use Rattle.std.proofs.Common.{◌≡◌, ℕ, zero, suc, ◌+◌, ◌<◌, Bool, true, false, ◌&&◌, Option, List, [], ◌∷◌, length, true≢false, refl, sym, ap, subst, ◌∙◌, arith}
+use Rattle.std.proofs.Common.{◌≡◌, ℕ, zero, suc, ◌+◌, ◌<◌, Bool, true, false, ◌&&◌, List, [], ◌∷◌, length, true≢false, refl, sym, ap, subst, ◌∙◌, arith}
 use Rattle.std.specs.List.{AllByRecursion}
-use Rattle.label_tree.specs.Rose.{Rose, node, Roses, roses_of, list_of, label_of}
+use Rattle.label_tree.specs.Rose.{Rose, node, roses_of, list_of}
 use Rattle.label_tree.specs.Rose as rose
 use Rattle.label_tree.proofs.Roses.{list_of-roses_of}
 use Rattle.simple_types.specs.declared.labels.ValueLabel.{ValueLabel}
-use Rattle.content_models.specs.Particle.{Particle, occurs, Term, element, sequence, choice, all, Particles, none, more}
+use Rattle.content_models.specs.Particle.{Particle, occurs, element, sequence, choice, all, Particles, none, more}
 use Rattle.content_models.specs.Clear.{IsNoAll}
 use Rattle.plain_items.specs.Plain.{Plain}
 use Rattle.plain_items.specs.Plain as plain

@@ -1,33 +1,21 @@
 -- Which elements of a value stand in an order, and in which.
-use Rattle.std.proofs.Common.{◌≡◌, ℕ, zero, suc, ◌+◌, ◌-◌, ◌≤◌, Bool, true, false, Option, Some, None, List, [], ◌∷◌, ◌++◌, length, append_assoc, length-append, true≢false, refl, sym, ap, subst, ◌∙◌, arith}
+use Rattle.std.proofs.Common.{◌≡◌, ℕ, zero, suc, ◌+◌, ◌-◌, Bool, true, false, Option, Some, None, List, [], ◌∷◌, ◌++◌, length, length-append, refl, ap, ◌∙◌, arith}
 use Rattle.std.specs.Prelude.{slice_get, if◌then◌else◌}
 use Rattle.std.specs.Option.{option_map}
-use Rattle.xa_base.specs.declared.texts.Name.{Name}
-use Rattle.label_tree.specs.Rose.{Rose, node, Roses, list_of, roses_of, label_of, kids_of}
+use Rattle.label_tree.specs.Rose.{Rose, node, Roses, list_of, roses_of, label_of}
 use Rattle.label_tree.proofs.Roses.{list_of-roses_of}
 use Rattle.simple_types.specs.declared.labels.ValueLabel.{ValueLabel}
 use Rattle.simple_types.specs.declared.labels.ValueLabel.TheVariants as value
-use Rattle.content_models.specs.declared.particles.ParticleLabel.{ParticleLabel}
-use Rattle.content_models.specs.Clear.{AreSingle}
-use Rattle.content_models.specs.Seen.{seen}
 use Rattle.asn_types.specs.declared.modules.Assignment.{Assignment}
-use Rattle.asn_types.specs.declared.roles.Role.{Role}
-use Rattle.asn_types.specs.declared.roles.Role.TheVariants as role
 use Rattle.asn_types.specs.declared.types.Component.{Component}
 use Rattle.asn_types.specs.declared.types.Form.TheVariants as form
 use Rattle.asn_types.specs.declared.types.TypeLabel.{TypeLabel}
-use Rattle.asn_types.specs.Refs.{resolve, is_element}
-use Rattle.asn_types.specs.Roles.{role_of}
+use Rattle.asn_types.specs.Refs.{resolve}
 use Rattle.asn_values.specs.Values.{flags_from, element_flags, ordered_flags, is_last_absent}
-use Rattle.schema_parts.specs.declared.components.AttributeUse.{AttributeUse}
-use Rattle.schema_parts.specs.declared.components.ComplexDef.{ComplexDef}
-use Rattle.schema_parts.specs.declared.components.Content.{Content}
 use Rattle.schema_parts.specs.Components.{Set}
 use Rattle.map_assignments.specs.Naming.{type_label, sequence_marks}
 use Rattle.map_694.proofs.Marked.{sequence-nil}
 use Rattle.map_694.proofs.Resolving.{follow-none}
-use Rattle.map_laws.specs.Standing.{Behind, WithTexts, WithOrder, WithAttributes, AreRest, HasInner, HasParts, IsOnly, IsInner}
-use Rattle.map_laws.proofs.Regions.{Passed}
 
 -- ---- lists
 

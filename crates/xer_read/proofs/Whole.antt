@@ -2,7 +2,7 @@
 use Rattle.std.proofs.Common.{◌≡◌, ℕ, suc, ◌≤◌, Bool, true, false, List, [], ◌∷◌, ◌++◌, Option, Some, length, length-append, refl, sym, ◌∙◌, ap, subst, arith}
 use Rattle.std.specs.Prelude.{Result, Ok, Err, MatchResult, MatchBool, All}
 use Rattle.xa_base.specs.declared.texts.Name.{Name}
-use Rattle.label_tree.specs.Rose.{Rose, node, Roses, roses_of, list_of, label_of, kids_of, length_all}
+use Rattle.label_tree.specs.Rose.{Rose, node, Roses, roses_of, label_of, kids_of, length_all}
 use Rattle.label_tree.specs.Rose as rose
 use Rattle.label_tree.proofs.Roses.{length_all-roses_of}
 use Rattle.flat_tree.specs.Zips.{Zip, opened, added, closed}

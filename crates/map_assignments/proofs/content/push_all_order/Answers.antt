@@ -1,4 +1,4 @@
-use Rattle.std.proofs.Common.{[], if◌then◌else◌, sym, ap, subst, ◌∙◌}
+use Rattle.std.proofs.Common.{[], if◌then◌else◌, sym, subst, ◌∙◌}
 use Rattle.content_models.specs.Seen.{seen}
 use Rattle.map_assignments.specs.Planning.{labels, labels_before, order_type, with_order, top}
 use Rattle.map_assignments.specs.Naming.{IsNamed}

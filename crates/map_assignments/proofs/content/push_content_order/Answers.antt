@@ -1,4 +1,4 @@
-use Rattle.std.proofs.Common.{true, false, [], if◌then◌else◌, sym, ap, subst, ◌∙◌}
+use Rattle.std.proofs.Common.{true, false, [], if◌then◌else◌, sym, subst}
 use Rattle.content_models.specs.Seen.{seen}
 use Rattle.map_assignments.specs.Planning.{labels, labels_before, is_all, is_mixed, is_ordered, order_type, order_plan, with_order, content_parts, top}
 use Rattle.map_assignments.specs.Private.Building.{LeadsToNamed}

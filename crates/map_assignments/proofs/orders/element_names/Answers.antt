@@ -1,4 +1,4 @@
-use Rattle.std.proofs.Common.{false, map, refl, sym, ap, subst, ◌∙◌}
+use Rattle.std.proofs.Common.{false, map, refl, ap, subst, ◌∙◌}
 use Rattle.std.proofs.lemmas.List.{drop_all}
 use Rattle.label_tree.specs.Rose.{roses_of, kids_of}
 use Rattle.label_tree.proofs.Kids.{roses_of-drop}

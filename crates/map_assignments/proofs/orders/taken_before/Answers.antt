@@ -1,4 +1,4 @@
-use Rattle.std.proofs.Common.{[], map, sym, subst}
+use Rattle.std.proofs.Common.{[], map, subst}
 use Rattle.map_assignments.specs.Planning.{labels_before}
 use Rattle.map_assignments.specs.Naming.{wanted}
 use Rattle.map_assignments.specs.Private.Building.{LeadsToScope}

@@ -1,5 +1,4 @@
-use Rattle.std.proofs.Common.{◌≡◌, Option, Some, None, List, ◌+◌, ◌++◌, [], ◌∷◌, drop, get_or, refl, sym, ap, ◌∙◌, append-nil}
-use Rattle.std.specs.Prelude.{ℤ}
+use Rattle.std.proofs.Common.{Some, ◌+◌, ◌++◌, [], ◌∷◌, drop, sym, ap, ◌∙◌, append-nil}
 use Rattle.std.proofs.lemmas.List.{at_drop_more, at_drop_all}
 use Rattle.simple_values.specs.Lexical.{whole_number}
 use Rattle.module_faults.specs.Told.{whole_of}

@@ -1,4 +1,4 @@
-use Rattle.std.proofs.Common.{◌≡◌, ℕ, ◌<◌, ◌+◌, Option, Some, None, List, ◌++◌, [], ◌∷◌, length, drop, get_or, refl, sym, ap, ◌∙◌, arith}
+use Rattle.std.proofs.Common.{ℕ, ◌<◌, ◌+◌, Option, List, [], ◌∷◌, length, drop, get_or, refl, sym, ap, ◌∙◌, arith}
 use Rattle.std.specs.Prelude.{nat_le}
 use Rattle.std.specs.Option.{option_map}
 use Rattle.std.proofs.lemmas.List.{at_drop_more}
@@ -6,7 +6,7 @@ use Rattle.module_text.specs.declared.types.PlainName.{PlainName}
 use Rattle.module_faults.specs.declared.reasons.Fault.{Fault}
 use Rattle.module_faults.specs.Listed.{first}
 use Rattle.module_faults.specs.Faults.{word_faults}
-use Rattle.module_pieces.proofs.Listing.{word-again, word-below, word-passed, words-ended}
+use Rattle.module_pieces.proofs.Listing.{word-again, word-below, words-ended}
 use Rattle.module_pieces.proofs.items.word_fault.Goals as goal
 
 pub returns-then-has : goal.returns-then-has

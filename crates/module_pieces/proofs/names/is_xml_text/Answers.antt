@@ -1,4 +1,4 @@
-use Rattle.std.proofs.Common.{◌≡◌, chars, ap, ◌∙◌}
+use Rattle.std.proofs.Common.{chars, ap, ◌∙◌}
 use Rattle.std.specs.List.{list_all}
 use Rattle.xa_base.specs.Characters.{is_xml_char}
 use Rattle.module_pieces.proofs.XmlTexts.{xml-utf8, xml-not}

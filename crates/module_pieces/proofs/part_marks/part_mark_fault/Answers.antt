@@ -1,4 +1,4 @@
-use Rattle.std.proofs.Common.{Some, ◌+◌, ◌∷◌, drop, get_or, sym, ap, ◌∙◌}
+use Rattle.std.proofs.Common.{Some, ◌+◌, ◌∷◌, drop, sym, ap, ◌∙◌}
 use Rattle.std.proofs.lemmas.List.{at_drop_more, at_drop_all}
 use Rattle.module_faults.specs.Listed.{first}
 use Rattle.module_faults.specs.Faults.{part_mark_faults}

@@ -1,4 +1,4 @@
-use Rattle.std.proofs.Common.{◌≡◌, true, [], ◌∷◌, refl, sym, ap, subst}
+use Rattle.std.proofs.Common.{true, [], ◌∷◌, refl, sym, subst}
 use Rattle.flat_tree.specs.Zips.{added}
 use Rattle.value_builder.specs.Built.{Puts}
 use Rattle.validity_check.proofs.Counting.{on-ok}

@@ -1,4 +1,4 @@
-use Rattle.std.proofs.Common.{refl, sym, ◌∙◌, ap}
+use Rattle.std.proofs.Common.{refl, ◌∙◌, ap}
 use Rattle.value_builder.specs.Built.{Built}
 use Rattle.value_builder.proofs.Putting.{puts-appended, appended-closed}
 use Rattle.value_builder.proofs.builder.ValueBuilder.append.Goals as goal
