@@ -8,4 +8,3 @@ pub mod Allowed
 mod Mapping
 mod Numbers
 pub mod Simples
-mod Worked
