@@ -1,6 +1,6 @@
 -- The laws of what stands behind the word of a type.
 use Rattle.std.proofs.Common.{◌≡◌, ℕ, suc, ◌+◌, ◌⊎◌, inl, inr, Bool, true, false, ◌||◌, if◌then◌else◌, List, [], ◌∷◌, ◌++◌, length, refl, sym, ap, ap₂, ◌∙◌, subst, arith, codes, bytes_eq, Option, Some, None, option_map, append_assoc}
-use Rattle.core.specs.Cmp.Lexicographic.{bytes_decides}
+use Rattle.std.proofs.lemmas.Slice.Eq.{bytes_eq-Decides}
 use Rattle.simple_types.specs.declared.simples.Class.{Class}
 use Rattle.simple_types.specs.declared.simples.Class.TheVariants.{Any}
 use Rattle.label_tree.specs.Rose.{Roses, none, more, list_of}
@@ -143,7 +143,7 @@ pub word_is : (name : List ℕ) (k : Word) → TypeReading.word_of name ≡ k �
 word_is name k e = cases (bytes_eq name (codes "BOOLEAN")) (bytes_eq name (codes "INTEGER")) (bytes_eq name (codes "UTF8String")) (bytes_eq name (codes "ENUMERATED")) (bytes_eq name (codes "SEQUENCE")) (bytes_eq name (codes "CHOICE")) refl refl refl refl refl refl k e
   where
     same : (word : List ℕ) → bytes_eq name word ≡ true → name ≡ word
-    same word h = (bytes_decides name word).0 h
+    same word h = (bytes_eq-Decides name word).0 h
 
     cases : (b i u n s c : Bool) → bytes_eq name (codes "BOOLEAN") ≡ b → bytes_eq name (codes "INTEGER") ≡ i → bytes_eq name (codes "UTF8String") ≡ u → bytes_eq name (codes "ENUMERATED") ≡ n → bytes_eq name (codes "SEQUENCE") ≡ s → bytes_eq name (codes "CHOICE") ≡ c
         → (k : Word) → word_by b i u n s c ≡ k → WordIs k name
