@@ -38,8 +38,8 @@ TABLES = {
     "per": ("crates/per_fields/src/stops.rt", "Why"),
     "der": ("crates/der_fields/src/stops.rt", "Why"),
 }
-# Enums of reasons that are passed on under the names of the others.
-PASSED_ON = {"NoneWhy"}
+# Enums of reasons that are passed on under the names of the others, and those that no command tells so far.
+PASSED_ON = {"NoneWhy", "ModuleWhy"}
 
 
 def text_of(path):

@@ -19,12 +19,14 @@ at the end. Its status is 1 where any is wrong.
 
 PROGRAM names another program. What xmllint takes otherwise is left out: a sign before unsigned numbers, white space around
 numbers, characters that may begin a name since the fifth edition of XML, a type in an attribute that is prohibited,
-NMTOKENS without a token, names that lead nowhere in what may not occur. A schema has up to three files, with a namespace each
+NMTOKENS without a token, names that lead nowhere in what may not occur; the fixed value of a reference to an attribute, at which
+it doesn't look (XML Schema Part 1, section 3.5.4, asks for it). A schema has up to three files, with a namespace each
 or none; only where it has one something in it is changed, since xmllint wants imports and the program doesn't look at them.
 """
 import copy
 import os
 import random
+import re
 import shutil
 import subprocess
 import sys
@@ -1308,6 +1310,7 @@ class Cases:
         self.schemas = [os.path.join(folder, name) for name in ("schema.xsd", "schema-2.xsd", "schema-3.xsd")]
         self.files = self.schemas[:1]
         self.has_tokens = False
+        self.has_fixed_reference = False
         self.document = os.path.join(folder, "document.xml")
         names = ["schemas", "refused", "documents", "changed", "invalid", "changed schemas", "taken", "wrong"]
         self.counts = dict.fromkeys(names, 0)
@@ -1323,6 +1326,7 @@ class Cases:
     def put_schema(self, texts):
         self.files = self.schemas[: len(texts)]
         self.has_tokens = any("NMTOKENS" in text for text in texts)
+        self.has_fixed_reference = any(re.search("<xs:attribute ref=[^>]*fixed=", text) for text in texts)
         for path, text in zip(self.files, texts):
             with open(path, "w", encoding="utf-8") as file:
                 file.write(text)
@@ -1378,6 +1382,8 @@ class Cases:
         ours = self.run("check", root, octets=document)
         self.counts["changed"] += 1
         self.counts["invalid"] += due == 8
+        if due == 0 and self.has_fixed_reference and b"BadAttribute" in ours.stderr:
+            return
         if ours.returncode != due:
             told = f"check: {ours.returncode} {ours.stderr.decode()}, xmllint: {peer.returncode} {peer.stderr.decode()}"
             self.is_wrong(number, document, told)
