@@ -169,7 +169,7 @@ module _ {E S A B : Type 0} (Fine Rest : List E → Type 0) (c : A) (front : Wri
       (λ b v. (v, omega arith, λ p. refl))
       (λ b v. v)
 
--- NOTHING: what is known takes none,
+-- NOTHING. What is known takes no element;
 pub done_codec : {E S A : Type 0} (Fine : List E → Type 0) (a : A) → Codec {S = S} Fine (λ x. x ≡ a) (λ x. 0) (λ x p. []) (λ X s. Ok (a, s))
 done_codec {S = S} Fine a = record {
   again = λ X rest s x any same few h. ap (λ m. Ok (m, s)) (sym same) ∙ ap (λ r. Ok (x, r)) (same_spot s.at (s.at + 0) s.nodes (s.nodes + 0) (omega arith) (omega arith));
@@ -178,7 +178,7 @@ done_codec {S = S} Fine a = record {
       (record { taken = record { parts = refl; end = omega arith; inside = inside }; nodes = omega arith; few = λ h. h }, refl, tt);
 }
 
--- and where nothing is valid, nothing is read.
+-- and where no value is valid, none is read.
 module _ {E S A : Type 0} (Fine Rest : List E → Type 0) (V : A → Type 0) (w : A → ℕ) (write : A → Writer E) (read : Reader E S A) where
   pub never_codec : ((a : A) → V a → ⊥) → ((X : List E) (s : Spot) (x : A × Spot) → read X s ≡ Ok x → ⊥) → CodecBefore Fine Rest V w write read
   never_codec never stops = record {
