@@ -16,22 +16,24 @@ HERE = os.path.dirname(os.path.dirname(os.path.abspath(__file__)))
 PAGE = os.path.join(HERE, "docs/PROMISE.md")
 START = ("transcode_core", "Runs", "RunsAs")
 LIMIT = 8000
+BROUGHT = re.compile(r"(?:(?:unfoldable )?pub )?use ")
 ROW = re.compile(r"(?m)^\| `(\w+)/([\w/]+)` \| (\d+) \|")
 
 
 class Spec:
-    """A file of definitions: what it brings in, and its definitions as blocks of lines, with the comments before them."""
+    """A file of definitions: what it brings in and passes on, and its definitions as blocks of lines, with the comments before them."""
 
     def __init__(self, crate, name):
         with open(os.path.join(HERE, "crates", crate, "specs", name + ".antt"), encoding="utf-8") as file:
             text = file.read().rstrip("\n")
-        self.lines, self.names, self.modules, self.blocks, self.where = text.count("\n") + 1, {}, {}, [], {}
+        self.lines, self.names, self.passed, self.modules, self.blocks, self.where = text.count("\n") + 1, {}, {}, {}, [], {}
         for part in re.split(r"\n\n+", text):
             lines = part.split("\n")
             for line in lines:
-                if line.startswith("use "):
-                    self.bring_in(line[4:])
-            lines = [it for it in lines if not it.startswith(("use ", "pub mod "))]
+                brought = BROUGHT.match(line)
+                if brought:
+                    self.bring_in(line[brought.end():], brought[0] != "use ")
+            lines = [it for it in lines if not it.startswith("pub mod ") and not BROUGHT.match(it)]
             if lines and lines[0].startswith("  ") and self.blocks:
                 self.blocks[-1] += lines
             elif not all(it.startswith("--") for it in lines):
@@ -40,7 +42,7 @@ class Spec:
             for name in self.defined(block):
                 self.where.setdefault(name, number)
 
-    def bring_in(self, text):
+    def bring_in(self, text, passed_on):
         text = text.strip()
         listed = re.fullmatch(r"Rattle\.([\w.]+)\.\{(.*)\}", text)
         whole = re.fullmatch(r"Rattle\.([\w.]+?)(?: as (\w+))?", text)
@@ -48,6 +50,8 @@ class Spec:
             for name in listed[2].split(","):
                 name = name.strip()
                 self.names[name.split(" as ")[-1].strip()] = (listed[1], name.split(" as ")[0].strip())
+                if passed_on:
+                    self.passed[name] = listed[1]
         elif whole:
             self.modules[whole[2] or whole[1].split(".")[-1]] = whole[1]
 
@@ -76,6 +80,12 @@ class Spec:
                 yield self.names[head]
 
 
+def place(module, name):
+    """Where a definition is that a file brings in, or passes on. The types of the code are declared by the toolchain; std isn't of this house."""
+    parts = module.split(".")
+    return [(parts[0], "/".join(parts[2:]), name)] if parts[1:2] == ["specs"] and parts[2:3] != ["declared"] else []
+
+
 def reached():
     """The blocks that are needed of each file, in the order in which they are come to."""
     specs, needed, waiting = {}, {}, [START]
@@ -87,6 +97,8 @@ def reached():
             specs[crate, path] = Spec(crate, path)
         spec = specs[crate, path]
         number = spec.where.get(name)
+        if number is None and name in spec.passed:
+            waiting += place(spec.passed[name], name)
         if number is None or number in needed.setdefault((crate, path), set()):
             continue
         needed[crate, path].add(number)
@@ -94,10 +106,7 @@ def reached():
             if module is None:
                 waiting.append((crate, path, other))
                 continue
-            parts = module.split(".")
-            # The types of the code are declared by the toolchain; std isn't of this house.
-            if parts[1:2] == ["specs"] and parts[2:3] != ["declared"]:
-                waiting.append((parts[0], "/".join(parts[2:]), other))
+            waiting += place(module, other)
     return {key: (sum(len(specs[key].blocks[it]) for it in numbers), specs[key].lines) for key, numbers in needed.items() if numbers}
 
 

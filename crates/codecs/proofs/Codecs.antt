@@ -129,6 +129,18 @@ module _ {E S A : Type 0} (Fine Rest : List E → Type 0) (V : A → Type 0) (w 
       let g = stop_ok (is_bad x.0) (stop s x) (Ok x) y e in
       subst (λ (z : A × Spot). (V z.0 × (is_bad z.0 ≡ false)) × (z.0 ≡ x.0) × (z.1 ≡ x.1)) (ok_is x y g.1) ((v, g.0), refl, refl))
 
+  -- or with two
+  module _ (is_worse : A → Bool) (halt : Spot → A × Spot → S) where
+    pub twice_tested_codec : CodecBefore Fine Rest V w write read
+        → CodecBefore Fine Rest (λ a. V a × (is_bad a ≡ false) × (is_worse a ≡ false)) w write (λ X s. read X s >>= λ a. stop_if (is_bad a.0) (stop s a) (stop_if (is_worse a.0) (halt s a) (Ok a)))
+    twice_tested_codec one =
+        check_codec Fine Rest V w write read (λ a. V a × (is_bad a ≡ false) × (is_worse a ≡ false)) (λ a. a) (λ s a. stop_if (is_bad a.0) (stop s a) (stop_if (is_worse a.0) (halt s a) (Ok a))) one
+        (λ s r a v. (v.0, rw v.1 (rw v.2 refl)))
+        (λ s x y v e.
+        let g = stop_ok (is_bad x.0) (stop s x) (stop_if (is_worse x.0) (halt s x) (Ok x)) y e in
+        let h = stop_ok (is_worse x.0) (halt s x) (Ok x) y g.1 in
+        subst (λ (z : A × Spot). (V z.0 × (is_bad z.0 ≡ false) × (is_worse z.0 ≡ false)) × (z.0 ≡ x.0) × (z.1 ≡ x.1)) (ok_is x y h.1) ((v, g.0, h.0), refl, refl))
+
 -- the same, said in other words
 module _ {E S A : Type 0} (Fine Rest : List E → Type 0) (V V' : A → Type 0) (w w' : A → ℕ) (write write' : A → Writer E) (read : Reader E S A) where
   pub other_words : CodecBefore Fine Rest V w write read → ((a : A) → V' a → V a × (w' a ≡ w a) × ((p : ℕ) → write' a p ≡ write a p)) → ((a : A) → V a → V' a) → CodecBefore Fine Rest V' w' write' read
@@ -145,6 +157,34 @@ module _ {E S A : Type 0} (Fine Rest : List E → Type 0) (V V' : A → Type 0) 
           let v = from x.0 k.1 in
           let t = to x.0 v in
           (subst (λ m. Came X s x.1 m (w' x.0)) (sym (t.2 s.at)) (subst (λ n. Came X s x.1 (write x.0 s.at) n) (sym t.1) k.0), v, k.2)
+
+-- BEHIND WHAT TELLS NOTHING
+module _ {E S A B : Type 0} (Fine Rest : List E → Type 0) (c : A) (front : Writer E) (skip : Reader E S A) (V : B → Type 0) (w : B → ℕ) (write : B → Writer E) (read : Reader E S B) where
+  pub after_codec : Codec Fine (λ a. a ≡ c) (λ a. 0) (λ a. front) skip → CodecBefore Fine Rest V w write read
+      → CodecBefore Fine Rest V w (λ b p. then_write (front p) (write b) p) (λ X s. skip X s >>= λ a. read X a.1)
+  after_codec one other =
+      other_words Fine Rest V V (λ b. 0 + w b) w (λ b p. then_write (front p) (write b) p) (λ b p. then_write (front p) (write b) p) (λ X s. skip X s >>= λ a. read X a.1)
+      (then_codec Fine Rest (λ a. a ≡ c) (λ a. 0) (λ a. front) skip V w write (λ s a. read) (λ b. c) one (λ b v. refl)
+      (λ s a is. other_words Fine Rest V (λ b. V b × (c ≡ a)) w w write write read other (λ b v. (v.0, refl, λ p. refl)) (λ b v. (v, sym is))))
+      (λ b v. (v, omega arith, λ p. refl))
+      (λ b v. v)
+
+-- NOTHING. What is known takes no element;
+pub done_codec : {E S A : Type 0} (Fine : List E → Type 0) (a : A) → Codec {S = S} Fine (λ x. x ≡ a) (λ x. 0) (λ x p. []) (λ X s. Ok (a, s))
+done_codec {S = S} Fine a = record {
+  again = λ X rest s x any same few h. ap (λ m. Ok (m, s)) (sym same) ∙ ap (λ r. Ok (x, r)) (same_spot s.at (s.at + 0) s.nodes (s.nodes + 0) (omega arith) (omega arith));
+  takes = λ X s x fine inside e.
+      subst (λ (y : _ × Spot). Came X s y.1 [] 0 × (y.0 ≡ a) × Unit {0}) (ok_is {S = S} (a, s) x e)
+      (record { taken = record { parts = refl; end = omega arith; inside = inside }; nodes = omega arith; few = λ h. h }, refl, tt);
+}
+
+-- and where no value is valid, none is read.
+module _ {E S A : Type 0} (Fine Rest : List E → Type 0) (V : A → Type 0) (w : A → ℕ) (write : A → Writer E) (read : Reader E S A) where
+  pub never_codec : ((a : A) → V a → ⊥) → ((X : List E) (s : Spot) (x : A × Spot) → read X s ≡ Ok x → ⊥) → CodecBefore Fine Rest V w write read
+  never_codec never stops = record {
+    again = λ X rest s a follows v few h. absurd (never a v);
+    takes = λ X s x fine inside e. absurd (stops X s x e);
+  }
 
 -- the same read in other words
 module _ {E S A : Type 0} (Fine Rest : List E → Type 0) (V : A → Type 0) (w : A → ℕ) (write : A → Writer E) (read read' : Reader E S A) where

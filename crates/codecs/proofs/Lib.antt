@@ -1,4 +1,5 @@
 pub mod Codecs
+pub mod Lists
 pub mod Sequences
 pub mod Steps
 pub mod Told

@@ -1,5 +1,5 @@
 -- A step of reading that stops: in what is read first, or behind it.
-use Rattle.std.proofs.Common.{◌≡◌, ℕ, ◌+◌, ◌≤◌, Bool, true, false, cond, List, length, refl, sym, ap, ◌∙◌, arith, drop, Result, Ok, Err, inl, inr, ◌⊎◌}
+use Rattle.std.proofs.Common.{◌≡◌, ℕ, ◌+◌, ◌≤◌, Bool, true, false, cond, not, List, length, refl, sym, ap, ◌∙◌, arith, drop, Result, Ok, Err, inl, inr, ◌⊎◌}
 use Rattle.codecs.specs.declared.spots.Spot.{Spot}
 use Rattle.codecs.specs.Reading.{◌>>=◌, Reader, Writer, stop_if, with_spot}
 use Rattle.codecs.specs.Codec.{most_nodes, Came, CodecBefore}
@@ -11,6 +11,15 @@ Iff A B = (A → B) × (B → A)
 -- A fact gives one, and follows from another. The two are alike but for the levels of nodes that they speak of.
 abbrev pub Told : Type 0 → Type 0 → Type 0 → Type 0
 Told A P Q = (A → P) × (Q → A)
+
+-- a test that means a fact
+pub lacking : (b : Bool) (P : Type 0) → Iff (b ≡ true) P → Iff (b ≡ false) (P → ⊥)
+lacking true P means = (λ e. absurd cc, λ n. absurd (n (means.0 refl)))
+lacking false P means = (λ e p. absurd (let f = means.1 p in cc), λ n. refl)
+
+pub no_fact : (b : Bool) → Iff (not b ≡ true) (b ≡ false)
+no_fact true = (λ e. absurd cc, λ e. absurd cc)
+no_fact false = (λ e. refl, λ e. refl)
 
 -- reading is within the list and within the nodes
 abbrev pub Inside : {E : Type 0} → List E → Spot → Type 0

@@ -1,11 +1,12 @@
 -- Lengths, contents and heads: what is written is read, and what is read was written.
-use Rattle.std.proofs.Common.{◌≡◌, ℕ, zero, suc, ◌+◌, ◌-◌, ◌<◌, ◌≤◌, Bool, true, false, cond, eqb, ltb, not, ◌||◌, List, [], ◌∷◌, ◌++◌, length, take, drop, refl, sym, ap, ◌∙◌, subst, arith, Ok, inl, inr}
+use Rattle.std.proofs.Common.{◌≡◌, ℕ, zero, suc, ◌+◌, ◌-◌, ◌<◌, ◌≤◌, Bool, true, false, cond, eqb, ltb, not, ◌||◌, List, [], ◌∷◌, ◌++◌, length, drop, refl, sym, ap, ◌∙◌, subst, arith, Ok, inl, inr}
 use Rattle.std.proofs.lemmas.Bool.{cases_lt, lt-ltb, le-ltb, ltb-false, ne_eqb, not-false}
 use Rattle.std.proofs.lemmas.List.{drop-drop}
 use Rattle.codecs.specs.declared.spots.Spot.{Spot}
 use Rattle.codecs.specs.Reading.{◌>>=◌, Writer, then_write, moved, stop_if, with_spot, window_at, left_at}
 use Rattle.codecs.specs.Codec.{most_nodes, Stands, Came, CodecBefore, Anything, Codec, Filling}
 use Rattle.codecs.proofs.Codecs.{stop_ok, stop_not, ok_is, same_spot, split, behind, came-then, moved-again, then_codec, check_codec, other_words, other_reader, left_codec, window_codec}
+use Rattle.codecs.proofs.Lists.{all_front, all_take, all_drop}
 use Rattle.codecs.proofs.Sequences.{cond_true, cond_false}
 use Rattle.der_fields.specs.declared.stops.Stop.{Stop}
 use Rattle.der_fields.specs.declared.stops.Why.TheVariants.{Short, Tag, NotShortest}
@@ -14,23 +15,9 @@ use Rattle.der_fields.specs.Reading.{stop_at, AreOctets, Octets, raw_at, number_
 use Rattle.der_fields.proofs.Numbers.{Leads, shape_of, octets_again}
 use Rattle.der_fields.proofs.Heads.{begins_all, begins_parts}
 
-pub take_octets : (n : ℕ) (xs : List ℕ) → AreOctets xs → AreOctets (take n xs)
-take_octets zero xs h = tt
-take_octets (suc n) [] h = tt
-take_octets (suc n) (x ∷ xs) h = (h.0, take_octets n xs h.1)
-
-pub drop_octets : (n : ℕ) (xs : List ℕ) → AreOctets xs → AreOctets (drop n xs)
-drop_octets zero xs h = h
-drop_octets (suc n) [] h = tt
-drop_octets (suc n) (x ∷ xs) h = drop_octets n xs h.1
-
-pub append_octets : (xs ys : List ℕ) → AreOctets (xs ++ ys) → AreOctets xs
-append_octets [] ys h = tt
-append_octets (x ∷ xs) ys h = (h.0, append_octets xs ys h.1)
-
 -- what was taken of octets are octets
 pub came_octets : (X : List ℕ) (s r : Spot) (found : List ℕ) (n : ℕ) → AreOctets X → Came X s r found n → AreOctets found
-came_octets X s r found n all c = append_octets found (drop r.at X) (subst AreOctets c.taken.parts (drop_octets s.at X all))
+came_octets X s r found n all c = all_front (λ x. x < 256) found (drop r.at X) (subst AreOctets c.taken.parts (all_drop (λ x. x < 256) s.at X all))
 
 -- a value that is read is told to be of octets
 module _ {A : Type 0} (Rest : List ℕ → Type 0) (V : A → Type 0) (w : A → ℕ) (write : A → Writer ℕ) (read : Octets A) where
@@ -48,7 +35,7 @@ unfolding raw_at
 raw_field begin n =
     other_words AreOctets Anything (λ xs. (Unit {0} × (length xs ≡ n)) × AreOctets xs) (λ xs. (length xs ≡ n) × AreOctets xs) (λ xs. 0) (λ xs. 0) (λ xs p. xs) (λ xs p. xs) (raw_at begin n)
     (octets_codec Anything (λ xs. Unit {0} × (length xs ≡ n)) (λ xs. 0) (λ xs p. xs) (raw_at begin n)
-    (window_codec AreOctets (λ xs. Unit {0}) (λ xs. 0) (λ xs p. xs) left_at length (stop_at begin Short) n take_octets (λ xs p. refl) (left_codec AreOctets)) (λ xs v p q. refl))
+    (window_codec AreOctets (λ xs. Unit {0}) (λ xs. 0) (λ xs p. xs) left_at length (stop_at begin Short) n (all_take (λ x. x < 256)) (λ xs p. refl) (left_codec AreOctets)) (λ xs v p q. refl))
     (λ xs v. (((tt, v.0), v.1), refl, λ p. refl))
     (λ xs v. (v.0.1, v.1))
 
@@ -162,7 +149,7 @@ first_octet = record {
 }
   where
     raw : (begin : ℕ) → Codec AreOctets (λ xs. Unit {0} × (length xs ≡ 1)) (λ xs. 0) (λ xs p. xs) (raw_at begin 1)
-    raw begin = window_codec AreOctets (λ xs. Unit {0}) (λ xs. 0) (λ xs p. xs) left_at length (stop_at begin Short) 1 take_octets (λ xs p. refl) (left_codec AreOctets)
+    raw begin = window_codec AreOctets (λ xs. Unit {0}) (λ xs. 0) (λ xs p. xs) left_at length (stop_at begin Short) 1 (all_take (λ x. x < 256)) (λ xs p. refl) (left_codec AreOctets)
 
 only_one : (xs : List ℕ) → length xs ≡ 1 → xs ≡ number_of xs ∷ []
 only_one [] e = absurd cc
@@ -194,7 +181,7 @@ module _ {A : Type 0} (V : A → Type 0) (w : A → ℕ) (octets : A → List �
       other_words AreOctets Anything V V (λ a. 0 + w a) w (λ a p. then_write (length_octets (length (octets a))) (λ q. octets a) p) (λ a p. length_octets (length (octets a)) ++ octets a) (sized_at contents)
       (then_codec AreOctets Anything (λ n. Unit {0}) (λ n. 0) (λ n p. length_octets n) length_at V w (λ a p. octets a) (λ s n. window_at (stop_at s.at Short) n contents) (λ a. length (octets a))
       length_field (λ a v. tt)
-      (λ s n any. window_codec AreOctets V w (λ a p. octets a) contents (λ a. length (octets a)) (stop_at s.at Short) n take_octets (λ a p. refl) one))
+      (λ s n any. window_codec AreOctets V w (λ a p. octets a) contents (λ a. length (octets a)) (stop_at s.at Short) n (all_take (λ x. x < 256)) (λ a p. refl) one))
       (λ a v. (v, omega arith, λ p. refl))
       (λ a v. v)
 

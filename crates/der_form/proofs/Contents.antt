@@ -21,7 +21,7 @@ use Rattle.codecs.specs.declared.spots.Spot.{Spot}
 use Rattle.codecs.specs.Reading.{Writer, stop_if, with_spot, left_at}
 use Rattle.codecs.specs.Codec.{CodecBefore, Anything, Nothing, Codec, Filling}
 use Rattle.codecs.specs.Sequences.{items_at, parts_at, alternative_at, AllFit, all_weight, all_write, PartsFit, parts_weight, parts_write, AlternativeFits, alternative_write, HasHead, IsApart, AreHeads, EachCodec}
-use Rattle.codecs.proofs.Codecs.{stop_ok, stop_not, ok_is, check_codec, map_codec, other_words, left_codec, ended_codec}
+use Rattle.codecs.proofs.Codecs.{stop_ok, stop_not, ok_is, check_codec, map_codec, other_words, never_codec, left_codec, ended_codec}
 use Rattle.codecs.proofs.Sequences.{cond_true, items_codec, parts_codec, alternative_codec}
 use Rattle.der_fields.specs.declared.stops.Stop.{Stop}
 use Rattle.der_fields.specs.declared.stops.Why.TheVariants.{Tag, Content, Range}
@@ -29,17 +29,10 @@ use Rattle.der_fields.specs.Octets.{signed_octets, begins, context_identifier, f
 use Rattle.der_fields.specs.Reading.{stop_at, AreOctets, Octets}
 use Rattle.der_fields.proofs.Heads.{begins_all, apart}
 use Rattle.per_fields.proofs.Levels.{EachKid}
+use Rattle.per_fields.proofs.NodeLaws.{below_of, roses_again, list_again}
 use Rattle.der_form.specs.Encoding.{TaggedPlace, tagged_place, tags_from, tags_of, tagged, is_constructed, item_number, contents, der, each_der}
 use Rattle.der_form.specs.Reading.{leaf_of, node_of, bool_of, bool_at, whole_at, int_of, int_at, item_at, enum_at, text_at, unexpected, is_optional, starts, parts_from, flags_of, those_of, sequence_of, choice_of, is_size, never, sequence_at, choice_at, sequence_of_at, contents_at}
 use Rattle.der_form.proofs.Numbers.{IsWhole, whole_codec, HasItems, numbers_items, words_items, order_items, item_codec}
-
--- what stands below the first node
-abbrev pub below_of : Rose ValueLabel → Roses ValueLabel
-below_of (node l vs) = vs
-
-roses_again : (vs : Roses ValueLabel) → roses_of (list_of vs) ≡ vs
-roses_again none = refl
-roses_again (more v vs) = ap (more v) (roses_again vs)
 
 list_long : (vs : Roses ValueLabel) → length (list_of vs) ≡ length_all vs
 list_long none = refl
@@ -48,17 +41,6 @@ list_long (more v vs) = ap suc (list_long vs)
 roses_long : (vs : List (Rose ValueLabel)) → length_all (roses_of vs) ≡ length vs
 roses_long [] = refl
 roses_long (v ∷ vs) = ap suc (roses_long vs)
-
-list_again : (vs : List (Rose ValueLabel)) → list_of (roses_of vs) ≡ vs
-list_again [] = refl
-list_again (v ∷ vs) = ap (λ ws. v ∷ ws) (list_again vs)
-
--- what never reads
-pub never_codec : {A : Type 0} (Rest : List ℕ → Type 0) (V : A → Type 0) (w : A → ℕ) (write : A → Writer ℕ) (read : Octets A) → ((a : A) → V a → ⊥) → ((X : List ℕ) (s : Spot) (x : A × Spot) → read X s ≡ Ok x → ⊥) → CodecBefore AreOctets Rest V w write read
-never_codec Rest V w write read nope stops = record {
-  again = λ X rest s a follows v few h. absurd (nope a v);
-  takes = λ X s x fine inside e. absurd (stops X s x e);
-}
 
 module _ (M : List Assignment) (depth : ℕ) (kid : TaggedPlace → Octets (Rose ValueLabel)) where
   abbrev pub FitPart : ComponentPlace → Rose ValueLabel → Type 0
@@ -600,7 +582,7 @@ module _ (M : List Assignment) (depth : ℕ) (kid : TaggedPlace → Octets (Rose
       (λ v h. (h, chosen_count l ts parts v h, λ n. refl))
       (λ v h. h)
   contents_codec begin l [] (form.SequenceOf part least most) is bounds same known =
-      never_codec Nothing (Inner l [] (form.SequenceOf part least most)) inner_count (λ v n. inner_octets l [] (form.SequenceOf part least most) v) (contents_at M kid begin l [] (form.SequenceOf part least most)) (no_items l part least most) (λ X s x e. absurd cc)
+      never_codec AreOctets Nothing (Inner l [] (form.SequenceOf part least most)) inner_count (λ v n. inner_octets l [] (form.SequenceOf part least most) v) (contents_at M kid begin l [] (form.SequenceOf part least most)) (no_items l part least most) (λ X s x e. absurd cc)
   contents_codec begin l (t ∷ ts) (form.SequenceOf part least most) is bounds same known = many_codec l t ts part least most begin known.0
   contents_codec begin l ts (form.Ref to) is bounds same known =
-      never_codec Nothing (Inner l ts (form.Ref to)) inner_count (λ v n. inner_octets l ts (form.Ref to) v) (contents_at M kid begin l ts (form.Ref to)) (no_reference l ts to) (λ X s x e. absurd cc)
+      never_codec AreOctets Nothing (Inner l ts (form.Ref to)) inner_count (λ v n. inner_octets l ts (form.Ref to) v) (contents_at M kid begin l ts (form.Ref to)) (no_reference l ts to) (λ X s x e. absurd cc)

@@ -12,7 +12,7 @@ use Rattle.asn_types.specs.declared.types.Component.{Component}
 use Rattle.asn_types.specs.declared.types.Form.{Form}
 use Rattle.asn_types.specs.declared.types.Form.TheVariants as form
 use Rattle.asn_types.specs.declared.types.TypeLabel.{TypeLabel}
-use Rattle.asn_types.specs.Bounds.{HasBounds, AreBounded, IsBounded}
+use Rattle.asn_types.specs.Bounds.{IsBounded}
 use Rattle.asn_types.specs.Modules.{AreWellFormed, IsModule}
 use Rattle.asn_types.specs.Parts.{parts_of}
 use Rattle.asn_types.specs.Refs.{resolve, IsOf}
@@ -23,7 +23,7 @@ use Rattle.codecs.specs.declared.spots.Spot.{Spot}
 use Rattle.codecs.specs.Reading.{◌>>=◌, Writer, stop_if, with_spot, moved, entered_at}
 use Rattle.codecs.specs.Codec.{most_nodes, Stands, Came, CodecBefore, Anything, Codec, Filling}
 use Rattle.codecs.specs.Sequences.{alternative_at, AlternativeFits, alternative_write, EachCodec}
-use Rattle.codecs.proofs.Codecs.{bind_ok, stop_ok, stop_not, ok_is, check_codec, tested_codec, other_words, other_reader, entered_codec}
+use Rattle.codecs.proofs.Codecs.{bind_ok, stop_ok, stop_not, ok_is, check_codec, tested_codec, other_words, other_reader, entered_codec, never_codec}
 use Rattle.codecs.proofs.Sequences.{cond_ok, cond_true, cond_false, stands_long}
 use Rattle.der_fields.specs.declared.stops.Stop.{Stop}
 use Rattle.der_fields.specs.declared.stops.Why.TheVariants.{Short, NotUtf8, NotAValue}
@@ -35,11 +35,13 @@ use Rattle.per_fields.specs.Levels.{levels_needed}
 use Rattle.per_fields.specs.Nodes.{is_no_text, most_deep}
 use Rattle.per_fields.specs.Owning.{owns, keeps}
 use Rattle.per_fields.proofs.Levels.{EachKid, each_both, NeedsFewer, levels-some, kids-need}
+use Rattle.per_fields.proofs.NodeLaws.{below_of}
+use Rattle.per_fields.proofs.Recursion.{bounds_of}
 use Rattle.per_fields.proofs.Owns.{owns_own, own_owns, keeps_kept, kept_keeps}
 use Rattle.der_form.specs.Encoding.{TaggedPlace, identifier, is_open, headed, wrapped, der}
 use Rattle.der_form.specs.Reading.{parts_from, unexpected, is_optional, starts, choice_at, contents_at, is_over, over, headed_at, owned_at, unkept_why, kept_at, part_at, node_at, node_read, root_at}
 use Rattle.der_form.proofs.Types.{of-tall, of-bounded, kids-of}
-use Rattle.der_form.proofs.Contents.{below_of, never_codec, FitKid, kid_write, IsKnown, FitPlaces, Inner, inner_octets, inner_count, alt_back, pair_of, choice_codec, chosen_count, heads_from, each_codec, contents_codec}
+use Rattle.der_form.proofs.Contents.{FitKid, kid_write, IsKnown, FitPlaces, Inner, inner_octets, inner_count, alt_back, pair_of, choice_codec, chosen_count, heads_from, each_codec, contents_codec}
 
 -- what begins where it is read
 module _ {A : Type 0} (Rest : List ℕ → Type 0) (V : A → Type 0) (w : A → ℕ) (write : A → Writer ℕ) (read : Spot → Octets A) where
@@ -261,9 +263,6 @@ part_codec M p depth tag read one =
     (λ v h. ((h.0, ap not (kept_keeps M p.part p.type v h.1)), refl, λ q. refl))
     (λ v h. (h.0, keeps_kept M p.part p.type v (not-false (keeps M p.part p.type v) h.1)))
 
-pub bounds_of : (t : Rose TypeLabel) → AreBounded t → HasBounds (label_of t).form
-bounds_of (node l ts) h = h.0
-
 -- too many elements stand in one another
 pub too_deep : (M : List Assignment) (kid : TaggedPlace → Octets (Rose ValueLabel)) (depth : ℕ) (tag : Option ℕ) (l : TypeLabel) (ts : List (Rose TypeLabel)) → 64 < depth → (X : List ℕ) (s : Spot) (x : Rose ValueLabel × Spot)
     → headed_at M kid depth tag l ts X s ≡ Ok x → ⊥
@@ -279,7 +278,7 @@ module _ (M : List Assignment) (is : IsModule M) (bounded : IsBounded M) where
   pub node_codec : (levels depth : ℕ) (tag : Option ℕ) (t : Rose TypeLabel) → IsOf M t → (depth ≤ 64 → levels_needed M depth t ≤ levels) → Codec AreOctets (FitsAt M depth t) node_count (λ v n. der M tag t v) (node_at M levels depth tag t)
   unfolding node_at
   node_codec zero depth tag t of enough =
-      never_codec Anything (FitsAt M depth t) node_count (λ v n. der M tag t v) (node_at M zero depth tag t)
+      never_codec AreOctets Anything (FitsAt M depth t) node_count (λ v n. der M tag t v) (node_at M zero depth tag t)
       (λ v h. let k = enough (fit_parts M depth (λ p X s. Err (stop_at s.at Short)) t v h).0 in absurd (omega (arith, k, levels-some M 4 t))) (λ X s x e. absurd cc)
   node_codec (suc levels) depth tag t of enough = at_depth (cases_lt 64 depth) (node_codec levels)
     where
@@ -290,7 +289,7 @@ module _ (M : List Assignment) (is : IsModule M) (bounded : IsBounded M) where
           → ((depth : ℕ) (tag : Option ℕ) (t : Rose TypeLabel) → IsOf M t → (depth ≤ 64 → levels_needed M depth t ≤ levels) → Codec AreOctets (FitsAt M depth t) node_count (λ v n. der M tag t v) (node_at M levels depth tag t))
           → Codec AreOctets (FitsAt M depth t) node_count (λ v n. der M tag t v) (node_at M (suc levels) depth tag t)
       at_depth (inl past) further =
-          never_codec Anything (FitsAt M depth t) node_count (λ v n. der M tag t v) (node_at M (suc levels) depth tag t) (λ v h. absurd (omega (arith, past, (fit_parts M depth kid t v h).0)))
+          never_codec AreOctets Anything (FitsAt M depth t) node_count (λ v n. der M tag t v) (node_at M (suc levels) depth tag t) (λ v h. absurd (omega (arith, past, (fit_parts M depth kid t v h).0)))
           (λ X s x e. let a = bind_ok _ _ x e in too_deep M kid depth tag (label_of (resolve M t)) (kids_of (resolve M t)) past X s a.0 a.1)
       at_depth (inr deep) further =
           let u = resolve M t in

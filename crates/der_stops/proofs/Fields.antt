@@ -10,6 +10,7 @@ use Rattle.asn_types.specs.declared.types.Form.{Form}
 use Rattle.codecs.specs.declared.spots.Spot.{Spot}
 use Rattle.codecs.specs.Reading.{◌>>=◌, moved, stop_if, with_spot, window_at, left_at}
 use Rattle.codecs.specs.Codec.{Came, Anything, Nothing}
+use Rattle.codecs.proofs.Lists.{all_take}
 use Rattle.codecs.proofs.Sequences.{cond_true, cond_false}
 use Rattle.codecs.proofs.Steps.{Iff, Told, Inside, err_is, stop_err, err_stop, err_later, none_stops, map_told, then_told}
 use Rattle.codecs.proofs.Told.{window_told}
@@ -18,7 +19,7 @@ use Rattle.der_fields.specs.declared.stops.Why.{Why}
 use Rattle.der_fields.specs.declared.stops.Why.TheVariants.{Short, NotShortest, Content, TooWide, Range}
 use Rattle.der_fields.specs.Octets.{length_octets, signed_octets, signed_value, are_nine_equal, is_not_shortest}
 use Rattle.der_fields.specs.Reading.{stop_at, AreOctets, Octets, raw_at, number_of, length_from, length_at, sized_at}
-use Rattle.der_fields.proofs.Fields.{length_field, take_octets}
+use Rattle.der_fields.proofs.Fields.{length_field}
 use Rattle.der_form.specs.Encoding.{item_number}
 use Rattle.der_form.specs.Reading.{leaf_of, bool_of, bool_at, whole_of, whole_at, int_of, int_at, item_with, item_of, item_at, enum_at}
 use Rattle.der_form.proofs.Numbers.{IsWhole, whole_codec, HasItems}
@@ -149,11 +150,11 @@ module _ {A : Type 0} (contents : Octets A) (C C' : List ℕ → Spot → Stop �
 
           on : ((length X < r.at + n) × (stop ≡ stop_at s.at Short)) ⊎ ((r.at + n ≤ length X) × (contents (take (r.at + n) X) r ≡ Err stop)) → Next C n r
           on (inl h) = inl h
-          on (inr h) = inr (h.0, (known (take (r.at + n) X) r (take_octets (r.at + n) X fine) (within h.0)).0 h.1)
+          on (inr h) = inr (h.0, (known (take (r.at + n) X) r (all_take (λ x. x < 256) (r.at + n) X fine) (within h.0)).0 h.1)
 
           off : Next C' n r → ((length X < r.at + n) × (stop ≡ stop_at s.at Short)) ⊎ ((r.at + n ≤ length X) × (contents (take (r.at + n) X) r ≡ Err stop))
           off (inl h) = inl h
-          off (inr h) = inr (h.0, (known (take (r.at + n) X) r (take_octets (r.at + n) X fine) (within h.0)).1 h.1)
+          off (inr h) = inr (h.0, (known (take (r.at + n) X) r (all_take (λ x. x < 256) (r.at + n) X fine) (within h.0)).1 h.1)
 
       told : Told ((length_at X s >>= λ n. window_at (stop_at s.at Short) n.0 contents X n.1) ≡ Err stop) (LeftStops X LengthFault s stop ⊎ Behind C) (LeftStops X LengthFault s stop ⊎ Behind C')
       told =

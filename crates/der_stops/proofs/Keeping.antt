@@ -1,61 +1,23 @@
 -- A part stops where its node stops, and where the node doesn't, but its default or fixed value isn't kept.
-use Rattle.std.proofs.Common.{◌≡◌, ℕ, Bool, true, false, cond, not, ◌&&◌, List, refl, sym, ap, Option, Some, None, Err, inl, inr, ◌⊎◌}
-use Rattle.std.proofs.lemmas.Bool.{and_parts, and_from}
-use Rattle.std.proofs.lemmas.Slice.Eq.{bytes_eq-Decides}
+use Rattle.std.proofs.Common.{◌≡◌, ℕ, Bool, true, false, cond, not, List, refl, Err, inl, inr, ◌⊎◌}
 use Rattle.label_tree.specs.Rose.{Rose, node_count}
 use Rattle.simple_types.specs.declared.labels.ValueLabel.{ValueLabel}
-use Rattle.simple_types.specs.declared.standards.Standard.{Standard}
-use Rattle.simple_types.specs.declared.standards.Standard.TheVariants.{Free, Default, Fixed}
 use Rattle.asn_types.specs.declared.modules.Assignment.{Assignment}
-use Rattle.asn_types.specs.Spaces.{spelling}
 use Rattle.asn_values.specs.Values.{ComponentPlace, below, FitsAt, Kept}
 use Rattle.codecs.specs.declared.spots.Spot.{Spot}
 use Rattle.codecs.specs.Reading.{◌>>=◌, stop_if, with_spot}
 use Rattle.codecs.specs.Codec.{Came, Anything, Codec}
-use Rattle.codecs.proofs.Steps.{Iff, Told, Inside, stop_err, err_stop, none_stops, then_told}
+use Rattle.codecs.proofs.Steps.{Iff, Told, Inside, stop_err, err_stop, none_stops, then_told, lacking}
 use Rattle.der_fields.specs.declared.stops.Stop.{Stop}
 use Rattle.der_fields.specs.declared.stops.Why.TheVariants.{DefaultWritten, NotAValue}
 use Rattle.der_fields.specs.Reading.{stop_at, AreOctets, Octets}
-use Rattle.per_fields.specs.Owning.{is_standard_by, is_standard, keeps}
-use Rattle.per_fields.proofs.Owns.{keeps_kept, kept_keeps}
+use Rattle.per_fields.specs.Owning.{keeps}
+use Rattle.per_fields.proofs.Standards.{is_default, default_told, unkept}
 use Rattle.der_form.specs.Encoding.{TaggedPlace, der}
 use Rattle.der_form.specs.Reading.{unkept_why, kept_at, part_at}
 use Rattle.der_stops.specs.Stopping.{IsDefault, StandardStops}
 
--- a test that means a fact
-pub lacking : (b : Bool) (P : Type 0) → Iff (b ≡ true) P → Iff (b ≡ false) (P → ⊥)
-lacking true P means = (λ e. absurd cc, λ n. absurd (n (means.0 refl)))
-lacking false P means = (λ e p. absurd (let f = means.1 p in cc), λ n. refl)
-
-pub no_fact : (b : Bool) → Iff (not b ≡ true) (b ≡ false)
-no_fact true = (λ e. absurd cc, λ e. absurd cc)
-no_fact false = (λ e. refl, λ e. refl)
-
-some_is : {A : Type 0} (x y : A) → Some x ≡ Some y → x ≡ y
-some_is x y e = cc
-
-standard_told : (spelled : List ℕ) (s : Standard) → Iff (is_standard_by spelled s ≡ true) (elim s as (λ _. Option (List ℕ)) [ Free ↦ None | Default text ↦ Some text | Fixed text ↦ Some text ] ≡ Some spelled)
-standard_told spelled Free = (λ e. absurd cc, λ e. absurd cc)
-standard_told spelled (Default text) = (λ e. ap Some (sym ((bytes_eq-Decides spelled text).0 e)), λ e. (bytes_eq-Decides spelled text).1 (sym (some_is text spelled e)))
-standard_told spelled (Fixed text) = (λ e. ap Some (sym ((bytes_eq-Decides spelled text).0 e)), λ e. (bytes_eq-Decides spelled text).1 (sym (some_is text spelled e)))
-
 module _ (M : List Assignment) (p : ComponentPlace) where
-  abbrev is_default : Rose ValueLabel → Bool
-  is_default v = p.part.optional && is_standard M p.part p.type v
-
-  default_told : (v : Rose ValueLabel) → Iff (is_default v ≡ true) (IsDefault M p v)
-  default_told v =
-      let s = standard_told (spelling M p.type v) p.part.standard in (
-        λ e. let k = and_parts p.part.optional (is_standard M p.part p.type v) e in (s.0 k.1, k.0),
-        λ h. and_from p.part.optional (is_standard M p.part p.type v) h.1 (s.1 h.0),
-      )
-
-  unkept : (v : Rose ValueLabel) → Iff (not (keeps M p.part p.type v) ≡ true) (Kept M p.part p.type v → ⊥)
-  unkept v =
-      let n = no_fact (keeps M p.part p.type v) in
-      let l = lacking (keeps M p.part p.type v) (Kept M p.part p.type v) (λ e. keeps_kept M p.part p.type v e, λ h. kept_keeps M p.part p.type v h) in
-      (λ e. l.0 (n.0 e), λ h. n.1 (l.1 h))
-
   -- the part begins at an octet
   abbrev Unkept : ℕ → Rose ValueLabel → Stop → Type 0
   Unkept begin v stop =
@@ -81,12 +43,12 @@ module _ (M : List Assignment) (p : ComponentPlace) where
 
       forth : stop_if (not (keeps M p.part p.type v)) (stop_at begin (unkept_why M p.part p.type v)) (with_spot v r) ≡ Err stop → Unkept begin v stop
       forth e = elim (stop_err (not (keeps M p.part p.type v)) (stop_at begin (unkept_why M p.part p.type v)) (with_spot v r) stop e) [
-        | inl h ↦ ((unkept v).0 h.0, reason (is_default v) (default_told v) h.1)
+        | inl h ↦ ((unkept M p v).0 h.0, reason (is_default M p v) (default_told M p v) h.1)
         | inr h ↦ none_stops {S = Stop} v r stop h.1
       ]
 
       back : Unkept begin v stop → stop_if (not (keeps M p.part p.type v)) (stop_at begin (unkept_why M p.part p.type v)) (with_spot v r) ≡ Err stop
-      back h = err_stop (not (keeps M p.part p.type v)) (stop_at begin (unkept_why M p.part p.type v)) stop (with_spot v r) ((unkept v).1 h.0) (again (is_default v) (default_told v) h.1)
+      back h = err_stop (not (keeps M p.part p.type v)) (stop_at begin (unkept_why M p.part p.type v)) stop (with_spot v r) ((unkept M p v).1 h.0) (again (is_default M p v) (default_told M p v) h.1)
 
 module _ (M : List Assignment) (p : TaggedPlace) (X : List ℕ) (fine : AreOctets X) where
   pub part_told : (depth : ℕ) (read : Octets (Rose ValueLabel)) → Codec AreOctets (FitsAt M (below p.place.role depth) p.place.type) node_count (λ v n. der M p.tag p.place.type v) read → (Kid Kid' : Type 0) (s : Spot) (stop : Stop)

@@ -24,7 +24,7 @@ use Rattle.codecs.specs.Reading.{◌>>=◌, moved, stop_if, with_spot, entered_a
 use Rattle.codecs.specs.Sequences.{alternative_at}
 use Rattle.codecs.proofs.Codecs.{same_spot}
 use Rattle.codecs.proofs.Sequences.{cond_true, cond_false}
-use Rattle.codecs.proofs.Steps.{Iff, Told, Inside, err_is, bind_err, err_bind, stop_err, err_stop, err_later, cond_err, none_stops, map_told, then_told}
+use Rattle.codecs.proofs.Steps.{Iff, Told, Inside, err_is, bind_err, err_bind, stop_err, err_stop, err_later, cond_err, none_stops, map_told, then_told, lacking, no_fact}
 use Rattle.codecs.proofs.Told.{AreTold, alternative_told}
 use Rattle.der_fields.specs.declared.stops.Stop.{Stop}
 use Rattle.der_fields.specs.declared.stops.Why.TheVariants.{Short, Tag, TooDeep, TooMany, NotUtf8, NotAValue}
@@ -35,16 +35,18 @@ use Rattle.per_fields.specs.Levels.{levels_needed}
 use Rattle.per_fields.specs.Nodes.{is_no_text, most_deep}
 use Rattle.per_fields.specs.Owning.{owns}
 use Rattle.per_fields.proofs.Levels.{EachKid, each_both, NeedsFewer, levels-some, kids-need}
+use Rattle.per_fields.proofs.NodeLaws.{below_of}
+use Rattle.per_fields.proofs.Recursion.{bounds_of}
 use Rattle.per_fields.proofs.Owns.{owns_own, own_owns}
 use Rattle.der_form.specs.Encoding.{TaggedPlace, tagged_place, identifier, is_open, wrapped, der}
 use Rattle.der_form.specs.Reading.{unexpected, is_optional, starts, parts_from, choice_of, choice_at, contents_at, is_over, over, headed_at, owned_at, part_at, node_read, start, root_at}
 use Rattle.der_form.proofs.Types.{of-tall, of-bounded, kids-of}
-use Rattle.der_form.proofs.Contents.{below_of, IsKnown, contents_codec}
-use Rattle.der_form.proofs.NodeLaws.{too_deep, In, octets_in, fit_some, der_is, count_is, headed_codec, part_codec, bounds_of, read_codec}
+use Rattle.der_form.proofs.Contents.{IsKnown, contents_codec}
+use Rattle.der_form.proofs.NodeLaws.{too_deep, In, octets_in, fit_some, der_is, count_is, headed_codec, part_codec, read_codec}
 use Rattle.der_form.proofs.Unfolding.{node_recursion}
 use Rattle.der_stops.specs.Stopping.{IsNoText, EntryStops, Enters, SizedStops, FitsPart, part_octets, PartStops, ChoiceStops, ContentStops, HeadedStops, ContentFits, RuleStops, NodeStops, RootStops}
 use Rattle.der_stops.proofs.Fields.{sized_told}
-use Rattle.der_stops.proofs.Keeping.{lacking, no_fact, part_told}
+use Rattle.der_stops.proofs.Keeping.{part_told}
 use Rattle.der_stops.proofs.Parts.{PartKnown, read_known, contents_told}
 
 -- WHAT A NODE ENTERS

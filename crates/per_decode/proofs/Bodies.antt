@@ -12,7 +12,7 @@ use Rattle.asn_types.specs.Modules.{AreWellFormed}
 use Rattle.asn_types.specs.Refs.{resolve, IsOf}
 use Rattle.asn_values.specs.Values.{Own}
 use Rattle.asn_types.proofs.Chaining.{well-formed, resolved-of-module}
-use Rattle.per_fields.specs.declared.stops.Spot.{Spot}
+use Rattle.codecs.specs.declared.spots.Spot.{Spot}
 use Rattle.per_fields.specs.declared.stops.Stop.{Stop}
 use Rattle.per_fields.specs.declared.stops.Why.TheVariants as why
 use Rattle.per_fields.specs.Reading.{◌>>=◌, stop_at, stop_if, octets_at}

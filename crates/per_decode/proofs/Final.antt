@@ -1,11 +1,11 @@
 -- What was read of the octets that a source began with, as the definitions of encodings and first stops have it.
-use Rattle.std.proofs.Common.{◌≡◌, ℕ, ◌+◌, ◌-◌, ◌*◌, ◌/◌, ◌<◌, ◌≤◌, Bool, true, false, cond, not, eqb, leb, List, [], ◌++◌, length, refl, sym, ap, ◌∙◌, subst, arith, take, drop, Option, Some, None, Result, Ok, Err, inl, inr}
+use Rattle.std.proofs.Common.{◌≡◌, ℕ, ◌+◌, ◌-◌, ◌*◌, ◌/◌, ◌<◌, ◌≤◌, Bool, true, false, cond, leb, List, [], ◌++◌, length, refl, sym, ap, ◌∙◌, subst, arith, take, drop, Option, Some, None, Result, Ok, Err, inl, inr}
 use Rattle.std.specs.Prelude.{slice_get, ◌&&◌}
 use Rattle.std.specs.Option.{option_map}
 use Rattle.std.proofs.lemmas.List.{length-take}
 use Rattle.std.proofs.Math.Seq.{take-add}
-use Rattle.std.proofs.lemmas.Bool.{cases_lt, ne_eqb, eq-eqb, eqb-true, not-false, le-leb, lt-leb}
-use Rattle.bit_cursor.specs.Bits.{bits, octet_bits, padding}
+use Rattle.std.proofs.lemmas.Bool.{le-leb, lt-leb}
+use Rattle.bit_cursor.specs.Bits.{octet_bits}
 use Rattle.bit_cursor.proofs.BitLemmas.{length-octet_bits, octet_bits-append}
 use Rattle.label_tree.specs.Rose.{Rose, node_count}
 use Rattle.simple_types.specs.declared.labels.ValueLabel.{ValueLabel}
@@ -13,20 +13,20 @@ use Rattle.asn_types.specs.declared.modules.Assignment.{Assignment}
 use Rattle.asn_types.specs.Refs.{body_at}
 use Rattle.asn_values.specs.Values.{FitsAt, In}
 use Rattle.asn_types.proofs.Inside.{body-well_formed}
-use Rattle.per_fields.specs.declared.stops.Spot.{Spot}
+use Rattle.codecs.specs.declared.spots.Spot.{Spot}
+use Rattle.codecs.proofs.Codecs.{bind_ok, ok_is}
 use Rattle.per_fields.specs.declared.stops.Stop.{Stop}
 use Rattle.per_fields.specs.declared.stops.Why.{Why}
 use Rattle.per_fields.specs.declared.stops.Why.TheVariants as why
-use Rattle.per_fields.specs.Reading.{◌>>=◌, stop_at, stop_if, bits_at}
+use Rattle.per_fields.specs.Reading.{◌>>=◌, stop_at}
 use Rattle.per_fields.specs.Codec.{Taken, Codec}
-use Rattle.per_fields.specs.Encoding.{per, completed, complete_of, complete_by}
+use Rattle.per_fields.specs.Encoding.{per, complete_of, complete_by}
 use Rattle.per_fields.specs.Levels.{levels_needed}
-use Rattle.per_fields.specs.Nodes.{node_at, start, last_by, last_at, whole_of}
+use Rattle.per_fields.specs.Nodes.{node_at, start, last_at, whole_of}
 use Rattle.per_fields.specs.Laws.{BeginsBy, reading_by}
-use Rattle.per_fields.proofs.Codecs.{bind_ok, stop_ok, ok_is, taken-then, align_field, takes-bits}
 use Rattle.per_fields.proofs.Levels.{body-tall}
 use Rattle.per_fields.proofs.Recursion.{body-bounded, node_codec}
-use Rattle.per_fields.proofs.Law.{not_both, one_value, whole_octets}
+use Rattle.per_fields.proofs.Law.{takes-last, not_both, one_value, whole_octets}
 use Rattle.per_stops.specs.Stopping.{StopsFirstBy}
 use Rattle.per_stops.proofs.Law.{stops_as_read}
 use Rattle.per_decode.specs.declared.errors.DecodeError.{DecodeError}
@@ -35,29 +35,6 @@ use Rattle.per_decode.specs.Answers.{Takes, fault_of, AnswersBy, Answer, is_shor
 use Rattle.per_decode.specs.Private.Giving.{Halt, stopped, short, too_long, failed, memory, error_of, spot, input, end_of, IsRead, FailsAt, Ended}
 use Rattle.per_decode.specs.Private.Bodies.{IsKnown, complete_at}
 use Rattle.per_decode.proofs.Origins.{is_told, contents}
-
--- the last padding
-takes-last : (X found : List Bool) (s : Spot) (z : ℕ × Spot) → Taken X 0 s.at found → last_at X s ≡ Ok z → Taken X 0 z.1.at (completed found)
-unfolding last_at completed
-takes-last X found s z h e =
-    let at : s.at ≡ length found = omega (arith, h.end) in
-    elim (cases_lt 0 s.at) [
-      | inl pos ↦ (
-          let a : eqb s.at 0 ≡ false = ne_eqb s.at 0 (omega arith) in
-          let b : eqb (length found) 0 ≡ false = ne_eqb (length found) 0 (omega (arith, pos, at)) in
-          let k = align_field.takes X s z h.inside (sym (ap (λ c. last_by c X s) a) ∙ e) in
-          rw b (taken-then X 0 s.at z.1.at found (padding (length found)) h (subst (λ n. Taken X s.at z.1.at (padding n)) at k.0.taken)))
-      | inr nothing ↦ (
-          let a : eqb s.at 0 ≡ true = eq-eqb s.at 0 (omega arith) in
-          let b : eqb (length found) 0 ≡ true = eq-eqb (length found) 0 (omega (arith, nothing, at)) in
-          let c = bind_ok (bits_at 0 8 X s) (λ z. stop_if (not (eqb z.0 0)) (stop_at 0 why.Padding z.1.at) (Ok z)) z (sym (ap (λ c. last_by c X s) a) ∙ e) in
-          let g = stop_ok (not (eqb c.0.0 0)) (stop_at 0 why.Padding c.0.1.at) (Ok c.0) z c.2 in
-          let k = takes-bits 0 8 X s c.0 c.1 in
-          let zz : s.at ≡ 0 = omega arith in
-          let nought : c.0.0 ≡ 0 = eqb-true c.0.0 0 (not-false (eqb c.0.0 0) g.0) in
-          let t : Taken X s.at c.0.1.at (bits 8 0) = subst (λ m. Taken X s.at c.0.1.at (bits 8 m)) nought k.0.taken in
-          rw b (subst (λ (y : ℕ × Spot). Taken X 0 y.1.at (bits 8 0)) (ok_is c.0 z g.1) (subst (λ n. Taken X n c.0.1.at (bits 8 0)) zz t)))
-    ]
 
 module _ (aligned : Bool) (M : List Assignment) (known : IsKnown M) (t : ℕ) (a : Assignment) (at : slice_get M t ≡ Some a) (assigned : t < length M) where
   body_is : body_at M t ≡ Some a.body
@@ -85,7 +62,7 @@ module _ (aligned : Bool) (M : List Assignment) (known : IsKnown M) (t : ℕ) (a
   begins X v r e =
       let one = bind_ok (node_at aligned M (levels_needed M 1 a.body) 1 a.body X start) (λ v. last_at X v.1 >>= λ z. Ok (v.0, z.1)) (v, r) e in
       let two = bind_ok (last_at X one.0.1) (λ z. Ok (one.0.0, z.1)) (v, r) one.2 in
-      let k = root_codec.takes X start one.0 (omega arith) one.1 in
+      let k = root_codec.takes X start one.0 tt (omega arith) one.1 in
       let l = takes-last X (per aligned M a.body one.0.0 0) one.0.1 two.0 k.0.taken two.1 in
       let same : (one.0.0, two.0.1) ≡ (v, r) = ok_is (one.0.0, two.0.1) (v, r) two.2 in
       let taken : Taken X 0 r.at (complete_of aligned M a.body v) = subst (λ (y : Rose ValueLabel × Spot). Taken X 0 y.1.at (complete_of aligned M a.body y.0)) same l in

@@ -9,7 +9,7 @@ use Rattle.simple_types.specs.declared.standards.Standard.TheVariants.{Free}
 use Rattle.asn_types.specs.declared.modules.Assignment.{Assignment}
 use Rattle.asn_types.specs.declared.types.TypeLabel.{TypeLabel}
 use Rattle.asn_values.specs.Values.{ComponentPlace, below}
-use Rattle.per_fields.specs.declared.stops.Spot.{Spot}
+use Rattle.codecs.specs.declared.spots.Spot.{Spot}
 use Rattle.per_fields.specs.declared.stops.Stop.{Stop}
 use Rattle.per_fields.specs.Reading.{◌>>=◌}
 use Rattle.per_fields.specs.Fields.{number_at, sized_at, counted_at, list_at}

@@ -8,7 +8,7 @@ use Rattle.asn_types.specs.declared.types.Component.{Component}
 use Rattle.asn_types.specs.declared.types.TypeLabel.{TypeLabel}
 use Rattle.asn_values.specs.Values.{ComponentPlace, place_of, put_first, present_from, below, FitsAt, FitEach, Kept}
 use Rattle.asn_values.proofs.Counting.{fit_none}
-use Rattle.per_fields.specs.declared.stops.Spot.{Spot}
+use Rattle.codecs.specs.declared.spots.Spot.{Spot}
 use Rattle.per_fields.specs.declared.stops.Stop.{Stop}
 use Rattle.per_fields.specs.Reading.{◌>>=◌, Reader, each_at}
 use Rattle.per_decode.specs.Private.Giving.{Halt, memory, end_of, FailsAt}

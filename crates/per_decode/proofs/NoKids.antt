@@ -16,7 +16,7 @@ use Rattle.asn_types.specs.Refs.{resolve, IsOf}
 use Rattle.asn_types.specs.Roles.{role_of}
 use Rattle.asn_values.specs.Values.{ComponentPlace, none_if, places_in, places, below, FitsAt, FitEach}
 use Rattle.asn_values.specs.Private.Placing.{FitPlaces}
-use Rattle.per_fields.specs.declared.stops.Spot.{Spot}
+use Rattle.codecs.specs.declared.spots.Spot.{Spot}
 use Rattle.per_fields.specs.Levels.{levels_needed}
 use Rattle.per_fields.specs.Reading.{◌>>=◌, moved}
 use Rattle.per_fields.specs.Nodes.{content_at, enter_by, owned_at, kept_at, node_read}

@@ -8,9 +8,10 @@ use Rattle.std.specs.Io.KnownBytes.{IsAtEnd}
 use Rattle.bit_cursor.specs.Bits.{bits, octet_bits}
 use Rattle.bit_cursor.specs.Cursors.{IsInStep, LosesFirst, ahead}
 use Rattle.bit_cursor.proofs.BitLemmas.{length-octet_bits, octet_bits-append}
-use Rattle.per_fields.specs.declared.stops.Spot.{Spot}
+use Rattle.codecs.specs.declared.spots.Spot.{Spot}
+use Rattle.codecs.proofs.Lists.{weighs_nothing}
 use Rattle.per_fields.specs.declared.stops.Why.TheVariants.{Short}
-use Rattle.per_fields.specs.Codec.{AllOf, Stands, total_of}
+use Rattle.per_fields.specs.Codec.{AllOf, Stands}
 use Rattle.per_fields.specs.Encoding.{octet_writer}
 use Rattle.per_fields.specs.Fields.{in_turn}
 use Rattle.per_fields.specs.Reading.{octets_at, stop_at, moved}
@@ -39,10 +40,6 @@ all_octets : (xs : List ℕ) → ((k : ℕ) → get_or xs k 0 < 256) → AllOf (
 all_octets [] h = tt
 all_octets (x ∷ xs) h = (h 0, all_octets xs (λ k. h (suc k)))
 
-pub nothing_weighs : (xs : List ℕ) → total_of (λ x. 0) xs ≡ 0
-nothing_weighs [] = refl
-nothing_weighs (x ∷ xs) = omega (arith, nothing_weighs xs)
-
 pub fails_octets : (n taken : ℕ) (X : List Bool) (s : Spot) → 8 * taken ≤ length X → 8 * taken < s.at + 8 * n → (8 * taken ≤ end_of (octets_at n X s) + 7) × (IsRead (octets_at n X s) → 8 * taken < end_of (octets_at n X s))
 unfolding octets_at
 fails_octets n taken X s h k =
@@ -66,8 +63,8 @@ module _ (n p t h l nodes limit : ℕ) (whole : List ℕ) (old : Option (List �
       sym (at.bits step) ∙ ap (λ m. ahead p t h m (drop t whole)) (sym same) ∙ came (drop t whole) at.rest ∙ ap (λ bs. bs ++ rest) (sym (run_octets xs p)) in
       let stands : Stands (input limit whole) p (in_turn (map octet_writer xs) p) rest = record { inside = omega (arith, length-input limit whole, at.inside, within, same, far); is = here } in
       let long : length (in_turn (map octet_writer xs) p) ≡ 8 * n = ap length (run_octets xs p) ∙ length-octet_bits xs ∙ ap (λ j. 8 * j) count in
-      (octets_codec n).again (input limit whole) rest (spot p nodes) xs (count, all_octets xs small) (omega (arith, nothing_weighs xs, few)) stands
-      ∙ ap (λ r. Ok (xs, r)) (same_spot _ _ _ _ (omega (arith, long, moved)) (omega (arith, nothing_weighs xs)))
+      (octets_codec n).again (input limit whole) rest (spot p nodes) xs tt (count, all_octets xs small) (omega (arith, weighs_nothing xs, few)) stands
+      ∙ ap (λ r. Ok (xs, r)) (same_spot _ _ _ _ (omega (arith, long, moved)) (omega (arith, weighs_nothing xs)))
 
   pub failed_octets : (t' l' : ℕ) (new : Option (List ℕ)) → l' ≡ l → t ≤ t' → t' ≤ l' → LosesFirst old new (t' - t) → t' < t + n
       → (8 * t' ≤ end_of (octets_at n (input limit whole) (spot p nodes)) + 7) × (IsRead (octets_at n (input limit whole) (spot p nodes)) → 8 * t' < end_of (octets_at n (input limit whole) (spot p nodes)))
@@ -131,8 +128,8 @@ module _ (n p t h l nodes limit : ℕ) (whole : List ℕ) (old : Option (List �
       ap (λ j. drop j (input limit whole)) begins ∙ octets-behind t limit whole (omega (arith, within, same)) at.inside ∙ parts ∙ ap (λ bs. bs ++ octet_bits (take m (drop n D))) (sym (run_octets xs p)) in
       let stands : Stands (input limit whole) p (in_turn (map octet_writer xs) p) (octet_bits (take m (drop n D))) = record { inside = omega (arith, length-input limit whole, at.inside, within, same, begins); is = here } in
       let long : length (in_turn (map octet_writer xs) p) ≡ 8 * n = ap length (run_octets xs p) ∙ length-octet_bits xs ∙ ap (λ j. 8 * j) count in
-      (octets_codec n).again (input limit whole) (octet_bits (take m (drop n D))) (spot p nodes) xs (count, all_octets xs small) (omega (arith, nothing_weighs xs, few)) stands
-      ∙ ap (λ r. Ok (xs, r)) (same_spot _ _ _ _ (omega (arith, long, moved)) (omega (arith, nothing_weighs xs)))
+      (octets_codec n).again (input limit whole) (octet_bits (take m (drop n D))) (spot p nodes) xs tt (count, all_octets xs small) (omega (arith, weighs_nothing xs, few)) stands
+      ∙ ap (λ r. Ok (xs, r)) (same_spot _ _ _ _ (omega (arith, long, moved)) (omega (arith, weighs_nothing xs)))
 
   pub at_behind : {A E : Type 0} (r : Result A E) (p' t' h' l' : ℕ) (new : Option (List ℕ)) → l' ≡ l → t ≤ t' → t' ≤ l' → h' ≡ h → OnOk r ((p' ≡ p + 8 * n) × (t' ≡ t + n)) → OnErr r (p' ≡ p) → LosesFirst old new (t' - t)
       → IsAt whole limit p' t' h' new

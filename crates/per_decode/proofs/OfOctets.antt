@@ -10,7 +10,7 @@ use Rattle.asn_types.specs.declared.modules.Assignment.{Assignment}
 use Rattle.asn_types.specs.declared.types.TypeLabel.{TypeLabel}
 use Rattle.asn_types.specs.Refs.{resolve, IsOf}
 use Rattle.asn_values.specs.Values.{Own}
-use Rattle.per_fields.specs.declared.stops.Spot.{Spot}
+use Rattle.codecs.specs.declared.spots.Spot.{Spot}
 use Rattle.per_fields.specs.declared.stops.Stop.{Stop}
 use Rattle.per_fields.specs.declared.stops.Why.TheVariants.{NotUtf8, NotAValue}
 use Rattle.per_fields.specs.Reading.{◌>>=◌, Reader, stop_at, stop_if, octets_at}

@@ -10,7 +10,7 @@ use Rattle.std.specs.Io.KnownBytes.{IsAtEnd}
 use Rattle.bit_cursor.specs.Bits.{bits, number, octet_bits, gap}
 use Rattle.bit_cursor.specs.Cursors.{IsInStep, LosesFirst, ahead}
 use Rattle.bit_cursor.proofs.BitLemmas.{length-octet_bits, length-bits, number-bits}
-use Rattle.per_fields.specs.declared.stops.Spot.{Spot}
+use Rattle.codecs.specs.declared.spots.Spot.{Spot}
 use Rattle.per_fields.specs.declared.stops.Why.TheVariants.{Short, Padding}
 use Rattle.per_fields.specs.Reading.{bits_at, align_at, stop_at, moved}
 use Rattle.per_decode.specs.Private.Standing.{IsAt}

@@ -1,7 +1,6 @@
 //! General lengths and the heads of fragments (X.691, clause 11.9).
 ghost use Rattle.std.specs.Prelude.{◌≡◌, ◌<◌, ◌≤◌, ◌++◌, OnOk, length};
-ghost use Rattle.per_fields.specs.Fields.{Last, Units, gap_bits, length_bits};
-ghost use Rattle.per_fields.specs.Private.Heads.{head_bits};
+ghost use Rattle.per_fields.specs.Fields.{Last, Units, gap_bits, head_bits, length_bits};
 
 use bit_cursor::BitSink;
 use per_fields::Variant;

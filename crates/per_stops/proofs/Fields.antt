@@ -1,25 +1,27 @@
 -- Each field stops where reading it stops.
-use Rattle.std.proofs.Common.{◌≡◌, ℕ, ◌+◌, ◌-◌, ◌*◌, ◌<◌, ◌≤◌, ◌^◌, Bool, true, false, cond, not, eqb, ltb, ◌&&◌, ◌||◌, List, [], ◌∷◌, length, refl, sym, ap, ◌∙◌, subst, arith, take, drop, Option, Some, None, Result, Ok, Err, inl, inr, ◌⊎◌, ℤ}
+use Rattle.std.proofs.Common.{◌≡◌, ℕ, ◌+◌, ◌-◌, ◌*◌, ◌<◌, ◌≤◌, ◌^◌, Bool, true, false, cond, not, eqb, ltb, ◌&&◌, ◌||◌, List, [], ◌∷◌, length, refl, sym, ap, ◌∙◌, arith, take, drop, Option, Some, None, Result, Ok, Err, inl, inr, ◌⊎◌, ℤ}
 use Rattle.std.proofs.lemmas.Bool.{cases_lt, lt-ltb, le-ltb, ltb-true, ltb-false, eqb-true, eqb-false, eq-eqb, ne_eqb}
 use Rattle.bit_cursor.specs.Bits.{bits, number, gap, padding}
 use Rattle.simple_values.specs.Lexical.{is_128_bits, is_to}
 use Rattle.asn_types.specs.declared.types.Component.{Component}
-use Rattle.per_fields.specs.declared.stops.Spot.{Spot}
+use Rattle.codecs.specs.declared.spots.Spot.{Spot}
+use Rattle.codecs.specs.Reading.{with_spot}
+use Rattle.codecs.proofs.Steps.{Iff, Inside, err_is, err_bind, stop_err, err_stop, err_later, none_stops, map_told, lacking, no_fact}
 use Rattle.per_fields.specs.declared.stops.Stop.{Stop}
 use Rattle.per_fields.specs.declared.stops.Why.{Why}
 use Rattle.per_fields.specs.declared.stops.Why.TheVariants.{Short, Padding, NotShortest, Range, TooWide}
 use Rattle.per_fields.specs.Widths.{width_of, more_of, distance, raised, more_signed, signed_of}
 use Rattle.per_fields.specs.Reading.{◌>>=◌, Reader, stop_at, moved, stop_if, bits_at, align_at, each_at}
-use Rattle.per_fields.specs.Fields.{then_bits, skip_at, gap_bits, length_bits, within_at, aligned_at, large_octets_at, large_at, number_at, Piece, Last, Units, length_from, length_here, is_out, count_here, count_at, octet_count_here, octet_count_at, from_octets_at, from_at, signed_octets_at, signed_at, ranged_at, whole_at}
-use Rattle.per_fields.specs.Codec.{Came, Field}
-use Rattle.per_fields.specs.Private.Heads.{piece_bits}
+use Rattle.per_fields.specs.Fields.{then_bits, skip_at, gap_bits, length_bits, within_at, aligned_at, large_octets_at, large_at, number_at, Piece, Last, Units, IsPiece, piece_bits, length_from, length_here, is_out, count_here, count_at, octet_count_here, octet_count_at, from_octets_at, from_at, signed_octets_at, signed_at, ranged_at, whole_at}
+use Rattle.per_fields.specs.Codec.{Came}
 use Rattle.per_fields.specs.Nodes.{flag_at, last_by, last_at}
-use Rattle.per_fields.proofs.Codecs.{align_field, with_spot, stop_ok, ok_is, check_codec, then_codec, other_words}
+use Rattle.per_fields.proofs.Codecs.{align_field}
 use Rattle.per_fields.proofs.WidthLaws.{width_fits}
-use Rattle.per_fields.proofs.NumberLaws.{within_field, skip_field}
-use Rattle.per_fields.proofs.Fragments.{IsPiece, length_field, count_field}
-use Rattle.per_stops.specs.Faults.{IsOne, IsAbove, FitsFewer, LargeFault, AboveFault, SignedFault, UnitsFault, CountFault, IsLength, length_octets, optional_count, AreBits, EndsWithin, BitsStop, PaddingStops, AlignedStops, GapStops, LargeStops, NumberStops, LengthStops, CountStops, OctetCountStops, OctetsStop, WholeStops, FlagsStop, LastStops}
-use Rattle.per_stops.proofs.Steps.{Iff, Inside, err_is, bind_err, err_bind, stop_err, err_stop, err_later, none_stops, then_told, bits_end, bits_then}
+use Rattle.per_fields.proofs.NumberLaws.{within_field}
+use Rattle.per_fields.proofs.Fragments.{length_field}
+use Rattle.per_fields.proofs.WholeLaws.{check_count, octet_count_field}
+use Rattle.per_stops.specs.Faults.{IsOne, IsAbove, FitsFewer, LargeFault, AboveFault, SignedFault, UnitsFault, CountFault, optional_count, AreBits, EndsWithin, BitsStop, PaddingStops, AlignedStops, GapStops, LargeStops, NumberStops, LengthStops, CountStops, OctetCountStops, OctetsStop, WholeStops, FlagsStop, LastStops}
+use Rattle.per_stops.proofs.Steps.{then_told, bits_end, bits_then}
 
 -- A TEST OF A NUMBER finds just the faults
 abbrev pub Finds : {B : Type 0} → (ℕ → Why → Type 0) → ℕ → (ℕ × Spot → Result B Stop) → Type 0
@@ -36,7 +38,7 @@ one_test b P why begin y r stop means = (forth, back)
     ]
 
     back : (w : Why) × (P × (w ≡ why)) × (stop ≡ stop_at begin w r.at) → stop_if b (stop_at begin why r.at) (with_spot y r) ≡ Err stop
-    back k = err_stop b (stop_at begin why r.at) (with_spot y r) (means.1 k.1.0) ∙ ap (λ w. Err (stop_at begin w r.at)) (sym k.1.1) ∙ ap Err (sym k.2)
+    back k = err_stop b (stop_at begin why r.at) stop (with_spot y r) (means.1 k.1.0) (k.2 ∙ ap (λ w. stop_at begin w r.at) k.1.1)
 
 pub two_tests : {B : Type 0} (b c : Bool) (P N Q : Type 0) (why worse : Why) (begin : ℕ) (y : B) (r : Spot) (stop : Stop) → Iff (b ≡ true) P → Iff (b ≡ false) N → Iff (c ≡ true) Q
     → Iff (stop_if b (stop_at begin why r.at) (stop_if c (stop_at begin worse r.at) (with_spot y r)) ≡ Err stop)
@@ -54,10 +56,10 @@ two_tests b c P N Q why worse begin y r stop means lacks also = (forth, back)
     ]
 
     by : (w : Why) → (P × (w ≡ why)) ⊎ (N × Q × (w ≡ worse)) → stop ≡ stop_at begin w r.at → stop_if b (stop_at begin why r.at) (stop_if c (stop_at begin worse r.at) (with_spot y r)) ≡ Err stop
-    by w (inl h) e = err_stop b (stop_at begin why r.at) (stop_if c (stop_at begin worse r.at) (with_spot y r)) (means.1 h.0) ∙ ap (λ w. Err (stop_at begin w r.at)) (sym h.1) ∙ ap Err (sym e)
+    by w (inl h) e = err_stop b (stop_at begin why r.at) stop (stop_if c (stop_at begin worse r.at) (with_spot y r)) (means.1 h.0) (e ∙ ap (λ w. stop_at begin w r.at) h.1)
     by w (inr h) e =
         err_later b (stop_at begin why r.at) stop (stop_if c (stop_at begin worse r.at) (with_spot y r)) (lacks.1 h.0)
-        (err_stop c (stop_at begin worse r.at) (with_spot y r) (also.1 h.1) ∙ ap (λ w. Err (stop_at begin w r.at)) (sym h.2) ∙ ap Err (sym e))
+        (err_stop c (stop_at begin worse r.at) stop (with_spot y r) (also.1 h.1) (e ∙ ap (λ w. stop_at begin w r.at) h.2))
 
     back : (w : Why) × ((P × (w ≡ why)) ⊎ (N × Q × (w ≡ worse))) × (stop ≡ stop_at begin w r.at) → stop_if b (stop_at begin why r.at) (stop_if c (stop_at begin worse r.at) (with_spot y r)) ≡ Err stop
     back k = by k.0 k.1 k.2
@@ -78,18 +80,6 @@ fewer more x = (λ e. parts (ltb 0 more) (ltb x (2 ^ (8 * more))) (ltb-true 0 mo
 
     joined : (a b : Bool) → a ≡ true → b ≡ true → (a && b) ≡ true
     joined a b e f = rw (e, f) refl
-
-pub lacking : (b : Bool) (P : Type 0) → Iff (b ≡ true) P → Iff (b ≡ false) (P → ⊥)
-lacking true P means = (λ e. absurd cc, λ n. absurd (n (means.0 refl)))
-lacking false P means = (λ e p. absurd (let f = means.1 p in cc), λ n. refl)
-
-pub no_fact : (b : Bool) → Iff (not b ≡ true) (b ≡ false)
-no_fact true = (λ e. absurd cc, λ e. absurd cc)
-no_fact false = (λ e. refl, λ e. refl)
-
--- what tells a value in another form never stops
-pub map_told : {A B : Type 0} (r : Result (A × Spot) Stop) (to : A → B) (stop : Stop) → Iff ((r >>= λ a. with_spot (to a.0) a.1) ≡ Err stop) (r ≡ Err stop)
-map_told r to stop = (λ e. elim (bind_err r (λ a. with_spot (to a.0) a.1) stop e) [ inl h ↦ h | inr k ↦ none_stops (to k.0.0) k.0.1 stop k.2 ], λ h. err_bind r (λ a. with_spot (to a.0) a.1) stop h)
 
 module _ (X : List Bool) where
   -- bits with a test behind them
@@ -173,7 +163,7 @@ module _ (X : List Bool) where
       told : Iff (within_at top (width_of top) X s ≡ Err stop) (BitsStop X (width_of top) (IsAbove top) s stop)
       told = within_told top (width_of top) s stop inside
 
-      by : (none : Bool) → (none ≡ true → top ≡ 0) → (none ≡ false → top ≡ 0 → ⊥) → Iff (cond none (with_spot {B = ℕ} 0 s) (within_at top (width_of top) X s) ≡ Err stop) (NumberStops X false top s stop)
+      by : (none : Bool) → (none ≡ true → top ≡ 0) → (none ≡ false → top ≡ 0 → ⊥) → Iff (cond none (with_spot {A = ℕ} 0 s) (within_at top (width_of top) X s) ≡ Err stop) (NumberStops X false top s stop)
       by true is_none some = (λ e. none_stops 0 s stop e, λ k. absurd (omega (arith, is_none refl, k.0)))
       by false is_none some = (λ e. (omega (arith, some refl), told.0 e), λ k. told.1 k.1)
   number_told true top s stop inside =
@@ -181,13 +171,13 @@ module _ (X : List Bool) where
       (λ e. ltb-true top 65536 e) (λ e. ltb-false top 65536 e)
     where
       read_by : Bool → Bool → Bool → Bool → Result (ℕ × Spot) Stop
-      read_by none few octet two = cond none (with_spot {B = ℕ} 0 s) (cond few (within_at top (width_of top) X s) (cond octet (aligned_at top 8 X s) (cond two (aligned_at top 16 X s) (large_at top X s))))
+      read_by none few octet two = cond none (with_spot {A = ℕ} 0 s) (cond few (within_at top (width_of top) X s) (cond octet (aligned_at top 8 X s) (cond two (aligned_at top 16 X s) (large_at top X s))))
 
       by : (none few octet two : Bool) → (none ≡ true → top ≡ 0) → (none ≡ false → top ≡ 0 → ⊥) → (few ≡ true → top < 255) → (few ≡ false → 255 ≤ top) → (octet ≡ true → top < 256) → (octet ≡ false → 256 ≤ top)
           → (two ≡ true → top < 65536) → (two ≡ false → 65536 ≤ top) → Iff (read_by none few octet two ≡ Err stop) (NumberStops X true top s stop)
       by true few octet two is_none some f f' o o' t t' = (λ e. none_stops 0 s stop e, back)
         where
-          back : NumberStops X true top s stop → with_spot {B = ℕ} 0 s ≡ Err stop
+          back : NumberStops X true top s stop → with_spot {A = ℕ} 0 s ≡ Err stop
           back (inl k) = absurd (omega (arith, is_none refl, k.0))
           back (inr (inl k)) = absurd (omega (arith, is_none refl, k.0))
           back (inr (inr (inl k))) = absurd (omega (arith, is_none refl, k.0))
@@ -321,111 +311,46 @@ module _ (X : List Bool) where
       back (inl (inr k)) = inr (k.0, k.2, k.3, inl (k.1, k.4, k.5))
       back (inr k) = inr (k.0, k.1, k.2, inr (k.3, k.4, k.5))
 
-  abbrev Weighs : ℕ → ℕ → Type 0
-  Weighs m n = m ≡ n
+  module _ (before : ℕ) (aligned : Bool) (least : ℕ) (most : Option ℕ) (total : ℕ) where
+    -- the length is read, but the count is outside
+    abbrev CountOut : Spot → Stop → Type 0
+    CountOut r stop = (n : Piece) × (q : Spot) × IsPiece before n × Came X r q (piece_bits n) 0 × (is_out least most total n ≡ true) × (stop ≡ stop_at r.at Range q.at)
 
-  module _ (before : ℕ) where
-    length_codec : Field (IsLength before) (λ n p. length_octets n) (length_here before)
-    length_codec = other_words (IsPiece before) (IsLength before) (λ n. 0) (λ n. 0) (λ n p. piece_bits n) (λ n p. length_octets n) (length_here before) (length_field before) to from
+    count_here_told : (s : Spot) (stop : Stop) → Inside X s → Iff (count_here least most before total X s ≡ Err stop) (LengthStops X before s stop ⊎ CountOut s stop)
+    unfolding count_here
+    count_here_told s stop inside = (λ e. forth (told.0 e), λ h. told.1 (back h))
       where
-        to : (n : Piece) → IsLength before n → IsPiece before n × Weighs 0 0 × ((p : ℕ) → length_octets n ≡ piece_bits n)
-        to (Last n) h = (h, refl, λ p. refl)
-        to (Units k) h = (h, refl, λ p. refl)
+        Rest : Piece → Spot → Type 0
+        Rest n q = (is_out least most total n ≡ true) × (stop ≡ stop_at s.at Range q.at)
 
-        from : (n : Piece) → IsPiece before n → IsLength before n
-        from (Last n) h = h
-        from (Units k) h = h
+        check : Piece × Spot → Result (Piece × Spot) Stop
+        check n = stop_if (is_out least most total n.0) (stop_at s.at Range n.1.at) (Ok n)
 
-    module _ (aligned : Bool) (least : ℕ) (most : Option ℕ) (total : ℕ) where
-      pub count_codec : Field (λ n. IsLength before n × (is_out least most total n ≡ false)) (λ n p. then_bits (gap_bits aligned p) (λ q. length_octets n) p) (count_at aligned least most before total)
-      count_codec =
-          other_words (λ n. IsPiece before n × (is_out least most total n ≡ false)) (λ n. IsLength before n × (is_out least most total n ≡ false)) (λ n. 0) (λ n. 0)
-          (λ n p. then_bits (gap_bits aligned p) (λ q. piece_bits n) p) (λ n p. then_bits (gap_bits aligned p) (λ q. length_octets n) p) (count_at aligned least most before total) (count_field aligned least most before total) to from
-        where
-          to : (n : Piece) → IsLength before n × (is_out least most total n ≡ false)
-              → (IsPiece before n × (is_out least most total n ≡ false)) × Weighs 0 0 × ((p : ℕ) → then_bits (gap_bits aligned p) (λ q. length_octets n) p ≡ then_bits (gap_bits aligned p) (λ q. piece_bits n) p)
-          to (Last n) h = (h, refl, λ p. refl)
-          to (Units k) h = (h, refl, λ p. refl)
+        tested : (n : Piece) (q : Spot) → Iff (stop_if (is_out least most total n) (stop_at s.at Range q.at) (with_spot n q) ≡ Err stop) (Rest n q)
+        tested n q = (
+          λ e. elim (stop_err (is_out least most total n) (stop_at s.at Range q.at) (with_spot n q) stop e) [ inl h ↦ h | inr h ↦ none_stops n q stop h.1 ],
+          λ h. err_stop (is_out least most total n) (stop_at s.at Range q.at) stop (with_spot n q) h.0 h.1,
+        )
 
-          from : (n : Piece) → IsPiece before n × (is_out least most total n ≡ false) → IsLength before n × (is_out least most total n ≡ false)
-          from (Last n) h = h
-          from (Units k) h = h
+        told : Iff ((length_here before X s >>= check) ≡ Err stop) (LengthStops X before s stop ⊎ ((n : Piece) × (q : Spot) × IsPiece before n × Came X s q (piece_bits n) 0 × Rest n q))
+        told = then_told X (IsPiece before) (λ n. 0) (λ n p. piece_bits n) (length_here before) (length_field before) check (LengthStops X before s stop) Rest s stop inside (length_told before s stop inside) (λ n q v in_. tested n q)
 
-      -- the length is read, but the count is outside
-      abbrev CountOut : Spot → Stop → Type 0
-      CountOut r stop = (n : Piece) × (q : Spot) × IsLength before n × Came X r q (length_octets n) 0 × (is_out least most total n ≡ true) × (stop ≡ stop_at r.at Range q.at)
+        forth : LengthStops X before s stop ⊎ ((n : Piece) × (q : Spot) × IsPiece before n × Came X s q (piece_bits n) 0 × Rest n q) → LengthStops X before s stop ⊎ CountOut s stop
+        forth (inl h) = inl h
+        forth (inr k) = inr (k.0, k.1, k.2, k.3, k.4.0, k.4.1)
 
-      count_here_told : (s : Spot) (stop : Stop) → Inside X s → Iff (count_here least most before total X s ≡ Err stop) (LengthStops X before s stop ⊎ CountOut s stop)
-      unfolding count_here
-      count_here_told s stop inside = (λ e. forth (told.0 e), λ h. told.1 (back h))
-        where
-          Rest : Piece → Spot → Type 0
-          Rest n q = (is_out least most total n ≡ true) × (stop ≡ stop_at s.at Range q.at)
+        back : LengthStops X before s stop ⊎ CountOut s stop → LengthStops X before s stop ⊎ ((n : Piece) × (q : Spot) × IsPiece before n × Came X s q (piece_bits n) 0 × Rest n q)
+        back (inl h) = inl h
+        back (inr k) = inr (k.0, k.1, k.2, k.3, (k.4, k.5))
 
-          check : Piece × Spot → Result (Piece × Spot) Stop
-          check n = stop_if (is_out least most total n.0) (stop_at s.at Range n.1.at) (Ok n)
-
-          tested : (n : Piece) (q : Spot) → Iff (stop_if (is_out least most total n) (stop_at s.at Range q.at) (with_spot n q) ≡ Err stop) (Rest n q)
-          tested n q = (
-            λ e. elim (stop_err (is_out least most total n) (stop_at s.at Range q.at) (with_spot n q) stop e) [ inl h ↦ h | inr h ↦ none_stops n q stop h.1 ],
-            λ h. err_stop (is_out least most total n) (stop_at s.at Range q.at) (with_spot n q) h.0 ∙ ap Err (sym h.1),
-          )
-
-          told : Iff ((length_here before X s >>= check) ≡ Err stop) (LengthStops X before s stop ⊎ ((n : Piece) × (q : Spot) × IsLength before n × Came X s q (length_octets n) 0 × Rest n q))
-          told = then_told X (IsLength before) (λ n. 0) (λ n p. length_octets n) (length_here before) length_codec check (LengthStops X before s stop) Rest s stop inside (length_told before s stop inside) (λ n q v in_. tested n q)
-
-          forth : LengthStops X before s stop ⊎ ((n : Piece) × (q : Spot) × IsLength before n × Came X s q (length_octets n) 0 × Rest n q) → LengthStops X before s stop ⊎ CountOut s stop
-          forth (inl h) = inl h
-          forth (inr k) = inr (k.0, k.1, k.2, k.3, k.4.0, k.4.1)
-
-          back : LengthStops X before s stop ⊎ CountOut s stop → LengthStops X before s stop ⊎ ((n : Piece) × (q : Spot) × IsLength before n × Came X s q (length_octets n) 0 × Rest n q)
-          back (inl h) = inl h
-          back (inr k) = inr (k.0, k.1, k.2, k.3, (k.4, k.5))
-
-      pub count_told : (s : Spot) (stop : Stop) → Inside X s → Iff (count_at aligned least most before total X s ≡ Err stop) (CountStops X aligned least most before total s stop)
-      unfolding count_at
-      count_told s stop inside =
-          gap_told aligned (λ r. count_here least most before total X r) (λ r stop. LengthStops X before r stop ⊎ CountOut r stop) s stop inside (λ r in_. count_here_told r stop in_)
+    pub count_told : (s : Spot) (stop : Stop) → Inside X s → Iff (count_at aligned least most before total X s ≡ Err stop) (CountStops X aligned least most before total s stop)
+    unfolding count_at
+    count_told s stop inside =
+        gap_told aligned (λ r. count_here least most before total X r) (λ r stop. LengthStops X before r stop ⊎ CountOut r stop) s stop inside (λ r in_. count_here_told r stop in_)
 
   -- WHOLE NUMBERS
-  abbrev check_count : Spot → Piece × Spot → Result (ℕ × Spot) Stop
-  check_count s n = elim n.0 [
-    | Last k ↦ stop_if (eqb k 0) (stop_at s.at Range n.1.at) (stop_if (ltb 16 k) (stop_at s.at TooWide n.1.at) (with_spot (k - 1) n.1))
-    | Units k ↦ Err (stop_at s.at TooWide n.1.at)
-  ]
-
-  octet_count_here_codec : Field (λ more. more < 16) (λ more p. length_bits (more + 1)) octet_count_here
-  unfolding octet_count_here
-  octet_count_here_codec =
-      check_codec (IsLength 4) (λ n. 0) (λ n p. length_octets n) (length_here 4) (λ more. more < 16) (λ more. Last (more + 1)) check_count (length_codec 4) pass back
-    where
-      pass : (s r : Spot) (more : ℕ) → more < 16 → IsLength 4 (Last (more + 1)) × (check_count s (Last (more + 1), r) ≡ Ok (more, r))
-      pass s r more lt =
-          (omega (arith, lt), rw (ne_eqb (more + 1) 0 (omega arith)) (rw (le-ltb 16 (more + 1) (omega (arith, lt))) (let e : more + 1 - 1 ≡ more = omega arith in ap (λ m. with_spot m r) e)))
-
-      back : (s : Spot) (x : Piece × Spot) (y : ℕ × Spot) → IsLength 4 x.0 → check_count s x ≡ Ok y → (y.0 < 16) × (Last (y.0 + 1) ≡ x.0) × (y.1 ≡ x.1)
-      back s x y v e = by x.0 x.1 e
-        where
-          by : (n : Piece) (r : Spot) → check_count s (n, r) ≡ Ok y → (y.0 < 16) × (Last (y.0 + 1) ≡ n) × (y.1 ≡ r)
-          by (Units k) r e = absurd cc
-          by (Last k) r e =
-              let g = stop_ok (eqb k 0) (stop_at s.at Range r.at) (stop_if (ltb 16 k) (stop_at s.at TooWide r.at) (with_spot (k - 1) r)) y e in
-              let h = stop_ok (ltb 16 k) (stop_at s.at TooWide r.at) (with_spot (k - 1) r) y g.1 in
-              let le : k ≤ 16 = ltb-false 16 k h.0 in
-              let some = eqb-false k 0 g.0 in
-              let is : k - 1 + 1 ≡ k = omega (arith, some) in
-              subst (λ (z : ℕ × Spot). (z.0 < 16) × (Last (z.0 + 1) ≡ Last k) × (z.1 ≡ r)) (ok_is (k - 1, r) y h.1) (omega (arith, le, some), ap Last is, refl)
-
-  octet_count_codec : (aligned : Bool) → Field (λ more. more < 16) (λ more p. then_bits (gap_bits aligned p) (λ q. length_bits (more + 1)) p) (octet_count_at aligned)
-  unfolding octet_count_at
-  octet_count_codec aligned =
-      then_codec (λ a. a ≡ 0) (λ a. 0) (λ a p. gap_bits aligned p) (skip_at aligned) (λ more. more < 16) (λ more. 0) (λ more q. length_bits (more + 1)) (λ a. octet_count_here) (λ more. 0)
-      (skip_field aligned) (λ more v. refl)
-      (λ a zero. other_words (λ more. more < 16) (λ more. (more < 16) × (0 ≡ a)) (λ more. 0) (λ more. 0) (λ more q. length_bits (more + 1)) (λ more q. length_bits (more + 1)) octet_count_here octet_count_here_codec
-      (λ more v. (v.0, refl, λ p. refl)) (λ more v. (v, sym zero)))
-
   abbrev CountBad : Spot → Stop → Type 0
-  CountBad r stop = (n : Piece) × (why : Why) × (q : Spot) × IsLength 4 n × Came X r q (length_octets n) 0 × CountFault n why × (stop ≡ stop_at r.at why q.at)
+  CountBad r stop = (n : Piece) × (why : Why) × (q : Spot) × IsPiece 4 n × Came X r q (piece_bits n) 0 × CountFault n why × (stop ≡ stop_at r.at why q.at)
 
   octet_count_here_told : (s : Spot) (stop : Stop) → Inside X s → Iff (octet_count_here X s ≡ Err stop) (LengthStops X 4 s stop ⊎ CountBad s stop)
   unfolding octet_count_here
@@ -448,14 +373,14 @@ module _ (X : List Bool) where
           again w (inl h) = inl h
           again w (inr h) = inr (λ e. omega (arith, e, h.0), h.0, h.1)
 
-      told : Iff ((length_here 4 X s >>= check_count s) ≡ Err stop) (LengthStops X 4 s stop ⊎ ((n : Piece) × (q : Spot) × IsLength 4 n × Came X s q (length_octets n) 0 × Rest n q))
-      told = then_told X (IsLength 4) (λ n. 0) (λ n p. length_octets n) (length_here 4) (length_codec 4) (check_count s) (LengthStops X 4 s stop) Rest s stop inside (length_told 4 s stop inside) (λ n q v in_. tested n q)
+      told : Iff ((length_here 4 X s >>= check_count s) ≡ Err stop) (LengthStops X 4 s stop ⊎ ((n : Piece) × (q : Spot) × IsPiece 4 n × Came X s q (piece_bits n) 0 × Rest n q))
+      told = then_told X (IsPiece 4) (λ n. 0) (λ n p. piece_bits n) (length_here 4) (length_field 4) (check_count s) (LengthStops X 4 s stop) Rest s stop inside (length_told 4 s stop inside) (λ n q v in_. tested n q)
 
-      forth : LengthStops X 4 s stop ⊎ ((n : Piece) × (q : Spot) × IsLength 4 n × Came X s q (length_octets n) 0 × Rest n q) → LengthStops X 4 s stop ⊎ CountBad s stop
+      forth : LengthStops X 4 s stop ⊎ ((n : Piece) × (q : Spot) × IsPiece 4 n × Came X s q (piece_bits n) 0 × Rest n q) → LengthStops X 4 s stop ⊎ CountBad s stop
       forth (inl h) = inl h
       forth (inr k) = inr (k.0, k.4.0, k.1, k.2, k.3, k.4.1, k.4.2)
 
-      back : LengthStops X 4 s stop ⊎ CountBad s stop → LengthStops X 4 s stop ⊎ ((n : Piece) × (q : Spot) × IsLength 4 n × Came X s q (length_octets n) 0 × Rest n q)
+      back : LengthStops X 4 s stop ⊎ CountBad s stop → LengthStops X 4 s stop ⊎ ((n : Piece) × (q : Spot) × IsPiece 4 n × Came X s q (piece_bits n) 0 × Rest n q)
       back (inl h) = inl h
       back (inr k) = inr (k.0, k.2, k.3, k.4, (k.1, k.5, k.6))
 
@@ -468,7 +393,7 @@ module _ (X : List Bool) where
       → ((more : ℕ) (r : Spot) → Inside X r → Iff (read more X r ≡ Err stop) (BitsStop X (8 * (more + 1)) (Fault more) r stop))
       → Iff ((octet_count_at aligned X s >>= λ more. read more.0 X more.1) ≡ Err stop) (OctetsStop X aligned Fault s stop)
   counted_told aligned Fault read s stop inside octets =
-      then_told X (λ more. more < 16) (λ more. 0) (λ more p. then_bits (gap_bits aligned p) (λ q. length_bits (more + 1)) p) (octet_count_at aligned) (octet_count_codec aligned) (λ more. read more.0 X more.1) (OctetCountStops X aligned s stop)
+      then_told X (λ more. more < 16) (λ more. 0) (λ more p. then_bits (gap_bits aligned p) (λ q. length_bits (more + 1)) p) (octet_count_at aligned) (octet_count_field aligned) (λ more. read more.0 X more.1) (OctetCountStops X aligned s stop)
       (λ more r. BitsStop X (8 * (more + 1)) (Fault more) r stop) s stop inside (octet_count_told aligned s stop inside) (λ more r lt in_. octets more r in_)
 
   from_octets_told : (least : ℤ) (more : ℕ) (s : Spot) (stop : Stop) → Inside X s → Iff (from_octets_at least more X s ≡ Err stop) (BitsStop X (8 * (more + 1)) (AboveFault least more) s stop)

@@ -4,19 +4,22 @@ use Rattle.std.proofs.lemmas.Bool.{lt-ltb, ltb-true}
 use Rattle.std.proofs.lemmas.List.{length-append}
 use Rattle.bit_cursor.specs.Bits.{octet_bits}
 use Rattle.bit_cursor.proofs.BitLemmas.{length-bits}
-use Rattle.per_fields.specs.declared.stops.Spot.{Spot}
+use Rattle.codecs.specs.declared.spots.Spot.{Spot}
+use Rattle.codecs.specs.Reading.{with_spot}
+use Rattle.codecs.proofs.Codecs.{other_words}
+use Rattle.codecs.proofs.Lists.{weighs_nothing}
+use Rattle.codecs.proofs.Steps.{Iff, Told, Inside, bind_err, err_bind, ok_bind, stop_err, err_stop, none_stops, map_told}
 use Rattle.per_fields.specs.declared.stops.Stop.{Stop}
 use Rattle.per_fields.specs.declared.stops.Why.TheVariants.{Short}
 use Rattle.per_fields.specs.Reading.{◌>>=◌, Reader, stop_at, moved, stop_if, octets_at, octets_from}
-use Rattle.per_fields.specs.Fields.{then_bits, gap_bits, in_turn, unit, Piece, Last, Units, items_of, is_out, count_at, fragments_at, counted_at}
-use Rattle.per_fields.specs.Codec.{Came, Field, AllOf, total_of}
+use Rattle.per_fields.specs.Fields.{gap_bits, in_turn, unit, Piece, Last, Units, IsPiece, piece_bits, head_bits, items_of, is_out, count_at, fragments_at, counted_at}
+use Rattle.per_fields.specs.Codec.{Came, Anything, Field, AllOf, total_of}
 use Rattle.per_fields.specs.Encoding.{octet_writer}
-use Rattle.per_fields.proofs.Codecs.{with_spot, other_words}
-use Rattle.per_fields.proofs.Fragments.{octets_codec, run_octets}
-use Rattle.per_stops.specs.Faults.{IsLength, length_octets, IsCount}
+use Rattle.per_fields.proofs.Fragments.{count_field, octets_codec, run_octets}
+use Rattle.per_stops.specs.Faults.{IsCount}
 use Rattle.per_stops.specs.Stopping.{FragmentsStop, CountedStop, OctetsStand, OctetsEnd}
-use Rattle.per_stops.proofs.Steps.{Iff, Told, Inside, bind_err, err_bind, ok_bind, stop_err, err_stop, none_stops, after, came, goes}
-use Rattle.per_stops.proofs.Fields.{map_told, count_codec, count_told}
+use Rattle.per_stops.proofs.Steps.{after, came, goes}
+use Rattle.per_stops.proofs.Fields.{count_told}
 
 module _ (aligned : Bool) (X : List Bool) {A : Type 0} (items : ℕ → Reader (List A)) (Stand : ℕ → Spot → Spot → Type 0) (SomeStops SomeStops' : ℕ → Spot → Stop → Type 0) where
   -- so many are read where they stand, and stop where one of them stops
@@ -34,13 +37,13 @@ module _ (aligned : Bool) (X : List Bool) {A : Type 0} (items : ℕ → Reader (
           | Units k ↦ items (k * unit) X r >>= λ a. fragments_at aligned least most items turns k (total + k * unit) X a.1 >>= λ b. with_spot (a.0 ++ b.0) b.1
         ]
 
-    forward : (n : Piece) (s r : Spot) → Came X s r (then_bits (gap_bits aligned s.at) (λ q. length_octets n) s.at) 0 → (k : ℕ) → n ≡ Units k → s.at < r.at
+    forward : (n : Piece) (s r : Spot) → Came X s r (head_bits aligned n s.at) 0 → (k : ℕ) → n ≡ Units k → s.at < r.at
     forward n s r c k e =
-        let l : length (then_bits (gap_bits aligned s.at) (λ q. length_octets n) s.at) ≡ length (gap_bits aligned s.at) + length (length_octets n) = length-append (gap_bits aligned s.at) (length_octets n) in
-        let o : length (length_octets n) ≡ 8 = ap (λ m. length (length_octets m)) e ∙ length-bits 8 (192 + k) in
+        let l : length (head_bits aligned n s.at) ≡ length (gap_bits aligned s.at) + length (piece_bits n) = length-append (gap_bits aligned s.at) (piece_bits n) in
+        let o : length (piece_bits n) ≡ 8 = ap (λ m. length (piece_bits m)) e ∙ length-bits 8 (192 + k) in
         omega (arith, c.taken.end, l, o)
 
-    is_count : (before total : ℕ) (s : Spot) (n : Piece) (r : Spot) → (IsLength before n × (is_out least most total n ≡ false)) × Came X s r (then_bits (gap_bits aligned s.at) (λ q. length_octets n) s.at) 0 → IsCount X aligned least most before total s n r
+    is_count : (before total : ℕ) (s : Spot) (n : Piece) (r : Spot) → (IsPiece before n × (is_out least most total n ≡ false)) × Came X s r (head_bits aligned n s.at) 0 → IsCount X aligned least most before total s n r
     is_count before total s n r c = (c.0.0, c.0.1, c.1)
 
     abbrev Stops : ℕ → ℕ → Spot → Stop → Type 0
@@ -53,11 +56,11 @@ module _ (aligned : Bool) (X : List Bool) {A : Type 0} (items : ℕ → Reader (
         elim (bind_err (count_at aligned least most before total X s) (λ n. behind turns total n.0 n.1) stop e) [
           | inl h ↦ ([], inl ((count_told X before aligned least most total s stop inside).0 h))
           | inr k ↦ (
-              let c = came X (λ n. IsLength before n × (is_out least most total n ≡ false)) (λ n. 0) (λ n p. then_bits (gap_bits aligned p) (λ q. length_octets n) p) (count_at aligned least most before total) (count_codec X before aligned least most total) s k.0.0 k.0.1 inside k.1 in
-              by k.0.0 k.0.1 c (after X s k.0.1 (then_bits (gap_bits aligned s.at) (λ q. length_octets k.0.0) s.at) 0 inside c.1) k.2 (stopped turns))
+              let c = came X (λ n. IsPiece before n × (is_out least most total n ≡ false)) (λ n. 0) (head_bits aligned) (count_at aligned least most before total) (count_field aligned least most before total) s k.0.0 k.0.1 inside k.1 in
+              by k.0.0 k.0.1 c (after X s k.0.1 (head_bits aligned k.0.0 s.at) 0 inside c.1) k.2 (stopped turns))
         ]
       where
-        by : (n : Piece) (r : Spot) → (IsLength before n × (is_out least most total n ≡ false)) × Came X s r (then_bits (gap_bits aligned s.at) (λ q. length_octets n) s.at) 0 → Inside X r → behind turns total n r ≡ Err stop
+        by : (n : Piece) (r : Spot) → (IsPiece before n × (is_out least most total n ≡ false)) × Came X s r (head_bits aligned n s.at) 0 → Inside X r → behind turns total n r ≡ Err stop
             → ((before total : ℕ) (s : Spot) (stop : Stop) → Inside X s → length X < s.at + turns → fragments_at aligned least most items turns before total X s ≡ Err stop → Stops before total s stop)
             → Stops before total s stop
         by (Last k) r c in_ e further = ([], inr (Last k, r, is_count before total s (Last k) r c, (are.told k r stop in_).0 e))
@@ -74,7 +77,7 @@ module _ (aligned : Bool) (X : List Bool) {A : Type 0} (items : ℕ → Reader (
 
     counts : (before total : ℕ) (s : Spot) (n : Piece) (r : Spot) → Inside X s → IsCount X aligned least most before total s n r → count_at aligned least most before total X s ≡ Ok (n, r)
     counts before total s n r inside c =
-        goes X (λ n. IsLength before n × (is_out least most total n ≡ false)) (λ n. 0) (λ n p. then_bits (gap_bits aligned p) (λ q. length_octets n) p) (count_at aligned least most before total) (count_codec X before aligned least most total) s n r inside (c.0, c.1) c.2
+        goes X (λ n. IsPiece before n × (is_out least most total n ≡ false)) (λ n. 0) (head_bits aligned) (count_at aligned least most before total) (count_field aligned least most before total) s n r inside (c.0, c.1) c.2
 
     stops : (turns : ℕ) (ks : List ℕ) (before total : ℕ) (s : Spot) (stop : Stop) → Inside X s → length X < s.at + turns → FragmentsStop aligned X Stand SomeStops' least most ks before total s stop
         → fragments_at aligned least most items turns before total X s ≡ Err stop
@@ -84,7 +87,7 @@ module _ (aligned : Bool) (X : List Bool) {A : Type 0} (items : ℕ → Reader (
         err_bind (count_at aligned least most before total X s) (λ n. behind turns total n.0 n.1) stop ((count_told X before aligned least most total s stop inside).1 h)
     stops (suc turns) [] before total s stop inside enough (inr k) =
         ok_bind (count_at aligned least most before total X s) (λ n. behind turns total n.0 n.1) (k.0, k.1) stop (counts before total s k.0 k.1 inside k.2)
-        (by k.0 k.1 (after X s k.1 (then_bits (gap_bits aligned s.at) (λ q. length_octets k.0) s.at) 0 inside k.2.2) k.3)
+        (by k.0 k.1 (after X s k.1 (head_bits aligned k.0 s.at) 0 inside k.2.2) k.3)
       where
         by : (n : Piece) (r : Spot) → Inside X r → SomeStops' (items_of n) r stop → behind turns total n r ≡ Err stop
         by (Last j) r in_ h = (are.told j r stop in_).1 h
@@ -93,7 +96,7 @@ module _ (aligned : Bool) (X : List Bool) {A : Type 0} (items : ℕ → Reader (
     stops (suc turns) (j ∷ ks) before total s stop inside enough k =
         let r = k.0 in
         let q = k.1 in
-        let in_r = after X s r (then_bits (gap_bits aligned s.at) (λ q. length_octets (Units j)) s.at) 0 inside k.2.2 in
+        let in_r = after X s r (head_bits aligned (Units j) s.at) 0 inside k.2.2 in
         let w = are.within (j * unit) r q in_r k.3 in
         let g = are.goes (j * unit) r q in_r k.3 in
         let rest = stops turns ks j (total + j * unit) q stop w.0 (omega (arith, enough, w.1, forward (Units j) s r k.2.2 j refl)) k.4 in
@@ -108,15 +111,11 @@ module _ (aligned : Bool) (X : List Bool) {A : Type 0} (items : ℕ → Reader (
     )
 
 -- THE OCTETS OF A TEXT
-none_weighs : (text : List ℕ) → 0 ≡ total_of (λ x. 0) text
-none_weighs [] = refl
-none_weighs (x ∷ xs) = omega (arith, none_weighs xs)
-
 text_codec : (n : ℕ) → Field (λ text. (length text ≡ n) × AllOf (λ x. x < 256) text) (λ text p. octet_bits text) (octets_at n)
 text_codec n =
-    other_words (λ text. (length text ≡ n) × AllOf (λ x. x < 256) text) (λ text. (length text ≡ n) × AllOf (λ x. x < 256) text) (total_of (λ x. 0)) (λ text. 0)
+    other_words Anything Anything (λ text. (length text ≡ n) × AllOf (λ x. x < 256) text) (λ text. (length text ≡ n) × AllOf (λ x. x < 256) text) (total_of (λ x. 0)) (λ text. 0)
     (λ text. in_turn (map octet_writer text)) (λ text p. octet_bits text) (octets_at n) (octets_codec n)
-    (λ text v. (v, none_weighs text, λ p. sym (run_octets text p))) (λ text v. v)
+    (λ text v. (v, sym (weighs_nothing text), λ p. sym (run_octets text p))) (λ text v. v)
 
 module _ (aligned : Bool) (X : List Bool) where
   octets_end : (n : ℕ) (s : Spot) (stop : Stop) → Iff (octets_at n X s ≡ Err stop) (OctetsEnd X n s stop)
@@ -131,8 +130,7 @@ module _ (aligned : Bool) (X : List Bool) where
 
       back : OctetsEnd X n s stop → stop_if (ltb (length X) (s.at + 8 * n)) (stop_at s.at Short (length X)) (with_spot (octets_from n (drop s.at X)) (moved s (8 * n) 0)) ≡ Err stop
       back h =
-          err_stop (ltb (length X) (s.at + 8 * n)) (stop_at s.at Short (length X)) (with_spot (octets_from n (drop s.at X)) (moved s (8 * n) 0)) (lt-ltb (length X) (s.at + 8 * n) h.0)
-          ∙ ap Err (sym h.1)
+          err_stop (ltb (length X) (s.at + 8 * n)) (stop_at s.at Short (length X)) stop (with_spot (octets_from n (drop s.at X)) (moved s (8 * n) 0)) (lt-ltb (length X) (s.at + 8 * n) h.0) h.1
 
   pub octets_read : AreRead aligned X octets_at (OctetsStand X) (OctetsEnd X) (OctetsEnd X)
   octets_read = record {

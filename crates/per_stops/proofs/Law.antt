@@ -8,14 +8,14 @@ use Rattle.asn_types.specs.declared.modules.Assignment.{Assignment}
 use Rattle.asn_types.specs.Bounds.{IsBounded}
 use Rattle.asn_types.specs.Modules.{IsModule}
 use Rattle.asn_types.proofs.Inside.{body-of}
-use Rattle.per_fields.specs.declared.stops.Spot.{Spot}
+use Rattle.codecs.specs.declared.spots.Spot.{Spot}
+use Rattle.codecs.proofs.Steps.{Iff}
 use Rattle.per_fields.specs.declared.stops.Stop.{Stop}
 use Rattle.per_fields.specs.Laws.{reading_by, StopsBy}
 use Rattle.per_fields.specs.Nodes.{whole_of}
 use Rattle.per_fields.proofs.Law as law
 use Rattle.per_stops.specs.Laws.{StopsAsReadBy, OneOfTwoBy}
 use Rattle.per_stops.specs.Stopping.{RootStops, StopsFirstBy}
-use Rattle.per_stops.proofs.Steps.{Iff}
 use Rattle.per_stops.proofs.Nodes.{root_told}
 
 some_assigned : (M : List Assignment) (t : ℕ) → t < length M → (a : Assignment) × (slice_get M t ≡ Some a)

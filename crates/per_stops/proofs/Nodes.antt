@@ -9,14 +9,16 @@ use Rattle.simple_types.specs.declared.labels.ValueLabel.{ValueLabel}
 use Rattle.simple_types.specs.declared.labels.ValueLabel.TheVariants as value
 use Rattle.asn_types.specs.declared.modules.Assignment.{Assignment}
 use Rattle.asn_types.specs.declared.types.TypeLabel.{TypeLabel}
-use Rattle.asn_types.specs.Bounds.{HasBounds, AreBounded, IsBounded}
+use Rattle.asn_types.specs.Bounds.{IsBounded}
 use Rattle.asn_types.specs.Modules.{AreWellFormed, IsModule}
 use Rattle.asn_types.specs.Parts.{parts_of}
 use Rattle.asn_types.specs.Refs.{resolve, IsOf}
 use Rattle.asn_values.specs.Values.{ComponentPlace, below, FitsAt, Own}
 use Rattle.asn_types.proofs.Chaining.{well-formed, has-four, resolved-of-module}
 use Rattle.asn_types.proofs.Inside.{form-well_formed}
-use Rattle.per_fields.specs.declared.stops.Spot.{Spot}
+use Rattle.codecs.specs.declared.spots.Spot.{Spot}
+use Rattle.codecs.specs.Reading.{with_spot}
+use Rattle.codecs.proofs.Steps.{Iff, Told, Inside, err_is, map_told, lacking, no_fact}
 use Rattle.per_fields.specs.declared.stops.Stop.{Stop}
 use Rattle.per_fields.specs.declared.stops.Why.{Why}
 use Rattle.per_fields.specs.declared.stops.Why.TheVariants.{TooDeep, TooMany, NotUtf8, NotAValue}
@@ -26,16 +28,15 @@ use Rattle.per_fields.specs.Encoding.{per}
 use Rattle.per_fields.specs.Levels.{levels_needed}
 use Rattle.per_fields.specs.Nodes.{content_at, part_at, is_no_text, owned_at, enter_by, entered_at, node_read, start, last_at, whole_of}
 use Rattle.per_fields.specs.Owning.{owns}
-use Rattle.per_fields.proofs.Codecs.{with_spot}
 use Rattle.per_fields.proofs.Levels.{EachKid, each_both, NeedsFewer, levels-some, kids-need}
 use Rattle.per_fields.proofs.NodeLaws.{below_of, AreOctets, KidCodec, Content, content_write, content_codec}
 use Rattle.per_fields.proofs.Owns.{owns_own, own_owns}
-use Rattle.per_fields.proofs.Recursion.{node_codec, part_codec}
+use Rattle.per_fields.proofs.Recursion.{bounds_of, node_codec, part_codec}
 use Rattle.per_fields.proofs.Unfolding.{node_recursion}
 use Rattle.per_stops.specs.Faults.{LastStops}
 use Rattle.per_stops.specs.Stopping.{IsNoText, HasOctets, EntryStops, Enters, ContentStops, PartsFit, RuleStops, NodeStops, RootStops}
-use Rattle.per_stops.proofs.Steps.{Iff, Told, Inside, err_is, then_both, then_told}
-use Rattle.per_stops.proofs.Fields.{two_tests, lacking, no_fact, map_told, last_told}
+use Rattle.per_stops.proofs.Steps.{then_both, then_told}
+use Rattle.per_stops.proofs.Fields.{two_tests, last_told}
 use Rattle.per_stops.proofs.Keeping.{part_told}
 use Rattle.per_stops.proofs.Parts.{IsKnown, content_told}
 use Rattle.per_stops.proofs.Types.{of-tall, of-bounded, kids-of, are-there}
@@ -81,9 +82,6 @@ no_text_told v = (λ e. absurd cc, λ h. absurd h)
 octets_same : (v : ValueLabel) → Iff (AreOctets v) (HasOctets v)
 octets_same (value.Utf8 text) = (λ h. h, λ h. h)
 octets_same v = (λ h. tt, λ h. tt)
-
-bounds_of : (t : Rose TypeLabel) → AreBounded t → HasBounds (label_of t).form
-bounds_of (node l ts) h = h.0
 
 module _ (aligned : Bool) (M : List Assignment) (is : IsModule M) (bounded : IsBounded M) (X : List Bool) where
   read_codec : (depth : ℕ) (t : Rose TypeLabel) → IsOf M t → Codec (FitsAt M depth t) node_count (per aligned M t) (node_read aligned M depth t)

@@ -13,7 +13,10 @@ use Rattle.asn_types.specs.Modules.{IsForm}
 use Rattle.asn_types.specs.Parts.{parts_of}
 use Rattle.asn_types.specs.Refs.{target}
 use Rattle.asn_values.specs.Values.{ComponentPlace, place_at, alone, present_from, below, FitsAt, Kept}
-use Rattle.per_fields.specs.declared.stops.Spot.{Spot}
+use Rattle.codecs.specs.declared.spots.Spot.{Spot}
+use Rattle.codecs.specs.Reading.{with_spot}
+use Rattle.codecs.proofs.Codecs.{bind_ok, ok_is}
+use Rattle.codecs.proofs.Steps.{Iff, Told, Inside, none_stops, map_told}
 use Rattle.per_fields.specs.declared.stops.Stop.{Stop}
 use Rattle.per_fields.specs.Reading.{◌>>=◌, Reader, bits_at, octets_at, each_at}
 use Rattle.per_fields.specs.Fields.{number_bits, number_at, whole_at, counted_at, sized_at, list_at}
@@ -21,14 +24,13 @@ use Rattle.per_fields.specs.Codec.{Came}
 use Rattle.per_fields.specs.Encoding.{flag_bits, per}
 use Rattle.per_fields.specs.Laws.{Present}
 use Rattle.per_fields.specs.Nodes.{leaf_of, bool_at, int_at, enum_at, text_at, flag_at, node_of, kids_at, sequence_at, choice_at, items_at, content_at}
-use Rattle.per_fields.proofs.Codecs.{bind_ok, ok_is, with_spot}
 use Rattle.per_fields.proofs.NumberLaws.{number_field}
 use Rattle.per_fields.proofs.Levels.{Each, EachKid, IfPlaces, IfPlace, present-each, kid-each, alone-each, copies-each}
 use Rattle.per_fields.proofs.NodeLaws.{KidCodec, flags_field}
 use Rattle.per_stops.specs.Faults.{NumberStops, FlagsStop}
 use Rattle.per_stops.specs.Stopping.{OctetsStand, OctetsEnd, StandardStops, ValuesStand, PartStops, IfPartStops, ItemsCounted, ItemsNumbered, ItemsStop, ContentStops}
-use Rattle.per_stops.proofs.Steps.{Iff, Told, Inside, none_stops, after, came, goes, then_both, bits_end}
-use Rattle.per_stops.proofs.Fields.{map_told, number_told, whole_told, flags_told}
+use Rattle.per_stops.proofs.Steps.{after, came, goes, then_both, bits_end}
+use Rattle.per_stops.proofs.Fields.{number_told, whole_told, flags_told}
 use Rattle.per_stops.proofs.Fragments.{AreRead, counted, octets_read}
 
 -- the parts of a type with this form are there

@@ -4,14 +4,14 @@ use Rattle.std.specs.Prelude.{◌≡◌, ℕ, ◌+◌, ◌-◌, ◌*◌, ◌^◌
 use Rattle.bit_cursor.specs.Bits.{bits, gap, padding}
 use Rattle.simple_values.specs.Lexical.{is_128_bits, is_to}
 use Rattle.asn_types.specs.declared.types.Component.{Component}
-use Rattle.per_fields.specs.declared.stops.Spot.{Spot}
+use Rattle.codecs.specs.declared.spots.Spot.{Spot}
 use Rattle.per_fields.specs.declared.stops.Stop.{Stop}
 use Rattle.per_fields.specs.declared.stops.Why.{Why}
 use Rattle.per_fields.specs.declared.stops.Why.TheVariants.{Short, Padding, NotShortest, Range, TooWide}
 use Rattle.per_fields.specs.Widths.{width_of, more_of, distance, raised, more_signed, signed_of}
 use Rattle.per_fields.specs.Reading.{stop_at}
 use Rattle.per_fields.specs.Codec.{Came}
-use Rattle.per_fields.specs.Fields.{then_bits, gap_bits, length_bits, Piece, Last, Units, is_out}
+use Rattle.per_fields.specs.Fields.{then_bits, gap_bits, length_bits, Piece, Last, Units, IsPiece, piece_bits, head_bits, is_out}
 
 -- THE NUMBERS THAT HAVE A FAULT, and why
 
@@ -49,16 +49,6 @@ UnitsFault before x why = (192 ≤ x) × (((before < 4) × (why ≡ NotShortest)
 abbrev pub CountFault : Piece → Why → Type 0
 CountFault (Last k) why = ((k ≡ 0) × (why ≡ Range)) ⊎ ((16 < k) × (why ≡ TooWide))
 CountFault (Units k) why = why ≡ TooWide
-
--- a length below 16,384, or 1 to 4 units, of which another fragment may only follow 4
-abbrev pub IsLength : ℕ → Piece → Type 0
-IsLength before (Last n) = n < 16384
-IsLength before (Units k) = (0 < k) × (k ≤ 4) × (4 ≤ before)
-
--- in one octet, or in two
-abbrev pub length_octets : Piece → List Bool
-length_octets (Last n) = length_bits n
-length_octets (Units k) = bits 8 (192 + k)
 
 -- how many presence bits there are
 abbrev pub optional_count : List Component → ℕ
@@ -120,19 +110,19 @@ module _ (X : List Bool) where
   CountStops aligned least most before total s stop =
       GapStops aligned (λ r stop.
       LengthStops before r stop
-      ⊎ ((n : Piece) × (q : Spot) × IsLength before n × Came X r q (length_octets n) 0 × (is_out least most total n ≡ true) × (stop ≡ stop_at r.at Range q.at))) s stop
+      ⊎ ((n : Piece) × (q : Spot) × IsPiece before n × Came X r q (piece_bits n) 0 × (is_out least most total n ≡ true) × (stop ≡ stop_at r.at Range q.at))) s stop
 
   -- and such a count stands here
   abbrev pub IsCount : Bool → ℕ → Option ℕ → ℕ → ℕ → Spot → Piece → Spot → Type 0
   IsCount aligned least most before total s n r =
-      IsLength before n × (is_out least most total n ≡ false) × Came X s r (then_bits (gap_bits aligned s.at) (λ q. length_octets n) s.at) 0
+      IsPiece before n × (is_out least most total n ≡ false) × Came X s r (head_bits aligned n s.at) 0
 
   -- WHOLE NUMBERS (clauses 13.2 and 11.4 to 11.8). The length of a number:
   abbrev pub OctetCountStops : Bool → Spot → Stop → Type 0
   OctetCountStops aligned s stop =
       GapStops aligned (λ r stop.
       LengthStops 4 r stop
-      ⊎ ((n : Piece) × (why : Why) × (q : Spot) × IsLength 4 n × Came X r q (length_octets n) 0 × CountFault n why × (stop ≡ stop_at r.at why q.at))) s stop
+      ⊎ ((n : Piece) × (why : Why) × (q : Spot) × IsPiece 4 n × Came X r q (piece_bits n) 0 × CountFault n why × (stop ≡ stop_at r.at why q.at))) s stop
 
   -- its length, or the number itself, in one octet and so many more
   abbrev pub OctetsStop : Bool → (ℕ → ℕ → Why → Type 0) → Spot → Stop → Type 0

@@ -16,7 +16,7 @@ use Rattle.asn_types.specs.declared.types.TypeLabel.{TypeLabel}
 use Rattle.asn_types.specs.Refs.{resolve}
 use Rattle.asn_types.specs.Spaces.{spelling}
 use Rattle.asn_values.specs.Values.{ComponentPlace, place_at, alone, present_from, places, below, FitsAt, FitEach, Own, Kept}
-use Rattle.per_fields.specs.declared.stops.Spot.{Spot}
+use Rattle.codecs.specs.declared.spots.Spot.{Spot}
 use Rattle.per_fields.specs.declared.stops.Stop.{Stop}
 use Rattle.per_fields.specs.declared.stops.Why.TheVariants.{TooDeep, TooMany, NotUtf8, DefaultWritten, NotAValue}
 use Rattle.per_fields.specs.Reading.{stop_at, moved}

@@ -13,7 +13,7 @@ use Rattle.asn_types.specs.Bounds.{IsBounded}
 use Rattle.asn_types.specs.Modules.{IsModule}
 use Rattle.asn_values.specs.Values as values
 use Rattle.asn_values.specs.Values.{ComponentPlace, FitEach, FitsAt, place_at}
-use Rattle.per_fields.specs.declared.stops.Spot.{Spot}
+use Rattle.codecs.specs.declared.spots.Spot.{Spot}
 use Rattle.per_fields.specs.declared.stops.Stop.{Stop}
 use Rattle.per_fields.specs.Reading.{◌>>=◌, Reader, each_at}
 use Rattle.per_fields.specs.Nodes.{content_at, kept_at, part_at, owned_at, node_read, nothing_at, last_at}

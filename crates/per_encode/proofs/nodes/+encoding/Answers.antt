@@ -12,8 +12,7 @@ use Rattle.simple_types.specs.declared.labels.ValueLabel.TheVariants as value
 use Rattle.simple_values.specs.Lexical.{is_at_most}
 use Rattle.asn_types.specs.declared.types.Form.TheVariants as form
 use Rattle.per_fields.specs.Codec.{AllOf}
-use Rattle.per_fields.specs.Private.Heads.{head_bits}
-use Rattle.per_fields.specs.Fields.{Last, units_of, in_turn, number_bits, whole_bits, counted_bits, list_bits}
+use Rattle.per_fields.specs.Fields.{Last, head_bits, units_of, in_turn, number_bits, whole_bits, counted_bits, list_bits}
 use Rattle.per_fields.specs.Encoding.{octet_writer, flag_bits, per}
 use Rattle.per_encode.specs.Private.Kids.{FitsSomewhere, AllFit, KidsFit, chosen, writers, resolved_bits}
 use Rattle.per_encode.proofs.Puts.{on_ok, then_written, turn_taken, nothing_left, fragment_taken, last_taken}
