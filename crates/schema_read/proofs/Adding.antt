@@ -1,18 +1,10 @@
 -- The components of the children of `schema` one after the other.
 use Rattle.std.proofs.Common.{◌≡◌, ℕ, true, ◌<◌, ◌≤◌, ◌+◌, List, ◌∷◌, ◌++◌, length, map, drop, get_or, ap, sym, ◌∙◌, append_assoc}
-use Rattle.std.proofs.lemmas.List.{append-nil, drop_all, drop_more}
-use Rattle.label_tree.specs.Rose.{Rose, label_of}
-use Rattle.item_tree.specs.declared.label.ItemLabel.{ItemLabel}
-use Rattle.item_tree.specs.declared.label.ItemLabel.TheVariants.{Element}
-use Rattle.xa_base.specs.declared.texts.Name.{Name}
-use Rattle.schema_rules.specs.Elements.{is_schema_name}
-use Rattle.schema_rules.specs.Attributes.{own_attributes}
-use Rattle.schema_parts.specs.Seen.{element_of, attribute_of, type_of, local_of}
-use Rattle.schema_read.specs.declared.globals.Globals.{Globals}
-use Rattle.schema_read.specs.Settings.{Settings}
-use Rattle.schema_read.specs.Raw.{Parts, no_parts, and_parts, parts_named, parts_by, parts_among, Adds, Are}
+use Rattle.schema_read.proofs.Words.{append-nil, drop_all, drop_more, Rose, label_of, ItemLabel, Element, Name, is_schema_name, own_attributes, Attribute, TypeDefinition, Local, Document, element_of, attribute_of, type_of, local_of, Globals, Settings, Parts, no_parts, parts_named, parts_by, parts_among, document_with, Adds, Are, cond-true}
+use Rattle.schema_parts.specs.Raw as raw
+use Rattle.schema_parts.specs.Parts.{parts_of}
+use Rattle.schema_read.specs.Raw.{and_parts}
 use Rattle.schema_read.proofs.Making.{length_after}
-use Rattle.schema_read.proofs.Simple.{if_true}
 
 -- what is added so far, and the parts of the rest, are all
 pub record PartsAhead (so_far : Globals) (rest all : Parts) : Type 0 where
@@ -74,4 +66,18 @@ its_parts said outer n t name attributes declares at m o d label is names owns s
     ∙ (ap (λ x. parts_named said outer n name.local x (d ++ outer) at t) owns
     ∙ (ap (λ x. parts_named said outer n name.local (own_attributes attributes) (x ++ outer) at t) scopes
     ∙ sym (ap (λ l. parts_by said outer n l t) label
-    ∙ if_true (is_schema_name name) (parts_named said outer n name.local (own_attributes attributes) (declares ++ outer) at t) no_parts is)))
+    ∙ cond-true (is_schema_name name) (parts_named said outer n name.local (own_attributes attributes) (declares ++ outer) at t) no_parts is)))
+
+-- the document of these parts
+pub same_document : (file : ℕ) (target : List ℕ) (globals : Globals) (counted : List ℕ) (p : Parts) → Are globals p
+    → parts_of file target globals.elements.items globals.attributes.items globals.types.items globals.locals.items counted ≡ document_with file target counted p
+same_document file target globals counted p are =
+    let whole : List raw.Element → List Attribute → List TypeDefinition → List Local → Document = λ elements attributes types declared.
+    record { file = file; target = target; elements = elements; attributes = attributes; types = types; locals = declared; counted = counted } in
+    let attributes = map attribute_of globals.attributes.items in
+    let types = map type_of globals.types.items in
+    let declared = map local_of globals.locals.items in
+    ap (λ x. whole x attributes types declared) are.elements_are
+    ∙ (ap (λ x. whole p.elements x types declared) are.attributes_are
+    ∙ (ap (λ x. whole p.elements p.attributes x declared) are.types_are
+    ∙ ap (λ x. whole p.elements p.attributes p.types x) are.locals_are))

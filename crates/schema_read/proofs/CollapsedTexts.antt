@@ -1,45 +1,29 @@
 -- A text of XML characters is one when it is collapsed, too.
-use Rattle.std.proofs.Common.{◌≡◌, ℕ, ◌<◌, true, List, [], ◌∷◌, ◌++◌, length, take, drop, get_or, refl, ap, sym, ◌∙◌, subst, arith, append_assoc, append-nil}
-use Rattle.std.specs.Prelude.{◌&&◌, filter, IsUtf8}
-use Rattle.std.specs.List.{list_all, slice_split, onto_first, join_with_byte}
-use Rattle.std.specs.Str.{IsCharBoundary, chars, is_utf8}
-use Rattle.std.proofs.lemmas.Bool.{and_parts, cond_both}
-use Rattle.std.proofs.lemmas.List.Folds.{list_all-append}
-use Rattle.std.proofs.lemmas.Str.{chars-append, chars_past_char, encode_ascii, IsUtf8-take, IsUtf8-drop, IsUtf8-from_is_utf8, IsCharBoundary-before_ascii, IsCharBoundary-after_ascii}
+use Rattle.std.proofs.Common.{◌≡◌, ℕ, ◌<◌, true, List, [], ◌∷◌, ◌++◌, length, take, drop, get_or, refl, ap, sym, ◌∙◌, subst, arith, append_assoc, append-nil, ◌&&◌, filter, IsUtf8}
+use Rattle.schema_read.proofs.Words.{list_all, slice_split, onto_first, join_with_byte, IsCharBoundary, and_parts, cond_both, take-append_seam, drop-append_seam, get_or-append_seam, has_xml_chars, is_white_space, has_bytes, Collapse}
+use Rattle.std.specs.Str.{chars, is_utf8}
 use Rattle.std.proofs.Math.Utf8.{encode}
 use Rattle.xa_base.specs.Characters.{is_xml_char}
-use Rattle.xa_base.specs.Limits.{has_xml_chars}
-use Rattle.xa_base.specs.WhiteSpace.{is_white_space, has_bytes, words_of, treated}
-use Rattle.xa_base.specs.declared.white_space.WhiteSpace.TheVariants.{Collapse}
+use Rattle.xa_base.specs.WhiteSpace.{words_of, treated}
+use Rattle.std.proofs.lemmas.List.Folds.{list_all-append}
+use Rattle.std.proofs.lemmas.Str.{chars-append, chars_past_char, encode_ascii, IsUtf8-take, IsUtf8-drop, IsUtf8-from_is_utf8, IsCharBoundary-before_ascii, IsCharBoundary-after_ascii}
 use Rattle.xa_base.proofs.FirstWord.{white_space-ascii}
 use Rattle.doc_text.proofs.Keeping.{IsFine, fine_chars, nothing_fine, fine-append}
 use Rattle.schema_read.proofs.FaultlessRoles.{Each}
 
 -- ---- what stands before an ASCII byte, and behind it
 
-at_end : (x r : List ℕ) (b : ℕ) → get_or (x ++ b ∷ r) (length x) 0 ≡ b
-at_end [] r b = refl
-at_end (a ∷ x) r b = at_end x r b
-
 below_end : (x r : List ℕ) (b : ℕ) → length x < length (x ++ b ∷ r)
 below_end [] r b = omega arith
 below_end (a ∷ x) r b = let h = below_end x r b in omega (arith, h)
 
-take_end : (x r : List ℕ) → take (length x) (x ++ r) ≡ x
-take_end [] r = refl
-take_end (a ∷ x) r = ap (λ y. a ∷ y) (take_end x r)
-
-drop_end : (x r : List ℕ) → drop (length x) (x ++ r) ≡ r
-drop_end [] r = refl
-drop_end (a ∷ x) r = drop_end x r
-
 both_fine : (x r : List ℕ) (b : ℕ) → b < 128 → IsFine (x ++ b ∷ r) → IsFine x × IsFine r
 both_fine x r b below h =
     let whole = x ++ b ∷ r in
-    let low : get_or whole (length x) 0 < 128 = rw (at_end x r b) below in
+    let low : get_or whole (length x) 0 < 128 = rw (get_or-append_seam x b r 0) below in
     let cut : IsCharBoundary whole (length x) = IsCharBoundary-before_ascii whole (length x) (below_end x r b) low in
-    let ux : IsUtf8 x = subst IsUtf8 (take_end x (b ∷ r)) (IsUtf8-take whole (length x) h.utf8 cut) in
-    let us : IsUtf8 (b ∷ r) = subst IsUtf8 (drop_end x (b ∷ r)) (IsUtf8-drop whole (length x) h.utf8 cut) in
+    let ux : IsUtf8 x = subst IsUtf8 (take-append_seam x (b ∷ r)) (IsUtf8-take whole (length x) h.utf8 cut) in
+    let us : IsUtf8 (b ∷ r) = subst IsUtf8 (drop-append_seam x (b ∷ r)) (IsUtf8-drop whole (length x) h.utf8 cut) in
     let ur : IsUtf8 r = IsUtf8-drop (b ∷ r) 1 us (IsCharBoundary-after_ascii (b ∷ r) 0 us (omega arith) below) in
     let one : chars (b ∷ r) ≡ b ∷ chars r = chars_past_char (b ∷ r) r b us (ap (λ e. e ++ r) (sym (encode_ascii b below))) in
     let both : chars whole ≡ chars x ++ b ∷ chars r = chars-append x (b ∷ r) ux ∙ ap (λ cs. chars x ++ cs) one in

@@ -1,14 +1,6 @@
 -- The places that are counted, by the label and the kids of an element.
 use Rattle.std.proofs.Common.{◌≡◌, ℕ, ◌<◌, ◌+◌, List, [], ◌++◌, length, drop, get_or, ap, sym, ◌∙◌, append_assoc, true, false, cond}
-use Rattle.std.proofs.lemmas.List.{append-nil}
-use Rattle.xa_base.specs.declared.texts.Name.{Name}
-use Rattle.label_tree.specs.Rose.{Rose, node, roses_of, label_of, kids_of}
-use Rattle.label_tree.proofs.Roses.{roses_of-list_of}
-use Rattle.label_tree.proofs.Kids.{roses_of-drop}
-use Rattle.item_tree.specs.declared.label.ItemLabel.{ItemLabel}
-use Rattle.item_tree.specs.declared.label.ItemLabel.TheVariants.{Element, Text}
-use Rattle.schema_rules.specs.Elements.{is_looked_into}
-use Rattle.schema_read.specs.Counted.{counted_here, counted_inside, counted_at, counted_among}
+use Rattle.schema_read.proofs.Words.{append-nil, Name, Rose, node, roses_of, label_of, kids_of, roses_of-list_of, roses_of-drop, ItemLabel, Element, Text, is_looked_into, counted_here, counted_inside, counted_at, counted_among}
 
 module _ (t : Rose ItemLabel) where
   pub counted_at-text : (text : List ℕ) (at : ℕ) → label_of t ≡ Text text at → [] ≡ counted_at t

@@ -1,28 +1,12 @@
 -- What stands in an element of a document without a fault.
-use Rattle.std.proofs.Common.{◌≡◌, ℕ, Bool, true, false, cond, List, [], ◌∷◌, ◌++◌, Option, Some, None, refl, subst}
-use Rattle.std.specs.Prelude.{bytes_eq, codes, not}
-use Rattle.std.specs.List.{list_any}
-use Rattle.std.specs.Option.{option_or}
-use Rattle.xa_base.specs.declared.texts.Name.{Name}
-use Rattle.xa_base.specs.Entries.{beside, first_true}
-use Rattle.label_tree.specs.Rose.{Rose, node, Roses, list_of}
-use Rattle.item_tree.specs.declared.label.ItemLabel.{ItemLabel}
-use Rattle.item_tree.specs.declared.label.ItemLabel.TheVariants.{Element}
-use Rattle.schema_rules.specs.Elements.{is_schema_name, left_out, element_names, children, may_stand, placed, refused_or, placement_of}
-use Rattle.schema_rules.specs.Attributes.{has_unknown}
-use Rattle.schema_rules.specs.Values.{has_bad_value}
+use Rattle.std.proofs.Common.{◌≡◌, ℕ, Bool, true, false, cond, List, [], ◌∷◌, ◌++◌, Option, Some, None, refl, subst, bytes_eq, codes, not}
+use Rattle.schema_read.proofs.Words.{list_any, option_or, Name, beside, first_true, Rose, node, Roses, list_of, ItemLabel, Element, is_schema_name, left_out, element_names, children, may_stand, refused_or, placement_of, has_unknown, has_bad_value, ElementRole, Position, Part, lacks_required, has_both_forms, is_over_limit, level_inside, early_tests, left_out_attributes, left_out_reference, untyped, is_empty_choice, late_tests, LookedAt, own_reason, unless_composition, placed_at, reasons_at, reasons_among, NoneAtAll}
+use Rattle.schema_faults.specs.Reasons.{reason_against}
+use Rattle.schema_rules.specs.Elements.{placed}
 use Rattle.schema_rules.specs.declared.why.SchemaWhy.{SchemaWhy}
 use Rattle.schema_rules.specs.declared.why.SchemaWhy.TheVariants as why
-use Rattle.schema_rules.specs.declared.roles.ElementRole.{ElementRole}
-use Rattle.schema_rules.specs.declared.roles.Position.{Position}
-use Rattle.schema_rules.specs.declared.roles.Part.{Part}
 use Rattle.schema_rules.specs.declared.elements.Placement.{Placement}
 use Rattle.schema_rules.specs.declared.elements.Placement.TheVariants.{Skipped, Refused, Placed}
-use Rattle.schema_faults.specs.Requirements.{lacks_required, has_both_forms}
-use Rattle.schema_faults.specs.Limits.{is_over_limit, level_inside}
-use Rattle.schema_faults.specs.Reasons.{early_tests, left_out_attributes, left_out_reference, untyped, is_empty_choice, late_tests, reason_against}
-use Rattle.schema_faults.specs.Faults.{LookedAt, own_reason, unless_composition, placed_at, reasons_at, reasons_among}
-use Rattle.schema_faults.specs.Shown.{NoneAtAll}
 
 -- no reason stands against either
 pub none_parts : (xs ys : List LookedAt) → NoneAtAll (xs ++ ys) → NoneAtAll xs × NoneAtAll ys

@@ -1,13 +1,7 @@
 -- Where the nodes of a tree of items stand: what stands in a node stands behind it, and before what is written behind the node.
 use Rattle.std.proofs.Common.{ℕ, ◌+◌, ◌<◌, ◌≤◌, List, [], ◌∷◌, ◌++◌, append_assoc, subst, sym, arith}
-use Rattle.std.proofs.lemmas.List.{append-nil}
-use Rattle.label_tree.specs.Rose.{Rose, node, Roses, roses_of, list_of, label_of, kids_of}
+use Rattle.schema_read.proofs.Words.{append-nil, Rose, node, Roses, roses_of, list_of, label_of, kids_of, roses_of-list_of, item_place, Token, Closes, tokens, tokens_all, Ascend, ItemLabel, Element, Text}
 use Rattle.label_tree.specs.Rose as rose
-use Rattle.label_tree.proofs.Roses.{roses_of-list_of}
-use Rattle.item_tree.specs.Labels.{item_place}
-use Rattle.doc_text.specs.Tokens.{Token, Closes, tokens, tokens_all, Ascend}
-use Rattle.item_tree.specs.declared.label.ItemLabel.{ItemLabel}
-use Rattle.item_tree.specs.declared.label.ItemLabel.TheVariants.{Element, Text}
 
 abbrev mutual
   -- all places of the tree are from the first number on and below the second one
@@ -33,13 +27,6 @@ lower_span less least end (node label kids) le h = (let k = h.0 in omega (arith,
 pub lower_span_all : (less least end : ℕ) (ts : Roses ItemLabel) → less ≤ least → SpansAll least end ts → SpansAll less end ts
 lower_span_all less least end rose.none le h = omega (arith, le, h)
 lower_span_all less least end (rose.more t ts) le h = (h.0, lower_span less least h.0 t le h.1, h.2)
-
--- the kids of a node
-pub kids_span : (least end : ℕ) (t : Rose ItemLabel) → Spans least end t → SpansAll (item_place (label_of t) + 1) end (roses_of (kids_of t))
-kids_span least end (node label kids) h = subst (SpansAll (item_place label + 1) end) (sym (roses_of-list_of kids)) h.1
-
-pub place_span : (least end : ℕ) (t : Rose ItemLabel) → Spans least end t → least ≤ item_place (label_of t)
-place_span least end (node label kids) h = h.0
 
 -- ---- from ascending tokens
 

@@ -1,35 +1,25 @@
 -- Each document that is read keeps what a document has to keep.
-use Rattle.std.proofs.Common.{◌≡◌, ℕ, ◌+◌, ◌<◌, ◌≤◌, Bool, true, false, [], ◌∷◌, ◌++◌, Some, None, ap, sym, subst, arith}
-use Rattle.label_tree.specs.Rose.{Rose, node, roses_of, list_of, label_of}
-use Rattle.label_tree.proofs.Roses.{roses_of-list_of}
-use Rattle.item_tree.specs.Labels.{item_place}
-use Rattle.doc_text.specs.Sound.{is_sound, are_sound, levels, levels_all}
-use Rattle.doc_text.specs.Tokens.{tokens, Ascend}
-use Rattle.item_tree.specs.declared.label.ItemLabel.{ItemLabel}
-use Rattle.item_tree.specs.declared.label.ItemLabel.TheVariants.{Element, Text}
-use Rattle.schema_rules.specs.Attributes.{own_attributes}
-use Rattle.schema_rules.specs.declared.roles.ElementRole.TheVariants.{Schema}
+use Rattle.std.proofs.Common.{◌≡◌, ℕ, ◌+◌, ◌<◌, ◌≤◌, Bool, true, false, [], ◌∷◌, ◌++◌, Some, None, refl, ap, sym, subst, arith}
+use Rattle.schema_read.proofs.Words.{Rose, node, roses_of, list_of, label_of, roses_of-list_of, item_place, is_sound, are_sound, levels, levels_all, tokens, Ascend, ItemLabel, Element, Text, own_attributes, Schema, is_schema, outside, reasons_of, reasons_among, NoneAtAll, IsSchema, counted_among, Keeps, ElementHeld, TypeHeld, LocalHeld, ElementsHeld, TypesHeld, LocalsHeld, Settings, settings_of, Parts, parts_among, document_with, raw_of}
 use Rattle.schema_rules.specs.declared.why.SchemaWhy.TheVariants.{NotASchema}
-use Rattle.schema_faults.specs.Faults.{is_schema, outside, reasons_of, reasons_among}
-use Rattle.schema_faults.specs.Shown.{NoneAtAll, IsSchema}
-use Rattle.schema_read.specs.Counted.{counted_among}
-use Rattle.schema_read.specs.Keeping.{Keeps}
-use Rattle.schema_read.specs.Settings.{Settings, settings_of}
-use Rattle.schema_read.specs.Raw.{raw_of}
 use Rattle.schema_read.proofs.Faultless.{passes}
 use Rattle.schema_read.proofs.OwnNames.{IsSpace, own_space}
-use Rattle.schema_read.proofs.NamedParts.{element_sound}
-use Rattle.schema_read.proofs.NamedDocument.{all_parts_named}
-use Rattle.schema_read.proofs.ItemPlaces.{SpansAll, kids_span, document_spans}
+use Rattle.schema_read.proofs.ItemPlaces.{document_spans}
+use Rattle.schema_read.proofs.Reading.{Around, Kids, of_parts}
+use Rattle.schema_read.proofs.Points.{every_as, stretch_whole, Property, Points, Each, OfEach, by_points}
+use Rattle.schema_read.proofs.WalkTypes.{element_sound}
+use Rattle.schema_read.proofs.Walk.{walk}
+use Rattle.schema_read.proofs.Coherent.{Cohering, coherent_rules, coherent_parts}
+use Rattle.schema_read.proofs.Counted.{counted_rules, AllCounted, parts_stand}
+use Rattle.schema_read.proofs.Fitting.{fitting, fitting_points, fitting_parts}
+use Rattle.schema_read.proofs.Held.{holding, holding_points}
+use Rattle.schema_read.proofs.Inward.{inward, inward_points, inward_parts}
+use Rattle.schema_read.proofs.Named.{naming, naming_points, named_parts}
+use Rattle.schema_read.proofs.Rising.{Rising, rising_rules, few_locals, parts_ascend}
+use Rattle.schema_read.proofs.Short.{short, short_points, short_parts}
+use Rattle.schema_read.proofs.Varied.{varied, varied_points, varied_parts}
 use Rattle.schema_read.proofs.RisingPlaces.{rise_ascend}
 use Rattle.schema_read.proofs.CountedPlaces.{counted_rise}
-use Rattle.schema_read.proofs.PlacedDocument.{few_locals, parts_ascend, parts_inward}
-use Rattle.schema_read.proofs.CountedDocument.{all_stand}
-use Rattle.schema_read.proofs.FittingDocument.{all_parts_fit}
-use Rattle.schema_read.proofs.HeldDocument.{all_parts_held}
-use Rattle.schema_read.proofs.ShortDocument.{all_are_short}
-use Rattle.schema_read.proofs.VariedDocument.{all_parts_varied}
-use Rattle.schema_read.proofs.WholeDocument.{coherent_document}
 
 no_schema : Some NotASchema ≡ None → ⊥
 no_schema is = cc
@@ -46,33 +36,36 @@ document_keeps file (node (Text text at) kids) h schema sound shallow = absurd (
 document_keeps file (node (Element name attributes declares at) kids) h schema sound shallow =
     let root : Rose ItemLabel = node (Element name attributes declares at) kids in
     let w = document_spans 16777216 root h in
-    let spans : SpansAll (at + 1) w.end (roses_of (list_of kids)) = kids_span 0 w.end root w.spans in
     let said : Settings = settings_of file (own_attributes attributes) in
     let scope = declares ++ outside in
-    let positive : 0 < at + 1 = omega arith in
-    let counted = counted_among (roses_of (list_of kids)) in
-    let k = few_locals said scope (at + 1) w.end (list_of kids) positive spans in
     let within = w.within in
     let whole = by_root (is_schema (Element name attributes declares at)) root schema in
     let sounds = element_sound name attributes declares at kids sound in
-    let target : IsSpace said.target = own_space Schema scope (own_attributes attributes) (passes Schema scope 0 (own_attributes attributes) (list_of kids) whole.0).good sounds.0 in
-    let clean : NoneAtAll (reasons_among Schema None scope 0 (roses_of (list_of kids))) =
-    subst (λ ks. NoneAtAll (reasons_among Schema None scope 0 ks)) (sym (roses_of-list_of kids)) whole.1 in
-    let same = ap (λ ks. levels_all ks) (roses_of-list_of kids) in
-    let low : levels_all (roses_of (list_of kids)) ≤ 63 = omega (arith, same, shallow) in
-    let held = all_parts_held said scope (at + 1) w.end (list_of kids) (omega (arith, within)) spans clean in
-    record {
-      named = all_parts_named said target scope (list_of kids) clean (subst (λ ks. are_sound ks ≡ true) (sym (roses_of-list_of kids)) sounds.1);
+    let fine : IsSpace said.target = own_space Schema scope (own_attributes attributes) (passes Schema scope 0 (own_attributes attributes) (list_of kids) whole.0).good sounds.0 in
+    let around : Around = record { role = Schema; level = 0; place = at; room = 65 } in
+    let inside : Kids Schema around None scope 0 (at + 1) w.end kids =
+    record { clean = whole.1; sound = sounds.1; spans = w.spans.1; behind = omega arith; low = omega (arith, within); deep = omega (arith, shallow); small = omega arith } in
+    let p : Parts = parts_among said scope 0 (list_of kids) in
+    let all = p.locals in
+    let each : (P : Property) → Points said all P → Each P around (of_parts p.elements p.attributes p.types p.locals) =
+    λ P points. walk said (OfEach all P) (by_points said all P points) around None scope 0 (at + 1) w.end 0 kids inside (stretch_whole all) in
+    let rises = walk said Rising (rising_rules said) around None scope 0 (at + 1) w.end 0 kids inside in
+    let held = each holding (holding_points said all) in
+    let counted = counted_among kids in
+    let k = few_locals (at + 1) w.end p rises in
+    subst (λ ps. Keeps (document_with file said.target ps p)) (ap counted_among (sym (roses_of-list_of kids)))
+    (record {
+      named = named_parts around p (each naming (naming_points said all fine));
       few = omega (arith, k, within);
-      fitting = all_parts_fit said scope (list_of kids) clean;
-      ascending = rise_ascend (at + 1) w.end counted (counted_rise (at + 1) w.end (roses_of (list_of kids)) spans);
-      varied = all_parts_varied said scope (list_of kids) clean;
-      ordered = parts_ascend said scope (at + 1) w.end (list_of kids) positive spans;
-      all_counted = all_stand said scope (list_of kids) clean;
-      inward = parts_inward said scope (at + 1) w.end (list_of kids) positive spans;
-      short = all_are_short said scope (list_of kids) low clean;
-      coherent = coherent_document said scope said.target counted (list_of kids);
-      elements_held = held.elements;
-      types_held = held.types;
-      locals_held = held.locals;
-    }
+      fitting = fitting_parts around p (each fitting (fitting_points said all));
+      ascending = rise_ascend (at + 1) w.end counted (counted_rise (at + 1) w.end kids w.spans.1);
+      varied = varied_parts around p (each varied (varied_points said all));
+      ordered = parts_ascend (at + 1) w.end p rises;
+      all_counted = parts_stand p counted (λ test. walk said (AllCounted test) (counted_rules test said) around None scope 0 (at + 1) w.end 0 kids inside);
+      inward = inward_parts all around p (each (inward all) (inward_points all said));
+      short = short_parts all around p refl (each (short all) (short_points all said));
+      coherent = coherent_parts file said.target counted p (walk said (Cohering file) (coherent_rules said) around None scope 0 (at + 1) w.end 0 kids inside);
+      elements_held = every_as ElementHeld ElementsHeld tt (λ x xs a b. (a, b)) p.elements held.elements;
+      types_held = every_as TypeHeld TypesHeld tt (λ x xs a b. (a, b)) p.types held.types;
+      locals_held = every_as LocalHeld LocalsHeld tt (λ x xs a b. (a, b)) p.locals held.locals;
+    })

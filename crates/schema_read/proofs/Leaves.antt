@@ -1,19 +1,11 @@
 -- The element particles of content models, and the local declarations that they are.
 use Rattle.std.proofs.Common.{◌≡◌, ℕ, ◌+◌, ◌≤◌, Bool, true, false, cond, List, [], ◌∷◌, ◌++◌, length, count_by, refl, append_assoc, ap, sym, ◌∙◌, subst, arith}
-use Rattle.std.proofs.lemmas.List.{append-nil}
-use Rattle.std.proofs.lemmas.List.Sums.{sum_by-cons, sum_by-append}
-use Rattle.xa_base.specs.declared.texts.Name.{Name}
-use Rattle.label_tree.specs.Rose.{Rose, node, Roses, roses_of}
+use Rattle.schema_read.proofs.Words.{sum_by-cons, sum_by-append, Name, Rose, node, Roses, roses_of, ParticleKind, ParticleLabel, Local, Own, TypeDefinition, all_leaves, leaves_of_model, model_in_kind, model_in_local, model_in_type, models_in_elements, models_in_types, models_in_locals, leaves_of_models, name_of, numbered, IsFrom, EachStands, AllStand, ModelsStand, Nested, least_of, most_of, group_of}
 use Rattle.label_tree.specs.Rose as rose
 use Rattle.content_models.specs.Seen.{all_seen}
-use Rattle.content_models.specs.declared.particles.ParticleKind.{ParticleKind}
 use Rattle.content_models.specs.declared.particles.ParticleKind.TheVariants as particle
-use Rattle.content_models.specs.declared.particles.ParticleLabel.{ParticleLabel}
 use Rattle.schema_parts.specs.Raw as raw
-use Rattle.schema_parts.specs.Raw.{Local, Own, TypeDefinition}
-use Rattle.schema_parts.specs.Linked.{all_leaves, leaves_of_model}
-use Rattle.schema_parts.specs.Coherent.{model_in_kind, model_in_local, model_in_type, models_in_elements, models_in_types, models_in_locals, leaves_of_models, name_of, numbered, IsFrom, EachStands, AllStand, ModelsStand, Nested}
-use Rattle.schema_read.specs.Particles.{leaf_of, reference_to}
+use Rattle.schema_read.proofs.Reading.{by_compositor}
 
 -- ---- models one behind the other
 
@@ -97,7 +89,7 @@ module _ (file : ℕ) where
       let e : n + length (l ∷ ls) ≡ (n + 1) + length ls = omega arith in
       (h.0, nested_append (n + 1) ls ms h.1 (subst (λ k. Nested file k ms) e g))
 
-  group_stands : (n : ℕ) (ts : List (Rose ParticleLabel)) → ModelsStand file n ts → AllStand file n (roses_of ts)
+  pub group_stands : (n : ℕ) (ts : List (Rose ParticleLabel)) → ModelsStand file n ts → AllStand file n (roses_of ts)
   group_stands n [] h = tt
   group_stands n (t ∷ ts) h = (h.0, group_stands n ts h.1)
 
@@ -106,76 +98,7 @@ group_leaves [] = refl
 group_leaves (t ∷ ts) = ap (λ l. leaves_of_model t ++ l) (group_leaves ts)
 
 -- the leaves of a group are those of its particles
-pub leaves_of_group : (label : ParticleLabel) (b c : Bool) (trees : List (Rose ParticleLabel)) → label.kind ≡ cond b particle.Choice (cond c particle.All particle.Sequence)
-    → leaves_of_model (node label (roses_of trees)) ≡ leaves_of_models trees
-leaves_of_group label b c trees is = by_kind label.kind b c is ∙ group_leaves trees
-  where
-    by_kind : (kind : ParticleKind) (b c : Bool) → kind ≡ cond b particle.Choice (cond c particle.All particle.Sequence)
-        → leaves_of_model (node (record { kind = kind; min = label.min; max = label.max; file = label.file; at = label.at }) (roses_of trees)) ≡ all_leaves (all_seen (roses_of trees))
-    by_kind particle.Choice b c is = refl
-    by_kind particle.Sequence b c is = refl
-    by_kind particle.All b c is = refl
-    by_kind (particle.Element decl name) true c is = absurd (cc)
-    by_kind (particle.Element decl name) false true is = absurd (cc)
-    by_kind (particle.Element decl name) false false is = absurd (cc)
-
--- ---- both
-
--- The leaves of the models, and of those in the local declarations, are the local declarations.
-pub record Holds (file n : ℕ) (models : List (Rose ParticleLabel)) (locals : List Local) : Type 0 where
-  pub once : (test : ℕ × Name → Bool) → count_by test (leaves_of_models models) + count_by test (leaves_of_models (models_in_locals locals)) ≡ count_by test (numbered n locals)
-  pub stand : ModelsStand file n models
-  pub nested : Nested file n locals
-
-module _ (file n : ℕ) where
-  pub holds_none : Holds file n [] []
-  holds_none = record { once = λ test. refl; stand = tt; nested = tt }
-
-  pub holds_append : (xs ys : List (Rose ParticleLabel)) (ls ms : List Local) → Holds file n xs ls → Holds file (n + length ls) ys ms → Holds file n (xs ++ ys) (ls ++ ms)
-  holds_append xs ys ls ms h g =
-      let le : n ≤ n + length ls = omega arith in
-      record {
-        once = λ test. omega (arith, h.once test, g.once test, count_models test xs ys, count_both test (models_in_locals (ls ++ ms)) (models_in_locals ls) (models_in_locals ms) (in_locals ls ms), count_numbered test n ls ms);
-        stand = models_append file n xs ys h.stand (models_later file n (n + length ls) le ys g.stand);
-        nested = nested_append file n ls ms h.nested g.nested;
-      }
-
-  pub holds_leaf : (at : ℕ) (name : Name) (own : List (List ℕ × List ℕ)) → Holds file n (leaf_of file at n name own ∷ []) (reference_to name at)
-  holds_leaf at name own =
-      let le : n ≤ n = omega arith in
-      record { once = λ test. omega arith; stand = (((refl, le), tt), tt); nested = (tt, tt) }
-
-  pub holds_own : (at : ℕ) (own : List (List ℕ × List ℕ)) (e : raw.Element) (ls : List Local) → Holds file (n + 1) (model_in_kind e.kind) ls
-      → Holds file n (leaf_of file at n e.name own ∷ []) (Own e ∷ ls)
-  holds_own at own e ls h =
-      let le : n ≤ n = omega arith in
-      record {
-        once = λ test.
-            let a : count_by test (numbered n (Own e ∷ ls)) ≡ cond (test (n, e.name)) 1 0 + count_by test (numbered (n + 1) ls) = count_more test (n, e.name) (numbered (n + 1) ls) in
-            let b : count_by test (leaves_of_models (models_in_locals (Own e ∷ ls))) ≡ count_by test (leaves_of_models (model_in_kind e.kind)) + count_by test (leaves_of_models (models_in_locals ls)) =
-            count_models test (model_in_kind e.kind) (models_in_locals ls) in
-            let c : count_by test (leaves_of_models (leaf_of file at n e.name own ∷ [])) ≡ cond (test (n, e.name)) 1 0 + 0 = count_more test (n, e.name) [] in
-            omega (arith, a, b, c, h.once test);
-        stand = (((refl, le), tt), tt);
-        nested = (h.stand, h.nested);
-      }
-
-  pub holds_group : (label : ParticleLabel) (b c : Bool) (trees : List (Rose ParticleLabel)) (ls : List Local) → label.file ≡ file → label.kind ≡ cond b particle.Choice (cond c particle.All particle.Sequence)
-      → Holds file n trees ls → Holds file n (node label (roses_of trees) ∷ []) ls
-  holds_group label b c trees ls written is h =
-      record {
-        once = λ test.
-            let e : count_by test (leaves_of_models (node label (roses_of trees) ∷ [])) ≡ count_by test (leaves_of_models trees) =
-            ap (count_by test) (append-nil (leaves_of_model (node label (roses_of trees))) ∙ leaves_of_group label b c trees is) in
-            omega (arith, e, h.once test);
-        stand = (((written, from_by label.kind b c is), group_stands file n trees h.stand), tt);
-        nested = h.nested;
-      }
-    where
-      from_by : (kind : ParticleKind) (b c : Bool) → kind ≡ cond b particle.Choice (cond c particle.All particle.Sequence) → IsFrom n kind
-      from_by particle.Choice b c is = tt
-      from_by particle.Sequence b c is = tt
-      from_by particle.All b c is = tt
-      from_by (particle.Element decl name) true c is = absurd (cc)
-      from_by (particle.Element decl name) false true is = absurd (cc)
-      from_by (particle.Element decl name) false false is = absurd (cc)
+pub leaves_of_group : (file at : ℕ) (name : List ℕ) (own : List (List ℕ × List ℕ)) (ts : List (Rose ParticleLabel)) → leaves_of_model (group_of file at name own ts) ≡ leaves_of_models ts
+leaves_of_group file at name own ts =
+    by_compositor (λ kind. leaves_of_model (node (record { kind = kind; min = least_of own; max = most_of own; file = file; at = at }) (roses_of ts)) ≡ leaves_of_models ts)
+    (group_leaves ts) (group_leaves ts) (group_leaves ts) name

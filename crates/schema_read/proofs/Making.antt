@@ -1,28 +1,7 @@
 -- What particles and types are, by the label and the kids of their elements.
-use Rattle.std.proofs.Common.{◌≡◌, ℕ, zero, suc, ◌<◌, ◌≤◌, ◌+◌, Bool, true, false, cond, List, [], ◌∷◌, ◌++◌, length, map, drop, get_or, refl, ap, sym, ◌∙◌, subst, Option, Some, None, append_assoc, length-append, arith}
-use Rattle.std.specs.Prelude.{◌&&◌, not, codes, set}
-use Rattle.std.proofs.lemmas.List.{append-nil, drop_all, length-map}
-use Rattle.xa_base.specs.declared.texts.Name.{Name}
-use Rattle.label_tree.specs.Rose.{Rose, node, Roses, roses_of, list_of, label_of, kids_of}
-use Rattle.label_tree.proofs.Roses.{roses_of-list_of}
-use Rattle.label_tree.proofs.Kids.{roses_of-drop}
-use Rattle.item_tree.specs.declared.label.ItemLabel.{ItemLabel}
-use Rattle.item_tree.specs.declared.label.ItemLabel.TheVariants.{Element, Text}
-use Rattle.content_models.specs.declared.particles.ParticleLabel.{ParticleLabel}
-use Rattle.schema_parts.specs.declared.declarations.RawLocal.{RawLocal}
+use Rattle.std.proofs.Common.{◌≡◌, ℕ, zero, suc, ◌<◌, ◌≤◌, ◌+◌, Bool, true, false, cond, List, [], ◌∷◌, ◌++◌, length, map, drop, get_or, refl, ap, sym, ◌∙◌, subst, Option, Some, None, append_assoc, length-append, arith, ◌&&◌, not, codes, set}
+use Rattle.schema_read.proofs.Words.{append-nil, drop_all, length-map, set-append_seam, and_left, Name, Rose, node, Roses, roses_of, list_of, label_of, kids_of, roses_of-list_of, roses_of-drop, ItemLabel, Element, Text, ParticleLabel, RawLocal, Simple, Complex, Kind, SimpleKind, ComplexKind, Local, Own, local_of, own_attributes, is_in, Particles, never_occurs, is_true, occurs, Settings, is_named, simple_type, Made, made, made_some, Makes, and_some, and_particle, first_kind, particle_by, complex_of, element_by, kind_by, declared_with, first_group, particle_at, particles_among, group_among, inner_kind, complex_type}
 use Rattle.schema_parts.specs.Raw as raw
-use Rattle.schema_parts.specs.Raw.{Simple, Complex, Kind, SimpleKind, ComplexKind, Local, Own}
-use Rattle.schema_parts.specs.Seen.{local_of}
-use Rattle.schema_rules.specs.Attributes.{own_attributes}
-use Rattle.schema_rules.specs.Children.{is_in}
-use Rattle.schema_rules.specs.declared.children.ChildSet.TheVariants.{Particles}
-use Rattle.schema_rules.specs.Values.{never_occurs}
-use Rattle.schema_faults.specs.Reasons.{is_true, occurs}
-use Rattle.schema_read.specs.Settings.{Settings}
-use Rattle.schema_read.specs.Contents.{is_named}
-use Rattle.schema_read.specs.SimpleTypes.{simple_type}
-use Rattle.schema_read.specs.Particles.{Made, made, made_some, Makes, and_some, and_particle, first_kind, particle_by, complex_of, element_by, kind_by, declared_with, first_group, particle_at, particles_among, group_among, inner_kind, complex_type}
-use Rattle.schema_read.proofs.Simple.{if_false, if_true}
 
 -- ---- what is made
 
@@ -44,10 +23,6 @@ length_after now after more e =
     ∙ (ap length e ∙ (length-append (map local_of now) more ∙ ap (λ n. n + length more) (length-map now local_of)))
 
 -- ---- an element by its label and its kids
-
-and_false : (a b : Bool) → a ≡ false → (a && b) ≡ false
-and_false true b is = absurd (cc)
-and_false false b is = refl
 
 and_not_true : (a b : Bool) → b ≡ true → (a && not b) ≡ false
 and_not_true true true is = refl
@@ -92,37 +67,34 @@ module _ (said : Settings) (outer : List (List ℕ × List ℕ)) (n : ℕ) where
           (group_among said (declares ++ outer) n us))) (made None [])) (sym (roses_of-list_of ts))
 
       module _ (t : Rose ItemLabel) (label : label_of t ≡ Element name attributes declares at) where
+        as_particle : (b : Bool) → occurs (Element name attributes declares at) ≡ b
+            → cond b (made_some (particle_inside name.local declares (own_attributes attributes) (kids_of t))) (made None []) ≡ particle_at said outer n t
+        as_particle b is =
+            ap (λ c. cond c (made_some (particle_inside name.local declares (own_attributes attributes) (kids_of t))) (made None [])) (sym is) ∙ sym (particle_at-element t label)
+
         pub no_particle : is_in Particles (label_of t) ≡ false → made None [] ≡ particle_at said outer n t
-        no_particle is =
-            sym (particle_at-element t label
-            ∙ if_false (occurs (Element name attributes declares at)) (made_some (particle_inside name.local declares (own_attributes attributes) (kids_of t))) (made None [])
-            (and_false (is_in Particles (Element name attributes declares at)) (not (never_occurs (own_attributes attributes))) (sym (ap (is_in Particles) label) ∙ is)))
+        no_particle is = as_particle false (and_left (is_in Particles (Element name attributes declares at)) (not (never_occurs (own_attributes attributes))) (sym (ap (is_in Particles) label) ∙ is))
 
         pub dropped_particle : never_occurs (own_attributes attributes) ≡ true → made None [] ≡ particle_at said outer n t
-        dropped_particle is =
-            sym (particle_at-element t label
-            ∙ if_false (occurs (Element name attributes declares at)) (made_some (particle_inside name.local declares (own_attributes attributes) (kids_of t))) (made None [])
-            (and_not_true (is_in Particles (Element name attributes declares at)) (never_occurs (own_attributes attributes)) is))
+        dropped_particle is = as_particle false (and_not_true (is_in Particles (Element name attributes declares at)) (never_occurs (own_attributes attributes)) is)
 
         pub its_particle : is_in Particles (label_of t) ≡ true → never_occurs (own_attributes attributes) ≡ false
             → made_some (particle_inside name.local declares (own_attributes attributes) (kids_of t)) ≡ particle_at said outer n t
         its_particle is isnt =
-            sym (particle_at-element t label
-            ∙ if_true (occurs (Element name attributes declares at)) (made_some (particle_inside name.local declares (own_attributes attributes) (kids_of t))) (made None [])
-            (both_true (is_in Particles (Element name attributes declares at)) (never_occurs (own_attributes attributes)) (sym (ap (is_in Particles) label) ∙ is) isnt))
+            as_particle true (both_true (is_in Particles (Element name attributes declares at)) (never_occurs (own_attributes attributes)) (sym (ap (is_in Particles) label) ∙ is) isnt)
+
+        as_complex : (b : Bool) → is_named (codes "complexType") (label_of t) ≡ b
+            → cond b (made_some (complex_inside declares (own_attributes attributes) (kids_of t))) (made None []) ≡ complex_type said outer n t
+        as_complex b is =
+            ap (λ c. cond c (made_some (complex_inside declares (own_attributes attributes) (kids_of t))) (made None [])) (sym is ∙ ap (is_named (codes "complexType")) label)
+            ∙ sym (complex_type-element t label)
 
         pub no_complex_type : is_named (codes "complexType") (label_of t) ≡ false → made None [] ≡ complex_type said outer n t
-        no_complex_type is =
-            sym (complex_type-element t label
-            ∙ if_false (is_named (codes "complexType") (Element name attributes declares at)) (made_some (complex_inside declares (own_attributes attributes) (kids_of t))) (made None [])
-            (sym (ap (is_named (codes "complexType")) label) ∙ is))
+        no_complex_type is = as_complex false is
 
         pub its_complex_type : is_named (codes "complexType") (label_of t) ≡ true
             → made_some (complex_inside declares (own_attributes attributes) (kids_of t)) ≡ complex_type said outer n t
-        its_complex_type is =
-            sym (complex_type-element t label
-            ∙ if_true (is_named (codes "complexType") (Element name attributes declares at)) (made_some (complex_inside declares (own_attributes attributes) (kids_of t))) (made None [])
-            (sym (ap (is_named (codes "complexType")) label) ∙ is))
+        its_complex_type is = as_complex true is
 
         -- by equal parts
         pub same_particle : (m : List ℕ) (d o : List (List ℕ × List ℕ)) (k : List (Rose ItemLabel)) → m ≡ name.local → d ≡ declares → o ≡ own_attributes attributes → k ≡ kids_of t
@@ -151,6 +123,24 @@ pub record RestAhead {A : Type 0} (before now : List RawLocal) (rest all : Made 
   pub value_is : rest.value ≡ all.value
   pub locals_are : map local_of now ++ rest.locals ≡ map local_of before ++ all.locals
 
+module _ {A : Type 0} (before now after : List RawLocal) (rest all : Made A) (h : RestAhead before now rest all) where
+  -- all is found, with these declarations
+  makes_found : (v : A) (ls : List Local) → made v ls ≡ rest → map local_of after ≡ map local_of now ++ ls → Makes before after v all
+  makes_found v ls found here =
+      record { value_is = ap (λ (m : Made A). m.value) found ∙ h.value_is; locals_are = here ∙ (ap (λ (m : Made A). map local_of now ++ m.locals) found ∙ h.locals_are) }
+
+  -- these declarations are made, and more is ahead
+  passes_on : (behind more : Made A) (ls : List Local) → made more.value (ls ++ more.locals) ≡ rest → behind ≡ more → map local_of after ≡ map local_of now ++ ls → RestAhead before after behind all
+  passes_on behind more ls found on here =
+      record {
+        value_is = ap (λ (m : Made A). m.value) on ∙ (ap (λ (m : Made A). m.value) found ∙ h.value_is);
+        locals_are =
+            ap (λ (m : Made A). map local_of after ++ m.locals) on
+            ∙ (ap (λ l. l ++ more.locals) here
+            ∙ (append_assoc (map local_of now) ls more.locals
+            ∙ (ap (λ (m : Made A). map local_of now ++ m.locals) found ∙ h.locals_are)));
+      }
+
 module _ (said : Settings) (scope : List (List ℕ × List ℕ)) (kids : List (Rose ItemLabel)) (i : ℕ) where
   module _ (before now : List RawLocal) where
     pub all_particles : (items : List (Rose ParticleLabel)) (all : Made (List (Rose ParticleLabel))) → length kids ≤ i
@@ -165,20 +155,14 @@ module _ (said : Settings) (scope : List (List ℕ × List ℕ)) (kids : List (R
     pub no_group : (all : Made (Option (Rose ParticleLabel))) → length kids ≤ i
         → RestAhead before now (group_among said scope (length now) (roses_of (drop i kids))) all → Makes before now None all
     no_group all end h =
-        let none : made None [] ≡ group_among said scope (length now) (roses_of (drop i kids)) = ap (λ l. group_among said scope (length now) (roses_of l)) (sym (drop_all i kids end)) in
-        record {
-          value_is = ap (λ (m : Made (Option (Rose ParticleLabel))). m.value) none ∙ h.value_is;
-          locals_are = sym (append-nil (map local_of now)) ∙ (ap (λ (m : Made (Option (Rose ParticleLabel))). map local_of now ++ m.locals) none ∙ h.locals_are);
-        }
+        makes_found before now now (group_among said scope (length now) (roses_of (drop i kids))) all h None [] (ap (λ l. group_among said scope (length now) (roses_of l)) (sym (drop_all i kids end)))
+        (sym (append-nil (map local_of now)))
 
     pub last_kind : (kind : Kind) (all : Made Kind) → length kids ≤ i → made kind [] ≡ inner_kind said scope (length now) (roses_of [])
         → RestAhead before now (inner_kind said scope (length now) (roses_of (drop i kids))) all → Makes before now kind all
     last_kind kind all end is h =
-        let none : made kind [] ≡ inner_kind said scope (length now) (roses_of (drop i kids)) = is ∙ ap (λ l. inner_kind said scope (length now) (roses_of l)) (sym (drop_all i kids end)) in
-        record {
-          value_is = ap (λ (m : Made Kind). m.value) none ∙ h.value_is;
-          locals_are = sym (append-nil (map local_of now)) ∙ (ap (λ (m : Made Kind). map local_of now ++ m.locals) none ∙ h.locals_are);
-        }
+        makes_found before now now (inner_kind said scope (length now) (roses_of (drop i kids))) all h kind [] (is ∙ ap (λ l. inner_kind said scope (length now) (roses_of l)) (sym (drop_all i kids end)))
+        (sym (append-nil (map local_of now)))
 
   -- the kid with this number
   module _ (kid : Rose ItemLabel) (at : i < length kids) (here : kid ≡ get_or kids i kid) (before now after : List RawLocal) where
@@ -217,31 +201,17 @@ module _ (said : Settings) (scope : List (List ℕ × List ℕ)) (kids : List (R
         → RestAhead before now (group_among said scope (length now) (roses_of (drop i kids))) all → Makes before after (Some group) all
     group_found group all made_here h =
         let p : Made (Option (Rose ParticleLabel)) = particle_at said scope (length now) kid in
-        let found : made (Some group) p.locals ≡ group_among said scope (length now) (roses_of (drop i kids)) =
-        ap (λ (v : Option (Rose ParticleLabel)). first_group (made v p.locals) (rest_group p)) made_here.value_is ∙ sym group_cut in
-        record {
-          value_is = ap (λ (m : Made (Option (Rose ParticleLabel))). m.value) found ∙ h.value_is;
-          locals_are = made_here.locals_are ∙ (ap (λ (m : Made (Option (Rose ParticleLabel))). map local_of now ++ m.locals) found ∙ h.locals_are);
-        }
+        makes_found before now after (group_among said scope (length now) (roses_of (drop i kids))) all h (Some group) p.locals
+        (ap (λ (v : Option (Rose ParticleLabel)). first_group (made v p.locals) (rest_group p)) made_here.value_is ∙ sym group_cut) made_here.locals_are
 
     pub group_passed : (all : Made (Option (Rose ParticleLabel))) → Makes now after None (particle_at said scope (length now) kid)
         → RestAhead before now (group_among said scope (length now) (roses_of (drop i kids))) all
         → RestAhead before after (group_among said scope (length after) (roses_of (drop (i + 1) kids))) all
     group_passed all made_here h =
         let p : Made (Option (Rose ParticleLabel)) = particle_at said scope (length now) kid in
-        let r : Made (Option (Rose ParticleLabel)) = rest_group p in
-        let found : made r.value (p.locals ++ r.locals) ≡ group_among said scope (length now) (roses_of (drop i kids)) =
-        ap (λ (v : Option (Rose ParticleLabel)). first_group (made v p.locals) r) made_here.value_is ∙ sym group_cut in
-        let on : group_among said scope (length after) (roses_of (drop (i + 1) kids)) ≡ r =
-        ap (λ n. group_among said scope n (roses_of (drop (i + 1) kids))) (length_after now after p.locals made_here.locals_are) in
-        record {
-          value_is = ap (λ (m : Made (Option (Rose ParticleLabel))). m.value) on ∙ (ap (λ (m : Made (Option (Rose ParticleLabel))). m.value) found ∙ h.value_is);
-          locals_are =
-              ap (λ (m : Made (Option (Rose ParticleLabel))). map local_of after ++ m.locals) on
-              ∙ (ap (λ l. l ++ r.locals) made_here.locals_are
-              ∙ (append_assoc (map local_of now) p.locals r.locals
-              ∙ (ap (λ (m : Made (Option (Rose ParticleLabel))). map local_of now ++ m.locals) found ∙ h.locals_are)));
-        }
+        passes_on before now after (group_among said scope (length now) (roses_of (drop i kids))) all h (group_among said scope (length after) (roses_of (drop (i + 1) kids))) (rest_group p) p.locals
+        (ap (λ (v : Option (Rose ParticleLabel)). first_group (made v p.locals) (rest_group p)) made_here.value_is ∙ sym group_cut)
+        (ap (λ n. group_among said scope n (roses_of (drop (i + 1) kids))) (length_after now after p.locals made_here.locals_are)) made_here.locals_are
 
     abbrev rest_kind : Made (Option Complex) → Made Kind
     rest_kind c = inner_kind said scope (length now + length c.locals) (roses_of (drop (i + 1) kids))
@@ -254,48 +224,26 @@ module _ (said : Settings) (scope : List (List ℕ × List ℕ)) (kids : List (R
         → RestAhead before now (inner_kind said scope (length now) (roses_of (drop i kids))) all → Makes before now (SimpleKind body) all
     simple_found body all is h =
         let c : Made (Option Complex) = complex_type said scope (length now) kid in
-        let found : made (SimpleKind body) [] ≡ inner_kind said scope (length now) (roses_of (drop i kids)) = ap (λ s. first_kind s c (rest_kind c)) is ∙ sym kind_cut in
-        record {
-          value_is = ap (λ (m : Made Kind). m.value) found ∙ h.value_is;
-          locals_are = sym (append-nil (map local_of now)) ∙ (ap (λ (m : Made Kind). map local_of now ++ m.locals) found ∙ h.locals_are);
-        }
+        makes_found before now now (inner_kind said scope (length now) (roses_of (drop i kids))) all h (SimpleKind body) [] (ap (λ s. first_kind s c (rest_kind c)) is ∙ sym kind_cut)
+        (sym (append-nil (map local_of now)))
 
     pub complex_found : (body : Complex) (all : Made Kind) → None ≡ simple_type scope kid → Makes now after (Some body) (complex_type said scope (length now) kid)
         → RestAhead before now (inner_kind said scope (length now) (roses_of (drop i kids))) all → Makes before after (ComplexKind body) all
     complex_found body all isnt made_here h =
         let c : Made (Option Complex) = complex_type said scope (length now) kid in
-        let r : Made Kind = rest_kind c in
-        let found : made (ComplexKind body) c.locals ≡ inner_kind said scope (length now) (roses_of (drop i kids)) =
-        ap (λ (v : Option Complex). first_kind None (made v c.locals) r) made_here.value_is ∙ (ap (λ s. first_kind s c r) isnt ∙ sym kind_cut) in
-        record {
-          value_is = ap (λ (m : Made Kind). m.value) found ∙ h.value_is;
-          locals_are = made_here.locals_are ∙ (ap (λ (m : Made Kind). map local_of now ++ m.locals) found ∙ h.locals_are);
-        }
+        makes_found before now after (inner_kind said scope (length now) (roses_of (drop i kids))) all h (ComplexKind body) c.locals
+        (ap (λ (v : Option Complex). first_kind None (made v c.locals) (rest_kind c)) made_here.value_is ∙ (ap (λ s. first_kind s c (rest_kind c)) isnt ∙ sym kind_cut)) made_here.locals_are
 
     pub kind_passed : (all : Made Kind) → None ≡ simple_type scope kid → Makes now after None (complex_type said scope (length now) kid)
         → RestAhead before now (inner_kind said scope (length now) (roses_of (drop i kids))) all
         → RestAhead before after (inner_kind said scope (length after) (roses_of (drop (i + 1) kids))) all
     kind_passed all isnt made_here h =
         let c : Made (Option Complex) = complex_type said scope (length now) kid in
-        let r : Made Kind = rest_kind c in
-        let found : made r.value (c.locals ++ r.locals) ≡ inner_kind said scope (length now) (roses_of (drop i kids)) =
-        ap (λ (v : Option Complex). first_kind None (made v c.locals) r) made_here.value_is ∙ (ap (λ s. first_kind s c r) isnt ∙ sym kind_cut) in
-        let on : inner_kind said scope (length after) (roses_of (drop (i + 1) kids)) ≡ r =
-        ap (λ n. inner_kind said scope n (roses_of (drop (i + 1) kids))) (length_after now after c.locals made_here.locals_are) in
-        record {
-          value_is = ap (λ (m : Made Kind). m.value) on ∙ (ap (λ (m : Made Kind). m.value) found ∙ h.value_is);
-          locals_are =
-              ap (λ (m : Made Kind). map local_of after ++ m.locals) on
-              ∙ (ap (λ l. l ++ r.locals) made_here.locals_are
-              ∙ (append_assoc (map local_of now) c.locals r.locals
-              ∙ (ap (λ (m : Made Kind). map local_of now ++ m.locals) found ∙ h.locals_are)));
-        }
+        passes_on before now after (inner_kind said scope (length now) (roses_of (drop i kids))) all h (inner_kind said scope (length after) (roses_of (drop (i + 1) kids))) (rest_kind c) c.locals
+        (ap (λ (v : Option Complex). first_kind None (made v c.locals) (rest_kind c)) made_here.value_is ∙ (ap (λ s. first_kind s c (rest_kind c)) isnt ∙ sym kind_cut))
+        (ap (λ n. inner_kind said scope n (roses_of (drop (i + 1) kids))) (length_after now after c.locals made_here.locals_are)) made_here.locals_are
 
 -- ---- a place held for a declaration before those in it
-
-set_held : (xs : List Local) (x v : Local) (ys : List Local) → set ((xs ++ x ∷ []) ++ ys) (length xs) v ≡ xs ++ v ∷ ys
-set_held [] x v ys = refl
-set_held (a ∷ xs) x v ys = ap (λ l. a ∷ l) (set_held xs x v ys)
 
 put_in_place : (before held after all : List RawLocal) (x v : Local) (inner : List Local)
     → map local_of held ≡ map local_of before ++ x ∷ [] → map local_of after ≡ map local_of held ++ inner → map local_of all ≡ set (map local_of after) (length before) v
@@ -304,7 +252,7 @@ put_in_place before held after all x v inner first then put =
     put
     ∙ (ap (λ l. set l (length before) v) (then ∙ ap (λ l. l ++ inner) first)
     ∙ (ap (λ n. set ((map local_of before ++ x ∷ []) ++ inner) n v) (sym (length-map before local_of))
-    ∙ set_held (map local_of before) x v inner))
+    ∙ (ap (λ l. set l (length (map local_of before)) v) (append_assoc (map local_of before) (x ∷ []) inner) ∙ set-append_seam (map local_of before) x inner v)))
 
 module _ (said : Settings) (scope own : List (List ℕ × List ℕ)) (at : ℕ) (kids : Roses ItemLabel) where
   abbrev declared_element : Name → ℕ → Made raw.Element

@@ -1,9 +1,6 @@
 -- The rule of declared names, and that of items.
-use Rattle.std.proofs.Common.{◌≡◌, Bool, true, false, ◌&&◌, not, refl}
-use Rattle.std.specs.Prelude.{◌||◌, bytes_eq}
-use Rattle.xa_base.specs.Limits.{is_namespace, is_name_part}
-use Rattle.xa_base.specs.Namespaces.{xmlns_space, xsi_space}
-use Rattle.xa_base.specs.declared.texts.Name.{Name}
+use Rattle.std.proofs.Common.{◌≡◌, Bool, true, false, ◌&&◌, not, refl, ◌||◌, bytes_eq}
+use Rattle.schema_read.proofs.Words.{is_namespace, is_name_part, xmlns_space, xsi_space, Name}
 use Rattle.doc_text.specs.Sound as items
 use Rattle.schema_parts.specs.Declarable as schemas
 

@@ -1,14 +1,8 @@
 -- A particle that isn't dropped, in a document without a fault, may occur.
-use Rattle.std.proofs.Common.{◌≡◌, ℕ, ◌+◌, ◌-◌, ◌*◌, ◌≤◌, Bool, true, false, cond, List, [], ◌∷◌, Option, Some, None, inl, inr, refl, ap, subst, sym, ◌∙◌, arith}
-use Rattle.std.specs.Prelude.{◌&&◌, ◌||◌, ◌==◌, nat_le, nat_lt, codes, unwrap_or}
-use Rattle.std.specs.List.{list_all}
-use Rattle.std.proofs.lemmas.Bool.{and_from, and_parts, and_cases, or_parts, cases_Bool, le-leb, leb-true, ltb-false, eqb-true, eqb-false, both_ways}
-use Rattle.xa_base.specs.Entries.{beside}
+use Rattle.std.proofs.Common.{◌≡◌, ℕ, ◌+◌, ◌-◌, ◌*◌, ◌≤◌, Bool, true, false, cond, List, [], ◌∷◌, Option, Some, None, inl, inr, refl, ap, subst, sym, ◌∙◌, arith, ◌&&◌, ◌||◌, ◌==◌, nat_le, nat_lt, codes, unwrap_or}
+use Rattle.schema_read.proofs.Words.{list_all, and_from, and_parts, and_cases, or_parts, cases_Bool, le-leb, leb-true, ltb-false, eqb-true, eqb-false, both_ways, beside, digits_of, is_crossed, is_no_all, declares_xmlns, has_malformed, has_bad_value, least_of, most_of, never_occurs, ElementRole, allow_one}
 use Rattle.xa_base.specs.Digits.{is_digit, is_numeral, number_from, number_of}
 use Rattle.schema_rules.specs.Digits.{is_zero, small, is_over}
-use Rattle.schema_rules.specs.Values.{digits_of, is_crossed, is_no_all, declares_xmlns, has_malformed, has_bad_value, least_of, most_of, never_occurs}
-use Rattle.schema_rules.specs.declared.roles.ElementRole.{ElementRole}
-use Rattle.schema_parts.specs.Bounds.{allow_one}
 
 no_less : (n : ℕ) (bs : List ℕ) → n ≤ number_from n bs
 no_less n [] = omega arith

@@ -1,36 +1,19 @@
 -- The names that elements of a document without a fault declare.
-use Rattle.std.proofs.Common.{◌≡◌, ℕ, Bool, true, false, cond, List, [], ◌∷◌, Option, Some, None, inl, inr, refl, ap, sym, ◌∙◌, subst}
-use Rattle.std.specs.Prelude.{◌&&◌, ◌||◌, not, bytes_eq, codes}
-use Rattle.std.specs.List.{list_any, list_all}
-use Rattle.std.specs.Option.{is_some}
+use Rattle.std.proofs.Common.{◌≡◌, ℕ, Bool, true, false, cond, List, [], ◌∷◌, Option, Some, None, inl, inr, refl, ap, sym, ◌∙◌, subst, ◌&&◌, ◌||◌, not, bytes_eq, codes}
+use Rattle.schema_read.proofs.Words.{list_any, list_all, is_some, and_parts, and_from, and_cases, or_parts, and_right, not-false, not-true, not_from_false, cond_both, or_from, both_ways, bytes_eq-Decides, Name, Collapse, is_xml_char, is_ncname, beside, is_empty, has_xml_chars, spells_ncname, is_short_part, is_short_space, is_namespace, is_name_part, is_xmlns, xmlns_space, xsi_space, schema_space, xmlns_prefix, treated, is_sound_name, is_sound_attribute, has_name, are_sound_attributes, kept_spaces, is_declarable, is_declarable_attribute, kept_as_written, in_use, own_attributes, has, is_declared_name, is_target, has_malformed, declares_xmlns, is_crossed, is_no_all, has_bad_value, ElementRole, GlobalAttribute, LocalAttribute, value_or_empty, is_qualified, local_name}
 use Rattle.std.specs.Str.{chars, is_utf8}
-use Rattle.std.proofs.lemmas.Bool.{and_parts, and_from, and_cases, or_parts, and_right, not-false, not-true, not_from_false, cond_both, or_from, both_ways}
-use Rattle.std.proofs.lemmas.Slice.Eq.{bytes_eq-Decides}
 use Rattle.std.proofs.Math.Utf8.{encode}
-use Rattle.xa_base.specs.declared.texts.Name.{Name}
-use Rattle.xa_base.specs.declared.white_space.WhiteSpace.TheVariants.{Collapse}
-use Rattle.xa_base.specs.Characters.{is_xml_char, is_ncname}
-use Rattle.xa_base.specs.Entries.{beside}
-use Rattle.xa_base.specs.Limits.{is_empty, has_xml_chars, spells_ncname, is_short_part, is_short_space, is_namespace, is_name_part, is_xmlns}
-use Rattle.xa_base.specs.Namespaces.{xmlns_space, xsi_space, schema_space, xmlns_prefix}
-use Rattle.xa_base.specs.WhiteSpace.{treated}
-use Rattle.doc_text.specs.Sound.{is_sound_name, is_sound_attribute, has_name, are_sound_attributes}
-use Rattle.schema_parts.specs.Declarable.{kept_spaces, is_declarable, is_declarable_attribute}
-use Rattle.schema_rules.specs.Attributes.{kept_as_written, in_use, own_attributes, has}
-use Rattle.schema_rules.specs.Values.{is_declared_name, is_target, is_well_formed, has_malformed, is_named, declares_xmlns, is_crossed, is_no_all, has_bad_value}
-use Rattle.schema_rules.specs.declared.roles.ElementRole.{ElementRole}
-use Rattle.schema_rules.specs.declared.roles.ElementRole.TheVariants.{GlobalAttribute, LocalAttribute}
-use Rattle.schema_read.specs.Names.{value_or_empty}
-use Rattle.schema_read.specs.Attributes.{is_qualified, local_name}
+use Rattle.schema_rules.specs.Values.{is_well_formed}
+use Rattle.schema_rules.specs.Values.{is_named}
 use Rattle.schema_read.proofs.CollapsedTexts.{collapsed_xml}
 
 -- ---- each value of an attribute
 
-abbrev Entries : (List ℕ → List ℕ → Type 0) → List (List ℕ × List ℕ) → Type 0
+abbrev pub Entries : (List ℕ → List ℕ → Type 0) → List (List ℕ × List ℕ) → Type 0
 Entries P [] = Unit {0}
 Entries P (a ∷ own) = P a.0 a.1 × Entries P own
 
-entry : (P : List ℕ → List ℕ → Type 0) (w v : List ℕ) (own : List (List ℕ × List ℕ)) → Entries P own → beside w own ≡ Some v → P w v
+pub entry : (P : List ℕ → List ℕ → Type 0) (w v : List ℕ) (own : List (List ℕ × List ℕ)) → Entries P own → beside w own ≡ Some v → P w v
 entry P w v [] h is = absurd (cc)
 entry P w v (a ∷ own) h is = by (λ found. entry P w v own h.1 found) (bytes_eq a.0 w) refl is
   where

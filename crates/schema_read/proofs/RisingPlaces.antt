@@ -1,8 +1,6 @@
 -- Lists of places, each greater than the one before.
-use Rattle.std.proofs.Common.{◌≡◌, ℕ, ◌+◌, ◌<◌, ◌≤◌, true, List, [], ◌∷◌, ◌++◌, length, refl, arith}
-use Rattle.std.specs.Prelude.{nat_lt}
-use Rattle.std.proofs.lemmas.Bool.{lt-ltb, and_from}
-use Rattle.schema_parts.specs.Bounds.{follow, ascend}
+use Rattle.std.proofs.Common.{◌≡◌, ℕ, ◌+◌, ◌<◌, ◌≤◌, true, List, [], ◌∷◌, ◌++◌, length, refl, arith, nat_lt}
+use Rattle.schema_read.proofs.Words.{lt-ltb, and_from, follow, ascend}
 
 -- from the first number on and below the second one
 abbrev pub Rise : ℕ → ℕ → List ℕ → Type 0
@@ -16,10 +14,6 @@ rise_le least end (p ∷ ps) h = let le = h.0 in let k = rise_le (p + 1) end ps 
 pub rise_lower : (less least end : ℕ) (ps : List ℕ) → less ≤ least → Rise least end ps → Rise less end ps
 rise_lower less least end [] le h = omega (arith, le, h)
 rise_lower less least end (p ∷ ps) le h = (let k = h.0 in omega (arith, le, k), h.1)
-
-pub rise_upper : (least end more : ℕ) (ps : List ℕ) → end ≤ more → Rise least end ps → Rise least more ps
-rise_upper least end more [] le h = omega (arith, le, h)
-rise_upper least end more (p ∷ ps) le h = (h.0, rise_upper (p + 1) end more ps le h.1)
 
 pub rise_append : (least middle end : ℕ) (ps qs : List ℕ) → Rise least middle ps → Rise middle end qs → Rise least end (ps ++ qs)
 rise_append least middle end [] qs h g = rise_lower least middle end qs h g

@@ -1,30 +1,10 @@
 -- Where there is room for what is read, there is room for each part of it.
-use Rattle.std.proofs.Common.{◌≡◌, ℕ, ◌+◌, ◌<◌, ◌^◌, Bool, true, false, cond, List, [], ◌∷◌, ◌++◌, length, map, drop, get_or, Option, Some, None, ap, sym, ◌∙◌, subst, append_assoc, length-append, arith}
-use Rattle.std.specs.Prelude.{codes}
-use Rattle.std.proofs.lemmas.List.{length-map, drop_more}
-use Rattle.xa_base.specs.declared.texts.Name.{Name}
-use Rattle.label_tree.specs.Rose.{Rose, Roses, roses_of, label_of, Allowed}
-use Rattle.label_tree.proofs.Kids.{roses_of-drop}
-use Rattle.item_tree.specs.declared.label.ItemLabel.{ItemLabel}
-use Rattle.content_models.specs.Kids.{MayHave}
-use Rattle.content_models.specs.declared.particles.ParticleLabel.{ParticleLabel}
-use Rattle.schema_parts.specs.declared.declarations.RawContent.{RawContent}
-use Rattle.schema_parts.specs.declared.declarations.RawLocal.{RawLocal}
+use Rattle.std.proofs.Common.{◌≡◌, ℕ, ◌+◌, ◌<◌, ◌^◌, Bool, true, false, cond, List, [], ◌∷◌, ◌++◌, length, map, drop, get_or, Option, Some, None, ap, sym, ◌∙◌, subst, append_assoc, length-append, arith, codes}
+use Rattle.schema_read.proofs.Words.{length-map, drop_more, Name, Rose, Roses, roses_of, label_of, Allowed, roses_of-drop, ItemLabel, MayHave, ParticleLabel, RawContent, RawLocal, Use, Complex, Kind, NamedKind, Local, Reference, Own, TypeDefinition, element_of, type_of, local_of, beside, Globals, type_ref, referred, local_name, simple_type, Settings, content_of_nothing, model_of, complex_by, complex_with, Made, made, element_by, kind_by, declared, declared_with, reference_to, and_particle, first_group, first_kind, particle_at, particles_among, group_among, inner_kind, complex_type, Parts, complex_types, parts_by, parts_among, ContentHeld, BodyHeld, FoundHeld, KindHeld, ElementHeld, LocalHeld, ElementsHeld, TypesHeld, LocalsHeld, Numbered, HasRoom, IsHeld, PartsHeld}
 use Rattle.schema_parts.specs.Raw as raw
-use Rattle.schema_parts.specs.Raw.{Use, Complex, Kind, NamedKind, Local, Reference, Own, TypeDefinition}
-use Rattle.schema_parts.specs.Seen.{element_of, type_of, local_of}
-use Rattle.xa_base.specs.Entries.{beside}
-use Rattle.schema_read.specs.declared.globals.Globals.{Globals}
-use Rattle.schema_read.specs.Names.{type_ref, referred}
-use Rattle.schema_read.specs.Attributes.{local_name}
-use Rattle.schema_read.specs.SimpleTypes.{simple_type}
-use Rattle.schema_read.specs.Settings.{Settings}
-use Rattle.schema_read.specs.Contents.{content_of_nothing, model_of, complex_by, complex_with}
-use Rattle.schema_read.specs.Particles.{Made, made, element_by, kind_by, declared, declared_with, reference_to, and_particle, first_group, first_kind, particle_at, particles_among, group_among, inner_kind, complex_type}
-use Rattle.schema_read.specs.Raw.{Parts, and_parts, complex_types, parts_by, parts_among}
-use Rattle.schema_read.specs.Private.Held.{ContentHeld, BodyHeld, FoundHeld, KindHeld, ElementHeld, LocalHeld, ElementsHeld, TypesHeld, LocalsHeld, Numbered, HasRoom, IsHeld, PartsHeld}
+use Rattle.schema_read.specs.Raw.{and_parts}
 use Rattle.schema_read.proofs.Adding.{PartsAhead}
-use Rattle.schema_read.proofs.HeldParts.{locals_held_append}
+use Rattle.schema_read.proofs.Held.{locals_held_append}
 use Rattle.schema_read.proofs.Making.{Ahead, RestAhead, length_after}
 
 locals_held_left : (ls ms : List Local) → LocalsHeld (ls ++ ms) → LocalsHeld ls

@@ -1,87 +1,48 @@
 -- What simple types are, by the label and the kids of their elements.
 use Rattle.std.proofs.Common.{◌≡◌, ℕ, ◌<◌, ◌+◌, Bool, true, false, cond, List, ◌++◌, length, drop, get_or, refl, ap, sym, ◌∙◌, Option, Some, None}
-use Rattle.std.specs.Option.{option_or, is_some}
-use Rattle.xa_base.specs.declared.texts.Name.{Name}
-use Rattle.label_tree.specs.Rose.{Rose, node, Roses, roses_of, list_of, label_of, kids_of}
-use Rattle.label_tree.proofs.Roses.{roses_of-list_of}
-use Rattle.label_tree.proofs.Kids.{roses_of-drop}
-use Rattle.item_tree.specs.declared.label.ItemLabel.{ItemLabel}
-use Rattle.item_tree.specs.declared.label.ItemLabel.TheVariants.{Element, Text}
-use Rattle.schema_parts.specs.Raw.{Bases, How}
-use Rattle.schema_rules.specs.Attributes.{own_attributes}
-use Rattle.schema_rules.specs.Children.{is_in}
-use Rattle.schema_rules.specs.declared.children.ChildSet.TheVariants.{Varieties, SimpleTypes}
-use Rattle.schema_read.specs.SimpleTypes.{made_by, placed, defined, and_inner, variety_at, variety_among, simple_type, inner_types}
+use Rattle.schema_read.proofs.Words.{option_or, is_some, cond-true, cond-false, Name, Rose, node, Roses, roses_of, list_of, label_of, kids_of, roses_of-list_of, roses_of-drop, ItemLabel, Element, Text, Bases, How, own_attributes, is_in, Varieties, SimpleTypes, made_by, placed, defined, and_inner, variety_at, variety_among, simple_type, inner_types}
 
-pub if_false : {A : Type 0} (b : Bool) (x y : A) → b ≡ false → cond b x y ≡ y
-if_false true x y is = absurd (cc)
-if_false false x y is = refl
+module _ (outer : List (List ℕ × List ℕ)) where
+  pub variety_at-text : (t : Rose ItemLabel) (text : List ℕ) (at : ℕ) → label_of t ≡ Text text at → None ≡ variety_at outer t
+  variety_at-text (node l ts) text at is = sym (ap (λ k. variety_at outer (node k ts)) is)
 
-pub if_true : {A : Type 0} (b : Bool) (x y : A) → b ≡ true → cond b x y ≡ x
-if_true true x y is = refl
-if_true false x y is = absurd (cc)
-
-module _ (outer : List (List ℕ × List ℕ)) (t : Rose ItemLabel) where
-  pub variety_at-text : (text : List ℕ) (at : ℕ) → label_of t ≡ Text text at → None ≡ variety_at outer t
-  variety_at-text text at = elim t as (λ u. label_of u ≡ Text text at → None ≡ variety_at outer u) [
-    | node l ts ↦ λ is. sym (ap (λ k. variety_at outer (node k ts)) is)
-  ]
-
-  pub simple_type-text : (text : List ℕ) (at : ℕ) → label_of t ≡ Text text at → None ≡ simple_type outer t
-  simple_type-text text at = elim t as (λ u. label_of u ≡ Text text at → None ≡ simple_type outer u) [
-    | node l ts ↦ λ is. sym (ap (λ k. simple_type outer (node k ts)) is)
-  ]
+  pub simple_type-text : (t : Rose ItemLabel) (text : List ℕ) (at : ℕ) → label_of t ≡ Text text at → None ≡ simple_type outer t
+  simple_type-text (node l ts) text at is = sym (ap (λ k. simple_type outer (node k ts)) is)
 
   module _ (name : Name) (attributes : List (Name × List ℕ)) (declares : List (List ℕ × List ℕ)) (at : ℕ) where
-    variety_node : (l : ItemLabel) (ts : Roses ItemLabel) → l ≡ Element name attributes declares at
-        → variety_at outer (node l ts)
-        ≡ cond (is_in Varieties l) (placed at (made_by name.local (declares ++ outer) (own_attributes attributes) (inner_types (declares ++ outer) (roses_of (list_of ts))) (list_of ts))) None
-    variety_node l ts is =
+    variety_at-element : (t : Rose ItemLabel) → label_of t ≡ Element name attributes declares at
+        → variety_at outer t
+        ≡ cond (is_in Varieties (label_of t)) (placed at (made_by name.local (declares ++ outer) (own_attributes attributes) (inner_types (declares ++ outer) (roses_of (kids_of t))) (kids_of t))) None
+    variety_at-element (node l ts) is =
         ap (λ k. variety_at outer (node k ts)) is
         ∙ (ap (λ us. cond (is_in Varieties (Element name attributes declares at))
         (placed at (made_by name.local (declares ++ outer) (own_attributes attributes) (inner_types (declares ++ outer) us) (list_of ts))) None) (sym (roses_of-list_of ts))
         ∙ ap (λ k. cond (is_in Varieties k)
         (placed at (made_by name.local (declares ++ outer) (own_attributes attributes) (inner_types (declares ++ outer) (roses_of (list_of ts))) (list_of ts))) None) (sym is))
 
-    pub variety_at-element : label_of t ≡ Element name attributes declares at
-        → variety_at outer t
-        ≡ cond (is_in Varieties (label_of t)) (placed at (made_by name.local (declares ++ outer) (own_attributes attributes) (inner_types (declares ++ outer) (roses_of (kids_of t))) (kids_of t))) None
-    variety_at-element = elim t as (λ u. label_of u ≡ Element name attributes declares at
-        → variety_at outer u
-        ≡ cond (is_in Varieties (label_of u)) (placed at (made_by name.local (declares ++ outer) (own_attributes attributes) (inner_types (declares ++ outer) (roses_of (kids_of u))) (kids_of u))) None) [
-          | node l ts ↦ variety_node l ts
-        ]
-
-    simple_node : (l : ItemLabel) (ts : Roses ItemLabel) → l ≡ Element name attributes declares at
-        → simple_type outer (node l ts) ≡ cond (is_in SimpleTypes l) (defined at (variety_among (declares ++ outer) (roses_of (list_of ts)))) None
-    simple_node l ts is =
+    simple_type-element : (t : Rose ItemLabel) → label_of t ≡ Element name attributes declares at
+        → simple_type outer t ≡ cond (is_in SimpleTypes (label_of t)) (defined at (variety_among (declares ++ outer) (roses_of (kids_of t)))) None
+    simple_type-element (node l ts) is =
         ap (λ k. simple_type outer (node k ts)) is
         ∙ (ap (λ us. cond (is_in SimpleTypes (Element name attributes declares at)) (defined at (variety_among (declares ++ outer) us)) None) (sym (roses_of-list_of ts))
         ∙ ap (λ k. cond (is_in SimpleTypes k) (defined at (variety_among (declares ++ outer) (roses_of (list_of ts)))) None) (sym is))
 
-    pub simple_type-element : label_of t ≡ Element name attributes declares at
-        → simple_type outer t ≡ cond (is_in SimpleTypes (label_of t)) (defined at (variety_among (declares ++ outer) (roses_of (kids_of t)))) None
-    simple_type-element = elim t as (λ u. label_of u ≡ Element name attributes declares at
-        → simple_type outer u ≡ cond (is_in SimpleTypes (label_of u)) (defined at (variety_among (declares ++ outer) (roses_of (kids_of u)))) None) [
-          | node l ts ↦ simple_node l ts
-        ]
+  module _ (t : Rose ItemLabel) (name : Name) (attributes : List (Name × List ℕ)) (declares : List (List ℕ × List ℕ)) (at : ℕ) (label : label_of t ≡ Element name attributes declares at) where
+    -- the element is none, or one of these
+    pub no_variety : is_in Varieties (label_of t) ≡ false → None ≡ variety_at outer t
+    no_variety is = sym (variety_at-element name attributes declares at t label ∙ cond-false (is_in Varieties (label_of t)) (placed at (made_by name.local (declares ++ outer) (own_attributes attributes) (inner_types (declares ++ outer) (roses_of (kids_of t))) (kids_of t))) None is)
 
-    module _ (label : label_of t ≡ Element name attributes declares at) where
-      -- the element is none, or one of these
-      pub no_variety : is_in Varieties (label_of t) ≡ false → None ≡ variety_at outer t
-      no_variety is = sym (variety_at-element label ∙ if_false (is_in Varieties (label_of t)) (placed at (made_by name.local (declares ++ outer) (own_attributes attributes) (inner_types (declares ++ outer) (roses_of (kids_of t))) (kids_of t))) None is)
+    pub its_variety : is_in Varieties (label_of t) ≡ true
+        → placed at (made_by name.local (declares ++ outer) (own_attributes attributes) (inner_types (declares ++ outer) (roses_of (kids_of t))) (kids_of t)) ≡ variety_at outer t
+    its_variety is =
+        sym (variety_at-element name attributes declares at t label
+        ∙ cond-true (is_in Varieties (label_of t)) (placed at (made_by name.local (declares ++ outer) (own_attributes attributes) (inner_types (declares ++ outer) (roses_of (kids_of t))) (kids_of t))) None is)
 
-      pub its_variety : is_in Varieties (label_of t) ≡ true
-          → placed at (made_by name.local (declares ++ outer) (own_attributes attributes) (inner_types (declares ++ outer) (roses_of (kids_of t))) (kids_of t)) ≡ variety_at outer t
-      its_variety is =
-          sym (variety_at-element label
-          ∙ if_true (is_in Varieties (label_of t)) (placed at (made_by name.local (declares ++ outer) (own_attributes attributes) (inner_types (declares ++ outer) (roses_of (kids_of t))) (kids_of t))) None is)
+    pub no_simple_type : is_in SimpleTypes (label_of t) ≡ false → None ≡ simple_type outer t
+    no_simple_type is = sym (simple_type-element name attributes declares at t label ∙ cond-false (is_in SimpleTypes (label_of t)) (defined at (variety_among (declares ++ outer) (roses_of (kids_of t)))) None is)
 
-      pub no_simple_type : is_in SimpleTypes (label_of t) ≡ false → None ≡ simple_type outer t
-      no_simple_type is = sym (simple_type-element label ∙ if_false (is_in SimpleTypes (label_of t)) (defined at (variety_among (declares ++ outer) (roses_of (kids_of t)))) None is)
-
-      pub its_simple_type : is_in SimpleTypes (label_of t) ≡ true → defined at (variety_among (declares ++ outer) (roses_of (kids_of t))) ≡ simple_type outer t
-      its_simple_type is = sym (simple_type-element label ∙ if_true (is_in SimpleTypes (label_of t)) (defined at (variety_among (declares ++ outer) (roses_of (kids_of t)))) None is)
+    pub its_simple_type : is_in SimpleTypes (label_of t) ≡ true → defined at (variety_among (declares ++ outer) (roses_of (kids_of t))) ≡ simple_type outer t
+    its_simple_type is = sym (simple_type-element name attributes declares at t label ∙ cond-true (is_in SimpleTypes (label_of t)) (defined at (variety_among (declares ++ outer) (roses_of (kids_of t)))) None is)
 
 -- the kid with number i of a list, as a loop has it
 module _ (scope : List (List ℕ × List ℕ)) (kids : List (Rose ItemLabel)) (i : ℕ) (kid : Rose ItemLabel) (at : i < length kids) (here : kid ≡ get_or kids i kid) where

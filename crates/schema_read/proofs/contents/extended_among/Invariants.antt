@@ -1,7 +1,5 @@
 use Rattle.std.proofs.Common.{◌≡◌, drop}
-use Rattle.schema_rules.specs.Scopes.{bindings_in}
-use Rattle.schema_read.specs.Settings.{said}
-use Rattle.schema_read.specs.Contents.{extended_among}
+use Rattle.schema_read.proofs.Words.{bindings_in, said, extended_among}
 use Rattle.schema_read.proofs.contents.extended_among.Given as goal
 
 -- the first of those that are left

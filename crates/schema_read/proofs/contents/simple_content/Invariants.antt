@@ -1,7 +1,5 @@
 use Rattle.std.proofs.Common.{◌≡◌, drop}
-use Rattle.schema_rules.specs.Scopes.{bindings_in}
-use Rattle.schema_read.specs.Settings.{said}
-use Rattle.schema_read.specs.Contents.{simple_content}
+use Rattle.schema_read.proofs.Words.{bindings_in, said, simple_content}
 use Rattle.schema_read.proofs.contents.simple_content.Given as goal
 
 -- the first of those that are left

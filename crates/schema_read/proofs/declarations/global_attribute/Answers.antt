@@ -1,8 +1,5 @@
 use Rattle.std.proofs.Common.{sym, ◌∙◌, ap, ◌++◌, Some}
-use Rattle.label_tree.specs.Rose.{kids_of}
-use Rattle.schema_rules.specs.Attributes.{own_attributes}
-use Rattle.schema_rules.specs.Scopes.{bindings_in}
-use Rattle.schema_read.specs.Attributes.{attribute_by, global_attribute}
+use Rattle.schema_read.proofs.Words.{kids_of, own_attributes, bindings_in, attribute_by, global_attribute}
 use Rattle.schema_read.proofs.declarations.global_attribute.Goals as goal
 
 pub returns : goal.returns

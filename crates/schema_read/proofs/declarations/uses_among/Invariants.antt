@@ -1,7 +1,5 @@
 use Rattle.std.proofs.Common.{◌≡◌, ◌++◌, drop}
-use Rattle.schema_parts.specs.Seen.{uses_in}
-use Rattle.schema_rules.specs.Scopes.{bindings_in}
-use Rattle.schema_read.specs.Attributes.{uses_among}
+use Rattle.schema_read.proofs.Words.{uses_in, bindings_in, uses_among}
 use Rattle.schema_read.proofs.declarations.uses_among.Given as goal
 
 -- those so far and those of the rest are all

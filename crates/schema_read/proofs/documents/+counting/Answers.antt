@@ -1,8 +1,5 @@
 use Rattle.std.proofs.Common.{sym, ◌∙◌, ap, ◌++◌, ◌+◌, drop, arith}
-use Rattle.label_tree.specs.Rose.{roses_of}
-use Rattle.label_tree.proofs.Kids.{kid-count-le}
-use Rattle.label_tree.proofs.Roses.{node_count-kids}
-use Rattle.schema_read.specs.Counted.{counted_here, counted_inside, counted_at, counted_among}
+use Rattle.schema_read.proofs.Words.{roses_of, kid-count-le, node_count-kids, counted_here, counted_inside, counted_at, counted_among}
 use Rattle.schema_read.proofs.Counting.{counted_at-element, one_more_counted, inside_counted}
 use Rattle.schema_read.proofs.documents.+counting.Goals as goal
 

@@ -1,6 +1,5 @@
 use Rattle.std.proofs.Common.{◌≡◌, ◌++◌, ◌+◌, ◌*◌, drop}
-use Rattle.label_tree.specs.Rose.{node_count, count_all, roses_of}
-use Rattle.schema_read.specs.Counted.{counted_among}
+use Rattle.schema_read.proofs.Words.{node_count, count_all, roses_of, counted_among}
 use Rattle.schema_read.proofs.documents.+counting.Given as goal
 
 abbrev pub decreases-count_at : goal.decreases-count_at

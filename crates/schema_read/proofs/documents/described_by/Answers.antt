@@ -1,9 +1,6 @@
 use Rattle.std.proofs.Common.{sym, ap, ◌∙◌, subst}
-use Rattle.schema_rules.specs.Scopes.{bindings_in}
-use Rattle.schema_read.specs.Keeping.{Keeps}
-use Rattle.schema_read.specs.Settings.{said}
-use Rattle.schema_read.specs.Raw.{Parts, parts_among, document_with}
-use Rattle.schema_read.proofs.WholeDocument.{same_document}
+use Rattle.schema_read.proofs.Words.{bindings_in, Keeps, said, Parts, parts_among, document_with}
+use Rattle.schema_read.proofs.Adding.{same_document}
 use Rattle.schema_read.proofs.documents.described_by.Goals as goal
 
 pub sealed-requires : goal.sealed-requires

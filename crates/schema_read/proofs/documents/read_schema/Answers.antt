@@ -1,10 +1,6 @@
 use Rattle.std.proofs.Common.{◌≡◌, true, sym, ◌∙◌, ap, subst, Some, None}
-use Rattle.label_tree.specs.Rose.{label_of}
-use Rattle.doc_text.specs.Sound.{is_element}
-use Rattle.schema_faults.specs.Faults.{first_fault, reasons}
+use Rattle.schema_read.proofs.Words.{label_of, is_element, first_fault, reasons, Keeps, raw_of}
 use Rattle.schema_faults.proofs.ShownLaws.{shown, no_fault}
-use Rattle.schema_read.specs.Keeping.{Keeps}
-use Rattle.schema_read.specs.Raw.{raw_of}
 use Rattle.schema_read.proofs.KeptDocument.{document_keeps}
 use Rattle.schema_read.proofs.documents.read_schema.Goals as goal
 

@@ -1,14 +1,5 @@
 use Rattle.std.proofs.Common.{rules, ◌≡◌, ◌++◌, true, sym, ◌∙◌, ap, ◌+◌, drop, arith}
-use Rattle.std.proofs.lemmas.List.{drop_all}
-use Rattle.label_tree.specs.Rose.{roses_of, kids_of}
-use Rattle.schema_rules.specs.Attributes.{own_attributes}
-use Rattle.label_tree.proofs.Kids.{kid-count-le}
-use Rattle.label_tree.proofs.Roses.{node_count-kids}
-use Rattle.schema_parts.specs.Seen.{bases_in}
-use Rattle.schema_rules.specs.Scopes.{bindings_in}
-use Rattle.schema_read.specs.SimpleTypes.{joined, and_inner, placed, defined, inner_types}
-use Rattle.schema_rules.specs.Children.{is_in}
-use Rattle.schema_rules.specs.declared.children.ChildSet.TheVariants.{Varieties, SimpleTypes}
+use Rattle.schema_read.proofs.Words.{drop_all, roses_of, kids_of, own_attributes, kid-count-le, node_count-kids, bases_in, bindings_in, joined, and_inner, placed, defined, inner_types, is_in, Varieties, SimpleTypes}
 use Rattle.schema_read.proofs.Bases.{joined-none, not_false}
 use Rattle.schema_read.proofs.Simple.{inner_cut, its_simple_type, its_variety, made_same}
 use Rattle.schema_read.proofs.simple_definitions.+simple_types.Goals as goal

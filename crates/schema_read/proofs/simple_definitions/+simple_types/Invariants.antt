@@ -1,8 +1,5 @@
 use Rattle.std.proofs.Common.{◌≡◌, ◌+◌, ◌*◌, drop}
-use Rattle.label_tree.specs.Rose.{node_count, count_all, roses_of}
-use Rattle.schema_parts.specs.Seen.{bases_in}
-use Rattle.schema_rules.specs.Scopes.{bindings_in}
-use Rattle.schema_read.specs.SimpleTypes.{joined, variety_among, inner_types}
+use Rattle.schema_read.proofs.Words.{node_count, count_all, roses_of, bases_in, bindings_in, joined, variety_among, inner_types}
 use Rattle.schema_read.proofs.simple_definitions.+simple_types.Given as goal
 
 abbrev pub decreases-variety_at : goal.decreases-variety_at

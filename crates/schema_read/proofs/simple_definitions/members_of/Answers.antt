@@ -1,6 +1,5 @@
 use Rattle.std.proofs.Common.{ap, ◌∙◌}
-use Rattle.schema_parts.specs.Seen.{bases_in}
-use Rattle.schema_read.specs.SimpleTypes.{joined}
+use Rattle.schema_read.proofs.Words.{bases_in, joined}
 use Rattle.schema_read.proofs.Bases.{bases_in-append}
 use Rattle.schema_read.proofs.simple_definitions.members_of.Goals as goal
 

@@ -1,11 +1,6 @@
 use Rattle.std.proofs.Common.{ap, sym, ◌∙◌}
-use Rattle.schema_parts.specs.Raw.{Named, more}
-use Rattle.schema_parts.specs.Seen.{bases_in}
-use Rattle.schema_parts.proofs.Seen.{named_base}
+use Rattle.schema_read.proofs.Words.{Named, more, bases_in, named_base, words_of, bindings_in, joined, named_in}
 use Rattle.schema_parts.specs.declared.simple_definitions.RawBase.TheVariants as base
-use Rattle.xa_base.specs.WhiteSpace.{words_of}
-use Rattle.schema_rules.specs.Scopes.{bindings_in}
-use Rattle.schema_read.specs.SimpleTypes.{joined, named_in}
 use Rattle.schema_read.proofs.Bases.{bases_in-push, joined-none}
 use Rattle.schema_read.proofs.simple_definitions.named_in.Goals as goal
 

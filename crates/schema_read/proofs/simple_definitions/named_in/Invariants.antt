@@ -1,10 +1,7 @@
 use Rattle.std.proofs.Common.{◌≡◌, length}
 use denote.Shadow.{shadow}
 use denote.Text.{Utf8}
-use Rattle.xa_base.specs.WhiteSpace.{words_of}
-use Rattle.schema_parts.specs.Seen.{bases_in}
-use Rattle.schema_rules.specs.Scopes.{bindings_in}
-use Rattle.schema_read.specs.SimpleTypes.{joined, named_in}
+use Rattle.schema_read.proofs.Words.{words_of, bases_in, bindings_in, joined, named_in}
 use Rattle.schema_read.proofs.simple_definitions.named_in.Given as goal
 
 -- those so far and those of the rest are all

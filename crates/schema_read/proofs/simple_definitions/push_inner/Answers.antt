@@ -1,7 +1,5 @@
 use Rattle.std.proofs.Common.{ap, sym, ◌∙◌}
-use Rattle.std.specs.Option.{option_map}
-use Rattle.schema_parts.specs.Seen.{bases_in, simple_of}
-use Rattle.schema_read.specs.SimpleTypes.{joined, and_inner}
+use Rattle.schema_read.proofs.Words.{option_map, bases_in, simple_of, joined, and_inner}
 use Rattle.schema_read.proofs.Bases.{inner_push}
 use Rattle.schema_read.proofs.simple_definitions.push_inner.Goals as goal
 

@@ -1,6 +1,5 @@
 use Rattle.std.proofs.Common.{ap, ◌∙◌}
-use Rattle.schema_parts.specs.Raw.{UnionOf}
-use Rattle.schema_parts.proofs.Seen.{union}
+use Rattle.schema_read.proofs.Words.{UnionOf, union}
 use Rattle.schema_read.proofs.simple_definitions.union_of.Goals as goal
 
 pub returns : goal.returns

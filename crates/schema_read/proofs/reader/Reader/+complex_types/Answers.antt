@@ -1,24 +1,8 @@
-use Rattle.std.proofs.Common.{rules, arith, ◌≡◌, true, Option, Some, ◌++◌, length, option_map, refl, sym, ◌∙◌, ap, subst, ◌+◌}
-use Rattle.std.specs.Prelude.{codes}
-use Rattle.label_tree.specs.Rose.{Rose, roses_of}
-use Rattle.content_models.specs.declared.particles.ParticleLabel.{ParticleLabel}
-use Rattle.label_tree.proofs.Kids.{kid-count-le}
-use Rattle.label_tree.proofs.Roses.{node_count-kids}
-use Rattle.schema_parts.specs.Raw.{Complex, Reference}
+use Rattle.std.proofs.Common.{rules, arith, ◌≡◌, true, Option, Some, ◌++◌, length, option_map, refl, sym, ◌∙◌, ap, subst, ◌+◌, codes}
+use Rattle.schema_read.proofs.Words.{Rose, roses_of, ParticleLabel, kid-count-le, node_count-kids, Complex, Reference, bindings_in, is_in, Particles, never_occurs, is_true, no_name, local_name, is_named, said, Makes, made_some, BodyHeld, FoundHeld, HasRoom, IsHeld}
 use Rattle.schema_parts.specs.Seen as seen
-use Rattle.schema_rules.specs.Scopes.{bindings_in}
-use Rattle.schema_rules.specs.Children.{is_in}
-use Rattle.schema_rules.specs.declared.children.ChildSet.TheVariants.{Particles}
-use Rattle.schema_rules.specs.Values.{never_occurs}
-use Rattle.schema_faults.specs.Reasons.{is_true}
-use Rattle.schema_read.specs.Names.{no_name}
-use Rattle.schema_read.specs.Attributes.{local_name}
-use Rattle.schema_read.specs.Contents.{is_named}
-use Rattle.schema_read.specs.Settings.{said}
 use Rattle.schema_read.specs.Particles as parts
-use Rattle.schema_read.specs.Particles.{Makes, made_some}
 use Rattle.schema_read.proofs.Bases.{not_false}
-use Rattle.schema_read.specs.Private.Held.{BodyHeld, FoundHeld, HasRoom, IsHeld}
 use Rattle.schema_read.proofs.Rooms.{particle_room, group_room, kind_held, declared_held}
 use Rattle.schema_read.proofs.Making.{makes_as, makes_some, particle_inside, same_particle, same_complex, its_particle, its_complex_type, kind_passed, group_passed, held_within, declared_in_place}
 use Rattle.schema_read.proofs.reader.Reader.+complex_types.Goals as goal

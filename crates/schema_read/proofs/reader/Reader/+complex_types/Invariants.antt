@@ -1,8 +1,5 @@
 use Rattle.std.proofs.Common.{◌+◌, ◌*◌, drop, length}
-use Rattle.label_tree.specs.Rose.{node_count, count_all, roses_of}
-use Rattle.schema_rules.specs.Scopes.{bindings_in}
-use Rattle.schema_read.specs.Settings.{said}
-use Rattle.schema_read.specs.Particles.{particles_among, group_among, inner_kind}
+use Rattle.schema_read.proofs.Words.{node_count, count_all, roses_of, bindings_in, said, particles_among, group_among, inner_kind}
 use Rattle.schema_read.proofs.Making.{Ahead, RestAhead}
 use Rattle.schema_read.proofs.reader.Reader.+complex_types.Given as goal
 

@@ -1,7 +1,5 @@
 use Rattle.std.proofs.Common.{rules, ◌≡◌, true, OnOk, length, refl, sym, ◌∙◌, subst}
-use Rattle.schema_rules.specs.Scopes.{bindings_in}
-use Rattle.schema_read.specs.Settings.{said}
-use Rattle.schema_read.specs.Raw.{Parts, Adds, parts_named}
+use Rattle.schema_read.proofs.Words.{bindings_in, said, Parts, Adds, parts_named}
 use Rattle.schema_read.proofs.Bases.{not_false}
 use Rattle.schema_read.proofs.Adding.{its_parts}
 use Rattle.schema_read.proofs.reader.Reader.add.Goals as goal

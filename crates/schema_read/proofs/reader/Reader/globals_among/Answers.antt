@@ -1,6 +1,4 @@
-use Rattle.schema_rules.specs.Scopes.{bindings_in}
-use Rattle.schema_read.specs.Settings.{said}
-use Rattle.schema_read.specs.Raw.{parts_among}
+use Rattle.schema_read.proofs.Words.{bindings_in, said, parts_among}
 use Rattle.schema_read.proofs.Adding.{more_parts}
 use Rattle.schema_read.proofs.Rooms.{parts_of_kid}
 use Rattle.schema_read.proofs.reader.Reader.globals_among.Goals as goal

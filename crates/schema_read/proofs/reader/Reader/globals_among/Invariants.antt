@@ -1,7 +1,5 @@
-use Rattle.schema_rules.specs.Scopes.{bindings_in}
+use Rattle.schema_read.proofs.Words.{bindings_in, said, parts_among}
 use Rattle.std.proofs.Common.{drop, length}
-use Rattle.schema_read.specs.Settings.{said}
-use Rattle.schema_read.specs.Raw.{parts_among}
 use Rattle.schema_read.proofs.Adding.{PartsAhead}
 use Rattle.schema_read.proofs.reader.Reader.globals_among.Given as goal
 
