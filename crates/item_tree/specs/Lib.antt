@@ -3,3 +3,4 @@ pub mod Growing
 pub mod Meaning
 pub mod Building
 pub mod Seen
+pub mod Counts

@@ -36,7 +36,15 @@ fn push_part<'a>(part: Part<'a>, out: &mut Vec<ComplexType<'a>>) -> Result<(), M
             })?;
             Ok(())
         }
-        _ => Ok(()),
+        What::GlobalElement(_)
+        | What::LocalElement(_)
+        | What::ElementReference(_)
+        | What::GlobalAttribute(_)
+        | What::AttributeUse(_)
+        | What::SimpleDefinition { .. }
+        | What::Particle(_)
+        | What::MixedGroup(_)
+        | What::TypeReference { .. } => Ok(()),
     }
 }
 

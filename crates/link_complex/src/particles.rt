@@ -103,7 +103,14 @@ fn push_part<'a>(
     match part.what {
         What::Particle(label) => push_label(types, doc, label, out),
         What::MixedGroup(label) => push_label(types, doc, label, out),
-        _ => Ok(()),
+        What::GlobalElement(_)
+        | What::LocalElement(_)
+        | What::ElementReference(_)
+        | What::GlobalAttribute(_)
+        | What::AttributeUse(_)
+        | What::SimpleDefinition { .. }
+        | What::ComplexDefinition { .. }
+        | What::TypeReference { .. } => Ok(()),
     }
 }
 

@@ -39,7 +39,15 @@ fn push_part<'a>(part: Part<'a>, out: &mut Vec<SimpleType<'a>>) -> Result<(), Me
             })?;
             Ok(())
         }
-        _ => Ok(()),
+        What::GlobalElement(_)
+        | What::LocalElement(_)
+        | What::ElementReference(_)
+        | What::GlobalAttribute(_)
+        | What::AttributeUse(_)
+        | What::ComplexDefinition { .. }
+        | What::Particle(_)
+        | What::MixedGroup(_)
+        | What::TypeReference { .. } => Ok(()),
     }
 }
 

@@ -92,7 +92,13 @@ fn push_part<'a>(part: Part<'a>, out: &mut Vec<Mention<'a>>) -> Result<(), Memor
         What::ElementReference(name) => push_name(Need::Element, place, name, out),
         What::AttributeUse(attribute) => push_use(place, attribute, out),
         What::TypeReference { role, name } => push_type(need_of(role), place, name, out),
-        _ => Ok(()),
+        What::GlobalElement(_)
+        | What::LocalElement(_)
+        | What::GlobalAttribute(_)
+        | What::SimpleDefinition { .. }
+        | What::ComplexDefinition { .. }
+        | What::Particle(_)
+        | What::MixedGroup(_) => Ok(()),
     }
 }
 

@@ -100,7 +100,15 @@ fn push_part(part: Part<'_>, out: &mut Vec<Builtin>) -> Result<(), Memory>
 {
     match part.what {
         What::TypeReference { role, name } => push_named(role, name, out),
-        _ => Ok(()),
+        What::GlobalElement(_)
+        | What::LocalElement(_)
+        | What::ElementReference(_)
+        | What::GlobalAttribute(_)
+        | What::AttributeUse(_)
+        | What::SimpleDefinition { .. }
+        | What::ComplexDefinition { .. }
+        | What::Particle(_)
+        | What::MixedGroup(_) => Ok(()),
     }
 }
 

@@ -47,3 +47,7 @@ pub record IsMapOf (s : Set) (M : List Assignment) : Type 0 where
   pub entries : List NamedSubject
   pub are_entries : AreEntries s entries
   pub assignments : AreMapped (place_in entries) s [] entries M
+
+-- the root type of a global element: the number of its assignment in the map
+abbrev pub root_at : (s : Set) (M : List Assignment) → IsMapOf s M → ℕ → ℕ
+root_at s M is_map d = place_in is_map.entries (subject.Element d)

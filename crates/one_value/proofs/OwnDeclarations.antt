@@ -31,7 +31,7 @@ use Rattle.map_subjects.proofs.Finding.{all-at}
 use Rattle.map_assignments.specs.Planning.{particle_type, in_place}
 use Rattle.map_assignments.specs.Plans.{simple}
 use Rattle.map_assignments.specs.Naming.{IsNamed, type_label}
-use Rattle.map_assignments.specs.Mapped.{IsMapOf}
+use Rattle.map_assignments.specs.Mapped.{IsMapOf, root_at}
 use Rattle.map_694.proofs.Resolving.{follow-none}
 use Rattle.map_laws.specs.Standing.{IsSimpleOf, HasNillable, HasComplex, HasContent}
 use Rattle.map_laws.specs.Statements.{IsTypeAt}
@@ -49,7 +49,8 @@ use Rattle.validity.specs.OwnForms.{IsOwnForm}
 use Rattle.validity.specs.Valid.{HasName}
 use Rattle.validity.proofs.Again.{IsFair}
 use Rattle.validity.proofs.Fair.{fair_at}
-use Rattle.one_value.specs.Statements.{AreSmall, root_at, IsItsOwn, ItemsOfValues}
+use Rattle.schema_parts.specs.Small.{AreSmall}
+use Rattle.one_value.specs.Statements.{IsItsOwn, ItemsOfValues}
 use Rattle.one_value.proofs.Simples.{text-inside, text-spelled}
 use Rattle.one_value.proofs.Walking.{sorted-apart}
 use Rattle.one_value.proofs.OwnComplexes.{given-is-own}

@@ -31,7 +31,8 @@ use Rattle.per_stops.specs.Stopping.{StopsFirstBy}
 use Rattle.per_stops.proofs.Law.{stops_as_read}
 use Rattle.per_decode.specs.declared.errors.DecodeError.{DecodeError}
 use Rattle.per_decode.specs.declared.errors.DecodeError.TheVariants as error
-use Rattle.per_decode.specs.Answers.{Takes, fault_of, AnswersBy, Answer, is_short}
+use Rattle.per_fields.specs.Stops.{is_short}
+use Rattle.per_decode.specs.Answers.{Takes, fault_of, AnswersBy, Answer}
 use Rattle.per_decode.specs.Private.Giving.{Halt, stopped, short, too_long, failed, memory, error_of, spot, input, end_of, IsRead, FailsAt, Ended}
 use Rattle.per_decode.specs.Private.Bodies.{IsKnown, complete_at}
 use Rattle.per_decode.proofs.Origins.{is_told, contents}

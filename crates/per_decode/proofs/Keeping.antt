@@ -14,7 +14,7 @@ use Rattle.per_fields.specs.Reading.{◌>>=◌, stop_at, stop_if}
 use Rattle.per_fields.specs.Nodes.{unkept_why, kept_at, node_read}
 use Rattle.per_fields.specs.Owning.{keeps, is_standard}
 use Rattle.per_fields.proofs.Owns.{keeps_kept}
-use Rattle.per_decode.specs.Answers.{is_short}
+use Rattle.per_fields.specs.Stops.{is_short}
 use Rattle.per_decode.specs.declared.faults.Fault.{Fault}
 use Rattle.per_decode.specs.declared.faults.Fault.TheVariants as fault
 use Rattle.per_decode.specs.Private.Giving.{Halt, stopped, halt_of, end_of, FailsAt, Shows, Gives, input}

@@ -1,13 +1,12 @@
 -- What decoding answers of the octets that a source has left (X.691), and how many of them it takes.
-use Rattle.std.specs.Prelude.{◌≡◌, ℕ, ◌+◌, ◌*◌, ◌/◌, ◌<◌, ◌≤◌, ◌⊎◌, ◌&&◌, Bool, true, false, nat_le, Option, Some, List, length, take, drop, Result, Ok, Err, if◌then◌else◌}
+use Rattle.std.specs.Prelude.{◌≡◌, ℕ, ◌+◌, ◌*◌, ◌/◌, ◌<◌, ◌≤◌, ◌⊎◌, ◌&&◌, Bool, true, nat_le, Option, Some, List, length, take, drop, Result, Ok, Err, if◌then◌else◌}
 use Rattle.label_tree.specs.Rose.{Rose}
 use Rattle.bit_cursor.specs.Bits.{octet_bits}
 use Rattle.simple_types.specs.declared.labels.ValueLabel.{ValueLabel}
 use Rattle.asn_types.specs.declared.modules.Assignment.{Assignment}
 use Rattle.asn_values.specs.Values.{In}
 use Rattle.per_fields.specs.declared.stops.Stop.{Stop}
-use Rattle.per_fields.specs.declared.stops.Why.{Why}
-use Rattle.per_fields.specs.declared.stops.Why.TheVariants.{Short}
+use Rattle.per_fields.specs.Stops.{is_short}
 use Rattle.per_fields.specs.Encoding.{complete_by}
 use Rattle.per_fields.specs.Laws.{BeginsBy}
 use Rattle.per_stops.specs.Stopping.{StopsFirstBy}
@@ -17,10 +16,6 @@ use Rattle.per_decode.specs.declared.errors.DecodeError.TheVariants.{Bad, Failed
 
 abbrev pub Answer : Type 0
 Answer = Result Decoded DecodeError
-
-abbrev pub is_short : Why → Bool
-is_short Short = true
-is_short _ = false
 
 -- the octets left in a source, of which at most so many may be taken
 module _ (limit : ℕ) (left : List ℕ) where

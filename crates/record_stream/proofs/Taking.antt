@@ -17,7 +17,8 @@ use Rattle.per_decode.specs.declared.decoded.Decoded.{Decoded}
 use Rattle.per_decode.specs.declared.errors.DecodeError.{DecodeError}
 use Rattle.per_decode.specs.declared.errors.DecodeError.TheVariants as decode
 use Rattle.per_decode.specs.Answers as decoding
-use Rattle.per_decode.specs.Answers.{Takes, Answers, is_short}
+use Rattle.per_fields.specs.Stops.{is_short}
+use Rattle.per_decode.specs.Answers.{Takes, Answers}
 use Rattle.record_stream.specs.declared.errors.RecordError.TheVariants as error
 use Rattle.record_stream.specs.Heads.{left_with, IsUntouched}
 use Rattle.record_stream.specs.Next.{Answer, AnswersNext, IsDue, Says, fault_of, most_of, told_of, within}

@@ -10,7 +10,8 @@ use Rattle.per_fields.specs.declared.stops.Why.TheVariants.{Short}
 use Rattle.per_fields.specs.Encoding.{complete}
 use Rattle.per_fields.specs.Laws.{Begins}
 use Rattle.per_stops.specs.Stopping.{StopsFirst}
-use Rattle.per_decode.specs.Answers.{Takes, is_short}
+use Rattle.per_fields.specs.Stops.{is_short}
+use Rattle.per_decode.specs.Answers.{Takes}
 use Rattle.per_decode.specs.declared.errors.DecodeError.{DecodeError}
 use Rattle.per_decode.specs.declared.errors.DecodeError.TheVariants as decode
 use Rattle.record_stream.specs.declared.errors.RecordError.{RecordError}

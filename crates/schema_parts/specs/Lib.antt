@@ -14,3 +14,4 @@ pub mod Chains
 pub mod Linked
 pub mod SetParts
 pub mod TypedUses
+pub mod Small

@@ -1,6 +1,6 @@
 -- The content models of a document name each of its local declarations once.
-use Rattle.std.proofs.Common.{◌≡◌, ℕ, suc, ◌+◌, ◌≤◌, Bool, true, false, cond, List, [], ◌∷◌, ◌++◌, length, count_by, append_assoc, inl, inr, refl, ap, sym, ◌∙◌, subst, arith, ◌==◌, bytes_eq, codes}
-use Rattle.schema_read.proofs.Words.{and_parts, eqb-true, append-nil, Name, Rose, node, roses_of, list_of, label_of, ParticleKind, ParticleLabel, RawContent, Bases, How, Use, Kind, Local, Reference, Own, none, leaves_of_model, model_in_content, model_in_kind, models_in_elements, models_in_types, models_in_locals, leaves_of_models, numbered, IsFrom, ModelsStand, Nested, IsCoherent, local_name, use_to, own_use, facets_among, Settings, takes_each, is_nothing, element_with, leaf_of, group_of, Parts, document_with}
+use Rattle.std.proofs.Common.{◌≡◌, ℕ, ◌+◌, ◌≤◌, Bool, true, cond, List, [], ◌∷◌, ◌++◌, length, count_by, append_assoc, inl, inr, refl, ap, sym, ◌∙◌, subst, arith, ◌==◌}
+use Rattle.schema_read.proofs.Words.{and_parts, eqb-true, append-nil, Name, Rose, node, list_of, ParticleKind, ParticleLabel, RawContent, Bases, How, Use, Kind, Local, Own, none, leaves_of_model, model_in_content, model_in_kind, models_in_elements, models_in_types, models_in_locals, leaves_of_models, numbered, IsFrom, ModelsStand, Nested, IsCoherent, local_name, use_to, own_use, facets_among, Settings, takes_each, is_nothing, element_with, leaf_of, group_of, Parts, document_with}
 use Rattle.label_tree.specs.Rose as rose
 use Rattle.content_models.specs.declared.particles.ParticleKind.TheVariants as particle
 use Rattle.schema_parts.specs.declared.declarations.RawContent.TheVariants as content
@@ -52,9 +52,6 @@ module _ (file : ℕ) where
   stand_both models n xs ys ls same h g =
       subst (ModelsStand file n) (sym same) (models_append file n (models xs) (models ys) h (models_later file n (n + length ls) (omega arith) (models ys) g))
 
-  abbrev Models : List (Rose ParticleLabel) → List (Rose ParticleLabel)
-  Models ts = ts
-
   both_cohere : (n : ℕ) (a b : Reading) → Coheres file n a → Coheres file (n + length a.locals) b → Coheres file n (and_reading a b)
   both_cohere n a b h g =
       record {
@@ -69,7 +66,7 @@ module _ (file : ℕ) where
           count_both test (models_in_types (a.types ++ b.types)) (models_in_types a.types) (models_in_types b.types) (in_types a.types b.types),
           count_both test (models_in_locals (a.locals ++ b.locals)) (models_in_locals a.locals) (models_in_locals b.locals) (in_locals a.locals b.locals),
         );
-        particles = stand_both Models n a.particles b.particles a.locals refl h.particles g.particles;
+        particles = stand_both (λ (ts : List (Rose ParticleLabel)). ts) n a.particles b.particles a.locals refl h.particles g.particles;
         kinds = stand_both models_in_kinds n a.kinds b.kinds a.locals (in_kinds a.kinds b.kinds) h.kinds g.kinds;
         elements = stand_both models_in_elements n a.elements b.elements a.locals (in_elements a.elements b.elements) h.elements g.elements;
         types = stand_both models_in_types n a.types b.types a.locals (in_types a.types b.types) h.types g.types;

@@ -1,5 +1,5 @@
 -- A text of XML characters is one when it is collapsed, too.
-use Rattle.std.proofs.Common.{◌≡◌, ℕ, ◌<◌, true, List, [], ◌∷◌, ◌++◌, length, take, drop, get_or, refl, ap, sym, ◌∙◌, subst, arith, append_assoc, append-nil, ◌&&◌, filter, IsUtf8}
+use Rattle.std.proofs.Common.{◌≡◌, ℕ, ◌<◌, true, List, [], ◌∷◌, ◌++◌, length, get_or, refl, ap, sym, ◌∙◌, subst, arith, append_assoc, append-nil, ◌&&◌, filter, IsUtf8}
 use Rattle.schema_read.proofs.Words.{list_all, slice_split, onto_first, join_with_byte, IsCharBoundary, and_parts, cond_both, take-append_seam, drop-append_seam, get_or-append_seam, has_xml_chars, is_white_space, has_bytes, Collapse}
 use Rattle.std.specs.Str.{chars, is_utf8}
 use Rattle.std.proofs.Math.Utf8.{encode}

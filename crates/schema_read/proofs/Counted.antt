@@ -1,9 +1,8 @@
 -- The limit of components counts each part of a document without a fault.
-use Rattle.std.proofs.Common.{◌≡◌, ℕ, ◌+◌, ◌≤◌, Bool, true, false, cond, Option, List, [], ◌∷◌, ◌++◌, inl, inr, refl, ap, sym, ◌∙◌, subst, count_by, arith, bytes_eq, codes}
-use Rattle.schema_read.proofs.Words.{flat_map, append-nil, sum_by-append, Rose, node, roses_of, list_of, label_of, ParticleLabel, RawContent, Bases, none, more, How, SimpleType, ComplexType, ComplexKind, Own, places_in_base, places_in_how, places_in_bases, places_in_use, places_in_model, places_among, places_in_mixed, places_in_content, places_in_kind, places_in_local, places_in_element, places_in_attribute, places_in_definition, places_in, StandAmong, least_of, most_of, counted_among, local_name, own_use, attribute_by, declared_name, joined, Settings, element_with, group_of, Parts}
+use Rattle.std.proofs.Common.{◌≡◌, ℕ, ◌+◌, ◌≤◌, Bool, cond, List, [], ◌∷◌, ◌++◌, inl, inr, refl, ap, ◌∙◌, count_by, arith}
+use Rattle.schema_read.proofs.Words.{flat_map, append-nil, sum_by-append, Rose, node, roses_of, list_of, label_of, ParticleLabel, RawContent, Bases, none, more, How, ComplexKind, Own, places_in_base, places_in_how, places_in_bases, places_in_use, places_in_model, places_among, places_in_mixed, places_in_content, places_in_kind, places_in_local, places_in_element, places_in_attribute, places_in_definition, places_in, StandAmong, counted_among, local_name, own_use, attribute_by, declared_name, joined, Settings, element_with, group_of, Parts}
 use Rattle.std.proofs.lemmas.List.Concat.{flat_map-append}
 use Rattle.label_tree.specs.Rose as rose
-use Rattle.content_models.specs.declared.particles.ParticleKind.TheVariants as particle
 use Rattle.schema_parts.specs.declared.declarations.RawContent.TheVariants as content
 use Rattle.schema_parts.specs.Raw as raw
 use Rattle.schema_parts.specs.Places.{group_place}

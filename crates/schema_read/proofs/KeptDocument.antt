@@ -1,11 +1,11 @@
 -- Each document that is read keeps what a document has to keep.
-use Rattle.std.proofs.Common.{◌≡◌, ℕ, ◌+◌, ◌<◌, ◌≤◌, Bool, true, false, [], ◌∷◌, ◌++◌, Some, None, refl, ap, sym, subst, arith}
-use Rattle.schema_read.proofs.Words.{Rose, node, roses_of, list_of, label_of, roses_of-list_of, item_place, is_sound, are_sound, levels, levels_all, tokens, Ascend, ItemLabel, Element, Text, own_attributes, Schema, is_schema, outside, reasons_of, reasons_among, NoneAtAll, IsSchema, counted_among, Keeps, ElementHeld, TypeHeld, LocalHeld, ElementsHeld, TypesHeld, LocalsHeld, Settings, settings_of, Parts, parts_among, document_with, raw_of}
+use Rattle.std.proofs.Common.{◌≡◌, ℕ, ◌+◌, ◌≤◌, Bool, true, false, List, [], ◌∷◌, ◌++◌, Some, None, refl, ap, sym, subst, arith}
+use Rattle.schema_read.proofs.Words.{Rose, Roses, node, list_of, label_of, roses_of-list_of, item_place, is_sound, levels, tokens, Ascend, ItemLabel, Element, Text, own_attributes, Schema, is_schema, outside, reasons_of, NoneAtAll, IsSchema, counted_among, Keeps, ElementHeld, TypeHeld, LocalHeld, ElementsHeld, TypesHeld, LocalsHeld, Settings, settings_of, Parts, parts_among, document_with, raw_of}
 use Rattle.schema_rules.specs.declared.why.SchemaWhy.TheVariants.{NotASchema}
 use Rattle.schema_read.proofs.Faultless.{passes}
 use Rattle.schema_read.proofs.OwnNames.{IsSpace, own_space}
 use Rattle.schema_read.proofs.ItemPlaces.{document_spans}
-use Rattle.schema_read.proofs.Reading.{Around, Kids, of_parts}
+use Rattle.schema_read.proofs.Reading.{Reading, Around, Extent, extent, Kids, Rules, of_parts}
 use Rattle.schema_read.proofs.Points.{every_as, stretch_whole, Property, Points, Each, OfEach, by_points}
 use Rattle.schema_read.proofs.WalkTypes.{element_sound}
 use Rattle.schema_read.proofs.Walk.{walk}
@@ -29,6 +29,36 @@ by_root : (b : Bool) (root : Rose ItemLabel) → NoneAtAll (elim b [ true ↦ re
 by_root true root h = h
 by_root false root h = absurd (no_schema h.0)
 
+-- what is read of the children of a `schema` without a fault
+module _ (said : Settings) (fine : IsSpace said.target) (around : Around) (scope : List (List ℕ × List ℕ)) (least end : ℕ) (kids : Roses ItemLabel) (inside : Kids Schema around None scope 0 least end kids)
+    (p : Parts) (is : parts_among said scope 0 (list_of kids) ≡ p) where
+  holds : (R : Around → Extent → ℕ → Reading → Type 0) → Rules said R → R around (extent least end (counted_among kids)) 0 (of_parts p.elements p.attributes p.types p.locals)
+  holds R rules = subst (λ (q : Parts). R around (extent least end (counted_among kids)) 0 (of_parts q.elements q.attributes q.types q.locals)) is (walk said R rules around None scope 0 least end 0 kids inside)
+
+  each : (P : Property) → Points said p.locals P → Each P around (of_parts p.elements p.attributes p.types p.locals)
+  each P points = holds (OfEach p.locals P) (by_points said p.locals P points) (stretch_whole p.locals)
+
+  parts_keep : end ≤ 16777217 → Keeps (document_with said.file said.target (counted_among kids) p)
+  parts_keep within =
+      let rises = holds Rising (rising_rules said) in
+      let held = each holding (holding_points said p.locals) in
+      let k = few_locals least end p rises in
+      record {
+        named = named_parts around p (each naming (naming_points said p.locals fine));
+        few = omega (arith, k, within);
+        fitting = fitting_parts around p (each fitting (fitting_points said p.locals));
+        ascending = rise_ascend least end (counted_among kids) (counted_rise least end kids inside.spans);
+        varied = varied_parts around p (each varied (varied_points said p.locals));
+        ordered = parts_ascend least end p rises;
+        all_counted = parts_stand p (counted_among kids) (λ test. holds (AllCounted test) (counted_rules test said));
+        inward = inward_parts p.locals around p (each (inward p.locals) (inward_points p.locals said));
+        short = short_parts p.locals around p refl (each (short p.locals) (short_points p.locals said));
+        coherent = coherent_parts said.file said.target (counted_among kids) p (holds (Cohering said.file) (coherent_rules said));
+        elements_held = every_as ElementHeld ElementsHeld tt (λ x xs a b. (a, b)) p.elements held.elements;
+        types_held = every_as TypeHeld TypesHeld tt (λ x xs a b. (a, b)) p.types held.types;
+        locals_held = every_as LocalHeld LocalsHeld tt (λ x xs a b. (a, b)) p.locals held.locals;
+      }
+
 -- where the places ascend, nothing stands against the document, its items are sound, and it has at most 64 levels of
 -- elements
 pub document_keeps : (file : ℕ) (root : Rose ItemLabel) → Ascend 0 16777216 (tokens root) → IsSchema root → is_sound root ≡ true → levels root ≤ 64 → Keeps (raw_of file root)
@@ -45,27 +75,5 @@ document_keeps file (node (Element name attributes declares at) kids) h schema s
     let around : Around = record { role = Schema; level = 0; place = at; room = 65 } in
     let inside : Kids Schema around None scope 0 (at + 1) w.end kids =
     record { clean = whole.1; sound = sounds.1; spans = w.spans.1; behind = omega arith; low = omega (arith, within); deep = omega (arith, shallow); small = omega arith } in
-    let p : Parts = parts_among said scope 0 (list_of kids) in
-    let all = p.locals in
-    let each : (P : Property) → Points said all P → Each P around (of_parts p.elements p.attributes p.types p.locals) =
-    λ P points. walk said (OfEach all P) (by_points said all P points) around None scope 0 (at + 1) w.end 0 kids inside (stretch_whole all) in
-    let rises = walk said Rising (rising_rules said) around None scope 0 (at + 1) w.end 0 kids inside in
-    let held = each holding (holding_points said all) in
-    let counted = counted_among kids in
-    let k = few_locals (at + 1) w.end p rises in
-    subst (λ ps. Keeps (document_with file said.target ps p)) (ap counted_among (sym (roses_of-list_of kids)))
-    (record {
-      named = named_parts around p (each naming (naming_points said all fine));
-      few = omega (arith, k, within);
-      fitting = fitting_parts around p (each fitting (fitting_points said all));
-      ascending = rise_ascend (at + 1) w.end counted (counted_rise (at + 1) w.end kids w.spans.1);
-      varied = varied_parts around p (each varied (varied_points said all));
-      ordered = parts_ascend (at + 1) w.end p rises;
-      all_counted = parts_stand p counted (λ test. walk said (AllCounted test) (counted_rules test said) around None scope 0 (at + 1) w.end 0 kids inside);
-      inward = inward_parts all around p (each (inward all) (inward_points all said));
-      short = short_parts all around p refl (each (short all) (short_points all said));
-      coherent = coherent_parts file said.target counted p (walk said (Cohering file) (coherent_rules said) around None scope 0 (at + 1) w.end 0 kids inside);
-      elements_held = every_as ElementHeld ElementsHeld tt (λ x xs a b. (a, b)) p.elements held.elements;
-      types_held = every_as TypeHeld TypesHeld tt (λ x xs a b. (a, b)) p.types held.types;
-      locals_held = every_as LocalHeld LocalsHeld tt (λ x xs a b. (a, b)) p.locals held.locals;
-    })
+    subst (λ ps. Keeps (document_with file said.target ps (parts_among said scope 0 (list_of kids)))) (ap counted_among (sym (roses_of-list_of kids)))
+    (parts_keep said fine around scope (at + 1) w.end kids inside (parts_among said scope 0 (list_of kids)) refl (omega (arith, within)))

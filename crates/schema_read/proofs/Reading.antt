@@ -2,8 +2,8 @@
 --
 -- A property speaks of what is read of some elements, of where they stand, and of how many local declarations stand before
 -- them. `Walk` has that a property by these rules holds of a whole document without a fault.
-use Rattle.std.proofs.Common.{◌≡◌, ℕ, ◌+◌, ◌<◌, ◌≤◌, ◌^◌, false, true, cond, List, [], ◌∷◌, ◌++◌, length, Option, Some, None, bytes_eq, codes, ◌⊎◌}
-use Rattle.schema_read.proofs.Words.{list_any, cond_both, Name, beside, Rose, node, Roses, roses_of, list_of, label_of, length_all, ItemLabel, Element, is_sound, are_sound, levels, levels_all, ParticleKind, ParticleLabel, RawRef, RawContent, Base, Named, Inner, Bases, none, more, How, Restrict, ListOf, UnionOf, Simple, Use, Complex, Kind, NamedKind, SimpleKind, ComplexKind, Local, Reference, Own, Attribute, TypeDefinition, SimpleType, ComplexType, own_attributes, has, never_occurs, ElementRole, Schema, GlobalElement, LocalElement, AllElement, GlobalAttribute, GlobalSimpleType, GlobalComplexType, Sequence, Choice, All, Restriction, ListRole, Union, Position, level_inside, occurs, reasons_at, reasons_among, NoneAtAll, counted_among, referred, declared_name, local_name, use_to, own_use, attribute_by, facets_among, joined, named_members, inner_types, Settings, nothing, is_nothing, element_with, leaf_of, compositor, group_of, Parts}
+use Rattle.std.proofs.Common.{◌≡◌, ℕ, ◌+◌, ◌<◌, ◌≤◌, ◌^◌, false, true, cond, List, [], ◌∷◌, ◌++◌, length, Option, None, bytes_eq, codes, ◌⊎◌}
+use Rattle.schema_read.proofs.Words.{list_any, cond_both, Name, beside, Rose, Roses, roses_of, list_of, label_of, length_all, ItemLabel, Element, is_sound, are_sound, levels, levels_all, ParticleKind, ParticleLabel, RawRef, RawContent, Base, Named, Inner, Bases, none, more, How, Restrict, ListOf, UnionOf, Simple, Use, Complex, Kind, NamedKind, SimpleKind, ComplexKind, Local, Reference, Own, Attribute, TypeDefinition, SimpleType, ComplexType, own_attributes, never_occurs, ElementRole, Schema, GlobalElement, LocalElement, AllElement, GlobalAttribute, GlobalSimpleType, GlobalComplexType, Sequence, Choice, All, Restriction, ListRole, Union, Position, level_inside, occurs, reasons_at, reasons_among, NoneAtAll, counted_among, declared_name, local_name, use_to, own_use, attribute_by, facets_among, joined, named_members, inner_types, Settings, nothing, is_nothing, element_with, leaf_of, compositor, group_of}
 use Rattle.content_models.specs.declared.particles.ParticleKind.TheVariants as particle
 use Rattle.schema_parts.specs.declared.declarations.RawContent.TheVariants as content
 use Rattle.schema_parts.specs.Raw as raw

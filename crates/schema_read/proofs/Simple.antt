@@ -1,6 +1,6 @@
 -- What simple types are, by the label and the kids of their elements.
-use Rattle.std.proofs.Common.{◌≡◌, ℕ, ◌<◌, ◌+◌, Bool, true, false, cond, List, ◌++◌, length, drop, get_or, refl, ap, sym, ◌∙◌, Option, Some, None}
-use Rattle.schema_read.proofs.Words.{option_or, is_some, cond-true, cond-false, Name, Rose, node, Roses, roses_of, list_of, label_of, kids_of, roses_of-list_of, roses_of-drop, ItemLabel, Element, Text, Bases, How, own_attributes, is_in, Varieties, SimpleTypes, made_by, placed, defined, and_inner, variety_at, variety_among, simple_type, inner_types}
+use Rattle.std.proofs.Common.{◌≡◌, ℕ, ◌<◌, ◌+◌, true, false, cond, List, ◌++◌, length, drop, get_or, ap, sym, ◌∙◌, Option, Some, None}
+use Rattle.schema_read.proofs.Words.{option_or, is_some, cond-true, cond-false, Name, Rose, node, roses_of, list_of, label_of, kids_of, roses_of-list_of, roses_of-drop, ItemLabel, Element, Text, Bases, How, own_attributes, is_in, Varieties, SimpleTypes, made_by, placed, defined, and_inner, variety_at, variety_among, simple_type, inner_types}
 
 module _ (outer : List (List ℕ × List ℕ)) where
   pub variety_at-text : (t : Rose ItemLabel) (text : List ℕ) (at : ℕ) → label_of t ≡ Text text at → None ≡ variety_at outer t

@@ -1,6 +1,6 @@
 -- The restrictions and the unions of a document without a fault.
-use Rattle.std.proofs.Common.{◌&&◌, ◌≡◌, ℕ, ◌+◌, ◌≤◌, Bool, true, false, cond, List, [], ◌∷◌, ◌++◌, Option, Some, None, inl, inr, refl, ap, subst, sym, ◌∙◌, arith, count_by, ◌||◌, ◌⊎◌, not, bytes_eq, codes, nat_lt}
-use Rattle.schema_read.proofs.Words.{list_any, join_with_byte, option_or, and_parts, and_from, and_cases, or_parts, or_cases, not-false, not-true, cond_both, le-leb, ltb-false, both_ways, cases_Bool, sum_by-cons, bytes_eq-Decides, Name, Collapse, beside, is_empty, words_of, Rose, node, Roses, list_of, label_of, ItemLabel, Element, Text, Base, Bases, none, more, How, Simple, Local, is_schema_name, children, has, in_use, kept_as_written, own_attributes, names_in, is_in, has_child, child_count, Varieties, SimpleTypes, Enumerations, ElementRole, GlobalSimpleType, InnerSimpleType, Restriction, Union, Position, names_members, lacks_required, has_large, level_inside, position_behind, reasons_at, reasons_among, NoneAtAll, type_ref, facet_makers, with_value, facet_of, facet_at, and_facet, facets_among, joined, named_in, named_members, first_or_none, base_by, made_by, placed, defined, and_inner, variety_at, variety_among, simple_type, inner_types, declared_type, Settings, Parts}
+use Rattle.std.proofs.Common.{◌&&◌, ◌≡◌, ℕ, ◌+◌, ◌≤◌, Bool, true, false, cond, List, [], ◌∷◌, ◌++◌, Option, Some, None, inl, inr, refl, ap, subst, sym, ◌∙◌, arith, count_by, ◌||◌, not, bytes_eq, codes, nat_lt}
+use Rattle.schema_read.proofs.Words.{list_any, join_with_byte, option_or, and_parts, and_from, and_cases, or_parts, or_cases, not-false, not-true, cond_both, le-leb, ltb-false, both_ways, cases_Bool, sum_by-cons, bytes_eq-Decides, Name, Collapse, beside, is_empty, words_of, Rose, node, Roses, list_of, label_of, ItemLabel, Element, Text, Bases, none, more, How, Simple, Local, is_schema_name, has, in_use, kept_as_written, own_attributes, names_in, is_in, has_child, child_count, Varieties, SimpleTypes, Enumerations, ElementRole, GlobalSimpleType, InnerSimpleType, Restriction, Union, Position, names_members, lacks_required, has_large, level_inside, position_behind, reasons_at, reasons_among, NoneAtAll, facet_makers, with_value, facet_of, facet_at, and_facet, facets_among, joined, named_in, named_members, made_by, placed, defined, and_inner, variety_at, variety_among, simple_type, inner_types, Settings, Parts}
 use Rattle.xa_base.specs.WhiteSpace.{treated}
 use Rattle.xa_base.proofs.Collapsing.{treated-treated}
 use Rattle.label_tree.specs.Rose as rose
@@ -11,7 +11,7 @@ use Rattle.schema_read.proofs.Faultless.{none_parts}
 use Rattle.schema_read.proofs.FaultlessRoles.{one_of, HasVariety, simple_cases, standing, member}
 use Rattle.schema_read.proofs.OwnNames.{Entries, entry}
 use Rattle.schema_read.proofs.Reading.{Around, Site, own_of, scope_of, of_parts, members, Fact}
-use Rattle.schema_read.proofs.Points.{Every, EveryBase, every_true, Property, Points, Each}
+use Rattle.schema_read.proofs.Points.{EveryBase, every_true, Property, Points, Each}
 
 -- ---- enumerations
 

@@ -3,3 +3,4 @@ pub mod Chains
 pub mod Lexical
 pub mod Reading
 pub mod Written
+pub mod Small

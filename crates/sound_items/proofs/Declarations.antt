@@ -21,7 +21,7 @@ use Rattle.schema_parts.specs.Components.{Set}
 use Rattle.schema_parts.specs.Linked.{IsElement, IsTyped, IsUse, IsNamed, IsComplexType, IsLinked}
 use Rattle.map_subjects.specs.Subjects.{place_in}
 use Rattle.map_subjects.proofs.Finding.{all-at}
-use Rattle.map_assignments.specs.Mapped.{IsMapOf}
+use Rattle.map_assignments.specs.Mapped.{IsMapOf, root_at}
 use Rattle.map_laws.specs.Standing.{IsSimpleOf, HasNillable, HasComplex, HasContent}
 use Rattle.map_laws.specs.Statements.{IsTypeAt}
 use Rattle.map_laws.proofs.Leading.{types-lead}
@@ -29,7 +29,7 @@ use Rattle.map_laws.proofs.Roots.{roots-lead}
 use Rattle.asn_types.specs.Spaces.{spelling}
 use Rattle.xer_items.specs.Items.{element_of, inside, root_of, Xer}
 use Rattle.xer_items.specs.Sound.{IsSound}
-use Rattle.one_value.specs.Statements.{AreSmall, root_at}
+use Rattle.schema_parts.specs.Small.{AreSmall}
 use Rattle.one_value.proofs.Simples.{text-inside, text-spelled}
 use Rattle.one_value.proofs.Walking.{sorted-apart}
 use Rattle.one_value.proofs.ComplexItems.{complex-gives}

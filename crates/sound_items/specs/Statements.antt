@@ -13,10 +13,10 @@ use Rattle.schema_parts.specs.SetParts.{parts_of}
 use Rattle.validity.specs.Valid.{Valid}
 use Rattle.asn_types.specs.declared.modules.Assignment.{Assignment}
 use Rattle.asn_values.specs.Values.{Fits}
-use Rattle.map_assignments.specs.Mapped.{IsMapOf}
+use Rattle.map_assignments.specs.Mapped.{IsMapOf, root_at}
 use Rattle.xer_items.specs.Items.{Xer}
 use Rattle.xer_items.specs.Sound.{IsSound}
-use Rattle.one_value.specs.Statements.{AreSmall, root_at}
+use Rattle.schema_parts.specs.Small.{AreSmall}
 
 -- The items of a value of the type of a global element are items that a document may have.
 abbrev pub SoundItems : Type 0

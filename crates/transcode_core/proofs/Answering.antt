@@ -30,12 +30,13 @@ use Rattle.asn_types.specs.Modules.{IsModule}
 use Rattle.asn_types.specs.Bounds.{IsBounded}
 use Rattle.asn_values.specs.Values.{Fits}
 use Rattle.map_subjects.specs.declared.subjects.Subject.TheVariants as subject
-use Rattle.map_assignments.specs.Mapped.{IsMapOf}
+use Rattle.map_assignments.specs.Mapped.{IsMapOf, root_at}
 use Rattle.map_694.proofs.Bodies.{global-named}
 use Rattle.map_694.proofs.Whole.{root-within}
 use Rattle.module_print.specs.Printed.{printed}
 use Rattle.xer_items.specs.Items.{Xer}
-use Rattle.one_value.specs.Statements.{AreSmall, root_at, ValuesOfItems, ItemsOfValues}
+use Rattle.schema_parts.specs.Small.{AreSmall}
+use Rattle.one_value.specs.Statements.{ValuesOfItems, ItemsOfValues}
 use Rattle.command_line.specs.declared.tasks.Syntax.{Syntax}
 use Rattle.command_line.specs.declared.tasks.Syntax.TheVariants.{Aligned, Unaligned, Der}
 use Rattle.command_line.specs.declared.tasks.Task.{Task}

@@ -24,7 +24,7 @@ use Rattle.doc_text.specs.Contexts.{Context, start, is_outside, after}
 use Rattle.doc_text.specs.Tokens.{Token, Opens, Closes, Words, tokens, tokens_all, join}
 use Rattle.doc_text.specs.Documents.{told, Whole, DocOf}
 use Rattle.doc_text.proofs.PieceLaws.{PieceLaws}
-use Rattle.validity_check.specs.Counts.{element_count, elements_in}
+use Rattle.item_tree.specs.Counts.{element_count, elements_in}
 use Rattle.command_line.specs.Words.{Trial}
 use Rattle.command_line.proofs.FewFiles.{AreFew, few_asked}
 use Rattle.transcode_core.specs.Trial.{trial_line, trial_lines, trial_document}

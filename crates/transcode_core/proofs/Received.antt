@@ -14,7 +14,8 @@ use Rattle.per_fields.specs.Encoding.{complete_by}
 use Rattle.per_decode.specs.declared.decoded.Decoded.{Decoded}
 use Rattle.per_decode.specs.declared.errors.DecodeError.{DecodeError}
 use Rattle.per_decode.specs.declared.errors.DecodeError.TheVariants as error
-use Rattle.per_decode.specs.Answers.{Answer, AnswersBy, is_short}
+use Rattle.per_fields.specs.Stops.{is_short}
+use Rattle.per_decode.specs.Answers.{Answer, AnswersBy}
 use Rattle.command_line.specs.declared.outcome.Outcome.TheVariants.{PerFault, Trailing, TooLong}
 use Rattle.transcode_core.specs.Steps as step
 use Rattle.transcode_core.specs.Steps.{RootType, IsTypeOf, readable, fault_in}

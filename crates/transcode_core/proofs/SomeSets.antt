@@ -24,7 +24,7 @@ use Rattle.asn_types.specs.declared.modules.Assignment.{Assignment}
 use Rattle.asn_types.specs.Bounds.{IsBounded}
 use Rattle.asn_types.specs.Modules.{IsModule}
 use Rattle.map_assignments.specs.Mapped.{IsMapOf}
-use Rattle.xer_items.specs.Laws.{IsSmall}
+use Rattle.simple_values.specs.Small.{IsSmall}
 use Rattle.map_widths.specs.Widths.{IsWide, HasWidths}
 use Rattle.set_exists.specs.Reading.{IsReadAs, AreRead}
 use Rattle.transcode_core.specs.Steps.{Schema, Schemas, AreParts}

@@ -9,7 +9,7 @@ use Rattle.validity.specs.declared.why.InvalidWhy.{InvalidWhy}
 use Rattle.validity.specs.Faults.{FirstFault}
 use Rattle.asn_values.specs.Values.{Fits, In}
 use Rattle.xer_items.specs.Items.{Xer}
-use Rattle.one_value.specs.Statements.{root_at}
+use Rattle.map_assignments.specs.Mapped.{root_at}
 use Rattle.xer_read.specs.Answers.{IsValueOf, IsTooLarge}
 use Rattle.command_line.specs.declared.outcome.Outcome.TheVariants.{Invalid, TooManyNodes}
 use Rattle.transcode_core.specs.Steps.{RootType, IsTypeOf, AreLinked, ValueIn}

@@ -16,7 +16,7 @@ use Rattle.transcode_core.specs.Due.{Requested, Opened, ItemsIn}
 use Rattle.transcode_core.specs.Trial.{trial_document}
 use Rattle.label_tree.specs.Rose.{Rose}
 use Rattle.item_tree.specs.declared.label.ItemLabel.{ItemLabel}
-use Rattle.validity_check.specs.Counts.{element_count}
+use Rattle.item_tree.specs.Counts.{element_count}
 
 -- the count of the library rose, and over a sure library none has the name
 pub record Fails (before now : ℕ) (is_sure : Bool) (entries : Option (List (List ℕ × List ℕ))) (name : List ℕ) : Type 0 where

@@ -26,10 +26,10 @@ use Rattle.asn_types.specs.Modules.{IsModule}
 use Rattle.asn_types.specs.Bounds.{IsBounded}
 use Rattle.asn_values.specs.Values.{Fits, In}
 use Rattle.simple_types.specs.declared.labels.ValueLabel.{ValueLabel}
-use Rattle.one_value.specs.Statements.{AreSmall, root_at}
+use Rattle.schema_parts.specs.Small.{AreSmall}
+use Rattle.map_assignments.specs.Mapped.{root_at, IsMapOf}
 use Rattle.xer_items.specs.Items.{Xer}
 use Rattle.doc_written.specs.Written.{written}
-use Rattle.map_assignments.specs.Mapped.{IsMapOf}
 use Rattle.module_print.specs.Printed.{printed}
 use Rattle.schema_parts.specs.declared.components.ElementDecl.{ElementDecl}
 use Rattle.link_names.specs.declared.faults.LinkingFault as link

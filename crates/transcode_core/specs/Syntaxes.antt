@@ -12,7 +12,7 @@ use Rattle.per_fields.specs.declared.stops.Stop.{Stop}
 use Rattle.per_fields.specs.Encoding.{complete_by}
 use Rattle.per_fields.specs.Laws.{BeginsBy}
 use Rattle.per_stops.specs.Stopping.{StopsFirstBy}
-use Rattle.per_decode.specs.Answers.{is_short}
+use Rattle.per_fields.specs.Stops.{is_short}
 use Rattle.der_fields.specs.declared.stops.Stop.{Stop as DerStopping}
 use Rattle.der_fields.specs.Reading.{AreOctets}
 use Rattle.der_form.specs.Encoding.{distinguished}

@@ -2,7 +2,7 @@
 ghost use Rattle.std.specs.Prelude.{◌+◌, ◌*◌, ◌≤◌, [], OnOk, IfErr, Ok};
 ghost use Rattle.std.specs.Io.KnownBytes.{IsAtEnd};
 ghost use Rattle.schema_parts.specs.SetParts.{parts_of};
-ghost use Rattle.validity_check.specs.Counts.{element_count};
+ghost use Rattle.item_tree.specs.Counts.{element_count};
 ghost use Rattle.command_line.specs.Order.{Give, Then};
 ghost use Rattle.command_line.specs.Answers.{Answers, NoMemory};
 ghost use Rattle.transcode_core.specs.Private.Seen.{opened_seen};

@@ -13,7 +13,7 @@ ghost use Rattle.command_line.specs.Words.{Trial};
 ghost use Rattle.transcode_core.specs.Trial.{trial_document};
 ghost use Rattle.item_tree.specs.declared.label.ItemLabel.{ItemLabel};
 ghost use Rattle.doc_text.specs.Documents.{DocOf};
-ghost use Rattle.validity_check.specs.Counts.{element_count};
+ghost use Rattle.item_tree.specs.Counts.{element_count};
 ghost use Rattle.transcode_core.specs.ReadBack.{IsValidText, DocumentedBack, ReadBack};
 ghost use Rattle.transcode_core.specs.Again.{AreThereAndBack, AreSameDocuments};
 

@@ -2,7 +2,7 @@
 ghost use Rattle.std.specs.Prelude.{◌≡◌, ℕ, ◌+◌, ◌*◌, ◌≤◌, true, [], length, OnOk, IfOk, IfErr, Ok, Some};
 ghost use Rattle.std.specs.Io.KnownBytes.{IsAtEnd};
 ghost use Rattle.schema_parts.specs.SetParts.{parts_of};
-ghost use Rattle.validity_check.specs.Counts.{element_count};
+ghost use Rattle.item_tree.specs.Counts.{element_count};
 ghost use Rattle.command_line.specs.Seen.{root_seen};
 ghost use Rattle.command_line.specs.Tasks.{Octets, reads, is_document};
 ghost use Rattle.command_line.specs.Order.{Give, Then};

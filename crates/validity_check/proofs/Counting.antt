@@ -9,7 +9,7 @@ use Rattle.item_tree.specs.declared.label.ItemLabel.TheVariants.{Element, Text}
 use Rattle.validity.specs.Faults.{front}
 use Rattle.validity.specs.Valid.{put_before, only_text}
 use Rattle.validity.proofs.Reading.{kid_at, roses_of-list_of, front_long}
-use Rattle.validity_check.specs.Counts.{element_count, elements_in}
+use Rattle.item_tree.specs.Counts.{element_count, elements_in}
 
 pub one_more : (ts : Roses ItemLabel) (i : ℕ) (t : Rose ItemLabel) → kid_at ts i ≡ Some t → elements_in (front (suc i) ts) ≡ elements_in (front i ts) + element_count t
 one_more rose.none i t e = absurd (cc)

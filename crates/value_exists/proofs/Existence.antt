@@ -31,7 +31,7 @@ use Rattle.map_subjects.proofs.Finding.{all-at}
 use Rattle.map_assignments.specs.Planning.{particle_type, in_place}
 use Rattle.map_assignments.specs.Plans.{simple}
 use Rattle.map_assignments.specs.Naming.{IsNamed, type_label}
-use Rattle.map_assignments.specs.Mapped.{IsMapOf}
+use Rattle.map_assignments.specs.Mapped.{IsMapOf, root_at}
 use Rattle.map_694.proofs.Resolving.{follow-none}
 use Rattle.map_laws.specs.Standing.{IsSimpleOf, HasNillable, HasComplex, HasContent}
 use Rattle.map_laws.specs.Statements.{IsTypeAt}
@@ -41,7 +41,7 @@ use Rattle.xer_items.specs.Items.{element_of, inside, root_of, Xer}
 use Rattle.validity.specs.Asked.{Asked, space_at, asked_by, asked_by_type, asked_by_complex, asked_at}
 use Rattle.validity.specs.Valid.{ValidBy}
 use Rattle.validity.proofs.Fair.{fair_at}
-use Rattle.one_value.specs.Statements.{root_at, ValuesOfItems}
+use Rattle.one_value.specs.Statements.{ValuesOfItems}
 use Rattle.one_value.proofs.Declarations.{none-at, below-of}
 use Rattle.value_exists.proofs.Texts.{accepted-text, text-given}
 use Rattle.value_exists.proofs.Kids.{AllExist}

@@ -10,11 +10,12 @@ use Rattle.schema_parts.specs.Linked.{IsLinked}
 use Rattle.schema_parts.specs.SetParts.{parts_of}
 use Rattle.asn_types.specs.declared.modules.Assignment.{Assignment}
 use Rattle.asn_values.specs.Values.{In}
-use Rattle.map_assignments.specs.Mapped.{IsMapOf}
+use Rattle.map_assignments.specs.Mapped.{IsMapOf, root_at}
 use Rattle.xer_items.specs.Items.{Xer}
 use Rattle.validity.specs.Laws.{AtMostOne}
 use Rattle.validity.specs.Valid.{Valid}
-use Rattle.one_value.specs.Statements.{AreSmall, root_at, ItemsOfValues, OneValue}
+use Rattle.schema_parts.specs.Small.{AreSmall}
+use Rattle.one_value.specs.Statements.{ItemsOfValues, OneValue}
 use Rattle.xer_read.specs.declared.error.ReadError.{ReadError}
 use Rattle.xer_read.specs.declared.error.ReadError.TheVariants.{Invalid, TooManyNodes, Memory}
 use Rattle.xer_read.specs.Answers.{IsValueOf, IsAnswer, ReadBack}

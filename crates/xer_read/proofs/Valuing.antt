@@ -16,7 +16,7 @@ use Rattle.asn_types.specs.Names.{name_told}
 use Rattle.asn_types.specs.Refs.{resolve}
 use Rattle.asn_values.specs.Values.{FitsAt, Fits}
 use Rattle.map_subjects.specs.Subjects.{place_in}
-use Rattle.map_assignments.specs.Mapped.{IsMapOf}
+use Rattle.map_assignments.specs.Mapped.{IsMapOf, root_at}
 use Rattle.map_laws.specs.Standing.{HasContent}
 use Rattle.map_laws.specs.Statements.{IsTypeAt}
 use Rattle.map_laws.proofs.Existence.{maps-exist}
@@ -25,7 +25,7 @@ use Rattle.xer_items.specs.Items.{element_of, inside, root_of}
 use Rattle.validity.specs.Asked.{name_at}
 use Rattle.validity.specs.Valid.{HasName}
 use Rattle.validity.specs.declared.why.InvalidWhy.{InvalidWhy}
-use Rattle.one_value.specs.Statements.{AreSmall, root_at}
+use Rattle.schema_parts.specs.Small.{AreSmall}
 use Rattle.one_value.proofs.Declarations.{none-at, one-value}
 use Rattle.xer_read.specs.declared.error.ReadError.{ReadError}
 use Rattle.xer_read.specs.declared.error.ReadError.TheVariants.{Invalid, TooManyNodes, Memory}

@@ -9,8 +9,8 @@ use Rattle.schema_parts.specs.Linked.{IsLinked}
 use Rattle.schema_parts.specs.SetParts.{parts_of}
 use Rattle.asn_types.specs.declared.modules.Assignment.{Assignment}
 use Rattle.asn_values.specs.Values.{Fits, In}
-use Rattle.map_assignments.specs.Mapped.{IsMapOf}
-use Rattle.one_value.specs.Statements.{AreSmall, root_at}
+use Rattle.map_assignments.specs.Mapped.{IsMapOf, root_at}
+use Rattle.schema_parts.specs.Small.{AreSmall}
 use Rattle.xer_items.specs.Items.{Xer}
 use Rattle.validity.specs.Valid.{Valid}
 use Rattle.validity.specs.Faults.{FirstFault}

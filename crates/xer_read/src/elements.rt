@@ -17,7 +17,7 @@ ghost use Rattle.schema_parts.specs.SetParts.{parts_of};
 ghost use Rattle.validity.specs.Asked.{asked_at};
 ghost use Rattle.validity.specs.Faults.{At, FaultBy};
 ghost use Rattle.validity_check.specs.Answers.{Tells, KidsFault, InsideFault};
-ghost use Rattle.validity_check.specs.Counts.{element_count, elements_in};
+ghost use Rattle.item_tree.specs.Counts.{element_count, elements_in};
 ghost use Rattle.validity_check.specs.Told.{inside_told, told, IsFittingInside};
 ghost use Rattle.value_builder.specs.Built.{Stands};
 ghost use Rattle.xer_read.specs.Private.Given.{IsRead};

@@ -6,11 +6,10 @@ ghost use Rattle.simple_types.specs.declared.labels.ValueLabel.{ValueLabel};
 ghost use Rattle.simple_types.specs.Labels.{MayHave};
 ghost use Rattle.schema_parts.specs.SetParts.{parts_of};
 ghost use Rattle.asn_types.specs.declared.modules.Assignment.{Assignment};
-ghost use Rattle.map_assignments.specs.Mapped.{IsMapOf};
-ghost use Rattle.one_value.specs.Statements.{root_at};
+ghost use Rattle.map_assignments.specs.Mapped.{IsMapOf, root_at};
 ghost use Rattle.validity.specs.Faults.{FirstFault};
 ghost use Rattle.validity_check.specs.Answers.{Tells, IsValid};
-ghost use Rattle.validity_check.specs.Counts.{element_count};
+ghost use Rattle.item_tree.specs.Counts.{element_count};
 ghost use Rattle.value_builder.specs.Built.{nothing_of, Stands};
 ghost use Rattle.xer_read.specs.Answers.{IsValueOf, IsTooLarge, IsOnlyValue, ReadTells};
 

@@ -10,7 +10,7 @@ ghost use Rattle.schema_parts.specs.SetParts.{parts_of};
 ghost use Rattle.validity.specs.Valid.{HasName};
 ghost use Rattle.validity.specs.Faults.{At, FirstFault};
 ghost use Rattle.validity_check.specs.Answers.{Tells};
-ghost use Rattle.validity_check.specs.Counts.{element_count};
+ghost use Rattle.item_tree.specs.Counts.{element_count};
 ghost use Rattle.value_builder.specs.Built.{Stands};
 ghost use Rattle.xer_read.specs.Private.Given.{IsRootRead};
 ghost use Rattle.xer_read.specs.Private.Putting.{ValuePut};

@@ -2,8 +2,8 @@
 ghost use Rattle.std.specs.Prelude.{◌≡◌, true, All};
 ghost use Rattle.simple_types.specs.Seen.{space_of};
 ghost use Rattle.simple_values.specs.Lexical.{is_128_bits};
-ghost use Rattle.xer_items.specs.Laws.{IsSmall};
-ghost use Rattle.one_value.specs.Statements.{AreSmall};
+ghost use Rattle.simple_values.specs.Small.{IsSmall};
+ghost use Rattle.schema_parts.specs.Small.{AreSmall};
 
 use schema_parts::SchemaSet;
 use simple_types::Simple;

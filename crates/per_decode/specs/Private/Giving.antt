@@ -5,7 +5,7 @@ use Rattle.codecs.specs.declared.spots.Spot.{Spot}
 use Rattle.per_fields.specs.declared.stops.Stop.{Stop}
 use Rattle.per_fields.specs.declared.stops.Why.TheVariants as reasons
 use Rattle.per_fields.specs.Reading.{Reader, stop_at}
-use Rattle.per_decode.specs.Answers.{is_short}
+use Rattle.per_fields.specs.Stops.{is_short}
 use Rattle.per_decode.specs.declared.faults.Fault.{Fault}
 use Rattle.per_decode.specs.declared.faults.Fault.TheVariants as fault
 use Rattle.per_decode.specs.declared.errors.DecodeError.{DecodeError}

@@ -1,5 +1,4 @@
 use Rattle.schema_read.proofs.NameRules.{same_rule}
-use Rattle.schema_read.proofs.Walk.{walk}
 use Rattle.schema_read.proofs.laws.one_name_rule.Goals as goal
 
 pub returns : goal.returns

@@ -7,7 +7,7 @@ use Rattle.transcode_core.specs.Steps.{Judged}
 use Rattle.transcode_core.specs.Due.{ItemsIn}
 use Rattle.command_line.specs.Answers.{NoMemory}
 use Rattle.transcode_core.specs.Causes.{OneRead, StepsFrom}
-use Rattle.validity_check.specs.Counts.{element_count}
+use Rattle.item_tree.specs.Counts.{element_count}
 use Rattle.validity_check.proofs.Counting.{on-ok}
 use Rattle.command_line.proofs.Joined.{passed, refused}
 use Rattle.transcode_core.proofs.judging.check_input.Goals as goal

@@ -22,7 +22,7 @@ use Rattle.validity.specs.Faults.{FirstKid, why_kid}
 use Rattle.validity.specs.declared.why.InvalidWhy.TheVariants.{NilWithContent}
 use Rattle.validity.proofs.Reading.{kid_count, count-kids, kid_here}
 use Rattle.validity_check.specs.Answers.{Tells, TextFault, InsideFault}
-use Rattle.validity_check.specs.Counts.{element_count, elements_in}
+use Rattle.item_tree.specs.Counts.{element_count, elements_in}
 use Rattle.validity_check.specs.declared.declarations.Inside.TheVariants.{Children}
 use Rattle.validity_check.specs.Told.{inside_told, told, IsFittingInside}
 use Rattle.validity_check.proofs.Counting.{one_more, up_to, fewer, element_counts, at_least_length, match-ok, on-ok, text-without, all-counted}

@@ -6,7 +6,7 @@ use Rattle.content_models.specs.Seen.{seen}
 use Rattle.content_models.specs.Particle.{Particles}
 use Rattle.content_match.specs.Private.Alls.{whole}
 use Rattle.validity.specs.Faults.{front}
-use Rattle.validity_check.specs.Counts.{elements_in}
+use Rattle.item_tree.specs.Counts.{elements_in}
 use Rattle.value_builder.specs.Built.{Stands}
 use Rattle.xer_read.specs.Private.Keeping.{Reached, Gathers}
 use Rattle.xer_read.specs.Private.Putting.{IsWay}

@@ -4,7 +4,7 @@ use Rattle.transcode_core.specs.Private.Seen.{type_seen}
 use Rattle.transcode_core.specs.Due.{ItemsIn}
 use Rattle.command_line.specs.Answers.{NoMemory}
 use Rattle.transcode_core.specs.Causes.{OneRead, StepsFrom}
-use Rattle.validity_check.specs.Counts.{element_count}
+use Rattle.item_tree.specs.Counts.{element_count}
 use Rattle.validity_check.proofs.Counting.{on-ok}
 use Rattle.transcode_core.proofs.Ready.{encodes, encodes_nothing}
 use Rattle.transcode_core.proofs.prepared.Prepared.encode_input.Goals as goal
