@@ -6,6 +6,7 @@ use Rattle.simple_types.specs.declared.labels.ValueLabel.{ValueLabel}
 use Rattle.asn_types.specs.declared.modules.Assignment.{Assignment}
 use Rattle.asn_values.specs.Values.{In}
 use Rattle.per_fields.specs.declared.stops.Stop.{Stop}
+use Rattle.per_fields.specs.declared.stops.Why.TheVariants.{Short}
 use Rattle.per_fields.specs.Stops.{is_short}
 use Rattle.per_fields.specs.Encoding.{complete_by}
 use Rattle.per_fields.specs.Laws.{BeginsBy}
