@@ -1,7 +1,6 @@
 //! Tests of what no row of transcode_rows shows: what is taken of a source, what becomes of each part of an encoding and of
-//! each bit that is turned, long texts, the order of elements, the leaves and turns that a matcher tells, and files as sources,
-//! sinks and libraries. What is due is worked out from X.691 and from the language of content models, and never copied from the
-//! program.
+//! each bit that is turned, long texts, the leaves and turns that a matcher tells, and files as sources, sinks and libraries.
+//! What is due is worked out from X.691 and from the language of content models, and never copied from the program.
 //!
 //! Read first: docs/TESTING.md, then the test of your subject.
 #![tactic(auto)]
@@ -13,12 +12,8 @@ mod files;
 #[cfg(test)]
 mod fragments;
 #[cfg(test)]
-mod made;
-#[cfg(test)]
 mod matching;
 mod opening;
-#[cfg(test)]
-mod orders;
 #[cfg(test)]
 mod references;
 mod schemas;
