@@ -37,9 +37,10 @@ TABLES = {
     "invalid": ("crates/validity/src/why.rt", "InvalidWhy"),
     "per": ("crates/per_fields/src/stops.rt", "Why"),
     "der": ("crates/der_fields/src/stops.rt", "Why"),
+    "module": ("crates/module_faults/src/reasons.rt", "ModuleWhy"),
 }
-# Enums of reasons that are passed on under the names of the others, and those that no command tells so far.
-PASSED_ON = {"NoneWhy", "ModuleWhy"}
+# Enums of reasons that are passed on under the names of the others.
+PASSED_ON = {"NoneWhy"}
 
 
 def text_of(path):
@@ -150,6 +151,7 @@ WORDS = {
     "invalid": "invalid_reason",
     "per": "octets_reason",
     "der": "der_reason",
+    "module": "module_reason",
 }
 
 

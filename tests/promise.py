@@ -15,7 +15,7 @@ import sys
 HERE = os.path.dirname(os.path.dirname(os.path.abspath(__file__)))
 PAGE = os.path.join(HERE, "docs/PROMISE.md")
 START = ("transcode_core", "Runs", "RunsAs")
-LIMIT = 8000
+LIMIT = 9000
 BROUGHT = re.compile(r"(?:(?:unfoldable )?pub )?use ")
 ROW = re.compile(r"(?m)^\| `(\w+)/([\w/]+)` \| (\d+) \|")
 

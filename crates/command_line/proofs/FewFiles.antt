@@ -11,7 +11,7 @@ use Rattle.command_line.specs.declared.outcome.Outcome.{Outcome}
 use Rattle.command_line.specs.declared.words.Request.{Request}
 use Rattle.command_line.specs.Seen.{seen}
 use Rattle.command_line.specs.declared.tasks.Task.{Task}
-use Rattle.command_line.specs.Words.{Asked, Show, Serve, Trial, IsWithin, are_files, root_of, rooted_parts, task_of, served, is_count, counted, asked, each_asked}
+use Rattle.command_line.specs.Words.{Asked, Show, Serve, Trial, IsWithin, are_files, shown_back, root_of, rooted_parts, task_of, served, is_count, counted, asked, each_asked}
 use Rattle.command_line.specs.declared.outcome.Outcome.TheVariants.{Usage}
 use Rattle.command_line.proofs.WordLemmas.{le-number_from}
 
@@ -76,11 +76,17 @@ few_counted [] = tt
 few_counted (word ∷ []) = lines_if (is_count word) (number_of word) (count_within word)
 few_counted (word ∷ other ∷ words) = tt
 
+few_back : (words : List (List ℕ)) → AreFew (shown_back words)
+few_back [] = tt
+few_back (file ∷ []) = tt
+few_back (file ∷ other ∷ words) = tt
+
 pub few_asked : (words : List (List ℕ)) → AreFew (asked words)
 few_asked [] = tt
 few_asked (command ∷ words) =
     split (bytes_eq command (codes "show")) _ _ (unless (are_files words) (Some (Show words)) (λ e. few_of words e))
-    (split (bytes_eq command (codes "trial")) _ _ (few_counted words) (few_served (task_of command) words))
+    (split (bytes_eq command (codes "show-back")) _ _ (few_back words)
+    (split (bytes_eq command (codes "trial")) _ _ (few_counted words) (few_served (task_of command) words)))
 
 few_found : (words : List (List ℕ)) (found : Option Request) → option_map seen found ≡ asked words → IfOk (ok_or found Usage) (λ request. IsWithin (seen request))
 few_found words None is = tt

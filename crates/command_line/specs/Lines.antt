@@ -14,8 +14,10 @@ use Rattle.per_fields.specs.declared.stops.Why.{Why}
 use Rattle.per_fields.specs.declared.stops.Why.TheVariants as per
 use Rattle.der_fields.specs.declared.stops.Why.{Why as DerWhy}
 use Rattle.der_fields.specs.declared.stops.Why.TheVariants as der
+use Rattle.module_faults.specs.declared.reasons.ModuleWhy.{ModuleWhy}
+use Rattle.module_faults.specs.declared.reasons.ModuleWhy.TheVariants as module_why
 use Rattle.command_line.specs.declared.outcome.Outcome.{Outcome}
-use Rattle.command_line.specs.declared.outcome.Outcome.TheVariants.{Done, Usage, SchemaSyntax, SchemaFault, LinkFault, UnknownRoot, DocSyntax, Invalid, PerFault, RecordFault, DerFault, Trailing, TooLong, TooManyNodes, LoadFault, ReadFault, WriteFault, OutOfMemory}
+use Rattle.command_line.specs.declared.outcome.Outcome.TheVariants.{Done, Usage, SchemaSyntax, SchemaFault, LinkFault, UnknownRoot, DocSyntax, Invalid, PerFault, RecordFault, DerFault, ModuleFault, Trailing, TooLong, TooManyNodes, LoadFault, ReadFault, WriteFault, OutOfMemory}
 
 -- the name of a reason against a text
 abbrev pub reason_name : DocWhy → List ℕ
@@ -153,6 +155,16 @@ der_reason der.NotUtf8 = codes "NotUtf8"
 der_reason der.DefaultWritten = codes "DefaultWritten"
 der_reason der.NotAValue = codes "NotAValue"
 
+-- the name of a reason against a printed module
+abbrev pub module_reason : ModuleWhy → List ℕ
+module_reason module_why.NotUtf8 = codes "NotUtf8"
+module_reason module_why.Syntax = codes "Syntax"
+module_reason module_why.TooDeep = codes "TooDeep"
+module_reason module_why.Duplicate = codes "Duplicate"
+module_reason module_why.Unresolved = codes "Unresolved"
+module_reason module_why.LongChain = codes "LongChain"
+module_reason module_why.Spelling = codes "Spelling"
+
 -- the file of that number, or the input
 abbrev pub place : ℕ → List ℕ
 place zero = codes "input"
@@ -160,7 +172,7 @@ place (suc k) = codes "file " ++ decimal (suc k)
 
 abbrev pub line : Outcome → List ℕ
 line Done = []
-line Usage = codes "usage: show FILE... | check ROOT FILE... | to-per ROOT FILE... | to-xml ROOT FILE... | trial N | to-per-u ROOT FILE... | to-xml-u ROOT FILE... | to-der ROOT FILE... | from-der ROOT FILE... | each-to-xml ROOT FILE...\n"
+line Usage = codes "usage: show FILE... | check ROOT FILE... | to-per ROOT FILE... | to-xml ROOT FILE... | trial N | to-per-u ROOT FILE... | to-xml-u ROOT FILE... | to-der ROOT FILE... | from-der ROOT FILE... | show-back FILE | each-to-xml ROOT FILE...\n"
 line (SchemaSyntax k at reason) = codes "file " ++ decimal k ++ codes ", byte " ++ decimal at ++ codes ": syntax: " ++ reason_name reason ++ codes "\n"
 line (SchemaFault k at reason) = codes "file " ++ decimal k ++ codes ", byte " ++ decimal at ++ codes ": schema: " ++ schema_reason reason ++ codes "\n"
 line (LinkFault k at reason) = codes "file " ++ decimal k ++ codes ", byte " ++ decimal at ++ codes ": link: " ++ link_reason reason ++ codes "\n"
@@ -170,6 +182,7 @@ line (Invalid at reason) = codes "input, byte " ++ decimal at ++ codes ": invali
 line (PerFault bit reason) = codes "input, bit " ++ decimal bit ++ codes ": per: " ++ per_reason reason ++ codes "\n"
 line (RecordFault number bit reason) = codes "record " ++ decimal number ++ codes ", bit " ++ decimal bit ++ codes ": per: " ++ per_reason reason ++ codes "\n"
 line (DerFault at reason) = codes "input, byte " ++ decimal at ++ codes ": der: " ++ der_reason reason ++ codes "\n"
+line (ModuleFault at reason) = codes "file 1, byte " ++ decimal at ++ codes ": module: " ++ module_reason reason ++ codes "\n"
 line (Trailing at) = codes "input, byte " ++ decimal at ++ codes ": trailing\n"
 line (TooLong k) = place k ++ codes ": too long\n"
 line (TooManyNodes count) = codes "value of " ++ decimal count ++ codes " nodes: too many\n"

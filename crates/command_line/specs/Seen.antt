@@ -3,12 +3,13 @@ use Rattle.xa_base.specs.declared.texts.Name.{Name}
 use Rattle.command_line.specs.declared.words.Root.{Root}
 use Rattle.command_line.specs.declared.words.Request.{Request}
 use Rattle.command_line.specs.declared.words.Request.TheVariants as request
-use Rattle.command_line.specs.Words.{Asked, Show, Serve, Trial}
+use Rattle.command_line.specs.Words.{Asked, Show, ShowBack, Serve, Trial}
 
 abbrev pub root_seen : Root → Name
 root_seen root = record { space = root.space.now; local = root.local.now }
 
 abbrev pub seen : Request → Asked
 seen (request.Show files) = Show files.now
+seen (request.ShowBack file) = ShowBack file.now
 seen (request.Serve task root files) = Serve task (root_seen root) files.now
 seen (request.Trial lines) = Trial lines

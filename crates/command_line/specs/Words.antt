@@ -10,15 +10,18 @@ use Rattle.command_line.specs.declared.tasks.Syntax.TheVariants.{Aligned, Unalig
 use Rattle.command_line.specs.declared.tasks.Task.{Task}
 use Rattle.command_line.specs.declared.tasks.Task.TheVariants.{Check, Send, Receive}
 
--- what the words ask for: the module of files, a task with its root and its files, or a trial of so many lines
+-- what the words ask for: the module of files, what a printed module tells, a task with its root and its files, or a trial of
+-- so many lines
 pub data Asked : Type 0 where
   Show : List (List ℕ) → Asked
+  ShowBack : List ℕ → Asked
   Serve : Task → Name → List (List ℕ) → Asked
   Trial : ℕ → Asked
 
 -- the limits of what words ask for
 abbrev pub IsWithin : Asked → Type 0
 IsWithin (Show files) = length files ≤ 64
+IsWithin (ShowBack file) = Unit {0}
 IsWithin (Serve task root files) = length files ≤ 64
 IsWithin (Trial lines) = (1 ≤ lines) × (lines ≤ 100000)
 
@@ -92,12 +95,17 @@ counted words = None
 abbrev pub shown : List (List ℕ) → Option Asked
 shown files = if are_files files then Some (Show files) else None
 
--- `show FILE..`, `trial N`, or a task as `check ROOT FILE..`, `to-per ROOT FILE..` or `to-xml ROOT FILE..`, and `to-per-u` or
+abbrev pub shown_back : List (List ℕ) → Option Asked
+shown_back (file ∷ []) = Some (ShowBack file)
+shown_back words = None
+
+-- `show FILE..`, `show-back FILE`, `trial N`, or a task as `check ROOT FILE..`, `to-per ROOT FILE..` or `to-xml ROOT FILE..`, and `to-per-u` or
 -- `to-xml-u`, `to-der` or `from-der` alike
 abbrev pub asked : List (List ℕ) → Option Asked
 asked [] = None
 asked (command ∷ words) =
     if bytes_eq command (codes "show") then shown words
+    else if bytes_eq command (codes "show-back") then shown_back words
     else if bytes_eq command (codes "trial") then counted words
     else served (task_of command) words
 

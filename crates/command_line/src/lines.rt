@@ -15,12 +15,13 @@ use doc_text::DocWhy;
 use facet_rules::FacetWhy;
 use itoa::Buffer;
 use link_names::LinkWhy;
+use module_faults::ModuleWhy;
 use per_fields::Why;
 use schema_rules::SchemaWhy;
 use validity::InvalidWhy;
 use xa_base::{Failed, Sink, write_all};
 
-// The room for a line. The longest, that of the usage, has 216 bytes.
+// The room for a line. The longest, that of the usage, has 233 bytes.
 const ROOM: usize = 256;
 
 // The pieces as one, if there is room for them.
@@ -280,13 +281,28 @@ fn invalid_reason(why: InvalidWhy) -> &'static [u8]
     }
 }
 
+// The name of a reason against a printed module.
+fn module_reason(why: ModuleWhy) -> &'static [u8]
+    ensures { result.now ≡ lines.module_reason why }
+{
+    match why {
+        ModuleWhy::NotUtf8 => b"NotUtf8",
+        ModuleWhy::Syntax => b"Syntax",
+        ModuleWhy::TooDeep => b"TooDeep",
+        ModuleWhy::Duplicate => b"Duplicate",
+        ModuleWhy::Unresolved => b"Unresolved",
+        ModuleWhy::LongChain => b"LongChain",
+        ModuleWhy::Spelling => b"Spelling",
+    }
+}
+
 fn parts_of(outcome: Outcome) -> Parts
     ensures { spelled result ≡ lines.line outcome }
 {
     match outcome {
         Outcome::Done => plain(b""),
         Outcome::Usage => plain(
-            b"usage: show FILE... | check ROOT FILE... | to-per ROOT FILE... | to-xml ROOT FILE... | trial N | to-per-u ROOT FILE... | to-xml-u ROOT FILE... | to-der ROOT FILE... | from-der ROOT FILE... | each-to-xml ROOT FILE...\n",
+            b"usage: show FILE... | check ROOT FILE... | to-per ROOT FILE... | to-xml ROOT FILE... | trial N | to-per-u ROOT FILE... | to-xml-u ROOT FILE... | to-der ROOT FILE... | from-der ROOT FILE... | show-back FILE | each-to-xml ROOT FILE...\n",
         ),
         Outcome::SchemaSyntax { file, at, why } => Parts {
             head: b"file ",
@@ -359,6 +375,15 @@ fn parts_of(outcome: Outcome) -> Parts
             at: Some(at),
             tail: b": der: ",
             reason: der_reason(why),
+            end: b"\n",
+        },
+        Outcome::ModuleFault { at, why } => Parts {
+            head: b"file 1, byte ",
+            file: None,
+            middle: b"",
+            at: Some(at),
+            tail: b": module: ",
+            reason: module_reason(why),
             end: b"\n",
         },
         Outcome::Trailing { at } => numbered(b"input, byte ", at, b": trailing\n"),

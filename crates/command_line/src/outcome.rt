@@ -5,6 +5,7 @@ ghost use Rattle.command_line.specs.Status.{status};
 use der_fields::Why as DerWhy;
 use doc_text::DocWhy;
 use link_names::LinkWhy;
+use module_faults::ModuleWhy;
 use per_fields::Why;
 use schema_rules::SchemaWhy;
 use validity::InvalidWhy;
@@ -32,6 +33,8 @@ pub enum Outcome {
     PerFault { bit: u64, why: Why },
     /// The input is no encoding in DER: its first fault, at this byte.
     DerFault { at: u64, why: DerWhy },
+    /// The file is no printed module: its first fault, at this byte.
+    ModuleFault { at: u64, why: ModuleWhy },
     /// An encoding ends before this byte of the input.
     Trailing { at: u64 },
     /// The record with this number, counted from 1, is no encoding: its first fault, in the field that begins at this bit of
@@ -70,6 +73,7 @@ impl Outcome {
             Outcome::TooLong { .. } => 11,
             Outcome::TooManyNodes { .. } => 12,
             Outcome::DerFault { .. } => 13,
+            Outcome::ModuleFault { .. } => 14,
             Outcome::RecordFault { .. } => 15,
             Outcome::LoadFault { .. } => 20,
             Outcome::ReadFault => 21,

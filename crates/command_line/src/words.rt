@@ -26,6 +26,10 @@ pub enum Request<'a> {
     Show {
         files: &'a [Text],
     },
+    /// What the printed module in a file tells.
+    ShowBack {
+        file: &'a Text,
+    },
     /// A task over the schema files and the input.
     Serve {
         task: Task,
@@ -147,6 +151,15 @@ fn shown(files: &[Text]) -> Option<Request<'_>>
     }
 }
 
+fn shown_back(words: &[Text]) -> Option<Request<'_>>
+    ensures { option_map seen result ≡ command.shown_back words.now }
+{
+    match words {
+        [file] => Some(Request::ShowBack { file }),
+        _ => None,
+    }
+}
+
 fn counted(words: &[Text]) -> Option<Request<'_>>
     ensures { option_map seen result ≡ command.counted words.now }
 {
@@ -195,6 +208,8 @@ fn asked(words: &[Text]) -> Option<Request<'_>>
     let command = command.bytes();
     if command == b"show".as_slice() {
         shown(words)
+    } else if command == b"show-back".as_slice() {
+        shown_back(words)
     } else if command == b"trial".as_slice() {
         counted(words)
     } else {

@@ -1,7 +1,7 @@
 -- Complaints that tell no byte.
 use Rattle.std.proofs.Common.{◌≡◌, ◌⊎◌, inl, inr, ℕ, List, [], ◌++◌, codes, decimal, Result, Ok, Err, IfOk, ◌∙◌, ap}
 use Rattle.command_line.specs.declared.outcome.Outcome.{Outcome}
-use Rattle.command_line.specs.declared.outcome.Outcome.TheVariants.{Done, Usage, SchemaSyntax, SchemaFault, LinkFault, UnknownRoot, DocSyntax, Invalid, PerFault, RecordFault, DerFault, Trailing, TooLong, TooManyNodes, LoadFault, ReadFault, WriteFault, OutOfMemory}
+use Rattle.command_line.specs.declared.outcome.Outcome.TheVariants.{Done, Usage, SchemaSyntax, SchemaFault, LinkFault, UnknownRoot, DocSyntax, Invalid, PerFault, RecordFault, DerFault, ModuleFault, Trailing, TooLong, TooManyNodes, LoadFault, ReadFault, WriteFault, OutOfMemory}
 use Rattle.command_line.specs.Lines.{der_reason}
 use Rattle.der_fields.specs.declared.stops.Why.{Why}
 use Rattle.text_places.specs.Telling.{explained}
@@ -30,6 +30,7 @@ IsWhole (Invalid at why) = ⊥
 IsWhole (PerFault bit why) = ⊥
 IsWhole (RecordFault number bit why) = ⊥
 IsWhole (DerFault at why) = ⊥
+IsWhole (ModuleFault at why) = ⊥
 IsWhole (Trailing at) = ⊥
 IsWhole _ = Unit {0}
 
@@ -52,6 +53,7 @@ whole (Invalid at why) name contents within r means remedy told is named e = abs
 whole (PerFault bit why) name contents within r means remedy told is named e = absurd is
 whole (RecordFault number bit why) name contents within r means remedy told is named e = absurd is
 whole (DerFault at why) name contents within r means remedy told is named e = absurd is
+whole (ModuleFault at why) name contents within r means remedy told is named e = absurd is
 whole (Trailing at) name contents within r means remedy told is named e = absurd is
 
 -- one of these

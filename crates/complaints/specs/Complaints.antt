@@ -4,7 +4,7 @@ use Rattle.label_tree.specs.Rose.{Rose}
 use Rattle.item_tree.specs.declared.label.ItemLabel.{ItemLabel}
 use Rattle.doc_text.specs.Documents.{DocOf}
 use Rattle.command_line.specs.declared.outcome.Outcome.{Outcome}
-use Rattle.command_line.specs.declared.outcome.Outcome.TheVariants.{Done, Usage, SchemaSyntax, SchemaFault, LinkFault, UnknownRoot, DocSyntax, Invalid, PerFault, RecordFault, DerFault, Trailing, TooLong, TooManyNodes, LoadFault, ReadFault, WriteFault, OutOfMemory}
+use Rattle.command_line.specs.declared.outcome.Outcome.TheVariants.{Done, Usage, SchemaSyntax, SchemaFault, LinkFault, UnknownRoot, DocSyntax, Invalid, PerFault, RecordFault, DerFault, ModuleFault, Trailing, TooLong, TooManyNodes, LoadFault, ReadFault, WriteFault, OutOfMemory}
 use Rattle.command_line.specs.Lines as lines
 use Rattle.text_places.specs.Paths.{IsPath}
 use Rattle.text_places.specs.Telling.{IsPlaced, explained}
@@ -19,6 +19,7 @@ IsNamed (Invalid at why) name = name ≡ lines.invalid_reason why
 IsNamed (PerFault bit why) name = name ≡ lines.per_reason why
 IsNamed (RecordFault number bit why) name = name ≡ lines.per_reason why
 IsNamed (DerFault at why) name = name ≡ lines.der_reason why
+IsNamed (ModuleFault at why) name = name ≡ lines.module_reason why
 IsNamed Done name = name ≡ codes "Done"
 IsNamed Usage name = name ≡ codes "Usage"
 IsNamed UnknownRoot name = name ≡ codes "UnknownRoot"
@@ -37,6 +38,7 @@ byte_of (SchemaFault k at why) = Some at
 byte_of (LinkFault k at why) = Some at
 byte_of (DocSyntax at why) = Some at
 byte_of (Invalid at why) = Some at
+byte_of (ModuleFault at why) = Some at
 byte_of _ = None
 
 -- the reason, its meaning and its remedy are told at this byte

@@ -51,7 +51,8 @@ pub fn complaint(
         | Outcome::SchemaFault { at, .. }
         | Outcome::LinkFault { at, .. }
         | Outcome::DocSyntax { at, .. }
-        | Outcome::Invalid { at, .. } => {
+        | Outcome::Invalid { at, .. }
+        | Outcome::ModuleFault { at, .. } => {
             if at <= contents.len() as u64 {
                 tell_place(alloc, name, contents, at as usize, within, reason)
             } else {

@@ -8,6 +8,7 @@ use der_fields::Why as DerWhy;
 use doc_text::DocWhy;
 use facet_rules::FacetWhy;
 use link_names::LinkWhy;
+use module_faults::ModuleWhy;
 use per_fields::Why;
 use schema_rules::SchemaWhy;
 use text_places::Reason;
@@ -640,6 +641,49 @@ pub fn der_reason(why: DerWhy) -> Reason
     }
 }
 
+/// Of a file that is no printed module.
+pub fn module_reason(why: ModuleWhy) -> Reason
+    ensures { result.name.now ≡ lines.module_reason why }
+{
+    match why {
+        ModuleWhy::NotUtf8 => Reason {
+            name: "NotUtf8",
+            means: "the bytes aren't UTF-8",
+            remedy: "write the module again, with show",
+        },
+        ModuleWhy::Syntax => Reason {
+            name: "Syntax",
+            means: "nothing that show writes goes on so",
+            remedy: "write the module again, with show: other notations of ASN.1 aren't read",
+        },
+        ModuleWhy::TooDeep => Reason {
+            name: "TooDeep",
+            means: "the 1,025th type or value in one another",
+            remedy: "take this text for none",
+        },
+        ModuleWhy::Duplicate => Reason {
+            name: "Duplicate",
+            means: "a reference or an identifier that stood before, or a reserved word",
+            remedy: "write the module again, with show",
+        },
+        ModuleWhy::Unresolved => Reason {
+            name: "Unresolved",
+            means: "no assignment has this reference",
+            remedy: "write the module again, with show",
+        },
+        ModuleWhy::LongChain => Reason {
+            name: "LongChain",
+            means: "more than four references in a row go out from here",
+            remedy: "write the module again, with show",
+        },
+        ModuleWhy::Spelling => Reason {
+            name: "Spelling",
+            means: "show writes this otherwise, or never here",
+            remedy: "docs/MODULE-READ.md has what stands where",
+        },
+    }
+}
+
 /// The reason of an outcome that isn't `Done`.
 pub fn reason_of(outcome: Outcome) -> Reason
     ensures { IsNamed outcome result.name.now }
@@ -651,6 +695,7 @@ pub fn reason_of(outcome: Outcome) -> Reason
         Outcome::Invalid { why, .. } => invalid_reason(why),
         Outcome::PerFault { why, .. } | Outcome::RecordFault { why, .. } => octets_reason(why),
         Outcome::DerFault { why, .. } => der_reason(why),
+        Outcome::ModuleFault { why, .. } => module_reason(why),
         Outcome::Done => Reason {
             name: "Done",
             means: "all is done",

@@ -109,6 +109,10 @@ fn about<'a>(work: &'a Work<'_>, outcome: Outcome) -> (&'a str, &'a [u8]) {
             let name = file_name(work.asked, file);
             (name, work.files.contents(name).unwrap_or(b""))
         }
+        Outcome::ModuleFault { .. } => {
+            let name = file_name(work.asked, 1);
+            (name, work.files.contents(name).unwrap_or(b""))
+        }
         Outcome::TooLong { file } if file > 0 => (file_name(work.asked, file), b""),
         Outcome::DocSyntax { .. }
         | Outcome::Invalid { .. }

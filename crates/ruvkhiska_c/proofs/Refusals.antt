@@ -4,7 +4,7 @@ use Rattle.std.specs.Prelude.{IfSome, IsSomeAnd, IfErr, MatchResult, IsUtf8}
 use Rattle.xa_base.specs.declared.texts.Name.{Name}
 use Rattle.schema_parts.specs.Components.{Set}
 use Rattle.command_line.specs.declared.outcome.Outcome.{Outcome}
-use Rattle.command_line.specs.declared.outcome.Outcome.TheVariants.{Done, Usage, SchemaSyntax, SchemaFault, LinkFault, UnknownRoot, DocSyntax, Invalid, PerFault, RecordFault, DerFault, Trailing, TooLong, TooManyNodes, LoadFault, ReadFault, WriteFault, OutOfMemory}
+use Rattle.command_line.specs.declared.outcome.Outcome.TheVariants.{Done, Usage, SchemaSyntax, SchemaFault, LinkFault, UnknownRoot, DocSyntax, Invalid, PerFault, RecordFault, DerFault, ModuleFault, Trailing, TooLong, TooManyNodes, LoadFault, ReadFault, WriteFault, OutOfMemory}
 use Rattle.command_line.specs.Answers.{Answers, IsRefusal, NoMemory}
 use Rattle.command_line.specs.Status.{status}
 use Rattle.transcode_core.specs.Due.{Opened}
@@ -28,6 +28,7 @@ status_in_c (Invalid _ _) = refl
 status_in_c (PerFault _ _) = refl
 status_in_c (RecordFault _ _ _) = refl
 status_in_c (DerFault _ _) = refl
+status_in_c (ModuleFault _ _) = refl
 status_in_c (Trailing _) = refl
 status_in_c (TooLong _) = refl
 status_in_c (TooManyNodes _) = refl

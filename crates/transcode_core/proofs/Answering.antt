@@ -1,5 +1,8 @@
 -- At least one outcome or result is due.
-use Rattle.std.proofs.Common.{◌≡◌, ◌⊎◌, ℕ, ◌+◌, ◌<◌, ◌≤◌, ◌^◌, true, List, [], ◌∷◌, length, take, refl, sym, subst, inl, inr, arith, Option, Some, None, Result, Ok, Err}
+use Rattle.std.proofs.Common.{◌≡◌, ◌⊎◌, ℕ, ◌+◌, ◌<◌, ◌≤◌, ◌^◌, Bool, true, false, List, [], ◌∷◌, length, take, refl, sym, subst, inl, inr, arith, Option, Some, None, Result, Ok, Err}
+use Rattle.std.specs.Prelude.{IsUtf8}
+use Rattle.std.specs.Str.{is_utf8}
+use Rattle.std.proofs.lemmas.Str.{IsUtf8-from_is_utf8, is_utf8-from_IsUtf8}
 use Rattle.std.proofs.lemmas.Bool.{cases_lt}
 use Rattle.std.proofs.lemmas.List.{take_all, length-take}
 use Rattle.xa_base.specs.declared.texts.Name.{Name}
@@ -10,6 +13,7 @@ use Rattle.item_tree.specs.declared.label.ItemLabel.{ItemLabel}
 use Rattle.doc_text.specs.declared.error.DocWhy.{DocWhy}
 use Rattle.doc_text.specs.Documents.{DocOf, BrokenAt}
 use Rattle.doc_text.specs.Sound.{AreItems}
+use Rattle.doc_text.proofs.OneTree.{valid_up_to}
 use Rattle.doc_written.specs.Written.{written}
 use Rattle.plain_items.specs.Plain.{Plain}
 use Rattle.plain_items.specs.Unplaced.{unplaced}
@@ -34,6 +38,9 @@ use Rattle.map_assignments.specs.Mapped.{IsMapOf, root_at}
 use Rattle.map_694.proofs.Bodies.{global-named}
 use Rattle.map_694.proofs.Whole.{root-within}
 use Rattle.module_print.specs.Printed.{printed}
+use Rattle.module_faults.specs.declared.reasons.ModuleWhy.TheVariants as module_why
+use Rattle.module_read.specs.Tells.{SomeAnswer}
+use Rattle.module_read.specs.Summary as back
 use Rattle.xer_items.specs.Items.{Xer}
 use Rattle.schema_parts.specs.Small.{AreSmall}
 use Rattle.one_value.specs.Statements.{ValuesOfItems, ItemsOfValues}
@@ -46,11 +53,11 @@ use Rattle.transcode_core.specs.Syntaxes.{BeginsWith, AreOctetsOf, IsOneOfTwo, A
 use Rattle.transcode_core.specs.Private.Decided.{Decided}
 use Rattle.transcode_core.proofs.Verdicts.{done_due, refusal_due_of, decided_never}
 use Rattle.command_line.specs.declared.outcome.Outcome.{Outcome}
-use Rattle.command_line.specs.declared.outcome.Outcome.TheVariants.{Done, Usage, SchemaSyntax, SchemaFault, DocSyntax, LinkFault, UnknownRoot, Invalid, Trailing, TooLong, TooManyNodes, LoadFault}
+use Rattle.command_line.specs.declared.outcome.Outcome.TheVariants.{Done, Usage, SchemaSyntax, SchemaFault, DocSyntax, LinkFault, UnknownRoot, Invalid, ModuleFault, Trailing, TooLong, TooManyNodes, LoadFault}
 use Rattle.command_line.specs.Order.{Give, Found, Then}
-use Rattle.transcode_core.specs.Steps.{Loaded, Read, Faultless, SchemaIn, Schema, Schemas, AreParts, Linked, number_named, Rooted, Printed, Input, AreLinked, Judged, RootType, IsTypeOf, IsRootType, Typed, Valued, ValueIn, Encoding, readable, fault_in, Streamed, DecodedOf, Decoded, Written}
+use Rattle.transcode_core.specs.Steps.{Loaded, Read, Faultless, SchemaIn, Schema, Schemas, AreParts, Linked, number_named, Rooted, Printed, ModuleIn, Input, AreLinked, Judged, RootType, IsTypeOf, IsRootType, Typed, Valued, ValueIn, Encoding, readable, fault_in, Streamed, DecodedOf, Decoded, Written}
 use Rattle.transcode_core.specs.Due.{Requested, SetIn, Opened, ItemsIn, Checked, Encoded, Documented, Served, TrialSent, Tried, Answered, Due}
-use Rattle.command_line.specs.Words.{Asked, Show, Serve, Trial, asked}
+use Rattle.command_line.specs.Words.{Asked, Show, ShowBack, Serve, Trial, asked}
 use Rattle.transcode_core.specs.Trial.{trial_name, trial_schema, trial_root, trial_document, summary}
 use Rattle.transcode_core.specs.Causes.{reads_input, ReadsInput, IsTold, AreRead, IsInput, IsInputOf}
 use Rattle.transcode_core.proofs.Octets.{value_in}
@@ -118,6 +125,23 @@ module _ (document : (bytes : List ℕ) → ((x : tree.Rose ItemLabel) × DocOf 
   ItemsIn-answered : (left : List ℕ) → IsAnswered (ItemsIn (Some left))
   ItemsIn-answered left =
       Then-with (Input (Some left)) (λ bytes. Read (λ at why. DocSyntax at why) bytes) (Input-answered left) (λ bytes input. Read-answered (λ at why. DocSyntax at why) bytes)
+
+-- ---- printed modules
+
+no_utf8 : (bytes : List ℕ) → ¬ IsUtf8 bytes → IsAnswered (ModuleIn bytes)
+no_utf8 bytes bad = let at = valid_up_to bytes bad in (Err (ModuleFault at.0 module_why.NotUtf8), (at.0, module_why.NotUtf8, (bad, at.1), refl))
+
+of_utf8 : SomeAnswer → (bytes : List ℕ) → length bytes ≤ 16777216 → IsUtf8 bytes → IsAnswered (ModuleIn bytes)
+of_utf8 some bytes few utf8 = elim (some bytes few utf8) [
+  | inl is ↦ (Ok is.0, is.1)
+  | inr bad ↦ (Err (ModuleFault bad.0 bad.1), (bad.0, bad.1, bad.2, refl))
+]
+
+ModuleIn-answered : SomeAnswer → (bytes : List ℕ) → length bytes ≤ 16777216 → IsAnswered (ModuleIn bytes)
+ModuleIn-answered some bytes few = elim (is_utf8 bytes) as (λ (b : Bool). is_utf8 bytes ≡ b → IsAnswered (ModuleIn bytes)) [
+  | true ↦ (λ e. of_utf8 some bytes few (IsUtf8-from_is_utf8 bytes e))
+  | false ↦ (λ e. no_utf8 bytes (λ u. let yes : is_utf8 bytes ≡ true = is_utf8-from_IsUtf8 bytes u in absurd cc))
+] refl
 
 -- ---- sets
 
@@ -263,6 +287,7 @@ pub record Laws : Type 1 where
   pub values : ValuesOfItems
   pub items_of : ItemsOfValues
   pub syntaxes : AllSyntaxes
+  pub modules : SomeAnswer
 
 -- what is said of sets of documents: each has its parts, and a map
 pub record SetLaws (entries : List (List ℕ × List ℕ)) : Type 0 where
@@ -338,6 +363,9 @@ module _ (laws : Laws) (sets : (entries : List (List ℕ × List ℕ)) → SetLa
   Answered-answered : (left : Option (List ℕ)) (request : Asked) → (reads_input request ≡ true → IsTold left) → IsInput left request → IsAnswered (Answered (Some entries) left request)
   Answered-answered left (Show files) told fine =
       Then-with (SetIn (Some entries) files) (λ parts. Printed parts) (SetIn-answered laws entries (sets entries) files) (λ parts set. Printed-answered parts (has_map laws entries (sets entries) files parts set))
+  Answered-answered left (ShowBack file) told fine =
+      Then-with (Loaded (Some entries) 1 file) (λ bytes. Then (ModuleIn bytes) (λ M. Give (back.summary M))) (loaded_from entries 1 file (beside file entries) refl) (λ bytes loaded.
+      Then-with (ModuleIn bytes) (λ M. Give (back.summary M)) (ModuleIn-answered laws.modules bytes loaded.1) (λ M told. Give-answered (back.summary M)))
   Answered-answered (Some left) (Serve task root files) told fine = task_answered laws entries (sets entries) task root files left fine
   Answered-answered None (Serve task root files) told fine = absurd (told refl)
   Answered-answered left (Trial lines) told fine = Tried-answered laws (sets ((trial_name, trial_schema) ∷ [])) lines

@@ -10,7 +10,7 @@ use Rattle.record_stream.specs.Next.{within, fault_of, most_of}
 use Rattle.record_stream.proofs.Cutting.{one_cut_of}
 use Rattle.schema_parts.specs.Components.{Set}
 use Rattle.command_line.specs.declared.outcome.Outcome.{Outcome}
-use Rattle.command_line.specs.declared.outcome.Outcome.TheVariants.{Done, Usage, SchemaSyntax, SchemaFault, LinkFault, UnknownRoot, DocSyntax, Invalid, PerFault, DerFault, RecordFault, Trailing, TooLong, TooManyNodes, LoadFault, ReadFault, WriteFault, OutOfMemory}
+use Rattle.command_line.specs.declared.outcome.Outcome.TheVariants.{Done, Usage, SchemaSyntax, SchemaFault, LinkFault, UnknownRoot, DocSyntax, Invalid, PerFault, DerFault, ModuleFault, RecordFault, Trailing, TooLong, TooManyNodes, LoadFault, ReadFault, WriteFault, OutOfMemory}
 use Rattle.transcode_core.specs.Steps.{RootType, IsTypeOf}
 use Rattle.transcode_core.specs.Each.{each_limit, Documents, outcome_of, EndsAs, EachDue}
 use Rattle.transcode_core.proofs.Single.{Written-single, ok_inj}
@@ -44,6 +44,7 @@ module _ (type : RootType) where
     seen (Invalid at why) h = inr h
     seen (PerFault bit why) h = inr h
     seen (DerFault at why) h = inr h
+    seen (ModuleFault at why) h = inr h
     seen (RecordFault n bit why) h = inr h
     seen (Trailing at) h = inr h
     seen (TooLong k) h = inr h

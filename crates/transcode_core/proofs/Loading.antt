@@ -81,3 +81,9 @@ refused_at entries entries' names i name documents first prior now sure sure' o 
         record { rose = HasRisen-earlier first prior now earlier fails.rose; lacks = fails.lacks },
       ))
     ]
+
+-- the only file failed to load
+pub only_load : (entries : Option (List (List ℕ × List ℕ))) (name : List ℕ) (before now : ℕ) (sure : Bool) (o : Outcome)
+    → OneLoad before now sure entries 1 name o → SomeLoad before now sure entries (name ∷ []) o
+only_load entries name before now sure o (inl memory) = inl memory
+only_load entries name before now sure o (inr (is_load, fails)) = inr (1, name, is_load, record { before = []; after = []; documents = []; split = refl; number = refl; sound = refl }, fails)

@@ -10,11 +10,11 @@ use Rattle.doc_text.specs.declared.error.DocWhy.{DocWhy}
 use Rattle.doc_text.proofs.OneTree.{one_tree, tree_or_fault, one_fault}
 use Rattle.doc_text.proofs.PieceLaws.{PieceLaws}
 use Rattle.command_line.specs.declared.outcome.Outcome.{Outcome}
-use Rattle.command_line.specs.declared.outcome.Outcome.TheVariants.{Done, SchemaFault, LinkFault, Invalid, TooManyNodes, OutOfMemory}
+use Rattle.command_line.specs.declared.outcome.Outcome.TheVariants.{Done, SchemaFault, LinkFault, ModuleFault, Invalid, TooManyNodes, OutOfMemory}
 use Rattle.command_line.specs.Order.{Give, Found, Then}
 use Rattle.schema_faults.specs.Faults.{first_fault, reasons}
 use Rattle.schema_faults.specs.declared.faults.DocumentFault.{DocumentFault}
-use Rattle.transcode_core.specs.Steps.{Loaded, Read, Faultless, Linked, Printed, Schema, Schemas, Input, Judged, RootType, IsRootType, Typed, Valued, Encoding, Streamed, DecodedOf, Decoded, Written}
+use Rattle.transcode_core.specs.Steps.{Loaded, Read, Faultless, Linked, Printed, ModuleIn, Schema, Schemas, Input, Judged, RootType, IsRootType, Typed, Valued, Encoding, Streamed, DecodedOf, Decoded, Written}
 use Rattle.transcode_core.specs.Due.{SetIn, Opened, ItemsIn, Checked, Encoded, Documented, Served, Tried, Answered, Due}
 use Rattle.transcode_core.specs.Private.Decided.{Decided}
 use Rattle.command_line.specs.declared.tasks.Syntax.{Syntax}
@@ -22,7 +22,7 @@ use Rattle.command_line.specs.declared.tasks.Syntax.TheVariants.{Aligned, Unalig
 use Rattle.command_line.specs.declared.tasks.Task.{Task}
 use Rattle.command_line.specs.declared.tasks.Task.TheVariants.{Check, Send, Receive}
 use Rattle.transcode_core.specs.Syntaxes.{AreOctetsOf, AllSyntaxes}
-use Rattle.command_line.specs.Words.{Asked, Show, Serve, Trial}
+use Rattle.command_line.specs.Words.{Asked, Show, ShowBack, Serve, Trial}
 use Rattle.command_line.specs.Answers.{IsRefusal}
 use Rattle.transcode_core.specs.Causes.{reads_input, ReadsInput, IsTold, Deciding}
 use Rattle.schema_read.specs.Raw.{raw_of}
@@ -50,6 +50,8 @@ use Rattle.schema_parts.specs.declared.components.SimpleDef.{SimpleDef}
 use Rattle.map_694.proofs.Once.{one-map, one-entries}
 use Rattle.map_694.proofs.SameSets.{AreSame, map-same, name-of-same}
 use Rattle.module_print.specs.Printed.{printed}
+use Rattle.module_read.specs.Tells.{OneAnswer}
+use Rattle.module_read.specs.Summary as back
 use Rattle.schema_parts.specs.Raw.{Document}
 use Rattle.link_names.specs.declared.faults.LinkingFault as link
 use Rattle.schema_link.specs.Passes.{passes}
@@ -156,6 +158,14 @@ Linked-single documents (Err o) (Ok parts) (fault, shown, is) (passed, rest) = a
 Linked-single documents (Err o) (Err n) (fault, shown, is) (other, shows, was) =
     let same = one_shown documents passes fault other shown shows in
     ap (λ z. Err z) (is ∙ (ap (λ (f : link.LinkingFault). LinkFault f.place.file f.place.at f.why) same ∙ sym was))
+
+pub ModuleIn-single : OneAnswer → (bytes : List ℕ) → IsSingle (ModuleIn bytes)
+ModuleIn-single one bytes (Ok M) (Ok N) p q = ap (λ z. Ok z) (one.module_is bytes M N p q)
+ModuleIn-single one bytes (Ok M) (Err o) p (at, why, bad, is) = absurd (one.either bytes M at why p bad)
+ModuleIn-single one bytes (Err o) (Ok M) (at, why, bad, is) p = absurd (one.either bytes M at why p bad)
+ModuleIn-single one bytes (Err o) (Err p) (m, v, bad, is) (n, w, other, was) =
+    let e : (m ≡ n) × (v ≡ w) = one.fault_is bytes m n v w bad other in
+    ap (λ z. Err z) (is ∙ (ap (λ k. ModuleFault k v) e.0 ∙ (ap (λ r. ModuleFault n r) e.1 ∙ sym was)))
 
 names_in : (ts : List SimpleDef) → map (λ (n : NamedSpace). n.name) (named_spaces ts) ≡ map (λ (t : SimpleDef). t.name) ts
 names_in [] = refl
@@ -298,6 +308,7 @@ pub record Laws : Type 1 where
   pub valid : AtMostOne
   pub value : OneValue
   pub octets : AllSyntaxes
+  pub modules : OneAnswer
 
 pub Encoded-single : Laws → (syntax : Syntax) (opened : SetParts × ℕ) (left : List ℕ) → IsSingle (Encoded syntax opened (Some left))
 Encoded-single laws syntax opened left =
@@ -330,6 +341,8 @@ Tried-single laws lines =
 pub Answered-single : Laws → (entries : List (List ℕ × List ℕ)) (left : Option (List ℕ)) (request : Asked) → (reads_input request ≡ true → IsTold left)
     → IsSingle (Answered (Some entries) left request)
 Answered-single laws entries left (Show files) told = Then-single _ _ (SetIn-single laws.pieces entries files) (λ parts. Printed-single parts)
+Answered-single laws entries left (ShowBack file) told =
+    Then-single _ _ (Loaded-single entries 1 file) (λ bytes. Then-single _ _ (ModuleIn-single laws.modules bytes) (λ M. Give-single (back.summary M)))
 Answered-single laws entries (Some left) (Serve task root files) told = task_single laws task entries root files left
 Answered-single laws entries None (Serve task root files) told = absurd (told refl)
 Answered-single laws entries left (Trial lines) told = Tried-single laws lines

@@ -11,15 +11,16 @@ use Rattle.plain_items.specs.Plain.{Plain}
 use Rattle.xa_base.specs.declared.texts.Name.{Name}
 use Rattle.asn_types.specs.declared.modules.Assignment.{Assignment}
 use Rattle.command_line.specs.declared.outcome.Outcome.{Outcome}
-use Rattle.command_line.specs.declared.outcome.Outcome.TheVariants.{Done, Usage, SchemaSyntax, SchemaFault, LinkFault, UnknownRoot, DocSyntax, Invalid, PerFault, RecordFault, DerFault, Trailing, TooLong, TooManyNodes, LoadFault, ReadFault, WriteFault, OutOfMemory}
+use Rattle.command_line.specs.declared.outcome.Outcome.TheVariants.{Done, Usage, SchemaSyntax, SchemaFault, LinkFault, UnknownRoot, DocSyntax, Invalid, PerFault, RecordFault, DerFault, ModuleFault, Trailing, TooLong, TooManyNodes, LoadFault, ReadFault, WriteFault, OutOfMemory}
 use Rattle.command_line.specs.declared.tasks.Syntax.{Syntax}
 use Rattle.command_line.specs.declared.tasks.Syntax.TheVariants.{Aligned, Unaligned, Der}
 use Rattle.command_line.specs.declared.tasks.Task.{Task}
 use Rattle.command_line.specs.declared.tasks.Task.TheVariants.{Check, Send, Receive}
 use Rattle.command_line.specs.Order.{Give, Then}
 use Rattle.transcode_core.specs.Syntaxes.{Fault, HasFault}
-use Rattle.transcode_core.specs.Steps.{Loaded, Read, Faultless, SchemaIn, Schema, Schemas, Linked, Rooted, Printed, Input, Judged, RootType, Typed, Valued, ValueIn, Encoding, readable, AreNoEncoding, Streamed, Decoded, Written}
-use Rattle.command_line.specs.Words.{Asked, Show, Serve, Trial}
+use Rattle.transcode_core.specs.Steps.{Loaded, Read, Faultless, SchemaIn, Schema, Schemas, Linked, Rooted, Printed, ModuleIn, Input, Judged, RootType, Typed, Valued, ValueIn, Encoding, readable, AreNoEncoding, Streamed, Decoded, Written}
+use Rattle.module_read.specs.Summary as back
+use Rattle.command_line.specs.Words.{Asked, Show, ShowBack, Serve, Trial}
 use Rattle.transcode_core.specs.Trial.{trial_name, trial_schema, trial_root, trial_document, summary}
 use Rattle.transcode_core.specs.Due.{Requested, SetIn, Opened, ItemsIn, Encoded, Served, TrialSent, Answered, Whole, Due}
 use Rattle.transcode_core.specs.Private.Decided.{Decided}
@@ -55,6 +56,7 @@ module _ (answer : Verdict → Type 0) where
   verdict (RecordFault number bit why) bytes is = (Err (RecordFault number bit why), is.0, refl, is.1)
   verdict (PerFault bit why) bytes is = (Err (PerFault bit why), is.0, refl, is.1)
   verdict (DerFault at why) bytes is = (Err (DerFault at why), is.0, refl, is.1)
+  verdict (ModuleFault at why) bytes is = (Err (ModuleFault at why), is.0, refl, is.1)
   verdict (Trailing at) bytes is = (Err (Trailing at), is.0, refl, is.1)
   verdict (TooLong k) bytes is = (Err (TooLong k), is.0, refl, is.1)
   verdict (TooManyNodes count) bytes is = (Err (TooManyNodes count), is.0, refl, is.1)
@@ -76,6 +78,7 @@ module _ (answer : Verdict → Type 0) where
   refuses (RecordFault number bit why) other is = (is, refl)
   refuses (PerFault bit why) other is = (is, refl)
   refuses (DerFault at why) other is = (is, refl)
+  refuses (ModuleFault at why) other is = (is, refl)
   refuses (Trailing at) other is = (is, refl)
   refuses (TooLong k) other is = (is, refl)
   refuses (TooManyNodes count) other is = (is, refl)
@@ -239,8 +242,14 @@ task_never : (entries : Option (List (List ℕ × List ℕ))) (task : Task) (roo
     → NeverDone (List ℕ) (Then (Opened entries root files) (λ opened. Served task opened left))
 task_never entries task root files left = then_never (Opened entries root files) (λ opened. Served task opened left) (opened_never entries root files) (λ opened. served_never task opened left)
 
+not_module : (bytes : List ℕ) → ModuleIn bytes (Err Done) → ⊥
+not_module bytes (at, why, bad, e) = cc
+
 answered_never : (entries : Option (List (List ℕ × List ℕ))) (left : Option (List ℕ)) (request : Asked) → NeverDone (List ℕ) (Answered entries left request)
 answered_never entries left (Show files) = then_never (SetIn entries files) (λ parts. Printed parts) (set_never entries files) (λ parts. record { never = λ none. none })
+answered_never entries left (ShowBack file) =
+    then_never (Loaded entries 1 file) (λ bytes. Then (ModuleIn bytes) (λ M. Give (back.summary M))) (record { never = not_loaded entries 1 file }) (λ bytes.
+    then_never (ModuleIn bytes) (λ M. Give (back.summary M)) (record { never = not_module bytes }) (λ M. give_never (back.summary M)))
 answered_never entries left (Serve task root files) = task_never entries task root files left
 answered_never entries left (Trial lines) =
     then_never (TrialSent lines) (λ octets. Give (summary lines (length (trial_document lines)) (length octets)))

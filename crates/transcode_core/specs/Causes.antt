@@ -3,7 +3,7 @@ use Rattle.std.specs.Prelude.{◌≡◌, ◌⊎◌, ℕ, suc, ◌+◌, ◌*◌, 
 use Rattle.xa_base.specs.Faults.{HasRisen}
 use Rattle.xa_base.specs.Entries.{Lacks}
 use Rattle.command_line.specs.declared.outcome.Outcome.{Outcome}
-use Rattle.command_line.specs.declared.outcome.Outcome.TheVariants.{Done, Usage, SchemaSyntax, SchemaFault, LinkFault, UnknownRoot, TooLong, LoadFault, ReadFault, WriteFault, OutOfMemory}
+use Rattle.command_line.specs.declared.outcome.Outcome.TheVariants.{Done, Usage, SchemaSyntax, SchemaFault, LinkFault, UnknownRoot, ModuleFault, TooLong, LoadFault, ReadFault, WriteFault, OutOfMemory}
 use Rattle.schema_parts.specs.Raw.{Document}
 use Rattle.schema_parts.specs.SetParts.{SetParts}
 use Rattle.transcode_core.specs.Steps.{Schemas, RootType, Typed, readable}
@@ -11,7 +11,7 @@ use Rattle.command_line.specs.declared.tasks.Syntax.{Syntax}
 use Rattle.command_line.specs.declared.tasks.Syntax.TheVariants.{Aligned, Unaligned, Der}
 use Rattle.command_line.specs.Tasks.{Reads, ADocument, Octets, reads, is_document}
 use Rattle.transcode_core.specs.Syntaxes.{Fault, HasFault, AreOctetsOf}
-use Rattle.command_line.specs.Words.{Asked, Show, Serve, Trial}
+use Rattle.command_line.specs.Words.{Asked, Show, ShowBack, Serve, Trial}
 use Rattle.transcode_core.specs.Due.{Requested, Opened, ItemsIn}
 use Rattle.transcode_core.specs.Trial.{trial_document}
 use Rattle.label_tree.specs.Rose.{Rose}
@@ -44,6 +44,7 @@ SomeLoad before now is_sure entries names o =
 -- the files that are loaded
 abbrev pub files_of : Asked → List (List ℕ)
 files_of (Show files) = files
+files_of (ShowBack file) = file ∷ []
 files_of (Serve task root files) = files
 files_of (Trial lines) = []
 
@@ -58,6 +59,7 @@ OneRead before now o = (o ≡ OutOfMemory) ⊎ ((o ≡ ReadFault) × HasRisen be
 -- the command reads the input
 abbrev pub reads_input : Asked → Bool
 reads_input (Show files) = false
+reads_input (ShowBack file) = false
 reads_input (Serve task root files) = true
 reads_input (Trial lines) = false
 
@@ -77,6 +79,7 @@ AreRead (Octets syntax) (Some octets) = AreOctetsOf syntax octets
 
 abbrev pub IsInput : Option (List ℕ) → Asked → Type 0
 IsInput left (Show files) = Unit {0}
+IsInput left (ShowBack file) = Unit {0}
 IsInput left (Serve task root files) = AreRead (reads task) left
 IsInput left (Trial lines) = Unit {0}
 
@@ -87,6 +90,7 @@ IsInputOf words left = (request : Asked) → Requested words (Ok request) → Is
 -- it does, and the files and the root pass
 abbrev pub ComesToInput : Option (List (List ℕ × List ℕ)) → Asked → Type 0
 ComesToInput entries (Show files) = ⊥
+ComesToInput entries (ShowBack file) = ⊥
 ComesToInput entries (Serve task root files) = (opened : SetParts × ℕ) × Opened entries root files (Ok opened)
 ComesToInput entries (Trial lines) = ⊥
 
@@ -109,6 +113,7 @@ Takes (Octets syntax) opened old new = (type : RootType) × Typed opened (Ok typ
 -- what a command that comes to the input takes of it
 abbrev pub TakesInput : Option (List (List ℕ × List ℕ)) → Asked → Option (List ℕ) → Option (List ℕ) → Type 0
 TakesInput entries (Show files) old new = ⊥
+TakesInput entries (ShowBack file) old new = ⊥
 TakesInput entries (Serve task root files) old new = (opened : SetParts × ℕ) × Opened entries root files (Ok opened) × Takes (reads task) opened old new
 TakesInput entries (Trial lines) old new = ⊥
 
@@ -127,6 +132,7 @@ IsOfInput (SchemaSyntax _ _ _) = ⊥
 IsOfInput (SchemaFault _ _ _) = ⊥
 IsOfInput (LinkFault _ _ _) = ⊥
 IsOfInput UnknownRoot = ⊥
+IsOfInput (ModuleFault _ _) = ⊥
 IsOfInput (TooLong (suc _)) = ⊥
 IsOfInput (LoadFault _) = ⊥
 IsOfInput o = Unit {0}
@@ -149,6 +155,7 @@ LooksAt (Octets syntax) left items = ⊥
 -- the same of a command
 abbrev pub ReadsItems : Option (List ℕ) → Asked → Rose ItemLabel → Type 0
 ReadsItems left (Show files) items = ⊥
+ReadsItems left (ShowBack file) items = ⊥
 ReadsItems left (Serve task root files) items = LooksAt (reads task) left items
 ReadsItems left (Trial lines) items = ItemsIn (Some (trial_document lines)) (Ok items)
 
@@ -166,6 +173,7 @@ StepsFrom Reads old new = (items : Rose ItemLabel) × Reads items × (old + elem
 -- the command looks at the elements of a document
 abbrev pub reads_document : Asked → Bool
 reads_document (Show files) = false
+reads_document (ShowBack file) = false
 reads_document (Serve task root files) = is_document (reads task)
 reads_document (Trial lines) = true
 

@@ -10,10 +10,11 @@ use Rattle.command_line.specs.declared.tasks.Syntax.{Syntax}
 use Rattle.command_line.specs.declared.tasks.Syntax.TheVariants.{Aligned}
 use Rattle.command_line.specs.declared.tasks.Task.{Task}
 use Rattle.command_line.specs.declared.tasks.Task.TheVariants.{Check, Send, Receive}
-use Rattle.command_line.specs.Words.{Asked, Show, Serve, Trial, asked}
+use Rattle.command_line.specs.Words.{Asked, Show, ShowBack, Serve, Trial, asked}
+use Rattle.module_read.specs.Summary as back
 use Rattle.command_line.specs.Order.{Give, Found, Then}
 use Rattle.transcode_core.specs.Trial.{trial_root, trial_name, trial_schema, trial_document, summary}
-use Rattle.transcode_core.specs.Steps.{Schemas, Linked, Printed, Rooted, Input, Read, Judged, Typed, ValueIn, Encoding, Decoded, Written}
+use Rattle.transcode_core.specs.Steps.{Loaded, Schemas, Linked, Printed, ModuleIn, Rooted, Input, Read, Judged, Typed, ValueIn, Encoding, Decoded, Written}
 
 -- the words: what they ask for
 abbrev pub Requested : List (List ℕ) → Result Asked Outcome → Type 0
@@ -71,9 +72,14 @@ TrialSent lines =
 abbrev pub Tried : ℕ → Result (List ℕ) Outcome → Type 0
 Tried lines = Then (TrialSent lines) (λ octets. Give (summary lines (length (trial_document lines)) (length octets)))
 
+-- a line for each assignment of the printed module in the file
+abbrev pub ShownBack : Option (List (List ℕ × List ℕ)) → List ℕ → Result (List ℕ) Outcome → Type 0
+ShownBack entries file = Then (Loaded entries 1 file) (λ bytes. Then (ModuleIn bytes) (λ M. Give (back.summary M)))
+
 -- the answer to what is asked for: the result, or the first refusal
 abbrev pub Answered : Option (List (List ℕ × List ℕ)) → Option (List ℕ) → Asked → Result (List ℕ) Outcome → Type 0
 Answered entries left (Show files) = Then (SetIn entries files) (λ parts. Printed parts)
+Answered entries left (ShowBack file) = ShownBack entries file
 Answered entries left (Serve task root files) = Then (Opened entries root files) (λ opened. Served task opened left)
 Answered entries left (Trial lines) = Tried lines
 

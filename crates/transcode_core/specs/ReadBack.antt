@@ -13,7 +13,7 @@ use Rattle.xer_items.specs.Items.{Xer}
 use Rattle.command_line.specs.declared.tasks.Syntax.{Syntax}
 use Rattle.command_line.specs.Tasks.{Reads, ADocument, Octets, reads}
 use Rattle.transcode_core.specs.Steps.{RootType, Typed, Decoded, Judged}
-use Rattle.command_line.specs.Words.{Asked, Show, Serve, Trial}
+use Rattle.command_line.specs.Words.{Asked, Show, ShowBack, Serve, Trial}
 use Rattle.transcode_core.specs.Due.{Requested, Opened}
 
 -- the text that is written of the items of the value (X.693) is read as a document with these items
@@ -48,6 +48,7 @@ ServedBack (Octets syntax) opened left text = DocumentedBack syntax opened left 
 -- the same of a task with its root and its files; of the other commands nothing is said
 abbrev pub AnsweredBack : Option (List (List ℕ × List ℕ)) → Option (List ℕ) → Asked → List ℕ → Type 0
 AnsweredBack entries left (Show files) text = ⊤
+AnsweredBack entries left (ShowBack file) text = ⊤
 AnsweredBack entries left (Serve task root files) text = (opened : SetParts × ℕ) × Opened entries root files (Ok opened) × ServedBack (reads task) opened left text
 AnsweredBack entries left (Trial lines) text = ⊤
 

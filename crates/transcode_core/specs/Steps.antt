@@ -31,13 +31,16 @@ use Rattle.map_assignments.specs.Mapped.{root_at, IsMapOf}
 use Rattle.xer_items.specs.Items.{Xer}
 use Rattle.doc_written.specs.Written.{written}
 use Rattle.module_print.specs.Printed.{printed}
+use Rattle.module_faults.specs.declared.reasons.ModuleWhy.{ModuleWhy}
+use Rattle.module_faults.specs.ReadBack.{IsBadAt}
+use Rattle.module_read.specs.Tells.{Tells}
 use Rattle.schema_parts.specs.declared.components.ElementDecl.{ElementDecl}
 use Rattle.link_names.specs.declared.faults.LinkingFault as link
 use Rattle.schema_link.specs.Passes.{passes, IsShownBy, ArePassed}
 use Rattle.schema_read.specs.Raw.{raw_of}
 use Rattle.link_simple.specs.Making.{IsMaking}
 use Rattle.command_line.specs.declared.outcome.Outcome.{Outcome}
-use Rattle.command_line.specs.declared.outcome.Outcome.TheVariants.{SchemaSyntax, SchemaFault, LinkFault, UnknownRoot, Invalid, PerFault, Trailing, TooLong, TooManyNodes, LoadFault}
+use Rattle.command_line.specs.declared.outcome.Outcome.TheVariants.{SchemaSyntax, SchemaFault, LinkFault, UnknownRoot, Invalid, PerFault, ModuleFault, Trailing, TooLong, TooManyNodes, LoadFault}
 use Rattle.command_line.specs.declared.tasks.Syntax.{Syntax}
 use Rattle.command_line.specs.declared.tasks.Syntax.TheVariants.{Aligned, Unaligned, Der}
 use Rattle.command_line.specs.Order.{Give, Found, Then}
@@ -97,6 +100,11 @@ Rooted root parts = Found (number_named root (take parts.globals parts.elements)
 abbrev pub Printed : SetParts → Result (List ℕ) Outcome → Type 0
 Printed parts (Ok bytes) = (s : Set) × (parts_of s ≡ parts) × (made : List Assignment) × IsMapOf s made × (bytes ≡ printed made)
 Printed parts (Err o) = ⊥
+
+-- the module of which the bytes are the print, or their first fault
+abbrev pub ModuleIn : List ℕ → Result (List Assignment) Outcome → Type 0
+ModuleIn bytes (Ok M) = Tells bytes M
+ModuleIn bytes (Err o) = (at : ℕ) × (why : ModuleWhy) × IsBadAt bytes at why × (o ≡ ModuleFault at why)
 
 -- where they are told, these bytes are all that is left
 abbrev pub IsAll : Option (List ℕ) → List ℕ → Type 0

@@ -21,6 +21,7 @@ use der_stops::stops_first as stops_of_der;
 use doc_text::{document_items, one_answer as document_answer};
 use map_laws::maps_exist;
 use map_widths::{maps_are_bounded, maps_are_modules};
+use module_read::{one_answer as one_module, some_answer as some_module};
 use one_value::{items_of_values, one_value};
 use per_fields::either_variant as octets_of_either;
 use per_stops::either_variant as stops_of_either;
@@ -50,6 +51,7 @@ pub fn one_answer()
     octets_of_either();
     stops_of_either();
     stops_of_der();
+    one_module();
 }
 
 /// Of all words, over files that are told, an outcome is due, with a list of bytes; where the words ask for the input, this is
@@ -71,6 +73,7 @@ pub fn some_answer()
     octets_of_either();
     stops_of_either();
     stops_of_der();
+    some_module();
 }
 
 /// What `to-per` writes of a document, `to-xml` takes over the same files, unless it is too long to be an input; and so of the other

@@ -11,6 +11,7 @@ mod files;
 mod judging;
 mod laws;
 mod linking;
+mod modules;
 mod opened;
 mod opening;
 mod prepared;

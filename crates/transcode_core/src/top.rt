@@ -23,6 +23,7 @@ ghost use Rattle.command_line.specs.Answers.{IsRefusal, Answers, NoMemory};
 ghost use Rattle.transcode_core.specs.Causes.{SomeLoad, OneRead, reads_input, ReadsInput, Takes, TakesInput, LooksAt, TakesOfWords, ReadsItems, ReadsOfWords, StepsUpTo, IsOfInput, Answering, Deciding, StepsFrom, reads_document, ReadsDocument};
 
 use crate::judging::check_input;
+use crate::modules::show_back;
 use crate::opened::Opened;
 use crate::opening::{open_files, read_set};
 use crate::prepared::Prepared;
@@ -31,6 +32,7 @@ use command_line::{Outcome, Request, Root, Syntax, Task, read_each, read_words, 
 use der_stops::stops_first as stops_of_der;
 use map_694::map_set;
 use module_print::print_module;
+use module_read::one_answer as one_module;
 use one_value::one_value;
 use per_fields::either_variant as octets_of_either;
 use per_stops::either_variant as stops_of_either;
@@ -223,6 +225,7 @@ fn answer<F: Library, S: Source, L: Ledger>(
 {
     match request {
         Request::Show { files: names } => show(alloc, files, names),
+        Request::ShowBack { file } => show_back(alloc, files, file),
         Request::Serve {
             task,
             root,
@@ -333,12 +336,13 @@ fn run_whole<F: Library, S: Source, K: Sink, E: Sink, L: Ledger>(
         })
         (input.new ≡ input.old) (output.new ≡ output.old) result }
 {
-    // What is due is one thing: documents are valid in one way, and have one value, and octets are of one.
+    // What is due is one thing: documents are valid in one way, and have one value, octets are of one, and bytes of one module.
     at_most_one();
     one_value();
     octets_of_either();
     stops_of_either();
     stops_of_der();
+    one_module();
     match decide(alloc, words, files, input, steps) {
         Ok(bytes) => match write_all(output, &bytes) {
             Ok(()) => {
@@ -370,6 +374,9 @@ fn run_whole<F: Library, S: Source, K: Sink, E: Sink, L: Ledger>(
 /// else, octet by octet as they come, `to-xml-u` the unaligned one, `from-der` the one in DER, of which it reads the whole
 /// input, as `to-der` does; and they write a document with the items of that value. `trial N` does what `to-per` does with an
 /// order of N lines, over a file and an input of its own, and writes one line.
+///
+/// `show-back FILE` loads a file of as many bytes at most, reads the module of which it is the print, or answers its first
+/// fault, and writes a line for each assignment. It leaves the input alone.
 ///
 /// `each-to-xml ROOT FILE...` takes complete encodings that follow one another to the end of the input, of at most
 /// 1,073,741,824 octets in all, and writes the document of each before it takes an octet behind it. So a refusal stands behind

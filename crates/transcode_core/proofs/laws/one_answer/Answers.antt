@@ -10,4 +10,5 @@ returns c =
       valid = c.at_most_one.ensures;
       value = c.one_value.ensures;
       octets = all_syntaxes (λ aligned. record { stops = c.either_variant-2.ensures.one_of_two aligned; whole = c.either_variant.ensures.whole_octets aligned }) c.stops_first.ensures.one_of_two;
+      modules = c.one_answer.ensures;
     })

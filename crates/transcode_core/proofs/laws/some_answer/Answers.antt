@@ -13,6 +13,7 @@ returns c = λ words entries left told fine.
       values = c.values_of_items.ensures;
       items_of = c.items_of_values.ensures;
       syntaxes = all_syntaxes (λ aligned. record { stops = c.either_variant-2.ensures.one_of_two aligned; whole = c.either_variant.ensures.whole_octets aligned }) c.stops_first.ensures.one_of_two;
+      modules = c.some_answer.ensures;
     })
     (λ files. sets c.document_items.ensures files c.sets_of_documents.ensures.made c.sets_of_documents.ensures.linked c.maps_exist.ensures c.maps_are_modules.ensures c.maps_are_bounded.ensures)
     entries words left told fine

@@ -14,6 +14,7 @@ returns-in-Ok-write_all g c =
       valid = c.at_most_one.ensures;
       value = c.one_value.ensures;
       octets = all_syntaxes (λ aligned. record { stops = c.either_variant-2.ensures.one_of_two aligned; whole = c.either_variant.ensures.whole_octets aligned }) c.stops_first.ensures.one_of_two;
+      modules = c.one_answer.ensures;
     }) _ _ _ _ _ c.in-Ok.bytes.items (record {
       untouched = c.in-Ok.ensures.untouched;
       files = c.in-Ok.ensures.files;
@@ -34,6 +35,7 @@ returns-in-Ok g c =
       valid = c.at_most_one.ensures;
       value = c.one_value.ensures;
       octets = all_syntaxes (λ aligned. record { stops = c.either_variant-2.ensures.one_of_two aligned; whole = c.either_variant.ensures.whole_octets aligned }) c.stops_first.ensures.one_of_two;
+      modules = c.one_answer.ensures;
     }) _ _ _ _ _ c.in-Ok.bytes.items (record {
       untouched = c.in-Ok.ensures.untouched;
       files = c.in-Ok.ensures.files;
@@ -52,6 +54,7 @@ returns g c =
       valid = c.at_most_one.ensures;
       value = c.one_value.ensures;
       octets = all_syntaxes (λ aligned. record { stops = c.either_variant-2.ensures.one_of_two aligned; whole = c.either_variant.ensures.whole_octets aligned }) c.stops_first.ensures.one_of_two;
+      modules = c.one_answer.ensures;
     }) _ _ _ _ _ c.in-Err.outcome (record {
       untouched = c.in-Err.ensures.untouched;
       files = c.in-Err.ensures.files;

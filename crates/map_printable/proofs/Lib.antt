@@ -1,0 +1,11 @@
+mod Names
+mod Characters
+mod PartMarks
+mod TypeMarks
+mod Scopes
+mod Spots
+mod Printing
+mod Plans
+mod Heights
+mod References
+mod Whole

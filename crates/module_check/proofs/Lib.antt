@@ -1,0 +1,5 @@
+mod Chaining
+mod Firsts
+mod Listing
+mod Ordering
+mod Tables

@@ -1,0 +1,44 @@
+-- What the tables over all assignments know.
+use Rattle.std.specs.Prelude.{◌≡◌, ℕ, Bool, true, false, Option, Some, None, List, [], ◌∷◌, map, slice_get, is_some, bytes_eq, if◌then◌else◌}
+use Rattle.simple_types.specs.declared.simples.Simple.{Simple}
+use Rattle.asn_types.specs.Refs.{is_element}
+use Rattle.label_tree.specs.Rose.{Rose}
+use Rattle.indexmap.specs.IndexMap.{get}
+use Rattle.module_text.specs.declared.types.PlainPart.{PlainPart}
+use Rattle.module_text.specs.declared.types.PlainLabel.{PlainLabel}
+use Rattle.module_text.specs.declared.modules.PlainAssignment.{PlainAssignment}
+use Rattle.module_faults.specs.declared.spots.Spot.{Spot}
+use Rattle.module_faults.specs.declared.spots.Spot.TheVariants.{Elsewhere}
+use Rattle.module_faults.specs.Resolving.{role_of, number_of, near_references, chains_within}
+use Rattle.module_faults.specs.Simple.{simple_told}
+use Rattle.module_simple.specs.Made.{Makes}
+use Rattle.module_check.specs.declared.references.References.{References}
+
+-- of each reference the number of the first assignment that has it
+abbrev pub Knows : References → List PlainAssignment → Type 0
+Knows table P = (reference : List ℕ) → get bytes_eq table.numbers reference ≡ number_of P reference
+
+-- what is looked up where one reference more is noted, unless it stood before
+abbrev pub NotesReference : (List ℕ → Option ℕ) → List ℕ → ℕ → (List ℕ → Option ℕ) → Type 0
+NotesReference old reference i new =
+    (r : List ℕ) → new r ≡ (if is_some (old reference) then old r else (if bytes_eq reference r then Some i else old r))
+
+-- of each assignment the simple type for which its type stands
+abbrev pub AreSimples : List (Option Simple) → List PlainAssignment → Type 0
+AreSimples [] [] = Unit {0}
+AreSimples [] (a ∷ P) = ⊥
+AreSimples (found ∷ simples) [] = ⊥
+AreSimples (found ∷ simples) (a ∷ P) = Makes found (simple_told Elsewhere a.body) × AreSimples simples P
+
+-- whether a reference leads on within a number, where it is known of each assignment whether its type leads on within one less
+abbrev pub leads_in : Option (List Bool) → List PlainAssignment → List ℕ → Bool
+leads_in None P reference = false
+leads_in (Some within) P reference = elim (number_of P reference) [ None ↦ true | Some k ↦ elim (slice_get within k) [ None ↦ true | Some is ↦ is ] ]
+
+-- a part that has the role of an element, or of whose type this is so of each reference that is reached without passing such a part
+abbrev pub near_part : (List ℕ → Bool) → PlainLabel → ℕ → PlainPart → Rose PlainLabel → Bool
+near_part is l i part t = if is_element (role_of l i part) then true else near_references is t
+
+-- of each assignment, whether its type leads on within so many references
+abbrev pub all_within : ℕ → List PlainAssignment → List Bool
+all_within n P = map (λ (a : PlainAssignment). chains_within P n a.body) P

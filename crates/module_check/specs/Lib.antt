@@ -1,0 +1,4 @@
+pub mod Elements
+pub mod Judging
+pub mod Known
+pub mod Roles

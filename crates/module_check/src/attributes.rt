@@ -1,0 +1,68 @@
+//! The simple types for which the types of attributes stand.
+ghost use Rattle.std.specs.Prelude.{◌≡◌, None, IfOk, MatchOption, if◌then◌else◌};
+ghost use Rattle.module_faults.specs.declared.spots.Spot.TheVariants.{Elsewhere};
+ghost use Rattle.module_faults.specs.Resolving.{resolve};
+ghost use Rattle.module_faults.specs.Simple as simple;
+ghost use Rattle.module_faults.specs.Faults as rule;
+ghost use Rattle.module_simple.specs.Made.{Makes};
+ghost use Rattle.module_check.specs.Judging.{IsKnown};
+
+use crate::context::Context;
+use label_tree::Tree;
+use module_faults::Spot;
+use module_simple::simple_told;
+use module_text::{PlainForm, PlainLabel};
+use simple_types::Simple;
+use std::alloc::Global;
+use xa_base::Memory;
+
+/// The simple type for which the type of an attribute stands, but for references. None of a type that is none of an attribute.
+pub fn own_simple(
+    alloc: Global,
+    spot: Spot,
+    attribute: bool,
+    node: &Tree<PlainLabel>,
+) -> Result<Option<Simple>, Memory>
+    ensures { IfOk result (λ found. Makes found (if attribute then simple.simple_told spot node.now else None)) }
+{
+    if attribute {
+        simple_told(alloc, spot, node)
+    } else {
+        Ok(None)
+    }
+}
+
+// The simple type for which the type stands that is meant by a reference, where it is that of an assignment.
+fn meant_simple<'a>(context: &Context<'a>, node: &Tree<PlainLabel>) -> Option<&'a Option<Simple>>
+    requires { IsKnown context.now }
+    ensures { MatchOption result
+        (resolve context.now.assignments.now node.now ≡ node.now)
+        (λ found. Makes found.now (simple.simple_told Elsewhere (resolve context.now.assignments.now node.now))) }
+{
+    let simples = context.simples;
+    match context.references.number_meant(context.assignments, node) {
+        Some(number) => Some(&simples[number]),
+        None => None,
+    }
+}
+
+/// The same through references, where the type is one: as it is known of the assignment that is meant.
+pub fn shared_simple<'a>(
+    context: &Context<'a>,
+    spot: Spot,
+    attribute: bool,
+    node: &Tree<PlainLabel>,
+) -> Option<&'a Option<Simple>>
+    requires { IsKnown context.now }
+    ensures { MatchOption result
+        ((if attribute then rule.space_through context.now.assignments.now spot node.now else None) ≡ (if attribute then simple.simple_told spot node.now else None))
+        (λ found. Makes found.now (if attribute then rule.space_through context.now.assignments.now spot node.now else None)) }
+{
+    if !attribute {
+        return None;
+    }
+    match &node.label().form {
+        PlainForm::Ref { .. } => meant_simple(context, node),
+        _ => None,
+    }
+}

@@ -1,0 +1,16 @@
+//! What types are judged with.
+use crate::references::References;
+use module_text::PlainAssignment;
+use simple_types::Simple;
+use std::alloc::Global;
+
+/// What types are judged with.
+#[derive(Clone, Copy)]
+pub struct Context<'a> {
+    pub alloc: Global,
+    /// All assignments.
+    pub assignments: &'a [PlainAssignment],
+    pub references: &'a References,
+    /// Of each assignment, the simple type for which its type stands.
+    pub simples: &'a [Option<Simple>],
+}

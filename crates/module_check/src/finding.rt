@@ -1,0 +1,135 @@
+//! The first fault of a plain text.
+ghost use Rattle.std.specs.Prelude.{◌≡◌, ◌&&◌, IfOk, is_some, not};
+ghost use Rattle.name_map.specs.ReservedWords.{reserved_words};
+ghost use Rattle.module_faults.specs.Listed.{first};
+ghost use Rattle.module_faults.specs.declared.spots.Spot.TheVariants.{Elsewhere};
+ghost use Rattle.module_faults.specs.Faults as rule;
+ghost use Rattle.module_check.specs.Known.{AreSimples, all_within};
+ghost use Rattle.module_check.specs.Judging.{IsKnown, body_faults};
+
+use crate::attributes::{own_simple, shared_simple};
+use crate::chains::{chains_end, within};
+use crate::context::Context;
+use crate::references::References;
+use crate::reserved::is_reserved;
+use crate::type_faults::type_fault;
+use module_faults::{Fault, ModuleWhy, Spot};
+use module_pieces::{Seen, has_attribute, part_mark_fault, unless};
+use module_simple::simple_told;
+use module_text::PlainAssignment;
+use simple_types::Simple;
+use std::alloc::Global;
+use xa_base::{Memory, Text};
+
+// Of each assignment, the simple type for which its type stands.
+fn simples_of(alloc: Global, assignments: &[PlainAssignment]) -> Result<Vec<Option<Simple>>, Memory>
+    ensures { IfOk result (λ simples. AreSimples simples.items assignments.now) }
+{
+    let mut simples = Vec::with_capacity(alloc, assignments.len())?;
+    'assignments: for assignment in assignments {
+        simples.push(simple_told(alloc, Spot::Elsewhere, &assignment.body)?)?;
+    }
+    Ok(simples)
+}
+
+// Whether the type of an assignment stands for a simple type, through references, where the assignment has ATTRIBUTE.
+fn is_simple_attribute(context: &Context, assignment: &PlainAssignment) -> Result<bool, Memory>
+    requires { IsKnown context.now }
+    ensures { IfOk result (λ is. is ≡ is_some (rule.space_at context.now.assignments.now Elsewhere assignment.now.marks assignment.now.body)) }
+{
+    let attribute = has_attribute(assignment.marks.items());
+    let body = &assignment.body;
+    match shared_simple(context, Spot::Elsewhere, attribute, body) {
+        Some(found) => Ok(found.is_some()),
+        None => {
+            let own = own_simple(context.alloc, Spot::Elsewhere, attribute, body)?;
+            Ok(own.is_some())
+        }
+    }
+}
+
+// The first fault of the instructions of an assignment and of its type.
+#[tactic(auto, using(crate::proofs::Firsts::firsts))]
+fn body_fault(context: &Context, assignment: &PlainAssignment) -> Result<Option<Fault>, Memory>
+    requires { IsKnown context.now }
+    ensures { IfOk result (λ found. found ≡ first (body_faults context.now.assignments.now assignment.now)) }
+{
+    let simple = is_simple_attribute(context, assignment)?;
+    let name = assignment.reference.bytes();
+    if let Some(fault) = part_mark_fault(simple, name, assignment.marks.items()) {
+        return Ok(Some(fault));
+    }
+    type_fault(context, Spot::Elsewhere, false, &assignment.body)
+}
+
+// Whether the reference is none of these, and no reserved word.
+fn is_free(seen: &Seen, reference: &Text) -> bool
+    ensures { result ≡ (not (rule.has_text seen.now reference.now) && not (rule.has_text reserved_words reference.now)) }
+{
+    !seen.has(reference) && !is_reserved(reference.bytes())
+}
+
+// The first fault of an assignment behind those with these references. It is told of each assignment whether at most three
+// references follow one another from its type.
+#[tactic(auto, using(crate::proofs::Firsts::firsts))]
+fn assignment_fault(
+    context: &Context,
+    within: &[bool],
+    seen: &Seen,
+    assignment: &PlainAssignment,
+) -> Result<Option<Fault>, Memory>
+    requires known { IsKnown context.now }
+    requires within { within.now ≡ all_within 3 context.now.assignments.now }
+    ensures { IfOk result (λ found. found ≡ first (rule.assignment_faults context.now.assignments.now seen.now assignment.now)) }
+{
+    let free = is_free(seen, &assignment.reference);
+    if let Some(fault) = unless(free, assignment.at, ModuleWhy::Duplicate) {
+        return Ok(Some(fault));
+    }
+    let ends = chains_end(
+        &assignment.body,
+        context.assignments,
+        context.references,
+        within,
+    );
+    if let Some(fault) = unless(ends, assignment.at, ModuleWhy::LongChain) {
+        return Ok(Some(fault));
+    }
+    body_fault(context, assignment)
+}
+
+// The first fault of the assignments.
+fn fault_of(context: &Context, within: &[bool]) -> Result<Option<Fault>, Memory>
+    requires known { IsKnown context.now }
+    requires within { within.now ≡ all_within 3 context.now.assignments.now }
+    ensures { IfOk result (λ found. found ≡ first (rule.faults context.now.assignments.now)) }
+{
+    let assignments = context.assignments;
+    let mut seen = Seen::new(context.alloc);
+    'assignments: for assignment in assignments {
+        if let Some(fault) = assignment_fault(context, within, &seen, assignment)? {
+            return Ok(Some(fault));
+        }
+        seen.note(assignment.reference.copy(context.alloc)?)?;
+    }
+    Ok(None)
+}
+
+/// The first fault of these assignments, where there is one: of what a plain text tells, the one that stands first in it.
+///
+/// # Errors
+/// `Memory` for want of memory alone.
+pub fn first_fault(alloc: Global, assignments: &[PlainAssignment]) -> Result<Option<Fault>, Memory>
+    ensures { IfOk result (λ found. found ≡ first (rule.faults assignments.now)) }
+{
+    let references = References::of(alloc, assignments)?;
+    let within = within(alloc, assignments, &references, 3)?;
+    let simples = simples_of(alloc, assignments)?;
+    let context = Context {
+        alloc,
+        assignments,
+        references: &references,
+        simples: &simples,
+    };
+    fault_of(&context, &within)
+}

@@ -1,0 +1,70 @@
+//! What stands behind the instructions of a type, but for its parts.
+ghost use Rattle.std.specs.Prelude.{◌≡◌, None, IfOk, []};
+ghost use Rattle.module_faults.specs.Listed.{first};
+ghost use Rattle.module_faults.specs.Told as told;
+ghost use Rattle.module_faults.specs.Simple as simple;
+ghost use Rattle.module_faults.specs.Faults as rule;
+ghost use Rattle.module_check.specs.Judging.{IsKnown};
+
+use crate::context::Context;
+use module_faults::{Fault, ModuleWhy, Spot};
+use module_pieces::{numbered_fault, range_fault, size_fault, unless, word_fault, written_words};
+use module_simple::is_order_item;
+use module_text::{PlainForm, PlainName, TypeMark};
+use std::alloc::Global;
+use xa_base::Memory;
+
+/// The fault of a reference without an assignment.
+#[tactic(auto, unfolding(module_faults::specs::Listed::first))]
+pub fn reference_fault(context: &Context, form: &PlainForm) -> Option<Fault>
+    requires { IsKnown context.now }
+    ensures { result ≡ first (rule.reference_faults context.now.assignments.now form.now) }
+{
+    match form {
+        PlainForm::Ref { reference } => {
+            let found = context
+                .references
+                .number_of(&reference.name, context.assignments);
+            unless(found.is_some(), reference.at, ModuleWhy::Unresolved)
+        }
+        _ => None,
+    }
+}
+
+// The first fault of the items of an ENUMERATED that stand for words.
+fn items_fault(
+    alloc: Global,
+    spot: Spot,
+    marks: &[TypeMark],
+    items: &[PlainName],
+) -> Result<Option<Fault>, Memory>
+    ensures { IfOk result (λ found. found ≡
+        first (rule.word_faults (simple.is_order_item spot) [] None items.now (told.words_of marks.now items.now))) }
+{
+    let words = written_words(alloc, marks, items)?;
+    word_fault(alloc, is_order_item(spot), items, &words)
+}
+
+/// The first fault of what stands behind the instructions of a type that stands here, but for its parts.
+#[tactic(auto, unfolding(module_faults::specs::Listed::first))]
+pub fn form_fault(
+    context: &Context,
+    spot: Spot,
+    marks: &[TypeMark],
+    form: &PlainForm,
+) -> Result<Option<Fault>, Memory>
+    requires { IsKnown context.now }
+    ensures { IfOk result (λ found. found ≡ first (rule.form_faults context.now.assignments.now spot marks.now form.now)) }
+{
+    match form {
+        PlainForm::Int { range } => Ok(range_fault(range)),
+        PlainForm::Numbers { items } => numbered_fault(context.alloc, items.items()),
+        PlainForm::Words { identifiers } => {
+            items_fault(context.alloc, spot, marks, identifiers.items())
+        }
+        PlainForm::Utf8 { size, .. } => Ok(size_fault(size)),
+        PlainForm::SequenceOf { size, .. } => Ok(size_fault(size)),
+        PlainForm::Ref { .. } => Ok(reference_fault(context, form)),
+        _ => Ok(None),
+    }
+}

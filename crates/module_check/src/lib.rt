@@ -1,0 +1,20 @@
+//! The check of a plain text: its first fault.
+//!
+//! Read first: docs/MODULE-READ.md, `Faults` in the specs of `module_faults`, then `src/type_faults.rt`.
+#![tactic(auto)]
+
+mod attributes;
+mod chains;
+mod context;
+mod finding;
+mod forms;
+mod orders;
+mod part_faults;
+mod parts;
+mod references;
+mod reserved;
+mod type_faults;
+mod type_marks;
+
+pub use finding::first_fault;
+pub use references::References;

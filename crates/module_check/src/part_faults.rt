@@ -1,0 +1,154 @@
+//! The faults of a part beside those of its type.
+ghost use Rattle.std.specs.Prelude.{◌≡◌, ◌<◌, ◌++◌, ◌∷◌, ◌||◌, IfOk, OnOk, [], length, false, nat_lt, if◌then◌else◌};
+ghost use Rattle.xa_base.specs.Limits.{is_empty};
+ghost use Rattle.module_text.specs.Texts as texts;
+ghost use Rattle.module_faults.specs.Listed.{first};
+ghost use Rattle.module_faults.specs.Told as told;
+ghost use Rattle.module_faults.specs.Faults as rule;
+ghost use Rattle.module_simple.specs.Made.{IsMade, made_space};
+ghost use Rattle.module_check.specs.Judging.{IsKnown, front_faults, value_faults};
+
+use crate::context::Context;
+use crate::forms::reference_fault;
+use crate::parts::{is_order, roles_of};
+use label_tree::Tree;
+use module_faults::{Fault, ModuleWhy, Spot};
+use module_pieces::{
+    Seen, has_embed_values, has_list, has_use_order, is_sequence_of, part_mark_fault, unless,
+};
+use module_simple::{absence_fault, fixed_fault, item_spot};
+use module_text::{PlainForm, PlainLabel, PlainPart};
+use simple_types::Simple;
+use std::alloc::Global;
+use xa_base::{Memory, Text};
+
+/// Where the type of a part stands.
+pub fn part_spot(spot: Spot, label: &PlainLabel, i: usize, part: &PlainPart) -> Spot
+    requires { i < length (texts.parts_of label.now.form) }
+    ensures { result ≡ rule.part_spot spot label.now i part.now }
+{
+    if is_sequence_of(&label.form) {
+        return item_spot(spot);
+    }
+    if is_order(roles_of(label), label, i, part) {
+        Spot::Order
+    } else {
+        Spot::Elsewhere
+    }
+}
+
+// Whether a part is a reference and nothing else, so that it begins where this does.
+fn is_bare(part: &PlainPart, label: &PlainLabel) -> bool
+    ensures { result ≡ rule.is_bare part.now label.now }
+{
+    part.identifier.bytes().is_empty()
+        && part.marks.items().is_empty()
+        && label.marks.items().is_empty()
+}
+
+// The fault of a part that is a reference and nothing else.
+#[tactic(auto, unfolding(module_faults::specs::Listed::first))]
+fn bare_fault(context: &Context, part: &PlainPart, label: &PlainLabel) -> Option<Fault>
+    requires { IsKnown context.now }
+    ensures { result ≡ first (if rule.is_bare part.now label.now then rule.reference_faults context.now.assignments.now label.now.form else []) }
+{
+    if is_bare(part, label) {
+        reference_fault(context, &label.form)
+    } else {
+        None
+    }
+}
+
+// Whether the part of a SEQUENCE OF has no identifier exactly where this is asked.
+fn is_named_so(nameless: bool, form: &PlainForm, part: &PlainPart) -> bool
+    ensures { result ≡ rule.is_named_so nameless form.now part.now }
+{
+    !is_sequence_of(form) || part.identifier.bytes().is_empty() == nameless
+}
+
+/// The first fault of a part but for Duplicate, before its type.
+#[tactic(auto, using(crate::proofs::Firsts::firsts), unfolding(module_faults::specs::Listed::first))]
+pub fn part_front_fault(
+    context: &Context,
+    nameless: bool,
+    form: &PlainForm,
+    part: &PlainPart,
+    simple: bool,
+    label: &PlainLabel,
+) -> Option<Fault>
+    requires { IsKnown context.now }
+    ensures { result ≡ first (front_faults context.now.assignments.now nameless form.now part.now simple label.now) }
+{
+    if let Some(fault) = bare_fault(context, part, label) {
+        return Some(fault);
+    }
+    let named = is_named_so(nameless, form, part);
+    if let Some(fault) = unless(named, part.at, ModuleWhy::Spelling) {
+        return Some(fault);
+    }
+    part_mark_fault(simple, part.identifier.bytes(), part.marks.items())
+}
+
+/// The first fault of a fixed value of a part, and of what is said of it where it is absent.
+#[tactic(auto, using(crate::proofs::Firsts::firsts))]
+pub fn value_fault(
+    context: &Context,
+    simple: &Option<Simple>,
+    part: &PlainPart,
+    kid: &Tree<PlainLabel>,
+) -> Result<Option<Fault>, Memory>
+    requires known { IsKnown context.now }
+    requires simple { IsMade simple.now }
+    ensures { IfOk result (λ found. found ≡ first (value_faults context.now.assignments.now (made_space simple.now) part.now kid.now)) }
+{
+    if let Some(fault) = fixed_fault(context.alloc, simple, &part.fixed)? {
+        return Ok(Some(fault));
+    }
+    let meant = context.references.resolve(context.assignments, kid);
+    absence_fault(context.alloc, simple, &part.fixed, meant, &part.absence)
+}
+
+// How many parts at the front are the texts of EMBED-VALUES and the order of USE-ORDER.
+fn nameless_parts(label: &PlainLabel) -> usize
+    ensures { result ≡ rule.nameless_parts label.now.marks }
+{
+    let marks = label.marks.items();
+    match (has_embed_values(marks), has_use_order(marks)) {
+        (true, true) => 2,
+        (true, false) => 1,
+        (false, true) => 1,
+        (false, false) => 0,
+    }
+}
+
+/// Whether the part with this number is one of them.
+pub fn is_front(label: &PlainLabel, i: usize) -> bool
+    ensures { result ≡ nat_lt i (rule.nameless_parts label.now.marks) }
+{
+    i < nameless_parts(label)
+}
+
+/// Whether the part of a type has no identifier, if the type is a SEQUENCE OF.
+pub fn is_nameless(label: &PlainLabel, nameless: bool) -> bool
+    ensures { result ≡ (told.has_list label.now.marks || nameless) }
+{
+    has_list(label.marks.items()) || nameless
+}
+
+/// Whether the identifier stands among these. None stands nowhere.
+pub fn is_listed(seen: &Seen, identifier: &Text) -> bool
+    ensures { result ≡ rule.is_listed seen.now identifier.now }
+{
+    !identifier.bytes().is_empty() && seen.has(identifier)
+}
+
+/// The identifiers with one more, where there is one.
+pub fn note(alloc: Global, seen: &mut Seen, identifier: &Text) -> Result<(), Memory>
+    requires { rule.is_listed seen.old identifier.now ≡ false }
+    ensures { OnOk result (seen.new ≡ (if is_empty identifier.now then seen.old else seen.old ++ identifier.now ∷ [])) }
+{
+    if !identifier.bytes().is_empty() {
+        seen.note(identifier.copy(alloc)?)?;
+    }
+    Ok(())
+}

@@ -1,0 +1,107 @@
+//! References and the assignments that they stand for.
+ghost use Rattle.std.specs.Prelude.{◌≡◌, ◌<◌, length, Some, None, IfOk, OnOk, IfSome, MatchOption, bytes_eq};
+ghost use Rattle.indexmap.specs.IndexMap.{get};
+ghost use Rattle.module_faults.specs.Resolving as rule;
+ghost use Rattle.module_check.specs.Known.{Knows, NotesReference};
+
+use indexmap::IndexMap;
+use label_tree::Tree;
+use module_text::{PlainAssignment, PlainForm, PlainLabel};
+use std::alloc::Global;
+use xa_base::{Memory, Text};
+
+/// The references of assignments, each with the number of the first that has it.
+#[derive(Drop)]
+pub struct References {
+    numbers: IndexMap<Text, usize>,
+}
+
+// The references with one more, where it is none of them.
+fn note(
+    alloc: Global,
+    numbers: &mut IndexMap<Text, usize>,
+    reference: &Text,
+    i: usize,
+) -> Result<(), Memory>
+    ensures { OnOk result (NotesReference (get bytes_eq numbers.old) reference.now i (get bytes_eq numbers.new)) }
+{
+    if numbers.contains_key(reference) {
+        return Ok(());
+    }
+    numbers.insert(reference.copy(alloc)?, i)?;
+    Ok(())
+}
+
+impl References {
+    /// The references of these assignments.
+    pub fn of(alloc: Global, assignments: &[PlainAssignment]) -> Result<References, Memory>
+        ensures { IfOk result (λ table. Knows table assignments.now) }
+    {
+        let mut numbers = IndexMap::new(alloc);
+        'assignments: for (i, assignment) in assignments.iter().enumerate() {
+            note(alloc, &mut numbers, &assignment.reference, i)?;
+        }
+        Ok(References { numbers })
+    }
+
+    /// The number of the first assignment with this reference.
+    pub fn number_of(&self, reference: &Text, assignments: &[PlainAssignment]) -> Option<usize>
+        requires { Knows self.now assignments.now }
+        ensures number { result ≡ rule.number_of assignments.now reference.now }
+        ensures within { IfSome result (λ k. k < length assignments.now) }
+    {
+        self.numbers.get(reference).copied()
+    }
+
+    // The number of the assignment to whose type one reference leads.
+    fn next(&self, assignments: &[PlainAssignment], node: &Tree<PlainLabel>) -> Option<usize>
+        requires { Knows self.now assignments.now }
+        ensures { MatchOption result
+            (rule.next assignments.now node.now ≡ None)
+            (λ k. (k < length assignments.now) × (rule.next assignments.now node.now ≡ rule.body_at assignments.now k)) }
+    {
+        match &node.label().form {
+            PlainForm::Ref { reference } => self.number_of(&reference.name, assignments),
+            _ => None,
+        }
+    }
+
+    /// The number of the assignment whose type is meant: that to which the reference leads where the type is one, and so on,
+    /// through four at most. None where it is the type itself.
+    pub fn number_meant(
+        &self,
+        assignments: &[PlainAssignment],
+        node: &Tree<PlainLabel>,
+    ) -> Option<usize>
+        requires { Knows self.now assignments.now }
+        ensures { MatchOption result
+            (rule.resolve assignments.now node.now ≡ node.now)
+            (λ k. (k < length assignments.now) × (rule.body_at assignments.now k ≡ Some (rule.resolve assignments.now node.now))) }
+    {
+        let mut found = None;
+        let mut at = node;
+        'references: for step in 0..4u32 {
+            let Some(number) = self.next(assignments, at) else {
+                return found;
+            };
+            at = &assignments[number].body;
+            found = Some(number);
+        }
+        found
+    }
+
+    /// The type that is meant.
+    pub fn resolve<'a>(
+        &self,
+        assignments: &'a [PlainAssignment],
+        node: &'a Tree<PlainLabel>,
+    ) -> &'a Tree<PlainLabel>
+        requires { Knows self.now assignments.now }
+        ensures { result.now ≡ rule.resolve assignments.now node.now }
+    {
+        match self.number_meant(assignments, node) {
+            Some(number) => &assignments[number].body,
+            None => node,
+        }
+    }
+}

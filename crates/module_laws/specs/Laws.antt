@@ -1,0 +1,22 @@
+-- What holds of all texts.
+use Rattle.std.specs.Prelude.{◌≡◌, ℕ, ◌<◌, ◌^◌, ◌↔◌, Some, List, [], length}
+use Rattle.module_text.specs.declared.modules.PlainAssignment.{PlainAssignment}
+use Rattle.module_text.specs.Grammar.{IsTextOf}
+use Rattle.module_faults.specs.declared.reasons.Fault.{Fault}
+use Rattle.module_faults.specs.Listed.{first, IsLeast}
+use Rattle.module_faults.specs.Faults.{faults}
+use Rattle.module_faults.specs.Meaning.{module_meant}
+use Rattle.module_faults.specs.ReadBack.{IsReadBack}
+
+-- The first fault of a text is its least.
+abbrev pub LeastIsFirst : Type 0
+LeastIsFirst =
+    (bytes : List ℕ) (assignments : List PlainAssignment) → IsTextOf bytes assignments
+    → (f : Fault) → (first (faults assignments) ≡ Some f) ↔ IsLeast (faults assignments) f
+
+-- A text without a fault is the print of the module that it tells, which is printable: of as many bytes as a number of 32 bits
+-- counts, since no module has more assignments, and no type more parts.
+abbrev pub NoFaultIsPrintable : Type 0
+NoFaultIsPrintable =
+    (bytes : List ℕ) (assignments : List PlainAssignment) → length bytes < 2 ^ 32 → IsTextOf bytes assignments
+    → faults assignments ≡ [] → IsReadBack bytes (module_meant assignments)

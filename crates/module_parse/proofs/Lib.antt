@@ -1,0 +1,14 @@
+pub mod Spanning
+pub mod Numerals
+pub mod Chaining
+pub mod Wording
+pub mod Looping
+pub mod Naming
+pub mod Lining
+pub mod Bounding
+pub mod Ranking
+pub mod Valuing
+pub mod Ending
+pub mod Parting
+pub mod Forming
+pub mod Parsing

@@ -1,0 +1,11 @@
+-- The bytes so far are digits.
+use Rattle.std.proofs.Common.{length, ◌-◌}
+use Rattle.xa_base.specs.Digits.{is_digit}
+use Rattle.module_parse.proofs.Spanning.{Spanned}
+use Rattle.module_parse.proofs.names.behind_digits.Given as goal
+
+abbrev pub invariant-loop-at : goal.invariant-loop-at
+invariant-loop-at l = Spanned is_digit l.bytes l.from l.at
+
+abbrev pub decreases-loop-at : goal.decreases-loop-at
+decreases-loop-at l = length l.bytes - l.at

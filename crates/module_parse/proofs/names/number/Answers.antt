@@ -1,0 +1,12 @@
+use Rattle.std.proofs.lemmas.Result.{err_from_is_err_and}
+use Rattle.module_grammar.specs.NameReading.{number_here}
+use Rattle.module_parse.proofs.Chaining.{as_read, as_stops}
+use Rattle.module_parse.proofs.names.number.Goals as goal
+
+pub returns-in_err-written-clause-value : goal.returns-in_err-written-clause-value
+returns-in_err-written-clause-value c =
+    let p = err_from_is_err_and c.from_residual.result c.from_residual.ensures.1 in
+    rw (p.1, p.2) (as_stops number_here c.in_err-written.ensures.value)
+
+pub returns-clause-value : goal.returns-clause-value
+returns-clause-value c = (as_read number_here c.in_ok-written.ensures.value)

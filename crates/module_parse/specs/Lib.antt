@@ -1,0 +1,5 @@
+pub mod Spans
+pub mod Classes
+pub mod Reads
+pub mod Readers
+pub mod Parsed

@@ -1,0 +1,33 @@
+-- What is read where only its bytes count.
+use Rattle.std.specs.Prelude.{◌≡◌, ℕ, ◌-◌, ◌≤◌, ⊤, List, take, drop, length, Result, Ok, Err}
+use Rattle.plain_text.specs.declared.reach.Reach.{Reach}
+use Rattle.xa_base.specs.Digits.{is_digit}
+use Rattle.plain_text.specs.Reading.{Reader, byte_at, many_at}
+use Rattle.plain_text.specs.Reached.{reading}
+use Rattle.plain_text.specs.declared.reach.Stop.{Stop}
+use Rattle.plain_text.specs.declared.reach.Stop.TheVariants as stop
+
+-- the bytes from the one place up to the other
+abbrev pub between : List ℕ → ℕ → ℕ → List ℕ
+between bytes start end = take (end - start) (drop start bytes)
+
+-- The bytes between are read.
+abbrev pub Spans : Reader (List ℕ) → List ℕ → Reach → Reach → Type 0
+Spans read bytes from to = reading read bytes from ≡ Ok (between bytes from.at to.at, to)
+
+abbrev pub Lies : List ℕ → Reach → Reach → Type 0
+Lies bytes from to = (from.at ≤ to.at) × (to.at ≤ length bytes)
+
+abbrev pub digits_at : Reader (List ℕ)
+digits_at = many_at (byte_at is_digit)
+
+-- The bytes between are read, or nothing.
+abbrev pub GivesSpan : Reader (List ℕ) → List ℕ → Reach → Result Reach Stop → Type 0
+GivesSpan read bytes from (Ok to) = Spans read bytes from to
+GivesSpan read bytes from (Err (stop.Fails far)) = reading read bytes from ≡ Err (stop.Fails far)
+GivesSpan read bytes from (Err (stop.Deep at far)) = reading read bytes from ≡ Err (stop.Deep at far)
+GivesSpan read bytes from (Err stop.Memory) = ⊤
+
+abbrev pub LiesWithin : List ℕ → Reach → Result Reach Stop → Type 0
+LiesWithin bytes from (Ok to) = Lies bytes from to
+LiesWithin bytes from (Err e) = ⊤

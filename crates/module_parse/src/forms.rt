@@ -1,0 +1,349 @@
+//! Types, with so many in one another at most, on lines that are indented by so many levels.
+ghost use Rattle.std.specs.Prelude.{◌≡◌, ◌++◌, ◌≤◌, ◌+◌, ◌<◌, ◌^◌, length, suc};
+ghost use Rattle.plain_text.specs.Reading.{behind_at};
+ghost use Rattle.module_print.specs.Notation.{new_line};
+ghost use Rattle.module_grammar.specs.TypeReading as grammar;
+ghost use Rattle.module_grammar.specs.TypeReading.{type_at};
+ghost use Rattle.module_parse.specs.Reads.{Reads, Stays, Moves};
+ghost use Rattle.module_parse.specs.Readers.{word_seen, sorted_at, ReadsForm, ReadsBlock, ReadsEnding, simple_form_at};
+
+use crate::bounds::{class, number_range, size};
+use crate::endings::ending;
+use crate::items::enumerated;
+use crate::marks::{part_marks, too_deep, type_marks};
+use crate::names::plain_reference;
+use crate::parts::{item_label, label, line, word_and_line};
+use crate::steps::{again, literal, nothing};
+use label_tree::Tree;
+use module_text::{
+    Absence, PlainEnds, PlainForm, PlainLabel, PlainList, PlainName, PlainOctets, PlainPart,
+};
+use plain_text::{Reach, Stop};
+use std::alloc::Global;
+use xa_base::Text;
+
+type TypeTree = Tree<PlainLabel>;
+
+// The words with which types begin that are no references, and all others.
+#[derive(Clone, Copy)]
+enum Word {
+    Boolean,
+    Integer,
+    Utf8String,
+    Enumerated,
+    Sequence,
+    Choice,
+    Other,
+}
+
+fn word_of(name: &Text) -> Word
+    ensures { word_seen result ≡ grammar.word_of name.now }
+{
+    let word = name.bytes();
+    if word == b"BOOLEAN".as_slice() {
+        Word::Boolean
+    } else if word == b"INTEGER".as_slice() {
+        Word::Integer
+    } else if word == b"UTF8String".as_slice() {
+        Word::Utf8String
+    } else if word == b"ENUMERATED".as_slice() {
+        Word::Enumerated
+    } else if word == b"SEQUENCE".as_slice() {
+        Word::Sequence
+    } else if word == b"CHOICE".as_slice() {
+        Word::Choice
+    } else {
+        Word::Other
+    }
+}
+
+// What stands in a block: the components of a SEQUENCE or the alternatives of a CHOICE.
+#[derive(Clone, Copy)]
+enum Sort {
+    Component,
+    Alternative,
+}
+
+// How many values, and how many types, lie in one another at most from here on, and the level of the lines.
+#[derive(Clone, Copy)]
+struct Room {
+    most: u32,
+    depth: u32,
+    levels: usize,
+}
+
+// A type without types in it.
+fn simple_form(
+    alloc: Global,
+    word: Word,
+    name: PlainName,
+    bytes: &[u8],
+    from: Reach,
+) -> Result<(PlainForm, Reach), Stop>
+    requires { from.at ≤ length bytes.now }
+    ensures value { Reads (simple_form_at name word) bytes.now from result }
+    ensures within { Stays (length bytes.now) from result }
+{
+    match word {
+        Word::Boolean => Ok((PlainForm::Bool, nothing(from))),
+        Word::Integer => {
+            let (range, next) = number_range(alloc, bytes, from)?;
+            Ok((PlainForm::Int { range }, next))
+        }
+        Word::Utf8String => {
+            let (size, behind) = size(alloc, bytes, from)?;
+            let (class, next) = class(bytes, behind)?;
+            Ok((PlainForm::Utf8 { size, class }, next))
+        }
+        Word::Enumerated => enumerated(alloc, name, bytes, from),
+        _ => Ok((PlainForm::Ref { reference: name }, nothing(from))),
+    }
+}
+
+// What is said of a part behind its type.
+fn part_ending(
+    alloc: Global,
+    most: u32,
+    sort: Sort,
+    bytes: &[u8],
+    from: Reach,
+) -> Result<((Option<PlainOctets>, Absence), Reach), Stop>
+    requires { from.at ≤ length bytes.now }
+    ensures value { ReadsEnding most sort bytes.now from result }
+    ensures within { Stays (length bytes.now) from result }
+{
+    match sort {
+        Sort::Component => ending(alloc, most, bytes, from),
+        Sort::Alternative => Ok(((None, Absence::Never), from)),
+    }
+}
+
+// A part on a line of its own, behind this word.
+#[cycle(types)]
+fn part(
+    alloc: Global,
+    room: Room,
+    sort: Sort,
+    text: &[u8],
+    bytes: &[u8],
+    from: Reach,
+) -> Result<((PlainPart, TypeTree), Reach), Stop>
+    requires here { from.at ≤ length bytes.now }
+    requires room { (room.levels + room.depth ≤ room.most) × (room.most < 2 ^ 32) }
+    ensures value { Reads (behind_at (text.now ++ new_line room.levels) (sorted_at room.most sort (type_at room.most room.depth room.levels))) bytes.now from result }
+    ensures within { Moves (length bytes.now) from result }
+{
+    let start = word_and_line(text, room.levels, bytes, from)?;
+    let (identifier, behind_label) = label(alloc, bytes, start)?;
+    let (marks, behind_marks) = part_marks(alloc, bytes, behind_label)?;
+    let (tree, behind_type) = typed(alloc, room, bytes, behind_marks)?;
+    let ((fixed, absence), next) = part_ending(alloc, room.most, sort, bytes, behind_type)?;
+    let part = PlainPart {
+        at: start.at as u64,
+        identifier,
+        marks,
+        fixed,
+        absence,
+    };
+    Ok(((part, tree), next))
+}
+
+// Parts in braces, each on a line of its own, of one level more than those of the braces.
+#[cycle(types)]
+fn block(
+    alloc: Global,
+    room: Room,
+    sort: Sort,
+    bytes: &[u8],
+    from: Reach,
+) -> Result<((PlainList<PlainPart>, Vec<TypeTree>), Reach), Stop>
+    requires here { from.at ≤ length bytes.now }
+    requires room { (room.levels + room.depth < room.most) × (room.most < 2 ^ 32) }
+    ensures value { ReadsBlock (grammar.block_at room.levels (sorted_at room.most sort (type_at room.most room.depth (suc room.levels)))) bytes.now from result }
+    ensures within { Moves (length bytes.now) from result }
+{
+    let inside = Room {
+        levels: room.levels + 1,
+        ..room
+    };
+    let ((first, tree), behind) = part(alloc, inside, sort, b" {", bytes, from)?;
+    let mut parts = Vec::new(alloc);
+    parts.push(first)?;
+    let mut kids = Vec::new(alloc);
+    kids.push(tree)?;
+    let mut next = behind;
+    'parts: loop {
+        match part(alloc, inside, sort, b",", bytes, next) {
+            Ok(((other, tree), behind)) => {
+                parts.push(other)?;
+                kids.push(tree)?;
+                next = behind;
+            }
+            Err(stop) => {
+                let end = again(next, stop)?;
+                let brace = line(room.levels, bytes, end)?;
+                let next = literal(b"}", bytes, brace)?;
+                return Ok(((PlainList::of(parts), kids), next));
+            }
+        }
+    }
+}
+
+// What stands behind SEQUENCE where it has items.
+#[cycle(types)]
+fn sequence_of(
+    alloc: Global,
+    room: Room,
+    bytes: &[u8],
+    from: Reach,
+) -> Result<((Option<PlainEnds>, (PlainPart, TypeTree)), Reach), Stop>
+    requires here { from.at ≤ length bytes.now }
+    requires room { (room.levels + room.depth < room.most) × (room.most < 2 ^ 32) }
+    ensures value { Reads (grammar.sequence_of_at (type_at room.most room.depth room.levels)) bytes.now from result }
+    ensures within { Moves (length bytes.now) from result }
+{
+    let (size, behind_size) = size(alloc, bytes, from)?;
+    let start = literal(b" OF ", bytes, behind_size)?;
+    let (identifier, behind_label) = item_label(alloc, bytes, start)?;
+    let (marks, behind_marks) = part_marks(alloc, bytes, behind_label)?;
+    let (tree, next) = typed(alloc, room, bytes, behind_marks)?;
+    let part = PlainPart {
+        at: start.at as u64,
+        identifier,
+        marks,
+        fixed: None,
+        absence: Absence::Never,
+    };
+    Ok(((size, (part, tree)), next))
+}
+
+// What stands behind SEQUENCE, if anything does; else the word is a reference.
+#[cycle(types)]
+fn sequence(
+    alloc: Global,
+    room: Room,
+    name: PlainName,
+    bytes: &[u8],
+    from: Reach,
+) -> Result<((PlainForm, Vec<TypeTree>), Reach), Stop>
+    requires here { from.at ≤ length bytes.now }
+    requires room { (room.levels + room.depth < room.most) × (room.most < 2 ^ 32) }
+    ensures value { ReadsForm (grammar.tail_at room.most room.levels (type_at room.most room.depth room.levels) (type_at room.most room.depth (suc room.levels)) name grammar.Sequence) bytes.now from result }
+    ensures within { Stays (length bytes.now) from result }
+{
+    let start = match literal(b" {}", bytes, from) {
+        Ok(next) => {
+            let parts = PlainList::of(Vec::new(alloc));
+            return Ok(((PlainForm::Sequence { parts }, Vec::new(alloc)), next));
+        }
+        Err(stop) => again(from, stop)?,
+    };
+    let other = match block(alloc, room, Sort::Component, bytes, start) {
+        Ok(((parts, kids), next)) => return Ok(((PlainForm::Sequence { parts }, kids), next)),
+        Err(stop) => again(start, stop)?,
+    };
+    match sequence_of(alloc, room, bytes, other) {
+        Ok(((size, (part, tree)), next)) => {
+            let mut kids = Vec::new(alloc);
+            kids.push(tree)?;
+            Ok(((PlainForm::SequenceOf { size, part }, kids), next))
+        }
+        Err(stop) => {
+            let end = again(other, stop)?;
+            Ok((
+                (PlainForm::Ref { reference: name }, Vec::new(alloc)),
+                nothing(end),
+            ))
+        }
+    }
+}
+
+// What stands behind CHOICE, if anything does; else the word is a reference.
+#[cycle(types)]
+fn choice(
+    alloc: Global,
+    room: Room,
+    name: PlainName,
+    bytes: &[u8],
+    from: Reach,
+) -> Result<((PlainForm, Vec<TypeTree>), Reach), Stop>
+    requires here { from.at ≤ length bytes.now }
+    requires room { (room.levels + room.depth < room.most) × (room.most < 2 ^ 32) }
+    ensures value { ReadsForm (grammar.tail_at room.most room.levels (type_at room.most room.depth room.levels) (type_at room.most room.depth (suc room.levels)) name grammar.Choice) bytes.now from result }
+    ensures within { Stays (length bytes.now) from result }
+{
+    match block(alloc, room, Sort::Alternative, bytes, from) {
+        Ok(((parts, kids), next)) => Ok(((PlainForm::Choice { parts }, kids), next)),
+        Err(stop) => {
+            let end = again(from, stop)?;
+            Ok((
+                (PlainForm::Ref { reference: name }, Vec::new(alloc)),
+                nothing(end),
+            ))
+        }
+    }
+}
+
+// What stands behind its word.
+#[cycle(types)]
+fn tail(
+    alloc: Global,
+    room: Room,
+    name: PlainName,
+    bytes: &[u8],
+    from: Reach,
+) -> Result<((PlainForm, Vec<TypeTree>), Reach), Stop>
+    requires here { from.at ≤ length bytes.now }
+    requires room { (room.levels + room.depth < room.most) × (room.most < 2 ^ 32) }
+    ensures value { ReadsForm (grammar.tail_at room.most room.levels (type_at room.most room.depth room.levels) (type_at room.most room.depth (suc room.levels)) name (grammar.word_of name.name)) bytes.now from result }
+    ensures within { Stays (length bytes.now) from result }
+{
+    let word = word_of(&name.name);
+    match word {
+        Word::Sequence => sequence(alloc, room, name, bytes, from),
+        Word::Choice => choice(alloc, room, name, bytes, from),
+        _ => {
+            let (form, next) = simple_form(alloc, word, name, bytes, from)?;
+            Ok(((form, Vec::new(alloc)), next))
+        }
+    }
+}
+
+#[cycle(types)]
+fn typed(alloc: Global, room: Room, bytes: &[u8], from: Reach) -> Result<(TypeTree, Reach), Stop>
+    requires here { from.at ≤ length bytes.now }
+    requires room { (room.levels + room.depth ≤ room.most) × (room.most < 2 ^ 32) }
+    ensures value { Reads (type_at room.most room.depth room.levels) bytes.now from result }
+    ensures within { Stays (length bytes.now) from result }
+{
+    if room.depth == 0 {
+        return Err(too_deep(alloc, bytes, from));
+    }
+    let below = Room {
+        depth: room.depth - 1,
+        ..room
+    };
+    let (marks, behind_marks) = type_marks(alloc, bytes, from)?;
+    let (name, behind) = plain_reference(alloc, bytes, behind_marks)?;
+    let ((form, kids), next) = tail(alloc, below, name, bytes, behind)?;
+    let label = PlainLabel {
+        at: from.at as u64,
+        marks,
+        form,
+    };
+    Ok((Tree::join(label, kids), next))
+}
+
+/// A type on lines that are not indented, with so many types, and so many values, in one another at most.
+pub fn body(alloc: Global, most: u32, bytes: &[u8], from: Reach) -> Result<(TypeTree, Reach), Stop>
+    requires { from.at ≤ length bytes.now }
+    ensures value { Reads (type_at most most 0) bytes.now from result }
+    ensures within { Stays (length bytes.now) from result }
+{
+    let room = Room {
+        most,
+        depth: most,
+        levels: 0,
+    };
+    typed(alloc, room, bytes, from)
+}

@@ -1,0 +1,3 @@
+mod OfTexts
+mod Verdicts
+mod Answering

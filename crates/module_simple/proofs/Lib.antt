@@ -1,0 +1,8 @@
+pub mod Making
+pub mod Octets
+pub mod Sounding
+pub mod SoTold
+pub mod Telling
+pub mod Wording
+pub mod Writing
+pub mod XmlTexts

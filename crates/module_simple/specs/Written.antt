@@ -1,0 +1,42 @@
+-- What the code of values behind DEFAULT appends: the texts of `Defaults`, step by step.
+use Rattle.std.specs.Prelude.{ℕ, Option, Some, None, List, codes, slice_get, position, bytes_eq, option_and_then}
+use Rattle.std.specs.Option.{option_map}
+use Rattle.std.specs.List.{join_with_byte}
+use Rattle.label_tree.specs.Rose.{Rose, roses_of}
+use Rattle.module_text.specs.declared.marks.NameAs.{NameAs}
+use Rattle.module_text.specs.declared.values.PlainValue.{PlainValue}
+use Rattle.module_text.specs.declared.values.PlainValue.TheVariants as value
+use Rattle.module_text.specs.declared.values.PlainValueLabel.{PlainValueLabel}
+use Rattle.module_text.specs.declared.types.PlainName.{PlainName}
+use Rattle.module_text.specs.declared.types.PlainLabel.{PlainLabel}
+use Rattle.module_faults.specs.Told.{told_name}
+use Rattle.module_faults.specs.Defaults.{if_bool, if_int, if_utf8, item_named, alone, spellings_told}
+
+-- the word of an item of which a TEXT says this, or nothing
+abbrev pub word_said : List ℕ → Option NameAs → List ℕ
+word_said name None = name
+word_said name (Some text) = told_name name text
+
+-- the word for which the item with this identifier stands
+abbrev pub word_named : List (List ℕ) → List PlainName → List ℕ → Option (List ℕ)
+word_named words names identifier = option_and_then (slice_get words) (position (λ (i : PlainName). bytes_eq i.name identifier) names)
+
+-- of a value that is neither a list nor an alternative
+abbrev pub leaf_told : PlainLabel → PlainValue → Option (List ℕ)
+leaf_told l v = elim v [
+  | value.True ↦ if_bool l.form (codes "true")
+  | value.False ↦ if_bool l.form (codes "false")
+  | value.Number written ↦ if_int l.form written
+  | value.Item identifier ↦ item_named l identifier
+  | value.Quoted text ↦ if_utf8 l.form text
+  | value.List ↦ None
+  | value.Chosen identifier ↦ None
+]
+
+abbrev pub list_told : Option (Rose PlainLabel) → List (Rose PlainValueLabel) → Option (List ℕ)
+list_told t vs = option_map (join_with_byte 0x20) (spellings_told t (roses_of vs))
+
+-- of the one value of the alternative with this number
+abbrev pub chosen_told : List (Rose PlainLabel) → List (Rose PlainValueLabel) → Option ℕ → Option (List ℕ)
+chosen_told ts vs None = None
+chosen_told ts vs (Some i) = alone (spellings_told (slice_get ts i) (roses_of vs))

@@ -1,0 +1,12 @@
+//! The simple type for which a plain type stands, and the values that are written at it.
+//!
+//! Read first: docs/MODULE-READ.md, `Simple` and `Defaults` in the specs of `module_faults`, then `src/simple.rt`.
+#![tactic(auto)]
+
+mod defaults;
+mod simple;
+
+pub use defaults::{
+    absence_fault, canonical_value, default_told, fixed_fault, octets_of, spelling_told,
+};
+pub use simple::{is_order_item, item_spot, simple_told};
