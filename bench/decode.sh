@@ -1,22 +1,22 @@
 #!/usr/bin/env bash
 # Measures decoding beside encoding. For each order: the least times, in microseconds, of `decode` to read its encoding and of
-# `encode` to write it again, which take turns in one process (the program crates/per_times, as the gate builds it or this
-# script does). What memory of the value the next turn has again is as the C library will; in the row `kept` it is told to keep
-# all. The row `first` is of the quickest of as many processes that make one turn each: the system gives each of them its memory
-# anew, page by page, while it decodes. Then, where there is valgrind, the instructions that `to-xml` takes in `decode` and
-# `to-per` in `encode`: it counts, so that a run tells the same numbers again.
+# `encode` to write it again, which take turns in one process (the program bench/programs/per_times, which `bench/program.sh
+# per_times` proves and builds where it isn't there). What memory of the value the next turn has again is as the C library will;
+# in the row `kept` it is told to keep all. The row `first` is of the quickest of as many processes that make one turn each: the
+# system gives each of them its memory anew, page by page, while it decodes. Then, where there is valgrind, the instructions that
+# `to-xml` takes in `decode` and `to-per` in `encode`: it counts, so that a run tells the same numbers again.
 #
 # Below them stand the same of the unaligned variant, with how many times the aligned ones they take.
 #
-#     bench/decode.sh          needs the program (`make run`), awk, and rt where the gate hasn't built crates/per_times
+#     bench/decode.sh          needs the program (`make run`), awk, and rt where there is no bin/per_times
 #
 # LINES_OF names other numbers of lines, TIMES how often they take turns.
 set -eu
 cd "$(dirname "$0")/.."
 . bench/measure.sh
 . bench/orders.sh
-times=${PER_TIMES:-crates/per_times/out/per_times}
-[ -x "$times" ] || (cd crates/per_times && rt run -- 1 < stdin > /dev/null 2>&1)
+times=${PER_TIMES:-bin/per_times}
+[ -x "$times" ] || bench/program.sh per_times
 
 # The instructions of one run of a command in that function of a crate which takes most, and in what it calls: the one through
 # which the crate is entered. Of calls that recur in one another the outermost counts.

@@ -1,17 +1,17 @@
 #!/usr/bin/env bash
 # Measures the matcher of content models beside a plain map, in one run: the instructions of a step of the matcher, and those
-# of a look-up of the same name in an `IndexMap<Name, u32>` of all names (the program crates/plain_map, as the gate builds it
-# or this script does). A name is a namespace and a local part in both; the map has the hash that `IndexMap` takes by itself.
-# The document has 1,500,000 times the last of 9,800 names, which stand in 20 choices in a repeated choice, and the map is
-# asked as often. Valgrind counts, so that a run tells the same numbers again; it takes a minute or two. STEPS=20000 does with
-# fewer.
+# of a look-up of the same name in an `IndexMap<Name, u32>` of all names (the program bench/programs/plain_map, which
+# `bench/program.sh plain_map` proves and builds where it isn't there). A name is a namespace and a local part in both; the map
+# has the hash that `IndexMap` takes by itself. The document has 1,500,000 times the last of 9,800 names, which stand in 20
+# choices in a repeated choice, and the map is asked as often. Valgrind counts, so that a run tells the same numbers again; it
+# takes a minute or two. STEPS=20000 does with fewer.
 set -eu
 cd "$(dirname "$0")/.."
 . bench/measure.sh
 . bench/names.sh
 steps=${STEPS:-1500000}
-plain=${PLAIN:-crates/plain_map/out/plain_map}
-[ -x "$plain" ] || (cd crates/plain_map && rt run < stdin > /dev/null 2>&1)
+plain=${PLAIN:-bin/plain_map}
+[ -x "$plain" ] || bench/program.sh plain_map
 
 names "$steps"
 {

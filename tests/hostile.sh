@@ -720,6 +720,61 @@ hostile bounds 400000 60 0 5 'file 1, byte 79: link: Facet Misplaced' show "$sch
 make_annotations() { { printf '%s' "$head"; repeat "$1" '<xs:annotation/>'; printf '%s' "$end"; } > "$schema"; }
 hostile annotations 1000000 60 0 0 '' show "$schema"
 
+# ---- Printed modules
+
+module_head='Schema-Set DEFINITIONS XER INSTRUCTIONS AUTOMATIC TAGS ::= BEGIN'
+module_end='ENCODING-CONTROL XER
+    GLOBAL-DEFAULTS MODIFIED-ENCODINGS
+    GLOBAL-DEFAULTS CONTROL-NAMESPACE "http://www.w3.org/2001/XMLSchema-instance" PREFIX "xsi"
+END'
+
+# A module of these assignments.
+module() {
+    printf '%s\n' "$module_head"
+    cat
+    printf '%s\n' "$module_end"
+}
+
+# So many items of an ENUMERATED, which ascend, and the last of them.
+items() {
+    printf 'ENUMERATED { '
+    repeat $(($1 - 1)) 'w%07d, '
+    printf 'w%07d }' $(($1 - 1))
+}
+
+# Values behind DEFAULT that name the last items of a type which all refer to, and of one that stands there.
+make_shared_items() {
+    {
+        printf 'A ::= SEQUENCE {\n'
+        repeat "$1" "    a%d [ATTRIBUTE] E DEFAULT w$(printf %07d $(($1 - 1))),\n"
+        printf '    b BOOLEAN\n}\nE ::= '
+        items "$1"
+        printf '\n'
+    } | module > "$schema"
+}
+hostile shared_items 200000 200 0 0 '' show-back "$schema"
+make_own_items() {
+    {
+        printf 'A ::= SEQUENCE {\n    a [ATTRIBUTE] [LIST] SEQUENCE OF '
+        items "$1"
+        printf ' DEFAULT { '
+        repeat "$1" "w$(printf %07d $(($1 - 1))), "
+        printf 'w0000000 }\n}\n'
+    } | module > "$schema"
+}
+hostile own_items 600000 200 0 0 '' show-back "$schema"
+
+# Types with the order of one content, which has many attributes before its one element.
+make_shared_content() {
+    {
+        repeat "$1" 'T%d ::= [USE-NIL] [USE-ORDER] SEQUENCE {\n    order SEQUENCE OF ENUMERATED { z },\n    content C OPTIONAL\n}\n'
+        printf 'C ::= SEQUENCE {\n'
+        repeat "$1" '    a%d [ATTRIBUTE] BOOLEAN,\n'
+        printf '    z BOOLEAN\n}\n'
+    } | module > "$schema"
+}
+hostile shared_content 100000 200 0 0 '' show-back "$schema"
+
 # ---- The greatest texts: a file and an input with spaces up to 16,777,216 bytes, and one more
 
 # A text and spaces behind it, in so many bytes together.

@@ -93,7 +93,8 @@ def rows_of(path):
             if rest:
                 put(marked(rest))
         elif first in ("pieces", "fails", "room"):
-            row.is_plain = row.is_plain and first == "pieces"
+            # Room for more than the others have ends no output early.
+            row.is_plain = row.is_plain and (first == "pieces" or first == "room" and int(rest) > 100_000)
         elif first == "due":
             status, _, told = rest.partition(" ")
             row.due, into = (int(status), told.replace("^", str(mark))), ("due",)
@@ -105,6 +106,9 @@ def rows_of(path):
             put(bytes.fromhex(rest))
         elif first == "copy":
             put(texts[rest])
+        elif first == "copies":
+            times, name = rest.split(" ", 1)
+            put(texts[name] * int(times))
         elif first == "repeat":
             least, most, kind, text = rest.split(" ", 3)
             for number in range(int(least), int(most) + 1):

@@ -7,6 +7,7 @@ was made, by the clauses that are named below. A case is wrong where
 
 - `to-per` doesn't write just the aligned octets, `to-per-u` the unaligned ones and `to-der` those of DER;
 - `to-xml`, `to-xml-u` or `from-der` doesn't take them, or what it writes isn't encoded to them again, or isn't valid by xmllint;
+- one of these takes a front of them, or takes them with a bit turned and what it writes isn't encoded to just those again;
 - of the document with something changed, four times, `check` doesn't say what `xmllint --schema` says;
 - the schema with something changed, ten times, is taken by `show` and not by xmllint. The other way round is no fault: the
   profile leaves things out, and xmllint takes more than XML Schema does (attributes that are unknown, a facet twice).
@@ -15,7 +16,7 @@ Models that aren't clear by the rules of docs/CONTENT-MODELS.md must be refused 
 passed over. It prints a line for each case that is wrong, keeps its schema and its document in the folder KEEP, and the counts
 at the end. Its status is 1 where any is wrong.
 
-    tests/random_cases.py [FIRST [COUNT]]      needs the program (`make run`) and xmllint; 1 and 300, some two minutes
+    tests/random_cases.py [FIRST [COUNT]]      needs the program (`make run`) and xmllint; 1 and 300, some three minutes
 
 PROGRAM names another program. What xmllint takes otherwise is left out: a sign before unsigned numbers, white space around
 numbers, characters that may begin a name since the fifth edition of XML, a type in an attribute that is prohibited,
@@ -1357,6 +1358,7 @@ class Cases:
         self.counts["documents"] += 1
         for (encoding, decoding), octets in zip(SYNTAXES, due):
             self.back(number, root, document, octets, encoding, decoding)
+            self.damaged(number, root, document, octets, encoding, decoding)
         return True
 
     def back(self, number, root, document, due, encoding, decoding):
@@ -1373,6 +1375,24 @@ class Cases:
             self.is_wrong(number, back.stdout, f"{decoding}: {back.stderr.decode()}{peer.stderr.decode()}")
         if again.stdout != due:
             self.is_wrong(number, document, f"{decoding}: {back.stderr.decode()}{again.stderr.decode()}")
+
+    def damaged(self, number, root, document, due, encoding, decoding):
+        """No front of an encoding is one, and what is read of octets with a bit turned is encoded to just these."""
+        # Numbers of its own, so that the cases that follow are what they were.
+        chance = random.Random(f"{number} {decoding} {due.hex()}")
+        front = due[: chance.randrange(len(due))]
+        short = self.run(decoding, root, octets=front)
+        if short.stdout or b"Short" not in short.stderr:
+            self.is_wrong(number, document, f"{decoding} of the front {front.hex()[:1000]}: {short.stderr.decode()}")
+        bit = chance.randrange(8 * len(due))
+        turned = bytearray(due)
+        turned[bit // 8] ^= 128 >> bit % 8
+        back = self.run(decoding, root, octets=turned)
+        if back.returncode != 0:
+            if back.stdout or not re.match(rb"input, (bit|byte) \d+: (per|der|trailing)", back.stderr):
+                self.is_wrong(number, document, f"{decoding} with bit {bit} turned: {back.stderr.decode()}")
+        elif len(back.stdout) <= MOST and self.run(encoding, root, octets=back.stdout).stdout != turned:
+            self.is_wrong(number, document, f"{decoding} with bit {bit} turned: not encoded to the same again")
 
     def is_valid(self, number, root, document):
         if self.has_tokens and has_empty(document):

@@ -8,7 +8,7 @@ ghost use Rattle.content_match.specs.Private.Tops.{particle_of_top, height_of, m
 use crate::alls::{take, unmarked};
 use crate::ends::may_end;
 use crate::going::go_on;
-use crate::places::{Leaf, Position};
+use crate::places::{Leaf, Lists, Position};
 use crate::plans::TopPlan;
 use std::alloc::Global;
 use std::sync::ledger::Ledger;
@@ -35,8 +35,13 @@ impl TopPlan {
         }
     }
 
-    // Before the first name.
-    pub(crate) fn start(&self, alloc: Global, levels: usize) -> Result<Position, Memory>
+    // Before the first name, in these lists.
+    pub(crate) fn start(
+        &self,
+        alloc: Global,
+        levels: usize,
+        lists: Lists,
+    ) -> Result<Position, Memory>
         requires plan { IsTop self.now }
         requires clear { Clear (particle_of_top self.now) [] }
         requires levels { height_of self.now ≤ levels }
@@ -45,8 +50,12 @@ impl TopPlan {
         ensures turns { IfOk result (λ position. position.turns.items ≡ []) }
         ensures kids { IfOk result (λ position. position.kids.items ≡ []) }
     {
-        let turns = Vec::with_capacity(alloc, levels)?;
-        let kids = Vec::with_capacity(alloc, levels)?;
+        let mut turns = lists.turns;
+        turns.clear();
+        turns.reserve(levels)?;
+        let mut kids = lists.kids;
+        kids.clear();
+        kids.reserve(levels)?;
         let marks = self.marks(alloc)?;
         Ok(Position {
             turns,

@@ -1,10 +1,11 @@
 //! The types of declarations, and of complex types with their content models.
-ghost use Rattle.std.specs.Prelude.{◌≡◌, ◌<◌, ℕ, IfOk, OnOk, [], length, true, if◌then◌else◌};
+ghost use Rattle.std.specs.Prelude.{◌≡◌, ◌<◌, ℕ, IfOk, OnOk, [], length, true, false, if◌then◌else◌};
 ghost use Rattle.label_tree.specs.Rose.{roses_of};
 ghost use Rattle.content_models.specs.Seen.{seen, all_seen};
 ghost use Rattle.schema_parts.specs.Components.{Set};
 ghost use Rattle.schema_parts.specs.Linked.{IsLinked, IsTyped, IsComplexType, IsContent};
 ghost use Rattle.map_subjects.specs.declared.subjects.Subject.{Subject};
+ghost use Rattle.map_assignments.specs.Plans as plan_of;
 ghost use Rattle.map_assignments.specs.Plans.{TypePlan, Parts, finish};
 ghost use Rattle.map_assignments.specs.Planning as plan;
 ghost use Rattle.map_assignments.specs.Naming.{IsNamed, sequence_marks};
@@ -249,11 +250,38 @@ fn complex_type(
     let content = &definition.content;
     let mixed = is_mixed(content);
     let mut parts = begin(alloc, mixed)?;
-    push_content_order(alloc, &mut parts, nillable, definition)?;
-    push_attributes(alloc, &mut parts, set, places, definition.uses.items())?;
-    push_rest(alloc, &mut parts, set, places, levels, nillable, content)?;
+    push_parts(alloc, &mut parts, set, places, levels, nillable, definition)?;
     let marks = sequence_marks(alloc, nillable, mixed, is_ordered(content))?;
     Ok(parts.into_sequence(marks))
+}
+
+// The parts behind that of mixed content.
+#[cycle(content)]
+fn push_parts(
+    alloc: Global,
+    parts: &mut PartList,
+    set: &SchemaSet,
+    places: &Places,
+    levels: u32,
+    nillable: bool,
+    definition: &ComplexDef,
+) -> Result<(), Memory>
+    requires linked { IsLinked set.now }
+    requires definition { IsComplexType set.now definition.now }
+    ensures { OnOk result ((whole : Parts) → LeadsToNamed (place_of places.now) parts.old (plan.with_order (plan.is_ordered definition.now.content) (plan.order_plan (declared set.now levels) set.now nillable definition.now) (plan.attributes set.now definition.now.uses (plan.rest_parts (declared set.now levels) set.now nillable definition.now.content))) whole
+        → LeadsToNamed (place_of places.now) parts.new finish whole) }
+{
+    push_content_order(alloc, parts, nillable, definition)?;
+    push_attributes(alloc, parts, set, places, definition.uses.items())?;
+    push_rest(
+        alloc,
+        parts,
+        set,
+        places,
+        levels,
+        nillable,
+        &definition.content,
+    )
 }
 
 // What stands behind the attributes.
@@ -365,36 +393,49 @@ fn term_type(
     requires known { IsKnown set.now particle.now }
     ensures { IfOk result (λ made. IsNamed (place_of places.now) (plan.term_type (declared set.now levels) (term_of particle.now)) made) }
 {
-    let label = particle.label();
-    let mut parts = PartList::new(alloc);
-    let marks = Marks::of(Vec::new(alloc));
-    match label.kind {
+    match particle.label().kind {
         ParticleKind::Element { decl, .. } => particle_type(alloc, set, places, levels, decl),
         ParticleKind::Sequence | ParticleKind::All => {
-            push_particles(
-                alloc,
-                &mut parts,
-                set,
-                places,
-                levels,
-                false,
-                particle.kids(),
-            )?;
-            Ok(parts.into_sequence(marks))
+            sequence_type(alloc, set, places, levels, particle.kids())
         }
-        ParticleKind::Choice => {
-            push_particles(
-                alloc,
-                &mut parts,
-                set,
-                places,
-                levels,
-                true,
-                particle.kids(),
-            )?;
-            Ok(parts.into_choice(marks))
-        }
+        ParticleKind::Choice => choice_type(alloc, set, places, levels, particle.kids()),
     }
+}
+
+// The type of a sequence of these particles.
+#[cycle(content)]
+fn sequence_type(
+    alloc: Global,
+    set: &SchemaSet,
+    places: &Places,
+    levels: u32,
+    particles: &[Tree<ParticleLabel>],
+) -> Result<Tree<TypeLabel>, Memory>
+    requires linked { IsLinked set.now }
+    requires known { AreKnown set.now particles.now }
+    ensures { IfOk result (λ made. IsNamed (place_of places.now) (plan_of.sequence false false false (plan.particle_parts (declared set.now levels) false (all_seen (roses_of particles.now)))) made) }
+{
+    let mut parts = PartList::new(alloc);
+    push_particles(alloc, &mut parts, set, places, levels, false, particles)?;
+    Ok(parts.into_sequence(Marks::of(Vec::new(alloc))))
+}
+
+// The type of a choice of these particles.
+#[cycle(content)]
+fn choice_type(
+    alloc: Global,
+    set: &SchemaSet,
+    places: &Places,
+    levels: u32,
+    particles: &[Tree<ParticleLabel>],
+) -> Result<Tree<TypeLabel>, Memory>
+    requires linked { IsLinked set.now }
+    requires known { AreKnown set.now particles.now }
+    ensures { IfOk result (λ made. IsNamed (place_of places.now) (plan_of.choice (plan.particle_parts (declared set.now levels) true (all_seen (roses_of particles.now)))) made) }
+{
+    let mut parts = PartList::new(alloc);
+    push_particles(alloc, &mut parts, set, places, levels, true, particles)?;
+    Ok(parts.into_choice(Marks::of(Vec::new(alloc))))
 }
 
 // The parts for particles of a group.

@@ -5,7 +5,7 @@ ghost use Rattle.simple_types.specs.declared.standards.Standard.TheVariants.{Fre
 ghost use Rattle.name_map.specs.declared.conversion.NameKind.TheVariants.{Identifier};
 ghost use Rattle.name_map.specs.Taking.{IsTaken};
 ghost use Rattle.map_assignments.specs.Plans as plan;
-ghost use Rattle.map_assignments.specs.Naming.{type_label, component_with, sequence_marks};
+ghost use Rattle.map_assignments.specs.Naming.{type_label, component_with, sequence_marks, identifier_of, qualified_marks};
 ghost use Rattle.map_assignments.specs.Private.Building.{AddsPart, Adds};
 
 use crate::instructions::push_qualified;
@@ -23,6 +23,24 @@ pub(crate) struct PartList {
     scope: Scope,
     components: Vec<Component>,
     kids: Vec<Tree<TypeLabel>>,
+}
+
+// The instructions of a part that stands for an attribute.
+fn attribute_marks(alloc: Global, identifier: &Text, name: &Name) -> Result<Marks, Memory>
+    ensures { IfOk result (λ marks. marks ≡ Instruction.Attribute ∷ qualified_marks identifier.now name.now) }
+{
+    let mut marks = vec![in alloc; Instruction::Attribute]?;
+    push_qualified(alloc, &mut marks, identifier, name)?;
+    Ok(Marks::of(marks))
+}
+
+// The instructions of a part that stands for an element.
+fn element_marks(alloc: Global, identifier: &Text, name: &Name) -> Result<Marks, Memory>
+    ensures { IfOk result (λ marks. marks ≡ qualified_marks identifier.now name.now) }
+{
+    let mut marks = Vec::new(alloc);
+    push_qualified(alloc, &mut marks, identifier, name)?;
+    Ok(Marks::of(marks))
 }
 
 impl PartList {
@@ -47,6 +65,17 @@ impl PartList {
         ensures kids { self.new.kids ≡ self.old.kids }
     {
         self.scope.take(NameKind::Identifier, name)
+    }
+
+    // Takes the identifier that is made from this name.
+    fn take_for(&mut self, name: &Name) -> Result<Text, Memory>
+        ensures taken { IfOk result (λ identifier. IsTaken Identifier self.old.scope (identifier_of name.now.local) identifier) }
+        ensures noted { IfOk result (λ identifier. self.new.scope ≡ self.old.scope ++ identifier ∷ []) }
+        ensures components { self.new.components ≡ self.old.components }
+        ensures kids { self.new.kids ≡ self.old.kids }
+    {
+        let converted = convert(self.alloc, NameKind::Identifier, &name.local)?;
+        self.take(&converted)
     }
 
     // A part whose identifier is taken.
@@ -82,11 +111,9 @@ impl PartList {
     ) -> Result<(), Memory>
         ensures { OnOk result (Adds self.old self.new (plan.attribute name.now standard) optional kid) }
     {
-        let converted = convert(self.alloc, NameKind::Identifier, &name.local)?;
-        let identifier = self.take(&converted)?;
-        let mut marks = vec![in self.alloc; Instruction::Attribute]?;
-        push_qualified(self.alloc, &mut marks, &identifier, name)?;
-        self.add(identifier, optional, standard, Marks::of(marks), kid)
+        let identifier = self.take_for(name)?;
+        let marks = attribute_marks(self.alloc, &identifier, name)?;
+        self.add(identifier, optional, standard, marks, kid)
     }
 
     /// A part that stands for an element.
@@ -98,11 +125,9 @@ impl PartList {
     ) -> Result<(), Memory>
         ensures { OnOk result (Adds self.old self.new (plan.element name.now) optional kid) }
     {
-        let converted = convert(self.alloc, NameKind::Identifier, &name.local)?;
-        let identifier = self.take(&converted)?;
-        let mut marks = Vec::new(self.alloc);
-        push_qualified(self.alloc, &mut marks, &identifier, name)?;
-        self.add(identifier, optional, Standard::Free, Marks::of(marks), kid)
+        let identifier = self.take_for(name)?;
+        let marks = element_marks(self.alloc, &identifier, name)?;
+        self.add(identifier, optional, Standard::Free, marks, kid)
     }
 
     /// A part with an identifier made from this one, and with these instructions.

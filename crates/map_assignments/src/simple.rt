@@ -1,20 +1,20 @@
 //! Simple types in place.
-ghost use Rattle.std.specs.Prelude.{◌≡◌, ◌++◌, ◌∷◌, [], IfOk, codes, false};
+ghost use Rattle.std.specs.Prelude.{◌≡◌, ◌∷◌, [], IfOk, OnOk, codes, false};
 ghost use Rattle.label_tree.specs.Rose.{node, roses_of};
 ghost use Rattle.label_tree.specs.Rose as rose;
 ghost use Rattle.simple_types.specs.Sound.{Sound, AreSound};
 ghost use Rattle.simple_types.specs.Seen.{space_of, spaces_in};
 ghost use Rattle.simple_types.specs.Space.{UnionOf};
-ghost use Rattle.name_map.specs.declared.conversion.NameKind.TheVariants.{Identifier};
-ghost use Rattle.name_map.specs.Taking.{IsTaken};
+ghost use Rattle.simple_types.specs.declared.standards.Standard.TheVariants.{Free};
 ghost use Rattle.asn_types.specs.Simples.{white_space_marks, MapsTo};
 ghost use Rattle.map_assignments.specs.Naming.{type_label, component_of, list_item, IsLeaf, IsSimpleType};
+ghost use Rattle.map_assignments.specs.Private.Building.{AddsPart};
 
 use crate::instructions::push_white_space;
+use crate::parts::PartList;
 use crate::words::words_type;
-use asn_types::{Component, Components, Form, Instruction, Marks, TypeLabel};
+use asn_types::{Component, Form, Instruction, Marks, TypeLabel};
 use label_tree::Tree;
-use name_map::{NameKind, Scope};
 use simple_types::{Class, NumberList, Simple, Standard};
 use std::alloc::Global;
 use xa_base::{Memory, Text, WhiteSpace};
@@ -59,7 +59,7 @@ fn text_type(
     Ok(Tree::leaf(alloc, TypeLabel { form, marks }))
 }
 
-// An item of a list or an alternative of a union.
+// An item of a list.
 fn unmarked(alloc: Global, identifier: Text) -> Component
     ensures { result ≡ component_of identifier false [] }
 {
@@ -80,35 +80,27 @@ fn list_type(
 ) -> Result<Tree<TypeLabel>, Memory>
     ensures { IfOk result (λ made. made ≡ node (type_label (Form.SequenceOf list_item min max) (Instruction.List ∷ [])) (rose.more item rose.none)) }
 {
+    let kids = vec![in alloc; item]?;
     let marks = one_mark(alloc, Instruction::List)?;
     let part = unmarked(alloc, Text::empty());
     let form = Form::SequenceOf { part, min, max };
-    let kids = vec![in alloc; item]?;
     Ok(Tree::join(TypeLabel { form, marks }, kids))
 }
 
-// The identifier of the next alternative of a union.
-fn next_alternative(alloc: Global, scope: &mut Scope) -> Result<Text, Memory>
-    ensures taken { IfOk result (λ name. IsTaken Identifier scope.old (codes "alt") name) }
-    ensures noted { IfOk result (λ name. scope.new ≡ scope.old ++ name ∷ []) }
+// The next alternative of a union, of this type.
+fn push_alternative(alloc: Global, parts: &mut PartList, kid: Tree<TypeLabel>) -> Result<(), Memory>
+    ensures { OnOk result (AddsPart parts.old parts.new (codes "alt") Free (λ identifier. []) false kid) }
 {
     let name = Text::from_str(alloc, "alt")?;
-    scope.take(NameKind::Identifier, &name)
+    parts.push_marked(&name, false, Marks::of(Vec::new(alloc)), kid)
 }
 
 // A CHOICE of the members.
-fn union_of(
-    alloc: Global,
-    components: Vec<Component>,
-    kids: Vec<Tree<TypeLabel>>,
-) -> Result<Tree<TypeLabel>, Memory>
-    ensures { IfOk result (λ made. made ≡ node (type_label (Form.Choice components.items) (Instruction.UseUnion ∷ [])) (roses_of kids.items)) }
+fn union_of(alloc: Global, parts: PartList) -> Result<Tree<TypeLabel>, Memory>
+    ensures { IfOk result (λ made. made ≡ node (type_label (Form.Choice parts.components.items) (Instruction.UseUnion ∷ [])) (roses_of parts.kids.items)) }
 {
     let marks = one_mark(alloc, Instruction::UseUnion)?;
-    let form = Form::Choice {
-        parts: Components::of(components),
-    };
-    Ok(Tree::join(TypeLabel { form, marks }, kids))
+    Ok(parts.into_choice(marks))
 }
 
 #[cycle(simple)]
@@ -116,16 +108,12 @@ fn union_type(alloc: Global, members: &[Simple]) -> Result<Tree<TypeLabel>, Memo
     requires { AreSound (spaces_in members.now) }
     ensures { IfOk result (λ made. IsSimpleType (UnionOf (spaces_in members.now)) made) }
 {
-    let mut scope = Scope::new(alloc);
-    let mut components = Vec::new(alloc);
-    let mut kids = Vec::new(alloc);
+    let mut parts = PartList::new(alloc);
     'members: for member in members {
-        let identifier = next_alternative(alloc, &mut scope)?;
         let kid = simple_type(alloc, member)?;
-        components.push(unmarked(alloc, identifier))?;
-        kids.push(kid)?;
+        push_alternative(alloc, &mut parts, kid)?;
     }
-    union_of(alloc, components, kids)
+    union_of(alloc, parts)
 }
 
 // The type to which a simple type is mapped where it stands in place.

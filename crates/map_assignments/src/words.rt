@@ -1,5 +1,7 @@
 //! ENUMERATED types of words.
-ghost use Rattle.std.specs.Prelude.{◌≡◌, ◌++◌, ◌<◌, ◌^◌, [], IfOk, OnOk, length, map};
+ghost use Rattle.std.specs.Prelude.{◌≡◌, ◌++◌, ◌<◌, ◌^◌, ◌∷◌, [], IfOk, OnOk, length, map};
+ghost use Rattle.name_map.specs.declared.conversion.NameKind.TheVariants.{Identifier};
+ghost use Rattle.name_map.specs.Taking.{IsTaken};
 ghost use Rattle.asn_types.specs.Simples.{white_space_marks};
 ghost use Rattle.map_assignments.specs.Naming.{AreTaken, identifier_of, text_marks, IsWordsType};
 
@@ -11,6 +13,15 @@ use simple_types::TextList;
 use std::alloc::Global;
 use xa_base::{Memory, Text, WhiteSpace};
 
+// The identifier of the item that stands for this word, taken next.
+fn next_identifier(alloc: Global, scope: &mut Scope, word: &Text) -> Result<Text, Memory>
+    ensures taken { IfOk result (λ identifier. IsTaken Identifier scope.old (identifier_of word.now) identifier) }
+    ensures noted { IfOk result (λ identifier. scope.new ≡ scope.old ++ identifier ∷ []) }
+{
+    let converted = convert(alloc, NameKind::Identifier, word)?;
+    scope.take(NameKind::Identifier, &converted)
+}
+
 // The identifiers of the items that stand for these words, taken in their order.
 fn identifiers_of(alloc: Global, words: &[Text]) -> Result<Vec<Text>, Memory>
     ensures taken { IfOk result (λ made. AreTaken [] (map identifier_of words.now) made.items) }
@@ -19,8 +30,7 @@ fn identifiers_of(alloc: Global, words: &[Text]) -> Result<Vec<Text>, Memory>
     let mut scope = Scope::new(alloc);
     let mut made = Vec::new(alloc);
     'words: for word in words {
-        let converted = convert(alloc, NameKind::Identifier, word)?;
-        let identifier = scope.take(NameKind::Identifier, &converted)?;
+        let identifier = next_identifier(alloc, &mut scope, word)?;
         made.push(identifier)?;
     }
     Ok(made)

@@ -1,5 +1,5 @@
 -- The first fault of lists one behind another.
-use Rattle.std.proofs.Common.{◌≡◌, Option, Some, None, List, [], ◌∷◌, ◌++◌, refl}
+use Rattle.std.proofs.Common.{◌≡◌, Option, Some, None, List, [], ◌∷◌, ◌++◌}
 use Rattle.module_faults.specs.declared.reasons.Fault.{Fault}
 use Rattle.module_faults.specs.Listed.{first}
 

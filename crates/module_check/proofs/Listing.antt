@@ -1,17 +1,15 @@
 -- Steps of the loops over lists whose first fault is sought.
 use Rattle.std.proofs.Common.{◌≡◌, ℕ, zero, suc, ◌+◌, ◌-◌, ◌<◌, ◌≤◌, Bool, true, false, ◌&&◌, ◌||◌, not, Option, Some, None, List, [], ◌∷◌, ◌++◌, length, drop, take, get_or, min, refl, sym, ap, ◌∙◌, subst, append_assoc, arith}
 use Rattle.std.specs.Prelude.{bytes_eq, slice_get, is_some, MatchOption, nat_lt, nat_le, if◌then◌else◌}
-use Rattle.std.specs.List.{list_any}
 use Rattle.std.specs.Option.{option_map}
 use Rattle.std.proofs.lemmas.Bool.{ltb-true, ltb-false, lt-ltb, le-ltb, leb-true, leb-false}
 use Rattle.std.proofs.lemmas.List.{at_drop_more, at_drop_all, take_more}
 use Rattle.std.proofs.lemmas.List.Folds.{list_any-append}
 use Rattle.std.proofs.lemmas.Option.{slice_get_read, none-some, same_Some}
 use Rattle.xa_base.specs.Limits.{is_empty}
-use Rattle.label_tree.specs.Rose.{Rose, node, Roses, none, more, label_of, kids_of, roses_of, list_of}
+use Rattle.label_tree.specs.Rose.{Rose, node, Roses, none, more, label_of, kids_of, roses_of}
 use Rattle.label_tree.proofs.Kids.{roses_of-drop}
 use Rattle.simple_types.specs.declared.simples.Simple.{Simple}
-use Rattle.simple_types.specs.Seen.{space_of}
 use Rattle.simple_types.specs.Space.{Space}
 use Rattle.name_map.specs.ReservedWords.{reserved_words}
 use Rattle.module_text.specs.declared.marks.PartMark.{PartMark}

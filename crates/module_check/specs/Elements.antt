@@ -1,10 +1,16 @@
--- The identifiers of the elements of a SEQUENCE, part by part.
-use Rattle.std.specs.Prelude.{ℕ, List, ◌∷◌, map, if◌then◌else◌}
+-- The identifiers of the elements of a SEQUENCE, part by part, and the order of those of a content.
+use Rattle.std.specs.Prelude.{ℕ, Bool, false, ◌&&◌, not, Option, Some, None, List, ◌∷◌, map, slice_get, if◌then◌else◌}
+use Rattle.std.specs.Option.{option_map}
+use Rattle.std.specs.Borrow.{Bor}
+use Rattle.label_tree.specs.Rose.{Roses, list_of}
 use Rattle.asn_types.specs.Refs.{is_element}
 use Rattle.module_text.specs.declared.types.PlainName.{PlainName}
 use Rattle.module_text.specs.declared.types.PlainPart.{PlainPart}
 use Rattle.module_text.specs.declared.types.PlainLabel.{PlainLabel}
-use Rattle.module_faults.specs.Resolving.{role_of}
+use Rattle.module_text.specs.Texts.{parts_of}
+use Rattle.module_faults.specs.Resolving.{role_of, order_place}
+use Rattle.module_faults.specs.Orders.{is_sequence, is_order, is_order_of, may_be_absent, has_no_group, stands_alone, element_identifiers}
+use Rattle.module_check.specs.declared.orders.Content.{Content}
 
 -- that of the part with number i, where it is an element, before those of the parts behind it
 abbrev pub with_element : PlainLabel → ℕ → PlainPart → List (List ℕ) → List (List ℕ)
@@ -12,3 +18,29 @@ with_element l i part identifiers = if is_element (role_of l i part) then part.i
 
 abbrev pub names_of : List PlainName → List (List ℕ)
 names_of names = map (λ (i : PlainName). i.name) names
+
+abbrev pub texts_in : List (Bor (List ℕ)) → List (List ℕ)
+texts_in texts = map (λ (t : Bor (List ℕ)). t.now) texts
+
+-- the part that has the order of elements with these identifiers
+abbrev pub part_of_order : PlainLabel → Roses PlainLabel → List (List ℕ) → Bool
+part_of_order l ts identifiers = elim (slice_get (parts_of l.form) (order_place l.marks)) [
+  | None ↦ false
+  | Some part ↦ elim (slice_get (list_of ts) (order_place l.marks)) [
+    | None ↦ false
+    | Some t ↦ is_order (role_of l (order_place l.marks) part) && not (may_be_absent part.absence) && is_order_of identifiers t
+  ]
+]
+
+-- the elements of a type that may be the content of one with USE-NIL and USE-ORDER
+abbrev pub content_of : PlainLabel → Option (List (List ℕ))
+content_of l = if is_sequence l.form && has_no_group l && stands_alone l then Some (element_identifiers l) else None
+
+-- the order of those of the content
+abbrev pub content_order : PlainLabel → Roses PlainLabel → Option (List (List ℕ)) → Bool
+content_order l ts None = false
+content_order l ts (Some identifiers) = part_of_order l ts identifiers
+
+-- as the code keeps them
+abbrev pub elements_told : Content → Option (List (List ℕ))
+elements_told c = option_map (λ elements. texts_in elements.items) c.elements

@@ -1,5 +1,5 @@
 -- What a part is judged by.
-use Rattle.std.specs.Prelude.{ℕ, Bool, false, Option, Some, None, List, [], ◌++◌, is_some, if◌then◌else◌}
+use Rattle.std.specs.Prelude.{ℕ, Bool, false, Option, None, List, [], ◌++◌, is_some, if◌then◌else◌}
 use Rattle.label_tree.specs.Rose.{Rose, Roses, node, label_of}
 use Rattle.simple_types.specs.Space.{Space}
 use Rattle.module_text.specs.declared.types.PlainPart.{PlainPart}
@@ -14,13 +14,14 @@ use Rattle.module_faults.specs.Listed.{unless}
 use Rattle.module_faults.specs.Resolving.{resolve}
 use Rattle.module_faults.specs.Simple.{is_simple}
 use Rattle.module_faults.specs.Faults.{reference_faults, is_bare, is_named_so, part_mark_faults, part_spot, space_at, type_faults, fixed_faults, absence_faults}
-use Rattle.module_check.specs.Known.{Knows, AreSimples}
+use Rattle.module_check.specs.Known.{Knows, AreSimples, AreContents}
 use Rattle.module_check.specs.declared.context.Context.{Context}
 
 -- the tables are those of the assignments
 pub record IsKnown (c : Context) : Type 0 where
   pub references : Knows c.references.now c.assignments.now
   pub simples : AreSimples c.simples.now c.assignments.now
+  pub contents : AreContents c.contents.now c.assignments.now
 
 -- a type with this label and these parts stands for a simple type
 abbrev pub is_simple_of : Spot → PlainLabel → Roses PlainLabel → Bool

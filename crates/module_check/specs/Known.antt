@@ -2,21 +2,24 @@
 use Rattle.std.specs.Prelude.{◌≡◌, ℕ, Bool, true, false, Option, Some, None, List, [], ◌∷◌, map, slice_get, is_some, bytes_eq, if◌then◌else◌}
 use Rattle.simple_types.specs.declared.simples.Simple.{Simple}
 use Rattle.asn_types.specs.Refs.{is_element}
-use Rattle.label_tree.specs.Rose.{Rose}
+use Rattle.label_tree.specs.Rose.{Rose, label_of}
 use Rattle.indexmap.specs.IndexMap.{get}
 use Rattle.module_text.specs.declared.types.PlainPart.{PlainPart}
 use Rattle.module_text.specs.declared.types.PlainLabel.{PlainLabel}
 use Rattle.module_text.specs.declared.modules.PlainAssignment.{PlainAssignment}
-use Rattle.module_faults.specs.declared.spots.Spot.{Spot}
 use Rattle.module_faults.specs.declared.spots.Spot.TheVariants.{Elsewhere}
 use Rattle.module_faults.specs.Resolving.{role_of, number_of, near_references, chains_within}
 use Rattle.module_faults.specs.Simple.{simple_told}
+use Rattle.module_index.specs.Indexed.{EachOf, AreIndexes}
 use Rattle.module_simple.specs.Made.{Makes}
 use Rattle.module_check.specs.declared.references.References.{References}
+use Rattle.module_check.specs.declared.orders.Content.{Content}
+use Rattle.module_check.specs.Elements.{elements_told, content_of}
 
--- of each reference the number of the first assignment that has it
-abbrev pub Knows : References → List PlainAssignment → Type 0
-Knows table P = (reference : List ℕ) → get bytes_eq table.numbers reference ≡ number_of P reference
+-- of each reference the number of the first assignment that has it, and of each assignment the index of its type
+pub record Knows (table : References) (P : List PlainAssignment) : Type 0 where
+  pub numbers : (reference : List ℕ) → get bytes_eq table.numbers reference ≡ number_of P reference
+  pub indexes : AreIndexes table.indexes.items P
 
 -- what is looked up where one reference more is noted, unless it stood before
 abbrev pub NotesReference : (List ℕ → Option ℕ) → List ℕ → ℕ → (List ℕ → Option ℕ) → Type 0
@@ -29,6 +32,10 @@ AreSimples [] [] = Unit {0}
 AreSimples [] (a ∷ P) = ⊥
 AreSimples (found ∷ simples) [] = ⊥
 AreSimples (found ∷ simples) (a ∷ P) = Makes found (simple_told Elsewhere a.body) × AreSimples simples P
+
+-- of each assignment the elements of its type, where it may be a content
+abbrev pub AreContents : List Content → List PlainAssignment → Type 0
+AreContents contents P = EachOf (λ c (a : PlainAssignment). elements_told c ≡ content_of (label_of a.body)) contents P
 
 -- whether a reference leads on within a number, where it is known of each assignment whether its type leads on within one less
 abbrev pub leads_in : Option (List Bool) → List PlainAssignment → List ℕ → Bool

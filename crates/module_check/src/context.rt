@@ -1,4 +1,5 @@
 //! What types are judged with.
+use crate::orders::Content;
 use crate::references::References;
 use module_text::PlainAssignment;
 use simple_types::Simple;
@@ -13,4 +14,6 @@ pub struct Context<'a> {
     pub references: &'a References,
     /// Of each assignment, the simple type for which its type stands.
     pub simples: &'a [Option<Simple>],
+    /// Of each assignment, the elements of its type, where this may be the content of one with their order.
+    pub contents: &'a [Content<'a>],
 }

@@ -10,6 +10,7 @@ ghost use Rattle.module_check.specs.Judging.{IsKnown, body_faults};
 use crate::attributes::{own_simple, shared_simple};
 use crate::chains::{chains_end, within};
 use crate::context::Context;
+use crate::orders::contents_of;
 use crate::references::References;
 use crate::reserved::is_reserved;
 use crate::type_faults::type_fault;
@@ -125,11 +126,13 @@ pub fn first_fault(alloc: Global, assignments: &[PlainAssignment]) -> Result<Opt
     let references = References::of(alloc, assignments)?;
     let within = within(alloc, assignments, &references, 3)?;
     let simples = simples_of(alloc, assignments)?;
+    let contents = contents_of(alloc, assignments)?;
     let context = Context {
         alloc,
         assignments,
         references: &references,
         simples: &simples,
+        contents: &contents,
     };
     fault_of(&context, &within)
 }

@@ -1,20 +1,28 @@
 //! What USE-ORDER asks of a type.
-ghost use Rattle.std.specs.Prelude.{◌≡◌, ℕ, ◌<◌, ◌&&◌, false, List, length, MatchOption};
+ghost use Rattle.std.specs.Prelude.{◌≡◌, IfOk};
 ghost use Rattle.label_tree.specs.Rose.{label_of, kids_of, roses_of};
-ghost use Rattle.module_text.specs.Texts as texts;
-ghost use Rattle.module_faults.specs.Resolving.{order_place};
+ghost use Rattle.module_faults.specs.Resolving.{order_place, resolve};
 ghost use Rattle.module_faults.specs.Orders as rule;
-ghost use Rattle.module_check.specs.Elements.{with_element, names_of};
-ghost use Rattle.module_check.specs.Known.{Knows};
-ghost use Rattle.module_check.specs.Roles.{AreRoles};
+ghost use Rattle.module_check.specs.Elements.{texts_in, names_of, part_of_order, content_order, content_of, elements_told};
+ghost use Rattle.module_check.specs.Known.{AreContents};
+ghost use Rattle.module_check.specs.Judging.{IsKnown};
 
-use crate::parts::{Roles, is_element, is_group, is_order, parts_of, roles_of};
-use crate::references::References;
+use crate::context::Context;
+use crate::parts::{is_element, is_group, is_order, parts_of, roles_of};
 use label_tree::Tree;
 use module_pieces::{
     has_embed_values, has_use_nil, has_use_order, is_any_list, is_sequence, may_be_absent,
 };
-use module_text::{PlainAssignment, PlainForm, PlainLabel, PlainName, PlainPart, TypeMark};
+use module_text::{PlainAssignment, PlainForm, PlainLabel, PlainName, TypeMark};
+use std::alloc::Global;
+use xa_base::{Memory, Text};
+
+/// The identifiers of the elements of a SEQUENCE that may be the content of a type with USE-NIL and their order.
+#[derive(Drop)]
+pub struct Content<'a> {
+    /// None of a type that may not.
+    elements: Option<Vec<&'a Text>>,
+}
 
 // Whether no part has UNTAGGED.
 fn has_no_group(label: &PlainLabel) -> bool
@@ -30,62 +38,54 @@ fn has_no_group(label: &PlainLabel) -> bool
     true
 }
 
-// The names behind that of this part, where it is an element that has the first one; those, where it is no element.
-fn behind_element<'a>(
-    own: Roles,
-    label: &PlainLabel,
-    i: usize,
-    part: &PlainPart,
-    names: &'a [PlainName],
-) -> Option<&'a [PlainName]>
-    requires own { AreRoles own label.now }
-    requires within { i < length (texts.parts_of label.now.form) }
-    ensures { (identifiers : List (List ℕ)) → MatchOption result
-        (rule.are_equal (with_element label.now i part.now identifiers) (names_of names.now) ≡ false)
-        (λ others. rule.are_equal (with_element label.now i part.now identifiers) (names_of names.now) ≡ rule.are_equal identifiers (names_of others.now)) }
-{
-    if !is_element(own, label, i, part) {
-        return Some(names);
-    }
-    let (name, others) = names.split_first()?;
-    if part.identifier == name.name {
-        Some(others)
-    } else {
-        None
-    }
-}
-
-// Whether these are the identifiers of the parts that are elements, in their order.
-fn are_elements(label: &PlainLabel, names: &[PlainName]) -> bool
-    ensures { result ≡ rule.are_equal (rule.element_identifiers label.now) (names_of names.now) }
+// The identifiers of the parts that are elements, in their order.
+fn elements_of(alloc: Global, label: &PlainLabel) -> Result<Vec<&Text>, Memory>
+    ensures { IfOk result (λ elements. texts_in elements.items ≡ rule.element_identifiers label.now) }
 {
     let own = roles_of(label);
     let parts = parts_of(&label.form);
-    let mut rest = names;
+    let mut elements = Vec::new(alloc);
     'parts: for (i, part) in parts.iter().enumerate() {
-        let Some(others) = behind_element(own, label, i, part, rest) else {
-            return false;
-        };
-        rest = others;
+        if !is_element(own, label, i, part) {
+            continue;
+        }
+        elements.push(&part.identifier)?;
     }
-    rest.is_empty()
+    Ok(elements)
 }
 
-fn are_identifiers(inner: &PlainLabel, form: &PlainForm) -> bool
-    ensures { result ≡ rule.are_identifiers (rule.element_identifiers inner.now) form.now }
+// Whether the names are these.
+fn are_named(elements: &[&Text], names: &[PlainName]) -> bool
+    ensures { result ≡ rule.are_equal (texts_in elements.now) (names_of names.now) }
+{
+    if elements.len() != names.len() {
+        return false;
+    }
+    'names: for (i, name) in names.iter().enumerate() {
+        if *elements[i] != name.name {
+            return false;
+        }
+    }
+    true
+}
+
+fn are_identifiers(elements: &[&Text], form: &PlainForm) -> bool
+    ensures { result ≡ rule.are_identifiers (texts_in elements.now) form.now }
 {
     match form {
-        PlainForm::Words { identifiers } => are_elements(inner, identifiers.items()),
+        PlainForm::Words { identifiers } => are_named(elements, identifiers.items()),
         _ => false,
     }
 }
 
-// Whether the type is a SEQUENCE OF the ENUMERATED of the elements of this type, without a size.
-fn is_order_of(inner: &PlainLabel, node: &Tree<PlainLabel>) -> bool
-    ensures { result ≡ rule.is_order_of (rule.element_identifiers inner.now) node.now }
+// Whether the type is a SEQUENCE OF the ENUMERATED of these identifiers, without a size.
+fn is_order_of(elements: &[&Text], node: &Tree<PlainLabel>) -> bool
+    ensures { result ≡ rule.is_order_of (texts_in elements.now) node.now }
 {
     match node.kids().first() {
-        Some(kid) => is_any_list(&node.label().form) && are_identifiers(inner, &kid.label().form),
+        Some(kid) => {
+            is_any_list(&node.label().form) && are_identifiers(elements, &kid.label().form)
+        }
         None => false,
     }
 }
@@ -97,9 +97,9 @@ fn order_place(marks: &[TypeMark]) -> usize
     if has_embed_values(marks) { 1 } else { 0 }
 }
 
-// Whether the type has the part with the order of the elements of this type.
-fn is_order_part(label: &PlainLabel, kids: &[Tree<PlainLabel>], inner: &PlainLabel) -> bool
-    ensures { result ≡ rule.is_order_part label.now (roses_of kids.now) inner.now }
+// Whether the type has the part with the order of these elements.
+fn is_order_part(label: &PlainLabel, kids: &[Tree<PlainLabel>], elements: &[&Text]) -> bool
+    ensures { result ≡ part_of_order label.now (roses_of kids.now) (texts_in elements.now) }
 {
     let place = order_place(label.marks.items());
     let Some(part) = parts_of(&label.form).get(place) else {
@@ -110,7 +110,7 @@ fn is_order_part(label: &PlainLabel, kids: &[Tree<PlainLabel>], inner: &PlainLab
     };
     is_order(roles_of(label), label, place, part)
         && !may_be_absent(&part.absence)
-        && is_order_of(inner, kid)
+        && is_order_of(elements, kid)
 }
 
 fn stands_alone(label: &PlainLabel) -> bool
@@ -120,41 +120,85 @@ fn stands_alone(label: &PlainLabel) -> bool
     !has_use_nil(marks) && !has_embed_values(marks) && !has_use_order(marks)
 }
 
-// Whether the content of a USE-NIL type is a SEQUENCE of which this type has the order.
-fn is_ordered_content(label: &PlainLabel, kids: &[Tree<PlainLabel>], inner: &PlainLabel) -> bool
-    ensures { result ≡ (rule.is_sequence inner.now.form && rule.has_no_group inner.now && rule.stands_alone inner.now && rule.is_order_part label.now (roses_of kids.now) inner.now) }
-{
-    is_sequence(&inner.form)
-        && has_no_group(inner)
-        && stands_alone(inner)
-        && is_order_part(label, kids, inner)
+impl<'a> Content<'a> {
+    /// The elements of the type with this label.
+    fn of(alloc: Global, label: &'a PlainLabel) -> Result<Content<'a>, Memory>
+        ensures { IfOk result (λ content. elements_told content ≡ content_of label.now) }
+    {
+        if !is_sequence(&label.form) || !has_no_group(label) || !stands_alone(label) {
+            return Ok(Content { elements: None });
+        }
+        let elements = elements_of(alloc, label)?;
+        Ok(Content {
+            elements: Some(elements),
+        })
+    }
 }
 
-/// Whether the type is a SEQUENCE with the part that has the order of its elements, or of those of its content.
-pub fn has_order_part(
-    references: &References,
-    assignments: &[PlainAssignment],
+/// The same of the type of each assignment. The time is linear in the types.
+pub fn contents_of<'a>(
+    alloc: Global,
+    assignments: &'a [PlainAssignment],
+) -> Result<Vec<Content<'a>>, Memory>
+    ensures { IfOk result (λ contents. AreContents contents.items assignments.now) }
+{
+    let mut contents = Vec::with_capacity(alloc, assignments.len())?;
+    'assignments: for assignment in assignments {
+        contents.push(Content::of(alloc, assignment.body.label())?)?;
+    }
+    Ok(contents)
+}
+
+// Whether the type has the part with the order of the elements of its content.
+fn has_order_of(label: &PlainLabel, kids: &[Tree<PlainLabel>], content: &Content) -> bool
+    ensures { result ≡ content_order label.now (roses_of kids.now) (elements_told content.now) }
+{
+    match &content.elements {
+        Some(elements) => is_order_part(label, kids, elements),
+        None => false,
+    }
+}
+
+// The same where the content is what this type means.
+fn has_content_order(
+    context: &Context,
+    label: &PlainLabel,
+    kids: &[Tree<PlainLabel>],
     node: &Tree<PlainLabel>,
-) -> bool
-    requires { Knows references.now assignments.now }
-    ensures { result ≡ rule.has_order_part assignments.now (label_of node.now) (roses_of (kids_of node.now)) }
+) -> Result<bool, Memory>
+    requires { IsKnown context.now }
+    ensures { IfOk result (λ is. is ≡ content_order label.now (roses_of kids.now) (content_of (label_of (resolve context.now.assignments.now node.now)))) }
+{
+    let contents = context.contents;
+    match context.references.number_meant(context.assignments, node) {
+        Some(number) => Ok(has_order_of(label, kids, &contents[number])),
+        None => {
+            let content = Content::of(context.alloc, node.label())?;
+            Ok(has_order_of(label, kids, &content))
+        }
+    }
+}
+
+/// Whether the type is a SEQUENCE with the part that has the order of its elements, or of those of its content. The time is linear
+/// in the type: what its content is by a reference is known.
+pub fn has_order_part(context: &Context, node: &Tree<PlainLabel>) -> Result<bool, Memory>
+    requires { IsKnown context.now }
+    ensures { IfOk result (λ is. is ≡ rule.has_order_part context.now.assignments.now (label_of node.now) (roses_of (kids_of node.now))) }
 {
     let label = node.label();
     let kids = node.kids();
     if !is_sequence(&label.form) {
-        return false;
+        return Ok(false);
     }
     if !has_no_group(label) {
-        return false;
+        return Ok(false);
     }
     if !has_use_nil(label.marks.items()) {
-        return is_order_part(label, kids, label);
+        let elements = elements_of(context.alloc, label)?;
+        return Ok(is_order_part(label, kids, &elements));
     }
     match kids.last() {
-        Some(content) => {
-            let inner = references.resolve(assignments, content).label();
-            is_ordered_content(label, kids, inner)
-        }
-        None => false,
+        Some(content) => has_content_order(context, label, kids, content),
+        None => Ok(false),
     }
 }

@@ -104,8 +104,17 @@ pub fn value_fault(
     if let Some(fault) = fixed_fault(context.alloc, simple, &part.fixed)? {
         return Ok(Some(fault));
     }
-    let meant = context.references.resolve(context.assignments, kid);
-    absence_fault(context.alloc, simple, &part.fixed, meant, &part.absence)
+    let references = context.references;
+    let meant = references.resolve(context.assignments, kid);
+    let index = references.index_meant(context.assignments, kid);
+    absence_fault(
+        context.alloc,
+        simple,
+        &part.fixed,
+        index,
+        meant,
+        &part.absence,
+    )
 }
 
 // How many parts at the front are the texts of EMBED-VALUES and the order of USE-ORDER.

@@ -2,18 +2,22 @@
 ghost use Rattle.std.specs.Prelude.{◌≡◌, ◌<◌, length, Some, None, IfOk, OnOk, IfSome, MatchOption, bytes_eq};
 ghost use Rattle.indexmap.specs.IndexMap.{get};
 ghost use Rattle.module_faults.specs.Resolving as rule;
+ghost use Rattle.module_index.specs.Indexed.{Indexes};
 ghost use Rattle.module_check.specs.Known.{Knows, NotesReference};
 
 use indexmap::IndexMap;
 use label_tree::Tree;
+use module_index::{Index, indexes_of};
 use module_text::{PlainAssignment, PlainForm, PlainLabel};
 use std::alloc::Global;
 use xa_base::{Memory, Text};
 
-/// The references of assignments, each with the number of the first that has it.
+/// The references of assignments, each with the number of the first that has it, and of each assignment the index of its type.
 #[derive(Drop)]
 pub struct References {
     numbers: IndexMap<Text, usize>,
+    /// None where values at the type name no items and no alternatives.
+    indexes: Vec<Option<Tree<Index>>>,
 }
 
 // The references with one more, where it is none of them.
@@ -41,7 +45,8 @@ impl References {
         'assignments: for (i, assignment) in assignments.iter().enumerate() {
             note(alloc, &mut numbers, &assignment.reference, i)?;
         }
-        Ok(References { numbers })
+        let indexes = indexes_of(alloc, assignments)?;
+        Ok(References { numbers, indexes })
     }
 
     /// The number of the first assignment with this reference.
@@ -102,6 +107,23 @@ impl References {
         match self.number_meant(assignments, node) {
             Some(number) => &assignments[number].body,
             None => node,
+        }
+    }
+
+    /// The index of the type that is meant, where this is that of an assignment and values at it name items or alternatives.
+    pub fn index_meant(
+        &self,
+        assignments: &[PlainAssignment],
+        node: &Tree<PlainLabel>,
+    ) -> Option<&Tree<Index>>
+        requires { Knows self.now assignments.now }
+        ensures { IfSome result (λ index. Indexes index.now (rule.resolve assignments.now node.now)) }
+    {
+        let indexes = self.indexes.as_slice();
+        let number = self.number_meant(assignments, node)?;
+        match &indexes[number] {
+            Some(index) => Some(index),
+            None => None,
         }
     }
 }

@@ -98,7 +98,7 @@ fn may_stand(
     match kind {
         TypeMarkKind::UseNil => Ok(has_content(form)),
         TypeMarkKind::EmbedValues => Ok(has_texts(form, node.kids())),
-        TypeMarkKind::UseOrder => Ok(has_order_part(context.references, context.assignments, node)),
+        TypeMarkKind::UseOrder => has_order_part(context, node),
         TypeMarkKind::List => {
             let simple = stands_for_simple(context, spot, node)?;
             Ok(is_sequence_of(form) && simple)

@@ -1,6 +1,6 @@
 -- The first place in a list at which a test passes, names that differ, and items by their names.
 use Rattle.std.proofs.Common.{◌≡◌, ℕ, zero, suc, ◌<◌, ◌+◌, Bool, true, false, cond, ◌||◌, not, Option, Some, None, List, [], ◌∷◌, ◌++◌, length, map, refl, sym, ap, ◌∙◌, subst, arith, option_map, position}
-use Rattle.std.specs.Prelude.{nat_lt, bytes_eq, slice_get, if◌then◌else◌}
+use Rattle.std.specs.Prelude.{All, nat_lt, bytes_eq, slice_get, slice_index_or, if◌then◌else◌}
 use Rattle.std.specs.List.{AllByRecursion, IsDistinct, prefix_len}
 use Rattle.std.proofs.lemmas.Bool.{true≢false}
 use Rattle.std.proofs.lemmas.Bool.Decides.{nat_tests}
@@ -147,3 +147,13 @@ module _ {A : Type 0} (name : A → List ℕ) where
       place-here (λ x. bytes_eq (name x) identifier) x xs (bytes_same (name x) identifier same)
   only-at identifier (x ∷ xs) (suc j) h e =
       place-further (λ x. bytes_eq (name x) identifier) x xs (apart-at (name x) identifier (map name xs) j h.0 e) ∙ ap (λ o. option_map suc o) (only-at identifier xs j h.1 e)
+
+-- ---- what stands at a place
+
+pub index-is : {A : Type 0} (xs : List A) (i : ℕ) (x d : A) → slice_get xs i ≡ Some x → slice_index_or xs i d ≡ x
+index-is [] i x d e = absurd (cc)
+index-is (y ∷ ys) zero x d e = cc
+index-is (y ∷ ys) (suc i) x d e = index-is ys i x d e
+
+pub all-at : {A : Type 0} (P : A → Type 0) (xs : List A) (i : ℕ) (x : A) → All P xs → slice_get xs i ≡ Some x → P x
+all-at P xs i x all e = subst P (index-is xs i x x e) (all i x (got-within xs i x e))

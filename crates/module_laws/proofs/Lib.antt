@@ -5,7 +5,7 @@ mod Sounding
 mod SizeLaws
 mod NameLaws
 mod PartMarkLaws
-mod Firsts
+pub mod Firsts
 mod NumberLaws
 mod WordLaws
 mod SimpleLaws

@@ -1,9 +1,10 @@
 //! Parts of types, with their default and fixed values.
-ghost use Rattle.std.specs.Prelude.{◌≡◌, ◌<◌, Some, IfOk, length};
+ghost use Rattle.std.specs.Prelude.{◌≡◌, ◌<◌, Some, IfOk, IfSome, length};
 ghost use Rattle.module_text.specs.Texts.{parts_of};
 ghost use Rattle.module_faults.specs.Resolving.{resolve};
 ghost use Rattle.module_faults.specs.Faults as rule;
 ghost use Rattle.module_faults.specs.Defaults.{octets_of};
+ghost use Rattle.module_index.specs.Indexed.{Indexes};
 ghost use Rattle.module_check.specs.Known.{Knows};
 ghost use Rattle.module_make.specs.Ready as ready;
 
@@ -12,6 +13,7 @@ use asn_types::{Component, Role};
 use label_tree::Tree;
 use module_check::References;
 use module_faults::Spot;
+use module_index::Index;
 use module_pieces::{is_sequence_of, may_be_absent, role_of};
 use module_simple::{item_spot, octets_of, spelling_told};
 use module_text::{
@@ -59,29 +61,33 @@ fn fixed_text(alloc: Global, octets: &PlainOctets) -> Result<Text, Memory>
     }
 }
 
-// The text of a value that is written at this type.
+// The text of a value that is written at this type, which has this index if it is known.
 fn value_text(
     alloc: Global,
+    index: Option<&Tree<Index>>,
     node: &Tree<PlainLabel>,
     value: &Tree<PlainValueLabel>,
 ) -> Result<Text, Memory>
-    requires { ready.IsText (ready.spelling_of node.now value.now) }
+    requires index { IfSome index (λ i. Indexes i.now node.now) }
+    requires text { ready.IsText (ready.spelling_of node.now value.now) }
     ensures { IfOk result (λ text. ready.spelling_of node.now value.now ≡ Some text) }
 {
-    match spelling_told(alloc, node, value)? {
+    match spelling_told(alloc, index, node, value)? {
         Some(text) => Text::from_utf8(alloc, &text),
         None => unreachable!(),
     }
 }
 
-// The default or fixed value of a part whose type, through references, is this.
+// The default or fixed value of a part whose type, through references, is this, with this index if it is known.
 fn standard(
     alloc: Global,
+    index: Option<&Tree<Index>>,
     node: &Tree<PlainLabel>,
     fixed: &Option<PlainOctets>,
     absence: &Absence,
 ) -> Result<Standard, Memory>
-    requires { ready.IsStandardReady node.now fixed.now absence.now }
+    requires index { IfSome index (λ i. Indexes i.now node.now) }
+    requires ready { ready.IsStandardReady node.now fixed.now absence.now }
     ensures { IfOk result (λ standard. standard ≡ ready.standard_told node.now fixed.now absence.now) }
 {
     if let Some(octets) = fixed {
@@ -90,7 +96,7 @@ fn standard(
     }
     match absence {
         Absence::Default { value } => {
-            let text = value_text(alloc, node, value)?;
+            let text = value_text(alloc, index, node, value)?;
             Ok(Standard::Default(text))
         }
         Absence::Optional => Ok(Standard::Free),
@@ -112,8 +118,9 @@ pub(crate) fn component(
     ensures { IfOk result (λ made. made ≡ ready.component_told assignments.now part.now kid.now) }
 {
     let node = references.resolve(assignments, kid);
+    let index = references.index_meant(assignments, kid);
     let identifier = part.identifier.copy(alloc)?;
-    let standard = standard(alloc, node, &part.fixed, &part.absence)?;
+    let standard = standard(alloc, index, node, &part.fixed, &part.absence)?;
     let marks = part_marks(alloc, &part.identifier, part.marks.items())?;
     Ok(Component {
         identifier,

@@ -3,6 +3,5 @@ pub mod Octets
 pub mod Sounding
 pub mod SoTold
 pub mod Telling
-pub mod Wording
 pub mod Writing
 pub mod XmlTexts

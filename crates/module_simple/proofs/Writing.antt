@@ -1,4 +1,4 @@
--- Values behind DEFAULT: what is appended of them, and the words of items.
+-- Values behind DEFAULT: what is appended of them.
 use Rattle.std.proofs.Common.{◌≡◌, ℕ, suc, ◌+◌, ◌<◌, Bool, true, false, ◌==◌, cond, not, Option, Some, None, List, [], ◌∷◌, ◌++◌, length, get_or, drop, slice_get, position, bytes_eq, nat_lt, option_map, option_and_then, refl, sym, ap, ◌∙◌, arith, append_assoc, lt-ltb, le-ltb, ltb-true, ltb-false, eqb-true}
 use Rattle.std.specs.List.{join_with_byte, position_or_len, filter_map}
 use Rattle.std.proofs.lemmas.Bool.{true≢false}
@@ -13,45 +13,13 @@ use Rattle.module_text.specs.declared.types.PlainName.{PlainName}
 use Rattle.module_text.specs.declared.types.PlainLabel.{PlainLabel}
 use Rattle.module_faults.specs.Defaults.{both, alone, alternative_named, is_list_form, spelling_told, spellings_told}
 use Rattle.module_simple.specs.Made.{if_told, behind_it}
-use Rattle.module_simple.specs.Written.{word_named, leaf_told, list_told, chosen_told}
+use Rattle.module_simple.specs.Written.{leaf_told, list_told, chosen_told}
 
 -- ---- behind nothing
 
 pub behind-nothing : (due : Option (List ℕ)) → behind_it [] due ≡ due
 behind-nothing None = refl
 behind-nothing (Some text) = refl
-
--- ---- words
-
-module _ (w : List ℕ) (ws : List (List ℕ)) (n : PlainName) (ns : List PlainName) (identifier : List ℕ) where
-  abbrev has : PlainName → Bool
-  has i = bytes_eq i.name identifier
-
-  -- the word at a place, where it is one
-  abbrev word_at : List (List ℕ) → ℕ → Bool → Option (List ℕ)
-  word_at words k within = option_and_then (slice_get words) (cond within (Some k) None)
-
-  pub word-here : bytes_eq n.name identifier ≡ true → word_named (w ∷ ws) (n ∷ ns) identifier ≡ Some w
-  word-here e =
-      let first : position_or_len has (n ∷ ns) ≡ 0 = rw e refl in
-      let within : nat_lt 0 (length (n ∷ ns)) ≡ true = lt-ltb 0 (length (n ∷ ns)) (omega arith) in
-      ap (λ k. word_at (w ∷ ws) k (nat_lt k (length (n ∷ ns)))) first ∙ ap (word_at (w ∷ ws) 0) within
-
-  later : (k : ℕ) (b : Bool) → nat_lt k (length ns) ≡ b → word_at (w ∷ ws) (suc k) (nat_lt (suc k) (length (n ∷ ns))) ≡ word_at ws k (nat_lt k (length ns))
-  later k true e =
-      let within : nat_lt (suc k) (length (n ∷ ns)) ≡ true = lt-ltb (suc k) (length (n ∷ ns)) (omega (arith, ltb-true k (length ns) e)) in
-      ap (word_at (w ∷ ws) (suc k)) within ∙ sym (ap (word_at ws k) e)
-  later k false e =
-      let past : nat_lt (suc k) (length (n ∷ ns)) ≡ false = le-ltb (suc k) (length (n ∷ ns)) (omega (arith, ltb-false k (length ns) e)) in
-      ap (word_at (w ∷ ws) (suc k)) past ∙ sym (ap (word_at ws k) e)
-
-  pub word-past : bytes_eq n.name identifier ≡ false → word_named (w ∷ ws) (n ∷ ns) identifier ≡ word_named ws ns identifier
-  word-past e =
-      let past : position_or_len has (n ∷ ns) ≡ suc (position_or_len has ns) = rw e (omega arith) in
-      ap (λ k. word_at (w ∷ ws) k (nat_lt k (length (n ∷ ns)))) past ∙ later (position_or_len has ns) (nat_lt (position_or_len has ns) (length ns)) refl
-
-pub no-word : (ws : List (List ℕ)) (identifier : List ℕ) → word_named ws [] identifier ≡ None
-no-word ws identifier = refl
 
 -- ---- lists
 

@@ -1,25 +1,13 @@
 -- What the code of values behind DEFAULT appends: the texts of `Defaults`, step by step.
-use Rattle.std.specs.Prelude.{ℕ, Option, Some, None, List, codes, slice_get, position, bytes_eq, option_and_then}
+use Rattle.std.specs.Prelude.{ℕ, Option, Some, None, List, codes, slice_get}
 use Rattle.std.specs.Option.{option_map}
 use Rattle.std.specs.List.{join_with_byte}
 use Rattle.label_tree.specs.Rose.{Rose, roses_of}
-use Rattle.module_text.specs.declared.marks.NameAs.{NameAs}
 use Rattle.module_text.specs.declared.values.PlainValue.{PlainValue}
 use Rattle.module_text.specs.declared.values.PlainValue.TheVariants as value
 use Rattle.module_text.specs.declared.values.PlainValueLabel.{PlainValueLabel}
-use Rattle.module_text.specs.declared.types.PlainName.{PlainName}
 use Rattle.module_text.specs.declared.types.PlainLabel.{PlainLabel}
-use Rattle.module_faults.specs.Told.{told_name}
 use Rattle.module_faults.specs.Defaults.{if_bool, if_int, if_utf8, item_named, alone, spellings_told}
-
--- the word of an item of which a TEXT says this, or nothing
-abbrev pub word_said : List ℕ → Option NameAs → List ℕ
-word_said name None = name
-word_said name (Some text) = told_name name text
-
--- the word for which the item with this identifier stands
-abbrev pub word_named : List (List ℕ) → List PlainName → List ℕ → Option (List ℕ)
-word_named words names identifier = option_and_then (slice_get words) (position (λ (i : PlainName). bytes_eq i.name identifier) names)
 
 -- of a value that is neither a list nor an alternative
 abbrev pub leaf_told : PlainLabel → PlainValue → Option (List ℕ)

@@ -1,132 +1,28 @@
 //! Values behind DEFAULT, and fixed values.
-ghost use Rattle.std.specs.Prelude.{◌≡◌, ◌<◌, ◌++◌, ◌∷◌, List, true, false, length, Some, None, IfOk, IfSome, OnOk, MatchOption, slice_get, position, bytes_eq};
-ghost use Rattle.std.specs.Option.{option_copied};
+ghost use Rattle.std.specs.Prelude.{◌≡◌, ◌<◌, true, false, length, Some, None, IfOk, IfSome, MatchOption, slice_get};
 ghost use Rattle.module_text.specs.Names.{is_hexadecimal_digit};
 ghost use Rattle.label_tree.specs.Rose.{roses_of, label_of, kids_of};
 ghost use Rattle.simple_types.specs.Seen.{space_of};
 ghost use Rattle.simple_types.specs.Sound.{Sound};
-ghost use Rattle.module_text.specs.declared.types.PlainName.{PlainName};
-ghost use Rattle.module_text.specs.declared.types.PlainPart.{PlainPart};
-ghost use Rattle.module_faults.specs.Told as told;
 ghost use Rattle.module_faults.specs.Defaults as rule;
 ghost use Rattle.module_faults.specs.Faults as faulty;
 ghost use Rattle.module_faults.specs.Listed.{first};
+ghost use Rattle.module_index.specs.Indexed.{IsIndex, Indexes, IndexAll};
 ghost use Rattle.module_simple.specs.Made.{made_space, IsMade, if_told, behind_it};
-ghost use Rattle.module_simple.specs.Written.{word_said, word_named, leaf_told, list_told, chosen_told};
+ghost use Rattle.module_simple.specs.Written.{leaf_told, list_told, chosen_told};
 
 use flat_tree::{Flat, Kids, Node};
 use itoa::Buffer;
 use label_tree::Tree;
 use module_faults::{Fault, ModuleWhy};
-use module_pieces::{is_xml_text, told_name, unless};
-use module_text::{
-    Absence, NameAs, NumberedItem, PlainForm, PlainLabel, PlainName, PlainOctets, PlainPart,
-    PlainValue, PlainValueLabel, TypeMark, TypeMarkKind,
-};
+use module_index::{Index, index_of};
+use module_pieces::{is_xml_text, unless};
+use module_text::{Absence, PlainForm, PlainLabel, PlainOctets, PlainValue, PlainValueLabel};
 use simple_types::{Simple, ValueLabel};
 use simple_values::{SimpleError, accept, spell};
 use std::alloc::Global;
 use std::iter::Iterator;
 use xa_base::{Memory, Text, TextError};
-
-// Where the first part with this identifier stands.
-fn part_place(parts: &[PlainPart], identifier: &Text) -> Option<usize>
-    ensures { result ≡ position (λ (part : PlainPart). bytes_eq part.identifier identifier.now) parts.now }
-{
-    parts.iter().position(|part| part.identifier == *identifier)
-}
-
-// The number that the item with this identifier stands for, as it is written.
-fn number_named<'a>(items: &'a [NumberedItem], identifier: &Text) -> Option<&'a [u8]>
-    ensures { MatchOption result
-        (rule.number_named items.now identifier.now ≡ None)
-        (λ text. rule.number_named items.now identifier.now ≡ Some text.now) }
-{
-    'items: for item in items {
-        if item.identifier.name == *identifier {
-            return Some(item.number.written.bytes());
-        }
-    }
-    None
-}
-
-// What the next TEXT says, where it is of this item, and the instructions that are left for the items behind it.
-fn next_said<'a>(marks: &'a [TypeMark], item: &PlainName) -> (Option<&'a NameAs>, &'a [TypeMark])
-    ensures { (is : List PlainName) → told.words_of marks.now (item.now ∷ is) ≡ word_said item.now.name (option_copied result.0) ∷ told.words_of result.1.now is }
-{
-    'marks: for (i, mark) in marks.iter().enumerate() {
-        if let TypeMarkKind::Text { identifier, text } = &mark.kind {
-            return if *identifier == item.name {
-                (Some(text), &marks[i + 1..])
-            } else {
-                (None, &marks[i..])
-            };
-        }
-    }
-    (None, &[])
-}
-
-// Appends the word of an item.
-fn write_word(
-    alloc: Global,
-    item: &PlainName,
-    said: Option<&NameAs>,
-    out: &mut Vec<u8>,
-) -> Result<(), Memory>
-    ensures { OnOk result (out.new.items ≡ out.old.items ++ word_said item.now.name (option_copied said.entry)) }
-{
-    match said {
-        Some(text) => out.extend_from_slice(&told_name(alloc, item.name.bytes(), text)?)?,
-        None => out.extend_from_slice(item.name.bytes())?,
-    }
-    Ok(())
-}
-
-fn is_named(item: &PlainName, identifier: &Text) -> bool
-    ensures { result ≡ bytes_eq item.now.name identifier.now }
-{
-    item.name == *identifier
-}
-
-// The item with this identifier, and what TEXT says of it.
-fn item_said<'a>(
-    marks: &'a [TypeMark],
-    names: &'a [PlainName],
-    identifier: &Text,
-) -> Option<(&'a PlainName, Option<&'a NameAs>)>
-    ensures { MatchOption result
-        (word_named (told.words_of marks.now names.now) names.now identifier.now ≡ None)
-        (λ r. word_named (told.words_of marks.now names.now) names.now identifier.now ≡ Some (word_said r.0.now.name (option_copied r.1))) }
-{
-    let mut left = marks;
-    'names: for name in names {
-        let (said, behind) = next_said(left, name);
-        if is_named(name, identifier) {
-            return Some((name, said));
-        }
-        left = behind;
-    }
-    None
-}
-
-// Appends the word that the item with this identifier stands for.
-fn write_word_named(
-    alloc: Global,
-    marks: &[TypeMark],
-    names: &[PlainName],
-    identifier: &Text,
-    out: &mut Vec<u8>,
-) -> Result<bool, Memory>
-    ensures { IfOk result (λ is. if_told is out.new.items ≡ behind_it out.old.items (word_named (told.words_of marks.now names.now) names.now identifier.now)) }
-{
-    match item_said(marks, names, identifier) {
-        Some((item, said)) => {
-            write_word(alloc, item, said, out)?;
-            Ok(true)
-        }
-        None => Ok(false),
-    }
-}
 
 // A hexadecimal digit as a number.
 fn digit_of(byte: u8) -> Option<u8>
@@ -217,39 +113,31 @@ pub fn canonical_value(
 
 // Appends the spelling of the item with this identifier.
 fn write_item(
-    alloc: Global,
+    index: &Index,
     label: &PlainLabel,
     identifier: &Text,
     out: &mut Vec<u8>,
 ) -> Result<bool, Memory>
+    requires { IsIndex index.now label.now }
     ensures { IfOk result (λ is. if_told is out.new.items ≡ behind_it out.old.items (rule.item_named label.now identifier.now)) }
 {
-    match &label.form {
-        PlainForm::Numbers { items } => match number_named(items.items(), identifier) {
-            Some(written) => {
-                out.extend_from_slice(written)?;
-                Ok(true)
-            }
-            None => Ok(false),
-        },
-        PlainForm::Words { identifiers } => write_word_named(
-            alloc,
-            label.marks.items(),
-            identifiers.items(),
-            identifier,
-            out,
-        ),
-        _ => Ok(false),
+    match index.item(label, identifier) {
+        Some(text) => {
+            out.extend_from_slice(text)?;
+            Ok(true)
+        }
+        None => Ok(false),
     }
 }
 
 // Appends the spelling of a value, where it is neither a list nor an alternative.
 fn write_leaf(
-    alloc: Global,
+    index: &Index,
     label: &PlainLabel,
     value: &PlainValue,
     out: &mut Vec<u8>,
 ) -> Result<bool, Memory>
+    requires { IsIndex index.now label.now }
     ensures { IfOk result (λ is. if_told is out.new.items ≡ behind_it out.old.items (leaf_told label.now value.now)) }
 {
     match (value, &label.form) {
@@ -258,7 +146,7 @@ fn write_leaf(
         (PlainValue::Number { written }, PlainForm::Int { .. }) => {
             out.extend_from_slice(written.bytes())?
         }
-        (PlainValue::Item { identifier }, _) => return write_item(alloc, label, identifier, out),
+        (PlainValue::Item { identifier }, _) => return write_item(index, label, identifier, out),
         (PlainValue::Quoted { text }, PlainForm::Utf8 { .. }) => {
             out.extend_from_slice(text.bytes())?
         }
@@ -267,28 +155,46 @@ fn write_leaf(
     Ok(true)
 }
 
+// The type with this number, behind its index.
+fn kid_at<'a>(
+    indexes: &'a [Tree<Index>],
+    kids: &'a [Tree<PlainLabel>],
+    i: usize,
+) -> Option<(&'a Tree<Index>, &'a Tree<PlainLabel>)>
+    requires { IndexAll (roses_of indexes.now) (roses_of kids.now) }
+    ensures { MatchOption result
+        (slice_get kids.now i ≡ None)
+        (λ r. (slice_get kids.now i ≡ Some r.1.now) × Indexes r.0.now r.1.now) }
+{
+    match kids.get(i) {
+        Some(kid) => Some((&indexes[i], kid)),
+        None => None,
+    }
+}
+
 // Appends the spellings of values at the first of these types, each behind a space but the first.
 #[cycle(spelling)]
 fn write_list(
-    alloc: Global,
+    indexes: &[Tree<Index>],
     kids: &[Tree<PlainLabel>],
     values: &[Tree<PlainValueLabel>],
     out: &mut Vec<u8>,
 ) -> Result<bool, Memory>
+    requires { IndexAll (roses_of indexes.now) (roses_of kids.now) }
     ensures { IfOk result (λ is. if_told is out.new.items ≡ behind_it out.old.items (list_told (slice_get kids.now 0) values.now)) }
 {
     let Some((first, others)) = values.split_first() else {
         return Ok(true);
     };
-    let Some(kid) = kids.first() else {
+    let Some((index, kid)) = kid_at(indexes, kids, 0) else {
         return Ok(false);
     };
-    if !write_spelling(alloc, kid, first, out)? {
+    if !write_spelling(index, kid, first, out)? {
         return Ok(false);
     }
     'others: for value in others {
         out.push(b' ')?;
-        if !write_spelling(alloc, kid, value, out)? {
+        if !write_spelling(index, kid, value, out)? {
             return Ok(false);
         }
     }
@@ -299,12 +205,13 @@ fn write_list(
 #[cycle(spelling)]
 #[tactic(auto, using(crate::proofs::Writing::chosen_none))]
 fn write_chosen(
-    alloc: Global,
+    indexes: &[Tree<Index>],
     kids: &[Tree<PlainLabel>],
     place: Option<usize>,
     values: &[Tree<PlainValueLabel>],
     out: &mut Vec<u8>,
 ) -> Result<bool, Memory>
+    requires { IndexAll (roses_of indexes.now) (roses_of kids.now) }
     ensures { IfOk result (λ is. if_told is out.new.items ≡ behind_it out.old.items (chosen_told kids.now values.now place)) }
 {
     let Some(place) = place else {
@@ -316,19 +223,9 @@ fn write_chosen(
     if !others.is_empty() {
         return Ok(false);
     }
-    match kids.get(place) {
-        Some(kid) => write_spelling(alloc, kid, value, out),
+    match kid_at(indexes, kids, place) {
+        Some((index, kid)) => write_spelling(index, kid, value, out),
         None => Ok(false),
-    }
-}
-
-// Where the alternative with this identifier stands.
-fn alternative_named(form: &PlainForm, identifier: &Text) -> Option<usize>
-    ensures { result ≡ rule.alternative_named form.now identifier.now }
-{
-    match form {
-        PlainForm::Choice { parts } => part_place(parts.items(), identifier),
-        _ => None,
     }
 }
 
@@ -338,16 +235,19 @@ fn is_list_form(form: &PlainForm) -> bool
     matches!(form, PlainForm::SequenceOf { .. })
 }
 
-// Appends the spelling of the value that is written at this type.
+// Appends the spelling of the value that is written at this type, which has this index.
 #[cycle(spelling)]
 fn write_spelling(
-    alloc: Global,
+    index: &Tree<Index>,
     node: &Tree<PlainLabel>,
     value: &Tree<PlainValueLabel>,
     out: &mut Vec<u8>,
 ) -> Result<bool, Memory>
+    requires { Indexes index.now node.now }
     ensures { IfOk result (λ is. if_told is out.new.items ≡ behind_it out.old.items (rule.spelling_told (label_of node.now) (kids_of node.now) value.now)) }
 {
+    let own = index.label();
+    let indexes = index.kids();
     let label = node.label();
     let kids = node.kids();
     let values = value.kids();
@@ -356,29 +256,51 @@ fn write_spelling(
             if !is_list_form(&label.form) {
                 return Ok(false);
             }
-            write_list(alloc, kids, values, out)
+            write_list(indexes, kids, values, out)
         }
         PlainValue::Chosen { identifier } => {
-            let place = alternative_named(&label.form, identifier);
-            write_chosen(alloc, kids, place, values, out)
+            let place = own.alternative(label, identifier);
+            write_chosen(indexes, kids, place, values, out)
         }
-        other => write_leaf(alloc, label, other, out),
+        other => write_leaf(own, label, other, out),
+    }
+}
+
+// The same by this index of the type, or by one of its own where there is none.
+fn write_at(
+    alloc: Global,
+    index: Option<&Tree<Index>>,
+    node: &Tree<PlainLabel>,
+    value: &Tree<PlainValueLabel>,
+    out: &mut Vec<u8>,
+) -> Result<bool, Memory>
+    requires { IfSome index (λ i. Indexes i.now node.now) }
+    ensures { IfOk result (λ is. if_told is out.new.items ≡ behind_it out.old.items (rule.spelling_told (label_of node.now) (kids_of node.now) value.now)) }
+{
+    match index {
+        Some(index) => write_spelling(index, node, value, out),
+        None => {
+            let own = index_of(alloc, node)?;
+            write_spelling(&own, node, value, out)
+        }
     }
 }
 
 /// The spelling of the value that is written at this type, if it has one: of a list the spellings of its items with one space
-/// between each two.
+/// between each two. The time is linear in the value and in what it spells; without an index of the type, in the type too.
 pub fn spelling_told(
     alloc: Global,
+    index: Option<&Tree<Index>>,
     node: &Tree<PlainLabel>,
     value: &Tree<PlainValueLabel>,
 ) -> Result<Option<Vec<u8>>, Memory>
+    requires { IfSome index (λ i. Indexes i.now node.now) }
     ensures { IfOk result (λ found. MatchOption found
         (rule.spelling_told (label_of node.now) (kids_of node.now) value.now ≡ None)
         (λ text. rule.spelling_told (label_of node.now) (kids_of node.now) value.now ≡ Some text.items)) }
 {
     let mut text = Vec::new(alloc);
-    if write_spelling(alloc, node, value, &mut text)? {
+    if write_at(alloc, index, node, value, &mut text)? {
         Ok(Some(text))
     } else {
         Ok(None)
@@ -606,19 +528,21 @@ fn is_fixed(alloc: Global, fixed: &Option<PlainOctets>, text: &[u8]) -> Result<b
 }
 
 /// The text of the value that is written at a type which stands for this simple type, if it is one of it and is printed so. The
-/// time is linear in the value and in the type, but that each item of an ENUMERATED in the value is sought among all of the type.
+/// time is that of `spelling_told` and of `canonical_value`, which reads the text of a union by one member behind another.
 pub fn default_told(
     alloc: Global,
     simple: &Simple,
+    index: Option<&Tree<Index>>,
     node: &Tree<PlainLabel>,
     value: &Tree<PlainValueLabel>,
 ) -> Result<Option<Vec<u8>>, Memory>
-    requires { Sound (space_of simple.now) }
+    requires sound { Sound (space_of simple.now) }
+    requires index { IfSome index (λ i. Indexes i.now node.now) }
     ensures { IfOk result (λ found. MatchOption found
         (rule.default_told (space_of simple.now) (label_of node.now) (kids_of node.now) value.now ≡ None)
         (λ text. rule.default_told (space_of simple.now) (label_of node.now) (kids_of node.now) value.now ≡ Some text.items)) }
 {
-    let Some(text) = spelling_told(alloc, node, value)? else {
+    let Some(text) = spelling_told(alloc, index, node, value)? else {
         return Ok(None);
     };
     let Some(found) = canonical_value(alloc, simple, &text)? else {
@@ -635,38 +559,42 @@ fn is_default(
     alloc: Global,
     simple: &Option<Simple>,
     fixed: &Option<PlainOctets>,
+    index: Option<&Tree<Index>>,
     node: &Tree<PlainLabel>,
     value: &Tree<PlainValueLabel>,
 ) -> Result<bool, Memory>
-    requires { IsMade simple.now }
+    requires simple { IsMade simple.now }
+    requires index { IfSome index (λ i. Indexes i.now node.now) }
     ensures { IfOk result (λ b. b ≡ faulty.is_default (made_space simple.now) fixed.now node.now value.now) }
 {
     let Some(simple) = simple else {
         return Ok(false);
     };
-    match default_told(alloc, simple, node, value)? {
+    match default_told(alloc, simple, index, node, value)? {
         Some(text) => is_fixed(alloc, fixed, &text),
         None => Ok(false),
     }
 }
 
-/// The fault of what is said of a part where it is absent. Its type, through references, is this.
+/// The fault of what is said of a part where it is absent. Its type, through references, is this, with this index if it is known.
 #[tactic(auto, unfolding(module_faults::specs::Listed::first))]
 pub fn absence_fault(
     alloc: Global,
     simple: &Option<Simple>,
     fixed: &Option<PlainOctets>,
+    index: Option<&Tree<Index>>,
     node: &Tree<PlainLabel>,
     absence: &Absence,
 ) -> Result<Option<Fault>, Memory>
-    requires { IsMade simple.now }
+    requires simple { IsMade simple.now }
+    requires index { IfSome index (λ i. Indexes i.now node.now) }
     ensures { IfOk result (λ found. found ≡ first (faulty.absence_faults (made_space simple.now) fixed.now node.now absence.now)) }
 {
     match absence {
         Absence::Never => Ok(None),
         Absence::Optional => Ok(None),
         Absence::Default { value } => {
-            let is = is_default(alloc, simple, fixed, node, value)?;
+            let is = is_default(alloc, simple, fixed, index, node, value)?;
             Ok(unless(is, value.label().at, ModuleWhy::Spelling))
         }
     }

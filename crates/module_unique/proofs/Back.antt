@@ -40,9 +40,9 @@ use Rattle.module_faults.specs.Defaults.{octets_of}
 use Rattle.module_faults.specs.Orders.{may_be_absent}
 use Rattle.module_faults.specs.Meaning.{part_marks_meant, type_marks_meant, names_of, words_meant, int_meant, utf8_meant, list_meant}
 use Rattle.module_faults.specs.Printable.{HasPartMarks, HasNames, IsInSpot, part_spot}
+use Rattle.module_laws.proofs.Firsts.{got-at, got-mapped, only-at}
 use Rattle.module_unique.specs.Alike.{HasOctets}
 use Rattle.module_unique.proofs.Telling.{number_told, range_told, size_told, type_marks_told, fixed_told, default_told, standard_told, name_at, numbered_told, component_told, components_told, only_told, form_told, type_told, types_told, assignment_told, module_told}
-use Rattle.module_unique.proofs.Firsts.{got-at, got-mapped, only-at}
 use Rattle.module_unique.proofs.Digits.{number_back, size_back, octets_back}
 use Rattle.module_unique.proofs.Marked.{part_marks_back}
 use Rattle.module_unique.proofs.Words.{identifiers_in, texts_found, words_are, Lists, words_listed, none_listed, type_marks_back}

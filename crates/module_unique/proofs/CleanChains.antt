@@ -18,10 +18,10 @@ use Rattle.module_text.specs.Texts as laid
 use Rattle.module_faults.specs.declared.spots.Spot.{Spot}
 use Rattle.module_faults.specs.Resolving as resolving
 use Rattle.module_faults.specs.Printable.{part_spot}
+use Rattle.module_unique.specs.Utf8Texts.{TypeIsUtf8}
 use Rattle.module_unique.proofs.Telling.{components_told, form_told, type_told, types_told, module_told}
 use Rattle.module_unique.proofs.Goods.{Good, AllGood, GoodBody}
 use Rattle.module_unique.proofs.CleanForms.{both-so}
-use Rattle.module_unique.proofs.CleanSimple.{TypeUtf8}
 use Rattle.module_unique.proofs.CleanRoles.{AreMarked, label_told, role_told}
 use Rattle.module_unique.proofs.CleanKnown.{Known, body_known, body_told}
 
@@ -94,7 +94,7 @@ module _ (M : List Assignment) where
       near_all none = near_none
       near_all (more t ts) = near_more t ts (near_one t) (near_all ts)
 
-  module _ (distinct : IsDistinct bytes_eq (map (λ (a : Assignment). a.reference) M)) (all : All (GoodBody M) M) (utf8 : All (λ (a : Assignment). TypeUtf8 a.body) M) where
+  module _ (distinct : IsDistinct bytes_eq (map (λ (a : Assignment). a.reference) M)) (all : All (GoodBody M) M) (utf8 : All (λ (a : Assignment). TypeIsUtf8 a.body) M) where
     abbrev P : List PlainAssignment
     P = module_told M
 

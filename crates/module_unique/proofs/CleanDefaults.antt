@@ -2,8 +2,6 @@
 use Rattle.std.proofs.Common.{◌≡◌, ℕ, Bool, true, false, Option, Some, None, List, [], map, refl, sym, ap, subst, ◌∙◌, Ok}
 use Rattle.std.specs.Prelude.{IsUtf8, All, bytes_eq, is_some, option_and_then, if◌then◌else◌}
 use Rattle.std.specs.List.{IsDistinct}
-use Rattle.std.specs.Str.{is_utf8}
-use Rattle.std.proofs.lemmas.Str.{IsUtf8-from_is_utf8}
 use Rattle.label_tree.specs.Rose.{Rose, node, Roses, list_of}
 use Rattle.simple_types.specs.declared.standards.Standard.TheVariants.{Fixed}
 use Rattle.simple_types.specs.declared.labels.ValueLabel.{ValueLabel}
@@ -36,9 +34,10 @@ use Rattle.module_faults.specs.Resolving as resolving
 use Rattle.module_faults.specs.Simple.{simple_told}
 use Rattle.module_faults.specs.Defaults as defaults
 use Rattle.module_faults.specs.Faults as rule
+use Rattle.module_laws.proofs.Firsts.{bytes_same}
 use Rattle.module_unique.specs.Alike.{HasOctets}
+use Rattle.module_unique.specs.Utf8Texts.{TypeIsUtf8}
 use Rattle.module_unique.proofs.Telling.{reading_told, value_told, fixed_told, default_told, part_marks_told, form_told, type_told, module_told}
-use Rattle.module_unique.proofs.Firsts.{bytes_same}
 use Rattle.module_unique.proofs.Digits.{octets_back}
 use Rattle.module_unique.proofs.Shapes.{shaped}
 use Rattle.module_unique.proofs.Values.{spelling_in, is_told}
@@ -47,15 +46,15 @@ use Rattle.module_unique.proofs.Back.{resolve_same}
 use Rattle.module_unique.proofs.XmlSpelling.{IsXml, spelled_xml}
 use Rattle.module_unique.proofs.CleanForms.{stands-so}
 use Rattle.module_unique.proofs.CleanMarks.{xml_text}
-use Rattle.module_unique.proofs.CleanSimple.{TypeUtf8, stands_in, tells_simple}
+use Rattle.module_unique.proofs.CleanSimple.{stands_in, tells_simple}
 use Rattle.module_unique.proofs.CleanRoles.{attribute_same}
 use Rattle.module_unique.proofs.CleanKnown.{Known, known_sits, resolve_known}
 use Rattle.module_unique.proofs.CleanValues.{told_in, agrees_all}
 
-pub xml_of : (M : List Assignment) (t : Rose TypeLabel) (text : List ℕ) → modules.IsSpellingOf M t text → is_utf8 text ≡ true → is_xml_text text ≡ true
-xml_of M t text is e =
+pub xml_of : (M : List Assignment) (t : Rose TypeLabel) (text : List ℕ) → modules.IsSpellingOf M t text → IsUtf8 text → is_xml_text text ≡ true
+xml_of M t text is utf8 =
     let shape = shaped is.0 (spelled is.0 is.1) is.1 is.4 in
-    xml_text text e (subst IsXml is.5 (spelled_xml is.0 is.1 is.2 shape (subst IsUtf8 (sym is.5) (IsUtf8-from_is_utf8 text e))))
+    xml_text text utf8 (subst IsXml is.5 (spelled_xml is.0 is.1 is.2 shape (subst IsUtf8 (sym is.5) utf8)))
 
 canonical : (s : Space) (v : Rose ValueLabel) (text : List ℕ) → Holds s v → spelled s v ≡ text → is_xml_text text ≡ true → defaults.canonical_value s text ≡ Some v
 canonical s v text holds same xml =
@@ -73,7 +72,7 @@ default_is s (node l ts) v w text fixed spelling value told same =
     ∙ ap (λ b. elim (if b then Some text else None) as (λ _. Bool) [ None ↦ false | Some t ↦ rule.is_fixed fixed t ]) told
     ∙ same
 
-module _ (M : List Assignment) (distinct : IsDistinct bytes_eq (map (λ (a : Assignment). a.reference) M)) (all : All (GoodBody M) M) (utf8 : All (λ (a : Assignment). TypeUtf8 a.body) M) where
+module _ (M : List Assignment) (distinct : IsDistinct bytes_eq (map (λ (a : Assignment). a.reference) M)) (all : All (GoodBody M) M) (utf8 : All (λ (a : Assignment). TypeIsUtf8 a.body) M) where
   abbrev P : List PlainAssignment
   P = module_told M
 

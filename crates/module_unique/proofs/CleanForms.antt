@@ -19,8 +19,8 @@ use Rattle.module_faults.specs.declared.reasons.Fault.{Fault}
 use Rattle.module_faults.specs.Listed.{unless}
 use Rattle.module_faults.specs.Told.{whole_of, size_of, is_printed, is_printed_number}
 use Rattle.module_faults.specs.Faults as rule
+use Rattle.module_laws.proofs.Firsts.{bytes-self, bytes-turned}
 use Rattle.module_unique.proofs.Telling.{number_told, both_told, range_told, size_told, numbered_told, name_at}
-use Rattle.module_unique.proofs.Firsts.{bytes-self, bytes-turned}
 use Rattle.module_unique.proofs.Digits.{small_bits, number_back, size_back, numbers_same}
 
 -- ---- lists of faults

@@ -14,23 +14,23 @@ use Rattle.module_faults.specs.declared.spots.Spot.{Spot}
 use Rattle.module_faults.specs.declared.spots.Spot.TheVariants.{Elsewhere}
 use Rattle.module_faults.specs.Printable.{part_spot}
 use Rattle.module_faults.specs.Resolving as resolving
+use Rattle.module_laws.proofs.Firsts.{got-at, got-mapped, mapped, all-at}
+use Rattle.module_unique.specs.Utf8Texts.{TypeIsUtf8, TypesAreUtf8}
 use Rattle.module_unique.proofs.Telling.{assignment_told, type_told, module_told}
-use Rattle.module_unique.proofs.Firsts.{got-at, got-mapped, mapped, all-at}
 use Rattle.module_unique.proofs.Goods.{Good, AllGood, GoodBody, Sits, fine}
 use Rattle.module_unique.proofs.Back.{number_found}
-use Rattle.module_unique.proofs.CleanSimple.{TypeUtf8, TypesUtf8}
 
 module _ (M : List Assignment) where
   pub record Known (t : Rose TypeLabel) : Type 0 where
     pub spot : Spot
     pub good : Good M spot t
     pub low : height t ≤ limit
-    pub utf8 : TypeUtf8 t
+    pub utf8 : TypeIsUtf8 t
 
   pub known_sits : (t : Rose TypeLabel) → Known t → Sits M t
   known_sits t known = record { is = fine M t known.spot known.good; low = known.low }
 
-  pub kid_known : (ts : Roses TypeLabel) (spot : Spot) (l : TypeLabel) (i : ℕ) (parts : List Component) → AllGood M spot l i parts ts → depth_all ts ≤ limit → TypesUtf8 ts
+  pub kid_known : (ts : Roses TypeLabel) (spot : Spot) (l : TypeLabel) (i : ℕ) (parts : List Component) → AllGood M spot l i parts ts → depth_all ts ≤ limit → TypesAreUtf8 ts
       → (k : ℕ) (t : Rose TypeLabel) → slice_get (list_of ts) k ≡ Some t → Known t
   kid_known none spot l i parts good low utf8 k t e = absurd (cc)
   kid_known (more u us) spot l i [] good low utf8 k t e = absurd good
@@ -40,11 +40,11 @@ module _ (M : List Assignment) where
       subst Known same here
   kid_known (more u us) spot l i (part ∷ parts) good low utf8 (suc k) t e = kid_known us spot l (i + 1) parts good.1 (omega (arith, low)) utf8.1 k t e
 
-  module _ (all : All (GoodBody M) M) (utf8 : All (λ (a : Assignment). TypeUtf8 a.body) M) where
+  module _ (all : All (GoodBody M) M) (utf8 : All (λ (a : Assignment). TypeIsUtf8 a.body) M) where
     pub body_known : (k : ℕ) (a : Assignment) → slice_get M k ≡ Some a → Known a.body
     body_known k a e =
         let good = all-at (GoodBody M) M k a all e in
-        record { spot = Elsewhere; good = good.good; low = good.printable.depth; utf8 = all-at (λ (b : Assignment). TypeUtf8 b.body) M k a utf8 e }
+        record { spot = Elsewhere; good = good.good; low = good.printable.depth; utf8 = all-at (λ (b : Assignment). TypeIsUtf8 b.body) M k a utf8 e }
 
     next_known : (o : Option ℕ) (u : Rose TypeLabel) → option_and_then (refs.body_at M) o ≡ Some u → Known u
     next_known None u e = absurd (cc)

@@ -1,10 +1,11 @@
 -- Encoding instructions have no fault as they are told.
 use Rattle.std.proofs.Common.{◌≡◌, ℕ, zero, suc, ◌<◌, Bool, true, false, ◌&&◌, not, Option, Some, None, List, [], ◌∷◌, refl, ap, ◌∙◌, arith}
-use Rattle.std.specs.Prelude.{◌≢◌, ◌==◌, All, chars}
+use Rattle.std.specs.Prelude.{◌≢◌, ◌==◌, All, IsUtf8, chars}
 use Rattle.std.specs.List.{list_all}
 use Rattle.std.specs.Str.{is_utf8}
 use Rattle.std.proofs.lemmas.Bool.{ltb-true}
 use Rattle.std.proofs.lemmas.Bool.Decides.{nat_tests}
+use Rattle.std.proofs.lemmas.Str.{is_utf8-from_IsUtf8}
 use Rattle.xa_base.specs.Characters.{is_xml_char}
 use Rattle.xa_base.specs.WhiteSpace.{has_bytes}
 use Rattle.name_map.specs.declared.restoration.NameForm.{NameForm}
@@ -22,21 +23,15 @@ use Rattle.module_faults.specs.Marks as may
 use Rattle.module_faults.specs.Faults as rule
 use Rattle.module_faults.specs.Printable.{comes_before, are_in_order, is_of_part, MayHave, HasPartMarks}
 use Rattle.module_faults.proofs.PrintedBounds.{and-first, and-second}
+use Rattle.module_unique.specs.Utf8Texts.{MarkIsUtf8}
 use Rattle.module_unique.proofs.Telling.{as_form, name_told, part_kind, part_marks_told}
 use Rattle.module_unique.proofs.Marked.{name_back, part_rank}
 use Rattle.module_unique.proofs.CleanForms.{stands-so, no-more, both-so}
 
 -- ---- names beside an identifier
 
--- UTF-8, as each text within bytes of UTF-8 is
-abbrev pub HasUtf8 : Instruction → Type 0
-HasUtf8 (mark.Name name) = is_utf8 name ≡ true
-HasUtf8 (mark.Namespace space) = is_utf8 space ≡ true
-HasUtf8 (mark.Text item text) = is_utf8 text ≡ true
-HasUtf8 m = Unit {0}
-
-pub xml_text : (text : List ℕ) → is_utf8 text ≡ true → list_all is_xml_char (chars text) ≡ true → is_xml_text text ≡ true
-xml_text text e f = both-so (is_utf8 text) (list_all is_xml_char (chars text)) e f
+pub xml_text : (text : List ℕ) → IsUtf8 text → list_all is_xml_char (chars text) ≡ true → is_xml_text text ≡ true
+xml_text text utf8 e = both-so (is_utf8 text) (list_all is_xml_char (chars text)) (is_utf8-from_IsUtf8 text utf8) e
 
 form_same : (o : Option NameForm) (name : List ℕ) → o ≢ None → is_form (as_form o name) o ≡ true
 form_same None name some = absurd (some refl)
@@ -62,7 +57,7 @@ some_bytes (b ∷ bs) some = refl
 
 -- ---- of a part or an assignment
 
-part_may : (simply : Bool) (generated : List ℕ) (m : Instruction) → is_of_part m ≡ true → MayHave generated m → HasUtf8 m → (is_attribute m ≡ true → simply ≡ true)
+part_may : (simply : Bool) (generated : List ℕ) (m : Instruction) → is_of_part m ≡ true → MayHave generated m → MarkIsUtf8 m → (is_attribute m ≡ true → simply ≡ true)
     → may.part_mark_may simply generated (part_kind generated m) ≡ true
 part_may simply generated mark.Attribute of has utf8 simple = simple refl
 part_may simply generated mark.Untagged of has utf8 simple = refl
@@ -102,7 +97,7 @@ abbrev SimpleWhere : Bool → List Instruction → Type 0
 SimpleWhere simply ms = All (λ m. is_attribute m ≡ true → simply ≡ true) ms
 
 part_marks_by : (simply : Bool) (generated : List ℕ) (ms : List Instruction) (before : Option ℕ) → are_in_order ms ≡ true → list_all is_of_part ms ≡ true
-    → All (MayHave generated) ms → All HasUtf8 ms → SimpleWhere simply ms → Behind before ms → rule.part_mark_faults simply generated before (part_marks_told generated ms) ≡ []
+    → All (MayHave generated) ms → All MarkIsUtf8 ms → SimpleWhere simply ms → Behind before ms → rule.part_mark_faults simply generated before (part_marks_told generated ms) ≡ []
 part_marks_by simply generated [] before order of has utf8 simple behind = refl
 part_marks_by simply generated (m ∷ ms) before order of has utf8 simple behind =
     let here = and-first (is_of_part m) (list_all is_of_part ms) of in
@@ -123,6 +118,6 @@ behind_none [] = tt
 behind_none (m ∷ ms) = refl
 
 -- of a part or an assignment whose type stands for a simple type where it has ATTRIBUTE
-pub part_marks_clean : (simply : Bool) (generated : List ℕ) (ms : List Instruction) → HasPartMarks generated ms → All HasUtf8 ms → SimpleWhere simply ms
+pub part_marks_clean : (simply : Bool) (generated : List ℕ) (ms : List Instruction) → HasPartMarks generated ms → All MarkIsUtf8 ms → SimpleWhere simply ms
     → rule.part_mark_faults simply generated None (part_marks_told generated ms) ≡ []
 part_marks_clean simply generated ms has utf8 simple = part_marks_by simply generated ms None has.order has.part has.names utf8 simple (behind_none ms)

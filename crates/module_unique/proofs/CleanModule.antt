@@ -27,35 +27,29 @@ use Rattle.module_faults.specs.Resolving as resolving
 use Rattle.module_faults.specs.Faults as rule
 use Rattle.module_faults.specs.Printable.{part_spot, IsPrintable}
 use Rattle.module_unique.specs.Alike.{HasOctets, IsOfOctets}
+use Rattle.module_unique.specs.Utf8Texts.{MarkIsUtf8, PartIsUtf8, TypeIsUtf8, TypesAreUtf8, HasTexts}
 use Rattle.module_unique.proofs.Telling.{part_marks_told, component_told, components_told, form_told, type_told, types_told, assignment_told, module_told}
 use Rattle.module_unique.proofs.Goods.{Good, AllGood, GoodBody, bodies}
 use Rattle.module_unique.proofs.CleanForms.{stands-so, no-more, both-so, AreFresh, fresh_first, fresh_more}
-use Rattle.module_unique.proofs.CleanMarks.{HasUtf8}
-use Rattle.module_unique.proofs.CleanSimple.{PartUtf8, TypeUtf8, TypesUtf8}
 use Rattle.module_unique.proofs.CleanRoles.{AreMarked, label_told, embed_same, order_same, list_same}
 use Rattle.module_unique.proofs.CleanKnown.{Known}
 use Rattle.module_unique.proofs.CleanChains.{parts_are, chains_told}
 use Rattle.module_unique.proofs.CleanTypes.{not_listed, if_none, names_apart, form_clean, marks_clean, spot_told, NamedSo, named_by, standards_are, label_clean, fixed_by, absence_by, own_marks_clean}
 
--- the texts of a module are UTF-8
-pub record IsOfUtf8 (M : List Assignment) : Type 0 where
-  pub marks : All (λ (a : Assignment). All HasUtf8 a.marks) M
-  pub bodies : All (λ (a : Assignment). TypeUtf8 a.body) M
-
-module _ (M : List Assignment) (distinct : IsDistinct bytes_eq (map (λ (a : Assignment). a.reference) M)) (all : All (GoodBody M) M) (utf8 : All (λ (a : Assignment). TypeUtf8 a.body) M) where
+module _ (M : List Assignment) (distinct : IsDistinct bytes_eq (map (λ (a : Assignment). a.reference) M)) (all : All (GoodBody M) M) (utf8 : All (λ (a : Assignment). TypeIsUtf8 a.body) M) where
   abbrev P : List PlainAssignment
   P = module_told M
 
   abbrev TypeClean : Rose TypeLabel → Type 0
-  TypeClean t = (spot : Spot) (nameless : Bool) → Good M spot t → height t ≤ limit → TypeUtf8 t → modules.AreItemsNamed nameless t → rule.type_faults P spot nameless (type_told M t) ≡ []
+  TypeClean t = (spot : Spot) (nameless : Bool) → Good M spot t → height t ≤ limit → TypeIsUtf8 t → modules.AreItemsNamed nameless t → rule.type_faults P spot nameless (type_told M t) ≡ []
 
   -- what is known of parts
   record PartsAre (spot : Spot) (nameless : Bool) (l : TypeLabel) (kids : Roses TypeLabel) (i : ℕ) (before : List (List ℕ)) (front : ℕ) (parts : List Component) (ts : Roses TypeLabel) : Type 0 where
     pub long : length_all kids ≡ length (parts_of l.form)
     pub good : AllGood M spot l i parts ts
     pub low : depth_all ts ≤ limit
-    pub texts : TypesUtf8 ts
-    pub own : All PartUtf8 parts
+    pub texts : TypesAreUtf8 ts
+    pub own : All PartIsUtf8 parts
     pub marks : AreMarked parts
     pub octets : All (λ (part : Component). HasOctets part.standard) parts
     pub apart : IsDistinct bytes_eq (map (λ (part : Component). part.identifier) parts)
@@ -213,7 +207,7 @@ module _ (M : List Assignment) (distinct : IsDistinct bytes_eq (map (λ (a : Ass
       by false e = refl
       by true e = absurd (free (has-Contains reference reserved_words e))
 
-  assignment_clean : (before : List (List ℕ)) (a : Assignment) → GoodBody M a → modules.IsAssignment M a → TypeUtf8 a.body → All HasUtf8 a.marks → rule.has_text before a.reference ≡ false
+  assignment_clean : (before : List (List ℕ)) (a : Assignment) → GoodBody M a → modules.IsAssignment M a → TypeIsUtf8 a.body → All MarkIsUtf8 a.marks → rule.has_text before a.reference ≡ false
       → rule.assignment_faults P before (assignment_told M a) ≡ []
   assignment_clean before a good is texts own new =
       let u = type_told M a.body in
@@ -231,8 +225,8 @@ module _ (M : List Assignment) (distinct : IsDistinct bytes_eq (map (λ (a : Ass
       (own_marks_clean M distinct all utf8 Elsewhere (record { identifier = a.reference; optional = false; standard = Free; marks = a.marks }) a.body known good.good good.printable.marks own is.attribute))
       (type_clean a.body Elsewhere false good.good good.printable.depth texts is.items)
 
-  from_clean : (entries : List Assignment) (before : List (List ℕ)) → All (GoodBody M) entries → All (modules.IsAssignment M) entries → All (λ (a : Assignment). TypeUtf8 a.body) entries
-      → All (λ (a : Assignment). All HasUtf8 a.marks) entries → IsDistinct bytes_eq (map (λ (a : Assignment). a.reference) entries) → AreFresh before (map (λ (a : Assignment). a.reference) entries)
+  from_clean : (entries : List Assignment) (before : List (List ℕ)) → All (GoodBody M) entries → All (modules.IsAssignment M) entries → All (λ (a : Assignment). TypeIsUtf8 a.body) entries
+      → All (λ (a : Assignment). All MarkIsUtf8 a.marks) entries → IsDistinct bytes_eq (map (λ (a : Assignment). a.reference) entries) → AreFresh before (map (λ (a : Assignment). a.reference) entries)
       → rule.faults_from P before (map (assignment_told M) entries) ≡ []
   from_clean [] before good is texts own apart fresh = refl
   from_clean (a ∷ entries) before good is texts own apart fresh =
@@ -243,7 +237,7 @@ module _ (M : List Assignment) (distinct : IsDistinct bytes_eq (map (λ (a : Ass
       (λ k d lt. own (suc k) d (omega (arith, lt))) rest.1 (fresh_more before a.reference (map (λ (b : Assignment). b.reference) entries) fresh.1 rest.0))
 
 -- The tree that is told of a printable module has no fault.
-pub module_clean : (M : List Assignment) → IsPrintable M → IsOfOctets M → IsOfUtf8 M → rule.faults (module_told M) ≡ []
+pub module_clean : (M : List Assignment) → IsPrintable M → IsOfOctets M → HasTexts M → rule.faults (module_told M) ≡ []
 module_clean M is octets utf8 =
     let all = bodies M is octets in
     from_clean M is.sound.distinct all utf8.bodies M [] all is.sound.assignments utf8.bodies utf8.marks is.sound.distinct (fresh_first (map (λ (a : Assignment). a.reference) M))

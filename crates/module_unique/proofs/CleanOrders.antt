@@ -23,18 +23,18 @@ use Rattle.module_faults.specs.Told as told
 use Rattle.module_faults.specs.Resolving as resolving
 use Rattle.module_faults.specs.Orders as orders
 use Rattle.module_faults.specs.Printable.{HasPartMarks}
+use Rattle.module_laws.proofs.Firsts.{mapped, all-at}
+use Rattle.module_unique.specs.Utf8Texts.{TypeIsUtf8, TypesAreUtf8}
 use Rattle.module_unique.proofs.Telling.{component_told, form_told, type_told, types_told, module_told}
-use Rattle.module_unique.proofs.Firsts.{mapped, all-at}
 use Rattle.module_unique.proofs.Values.{types_got}
 use Rattle.module_unique.proofs.Goods.{GoodAt, AllGood, GoodBody}
 use Rattle.module_unique.proofs.Back.{resolve_same}
 use Rattle.module_unique.proofs.ClearOrders.{order_at, order_is}
 use Rattle.module_unique.proofs.CleanForms.{both-so}
-use Rattle.module_unique.proofs.CleanSimple.{TypeUtf8, TypesUtf8}
 use Rattle.module_unique.proofs.CleanRoles.{AreMarked, label_told, component_got, role_told, absent_told, sequence_told, no_groups, elements_told, order_of, nil_same, embed_same, order_same}
 use Rattle.module_unique.proofs.CleanKnown.{Known, known_sits, kid_known, resolve_known}
 
-module _ (M : List Assignment) (distinct : IsDistinct bytes_eq (map (λ (a : Assignment). a.reference) M)) (all : All (GoodBody M) M) (utf8 : All (λ (a : Assignment). TypeUtf8 a.body) M) where
+module _ (M : List Assignment) (distinct : IsDistinct bytes_eq (map (λ (a : Assignment). a.reference) M)) (all : All (GoodBody M) M) (utf8 : All (λ (a : Assignment). TypeIsUtf8 a.body) M) where
   abbrev P : List PlainAssignment
   P = module_told M
 
@@ -55,7 +55,7 @@ module _ (M : List Assignment) (distinct : IsDistinct bytes_eq (map (λ (a : Ass
   inner_found : (inner : TypeLabel) (o p : Option PlainLabel) → p ≡ o → InnerIs inner o → InnerIs inner p
   inner_found inner o p e is = record { kids = is.kids; long = is.long; marked = is.marked; found = e ∙ is.found }
 
-  module _ (spot : Spot) (l : TypeLabel) (ts : Roses TypeLabel) (good : GoodAt M spot l ts) (kids : AllGood M spot l 0 (parts_of l.form) ts) (low : depth_all ts ≤ limit) (texts : TypesUtf8 ts) where
+  module _ (spot : Spot) (l : TypeLabel) (ts : Roses TypeLabel) (good : GoodAt M spot l ts) (kids : AllGood M spot l 0 (parts_of l.form) ts) (low : depth_all ts ≤ limit) (texts : TypesAreUtf8 ts) where
     abbrev L : PlainLabel
     L = label_told M l ts
 

@@ -30,8 +30,8 @@ use Rattle.module_faults.specs.Told as told
 use Rattle.module_faults.specs.Resolving as resolving
 use Rattle.module_faults.specs.Orders as orders
 use Rattle.module_faults.specs.Printable.{is_of_part, HasPartMarks}
+use Rattle.module_laws.proofs.Firsts.{bytes-self}
 use Rattle.module_unique.proofs.Telling.{part_kind, part_marks_told, type_kind, type_marks_told, standard_told, component_told, components_told, form_told, type_told, types_told}
-use Rattle.module_unique.proofs.Firsts.{bytes-self}
 use Rattle.module_unique.proofs.Values.{named_back}
 use Rattle.module_unique.proofs.ClearRoles.{same_role}
 use Rattle.module_unique.proofs.CleanForms.{both-so}

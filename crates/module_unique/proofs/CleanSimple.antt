@@ -1,11 +1,10 @@
 -- The simple type for which a type of a printable module stands is told.
 use Rattle.std.proofs.Common.{◌≡◌, ℕ, zero, suc, ◌+◌, ◌^◌, true, false, ◌&&◌, not, Option, Some, None, List, [], ◌∷◌, map, length, refl, sym, ap, ap₂, subst, ◌∙◌, arith, Less}
-use Rattle.std.specs.Prelude.{ℤ, All, bytes_eq, filter, nat_lt, int_lt}
+use Rattle.std.specs.Prelude.{ℤ, All, IsUtf8, bytes_eq, filter, nat_lt, int_lt}
 use Rattle.std.specs.List.{list_all, AllByRecursion}
 use Rattle.std.specs.List.Sorted.{IsStrictlySortedBy}
 use Rattle.std.specs.Ordering.{nat_cmp, int_cmp, is_lt}
 use Rattle.std.specs.Cmp.Lexicographic.{slice_cmp}
-use Rattle.std.specs.Str.{is_utf8}
 use Rattle.std.proofs.lemmas.Bool.{true≢false, lt-ltb, le-leb}
 use Rattle.std.proofs.lemmas.Int.{ints}
 use Rattle.label_tree.specs.Rose.{Rose, node, Roses, label_of, length_all}
@@ -14,8 +13,6 @@ use Rattle.xa_base.specs.WhiteSpace.{treated}
 use Rattle.xa_base.specs.declared.white_space.WhiteSpace.{WhiteSpace}
 use Rattle.xa_base.specs.declared.white_space.WhiteSpace.TheVariants.{Preserve, Replace, Collapse}
 use Rattle.simple_types.specs.declared.simples.Class.{Class}
-use Rattle.simple_types.specs.declared.standards.Standard.{Standard}
-use Rattle.simple_types.specs.declared.standards.Standard.TheVariants.{Free, Default, Fixed}
 use Rattle.simple_types.specs.Sound.{Sound, AreSound, IsCounted, AreBounds, AreSizes, AreWords, has_list}
 use Rattle.simple_types.specs.Space.{Space, Spaces, none, more, Booleans, Wholes, Numbers, Words, Characters, ListOf, UnionOf, count_members}
 use Rattle.asn_types.specs.declared.marks.Instruction.{Instruction}
@@ -37,42 +34,15 @@ use Rattle.module_faults.specs.Told.{range_of, sizes_of, have_names_alone, besid
 use Rattle.module_faults.specs.Simple as simple
 use Rattle.module_faults.specs.Simple.{if_so, simple_told, members_told, item_told, is_order_item}
 use Rattle.module_faults.specs.Printable.{is_of_part, is_text, texts_due, is_sequence_of, part_spot, HasNames, HasPartMarks, IsInSpot}
+use Rattle.module_laws.proofs.Firsts.{bytes_same}
+use Rattle.module_unique.specs.Utf8Texts.{WordsAreUtf8, TypeIsUtf8, TypesAreUtf8}
 use Rattle.module_unique.proofs.Telling.{range_told, size_told, part_marks_told, type_kind, type_marks_told, name_at, numbered_told, components_told, form_told, type_told, types_told}
-use Rattle.module_unique.proofs.Firsts.{bytes_same}
 use Rattle.module_unique.proofs.Marked.{of_types}
 use Rattle.module_unique.proofs.Words.{words_are}
 use Rattle.module_unique.proofs.Goods.{Good, AllGood}
 use Rattle.module_unique.proofs.Back.{range_back, sizes_back, numbers_back}
 use Rattle.module_unique.proofs.CleanForms.{both-so, number_lt}
-use Rattle.module_unique.proofs.CleanMarks.{HasUtf8, xml_text}
-
--- ---- UTF-8, as each text within bytes of UTF-8 is
-
-abbrev pub WordsUtf8 : Form → Type 0
-WordsUtf8 (form.Words identifiers words) = AllByRecursion (λ word. is_utf8 word ≡ true) words
-WordsUtf8 f = Unit {0}
-
-abbrev pub StandardUtf8 : Standard → Type 0
-StandardUtf8 Free = Unit {0}
-StandardUtf8 (Default text) = is_utf8 text ≡ true
-StandardUtf8 (Fixed text) = is_utf8 text ≡ true
-
-pub record PartUtf8 (part : Component) : Type 0 where
-  pub marks : All HasUtf8 part.marks
-  pub standard : StandardUtf8 part.standard
-
-pub record LabelUtf8 (l : TypeLabel) : Type 0 where
-  pub marks : All HasUtf8 l.marks
-  pub words : WordsUtf8 l.form
-  pub parts : All PartUtf8 (parts_of l.form)
-
-abbrev mutual
-  pub TypeUtf8 : Rose TypeLabel → Type 0
-  TypeUtf8 (node l ts) = LabelUtf8 l × TypesUtf8 ts
-
-  pub TypesUtf8 : Roses TypeLabel → Type 0
-  TypesUtf8 rose.none = Unit {0}
-  TypesUtf8 (rose.more t ts) = TypeUtf8 t × TypesUtf8 ts
+use Rattle.module_unique.proofs.CleanMarks.{xml_text}
 
 -- ---- what the instructions say
 
@@ -145,12 +115,12 @@ unfolding IsStrictlySortedBy
 words_so [] sorted = refl
 words_so (w ∷ ws) sorted = texts_so w ws sorted.0 sorted.1
 
-each_word : (how : WhiteSpace) (ws : List (List ℕ)) → AreWords how ws → AllByRecursion (λ word. is_utf8 word ≡ true) ws → list_all (simple.is_word how) ws ≡ true
+each_word : (how : WhiteSpace) (ws : List (List ℕ)) → AreWords how ws → All IsUtf8 ws → list_all (simple.is_word how) ws ≡ true
 each_word how [] are utf8 = refl
 each_word how (w ∷ ws) are utf8 =
     both-so (simple.is_word how w) (list_all (simple.is_word how) ws)
-    (both-so _ (bytes_eq (treated how w) w) (xml_text w utf8.0 are.0.0) (bytes_same (treated how w) w are.0.1))
-    (each_word how ws are.1 utf8.1)
+    (both-so _ (bytes_eq (treated how w) w) (xml_text w (utf8 zero w (omega arith)) are.0.0) (bytes_same (treated how w) w are.0.1))
+    (each_word how ws are.1 (λ k d lt. utf8 (suc k) d (omega (arith, lt))))
 
 -- ---- where a type stands for its simple type
 
@@ -204,7 +174,7 @@ module _ (M : List Assignment) where
 
   word_told : (spot : Spot) (marks : List Instruction) (ts : Roses TypeLabel) (how : WhiteSpace) (identifiers words : List (List ℕ)) → of_types marks ≡ true → counting marks ≡ white_space_marks how
       → Sound (Words how words) → IsForm M (form.Words identifiers words) → HasNames (form.Words identifiers words) → filter is_text marks ≡ texts_due (form.Words identifiers words)
-      → WordsUtf8 (form.Words identifiers words) → is_order_item spot ≡ false → ToldAs spot (form.Words identifiers words) marks ts (Words how words)
+      → WordsAreUtf8 (form.Words identifiers words) → is_order_item spot ≡ false → ToldAs spot (form.Words identifiers words) marks ts (Words how words)
   unfolding simple_told
   word_told spot marks ts how identifiers words of e sound is names texts utf8 other =
       let f = form.Words identifiers words in
@@ -269,10 +239,10 @@ module _ (M : List Assignment) where
       ∙ ap (λ b. if_so b (Some (UnionOf members))) (counted_so (count_members members) count)
 
   abbrev TellsSimple : Space → Type 0
-  TellsSimple s = (t : Rose TypeLabel) (spot there : Spot) → StandsIn spot t → Good M there t → TypeUtf8 t → MapsTo s t → Sound s → simple_told spot (type_told M t) ≡ Some s
+  TellsSimple s = (t : Rose TypeLabel) (spot there : Spot) → StandsIn spot t → Good M there t → TypeIsUtf8 t → MapsTo s t → Sound s → simple_told spot (type_told M t) ≡ Some s
 
   abbrev TellsMembers : Spaces → Type 0
-  TellsMembers ss = (ts : Roses TypeLabel) (there : Spot) (l : TypeLabel) (i : ℕ) (parts : List Component) → AllGood M there l i parts ts → TypesUtf8 ts → MapToEach ss ts → AreSound ss
+  TellsMembers ss = (ts : Roses TypeLabel) (there : Spot) (l : TypeLabel) (i : ℕ) (parts : List Component) → AllGood M there l i parts ts → TypesAreUtf8 ts → MapToEach ss ts → AreSound ss
       → members_told (types_told M ts) ≡ Some ss
 
   booleans : TellsSimple Booleans
@@ -300,7 +270,7 @@ module _ (M : List Assignment) where
       let e : l.form ≡ form.Words identifiers words = maps.1.0 in
       subst (λ f. ToldAs spot f l.marks ts (Words how words)) (sym e)
       (word_told spot l.marks ts how identifiers words good.0.printable.marks.type maps.1.1 sound (subst (IsForm M) e good.0.well.form) (subst HasNames e good.0.printable.names)
-      (good.0.printable.marks.texts ∙ ap texts_due e) (subst WordsUtf8 e utf8.0.words) (no_order spot l ts identifiers words e stands))
+      (good.0.printable.marks.texts ∙ ap texts_due e) (subst WordsAreUtf8 e utf8.0.words) (no_order spot l ts identifiers words e stands))
 
   characters_ : (how : WhiteSpace) (least : ℕ) (most : Option ℕ) (class : Class) → TellsSimple (Characters how least most class)
   characters_ how least most class (node l ts) spot there stands good utf8 maps sound =

@@ -1,8 +1,7 @@
 -- Encoding instructions of types have no fault as they are told, where the type has what each asks.
 use Rattle.std.proofs.Common.{◌≡◌, ℕ, zero, suc, ◌<◌, ◌≤◌, ◌+◌, ◌-◌, Bool, true, false, ◌&&◌, ◌||◌, not, Option, Some, None, List, [], ◌∷◌, map, refl, sym, ap, subst, ◌∙◌, arith, option_map, position}
-use Rattle.std.specs.Prelude.{◌≢◌, All, bytes_eq, chars, drop, filter, is_some, slice_get, unwrap_or, if◌then◌else◌}
+use Rattle.std.specs.Prelude.{◌≢◌, All, IsUtf8, bytes_eq, chars, drop, filter, is_some, slice_get, unwrap_or, if◌then◌else◌}
 use Rattle.std.specs.List.{list_all, IsDistinct}
-use Rattle.std.specs.Str.{is_utf8}
 use Rattle.std.proofs.lemmas.Bool.{true≢false, ltb-true}
 use Rattle.label_tree.specs.Rose.{Roses}
 use Rattle.xa_base.specs.Characters.{is_xml_char}
@@ -29,14 +28,15 @@ use Rattle.module_faults.specs.Marks as may
 use Rattle.module_faults.specs.Faults as rule
 use Rattle.module_faults.specs.Printable.{comes_before, are_in_order, is_of_part, is_text, text_marks, texts_due, MayBe}
 use Rattle.module_faults.proofs.PrintedBounds.{and-first, and-second}
+use Rattle.module_laws.proofs.Firsts.{only-at}
+use Rattle.module_unique.specs.Utf8Texts.{MarkIsUtf8}
 use Rattle.module_unique.proofs.Telling.{name_told, name_at, type_kind, type_marks_told}
-use Rattle.module_unique.proofs.Firsts.{only-at}
 use Rattle.module_unique.proofs.Values.{named_back}
 use Rattle.module_unique.proofs.Words.{Behind, behind_first, behind_rest, behind_all, identifiers_in, identifier_at}
 use Rattle.module_unique.proofs.Marked.{of_types, type_rank}
 use Rattle.module_unique.proofs.Printing.{rank_most}
 use Rattle.module_unique.proofs.CleanForms.{stands-so, no-more, both-so}
-use Rattle.module_unique.proofs.CleanMarks.{HasUtf8, xml_text, told_so, apart_ranks, order_rest}
+use Rattle.module_unique.proofs.CleanMarks.{xml_text, told_so, apart_ranks, order_rest}
 
 -- ---- the item of a TEXT
 
@@ -171,14 +171,14 @@ module _ (P : List PlainAssignment) (spot : Spot) (l : PlainLabel) (ts : Roses P
   Asks m = (least : ℕ) → may.type_mark_may P spot l ts least (type_kind f m) ≡ true
 
   text_may : (least item : ℕ) (name text : List ℕ) → slice_get (identifiers_in f) item ≡ Some name → bytes_eq name text ≡ false → least ≤ item
-      → is_utf8 text ≡ true → list_all is_xml_char (chars text) ≡ true → may.type_mark_may P spot l ts least (type_kind f (mark.Text item text)) ≡ true
+      → IsUtf8 text → list_all is_xml_char (chars text) ≡ true → may.type_mark_may P spot l ts least (type_kind f (mark.Text item text)) ≡ true
   text_may least item name text got apart le utf8 xml =
       ap (λ o. is_some (may.item_number spot l.form least (unwrap_or o [])) && is_told_so (unwrap_or o []) (name_told (unwrap_or o []) text)) (identifier_at f item name got)
       ∙ both-so (is_some (may.item_number spot l.form least name)) (is_told_so name (name_told name text))
       (ap is_some (found least item name le got))
       (told_so name text (some_form name text apart) (xml_text text utf8 xml))
 
-  may_by : (m : Instruction) (least : ℕ) → LeastAt least m → IsDue (identifiers_in f) m → HasUtf8 m → MayBe m → Asks m → may.type_mark_may P spot l ts least (type_kind f m) ≡ true
+  may_by : (m : Instruction) (least : ℕ) → LeastAt least m → IsDue (identifiers_in f) m → MarkIsUtf8 m → MayBe m → Asks m → may.type_mark_may P spot l ts least (type_kind f m) ≡ true
   may_by (mark.Text item text) least le due utf8 xml asks = text_may least item due.0 text due.1 due.2 le utf8 xml
   may_by m least le due utf8 xml asks = asks least
 
@@ -208,7 +208,7 @@ module _ (P : List PlainAssignment) (spot : Spot) (l : PlainLabel) (ts : Roses P
   least_rest m [] least le due e = tt
   least_rest m (n ∷ ms) least le due e = least_next m n least le due (and-first (comes_before m n) (are_in_order (n ∷ ms)) e)
 
-  type_marks_by : (ms : List Instruction) (before : Option ℕ) (least : ℕ) → are_in_order ms ≡ true → of_types ms ≡ true → All MayBe ms → All HasUtf8 ms
+  type_marks_by : (ms : List Instruction) (before : Option ℕ) (least : ℕ) → are_in_order ms ≡ true → of_types ms ≡ true → All MayBe ms → All MarkIsUtf8 ms
       → AreDue (identifiers_in f) ms → All Asks ms → Once before ms → Least least ms → rule.type_mark_faults P spot l ts before least (type_marks_told f ms) ≡ []
   type_marks_by [] before least order of may_be utf8 due asks once le = refl
   type_marks_by (m ∷ ms) before least order of may_be utf8 due asks once le =
@@ -226,6 +226,6 @@ module _ (P : List PlainAssignment) (spot : Spot) (l : PlainLabel) (ts : Roses P
       (λ i d lt. may_be (suc i) d (omega (arith, lt))) (λ i d lt. utf8 (suc i) d (omega (arith, lt))) due.1 (λ i d lt. asks (suc i) d (omega (arith, lt)))
       (once_next m ms order) (least_rest m ms least le due.0 order))
 
-  pub type_marks_clean : (ms : List Instruction) → are_in_order ms ≡ true → of_types ms ≡ true → All MayBe ms → All HasUtf8 ms → filter is_text ms ≡ texts_due f → All Asks ms
+  pub type_marks_clean : (ms : List Instruction) → are_in_order ms ≡ true → of_types ms ≡ true → All MayBe ms → All MarkIsUtf8 ms → filter is_text ms ≡ texts_due f → All Asks ms
       → rule.type_mark_faults P spot l ts None 0 (type_marks_told f ms) ≡ []
   type_marks_clean ms order of may_be utf8 due asks = type_marks_by ms None 0 order of may_be utf8 (texts_are_due f ms due) asks (once_none ms) (least_none ms)

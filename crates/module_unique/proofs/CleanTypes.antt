@@ -37,17 +37,18 @@ use Rattle.module_faults.specs.Simple as simple
 use Rattle.module_faults.specs.Orders as orders
 use Rattle.module_faults.specs.Faults as rule
 use Rattle.module_faults.specs.Printable as printable
+use Rattle.module_laws.proofs.Firsts.{bytes-self}
 use Rattle.module_unique.specs.Alike.{HasOctets}
+use Rattle.module_unique.specs.Utf8Texts.{MarkIsUtf8, StandardIsUtf8, TypeIsUtf8}
 use Rattle.module_unique.proofs.Telling.{name_at, type_marks_told, part_marks_told, fixed_told, standard_told, component_told, form_told, type_told, types_told, module_told}
-use Rattle.module_unique.proofs.Firsts.{bytes-self}
 use Rattle.module_unique.proofs.Digits.{octets_back}
 use Rattle.module_unique.proofs.Words.{identifiers_in, words_are}
 use Rattle.module_unique.proofs.Goods.{Good, GoodBody}
 use Rattle.module_unique.proofs.Back.{number_found, spot_of_words, spot_of_order, free_standards}
 use Rattle.module_unique.proofs.CleanForms.{stands-so, both-so, range_clean, size_clean, numbers_clean, words_clean, order_clean}
-use Rattle.module_unique.proofs.CleanMarks.{HasUtf8, part_marks_clean}
+use Rattle.module_unique.proofs.CleanMarks.{part_marks_clean}
 use Rattle.module_unique.proofs.CleanTypeMarks.{ListsFrom, words_from, none_from, Asks, type_marks_clean}
-use Rattle.module_unique.proofs.CleanSimple.{TypeUtf8, StandardUtf8, stands_in, tells_simple}
+use Rattle.module_unique.proofs.CleanSimple.{stands_in, tells_simple}
 use Rattle.module_unique.proofs.CleanRoles.{label_told, role_told, texts_told, content_told}
 use Rattle.module_unique.proofs.CleanKnown.{Known}
 use Rattle.module_unique.proofs.CleanOrders.{order_told}
@@ -97,7 +98,7 @@ names_apart (form.Order identifiers) has = tt
 names_apart (form.Utf8 least most class) has = tt
 names_apart (form.Ref to) has = tt
 
-module _ (M : List Assignment) (distinct : IsDistinct bytes_eq (map (λ (a : Assignment). a.reference) M)) (all : All (GoodBody M) M) (utf8 : All (λ (a : Assignment). TypeUtf8 a.body) M) where
+module _ (M : List Assignment) (distinct : IsDistinct bytes_eq (map (λ (a : Assignment). a.reference) M)) (all : All (GoodBody M) M) (utf8 : All (λ (a : Assignment). TypeIsUtf8 a.body) M) where
   abbrev P : List PlainAssignment
   P = module_told M
 
@@ -147,10 +148,10 @@ module _ (M : List Assignment) (distinct : IsDistinct bytes_eq (map (λ (a : Ass
   is_choice_told (form.Choice parts) ts is = refl
   is_choice_told f ts is = absurd is
 
-  simple_here : (spot : Spot) (t : Rose TypeLabel) → Good M spot t → TypeUtf8 t → IsSimple t → simple.is_simple spot (type_told M t) ≡ true
+  simple_here : (spot : Spot) (t : Rose TypeLabel) → Good M spot t → TypeIsUtf8 t → IsSimple t → simple.is_simple spot (type_told M t) ≡ true
   simple_here spot t good texts is = ap is_some (tells_simple M is.0 t spot spot (stands_in M spot t good) good texts is.2 is.1)
 
-  module _ (spot : Spot) (l : TypeLabel) (ts : Roses TypeLabel) (good : Good M spot (node l ts)) (low : depth_all ts ≤ limit) (texts : TypeUtf8 (node l ts)) where
+  module _ (spot : Spot) (l : TypeLabel) (ts : Roses TypeLabel) (good : Good M spot (node l ts)) (low : depth_all ts ≤ limit) (texts : TypeIsUtf8 (node l ts)) where
     abbrev L : PlainLabel
     L = label_told M l ts
 
@@ -249,12 +250,12 @@ module _ (M : List Assignment) (distinct : IsDistinct bytes_eq (map (λ (a : Ass
     abbrev space : Option Space
     space = rule.space_at P spot (part_marks_told part.identifier part.marks) (type_told M t)
 
-    pub fixed_by : (s : Standard) → modules.IsStandard M (record part { standard = s }) t → StandardUtf8 s → HasOctets s → rule.fixed_faults space (fixed_told s) ≡ []
+    pub fixed_by : (s : Standard) → modules.IsStandard M (record part { standard = s }) t → StandardIsUtf8 s → HasOctets s → rule.fixed_faults space (fixed_told s) ≡ []
     fixed_by Free is texts octets = refl
     fixed_by (Default text) is texts octets = refl
     fixed_by (Fixed text) is texts octets = fixed_clean M distinct all utf8 spot part.identifier part.marks t known good is.0 text is.1 (xml_of M t text is.1 texts) octets
 
-    pub absence_by : (optional : Bool) (s : Standard) → modules.IsStandard M (record part { standard = s }) t → StandardUtf8 s → HasOctets s
+    pub absence_by : (optional : Bool) (s : Standard) → modules.IsStandard M (record part { standard = s }) t → StandardIsUtf8 s → HasOctets s
         → rule.absence_faults space (fixed_told s) (resolving.resolve P (type_told M t)) (if optional then standard_told M t s else absence.Never) ≡ []
     absence_by false s is texts octets = refl
     absence_by true Free is texts octets = refl
@@ -263,7 +264,7 @@ module _ (M : List Assignment) (distinct : IsDistinct bytes_eq (map (λ (a : Ass
         default_clean M distinct all utf8 spot part.identifier part.marks t known good is.0 text (fixed_told (Fixed text)) is.1 (xml_of M t text is.1 texts)
         (ap (λ o. elim o as (λ _. Bool) [ None ↦ false | Some fixed ↦ bytes_eq fixed text ]) (octets_back text octets) ∙ bytes-self text)
 
-    pub own_marks_clean : printable.HasPartMarks part.identifier part.marks → All HasUtf8 part.marks → (marked.has_attribute part.marks ≡ true → IsSimple (refs.resolve M t))
+    pub own_marks_clean : printable.HasPartMarks part.identifier part.marks → All MarkIsUtf8 part.marks → (marked.has_attribute part.marks ≡ true → IsSimple (refs.resolve M t))
         → rule.part_mark_faults (is_some space) part.identifier None (part_marks_told part.identifier part.marks) ≡ []
     own_marks_clean has texts simple =
         part_marks_clean (is_some space) part.identifier part.marks has texts

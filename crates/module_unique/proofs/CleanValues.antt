@@ -23,8 +23,8 @@ use Rattle.module_print.specs.Values.{alternative}
 use Rattle.module_text.specs.declared.values.PlainValueLabel.{PlainValueLabel}
 use Rattle.module_text.specs.declared.types.PlainLabel.{PlainLabel}
 use Rattle.module_faults.specs.Defaults as defaults
+use Rattle.module_laws.proofs.Firsts.{bytes-self, bytes_same, got-within, got-at, got-mapped}
 use Rattle.module_unique.proofs.Telling.{type_marks_told, name_at, numbered_told, form_told, form_value, part_told, value_told, type_told, types_told}
-use Rattle.module_unique.proofs.Firsts.{bytes-self, bytes_same, got-within, got-at, got-mapped}
 use Rattle.module_unique.proofs.Shapes.{EachShaped, Shaped, ShapedBy}
 use Rattle.module_unique.proofs.Values.{types_got, Fine, AllFine}
 use Rattle.module_unique.proofs.CleanForms.{both-so}

@@ -16,8 +16,8 @@ use Rattle.module_text.specs.Texts.{parts_of}
 use Rattle.module_faults.specs.Told as told
 use Rattle.module_faults.specs.Resolving as resolving
 use Rattle.module_faults.specs.Orders as orders
+use Rattle.module_laws.proofs.Firsts.{got-mapped}
 use Rattle.module_unique.proofs.Clearing.{clear_type_marks, clear_absence, clear_name, clear_part, clear_form, clear_type, clear_types, clear_assignment}
-use Rattle.module_unique.proofs.Firsts.{got-mapped}
 use Rattle.module_unique.proofs.ClearSimple.{any_type, resolve_same}
 use Rattle.module_unique.proofs.ClearRoles.{clear_label, parts_same, role_same}
 

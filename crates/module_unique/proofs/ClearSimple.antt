@@ -24,8 +24,8 @@ use Rattle.module_faults.specs.declared.spots.Alone.TheVariants as alone
 use Rattle.module_faults.specs.Told as told
 use Rattle.module_faults.specs.Resolving as resolving
 use Rattle.module_faults.specs.Simple as simple
+use Rattle.module_laws.proofs.Firsts.{place-here, place-further, got-mapped}
 use Rattle.module_unique.proofs.Clearing.{clear_ends, clear_range, clear_part_marks, clear_type_marks, clear_name, clear_item, clear_part, clear_form, clear_type, clear_types, clear_assignment}
-use Rattle.module_unique.proofs.Firsts.{place-here, place-further, got-mapped}
 
 -- ---- bounds and items
 

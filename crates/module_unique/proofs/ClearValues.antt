@@ -16,8 +16,8 @@ use Rattle.module_text.specs.declared.types.PlainForm.{PlainForm}
 use Rattle.module_text.specs.declared.types.PlainForm.TheVariants as form
 use Rattle.module_text.specs.declared.types.PlainLabel.{PlainLabel}
 use Rattle.module_faults.specs.Defaults as defaults
+use Rattle.module_laws.proofs.Firsts.{got-mapped}
 use Rattle.module_unique.proofs.Clearing.{clear_value, clear_values, clear_name, clear_item, clear_part, clear_form, clear_type}
-use Rattle.module_unique.proofs.Firsts.{got-mapped}
 use Rattle.module_unique.proofs.ClearSimple.{words_same, position_same}
 use Rattle.module_unique.proofs.ClearRoles.{clear_label}
 use Rattle.module_unique.proofs.ClearOrders.{kids_same}

@@ -22,9 +22,9 @@ use Rattle.module_text.specs.Plain.{limit}
 use Rattle.module_faults.specs.declared.spots.Spot.{Spot}
 use Rattle.module_faults.specs.declared.spots.Spot.TheVariants.{Elsewhere}
 use Rattle.module_faults.specs.Printable.{part_spot, IsPrintableType, ArePrintable, AllPrintable, IsPrintableAssignment, IsPrintable}
+use Rattle.module_laws.proofs.Firsts.{same_bytes, mapped, all-at}
 use Rattle.module_unique.specs.Alike.{HasOctets, AreOfOctets, AllAreOfOctets, IsOfOctets}
 use Rattle.module_unique.proofs.Telling.{reading_told, value_told}
-use Rattle.module_unique.proofs.Firsts.{same_bytes, mapped, all-at}
 use Rattle.module_unique.proofs.Shapes.{shaped}
 use Rattle.module_unique.proofs.Values.{Fine, AllFine, IsTold, is_told}
 

@@ -1,29 +1,28 @@
--- The text of a printable module has no fault, where its texts are UTF-8.
-use Rattle.std.proofs.Common.{◌≡◌, ◌∙◌, List, [], ap, refl}
-use Rattle.asn_types.specs.declared.modules.Assignment.{Assignment}
+-- The print of a printable module has no fault, where its texts are UTF-8, and means the module.
+use Rattle.std.proofs.Common.{◌≡◌, ◌∙◌, List, [], ap}
 use Rattle.module_print.specs.Printed.{printed}
 use Rattle.module_text.specs.declared.modules.PlainAssignment.{PlainAssignment}
-use Rattle.module_text.specs.Grammar.{IsTextOf}
 use Rattle.module_text.specs.Places.{placed}
+use Rattle.module_grammar.specs.TextsRead.{AllTextsRead}
 use Rattle.module_faults.specs.Faults.{faults}
-use Rattle.module_faults.specs.Printable.{IsPrintable}
-use Rattle.module_unique.specs.Alike.{IsOfOctets}
+use Rattle.module_laws.specs.Laws.{NoFaultIsPrintable}
+use Rattle.module_unique.specs.Faultless.{PrintableHasNoFault}
 use Rattle.module_unique.proofs.Telling.{module_told}
 use Rattle.module_unique.proofs.Unique.{cleared, told_text}
 use Rattle.module_unique.proofs.ClearFaults.{faultless}
-use Rattle.module_unique.proofs.CleanModule.{IsOfUtf8, module_clean}
+use Rattle.module_unique.proofs.CleanModule.{module_clean}
+use Rattle.module_unique.proofs.Octets.{module_octets}
+use Rattle.module_unique.proofs.OctetsMeant.{meant_is}
 
--- a text of these bytes that has no fault
-pub record Faultless (M : List Assignment) : Type 0 where
-  pub assignments : List PlainAssignment
-  pub told : assignments ≡ placed (module_told M)
-  pub is : IsTextOf (printed M) assignments
-  pub none : faults assignments ≡ []
-
-pub no_fault : (M : List Assignment) → IsPrintable M → IsOfOctets M → IsOfUtf8 M → Faultless M
-no_fault M is octets utf8 = record {
-  assignments = placed (module_told M);
-  told = refl;
-  is = told_text M is octets;
-  none = faultless (placed (module_told M)) (ap faults (cleared M is octets) ∙ module_clean M is octets utf8);
-}
+pub no_fault : AllTextsRead → NoFaultIsPrintable → PrintableHasNoFault
+no_fault read printable M is texts =
+    let octets = module_octets M texts in
+    let P : List PlainAssignment = placed (module_told M) in
+    let text = told_text M is octets in
+    let none : faults P ≡ [] = faultless P (ap faults (cleared M is octets) ∙ module_clean M is octets texts) in
+    record {
+      assignments = P;
+      text = text;
+      none = none;
+      meant = λ short. meant_is read M is octets P (printable (printed M) P short text none);
+    }

@@ -25,9 +25,9 @@ use Rattle.module_text.specs.Plain as plain
 use Rattle.module_faults.specs.declared.spots.Spot.{Spot}
 use Rattle.module_faults.specs.declared.spots.Spot.TheVariants.{Elsewhere}
 use Rattle.module_faults.specs.Printable.{HasPartMarks, HasNames, IsIdentifier, IsPresent, part_spot}
+use Rattle.module_laws.proofs.Firsts.{got-at, all-at}
 use Rattle.module_unique.specs.Alike.{HasOctets}
 use Rattle.module_unique.proofs.Telling.{number_told, both_told, range_told, size_told, fixed_told, default_told, standard_told, name_at, numbered_told, component_told, components_told, only_told, form_told, type_told, types_told, assignment_told, module_told}
-use Rattle.module_unique.proofs.Firsts.{got-at, all-at}
 use Rattle.module_unique.proofs.Digits.{number_is, number_named, size_number, octets_are}
 use Rattle.module_unique.proofs.Marked.{part_marks_ordered, type_marks_ordered}
 use Rattle.module_unique.proofs.Words.{identifiers_in, texts_found, type_marks_plain}

@@ -32,8 +32,8 @@ use Rattle.module_text.specs.Plain.{IsValue, AreValues}
 use Rattle.module_faults.specs.Told.{words_of}
 use Rattle.module_faults.specs.Defaults as defaults
 use Rattle.module_faults.specs.Printable.{HasNames, IsIdentifier, is_text, texts_due}
+use Rattle.module_laws.proofs.Firsts.{bytes-self, got-within, got-at, got-mapped, index-is, all-at, only-at}
 use Rattle.module_unique.proofs.Telling.{type_marks_told, name_at, numbered_told, components_told, form_told, form_value, part_told, value_told, type_told, types_told}
-use Rattle.module_unique.proofs.Firsts.{bytes-self, got-within, got-at, got-mapped, index-is, all-at, only-at}
 use Rattle.module_unique.proofs.Digits.{number_is, number_named, numbers_same}
 use Rattle.module_unique.proofs.Shapes.{EachShaped, Shaped, ShapedBy}
 use Rattle.module_unique.proofs.Words.{words_are}

@@ -22,8 +22,8 @@ use Rattle.module_faults.specs.Marks.{item_number}
 use Rattle.module_faults.specs.Meaning.{type_mark_meant, type_marks_meant}
 use Rattle.module_faults.specs.Printable.{is_of_part, is_text, text_marks, texts_due, MayBe, IsIdentifier}
 use Rattle.module_faults.proofs.PrintedBounds.{and-first, and-second}
+use Rattle.module_laws.proofs.Firsts.{bytes-self, bytes-turned, same_bytes, all-at, only-at}
 use Rattle.module_unique.proofs.Telling.{name_told, type_kind, type_marks_told, name_at}
-use Rattle.module_unique.proofs.Firsts.{bytes-self, bytes-turned, same_bytes, all-at, only-at}
 use Rattle.module_unique.proofs.Marked.{name_back, of_types}
 
 abbrev pub one_said : List ℕ → NameAs → Said

@@ -18,7 +18,7 @@ use Rattle.simple_values.specs.Lexical.{is_128_bits, boolean_text}
 use Rattle.simple_values.specs.Reading.{spelled, spelled_by, spelled_if}
 use Rattle.simple_values.proofs.Decimals.{short}
 use Rattle.module_faults.proofs.PrintedBounds.{and-first, and-second}
-use Rattle.module_unique.proofs.Firsts.{index-is}
+use Rattle.module_laws.proofs.Firsts.{index-is}
 use Rattle.module_unique.proofs.Digits.{numeral}
 use Rattle.module_unique.proofs.Shapes.{EachShaped, Shaped, ShapedBy}
 use Rattle.module_unique.proofs.CleanForms.{both-so}
@@ -28,7 +28,7 @@ IsXml text = list_all is_xml_char (chars text) ≡ true
 
 -- ---- ASCII
 
-record Plain (text : List ℕ) : Type 0 where
+pub record Plain (text : List ℕ) : Type 0 where
   pub ascii : IsAscii text
   pub xml : list_all is_xml_char text ≡ true
 
@@ -65,7 +65,7 @@ digits_plain (d ∷ ds) e =
     let first = and-first (is_digit d) (list_all is_digit ds) e in
     plain_more d ds (digit_ascii d first) (digit_xml d first) (digits_plain ds (and-second (is_digit d) (list_all is_digit ds) e))
 
-numeral_plain : (ds : List ℕ) → is_numeral ds ≡ true → Plain ds
+pub numeral_plain : (ds : List ℕ) → is_numeral ds ≡ true → Plain ds
 numeral_plain [] e = absurd (true≢false (sym e))
 numeral_plain (d ∷ ds) e = digits_plain (d ∷ ds) e
 

@@ -1,8 +1,8 @@
-//! No two printable modules print alike.
+//! No two printable modules print alike, and the print of each is read back.
 //!
-//! Read first: `specs/Alike` (the law), then `proofs/Telling` (what the print of a module tells).
+//! Read first: the laws, `specs/Alike` and `specs/Faultless`, then `proofs/Telling` (what the print of a module tells).
 #![tactic(auto)]
 
 mod laws;
 
-pub use laws::prints_differ;
+pub use laws::{printable_has_no_fault, prints_differ, told_exactly};

@@ -6,7 +6,7 @@ use clap::{Arg, ArgAction, ArgMatches, Command, Error};
 use std::alloc::Global;
 
 /// What a command does.
-#[derive(Clone, Copy, Debug, PartialEq, Eq)]
+#[derive(Clone, Copy, PartialEq, Eq)]
 pub enum Task {
     Show,
     Check,
@@ -47,36 +47,37 @@ pub enum Parsed<'a> {
     Mistake(String),
 }
 
+// An argument that does this with its values.
+fn arg<'a>(alloc: Global, id: &'a str, action: ArgAction, help: &'a str) -> Arg<'a> {
+    Arg::new(alloc, id).action(action).help(help)
+}
+
 fn valued<'a>(alloc: Global, id: &'a str, short: char, name: &'a str, help: &'a str) -> Arg<'a> {
-    Arg::new(alloc, id)
+    arg(alloc, id, ArgAction::Set, help)
         .short(short)
         .value_name(name)
-        .action(ArgAction::Set)
-        .help(help)
 }
 
 fn flag<'a>(alloc: Global, id: &'a str, help: &'a str) -> Arg<'a> {
-    Arg::new(alloc, id)
-        .long(id)
-        .action(ArgAction::SetTrue)
-        .help(help)
+    arg(alloc, id, ArgAction::SetTrue, help).long(id)
 }
 
 fn words<'a>(alloc: Global, name: &'a str, help: &'a str) -> Arg<'a> {
-    Arg::new(alloc, "words")
+    arg(alloc, "words", ArgAction::Append, help)
         .value_name(name)
         .required(true)
         .num_args(1..)
-        .action(ArgAction::Append)
-        .help(help)
 }
 
 fn root<'a>(alloc: Global) -> Arg<'a> {
-    Arg::new(alloc, "root")
-        .long("root")
-        .value_name("NAME")
-        .action(ArgAction::Set)
-        .help("The root element: all words are files then")
+    arg(
+        alloc,
+        "root",
+        ArgAction::Set,
+        "The root element: all words are files then",
+    )
+    .long("root")
+    .value_name("NAME")
 }
 
 // A command over a root, files and an input.
@@ -96,20 +97,25 @@ fn over_root<'a>(
     Ok(command)
 }
 
+// A command that writes to a file.
+fn with_output<'a>(alloc: Global, command: Command<'a>) -> Result<Command<'a>, Error> {
+    let command = command.arg(valued(
+        alloc,
+        "output",
+        'o',
+        "FILE",
+        "Write to this file, whole or not at all",
+    ))?;
+    Ok(command)
+}
+
 // A command that writes in a transfer syntax, or reads.
 fn with_syntax<'a>(
     alloc: Global,
     command: Command<'a>,
     stamp: &'a str,
 ) -> Result<Command<'a>, Error> {
-    let command = command
-        .arg(valued(
-            alloc,
-            "output",
-            'o',
-            "FILE",
-            "Write to this file, whole or not at all",
-        ))?
+    let command = with_output(alloc, command)?
         .arg(flag(alloc, "stamp", stamp))?
         .arg(valued(
             alloc,
@@ -131,15 +137,8 @@ fn show<'a>(alloc: Global) -> Result<Command<'a>, Error> {
             "plain",
             "Leave out what X.693 adds, for other ASN.1 compilers",
         ))?
-        .arg(flag(alloc, "stamp", "Write the stamp of the module instead"))?
-        .arg(valued(
-            alloc,
-            "output",
-            'o',
-            "FILE",
-            "Write to this file, whole or not at all",
-        ))?;
-    Ok(command)
+        .arg(flag(alloc, "stamp", "Write the stamp of the module instead"))?;
+    with_output(alloc, command)
 }
 
 fn check<'a>(alloc: Global) -> Result<Command<'a>, Error> {

@@ -39,8 +39,8 @@ fn written(alloc: Global, line: &str) -> Result<Option<Piece>, LineError> {
     Ok(None)
 }
 
-// `= 0D 0A` stands for octets, `copy NAME` for the text of that name, `repeat 101 400 > TEXT` for the text with each of
-// these numbers in place of its `@`.
+// `= 0D 0A` stands for octets, `copy NAME` for the text of that name, `copies 1000 NAME` for so many of it, and
+// `repeat 101 400 > TEXT` for the text with each of these numbers in place of its `@`.
 fn other_bytes(
     alloc: Global,
     texts: &[NamedText<'_>],
@@ -52,6 +52,9 @@ fn other_bytes(
     if let Some(name) = line.strip_prefix("copy ") {
         let contents = find_text(texts, name).ok_or(LineError::NoText)?;
         return Ok(Some(contents.to_vec(alloc)?));
+    }
+    if let Some(rest) = line.strip_prefix("copies ") {
+        return Ok(Some(copies(alloc, texts, rest)?));
     }
     if let Some(rest) = line.strip_prefix("repeat ") {
         return Ok(Some(repeated(alloc, rest)?));
@@ -90,6 +93,13 @@ fn octets(alloc: Global, digits: &str) -> Result<Vec<u8>, LineError> {
         bytes.extend_from_slice(&more)?;
     }
     Ok(bytes)
+}
+
+// `1000 NAME` stands for the text of that name, so many times.
+fn copies(alloc: Global, texts: &[NamedText<'_>], rest: &str) -> Result<Vec<u8>, LineError> {
+    let (times, name) = rest.split_once(' ').ok_or(LineError::Unknown)?;
+    let contents = find_text(texts, name).ok_or(LineError::NoText)?;
+    Ok(contents.repeat(alloc, times.parse()?)?)
 }
 
 // `101 400 > a@` stands for `a101` to `a400`.

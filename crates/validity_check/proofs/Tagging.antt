@@ -20,7 +20,7 @@ use Rattle.schema_parts.specs.SetParts.{SetParts, parts_of}
 use Rattle.schema_parts.proofs.Truths.{both}
 use Rattle.validity.specs.Asked.{Asked, Attribute, attribute_in, Inside, nothing, simple, children, asked_at}
 use Rattle.validity.specs.Valid.{treated_element}
-use Rattle.validity.specs.Attributes.{is_special, text_of, left, nil_of, nil_from, AllStand, OneMissing}
+use Rattle.validity.specs.Attributes.{is_special, text_of, left, nil_of, nil_from, IsRight, Stands, AllStand, OneMissing}
 use Rattle.validity.specs.Faults.{IsBad, FirstKid, FaultBy}
 use Rattle.validity.specs.declared.why.InvalidWhy.{InvalidWhy}
 use Rattle.validity.specs.declared.why.InvalidWhy.TheVariants.{XsiType, BadNil, MissingAttribute, NilWithContent}
@@ -87,6 +87,13 @@ module _ (s : Set) (p : SetParts) (xs : List (Name × List ℕ)) where
   all_stand_left us h stand = λ k d lt required none.
       let a = get_or (map (attribute_in p) us) k d in
       stand k d lt required (sym (text_left a.name (uses_plain us h k d lt) xs) ∙ none)
+
+-- ---- a start tag without attributes, of an element that takes none
+
+pub bare : (a : Asked) → a.attributes ≡ [] → (xs : List (Name × List ℕ)) → xs ≡ [] → IsGoodTag a xs false
+bare a e xs f =
+    subst (λ ys. IsGoodTag a ys false) (sym f)
+    (record { plain = refl; nil_is = refl; right = All-nil (IsRight a.attributes); stand = subst (λ ws. AllStand ws (left [])) (sym e) (All-nil (Stands (left []))) })
 
 -- ---- the fault of a start tag is one of its element
 

@@ -5,7 +5,7 @@ ghost use Rattle.schema_parts.specs.Linked.{IsLinked};
 ghost use Rattle.validity_check.specs.Kept.{IsPlanAt};
 ghost use Rattle.validity_check.specs.Told.{model_at};
 
-use content_match::{Plan, compile};
+use content_match::{Lists, Plan, compile};
 use content_models::Particle;
 use schema_parts::SchemaSet;
 use std::alloc::Global;
@@ -20,6 +20,8 @@ pub struct Plans<'a> {
     set: &'a SchemaSet,
     // For each complex type, the plan of its content model.
     kept: Vec<Option<Rc<Plan>>>,
+    // Lists of matchers that are done: as many as were in use at once.
+    spare: Vec<Lists>,
 }
 
 impl<'a> Model for Plans<'a> {
@@ -48,11 +50,33 @@ impl<'a> Plans<'a> {
         'complexes: while kept.len() < count {
             kept.push(None)?;
         }
-        Ok(Plans { alloc, set, kept })
+        Ok(Plans {
+            alloc,
+            set,
+            kept,
+            spare: Vec::new(alloc),
+        })
     }
 
     pub fn alloc(&self) -> Global {
         self.alloc
+    }
+
+    /// Lists for a matcher, or for a way that it goes: those that were given back last, if any are left.
+    pub fn lists(&mut self) -> Lists
+        ensures { self.new ≡ self.old }
+    {
+        match self.spare.pop() {
+            Some(lists) => lists,
+            None => Lists::new(self.alloc),
+        }
+    }
+
+    /// Takes lists back. Where there is no memory to keep them they go.
+    pub fn give_back(&mut self, lists: Lists)
+        ensures { self.new ≡ self.old }
+    {
+        let _ = self.spare.push(lists);
     }
 
     // The plan that is kept for a complex type.

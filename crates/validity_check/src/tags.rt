@@ -1,5 +1,5 @@
 //! The rules of a start tag, in the order of their faults.
-ghost use Rattle.std.specs.Prelude.{◌≡◌, true, false, Some, None, All, map, MatchOption, MatchResult, IfOk, IsTrue, IsFalse};
+ghost use Rattle.std.specs.Prelude.{◌≡◌, [], true, false, Some, None, All, map, MatchOption, MatchResult, IfOk, IsTrue, IsFalse};
 ghost use Rattle.xa_base.specs.Names.{name_eq};
 ghost use Rattle.xa_base.specs.WhiteSpace.{treated};
 ghost use Rattle.simple_values.specs.Lexical.{boolean_of};
@@ -95,6 +95,14 @@ fn lacks(set: &SchemaSet, uses: &Uses<'_>, attributes: &[(Name, Text)], judged: 
     judged.lacks
 }
 
+// Whether no attribute stands, and none is declared.
+fn is_bare(declared: &Declared, attributes: &[(Name, Text)]) -> bool
+    ensures attributes { IsTrue result → attributes.now ≡ [] }
+    ensures uses { IsTrue result → declared.now.uses.list.now ≡ [] }
+{
+    attributes.is_empty() && declared.uses.list.is_empty()
+}
+
 /// Whether an element that is declared so is nil; or the first fault of its start tag, which stands at this place.
 pub fn check_tag(
     alloc: Global,
@@ -109,6 +117,9 @@ pub fn check_tag(
         (λ nil. IsGoodTag (told (parts_of set.now) declared.now) attributes.now nil)
         (Tells (TagFault (told (parts_of set.now) declared.now) attributes.now at)) }
 {
+    if is_bare(declared, attributes) {
+        return Ok(false);
+    }
     if special(attributes, TYPE).is_some() {
         return Err(CheckError::Invalid {
             at,

@@ -1,4 +1,4 @@
-use Rattle.std.proofs.Common.{true, false, inl, inr, refl, sym, ap, subst, ◌∙◌, arith}
+use Rattle.std.proofs.Common.{true, false, inl, inr, IfOk, refl, sym, ap, subst, ◌∙◌, arith}
 use Rattle.std.proofs.lemmas.List.{drop_all}
 use Rattle.label_tree.specs.Rose.{roses_of, kids_of, count_all}
 use Rattle.label_tree.proofs.Roses.{node_count-kids, node_count-positive}
@@ -19,17 +19,27 @@ complex_type-returns t c =
     let s = c.args.set.now in
     let place = place_of c.args.places.now in
     let d = c.args.definition.now in
-    let rest = rest_parts (declared s c.args.levels) s c.args.nillable d.content in
     let T = declared s c.args.levels in
-    let parts = attributes s d.uses rest in
-    let ordered = with_order (is_ordered d.content) (order_plan T s c.args.nillable d) parts in
+    let ordered = with_order (is_ordered d.content) (order_plan T s c.args.nillable d) (attributes s d.uses (rest_parts T s c.args.nillable d.content)) in
     let whole = with_texts (is_mixed d.content) ordered in
     let begun = subst (λ b. LeadsToNamed place c.in_ok-parts.parts ordered (with_texts b ordered)) c.is_mixed-mixed.ensures (c.in_ok-parts.ensures place ordered) in
-    let told = c.in_ok-push_content_order.ensures place T s parts whole begun in
-    let behind = c.in_ok-push_attributes.ensures rest whole (subst (λ us. LeadsToNamed place c.push_content_order.new.parts (attributes s us rest) whole) (sym c.items.ensures) told) in
-    named-sequence place c.push_rest.new.parts c.into_sequence.result c.in_ok-marks.marks c.args.nillable (is_mixed d.content) (is_ordered d.content) whole c.into_sequence.ensures
+    named-sequence place c.push_parts.new.parts c.into_sequence.result c.in_ok-marks.marks c.args.nillable (is_mixed d.content) (is_ordered d.content) whole c.into_sequence.ensures
     (c.in_ok-marks.ensures ∙ ap (λ b. sequence_marks c.args.nillable b c.is_ordered.result) c.is_mixed-mixed.ensures ∙ ap (sequence_marks c.args.nillable (is_mixed d.content)) c.is_ordered.ensures)
-    (c.in_ok-push_rest.ensures whole behind)
+    (c.in_ok-push_parts.ensures whole begun)
+
+pub push_parts-returns : goal.push_parts-returns
+push_parts-returns t c =
+    let s = c.args.set.now in
+    let place = place_of c.args.places.now in
+    let d = c.args.definition.now in
+    let T = declared s c.args.levels in
+    let rest = rest_parts T s c.args.nillable d.content in
+    let parts = attributes s d.uses rest in
+    on_ok c.push_rest.result _ _
+    (λ h whole begun.
+    let told = c.in_ok-push_content_order.ensures place T s parts whole begun in
+    h whole (c.in_ok-push_attributes.ensures rest whole (subst (λ us. LeadsToNamed place c.push_content_order.new.parts (attributes s us rest) whole) (sym c.items.ensures) told)))
+    c.push_rest.ensures
 
 pub content_type-returns : goal.content_type-returns
 content_type-returns t c =
@@ -129,53 +139,65 @@ term_type-particle_type-requires t c =
     let particle = c.args.particle.now in
     let some = node_count-positive particle in
     let now = c.decreases in
-    (omega (arith, now, some), (c.requires.linked, known-element c.args.set.now particle c.label-label.result.now c.in-Element.decl _ c.requires.known c.label-label.ensures c.in-Element.is))
+    (omega (arith, now, some), (c.requires.linked, known-element c.args.set.now particle c.label.result.now c.in-Element.decl _ c.requires.known c.label.ensures c.in-Element.is))
 
-pub term_type-push_particles-requires : goal.term_type-push_particles-requires
-term_type-push_particles-requires t c =
+pub term_type-sequence_type-requires : goal.term_type-sequence_type-requires
+term_type-sequence_type-requires t c =
     let particle = c.args.particle.now in
     let below = c.kids.ensures in
     let now = c.decreases in
     let fewer = ap (λ ts. count_all (roses_of ts)) below in
     let all = node_count-kids particle in
     let known : AreKnown c.args.set.now c.kids.result.now = elim c.in-Sequence.is [
-      | inl kind ↦ known-kids c.args.set.now particle c.label-label.result.now c.kids.result.now c.requires.known c.label-label.ensures below kind
-      | inr kind ↦ known-all c.args.set.now particle c.label-label.result.now c.kids.result.now c.requires.known c.label-label.ensures below kind
+      | inl kind ↦ known-kids c.args.set.now particle c.label.result.now c.kids.result.now c.requires.known c.label.ensures below kind
+      | inr kind ↦ known-all c.args.set.now particle c.label.result.now c.kids.result.now c.requires.known c.label.ensures below kind
     ] in
     (omega (arith, now, fewer, all), (c.requires.linked, known))
 
-pub term_type-push_particles-requires-in-Choice : goal.term_type-push_particles-requires-in-Choice
-term_type-push_particles-requires-in-Choice t c =
+pub term_type-choice_type-requires : goal.term_type-choice_type-requires
+term_type-choice_type-requires t c =
     let particle = c.args.particle.now in
     let below = c.kids-in-Choice.ensures in
     let now = c.decreases in
     let fewer = ap (λ ts. count_all (roses_of ts)) below in
     let all = node_count-kids particle in
-    (omega (arith, now, fewer, all), (c.requires.linked, known-alternatives c.args.set.now particle c.label-label.result.now c.kids-in-Choice.result.now c.requires.known c.label-label.ensures below c.in-Choice.is))
+    (omega (arith, now, fewer, all), (c.requires.linked, known-alternatives c.args.set.now particle c.label.result.now c.kids-in-Choice.result.now c.requires.known c.label.ensures below c.in-Choice.is))
 
-pub term_type-returns-in_ok-push_particles-in-Sequence : goal.term_type-returns-in_ok-push_particles-in-Sequence
-term_type-returns-in_ok-push_particles-in-Sequence t c =
+pub term_type-returns-in-Sequence : goal.term_type-returns-in-Sequence
+term_type-returns-in-Sequence t c =
     let place = place_of c.args.places.now in
     let T = declared c.args.set.now c.args.levels in
     let ps = all_seen (roses_of c.kids.result.now) in
-    let whole = particle_parts T false ps in
-    let new = c.new-parts in
-    subst (λ p. IsNamed place p c.into_sequence.result)
-    (sym (ap (term_type T) (term-parts c.args.particle.now c.label-label.result.now c.kids.result.now c.label-label.ensures c.kids.ensures) ∙ group-type T c.label-label.result.now.kind ps c.in-Sequence.is))
-    (named-sequence place c.push_particles.new.parts c.into_sequence.result c.of-marks.result false false false whole c.into_sequence.ensures (c.of-marks.ensures ∙ c.new.ensures.items)
-    (c.in_ok-push_particles-in-Sequence.ensures whole (leads-init place new.result whole new.ensures.scope new.ensures.components new.ensures.kids)))
+    subst (λ p. IfOk c.sequence_type.result (λ made. IsNamed place p made))
+    (sym (ap (term_type T) (term-parts c.args.particle.now c.label.result.now c.kids.result.now c.label.ensures c.kids.ensures) ∙ group-type T c.label.result.now.kind ps c.in-Sequence.is))
+    c.sequence_type.ensures
 
-pub term_type-returns-in_ok-push_particles-in-Choice : goal.term_type-returns-in_ok-push_particles-in-Choice
-term_type-returns-in_ok-push_particles-in-Choice t c =
+pub term_type-returns-in-Choice : goal.term_type-returns-in-Choice
+term_type-returns-in-Choice t c =
     let place = place_of c.args.places.now in
     let T = declared c.args.set.now c.args.levels in
     let ps = all_seen (roses_of c.kids-in-Choice.result.now) in
-    let whole = particle_parts T true ps in
+    subst (λ m. IfOk c.choice_type.result (λ made. IsNamed place (term_type T m) made))
+    (sym (term-parts c.args.particle.now c.label.result.now c.kids-in-Choice.result.now c.label.ensures c.kids-in-Choice.ensures ∙ ap (λ k. term_seen k ps) c.in-Choice.is))
+    c.choice_type.ensures
+
+pub sequence_type-returns : goal.sequence_type-returns
+sequence_type-returns t c =
+    let place = place_of c.args.places.now in
+    let T = declared c.args.set.now c.args.levels in
+    let whole = particle_parts T false (all_seen (roses_of c.args.particles.now)) in
     let new = c.new-parts in
-    subst (λ m. IsNamed place (term_type T m) c.into_choice.result)
-    (sym (term-parts c.args.particle.now c.label-label.result.now c.kids-in-Choice.result.now c.label-label.ensures c.kids-in-Choice.ensures ∙ ap (λ k. term_seen k ps) c.in-Choice.is))
-    (named-choice place c.push_particles-in-Choice.new.parts c.into_choice.result c.of-marks.result whole c.into_choice.ensures (c.of-marks.ensures ∙ c.new.ensures.items)
-    (c.in_ok-push_particles-in-Choice.ensures whole (leads-init place new.result whole new.ensures.scope new.ensures.components new.ensures.kids)))
+    named-sequence place c.push_particles.new.parts c.into_sequence.result c.of.result false false false whole c.into_sequence.ensures (c.of.ensures ∙ c.new.ensures.items)
+    (c.in_ok-push_particles.ensures whole (leads-init place new.result whole new.ensures.scope new.ensures.components new.ensures.kids))
+
+pub choice_type-returns : goal.choice_type-returns
+choice_type-returns t c =
+    let place = place_of c.args.places.now in
+    let T = declared c.args.set.now c.args.levels in
+    let whole = particle_parts T true (all_seen (roses_of c.args.particles.now)) in
+    let new = c.new-parts in
+    named-choice place c.push_particles.new.parts c.into_choice.result c.of.result whole c.into_choice.ensures (c.of.ensures ∙ c.new.ensures.items)
+    (c.in_ok-push_particles.ensures whole (leads-init place new.result whole new.ensures.scope new.ensures.components new.ensures.kids))
 
 pub push_particles-term_type-requires : goal.push_particles-term_type-requires
 push_particles-term_type-requires t c =

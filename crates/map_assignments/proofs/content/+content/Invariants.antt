@@ -18,7 +18,10 @@ abbrev pub decreases-in_place : goal.decreases-in_place
 decreases-in_place l = 1048576 * l.levels
 
 abbrev pub decreases-complex_type : goal.decreases-complex_type
-decreases-complex_type l = 1048576 * l.levels + 400003
+decreases-complex_type l = 1048576 * l.levels + 400004
+
+abbrev pub decreases-push_parts : goal.decreases-push_parts
+decreases-push_parts l = 1048576 * l.levels + 400003
 
 abbrev pub decreases-push_rest : goal.decreases-push_rest
 decreases-push_rest l = 1048576 * l.levels + 400002
@@ -34,6 +37,12 @@ decreases-push_top l = 1048576 * l.levels + 4 * node_count l.particle.now + 4
 
 abbrev pub decreases-term_type : goal.decreases-term_type
 decreases-term_type l = 1048576 * l.levels + 4 * node_count l.particle.now + 3
+
+abbrev pub decreases-sequence_type : goal.decreases-sequence_type
+decreases-sequence_type l = 1048576 * l.levels + 4 * count_all (roses_of l.particles.now) + 5
+
+abbrev pub decreases-choice_type : goal.decreases-choice_type
+decreases-choice_type l = 1048576 * l.levels + 4 * count_all (roses_of l.particles.now) + 5
 
 abbrev pub decreases-push_particles : goal.decreases-push_particles
 decreases-push_particles l = 1048576 * l.levels + 4 * count_all (roses_of l.particles.now) + 4

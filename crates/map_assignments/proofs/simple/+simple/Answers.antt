@@ -35,19 +35,19 @@ union_type-simple_type-requires t c =
 
 pub union_type-members-preserved : goal.union_type-members-preserved
 union_type-members-preserved t c =
-    members-next c.args.members.now c.members.member-index c.member-item.result c.members.scope c.next_alternative.new.scope
-    c.members.components.items c.push.new.self.items c.members.kids.items c.push-in-members.new.self.items c.in_ok-identifier.identifier c.in_ok-kid.kid
-    c.members-test.true c.member-item.is c.in_ok-identifier.ensures.taken c.in_ok-identifier.ensures.noted
-    (c.in_ok-push.ensures.items ∙ ap (λ p. c.members.components.items ++ p ∷ []) c.unmarked.ensures) c.in_ok-push-2.ensures.items c.in_ok-kid.ensures
+    let more = c.in_ok-push_alternative.ensures in
+    members-next c.args.members.now c.members.member-index c.member-item.result c.members.parts.scope c.push_alternative.new.parts.scope
+    c.members.parts.components.items c.push_alternative.new.parts.components.items c.members.parts.kids.items c.push_alternative.new.parts.kids.items more.identifier c.in_ok-kid.kid
+    c.members-test.true c.member-item.is more.taken more.noted more.component more.kid_added c.in_ok-kid.ensures
     c.members.invariant
 
 pub union_type-returns : goal.union_type-returns
 union_type-returns t c =
     if_ok c.union_of.result _ _
     (λ made is. (
-      c.members.components.items,
-      roses_of c.members.kids.items,
+      c.members.parts.components.items,
+      roses_of c.members.parts.kids.items,
       is,
-      members-end c.args.members.now c.members.member-index c.members.scope c.members.components.items c.members.kids.items c.members-test.false c.members.invariant,
+      members-end c.args.members.now c.members.member-index c.members.parts.scope c.members.parts.components.items c.members.parts.kids.items c.members-test.false c.members.invariant,
     ))
     c.union_of.ensures

@@ -12,4 +12,4 @@ decreases-union_type l = 2 * count_all_parts (spaces_in l.members.now) + 1
 
 abbrev pub invariant-union_type-members : goal.invariant-union_type-members
 invariant-union_type-members l =
-    LeadsToMembers l.scope (spaces_in (drop l.member-index l.members)) l.components.items l.kids.items (spaces_in l.members)
+    LeadsToMembers l.parts.scope (spaces_in (drop l.member-index l.members)) l.parts.components.items l.parts.kids.items (spaces_in l.members)

@@ -1,4 +1,4 @@
-use Rattle.std.proofs.Common.{sym, ◌∙◌, arith}
+use Rattle.std.proofs.Common.{arith}
 use Rattle.module_check.proofs.Listing.{simples-length, simple-at}
 use Rattle.module_check.proofs.attributes.meant_simple.Goals as goal
 

@@ -1,4 +1,4 @@
-use Rattle.std.proofs.Common.{Bool, ◌+◌, ◌++◌, ◌∷◌, [], take, map, ap, sym, ◌∙◌}
+use Rattle.std.proofs.Common.{Bool, ◌++◌, ◌∷◌, [], take, map, ap, sym, ◌∙◌}
 use Rattle.std.specs.Option.{option_map}
 use Rattle.std.proofs.lemmas.List.{take_all}
 use Rattle.module_text.specs.declared.modules.PlainAssignment.{PlainAssignment}

@@ -1,4 +1,4 @@
-use Rattle.std.proofs.Common.{◌≡◌, take, map, length, vec_len, vec_capacity}
+use Rattle.std.proofs.Common.{◌≡◌, take, map}
 use Rattle.std.specs.Option.{option_map}
 use Rattle.module_text.specs.declared.modules.PlainAssignment.{PlainAssignment}
 use Rattle.module_faults.specs.Resolving.{near_references}

@@ -1,4 +1,4 @@
-use Rattle.std.proofs.Common.{None, length, min, ap, sym, ◌∙◌, ◌<◌, arith}
+use Rattle.std.proofs.Common.{length, ap, sym, ◌∙◌, ◌<◌, arith}
 use Rattle.label_tree.specs.Rose.{roses_of, count_all}
 use Rattle.label_tree.proofs.Roses.{node_count-kids}
 use Rattle.label_tree.proofs.Kids.{kid-count-le}

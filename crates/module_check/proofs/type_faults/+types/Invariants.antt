@@ -1,4 +1,4 @@
-use Rattle.std.proofs.Common.{◌≡◌, [], ◌+◌, ◌-◌, ◌*◌, drop}
+use Rattle.std.proofs.Common.{[], ◌+◌, ◌-◌, ◌*◌, drop}
 use Rattle.label_tree.specs.Rose.{roses_of, node_count, count_all}
 use Rattle.module_text.specs.Texts.{parts_of}
 use Rattle.module_faults.specs.Listed.{first}

@@ -12,5 +12,7 @@ assignments-preserved c =
     (get bytes_eq c.assignments.numbers) (get bytes_eq c.note.new.numbers) c.assignments.invariant c.in_ok-note.ensures
 
 pub returns : goal.returns
-returns c = λ r.
-    c.assignments.invariant r ∙ ap (λ Q. number_of Q r) (take_all c.assignments.i c.args.assignments.now c.assignments-test.false)
+returns c = record {
+  numbers = λ r. c.assignments.invariant r ∙ ap (λ Q. number_of Q r) (take_all c.assignments.i c.args.assignments.now c.assignments-test.false);
+  indexes = c.in_ok-indexes.ensures;
+}

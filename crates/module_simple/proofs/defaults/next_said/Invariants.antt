@@ -1,7 +1,0 @@
-use Rattle.std.proofs.Common.{◌≡◌, drop}
-use Rattle.std.specs.List.{filter_map}
-use Rattle.module_faults.specs.Told.{said}
-use Rattle.module_simple.proofs.defaults.next_said.Given as goal
-
-abbrev pub invariant-marks : goal.invariant-marks
-invariant-marks l = filter_map said (drop l.i l.marks) ≡ filter_map said l.marks
