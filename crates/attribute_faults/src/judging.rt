@@ -18,7 +18,7 @@ use validity::InvalidWhy;
 use xa_base::{Memory, Name, Text};
 
 /// What is wrong with the attributes of an element.
-#[derive(Clone, Copy, Debug)]
+#[derive(Clone, Copy)]
 pub struct Judged {
     /// Why the first attribute that is wrong is so, if there is one.
     pub wrong: Option<InvalidWhy>,

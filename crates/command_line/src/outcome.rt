@@ -11,7 +11,7 @@ use schema_rules::SchemaWhy;
 use validity::InvalidWhy;
 
 /// What a call of the program ends with. Files are numbered from 1 in the order of the words; number 0 is the input.
-#[derive(Clone, Copy, Debug, PartialEq, Eq)]
+#[derive(Clone, Copy, PartialEq, Eq)]
 pub enum Outcome {
     /// The whole result was written.
     Done,

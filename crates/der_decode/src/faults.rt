@@ -7,7 +7,7 @@ use std::alloc::{AllocError, AllocFailed};
 use xa_base::Memory;
 
 /// Why no value is read: the first fault of the octets, or memory is missing.
-#[derive(Clone, Copy, Debug)]
+#[derive(Clone, Copy)]
 pub(crate) enum Fault {
     Stopped(Stop),
     Memory,

@@ -8,7 +8,7 @@ use codecs::Spot;
 use der_fields::{Stop, Why};
 
 /// Where contents begin, and where they end.
-#[derive(Clone, Copy, Debug)]
+#[derive(Clone, Copy)]
 pub(crate) struct Window {
     pub at: u64,
     pub end: u64,

@@ -1,7 +1,7 @@
 //! What stands at the front of a text.
 
 /// A text of the document: lent where nothing in it had to be replaced.
-#[derive(Debug, Drop)]
+#[derive(Drop)]
 pub enum Value<'a> {
     Borrowed(&'a [u8]),
     Owned(Vec<u8>),
@@ -9,21 +9,21 @@ pub enum Value<'a> {
 
 /// An attribute: its Name as written, and its value, with references replaced and white space read as XML 1.0, section
 /// 3.3.3, says.
-#[derive(Debug, Drop)]
+#[derive(Drop)]
 pub struct Attribute<'a> {
     pub name: &'a [u8],
     pub value: Value<'a>,
 }
 
 /// A start tag or an empty tag: its Name as written, and its attributes in their order.
-#[derive(Debug, Drop)]
+#[derive(Drop)]
 pub struct Element<'a> {
     pub name: &'a [u8],
     pub attributes: Vec<Attribute<'a>>,
 }
 
 /// A piece.
-#[derive(Debug, Drop)]
+#[derive(Drop)]
 pub enum Found<'a> {
     /// The XML declaration.
     Declaration,

@@ -5,8 +5,7 @@ ghost use Rattle.std.specs.Option.{option_copied};
 ghost use Rattle.label_tree.specs.Rose.{node, none};
 ghost use Rattle.flat_tree.specs.Zips.{opened, added, added_all, canceled, closed, first_label, relabeled, nothing, zip_count};
 
-use crate::entries::{Entry, append_entries, copy_entries, push_entry, set_below, set_label};
-use crate::nodes::Node;
+use crate::entries::{Entry, append_entries, push_entry, set_below, set_label};
 use crate::owned::{Flat, Forest};
 use std::alloc::{AllocError, Global};
 use std::marker::Model;
@@ -48,13 +47,6 @@ impl<L> Builder<L> {
             inner: 0,
             level: 0,
         }
-    }
-
-    /// How many nodes are open.
-    pub fn levels(&self) -> usize
-        ensures { result ≡ length self.now.above }
-    {
-        self.level as usize
     }
 
     /// How many nodes there are, open and closed, at once.
@@ -179,17 +171,6 @@ impl<L: Drop> Builder<L> {
         ensures err { OnErr result (self.new ≡ self.old) }
     {
         append_entries(&mut self.entries, trees.entries)?;
-        Ok(())
-    }
-}
-
-impl<L: Copy> Builder<L> {
-    /// Copies a tree behind those that are there.
-    pub fn graft(&mut self, tree: Node<'_, L>) -> Result<(), AllocError>
-        ensures ok { OnOk result (self.new ≡ added tree.entry self.old) }
-        ensures err { OnErr result (self.new ≡ self.old) }
-    {
-        copy_entries(&mut self.entries, *tree.label, tree.below)?;
         Ok(())
     }
 }

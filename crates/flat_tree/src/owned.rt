@@ -1,5 +1,5 @@
 //! Trees that own their nodes.
-ghost use Rattle.std.specs.Prelude.{◌≡◌, ◌∷◌, [], IsTrue, ◌↔◌, MatchResult, length};
+ghost use Rattle.std.specs.Prelude.{◌≡◌, ◌∷◌, [], length};
 ghost use Rattle.label_tree.specs.Rose.{node_count, count_all, roses_of};
 
 use crate::entries::Entry;
@@ -44,30 +44,6 @@ impl<L> Forest<L> {
         ensures { result ≡ count_all (roses_of self.now) }
     {
         self.entries.len()
-    }
-
-    /// The tree, where there is one.
-    pub fn into_one(self) -> Result<Flat<L>, Forest<L>>
-        ensures { MatchResult result
-            (λ tree. self ≡ tree ∷ [])
-            (λ back. (length self ≡ 1 → ⊥) × (back ≡ self)) }
-    {
-        if has_one(self.trees()) {
-            Ok(Flat { trees: self })
-        } else {
-            Err(self)
-        }
-    }
-}
-
-// Whether there is one tree.
-fn has_one<L>(trees: Kids<'_, L>) -> bool
-    ensures { IsTrue result ↔ (length trees.entry ≡ 1) }
-{
-    let mut trees = trees;
-    match trees.next() {
-        None => false,
-        Some(_) => trees.is_empty(),
     }
 }
 

@@ -1,7 +1,7 @@
 //! Items while they are built.
-ghost use Rattle.std.specs.Prelude.{◌≡◌, ◌<◌, ◌∷◌, [], length, slice_get, Some, IsTrue, ◌↔◌, IfOk, OnOk, OnErr};
+ghost use Rattle.std.specs.Prelude.{◌≡◌, ◌<◌, ◌∷◌, [], length, slice_get, Some, IfOk, OnOk, OnErr};
 ghost use Rattle.label_tree.specs.Rose.{node, none};
-ghost use Rattle.flat_tree.specs.Zips.{opened, added, closed, first_label, nothing, zip_count};
+ghost use Rattle.flat_tree.specs.Zips.{opened, added, closed, first_label, nothing};
 ghost use Rattle.item_tree.specs.declared.label.ItemLabel.TheVariants as item;
 ghost use Rattle.item_tree.specs.Building.{binding_count, listed, name_at};
 ghost use Rattle.item_tree.specs.Growing.{Grows};
@@ -62,27 +62,6 @@ impl ItemBuilder {
             builder: Builder::new(alloc),
             store: Store::new(alloc),
         }
-    }
-
-    /// How many elements are open.
-    pub fn levels(&self) -> usize
-        ensures { result ≡ length self.now.zip.above }
-    {
-        self.builder.levels()
-    }
-
-    /// How many nodes there are, open and closed, at once.
-    pub fn count(&self) -> usize
-        ensures { result ≡ zip_count self.now.zip }
-    {
-        self.builder.count()
-    }
-
-    /// Whether no element is open.
-    pub fn is_outside(&self) -> bool
-        ensures { IsTrue result ↔ (self.now.zip.above ≡ []) }
-    {
-        self.builder.is_outside()
     }
 
     /// How many namespaces the innermost open element binds.

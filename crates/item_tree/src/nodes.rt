@@ -1,7 +1,7 @@
 //! Nodes of items that stand elsewhere, and their kids.
 ghost use Rattle.std.specs.Prelude.{◌≡◌, ◌<◌, IfOk, IsTrue, ◌↔◌, [], Some, length, slice_get};
 ghost use Rattle.std.specs.Iterator.{YieldsFirst, item_count};
-ghost use Rattle.label_tree.specs.Rose.{label_of, kids_of, shown_count};
+ghost use Rattle.label_tree.specs.Rose.{label_of, kids_of};
 ghost use Rattle.item_tree.specs.Labels.{item_place};
 ghost use Rattle.item_tree.specs.Seen.{item_seen};
 
@@ -150,20 +150,6 @@ impl<'a> ItemNode<'a> {
         }
     }
 
-    /// The number of nodes, at once. 2^64 - 1 stands for that number and every greater one.
-    pub fn count(&self) -> u64
-        ensures { result ≡ shown_count self.now }
-    {
-        self.node.count()
-    }
-
-    /// The number of kids, each of which it visits.
-    pub fn kid_count(&self) -> usize
-        ensures { result ≡ length (kids_of self.now) }
-    {
-        self.kids().len()
-    }
-
     /// The kid of the node with this number, for which it visits those before it. The first has the number 0.
     pub fn kid(&self, i: usize) -> ItemNode<'a>
         requires { i < length (kids_of self.now) }
@@ -187,13 +173,6 @@ impl<'a> ItemKids<'a> {
             kids: self.kids.again(),
             store: self.store,
         }
-    }
-
-    /// The number of nodes, each of which it visits.
-    pub fn len(&self) -> usize
-        ensures { result ≡ length self.now }
-    {
-        self.kids.len()
     }
 
     /// Whether no node is left.

@@ -1,6 +1,5 @@
 //! The items of a document.
 ghost use Rattle.std.specs.Prelude.{◌≡◌, IfOk};
-ghost use Rattle.label_tree.specs.Rose.{node_count};
 
 use crate::entries::Kept;
 use crate::label::ItemLabel;
@@ -45,13 +44,6 @@ impl ItemTree {
             node: self.tree.root(),
             store: &self.store,
         }
-    }
-
-    /// The number of nodes, at once.
-    pub fn count(&self) -> usize
-        ensures { result ≡ node_count self.now }
-    {
-        self.tree.count()
     }
 
     /// An equal tree that has a list of kids at each node. It recurses, so the stack that it takes grows with the depth.

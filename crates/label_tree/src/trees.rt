@@ -99,14 +99,6 @@ impl<L> Tree<L> {
         }
         depth.saturating_add(1)
     }
-
-    /// The label and the kids of the root.
-    pub fn into_parts(self) -> (L, Vec<Tree<L>>)
-        ensures label { result.0 ≡ label_of self }
-        ensures kids { result.1.items ≡ kids_of self }
-    {
-        (self.label, self.kids)
-    }
 }
 
 impl<L: Shape> Tree<L> {

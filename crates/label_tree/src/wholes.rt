@@ -78,12 +78,4 @@ impl<L: Shape> Whole<L> {
         let tree = self.tree.copy(alloc)?;
         Ok(Whole { tree })
     }
-
-    /// The tree alone.
-    pub fn into_tree(self) -> Tree<L>
-        ensures tree { result ≡ self }
-        ensures allowed { Allowed L.allowed self }
-    {
-        self.tree
-    }
 }

@@ -13,7 +13,7 @@ use std::alloc::Global;
 use xa_base::{Memory, Name};
 
 /// What a reference has to name.
-#[derive(Clone, Copy, Debug, PartialEq, Eq)]
+#[derive(Clone, Copy, PartialEq, Eq)]
 pub(crate) enum Need {
     Element,
     Attribute,

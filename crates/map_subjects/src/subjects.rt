@@ -2,7 +2,7 @@
 use xa_base::Name;
 
 /// A component of a set by its number, from 0, among those of its kind.
-#[derive(Clone, Copy, Debug, PartialEq, Eq)]
+#[derive(Clone, Copy, PartialEq, Eq)]
 pub enum Subject {
     /// A global element.
     Element(u32),

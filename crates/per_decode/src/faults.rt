@@ -8,7 +8,7 @@ use xa_base::Memory;
 
 /// Why reading ends before the value. It is one octet, since every step of reading answers so: what else there is to tell
 /// stands where reading is (`Run::stop`).
-#[derive(Clone, Copy, Debug)]
+#[derive(Clone, Copy)]
 pub(crate) enum Fault {
     /// A fault of a field that is whole, or of a node: the stop.
     Stopped,

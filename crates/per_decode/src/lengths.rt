@@ -18,7 +18,7 @@ pub(crate) const UNIT: u32 = 16_384;
 pub(crate) const MOST_UNITS: u32 = 4;
 
 /// What a length tells.
-#[derive(Clone, Copy, Debug)]
+#[derive(Clone, Copy)]
 pub(crate) enum Piece {
     /// The last octets or items, below 16,384.
     Last(u32),

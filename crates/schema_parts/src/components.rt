@@ -7,7 +7,7 @@ use std::marker::Model;
 use xa_base::Name;
 
 /// The type definition of an element, by its number among the simple or the complex ones.
-#[derive(Clone, Copy, Debug, PartialEq, Eq)]
+#[derive(Clone, Copy, PartialEq, Eq)]
 pub enum TypeOf {
     Simple(u32),
     Complex(u32),
