@@ -175,6 +175,13 @@ impl<'a> ItemKids<'a> {
         }
     }
 
+    /// The number of nodes, each of which it visits.
+    pub fn len(&self) -> usize
+        ensures { result ≡ length self.now }
+    {
+        self.kids.len()
+    }
+
     /// Whether no node is left.
     #[inline(always)]
     pub fn is_empty(&self) -> bool
