@@ -1,14 +1,14 @@
 -- What stands behind the word of a type.
 use mathlib.Core.Logic.{inl, inr}
-use Rattle.std.proofs.Common.{◌≡◌, ◌⊎◌, ℕ, zero, suc, ◌+◌, ◌-◌, ◌<◌, ◌≤◌, Option, List, [], ◌∷◌, length, Result, Ok, Err, refl, sym, ap, subst, ◌∙◌, arith}
-use Rattle.std.specs.Prelude.{codes}
-use Rattle.label_tree.specs.Rose.{Roses, none, roses_of}
+use Rattle.std.proofs.Common.{◌≡◌, ◌⊎◌, ℕ, suc, List, [], Result, Ok, Err, refl, sym, ap, subst, ◌∙◌}
+use Rattle.label_tree.specs.Rose.{Roses, node, none, roses_of}
 use Rattle.plain_text.specs.declared.reach.Reach.{Reach}
 use Rattle.plain_text.specs.declared.reach.Stop.{Stop}
 use Rattle.plain_text.specs.declared.reach.Stop.TheVariants as stop
 use Rattle.plain_text.specs.Reading.{Reader, nothing_at, then_at, or_at, as_at}
 use Rattle.plain_text.specs.Reached.{reading}
 use Rattle.plain_text.proofs.Stepping.{in_form, reading_as}
+use Rattle.module_text.specs.declared.marks.TypeMark.{TypeMark}
 use Rattle.module_text.specs.declared.types.PlainName.{PlainName}
 use Rattle.module_text.specs.declared.types.NumberedItem.{NumberedItem}
 use Rattle.module_text.specs.declared.types.PlainPart.{PlainPart}
@@ -17,12 +17,13 @@ use Rattle.module_text.specs.declared.types.PlainForm.TheVariants as form
 use Rattle.module_text.specs.declared.types.PlainLabel.{PlainLabel}
 use Rattle.module_grammar.specs.NameReading.{plain_identifier_at}
 use Rattle.module_grammar.specs.BoundReading.{number_range_at, size_at, class_at}
+use Rattle.module_grammar.specs.MarkReading.{type_marks_at}
 use Rattle.module_grammar.specs.TypeReading as type
 use Rattle.module_parse.specs.declared.forms.Word.{Word}
 use Rattle.module_parse.specs.declared.forms.Word.TheVariants as word
 use Rattle.module_parse.specs.Reads.{IsRead, IsReadAs, IsStopped}
 use Rattle.module_parse.specs.Readers.{block_of, word_seen, simple_form_at, bool_form, int_form, text_form, ref_form, enumerated_form_of}
-use Rattle.module_parse.proofs.Chaining.{as_read, no_memory}
+use Rattle.module_parse.proofs.Chaining.{as_read, as_stops, then_read, then_next_stops, no_memory}
 
 -- a type without types in it
 abbrev alone : PlainForm → type.Form
@@ -93,9 +94,20 @@ other_form name word.Sequence bytes s q a b c d h = as_read (ref_form name) h
 other_form name word.Choice bytes s q a b c d h = as_read (ref_form name) h
 other_form name word.Other bytes s q a b c d h = as_read (ref_form name) h
 
--- where the depth is counted down
-pub type_deeper : {bytes : List ℕ} {s q : Reach} {tree : type.Typed} (most levels d e : ℕ) → suc d ≡ e → IsRead (type.type_at most (suc d) levels) bytes s tree q → IsRead (type.type_at most e levels) bytes s tree q
-type_deeper {bytes} {s} {q} {tree} most levels d e h g = subst (λ k. IsRead (type.type_at most k levels) bytes s tree q) h g
+-- a type, behind its marks and its word, where the depth is counted down
+pub typed_read : {bytes : List ℕ} {s p q n : Reach} {marks : List TypeMark} {name : PlainName} {f : PlainForm} {kids : Roses PlainLabel} (most levels d e : ℕ) (w : type.Word) → suc d ≡ e → w ≡ type.word_of name.name → IsRead type_marks_at bytes s marks p → IsRead type.plain_reference_at bytes p name q → IsRead (type.tail_at most levels (type.type_at most d levels) (type.type_at most d (suc levels)) name w) bytes q (f, kids) n → IsRead (type.type_at most e levels) bytes s (node (record { at = s.at; marks = marks; form = f }) kids) n
+typed_read {bytes} {s} {p} {q} {n} {marks} {name} {f} {kids} most levels d e w deeper same h g i =
+    subst (λ k. IsRead (type.type_at most k levels) bytes s (node (record { at = s.at; marks = marks; form = f }) kids) n) deeper
+    (as_read type.typed_of (then_read (λ marks. type.form_at most levels (type.type_at most d levels) (type.type_at most d (suc levels))) h
+    (as_read type.form_of (then_read (λ word. type.tail_at most levels (type.type_at most d levels) (type.type_at most d (suc levels)) word (type.word_of word.name)) g
+    (subst (λ v. IsRead (type.tail_at most levels (type.type_at most d levels) (type.type_at most d (suc levels)) name v) bytes q (f, kids) n) same i)))))
+
+pub typed_stops : {bytes : List ℕ} {s p q : Reach} {marks : List TypeMark} {name : PlainName} {stopped : Stop} (most levels d e : ℕ) (w : type.Word) → suc d ≡ e → w ≡ type.word_of name.name → IsRead type_marks_at bytes s marks p → IsRead type.plain_reference_at bytes p name q → IsStopped (type.tail_at most levels (type.type_at most d levels) (type.type_at most d (suc levels)) name w) bytes q stopped → IsStopped (type.type_at most e levels) bytes s stopped
+typed_stops {bytes} {s} {p} {q} {marks} {name} {stopped} most levels d e w deeper same h g i =
+    subst (λ k. IsStopped (type.type_at most k levels) bytes s stopped) deeper
+    (as_stops type.typed_of (then_next_stops (λ marks. type.form_at most levels (type.type_at most d levels) (type.type_at most d (suc levels))) h
+    (as_stops type.form_of (then_next_stops (λ word. type.tail_at most levels (type.type_at most d levels) (type.type_at most d (suc levels)) word (type.word_of word.name)) g
+    (subst (λ v. IsStopped (type.tail_at most levels (type.type_at most d levels) (type.type_at most d (suc levels)) name v) bytes q stopped) same i)))))
 
 -- a form with a block of parts
 pub as_block : (read : Reader type.Form) (f : List PlainPart → PlainForm) {block : Reader (List type.TypedPart)} {bytes : List ℕ} {s p q : Reach} {parts : List PlainPart} {kids : List type.Typed} (h : IsReadAs block_of block bytes p (parts, kids) q) → IsRead read bytes s (f (type.parts_of h.value), type.kids_of h.value) q → IsRead read bytes s (f parts, roses_of kids) q

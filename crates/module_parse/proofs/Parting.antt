@@ -1,13 +1,11 @@
 -- Parts, and blocks of them.
-use mathlib.Core.Logic.{inl, inr}
-use Rattle.std.proofs.Common.{◌≡◌, ◌⊎◌, ℕ, suc, ◌+◌, ◌<◌, ◌≤◌, Option, None, List, [], ◌∷◌, ◌++◌, length, Result, Ok, Err, refl, sym, ap, ap₂, subst, ◌∙◌, arith, append_assoc, append-nil}
+use Rattle.std.proofs.Common.{◌≡◌, ℕ, suc, ◌+◌, ◌<◌, ◌≤◌, Option, None, List, [], ◌∷◌, ◌++◌, length, Result, Ok, Err, refl, sym, ap, ap₂, subst, ◌∙◌, arith, append_assoc, append-nil}
 use Rattle.std.specs.Prelude.{map, codes}
-use Rattle.label_tree.specs.Rose.{roses_of}
 use Rattle.plain_text.specs.declared.reach.Reach.{Reach}
 use Rattle.plain_text.specs.declared.reach.Stop.{Stop}
 use Rattle.plain_text.specs.declared.reach.Stop.TheVariants as stop
-use Rattle.plain_text.specs.Reading.{Reader, word_at, then_at, as_at, many_at, behind_at, before_at}
-use Rattle.plain_text.specs.Reached.{reach, reading, IsFinal}
+use Rattle.plain_text.specs.Reading.{Reader, word_at, then_at, many_at, behind_at, before_at}
+use Rattle.plain_text.specs.Reached.{reading, IsFinal}
 use Rattle.plain_text.proofs.Stepping.{in_form, and_then, with_first, reading_as, reading_then}
 use Rattle.module_print.specs.Notation.{new_line}
 use Rattle.module_text.specs.declared.marks.PartMark.{PartMark}
@@ -17,12 +15,14 @@ use Rattle.module_text.specs.declared.values.Absence.TheVariants as absence
 use Rattle.module_text.specs.declared.types.PlainPart.{PlainPart}
 use Rattle.module_grammar.specs.MarkReading.{part_marks_at}
 use Rattle.module_grammar.specs.ValueReading.{listed_of, listed_at}
-use Rattle.module_grammar.specs.TypeReading.{Typed, TypedPart, label_at, component_of, ending_at, component_at, bare_of, alternative_at, opening, between, closing, block_at, parts_of, type_at}
+use Rattle.module_grammar.specs.TypeReading.{Typed, TypedPart, label_at, component_of, ending_at, bare_of, alternative_at, opening, between, closing, block_at, parts_of, type_at}
+use Rattle.plain_boxes.specs.declared.made.PartHead.{PartHead}
 use Rattle.module_parse.specs.declared.forms.Sort.{Sort}
 use Rattle.module_parse.specs.declared.forms.Sort.TheVariants as sort
 use Rattle.module_parse.specs.Reads.{IsRead, IsStopped, IsAgain, IsReadAs}
 use Rattle.module_parse.specs.Readers.{sorted_at, ReadsEnding, block_of}
-use Rattle.module_parse.proofs.Chaining.{Going, as_read, as_stops, then_read, then_stops, then_next_stops, behind_read, behind_stops, behind_next_stops, before_read, before_stops, before_word_stops, going_none, going_next, going_ends, going_again, no_memory}
+use Rattle.module_parse.specs.Ended.{EndsPart}
+use Rattle.module_parse.proofs.Chaining.{Going, as_read, as_stops, then_read, then_stops, then_next_stops, behind_read, behind_next_stops, before_read, before_stops, before_word_stops, going_none, going_next, going_ends, going_again, no_memory}
 
 -- ---- a part
 
@@ -50,9 +50,17 @@ type_stops most sort.Alternative type bytes s p q name ms e h g f = as_stops bar
 no_stop : {A : Type 0} (e : Stop) (x : A × Reach) → Err e ≡ Ok x → ⊥
 no_stop e x h = cc
 
-pub ending_stops : (most : ℕ) (x : Sort) (type : Reader Typed) (bytes : List ℕ) (s p q r : Reach) (name : List ℕ) (ms : List PartMark) (t : Typed) (e : Stop) → IsRead label_at bytes s name p → IsRead part_marks_at bytes p ms q → IsRead type bytes q t r → ReadsEnding most x bytes r (Err e) → IsStopped (sorted_at most x type) bytes s e
-ending_stops most sort.Component type bytes s p q r name ms t e h g f n = as_stops component_of (then_next_stops (behind_label most type) h (then_next_stops (behind_marks most type) g (then_next_stops (λ t. ending_at most) f n)))
-ending_stops most sort.Alternative type bytes s p q r name ms t e h g f n = absurd (no_stop e ((None, absence.Never), r) n)
+pub ends_memory : (most : ℕ) (x : Sort) (head : PartHead) (bytes : List ℕ) (s : Reach) → EndsPart most x head bytes s (Err stop.Memory)
+ends_memory most sort.Component head bytes s = no_memory
+ends_memory most sort.Alternative head bytes s = refl
+
+pub ends_stops : (most : ℕ) (x : Sort) (head : PartHead) (bytes : List ℕ) (s : Reach) (e : Stop) → ReadsEnding most x bytes s (Err e) → EndsPart most x head bytes s (Err e)
+ends_stops most sort.Component head bytes s e h = h
+ends_stops most sort.Alternative head bytes s e h = absurd (no_stop e ((None, absence.Never), s) h)
+
+pub ending_stops : (most : ℕ) (x : Sort) (type : Reader Typed) (bytes : List ℕ) (s p q r : Reach) (head : PartHead) (name : List ℕ) (ms : List PartMark) (t : Typed) (e : Stop) → IsRead label_at bytes s name p → IsRead part_marks_at bytes p ms q → IsRead type bytes q t r → EndsPart most x head bytes r (Err e) → IsStopped (sorted_at most x type) bytes s e
+ending_stops most sort.Component type bytes s p q r head name ms t e h g f n = as_stops component_of (then_next_stops (behind_label most type) h (then_next_stops (behind_marks most type) g (then_next_stops (λ t. ending_at most) f n)))
+ending_stops most sort.Alternative type bytes s p q r head name ms t e h g f n = subst (λ k. IsStopped (alternative_at type) bytes s k) (sym n) no_memory
 
 abbrev ended : Option PlainOctets × Absence → Reach → Result ((Option PlainOctets × Absence) × Reach) Stop
 ended x q = Ok (x, q)
@@ -73,12 +81,16 @@ same_place : (x y : Option PlainOctets × Absence) (p q : Reach) → ended x p �
 unfolding place_of
 same_place x y p q h = ap (place_of p) h
 
-pub part_read : (most : ℕ) (x : Sort) (type : Reader Typed) (bytes : List ℕ) (s p q r n : Reach) (name : List ℕ) (ms : List PartMark) (t : Typed) (fixed : Option PlainOctets) (left : Absence) → IsRead label_at bytes s name p → IsRead part_marks_at bytes p ms q → IsRead type bytes q t r → ReadsEnding most x bytes r (Ok ((fixed, left), n)) → IsRead (sorted_at most x type) bytes s (made s.at name ms fixed left, t) n
+part_read : (most : ℕ) (x : Sort) (type : Reader Typed) (bytes : List ℕ) (s p q r n : Reach) (name : List ℕ) (ms : List PartMark) (t : Typed) (fixed : Option PlainOctets) (left : Absence) → IsRead label_at bytes s name p → IsRead part_marks_at bytes p ms q → IsRead type bytes q t r → ReadsEnding most x bytes r (Ok ((fixed, left), n)) → IsRead (sorted_at most x type) bytes s (made s.at name ms fixed left, t) n
 part_read most sort.Component type bytes s p q r n name ms t fixed left h g f e = as_read component_of (then_read (behind_label most type) h (then_read (behind_marks most type) g (then_read (λ t. ending_at most) f e)))
 part_read most sort.Alternative type bytes s p q r n name ms t fixed left h g f e =
     subst (λ k. IsRead (alternative_at type) bytes s (made s.at name ms fixed left, t) k) (sym (same_place (fixed, left) (None, absence.Never) n r e))
     (subst (λ (k : Option PlainOctets × Absence). IsRead (alternative_at type) bytes s (made s.at name ms k.0 k.1, t) r) (sym (same_ending (fixed, left) (None, absence.Never) n r e))
     (as_read bare_of (then_read (λ name. then_at part_marks_at (λ marks. type)) h (then_read (λ marks. type) g f))))
+
+pub part_ends : (most : ℕ) (x : Sort) (type : Reader Typed) (bytes : List ℕ) (s p q r n : Reach) (name : List ℕ) (ms : List PartMark) (t : Typed) (part : PlainPart) → IsRead label_at bytes s name p → IsRead part_marks_at bytes p ms q → IsRead type bytes q t r → EndsPart most x (record { at = s.at; identifier = name; marks = ms }) bytes r (Ok (part, n)) → IsRead (sorted_at most x type) bytes s (part, t) n
+part_ends most x type bytes s p q r n name ms t part h g f d =
+    subst (λ (k : PlainPart). IsRead (sorted_at most x type) bytes s (k, t) n) (sym d.1) (part_read most x type bytes s p q r n name ms t part.fixed part.absence h g f d.0)
 
 -- ---- what is read behind a word, taken apart
 

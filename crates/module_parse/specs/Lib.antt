@@ -2,4 +2,5 @@ pub mod Spans
 pub mod Classes
 pub mod Reads
 pub mod Readers
+pub mod Ended
 pub mod Parsed

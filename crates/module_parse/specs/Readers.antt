@@ -24,6 +24,9 @@ use Rattle.module_text.specs.declared.types.NumberedItem.{NumberedItem}
 use Rattle.module_text.specs.declared.types.PlainPart.{PlainPart}
 use Rattle.module_text.specs.declared.types.PlainForm.{PlainForm}
 use Rattle.module_text.specs.declared.types.PlainForm.TheVariants as form
+use Rattle.plain_boxes.specs.declared.made.BoxedForm.{BoxedForm}
+use Rattle.plain_boxes.specs.declared.made.Parts.{Parts}
+use Rattle.plain_boxes.specs.Made.{formed}
 use Rattle.module_parse.specs.declared.marks.PartRank.{PartRank}
 use Rattle.module_parse.specs.declared.marks.PartRank.TheVariants as part_rank
 use Rattle.module_parse.specs.declared.marks.TypeRank.{TypeRank}
@@ -166,13 +169,13 @@ ReadsEnding most sort.Alternative bytes from result = result ≡ Ok ((None, abse
 abbrev pub Kids : Type 0
 Kids = Vec type.Typed Global
 
-abbrev pub ReadsForm : Reader type.Form → List ℕ → Reach → Result ((PlainForm × Kids) × Reach) Stop → Type 0
-ReadsForm read bytes from (Ok x) = IsRead read bytes from (x.0.0, roses_of x.0.1.items) x.1
+abbrev pub ReadsForm : Reader type.Form → List ℕ → Reach → Result ((BoxedForm × Kids) × Reach) Stop → Type 0
+ReadsForm read bytes from (Ok x) = IsRead read bytes from (formed x.0.0, roses_of x.0.1.items) x.1
 ReadsForm read bytes from (Err e) = IsStopped read bytes from e
 
 abbrev pub block_of : List type.TypedPart → List PlainPart × List type.Typed
 block_of parts = (type.parts_of parts, map (λ (x : type.TypedPart). x.1) parts)
 
-abbrev pub ReadsBlock : Reader (List type.TypedPart) → List ℕ → Reach → Result ((List PlainPart × Kids) × Reach) Stop → Type 0
-ReadsBlock read bytes from (Ok x) = IsReadAs block_of read bytes from (x.0.0, x.0.1.items) x.1
+abbrev pub ReadsBlock : Reader (List type.TypedPart) → List ℕ → Reach → Result (Parts × Reach) Stop → Type 0
+ReadsBlock read bytes from (Ok x) = IsReadAs block_of read bytes from (x.0.parts.items, x.0.types.items) x.1
 ReadsBlock read bytes from (Err e) = IsStopped read bytes from e

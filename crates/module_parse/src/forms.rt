@@ -6,18 +6,20 @@ ghost use Rattle.module_grammar.specs.TypeReading as grammar;
 ghost use Rattle.module_grammar.specs.TypeReading.{type_at};
 ghost use Rattle.module_parse.specs.Reads.{Reads, Stays, Moves};
 ghost use Rattle.module_parse.specs.Readers.{word_seen, sorted_at, ReadsForm, ReadsBlock, ReadsEnding, simple_form_at};
+ghost use Rattle.module_parse.specs.Ended.{EndsPart};
 
 use crate::bounds::{class, number_range, size};
 use crate::endings::ending;
 use crate::items::enumerated;
 use crate::marks::{part_marks, too_deep, type_marks};
 use crate::names::plain_reference;
-use crate::parts::{item_label, label, line, word_and_line};
+use crate::parts::{closing_brace, item_label, label, word_and_line};
 use crate::steps::{again, literal, nothing};
 use label_tree::Tree;
 use module_text::{
     Absence, PlainEnds, PlainForm, PlainLabel, PlainList, PlainName, PlainOctets, PlainPart,
 };
+use plain_boxes::{Boxed, BoxedForm, PartHead, Parts, join};
 use plain_text::{Reach, Stop};
 use std::alloc::Global;
 use xa_base::Text;
@@ -100,6 +102,25 @@ fn simple_form(
     }
 }
 
+// The same on the heap. Types are read inside one another, and what this takes of the stack is to be taken once.
+#[inline(never)]
+fn boxed_form(
+    alloc: Global,
+    word: Word,
+    name: PlainName,
+    bytes: &[u8],
+    from: Reach,
+) -> Result<(Boxed<PlainForm>, Reach), Stop>
+    requires { from.at ≤ length bytes.now }
+    ensures value { Reads (simple_form_at name word) bytes.now from result }
+    ensures within { Stays (length bytes.now) from result }
+{
+    match simple_form(alloc, word, name, bytes, from) {
+        Ok((form, next)) => Ok((Boxed::new(alloc, form)?, next)),
+        Err(stop) => Err(stop),
+    }
+}
+
 // What is said of a part behind its type.
 fn part_ending(
     alloc: Global,
@@ -118,6 +139,28 @@ fn part_ending(
     }
 }
 
+// The part, with what is said of it behind its type.
+fn ended_part(
+    alloc: Global,
+    most: u32,
+    sort: Sort,
+    head: PartHead,
+    bytes: &[u8],
+    from: Reach,
+) -> Result<(Boxed<PlainPart>, Reach), Stop>
+    requires { from.at ≤ length bytes.now }
+    ensures value { EndsPart most sort head bytes.now from result }
+    ensures within { Stays (length bytes.now) from result }
+{
+    match part_ending(alloc, most, sort, bytes, from) {
+        Ok(((fixed, absence), next)) => {
+            let part = head.ended(alloc, fixed, absence)?;
+            Ok((part, next))
+        }
+        Err(stop) => Err(stop),
+    }
+}
+
 // A part on a line of its own, behind this word.
 #[cycle(types)]
 fn part(
@@ -127,7 +170,7 @@ fn part(
     text: &[u8],
     bytes: &[u8],
     from: Reach,
-) -> Result<((PlainPart, TypeTree), Reach), Stop>
+) -> Result<((Boxed<PlainPart>, Boxed<TypeTree>), Reach), Stop>
     requires here { from.at ≤ length bytes.now }
     requires room { (room.levels + room.depth ≤ room.most) × (room.most < 2 ^ 32) }
     ensures value { Reads (behind_at (text.now ++ new_line room.levels) (sorted_at room.most sort (type_at room.most room.depth room.levels))) bytes.now from result }
@@ -137,14 +180,12 @@ fn part(
     let (identifier, behind_label) = label(alloc, bytes, start)?;
     let (marks, behind_marks) = part_marks(alloc, bytes, behind_label)?;
     let (tree, behind_type) = typed(alloc, room, bytes, behind_marks)?;
-    let ((fixed, absence), next) = part_ending(alloc, room.most, sort, bytes, behind_type)?;
-    let part = PlainPart {
+    let head = PartHead {
         at: start.at as u64,
         identifier,
         marks,
-        fixed,
-        absence,
     };
+    let (part, next) = ended_part(alloc, room.most, sort, head, bytes, behind_type)?;
     Ok(((part, tree), next))
 }
 
@@ -156,7 +197,7 @@ fn block(
     sort: Sort,
     bytes: &[u8],
     from: Reach,
-) -> Result<((PlainList<PlainPart>, Vec<TypeTree>), Reach), Stop>
+) -> Result<(Parts, Reach), Stop>
     requires here { from.at ≤ length bytes.now }
     requires room { (room.levels + room.depth < room.most) × (room.most < 2 ^ 32) }
     ensures value { ReadsBlock (grammar.block_at room.levels (sorted_at room.most sort (type_at room.most room.depth (suc room.levels)))) bytes.now from result }
@@ -167,23 +208,19 @@ fn block(
         ..room
     };
     let ((first, tree), behind) = part(alloc, inside, sort, b" {", bytes, from)?;
-    let mut parts = Vec::new(alloc);
-    parts.push(first)?;
-    let mut kids = Vec::new(alloc);
-    kids.push(tree)?;
+    let mut parts = Parts::new(alloc).with(first, tree)?;
     let mut next = behind;
     'parts: loop {
         match part(alloc, inside, sort, b",", bytes, next) {
             Ok(((other, tree), behind)) => {
-                parts.push(other)?;
-                kids.push(tree)?;
+                let more = parts.with(other, tree)?;
+                parts = more;
                 next = behind;
             }
             Err(stop) => {
                 let end = again(next, stop)?;
-                let brace = line(room.levels, bytes, end)?;
-                let next = literal(b"}", bytes, brace)?;
-                return Ok(((PlainList::of(parts), kids), next));
+                let next = closing_brace(room.levels, bytes, end)?;
+                return Ok((parts, next));
             }
         }
     }
@@ -196,7 +233,13 @@ fn sequence_of(
     room: Room,
     bytes: &[u8],
     from: Reach,
-) -> Result<((Option<PlainEnds>, (PlainPart, TypeTree)), Reach), Stop>
+) -> Result<
+    (
+        (Option<PlainEnds>, (Boxed<PlainPart>, Boxed<TypeTree>)),
+        Reach,
+    ),
+    Stop,
+>
     requires here { from.at ≤ length bytes.now }
     requires room { (room.levels + room.depth < room.most) × (room.most < 2 ^ 32) }
     ensures value { Reads (grammar.sequence_of_at (type_at room.most room.depth room.levels)) bytes.now from result }
@@ -207,13 +250,12 @@ fn sequence_of(
     let (identifier, behind_label) = item_label(alloc, bytes, start)?;
     let (marks, behind_marks) = part_marks(alloc, bytes, behind_label)?;
     let (tree, next) = typed(alloc, room, bytes, behind_marks)?;
-    let part = PlainPart {
+    let head = PartHead {
         at: start.at as u64,
         identifier,
         marks,
-        fixed: None,
-        absence: Absence::Never,
     };
+    let part = head.ended(alloc, None, Absence::Never)?;
     Ok(((size, (part, tree)), next))
 }
 
@@ -225,7 +267,7 @@ fn sequence(
     name: PlainName,
     bytes: &[u8],
     from: Reach,
-) -> Result<((PlainForm, Vec<TypeTree>), Reach), Stop>
+) -> Result<((BoxedForm, Vec<TypeTree>), Reach), Stop>
     requires here { from.at ≤ length bytes.now }
     requires room { (room.levels + room.depth < room.most) × (room.most < 2 ^ 32) }
     ensures value { ReadsForm (grammar.tail_at room.most room.levels (type_at room.most room.depth room.levels) (type_at room.most room.depth (suc room.levels)) name grammar.Sequence) bytes.now from result }
@@ -234,24 +276,27 @@ fn sequence(
     let start = match literal(b" {}", bytes, from) {
         Ok(next) => {
             let parts = PlainList::of(Vec::new(alloc));
-            return Ok(((PlainForm::Sequence { parts }, Vec::new(alloc)), next));
+            return Ok(((BoxedForm::Sequence { parts }, Vec::new(alloc)), next));
         }
         Err(stop) => again(from, stop)?,
     };
     let other = match block(alloc, room, Sort::Component, bytes, start) {
-        Ok(((parts, kids), next)) => return Ok(((PlainForm::Sequence { parts }, kids), next)),
+        Ok((inner, next)) => {
+            let parts = PlainList::of(inner.parts);
+            return Ok(((BoxedForm::Sequence { parts }, inner.types), next));
+        }
         Err(stop) => again(start, stop)?,
     };
     match sequence_of(alloc, room, bytes, other) {
         Ok(((size, (part, tree)), next)) => {
             let mut kids = Vec::new(alloc);
-            kids.push(tree)?;
-            Ok(((PlainForm::SequenceOf { size, part }, kids), next))
+            kids.push(tree.into_inner())?;
+            Ok(((BoxedForm::SequenceOf { size, part }, kids), next))
         }
         Err(stop) => {
             let end = again(other, stop)?;
             Ok((
-                (PlainForm::Ref { reference: name }, Vec::new(alloc)),
+                (BoxedForm::Ref { reference: name }, Vec::new(alloc)),
                 nothing(end),
             ))
         }
@@ -266,51 +311,34 @@ fn choice(
     name: PlainName,
     bytes: &[u8],
     from: Reach,
-) -> Result<((PlainForm, Vec<TypeTree>), Reach), Stop>
+) -> Result<((BoxedForm, Vec<TypeTree>), Reach), Stop>
     requires here { from.at ≤ length bytes.now }
     requires room { (room.levels + room.depth < room.most) × (room.most < 2 ^ 32) }
     ensures value { ReadsForm (grammar.tail_at room.most room.levels (type_at room.most room.depth room.levels) (type_at room.most room.depth (suc room.levels)) name grammar.Choice) bytes.now from result }
     ensures within { Stays (length bytes.now) from result }
 {
     match block(alloc, room, Sort::Alternative, bytes, from) {
-        Ok(((parts, kids), next)) => Ok(((PlainForm::Choice { parts }, kids), next)),
+        Ok((inner, next)) => {
+            let parts = PlainList::of(inner.parts);
+            Ok(((BoxedForm::Choice { parts }, inner.types), next))
+        }
         Err(stop) => {
             let end = again(from, stop)?;
             Ok((
-                (PlainForm::Ref { reference: name }, Vec::new(alloc)),
+                (BoxedForm::Ref { reference: name }, Vec::new(alloc)),
                 nothing(end),
             ))
         }
     }
 }
 
-// What stands behind its word.
 #[cycle(types)]
-fn tail(
+fn typed(
     alloc: Global,
     room: Room,
-    name: PlainName,
     bytes: &[u8],
     from: Reach,
-) -> Result<((PlainForm, Vec<TypeTree>), Reach), Stop>
-    requires here { from.at ≤ length bytes.now }
-    requires room { (room.levels + room.depth < room.most) × (room.most < 2 ^ 32) }
-    ensures value { ReadsForm (grammar.tail_at room.most room.levels (type_at room.most room.depth room.levels) (type_at room.most room.depth (suc room.levels)) name (grammar.word_of name.name)) bytes.now from result }
-    ensures within { Stays (length bytes.now) from result }
-{
-    let word = word_of(&name.name);
-    match word {
-        Word::Sequence => sequence(alloc, room, name, bytes, from),
-        Word::Choice => choice(alloc, room, name, bytes, from),
-        _ => {
-            let (form, next) = simple_form(alloc, word, name, bytes, from)?;
-            Ok(((form, Vec::new(alloc)), next))
-        }
-    }
-}
-
-#[cycle(types)]
-fn typed(alloc: Global, room: Room, bytes: &[u8], from: Reach) -> Result<(TypeTree, Reach), Stop>
+) -> Result<(Boxed<TypeTree>, Reach), Stop>
     requires here { from.at ≤ length bytes.now }
     requires room { (room.levels + room.depth ≤ room.most) × (room.most < 2 ^ 32) }
     ensures value { Reads (type_at room.most room.depth room.levels) bytes.now from result }
@@ -325,13 +353,26 @@ fn typed(alloc: Global, room: Room, bytes: &[u8], from: Reach) -> Result<(TypeTr
     };
     let (marks, behind_marks) = type_marks(alloc, bytes, from)?;
     let (name, behind) = plain_reference(alloc, bytes, behind_marks)?;
-    let ((form, kids), next) = tail(alloc, below, name, bytes, behind)?;
-    let label = PlainLabel {
-        at: from.at as u64,
-        marks,
-        form,
-    };
-    Ok((Tree::join(label, kids), next))
+    let at = from.at as u64;
+    let word = word_of(&name.name);
+    match word {
+        Word::Sequence => {
+            let ((form, kids), next) = sequence(alloc, below, name, bytes, behind)?;
+            let tree = join(alloc, at, marks, form, kids)?;
+            Ok((tree, next))
+        }
+        Word::Choice => {
+            let ((form, kids), next) = choice(alloc, below, name, bytes, behind)?;
+            let tree = join(alloc, at, marks, form, kids)?;
+            Ok((tree, next))
+        }
+        _ => {
+            let (form, next) = boxed_form(alloc, word, name, bytes, behind)?;
+            let form = BoxedForm::Simple { form };
+            let tree = join(alloc, at, marks, form, Vec::new(alloc))?;
+            Ok((tree, next))
+        }
+    }
 }
 
 /// A type on lines that are not indented, with so many types, and so many values, in one another at most.
@@ -345,5 +386,8 @@ pub fn body(alloc: Global, most: u32, bytes: &[u8], from: Reach) -> Result<(Type
         depth: most,
         levels: 0,
     };
-    typed(alloc, room, bytes, from)
+    match typed(alloc, room, bytes, from) {
+        Ok((tree, next)) => Ok((tree.into_inner(), next)),
+        Err(stop) => Err(stop),
+    }
 }

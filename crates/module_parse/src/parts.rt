@@ -1,7 +1,7 @@
 //! Labels, and lines.
 ghost use Rattle.std.specs.Prelude.{◌++◌, ◌+◌, ◌*◌, ◌≤◌, length};
 ghost use Rattle.module_print.specs.Notation.{new_line};
-ghost use Rattle.module_grammar.specs.TypeReading.{label_at, item_label_at};
+ghost use Rattle.module_grammar.specs.TypeReading.{label_at, item_label_at, closing};
 ghost use Rattle.module_parse.specs.Reads.{Reads, ReadsWord, PassesMoving, Stays, Moves};
 
 use crate::names::identifier;
@@ -60,4 +60,14 @@ pub fn word_and_line(text: &[u8], levels: usize, bytes: &[u8], from: Reach) -> R
 {
     let end = literal(text, bytes, from)?;
     line(levels, bytes, end)
+}
+
+/// The brace behind parts, on a line that is indented by so many levels.
+pub fn closing_brace(levels: usize, bytes: &[u8], from: Reach) -> Result<Reach, Stop>
+    requires { from.at ≤ length bytes.now }
+    ensures value { ReadsWord (closing levels) bytes.now from result }
+    ensures within { PassesMoving (length bytes.now) from result }
+{
+    let end = line(levels, bytes, from)?;
+    literal(b"}", bytes, end)
 }

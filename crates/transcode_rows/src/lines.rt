@@ -39,8 +39,9 @@ fn written(alloc: Global, line: &str) -> Result<Option<Piece>, LineError> {
     Ok(None)
 }
 
-// `= 0D 0A` stands for octets, `copy NAME` for the text of that name, `copies 1000 NAME` for so many of it, and
-// `repeat 101 400 > TEXT` for the text with each of these numbers in place of its `@`.
+// `= 0D 0A` stands for octets, `copy NAME` for the text of that name, `copies 1000 NAME` for so many of it,
+// `repeat 101 400 > TEXT` for the text with each of these numbers in place of its `@`, `nest 1 9 | TEXT` for lines with the
+// text, indented by so many levels.
 fn other_bytes(
     alloc: Global,
     texts: &[NamedText<'_>],
@@ -58,6 +59,9 @@ fn other_bytes(
     }
     if let Some(rest) = line.strip_prefix("repeat ") {
         return Ok(Some(repeated(alloc, rest)?));
+    }
+    if let Some(rest) = line.strip_prefix("nest ") {
+        return Ok(Some(nested(alloc, rest)?));
     }
     Ok(None)
 }
@@ -102,19 +106,61 @@ fn copies(alloc: Global, texts: &[NamedText<'_>], rest: &str) -> Result<Vec<u8>,
     Ok(contents.repeat(alloc, times.parse()?)?)
 }
 
-// `101 400 > a@` stands for `a101` to `a400`.
-fn repeated(alloc: Global, rest: &str) -> Result<Vec<u8>, LineError> {
+// What stands once for each of some numbers.
+#[derive(Drop)]
+struct Series {
+    first: u16,
+    last: u16,
+    text: Vec<u8>,
+}
+
+// `101 400 > TEXT`.
+fn series_of(alloc: Global, rest: &str) -> Result<Series, LineError> {
     let (first, rest) = rest.split_once(' ').ok_or(LineError::Unknown)?;
     let (last, line) = rest.split_once(' ').ok_or(LineError::Unknown)?;
     let first: u16 = first.parse()?;
     let last: u16 = last.parse()?;
     let once = written(alloc, line)?.ok_or(LineError::Unknown)?;
+    Ok(Series {
+        first,
+        last,
+        text: once.bytes,
+    })
+}
+
+// `101 400 > a@` stands for `a101` to `a400`.
+fn repeated(alloc: Global, rest: &str) -> Result<Vec<u8>, LineError> {
+    let once = series_of(alloc, rest)?;
     let mut bytes = Vec::new(alloc);
-    for number in first..=last {
+    for number in once.first..=once.last {
         let number = format!(in alloc; "{number}")?;
-        push_numbered(&mut bytes, &once.bytes, number.as_bytes())?;
+        push_numbered(&mut bytes, &once.text, number.as_bytes())?;
     }
     Ok(bytes)
+}
+
+// `1 3 | a` stands for `a` on lines that are indented by one, two and three levels, `3 1 | a` for these from the last on.
+fn nested(alloc: Global, rest: &str) -> Result<Vec<u8>, LineError> {
+    let once = series_of(alloc, rest)?;
+    let mut bytes = Vec::new(alloc);
+    for levels in once.first..=once.last {
+        push_indented(&mut bytes, &once.text, levels)?;
+    }
+    if once.last < once.first {
+        for levels in (once.last..=once.first).rev() {
+            push_indented(&mut bytes, &once.text, levels)?;
+        }
+    }
+    Ok(bytes)
+}
+
+// Adds the bytes behind four spaces for each level.
+fn push_indented(bytes: &mut Vec<u8>, text: &[u8], levels: u16) -> Result<(), LineError> {
+    for _ in 0..levels {
+        bytes.extend_from_slice(b"    ")?;
+    }
+    bytes.extend_from_slice(text)?;
+    Ok(())
 }
 
 // Adds the bytes with the number in place of each `@`.
