@@ -3,7 +3,8 @@ use crate::mistakes::mistake;
 use crate::syntaxes::{Syntax, syntax_named, wrong_syntax};
 use clap::error::ErrorKind;
 use clap::{Arg, ArgAction, ArgMatches, Command, Error};
-use std::alloc::Global;
+use std::alloc::{AllocError, Global};
+use std::convert::AsStr;
 
 /// What a command does.
 #[derive(Clone, Copy, PartialEq, Eq)]
@@ -47,163 +48,193 @@ pub enum Parsed<'a> {
     Mistake(String),
 }
 
-// An argument that does this with its values.
-fn arg<'a>(alloc: Global, id: &'a str, action: ArgAction, help: &'a str) -> Arg<'a> {
-    Arg::new(alloc, id).action(action).help(help)
+// How an argument is given, with what the help calls its value.
+enum Form {
+    // One word or more, with no option before them.
+    Words(&'static str),
+    // A value behind a letter.
+    Short(char, &'static str),
+    // A value behind the argument's name.
+    Long(&'static str),
+    // The argument's name alone.
+    Flag,
 }
 
-fn valued<'a>(alloc: Global, id: &'a str, short: char, name: &'a str, help: &'a str) -> Arg<'a> {
-    arg(alloc, id, ArgAction::Set, help)
-        .short(short)
-        .value_name(name)
+// An argument of a command.
+struct Argument {
+    id: &'static str,
+    form: Form,
+    help: &'static str,
 }
 
-fn flag<'a>(alloc: Global, id: &'a str, help: &'a str) -> Arg<'a> {
-    arg(alloc, id, ArgAction::SetTrue, help).long(id)
+impl Argument {
+    fn arg<'a>(&self, alloc: Global) -> Arg<'a> {
+        let arg = Arg::new(alloc, self.id).help(self.help);
+        match self.form {
+            Form::Words(name) => arg.value_name(name).required(true).num_args(1..),
+            Form::Short(letter, name) => arg.short(letter).value_name(name),
+            Form::Long(name) => arg.long(self.id).value_name(name),
+            Form::Flag => arg.long(self.id).action(ArgAction::SetTrue),
+        }
+    }
 }
 
-fn words<'a>(alloc: Global, name: &'a str, help: &'a str) -> Arg<'a> {
-    arg(alloc, "words", ArgAction::Append, help)
-        .value_name(name)
-        .required(true)
-        .num_args(1..)
+// A command behind the program's name, with its arguments in the order of the help.
+struct Subcommand {
+    name: &'static str,
+    about: &'static str,
+    example: &'static str,
+    arguments: &'static [Argument],
 }
 
-fn root<'a>(alloc: Global) -> Arg<'a> {
-    arg(
-        alloc,
-        "root",
-        ArgAction::Set,
-        "The root element: all words are files then",
-    )
-    .long("root")
-    .value_name("NAME")
+impl Subcommand {
+    fn command<'a>(&self, alloc: Global) -> Result<Command<'a>, AllocError> {
+        let mut command = Command::new(alloc, self.name)
+            .about(self.about)
+            .after_help(self.example);
+        for argument in self.arguments {
+            command = command.arg(argument.arg(alloc))?;
+        }
+        Ok(command)
+    }
 }
 
-// A command over a root, files and an input.
-fn over_root<'a>(
-    alloc: Global,
-    command: Command<'a>,
-    input: &'a str,
-) -> Result<Command<'a>, Error> {
-    let command = command
-        .arg(words(
-            alloc,
-            "WORD",
-            "ROOT, which may be left out before one FILE or a .xsd; then 1 to 64 FILEs",
-        ))?
-        .arg(root(alloc))?
-        .arg(valued(alloc, "input", 'i', "FILE", input))?;
-    Ok(command)
-}
+const ROOT_AND_FILES: Argument = Argument {
+    id: "words",
+    form: Form::Words("WORD"),
+    help: "ROOT, which may be left out before one FILE or a .xsd; then 1 to 64 FILEs",
+};
 
-// A command that writes to a file.
-fn with_output<'a>(alloc: Global, command: Command<'a>) -> Result<Command<'a>, Error> {
-    let command = command.arg(valued(
-        alloc,
-        "output",
-        'o',
-        "FILE",
-        "Write to this file, whole or not at all",
-    ))?;
-    Ok(command)
-}
+const ROOT: Argument = Argument {
+    id: "root",
+    form: Form::Long("NAME"),
+    help: "The root element: all words are files then",
+};
 
-// A command that writes in a transfer syntax, or reads.
-fn with_syntax<'a>(
-    alloc: Global,
-    command: Command<'a>,
-    stamp: &'a str,
-) -> Result<Command<'a>, Error> {
-    let command = with_output(alloc, command)?
-        .arg(flag(alloc, "stamp", stamp))?
-        .arg(valued(
-            alloc,
-            "syntax",
-            't',
-            "SYNTAX",
-            "How values are encoded: per, aligned, if none is told, uper, unaligned, or der",
-        ))?;
-    Ok(command)
-}
+const DOCUMENT: Argument = Argument {
+    id: "input",
+    form: Form::Short('i', "FILE"),
+    help: "Read the document from this file",
+};
 
-fn show<'a>(alloc: Global) -> Result<Command<'a>, Error> {
-    let command = Command::new(alloc, "show")
-        .about("Writes the ASN.1 module that the schema files stand for together")
-        .after_help("Example:\n  ruvkhiska show examples/order.xsd")
-        .arg(words(alloc, "FILE", "The schema files, 1 to 64"))?
-        .arg(flag(
-            alloc,
-            "plain",
-            "Leave out what X.693 adds, for other ASN.1 compilers",
-        ))?
-        .arg(flag(alloc, "stamp", "Write the stamp of the module instead"))?;
-    with_output(alloc, command)
-}
+const OUTPUT: Argument = Argument {
+    id: "output",
+    form: Form::Short('o', "FILE"),
+    help: "Write to this file, whole or not at all",
+};
 
-fn check<'a>(alloc: Global) -> Result<Command<'a>, Error> {
-    let command = Command::new(alloc, "check")
-        .about("Says by its status whether a document is valid, and its first fault")
-        .after_help(
-            "Example:\n  ruvkhiska check '{urn:po}order' examples/order.xsd -i examples/order.xml",
-        );
-    over_root(alloc, command, "Read the document from this file")
-}
+const SYNTAX: Argument = Argument {
+    id: "syntax",
+    form: Form::Short('t', "SYNTAX"),
+    help: "How values are encoded: per, aligned, if none is told, uper, unaligned, or der",
+};
 
-fn to_per<'a>(alloc: Global) -> Result<Command<'a>, Error> {
-    let command = Command::new(alloc, "to-per")
-        .about("Writes the encoding of a document")
-        .after_help(
-            "Example:\n  ruvkhiska to-per '{urn:po}order' examples/order.xsd -i examples/order.xml -o order.per",
-        );
-    let command = over_root(alloc, command, "Read the document from this file")?;
-    with_syntax(
-        alloc,
-        command,
-        "Write the stamp of the schemas before the octets",
-    )
-}
+const SUBCOMMANDS: &[Subcommand] = &[
+    Subcommand {
+        name: "show",
+        about: "Writes the ASN.1 module that the schema files stand for together",
+        example: "Example:\n  ruvkhiska show examples/order.xsd",
+        arguments: &[
+            Argument {
+                id: "words",
+                form: Form::Words("FILE"),
+                help: "The schema files, 1 to 64",
+            },
+            Argument {
+                id: "plain",
+                form: Form::Flag,
+                help: "Leave out what X.693 adds, for other ASN.1 compilers",
+            },
+            Argument {
+                id: "stamp",
+                form: Form::Flag,
+                help: "Write the stamp of the module instead",
+            },
+            OUTPUT,
+        ],
+    },
+    Subcommand {
+        name: "check",
+        about: "Says by its status whether a document is valid, and its first fault",
+        example: "Example:\n  ruvkhiska check '{urn:po}order' examples/order.xsd -i examples/order.xml",
+        arguments: &[ROOT_AND_FILES, ROOT, DOCUMENT],
+    },
+    Subcommand {
+        name: "to-per",
+        about: "Writes the encoding of a document",
+        example: "Example:\n  ruvkhiska to-per '{urn:po}order' examples/order.xsd -i examples/order.xml -o order.per",
+        arguments: &[
+            ROOT_AND_FILES,
+            ROOT,
+            DOCUMENT,
+            OUTPUT,
+            Argument {
+                id: "stamp",
+                form: Form::Flag,
+                help: "Write the stamp of the schemas before the octets",
+            },
+            SYNTAX,
+        ],
+    },
+    Subcommand {
+        name: "to-xml",
+        about: "Writes the document of an encoding",
+        example: "Example:\n  ruvkhiska to-xml '{urn:po}order' examples/order.xsd -i order.per -o order.xml",
+        arguments: &[
+            ROOT_AND_FILES,
+            ROOT,
+            Argument {
+                id: "input",
+                form: Form::Short('i', "FILE"),
+                help: "Read the octets from this file",
+            },
+            OUTPUT,
+            Argument {
+                id: "stamp",
+                form: Form::Flag,
+                help: "Take octets only behind the stamp of the schemas",
+            },
+            SYNTAX,
+        ],
+    },
+    Subcommand {
+        name: "trial",
+        about: "Tells how long the encoding of an order of N lines is",
+        example: "Example:\n  ruvkhiska trial 1000",
+        arguments: &[Argument {
+            id: "words",
+            form: Form::Words("N"),
+            help: "How many lines, 1 to 100000",
+        }],
+    },
+];
 
-fn to_xml<'a>(alloc: Global) -> Result<Command<'a>, Error> {
-    let command = Command::new(alloc, "to-xml")
-        .about("Writes the document of an encoding")
-        .after_help(
-            "Example:\n  ruvkhiska to-xml '{urn:po}order' examples/order.xsd -i order.per -o order.xml",
-        );
-    let command = over_root(alloc, command, "Read the octets from this file")?;
-    with_syntax(
-        alloc,
-        command,
-        "Take octets only behind the stamp of the schemas",
-    )
-}
-
-fn trial<'a>(alloc: Global) -> Result<Command<'a>, Error> {
-    let command = Command::new(alloc, "trial")
-        .about("Tells how long the encoding of an order of N lines is")
-        .after_help("Example:\n  ruvkhiska trial 1000")
-        .arg(words(alloc, "N", "How many lines, 1 to 100000"))?;
-    Ok(command)
-}
-
-/// The command with its subcommands.
-pub fn command<'a>(alloc: Global) -> Result<Command<'a>, Error> {
-    let command = Command::new(alloc, "ruvkhiska")
+fn program<'a>(alloc: Global) -> Command<'a> {
+    Command::new(alloc, "ruvkhiska")
         .version("0.1")
         .about("XML documents of a schema as the few octets of canonical PER, or DER, and back")
         .after_help("Example:\n  ruvkhiska show examples/order.xsd")
         .subcommand_required(true)
-        .subcommand(show(alloc)?)?
-        .subcommand(check(alloc)?)?
-        .subcommand(to_per(alloc)?)?
-        .subcommand(to_xml(alloc)?)?
-        .subcommand(trial(alloc)?)?
-        .subcommand(
-            Command::new(alloc, "manual")
-                .hide(true)
-                .about("Writes the manual page"),
-        )?;
-    Ok(command)
+}
+
+fn manual<'a>(alloc: Global) -> Command<'a> {
+    Command::new(alloc, "manual")
+        .hide(true)
+        .about("Writes the manual page")
+}
+
+// The command with its subcommands.
+fn command<'a>(alloc: Global) -> Result<Command<'a>, AllocError> {
+    let mut command = program(alloc);
+    for subcommand in SUBCOMMANDS {
+        command = command.subcommand(subcommand.command(alloc)?)?;
+    }
+    command.subcommand(manual(alloc))
+}
+
+/// What the words match, of which the first is the program's name.
+pub fn matches_of<'a, S: AsStr>(alloc: Global, words: &'a [S]) -> Result<ArgMatches<'a>, Error> {
+    command(alloc)?.try_get_matches_from(words)
 }
 
 fn task_of(name: &str) -> Task {
@@ -221,13 +252,16 @@ fn has_root(task: Task) -> bool {
     matches!(task, Task::Check | Task::ToPer | Task::ToXml)
 }
 
-// The root and the files. Without an option for the root, the first of several words is the root, unless it ends in `.xsd`.
+// The root and the files. Where a task has a root and no option tells it, the first of several words is it, unless it ends in `.xsd`.
 fn rooted<'a, 'b>(
+    task: Task,
     option: Option<&'a str>,
     words: &'b [&'a str],
 ) -> (Option<&'a str>, &'b [&'a str]) {
     match (option, words) {
-        (None, [first, _, ..]) if !first.ends_with(".xsd") => (Some(*first), &words[1..]),
+        (None, [first, _, ..]) if has_root(task) && !first.ends_with(".xsd") => {
+            (Some(*first), &words[1..])
+        }
         _ => (option, words),
     }
 }
@@ -239,11 +273,7 @@ fn asked_of<'a>(
     matches: &ArgMatches<'a>,
 ) -> Result<Asked<'a>, Error> {
     let words = matches.get_strs("words").unwrap_or(&[]);
-    let (root, files) = if has_root(task) {
-        rooted(matches.get_str("root"), words)
-    } else {
-        (None, words)
-    };
+    let (root, files) = rooted(task, matches.get_str("root"), words);
     Ok(Asked {
         task,
         root,
@@ -256,25 +286,29 @@ fn asked_of<'a>(
     })
 }
 
+// The mistake of a value, told by this message.
+fn value_error(alloc: Global, message: &str) -> Result<Error, AllocError> {
+    command(alloc)?.error(ErrorKind::InvalidValue, message)
+}
+
+fn syntax_error(alloc: Global, name: &str) -> Result<Error, AllocError> {
+    let message = wrong_syntax(alloc, name)?;
+    value_error(alloc, message.as_str())
+}
+
 // What the words behind a command ask for.
 fn matched<'a>(alloc: Global, name: &str, matches: &ArgMatches<'a>) -> Result<Asked<'a>, Error> {
     let told = matches.get_str("syntax");
     match syntax_named(told) {
         Some(syntax) => asked_of(alloc, task_of(name), syntax, matches),
-        None => {
-            let message = wrong_syntax(alloc, told.unwrap_or(""))?;
-            let error = command(alloc)?.error(ErrorKind::InvalidValue, message.as_str())?;
-            Err(error)
-        }
+        None => Err(syntax_error(alloc, told.unwrap_or(""))?),
     }
 }
 
 fn tried<'a>(alloc: Global, words: &'a [String]) -> Result<Asked<'a>, Error> {
-    let matches = command(alloc)?.try_get_matches_from(words)?;
-    match matches.subcommand() {
-        Some((name, found)) => matched(alloc, name, found),
-        None => matched(alloc, "manual", &matches),
-    }
+    let matches = matches_of(alloc, words)?;
+    let (name, found) = matches.subcommand().unwrap_or(("manual", &matches));
+    matched(alloc, name, found)
 }
 
 /// What the words ask for, of which the first is the program's name; or the text that tells of a mistake, the help or the version.

@@ -58,18 +58,17 @@ fn put_line(page: &mut String, line: &str) -> Result<(), AllocError> {
 }
 
 // Puts the help of a command, or of the program.
-fn put_help(alloc: Global, page: &mut String, name: Option<&str>) -> Result<(), Error> {
-    let help = help_of(alloc, name)?;
+fn put_help(alloc: Global, page: &mut String, name: Option<&str>) -> Result<(), AllocError> {
     if let Some(name) = name {
         page.push_str(".SS ")?;
         put_line(page, name)?;
     }
+    let help = help_of(alloc, name)?;
     page.push_str(".nf\n")?;
     for line in help.lines() {
         put_line(page, line)?;
     }
-    page.push_str(".fi\n")?;
-    Ok(())
+    page.push_str(".fi\n")
 }
 
 /// The page.

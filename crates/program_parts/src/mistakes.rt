@@ -1,5 +1,5 @@
 //! What is told of words that aren't taken.
-use crate::arguments::command;
+use crate::arguments::matches_of;
 use clap::Error;
 use clap::error::ErrorKind;
 use std::alloc::{AllocError, Global};
@@ -32,55 +32,51 @@ fn nearest(alloc: Global, word: &str) -> Result<&'static str, AllocError> {
 }
 
 /// The help of a command, or of the program where no name is told.
-pub fn help_of(alloc: Global, name: Option<&str>) -> Result<String, Error> {
-    let answer = match name {
-        Some(name) => {
-            let words = ["ruvkhiska", name, "--help"];
-            told_of(alloc, words.as_slice())
-        }
-        None => {
-            let words = ["ruvkhiska", "--help"];
-            told_of(alloc, words.as_slice())
-        }
-    };
-    answer
+pub fn help_of(alloc: Global, name: Option<&str>) -> Result<String, AllocError> {
+    match name {
+        Some(name) => told_of(alloc, &["ruvkhiska", name, "--help"]),
+        None => told_of(alloc, &["ruvkhiska", "--help"]),
+    }
 }
 
 // What is told in place of doing what the words ask for.
-fn told_of(alloc: Global, words: &[&str]) -> Result<String, Error> {
-    match command(alloc)?.try_get_matches_from(words) {
+fn told_of(alloc: Global, words: &[&str]) -> Result<String, AllocError> {
+    match matches_of(alloc, words) {
         Ok(_) => Ok(String::new(alloc)),
-        Err(told) => Ok(told.to_string(alloc)?),
+        Err(told) => match told.kind() {
+            ErrorKind::OutOfMemory => Err(AllocError),
+            _ => told.to_string(alloc),
+        },
     }
 }
 
-// The line of the command's help that tells how it is used.
-fn usage_of(alloc: Global, name: &str) -> Result<String, Error> {
-    let help = help_of(alloc, Some(name))?;
+// The line of a command's help that tells how it is used.
+fn usage_in(help: &str) -> &str {
     for line in help.lines() {
         if line.starts_with("Usage:") {
-            return Ok(String::from_str(alloc, line)?);
+            return line;
         }
     }
-    Ok(String::new(alloc))
+    ""
 }
 
 // The text with another line in place of the one that tells how the program is used.
 fn with_usage(alloc: Global, text: &str, usage: &str) -> Result<String, AllocError> {
     let mut told = String::new(alloc);
     for line in text.lines() {
-        if line.starts_with("Usage:") {
-            told.push_str(usage)?;
+        let line = if line.starts_with("Usage:") {
+            usage
         } else {
-            told.push_str(line)?;
-        }
+            line
+        };
+        told.push_str(line)?;
         told.push_str("\n")?;
     }
     Ok(told)
 }
 
 /// What is told of a mistake in these words. Where the first is no command, the usage is that of the nearest.
-pub fn mistake(alloc: Global, error: &Error, words: &[String]) -> Result<String, Error> {
+pub fn mistake(alloc: Global, error: &Error, words: &[String]) -> Result<String, AllocError> {
     let text = error.to_string(alloc)?;
     let is_of_command = matches!(
         error.kind(),
@@ -88,8 +84,8 @@ pub fn mistake(alloc: Global, error: &Error, words: &[String]) -> Result<String,
     );
     match words {
         [_, word, ..] if is_of_command => {
-            let usage = usage_of(alloc, nearest(alloc, word.as_str())?)?;
-            Ok(with_usage(alloc, text.as_str(), usage.as_str())?)
+            let help = help_of(alloc, Some(nearest(alloc, word.as_str())?))?;
+            with_usage(alloc, text.as_str(), usage_in(help.as_str()))
         }
         _ => Ok(text),
     }
