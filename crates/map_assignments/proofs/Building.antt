@@ -9,6 +9,7 @@ use Rattle.name_map.specs.declared.conversion.NameKind.TheVariants.{Identifier}
 use Rattle.name_map.specs.Taking.{IsTaken}
 use Rattle.asn_types.specs.declared.marks.Instruction.{Instruction}
 use Rattle.asn_types.specs.declared.marks.Instruction.TheVariants as mark
+use Rattle.asn_types.specs.declared.types.Component.{Component}
 use Rattle.asn_types.specs.declared.types.Form.TheVariants as form
 use Rattle.content_models.specs.declared.particles.ParticleKind.{ParticleKind}
 use Rattle.content_models.specs.declared.particles.ParticleKind.TheVariants.{Element, Sequence, Choice, All as AllKind}
@@ -20,7 +21,7 @@ use Rattle.map_subjects.specs.declared.subjects.Subject.{Subject}
 use Rattle.map_assignments.specs.Plans.{Label, TypePlan, Parts, part, finish, sequence, choice, repeated}
 use Rattle.map_assignments.specs.Planning.{label_of, list_label_of, is_once, is_optional, particle_part}
 use Rattle.map_assignments.specs.Naming.{type_label, component_with, wanted, part_standard, part_marks, named_part, repeated_part, sequence_marks, IsNamed, AreNamed}
-use Rattle.map_assignments.specs.Private.Building.{AddsPart, Adds, LeadsToNamed}
+use Rattle.map_assignments.specs.Private.Building.{AddsPart, Adds, TakesPart, LeadsToNamed}
 
 -- one part more
 pub adds-next : (place : Subject → ℕ) (before after : PartList) (l : Label) (optional : Bool) (p : TypePlan) (kid : Rose TypeLabel) (rest whole : Parts)
@@ -64,18 +65,16 @@ if_ok (Ok x) P Q f h = f x h
 if_ok (Err e) P Q f h = tt
 
 -- a part whose identifier is taken first, and which is added then
-pub adds-of : (before mid after : PartList) (name converted g : List ℕ) (standard : Standard) (marks : List ℕ → List Instruction) (ms : List Instruction) (optional : Bool) (kid : Rose TypeLabel)
-    → converted ≡ name → IsTaken Identifier before.scope converted g → mid.scope ≡ before.scope ++ g ∷ []
-    → mid.components ≡ before.components → mid.kids ≡ before.kids → ms ≡ marks g
-    → after.scope ≡ mid.scope → after.components.items ≡ mid.components.items ++ component_with g optional standard ms ∷ [] → after.kids.items ≡ mid.kids.items ++ kid ∷ []
+pub adds-of : (before mid after : PartList) (name : List ℕ) (standard : Standard) (marks : List ℕ → List Instruction) (optional : Bool) (made : Component) (kid : Rose TypeLabel)
+    → TakesPart before mid name standard marks optional made
+    → after.scope ≡ mid.scope → after.components.items ≡ mid.components.items ++ made ∷ [] → after.kids.items ≡ mid.kids.items ++ kid ∷ []
     → AddsPart before after name standard marks optional kid
-adds-of before mid after name converted g standard marks ms optional kid same taken noted same_components same_kids same_marks scope component added = record {
-  identifier = g;
-  taken = subst (λ n. IsTaken Identifier before.scope n g) same taken;
-  noted = scope ∙ noted;
-  component = component ∙ ap (λ v. v.items ++ component_with g optional standard ms ∷ []) same_components
-      ∙ ap (λ m. before.components.items ++ component_with g optional standard m ∷ []) same_marks;
-  kid_added = added ∙ ap (λ v. v.items ++ kid ∷ []) same_kids;
+adds-of before mid after name standard marks optional made kid takes scope component added = record {
+  identifier = takes.identifier;
+  taken = takes.taken;
+  noted = scope ∙ takes.noted;
+  component = component ∙ ap (λ v. v.items ++ made ∷ []) takes.components ∙ ap (λ m. before.components.items ++ m ∷ []) takes.is;
+  kid_added = added ∙ ap (λ v. v.items ++ kid ∷ []) takes.kids;
 }
 
 -- a part whose instructions are known before, and which is no attribute

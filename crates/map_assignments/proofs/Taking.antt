@@ -1,35 +1,13 @@
 -- Identifiers that are taken one after another.
-use Rattle.std.proofs.Common.{◌≡◌, ℕ, ◌+◌, ◌<◌, ◌≤◌, List, [], ◌∷◌, ◌++◌, length, map, drop, get_or, sym, ap, subst, ◌∙◌, append_assoc, add-one}
-use Rattle.std.proofs.lemmas.List.{drop_all, append-nil}
+use Rattle.std.proofs.Common.{◌≡◌, ℕ, ◌+◌, ◌<◌, List, [], ◌∷◌, ◌++◌, length, drop, get_or, sym, ap, subst, ◌∙◌, append_assoc, add-one}
+use Rattle.std.proofs.lemmas.List.{append-nil}
 use Rattle.map_subjects.proofs.Finding.{drop-next}
 use Rattle.name_map.specs.declared.conversion.NameKind.TheVariants.{Identifier}
 use Rattle.name_map.specs.Taking.{IsTaken}
 use Rattle.asn_types.specs.declared.marks.Instruction.{Instruction}
 use Rattle.name_map.specs.Restoring.{form_of}
-use Rattle.map_assignments.specs.Naming.{AreTaken, identifier_of, text_marks, text_if}
+use Rattle.map_assignments.specs.Naming.{AreTaken, text_marks, text_if}
 use Rattle.map_assignments.specs.Private.Building.{LeadsToNames}
-
--- Whatever identifiers follow, with those taken so far they are taken for all names.
-abbrev pub LeadsToTaken : List (List ℕ) → List (List ℕ) → List (List ℕ) → Type 0
-LeadsToTaken made rest names = (gs : List (List ℕ)) → AreTaken made rest gs → AreTaken [] names (made ++ gs)
-
--- one more is taken
-pub takes-next : (scope made after : List (List ℕ)) (words : List (List ℕ)) (i : ℕ) (word name g : List ℕ) → i < length words → word ≡ get_or words i word
-    → scope ≡ made → name ≡ identifier_of word → IsTaken Identifier scope name g → after ≡ made ++ g ∷ []
-    → LeadsToTaken made (map identifier_of (drop i words)) (map identifier_of words)
-    → LeadsToTaken after (map identifier_of (drop (i + 1) words)) (map identifier_of words)
-takes-next scope made after words i word name g at here same converted taken is so_far gs rest =
-    let one = subst (λ n. IsTaken Identifier made n g) converted (subst (λ s. IsTaken Identifier s name g) same taken) in
-    let next = subst (λ a. AreTaken a (map identifier_of (drop (i + 1) words)) gs) is rest in
-    let all = so_far (g ∷ gs) (subst (λ ws. AreTaken made (map identifier_of ws) (g ∷ gs)) (sym (drop-next words i word at here)) (one, next)) in
-    subst (AreTaken [] (map identifier_of words)) (sym (append_assoc made (g ∷ []) gs) ∙ ap (λ a. a ++ gs) (sym is)) all
-
--- all are taken
-pub takes-end : (made words : List (List ℕ)) (i : ℕ) → length words ≤ i
-    → LeadsToTaken made (map identifier_of (drop i words)) (map identifier_of words) → AreTaken [] (map identifier_of words) made
-takes-end made words i past so_far =
-    subst (AreTaken [] (map identifier_of words)) (append-nil made)
-    (so_far [] (subst (λ ws. AreTaken made (map identifier_of ws) []) (sym (drop_all i words past)) tt))
 
 -- TEXT of one item more
 pub texts-next : (before after whole : List Instruction) (gs words : List (List ℕ)) (i : ℕ) (g word : List ℕ)
@@ -47,6 +25,10 @@ texts-next before after whole gs words i g word at_g here_g at here is so_far =
     ∙ so_far
 
 -- ---- identifiers for an order of elements
+
+-- none are made
+pub names-init : (scope made names : List (List ℕ)) → made ≡ [] → LeadsToNames scope scope made names names
+names-init scope made names none gs taken = subst (λ m. AreTaken scope names (m ++ gs)) (sym none) taken
 
 pub names-next : (first scope made after grown : List (List ℕ)) (name g : List ℕ) (rest names : List (List ℕ)) → IsTaken Identifier scope name g → after ≡ scope ++ g ∷ []
     → grown ≡ made ++ g ∷ [] → LeadsToNames first scope made (name ∷ rest) names → LeadsToNames first after grown rest names

@@ -49,8 +49,7 @@ pub(crate) fn push_attributes(
 {
     'uses: for attribute in uses {
         let kid = simple_at(alloc, set, places, attribute.simple)?;
-        let standard = attribute.standard.copy(alloc)?;
-        parts.push_attribute(&attribute.name, !attribute.required, standard, kid)?;
+        parts.push_attribute(attribute, kid)?;
     }
     Ok(())
 }

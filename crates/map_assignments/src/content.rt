@@ -14,7 +14,7 @@ ghost use Rattle.map_assignments.specs.Private.Building.{LeadsToNamed, declared,
 
 use crate::attributes::{push_attributes, simple_at};
 use crate::orders::order_type;
-use crate::particles::{is_plain, push_base, push_nillable, push_order, push_particle, push_texts};
+use crate::particles::{is_plain, push_nillable, push_particle, push_texts, push_untagged};
 use crate::parts::PartList;
 use crate::places::Places;
 use asn_types::{Instruction, Marks, TypeLabel};
@@ -74,21 +74,14 @@ fn sequence_marks(
     Ok(Marks::of(marks))
 }
 
-// The part for the texts between child elements alone.
-fn begin_mixed(alloc: Global) -> Result<PartList, Memory>
-    ensures { IfOk result (λ made. (place : Subject → ℕ) (rest : Parts) → LeadsToNamed place made rest (plan.with_texts true rest)) }
-{
-    let mut parts = PartList::new(alloc);
-    push_texts(alloc, &mut parts)?;
-    Ok(parts)
-}
-
 // No parts but that of mixed content.
 fn begin(alloc: Global, mixed: bool) -> Result<PartList, Memory>
     ensures { IfOk result (λ made. (place : Subject → ℕ) (rest : Parts) → LeadsToNamed place made rest (plan.with_texts mixed rest)) }
 {
     if mixed {
-        begin_mixed(alloc)
+        let mut parts = PartList::new(alloc);
+        push_texts(alloc, &mut parts)?;
+        Ok(parts)
     } else {
         Ok(PartList::new(alloc))
     }
@@ -110,7 +103,7 @@ fn push_all_order(
 {
     if is_all(particle) {
         let kid = order_type(alloc, nillable, mixed, uses, particle.kids())?;
-        push_order(alloc, parts, kid)
+        parts.push_marked("order", false, Marks::of(Vec::new(alloc)), kid)
     } else {
         Ok(())
     }
@@ -137,6 +130,40 @@ fn push_content_order(
         }
         _ => Ok(()),
     }
+}
+
+// The parts that stand first, up to the attributes.
+fn first_parts(
+    alloc: Global,
+    set: &SchemaSet,
+    places: &Places,
+    nillable: bool,
+    definition: &ComplexDef,
+) -> Result<PartList, Memory>
+    requires linked { IsLinked set.now }
+    requires definition { IsComplexType set.now definition.now }
+    ensures { IfOk result (λ made. (T : ℕ → TypePlan) (rest : Parts)
+        → LeadsToNamed (place_of places.now) made rest (plan.with_texts (plan.is_mixed definition.now.content)
+        (plan.with_order (plan.is_ordered definition.now.content) (plan.order_plan T set.now nillable definition.now) (plan.attributes set.now definition.now.uses rest)))) }
+{
+    let mut parts = begin(alloc, is_mixed(&definition.content))?;
+    push_content_order(alloc, &mut parts, nillable, definition)?;
+    push_attributes(alloc, &mut parts, set, places, definition.uses.items())?;
+    Ok(parts)
+}
+
+// The type that has these parts, of a complex type with this content.
+fn marked_sequence(
+    alloc: Global,
+    parts: PartList,
+    nillable: bool,
+    content: &Content,
+) -> Result<Tree<TypeLabel>, Memory>
+    ensures { IfOk result (λ made. (place : Subject → ℕ) (whole : Parts) → LeadsToNamed place parts finish whole
+        → IsNamed place (plan_of.sequence nillable (plan.is_mixed content.now) (plan.is_ordered content.now) whole) made) }
+{
+    let marks = sequence_marks(alloc, nillable, is_mixed(content), is_ordered(content))?;
+    Ok(parts.into_sequence(marks))
 }
 
 // The type of nillable elements of the simple type with this number.
@@ -248,40 +275,9 @@ fn complex_type(
     ensures { IfOk result (λ made. IsNamed (place_of places.now) (plan.complex_plan (declared set.now levels) set.now nillable definition.now) made) }
 {
     let content = &definition.content;
-    let mixed = is_mixed(content);
-    let mut parts = begin(alloc, mixed)?;
-    push_parts(alloc, &mut parts, set, places, levels, nillable, definition)?;
-    let marks = sequence_marks(alloc, nillable, mixed, is_ordered(content))?;
-    Ok(parts.into_sequence(marks))
-}
-
-// The parts behind that of mixed content.
-#[cycle(content)]
-fn push_parts(
-    alloc: Global,
-    parts: &mut PartList,
-    set: &SchemaSet,
-    places: &Places,
-    levels: u32,
-    nillable: bool,
-    definition: &ComplexDef,
-) -> Result<(), Memory>
-    requires linked { IsLinked set.now }
-    requires definition { IsComplexType set.now definition.now }
-    ensures { OnOk result ((whole : Parts) → LeadsToNamed (place_of places.now) parts.old (plan.with_order (plan.is_ordered definition.now.content) (plan.order_plan (declared set.now levels) set.now nillable definition.now) (plan.attributes set.now definition.now.uses (plan.rest_parts (declared set.now levels) set.now nillable definition.now.content))) whole
-        → LeadsToNamed (place_of places.now) parts.new finish whole) }
-{
-    push_content_order(alloc, parts, nillable, definition)?;
-    push_attributes(alloc, parts, set, places, definition.uses.items())?;
-    push_rest(
-        alloc,
-        parts,
-        set,
-        places,
-        levels,
-        nillable,
-        &definition.content,
-    )
+    let mut parts = first_parts(alloc, set, places, nillable, definition)?;
+    push_rest(alloc, &mut parts, set, places, levels, nillable, content)?;
+    marked_sequence(alloc, parts, nillable, content)
 }
 
 // What stands behind the attributes.
@@ -348,7 +344,7 @@ fn push_content(
         Content::Empty => Ok(()),
         Content::Simple(n) => {
             let kid = simple_at(alloc, set, places, *n)?;
-            push_base(alloc, parts, kid)
+            push_untagged(alloc, parts, "base", false, kid)
         }
         Content::ElementOnly(particle) => {
             push_top(alloc, parts, set, places, levels, particle.root())

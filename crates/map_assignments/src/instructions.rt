@@ -1,13 +1,20 @@
 //! Encoding instructions that tell the names of XML back.
-ghost use Rattle.std.specs.Prelude.{◌≡◌, ◌++◌, OnOk};
+ghost use Rattle.std.specs.Prelude.{◌≡◌, ◌++◌, ◌∷◌, [], IfOk, OnOk};
 ghost use Rattle.asn_types.specs.Simples.{white_space_marks};
 ghost use Rattle.name_map.specs.Restoring.{form_of};
 ghost use Rattle.map_assignments.specs.Naming.{name_marks, namespace_marks, qualified_marks, text_if};
 
-use asn_types::Instruction;
+use asn_types::{Instruction, Marks};
 use name_map::restoring;
 use std::alloc::Global;
 use xa_base::{Memory, Name, Text, WhiteSpace};
+
+pub(crate) fn one_mark(alloc: Global, mark: Instruction) -> Result<Marks, Memory>
+    ensures { IfOk result (λ marks. marks ≡ mark ∷ []) }
+{
+    let marks = vec![in alloc; mark]?;
+    Ok(Marks::of(marks))
+}
 
 // NAME, where the generated name isn't the name.
 pub(crate) fn push_name(

@@ -1,5 +1,5 @@
 //! Assignments.
-ghost use Rattle.std.specs.Prelude.{◌≡◌, ◌<◌, ◌^◌, ◌++◌, ◌∷◌, [], IfOk, All, length, unwrap_or, slice_get};
+ghost use Rattle.std.specs.Prelude.{◌≡◌, ◌<◌, ◌^◌, ◌++◌, ◌∷◌, [], IfOk, OnOk, All, length, unwrap_or, slice_get};
 ghost use Rattle.label_tree.specs.Rose.{Allowed};
 ghost use Rattle.asn_types.specs.Parts.{MayHave};
 ghost use Rattle.schema_parts.specs.Linked.{IsLinked};
@@ -134,24 +134,26 @@ fn assignment(
     })
 }
 
-// The assignments of these components in their order, which have these numbers in the module.
-fn numbered_assignments(
+// Makes the assignments of these components in their order, the first of all.
+fn push_assignments(
     alloc: Global,
     set: &SchemaSet,
     places: &Places,
+    scope: &mut Scope,
+    made: &mut Vec<Assignment>,
     entries: &[NamedSubject],
-) -> Result<Vec<Assignment>, Memory>
+) -> Result<(), Memory>
     requires linked { IsLinked set.now }
     requires entries { All (λ e. IsSubject set.now e.subject) entries.now }
-    ensures { IfOk result (λ made. AreMapped (place_of places.now) set.now [] entries.now made.items) }
+    requires scope { scope.old ≡ references_of made.old.items }
+    requires none { made.old.items ≡ [] }
+    ensures { OnOk result (AreMapped (place_of places.now) set.now [] entries.now made.new.items) }
 {
-    let mut scope = Scope::new(alloc);
-    let mut made = Vec::with_capacity(alloc, entries.len())?;
     'entries: for entry in entries {
-        let next = assignment(alloc, set, places, &mut scope, &made, entry)?;
+        let next = assignment(alloc, set, places, scope, made, entry)?;
         made.push(next)?;
     }
-    Ok(made)
+    Ok(())
 }
 
 /// The assignments of these components in this order, which is that of the module. There are fewer than 2^32 of them.
@@ -167,6 +169,9 @@ pub fn assignments(
     requires entries { All (λ e. IsSubject set.now e.subject) entries.now }
     ensures { IfOk result (λ made. AreMapped (place_in entries.now) set.now [] entries.now made.items) }
 {
+    let mut made = Vec::with_capacity(alloc, entries.len())?;
     let places = Places::of_entries(alloc, set, entries)?;
-    numbered_assignments(alloc, set, &places, entries)
+    let mut scope = Scope::new(alloc);
+    push_assignments(alloc, set, &places, &mut scope, &mut made, entries)?;
+    Ok(made)
 }

@@ -8,7 +8,7 @@ ghost use Rattle.map_assignments.specs.Planning.{labels, labels_before, particle
 ghost use Rattle.map_assignments.specs.Planning as plan_of;
 ghost use Rattle.map_subjects.specs.declared.subjects.Subject.{Subject};
 ghost use Rattle.map_assignments.specs.Naming.{wanted, AreTaken, IsNamed};
-ghost use Rattle.map_assignments.specs.Private.Building.{LeadsToScope, order_tree};
+ghost use Rattle.map_assignments.specs.Private.Building.{LeadsToNames, LeadsToScope, order_tree};
 
 use crate::particles::part_name;
 use asn_types::{Component, Form, Marks, TypeLabel};
@@ -59,15 +59,19 @@ fn take_attributes(alloc: Global, scope: &mut Scope, uses: &[AttributeUse]) -> R
     Ok(())
 }
 
-// The identifiers of the parts before those of the elements.
-fn taken_before(alloc: Global, mixed: bool, uses: &[AttributeUse]) -> Result<Scope, Memory>
-    ensures { IfOk result (λ scope. AreTaken [] (map wanted (labels_before mixed uses.now)) scope) }
+// Takes the identifiers of the parts before those of the elements.
+fn take_before(
+    alloc: Global,
+    scope: &mut Scope,
+    mixed: bool,
+    uses: &[AttributeUse],
+) -> Result<(), Memory>
+    ensures { OnOk result ((names : List (List ℕ))
+        → LeadsToScope scope.old (map wanted (labels_before mixed uses.now)) names → LeadsToScope scope.new [] names) }
 {
-    let mut scope = Scope::new(alloc);
-    take_texts(alloc, &mut scope, mixed)?;
-    take_word(alloc, &mut scope, "order")?;
-    take_attributes(alloc, &mut scope, uses)?;
-    Ok(scope)
+    take_texts(alloc, scope, mixed)?;
+    take_word(alloc, scope, "order")?;
+    take_attributes(alloc, scope, uses)
 }
 
 // The identifiers of the parts before those of the elements: none in a content of its own.
@@ -80,10 +84,30 @@ fn scope_before(
     ensures { IfOk result (λ scope. AreTaken [] (map wanted (if nillable then [] else labels_before mixed uses.now)) scope) }
 {
     if nillable {
-        Ok(Scope::new(alloc))
-    } else {
-        taken_before(alloc, mixed, uses)
+        return Ok(Scope::new(alloc));
     }
+    let mut scope = Scope::new(alloc);
+    take_before(alloc, &mut scope, mixed, uses)?;
+    Ok(scope)
+}
+
+// Takes the identifiers of the parts for particles of a group, behind those that are made.
+fn take_elements(
+    alloc: Global,
+    scope: &mut Scope,
+    made: &mut Vec<Text>,
+    particles: &[Tree<ParticleLabel>],
+) -> Result<(), Memory>
+    ensures { OnOk result ((T : ℕ → TypePlan) (first names : List (List ℕ))
+        → LeadsToNames first scope.old made.old.items (map wanted (labels (particle_parts T false (all_seen (roses_of particles.now))))) names
+        → LeadsToNames first scope.new made.new.items [] names) }
+{
+    'particles: for particle in particles {
+        let name = part_name(alloc, particle.label())?;
+        let identifier = scope.take(NameKind::Identifier, &name)?;
+        made.push(identifier)?;
+    }
+    Ok(())
 }
 
 // The identifiers of the parts for particles of a group.
@@ -96,11 +120,7 @@ fn element_names(
 {
     let mut scope = scope;
     let mut made = Vec::new(alloc);
-    'particles: for particle in particles {
-        let name = part_name(alloc, particle.label())?;
-        let identifier = scope.take(NameKind::Identifier, &name)?;
-        made.push(identifier)?;
-    }
+    take_elements(alloc, &mut scope, &mut made, particles)?;
     Ok(made)
 }
 
@@ -112,6 +132,7 @@ fn order_tree(alloc: Global, identifiers: Vec<Text>) -> Result<Tree<TypeLabel>, 
     let form = Form::Order { identifiers };
     let marks = Marks::of(Vec::new(alloc));
     let item = Tree::leaf(alloc, TypeLabel { form, marks });
+    let kids = vec![in alloc; item]?;
     let part = Component {
         identifier: Text::empty(),
         optional: false,
@@ -124,7 +145,6 @@ fn order_tree(alloc: Global, identifiers: Vec<Text>) -> Result<Tree<TypeLabel>, 
         max: None,
     };
     let marks = Marks::of(Vec::new(alloc));
-    let kids = vec![in alloc; item]?;
     Ok(Tree::join(TypeLabel { form, marks }, kids))
 }
 

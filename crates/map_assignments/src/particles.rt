@@ -13,7 +13,7 @@ ghost use Rattle.map_assignments.specs.Planning.{label_of, list_label_of, is_onc
 ghost use Rattle.map_assignments.specs.Naming.{type_label, repeated_part, wanted, IsNamed};
 ghost use Rattle.map_assignments.specs.Private.Building.{AddsPart, Adds, LeadsToNamed, is_plain};
 
-use crate::instructions::push_qualified;
+use crate::instructions::{one_mark, push_qualified};
 use crate::parts::PartList;
 use asn_types::{Component, Form, Instruction, Marks, TypeLabel};
 use content_models::{ParticleKind, ParticleLabel};
@@ -22,19 +22,6 @@ use name_map::{NameKind, convert};
 use simple_types::{Class, Standard};
 use std::alloc::Global;
 use xa_base::{Memory, Text};
-
-fn text(alloc: Global, text: &str) -> Result<Text, Memory>
-    ensures { IfOk result (λ made. made ≡ text.now) }
-{
-    Text::from_str(alloc, text)
-}
-
-fn untagged(alloc: Global) -> Result<Marks, Memory>
-    ensures { IfOk result (λ marks. marks ≡ Instruction.Untagged ∷ []) }
-{
-    let marks = vec![in alloc; Instruction::Untagged]?;
-    Ok(Marks::of(marks))
-}
 
 // Whether a particle stands once.
 fn is_once(min: u32, max: Option<u32>) -> bool
@@ -80,8 +67,8 @@ fn name_of(alloc: Global, kind: &ParticleKind) -> Result<Text, Memory>
 {
     match kind {
         ParticleKind::Element { name, .. } => convert(alloc, NameKind::Identifier, &name.local),
-        ParticleKind::Sequence | ParticleKind::All => text(alloc, "sequence"),
-        ParticleKind::Choice => text(alloc, "choice"),
+        ParticleKind::Sequence | ParticleKind::All => Text::from_str(alloc, "sequence"),
+        ParticleKind::Choice => Text::from_str(alloc, "choice"),
     }
 }
 
@@ -135,6 +122,7 @@ fn repeated(
 ) -> Result<Tree<TypeLabel>, Memory>
     ensures { IfOk result (λ made. (ps : Particles) → made ≡ node (type_label (Form.SequenceOf (repeated_part (label_of (term_seen label.now.kind ps))) label.now.min label.now.max) []) (rose.more kid rose.none)) }
 {
+    let kids = vec![in alloc; kid]?;
     let part = repeated_part(alloc, &label.kind)?;
     let form = Form::SequenceOf {
         part,
@@ -142,23 +130,21 @@ fn repeated(
         max: label.max,
     };
     let marks = Marks::of(Vec::new(alloc));
-    let kids = vec![in alloc; kid]?;
     Ok(Tree::join(TypeLabel { form, marks }, kids))
 }
 
-// A part for a group, with this name.
-fn push_group(
+/// A part that has no tags of its own, with an identifier made from this word.
+pub(crate) fn push_untagged(
     alloc: Global,
     parts: &mut PartList,
-    name: &str,
+    word: &str,
     optional: bool,
     kid: Tree<TypeLabel>,
 ) -> Result<(), Memory>
-    ensures { OnOk result (AddsPart parts.old parts.new name.now Free (λ identifier. Instruction.Untagged ∷ []) optional kid) }
+    ensures { OnOk result (AddsPart parts.old parts.new word.now Free (λ identifier. Instruction.Untagged ∷ []) optional kid) }
 {
-    let name = text(alloc, name)?;
-    let marks = untagged(alloc)?;
-    parts.push_marked(&name, optional, marks, kid)
+    let marks = one_mark(alloc, Instruction::Untagged)?;
+    parts.push_marked(word, optional, marks, kid)
 }
 
 // A part for one occurrence.
@@ -174,9 +160,9 @@ fn push_one(
     match kind {
         ParticleKind::Element { name, .. } => parts.push_element(name, optional, kid),
         ParticleKind::Sequence | ParticleKind::All => {
-            push_group(alloc, parts, "sequence", optional, kid)
+            push_untagged(alloc, parts, "sequence", optional, kid)
         }
-        ParticleKind::Choice => push_group(alloc, parts, "choice", optional, kid),
+        ParticleKind::Choice => push_untagged(alloc, parts, "choice", optional, kid),
     }
 }
 
@@ -193,8 +179,7 @@ fn push_several(
 {
     let made = repeated(alloc, label, kid)?;
     let name = list_name_of(alloc, &label.kind)?;
-    let marks = untagged(alloc)?;
-    parts.push_marked(&name, false, marks, made)
+    push_untagged(alloc, parts, name.as_str(), false, made)
 }
 
 /// The part for a particle whose term has this type, behind the parts so far.
@@ -229,6 +214,7 @@ fn texts_type(alloc: Global) -> Result<Tree<TypeLabel>, Memory>
     };
     let marks = Marks::of(Vec::new(alloc));
     let text = Tree::leaf(alloc, TypeLabel { form, marks });
+    let kids = vec![in alloc; text]?;
     let part = Component {
         identifier: Text::empty(),
         optional: false,
@@ -241,7 +227,6 @@ fn texts_type(alloc: Global) -> Result<Tree<TypeLabel>, Memory>
         max: None,
     };
     let marks = Marks::of(Vec::new(alloc));
-    let kids = vec![in alloc; text]?;
     Ok(Tree::join(TypeLabel { form, marks }, kids))
 }
 
@@ -251,23 +236,8 @@ pub(crate) fn push_texts(alloc: Global, parts: &mut PartList) -> Result<(), Memo
         → LeadsToNamed place parts.old (plan.part plan.texts false texts_type rest) whole → LeadsToNamed place parts.new rest whole) }
 {
     let kid = texts_type(alloc)?;
-    let name = text(alloc, "embed-values")?;
     let marks = Marks::of(Vec::new(alloc));
-    parts.push_marked(&name, false, marks, kid)
-}
-
-/// The part for the order of the child elements.
-pub(crate) fn push_order(
-    alloc: Global,
-    parts: &mut PartList,
-    kid: Tree<TypeLabel>,
-) -> Result<(), Memory>
-    ensures { OnOk result ((place : Subject → ℕ) (type : TypePlan) (rest whole : Parts) → IsNamed place type kid
-        → LeadsToNamed place parts.old (plan.part plan.order false type rest) whole → LeadsToNamed place parts.new rest whole) }
-{
-    let name = text(alloc, "order")?;
-    let marks = Marks::of(Vec::new(alloc));
-    parts.push_marked(&name, false, marks, kid)
+    parts.push_marked("embed-values", false, marks, kid)
 }
 
 /// The part for what a nillable element has where it isn't nil.
@@ -279,21 +249,6 @@ pub(crate) fn push_nillable(
     ensures { OnOk result ((place : Subject → ℕ) (type : TypePlan) (whole : Parts) → IsNamed place type kid
         → LeadsToNamed place parts.old (plan.part plan.content true type plan.finish) whole → LeadsToNamed place parts.new plan.finish whole) }
 {
-    let name = text(alloc, "content")?;
     let marks = Marks::of(Vec::new(alloc));
-    parts.push_marked(&name, true, marks, kid)
-}
-
-/// The part for the text of simple content.
-pub(crate) fn push_base(
-    alloc: Global,
-    parts: &mut PartList,
-    kid: Tree<TypeLabel>,
-) -> Result<(), Memory>
-    ensures { OnOk result ((place : Subject → ℕ) (type : TypePlan) (whole : Parts) → IsNamed place type kid
-        → LeadsToNamed place parts.old (plan.part plan.base false type plan.finish) whole → LeadsToNamed place parts.new plan.finish whole) }
-{
-    let name = text(alloc, "base")?;
-    let marks = untagged(alloc)?;
-    parts.push_marked(&name, false, marks, kid)
+    parts.push_marked("content", true, marks, kid)
 }

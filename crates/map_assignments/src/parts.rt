@@ -1,17 +1,18 @@
 //! The parts of a type as they are made.
-ghost use Rattle.std.specs.Prelude.{◌≡◌, ◌++◌, ◌∷◌, [], IfOk, OnOk, OnErr};
+ghost use Rattle.std.specs.Prelude.{◌≡◌, ◌++◌, ◌∷◌, [], IfOk, OnOk, not};
 ghost use Rattle.label_tree.specs.Rose.{node, roses_of};
 ghost use Rattle.simple_types.specs.declared.standards.Standard.TheVariants.{Free};
 ghost use Rattle.name_map.specs.declared.conversion.NameKind.TheVariants.{Identifier};
 ghost use Rattle.name_map.specs.Taking.{IsTaken};
 ghost use Rattle.map_assignments.specs.Plans as plan;
-ghost use Rattle.map_assignments.specs.Naming.{type_label, component_with, sequence_marks, identifier_of, qualified_marks};
-ghost use Rattle.map_assignments.specs.Private.Building.{AddsPart, Adds};
+ghost use Rattle.map_assignments.specs.Naming.{type_label, identifier_of, qualified_marks};
+ghost use Rattle.map_assignments.specs.Private.Building.{AddsPart, Adds, Takes};
 
 use crate::instructions::push_qualified;
 use asn_types::{Component, Components, Form, Instruction, Marks, TypeLabel};
 use label_tree::Tree;
 use name_map::{NameKind, Scope, convert};
+use schema_parts::AttributeUse;
 use simple_types::Standard;
 use std::alloc::Global;
 use xa_base::{Memory, Name, Text};
@@ -57,14 +58,15 @@ impl PartList {
         }
     }
 
-    // Takes an identifier.
-    fn take(&mut self, name: &Text) -> Result<Text, Memory>
-        ensures taken { IfOk result (λ identifier. IsTaken Identifier self.old.scope name.now identifier) }
+    // Takes an identifier made from this word.
+    fn take_word(&mut self, word: &str) -> Result<Text, Memory>
+        ensures taken { IfOk result (λ identifier. IsTaken Identifier self.old.scope word.now identifier) }
         ensures noted { IfOk result (λ identifier. self.new.scope ≡ self.old.scope ++ identifier ∷ []) }
         ensures components { self.new.components ≡ self.old.components }
         ensures kids { self.new.kids ≡ self.old.kids }
     {
-        self.scope.take(NameKind::Identifier, name)
+        let name = Text::from_str(self.alloc, word)?;
+        self.scope.take(NameKind::Identifier, &name)
     }
 
     // Takes the identifier that is made from this name.
@@ -75,28 +77,45 @@ impl PartList {
         ensures kids { self.new.kids ≡ self.old.kids }
     {
         let converted = convert(self.alloc, NameKind::Identifier, &name.local)?;
-        self.take(&converted)
+        self.scope.take(NameKind::Identifier, &converted)
+    }
+
+    // A part that stands for an attribute. Its identifier is taken, and it isn't added yet.
+    fn attribute_part(&mut self, attribute: &AttributeUse) -> Result<Component, Memory>
+        ensures { IfOk result (λ part. Takes self.old self.new (plan.attribute attribute.now.name attribute.now.standard) (not attribute.now.required) part) }
+    {
+        let identifier = self.take_for(&attribute.name)?;
+        let marks = attribute_marks(self.alloc, &identifier, &attribute.name)?;
+        let standard = attribute.standard.copy(self.alloc)?;
+        Ok(Component {
+            identifier,
+            optional: !attribute.required,
+            standard,
+            marks,
+        })
+    }
+
+    // A part that stands for an element. Its identifier is taken, and it isn't added yet.
+    fn element_part(&mut self, name: &Name, optional: bool) -> Result<Component, Memory>
+        ensures { IfOk result (λ part. Takes self.old self.new (plan.element name.now) optional part) }
+    {
+        let identifier = self.take_for(name)?;
+        let marks = element_marks(self.alloc, &identifier, name)?;
+        Ok(Component {
+            identifier,
+            optional,
+            standard: Standard::Free,
+            marks,
+        })
     }
 
     // A part whose identifier is taken.
-    fn add(
-        &mut self,
-        identifier: Text,
-        optional: bool,
-        standard: Standard,
-        marks: Marks,
-        kid: Tree<TypeLabel>,
-    ) -> Result<(), Memory>
+    fn add(&mut self, part: Component, kid: Tree<TypeLabel>) -> Result<(), Memory>
         ensures scope { OnOk result (self.new.scope ≡ self.old.scope) }
-        ensures component { OnOk result (self.new.components.items ≡ self.old.components.items ++ component_with identifier optional standard marks ∷ []) }
+        ensures component { OnOk result (self.new.components.items ≡ self.old.components.items ++ part ∷ []) }
         ensures kid { OnOk result (self.new.kids.items ≡ self.old.kids.items ++ kid ∷ []) }
     {
-        self.components.push(Component {
-            identifier,
-            optional,
-            standard,
-            marks,
-        })?;
+        self.components.push(part)?;
         self.kids.push(kid)?;
         Ok(())
     }
@@ -104,16 +123,13 @@ impl PartList {
     /// A part that stands for an attribute.
     pub(crate) fn push_attribute(
         &mut self,
-        name: &Name,
-        optional: bool,
-        standard: Standard,
+        attribute: &AttributeUse,
         kid: Tree<TypeLabel>,
     ) -> Result<(), Memory>
-        ensures { OnOk result (Adds self.old self.new (plan.attribute name.now standard) optional kid) }
+        ensures { OnOk result (Adds self.old self.new (plan.attribute attribute.now.name attribute.now.standard) (not attribute.now.required) kid) }
     {
-        let identifier = self.take_for(name)?;
-        let marks = attribute_marks(self.alloc, &identifier, name)?;
-        self.add(identifier, optional, standard, marks, kid)
+        let part = self.attribute_part(attribute)?;
+        self.add(part, kid)
     }
 
     /// A part that stands for an element.
@@ -125,23 +141,28 @@ impl PartList {
     ) -> Result<(), Memory>
         ensures { OnOk result (Adds self.old self.new (plan.element name.now) optional kid) }
     {
-        let identifier = self.take_for(name)?;
-        let marks = element_marks(self.alloc, &identifier, name)?;
-        self.add(identifier, optional, Standard::Free, marks, kid)
+        let part = self.element_part(name, optional)?;
+        self.add(part, kid)
     }
 
-    /// A part with an identifier made from this one, and with these instructions.
+    /// A part with an identifier made from this word, and with these instructions.
     pub(crate) fn push_marked(
         &mut self,
-        name: &Text,
+        word: &str,
         optional: bool,
         marks: Marks,
         kid: Tree<TypeLabel>,
     ) -> Result<(), Memory>
-        ensures { OnOk result (AddsPart self.old self.new name.now Free (λ identifier. marks) optional kid) }
+        ensures { OnOk result (AddsPart self.old self.new word.now Free (λ identifier. marks) optional kid) }
     {
-        let identifier = self.take(name)?;
-        self.add(identifier, optional, Standard::Free, marks, kid)
+        let identifier = self.take_word(word)?;
+        let part = Component {
+            identifier,
+            optional,
+            standard: Standard::Free,
+            marks,
+        };
+        self.add(part, kid)
     }
 
     /// A SEQUENCE of the parts, with these instructions.

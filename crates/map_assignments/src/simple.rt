@@ -1,16 +1,14 @@
 //! Simple types in place.
-ghost use Rattle.std.specs.Prelude.{◌≡◌, ◌∷◌, [], IfOk, OnOk, codes, false};
+ghost use Rattle.std.specs.Prelude.{◌≡◌, ◌∷◌, [], IfOk, OnOk};
 ghost use Rattle.label_tree.specs.Rose.{node, roses_of};
 ghost use Rattle.label_tree.specs.Rose as rose;
 ghost use Rattle.simple_types.specs.Sound.{Sound, AreSound};
 ghost use Rattle.simple_types.specs.Seen.{space_of, spaces_in};
 ghost use Rattle.simple_types.specs.Space.{UnionOf};
-ghost use Rattle.simple_types.specs.declared.standards.Standard.TheVariants.{Free};
 ghost use Rattle.asn_types.specs.Simples.{white_space_marks, MapsTo};
-ghost use Rattle.map_assignments.specs.Naming.{type_label, component_of, list_item, IsLeaf, IsSimpleType};
-ghost use Rattle.map_assignments.specs.Private.Building.{AddsPart};
+ghost use Rattle.map_assignments.specs.Naming.{type_label, list_item, AreMembers, IsLeaf, IsSimpleType};
 
-use crate::instructions::push_white_space;
+use crate::instructions::{one_mark, push_white_space};
 use crate::parts::PartList;
 use crate::words::words_type;
 use asn_types::{Component, Form, Instruction, Marks, TypeLabel};
@@ -25,13 +23,6 @@ fn plain(alloc: Global, form: Form) -> Tree<TypeLabel>
 {
     let marks = Marks::of(Vec::new(alloc));
     Tree::leaf(alloc, TypeLabel { form, marks })
-}
-
-fn one_mark(alloc: Global, mark: Instruction) -> Result<Marks, Memory>
-    ensures { IfOk result (λ marks. marks ≡ mark ∷ []) }
-{
-    let marks = vec![in alloc; mark]?;
-    Ok(Marks::of(marks))
 }
 
 fn numbers_type(alloc: Global, numbers: &NumberList) -> Result<Tree<TypeLabel>, Memory>
@@ -59,18 +50,6 @@ fn text_type(
     Ok(Tree::leaf(alloc, TypeLabel { form, marks }))
 }
 
-// An item of a list.
-fn unmarked(alloc: Global, identifier: Text) -> Component
-    ensures { result ≡ component_of identifier false [] }
-{
-    Component {
-        identifier,
-        optional: false,
-        standard: Standard::Free,
-        marks: Marks::of(Vec::new(alloc)),
-    }
-}
-
 // A LIST of items of this type.
 fn list_type(
     alloc: Global,
@@ -82,25 +61,30 @@ fn list_type(
 {
     let kids = vec![in alloc; item]?;
     let marks = one_mark(alloc, Instruction::List)?;
-    let part = unmarked(alloc, Text::empty());
+    let part = Component {
+        identifier: Text::empty(),
+        optional: false,
+        standard: Standard::Free,
+        marks: Marks::of(Vec::new(alloc)),
+    };
     let form = Form::SequenceOf { part, min, max };
     Ok(Tree::join(TypeLabel { form, marks }, kids))
 }
 
-// The next alternative of a union, of this type.
-fn push_alternative(alloc: Global, parts: &mut PartList, kid: Tree<TypeLabel>) -> Result<(), Memory>
-    ensures { OnOk result (AddsPart parts.old parts.new (codes "alt") Free (λ identifier. []) false kid) }
+// The alternatives of a union for its members, which are the first parts.
+#[cycle(simple)]
+fn push_members(alloc: Global, parts: &mut PartList, members: &[Simple]) -> Result<(), Memory>
+    requires sound { AreSound (spaces_in members.now) }
+    requires scope { parts.old.scope ≡ [] }
+    requires components { parts.old.components.items ≡ [] }
+    requires kids { parts.old.kids.items ≡ [] }
+    ensures { OnOk result (AreMembers [] (spaces_in members.now) parts.new.components.items (roses_of parts.new.kids.items)) }
 {
-    let name = Text::from_str(alloc, "alt")?;
-    parts.push_marked(&name, false, Marks::of(Vec::new(alloc)), kid)
-}
-
-// A CHOICE of the members.
-fn union_of(alloc: Global, parts: PartList) -> Result<Tree<TypeLabel>, Memory>
-    ensures { IfOk result (λ made. made ≡ node (type_label (Form.Choice parts.components.items) (Instruction.UseUnion ∷ [])) (roses_of parts.kids.items)) }
-{
-    let marks = one_mark(alloc, Instruction::UseUnion)?;
-    Ok(parts.into_choice(marks))
+    'members: for member in members {
+        let kid = simple_type(alloc, member)?;
+        parts.push_marked("alt", false, Marks::of(Vec::new(alloc)), kid)?;
+    }
+    Ok(())
 }
 
 #[cycle(simple)]
@@ -109,11 +93,9 @@ fn union_type(alloc: Global, members: &[Simple]) -> Result<Tree<TypeLabel>, Memo
     ensures { IfOk result (λ made. IsSimpleType (UnionOf (spaces_in members.now)) made) }
 {
     let mut parts = PartList::new(alloc);
-    'members: for member in members {
-        let kid = simple_type(alloc, member)?;
-        push_alternative(alloc, &mut parts, kid)?;
-    }
-    union_of(alloc, parts)
+    push_members(alloc, &mut parts, members)?;
+    let marks = one_mark(alloc, Instruction::UseUnion)?;
+    Ok(parts.into_choice(marks))
 }
 
 // The type to which a simple type is mapped where it stands in place.

@@ -1,9 +1,8 @@
 //! ENUMERATED types of words.
-ghost use Rattle.std.specs.Prelude.{◌≡◌, ◌++◌, ◌<◌, ◌^◌, ◌∷◌, [], IfOk, OnOk, length, map};
-ghost use Rattle.name_map.specs.declared.conversion.NameKind.TheVariants.{Identifier};
-ghost use Rattle.name_map.specs.Taking.{IsTaken};
+ghost use Rattle.std.specs.Prelude.{◌≡◌, ◌+◌, ◌++◌, ◌<◌, ◌^◌, [], ℕ, List, IfOk, OnOk, length, map};
 ghost use Rattle.asn_types.specs.Simples.{white_space_marks};
 ghost use Rattle.map_assignments.specs.Naming.{AreTaken, identifier_of, text_marks, IsWordsType};
+ghost use Rattle.map_assignments.specs.Private.Building.{LeadsToNames};
 
 use crate::instructions::{push_text, push_white_space};
 use asn_types::{Form, Instruction, Marks, TypeLabel};
@@ -13,13 +12,23 @@ use simple_types::TextList;
 use std::alloc::Global;
 use xa_base::{Memory, Text, WhiteSpace};
 
-// The identifier of the item that stands for this word, taken next.
-fn next_identifier(alloc: Global, scope: &mut Scope, word: &Text) -> Result<Text, Memory>
-    ensures taken { IfOk result (λ identifier. IsTaken Identifier scope.old (identifier_of word.now) identifier) }
-    ensures noted { IfOk result (λ identifier. scope.new ≡ scope.old ++ identifier ∷ []) }
+// Takes the identifiers of the items that stand for these words in their order, behind those that are made.
+fn take_words(
+    alloc: Global,
+    scope: &mut Scope,
+    made: &mut Vec<Text>,
+    words: &[Text],
+) -> Result<(), Memory>
+    ensures taken { OnOk result ((first names : List (List ℕ))
+        → LeadsToNames first scope.old made.old.items (map identifier_of words.now) names → LeadsToNames first scope.new made.new.items [] names) }
+    ensures each { OnOk result (length made.new.items ≡ length made.old.items + length words.now) }
 {
-    let converted = convert(alloc, NameKind::Identifier, word)?;
-    scope.take(NameKind::Identifier, &converted)
+    'words: for word in words {
+        let converted = convert(alloc, NameKind::Identifier, word)?;
+        let identifier = scope.take(NameKind::Identifier, &converted)?;
+        made.push(identifier)?;
+    }
+    Ok(())
 }
 
 // The identifiers of the items that stand for these words, taken in their order.
@@ -29,10 +38,7 @@ fn identifiers_of(alloc: Global, words: &[Text]) -> Result<Vec<Text>, Memory>
 {
     let mut scope = Scope::new(alloc);
     let mut made = Vec::new(alloc);
-    'words: for word in words {
-        let identifier = next_identifier(alloc, &mut scope, word)?;
-        made.push(identifier)?;
-    }
+    take_words(alloc, &mut scope, &mut made, words)?;
     Ok(made)
 }
 

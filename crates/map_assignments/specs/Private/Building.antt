@@ -35,6 +35,18 @@ pub record AddsPart (before after : PartList) (name : List ℕ) (standard : Stan
 abbrev pub Adds : PartList → PartList → Label → Bool → Rose TypeLabel → Type 0
 Adds before after l optional kid = AddsPart before after (wanted l) (part_standard l) (part_marks l) optional kid
 
+-- An identifier made from this name is taken for this part, which isn't added yet.
+pub record TakesPart (before after : PartList) (name : List ℕ) (standard : Standard) (marks : List ℕ → List Instruction) (optional : Bool) (made : Component) : Type 0 where
+  pub identifier : List ℕ
+  pub taken : IsTaken Identifier before.scope name identifier
+  pub noted : after.scope ≡ before.scope ++ identifier ∷ []
+  pub is : made ≡ component_with identifier optional standard (marks identifier)
+  pub components : after.components ≡ before.components
+  pub kids : after.kids ≡ before.kids
+
+abbrev pub Takes : PartList → PartList → Label → Bool → Component → Type 0
+Takes before after l optional made = TakesPart before after (wanted l) (part_standard l) (part_marks l) optional made
+
 -- Whatever parts follow that are those of the rest, with the parts so far they are those of the whole.
 abbrev pub LeadsToNamed : (Subject → ℕ) → PartList → Parts → Parts → Type 0
 LeadsToNamed place made rest whole =

@@ -3,7 +3,7 @@ use Rattle.std.proofs.lemmas.List.{drop_all}
 use Rattle.map_assignments.specs.Plans.{attribute}
 use Rattle.map_assignments.specs.Planning.{attributes, simple_type}
 use Rattle.map_assignments.specs.Private.Placing.{place_of}
-use Rattle.map_assignments.specs.Private.Building.{Adds, LeadsToNamed}
+use Rattle.map_assignments.specs.Private.Building.{LeadsToNamed}
 use Rattle.map_assignments.proofs.Building.{adds-next}
 use Rattle.map_subjects.proofs.Finding.{drop-next}
 use Rattle.map_assignments.proofs.attributes.push_attributes.Goals as goal
@@ -16,7 +16,7 @@ uses-preserved c =
     let place = place_of c.args.places.now in
     λ rest whole lead.
     adds-next place c.uses.parts c.push_attribute.new.self (attribute u.name u.standard) (not u.required) (simple_type s u.simple) c.in_ok-kid.kid _ whole
-    (subst (λ x. Adds c.uses.parts c.push_attribute.new.self (attribute u.name x) (not u.required) c.in_ok-kid.kid) c.in_ok-standard.ensures c.in_ok-push_attribute.ensures)
+    c.in_ok-push_attribute.ensures
     c.in_ok-kid.ensures
     (subst (λ us. LeadsToNamed place c.uses.parts (attributes s us rest) whole) (drop-next c.args.uses.now i u c.uses-test.true c.attribute-item.is) (c.uses.invariant rest whole lead))
 

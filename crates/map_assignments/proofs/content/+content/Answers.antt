@@ -4,12 +4,12 @@ use Rattle.label_tree.specs.Rose.{roses_of, kids_of, count_all}
 use Rattle.label_tree.proofs.Roses.{node_count-kids, node_count-positive}
 use Rattle.label_tree.proofs.Kids.{roses_of-drop, kid-count-le}
 use Rattle.content_models.specs.Seen.{term_seen, seen, all_seen}
-use Rattle.map_assignments.specs.Plans.{finish}
+use Rattle.map_assignments.specs.Plans.{base, finish}
 use Rattle.map_assignments.specs.Planning.{simple_type, attributes, is_mixed, is_ordered, with_texts, with_order, order_plan, rest_parts, content_parts, content_type, top, term_type, particle_parts}
-use Rattle.map_assignments.specs.Naming.{IsNamed, sequence_marks}
+use Rattle.map_assignments.specs.Naming.{IsNamed}
 use Rattle.map_assignments.specs.Private.Placing.{place_of}
 use Rattle.map_assignments.specs.Private.Building.{LeadsToNamed, declared, AreKnown}
-use Rattle.map_assignments.proofs.Building.{on_ok, leads-init, named-sequence, named-choice}
+use Rattle.map_assignments.proofs.Building.{on_ok, if_ok, adds-marked, adds-next, leads-init, named-sequence, named-choice}
 use Rattle.map_assignments.proofs.Known.{known-element, known-kids, known-alternatives, known-all, known-kid, term-parts}
 use Rattle.map_assignments.proofs.Models.{plain-sequence, group-type, content-sequence, top-plain, top-other, parts-more}
 use Rattle.map_assignments.proofs.content.+content.Goals as goal
@@ -20,26 +20,11 @@ complex_type-returns t c =
     let place = place_of c.args.places.now in
     let d = c.args.definition.now in
     let T = declared s c.args.levels in
-    let ordered = with_order (is_ordered d.content) (order_plan T s c.args.nillable d) (attributes s d.uses (rest_parts T s c.args.nillable d.content)) in
-    let whole = with_texts (is_mixed d.content) ordered in
-    let begun = subst (λ b. LeadsToNamed place c.in_ok-parts.parts ordered (with_texts b ordered)) c.is_mixed-mixed.ensures (c.in_ok-parts.ensures place ordered) in
-    named-sequence place c.push_parts.new.parts c.into_sequence.result c.in_ok-marks.marks c.args.nillable (is_mixed d.content) (is_ordered d.content) whole c.into_sequence.ensures
-    (c.in_ok-marks.ensures ∙ ap (λ b. sequence_marks c.args.nillable b c.is_ordered.result) c.is_mixed-mixed.ensures ∙ ap (sequence_marks c.args.nillable (is_mixed d.content)) c.is_ordered.ensures)
-    (c.in_ok-push_parts.ensures whole begun)
-
-pub push_parts-returns : goal.push_parts-returns
-push_parts-returns t c =
-    let s = c.args.set.now in
-    let place = place_of c.args.places.now in
-    let d = c.args.definition.now in
-    let T = declared s c.args.levels in
     let rest = rest_parts T s c.args.nillable d.content in
-    let parts = attributes s d.uses rest in
-    on_ok c.push_rest.result _ _
-    (λ h whole begun.
-    let told = c.in_ok-push_content_order.ensures place T s parts whole begun in
-    h whole (c.in_ok-push_attributes.ensures rest whole (subst (λ us. LeadsToNamed place c.push_content_order.new.parts (attributes s us rest) whole) (sym c.items.ensures) told)))
-    c.push_rest.ensures
+    let whole = with_texts (is_mixed d.content) (with_order (is_ordered d.content) (order_plan T s c.args.nillable d) (attributes s d.uses rest)) in
+    if_ok c.marked_sequence.result _ _
+    (λ made h. h place whole (c.in_ok-push_rest.ensures whole (c.in_ok-parts.ensures T rest)))
+    c.marked_sequence.ensures
 
 pub content_type-returns : goal.content_type-returns
 content_type-returns t c =
@@ -57,10 +42,13 @@ push_content-returns-in_ok-kid-in-Simple t c =
     let s = c.args.set.now in
     let place = place_of c.args.places.now in
     let T = declared s c.args.levels in
-    on_ok c.push_base.result _ _
-    (λ h whole lead. h place (simple_type s c.in-Simple.n) whole c.in_ok-kid-in-Simple.ensures
+    let kid = c.in_ok-kid-in-Simple.kid in
+    on_ok c.push_untagged.result _ _
+    (λ added whole lead.
+    adds-next place c.args.parts.now c.push_untagged.new.parts base false (simple_type s c.in-Simple.n) kid finish whole
+    (adds-marked c.args.parts.now c.push_untagged.new.parts base _ _ false kid refl refl (λ g. refl) added) c.in_ok-kid-in-Simple.ensures
     (subst (λ k. LeadsToNamed place c.args.parts.now (content_parts T s k) whole) c.in-Simple.is lead))
-    c.push_base.ensures
+    c.push_untagged.ensures
 
 pub push_content-returns-in-ElementOnly : goal.push_content-returns-in-ElementOnly
 push_content-returns-in-ElementOnly t c =

@@ -20,9 +20,6 @@ decreases-in_place l = 1048576 * l.levels
 abbrev pub decreases-complex_type : goal.decreases-complex_type
 decreases-complex_type l = 1048576 * l.levels + 400004
 
-abbrev pub decreases-push_parts : goal.decreases-push_parts
-decreases-push_parts l = 1048576 * l.levels + 400003
-
 abbrev pub decreases-push_rest : goal.decreases-push_rest
 decreases-push_rest l = 1048576 * l.levels + 400002
 

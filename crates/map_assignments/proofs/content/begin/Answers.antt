@@ -1,14 +1,17 @@
-use Rattle.std.proofs.Common.{sym, subst}
-use Rattle.map_assignments.specs.Planning.{with_texts}
+use Rattle.std.proofs.Common.{false, sym, subst}
+use Rattle.map_assignments.specs.Plans.{part, texts}
+use Rattle.map_assignments.specs.Planning.{with_texts, texts_type}
 use Rattle.map_assignments.specs.Private.Building.{LeadsToNamed}
-use Rattle.map_assignments.proofs.Building.{leads-init, if_ok}
+use Rattle.map_assignments.proofs.Building.{leads-init}
 use Rattle.map_assignments.proofs.content.begin.Goals as goal
 
-pub returns-then-mixed : goal.returns-then-mixed
-returns-then-mixed c =
-    if_ok c.begin_mixed.result _ _
-    (λ made h place rest. subst (λ b. LeadsToNamed place made rest (with_texts b rest)) (sym c.if-mixed.true) (h place rest))
-    c.begin_mixed.ensures
+pub returns-in_ok-push_texts : goal.returns-in_ok-push_texts
+returns-in_ok-push_texts c =
+    let new = c.new-parts in
+    λ place rest.
+    let whole = part texts false texts_type rest in
+    subst (λ b. LeadsToNamed place c.push_texts.new.parts rest (with_texts b rest)) (sym c.if-mixed.true)
+    (c.in_ok-push_texts.ensures place rest whole (leads-init place new.result whole new.ensures.scope new.ensures.components new.ensures.kids))
 
 pub returns-else-mixed : goal.returns-else-mixed
 returns-else-mixed c =

@@ -1,13 +1,11 @@
 use Rattle.std.proofs.Common.{[]}
 use Rattle.map_subjects.specs.Subjects.{place_in}
 use Rattle.map_assignments.specs.Private.Placing.{place_of}
-use Rattle.map_assignments.proofs.Building.{if_ok}
 use Rattle.map_assignments.proofs.Numbers.{mapped-same}
 use Rattle.map_assignments.proofs.map.assignments.Goals as goal
 
 pub returns : goal.returns
 returns c =
     let entries = c.args.entries.now in
-    if_ok c.numbered_assignments.result _ _
-    (λ made h. mapped-same (place_of c.in_ok-places.places) (place_in entries) c.in_ok-places.ensures c.args.set.now [] entries made.items h)
-    c.numbered_assignments.ensures
+    let made = c.push_assignments.new.made in
+    mapped-same (place_of c.in_ok-places.places) (place_in entries) c.in_ok-places.ensures c.args.set.now [] entries made.items c.in_ok-push_assignments.ensures

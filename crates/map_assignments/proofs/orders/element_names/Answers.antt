@@ -1,34 +1,14 @@
-use Rattle.std.proofs.Common.{false, map, refl, ap, subst, ◌∙◌}
-use Rattle.std.proofs.lemmas.List.{drop_all}
-use Rattle.label_tree.specs.Rose.{roses_of, kids_of}
-use Rattle.label_tree.proofs.Kids.{roses_of-drop}
+use Rattle.std.proofs.Common.{false, map}
+use Rattle.label_tree.specs.Rose.{roses_of}
 use Rattle.content_models.specs.Seen.{all_seen}
 use Rattle.map_assignments.specs.Planning.{labels, particle_parts}
 use Rattle.map_assignments.specs.Naming.{wanted}
-use Rattle.map_assignments.specs.Private.Building.{LeadsToNames}
-use Rattle.map_assignments.proofs.Models.{parts-more}
-use Rattle.map_assignments.proofs.Taking.{names-next, names-end}
+use Rattle.map_assignments.proofs.Taking.{names-init, names-end}
 use Rattle.map_assignments.proofs.orders.element_names.Goals as goal
-
-pub particles-preserved : goal.particles-preserved
-particles-preserved c =
-    let particles = c.args.particles.now in
-    let particle = c.particle-item.result in
-    λ T.
-    let whole = map wanted (labels (particle_parts T false (all_seen (roses_of particles)))) in
-    names-next c.args.scope c.particles.scope c.particles.made.items c.take.new.self c.push.new.self.items c.in_ok-name.name c.in_ok-identifier.identifier _ whole
-    c.in_ok-identifier.ensures.taken c.in_ok-identifier.ensures.noted c.in_ok-push.ensures.items
-    (subst (λ ns. LeadsToNames c.args.scope c.particles.scope c.particles.made.items ns whole)
-    (ap (λ ts. map wanted (labels (particle_parts T false (all_seen ts)))) (roses_of-drop particles c.particles.particle-index particle c.particles-test.true c.particle-item.is)
-    ∙ ap (λ ps. map wanted (labels ps)) (parts-more T particle c.label.result.now (kids_of particle) c.label.ensures refl false _)
-    ∙ c.in_ok-name.ensures (all_seen (roses_of (kids_of particle))) _ _)
-    (c.particles.invariant T))
 
 pub returns : goal.returns
 returns c =
-    let particles = c.args.particles.now in
     λ T.
-    let whole = map wanted (labels (particle_parts T false (all_seen (roses_of particles)))) in
-    names-end c.args.scope c.particles.scope c.particles.made.items whole
-    (subst (λ ps. LeadsToNames c.args.scope c.particles.scope c.particles.made.items (map wanted (labels (particle_parts T false (all_seen (roses_of ps))))) whole)
-    (drop_all c.particles.particle-index particles c.particles-test.false) (c.particles.invariant T))
+    let names = map wanted (labels (particle_parts T false (all_seen (roses_of c.args.particles.now)))) in
+    names-end c.args.scope c.take_elements.new.scope c.take_elements.new.made.items names
+    (c.in_ok-take_elements.ensures T c.args.scope names (names-init c.args.scope c.new-made.result.items names c.new-made.ensures.items))

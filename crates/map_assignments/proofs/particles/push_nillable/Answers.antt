@@ -8,6 +8,6 @@ returns c =
     on_ok c.push_marked.result _ _
     (λ added place type whole named lead.
     adds-next place c.args.parts.now c.push_marked.new.self content true type c.args.kid finish whole
-    (adds-marked c.args.parts.now c.push_marked.new.self content c.in_ok-name.name _ true c.args.kid c.in_ok-name.ensures refl (λ g. c.of-marks.ensures ∙ c.new.ensures.items) added)
+    (adds-marked c.args.parts.now c.push_marked.new.self content _ _ true c.args.kid refl refl (λ g. c.of-marks.ensures ∙ c.new.ensures.items) added)
     named lead)
     c.push_marked.ensures

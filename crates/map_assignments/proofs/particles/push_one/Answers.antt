@@ -11,18 +11,18 @@ use Rattle.map_assignments.proofs.particles.push_one.Goals as goal
 
 pub returns-in-Sequence : goal.returns-in-Sequence
 returns-in-Sequence c =
-    on_ok c.push_group-in-Sequence.result _ _
+    on_ok c.push_untagged-in-Sequence.result _ _
     (λ added.
-    let adds = adds-marked c.args.parts.now c.push_group-in-Sequence.new.parts (group a_sequence) (wanted (group a_sequence)) (mark.Untagged ∷ []) c.args.optional c.args.kid refl refl (λ g. refl) added in
+    let adds = adds-marked c.args.parts.now c.push_untagged-in-Sequence.new.parts (group a_sequence) (wanted (group a_sequence)) (mark.Untagged ∷ []) c.args.optional c.args.kid refl refl (λ g. refl) added in
     elim c.in-Sequence.is [
-      | inl is ↦ subst (λ k. (ps : Particles) → Adds c.args.parts.now c.push_group-in-Sequence.new.parts (label_of (term_seen k ps)) c.args.optional c.args.kid) (sym is) (λ ps. adds)
-      | inr is ↦ subst (λ k. (ps : Particles) → Adds c.args.parts.now c.push_group-in-Sequence.new.parts (label_of (term_seen k ps)) c.args.optional c.args.kid) (sym is) (λ ps. adds)
+      | inl is ↦ subst (λ k. (ps : Particles) → Adds c.args.parts.now c.push_untagged-in-Sequence.new.parts (label_of (term_seen k ps)) c.args.optional c.args.kid) (sym is) (λ ps. adds)
+      | inr is ↦ subst (λ k. (ps : Particles) → Adds c.args.parts.now c.push_untagged-in-Sequence.new.parts (label_of (term_seen k ps)) c.args.optional c.args.kid) (sym is) (λ ps. adds)
     ])
-    c.push_group-in-Sequence.ensures
+    c.push_untagged-in-Sequence.ensures
 
 pub returns-in-Choice : goal.returns-in-Choice
 returns-in-Choice c =
-    on_ok c.push_group.result _ _
-    (λ added. subst (λ k. (ps : Particles) → Adds c.args.parts.now c.push_group.new.parts (label_of (term_seen k ps)) c.args.optional c.args.kid) (sym c.in-Choice.is)
-    (λ ps. adds-marked c.args.parts.now c.push_group.new.parts (group a_choice) _ _ c.args.optional c.args.kid refl refl (λ g. refl) added))
-    c.push_group.ensures
+    on_ok c.push_untagged.result _ _
+    (λ added. subst (λ k. (ps : Particles) → Adds c.args.parts.now c.push_untagged.new.parts (label_of (term_seen k ps)) c.args.optional c.args.kid) (sym c.in-Choice.is)
+    (λ ps. adds-marked c.args.parts.now c.push_untagged.new.parts (group a_choice) _ _ c.args.optional c.args.kid refl refl (λ g. refl) added))
+    c.push_untagged.ensures

@@ -9,6 +9,6 @@ returns c =
     on_ok c.push_marked.result _ _
     (λ added place rest whole lead.
     adds-next place c.args.parts.now c.push_marked.new.self texts false texts_type c.in_ok-kid.kid rest whole
-    (adds-marked c.args.parts.now c.push_marked.new.self texts c.in_ok-name.name c.of-marks.result false c.in_ok-kid.kid c.in_ok-name.ensures refl (λ g. c.of-marks.ensures ∙ c.new.ensures.items) added)
+    (adds-marked c.args.parts.now c.push_marked.new.self texts _ c.of-marks.result false c.in_ok-kid.kid refl refl (λ g. c.of-marks.ensures ∙ c.new.ensures.items) added)
     (c.in_ok-kid.ensures place) lead)
     c.push_marked.ensures

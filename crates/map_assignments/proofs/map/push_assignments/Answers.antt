@@ -2,7 +2,7 @@ use Rattle.std.proofs.Common.{[], ◌∷◌, ◌++◌, ap, sym, subst, ◌∙◌
 use Rattle.map_assignments.specs.Mapped.{IsMapped}
 use Rattle.map_assignments.specs.Private.Placing.{place_of, references_of}
 use Rattle.map_assignments.proofs.Mapping.{references-push, mapped-next, mapped-end}
-use Rattle.map_assignments.proofs.map.numbered_assignments.Goals as goal
+use Rattle.map_assignments.proofs.map.push_assignments.Goals as goal
 
 pub entries-preserved : goal.entries-preserved
 entries-preserved c =

@@ -1,7 +1,7 @@
 use Rattle.std.proofs.Common.{◌≡◌, drop}
 use Rattle.map_assignments.specs.Private.Placing.{place_of, references_of}
 use Rattle.map_assignments.proofs.Mapping.{LeadsToMapped}
-use Rattle.map_assignments.proofs.map.numbered_assignments.Given as goal
+use Rattle.map_assignments.proofs.map.push_assignments.Given as goal
 
 abbrev pub invariant-entries : goal.invariant-entries
 invariant-entries l =
