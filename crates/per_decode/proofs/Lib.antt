@@ -1,5 +1,6 @@
 pub mod Standing
 pub mod Octets
+pub mod Inside
 pub mod Ends
 pub mod EndNodes
 pub mod Types

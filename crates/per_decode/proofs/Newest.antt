@@ -1,11 +1,15 @@
 -- The value that was read behind others.
-use Rattle.std.proofs.Common.{◌≡◌, false, List, [], ◌∷◌, ◌++◌, refl, sym, ap, ◌∙◌, subst, Result, Ok, Err}
-use Rattle.std.specs.Prelude.{IfOk}
+use Rattle.std.proofs.Common.{◌≡◌, ℕ, ◌+◌, ◌*◌, ◌≤◌, arith, false, List, [], ◌∷◌, ◌++◌, refl, sym, ap, ◌∙◌, subst, Result, Ok, Err}
+use Rattle.std.specs.Prelude.{IfOk, IfErr}
 use Rattle.label_tree.specs.Rose.{Rose, node, none, roses_of}
 use Rattle.flat_tree.specs.Zips.{Zip, opened, added, closed, closed_in, relabeled, relabeled_in}
 use Rattle.simple_types.specs.declared.labels.ValueLabel.{ValueLabel}
 use Rattle.simple_types.specs.declared.labels.ValueLabel.TheVariants as value
+use Rattle.codecs.specs.declared.spots.Spot.{Spot}
+use Rattle.per_fields.specs.declared.stops.Stop.{Stop}
 use Rattle.per_decode.specs.declared.faults.Fault.{Fault}
+use Rattle.per_decode.specs.declared.faults.Fault.TheVariants as fault
+use Rattle.per_decode.specs.Private.Giving.{halt_of, end_of, FailsAt, Shows}
 use Rattle.per_decode.specs.Private.Newest.{last_of, newest}
 
 last-push : (u : Rose ValueLabel) (vs : List (Rose ValueLabel)) (v : Rose ValueLabel) → last_of u (vs ++ v ∷ []) ≡ v
@@ -46,3 +50,9 @@ closed-labeled new mid old l blank begun above = ap (λ up. closed_in (relabeled
 pub newest-has : {A : Type 0} (P : Rose ValueLabel → Type 0) (answer : Result A Fault) (v w : Rose ValueLabel) → IfOk answer (λ _. w ≡ v) → IfOk answer (λ _. P v) → IfOk answer (λ _. P w)
 newest-has P (Ok x) v w e h = subst P (sym e) h
 newest-has P (Err f) v w e h = tt
+
+-- a value that was read is put behind others, where memory may be missing
+pub newest_shows : {A : Type 0} (limit : ℕ) (whole : List ℕ) (v w : Rose ValueLabel) (answer : Result A Fault) (new : Spot) (stop : Stop) (taken : ℕ) (found : Result (Rose ValueLabel × Spot) Stop)
+    → IfOk answer (λ _. w ≡ v) → IfErr answer (λ e. e ≡ fault.Memory) → found ≡ Ok (v, new) → 8 * taken ≤ new.at + 7 → Shows limit whole (λ _. w) answer new stop taken found
+newest_shows limit whole v w (Ok x) new stop taken found same err is step = is ∙ ap (λ u. Ok (u, new)) (sym same)
+newest_shows limit whole v w (Err e) new stop taken found same err is step = subst (λ f. FailsAt limit whole (halt_of f stop) taken found) (sym err) (omega (arith, step, ap (end_of {B = Rose ValueLabel}) is))

@@ -1,9 +1,10 @@
 //! Why reading ends before the value.
 ghost use Rattle.per_decode.specs.declared.faults.Fault.TheVariants as faults;
-ghost use Rattle.std.specs.Prelude.{◌≡◌};
+ghost use Rattle.std.specs.Prelude.{◌≡◌, ◌⊎◌};
 
+use bit_cursor::CursorError;
 use per_fields::{Stop, Why};
-use std::alloc::{AllocError, AllocFailed};
+use std::alloc::AllocError;
 use xa_base::Memory;
 
 /// Why reading ends before the value. It is one octet, since every step of reading answers so: what else there is to tell
@@ -28,14 +29,6 @@ impl From<AllocError> for Fault {
     }
 }
 
-impl<T: Drop> From<AllocFailed<T>> for Fault {
-    ghost from_gives = { λ _ fault. fault ≡ faults.Memory };
-
-    fn from(_: AllocFailed<T>) -> Fault {
-        Fault::Memory
-    }
-}
-
 impl From<Memory> for Fault {
     ghost from_gives = { λ _ fault. fault ≡ faults.Memory };
 
@@ -52,4 +45,29 @@ pub(crate) fn stopped(stop: &mut Stop, bit: u64, why: Why, end: u64) -> Fault
 {
     *stop = Stop { bit, why, end };
     Fault::Stopped
+}
+
+/// The fault of a field whose bits couldn't all be taken. Where they end inside it, the bit at which it begins becomes the
+/// bit of the stop.
+#[inline(always)]
+pub(crate) fn ended_inside(stop: &mut Stop, begin: u64, error: CursorError) -> Fault
+    requires padding { error ≡ CursorError.Padding → ⊥ }
+    requires memory { error ≡ CursorError.Memory → ⊥ }
+    ensures fault { ((result ≡ Fault.Failed) × (error ≡ CursorError.Failed))
+        ⊎ (((result ≡ Fault.Short) × (stop.new.bit ≡ begin) × (error ≡ CursorError.Short))
+        ⊎ ((result ≡ Fault.TooLong) × (stop.new.bit ≡ begin) × (error ≡ CursorError.TooLong))) }
+    ensures failed { result ≡ Fault.Failed → error ≡ CursorError.Failed }
+{
+    match error {
+        CursorError::Failed => Fault::Failed,
+        CursorError::Short => {
+            stop.bit = begin;
+            Fault::Short
+        }
+        CursorError::TooLong => {
+            stop.bit = begin;
+            Fault::TooLong
+        }
+        CursorError::Memory | CursorError::Padding => unreachable!(),
+    }
 }

@@ -1,5 +1,5 @@
 //! The fields of nodes without kids.
-ghost use Rattle.std.specs.Prelude.{◌≡◌, ℕ, [], ◌∷◌, ◌++◌, ◌<◌, ◌≤◌, ◌+◌, ◌-◌, ◌*◌, ◌^◌, ℤ, Bool, true, false, List, IfOk, OnOk, IsErrOf, IsTrue};
+ghost use Rattle.std.specs.Prelude.{◌≡◌, ℕ, [], ◌∷◌, ◌++◌, ◌<◌, ◌≤◌, ◌+◌, ◌-◌, ◌*◌, ◌^◌, ℤ, Bool, true, false, List, IfOk, IfErr, OnOk, IsErrOf, IsTrue};
 ghost use Rattle.label_tree.specs.Rose.{node, none};
 ghost use Rattle.flat_tree.specs.Zips.{added};
 ghost use Rattle.bit_cursor.specs.Cursors.{IsInStep};
@@ -23,6 +23,16 @@ use simple_types::{Flags, ValueLabel};
 use std::alloc::Global;
 use xa_base::Source;
 
+// Puts a node without kids behind others.
+#[inline(always)]
+fn put_leaf(label: ValueLabel, values: &mut Builder<ValueLabel>) -> Result<(), Fault>
+    ensures ok { OnOk result (values.new ≡ added (node label none) values.old) }
+    ensures memory { IfErr result (λ fault. fault ≡ Fault.Memory) }
+{
+    values.leaf(label)?;
+    Ok(())
+}
+
 /// A BOOLEAN.
 #[tactic(auto, unfolding(per_fields::specs::Nodes::bool_at))]
 pub(crate) fn boolean<S: Source, K: Origin, V: Variant>(
@@ -41,8 +51,7 @@ pub(crate) fn boolean<S: Source, K: Origin, V: Variant>(
 {
     let begin = run.position();
     let bit = run.take_bits(begin, 1)?;
-    values.leaf(ValueLabel::Bool(bit == 1))?;
-    Ok(())
+    put_leaf(ValueLabel::Bool(bit == 1), values)
 }
 
 /// An INTEGER.
@@ -66,8 +75,7 @@ pub(crate) fn integer<S: Source, K: Origin, V: Variant>(
     ensures failed { IsErrOf result Fault.Failed → HasRisen K.faults (S.faults run.new.bits.source.now) }
 {
     let z = run.whole(lo, hi)?;
-    values.leaf(ValueLabel::Int(z))?;
-    Ok(())
+    put_leaf(ValueLabel::Int(z), values)
 }
 
 /// One of so many items of an ENUMERATED.
@@ -90,8 +98,7 @@ pub(crate) fn enumerated<S: Source, K: Origin, V: Variant>(
     ensures failed { IsErrOf result Fault.Failed → HasRisen K.faults (S.faults run.new.bits.source.now) }
 {
     let item = run.number((items - 1) as u128)?;
-    values.leaf(ValueLabel::Enum(item as u32))?;
-    Ok(())
+    put_leaf(ValueLabel::Enum(item as u32), values)
 }
 
 // Whether a component is there.

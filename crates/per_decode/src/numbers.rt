@@ -172,6 +172,31 @@ impl<'a, S: Source, K: Origin, V: Variant> Run<'a, S, K, V> {
         self.large_octets(top, more)
     }
 
+    // A number of `0..=top` in bits or, behind padding, in one or two octets, as the aligned variant has them.
+    #[tactic(auto, unfolding(per_fields::specs::Fields::number_at))]
+    #[inline(always)]
+    fn small(&mut self, top: u64) -> Result<u64, Fault>
+        requires aligned { V.ALIGNED ≡ true }
+        requires some { (top ≡ 0) → ⊥ }
+        requires few { top < 65536 }
+        requires in_step { IsInStep self.old.bits.position self.old.bits.taken }
+        ensures same_reference { self.new.bits.source.ghost_name ≡ self.old.bits.source.ghost_name }
+        ensures on { OnOk result (GoesOn self.old.bits.position self.new.bits.position self.new.bits.taken) }
+        ensures nodes { self.new.nodes ≡ self.old.nodes }
+        ensures top { IfOk result (λ x. x ≤ top) }
+        ensures gives { IsTrue K.told → Gives K.limit K.whole (λ x. x) result (spot self.new.bits.position self.new.nodes) self.new.stop self.new.bits.taken
+            (number_at V.ALIGNED top) (spot self.old.bits.position self.old.nodes) }
+        ensures failed { IsErrOf result Fault.Failed → HasRisen K.faults (S.faults self.new.bits.source.now) }
+    {
+        if top < 255 {
+            return self.within(top, width_of(top as u128));
+        }
+        if top < 256 {
+            return self.aligned(top, 8);
+        }
+        self.aligned(top, 16)
+    }
+
     /// A number of `0..=top`.
     #[tactic(auto, unfolding(per_fields::specs::Fields::number_at))]
     #[inline(always)]
@@ -191,14 +216,8 @@ impl<'a, S: Source, K: Origin, V: Variant> Run<'a, S, K, V> {
         if !V::ALIGNED {
             return self.within_wide(top);
         }
-        if top < 255 {
-            return Ok(self.within(top as u64, width_of(top))? as u128);
-        }
-        if top < 256 {
-            return Ok(self.aligned(top as u64, 8)? as u128);
-        }
         if top < 65_536 {
-            return Ok(self.aligned(top as u64, 16)? as u128);
+            return Ok(self.small(top as u64)? as u128);
         }
         self.large(top)
     }

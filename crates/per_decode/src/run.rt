@@ -2,8 +2,8 @@
 ghost use Rattle.std.specs.Prelude.{◌≡◌, ℕ, ◌<◌, ◌≤◌, ◌+◌, ◌-◌, ◌*◌, ◌^◌, List, [], Bool, false, IsTrue, slice_index};
 ghost use Rattle.per_decode.specs.Private.Standing.{IsAt};
 
-use crate::faults::{Fault, stopped};
-use bit_cursor::{BitSource, CursorError};
+use crate::faults::{Fault, ended_inside, stopped};
+use bit_cursor::BitSource;
 use per_fields::{Stop, Variant, Why};
 use std::alloc::Global;
 use std::marker::{Brand, PhantomData};
@@ -96,17 +96,7 @@ impl<'a, S: Source, K: Origin, V: Variant> Run<'a, S, K, V> {
     {
         match self.bits.take_bits(n) {
             Ok(x) => Ok(x),
-            Err(CursorError::Failed) => Err(Fault::Failed),
-            Err(CursorError::Short) => {
-                self.stop.bit = begin;
-                Err(Fault::Short)
-            }
-            Err(CursorError::TooLong) => {
-                self.stop.bit = begin;
-                Err(Fault::TooLong)
-            }
-            Err(CursorError::Memory) => unreachable!(),
-            Err(CursorError::Padding) => unreachable!(),
+            Err(error) => Err(ended_inside(&mut self.stop, begin, error)),
         }
     }
 
@@ -170,17 +160,7 @@ impl<'a, S: Source, K: Origin, V: Variant> Run<'a, S, K, V> {
                 see_octets(octets);
                 Ok(())
             }
-            Err(CursorError::Failed) => Err(Fault::Failed),
-            Err(CursorError::Short) => {
-                self.stop.bit = begin;
-                Err(Fault::Short)
-            }
-            Err(CursorError::TooLong) => {
-                self.stop.bit = begin;
-                Err(Fault::TooLong)
-            }
-            Err(CursorError::Memory) => unreachable!(),
-            Err(CursorError::Padding) => unreachable!(),
+            Err(error) => Err(ended_inside(&mut self.stop, begin, error)),
         }
     }
 
@@ -202,17 +182,7 @@ impl<'a, S: Source, K: Origin, V: Variant> Run<'a, S, K, V> {
                 see_octets(octets);
                 Ok(())
             }
-            Err(CursorError::Failed) => Err(Fault::Failed),
-            Err(CursorError::Short) => {
-                self.stop.bit = begin;
-                Err(Fault::Short)
-            }
-            Err(CursorError::TooLong) => {
-                self.stop.bit = begin;
-                Err(Fault::TooLong)
-            }
-            Err(CursorError::Memory) => unreachable!(),
-            Err(CursorError::Padding) => unreachable!(),
+            Err(error) => Err(ended_inside(&mut self.stop, begin, error)),
         }
     }
 

@@ -1,6 +1,6 @@
 //! Whole numbers (X.691, clauses 13.2 and 11.4 to 11.8).
 ghost use Rattle.std.specs.Prelude.{◌≡◌, ℕ, ◌<◌, ◌≤◌, ◌+◌, ◌-◌, ◌*◌, ◌^◌, true, false, Some, None, MatchOption};
-ghost use Rattle.simple_values.specs.Lexical.{is_128_bits};
+ghost use Rattle.simple_values.specs.Lexical.{is_128_bits, is_from};
 ghost use Rattle.simple_types.specs.Sound.{AreBounds};
 ghost use Rattle.per_fields.specs.Widths.{distance, raised, magnitude, more_signed, signed_of};
 
@@ -20,7 +20,7 @@ fn distance(lo: i128, hi: i128) -> u128
 
 // The number so far above. None where it has not 128 bits.
 fn raised(lo: i128, by: u128) -> Option<i128>
-    ensures { MatchOption result (is_128_bits (raised lo by) ≡ false) (λ z. z ≡ raised lo by) }
+    ensures { MatchOption result (is_128_bits (raised lo by) ≡ false) (λ z. (z ≡ raised lo by) × (is_128_bits (raised lo by) ≡ true) × (is_from (Some lo) z ≡ true)) }
 {
     lo.checked_add_unsigned(by)
 }
