@@ -264,50 +264,76 @@ fn is_watched(rt: &HostRuntime, asked: &Asked<'_>) -> bool {
     rt.stderr().is_terminal() && (has_input || !rt.stdin().is_terminal())
 }
 
+// The input, of which what was read is kept for the lines of complaints.
+fn input_of<'a>(
+    rt: &'a HostRuntime,
+    asked: &Asked<'_>,
+    progress: &'a Progress<'a, HostRuntime>,
+) -> Result<Input<'a, HostRuntime>, Memory> {
+    // The octets of an encoding have no lines.
+    let keeps = asked.task != Task::ToXml;
+    match asked.input {
+        Some(name) => Input::file(rt.alloc(), rt, name, progress, keeps),
+        None => Input::standard(rt.alloc(), rt.stdin(), progress, keeps),
+    }
+}
+
+fn work_of<'a>(
+    rt: &'a HostRuntime,
+    asked: &'a Asked<'a>,
+    progress: &'a Progress<'a, HostRuntime>,
+) -> Result<Work<'a>, Outcome> {
+    let Ok(input) = input_of(rt, asked, progress) else {
+        return Err(Outcome::OutOfMemory);
+    };
+    Ok(Work {
+        asked,
+        names: texts(rt.alloc(), asked.files.as_slice())?,
+        files: Kept::new(rt.alloc(), rt, progress),
+        input,
+    })
+}
+
+// Does the work, and writes what comes of it.
+fn worked(
+    rt: &HostRuntime,
+    work: &mut Work<'_>,
+    progress: &Progress<'_, HostRuntime>,
+) -> Result<(), Fault> {
+    let result = result_of(rt.alloc(), work);
+    // The line of what was read gives way to the result or the complaint.
+    progress.end();
+    write_result(rt, work.asked, &result?)
+}
+
+// The outcome by which the fixed program would end.
+fn outcome_of(fault: Fault) -> Outcome {
+    match fault {
+        Fault::Outcome(outcome) => outcome,
+        Fault::Stamp => Outcome::PerFault {
+            bit: 0,
+            why: Why::NotAValue,
+        },
+    }
+}
+
 // Does what is asked for: the exit status.
 fn carry_out<'a>(
     rt: &'a HostRuntime,
     asked: &'a Asked<'a>,
     progress: &'a Progress<'a, HostRuntime>,
 ) -> u8 {
-    let alloc = rt.alloc();
-    // The octets of an encoding have no lines.
-    let keeps = asked.task != Task::ToXml;
-    let input = match asked.input {
-        Some(name) => Input::file(alloc, rt, name, progress, keeps),
-        None => Input::standard(alloc, rt.stdin(), progress, keeps),
-    };
-    let Ok(input) = input else {
-        return finished(rt, Outcome::OutOfMemory, Err(Memory));
-    };
-    let names = match texts(alloc, asked.files.as_slice()) {
-        Ok(names) => names,
+    let mut work = match work_of(rt, asked, progress) {
+        Ok(work) => work,
         Err(outcome) => return finished(rt, outcome, Err(Memory)),
     };
-    let mut work = Work {
-        asked,
-        names,
-        files: Kept::new(alloc, rt, progress),
-        input,
-    };
-    let result = result_of(alloc, &mut work);
-    progress.end();
-    let fault = match result {
-        Ok(bytes) => match write_result(rt, asked, &bytes) {
-            Ok(()) => return 0,
-            Err(fault) => fault,
-        },
-        Err(fault) => fault,
-    };
-    let text = text_of(alloc, &mut work, fault);
-    let outcome = match fault {
-        Fault::Outcome(outcome) => outcome,
-        Fault::Stamp => Outcome::PerFault {
-            bit: 0,
-            why: Why::NotAValue,
-        },
-    };
-    finished(rt, outcome, text)
+    match worked(rt, &mut work, progress) {
+        Ok(()) => 0,
+        Err(fault) => {
+            let text = text_of(rt.alloc(), &mut work, fault);
+            finished(rt, outcome_of(fault), text)
+        }
+    }
 }
 
 // Tells of the fault, and gives its exit status. The outcome stands, whatever becomes of the text.
