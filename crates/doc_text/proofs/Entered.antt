@@ -8,8 +8,8 @@ use Rattle.doc_text.specs.declared.error.DocWhy.{DocWhy}
 use Rattle.doc_text.specs.declared.error.DocWhy.TheVariants as why
 use Rattle.doc_text.specs.Namespaces.{bindings_of, attributes_of, element_name, written_twice, expanded_twice, is_unbound, or_absent}
 use Rattle.doc_text.specs.declared.tags.Head.{Head}
-use Rattle.doc_text.specs.Private.Entering.{Enters, IsPlain}
-use Rattle.doc_text.specs.Contexts.{has_bad_name, has_long_name, has_reserved, has_unbound, has_duplicate, tag_scope, start_reason}
+use Rattle.doc_text.specs.Private.Entering.{Enters, IsPlain, inner_tests}
+use Rattle.doc_text.specs.Contexts.{has_bad_name, has_long_name, has_reserved, has_unbound, tag_scope, start_reason}
 
 abbrev pub name_tests : Tag → List (Bool × DocWhy)
 name_tests tag = (has_bad_name tag, why.BadName) ∷ (has_long_name tag, why.LongName) ∷ (has_reserved tag, why.ReservedPrefix) ∷ []
@@ -36,43 +36,32 @@ first_none (x ∷ xs) ys e = none_first x.0 x.1 xs (xs ++ ys) ys (first_none xs 
 pub inside_is : (scope own : List (List ℕ × List ℕ)) → reverse (scope ++ reverse own) ≡ own ++ reverse scope
 inside_is scope own = reverse-append scope (reverse own) ∙ ap (λ (x : List (List ℕ × List ℕ)). x ++ reverse scope) (reverse-reverse own)
 
-abbrev inner_tests : Tag → List (List ℕ × List ℕ) → List (Bool × DocWhy)
-inner_tests tag inside = (has_unbound tag inside, why.UnboundPrefix) ∷ (has_duplicate tag inside, why.DuplicateAttribute) ∷ []
-
 pub names_stop : (tag : Tag) (outer : List (List ℕ × List ℕ)) (ended : Bool) (depth : ℕ) (v : DocWhy) → first_true (name_tests tag) ≡ Some v → start_reason tag outer ended depth ≡ Some v
 unfolding start_reason
-names_stop tag outer ended depth v e = first_some (name_tests tag) (inner_tests tag (tag_scope tag outer) ++ place_tests ended depth) v e
+names_stop tag outer ended depth v e = first_some (name_tests tag) (inner_tests tag (tag_scope tag outer) ended depth) v e
 
-behind_names : (tag : Tag) (outer : List (List ℕ × List ℕ)) (ended : Bool) (depth : ℕ) → first_true (name_tests tag) ≡ None → start_reason tag outer ended depth ≡ first_true (inner_tests tag (tag_scope tag outer) ++ place_tests ended depth)
+behind_names : (tag : Tag) (outer : List (List ℕ × List ℕ)) (ended : Bool) (depth : ℕ) → first_true (name_tests tag) ≡ None → start_reason tag outer ended depth ≡ first_true (inner_tests tag (tag_scope tag outer) ended depth)
 unfolding start_reason
-behind_names tag outer ended depth e = first_none (name_tests tag) (inner_tests tag (tag_scope tag outer) ++ place_tests ended depth) e
+behind_names tag outer ended depth e = first_none (name_tests tag) (inner_tests tag (tag_scope tag outer) ended depth) e
 
 -- the scope of the code, which has the innermost last, within the tag
-pub unbound_stop : (tag : Tag) (scope inside : List (List ℕ × List ℕ)) (ended : Bool) (depth : ℕ) → first_true (name_tests tag) ≡ None → inside ≡ scope ++ reverse (bindings_of tag.attributes)
-    → has_unbound tag (reverse inside) ≡ true → start_reason tag (reverse scope) ended depth ≡ Some why.UnboundPrefix
-unbound_stop tag scope inside ended depth e is h =
+pub within : (tag : Tag) (scope inside : List (List ℕ × List ℕ)) (ended : Bool) (depth : ℕ) → first_true (name_tests tag) ≡ None → inside ≡ scope ++ reverse (bindings_of tag.attributes)
+    → first_true (inner_tests tag (reverse inside) ended depth) ≡ start_reason tag (reverse scope) ended depth
+within tag scope inside ended depth e is =
     let same : reverse inside ≡ tag_scope tag (reverse scope) = ap reverse is ∙ inside_is scope (bindings_of tag.attributes) in
-    let here : has_unbound tag (tag_scope tag (reverse scope)) ≡ true = ap (has_unbound tag) (sym same) ∙ h in
-    behind_names tag (reverse scope) ended depth e ∙ rw here refl
+    ap (λ (x : List (List ℕ × List ℕ)). first_true (inner_tests tag x ended depth)) same ∙ sym (behind_names tag (reverse scope) ended depth e)
 
-abbrev doubled : Tag → List (List ℕ × List ℕ) → Bool
+pub unbound_stop : (tag : Tag) (inside : List (List ℕ × List ℕ)) (ended : Bool) (depth : ℕ) → has_unbound tag inside ≡ true → first_true (inner_tests tag inside ended depth) ≡ Some why.UnboundPrefix
+unbound_stop tag inside ended depth e = rw e refl
+
+abbrev pub doubled : Tag → List (List ℕ × List ℕ) → Bool
 doubled tag inside = written_twice tag.attributes || expanded_twice (attributes_of inside tag.attributes)
 
-pub duplicate_stop : (tag : Tag) (scope inside : List (List ℕ × List ℕ)) (ended : Bool) (depth : ℕ) → first_true (name_tests tag) ≡ None → inside ≡ scope ++ reverse (bindings_of tag.attributes)
-    → has_unbound tag (reverse inside) ≡ false → doubled tag (reverse inside) ≡ true → start_reason tag (reverse scope) ended depth ≡ Some why.DuplicateAttribute
-duplicate_stop tag scope inside ended depth e is h k =
-    let same : reverse inside ≡ tag_scope tag (reverse scope) = ap reverse is ∙ inside_is scope (bindings_of tag.attributes) in
-    let here : has_unbound tag (tag_scope tag (reverse scope)) ≡ false = ap (has_unbound tag) (sym same) ∙ h in
-    let there : has_duplicate tag (tag_scope tag (reverse scope)) ≡ true = ap (has_duplicate tag) (sym same) ∙ k in
-    behind_names tag (reverse scope) ended depth e ∙ rw (here, there) refl
+pub duplicate_stop : (tag : Tag) (inside : List (List ℕ × List ℕ)) (ended : Bool) (depth : ℕ) → has_unbound tag inside ≡ false → doubled tag inside ≡ true → first_true (inner_tests tag inside ended depth) ≡ Some why.DuplicateAttribute
+duplicate_stop tag inside ended depth e f = rw (e, f) refl
 
-pub behind_inner : (tag : Tag) (scope inside : List (List ℕ × List ℕ)) (ended : Bool) (depth : ℕ) → first_true (name_tests tag) ≡ None → inside ≡ scope ++ reverse (bindings_of tag.attributes)
-    → has_unbound tag (reverse inside) ≡ false → doubled tag (reverse inside) ≡ false → start_reason tag (reverse scope) ended depth ≡ first_true (place_tests ended depth)
-behind_inner tag scope inside ended depth e is h k =
-    let same : reverse inside ≡ tag_scope tag (reverse scope) = ap reverse is ∙ inside_is scope (bindings_of tag.attributes) in
-    let here : has_unbound tag (tag_scope tag (reverse scope)) ≡ false = ap (has_unbound tag) (sym same) ∙ h in
-    let there : has_duplicate tag (tag_scope tag (reverse scope)) ≡ false = ap (has_duplicate tag) (sym same) ∙ k in
-    behind_names tag (reverse scope) ended depth e ∙ rw (here, there) refl
+pub behind_inner : (tag : Tag) (inside : List (List ℕ × List ℕ)) (ended : Bool) (depth : ℕ) → has_unbound tag inside ≡ false → doubled tag inside ≡ false → first_true (inner_tests tag inside ended depth) ≡ first_true (place_tests ended depth)
+behind_inner tag inside ended depth e f = rw (e, f) refl
 
 pub enters : (tag : Tag) (scope inside : List (List ℕ × List ℕ)) (ended : Bool) (depth : ℕ) (head : Head) → start_reason tag (reverse scope) ended depth ≡ None → inside ≡ scope ++ reverse (bindings_of tag.attributes)
     → head.name ≡ element_name (reverse inside) tag.name → head.attributes.items ≡ attributes_of (reverse inside) tag.attributes → head.declares.items ≡ bindings_of tag.attributes → Enters (reverse scope) ended depth tag head

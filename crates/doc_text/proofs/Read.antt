@@ -11,12 +11,13 @@ use Rattle.doc_text.specs.declared.error.DocWhy.{DocWhy}
 use Rattle.doc_text.specs.declared.error.DocWhy.TheVariants as why
 use Rattle.doc_text.specs.declared.error.DocError.{DocError}
 use Rattle.doc_text.specs.declared.error.DocError.TheVariants as errors
+use Rattle.doc_text.specs.Sound.{AreItems}
 use Rattle.doc_text.specs.Contexts.{is_outside, reason}
 use Rattle.xa_base.specs.Limits.{is_empty}
-use Rattle.doc_text.specs.Documents.{why_of, BrokenAt, Refuses}
+use Rattle.doc_text.specs.Documents.{why_of, BrokenAt, DocOf, Refuses}
 use Rattle.doc_text.specs.Private.States.{State, context, open_of, added}
 use Rattle.doc_text.specs.Private.Entering.{Stopped}
-use Rattle.doc_text.specs.Private.Building.{state, node_of, Scoped, Takes}
+use Rattle.doc_text.specs.Private.Building.{state, node_of, Scoped, Takes, HasRead}
 use Rattle.doc_text.proofs.Telling.{is_empty-map}
 use Rattle.doc_text.proofs.Known.{laws}
 use Rattle.doc_text.proofs.Reaching.{place_of, stops, stops_where_none, is_unfinished}
@@ -54,14 +55,17 @@ at_end : (bytes rest : List ℕ) (s : State) → Stands bytes rest s → length 
 at_end bytes rest s stands e = subst (λ (r : List ℕ). Stands bytes r s) (nil_from_length rest e) stands
 
 -- at the end of a document no node is open, and there is one
-pub has_closed : (bytes rest : List ℕ) (b : Builder) → Stands bytes rest (state b) → Scoped b → b.ended ≡ true → b.items.zip.above ≡ []
-has_closed bytes rest b stands scoped ended = sym scoped.nodes ∙ ap (map node_of) (stands.good.one ended).above
+pub whole_read : (bytes rest : List ℕ) (b : Builder) → length bytes ≤ 16777216 → Stands bytes rest (state b) → Scoped b → length rest ≡ 0 → b.ended ≡ true → HasRead bytes b
+whole_read bytes rest b short stands scoped over ended =
+    let one = stands.good.one ended in
+    let whole = ends_whole bytes (state b) one.root (omega (arith, short)) (at_end bytes rest (state b) stands over) ended one.kids in
+    record { closed = sym scoped.nodes ∙ ap (map node_of) one.above; root = one.root; kids = one.kids; doc = whole.doc; items = whole.items }
 
-pub has_one : (bytes rest : List ℕ) (b : Builder) → Stands bytes rest (state b) → b.ended ≡ true → length b.items.zip.kids ≡ 1
-has_one bytes rest b stands ended = ap length (stands.good.one ended).kids
-
-pub is_root : (bytes rest : List ℕ) (b : Builder) (root : Rose ItemLabel) → length bytes ≤ 16777216 → Stands bytes rest (state b) → length rest ≡ 0 → b.ended ≡ true → b.items.zip.kids ≡ root ∷ [] → DocOfItems bytes root
-is_root bytes rest b root short stands over ended kids = ends_whole bytes (state b) root (omega (arith, short)) (at_end bytes rest (state b) stands over) ended kids
+pub root_read : (bytes : List ℕ) (b : Builder) (root : Rose ItemLabel) → HasRead bytes b → b.items.zip.kids ≡ root ∷ [] → DocOfItems bytes root
+root_read bytes b root read kids =
+    let lists : read.root ∷ [] ≡ root ∷ [] = sym read.kids ∙ kids in
+    let same : read.root ≡ root = cc in
+    record { doc = subst (DocOf bytes) same read.doc; items = subst AreItems same read.items }
 
 pub unfinished : (bytes rest : List ℕ) (b : Builder) (at : ℕ) → Stands bytes rest (state b) → length rest ≡ 0 → at ≡ length bytes → b.ended ≡ false → BrokenAt bytes at why.Unfinished
 unfinished bytes rest b at stands over at_is open_still = let here = at_end bytes rest (state b) stands over in is_unfinished bytes (state b) at here.utf8 here.reaches at_is open_still

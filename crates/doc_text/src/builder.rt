@@ -115,7 +115,7 @@ impl<'a> Builder<'a> {
                 return self.start_noted(tag.name, name, at);
             }
         }
-        self.start_read(tag, at)
+        self.start_read(&tag, at)
     }
 
     // A start tag without attributes, of a name that is noted.
@@ -137,14 +137,14 @@ impl<'a> Builder<'a> {
         Ok(())
     }
 
-    fn start_read(&mut self, tag: Element<'a>, at: u64) -> Result<(), DocError>
+    fn start_read(&mut self, tag: &Element<'a>, at: u64) -> Result<(), DocError>
         requires scoped { Scoped self.old }
-        requires utf8 { have_utf8 (tag_seen tag).attributes ≡ true }
-        ensures ok { OnOk result (Takes (pieces.Start (tag_seen tag.entry)) at self.old self.new) }
-        ensures err { IfErr result (Stopped (reason (pieces.Start (tag_seen tag.entry)) (context (state self.old))) at) }
+        requires utf8 { have_utf8 (tag_seen tag.now).attributes ≡ true }
+        ensures ok { OnOk result (Takes (pieces.Start (tag_seen tag.now)) at self.old self.new) }
+        ensures err { IfErr result (Stopped (reason (pieces.Start (tag_seen tag.now)) (context (state self.old))) at) }
     {
         let depth = self.open.as_slice().len();
-        let head = match enter(self.alloc, &mut self.scope, self.ended, depth, &tag, at) {
+        let head = match enter(self.alloc, &mut self.scope, self.ended, depth, tag, at) {
             Ok(head) => head,
             Err(error) => return Err(error),
         };
@@ -171,7 +171,7 @@ impl<'a> Builder<'a> {
                 return self.empty_noted(tag.name, name, at);
             }
         }
-        self.empty_read(tag, at)
+        self.empty_read(&tag, at)
     }
 
     // An empty tag without attributes, of a name that is noted.
@@ -194,14 +194,14 @@ impl<'a> Builder<'a> {
     }
 
     // What is noted stays, since the bindings of the element are in scope within its tag alone.
-    fn empty_read(&mut self, tag: Element<'a>, at: u64) -> Result<(), DocError>
+    fn empty_read(&mut self, tag: &Element<'a>, at: u64) -> Result<(), DocError>
         requires scoped { Scoped self.old }
-        requires utf8 { have_utf8 (tag_seen tag).attributes ≡ true }
-        ensures ok { OnOk result (Takes (pieces.Empty (tag_seen tag.entry)) at self.old self.new) }
-        ensures err { IfErr result (Stopped (reason (pieces.Empty (tag_seen tag.entry)) (context (state self.old))) at) }
+        requires utf8 { have_utf8 (tag_seen tag.now).attributes ≡ true }
+        ensures ok { OnOk result (Takes (pieces.Empty (tag_seen tag.now)) at self.old self.new) }
+        ensures err { IfErr result (Stopped (reason (pieces.Empty (tag_seen tag.now)) (context (state self.old))) at) }
     {
         let depth = self.open.as_slice().len();
-        let head = match enter(self.alloc, &mut self.scope, self.ended, depth, &tag, at) {
+        let head = match enter(self.alloc, &mut self.scope, self.ended, depth, tag, at) {
             Ok(head) => head,
             Err(error) => return Err(error),
         };

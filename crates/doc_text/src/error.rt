@@ -3,61 +3,78 @@ ghost use Rattle.std.specs.Prelude.{◌≡◌};
 ghost use Rattle.doc_text.specs.declared.error.DocError.TheVariants.{Memory as NoMemory};
 
 use std::alloc::{AllocError, AllocFailed};
+use std::fmt;
 use thiserror::Error;
 use xa_base::Memory;
 
 /// The reasons for which bytes are no document. At one place the first in this order stands.
-#[derive(Clone, Copy, Debug, PartialEq, Eq, Error)]
+#[derive(Clone, Copy, Debug, PartialEq, Eq)]
 pub enum DocWhy {
     /// The bytes aren't UTF-8. The place is the length of the longest front that is; this comes before all others.
-    #[error("not valid UTF-8")]
     NotUtf8,
     /// A document type declaration, which the profile leaves out.
-    #[error("a document type declaration")]
     Doctype,
     /// The XML declaration names a version other than 1.0.
-    #[error("the version isn't 1.0")]
     Version,
     /// The XML declaration names an encoding other than UTF-8 and US-ASCII.
-    #[error("the encoding is neither UTF-8 nor US-ASCII")]
     Encoding,
     /// `&` begins no reference, here or within a tag.
-    #[error("no reference to a character that is known")]
     BadReference,
     /// No piece of XML begins here.
-    #[error("not well-formed")]
     NoPiece,
     /// A name is neither an NCName nor two of them joined by a colon.
-    #[error("not a qualified name")]
     BadName,
     /// A prefix or local name is over 255 bytes, or a namespace that is bound over 1,023.
-    #[error("a name is too long")]
     LongName,
     /// A prefix or a namespace that is reserved is bound.
-    #[error("a reserved prefix or namespace is bound")]
     ReservedPrefix,
     /// A prefix isn't bound.
-    #[error("a prefix isn't bound")]
     UnboundPrefix,
     /// One attribute stands twice, by its written or by its expanded name.
-    #[error("an attribute stands twice")]
     DuplicateAttribute,
     /// An element begins behind the end of the root.
-    #[error("an element behind the root")]
     ExtraRoot,
     /// An element would have depth 65. The root has depth 1.
-    #[error("elements are nested too deep")]
     TooDeep,
     /// An end tag hasn't the name of the element that is open, or none is open.
-    #[error("an end tag without its start tag")]
     WrongEnd,
     /// Characters, a reference or a CDATA section outside the root.
-    #[error("text outside the root")]
     TextOutside,
     /// The root hasn't ended, or hasn't begun. The place is the length of the bytes.
-    #[error("the document isn't finished")]
     Unfinished,
 }
+
+impl DocWhy {
+    /// What is said of this reason, in English.
+    pub fn text(self) -> &'static str {
+        match self {
+            DocWhy::NotUtf8 => "not valid UTF-8",
+            DocWhy::Doctype => "a document type declaration",
+            DocWhy::Version => "the version isn't 1.0",
+            DocWhy::Encoding => "the encoding is neither UTF-8 nor US-ASCII",
+            DocWhy::BadReference => "no reference to a character that is known",
+            DocWhy::NoPiece => "not well-formed",
+            DocWhy::BadName => "not a qualified name",
+            DocWhy::LongName => "a name is too long",
+            DocWhy::ReservedPrefix => "a reserved prefix or namespace is bound",
+            DocWhy::UnboundPrefix => "a prefix isn't bound",
+            DocWhy::DuplicateAttribute => "an attribute stands twice",
+            DocWhy::ExtraRoot => "an element behind the root",
+            DocWhy::TooDeep => "elements are nested too deep",
+            DocWhy::WrongEnd => "an end tag without its start tag",
+            DocWhy::TextOutside => "text outside the root",
+            DocWhy::Unfinished => "the document isn't finished",
+        }
+    }
+}
+
+impl fmt::Display for DocWhy {
+    fn fmt<W: fmt::Write>(&self, f: &mut fmt::Formatter<W>) -> fmt::Result {
+        f.write_str(self.text())
+    }
+}
+
+impl std::error::Error for DocWhy {}
 
 /// Why bytes are no document that can be read.
 #[derive(Clone, Copy, Debug, PartialEq, Eq, Error)]

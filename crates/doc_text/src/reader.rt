@@ -1,10 +1,10 @@
 //! Reads documents.
-ghost use Rattle.std.specs.Prelude.{◌≡◌, ◌≤◌, length, drop, IfOk, IfErr, IsUtf8};
+ghost use Rattle.std.specs.Prelude.{◌≡◌, ◌≤◌, length, drop, IfOk, OnOk, IfErr, IsUtf8};
 ghost use Rattle.doc_pieces.specs.Found.{seen};
 ghost use Rattle.doc_text.specs.Sound.{AreItems};
 ghost use Rattle.doc_text.specs.Tokens.{tokens, Ascend};
 ghost use Rattle.doc_text.specs.Documents.{why_of, mark_len, DocOf, Refuses};
-ghost use Rattle.doc_text.specs.Private.Building.{state};
+ghost use Rattle.doc_text.specs.Private.Building.{Begins, HasRead};
 
 use crate::builder::Builder;
 use crate::error::{DocError, DocWhy};
@@ -47,15 +47,18 @@ fn seal(root: ItemTree) -> Items
     Items::of(root)
 }
 
-// The items of a document that is UTF-8.
-fn read_utf8(alloc: Global, bytes: &[u8]) -> Result<Items, DocError>
+// Takes the pieces of a document that is UTF-8, one after the other.
+fn read_pieces<'a>(
+    alloc: Global,
+    builder: &mut Builder<'a>,
+    bytes: &'a [u8],
+) -> Result<(), DocError>
     requires short { length bytes.now ≤ 16777216 }
     requires utf8 { IsUtf8 bytes.now }
-    ensures ok { IfOk result (DocOf bytes.now) }
+    requires begins { Begins builder.old }
+    ensures ok { OnOk result (HasRead bytes.now builder.new) }
     ensures err { IfErr result (Refuses bytes.now) }
-    ensures places { IfOk result (λ items. Ascend 0 16777216 (tokens items)) }
 {
-    let mut builder = Builder::new(alloc)?;
     let mut rest = skip_mark(bytes);
     'pieces: while !rest.is_empty() {
         let at = (bytes.len() - rest.len()) as u64;
@@ -85,7 +88,22 @@ fn read_utf8(alloc: Global, bytes: &[u8]) -> Result<Items, DocError>
             why: DocWhy::Unfinished,
         });
     }
-    Ok(seal(builder.finish()))
+    Ok(())
+}
+
+// The items of a document that is UTF-8.
+fn read_utf8(alloc: Global, bytes: &[u8]) -> Result<Items, DocError>
+    requires short { length bytes.now ≤ 16777216 }
+    requires utf8 { IsUtf8 bytes.now }
+    ensures ok { IfOk result (DocOf bytes.now) }
+    ensures err { IfErr result (Refuses bytes.now) }
+    ensures places { IfOk result (λ items. Ascend 0 16777216 (tokens items)) }
+{
+    let mut builder = Builder::new(alloc)?;
+    match read_pieces(alloc, &mut builder, bytes) {
+        Ok(_) => Ok(seal(builder.finish())),
+        Err(error) => Err(error),
+    }
 }
 
 /// The items of a document, by XML 1.0 (fifth edition) and Namespaces in XML 1.0, or its first fault. Where the bytes

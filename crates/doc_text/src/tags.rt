@@ -1,14 +1,14 @@
 //! Start tags and empty tags: what speaks against one, and what it opens.
 ghost use Rattle.std.specs.List.{list_any};
 ghost use Rattle.std.specs.Option.{option_map};
-ghost use Rattle.std.specs.Prelude.{not, true, nat_le, ◌||◌, length, ◌&&◌, ◌≡◌, ◌∷◌, ◌++◌, [], map, reverse, IfOk, OnOk, IfErr};
+ghost use Rattle.std.specs.Prelude.{not, true, nat_le, ◌||◌, length, ◌&&◌, ◌≡◌, ◌∷◌, ◌++◌, [], map, reverse, None, IfOk, OnOk, IfErr};
 ghost use Rattle.xa_base.specs.Entries.{first_true};
 ghost use Rattle.xa_base.specs.Limits.{is_short_space};
 ghost use Rattle.doc_pieces.specs.Found.{tag_seen, attribute_of, bytes_of};
 ghost use Rattle.doc_pieces.specs.QNames.{is_qname, prefix_of};
 ghost use Rattle.doc_text.specs.Namespaces as names;
 ghost use Rattle.doc_text.specs.Contexts as contexts;
-ghost use Rattle.doc_text.specs.Private.Entering.{Enters, Stopped, IsPlain, have_utf8, are_named};
+ghost use Rattle.doc_text.specs.Private.Entering.{Enters, Stopped, IsPlain, have_utf8, are_named, inner_tests};
 ghost use Rattle.doc_text.specs.declared.error.DocWhy.TheVariants as why;
 
 use crate::duplicates::has_duplicate;
@@ -298,6 +298,40 @@ fn enter_plain(
     })
 }
 
+// The attributes that bind nothing, where the bindings of their tag are in scope; or what speaks against them or against
+// the place of the tag.
+fn enter_attributes(
+    alloc: Global,
+    scope: &BindingsInScope<'_>,
+    ended: bool,
+    depth: usize,
+    tag: &Element<'_>,
+    at: u64,
+) -> Result<Vec<(Name, Text)>, DocError>
+    requires { are_named (tag_seen tag.now).attributes ≡ true }
+    ensures none { IfOk result (λ _. first_true (inner_tests (tag_seen tag.now) (reverse scope.now) ended depth) ≡ None) }
+    ensures attributes { IfOk result (λ all. all.items ≡ names.attributes_of (reverse scope.now) (tag_seen tag.now).attributes) }
+    ensures err { IfErr result (Stopped (first_true (inner_tests (tag_seen tag.now) (reverse scope.now) ended depth)) at) }
+{
+    if has_unbound(scope, tag) {
+        return Err(DocError::Syntax {
+            at,
+            why: DocWhy::UnboundPrefix,
+        });
+    }
+    let attributes = read_attributes(alloc, scope, &tag.attributes)?;
+    if has_duplicate(alloc, &tag.attributes, &attributes)? {
+        return Err(DocError::Syntax {
+            at,
+            why: DocWhy::DuplicateAttribute,
+        });
+    }
+    match first_of_place(ended, depth) {
+        None => Ok(attributes),
+        Some(why) => Err(DocError::Syntax { at, why }),
+    }
+}
+
 // What a tag opens, with its bindings in scope then; or what speaks against it.
 pub(crate) fn enter<'a>(
     alloc: Global,
@@ -319,22 +353,10 @@ pub(crate) fn enter<'a>(
         return Err(DocError::Syntax { at, why });
     }
     let declares = enter_scope(alloc, scope, &tag.attributes)?;
-    if has_unbound(scope, tag) {
-        return Err(DocError::Syntax {
-            at,
-            why: DocWhy::UnboundPrefix,
-        });
-    }
-    let attributes = read_attributes(alloc, scope, &tag.attributes)?;
-    if has_duplicate(alloc, &tag.attributes, &attributes)? {
-        return Err(DocError::Syntax {
-            at,
-            why: DocWhy::DuplicateAttribute,
-        });
-    }
-    if let Some(why) = first_of_place(ended, depth) {
-        return Err(DocError::Syntax { at, why });
-    }
+    let attributes = match enter_attributes(alloc, scope, ended, depth, tag, at) {
+        Ok(attributes) => attributes,
+        Err(error) => return Err(error),
+    };
     let name = element_name(alloc, scope, tag.name)?;
     Ok(Head {
         name,

@@ -137,8 +137,8 @@ fn walk_kids<L: Ledger>(
     ensures least { OnOk result (steps.old + elements_in (roses_of kids.now) ≤ steps.new) }
     ensures later { steps.old ≤ steps.new }
 {
-    let mut matcher = Matcher::start(plan)?;
-    let mut way = Way::new(plans.alloc());
+    let mut matcher = Matcher::start_in(plan, plans.lists())?;
+    let mut way = Way::new(plans.lists());
     for kid in kids.again() {
         walk_kid(
             set,
@@ -160,6 +160,8 @@ fn walk_kids<L: Ledger>(
                 kids: matcher.kids(),
             };
             put_end(model, path, values)?;
+            plans.give_back(way.into_lists());
+            plans.give_back(matcher.into_lists());
             Ok(())
         }
     }
@@ -333,14 +335,17 @@ fn gather_kids<L: Ledger>(
     ensures least { OnOk result (steps.old + elements_in (roses_of kids.now) ≤ steps.new) }
     ensures later { steps.old ≤ steps.new }
 {
-    let mut matcher = Matcher::start(plan)?;
+    let mut matcher = Matcher::start_in(plan, plans.lists())?;
     let mut gathered = Gathered::new(plans.alloc(), model, values)?;
     for kid in kids.again() {
         gather_kid(set, plans, &mut matcher, mixed, &kid, &mut gathered, steps)?;
     }
     match finish(&matcher, at, steps) {
         Err(error) => Err(error),
-        Ok(()) => Ok(gathered),
+        Ok(()) => {
+            plans.give_back(matcher.into_lists());
+            Ok(gathered)
+        }
     }
 }
 

@@ -16,10 +16,9 @@ ghost use Rattle.content_values.specs.Made.{Child};
 ghost use Rattle.content_values.specs.Reached.{IsFillable, Put};
 ghost use Rattle.xer_read.specs.Private.Putting.{LeadsTo, IsWay, Opens};
 
-use content_match::{Leaf, Matcher, Turn};
+use content_match::{Leaf, Lists, Matcher, Turn};
 use content_models::Particle;
 use content_values::{Path, put_step};
-use std::alloc::Global;
 use std::sync::ledger::Ledger;
 use validity::InvalidWhy;
 use validity_check::CheckError;
@@ -34,14 +33,23 @@ pub(crate) struct Way {
 }
 
 impl Way {
-    /// Before the first leaf.
-    pub(crate) fn new(alloc: Global) -> Way
+    /// Before the first leaf, in these lists.
+    pub(crate) fn new(lists: Lists) -> Way
         ensures turns { result.turns.items ≡ [] }
         ensures kids { result.kids.items ≡ [] }
     {
-        Way {
-            turns: Vec::new(alloc),
-            kids: Vec::new(alloc),
+        let mut turns = lists.turns;
+        turns.clear();
+        let mut kids = lists.kids;
+        kids.clear();
+        Way { turns, kids }
+    }
+
+    /// Its lists, for the next way.
+    pub(crate) fn into_lists(self) -> Lists {
+        Lists {
+            turns: self.turns,
+            kids: self.kids,
         }
     }
 

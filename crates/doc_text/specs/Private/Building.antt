@@ -11,7 +11,9 @@ use Rattle.item_tree.specs.declared.label.ItemLabel.TheVariants.{Element, Text}
 use Rattle.doc_text.specs.declared.builder.Builder.{Builder}
 use Rattle.std.specs.List.{flat_map}
 use Rattle.item_tree.specs.Labels.{item_place}
+use Rattle.doc_text.specs.Sound.{AreItems}
 use Rattle.doc_text.specs.Contexts.{Open, scope, reason}
+use Rattle.doc_text.specs.Documents.{DocOf}
 use Rattle.doc_text.specs.Private.Entering.{have_utf8, IsNamed}
 use Rattle.doc_text.specs.Private.Noting.{AllKnown}
 use Rattle.doc_text.specs.Private.States.{Above, State, nothing, context, kids_of_state, closed, step}
@@ -96,6 +98,14 @@ pub record Takes (p : Piece) (at : ℕ) (old new : Builder) : Type 0 where
 pub record Begins (b : Builder) : Type 0 where
   pub steps : state b ≡ nothing
   pub scoped : Scoped b
+
+-- a document has been read: its root has ended, and stands alone
+pub record HasRead (bytes : List ℕ) (b : Builder) : Type 0 where
+  pub closed : b.items.zip.above ≡ []
+  pub root : Rose ItemLabel
+  pub kids : b.items.zip.kids ≡ root ∷ []
+  pub doc : DocOf bytes root
+  pub items : AreItems root
 
 -- the characters are a node, and nothing else has changed
 pub record Flushed (old new : Builder) : Type 0 where

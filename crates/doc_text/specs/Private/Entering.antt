@@ -1,16 +1,17 @@
 -- What is read at a tag.
-use Rattle.std.specs.Prelude.{◌≡◌, ℕ, Bool, true, false, ◌&&◌, List, [], Option, Some, None}
+use Rattle.std.specs.Prelude.{◌≡◌, ℕ, Bool, true, false, ◌&&◌, List, [], ◌∷◌, nat_le, Option, Some, None}
 use Rattle.std.specs.List.{list_all}
 use Rattle.std.specs.Str.{is_utf8}
 use Rattle.doc_pieces.specs.Pieces.{Tag}
 use Rattle.xa_base.specs.declared.texts.Name.{Name}
 use Rattle.doc_text.specs.declared.tags.Head.{Head}
 use Rattle.doc_text.specs.declared.error.DocWhy.{DocWhy}
+use Rattle.doc_text.specs.declared.error.DocWhy.TheVariants as why
 use Rattle.doc_text.specs.declared.error.DocError.{DocError}
 use Rattle.doc_text.specs.declared.error.DocError.TheVariants as errors
 use Rattle.doc_text.specs.Namespaces.{is_long, is_unbound, bindings_of, attributes_of, element_name}
 use Rattle.doc_pieces.specs.QNames.{prefix_of, local_of, is_qname}
-use Rattle.doc_text.specs.Contexts.{tag_scope, start_reason}
+use Rattle.doc_text.specs.Contexts.{tag_scope, start_reason, has_unbound, has_duplicate}
 
 -- nothing speaks against the name, which has no prefix
 pub record IsPlain (written : List ℕ) : Type 0 where
@@ -24,6 +25,15 @@ pub record IsNamed (written : List ℕ) (inside : List (List ℕ × List ℕ)) :
   pub qname : is_qname written ≡ true
   pub short : is_long written ≡ false
   pub bound : is_unbound inside (prefix_of written) ≡ false
+
+-- the tests of a tag behind those of its names, where these bindings are in scope within it
+abbrev pub inner_tests : Tag → List (List ℕ × List ℕ) → Bool → ℕ → List (Bool × DocWhy)
+inner_tests tag inside ended depth =
+    (has_unbound tag inside, why.UnboundPrefix)
+    ∷ (has_duplicate tag inside, why.DuplicateAttribute)
+    ∷ (ended, why.ExtraRoot)
+    ∷ (nat_le 64 depth, why.TooDeep)
+    ∷ []
 
 -- nothing speaks against the tag, and this is what it opens
 pub record EntersAs (outer : List (List ℕ × List ℕ)) (ended : Bool) (depth : ℕ) (tag : Tag) (name : Name) (attributes : List (Name × List ℕ)) (declares : List (List ℕ × List ℕ)) : Type 0 where

@@ -118,7 +118,7 @@ walk_kids-loop-kid-init g t c =
     let way = c.new-way.result in
     record {
       all = cc (c.into_iter-kid-iterator.ensures.into_iter_gives, c.again-kid-items.ensures);
-      plans = c.requires.plans;
+      plans = c.lists-2.ensures ∙ c.lists.ensures ∙ c.requires.plans;
       way = λ _. ap (λ ts. spot_now ts way.kids.items) c.new-way.ensures.turns ∙ ap (λ ts. spot_now ts k.kids) (sym took.turns)
           ∙ sym (spot_matched k (subst IsNoAll (sym (c.in_ok-matcher.ensures.plan ∙ c.requires.plan)) c.requires.no_all));
       limit = refl;
@@ -265,8 +265,8 @@ walk_kids-returns-in_err-put_end-in-Ok-clause-most g t c =
     let s = c.in-Ok.ensures.ticks.1 in
     omega (arith, l, so_far, all, s)
 
-pub walk_kids-returns-clause-judged : goal.walk_kids-returns-clause-judged
-walk_kids-returns-clause-judged g t c = λ z stands.
+pub walk_kids-returns-in_ok-put_end-in-Ok-clause-judged : goal.walk_kids-returns-in_ok-put_end-in-Ok-clause-judged
+walk_kids-returns-in_ok-put_end-in-Ok-clause-judged g t c = λ z stands.
     let kids = c.args.kids.now in
     let before = c.loop-kid.yielded in
     let r = c.loop-kid.invariant.reached z stands in
@@ -277,8 +277,8 @@ walk_kids-returns-clause-judged g t c = λ z stands.
     let (flags, values, made, now) = c.in_ok-put_end-in-Ok.ensures.made r.gs z r.all (subst (λ o. Put (seen c.args.model.now) o r.gs z r.all) (sym way) r.put) r.stands in
     end-put c.args.set.now c.args.mixed (seen c.args.model.now) kids c.args.at (length before) c.loop-kid.matcher z c.loop-kid.values r past (c.in-Ok.ensures.finished r.us r.took) flags values made c.put_end.new.values now
 
-pub walk_kids-returns-clause-most : goal.walk_kids-returns-clause-most
-walk_kids-returns-clause-most g t c =
+pub walk_kids-returns-in_ok-put_end-in-Ok-clause-most : goal.walk_kids-returns-in_ok-put_end-in-Ok-clause-most
+walk_kids-returns-in_ok-put_end-in-Ok-clause-most g t c =
     let r = c.loop-kid.invariant.reached c.requires.stands.0 c.requires.stands.1 in
     let l : levels c.loop-kid.matcher.particle ≤ 17 = subst (λ q. levels q ≤ 17) (sym r.particle) (model_levels c.args.set.now c.args.model.now c.requires.model) in
     let so_far = c.loop-kid.invariant.most in
@@ -286,8 +286,8 @@ walk_kids-returns-clause-most g t c =
     let s = c.in-Ok.ensures.ticks.1 in
     omega (arith, l, so_far, all, s)
 
-pub walk_kids-returns-clause-least : goal.walk_kids-returns-clause-least
-walk_kids-returns-clause-least g t c =
+pub walk_kids-returns-in_ok-put_end-in-Ok-clause-least : goal.walk_kids-returns-in_ok-put_end-in-Ok-clause-least
+walk_kids-returns-in_ok-put_end-in-Ok-clause-least g t c =
     let past = whole.all-before c.args.kids.now c.loop-kid.yielded c.loop-kid.kid-iterator c.loop-kid.invariant.all c.in-None.ensures.steps.0 in
     let so_far = c.loop-kid.invariant.least in
     let all = all-counted c.args.kids.now (length c.loop-kid.yielded) past in
@@ -461,7 +461,7 @@ gather_kids-loop-kid-init g t c =
     let gathered = c.in_ok-gathered.gathered in
     record {
       all = cc (c.into_iter-kid-iterator.ensures.into_iter_gives, c.again-kid-items.ensures);
-      plans = c.requires.plans;
+      plans = c.lists.ensures ∙ c.requires.plans;
       particle = c.in_ok-matcher.ensures.plan ∙ c.requires.plan;
       limit = c.in_ok-gathered.ensures.most;
       outside = c.in_ok-gathered.ensures.outside;
@@ -590,8 +590,8 @@ gather_kids-returns-in-Err-clause-most g t c =
     let s = c.in-Err.ensures.ticks.1 in
     omega (arith, l, so_far, all, s)
 
-pub gather_kids-returns-clause-judged : goal.gather_kids-returns-clause-judged
-gather_kids-returns-clause-judged g t c =
+pub gather_kids-returns-in-Ok-clause-judged : goal.gather_kids-returns-in-Ok-clause-judged
+gather_kids-returns-in-Ok-clause-judged g t c =
     let kids = c.args.kids.now in
     let before = c.loop-kid.yielded in
     let (ps, whole_is, single) = collecting.all-whole (seen c.args.model.now) c.requires.ordered c.requires.model.clear in
@@ -601,16 +601,16 @@ gather_kids-returns-clause-judged g t c =
     (collecting.end-gathered c.args.set.now c.args.mixed ps kids c.args.at (length before) c.loop-kid.matcher c.loop-kid.gathered (c.loop-kid.invariant.particle ∙ whole_is) r past
     (c.in-Ok.ensures.finished r.us r.took) c.in-Ok.ensures.ends single (subst MayOccur whole_is c.requires.model.occurring).1)
 
-pub gather_kids-returns-clause-most : goal.gather_kids-returns-clause-most
-gather_kids-returns-clause-most g t c =
+pub gather_kids-returns-in-Ok-clause-most : goal.gather_kids-returns-in-Ok-clause-most
+gather_kids-returns-in-Ok-clause-most g t c =
     let l : levels c.loop-kid.matcher.particle ≤ 17 = subst (λ q. levels q ≤ 17) (sym c.loop-kid.invariant.particle) (model_levels c.args.set.now c.args.model.now c.requires.model) in
     let so_far = c.loop-kid.invariant.most in
     let all = fewer (roses_of c.args.kids.now) (length c.loop-kid.yielded) in
     let s = c.in-Ok.ensures.ticks.1 in
     omega (arith, l, so_far, all, s)
 
-pub gather_kids-returns-clause-least : goal.gather_kids-returns-clause-least
-gather_kids-returns-clause-least g t c =
+pub gather_kids-returns-in-Ok-clause-least : goal.gather_kids-returns-in-Ok-clause-least
+gather_kids-returns-in-Ok-clause-least g t c =
     let past = whole.all-before c.args.kids.now c.loop-kid.yielded c.loop-kid.kid-iterator c.loop-kid.invariant.all c.in-None.ensures.steps.0 in
     let so_far = c.loop-kid.invariant.least in
     let all = all-counted c.args.kids.now (length c.loop-kid.yielded) past in

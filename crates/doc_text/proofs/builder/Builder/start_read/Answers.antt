@@ -11,12 +11,12 @@ use Rattle.doc_text.proofs.Built.{start_stops, enters_here, mid_of, start_takes}
 use Rattle.doc_text.proofs.builder.Builder.start_read.Goals as goal
 
 pub returns-in-Err-clause-err : goal.returns-in-Err-clause-err
-returns-in-Err-clause-err c = subst (λ (o : Option DocWhy). Stopped o c.args.at c.in-Err.error) (start_stops c.args.self.now (tag_seen c.args.tag) (length c.as_slice-depth.result.now) c.requires.scoped (search rules)) c.in-Err.ensures.err
+returns-in-Err-clause-err c = subst (λ (o : Option DocWhy). Stopped o c.args.at c.in-Err.error) (start_stops c.args.self.now (tag_seen c.args.tag.now) (length c.as_slice-depth.result.now) c.requires.scoped (search rules)) c.in-Err.ensures.err
 
 pub returns-clause-ok : goal.returns-clause-ok
 returns-clause-ok c =
     let old = c.args.self.now in
-    let tag = tag_seen c.args.tag in
+    let tag = tag_seen c.args.tag.now in
     let head = c.in-Ok.head in
     let depth = length c.as_slice-depth.result.now in
     let enters = c.in-Ok.ensures.ok.opens in
@@ -29,7 +29,7 @@ returns-clause-ok c =
     (λ e. entered_same old.scope c.enter.new.scope _ scope_is (none_bound head.declares.items _ _ (ap not bound) enters.declares_are e))
     (subst (λ (n : Notes). AllKnown (reverse old.scope) names n.written.items n.names.items) (sym c.in_ok-flush.ensures.same_notes) (noted-grown (reverse old.scope) old.items.names names old.notes.written.items old.notes.names.items grows c.requires.scoped.noted))
     (known_as tag old.scope c.enter.new.scope old.ended depth names c.in_ok-name.name head.name enters.none scope_is enters.name_is has) in
-    start_takes old c.flush.new.self _ c.args.tag.name head.name head.attributes.items head.declares.items tag c.args.at c.requires.scoped
+    start_takes old c.flush.new.self _ c.args.tag.now.name head.name head.attributes.items head.declares.items tag c.args.at c.requires.scoped
     (enters_here old tag depth head.name head.attributes.items head.declares.items (search rules) enters)
     (mid_of old _ c.flush.new.self c.in_ok-flush.ensures refl refl refl refl refl)
     (c.in_ok-flush.ensures.same_scope ∙ scope_is) (search rules) refl (search rules) refl refl refl refl refl

@@ -1,7 +1,7 @@
 use Rattle.std.proofs.Common.{length}
 use Rattle.doc_text.specs.Private.Building.{state, Scoped}
 use Rattle.doc_text.proofs.Going.{Stands}
-use Rattle.doc_text.proofs.reader.read_utf8.Given as goal
+use Rattle.doc_text.proofs.reader.read_pieces.Given as goal
 
 abbrev pub invariant-pieces : goal.invariant-pieces
 invariant-pieces l = record {
