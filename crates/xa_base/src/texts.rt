@@ -1,11 +1,12 @@
 //! Texts, seen as their bytes, and names.
-ghost use Rattle.std.specs.Prelude.{◌≡◌, ◌≤◌, ◌<◌, ◌↔◌, [], IfOk, IfSome, IsTrue, IsUtf8, IsErrOf, All, length, take, string_bytes, bytes_eq};
+ghost use Rattle.std.specs.Prelude.{◌≡◌, ◌≤◌, ◌<◌, ◌↔◌, [], IfOk, IfSome, IsTrue, IsUtf8, IsErrOf, All, length, take, drop, string_bytes, bytes_eq};
 ghost use Rattle.std.specs.Cmp.{partial_order_from_own_ties};
 ghost use Rattle.std.specs.Cmp.Lexicographic.{slice_cmp};
 ghost use Rattle.std.specs.Cmp.Rules.{comparing, hashing};
 ghost use Rattle.std.specs.Hash as fed;
 ghost use Rattle.std.specs.Ordering.{nat_cmp, as_partial_cmp};
 ghost use Rattle.std.proofs.Common.{rules};
+ghost use Rattle.xa_base.specs.Texts.{kept_bytes};
 
 use std::alloc::{AllocError, AllocFailed, Global};
 use std::cmp::Ordering;
@@ -62,6 +63,41 @@ fn are_ascii(bytes: &[u8]) -> bool
     bytes.iter().all(|byte| *byte < 128)
 }
 
+// Eight of the bytes.
+#[inline(always)]
+fn eight_at(bytes: &[u8; ROOM], at: usize) -> [u8; 8]
+    requires { at ≤ 14 }
+    ensures { result ≡ take 8 (drop at bytes.now) }
+{
+    [
+        bytes[at],
+        bytes[at + 1],
+        bytes[at + 2],
+        bytes[at + 3],
+        bytes[at + 4],
+        bytes[at + 5],
+        bytes[at + 6],
+        bytes[at + 7],
+    ]
+}
+
+// Whether eight of the bytes are the same in both. They are compared as one word.
+#[inline(always)]
+fn is_word_same(one: &[u8; ROOM], other: &[u8; ROOM], at: usize) -> bool
+    requires { at ≤ 14 }
+    ensures { IsTrue result → take 8 (drop at one.now) ≡ take 8 (drop at other.now) }
+{
+    u64::from_le_bytes(eight_at(one, at)) == u64::from_le_bytes(eight_at(other, at))
+}
+
+// Whether all bytes are the same in both.
+#[inline(always)]
+fn are_bytes_same(one: &[u8; ROOM], other: &[u8; ROOM]) -> bool
+    ensures { IsTrue result → one.now ≡ other.now }
+{
+    is_word_same(one, other, 0) && is_word_same(one, other, 8) && is_word_same(one, other, 14)
+}
+
 // Valid UTF-8 in place.
 #[derive(Drop)]
 struct Short {
@@ -103,6 +139,14 @@ impl Short {
         }
     }
 
+    // Whether all bytes in place are the same, those behind the texts too.
+    #[inline(always)]
+    fn is_alike(&self, other: &Short) -> bool
+        ensures { IsTrue result → self.now ≡ other.now }
+    {
+        self.len == other.len && are_bytes_same(&self.bytes, &other.bytes)
+    }
+
     fn as_str(&self) -> &str
         ensures { result.now ≡ self.now }
     {
@@ -115,6 +159,22 @@ impl Short {
 enum Kept {
     Here(Short),
     There(RcStr),
+}
+
+impl Kept {
+    // Whether both lie in place and are the same there.
+    #[inline(always)]
+    fn is_alike(&self, other: &Kept) -> bool
+        ensures { IsTrue result → kept_bytes self.now ≡ kept_bytes other.now }
+    {
+        match self {
+            Kept::There(_) => false,
+            Kept::Here(one) => match other {
+                Kept::There(_) => false,
+                Kept::Here(other) => one.is_alike(other),
+            },
+        }
+    }
 }
 
 /// Valid UTF-8, seen as its bytes. Up to 22 bytes take no memory of their own, and a copy of a longer text takes none
@@ -218,6 +278,22 @@ impl Text {
         })
     }
 
+    /// The text of so many bytes at the front of an array, which stay in place. They aren't tested, since they are known
+    /// to be UTF-8.
+    #[inline(always)]
+    pub fn of_front(bytes: [u8; ROOM], len: usize) -> Text
+        requires short { len ≤ 22 }
+        requires utf8 { IsUtf8 (take len bytes) }
+        ensures { result ≡ take len bytes }
+    {
+        Text {
+            kept: Kept::Here(Short {
+                len: len as u8,
+                bytes,
+            }),
+        }
+    }
+
     /// An equal text. It takes no memory.
     pub fn copy(&self, _alloc: Global) -> Result<Text, Memory>
         ensures { IfOk result (λ text. text ≡ self.now) }
@@ -261,7 +337,11 @@ impl PartialEq for Text {
 
     ghost laws = { Prim.search (comparing, rules) };
 
+    #[inline(always)]
     fn eq(&self, other: &Text) -> bool {
+        if self.kept.is_alike(&other.kept) {
+            return true;
+        }
         self.bytes() == other.bytes()
     }
 }
