@@ -9,7 +9,7 @@ use std::marker::Model;
 use thiserror::Error;
 
 /// Why a load gives no contents.
-#[derive(Clone, Copy, Debug, PartialEq, Eq, Error)]
+#[derive(Clone, Copy, Debug, Error)]
 pub enum LoadError {
     #[error("the file can't be loaded")]
     Failed,

@@ -10,7 +10,7 @@ use std::alloc::Global;
 use thiserror::Error;
 
 /// Why not all was read.
-#[derive(Clone, Copy, Debug, PartialEq, Eq, Error)]
+#[derive(Clone, Copy, Debug, Error)]
 pub enum ReadError {
     #[error("the source failed")]
     Failed,

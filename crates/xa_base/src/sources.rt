@@ -9,7 +9,7 @@ use std::marker::Model;
 use thiserror::Error;
 
 /// A fault of the outside.
-#[derive(Clone, Copy, Debug, PartialEq, Eq, Error)]
+#[derive(Clone, Copy, Debug, Error)]
 #[error("the outside failed")]
 pub struct Failed;
 

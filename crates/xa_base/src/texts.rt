@@ -35,7 +35,7 @@ impl<T: Drop> From<AllocFailed<T>> for Memory {
 }
 
 /// Why bytes make no text.
-#[derive(Clone, Copy, Debug, PartialEq, Eq, Error)]
+#[derive(Clone, Copy, Debug, Error)]
 pub enum TextError {
     #[error("not valid UTF-8")]
     NotUtf8,
