@@ -1,5 +1,5 @@
 //! Trees while they are built.
-ghost use Rattle.std.specs.Prelude.{◌≡◌, ◌<◌, ◌∷◌, [], length, Some, IsTrue, ◌↔◌, OnOk, OnErr};
+ghost use Rattle.std.specs.Prelude.{◌≡◌, ◌<◌, ◌∷◌, [], length, Some, IsTrue, ◌↔◌, IfOk, OnOk, OnErr};
 ghost use Rattle.std.specs.Borrow.{sem};
 ghost use Rattle.std.specs.Option.{option_copied};
 ghost use Rattle.label_tree.specs.Rose.{node, none};
@@ -47,6 +47,18 @@ impl<L> Builder<L> {
             inner: 0,
             level: 0,
         }
+    }
+
+    /// The same, with room for so many nodes.
+    pub fn with_capacity(alloc: Global, count: usize) -> Result<Builder<L>, AllocError>
+        ensures { IfOk result (λ builder. builder ≡ nothing) }
+    {
+        let entries = Vec::with_capacity(alloc, count)?;
+        Ok(Builder {
+            entries,
+            inner: 0,
+            level: 0,
+        })
     }
 
     /// How many nodes there are, open and closed, at once.
