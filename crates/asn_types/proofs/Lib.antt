@@ -3,5 +3,6 @@ pub mod Following
 pub mod Inside
 mod Making
 mod SeenBounds
+mod SaidLaws
 pub mod SimpleLaws
 pub mod Simpling

@@ -1,2 +1,2 @@
-pub mod Seeking
+pub mod Saying
 pub mod Telling

@@ -11,6 +11,7 @@ mod names;
 mod parts;
 mod resolving;
 mod roles;
+mod said;
 mod simples;
 mod types;
 

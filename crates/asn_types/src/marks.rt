@@ -1,11 +1,11 @@
 //! Encoding instructions.
-ghost use Rattle.std.specs.Prelude.{◌≡◌, ◌↔◌, ◌∷◌, [], IfOk, IsTrue, MatchOption};
-ghost use Rattle.std.specs.List.{list_any};
+ghost use Rattle.std.specs.Prelude.{◌≡◌, ◌↔◌, ◌∷◌, [], IfOk, IsTrue, MatchOption, Some, None, slice_get};
 ghost use Rattle.asn_types.specs.Marks as marked;
-ghost use Rattle.asn_types.specs.Private.Seeking as seeking;
+ghost use Rattle.asn_types.specs.Private.Saying.{name_place, namespace_place};
 ghost use Rattle.asn_types.specs.Simples.{counting, white_space_marks};
 ghost use Rattle.asn_types.specs.Private.Telling as telling;
 
+use crate::said::Said;
 use std::alloc::Global;
 use std::marker::Model;
 use xa_base::{Memory, Text, WhiteSpace};
@@ -112,77 +112,35 @@ impl Instruction {
     }
 }
 
-/// An instruction that says alone what a part or its type stands for.
-#[derive(Clone, Copy)]
-enum Sought {
-    Attribute,
-    Untagged,
-    UseNil,
-    EmbedValues,
-    UseOrder,
-    List,
-    UseUnion,
-}
-
-impl Sought {
-    fn is(self, mark: &Instruction) -> bool
-        ensures { result ≡ seeking.is_sought self mark.now }
-    {
-        match self {
-            Sought::Attribute => matches!(mark, Instruction::Attribute),
-            Sought::Untagged => matches!(mark, Instruction::Untagged),
-            Sought::UseNil => matches!(mark, Instruction::UseNil),
-            Sought::EmbedValues => matches!(mark, Instruction::EmbedValues),
-            Sought::UseOrder => matches!(mark, Instruction::UseOrder),
-            Sought::List => matches!(mark, Instruction::List),
-            Sought::UseUnion => matches!(mark, Instruction::UseUnion),
-        }
-    }
-}
-
-/// Encoding instructions, in their order.
+/// Encoding instructions, in their order. What they say is found when they are put together, so asking takes no time.
 #[derive(Drop)]
 pub struct Marks {
     entries: Vec<Instruction>,
-    // What the first WHITESPACE says: an ENUMERATED may have many TEXT, and each of its values asks.
-    white_space: WhiteSpace,
+    // Each part of each value asks, and an ENUMERATED may have many TEXT.
+    said: Said,
 }
 
 impl Model for Marks {
-    ghost use Rattle.std.specs.Prelude.{◌≡◌, List};
+    ghost use Rattle.std.specs.Prelude.{List};
     ghost use Rattle.asn_types.specs.declared.marks.Instruction.{Instruction};
-    ghost use Rattle.asn_types.specs.Marks.{white_space_of};
+    ghost use Rattle.asn_types.specs.Private.Saying.{IsSaid};
 
     ghost Value = { List Instruction };
 
     ghost view = { λ a. a.entries.items };
 
-    ghost invariant = { λ a. a.white_space ≡ white_space_of a.entries.items };
-}
-
-// What the first WHITESPACE says, and to preserve where there is none.
-fn first_white_space(marks: &[Instruction]) -> WhiteSpace
-    ensures { result ≡ marked.white_space_of marks.now }
-{
-    'marks: for mark in marks {
-        if let Instruction::WhiteSpace(how) = mark {
-            return *how;
-        }
-    }
-    WhiteSpace::Preserve
+    ghost invariant = { λ a. IsSaid a.entries.items 0 a.said };
 }
 
 impl Marks {
     pub fn of(entries: Vec<Instruction>) -> Marks
         ensures { result ≡ entries.items }
     {
-        let white_space = first_white_space(&entries);
-        Marks {
-            entries,
-            white_space,
-        }
+        let said = Said::of(&entries);
+        Marks { entries, said }
     }
 
+    #[inline(always)]
     pub fn items(&self) -> &[Instruction]
         ensures { result.now ≡ self.now }
     {
@@ -202,67 +160,86 @@ impl Marks {
         Ok(Marks::of(copies))
     }
 
-    fn has(&self, sought: Sought) -> bool
-        ensures { result ≡ list_any (seeking.is_sought sought) self.now }
-    {
-        self.items().iter().any(|mark| sought.is(mark))
-    }
-
     /// Whether ATTRIBUTE stands among them.
+    #[inline(always)]
     pub fn has_attribute(&self) -> bool
         ensures { result ≡ marked.has_attribute self.now }
     {
-        self.has(Sought::Attribute)
+        self.said.attribute
     }
 
     /// Whether UNTAGGED stands among them.
+    #[inline(always)]
     pub fn has_untagged(&self) -> bool
         ensures { result ≡ marked.has_untagged self.now }
     {
-        self.has(Sought::Untagged)
+        self.said.untagged
     }
 
     /// Whether USE-NIL stands among them.
+    #[inline(always)]
     pub fn has_use_nil(&self) -> bool
         ensures { result ≡ marked.has_use_nil self.now }
     {
-        self.has(Sought::UseNil)
+        self.said.use_nil
     }
 
     /// Whether EMBED-VALUES stands among them.
+    #[inline(always)]
     pub fn has_embed_values(&self) -> bool
         ensures { result ≡ marked.has_embed_values self.now }
     {
-        self.has(Sought::EmbedValues)
+        self.said.embed_values
     }
 
     /// Whether USE-ORDER stands among them.
+    #[inline(always)]
     pub fn has_use_order(&self) -> bool
         ensures { result ≡ marked.has_use_order self.now }
     {
-        self.has(Sought::UseOrder)
+        self.said.use_order
     }
 
     /// Whether LIST stands among them.
+    #[inline(always)]
     pub fn has_list(&self) -> bool
         ensures { result ≡ marked.has_list self.now }
     {
-        self.has(Sought::List)
+        self.said.list
     }
 
     /// Whether USE-UNION stands among them.
+    #[inline(always)]
     pub fn has_use_union(&self) -> bool
         ensures { result ≡ marked.has_use_union self.now }
     {
-        self.has(Sought::UseUnion)
+        self.said.use_union
     }
 
-    /// What the first WHITESPACE says, and to preserve where there is none. It is found when the instructions are put
-    /// together, so asking takes no time.
+    /// What the first WHITESPACE says, and to preserve where there is none.
+    #[inline(always)]
     pub fn white_space(&self) -> WhiteSpace
         ensures { result ≡ marked.white_space_of self.now }
     {
-        self.white_space
+        self.said.white_space
+    }
+
+    // The first NAME, if there is one.
+    #[inline(always)]
+    pub(crate) fn first_name(&self) -> Option<&Instruction>
+        ensures { MatchOption result (slice_get self.now (name_place self.now) ≡ None) (λ mark. slice_get self.now (name_place self.now) ≡ Some mark.now) }
+    {
+        self.entries.as_slice().get(self.said.name_at)
+    }
+
+    // The first NAMESPACE, if there is one.
+    #[inline(always)]
+    pub(crate) fn first_namespace(&self) -> Option<&Instruction>
+        ensures { MatchOption result
+            (slice_get self.now (namespace_place self.now) ≡ None)
+            (λ mark. slice_get self.now (namespace_place self.now) ≡ Some mark.now) }
+    {
+        self.entries.as_slice().get(self.said.namespace_at)
     }
 
     /// What stands among them but for NAME and TEXT.

@@ -80,6 +80,7 @@ impl Module {
     }
 
     // The type of the assignment with this number.
+    #[inline(always)]
     pub(crate) fn body(&self, n: u32) -> Option<&Tree<TypeLabel>>
         ensures { MatchOption result (body_at self.now n ≡ None) (λ body. body_at self.now n ≡ Some body.now) }
     {

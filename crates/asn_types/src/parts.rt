@@ -8,6 +8,7 @@ use crate::types::{Component, Form, TypeLabel};
 
 impl Form {
     // The component with this number.
+    #[inline(always)]
     fn part(&self, i: usize) -> Option<&Component>
         ensures { MatchOption result (slice_get (parts_of self.now) i ≡ None) (λ part. slice_get (parts_of self.now) i ≡ Some part.now) }
     {
@@ -21,6 +22,7 @@ impl Form {
 }
 
 /// The role of the part with this number, from 0. The root of a value has the role of an element.
+#[inline(always)]
 pub fn role(node: &TypeLabel, part: u32) -> Role
     requires { part < length (parts_of node.now.form) }
     ensures { IfSome (slice_get (parts_of node.now.form) part) (λ component. result ≡ roles.role_of node.now part component) }
@@ -33,6 +35,7 @@ pub fn role(node: &TypeLabel, part: u32) -> Role
 
 impl TypeLabel {
     /// The role of the part with this number, which is this component.
+    #[inline(always)]
     pub fn role_of(&self, i: usize, component: &Component) -> Role
         requires { i < length (parts_of self.now.form) }
         ensures { result ≡ roles.role_of self.now i component.now }
@@ -57,6 +60,7 @@ impl TypeLabel {
     }
 
     // Whether the part with this number is the last of a USE-NIL type.
+    #[inline(always)]
     fn is_content(&self, i: usize) -> bool
         requires { i < length (parts_of self.now.form) }
         ensures { result ≡ roles.is_content self.now i }
@@ -65,6 +69,7 @@ impl TypeLabel {
     }
 
     // Whether the part with this number is the order of a USE-ORDER type.
+    #[inline(always)]
     fn is_order(&self, i: usize) -> bool
         ensures { result ≡ roles.is_order self.now i }
     {
@@ -72,6 +77,7 @@ impl TypeLabel {
     }
 
     // Whether this part is an item without a name.
+    #[inline(always)]
     fn is_item(&self, component: &Component) -> bool
         ensures { result ≡ roles.is_item self.now.form component.now }
     {

@@ -7,6 +7,7 @@ use crate::types::{Form, TypeLabel};
 use label_tree::Tree;
 
 /// The type to which the reference leads, in one step. None where the type is no reference.
+#[inline(always)]
 pub fn follow_reference<'a>(
     module: &'a Module,
     node: &Tree<TypeLabel>,
@@ -20,6 +21,7 @@ pub fn follow_reference<'a>(
 }
 
 /// The type that is meant: that to which the reference leads where the type is one, and so on.
+#[inline(always)]
 pub fn resolve<'a>(module: &'a Module, node: &'a Tree<TypeLabel>) -> &'a Tree<TypeLabel>
     ensures { result.now ≡ refs.resolve module.now node.now }
 {

@@ -60,6 +60,7 @@ impl Components {
         Components { entries }
     }
 
+    #[inline(always)]
     pub fn items(&self) -> &[Component]
         ensures { result.now ≡ self.now }
     {
@@ -176,6 +177,7 @@ impl Form {
     }
 
     /// How many components, alternatives or items there are.
+    #[inline(always)]
     pub fn part_count(&self) -> usize
         ensures { result ≡ length (parts_of self.now) }
     {
