@@ -1,7 +1,7 @@
 //! What a part of a type stands for in a document.
 
 /// What a component, an alternative or an item stands for in a document.
-#[derive(Clone, Copy, Debug, PartialEq, Eq)]
+#[derive(Clone, Copy, PartialEq, Eq)]
 pub enum Role {
     /// An attribute, by ATTRIBUTE.
     Attribute,

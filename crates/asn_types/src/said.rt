@@ -6,7 +6,7 @@ use crate::marks::Instruction;
 use xa_base::WhiteSpace;
 
 /// What stands among encoding instructions.
-#[derive(Clone, Copy)]
+#[derive(Drop)]
 pub(crate) struct Said {
     pub(crate) attribute: bool,
     pub(crate) untagged: bool,
@@ -24,24 +24,6 @@ pub(crate) struct Said {
 }
 
 impl Said {
-    // Where nothing stands behind this place.
-    fn nothing(at: usize) -> Said
-        ensures { result ≡ saying.nothing at }
-    {
-        Said {
-            attribute: false,
-            untagged: false,
-            use_nil: false,
-            embed_values: false,
-            use_order: false,
-            list: false,
-            use_union: false,
-            white_space: WhiteSpace::Preserve,
-            name_at: at,
-            namespace_at: at,
-        }
-    }
-
     // With one more instruction, which stands at this place, before the others.
     fn put(&mut self, at: usize, mark: &Instruction)
         ensures { self.new ≡ saying.with_mark self.old at mark.now }
@@ -67,7 +49,18 @@ impl Said {
         ensures { saying.IsSaid marks.now 0 result }
     {
         let mut i = marks.len();
-        let mut said = Said::nothing(i);
+        let mut said = Said {
+            attribute: false,
+            untagged: false,
+            use_nil: false,
+            embed_values: false,
+            use_order: false,
+            list: false,
+            use_union: false,
+            white_space: WhiteSpace::Preserve,
+            name_at: i,
+            namespace_at: i,
+        };
         'last_first: while i > 0 {
             i -= 1;
             said.put(i, &marks[i]);
