@@ -49,7 +49,7 @@ unfolding is_white_space
 minus_word [] e = absurd (true≢false (sym e))
 minus_word (c ∷ cs) e = record { has = refl; plain = All-cons (λ b. is_white_space b ≡ false) 45 (c ∷ cs) refl (digits_plain (c ∷ cs) e) }
 
-unsigned_number : (cs : List ℕ) → is_numeral cs ≡ true → whole_number cs ≡ Some (pos (digits_value 10 cs))
+pub unsigned_number : (cs : List ℕ) → is_numeral cs ≡ true → whole_number cs ≡ Some (pos (digits_value 10 cs))
 unfolding whole_number
 unsigned_number [] e = absurd (true≢false (sym e))
 unsigned_number (c ∷ cs) e =

@@ -1,8 +1,10 @@
 pub mod Again
 pub mod Collapsed
 pub mod Decimals
+pub mod FewDigits
 pub mod OwnSpellings
 pub mod Places
+pub mod PlainTexts
 pub mod Readings
 pub mod SideBySide
 pub mod Spellings

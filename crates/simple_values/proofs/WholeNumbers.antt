@@ -24,7 +24,7 @@ pub and-second : (a b : Bool) → (a && b) ≡ true → b ≡ true
 and-second true b e = e
 and-second false b e = absurd (true≢false (sym e))
 
-digit_is : (c : ℕ) → is_digit c ≡ true → digit_value c < 10
+pub digit_is : (c : ℕ) → is_digit c ≡ true → digit_value c < 10
 digit_is c e =
     let least : 48 ≤ c = leb-true 48 c (and-first (nat_le 48 c) (nat_le c 57) e) in
     let most : c ≤ 57 = leb-true c 57 (and-second (nat_le 48 c) (nat_le c 57) e) in

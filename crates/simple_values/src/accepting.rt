@@ -10,14 +10,15 @@ ghost use Rattle.simple_types.specs.Seen.{space_of, spaces_in};
 ghost use Rattle.simple_types.specs.Sound.{Sound, AreSound};
 ghost use Rattle.simple_values.specs.Reading as rule;
 
+use crate::classes::has_characters;
 use crate::reading::{
     SimpleError, read_boolean, read_characters, read_number, read_whole, read_word,
 };
 use crate::spelling::spelling;
 use flat_tree::{Builder, Flat, Node};
-use simple_types::{Simple, ValueLabel};
+use simple_types::{Class, Simple, ValueLabel};
 use std::alloc::{AllocError, Global};
-use xa_base::{Text, first_word};
+use xa_base::{Text, first_word, is_treated};
 
 // Puts a value without parts, of which the label was read.
 fn put(
@@ -274,6 +275,28 @@ pub fn accept(alloc: Global, simple: &Simple, text: &Text) -> Result<Flat<ValueL
     read(alloc, simple, text.as_str())
 }
 
+// Puts a text that is read as it is, which is judged before it is copied.
+fn put_text(
+    alloc: Global,
+    min: u32,
+    max: Option<u32>,
+    class: Class,
+    text: &Text,
+    values: &mut Builder<ValueLabel>,
+) -> Result<(), SimpleError>
+    ensures read { MatchResult result
+        (λ _. (value : Rose ValueLabel) × (rule.read_characters min max class text.now ≡ Ok value) × (values.new ≡ added value values.old))
+        (λ error. AnswersReading (Err error) (rule.read_characters min max class text.now)) }
+    ensures kept { OnErr result (values.new ≡ values.old) }
+{
+    if !has_characters(min, max, class, text.as_str()) {
+        return Err(SimpleError::BadText);
+    }
+    let copied = text.copy(alloc)?;
+    values.leaf(ValueLabel::Utf8(copied))?;
+    Ok(())
+}
+
 /// The same, put behind what is built of a value so far, which an error leaves as it was.
 pub fn accept_into(
     alloc: Global,
@@ -287,7 +310,15 @@ pub fn accept_into(
         (λ error. AnswersReading (Err error) (rule.reads (space_of simple.now) text.now)) }
     ensures kept { OnErr result (values.new ≡ values.old) }
 {
-    put_value(alloc, simple, text.as_str(), values)
+    match simple {
+        Simple::Chars {
+            space,
+            min,
+            max,
+            class,
+        } if is_treated(*space, text) => put_text(alloc, *min, *max, *class, text, values),
+        _ => put_value(alloc, simple, text.as_str(), values),
+    }
 }
 
 fn alone(label: Result<ValueLabel, SimpleError>) -> Result<Option<ValueLabel>, SimpleError>

@@ -1,5 +1,5 @@
 //! The classes of characters.
-ghost use Rattle.std.specs.Prelude.{◌≡◌, ◌&&◌, ◌||◌, length, nat_le, take};
+ghost use Rattle.std.specs.Prelude.{◌≡◌, ◌&&◌, ◌||◌, ◌↔◌, ◌≤◌, ◌<◌, true, false, All, IsTrue, MatchOption, length, nat_le, take};
 ghost use Rattle.std.specs.List.{list_all, position_or_len, slice_split};
 ghost use Rattle.std.specs.Str.{chars};
 ghost use Rattle.xa_base.specs.Characters.{is_xml_char};
@@ -102,13 +102,40 @@ pub fn is_at_most(n: usize, most: Option<u32>) -> bool
     }
 }
 
+// Whether each byte is a visible ASCII character or a space.
+#[inline(always)]
+fn are_plain(bytes: &[u8]) -> bool
+    ensures { IsTrue result ↔ All (λ b. (0x20 ≤ b) × (b < 0x7F)) bytes.now }
+{
+    for b in bytes {
+        if *b < 0x20 || *b >= 0x7F {
+            return false;
+        }
+    }
+    true
+}
+
+// How many code points the text has, where all are XML characters. Plain characters are their own bytes.
+#[inline(always)]
+fn xml_count(text: &str) -> Option<usize>
+    ensures { MatchOption result (list_all is_xml_char (chars text.now) ≡ false) (λ n. (list_all is_xml_char (chars text.now) ≡ true) × (n ≡ length (chars text.now))) }
+{
+    if are_plain(text.as_bytes()) {
+        return Some(text.len());
+    }
+    if are_xml_chars(text) {
+        Some(char_count(text))
+    } else {
+        None
+    }
+}
+
 /// Whether the text has XML characters alone, from `min` to `max` code points, and is in the class.
 pub fn has_characters(min: u32, max: Option<u32>, class: Class, text: &str) -> bool
     ensures { result ≡ has_characters min max class text.now }
 {
-    if !are_xml_chars(text) {
-        return false;
+    match xml_count(text) {
+        Some(count) => { min as usize <= count && is_at_most(count, max) && in_class(class, text) }
+        None => false,
     }
-    let count = char_count(text);
-    min as usize <= count && is_at_most(count, max) && in_class(class, text)
 }

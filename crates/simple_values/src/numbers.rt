@@ -1,12 +1,13 @@
 //! Whole numbers and truth values as texts write them.
-ghost use Rattle.std.specs.Prelude.{◌≡◌, ◌∷◌, [], Some, None, MatchOption, length, ◌≢◌};
+ghost use Rattle.std.specs.Prelude.{◌≡◌, ◌<◌, ◌^◌, ◌∷◌, [], true, Some, None, IfSome, MatchOption, length, ◌≢◌};
 ghost use Rattle.std.specs.List.{list_all};
-ghost use Rattle.std.specs.Str.Parse.{without_leading_sign, starts_with_minus};
+ghost use Rattle.std.specs.Str.Parse.{without_leading_sign, starts_with_minus, digits_value};
 ghost use Rattle.xa_base.specs.WhiteSpace.{words_of, treated};
+ghost use Rattle.xa_base.specs.Digits as digits;
 ghost use Rattle.simple_values.specs.Lexical as lexical;
 ghost use Rattle.simple_values.specs.Written.{Writes, Shows};
 
-use xa_base::{WhiteSpace, first_word, is_numeral};
+use xa_base::{WhiteSpace, first_word, is_digit, is_numeral};
 
 /// A whole number, as far as 128 bits show it.
 #[derive(Clone, Copy)]
@@ -62,10 +63,31 @@ pub fn only_word(text: &str) -> Option<&str>
     }
 }
 
+// The number that these bytes write, where they are one to eighteen digits: 64 bits hold each such number.
+#[inline(always)]
+fn few_digits(bytes: &[u8]) -> Option<u64>
+    ensures { IfSome result (λ n. (digits.is_numeral bytes.now ≡ true) × (n ≡ digits_value 10 bytes.now) × (n < 10 ^ 18)) }
+{
+    if bytes.is_empty() || bytes.len() > 18 {
+        return None;
+    }
+    let mut n: u64 = 0;
+    for b in bytes {
+        if !is_digit(*b) {
+            return None;
+        }
+        n = n * 10 + u64::from(*b - b'0');
+    }
+    Some(n)
+}
+
 /// The number that the collapsed text writes.
 pub fn collapsed_number(text: &str) -> Option<Whole>
     ensures { Writes result (lexical.whole_number (treated WhiteSpace.Collapse text.now)) }
 {
+    if let Some(n) = few_digits(text.as_bytes()) {
+        return Some(Whole::Within(i128::from(n)));
+    }
     match only_word(text) {
         Some(word) => whole_number(word),
         None => None,
