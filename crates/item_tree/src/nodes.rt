@@ -1,7 +1,7 @@
 //! Nodes of items that stand elsewhere, and their kids.
-ghost use Rattle.std.specs.Prelude.{◌≡◌, ◌<◌, IfOk, IsTrue, ◌↔◌, [], Some, length, slice_get};
+ghost use Rattle.std.specs.Prelude.{◌≡◌, ◌<◌, ◌≤◌, IfOk, IsTrue, ◌↔◌, [], Some, length, slice_get};
 ghost use Rattle.std.specs.Iterator.{YieldsFirst, item_count};
-ghost use Rattle.label_tree.specs.Rose.{label_of, kids_of};
+ghost use Rattle.label_tree.specs.Rose.{label_of, kids_of, node_count};
 ghost use Rattle.item_tree.specs.Labels.{item_place};
 ghost use Rattle.item_tree.specs.Seen.{item_seen};
 
@@ -148,6 +148,14 @@ impl<'a> ItemNode<'a> {
             node: self.node.again(),
             store: self.store,
         }
+    }
+
+    /// About how many elements a document has whose root this is, at once: enough to reserve memory by. Each node but a text
+    /// is one.
+    pub fn element_hint(&self) -> usize
+        ensures { result ≤ node_count self.now }
+    {
+        (self.node.count() as usize).saturating_sub(self.store.texts.len())
     }
 
     /// The kid of the node with this number, for which it visits those before it. The first has the number 0.
