@@ -3,3 +3,5 @@ pub mod WrittenSpaces
 pub mod Entries
 pub mod Qualified
 pub mod Telling
+pub mod Finishing
+mod Moving

@@ -338,36 +338,3 @@ whole-text begun b name attributes items front declarations out ef is told ed eo
   where
     regroup : (a b c d : List ℕ) → (((a ++ b) ++ c) ++ d) ++ 10 ∷ [] ≡ (a ++ (b ++ (c ++ d))) ++ 10 ∷ []
     regroup a b c d = simp append_assoc
-
-pub front-is : (table : List (List ℕ × List ℕ)) (name : Name) (q : Qualifier) (begun pushed front : List ℕ) → begun ≡ xml_declaration → pushed ≡ begun ++ 60 ∷ [] → front ≡ pushed ++ (qualifier_text q ++ name.local)
-    → qualifier_text q ≡ before_local table name.space → front ≡ xml_declaration ++ 60 ∷ written_name table name
-front-is table name q begun pushed front eb ep ef eq =
-    ef ∙ ap (λ t. t ++ (qualifier_text q ++ name.local)) (ep ∙ ap (λ t. t ++ 60 ∷ []) eb) ∙ ap (λ t. (xml_declaration ++ 60 ∷ []) ++ t) (named-written table q name eq)
-    ∙ append_assoc xml_declaration (60 ∷ []) (written_name table name)
-
--- what is split off behind the front is the rest
-pub split-rest : (front rest text other : List ℕ) → text ≡ front ++ rest → other ≡ drop (length front) text → other ≡ rest
-split-rest front rest text other et eo = eo ∙ ap (drop (length front)) et ∙ by front
-  where
-    by : (xs : List ℕ) → drop (length xs) (xs ++ rest) ≡ rest
-    by [] = refl
-    by (x ∷ xs) = by xs
-
-pub long-enough : (front rest text : List ℕ) → text ≡ front ++ rest → length text < length front → ⊥
-long-enough front rest text et short = absurd (omega (arith, ap length et, length-append front rest, short))
-
-pub finished : (begun b : TextBuilder) (name : Name) (attributes : List (Name × List ℕ)) (items : Roses ItemLabel) (front declarations text other out : List ℕ) → front ≡ xml_declaration ++ 60 ∷ written_name b.prefixes name
-    → IsBegun begun → Told begun b [] (node (Element name attributes [] 0) items ∷ []) → declarations ≡ flat_map written_declaration b.prefixes → text ≡ b.text.items ++ 10 ∷ [] → other ≡ drop (length front) text
-    → out ≡ (front ++ declarations) ++ other → out ≡ written (node (Element name attributes [] 0) items)
-finished begun b name attributes items front declarations text other out ef is told ed et eo out_is =
-    let rest = behind b.prefixes name attributes items in
-    let parts : text ≡ front ++ (rest ++ 10 ∷ []) =
-    et ∙ ap (λ t. t ++ 10 ∷ []) (front-and-rest begun b name attributes items front ef is told) ∙ append_assoc front rest (10 ∷ []) in
-    whole-text begun b name attributes items front declarations out ef is told ed
-    (out_is ∙ ap (λ t. (front ++ declarations) ++ t) (split-rest front (rest ++ 10 ∷ []) text other parts eo) ∙ sym (append_assoc (front ++ declarations) rest (10 ∷ [])))
-
-pub not-short : (begun b : TextBuilder) (name : Name) (attributes : List (Name × List ℕ)) (items : Roses ItemLabel) (front text : List ℕ) → front ≡ xml_declaration ++ 60 ∷ written_name b.prefixes name
-    → IsBegun begun → Told begun b [] (node (Element name attributes [] 0) items ∷ []) → text ≡ b.text.items ++ 10 ∷ [] → length text < length front → ⊥
-not-short begun b name attributes items front text ef is told et short =
-    let rest = behind b.prefixes name attributes items in
-    long-enough front (rest ++ 10 ∷ []) text (et ∙ ap (λ t. t ++ 10 ∷ []) (front-and-rest begun b name attributes items front ef is told) ∙ append_assoc front rest (10 ∷ [])) short

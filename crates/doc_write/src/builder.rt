@@ -5,9 +5,9 @@ ghost use Rattle.item_tree.specs.declared.label.ItemLabel.TheVariants as item;
 ghost use Rattle.doc_write.specs.Private.Binding.{qualifier_text};
 
 use crate::prefixes::{Prefixes, Qualifier};
-use crate::writing::{
-    CharacterPlace, XML_DECLARATION, write_declarations, write_escaped, write_value,
-};
+use crate::root::{declarations, front_len};
+use crate::splicing::insert;
+use crate::writing::{CharacterPlace, XML_DECLARATION, write_escaped, write_value};
 use std::alloc::{AllocError, Global};
 use xa_base::Memory;
 
@@ -128,16 +128,12 @@ impl<'a> TextBuilder<'a> {
         if self.late {
             return Ok(None);
         }
-        let mut told = self.text;
-        told.push(b'\n')?;
-        let mut out = Vec::from_slice(alloc, XML_DECLARATION)?;
-        out.push(b'<')?;
-        write_qualified(&mut out, self.prefixes.qualifier(space), local)?;
-        let begun = out.as_slice().len();
-        write_declarations(&mut out, self.prefixes.entries())?;
-        if let Some((_, rest)) = told.split_at_checked(begun) {
-            out.extend_from_slice(rest)?;
-        }
+        let begun = front_len(alloc, &self.prefixes, space, local)?;
+        let declared = declarations(alloc, &self.prefixes)?;
+        let mut out = self.text;
+        out.push(b'\n')?;
+        let at = begun.min(out.as_slice().len());
+        insert(&mut out, at, &declared)?;
         Ok(Some(out))
     }
 }

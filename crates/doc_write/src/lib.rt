@@ -5,6 +5,8 @@
 
 mod builder;
 mod prefixes;
+mod root;
+mod splicing;
 mod writing;
 
 pub use builder::{OpenTag, TextBuilder};
