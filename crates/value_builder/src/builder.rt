@@ -1,5 +1,5 @@
 //! What is put down of a value.
-ghost use Rattle.std.specs.Prelude.{◌≡◌, length, ◌<◌, ◌+◌, ◌-◌, ◌^◌, ◌≤◌, min, ◌↔◌, ℕ, Err, IsTrue, List, OnOk, MatchResult};
+ghost use Rattle.std.specs.Prelude.{◌≡◌, length, ◌<◌, ◌+◌, ◌-◌, ◌^◌, ◌≤◌, min, ◌↔◌, ℕ, Err, IsTrue, IfOk, List, OnOk, MatchResult};
 ghost use Rattle.label_tree.specs.Rose.{Rose, node, none};
 ghost use Rattle.flat_tree.specs.Zips.{Zip, zip_count, opened, added, added_all, closed};
 ghost use Rattle.simple_types.specs.declared.labels.ValueLabel.{ValueLabel};
@@ -52,6 +52,19 @@ impl ValueBuilder {
             nodes: 0,
             most,
         }
+    }
+
+    /// The same, with room for so many nodes, but for no more than may be kept.
+    pub fn with_capacity(alloc: Global, most: u32, count: usize) -> Result<ValueBuilder, Memory>
+        ensures { IfOk result (λ values. values ≡ nothing_of most) }
+    {
+        let kept = Builder::with_capacity(alloc, count.min(most as usize))?;
+        Ok(ValueBuilder {
+            alloc,
+            kept,
+            nodes: 0,
+            most,
+        })
     }
 
     /// How many nodes may be kept.
