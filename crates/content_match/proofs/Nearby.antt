@@ -1,16 +1,17 @@
 -- The leaf beside the last one, where that is a kid of the top.
-use Rattle.std.proofs.Common.{◌≡◌, ℕ, zero, suc, ◌+◌, ◌<◌, ◌⊎◌, inl, inr, List, [], ◌∷◌, length, get_or, Option, Some, None, Bool, true, false, ◌&&◌, cond, refl, sym, ◌∙◌, ap, subst, arith}
+use Rattle.std.proofs.Common.{◌≡◌, ℕ, zero, suc, ◌+◌, ◌<◌, ◌⊎◌, inl, inr, List, [], ◌∷◌, ◌++◌, length, get_or, ◌≤◌, Option, Some, None, Bool, true, false, ◌&&◌, cond, refl, sym, ◌∙◌, ap, subst, arith}
 use Rattle.std.specs.Prelude.{slice_get, IfSome}
-use Rattle.label_tree.specs.Rose.{Rose, label_of, kids_of}
+use Rattle.label_tree.specs.Rose.{Rose, label_of, kids_of, height}
+use Rattle.label_tree.proofs.Roses.{height-positive}
 use Rattle.xa_base.specs.declared.texts.Name.{Name}
 use Rattle.xa_base.specs.Names.{name_eq}
 use Rattle.content_models.specs.Particle.{Particle, occurs, element, Particles, none, more}
 use Rattle.content_models.specs.Clear.{empties}
 use Rattle.content_spots.specs.Spots.{at, Inner, here, inside, over, or_else, first_kid, next_kid, may_repeat, may_stop, enter_order, finishes, finishes_order, next, next_order}
-use Rattle.content_match.specs.Private.Nearby.{LiesBehind, LiesBeside}
-use Rattle.content_match.specs.Private.Plans.{IsPlan, drop_all}
+use Rattle.content_match.specs.Private.Nearby.{IsNamedKid, LiesBehind, LiesBeside}
+use Rattle.content_match.specs.Private.Plans.{IsPlan, drop_all, is_leaf_of, is_kid_of}
 use Rattle.content_match.specs.Private.Seeking.{again_at}
-use Rattle.content_match.specs.Private.Standing.{IsLeaf, OnWay}
+use Rattle.content_match.specs.Private.Standing.{IsLeaf, OnWay, Entered}
 use Rattle.content_match.specs.declared.beside.Beside.{Beside}
 use Rattle.content_match.specs.declared.descent.Known.{Known}
 use Rattle.content_match.specs.declared.descent.Known.TheVariants.{Begins}
@@ -19,9 +20,12 @@ use Rattle.content_match.specs.declared.plans.PlanKind.{PlanKind}
 use Rattle.content_match.specs.declared.plans.PlanKind.TheVariants.{Leaf as PlanLeaf, Group as PlanGroup}
 use Rattle.content_match.specs.declared.plans.PlanLabel.{PlanLabel}
 use Rattle.content_match.specs.declared.places.Turn.{Turn}
+use Rattle.content_match.specs.declared.places.Leaf.{Leaf}
 use Rattle.content_match.proofs.Picking.{kid_at, number_at, shift, next_order_at}
-use Rattle.content_match.proofs.Planned.{OrderPlan, OnePlan, group_plan, leaf_plan, kid_plan, got_below}
+use Rattle.content_match.proofs.Planned.{OrderPlan, OnePlan, group_plan, leaf_plan, kid_plan, got_below, group_enters}
 use Rattle.content_match.proofs.Within.{step_in}
+use Rattle.content_match.proofs.Guessing.{guessed}
+use Rattle.content_match.proofs.Descending.{kid_lower, enter_leaf, enter_group_both}
 use Rattle.content_match.proofs.Onward.{both_no}
 
 -- ---- the same leaf once more
@@ -159,3 +163,24 @@ kid_on_way [] ks t h l = absurd (cc)
 kid_on_way (u ∷ []) ks t h l = absurd (cc)
 kid_on_way (u ∷ v ∷ us) [] t h l = absurd (let q = h.1.1 in cc)
 kid_on_way (u ∷ v ∷ us) (k ∷ ks) t h l = got_below (kids_of t) k h.1.1 h.1.2
+
+-- ---- the first leaf
+
+-- a particle with such a kid has two levels
+pub two_levels : (t : Rose PlanLabel) (k : ℕ) (a : Name) (leaf : Leaf) → IsNamedKid (kids_of t) k a leaf → 2 ≤ height t
+two_levels t k a leaf named = omega (arith, (kid_lower t k named.child named.there).0, height-positive named.child)
+
+pub enters_first : (l : PlanLabel) (t : Rose PlanLabel) (a : Name) (leaf : Leaf) (us mid new_us : List Turn) (ks new_ks : List ℕ) → l ≡ label_of t → IsNamedKid (kids_of t) 0 a leaf
+    → mid ≡ us ++ record { particle = l.number; turn = 0 } ∷ [] → new_us ≡ mid ++ record { particle = leaf.particle; turn = 0 } ∷ [] → new_ks ≡ ks ++ 0 ∷ []
+    → (n : ℕ) (p : Particle) → IsPlan n p t → Entered p t 0 a us new_us ks new_ks leaf
+enters_first l t a leaf us mid new_us ks new_ks same named mid_is us_is ks_is n p h =
+    let g = parent n 0 p t named.child h named.there in
+    let first : is_kid_of (slice_get (kids_of t) 0) a ≡ true = ap (λ o. is_kid_of o a) named.there ∙ ap (λ z. is_leaf_of z a) named.kind ∙ named.same in
+    let w = group_enters n p t g.0 0 a 0 h g.1 (guessed n p t g.0 0 a h g.1 (λ _. refl) first) in
+    let below = enter_leaf w.number w.kid named.child leaf.decl 0 named.own a mid (ks ++ 0 ∷ []) (w.plan named.child named.there) named.kind named.same in
+    let turns : mid ++ record { particle = (label_of named.child).number; turn = 0 } ∷ [] ≡ new_us = (λ i. mid ++ record { particle = sym named.number i; turn = 0 } ∷ []) ∙ sym us_is in
+    let same_leaf = subst (λ (z : Leaf). Entered w.kid named.child 0 a mid (mid ++ record { particle = (label_of named.child).number; turn = 0 } ∷ []) (ks ++ 0 ∷ []) (ks ++ 0 ∷ []) z)
+    (λ i. record { particle = sym named.number i; decl = leaf.decl }) below in
+    enter_group_both (Some leaf) p l t named.child 0 a 0 us mid new_us ks (ks ++ 0 ∷ []) new_ks same mid_is refl w named.there
+    (subst (λ z. Entered w.kid named.child 0 a mid z (ks ++ 0 ∷ []) new_ks leaf) turns
+    (subst (λ z. Entered w.kid named.child 0 a mid (mid ++ record { particle = (label_of named.child).number; turn = 0 } ∷ []) (ks ++ 0 ∷ []) z leaf) (sym ks_is) same_leaf))

@@ -1,11 +1,12 @@
 //! The next leaf where the last one is a kid of the top: mostly this kid once more, or the one behind it.
-ghost use Rattle.std.specs.Prelude.{◌≡◌, ℕ, ◌+◌, ◌-◌, ◌^◌, ◌<◌, MatchOption, IfSome, true, length};
-ghost use Rattle.label_tree.specs.Rose.{kids_of};
+ghost use Rattle.std.specs.Prelude.{◌≡◌, ℕ, ◌+◌, ◌-◌, ◌^◌, ◌<◌, ◌≤◌, MatchOption, IfSome, true, length, vec_len};
+ghost use Rattle.std.specs.Vec.{vec_capacity};
+ghost use Rattle.label_tree.specs.Rose.{height, kids_of};
 ghost use Rattle.content_models.specs.Particle.{Particle};
 ghost use Rattle.content_spots.specs.Laws.{step_from};
 ghost use Rattle.content_match.specs.Private.Nearby.{IsOrdered, IsNamedKid, LiesBeside, LiesBehind};
 ghost use Rattle.content_match.specs.Private.Plans.{IsPlan};
-ghost use Rattle.content_match.specs.Private.Standing.{Stands, AreWithin, OnWay, spot_now};
+ghost use Rattle.content_match.specs.Private.Standing.{Stands, AreWithin, Entered, OnWay, spot_now};
 
 use crate::places::{Leaf, Turn};
 use crate::plans::{PlanKind, PlanLabel};
@@ -140,6 +141,39 @@ pub(crate) fn go_beside(
             };
             kids[0] = beside.kid;
             Some(beside.leaf)
+        }
+    }
+}
+
+// Enters the top at its first kid, where that is a leaf of this name: the turns and the kid go behind those in the lists.
+#[inline(always)]
+pub(crate) fn enter_first(
+    plan: &Tree<PlanLabel>,
+    name: &Name,
+    turns: &mut Vec<Turn>,
+    kids: &mut Vec<u32>,
+) -> Option<Leaf>
+    requires turns { vec_len turns.old + height plan.now ≤ vec_capacity turns.old }
+    requires kids { vec_len kids.old + height plan.now ≤ vec_capacity kids.old }
+    ensures capacity { (vec_capacity turns.new ≡ vec_capacity turns.old) × (vec_capacity kids.new ≡ vec_capacity kids.old) }
+    ensures entered { MatchOption result
+        ((turns.new ≡ turns.old) × (kids.new ≡ kids.old))
+        (λ leaf. (n : ℕ) (p : Particle) → IsPlan n p plan.now
+        → Entered p plan.now 0 name.now turns.old.items turns.new.items kids.old.items kids.new.items leaf) }
+{
+    match named_kid(plan, 0, name) {
+        None => None,
+        Some(leaf) => {
+            turns.push_reserved(Turn {
+                particle: plan.label().number,
+                turn: 0,
+            });
+            turns.push_reserved(Turn {
+                particle: leaf.particle,
+                turn: 0,
+            });
+            kids.push_reserved(0);
+            Some(leaf)
         }
     }
 }
