@@ -1,5 +1,5 @@
 -- The leaf beside the last one, where that is a kid of the top.
-use Rattle.std.proofs.Common.{◌≡◌, ℕ, zero, suc, ◌+◌, ◌<◌, ◌⊎◌, inl, inr, List, [], ◌∷◌, ◌++◌, length, get_or, ◌≤◌, Option, Some, None, Bool, true, false, ◌&&◌, cond, refl, sym, ◌∙◌, ap, subst, arith}
+use Rattle.std.proofs.Common.{◌≡◌, ℕ, zero, suc, ◌+◌, ◌<◌, ◌⊎◌, inl, inr, List, [], ◌∷◌, ◌++◌, length, get_or, ◌≤◌, Option, Some, None, Bool, true, false, ◌&&◌, ◌||◌, not, cond, refl, sym, ◌∙◌, ap, subst, arith}
 use Rattle.std.specs.Prelude.{slice_get, IfSome}
 use Rattle.label_tree.specs.Rose.{Rose, label_of, kids_of, height}
 use Rattle.label_tree.proofs.Roses.{height-positive}
@@ -9,9 +9,9 @@ use Rattle.content_models.specs.Particle.{Particle, occurs, element, Particles, 
 use Rattle.content_models.specs.Clear.{empties}
 use Rattle.content_spots.specs.Spots.{at, Inner, here, inside, over, or_else, first_kid, next_kid, may_repeat, may_stop, enter_order, finishes, finishes_order, next, next_order}
 use Rattle.content_match.specs.Private.Nearby.{IsNamedKid, LiesBehind, LiesBeside}
-use Rattle.content_match.specs.Private.Plans.{IsPlan, drop_all, is_leaf_of, is_kid_of}
+use Rattle.content_match.specs.Private.Plans.{IsPlan, drop_all, ends_in, is_leaf_of, is_kid_of}
 use Rattle.content_match.specs.Private.Seeking.{again_at}
-use Rattle.content_match.specs.Private.Standing.{IsLeaf, OnWay, Entered}
+use Rattle.content_match.specs.Private.Standing.{IsLeaf, OnWay, Entered, spot_of}
 use Rattle.content_match.specs.declared.beside.Beside.{Beside}
 use Rattle.content_match.specs.declared.descent.Known.{Known}
 use Rattle.content_match.specs.declared.descent.Known.TheVariants.{Begins}
@@ -23,7 +23,7 @@ use Rattle.content_match.specs.declared.places.Turn.{Turn}
 use Rattle.content_match.specs.declared.places.Leaf.{Leaf}
 use Rattle.content_match.proofs.Picking.{kid_at, number_at, shift, next_order_at}
 use Rattle.content_match.proofs.Planned.{OrderPlan, OnePlan, group_plan, leaf_plan, kid_plan, got_below, group_enters}
-use Rattle.content_match.proofs.Within.{step_in}
+use Rattle.content_match.proofs.Within.{step_in, leaf_done, group_done}
 use Rattle.content_match.proofs.Guessing.{guessed}
 use Rattle.content_match.proofs.Descending.{kid_lower, enter_leaf, enter_group_both}
 use Rattle.content_match.proofs.Onward.{both_no}
@@ -184,3 +184,32 @@ enters_first l t a leaf us mid new_us ks new_ks same named mid_is us_is ks_is n 
     enter_group_both (Some leaf) p l t named.child 0 a 0 us mid new_us ks (ks ++ 0 ∷ []) new_ks same mid_is refl w named.there
     (subst (λ z. Entered w.kid named.child 0 a mid z (ks ++ 0 ∷ []) new_ks leaf) turns
     (subst (λ z. Entered w.kid named.child 0 a mid (mid ++ record { particle = (label_of named.child).number; turn = 0 } ∷ []) (ks ++ 0 ∷ []) z leaf) (sym ks_is) same_leaf))
+
+-- ---- the end
+
+leaf_kind : (kind : PlanKind) (decl : ℕ) → IsLeaf kind decl → (d : ℕ) × (own : Name) × (kind ≡ PlanLeaf d own)
+leaf_kind (PlanLeaf d own) decl h = (d, own, refl)
+leaf_kind (PlanGroup g) decl h = absurd h
+
+pub done_beside : (us : List Turn) (ks : List ℕ) (t : Rose PlanLabel) (g : Group) (done closed stop : Bool) → OnWay us ks t → length us ≡ 2 → (label_of t).kind ≡ PlanGroup g
+    → ((child : Rose PlanLabel) → slice_get (kids_of t) (get_or ks 0 0) ≡ Some child → done ≡ may_stop (label_of child).min (get_or us 1 (record { particle = 0; turn = 0 })).turn)
+    → closed ≡ (done && (not g.ordered || ends_in g (get_or ks 0 0))) → stop ≡ may_stop (label_of t).min (get_or us 0 (record { particle = 0; turn = 0 })).turn
+    → (n : ℕ) (p : Particle) → IsPlan n p t → (closed && stop) ≡ finishes p (spot_of us ks)
+done_beside [] ks t g done closed stop way l e done_is closed_is stop_is n p h = absurd (cc)
+done_beside (u ∷ []) ks t g done closed stop way l e done_is closed_is stop_is n p h = absurd (cc)
+done_beside (u ∷ v ∷ []) [] t g done closed stop way l e done_is closed_is stop_is n p h = absurd (let q = way.1.1 in cc)
+done_beside (u ∷ v ∷ []) (k ∷ []) t g done closed stop way l e done_is closed_is stop_is n p h =
+    let child = way.1.1 in
+    let there = way.1.2 in
+    let leaf = leaf_kind (label_of child).kind way.0.decl way.1.3.3 in
+    group_done n p t g u.turn k (at v.turn here) child done closed stop h e there
+    (λ m q plan. done_is child there ∙ leaf_done m q child leaf.0 leaf.1 (v ∷ []) [] way.0 v.turn plan leaf.2 way.1.3 (λ w ws f. ap (λ (zs : List Turn). (get_or zs 0 v).turn) (sym f)))
+    closed_is stop_is
+done_beside (u ∷ v ∷ []) (k ∷ j ∷ js) t g done closed stop way l e done_is closed_is stop_is n p h = absurd way.1.3.3
+done_beside (u ∷ v ∷ w ∷ us) ks t g done closed stop way l e done_is closed_is stop_is n p h = absurd (cc)
+
+pub no_leaf : (us : List Turn) (ks : List ℕ) (t : Rose PlanLabel) (d : ℕ) (own : Name) → OnWay us ks t → length us ≡ 2 → (label_of t).kind ≡ PlanLeaf d own → (n : ℕ) (p : Particle) → IsPlan n p t → ⊥
+no_leaf [] ks t d own way l e n p h = cc
+no_leaf (u ∷ []) ks t d own way l e n p h = cc
+no_leaf (u ∷ v ∷ us) [] t d own way l e n p h = let q = way.1.1 in cc
+no_leaf (u ∷ v ∷ us) (k ∷ ks) t d own way l e n p h = let g = parent n k p t way.1.1 h way.1.2 in let q = g.1 in cc
