@@ -1,3 +1,4 @@
+pub mod Beside
 pub mod Filling
 pub mod Inverting
 pub mod Kids

@@ -1,5 +1,5 @@
 //! Which form the part for a particle has, and whether it may be empty.
-ghost use Rattle.std.specs.Prelude.{◌≡◌};
+ghost use Rattle.std.specs.Prelude.{◌≡◌, ◌&&◌, false};
 ghost use Rattle.label_tree.specs.Rose.{roses_of};
 ghost use Rattle.content_models.specs.Clear.{empties, all_empty, any_empty};
 ghost use Rattle.content_models.specs.Particle.{Particles};
@@ -40,6 +40,14 @@ pub(crate) fn is_single(label: &ParticleLabel, in_choice: bool) -> bool
         return false;
     }
     is_optional(label)
+}
+
+// Whether two particles of a sequence are both single.
+#[inline(always)]
+pub(crate) fn are_single(first: &ParticleLabel, second: &ParticleLabel) -> bool
+    ensures { result ≡ bounds.is_single false first.now.min first.now.max && bounds.is_single false second.now.min second.now.max }
+{
+    is_single(first, false) && is_single(second, false)
 }
 
 // Whether the particles of a top particle are parts by themselves: it is a sequence that stands once, or an all.

@@ -1,5 +1,5 @@
 //! From one leaf of a particle to the next.
-ghost use Rattle.std.specs.Prelude.{◌≡◌, ◌^◌, ◌<◌, Some, OnOk};
+ghost use Rattle.std.specs.Prelude.{◌≡◌, ◌^◌, ◌<◌, length, Some, OnOk};
 ghost use Rattle.label_tree.specs.Rose.{node_count, count_all, roses_of};
 ghost use Rattle.xa_base.specs.declared.texts.Name.{Name};
 ghost use Rattle.content_models.specs.Seen.{seen, all_seen};
@@ -12,11 +12,56 @@ ghost use Rattle.content_values.specs.Private.Moves.{inner_in, moved, moved_term
 use crate::emptying::put_empty_parts;
 use crate::ending::{end, end_term};
 use crate::entering::{enter, enter_term};
+use crate::kinds::are_single;
 use crate::paths::{Lower, Path, below, turn_of};
 use content_models::{ParticleKind, ParticleLabel};
 use label_tree::Tree;
 use value_builder::ValueBuilder;
 use xa_base::Memory;
+
+// It is among the parts of a content model. Most often both leaves are parts themselves, and neither is in a group of its own.
+#[inline(always)]
+pub(crate) fn step_parts(
+    particles: &[Tree<ParticleLabel>],
+    from: Path<'_>,
+    to: Path<'_>,
+    values: &mut ValueBuilder,
+) -> Result<(), Memory>
+    requires few { count_all (roses_of particles.now) < 2 ^ 31 }
+    requires leads { (a : Name) × (spots.next_order (all_seen (roses_of particles.now)) (inner_in (spot_of from.turns.now from.kids.now)) a ≡ Some (inner_in (spot_of to.turns.now to.kids.now))) }
+    ensures { OnOk result (Puts (moved_order (all_seen (roses_of particles.now)) (inner_in (spot_of from.entry.turns.now from.entry.kids.now)) (inner_in (spot_of to.entry.turns.now to.entry.kids.now))) values.old values.new) }
+{
+    if from.kids.len() == 1 && to.kids.len() == 1 {
+        step_beside(particles, from, to, values)
+    } else {
+        step_order(particles, from, to, values)
+    }
+}
+
+// Both leaves are particles of a sequence themselves: nothing is put for the same one again, and a flag alone from one that is
+// single to the next, which is single too.
+#[inline(always)]
+fn step_beside(
+    particles: &[Tree<ParticleLabel>],
+    from: Path<'_>,
+    to: Path<'_>,
+    values: &mut ValueBuilder,
+) -> Result<(), Memory>
+    requires few { count_all (roses_of particles.now) < 2 ^ 31 }
+    requires leads { (a : Name) × (spots.next_order (all_seen (roses_of particles.now)) (inner_in (spot_of from.turns.now from.kids.now)) a ≡ Some (inner_in (spot_of to.turns.now to.kids.now))) }
+    requires beside { (length from.kids.now ≡ 1) × (length to.kids.now ≡ 1) }
+    ensures { OnOk result (Puts (moved_order (all_seen (roses_of particles.now)) (inner_in (spot_of from.entry.turns.now from.entry.kids.now)) (inner_in (spot_of to.entry.turns.now to.entry.kids.now))) values.old values.new) }
+{
+    let old = from.kids[0] as usize;
+    let new = to.kids[0] as usize;
+    if old == new {
+        return Ok(());
+    }
+    if new - old == 1 && are_single(particles[old].label(), particles[new].label()) {
+        return values.part(true);
+    }
+    step_order(particles, from, to, values)
+}
 
 // The next leaf is in the same particle.
 #[cycle(moving)]

@@ -21,7 +21,7 @@ use crate::emptying::{put_empty_part, put_empty_parts};
 use crate::ending::{end, end_order};
 use crate::entering::{enter, enter_order};
 use crate::kinds::is_parted;
-use crate::moving::{step, step_order};
+use crate::moving::{step, step_parts};
 use crate::paths::Path;
 use content_models::{Particle, ParticleLabel};
 use label_tree::Tree;
@@ -30,6 +30,7 @@ use xa_base::Memory;
 
 /// The next leaf of the content model comes behind the child elements so far: the way to it is opened, and its element can be
 /// put down.
+#[inline(always)]
 pub fn put_step(
     model: &Particle,
     from: Path<'_>,
@@ -88,6 +89,7 @@ fn put_first(
 }
 
 // From a leaf to the next.
+#[inline(always)]
 fn put_next(
     top: &Tree<ParticleLabel>,
     from: Path<'_>,
@@ -103,7 +105,7 @@ fn put_next(
         return Ok(());
     }
     if is_parted(top.label()) {
-        step_order(top.kids(), from, to, values)
+        step_parts(top.kids(), from, to, values)
     } else {
         step(top, from, to, values)
     }

@@ -8,14 +8,14 @@ use Rattle.content_values.proofs.Kids.{kids_seen, on-ok}
 use Rattle.content_values.proofs.Tops.{parted-known, parted-term, parted-moves, parted-moved, whole-moved}
 use Rattle.content_values.proofs.placing.put_next.Goals as goal
 
-pub step_order-requires-clause-few : goal.step_order-requires-clause-few
-step_order-requires-clause-few c =
+pub step_parts-requires-clause-few : goal.step_parts-requires-clause-few
+step_parts-requires-clause-few c =
     let few = c.requires.few in
     let k = node_count-kids c.args.top.now in
     rw c.kids.ensures (omega (arith, few, k))
 
-pub step_order-requires-clause-leads : goal.step_order-requires-clause-leads
-step_order-requires-clause-leads c =
+pub step_parts-requires-clause-leads : goal.step_parts-requires-clause-leads
+step_parts-requires-clause-leads c =
     let top = c.args.top.now in
     let kids = c.kids.result.now in
     let once = parted-known top c.label.result.now true c.label.ensures (λ ps. sym c.if-is_parted.true ∙ c.is_parted.ensures ps) in
@@ -32,8 +32,8 @@ returns-then-is_parted c =
     let u = spot_of c.args.to.turns.now c.args.to.kids.now in
     let once = parted-known top c.label.result.now true c.label.ensures (λ ps. sym c.if-is_parted.true ∙ c.is_parted.ensures ps) in
     let is = parted-term top kids c.kids.ensures c.requires.no_all once in
-    on-ok c.step_order.result _ _
-    (λ put. puts-as (moved_order (kids_seen kids) (inner_in s) (inner_in u)) (top_moved (seen top) s u) _ _ (λ z. parted-moved top (kids_seen kids) is once s u z) put) c.step_order.ensures
+    on-ok c.step_parts.result _ _
+    (λ put. puts-as (moved_order (kids_seen kids) (inner_in s) (inner_in u)) (top_moved (seen top) s u) _ _ (λ z. parted-moved top (kids_seen kids) is once s u z) put) c.step_parts.ensures
 
 pub returns-else-is_parted : goal.returns-else-is_parted
 returns-else-is_parted c =
