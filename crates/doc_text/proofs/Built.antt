@@ -192,7 +192,7 @@ empty_takes old mid new name attributes declares tag at all count scoped enters 
 closing_kids : (b : Builder) → string_bytes b.text ≡ [] → kids_of_state (state b) ≡ b.items.zip.kids
 closing_kids b e = rw e refl
 
-last_of : (names : List (Bor (List ℕ))) → 0 < length names → (written : Bor (List ℕ)) × (names ≡ take (length names - 1) names ++ written ∷ [])
+pub last_of : (names : List (Bor (List ℕ))) → 0 < length names → (written : Bor (List ℕ)) × (names ≡ take (length names - 1) names ++ written ∷ [])
 last_of [] some = absurd (omega (arith, some))
 last_of (name ∷ []) some = (name, refl)
 last_of (name ∷ next ∷ names) some =

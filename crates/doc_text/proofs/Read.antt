@@ -17,7 +17,7 @@ use Rattle.xa_base.specs.Limits.{is_empty}
 use Rattle.doc_text.specs.Documents.{why_of, BrokenAt, DocOf, Refuses}
 use Rattle.doc_text.specs.Private.States.{State, context, open_of, added}
 use Rattle.doc_text.specs.Private.Entering.{Stopped}
-use Rattle.doc_text.specs.Private.Building.{state, node_of, Scoped, Takes, HasRead}
+use Rattle.doc_text.specs.Private.Building.{state, node_of, Scoped, Takes, TakesFirst, HasRead}
 use Rattle.doc_text.proofs.Telling.{is_empty-map}
 use Rattle.doc_text.proofs.Known.{laws}
 use Rattle.doc_text.proofs.Reaching.{place_of, stops, stops_where_none, is_unfinished}
@@ -42,6 +42,17 @@ gets_shorter bytes rest behind s p stands e = shorter laws p rest behind e
 pub steps_on : (bytes rest behind : List ℕ) (old new : Builder) (p : Piece) (at : ℕ) → Stands bytes rest (state old) → at ≡ place_of bytes rest → Begins p rest behind → Takes p at old new → Stands bytes behind (state new)
 steps_on bytes rest behind old new p at stands at_is e takes =
     subst (Stands bytes behind) (sym takes.steps) (stands_on laws bytes rest behind (state old) p at stands at_is e takes.none)
+
+-- nothing has been taken
+pub stands_still : (bytes rest : List ℕ) (old new : Builder) → Stands bytes rest (state old) → new ≡ old → Stands bytes rest (state new)
+stands_still bytes rest old new stands same = subst (λ (b : Builder). Stands bytes rest (state b)) (sym same) stands
+
+pub scoped_still : (old new : Builder) → Scoped old → new ≡ old → Scoped new
+scoped_still old new scoped same = subst Scoped (sym same) scoped
+
+-- a tag, taken as one before
+pub first_on : (bytes rest behind : List ℕ) (old new : Builder) (at : ℕ) → Stands bytes rest (state old) → at ≡ place_of bytes rest → TakesFirst rest behind at old new → Stands bytes behind (state new)
+first_on bytes rest behind old new at stands at_is t = steps_on bytes rest behind old new t.piece at stands at_is t.begins t.takes
 
 -- plain characters, taken at once
 pub takes_plain : (bytes rest text behind : List ℕ) (old new : Builder) (n at : ℕ) → Stands bytes rest (state old) → at ≡ place_of bytes rest → 0 < n → n ≤ length rest → is_outside (context (state old)) ≡ false → IsPlainRun (take n rest) → text ≡ take n rest → behind ≡ drop n rest

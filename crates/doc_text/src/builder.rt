@@ -1,5 +1,5 @@
 //! What a reader has so far, and its step at each piece.
-ghost use Rattle.std.specs.Prelude.{if◌then◌else◌, cond, not, true, false, string_bytes, nat_le, encode_utf8, ◌≡◌, ◌==◌, ◌<◌, ◌≤◌, ◌&&◌, ◌∷◌, [], reverse, take, IfOk, IfErr, IsUtf8, OnOk, length};
+ghost use Rattle.std.specs.Prelude.{if◌then◌else◌, cond, not, true, false, string_bytes, nat_le, encode_utf8, ◌≡◌, ◌==◌, ◌<◌, ◌≤◌, ◌&&◌, ◌∷◌, [], reverse, take, IfOk, IfErr, IfSome, IsUtf8, MatchOption, OnOk, length, ℕ};
 ghost use Rattle.xa_base.specs.WhiteSpace.{is_white_space};
 ghost use Rattle.xa_base.specs.Limits.{is_empty};
 ghost use Rattle.doc_pieces.specs.Pieces as pieces;
@@ -12,10 +12,10 @@ ghost use Rattle.doc_text.specs.Private.States.{context, nothing, added, passed}
 ghost use Rattle.doc_text.specs.Private.Entering.{Stopped, have_utf8};
 ghost use Rattle.doc_text.specs.declared.error.DocWhy.TheVariants as why;
 ghost use Rattle.doc_text.specs.Private.Noting.{KnownAs, bare};
-ghost use Rattle.doc_text.specs.Private.Building.{state, Scoped, Takes, Begins, Flushed, Shuts, Kept, GivesUtf8};
+ghost use Rattle.doc_text.specs.Private.Building.{state, Scoped, Takes, TakesFirst, EndsInnermost, Begins, Flushed, Shuts, Kept, GivesUtf8};
 
 use crate::error::{DocError, DocWhy};
-use crate::names::is_long;
+use crate::names::{is_long, past_slash, past_tag};
 use crate::notes::Notes;
 use crate::scope::BindingsInScope;
 use crate::tags::{enter, first_of_place, is_unbound, value_of};
@@ -273,6 +273,44 @@ impl<'a> Builder<'a> {
         self.flush()?;
         self.close();
         Ok(())
+    }
+
+    // What is behind the end tag of the innermost element, where its name and a `>` stand behind `</`.
+    #[inline(always)]
+    fn past_end<'b>(&self, written: &'b [u8]) -> Option<&'b [u8]>
+        ensures { IfSome result (λ behind. EndsInnermost written.now behind.now (context (state self.now))) }
+    {
+        match self.open.last() {
+            Some(innermost) => past_tag(innermost, written),
+            None => None,
+        }
+    }
+
+    // Takes the end tag of the innermost element, if that stands first and has no white space. What is behind it, or
+    // nothing.
+    #[inline(always)]
+    fn take_end(&mut self, rest: &'a [u8]) -> Result<Option<&'a [u8]>, Memory>
+        requires { Scoped self.old }
+        ensures { IfOk result (λ found. MatchOption found (self.new ≡ self.old) (λ behind. (at : ℕ) → TakesFirst rest.now behind.now at self.old self.new)) }
+    {
+        let Some(written) = past_slash(rest) else {
+            return Ok(None);
+        };
+        let Some(behind) = self.past_end(written) else {
+            return Ok(None);
+        };
+        self.flush()?;
+        self.close();
+        Ok(Some(behind))
+    }
+
+    // Takes what stands first, if it is a tag that is as one before. What is behind it, or nothing.
+    #[inline(always)]
+    pub(crate) fn take_known(&mut self, rest: &'a [u8], at: u64) -> Result<Option<&'a [u8]>, Memory>
+        requires { Scoped self.old }
+        ensures { IfOk result (λ found. MatchOption found (self.new ≡ self.old) (λ behind. TakesFirst rest.now behind.now at self.old self.new)) }
+    {
+        self.take_end(rest)
     }
 
     // How many bytes of plain characters stand first, where an element is open.

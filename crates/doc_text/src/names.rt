@@ -1,5 +1,5 @@
 //! What stands against names as written, and what they bind.
-ghost use Rattle.std.specs.Prelude.{◌≡◌, IsTrue};
+ghost use Rattle.std.specs.Prelude.{◌≡◌, ◌∷◌, ◌++◌, IsTrue, IfSome};
 ghost use Rattle.doc_text.specs.Private.Entering.{IsPlain};
 ghost use Rattle.doc_text.specs.Namespaces as names;
 
@@ -56,4 +56,37 @@ pub(crate) fn is_reserved(prefix: &[u8], space: &[u8]) -> bool
         || space == XMLNS_SPACE.as_bytes()
         || is_xml != is_xml_space
         || (space.is_empty() && !prefix.is_empty())
+}
+
+// What is behind `</`, if that stands first.
+#[inline(always)]
+pub(crate) fn past_slash(bytes: &[u8]) -> Option<&[u8]>
+    ensures { IfSome result (λ behind. bytes.now ≡ 0x3C ∷ 0x2F ∷ behind.now) }
+{
+    match bytes {
+        [b'<', b'/', behind @ ..] => Some(behind),
+        _ => None,
+    }
+}
+
+// What is behind this name and a `>`, if they stand first.
+#[inline(always)]
+pub(crate) fn past_tag<'a>(name: &[u8], bytes: &'a [u8]) -> Option<&'a [u8]>
+    ensures { IfSome result (λ behind. bytes.now ≡ name.now ++ 0x3E ∷ behind.now) }
+{
+    if bytes.len() <= name.len() {
+        return None;
+    }
+    let mut at = 0;
+    'bytes: while at < name.len() {
+        if bytes[at] != name[at] {
+            return None;
+        }
+        at += 1;
+    }
+    if bytes[at] == b'>' {
+        Some(&bytes[at + 1..])
+    } else {
+        None
+    }
 }

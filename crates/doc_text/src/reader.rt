@@ -62,6 +62,10 @@ fn read_pieces<'a>(
     let mut rest = skip_mark(bytes);
     'pieces: while !rest.is_empty() {
         let at = (bytes.len() - rest.len()) as u64;
+        if let Some(behind) = builder.take_known(rest, at)? {
+            rest = behind;
+            continue;
+        }
         let plain = builder.plain_len(rest);
         if plain > 0 {
             let (text, behind) = rest.split_at(plain);

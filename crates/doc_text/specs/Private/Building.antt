@@ -5,6 +5,7 @@ use Rattle.xa_base.specs.declared.texts.Name.{Name}
 use Rattle.xa_base.specs.Namespaces.{xml_prefix, xml_space}
 use Rattle.label_tree.specs.Rose.{Rose}
 use Rattle.flat_tree.specs.Zips as zips
+use Rattle.doc_pieces.specs.Pieces as pieces
 use Rattle.doc_pieces.specs.Pieces.{Piece, Declaration, Start, Empty, End, Comment, Instruction, CData, Reference, Character}
 use Rattle.item_tree.specs.declared.label.ItemLabel.{ItemLabel}
 use Rattle.item_tree.specs.declared.label.ItemLabel.TheVariants.{Element, Text}
@@ -12,7 +13,7 @@ use Rattle.doc_text.specs.declared.builder.Builder.{Builder}
 use Rattle.std.specs.List.{flat_map}
 use Rattle.item_tree.specs.Labels.{item_place}
 use Rattle.doc_text.specs.Sound.{AreItems}
-use Rattle.doc_text.specs.Contexts.{Open, scope, reason}
+use Rattle.doc_text.specs.Contexts.{Open, Context, is_innermost, scope, reason}
 use Rattle.doc_text.specs.Documents.{DocOf}
 use Rattle.doc_text.specs.Private.Entering.{have_utf8, IsNamed}
 use Rattle.doc_text.specs.Private.Noting.{AllKnown}
@@ -93,6 +94,18 @@ pub record Takes (p : Piece) (at : ℕ) (old new : Builder) : Type 0 where
   pub none : reason p (context (state old)) ≡ None
   pub steps : state new ≡ step p at (state old)
   pub scoped : Scoped new
+
+-- a piece stands first, with this behind it, nothing speaks against it, and the reader has taken its step
+pub record TakesFirst (rest behind : List ℕ) (at : ℕ) (old new : Builder) : Type 0 where
+  pub piece : Piece
+  pub begins : pieces.Begins piece rest behind
+  pub takes : Takes piece at old new
+
+-- the name of the innermost element and a `>` stand first, with this behind them
+pub record EndsInnermost (written behind : List ℕ) (c : Context) : Type 0 where
+  pub name : List ℕ
+  pub innermost : is_innermost name c.elements ≡ true
+  pub parts : written ≡ name ++ 0x3E ∷ behind
 
 -- nothing has been read
 pub record Begins (b : Builder) : Type 0 where

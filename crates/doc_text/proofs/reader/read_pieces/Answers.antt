@@ -5,10 +5,11 @@ use Rattle.doc_text.proofs.Utf8.{gives_utf8}
 use Rattle.doc_pieces.specs.Found.{seen}
 use Rattle.doc_pieces.specs.Pieces.{Begins, NoPieceAt}
 use Rattle.doc_text.specs.Private.States.{State}
-use Rattle.doc_text.specs.Private.Building.{state}
+use Rattle.doc_text.specs.Private.Building.{state, TakesFirst}
+use Rattle.doc_text.proofs.Reaching.{place_of}
 use Rattle.doc_text.proofs.Going.{Stands, stands_first}
 use Rattle.doc_text.proofs.Built.{add_scoped}
-use Rattle.doc_text.proofs.Read.{at_none, at_fault, steps_on, gets_shorter, takes_plain, whole_read, unfinished}
+use Rattle.doc_text.proofs.Read.{at_none, at_fault, steps_on, gets_shorter, stands_still, scoped_still, first_on, takes_plain, whole_read, unfinished}
 use Rattle.doc_text.proofs.reader.read_pieces.Goals as goal
 
 pub pieces-init : goal.pieces-init
@@ -17,26 +18,29 @@ pieces-init c = record {
   scoped = c.requires.begins.scoped;
 }
 
-pub returns-in_default-clause-err : goal.returns-in_default-clause-err
-returns-in_default-clause-err c =
+pub returns-in_default-2-clause-err : goal.returns-in_default-2-clause-err
+returns-in_default-2-clause-err c =
+    let stands = stands_still c.args.bytes.now c.pieces.rest.now c.pieces.builder c.take_known.new.self c.pieces.invariant.stands (search rules) in
     let e : NoPieceAt c.pieces.rest.now = search rules in
-    at_none c.args.bytes.now c.pieces.rest.now c.pieces.builder _ _ _ c.pieces.invariant.stands (search rules) e c.why_none-cause.ensures refl c.why.ensures
+    at_none c.args.bytes.now c.pieces.rest.now c.take_known.new.self _ _ _ stands (search rules) e c.why_none-cause.ensures refl c.why.ensures
 
 pub returns-in-Err-clause-err : goal.returns-in-Err-clause-err
 returns-in-Err-clause-err c =
-    let e : Begins (seen c.in-Some.found) c.pieces.rest.now c.in-Some.behind.now = search rules in
-    at_fault c.args.bytes.now c.pieces.rest.now c.in-Some.behind.now c.pieces.builder (seen c.in-Some.found) _ c.in-Err.error c.pieces.invariant.stands (search rules) refl e c.in-Err.ensures.err
+    let stands = stands_still c.args.bytes.now c.pieces.rest.now c.pieces.builder c.take_known.new.self c.pieces.invariant.stands (search rules) in
+    let e : Begins (seen c.in-Some-2.found) c.pieces.rest.now c.in-Some-2.behind.now = search rules in
+    at_fault c.args.bytes.now c.pieces.rest.now c.in-Some-2.behind.now c.take_known.new.self (seen c.in-Some-2.found) _ c.in-Err.error stands (search rules) refl e c.in-Err.ensures.err
 
 pub pieces-smaller : goal.pieces-smaller
 pieces-smaller c =
-    let e : Begins (seen c.in-Some.found) c.pieces.rest.now c.in-Some.behind.now = search rules in
-    gets_shorter c.args.bytes.now c.pieces.rest.now c.in-Some.behind.now (state c.pieces.builder) (seen c.in-Some.found) c.pieces.invariant.stands e
+    let e : Begins (seen c.in-Some-2.found) c.pieces.rest.now c.in-Some-2.behind.now = search rules in
+    gets_shorter c.args.bytes.now c.pieces.rest.now c.in-Some-2.behind.now (state c.pieces.builder) (seen c.in-Some-2.found) c.pieces.invariant.stands e
 
 pub pieces-preserved : goal.pieces-preserved
 pieces-preserved c =
-    let e : Begins (seen c.in-Some.found) c.pieces.rest.now c.in-Some.behind.now = search rules in
+    let stands = stands_still c.args.bytes.now c.pieces.rest.now c.pieces.builder c.take_known.new.self c.pieces.invariant.stands (search rules) in
+    let e : Begins (seen c.in-Some-2.found) c.pieces.rest.now c.in-Some-2.behind.now = search rules in
     record {
-      stands = steps_on c.args.bytes.now c.pieces.rest.now c.in-Some.behind.now c.pieces.builder c.take.new.self (seen c.in-Some.found) _ c.pieces.invariant.stands refl e c.in-Ok.ensures.ok;
+      stands = steps_on c.args.bytes.now c.pieces.rest.now c.in-Some-2.behind.now c.take_known.new.self c.take.new.self (seen c.in-Some-2.found) _ stands refl e c.in-Ok.ensures.ok;
       scoped = c.in-Ok.ensures.ok.scoped;
     }
 
@@ -48,17 +52,32 @@ utf8_text-requires c =
 
 pub take-requires-clause-utf8 : goal.take-requires-clause-utf8
 take-requires-clause-utf8 c =
-    let e : Begins (seen c.in-Some.found) c.pieces.rest.now c.in-Some.behind.now = search rules in
-    gives_utf8 (seen c.in-Some.found) (laws.fine (seen c.in-Some.found) c.pieces.rest.now c.in-Some.behind.now c.pieces.invariant.stands.rest_utf8 e)
+    let e : Begins (seen c.in-Some-2.found) c.pieces.rest.now c.in-Some-2.behind.now = search rules in
+    gives_utf8 (seen c.in-Some-2.found) (laws.fine (seen c.in-Some-2.found) c.pieces.rest.now c.in-Some-2.behind.now c.pieces.invariant.stands.rest_utf8 e)
 
 pub pieces-preserved-then-plain-gt0 : goal.pieces-preserved-then-plain-gt0
-pieces-preserved-then-plain-gt0 c = record {
-  stands = takes_plain c.args.bytes.now c.pieces.rest.now c.utf8_text.result.now c.split_at.result.1.now c.pieces.builder c.add.new.self c.plain_len-plain.result _ c.pieces.invariant.stands refl (search rules) (search rules) (search rules) (search rules) (search rules) (search rules) (search rules);
-  scoped = add_scoped c.pieces.builder c.add.new.self c.utf8_text.result.now _ 0 c.pieces.invariant.scoped c.in_ok-add.ensures.state c.in_ok-add.ensures.kept;
-}
+pieces-preserved-then-plain-gt0 c =
+    let stands = stands_still c.args.bytes.now c.pieces.rest.now c.pieces.builder c.take_known.new.self c.pieces.invariant.stands (search rules) in
+    record {
+      stands = takes_plain c.args.bytes.now c.pieces.rest.now c.utf8_text.result.now c.split_at.result.1.now c.take_known.new.self c.add.new.self c.plain_len-plain.result _ stands refl (search rules) (search rules) (search rules) (search rules) (search rules) (search rules) (search rules);
+      scoped = add_scoped c.take_known.new.self c.add.new.self c.utf8_text.result.now _ 0 (scoped_still c.pieces.builder c.take_known.new.self c.pieces.invariant.scoped (search rules)) c.in_ok-add.ensures.state c.in_ok-add.ensures.kept;
+    }
 
 pub returns-clause-ok : goal.returns-clause-ok
 returns-clause-ok c = whole_read c.args.bytes.now c.pieces.rest.now c.pieces.builder c.requires.short c.pieces.invariant.stands c.pieces.invariant.scoped (search rules) (search rules)
 
 pub returns-then-not-builder-clause-err : goal.returns-then-not-builder-clause-err
 returns-then-not-builder-clause-err c = unfinished c.args.bytes.now c.pieces.rest.now c.pieces.builder _ c.pieces.invariant.stands (search rules) refl (search rules)
+
+pub pieces-preserved-in-Some : goal.pieces-preserved-in-Some
+pieces-preserved-in-Some c =
+    let taken : TakesFirst c.pieces.rest.now c.in-Some.behind.now (place_of c.args.bytes.now c.pieces.rest.now) c.pieces.builder c.take_known.new.self = search rules in
+    record {
+      stands = first_on c.args.bytes.now c.pieces.rest.now c.in-Some.behind.now c.pieces.builder c.take_known.new.self _ c.pieces.invariant.stands refl taken;
+      scoped = taken.takes.scoped;
+    }
+
+pub pieces-smaller-in-Some : goal.pieces-smaller-in-Some
+pieces-smaller-in-Some c =
+    let taken : TakesFirst c.pieces.rest.now c.in-Some.behind.now (place_of c.args.bytes.now c.pieces.rest.now) c.pieces.builder c.take_known.new.self = search rules in
+    gets_shorter c.args.bytes.now c.pieces.rest.now c.in-Some.behind.now (state c.pieces.builder) taken.piece c.pieces.invariant.stands taken.begins

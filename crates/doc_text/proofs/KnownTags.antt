@@ -1,0 +1,64 @@
+-- Tags that are taken by names as they were written before.
+use Rattle.std.proofs.Common.{◌≡◌, ℕ, ◌-◌, ◌<◌, Bool, true, false, List, [], ◌∷◌, ◌++◌, length, map, take, Option, None, Some, refl, sym, ap, subst, ◌∙◌, arith}
+use Rattle.std.specs.Prelude.{reverse, not, slice_get, IfSome}
+use Rattle.std.specs.Borrow.{Bor}
+use Rattle.std.proofs.Math.Seq.{get_or-append_seam}
+use Rattle.std.proofs.lemmas.List.{length-take-le}
+use Rattle.std.proofs.lemmas.Option.{slice_get_within, get_or_from_slice_get}
+use Rattle.std.proofs.lemmas.Slice.Eq.{bytes_eq-Decides}
+use Rattle.flat_tree.specs.Zips as zips
+use Rattle.doc_pieces.specs.Pieces.{End}
+use Rattle.item_tree.specs.declared.label.ItemLabel.{ItemLabel}
+use Rattle.doc_text.specs.declared.builder.Builder.{Builder}
+use Rattle.doc_pieces.specs.QNames.{is_qname}
+use Rattle.doc_text.specs.Contexts.{Context, is_innermost, scope, reason, end_tests}
+use Rattle.doc_text.specs.Private.States.{context, open_of}
+use Rattle.doc_text.specs.Private.Building.{aboves, state, Scoped, TakesFirst, EndsInnermost, Flushed, Shuts}
+use Rattle.doc_text.proofs.Telling.{passed}
+use Rattle.doc_text.proofs.Built.{aboves-push, last_of, end_stops, ends_open, end_takes}
+use Rattle.doc_text.proofs.TagPieces.{end_begins}
+
+-- ---- the name of the innermost element
+
+innermost_by : (front : List (Bor (List ℕ))) (x w : Bor (List ℕ)) (up : List (zips.Above ItemLabel)) → slice_get (front ++ x ∷ []) (length front) ≡ Some w → is_innermost w.now (map open_of (aboves (reverse (front ++ x ∷ [])) up)) ≡ true
+innermost_by front x w up e =
+    let same : x ≡ w = sym (get_or-append_seam front x [] w) ∙ get_or_from_slice_get (front ++ x ∷ []) (length front) w w e in
+    rw (aboves-push front x up, same) ((bytes_eq-Decides w.now w.now).1 refl)
+
+innermost_of : (names : List (Bor (List ℕ))) (w : Bor (List ℕ)) (up : List (zips.Above ItemLabel)) → slice_get names (length names - 1) ≡ Some w → is_innermost w.now (map open_of (aboves (reverse names) up)) ≡ true
+innermost_of names w up e =
+    let some : length names - 1 < length names = slice_get_within names (length names - 1) w e in
+    let last = last_of names (omega (arith, some)) in
+    let front = take (length names - 1) names in
+    let count : length names - 1 ≡ length front = sym (length-take-le (length names - 1) names (omega arith)) in
+    let here : slice_get (front ++ last.0 ∷ []) (length front) ≡ Some w = subst (λ (n : ℕ). slice_get (front ++ last.0 ∷ []) n ≡ Some w) count (subst (λ (ns : List (Bor (List ℕ))). slice_get ns (length names - 1) ≡ Some w) last.1 e) in
+    subst (λ (ns : List (Bor (List ℕ))). is_innermost w.now (map open_of (aboves (reverse ns) up)) ≡ true) (sym last.1) (innermost_by front last.0 w up here)
+
+pub innermost_here : (b : Builder) (w : Bor (List ℕ)) → slice_get b.open.items (length b.open.items - 1) ≡ Some w → is_innermost w.now (context (state b)).elements ≡ true
+innermost_here b w e = innermost_of b.open.items w b.items.zip.above e
+
+pub some_end : (r : Option (Bor (List ℕ))) (written name : List ℕ) (c : Context) → is_innermost name c.elements ≡ true → IfSome r (λ behind. written ≡ name ++ 0x3E ∷ behind.now) → IfSome r (λ behind. EndsInnermost written behind.now c)
+some_end None written name c h e = tt
+some_end (Some behind) written name c h e = record { name = name; innermost = h; parts = e }
+
+-- ---- its end tag
+
+pub none_against : (b : Builder) (name : List ℕ) → Scoped b → is_innermost name (context (state b)).elements ≡ true → reason (End name) (context (state b)) ≡ None
+none_against b name scoped e = sym (end_stops b name scoped) ∙ sym (ends_open b name scoped e)
+
+not_false : (b : Bool) → not b ≡ false → b ≡ true
+not_false true e = refl
+not_false false e = absurd cc
+
+end_named : (name : List ℕ) (c : Context) → reason (End name) c ≡ None → is_qname name ≡ true
+unfolding reason
+end_named name c e = not_false (is_qname name) (passed (end_tests name (scope c) c.elements) e).0
+
+pub end_taken : (rest behind written : List ℕ) (old mid new : Builder) (at : ℕ) → Scoped old → (e : EndsInnermost written behind (context (state old))) → rest ≡ 0x3C ∷ 0x2F ∷ written → Flushed old mid → Shuts mid new → TakesFirst rest behind at old new
+end_taken rest behind written old mid new at scoped e is flushed shut =
+    let none = none_against old e.name scoped e.innermost in
+    record {
+      piece = End e.name;
+      begins = end_begins e.name rest behind (end_named e.name (context (state old)) none) (is ∙ ap (λ (x : List ℕ). 0x3C ∷ 0x2F ∷ x) e.parts);
+      takes = end_takes old mid new e.name at none flushed shut;
+    }

@@ -1,0 +1,12 @@
+use Rattle.doc_text.proofs.Built.{flushed_scoped, flushed_inside}
+use Rattle.doc_text.proofs.KnownTags.{none_against, end_taken}
+use Rattle.doc_text.proofs.builder.Builder.take_end.Goals as goal
+
+pub close-requires-clause-scoped : goal.close-requires-clause-scoped
+close-requires-clause-scoped c = flushed_scoped c.args.self.now c.flush.new.self c.requires c.in_ok-flush.ensures
+
+pub close-requires-clause-inside : goal.close-requires-clause-inside
+close-requires-clause-inside c = flushed_inside c.args.self.now c.flush.new.self c.in-Some-past_end.ensures.name (none_against c.args.self.now c.in-Some-past_end.ensures.name c.requires c.in-Some-past_end.ensures.innermost) c.in_ok-flush.ensures
+
+pub returns : goal.returns
+returns c = λ at. end_taken c.args.rest.now c.in-Some-past_end.behind.now c.in-Some.written.now c.args.self.now c.flush.new.self c.close.new.self at c.requires c.in-Some-past_end.ensures c.in-Some.ensures c.in_ok-flush.ensures c.close.ensures
