@@ -1,22 +1,25 @@
 -- Tags that are taken by names as they were written before.
 use Rattle.std.proofs.Common.{◌≡◌, ℕ, ◌-◌, ◌<◌, Bool, true, false, List, [], ◌∷◌, ◌++◌, length, map, take, Option, None, Some, refl, sym, ap, subst, ◌∙◌, arith}
-use Rattle.std.specs.Prelude.{reverse, not, slice_get, IfSome}
+use Rattle.std.specs.Prelude.{reverse, not, slice_get, IfSome, IfOk, MatchOption, Result, Ok, Err}
 use Rattle.std.specs.Borrow.{Bor}
 use Rattle.std.proofs.Math.Seq.{get_or-append_seam}
 use Rattle.std.proofs.lemmas.List.{length-take-le}
 use Rattle.std.proofs.lemmas.Option.{slice_get_within, get_or_from_slice_get}
 use Rattle.std.proofs.lemmas.Slice.Eq.{bytes_eq-Decides}
 use Rattle.flat_tree.specs.Zips as zips
-use Rattle.doc_pieces.specs.Pieces.{End}
+use Rattle.doc_pieces.specs.Pieces.{Start, End}
 use Rattle.item_tree.specs.declared.label.ItemLabel.{ItemLabel}
 use Rattle.doc_text.specs.declared.builder.Builder.{Builder}
 use Rattle.doc_pieces.specs.QNames.{is_qname}
-use Rattle.doc_text.specs.Contexts.{Context, is_innermost, scope, reason, end_tests}
+use Rattle.doc_text.specs.Contexts.{Context, is_innermost, scope, reason, start_tests, end_tests}
 use Rattle.doc_text.specs.Private.States.{context, open_of}
-use Rattle.doc_text.specs.Private.Building.{aboves, state, Scoped, TakesFirst, EndsInnermost, Flushed, Shuts}
+use Rattle.doc_text.specs.Private.Building.{aboves, state, Scoped, Takes, TakesFirst, StartsKnown, EndsInnermost, Flushed, Shuts}
+use Rattle.doc_text.specs.Private.Noting.{bare}
+use Rattle.xa_base.specs.declared.texts.Memory.{Memory}
 use Rattle.doc_text.proofs.Telling.{passed}
+use Rattle.doc_text.proofs.Soundness.{or_parts}
 use Rattle.doc_text.proofs.Built.{aboves-push, last_of, end_stops, ends_open, end_takes}
-use Rattle.doc_text.proofs.TagPieces.{end_begins}
+use Rattle.doc_text.proofs.TagPieces.{start_begins, end_begins}
 
 -- ---- the name of the innermost element
 
@@ -54,11 +57,42 @@ end_named : (name : List ℕ) (c : Context) → reason (End name) c ≡ None →
 unfolding reason
 end_named name c e = not_false (is_qname name) (passed (end_tests name (scope c) c.elements) e).0
 
-pub end_taken : (rest behind written : List ℕ) (old mid new : Builder) (at : ℕ) → Scoped old → (e : EndsInnermost written behind (context (state old))) → rest ≡ 0x3C ∷ 0x2F ∷ written → Flushed old mid → Shuts mid new → TakesFirst rest behind at old new
-end_taken rest behind written old mid new at scoped e is flushed shut =
+pub end_taken : (written behind : List ℕ) (old mid new : Builder) (at : ℕ) → Scoped old → EndsInnermost written behind (context (state old)) → Flushed old mid → Shuts mid new → TakesFirst (0x3C ∷ 0x2F ∷ written) behind at old new
+end_taken written behind old mid new at scoped e flushed shut =
     let none = none_against old e.name scoped e.innermost in
     record {
       piece = End e.name;
-      begins = end_begins e.name rest behind (end_named e.name (context (state old)) none) (is ∙ ap (λ (x : List ℕ). 0x3C ∷ 0x2F ∷ x) e.parts);
+      begins = end_begins e.name (0x3C ∷ 0x2F ∷ written) behind (end_named e.name (context (state old)) none) (ap (λ (x : List ℕ). 0x3C ∷ 0x2F ∷ x) e.parts);
       takes = end_takes old mid new e.name at none flushed shut;
     }
+
+-- ---- a start tag
+
+start_named : (name : List ℕ) (c : Context) → reason (Start (bare name)) c ≡ None → is_qname name ≡ true
+unfolding reason
+start_named name c e = not_false (is_qname name) (or_parts _ _ (passed (start_tests (bare name) (scope c) c.ended (length c.elements)) e).0).0
+
+pub some_start : (r : Option (Bor (List ℕ))) (name tag : List ℕ) (c : Context) → reason (Start (bare name)) c ≡ None → IfSome r (λ behind. tag ≡ name ++ 0x3E ∷ behind.now) → IfSome r (λ behind. StartsKnown name tag behind.now c)
+some_start None name tag c none e = tt
+some_start (Some behind) name tag c none e = record { none = none; parts = e }
+
+pub start_taken : (name tag behind : List ℕ) (old new : Builder) (at : ℕ) → StartsKnown name tag behind (context (state old)) → Takes (Start (bare name)) at old new → TakesFirst (0x3C ∷ tag) behind at old new
+start_taken name tag behind old new at s takes = record {
+  piece = Start (bare name);
+  begins = start_begins name (0x3C ∷ tag) behind (start_named name (context (state old)) s.none) (ap (λ (x : List ℕ). 0x3C ∷ x) s.parts);
+  takes = takes;
+}
+
+-- ---- what is taken, or nothing
+
+abbrev pub Taken : List ℕ → ℕ → Builder → Builder → Result (Option (Bor (List ℕ))) Memory → Type 0
+Taken rest at old new result = IfOk result (λ found. MatchOption found (new ≡ old) (λ behind. TakesFirst rest behind.now at old new))
+
+pub end_or_none : (rest tag : List ℕ) (at : ℕ) (old new : Builder) (r : Result (Option (Bor (List ℕ))) Memory) → rest ≡ 0x3C ∷ 0x2F ∷ tag
+    → IfOk r (λ found. MatchOption found (new ≡ old) (λ behind. (n : ℕ) → TakesFirst (0x3C ∷ 0x2F ∷ tag) behind.now n old new)) → Taken rest at old new r
+end_or_none rest tag at old new (Err e) is h = tt
+end_or_none rest tag at old new (Ok None) is h = h
+end_or_none rest tag at old new (Ok (Some behind)) is h = subst (λ (x : List ℕ). TakesFirst x behind.now at old new) (sym is) (h at)
+
+pub start_or_none : (rest tag : List ℕ) (at : ℕ) (old new : Builder) (r : Result (Option (Bor (List ℕ))) Memory) → rest ≡ 0x3C ∷ tag → Taken (0x3C ∷ tag) at old new r → Taken rest at old new r
+start_or_none rest tag at old new r is h = subst (λ (x : List ℕ). Taken x at old new r) (sym is) h

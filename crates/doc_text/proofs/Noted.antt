@@ -44,6 +44,9 @@ module _ (inside : List (List ℕ × List ℕ)) (names : List Name) where
   pub none_noted : (ws : List (Bor (List ℕ))) (ns : List ℕ) → ws ≡ [] → ns ≡ [] → AllKnown inside names ws ns
   none_noted ws ns e f = subst (AllKnown inside names ws) (sym f) (subst (λ (xs : List (Bor (List ℕ))). AllKnown inside names xs []) (sym e) tt)
 
+  pub noted_same : (ws us : List (Bor (List ℕ))) (ns ms : List ℕ) → us ≡ ws → ms ≡ ns → AllKnown inside names ws ns → AllKnown inside names us ms
+  noted_same ws us ns ms e f h = subst (AllKnown inside names us) (sym f) (subst (λ (xs : List (Bor (List ℕ))). AllKnown inside names xs ns) (sym e) h)
+
 -- a call that is returned as it is
 pub both_ok : {T E P Q X : Type 0} (r : Result T E) → OnOk r P → OnOk r Q → (P → Q → X) → OnOk r X
 both_ok (Ok x) p q f = f p q

@@ -1,5 +1,5 @@
 //! What a reader has so far, and its step at each piece.
-ghost use Rattle.std.specs.Prelude.{if◌then◌else◌, cond, not, true, false, string_bytes, nat_le, encode_utf8, ◌≡◌, ◌==◌, ◌<◌, ◌≤◌, ◌&&◌, ◌∷◌, [], reverse, take, IfOk, IfErr, IfSome, IsUtf8, MatchOption, OnOk, length, ℕ};
+ghost use Rattle.std.specs.Prelude.{if◌then◌else◌, cond, not, true, false, string_bytes, nat_le, encode_utf8, ◌≡◌, ◌==◌, ◌<◌, ◌≤◌, ◌&&◌, ◌∷◌, [], None, reverse, take, IfOk, IfErr, IfSome, IsUtf8, MatchOption, OnOk, length, ℕ};
 ghost use Rattle.xa_base.specs.WhiteSpace.{is_white_space};
 ghost use Rattle.xa_base.specs.Limits.{is_empty};
 ghost use Rattle.doc_pieces.specs.Pieces as pieces;
@@ -12,11 +12,11 @@ ghost use Rattle.doc_text.specs.Private.States.{context, nothing, added, passed}
 ghost use Rattle.doc_text.specs.Private.Entering.{Stopped, have_utf8};
 ghost use Rattle.doc_text.specs.declared.error.DocWhy.TheVariants as why;
 ghost use Rattle.doc_text.specs.Private.Noting.{KnownAs, bare};
-ghost use Rattle.doc_text.specs.Private.Building.{state, Scoped, Takes, TakesFirst, EndsInnermost, Begins, Flushed, Shuts, Kept, GivesUtf8};
+ghost use Rattle.doc_text.specs.Private.Building.{state, Scoped, Takes, TakesFirst, StartsKnown, EndsInnermost, Begins, Flushed, Shuts, Kept, GivesUtf8};
 
 use crate::error::{DocError, DocWhy};
-use crate::names::{is_long, past_slash, past_tag};
-use crate::notes::Notes;
+use crate::names::{is_long, past_less, past_slash, past_tag};
+use crate::notes::{Note, Notes};
 use crate::scope::BindingsInScope;
 use crate::tags::{enter, first_of_place, is_unbound, value_of};
 use doc_pieces::{Element, Found, is_qname, plain_run, prefix_of};
@@ -111,27 +111,40 @@ impl<'a> Builder<'a> {
         ensures err { IfErr result (Stopped (reason (pieces.Start (tag_seen tag.entry)) (context (state self.old))) at) }
     {
         if tag.attributes.is_empty() {
-            if let Some(name) = self.notes.find(tag.name) {
-                return self.start_noted(tag.name, name, at);
+            if let Some(note) = self.notes.find(tag.name) {
+                return self.start_noted(&note, at);
             }
         }
         self.start_read(&tag, at)
     }
 
     // A start tag without attributes, of a name that is noted.
-    fn start_noted(&mut self, written: &'a [u8], name: ElementName, at: u64) -> Result<(), DocError>
+    fn start_noted(&mut self, note: &Note<'a>, at: u64) -> Result<(), DocError>
         requires scoped { Scoped self.old }
-        requires known { KnownAs (reverse self.old.scope) self.old.items.names written.now name }
-        ensures ok { OnOk result (Takes (pieces.Start (bare written.now)) at self.old self.new) }
-        ensures err { IfErr result (Stopped (reason (pieces.Start (bare written.now)) (context (state self.old))) at) }
+        requires known { KnownAs (reverse self.old.scope) self.old.items.names note.now.written.now note.now.name }
+        ensures ok { OnOk result (Takes (pieces.Start (bare note.now.written.now)) at self.old self.new) }
+        ensures err { IfErr result (Stopped (reason (pieces.Start (bare note.now.written.now)) (context (state self.old))) at) }
     {
         let depth = self.open.as_slice().len();
         if let Some(why) = first_of_place(self.ended, depth) {
             return Err(DocError::Syntax { at, why });
         }
+        self.open_noted(note, at)?;
+        Ok(())
+    }
+
+    // Takes a start tag without attributes, of a name that is noted, where nothing speaks against the tag.
+    #[inline(always)]
+    fn open_noted(&mut self, note: &Note<'a>, at: u64) -> Result<(), Memory>
+        requires scoped { Scoped self.old }
+        requires known { KnownAs (reverse self.old.scope) self.old.items.names note.now.written.now note.now.name }
+        requires none { reason (pieces.Start (bare note.now.written.now)) (context (state self.old)) ≡ None }
+        ensures { OnOk result (Takes (pieces.Start (bare note.now.written.now)) at self.old self.new) }
+    {
         self.flush()?;
-        self.items.open_known(name, at)?;
-        self.open.push(written)?;
+        self.items.open_known(note.name, at)?;
+        self.open.push(note.written)?;
+        self.notes.came(note.number);
         self.first = false;
         self.brackets = 0;
         Ok(())
@@ -167,8 +180,8 @@ impl<'a> Builder<'a> {
         ensures err { IfErr result (Stopped (reason (pieces.Empty (tag_seen tag.entry)) (context (state self.old))) at) }
     {
         if tag.attributes.is_empty() {
-            if let Some(name) = self.notes.find(tag.name) {
-                return self.empty_noted(tag.name, name, at);
+            if let Some(note) = self.notes.find(tag.name) {
+                return self.empty_noted(tag.name, note.name, at);
             }
         }
         self.empty_read(&tag, at)
@@ -286,21 +299,47 @@ impl<'a> Builder<'a> {
         }
     }
 
-    // Takes the end tag of the innermost element, if that stands first and has no white space. What is behind it, or
-    // nothing.
+    // Takes the end tag of the innermost element, if its name and a `>` stand behind `</`. What is behind it, or nothing.
     #[inline(always)]
-    fn take_end(&mut self, rest: &'a [u8]) -> Result<Option<&'a [u8]>, Memory>
+    fn take_end(&mut self, written: &'a [u8]) -> Result<Option<&'a [u8]>, Memory>
         requires { Scoped self.old }
-        ensures { IfOk result (λ found. MatchOption found (self.new ≡ self.old) (λ behind. (at : ℕ) → TakesFirst rest.now behind.now at self.old self.new)) }
+        ensures { IfOk result (λ found. MatchOption found (self.new ≡ self.old) (λ behind. (at : ℕ) → TakesFirst (0x3C ∷ 0x2F ∷ written.now) behind.now at self.old self.new)) }
     {
-        let Some(written) = past_slash(rest) else {
-            return Ok(None);
-        };
         let Some(behind) = self.past_end(written) else {
             return Ok(None);
         };
         self.flush()?;
         self.close();
+        Ok(Some(behind))
+    }
+
+    // What is behind the start tag of this note, if that stands behind `<` and nothing speaks against it.
+    #[inline(always)]
+    fn past_start<'b>(&self, note: &Note<'a>, tag: &'b [u8]) -> Option<&'b [u8]>
+        requires scoped { Scoped self.now }
+        requires known { KnownAs (reverse self.now.scope) self.now.items.names note.now.written.now note.now.name }
+        ensures { IfSome result (λ behind. StartsKnown note.now.written.now tag.now behind.now (context (state self.now))) }
+    {
+        let depth = self.open.as_slice().len();
+        match first_of_place(self.ended, depth) {
+            Some(_) => None,
+            None => past_tag(note.written, tag),
+        }
+    }
+
+    // Takes a start tag without attributes, if what stands behind `<` is as was guessed. What is behind it, or nothing.
+    #[inline(always)]
+    fn take_start(&mut self, tag: &'a [u8], at: u64) -> Result<Option<&'a [u8]>, Memory>
+        requires { Scoped self.old }
+        ensures { IfOk result (λ found. MatchOption found (self.new ≡ self.old) (λ behind. TakesFirst (0x3C ∷ tag.now) behind.now at self.old self.new)) }
+    {
+        let Some(note) = self.notes.guess() else {
+            return Ok(None);
+        };
+        let Some(behind) = self.past_start(&note, tag) else {
+            return Ok(None);
+        };
+        self.open_noted(&note, at)?;
         Ok(Some(behind))
     }
 
@@ -310,7 +349,13 @@ impl<'a> Builder<'a> {
         requires { Scoped self.old }
         ensures { IfOk result (λ found. MatchOption found (self.new ≡ self.old) (λ behind. TakesFirst rest.now behind.now at self.old self.new)) }
     {
-        self.take_end(rest)
+        if let Some(written) = past_slash(rest) {
+            return self.take_end(written);
+        }
+        match past_less(rest) {
+            Some(tag) => self.take_start(tag, at),
+            None => Ok(None),
+        }
     }
 
     // How many bytes of plain characters stand first, where an element is open.

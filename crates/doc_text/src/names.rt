@@ -58,6 +58,17 @@ pub(crate) fn is_reserved(prefix: &[u8], space: &[u8]) -> bool
         || (space.is_empty() && !prefix.is_empty())
 }
 
+// What is behind `<`, if that stands first.
+#[inline(always)]
+pub(crate) fn past_less(bytes: &[u8]) -> Option<&[u8]>
+    ensures { IfSome result (λ behind. bytes.now ≡ 0x3C ∷ behind.now) }
+{
+    match bytes {
+        [b'<', behind @ ..] => Some(behind),
+        _ => None,
+    }
+}
+
 // What is behind `</`, if that stands first.
 #[inline(always)]
 pub(crate) fn past_slash(bytes: &[u8]) -> Option<&[u8]>

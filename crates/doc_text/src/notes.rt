@@ -18,6 +18,18 @@ pub(crate) struct Notes<'a> {
     pub(crate) names: Vec<ElementName>,
     // By what a written name looks like, where it may stand.
     looks: [u32; LOOKS],
+    // By the number of a note, that of the note which came behind it last.
+    after: [u32; LOOKS],
+    // The number of the note that came last.
+    last: u32,
+}
+
+/// A written name, the number of the name that it stands for, and the number of this note.
+#[derive(Drop)]
+pub(crate) struct Note<'a> {
+    pub(crate) written: &'a [u8],
+    pub(crate) name: ElementName,
+    pub(crate) number: u32,
 }
 
 // The place of a written name.
@@ -42,18 +54,62 @@ impl<'a> Notes<'a> {
             written: Vec::new(alloc),
             names: Vec::new(alloc),
             looks: [0; LOOKS],
+            after: [0; LOOKS],
+            last: 0,
         }
     }
 
-    /// The number of the name, if it is noted.
+    // The note with this number.
     #[inline(always)]
-    pub(crate) fn find(&self, written: &[u8]) -> Option<ElementName>
-        ensures { (inside : List (List ℕ × List ℕ)) (names : List Name) → AllKnown inside names self.now.written.items self.now.names.items → IfSome result (KnownAs inside names written.now) }
+    fn noted(&self, number: u32) -> Option<Note<'a>>
+        ensures { (inside : List (List ℕ × List ℕ)) (names : List Name) → AllKnown inside names self.now.written.items self.now.names.items → IfSome result (λ note. KnownAs inside names note.written.now note.name) }
+    {
+        let written = *self.written.get(number as usize)?;
+        let name = *self.names.get(number as usize)?;
+        Some(Note {
+            written,
+            name,
+            number,
+        })
+    }
+
+    /// The note of this written name.
+    #[inline(always)]
+    pub(crate) fn find(&self, written: &[u8]) -> Option<Note<'a>>
+        ensures same { IfSome result (λ note. note.written.now ≡ written.now) }
+        ensures known { (inside : List (List ℕ × List ℕ)) (names : List Name) → AllKnown inside names self.now.written.items self.now.names.items → IfSome result (λ note. KnownAs inside names note.written.now note.name) }
     {
         let number = *self.looks.get(look_of(written))?;
-        let noted = *self.written.get(number as usize)?;
-        let name = *self.names.get(number as usize)?;
-        if noted == written { Some(name) } else { None }
+        let Some(note) = self.noted(number) else {
+            return None;
+        };
+        if note.written == written {
+            Some(note)
+        } else {
+            None
+        }
+    }
+
+    /// The note that came last behind the one that came now.
+    #[inline(always)]
+    pub(crate) fn guess(&self) -> Option<Note<'a>>
+        ensures { (inside : List (List ℕ × List ℕ)) (names : List Name) → AllKnown inside names self.now.written.items self.now.names.items → IfSome result (λ note. KnownAs inside names note.written.now note.name) }
+    {
+        let number = *self.after.get(self.last as usize)?;
+        self.noted(number)
+    }
+
+    /// The note with this number has come.
+    #[inline(always)]
+    pub(crate) fn came(&mut self, number: u32)
+        ensures written { self.new.written.items ≡ self.old.written.items }
+        ensures names { self.new.names.items ≡ self.old.names.items }
+    {
+        let last = self.last as usize;
+        if last < LOOKS {
+            self.after[last] = number;
+        }
+        self.last = number;
     }
 
     // Notes a name behind the others.

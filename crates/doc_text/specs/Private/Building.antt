@@ -16,7 +16,7 @@ use Rattle.doc_text.specs.Sound.{AreItems}
 use Rattle.doc_text.specs.Contexts.{Open, Context, is_innermost, scope, reason}
 use Rattle.doc_text.specs.Documents.{DocOf}
 use Rattle.doc_text.specs.Private.Entering.{have_utf8, IsNamed}
-use Rattle.doc_text.specs.Private.Noting.{AllKnown}
+use Rattle.doc_text.specs.Private.Noting.{AllKnown, bare}
 use Rattle.doc_text.specs.Private.States.{Above, State, nothing, context, kids_of_state, closed, step}
 
 -- ---- an element that is open, by its written name and the open nodes from its own on
@@ -100,6 +100,11 @@ pub record TakesFirst (rest behind : List ℕ) (at : ℕ) (old new : Builder) : 
   pub piece : Piece
   pub begins : pieces.Begins piece rest behind
   pub takes : Takes piece at old new
+
+-- this name and a `>` stand first, with this behind them, and nothing speaks against the start tag
+pub record StartsKnown (name tag behind : List ℕ) (c : Context) : Type 0 where
+  pub none : reason (Start (bare name)) c ≡ None
+  pub parts : tag ≡ name ++ 0x3E ∷ behind
 
 -- the name of the innermost element and a `>` stand first, with this behind them
 pub record EndsInnermost (written behind : List ℕ) (c : Context) : Type 0 where

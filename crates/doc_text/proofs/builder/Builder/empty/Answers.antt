@@ -1,15 +1,16 @@
-use Rattle.std.proofs.Common.{◌≡◌, true, length, sym, subst, rules}
+use Rattle.std.proofs.Common.{◌≡◌, ℕ, List, true, length, sym, subst, rules}
 use Rattle.std.specs.Prelude.{OnOk, IfErr, reverse, nat_eq}
 use Rattle.doc_pieces.specs.Pieces.{Tag, Empty}
 use Rattle.doc_text.specs.Contexts.{reason}
 use Rattle.doc_text.specs.Private.Entering.{Stopped}
+use Rattle.doc_text.specs.Private.Noting.{KnownAs}
 use Rattle.doc_text.specs.Private.States.{context}
 use Rattle.doc_text.specs.Private.Building.{state, Takes}
 use Rattle.doc_text.proofs.Noted.{bare_is}
 use Rattle.doc_text.proofs.builder.Builder.empty.Goals as goal
 
 pub empty_noted-requires-clause-known : goal.empty_noted-requires-clause-known
-empty_noted-requires-clause-known c = c.in-Some.ensures (reverse c.args.self.now.scope) c.args.self.now.items.names c.requires.scoped.noted
+empty_noted-requires-clause-known c = subst (λ (w : List ℕ). KnownAs (reverse c.args.self.now.scope) c.args.self.now.items.names w c.in-Some.note.name) c.in-Some.ensures.same (c.in-Some.ensures.known (reverse c.args.self.now.scope) c.args.self.now.items.names c.requires.scoped.noted)
 
 pub returns-in-Some-clause-ok : goal.returns-in-Some-clause-ok
 returns-in-Some-clause-ok c =

@@ -1,22 +1,26 @@
-use Rattle.std.proofs.Common.{◌≡◌, true, length, sym, subst, rules}
+use Rattle.std.proofs.Common.{◌≡◌, true, length, sym, ap, subst, ◌∙◌, rules}
 use Rattle.std.specs.Prelude.{OnOk, IfErr, reverse, nat_eq}
 use Rattle.doc_pieces.specs.Pieces.{Tag, Start}
+use Rattle.doc_pieces.specs.Found.{tag_seen}
 use Rattle.doc_text.specs.Contexts.{reason}
 use Rattle.doc_text.specs.Private.Entering.{Stopped}
+use Rattle.doc_text.specs.Private.Noting.{bare}
 use Rattle.doc_text.specs.Private.States.{context}
 use Rattle.doc_text.specs.Private.Building.{state, Takes}
 use Rattle.doc_text.proofs.Noted.{bare_is}
 use Rattle.doc_text.proofs.builder.Builder.start.Goals as goal
 
 pub start_noted-requires-clause-known : goal.start_noted-requires-clause-known
-start_noted-requires-clause-known c = c.in-Some.ensures (reverse c.args.self.now.scope) c.args.self.now.items.names c.requires.scoped.noted
+start_noted-requires-clause-known c = c.in-Some.ensures.known (reverse c.args.self.now.scope) c.args.self.now.items.names c.requires.scoped.noted
 
 pub returns-in-Some-clause-ok : goal.returns-in-Some-clause-ok
 returns-in-Some-clause-ok c =
     let none : nat_eq (length c.args.tag.attributes.items) 0 ≡ true = search rules in
-    subst (λ (t : Tag). OnOk c.start_noted.result (Takes (Start t) c.args.at c.args.self.now c.start_noted.new.self)) (sym (bare_is c.args.tag none)) c.start_noted.ensures.ok
+    let same : bare c.in-Some.note.written.now ≡ tag_seen c.args.tag = ap bare c.in-Some.ensures.same ∙ sym (bare_is c.args.tag none) in
+    subst (λ (t : Tag). OnOk c.start_noted.result (Takes (Start t) c.args.at c.args.self.now c.start_noted.new.self)) same c.start_noted.ensures.ok
 
 pub returns-in-Some-clause-err : goal.returns-in-Some-clause-err
 returns-in-Some-clause-err c =
     let none : nat_eq (length c.args.tag.attributes.items) 0 ≡ true = search rules in
-    subst (λ (t : Tag). IfErr c.start_noted.result (Stopped (reason (Start t) (context (state c.args.self.now))) c.args.at)) (sym (bare_is c.args.tag none)) c.start_noted.ensures.err
+    let same : bare c.in-Some.note.written.now ≡ tag_seen c.args.tag = ap bare c.in-Some.ensures.same ∙ sym (bare_is c.args.tag none) in
+    subst (λ (t : Tag). IfErr c.start_noted.result (Stopped (reason (Start t) (context (state c.args.self.now))) c.args.at)) same c.start_noted.ensures.err

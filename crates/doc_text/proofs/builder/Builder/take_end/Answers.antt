@@ -6,7 +6,7 @@ pub close-requires-clause-scoped : goal.close-requires-clause-scoped
 close-requires-clause-scoped c = flushed_scoped c.args.self.now c.flush.new.self c.requires c.in_ok-flush.ensures
 
 pub close-requires-clause-inside : goal.close-requires-clause-inside
-close-requires-clause-inside c = flushed_inside c.args.self.now c.flush.new.self c.in-Some-past_end.ensures.name (none_against c.args.self.now c.in-Some-past_end.ensures.name c.requires c.in-Some-past_end.ensures.innermost) c.in_ok-flush.ensures
+close-requires-clause-inside c = flushed_inside c.args.self.now c.flush.new.self c.in-Some.ensures.name (none_against c.args.self.now c.in-Some.ensures.name c.requires c.in-Some.ensures.innermost) c.in_ok-flush.ensures
 
 pub returns : goal.returns
-returns c = λ at. end_taken c.args.rest.now c.in-Some-past_end.behind.now c.in-Some.written.now c.args.self.now c.flush.new.self c.close.new.self at c.requires c.in-Some-past_end.ensures c.in-Some.ensures c.in_ok-flush.ensures c.close.ensures
+returns c = λ at. end_taken c.args.written.now c.in-Some.behind.now c.args.self.now c.flush.new.self c.close.new.self at c.requires c.in-Some.ensures c.in_ok-flush.ensures c.close.ensures

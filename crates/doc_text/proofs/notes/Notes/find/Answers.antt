@@ -1,19 +1,4 @@
-use Rattle.std.proofs.Common.{◌≡◌, ◌<◌, ◌∙◌, List, ℕ, length, ap, sym, refl, subst, rules}
-use Rattle.std.specs.Prelude.{Some, slice_get}
-use Rattle.std.proofs.lemmas.Option.{slice_get_read}
-use Rattle.doc_text.specs.Private.Noting.{KnownAs}
-use Rattle.doc_text.proofs.Noted.{noted_at}
 use Rattle.doc_text.proofs.notes.Notes.find.Goals as goal
 
-pub returns-then-eq : goal.returns-then-eq
-returns-then-eq c = λ inside names h.
-    let k = c.in_ok-number.field-0.now in
-    let w = c.in_ok-noted.field-0.now in
-    let n = c.in_ok-name.field-0.now in
-    let in_written : k < length c.deref.result.now = search rules in
-    let in_names : k < length c.deref-2.result.now = search rules in
-    let written_is : slice_get c.deref.result.now k ≡ Some w = slice_get_read c.deref.result.now (length c.deref.result.now) k w refl in_written c.in_ok-noted.ensures.lookup.1 in
-    let name_is : slice_get c.deref-2.result.now k ≡ Some n = slice_get_read c.deref-2.result.now (length c.deref-2.result.now) k n refl in_names c.in_ok-name.ensures.lookup.1 in
-    let same : w.now ≡ c.args.written.now = search rules in
-    subst (λ (x : List ℕ). KnownAs inside names x n) same
-    (noted_at inside names c.args.self.now.written.items c.args.self.now.names.items k w n h (ap (λ xs. slice_get xs k) (sym c.deref.ensures.value) ∙ written_is) (ap (λ xs. slice_get xs k) (sym c.deref-2.ensures.value) ∙ name_is))
+pub returns-then-eq-clause-known : goal.returns-then-eq-clause-known
+returns-then-eq-clause-known c = c.in-Some.ensures

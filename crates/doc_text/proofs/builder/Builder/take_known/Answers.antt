@@ -1,0 +1,8 @@
+use Rattle.doc_text.proofs.KnownTags.{end_or_none, start_or_none}
+use Rattle.doc_text.proofs.builder.Builder.take_known.Goals as goal
+
+pub returns-in-Some : goal.returns-in-Some
+returns-in-Some c = end_or_none c.args.rest.now c.in-Some.written.now c.args.at c.args.self.now c.take_end.new.self c.take_end.result c.in-Some.ensures c.take_end.ensures
+
+pub returns-in-Some-past_less : goal.returns-in-Some-past_less
+returns-in-Some-past_less c = start_or_none c.args.rest.now c.in-Some-past_less.tag.now c.args.at c.args.self.now c.take_start.new.self c.take_start.result c.in-Some-past_less.ensures c.take_start.ensures
