@@ -8,12 +8,13 @@ use Rattle.xa_base.specs.Namespaces.{xml_prefix, xml_space}
 use Rattle.xa_base.specs.WhiteSpace.{is_white_space}
 use Rattle.std.specs.Borrow.{Bor}
 use Rattle.label_tree.specs.Rose.{Rose, node, roses_of}
+use Rattle.label_tree.specs.Rose as rose
 use Rattle.flat_tree.specs.Zips as zips
 use Rattle.doc_pieces.specs.Pieces.{Tag, Declaration, Start, Empty, End, Comment, Instruction, CData, Reference, Character}
 use Rattle.xa_base.specs.declared.texts.Name.{Name}
 use Rattle.item_tree.specs.declared.label.ItemLabel.{ItemLabel}
 use Rattle.item_tree.specs.Building.{Building, binding_count}
-use Rattle.item_tree.specs.declared.label.ItemLabel.TheVariants.{Element}
+use Rattle.item_tree.specs.declared.label.ItemLabel.TheVariants.{Element, Text}
 use Rattle.doc_text.specs.declared.builder.Builder.{Builder}
 use Rattle.doc_text.specs.declared.notes.Notes.{Notes}
 use Rattle.doc_text.specs.declared.error.DocWhy.{DocWhy}
@@ -22,13 +23,13 @@ use Rattle.doc_text.specs.Namespaces.{bindings_of, attributes_of, element_name}
 use Rattle.doc_text.specs.Contexts.{Context, Open, is_innermost, is_outside, brackets_after, scope, tag_scope, start_reason, reason, end_tests}
 use Rattle.xa_base.specs.Limits.{is_empty}
 use Rattle.xa_base.specs.Entries.{first_true}
-use Rattle.doc_text.specs.Private.States.{Above, State, open_of, context, kids_of_state, entering, element_of, opened, emptied, closed, passed, written_on, added}
+use Rattle.doc_text.specs.Private.States.{Above, State, open_of, context, with_text, with_leaf, kids_of_state, entering, element_of, opened, emptied, closed, passed, written_on, added}
 use Rattle.item_tree.specs.Growing.{Grows}
 use Rattle.item_tree.proofs.Growth.{grows-same}
 use Rattle.doc_text.specs.Private.Noting.{AllKnown}
 use Rattle.doc_text.proofs.Noted.{noted-grown}
 use Rattle.doc_text.specs.Private.Entering.{EntersAs, IsNamed}
-use Rattle.doc_text.specs.Private.Building.{up_in, above_of, aboves, state, node_of, AreNamed, Scoped, Takes, Flushed, Shuts, Kept}
+use Rattle.doc_text.specs.Private.Building.{up_in, above_of, aboves, state, node_of, AreNamed, Scoped, Takes, PutsLeaf, Flushed, Shuts, Kept}
 use Rattle.doc_text.proofs.Entered.{inside_is}
 use Rattle.doc_text.proofs.OpenNames.{named_tag, ends_named}
 use Rattle.doc_text.proofs.Telling.{some_innermost, innermost_is, is_empty-map, context-added}
@@ -186,6 +187,36 @@ empty_takes old mid new name attributes declares tag at all count scoped enters 
         named = subst (λ (t : State). AreNamed (context t).elements) (sym steps) scoped.named;
         nodes = ap (map node_of) above ∙ scoped.nodes ∙ sym nodes;
         noted = notes_on old new (sym back) more notes scoped.noted;
+      };
+    }
+
+some_text : (text : List ℕ) (at : ℕ) → is_empty text ≡ false → node (Text text at) rose.none ∷ [] ≡ with_text [] text at
+some_text text at some = rw some refl
+
+-- an element without attributes in which a text stands alone
+pub leaf_puts : (old mid new : Builder) (name : Name) (tag : Tag) (at : ℕ) (text : List ℕ) (text_at : ℕ) → Scoped old → EntersAs (reverse old.scope) old.ended (length old.open.items) tag name [] [] → Mid old mid → is_empty text ≡ false → new.scope ≡ old.scope → new.open.items ≡ mid.open.items
+    → new.items.zip ≡ zips.closed (zips.added (node (Text text text_at) rose.none) (zips.opened (Element name [] [] at) mid.items.zip)) → string_bytes new.text ≡ string_bytes mid.text → new.text_at ≡ text_at → new.ended ≡ nat_eq (length mid.open.items) 0 → new.first ≡ false → new.brackets ≡ 0
+    → AllKnown (reverse new.scope) new.items.names new.notes.written.items new.notes.names.items → PutsLeaf tag at text text_at old new
+leaf_puts old mid new name tag at text text_at scoped enters m some scope_is opens items text_is place ends first brackets noted =
+    let s = state old in
+    let kids = kids_of_state s in
+    let a = entering tag (scope (context s)) at kids in
+    let own : put tag.name name [] [] at kids ≡ a = entering_is old tag name [] [] tag.name at kids kids scoped enters refl refl in
+    let nodes : new.items.zip.above ≡ old.items.zip.above = ap (λ (z : zips.Zip ItemLabel). z.above) items ∙ m.nodes in
+    let above : (state new).above ≡ s.above = aboves_by _ _ _ _ (opens ∙ m.opens) nodes in
+    let inner : List (Rose ItemLabel) = node (Text text text_at) rose.none ∷ [] in
+    let element : node (Element name [] [] at) (roses_of inner) ≡ element_of a (with_text [] text text_at) =
+    ap (λ (x : Above). element_of x inner) own ∙ ap (element_of a) (some_text text text_at some) in
+    let steps : state new ≡ with_leaf tag at text text_at s = same_state _ _ _ _ _ _ _ _ _ _ _ _ _ _ above
+    (ap (λ (z : zips.Zip ItemLabel). z.kids) items ∙ ap (λ (ks : List (Rose ItemLabel)). ks ++ node (Element name [] [] at) (roses_of inner) ∷ []) m.kids ∙ ap (λ (e : Rose ItemLabel). kids ++ e ∷ []) element)
+    (text_is ∙ m.text) place (ends ∙ ap (λ (names : List (Bor (List ℕ))). nat_eq (length names) 0) m.opens ∙ sym (is_empty-aboves old.open.items old.items.zip.above)) first brackets in
+    record {
+      steps = steps;
+      scoped = record {
+        scope_is = ap reverse scope_is ∙ scoped.scope_is ∙ ap (λ (t : State). scope (context t)) (sym steps);
+        named = subst (λ (t : State). AreNamed (context t).elements) (sym steps) scoped.named;
+        nodes = ap (map node_of) above ∙ scoped.nodes ∙ sym nodes;
+        noted = noted;
       };
     }
 

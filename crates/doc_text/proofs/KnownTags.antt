@@ -1,9 +1,9 @@
 -- Tags that are taken by names as they were written before.
-use Rattle.std.proofs.Common.{◌≡◌, ℕ, ◌-◌, ◌<◌, Bool, true, false, List, [], ◌∷◌, ◌++◌, length, map, take, Option, None, Some, refl, sym, ap, subst, ◌∙◌, arith}
-use Rattle.std.specs.Prelude.{reverse, not, slice_get, IfSome, IfOk, MatchOption, Result, Ok, Err}
+use Rattle.std.proofs.Common.{◌≡◌, ℕ, ◌+◌, ◌-◌, ◌≤◌, ◌<◌, Bool, true, false, List, [], ◌∷◌, ◌++◌, length, map, take, Option, None, Some, refl, sym, ap, subst, ◌∙◌, inl, inr, arith}
+use Rattle.std.specs.Prelude.{IsUtf8, reverse, not, slice_get, IfSome, IfOk, MatchOption, Result, Ok, Err}
 use Rattle.std.specs.Borrow.{Bor}
 use Rattle.std.proofs.Math.Seq.{get_or-append_seam}
-use Rattle.std.proofs.lemmas.List.{length-take-le}
+use Rattle.std.proofs.lemmas.List.{length-append, length-take-le, take-take}
 use Rattle.std.proofs.lemmas.Option.{slice_get_within, get_or_from_slice_get}
 use Rattle.std.proofs.lemmas.Slice.Eq.{bytes_eq-Decides}
 use Rattle.flat_tree.specs.Zips as zips
@@ -11,10 +11,15 @@ use Rattle.doc_pieces.specs.Pieces.{Start, End}
 use Rattle.item_tree.specs.declared.label.ItemLabel.{ItemLabel}
 use Rattle.doc_text.specs.declared.builder.Builder.{Builder}
 use Rattle.doc_pieces.specs.QNames.{is_qname}
-use Rattle.doc_text.specs.Contexts.{Context, is_innermost, scope, reason, start_tests, end_tests}
-use Rattle.doc_text.specs.Private.States.{context, open_of}
-use Rattle.doc_text.specs.Private.Building.{aboves, state, Scoped, Takes, TakesFirst, StartsKnown, EndsInnermost, Flushed, Shuts}
+use Rattle.doc_text.specs.Contexts.{Context, is_innermost, scope, reason, start_reason, start_tests, end_tests}
+use Rattle.doc_text.specs.Private.States.{context, open_of, opened, added}
+use Rattle.doc_text.specs.Private.Building.{aboves, state, Scoped, Takes, TakesFirst, TakesKnown, IsLeaf, PutsLeaf, StartsKnown, EndsInnermost, Flushed, Shuts}
+use Rattle.doc_text.specs.Private.Entering.{IsNamed}
 use Rattle.doc_text.specs.Private.Noting.{bare}
+use Rattle.xa_base.specs.Entries.{first_true}
+use Rattle.xa_base.specs.Limits.{is_empty}
+use Rattle.doc_text.proofs.OpenNames.{named_tag, ends_named}
+use Rattle.doc_text.proofs.Known.{laws}
 use Rattle.xa_base.specs.declared.texts.Memory.{Memory}
 use Rattle.doc_text.proofs.Telling.{passed}
 use Rattle.doc_text.proofs.Soundness.{or_parts}
@@ -68,7 +73,7 @@ end_taken written behind old mid new at scoped e flushed shut =
 
 -- ---- a start tag
 
-start_named : (name : List ℕ) (c : Context) → reason (Start (bare name)) c ≡ None → is_qname name ≡ true
+pub start_named : (name : List ℕ) (c : Context) → reason (Start (bare name)) c ≡ None → is_qname name ≡ true
 unfolding reason
 start_named name c e = not_false (is_qname name) (or_parts _ _ (passed (start_tests (bare name) (scope c) c.ended (length c.elements)) e).0).0
 
@@ -83,16 +88,55 @@ start_taken name tag behind old new at s takes = record {
   takes = takes;
 }
 
+-- ---- an element of plain characters alone
+
+not_empty : (xs : List ℕ) → 0 < length xs → is_empty xs ≡ false
+not_empty [] some = absurd (omega (arith, some))
+not_empty (x ∷ xs) some = refl
+
+pub some_front : (len : ℕ) (bytes : List ℕ) → 0 < len → len ≤ length bytes → is_empty (take len bytes) ≡ false
+some_front len bytes some within = not_empty (take len bytes) (omega (arith, some, length-take-le len bytes within))
+
+pub some_short : (r : Option (List ℕ)) (len n : ℕ) (front bytes : List ℕ) → len ≤ n → front ≡ take n bytes → IfSome r (λ text. (text ≡ take len front) × IsUtf8 (take len front)) → IfSome r (λ text. text ≡ take len bytes)
+some_short None len n front bytes le is h = tt
+some_short (Some text) len n front bytes le is h = h.0 ∙ ap (take len) is ∙ take-take len n bytes le
+
+pub inner_utf8 : (name tag behind : List ℕ) (c : Context) → StartsKnown name tag behind c → IsUtf8 (0x3C ∷ tag) → IsUtf8 behind
+inner_utf8 name tag behind c s u = laws.utf8 (Start (bare name)) (0x3C ∷ tag) behind u (start_begins name (0x3C ∷ tag) behind (start_named name c s.none) (ap (λ (x : List ℕ). 0x3C ∷ x) s.parts))
+
+pub within_tag : (name tag behind : List ℕ) (c : Context) (at : ℕ) → StartsKnown name tag behind c → at + length tag ≤ 16777216 → at + length name ≤ 16777216
+within_tag name tag behind c at s h = omega (arith, ap length s.parts, length-append name (0x3E ∷ behind))
+
+pub leaf_taken : (name tag inner behind : List ℕ) (len : ℕ) (old new : Builder) (at : ℕ) → StartsKnown name tag inner (context (state old)) → IsLeaf name inner len behind → PutsLeaf (bare name) at (take len inner) (at + length name + 2) old new → TakesKnown (0x3C ∷ tag) behind at old new
+leaf_taken name tag inner behind len old new at s leaf puts = inr (record { name = name; inner = inner; len = len; none = s.none; parts = ap (λ (x : List ℕ). 0x3C ∷ x) s.parts; leaf = leaf; puts = puts })
+
+named_inside : (name : List ℕ) (c : Context) → reason (Start (bare name)) c ≡ None → IsNamed name (scope c)
+unfolding reason start_reason
+named_inside name c e = named_tag (bare name) (scope c) c.ended (length c.elements) e
+
+against_end : (name : List ℕ) (c : Context) → first_true (end_tests name (scope c) c.elements) ≡ None → reason (End name) c ≡ None
+unfolding reason
+against_end name c e = e
+
+-- nothing speaks against its end tag
+pub leaf_ends : (name : List ℕ) (b : Builder) (at : ℕ) (text : List ℕ) (text_at : ℕ) → Scoped b → reason (Start (bare name)) (context (state b)) ≡ None → reason (End name) (context (added text text_at 0 (opened (bare name) at (state b)))) ≡ None
+leaf_ends name b at text text_at scoped none =
+    let inside = context (added text text_at 0 (opened (bare name) at (state b))) in
+    against_end name inside (ends_named name inside.elements (named_inside name (context (state b)) none, scoped.named) ((bytes_eq-Decides name name).1 refl))
+
 -- ---- what is taken, or nothing
 
 abbrev pub Taken : List ℕ → ℕ → Builder → Builder → Result (Option (Bor (List ℕ))) Memory → Type 0
-Taken rest at old new result = IfOk result (λ found. MatchOption found (new ≡ old) (λ behind. TakesFirst rest behind.now at old new))
+Taken rest at old new result = IfOk result (λ found. MatchOption found (new ≡ old) (λ behind. TakesKnown rest behind.now at old new))
 
 pub end_or_none : (rest tag : List ℕ) (at : ℕ) (old new : Builder) (r : Result (Option (Bor (List ℕ))) Memory) → rest ≡ 0x3C ∷ 0x2F ∷ tag
     → IfOk r (λ found. MatchOption found (new ≡ old) (λ behind. (n : ℕ) → TakesFirst (0x3C ∷ 0x2F ∷ tag) behind.now n old new)) → Taken rest at old new r
 end_or_none rest tag at old new (Err e) is h = tt
 end_or_none rest tag at old new (Ok None) is h = h
-end_or_none rest tag at old new (Ok (Some behind)) is h = subst (λ (x : List ℕ). TakesFirst x behind.now at old new) (sym is) (h at)
+end_or_none rest tag at old new (Ok (Some behind)) is h = inl (subst (λ (x : List ℕ). TakesFirst x behind.now at old new) (sym is) (h at))
+
+pub tag_within : (rest tag : List ℕ) (at : ℕ) → rest ≡ 0x3C ∷ tag → at + length rest ≤ 16777216 → at + length tag ≤ 16777216
+tag_within rest tag at is h = omega (arith, ap length is)
 
 pub start_or_none : (rest tag : List ℕ) (at : ℕ) (old new : Builder) (r : Result (Option (Bor (List ℕ))) Memory) → rest ≡ 0x3C ∷ tag → Taken (0x3C ∷ tag) at old new r → Taken rest at old new r
 start_or_none rest tag at old new r is h = subst (λ (x : List ℕ). Taken x at old new r) (sym is) h

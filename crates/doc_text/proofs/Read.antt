@@ -1,8 +1,8 @@
 -- The code's loop over pieces.
-use Rattle.std.proofs.Common.{◌≡◌, ◌≢◌, ℕ, ◌≤◌, ◌<◌, true, false, List, [], ◌∷◌, length, map, take, drop, sym, ap, subst, ◌∙◌, arith}
-use Rattle.std.proofs.lemmas.List.{nil_from_length}
+use Rattle.std.proofs.Common.{◌≡◌, ◌≢◌, ℕ, ◌+◌, ◌≤◌, ◌<◌, true, false, List, [], ◌∷◌, length, map, take, drop, refl, sym, ap, subst, ◌∙◌, inl, inr, arith}
+use Rattle.std.proofs.lemmas.List.{nil_from_length, length-append, length-drop}
 use Rattle.label_tree.specs.Rose.{Rose}
-use Rattle.doc_pieces.specs.Pieces.{Piece, Begins, NoPieceAt}
+use Rattle.doc_pieces.specs.Pieces.{Piece, Start, End, Begins, NoPieceAt}
 use Rattle.doc_pieces.specs.Reasons.{NoneReason, IsPlainRun}
 use Rattle.doc_pieces.specs.declared.reason.NoneWhy.{NoneWhy}
 use Rattle.doc_text.specs.declared.builder.Builder.{Builder}
@@ -15,12 +15,15 @@ use Rattle.doc_text.specs.Sound.{AreItems}
 use Rattle.doc_text.specs.Contexts.{is_outside, reason}
 use Rattle.xa_base.specs.Limits.{is_empty}
 use Rattle.doc_text.specs.Documents.{why_of, BrokenAt, DocOf, Refuses}
-use Rattle.doc_text.specs.Private.States.{State, context, open_of, added}
+use Rattle.doc_text.specs.Private.States.{State, context, open_of, opened, added}
 use Rattle.doc_text.specs.Private.Entering.{Stopped}
-use Rattle.doc_text.specs.Private.Building.{state, node_of, Scoped, Takes, TakesFirst, HasRead}
+use Rattle.doc_text.specs.Private.Building.{state, node_of, Scoped, Takes, TakesLeaf, TakesKnown, HasRead}
 use Rattle.doc_text.proofs.Telling.{is_empty-map}
 use Rattle.doc_text.proofs.Known.{laws}
 use Rattle.doc_text.proofs.Reaching.{place_of, stops, stops_where_none, is_unfinished}
+use Rattle.doc_text.specs.Private.Noting.{bare}
+use Rattle.doc_text.proofs.TagPieces.{start_begins, end_begins}
+use Rattle.doc_text.proofs.KnownTags.{start_named, leaf_ends}
 use Rattle.doc_text.proofs.PlainRuns.{run_on}
 use Rattle.doc_text.proofs.Going.{Stands, DocOfItems, shorter, stands_on, ends_whole}
 
@@ -50,9 +53,36 @@ stands_still bytes rest old new stands same = subst (λ (b : Builder). Stands by
 pub scoped_still : (old new : Builder) → Scoped old → new ≡ old → Scoped new
 scoped_still old new scoped same = subst Scoped (sym same) scoped
 
--- a tag, taken as one before
-pub first_on : (bytes rest behind : List ℕ) (old new : Builder) (at : ℕ) → Stands bytes rest (state old) → at ≡ place_of bytes rest → TakesFirst rest behind at old new → Stands bytes behind (state new)
-first_on bytes rest behind old new at stands at_is t = steps_on bytes rest behind old new t.piece at stands at_is t.begins t.takes
+-- an element of plain characters alone, taken at once
+leaf_on : (bytes rest behind : List ℕ) (old new : Builder) (at : ℕ) → Scoped old → Stands bytes rest (state old) → at ≡ place_of bytes rest → TakesLeaf rest behind at old new → Stands bytes behind (state new)
+leaf_on bytes rest behind old new at scoped stands at_is t =
+    let s = state old in
+    let qname = start_named t.name (context s) t.none in
+    let one = opened (bare t.name) at s in
+    let text_at = at + length t.name + 2 in
+    let two = added (take t.len t.inner) text_at 0 one in
+    let tail = drop t.len t.inner in
+    let inside : Stands bytes t.inner one = stands_on laws bytes rest t.inner s (Start (bare t.name)) at stands at_is (start_begins t.name rest t.inner qname t.parts) t.none in
+    let here : text_at ≡ place_of bytes t.inner = omega (arith, at_is, ap length t.parts, length-append t.name (0x3E ∷ t.inner), stands.reaches.within) in
+    let past : Stands bytes tail two = run_on t.len bytes t.inner one text_at t.leaf.some t.leaf.within t.leaf.run refl inside here in
+    subst (Stands bytes behind) (sym t.puts.steps)
+    (stands_on laws bytes tail behind two (End t.name) (place_of bytes tail) past refl (end_begins t.name tail behind qname t.leaf.parts) (leaf_ends t.name old at (take t.len t.inner) text_at scoped t.none))
+
+leaf_shorter : (rest behind : List ℕ) (old new : Builder) (at : ℕ) → TakesLeaf rest behind at old new → length behind < length rest
+leaf_shorter rest behind old new at t =
+    omega (arith, ap length t.parts, length-append t.name (0x3E ∷ t.inner), ap length t.leaf.parts, length-append t.name (0x3E ∷ behind), length-drop t.len t.inner)
+
+pub known_on : (bytes rest behind : List ℕ) (old new : Builder) (at : ℕ) → Scoped old → Stands bytes rest (state old) → at ≡ place_of bytes rest → TakesKnown rest behind at old new → Stands bytes behind (state new)
+known_on bytes rest behind old new at scoped stands at_is (inl t) = steps_on bytes rest behind old new t.piece at stands at_is t.begins t.takes
+known_on bytes rest behind old new at scoped stands at_is (inr t) = leaf_on bytes rest behind old new at scoped stands at_is t
+
+pub known_scoped : (rest behind : List ℕ) (old new : Builder) (at : ℕ) → TakesKnown rest behind at old new → Scoped new
+known_scoped rest behind old new at (inl t) = t.takes.scoped
+known_scoped rest behind old new at (inr t) = t.puts.scoped
+
+pub known_shorter : (bytes rest behind : List ℕ) (old new : Builder) (at : ℕ) → Stands bytes rest (state old) → TakesKnown rest behind at old new → length behind < length rest
+known_shorter bytes rest behind old new at stands (inl t) = gets_shorter bytes rest behind (state old) t.piece stands t.begins
+known_shorter bytes rest behind old new at stands (inr t) = leaf_shorter rest behind old new at t
 
 -- plain characters, taken at once
 pub takes_plain : (bytes rest text behind : List ℕ) (old new : Builder) (n at : ℕ) → Stands bytes rest (state old) → at ≡ place_of bytes rest → 0 < n → n ≤ length rest → is_outside (context (state old)) ≡ false → IsPlainRun (take n rest) → text ≡ take n rest → behind ≡ drop n rest

@@ -1,5 +1,5 @@
 //! What a reader has so far, and its step at each piece.
-ghost use Rattle.std.specs.Prelude.{if◌then◌else◌, cond, not, true, false, string_bytes, nat_le, encode_utf8, ◌≡◌, ◌==◌, ◌<◌, ◌≤◌, ◌&&◌, ◌∷◌, [], None, reverse, take, IfOk, IfErr, IfSome, IsUtf8, MatchOption, OnOk, length, ℕ};
+ghost use Rattle.std.specs.Prelude.{if◌then◌else◌, cond, not, true, false, string_bytes, nat_le, encode_utf8, ◌≡◌, ◌==◌, ◌<◌, ◌≤◌, ◌&&◌, ◌∷◌, [], None, reverse, take, IfOk, IfErr, IfSome, IsUtf8, MatchOption, OnOk, length, ℕ, ◌+◌};
 ghost use Rattle.xa_base.specs.WhiteSpace.{is_white_space};
 ghost use Rattle.xa_base.specs.Limits.{is_empty};
 ghost use Rattle.doc_pieces.specs.Pieces as pieces;
@@ -12,7 +12,7 @@ ghost use Rattle.doc_text.specs.Private.States.{context, nothing, added, passed}
 ghost use Rattle.doc_text.specs.Private.Entering.{Stopped, have_utf8};
 ghost use Rattle.doc_text.specs.declared.error.DocWhy.TheVariants as why;
 ghost use Rattle.doc_text.specs.Private.Noting.{KnownAs, bare};
-ghost use Rattle.doc_text.specs.Private.Building.{state, Scoped, Takes, TakesFirst, StartsKnown, EndsInnermost, Begins, Flushed, Shuts, Kept, GivesUtf8};
+ghost use Rattle.doc_text.specs.Private.Building.{state, Scoped, Takes, TakesFirst, TakesKnown, IsLeaf, PutsLeaf, StartsKnown, EndsInnermost, Begins, Flushed, Shuts, Kept, GivesUtf8};
 
 use crate::error::{DocError, DocWhy};
 use crate::names::{is_long, past_less, past_slash, past_tag};
@@ -22,7 +22,7 @@ use crate::tags::{enter, first_of_place, is_unbound, value_of};
 use doc_pieces::{Element, Found, is_qname, plain_run, prefix_of};
 use item_tree::{ElementName, ItemBuilder, ItemTree};
 use std::alloc::Global;
-use xa_base::{Memory, Text, utf8_text};
+use xa_base::{Memory, ROOM, Text, utf8_text};
 
 #[derive(Drop)]
 pub(crate) struct Builder<'a> {
@@ -327,27 +327,73 @@ impl<'a> Builder<'a> {
         }
     }
 
-    // Takes a start tag without attributes, if what stands behind `<` is as was guessed. What is behind it, or nothing.
+    // Takes an element without attributes, of a name that is noted, in which so many plain characters stand alone, where
+    // nothing speaks against its start tag.
+    #[inline(always)]
+    fn put_leaf(
+        &mut self,
+        note: &Note<'a>,
+        inner: &'a [u8],
+        len: usize,
+        at: u64,
+    ) -> Result<(), Memory>
+        requires scoped { Scoped self.old }
+        requires known { KnownAs (reverse self.old.scope) self.old.items.names note.now.written.now note.now.name }
+        requires none { reason (pieces.Start (bare note.now.written.now)) (context (state self.old)) ≡ None }
+        requires some { 0 < len }
+        requires within { len ≤ length inner.now }
+        requires run { IsPlainRun (take len inner.now) }
+        requires place { at + length note.now.written.now ≤ 16777216 }
+        ensures { OnOk result (PutsLeaf (bare note.now.written.now) at (take len inner.now) (at + length note.now.written.now + 2) self.old self.new) }
+    {
+        self.flush()?;
+        self.items.open_known(note.name, at)?;
+        let text = front_text(self.alloc, inner, len)?;
+        self.text_at = at + note.written.len() as u64 + 2;
+        self.items.text(text, self.text_at)?;
+        self.items.close();
+        self.notes.came(note.number);
+        self.ended = self.open.is_empty();
+        self.first = false;
+        self.brackets = 0;
+        Ok(())
+    }
+
+    // Takes a start tag without attributes, if what stands behind `<` is as was guessed; and what is in its element with
+    // its end tag, if that is plain characters alone. What is behind, or nothing.
     #[inline(always)]
     fn take_start(&mut self, tag: &'a [u8], at: u64) -> Result<Option<&'a [u8]>, Memory>
-        requires { Scoped self.old }
-        ensures { IfOk result (λ found. MatchOption found (self.new ≡ self.old) (λ behind. TakesFirst (0x3C ∷ tag.now) behind.now at self.old self.new)) }
+        requires scoped { Scoped self.old }
+        requires utf8 { IsUtf8 (0x3C ∷ tag.now) }
+        requires place { at + length tag.now ≤ 16777216 }
+        ensures { IfOk result (λ found. MatchOption found (self.new ≡ self.old) (λ behind. TakesKnown (0x3C ∷ tag.now) behind.now at self.old self.new)) }
     {
         let Some(note) = self.notes.guess() else {
             return Ok(None);
         };
-        let Some(behind) = self.past_start(&note, tag) else {
+        let Some(inner) = self.past_start(&note, tag) else {
             return Ok(None);
         };
-        self.open_noted(&note, at)?;
-        Ok(Some(behind))
+        match past_leaf(note.written, inner) {
+            Some((len, behind)) => {
+                self.put_leaf(&note, inner, len, at)?;
+                Ok(Some(behind))
+            }
+            None => {
+                self.open_noted(&note, at)?;
+                Ok(Some(inner))
+            }
+        }
     }
 
-    // Takes what stands first, if it is a tag that is as one before. What is behind it, or nothing.
+    // Takes what stands first, if it is a tag that is as one before, or an element that begins so. What is behind it, or
+    // nothing.
     #[inline(always)]
     pub(crate) fn take_known(&mut self, rest: &'a [u8], at: u64) -> Result<Option<&'a [u8]>, Memory>
-        requires { Scoped self.old }
-        ensures { IfOk result (λ found. MatchOption found (self.new ≡ self.old) (λ behind. TakesFirst rest.now behind.now at self.old self.new)) }
+        requires scoped { Scoped self.old }
+        requires utf8 { IsUtf8 rest.now }
+        requires place { at + length rest.now ≤ 16777216 }
+        ensures { IfOk result (λ found. MatchOption found (self.new ≡ self.old) (λ behind. TakesKnown rest.now behind.now at self.old self.new)) }
     {
         if let Some(written) = past_slash(rest) {
             return self.take_end(written);
@@ -533,4 +579,45 @@ fn first_place(is_first: bool, at: u64, before: u64) -> u64
     ensures { result ≡ cond is_first at before }
 {
     if is_first { at } else { before }
+}
+
+// How many plain characters stand first, if some do and the end tag of this name stands behind them; and what is behind
+// that.
+#[inline(always)]
+fn past_leaf<'a>(name: &[u8], inner: &'a [u8]) -> Option<(usize, &'a [u8])>
+    requires { IsUtf8 inner.now }
+    ensures { IfSome result (λ leaf. IsLeaf name.now inner.now leaf.0 leaf.1.now) }
+{
+    let len = plain_run(inner);
+    if len == 0 {
+        return None;
+    }
+    let tag = past_slash(&inner[len..])?;
+    let behind = past_tag(name, tag)?;
+    Some((len, behind))
+}
+
+// The text of so many bytes that stand first, if they are few and ASCII characters, and more bytes stand there.
+#[inline(always)]
+fn short_text(bytes: &[u8], len: usize) -> Option<Text>
+    ensures { IfSome result (λ text. text ≡ take len bytes.now) }
+{
+    if len > ROOM {
+        return None;
+    }
+    let front = bytes.first_chunk::<ROOM>()?;
+    Text::of_ascii(*front, len)
+}
+
+// The text of so many bytes that stand first.
+#[inline(always)]
+fn front_text(alloc: Global, bytes: &[u8], len: usize) -> Result<Text, Memory>
+    requires within { len ≤ length bytes.now }
+    requires utf8 { IsUtf8 (take len bytes.now) }
+    ensures { IfOk result (λ text. text ≡ take len bytes.now) }
+{
+    match short_text(bytes, len) {
+        Some(text) => Ok(text),
+        None => Text::from_utf8(alloc, &bytes[..len]),
+    }
 }

@@ -1,5 +1,5 @@
 -- What a reader of the code has so far, as a state.
-use Rattle.std.specs.Prelude.{◌≡◌, ℕ, true, List, [], ◌∷◌, ◌++◌, map, reverse, None, string_bytes, IsUtf8}
+use Rattle.std.specs.Prelude.{◌≡◌, ◌⊎◌, ◌+◌, ◌<◌, ◌≤◌, ℕ, true, List, [], ◌∷◌, ◌++◌, length, map, take, drop, reverse, None, string_bytes, IsUtf8}
 use Rattle.std.specs.Borrow.{Bor}
 use Rattle.xa_base.specs.declared.texts.Name.{Name}
 use Rattle.xa_base.specs.Namespaces.{xml_prefix, xml_space}
@@ -7,6 +7,7 @@ use Rattle.label_tree.specs.Rose.{Rose}
 use Rattle.flat_tree.specs.Zips as zips
 use Rattle.doc_pieces.specs.Pieces as pieces
 use Rattle.doc_pieces.specs.Pieces.{Piece, Declaration, Start, Empty, End, Comment, Instruction, CData, Reference, Character}
+use Rattle.doc_pieces.specs.Reasons.{IsPlainRun}
 use Rattle.item_tree.specs.declared.label.ItemLabel.{ItemLabel}
 use Rattle.item_tree.specs.declared.label.ItemLabel.TheVariants.{Element, Text}
 use Rattle.doc_text.specs.declared.builder.Builder.{Builder}
@@ -17,7 +18,7 @@ use Rattle.doc_text.specs.Contexts.{Open, Context, is_innermost, scope, reason}
 use Rattle.doc_text.specs.Documents.{DocOf}
 use Rattle.doc_text.specs.Private.Entering.{have_utf8, IsNamed}
 use Rattle.doc_text.specs.Private.Noting.{AllKnown, bare}
-use Rattle.doc_text.specs.Private.States.{Above, State, nothing, context, kids_of_state, closed, step}
+use Rattle.doc_text.specs.Private.States.{Above, State, nothing, context, kids_of_state, closed, with_leaf, step}
 
 -- ---- an element that is open, by its written name and the open nodes from its own on
 
@@ -100,6 +101,33 @@ pub record TakesFirst (rest behind : List ℕ) (at : ℕ) (old new : Builder) : 
   pub piece : Piece
   pub begins : pieces.Begins piece rest behind
   pub takes : Takes piece at old new
+
+-- so many plain characters stand first, behind them the end tag of this name, and this behind that
+pub record IsLeaf (name inner : List ℕ) (len : ℕ) (behind : List ℕ) : Type 0 where
+  pub some : 0 < len
+  pub within : len ≤ length inner
+  pub run : IsPlainRun (take len inner)
+  pub parts : drop len inner ≡ 0x3C ∷ 0x2F ∷ (name ++ 0x3E ∷ behind)
+
+-- the reader has taken an element, in which these characters stand alone
+pub record PutsLeaf (tag : pieces.Tag) (at : ℕ) (text : List ℕ) (text_at : ℕ) (old new : Builder) : Type 0 where
+  pub steps : state new ≡ with_leaf tag at text text_at (state old)
+  pub scoped : Scoped new
+
+-- an element of plain characters alone stands first, with this behind it, nothing speaks against its start tag, and the
+-- reader has taken it
+pub record TakesLeaf (rest behind : List ℕ) (at : ℕ) (old new : Builder) : Type 0 where
+  pub name : List ℕ
+  pub inner : List ℕ
+  pub len : ℕ
+  pub none : reason (Start (bare name)) (context (state old)) ≡ None
+  pub parts : rest ≡ 0x3C ∷ (name ++ 0x3E ∷ inner)
+  pub leaf : IsLeaf name inner len behind
+  pub puts : PutsLeaf (bare name) at (take len inner) (at + length name + 2) old new
+
+-- a piece, or an element of plain characters alone
+abbrev pub TakesKnown : List ℕ → List ℕ → ℕ → Builder → Builder → Type 0
+TakesKnown rest behind at old new = TakesFirst rest behind at old new ⊎ TakesLeaf rest behind at old new
 
 -- this name and a `>` stand first, with this behind them, and nothing speaks against the start tag
 pub record StartsKnown (name tag behind : List ℕ) (c : Context) : Type 0 where

@@ -120,6 +120,10 @@ left_out brackets s = record { above = s.above; kids = s.kids; text = s.text; te
 abbrev pub added : List ℕ → ℕ → ℕ → State → State
 added text at brackets s = if is_empty s.above then left_out brackets s else written_on text at brackets s
 
+-- an element, behind the start of which these characters stand alone
+abbrev pub with_leaf : Tag → ℕ → List ℕ → ℕ → State → State
+with_leaf tag at text text_at s = let inner = added text text_at 0 (opened tag at s) in closed inner.above inner
+
 abbrev pub step : Piece → ℕ → State → State
 step Declaration at s = passed s
 step (Start tag) at s = opened tag at s

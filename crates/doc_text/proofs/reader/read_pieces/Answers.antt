@@ -1,15 +1,15 @@
-use Rattle.std.proofs.Common.{◌≡◌, take, rules, refl, sym, subst}
+use Rattle.std.proofs.Common.{◌≡◌, take, rules, arith, refl, sym, subst}
 use Rattle.doc_pieces.specs.Reasons.{IsPlainRun}
 use Rattle.doc_text.proofs.Known.{laws}
 use Rattle.doc_text.proofs.Utf8.{gives_utf8}
 use Rattle.doc_pieces.specs.Found.{seen}
 use Rattle.doc_pieces.specs.Pieces.{Begins, NoPieceAt}
 use Rattle.doc_text.specs.Private.States.{State}
-use Rattle.doc_text.specs.Private.Building.{state, TakesFirst}
+use Rattle.doc_text.specs.Private.Building.{state, TakesKnown}
 use Rattle.doc_text.proofs.Reaching.{place_of}
 use Rattle.doc_text.proofs.Going.{Stands, stands_first}
 use Rattle.doc_text.proofs.Built.{add_scoped}
-use Rattle.doc_text.proofs.Read.{at_none, at_fault, steps_on, gets_shorter, stands_still, scoped_still, first_on, takes_plain, whole_read, unfinished}
+use Rattle.doc_text.proofs.Read.{at_none, at_fault, steps_on, gets_shorter, stands_still, scoped_still, known_on, known_scoped, known_shorter, takes_plain, whole_read, unfinished}
 use Rattle.doc_text.proofs.reader.read_pieces.Goals as goal
 
 pub pieces-init : goal.pieces-init
@@ -71,13 +71,21 @@ returns-then-not-builder-clause-err c = unfinished c.args.bytes.now c.pieces.res
 
 pub pieces-preserved-in-Some : goal.pieces-preserved-in-Some
 pieces-preserved-in-Some c =
-    let taken : TakesFirst c.pieces.rest.now c.in-Some.behind.now (place_of c.args.bytes.now c.pieces.rest.now) c.pieces.builder c.take_known.new.self = search rules in
+    let at = place_of c.args.bytes.now c.pieces.rest.now in
+    let taken : TakesKnown c.pieces.rest.now c.in-Some.behind.now at c.pieces.builder c.take_known.new.self = search rules in
     record {
-      stands = first_on c.args.bytes.now c.pieces.rest.now c.in-Some.behind.now c.pieces.builder c.take_known.new.self _ c.pieces.invariant.stands refl taken;
-      scoped = taken.takes.scoped;
+      stands = known_on c.args.bytes.now c.pieces.rest.now c.in-Some.behind.now c.pieces.builder c.take_known.new.self at c.pieces.invariant.scoped c.pieces.invariant.stands refl taken;
+      scoped = known_scoped c.pieces.rest.now c.in-Some.behind.now c.pieces.builder c.take_known.new.self at taken;
     }
 
 pub pieces-smaller-in-Some : goal.pieces-smaller-in-Some
 pieces-smaller-in-Some c =
-    let taken : TakesFirst c.pieces.rest.now c.in-Some.behind.now (place_of c.args.bytes.now c.pieces.rest.now) c.pieces.builder c.take_known.new.self = search rules in
-    gets_shorter c.args.bytes.now c.pieces.rest.now c.in-Some.behind.now (state c.pieces.builder) taken.piece c.pieces.invariant.stands taken.begins
+    let at = place_of c.args.bytes.now c.pieces.rest.now in
+    let taken : TakesKnown c.pieces.rest.now c.in-Some.behind.now at c.pieces.builder c.take_known.new.self = search rules in
+    known_shorter c.args.bytes.now c.pieces.rest.now c.in-Some.behind.now c.pieces.builder c.take_known.new.self at c.pieces.invariant.stands taken
+
+pub take_known-requires-clause-place : goal.take_known-requires-clause-place
+take_known-requires-clause-place c = omega (arith, c.pieces.invariant.stands.reaches.within, c.requires.short)
+
+pub take_known-requires-clause-utf8 : goal.take_known-requires-clause-utf8
+take_known-requires-clause-utf8 c = c.pieces.invariant.stands.rest_utf8
