@@ -19,7 +19,7 @@ use Rattle.doc_text.specs.declared.builder.Builder.{Builder}
 use Rattle.doc_text.specs.declared.notes.Notes.{Notes}
 use Rattle.doc_text.specs.declared.error.DocWhy.{DocWhy}
 use Rattle.doc_text.specs.declared.error.DocWhy.TheVariants as why
-use Rattle.doc_text.specs.Namespaces.{bindings_of, attributes_of, element_name}
+use Rattle.doc_names.specs.Namespaces.{bindings_of, attributes_of, element_name}
 use Rattle.doc_text.specs.Contexts.{Context, Open, is_innermost, is_outside, brackets_after, scope, tag_scope, start_reason, reason, end_tests}
 use Rattle.xa_base.specs.Limits.{is_empty}
 use Rattle.xa_base.specs.Entries.{first_true}

@@ -6,9 +6,10 @@ use Rattle.xa_base.specs.Entries.{beside, first_true}
 use Rattle.doc_pieces.specs.Pieces.{Tag}
 use Rattle.doc_text.specs.declared.error.DocWhy.{DocWhy}
 use Rattle.doc_text.specs.declared.error.DocWhy.TheVariants as why
-use Rattle.doc_text.specs.Namespaces.{bindings_of, attributes_of, element_name, written_twice, expanded_twice, is_unbound, or_absent}
+use Rattle.doc_names.specs.Namespaces.{bindings_of, attributes_of, element_name, written_twice, expanded_twice, is_unbound, or_absent}
 use Rattle.doc_text.specs.declared.tags.Head.{Head}
-use Rattle.doc_text.specs.Private.Entering.{Enters, IsPlain, inner_tests}
+use Rattle.doc_names.specs.Plain.{IsPlain}
+use Rattle.doc_text.specs.Private.Entering.{Enters, inner_tests}
 use Rattle.doc_text.specs.Contexts.{has_bad_name, has_long_name, has_reserved, has_unbound, tag_scope, start_reason}
 
 abbrev pub name_tests : Tag → List (Bool × DocWhy)

@@ -97,9 +97,8 @@ not_empty (x ∷ xs) some = refl
 pub some_front : (len : ℕ) (bytes : List ℕ) → 0 < len → len ≤ length bytes → is_empty (take len bytes) ≡ false
 some_front len bytes some within = not_empty (take len bytes) (omega (arith, some, length-take-le len bytes within))
 
-pub some_short : (r : Option (List ℕ)) (len n : ℕ) (front bytes : List ℕ) → len ≤ n → front ≡ take n bytes → IfSome r (λ text. (text ≡ take len front) × IsUtf8 (take len front)) → IfSome r (λ text. text ≡ take len bytes)
-some_short None len n front bytes le is h = tt
-some_short (Some text) len n front bytes le is h = h.0 ∙ ap (take len) is ∙ take-take len n bytes le
+pub same_front : (len n : ℕ) (front bytes : List ℕ) → len ≤ n → front ≡ take n bytes → take len front ≡ take len bytes
+same_front len n front bytes le is = ap (take len) is ∙ take-take len n bytes le
 
 pub inner_utf8 : (name tag behind : List ℕ) (c : Context) → StartsKnown name tag behind c → IsUtf8 (0x3C ∷ tag) → IsUtf8 behind
 inner_utf8 name tag behind c s u = laws.utf8 (Start (bare name)) (0x3C ∷ tag) behind u (start_begins name (0x3C ∷ tag) behind (start_named name c s.none) (ap (λ (x : List ℕ). 0x3C ∷ x) s.parts))

@@ -12,7 +12,7 @@ use Rattle.doc_pieces.specs.declared.found.Attribute.{Attribute}
 use Rattle.doc_pieces.specs.declared.found.Element.{Element}
 use Rattle.doc_pieces.specs.Found.{tag_seen, attribute_of}
 use Rattle.std.specs.Borrow.{Bor}
-use Rattle.doc_text.specs.Namespaces.{bindings_of, element_name}
+use Rattle.doc_names.specs.Namespaces.{bindings_of, element_name}
 use Rattle.doc_text.specs.Contexts.{tag_scope, start_reason}
 use Rattle.doc_text.specs.Private.Entering.{IsNamed, EntersAs}
 use Rattle.doc_text.specs.Private.Noting.{KnownAs, AllKnown, bare}

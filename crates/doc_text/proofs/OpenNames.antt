@@ -5,7 +5,7 @@ use Rattle.std.specs.List.{flat_map}
 use Rattle.std.proofs.lemmas.Slice.Eq.{bytes_eq-Decides}
 use Rattle.xa_base.specs.Namespaces.{xml_prefix, xml_space}
 use Rattle.doc_pieces.specs.Pieces.{Tag}
-use Rattle.doc_text.specs.Namespaces.{is_long, is_unbound}
+use Rattle.doc_names.specs.Namespaces.{is_long, is_unbound}
 use Rattle.doc_pieces.specs.QNames.{prefix_of, is_qname}
 use Rattle.doc_text.specs.Contexts.{Open, is_innermost, tag_scope, start_reason, start_tests, end_tests}
 use Rattle.xa_base.specs.Entries.{first_true}

@@ -14,7 +14,7 @@ use Rattle.xa_base.specs.Entries.{beside}
 use Rattle.doc_pieces.specs.Pieces.{Tag}
 use Rattle.item_tree.specs.declared.label.ItemLabel.TheVariants.{Element}
 use Rattle.doc_text.specs.Sound.{is_sound_space, is_sound_name, is_sound_attribute, has_name, are_sound_attributes, is_sound_binding, is_sound_label}
-use Rattle.doc_text.specs.Namespaces.{is_long, binds, bound_prefix, bindings_of, plain_of, is_reserved, is_unbound, or_absent, element_name, attribute_name, attributes_of, expanded_twice}
+use Rattle.doc_names.specs.Namespaces.{is_long, binds, bound_prefix, bindings_of, plain_of, is_reserved, is_unbound, or_absent, element_name, attribute_name, attributes_of, expanded_twice}
 use Rattle.doc_pieces.specs.QNames.{has_colon, prefix_of, local_of, is_qname}
 use Rattle.doc_text.specs.Contexts.{tag_scope, start_tests}
 use Rattle.doc_text.specs.Private.States.{Above, open_of}

@@ -5,10 +5,10 @@ use Rattle.std.specs.List.{list_any}
 use Rattle.doc_pieces.specs.declared.found.Attribute.{Attribute}
 use Rattle.doc_pieces.specs.declared.found.Element.{Element}
 use Rattle.doc_pieces.specs.Found.{tag_seen, attribute_of, bytes_of}
-use Rattle.doc_text.specs.Namespaces.{is_long, binds, bound_prefix, bindings_of, plain_of, is_reserved, is_unbound}
+use Rattle.doc_names.specs.Namespaces.{is_long, binds, bound_prefix, bindings_of, plain_of, is_reserved, is_unbound}
 use Rattle.doc_pieces.specs.QNames.{prefix_of, is_qname}
 use Rattle.doc_text.specs.Contexts.{has_bad_name, has_long_name, has_reserved, has_unbound}
-use Rattle.doc_text.proofs.Lists.{any_map, any_filter}
+use Rattle.doc_names.proofs.Lists.{any_map, any_filter}
 
 abbrev seen : List Attribute → List (List ℕ × List ℕ)
 seen attributes = map attribute_of attributes

@@ -10,7 +10,7 @@ use Rattle.xa_base.specs.Namespaces.{xmlns_prefix}
 use Rattle.doc_pieces.specs.Pieces.{Tag, Piece, Declaration, Start, Empty, End, Comment, Instruction, CData, Reference, Character}
 use Rattle.doc_pieces.specs.declared.found.Attribute.{Attribute}
 use Rattle.doc_pieces.specs.Found.{attribute_of, bytes_of}
-use Rattle.doc_text.specs.Namespaces.{bound_prefix}
+use Rattle.doc_names.specs.Namespaces.{bound_prefix}
 use Rattle.doc_pieces.specs.QNames.{local_of, is_qname}
 use Rattle.doc_text.specs.Contexts.{has_bad_name}
 use Rattle.xa_base.specs.Entries.{first_true}

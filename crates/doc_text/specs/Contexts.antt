@@ -8,7 +8,7 @@ use Rattle.xa_base.specs.WhiteSpace.{is_white_space}
 use Rattle.doc_pieces.specs.Pieces.{Tag, Piece, Declaration, Start, Empty, End, Comment, Instruction, CData, Reference, Character}
 use Rattle.doc_text.specs.declared.error.DocWhy.{DocWhy}
 use Rattle.doc_text.specs.declared.error.DocWhy.TheVariants as why
-use Rattle.doc_text.specs.Namespaces.{is_long, bindings_of, plain_of, is_reserved, is_unbound, attributes_of, written_twice, expanded_twice}
+use Rattle.doc_names.specs.Namespaces.{is_long, bindings_of, plain_of, is_reserved, is_unbound, attributes_of, written_twice, expanded_twice}
 use Rattle.doc_pieces.specs.QNames.{prefix_of, is_qname}
 
 -- an element that is open: its name as written, and what it binds, each a prefix with a namespace

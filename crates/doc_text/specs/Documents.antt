@@ -14,7 +14,7 @@ use Rattle.doc_text.specs.declared.error.DocWhy.TheVariants as why
 use Rattle.doc_text.specs.declared.error.DocError.{DocError}
 use Rattle.doc_text.specs.declared.error.DocError.TheVariants as errors
 use Rattle.item_tree.specs.Labels.{MayHave}
-use Rattle.doc_text.specs.Namespaces.{bindings_of, attributes_of, element_name}
+use Rattle.doc_names.specs.Namespaces.{bindings_of, attributes_of, element_name}
 use Rattle.doc_text.specs.Contexts.{Context, start, is_outside, scope, tag_scope, reason, after}
 use Rattle.doc_text.specs.Tokens.{Token, Opens, Closes, tokens, join}
 

@@ -1,5 +1,4 @@
 pub mod Sound
-pub mod Namespaces
 pub mod Tokens
 pub mod Contexts
 pub mod Documents

@@ -2,5 +2,3 @@ pub mod States
 pub mod Entering
 pub mod Noting
 pub mod Building
-pub mod Scopes
-pub mod Hashes

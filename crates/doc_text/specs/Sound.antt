@@ -1,14 +1,14 @@
 -- What each tree of items keeps, by XML 1.0 and Namespaces in XML 1.0 and within the limits of this program.
 use Rattle.std.specs.Prelude.{◌≡◌, ℕ, suc, max, Bool, true, false, ◌&&◌, ◌||◌, not, ◌≤◌, ◌<◌, ◌^◌, List, [], ◌∷◌, bytes_eq}
-use Rattle.std.specs.List.{list_all, list_any}
+use Rattle.std.specs.List.{list_all}
 use Rattle.xa_base.specs.Limits.{is_empty, has_xml_chars, is_namespace, is_name_part, is_xmlns}
-use Rattle.xa_base.specs.Names.{name_eq}
 use Rattle.xa_base.specs.Namespaces.{xmlns_space}
 use Rattle.xa_base.specs.declared.texts.Name.{Name}
 use Rattle.label_tree.specs.Rose.{Rose, node, Roses, none, more, node_count, Allowed}
 use Rattle.item_tree.specs.declared.label.ItemLabel.{ItemLabel}
 use Rattle.item_tree.specs.declared.label.ItemLabel.TheVariants.{Element, Text}
 use Rattle.item_tree.specs.Labels.{MayHave}
+pub use Rattle.doc_names.specs.Namespaces.{has_name}
 
 -- a namespace but that of `xmlns`, which no name has (Namespaces in XML 1.0, section 3)
 abbrev pub is_sound_space : List ℕ → Bool
@@ -21,9 +21,6 @@ is_sound_name name = is_sound_space name.space && is_name_part name.local
 -- one attribute: its name, and the characters of its value
 abbrev pub is_sound_attribute : Name × List ℕ → Bool
 is_sound_attribute attribute = is_sound_name attribute.0 && not (is_xmlns attribute.0) && has_xml_chars attribute.1
-
-abbrev pub has_name : Name → List (Name × List ℕ) → Bool
-has_name name attributes = list_any (λ attribute. name_eq attribute.0 name) attributes
 
 -- no two have one name (Namespaces in XML 1.0, section 6.3)
 abbrev pub are_sound_attributes : List (Name × List ℕ) → Bool

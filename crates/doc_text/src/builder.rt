@@ -12,13 +12,13 @@ ghost use Rattle.doc_text.specs.Private.States.{context, nothing, added, passed}
 ghost use Rattle.doc_text.specs.Private.Entering.{Stopped, have_utf8};
 ghost use Rattle.doc_text.specs.declared.error.DocWhy.TheVariants as why;
 ghost use Rattle.doc_text.specs.Private.Noting.{KnownAs, bare};
-ghost use Rattle.doc_text.specs.Private.Building.{state, Scoped, Takes, TakesFirst, TakesKnown, IsLeaf, PutsLeaf, StartsKnown, EndsInnermost, Begins, Flushed, Shuts, Kept, GivesUtf8};
+ghost use Rattle.doc_text.specs.Private.Building.{state, Scoped, Takes, TakesFirst, TakesKnown, PutsLeaf, StartsKnown, EndsInnermost, Begins, Flushed, Shuts, Kept, GivesUtf8};
 
 use crate::error::{DocError, DocWhy};
-use crate::names::{is_long, past_less, past_slash, past_tag};
 use crate::notes::{Note, Notes};
-use crate::scope::BindingsInScope;
+use crate::past::{past_leaf, past_less, past_slash, past_tag};
 use crate::tags::{enter, first_of_place, is_unbound, value_of};
+use doc_names::{BindingsInScope, is_long};
 use doc_pieces::{Element, Found, is_qname, plain_run, prefix_of};
 use item_tree::{ElementName, ItemBuilder, ItemTree};
 use std::alloc::Global;
@@ -581,43 +581,17 @@ fn first_place(is_first: bool, at: u64, before: u64) -> u64
     if is_first { at } else { before }
 }
 
-// How many plain characters stand first, if some do and the end tag of this name stands behind them; and what is behind
-// that.
-#[inline(always)]
-fn past_leaf<'a>(name: &[u8], inner: &'a [u8]) -> Option<(usize, &'a [u8])>
-    requires { IsUtf8 inner.now }
-    ensures { IfSome result (λ leaf. IsLeaf name.now inner.now leaf.0 leaf.1.now) }
-{
-    let len = plain_run(inner);
-    if len == 0 {
-        return None;
-    }
-    let tag = past_slash(&inner[len..])?;
-    let behind = past_tag(name, tag)?;
-    Some((len, behind))
-}
-
-// The text of so many bytes that stand first, if they are few and ASCII characters, and more bytes stand there.
-#[inline(always)]
-fn short_text(bytes: &[u8], len: usize) -> Option<Text>
-    ensures { IfSome result (λ text. text ≡ take len bytes.now) }
-{
-    if len > ROOM {
-        return None;
-    }
-    let front = bytes.first_chunk::<ROOM>()?;
-    Text::of_ascii(*front, len)
-}
-
-// The text of so many bytes that stand first.
+// The text of so many bytes that stand first. If they are few, and more bytes stand there, they are copied at once.
 #[inline(always)]
 fn front_text(alloc: Global, bytes: &[u8], len: usize) -> Result<Text, Memory>
     requires within { len ≤ length bytes.now }
     requires utf8 { IsUtf8 (take len bytes.now) }
     ensures { IfOk result (λ text. text ≡ take len bytes.now) }
 {
-    match short_text(bytes, len) {
-        Some(text) => Ok(text),
-        None => Text::from_utf8(alloc, &bytes[..len]),
+    if len <= ROOM {
+        if let Some(front) = bytes.first_chunk::<ROOM>() {
+            return Ok(Text::of_front(*front, len));
+        }
     }
+    Text::from_utf8(alloc, &bytes[..len])
 }

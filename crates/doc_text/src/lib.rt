@@ -5,15 +5,12 @@
 
 mod bindings;
 mod builder;
-mod duplicates;
 mod error;
 mod items;
 mod laws;
-mod names;
 mod notes;
+mod past;
 mod reader;
-mod scope;
-mod short_lists;
 mod tags;
 
 pub use bindings::prefix_at;

@@ -6,16 +6,16 @@ ghost use Rattle.xa_base.specs.Entries.{first_true};
 ghost use Rattle.xa_base.specs.Limits.{is_short_space};
 ghost use Rattle.doc_pieces.specs.Found.{tag_seen, attribute_of, bytes_of};
 ghost use Rattle.doc_pieces.specs.QNames.{is_qname, prefix_of};
-ghost use Rattle.doc_text.specs.Namespaces as names;
+ghost use Rattle.doc_names.specs.Namespaces as names;
+ghost use Rattle.doc_names.specs.Plain.{IsPlain};
 ghost use Rattle.doc_text.specs.Contexts as contexts;
-ghost use Rattle.doc_text.specs.Private.Entering.{Enters, Stopped, IsPlain, have_utf8, are_named, inner_tests};
+ghost use Rattle.doc_text.specs.Private.Entering.{Enters, Stopped, have_utf8, are_named, inner_tests};
 ghost use Rattle.doc_text.specs.declared.error.DocWhy.TheVariants as why;
 
-use crate::duplicates::has_duplicate;
 use crate::error::{DocError, DocWhy};
-use crate::names::{binds, bound_prefix, is_long, is_plain, is_reserved};
-use crate::scope::BindingsInScope;
-use crate::short_lists::push;
+use doc_names::{
+    BindingsInScope, binds, bound_prefix, has_duplicate, is_long, is_plain, is_reserved, push,
+};
 use doc_pieces::{Attribute, Element, Value, is_qname, local_of, prefix_of};
 use std::alloc::Global;
 use xa_base::{Memory, Name, Text, is_short_space};
@@ -86,7 +86,7 @@ fn has_reserved(tag: &Element<'_>) -> bool
     is_any_reserved(&tag.attributes)
 }
 
-#[tactic(auto, unfolding(crate::specs::Namespaces::is_unbound))]
+#[tactic(auto, unfolding(doc_names::specs::Namespaces::is_unbound))]
 pub(crate) fn is_unbound(scope: &BindingsInScope<'_>, prefix: &[u8]) -> bool
     ensures { result ≡ names.is_unbound (reverse scope.now) prefix.now }
 {
@@ -120,7 +120,7 @@ fn copy_space(alloc: Global, space: Option<&Text>) -> Result<Text, Memory>
 }
 
 // The expanded name of an element.
-#[tactic(auto, unfolding(crate::specs::Namespaces::element_name))]
+#[tactic(auto, unfolding(doc_names::specs::Namespaces::element_name))]
 fn element_name(alloc: Global, scope: &BindingsInScope<'_>, written: &[u8]) -> Result<Name, Memory>
     requires { is_qname written.now ≡ true }
     ensures { IfOk result (λ name. name ≡ names.element_name (reverse scope.now) written.now) }
@@ -141,7 +141,7 @@ fn attribute_space<'s>(scope: &'s BindingsInScope<'_>, prefix: &[u8]) -> Option<
 }
 
 // The expanded name of an attribute.
-#[tactic(auto, unfolding(crate::specs::Namespaces::attribute_name))]
+#[tactic(auto, unfolding(doc_names::specs::Namespaces::attribute_name))]
 fn attribute_name(
     alloc: Global,
     scope: &BindingsInScope<'_>,

@@ -18,7 +18,7 @@ use Rattle.xa_base.specs.Entries.{beside}
 use Rattle.doc_pieces.specs.Pieces.{IsName}
 use Rattle.doc_pieces.proofs.Names.{list_all-append}
 use Rattle.doc_pieces.proofs.Runs.{prefix_again, prefix_whole}
-use Rattle.doc_text.specs.Namespaces.{is_long, binds, bound_prefix, is_unbound, or_absent, attribute_space, element_name, attribute_name}
+use Rattle.doc_names.specs.Namespaces.{is_long, binds, bound_prefix, is_unbound, or_absent, attribute_space, element_name, attribute_name}
 use Rattle.doc_pieces.specs.QNames.{colon_at, has_colon, prefix_of, local_of, is_qname}
 use Rattle.doc_written.proofs.Texts.{is_high, high_bytes}
 

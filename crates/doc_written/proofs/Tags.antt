@@ -14,7 +14,7 @@ use Rattle.doc_pieces.specs.Pieces.{Tag, Start, Empty, IsName, IsText, IsSpace, 
 use Rattle.doc_pieces.proofs.Tools.{or_false}
 use Rattle.doc_text.specs.declared.error.DocWhy.{DocWhy}
 use Rattle.doc_text.specs.Sound.{has_name}
-use Rattle.doc_text.specs.Namespaces.{is_long, binds, bindings_of, plain_of, is_reserved, is_unbound, attribute_name, attributes_of, element_name, written_twice, expanded_twice}
+use Rattle.doc_names.specs.Namespaces.{is_long, binds, bindings_of, plain_of, is_reserved, is_unbound, attribute_name, attributes_of, element_name, written_twice, expanded_twice}
 use Rattle.doc_pieces.specs.QNames.{prefix_of, is_qname}
 use Rattle.doc_text.specs.Contexts.{names_of, has_bad_name, has_long_name, has_reserved, has_unbound, has_duplicate, tag_scope, start_tests}
 use Rattle.xa_base.specs.Entries.{first_true}

@@ -16,7 +16,7 @@ use Rattle.item_tree.specs.declared.label.ItemLabel.{ItemLabel}
 use Rattle.item_tree.specs.declared.label.ItemLabel.TheVariants.{Element, Text}
 use Rattle.item_tree.specs.Labels.{MayHave}
 use Rattle.doc_text.specs.Sound.{is_sound_name, is_sound_space, has_name, is_sound_attribute, are_sound_attributes, is_sound_binding, is_sound_label, is_text, begins_with_text, is_sound, are_sound, levels, levels_all}
-use Rattle.doc_text.specs.Namespaces.{is_unbound, bindings_of, expanded_twice}
+use Rattle.doc_names.specs.Namespaces.{is_unbound, bindings_of, expanded_twice}
 use Rattle.doc_pieces.specs.QNames.{prefix_of}
 use Rattle.doc_text.specs.Contexts.{Open, scope, end_tests, start_tests, reason, entered}
 use Rattle.doc_text.specs.Tokens.{Token, Opens, Closes, tokens, tokens_all}

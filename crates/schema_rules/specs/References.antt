@@ -8,7 +8,7 @@ use Rattle.xa_base.specs.Entries.{beside}
 use Rattle.xa_base.specs.Namespaces.{schema_space}
 use Rattle.simple_types.specs.declared.simples.Builtin.{Builtin}
 use Rattle.simple_types.specs.declared.simples.Builtin.TheVariants as builtin
-use Rattle.doc_text.specs.Namespaces.{or_absent}
+use Rattle.doc_names.specs.Namespaces.{or_absent}
 use Rattle.schema_rules.specs.declared.why.SchemaWhy.{SchemaWhy}
 use Rattle.schema_rules.specs.declared.why.SchemaWhy.TheVariants as why
 

@@ -9,16 +9,9 @@ use Rattle.doc_text.specs.declared.error.DocWhy.{DocWhy}
 use Rattle.doc_text.specs.declared.error.DocWhy.TheVariants as why
 use Rattle.doc_text.specs.declared.error.DocError.{DocError}
 use Rattle.doc_text.specs.declared.error.DocError.TheVariants as errors
-use Rattle.doc_text.specs.Namespaces.{is_long, is_unbound, bindings_of, attributes_of, element_name}
-use Rattle.doc_pieces.specs.QNames.{prefix_of, local_of, is_qname}
+use Rattle.doc_names.specs.Namespaces.{is_long, is_unbound, bindings_of, attributes_of, element_name}
+use Rattle.doc_pieces.specs.QNames.{prefix_of, is_qname}
 use Rattle.doc_text.specs.Contexts.{tag_scope, start_reason, has_unbound, has_duplicate}
-
--- nothing speaks against the name, which has no prefix
-pub record IsPlain (written : List ℕ) : Type 0 where
-  pub qname : is_qname written ≡ true
-  pub short : is_long written ≡ false
-  pub alone : prefix_of written ≡ []
-  pub whole : local_of written ≡ written
 
 -- nothing speaks against a name where these bindings are in scope
 pub record IsNamed (written : List ℕ) (inside : List (List ℕ × List ℕ)) : Type 0 where

@@ -3,7 +3,7 @@ use Rattle.std.specs.Prelude.{◌≡◌, ℕ, List, [], ◌∷◌, Some, slice_g
 use Rattle.xa_base.specs.declared.texts.Name.{Name}
 use Rattle.doc_pieces.specs.Pieces.{Tag}
 use Rattle.std.specs.Borrow.{Bor}
-use Rattle.doc_text.specs.Namespaces.{element_name}
+use Rattle.doc_names.specs.Namespaces.{element_name}
 use Rattle.doc_text.specs.Private.Entering.{IsNamed}
 
 -- where these bindings are in scope, nothing speaks against the written name, and it stands for the name with this number

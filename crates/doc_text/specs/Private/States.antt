@@ -6,7 +6,7 @@ use Rattle.label_tree.specs.Rose.{Rose, node, none, roses_of}
 use Rattle.doc_pieces.specs.Pieces.{Tag, Piece, Declaration, Start, Empty, End, Comment, Instruction, CData, Reference, Character}
 use Rattle.item_tree.specs.declared.label.ItemLabel.{ItemLabel}
 use Rattle.item_tree.specs.declared.label.ItemLabel.TheVariants.{Element, Text}
-use Rattle.doc_text.specs.Namespaces.{bindings_of, attributes_of, element_name}
+use Rattle.doc_names.specs.Namespaces.{bindings_of, attributes_of, element_name}
 use Rattle.doc_text.specs.Contexts.{Context, Open, scope, tag_scope, brackets_after}
 
 -- an element that is open, with what stands before it beside it

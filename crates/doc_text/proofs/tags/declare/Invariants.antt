@@ -1,7 +1,7 @@
 use Rattle.std.proofs.Common.{◌≡◌, ◌≤◌, ◌++◌, length, take, map}
 use Rattle.std.specs.Prelude.{reverse}
 use Rattle.doc_pieces.specs.Found.{attribute_of}
-use Rattle.doc_text.specs.Namespaces.{bindings_of}
+use Rattle.doc_names.specs.Namespaces.{bindings_of}
 use Rattle.doc_text.proofs.tags.declare.Given as goal
 
 abbrev pub invariant-last_first : goal.invariant-last_first

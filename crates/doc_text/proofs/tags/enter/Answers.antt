@@ -3,7 +3,7 @@ use Rattle.std.specs.Prelude.{reverse}
 use Rattle.doc_pieces.specs.Found.{tag_seen, attribute_of}
 use Rattle.doc_pieces.specs.declared.found.Attribute.{Attribute}
 use Rattle.doc_text.specs.declared.error.DocWhy.{DocWhy}
-use Rattle.doc_text.specs.Namespaces.{bindings_of}
+use Rattle.doc_names.specs.Namespaces.{bindings_of}
 use Rattle.doc_text.specs.Private.Entering.{Stopped}
 use Rattle.doc_text.proofs.Entered.{names_stop, within, enters}
 use Rattle.doc_text.proofs.Utf8.{all_named}

@@ -1,7 +1,7 @@
 use Rattle.std.proofs.Common.{◌≡◌, ◌++◌, true, length, map}
 use Rattle.std.specs.Prelude.{reverse}
 use Rattle.doc_pieces.specs.Found.{attribute_of}
-use Rattle.doc_text.specs.Namespaces.{attributes_of}
+use Rattle.doc_names.specs.Namespaces.{attributes_of}
 use Rattle.doc_text.specs.Private.Entering.{are_named}
 use Rattle.doc_text.proofs.tags.read_attributes.Given as goal
 

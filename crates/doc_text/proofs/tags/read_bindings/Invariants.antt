@@ -1,6 +1,6 @@
 use Rattle.std.proofs.Common.{◌≡◌, ◌++◌, true, length, map}
 use Rattle.doc_pieces.specs.Found.{attribute_of}
-use Rattle.doc_text.specs.Namespaces.{bindings_of}
+use Rattle.doc_names.specs.Namespaces.{bindings_of}
 use Rattle.doc_text.specs.Private.Entering.{are_named}
 use Rattle.doc_text.proofs.tags.read_bindings.Given as goal
 

@@ -1,0 +1,5 @@
+pub mod Lists
+mod Spelling
+mod InScope
+mod Hashed
+mod Repeated

@@ -1,0 +1,3 @@
+pub mod Namespaces
+pub mod Plain
+pub mod Private
