@@ -1,5 +1,5 @@
 -- Namespaces with their prefixes, kept in the order found and beside it in a map.
-use Rattle.std.proofs.Common.{◌≡◌, ℕ, Bool, true, false, cond, List, [], ◌∷◌, ◌++◌, map, Option, Some, None, is_some, Bor, refl, sym, ap, ◌∙◌, nat_cmp, true≢false, inl, inr}
+use Rattle.std.proofs.Common.{◌≡◌, ℕ, Bool, true, false, cond, List, [], ◌∷◌, ◌++◌, map, Option, Some, None, is_some, Bor, refl, sym, ap, subst, ◌∙◌, nat_cmp, true≢false, inl, inr}
 use Rattle.std.specs.Prelude.{◌||◌, bytes_eq}
 use Rattle.std.specs.Option.{option_map, option_or}
 use Rattle.std.specs.Map.{lookup}
@@ -12,7 +12,8 @@ use Rattle.std.proofs.lemmas.Map.Text.{btree_map_updates_str}
 use Rattle.xa_base.specs.Limits.{is_empty}
 use Rattle.xa_base.specs.Namespaces.{xml_space}
 use Rattle.doc_write.specs.declared.prefixes.Prefix.{Prefix}
-use Rattle.doc_write.specs.Private.Binding.{prefix_text, entry_of, Indexed, is_bound}
+use Rattle.doc_write.specs.declared.prefixes.Qualifier.{Qualifier}
+use Rattle.doc_write.specs.Private.Binding.{prefix_text, qualifier_text, before_local, entry_of, Indexed, next_prefix, is_bound, with_space}
 
 -- the map after the prefix of a namespace was put
 abbrev pub Puts : BTreeMap (Bor (List ℕ)) Prefix → BTreeMap (Bor (List ℕ)) Prefix → List ℕ → Option Prefix → Type 0
@@ -58,9 +59,9 @@ mapped true x o = refl
 mapped false x o = refl
 
 -- a namespace that has no entry gets one
-pub indexed-push : (entries all : List (Bor (List ℕ) × Prefix)) (old new : BTreeMap (Bor (List ℕ)) Prefix) (e : Bor (List ℕ) × Prefix) → Indexed entries old → lookup (bytes_eq e.0.now) (map entry_of entries) ≡ None
-    → all ≡ entries ++ e ∷ [] → Puts old new e.0.now (Some e.1) → Indexed all new
-indexed-push entries all old new e indexed absent is puts = record {
+pub indexed-push : (entries all : List (Bor (List ℕ) × Prefix)) (old new : BTreeMap (Bor (List ℕ)) Prefix) (last : Option (Bor (List ℕ) × Qualifier)) (e : Bor (List ℕ) × Prefix) → Indexed entries old last
+    → lookup (bytes_eq e.0.now) (map entry_of entries) ≡ None → all ≡ entries ++ e ∷ [] → Puts old new e.0.now (Some e.1) → Indexed all new None
+indexed-push entries all old new last e indexed absent is puts = record {
   found = λ q.
       (let same = bytes_eq e.0.now q in
       let table = map entry_of entries in
@@ -70,4 +71,26 @@ indexed-push entries all old new e indexed absent is puts = record {
       ∙ last_by table e.0.now (prefix_text e.1) q same refl absent
       ∙ sym (lookup-push (bytes_eq q) table e.0.now (prefix_text e.1))
       ∙ ap (lookup (bytes_eq q)) (sym (ap (map entry_of) is ∙ map-append entry_of entries (e ∷ []))));
+  last_bound = λ space qualifier none_is. absurd (cc);
+  last_named = λ space qualifier none_is. absurd (cc);
 }
+
+-- a namespace that needs no entry gets none
+pub bound-same : (table : List (List ℕ × List ℕ)) (space : List ℕ) → is_bound table space ≡ true → table ≡ with_space table space
+bound-same table space bound = sym (ap (λ b. cond b table (table ++ (space, next_prefix table space) ∷ [])) bound)
+
+-- the namespace that was asked for last
+pub indexed-last : (entries : List (Bor (List ℕ) × Prefix)) (by_space : BTreeMap (Bor (List ℕ)) Prefix) (before : Option (Bor (List ℕ) × Qualifier)) (space : Bor (List ℕ)) (qualifier : Qualifier) → Indexed entries by_space before
+    → is_bound (map entry_of entries) space.now ≡ true → qualifier_text qualifier ≡ before_local (map entry_of entries) space.now → Indexed entries by_space (Some (space, qualifier))
+indexed-last entries by_space before space qualifier indexed bound named = record {
+  found = indexed.found;
+  last_bound = λ other q is.
+      (let same : (space, qualifier) ≡ (other, q) = some_same _ _ is in
+      subst (λ (e : Bor (List ℕ) × Qualifier). is_bound (map entry_of entries) e.0.now ≡ true) same bound);
+  last_named = λ other q is.
+      (let same : (space, qualifier) ≡ (other, q) = some_same _ _ is in
+      subst (λ (e : Bor (List ℕ) × Qualifier). qualifier_text e.1 ≡ before_local (map entry_of entries) e.0.now) same named);
+}
+  where
+    some_same : (a b : Bor (List ℕ) × Qualifier) → Some a ≡ Some b → a ≡ b
+    some_same a b e = cc

@@ -1,8 +1,9 @@
 -- What is told one after another is told at once.
 use Rattle.std.proofs.Common.{◌≡◌, ℕ, Bool, true, false, cond, List, [], ◌∷◌, ◌++◌, length, drop, Some, None, is_some, refl, sym, ap, ◌∙◌, append_assoc, length-append, ◌<◌, inl, inr, true≢false, arith}
-use Rattle.std.specs.Prelude.{◌⊎◌, ◌||◌, bytes_eq, codes}
+use Rattle.std.specs.Prelude.{◌⊎◌, ◌||◌, ◌==◌, bytes_eq, codes}
 use Rattle.std.specs.List.{flat_map}
 use Rattle.std.specs.Map.{lookup}
+use Rattle.std.proofs.lemmas.Bool.{eqb-true}
 use Rattle.std.proofs.lemmas.List.{append-nil}
 use Rattle.std.proofs.lemmas.Slice.Eq.{bytes_eq-Decides}
 use Rattle.xa_base.specs.declared.texts.Name.{Name}
@@ -12,12 +13,13 @@ use Rattle.label_tree.specs.Rose.{Rose, node, Roses, none, more, roses_of}
 use Rattle.item_tree.specs.declared.label.ItemLabel.{ItemLabel}
 use Rattle.item_tree.specs.declared.label.ItemLabel.TheVariants.{Element}
 use Rattle.doc_written.specs.Spaces.{prefixes, prefix_for, or_none, attribute_spaces, spaces, all_spaces}
-use Rattle.doc_written.specs.Written.{written_name, written_value, written_attribute, written_declaration, written_end, xml_declaration, spelled, all_spelled, written}
+use Rattle.doc_written.specs.Written.{text_escape, written_name, written_value, written_attribute, written_declaration, written_end, xml_declaration, spelled, all_spelled, written}
 use Rattle.doc_write.specs.declared.builder.TextBuilder.{TextBuilder}
 use Rattle.doc_write.specs.declared.builder.OpenTag.{OpenTag}
 use Rattle.doc_write.specs.declared.prefixes.Qualifier.{Qualifier}
 use Rattle.doc_write.specs.Private.Binding.{qualifier_text, before_local, is_bound, next_prefix, with_space, with_spaces}
-use Rattle.doc_write.specs.Telling.{Extends, end_of_tag, before_items, is_still_in_tag, IsBegun, EndsTag, Told, Tells, Begun, Begins, Closes}
+use Rattle.doc_write.specs.Private.Elements.{element_text, written_words}
+use Rattle.doc_write.specs.Telling.{Extends, end_of_tag, before_items, is_still_in_tag, words_in, IsBegun, EndsTag, Told, Tells, Begun, Begins, Closes}
 use Rattle.doc_write.proofs.Written.{with_spaces-append, written-parts}
 use Rattle.doc_write.proofs.Qualified.{named-written, attribute-regroup}
 use Rattle.doc_write.proofs.WrittenSpaces.{with_spaces-prefixes}
@@ -78,7 +80,7 @@ last_true true b c e = refl
 last_true false true c e = refl
 last_true false false c e = e
 
-now-bound : (table : List (List ℕ × List ℕ)) (space : List ℕ) → is_bound (with_space table space) space ≡ true
+pub now-bound : (table : List (List ℕ × List ℕ)) (space : List ℕ) → is_bound (with_space table space) space ≡ true
 now-bound table space = by (is_bound table space) refl
   where
     by : (b : Bool) → is_bound table space ≡ b → is_bound (cond b table (table ++ (space, next_prefix table space) ∷ [])) space ≡ true
@@ -273,24 +275,74 @@ told-attribute old new name value before pushed named in_tag is e same late ep e
     regroup : (old name value : List ℕ) → ((old ++ 32 ∷ []) ++ name) ++ value ≡ old ++ (((32 ∷ name ++ value) ++ []) ++ [])
     regroup old name value = attribute-regroup old name value ∙ ap (λ t. old ++ t) (sym (append-nil ((32 ∷ name ++ value) ++ []) ∙ append-nil (32 ∷ name ++ value)))
 
-pub begins-element : (old ended new : TextBuilder) (name : Name) (tag : OpenTag) (begun : List ℕ) → EndsTag old ended → new.prefixes ≡ with_space ended.prefixes name.space
-    → qualifier_text tag.qualifier ≡ before_local new.prefixes name.space → tag.local.now ≡ name.local → new.in_tag ≡ true → new.late ≡ ended.late → begun ≡ ended.text.items ++ 60 ∷ qualifier_text tag.qualifier
-    → new.text.items ≡ begun ++ name.local → Begins old new name tag
-begins-element old ended new name tag begun ends is e local in_tag late eb et on_time =
+pub begins-element : (old ended new : TextBuilder) (name : Name) (tag : OpenTag) → EndsTag old ended → new.prefixes ≡ with_space ended.prefixes name.space
+    → qualifier_text tag.qualifier ≡ before_local new.prefixes name.space → tag.local.now ≡ name.local → new.in_tag ≡ true → new.late ≡ ended.late
+    → new.text.items ≡ ended.text.items ++ 60 ∷ (qualifier_text tag.qualifier ++ name.local) → Begins old new name tag
+begins-element old ended new name tag ends is e local in_tag late et on_time =
     let grows : new.prefixes ≡ with_space old.prefixes name.space = is ∙ ap (λ t. with_space t name.space) ends.prefixes in
+    let called = qualifier_text tag.qualifier ++ name.local in
     record {
       on_time = sym (late ∙ ends.late) ∙ on_time;
       prefixes = grows;
       in_tag = in_tag;
       text = λ table grown.
-          et ∙ ap (λ t. t ++ name.local) (eb ∙ ap (λ t. t ++ 60 ∷ qualifier_text tag.qualifier) ends.text)
-          ∙ regroup old.text.items (end_of_tag old.in_tag) (qualifier_text tag.qualifier) name.local
+          et ∙ ap (λ t. t ++ 60 ∷ called) ends.text
+          ∙ append_assoc old.text.items (end_of_tag old.in_tag) (60 ∷ called)
           ∙ ap (λ n. old.text.items ++ (end_of_tag old.in_tag ++ 60 ∷ n)) (name-kept old.prefixes table new.prefixes name (qualifier_text tag.qualifier) grows e grown);
       name_is = λ table grown. ap (λ l. qualifier_text tag.qualifier ++ l) local ∙ name-kept old.prefixes table new.prefixes name (qualifier_text tag.qualifier) grows e grown;
     }
+
+-- ---- an element in which a text stands alone
+
+pub no-words-written : (old before local words begun called new : List ℕ) → (length words == 0) ≡ true → begun ≡ old ++ 60 ∷ before → called ≡ begun ++ local → new ≡ called ++ 47 ∷ 62 ∷ [] → new ≡ old ++ written_words (before ++ local) words
+no-words-written old before local [] begun called new e eb ec en = en ∙ ap (λ t. t ++ 47 ∷ 62 ∷ []) (ec ∙ ap (λ t. t ++ local) eb) ∙ regroup old before local (47 ∷ 62 ∷ [])
   where
-    regroup : (old gt before name : List ℕ) → ((old ++ gt) ++ 60 ∷ before) ++ name ≡ old ++ (gt ++ 60 ∷ (before ++ name))
-    regroup old gt before name = simp append_assoc
+    regroup : (old before local end : List ℕ) → ((old ++ 60 ∷ before) ++ local) ++ end ≡ old ++ (60 ∷ (before ++ local) ++ end)
+    regroup old before local end = simp append_assoc
+no-words-written old before local (byte ∷ bytes) begun called new e eb ec en = absurd (omega (arith, eqb-true (length (byte ∷ bytes)) 0 e))
+
+pub some-words-written : (old before local words begun called ended inner last named new : List ℕ) → (length words == 0) ≡ false → begun ≡ old ++ 60 ∷ before → called ≡ begun ++ local → ended ≡ called ++ 62 ∷ []
+    → inner ≡ ended ++ flat_map text_escape words → last ≡ inner ++ 60 ∷ 47 ∷ before → named ≡ last ++ local → new ≡ named ++ 62 ∷ [] → new ≡ old ++ written_words (before ++ local) words
+some-words-written old before local [] begun called ended inner last named new e eb ec ee ei el em en = absurd (cc)
+some-words-written old before local (byte ∷ bytes) begun called ended inner last named new e eb ec ee ei el em en =
+    en ∙ ap (λ t. t ++ 62 ∷ []) (em ∙ ap (λ t. t ++ local) (el ∙ ap (λ t. t ++ 60 ∷ 47 ∷ before) (ei ∙ ap (λ t. t ++ flat_map text_escape (byte ∷ bytes)) (ee ∙ ap (λ t. t ++ 62 ∷ []) (ec ∙ ap (λ t. t ++ local) eb)))))
+    ∙ regroup old (60 ∷ before) local (62 ∷ []) (flat_map text_escape (byte ∷ bytes)) (60 ∷ 47 ∷ before)
+  where
+    regroup : (old start local gt inner end : List ℕ) → ((((((old ++ start) ++ local) ++ gt) ++ inner) ++ end) ++ local) ++ gt ≡ old ++ ((((start ++ local) ++ (gt ++ inner)) ++ (end ++ local)) ++ gt)
+    regroup old start local gt inner end = simp append_assoc
+
+words-text : (table : List (List ℕ × List ℕ)) (old new : List ℕ) (in_tag : Bool) (name : Name) (called words : List ℕ) → new ≡ (old ++ end_of_tag in_tag) ++ written_words called words → called ≡ written_name table name
+    → new ≡ old ++ (end_of_tag in_tag ++ (spelled table [] (node (Element name [] [] 0) (words_in words)) ++ []))
+words-text table old new in_tag name called [] en ec =
+    en ∙ ap (λ c. (old ++ end_of_tag in_tag) ++ (60 ∷ c ++ 47 ∷ 62 ∷ [])) ec ∙ regroup old (end_of_tag in_tag) (60 ∷ written_name table name) (47 ∷ 62 ∷ [])
+  where
+    regroup : (old gt start end : List ℕ) → (old ++ gt) ++ (start ++ end) ≡ old ++ (gt ++ ((((start ++ []) ++ []) ++ end) ++ []))
+    regroup old gt start end = simp (append_assoc, append-nil)
+words-text table old new in_tag name called (byte ∷ bytes) en ec =
+    let inner = flat_map text_escape (byte ∷ bytes) in
+    let name_is = written_name table name in
+    en ∙ ap (λ c. (old ++ end_of_tag in_tag) ++ element_text c inner) ec ∙ regroup old (end_of_tag in_tag) (60 ∷ name_is) (62 ∷ []) inner (60 ∷ 47 ∷ name_is)
+  where
+    regroup : (old gt start close inner end : List ℕ) → (old ++ gt) ++ (((start ++ (close ++ inner)) ++ end) ++ close) ≡ old ++ (gt ++ (((((start ++ []) ++ []) ++ (close ++ (inner ++ []))) ++ (end ++ close)) ++ []))
+    regroup old gt start close inner end = simp (append_assoc, append-nil)
+
+no-spaces : (words : List ℕ) → all_spaces (words_in words) ≡ []
+no-spaces [] = refl
+no-spaces (byte ∷ bytes) = refl
+
+pub told-words : (old ended new : TextBuilder) (name : Name) (before words : List ℕ) → EndsTag old ended → new.prefixes ≡ with_space ended.prefixes name.space → before ≡ before_local new.prefixes name.space
+    → new.in_tag ≡ ended.in_tag → new.late ≡ ended.late → new.text.items ≡ ended.text.items ++ written_words (before ++ name.local) words → Tells old new [] (node (Element name [] [] 0) (words_in words) ∷ [])
+told-words old ended new name before words ends is e in_tag late et on_time =
+    let grows : new.prefixes ≡ with_space old.prefixes name.space = is ∙ ap (λ t. with_space t name.space) ends.prefixes in
+    record {
+      on_time = sym (late ∙ ends.late) ∙ on_time;
+      prefixes = grows ∙ ap (λ ss. with_spaces old.prefixes (name.space ∷ ss)) (sym (no-spaces words)) ∙ ap (with_spaces old.prefixes) (sym (append-nil (name.space ∷ all_spaces (words_in words))));
+      in_tag = in_tag ∙ ends.in_tag;
+      order = inl refl;
+      text = λ table grown.
+          words-text table old.text.items new.text.items old.in_tag name (before ++ name.local) words (et ∙ ap (λ t. t ++ written_words (before ++ name.local) words) ends.text)
+          (name-kept old.prefixes table new.prefixes name before grows e grown);
+    }
 
 -- what stands behind the name and the declarations of an element
 abbrev behind : List (List ℕ × List ℕ) → Name → List (Name × List ℕ) → Roses ItemLabel → List ℕ

@@ -1,2 +1,3 @@
 pub mod Binding
+pub mod Elements
 pub mod Escapes

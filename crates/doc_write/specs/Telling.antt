@@ -1,17 +1,23 @@
 -- The text of items that are told one after another. An attribute that comes too late is told of by `late`, and nothing is
 -- said of the text then.
 use Rattle.std.specs.Prelude.{◌≡◌, ◌⊎◌, ℕ, List, [], ◌∷◌, ◌++◌, Bool, true, false, Option, Some, None, if◌then◌else◌}
+use Rattle.std.specs.Borrow.{Bor}
 use Rattle.std.specs.List.{flat_map}
 use Rattle.std.specs.Global.{Vec}
 use Rattle.xa_base.specs.declared.texts.Name.{Name}
-use Rattle.label_tree.specs.Rose.{Rose, node, Roses, roses_of}
+use Rattle.label_tree.specs.Rose.{Rose, node, Roses, none, more, roses_of}
 use Rattle.item_tree.specs.declared.label.ItemLabel.{ItemLabel}
-use Rattle.item_tree.specs.declared.label.ItemLabel.TheVariants.{Element}
+use Rattle.item_tree.specs.declared.label.ItemLabel.TheVariants.{Element, Text}
 use Rattle.doc_written.specs.Spaces.{attribute_spaces, all_spaces}
 use Rattle.doc_written.specs.Written.{written_name, written_attribute, all_spelled, xml_declaration, written}
 use Rattle.doc_write.specs.declared.builder.TextBuilder.{TextBuilder}
 use Rattle.doc_write.specs.declared.builder.OpenTag.{OpenTag}
 use Rattle.doc_write.specs.Private.Binding.{qualifier_text, with_space, with_spaces}
+
+-- the namespace of a name, which may be absent
+abbrev pub space_of : Option (Bor (List ℕ)) → List ℕ
+space_of None = []
+space_of (Some space) = space.now
 
 -- more may be behind the entries of a table
 abbrev pub Extends : List (List ℕ × List ℕ) → List (List ℕ × List ℕ) → Type 0
@@ -29,6 +35,11 @@ before_items in_tag (item ∷ items) = end_of_tag in_tag
 abbrev pub is_still_in_tag : Bool → List (Rose ItemLabel) → Bool
 is_still_in_tag in_tag [] = in_tag
 is_still_in_tag in_tag (item ∷ items) = false
+
+-- what stands in an element that has a text alone, which may be empty
+abbrev pub words_in : List ℕ → Roses ItemLabel
+words_in [] = none
+words_in (byte ∷ bytes) = more (node (Text (byte ∷ bytes) 0) none) none
 
 -- nothing was told
 pub record IsBegun (b : TextBuilder) : Type 0 where

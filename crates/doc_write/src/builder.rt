@@ -4,12 +4,13 @@ ghost use Rattle.label_tree.specs.Rose.{node, none};
 ghost use Rattle.item_tree.specs.declared.label.ItemLabel.TheVariants as item;
 ghost use Rattle.doc_write.specs.Private.Binding.{qualifier_text};
 
+use crate::elements::{write_end_tag, write_start_tag, write_text_element};
 use crate::prefixes::{Prefixes, Qualifier};
 use crate::root::{declarations, front_len};
 use crate::splicing::insert;
 use crate::writing::{CharacterPlace, XML_DECLARATION, write_escaped, write_value};
 use std::alloc::{AllocError, Global};
-use xa_base::Memory;
+use xa_base::{Memory, Text};
 
 /// The text of a document while its items are told in their order: an element, its attributes, what stands in it, and its
 /// end. What is told is written at once, and no item is kept.
@@ -33,7 +34,7 @@ pub struct OpenTag<'a> {
 }
 
 impl<'a> TextBuilder<'a> {
-    ghost use Rattle.doc_write.specs.Telling.{IsBegun, Tells, Begins, Closes, IsWhole, EndsTag};
+    ghost use Rattle.doc_write.specs.Telling.{space_of, words_in, IsBegun, Tells, Begins, Closes, IsWhole, EndsTag};
 
     /// A document of which nothing was told.
     pub fn new(alloc: Global) -> Result<TextBuilder<'a>, Memory>
@@ -89,31 +90,51 @@ impl<'a> TextBuilder<'a> {
         write_escaped(&mut self.text, CharacterPlace::Content, text)
     }
 
-    /// Begins an element.
-    pub fn open(&mut self, space: &'a [u8], local: &'a [u8]) -> Result<OpenTag<'a>, AllocError>
-        ensures told { IfOk result (λ tag. Begins self.old self.new (record { space = space.now; local = local.now }) tag) }
+    /// Adds an element without attributes in which a text stands, or nothing, where it is empty.
+    #[inline(always)]
+    pub fn text_element(
+        &mut self,
+        alloc: Global,
+        space: Option<&'a Text>,
+        local: &[u8],
+        text: &[u8],
+    ) -> Result<(), AllocError>
+        ensures told { OnOk result (Tells self.old self.new [] (node (item.Element (record { space = space_of space.entry; local = local.now }) [] [] 0) (words_in text.now) ∷ [])) }
         ensures late { OnOk result (self.new.late ≡ self.old.late) }
     {
         self.end_tag()?;
-        let qualifier = self.prefixes.declared(space)?;
-        qualifier.write_start(&mut self.text)?;
-        self.text.extend_from_slice(local)?;
+        let qualifier = self.prefixes.declared_text(space)?;
+        write_text_element(alloc, &mut self.text, qualifier, local, text)
+    }
+
+    /// Begins an element.
+    #[inline(always)]
+    pub fn open(
+        &mut self,
+        alloc: Global,
+        space: Option<&'a Text>,
+        local: &'a [u8],
+    ) -> Result<OpenTag<'a>, AllocError>
+        ensures told { IfOk result (λ tag. Begins self.old self.new (record { space = space_of space.entry; local = local.now }) tag) }
+        ensures late { OnOk result (self.new.late ≡ self.old.late) }
+    {
+        self.end_tag()?;
+        let qualifier = self.prefixes.declared_text(space)?;
+        write_start_tag(alloc, &mut self.text, qualifier, local)?;
         self.in_tag = true;
         Ok(OpenTag { qualifier, local })
     }
 
     /// Ends an element. Where nothing stands in it, it is an empty tag.
-    pub fn close(&mut self, tag: OpenTag<'a>) -> Result<(), AllocError>
+    #[inline(always)]
+    pub fn close(&mut self, alloc: Global, tag: OpenTag<'a>) -> Result<(), AllocError>
         ensures { OnOk result (Closes tag.entry self.old self.new) }
     {
         if self.in_tag {
             self.in_tag = false;
             return self.text.extend_from_slice(b"/>");
         }
-        tag.qualifier.write_end(&mut self.text)?;
-        self.text.extend_from_slice(tag.local)?;
-        self.text.push(b'>')?;
-        Ok(())
+        write_end_tag(alloc, &mut self.text, tag.qualifier, tag.local)
     }
 
     /// The text of the document, whose root has this name. None where an attribute was told too late.

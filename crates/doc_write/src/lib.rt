@@ -4,6 +4,7 @@
 #![tactic(auto)]
 
 mod builder;
+mod elements;
 mod prefixes;
 mod root;
 mod splicing;

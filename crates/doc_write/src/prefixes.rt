@@ -1,9 +1,10 @@
 //! The prefixes under which the namespaces of a document are declared.
-ghost use Rattle.std.specs.Prelude.{◌≡◌, ◌∷◌, ◌++◌, [], true, false, map, IfOk, OnOk, MatchOption, bytes_eq};
+ghost use Rattle.std.specs.Prelude.{◌≡◌, ◌∷◌, ◌++◌, [], true, false, map, IfOk, IfSome, OnOk, MatchOption, bytes_eq};
 ghost use Rattle.std.specs.Option.{option_map};
 ghost use Rattle.std.specs.Map.{lookup};
 ghost use Rattle.doc_written.specs.Spaces.{attribute_spaces, label_spaces, spaces};
 ghost use Rattle.item_tree.specs.Seen.{item_seen};
+ghost use Rattle.doc_write.specs.Telling.{space_of};
 ghost use Rattle.doc_write.specs.Private.Binding.{prefix_text, qualifier_text, before_local, entry_of, next_prefix, is_bound, with_space, with_spaces};
 
 use item_tree::{ItemNode, ItemRef};
@@ -36,6 +37,8 @@ pub(crate) enum Qualifier {
 pub(crate) struct Prefixes<'a> {
     found: Vec<(&'a [u8], Prefix)>,
     by_space: BTreeMap<&'a [u8], Prefix>,
+    // The namespace that was asked for last, where it needs no entry more, and what stands before a local name in it.
+    last: Option<(&'a Text, Qualifier)>,
 }
 
 impl<'a> Model for Prefixes<'a> {
@@ -46,7 +49,7 @@ impl<'a> Model for Prefixes<'a> {
 
     ghost view = { λ a. map entry_of a.found.items };
 
-    ghost invariant = { λ a. Indexed a.found.items a.by_space };
+    ghost invariant = { λ a. Indexed a.found.items a.by_space a.last };
 }
 
 impl<'a> Prefixes<'a> {
@@ -56,6 +59,7 @@ impl<'a> Prefixes<'a> {
         Prefixes {
             found: Vec::new(alloc),
             by_space: BTreeMap::new(alloc),
+            last: None,
         }
     }
 
@@ -105,6 +109,7 @@ impl<'a> Prefixes<'a> {
             return Ok(());
         }
         let prefix = self.next(space);
+        self.last = None;
         self.found.push((space, prefix))?;
         match self.by_space.insert(space, prefix) {
             Ok(_) => Ok(()),
@@ -182,6 +187,34 @@ impl<'a> Prefixes<'a> {
         Ok(self.qualifier(space))
     }
 
+    // The same of a namespace that may be absent. Most names are in that of the name before.
+    #[inline(always)]
+    pub(crate) fn declared_text(&mut self, space: Option<&'a Text>) -> Result<Qualifier, AllocError>
+        ensures table { OnOk result (self.new ≡ with_space self.old (space_of space.entry)) }
+        ensures qualifier { IfOk result (λ q. qualifier_text q ≡ before_local self.new (space_of space.entry)) }
+    {
+        let Some(space) = space else {
+            return Ok(Qualifier::Absent);
+        };
+        if let Some((last, qualifier)) = self.last {
+            if *last == *space {
+                return Ok(qualifier);
+            }
+        }
+        self.declared_anew(space)
+    }
+
+    // The same of one that isn't that of the name before.
+    #[inline(never)]
+    fn declared_anew(&mut self, space: &'a Text) -> Result<Qualifier, AllocError>
+        ensures table { OnOk result (self.new ≡ with_space self.old space.now) }
+        ensures qualifier { IfOk result (λ q. qualifier_text q ≡ before_local self.new space.now) }
+    {
+        let qualifier = self.declared(space.bytes())?;
+        self.last = Some((space, qualifier));
+        Ok(qualifier)
+    }
+
     // What stands before the local part of a name in this namespace.
     #[inline(always)]
     pub(crate) fn qualifier(&self, space: &[u8]) -> Qualifier
@@ -211,6 +244,17 @@ impl Prefix {
                 out.push(b'n')?;
                 out.extend_from_slice(buffer.format(number).as_bytes())
             }
+        }
+    }
+
+    // The digit, where it is `n` with one digit, as most are.
+    #[inline(always)]
+    fn digit(self) -> Option<u8>
+        ensures { IfSome result (λ digit. prefix_text self ++ 58 ∷ [] ≡ 110 ∷ digit ∷ 58 ∷ []) }
+    {
+        match self {
+            Prefix::Numbered(number) if number < 10 => Some(b'0' + number as u8),
+            _ => None,
         }
     }
 
@@ -264,6 +308,17 @@ impl Prefix {
 }
 
 impl Qualifier {
+    // The digit of its prefix, where that is `n` with one digit.
+    #[inline(always)]
+    pub(crate) fn digit(self) -> Option<u8>
+        ensures { IfSome result (λ digit. qualifier_text self ≡ 110 ∷ digit ∷ 58 ∷ []) }
+    {
+        match self {
+            Qualifier::Declared(prefix) => prefix.digit(),
+            _ => None,
+        }
+    }
+
     #[inline(always)]
     pub(crate) fn write(self, out: &mut Vec<u8>) -> Result<(), AllocError>
         ensures { OnOk result (out.new.items ≡ out.old.items ++ qualifier_text self) }

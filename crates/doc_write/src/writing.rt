@@ -22,6 +22,7 @@ pub(crate) enum CharacterPlace {
 }
 
 // What is written in place of a byte that can't stand there as itself.
+#[inline(always)]
 fn reference(place: CharacterPlace, byte: u8) -> Option<&'static [u8]>
     ensures some { IfSome result (λ text. escape_in place byte ≡ text.now) }
     ensures none { IfNone result (escape_in place byte ≡ byte ∷ []) }
@@ -40,7 +41,8 @@ fn reference(place: CharacterPlace, byte: u8) -> Option<&'static [u8]>
 }
 
 // The longest front of the bytes that stands there as itself, and the rest.
-fn split_plain(place: CharacterPlace, bytes: &[u8]) -> (&[u8], &[u8])
+#[inline(always)]
+pub(crate) fn split_plain(place: CharacterPlace, bytes: &[u8]) -> (&[u8], &[u8])
     ensures parts { bytes.now ≡ result.0.now ++ result.1.now }
     ensures plain { flat_map (escape_in place) result.0.now ≡ result.0.now }
 {

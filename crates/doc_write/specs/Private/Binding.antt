@@ -1,6 +1,6 @@
 -- Namespaces bound one after another, as they are found. A table has namespaces, each with its prefix. Only private
 -- contracts use this: `prefixes` of doc_written says what is written.
-use Rattle.std.specs.Prelude.{◌≡◌, ℕ, ◌+◌, ◌-◌, List, [], ◌∷◌, ◌++◌, length, map, fold, Bool, ◌||◌, is_some, if◌then◌else◌, codes, decimal, bytes_eq}
+use Rattle.std.specs.Prelude.{◌≡◌, true, Option, Some, ℕ, ◌+◌, ◌-◌, List, [], ◌∷◌, ◌++◌, length, map, fold, Bool, ◌||◌, is_some, if◌then◌else◌, codes, decimal, bytes_eq}
 use Rattle.std.specs.Borrow.{Bor}
 use Rattle.std.specs.Ordering.{nat_cmp}
 use Rattle.std.specs.Cmp.Lexicographic.{slice_cmp}
@@ -37,10 +37,6 @@ named qualifier name = qualifier_text qualifier ++ name.local
 abbrev pub entry_of : Bor (List ℕ) × Prefix → List ℕ × List ℕ
 entry_of e = (e.0.now, prefix_text e.1)
 
--- the map finds in the entries
-pub record Indexed (entries : List (Bor (List ℕ) × Prefix)) (by_space : BTreeMap (Bor (List ℕ)) Prefix) : Type 0 where
-  pub found : (space : List ℕ) → option_map prefix_text (get_by (λ key. slice_cmp nat_cmp space key.now) by_space) ≡ lookup (bytes_eq space) (map entry_of entries)
-
 -- the prefix of a namespace that is new in the table
 abbrev pub next_prefix : List (List ℕ × List ℕ) → List ℕ → List ℕ
 next_prefix table space =
@@ -50,6 +46,12 @@ next_prefix table space =
 
 abbrev pub is_bound : List (List ℕ × List ℕ) → List ℕ → Bool
 is_bound table space = is_empty space || bytes_eq space xml_space || is_some (lookup (bytes_eq space) table)
+
+-- the map finds in the entries, and the namespace that was asked for last is among them, unless it needs no entry
+pub record Indexed (entries : List (Bor (List ℕ) × Prefix)) (by_space : BTreeMap (Bor (List ℕ)) Prefix) (last : Option (Bor (List ℕ) × Qualifier)) : Type 0 where
+  pub found : (space : List ℕ) → option_map prefix_text (get_by (λ key. slice_cmp nat_cmp space key.now) by_space) ≡ lookup (bytes_eq space) (map entry_of entries)
+  pub last_bound : (space : Bor (List ℕ)) (qualifier : Qualifier) → last ≡ Some (space, qualifier) → is_bound (map entry_of entries) space.now ≡ true
+  pub last_named : (space : Bor (List ℕ)) (qualifier : Qualifier) → last ≡ Some (space, qualifier) → qualifier_text qualifier ≡ before_local (map entry_of entries) space.now
 
 abbrev pub with_space : List (List ℕ × List ℕ) → List ℕ → List (List ℕ × List ℕ)
 with_space table space = if is_bound table space then table else table ++ (space, next_prefix table space) ∷ []
