@@ -269,6 +269,15 @@ room-there old new eo en er = λ after item u tells.
     puts-same [] (levels old) [] (levels new) old.receiver old.receiver after [] (item ∷ []) (sym eo) (sym en) refl
     (record { texts = refl; told = subst (λ r. Tells r after [] (item ∷ [])) er tells; utf8 = (u, tt) })
 
+pub no-items : {A : Type 0} (xs : List A) → (length xs == 0) ≡ true → xs ≡ []
+no-items [] e = refl
+no-items (x ∷ xs) e = let none_there = eqb-true (length (x ∷ xs)) 0 e in absurd (omega (arith, none_there))
+
+pub room-empty : (c : Contents) → (length c.texts.items == 0) ≡ true → MakesRoom c c
+room-empty c e =
+    let none_due : levels c ≡ [] = ap (λ (s : List (List (Rose ValueLabel))). map (λ texts. map value_text texts) s) (no-items c.texts.items e) in
+    room-there c c none_due none_due refl
+
 -- ---- elements
 
 pub begun : (old room new : Contents) (outer : Outer) (name : Name) → MakesRoom old room → outer.texts.items ≡ room.texts.items → new.texts.items ≡ [] → Opens room.receiver new.receiver name outer.tag → Begins old new name outer

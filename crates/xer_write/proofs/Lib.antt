@@ -6,3 +6,4 @@ mod Gaining
 mod Giving
 mod Limits
 mod Parts
+mod Spelled

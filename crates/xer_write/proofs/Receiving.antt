@@ -1,5 +1,5 @@
 -- What is told to a receiver one after another is told at once.
-use Rattle.std.proofs.Common.{◌≡◌, ◌<◌, ◌++◌, ◌∷◌, [], List, ℕ, length, sym, ap, subst, ◌∙◌, append_assoc, arith}
+use Rattle.std.proofs.Common.{◌≡◌, ◌<◌, ◌++◌, ◌∷◌, [], List, ℕ, length, refl, sym, ap, subst, ◌∙◌, append_assoc, arith}
 use Rattle.std.proofs.lemmas.List.{append-nil}
 use Rattle.xa_base.specs.declared.texts.Name.{Name}
 use Rattle.label_tree.specs.Rose.{Rose, node, roses_of}
@@ -7,6 +7,7 @@ use Rattle.flat_tree.specs.Zips.{Above, Zip, added_all, closed}
 use Rattle.item_tree.specs.declared.label.ItemLabel.{ItemLabel}
 use Rattle.item_tree.specs.declared.label.ItemLabel.TheVariants.{Element}
 use Rattle.item_tree.specs.Building.{listed, listed_in}
+use Rattle.doc_write.specs.Telling.{words_in}
 use Rattle.doc_write.proofs.Telling as told
 use Rattle.std.specs.Prelude.{codes}
 use Rattle.std.specs.Global.{Vec}
@@ -18,7 +19,7 @@ use Rattle.xer_write.specs.declared.receiver.Receiver.TheVariants.{Items, Text}
 use Rattle.xer_write.specs.declared.receiver.Open.{Open}
 use Rattle.xer_write.specs.declared.receiver.Open.TheVariants as tag
 use Rattle.xer_write.specs.Private.Receiving.{Tells, Opens, IsOpen, Closes}
-use Rattle.xer_write.specs.Private.Gaining.{TakesElement}
+use Rattle.xer_write.specs.Private.Gaining.{TakesElement, text_item}
 
 nothing_more : (z : Zip ItemLabel) → z ≡ added_all [] z
 nothing_more z = ap (λ ks. record { above = z.above; kids = ks }) (sym (append-nil z.kids))
@@ -76,3 +77,15 @@ nil-told old built pushed space local words is ep es el ew =
     ap (λ s. (record { space = s; local = local }, words)) es ∙ ap (λ s. (record { space = xsi_space; local = s }, words)) el ∙ ap (λ s. (nil_name, s)) ew in
     subst (λ r. Tells r (Items (record { builder = built.builder; attributes = pushed })) ((nil_name, codes "true") ∷ []) []) (sym is)
     (ep ∙ ap (λ x. built.attributes.items ++ x ∷ []) attribute, nothing_more built.builder.zip)
+
+-- ---- an element in which a text stands alone
+
+words-are : (words : List ℕ) → words_in words ≡ roses_of (text_item words)
+words-are [] = refl
+words-are (byte ∷ bytes) = refl
+
+pub takes-words : (old new : Receiver) (called name : Name) (told_words words : List ℕ) → called ≡ name → told_words ≡ words
+    → Tells old new [] (node (Element called [] [] 0) (words_in told_words) ∷ []) → TakesElement old new name [] (text_item words)
+takes-words old new called name told_words words ec ew tells =
+    subst (λ (n : Name). Tells old new [] (node (Element n [] [] 0) (roses_of (text_item words)) ∷ [])) ec
+    (subst (λ kids. Tells old new [] (node (Element called [] [] 0) kids ∷ [])) (ap words_in ew ∙ words-are words) tells)

@@ -4,7 +4,7 @@ ghost use Rattle.label_tree.specs.Rose.{none, more, roses_of};
 ghost use Rattle.plain_items.specs.Mixing.{text_before};
 ghost use Rattle.xer_items.specs.Items.{given, nil_name, element_of};
 ghost use Rattle.xer_write.specs.Private.Receiving.{name_seen, IsBegun, IsTree, items_built, IsWholeOf, IsOpen, Tells, Closes};
-ghost use Rattle.xer_write.specs.Private.Gaining.{Gains, GainsIn, MakesRoom, Begins, TakesElement, first_text, levels, text_item, value_text};
+ghost use Rattle.xer_write.specs.Private.Gaining.{Gains, GainsIn, MakesRoom, Begins, first_text, levels, value_text};
 
 use crate::receiver::{NameRef, Open, Receiver};
 use crate::spelling::value_text;
@@ -15,22 +15,6 @@ use std::alloc::Global;
 use std::iter::Iterator;
 use std::mem;
 use xa_base::{Memory, Text};
-
-// Tells an element of this name in which a text stands, or nothing, where it is empty.
-fn put_with_text<'a>(
-    alloc: Global,
-    receiver: &mut Receiver<'a>,
-    name: NameRef<'a>,
-    text: &Text,
-) -> Result<(), Memory>
-    ensures { OnOk result (TakesElement receiver.old receiver.new (name_seen name.entry) [] (text_item text.now)) }
-{
-    let tag = receiver.open(alloc, name)?;
-    if !text.bytes().is_empty() {
-        receiver.put_text(alloc, text)?;
-    }
-    receiver.close(alloc, tag)
-}
 
 /// What takes the items so far, and the texts that are to stand before the next of them.
 #[derive(Drop)]
@@ -143,22 +127,49 @@ impl<'a> Contents<'a> {
         Ok(())
     }
 
+    // Adds the texts that stand before the next item, if there are any.
+    #[inline(always)]
+    fn make_room_for_one(&mut self, alloc: Global) -> Result<(), Memory>
+        ensures { OnOk result (MakesRoom self.old self.new) }
+    {
+        if self.texts.as_slice().is_empty() {
+            return Ok(());
+        }
+        self.make_room(alloc)
+    }
+
     /// Adds an element of this name in which a text stands, or nothing, where it is empty.
+    #[inline(always)]
     pub(crate) fn add_text_element(
         &mut self,
         alloc: Global,
         name: NameRef<'a>,
-        text: Text,
+        text: &Text,
     ) -> Result<(), Memory>
-        ensures { OnOk result (Gains self.old self.new (given [] (more (element_of (name_seen name.entry) (given [] (text_before text none))) none))) }
+        ensures { OnOk result (Gains self.old self.new (given [] (more (element_of (name_seen name.entry) (given [] (text_before text.now none))) none))) }
     {
         // A text is UTF-8, as is known once it was read.
         let _ = text.as_str();
-        self.make_room(alloc)?;
-        put_with_text(alloc, &mut self.receiver, name, &text)
+        self.make_room_for_one(alloc)?;
+        self.receiver.put_text_element(alloc, name, text)
+    }
+
+    /// The same of the digits of a number.
+    #[inline(always)]
+    pub(crate) fn add_digits_element(
+        &mut self,
+        alloc: Global,
+        name: NameRef<'a>,
+        digits: &str,
+    ) -> Result<(), Memory>
+        ensures { OnOk result (Gains self.old self.new (given [] (more (element_of (name_seen name.entry) (given [] (text_before digits.now none))) none))) }
+    {
+        self.make_room_for_one(alloc)?;
+        self.receiver.put_digits_element(alloc, name, digits)
     }
 
     /// Begins an element of this name. Hands back what the element that it stands in has so far.
+    #[inline(always)]
     pub(crate) fn begin_element(
         &mut self,
         alloc: Global,
@@ -166,13 +177,14 @@ impl<'a> Contents<'a> {
     ) -> Result<Outer<'a>, Memory>
         ensures { IfOk result (λ outer. Begins self.old self.new (name_seen name.entry) outer) }
     {
-        self.make_room(alloc)?;
+        self.make_room_for_one(alloc)?;
         let tag = self.receiver.open(alloc, name)?;
         let texts = mem::replace(&mut self.texts, Vec::new(alloc));
         Ok(Outer { tag, texts })
     }
 
     /// Ends the innermost open element.
+    #[inline(always)]
     pub(crate) fn end_element(&mut self, alloc: Global, outer: Outer<'a>) -> Result<(), Memory>
         requires { IsOpen self.old.receiver outer.tag }
         ensures receiver { OnOk result (Closes outer.entry.tag self.old.receiver self.new.receiver) }

@@ -1,10 +1,15 @@
 //! What a value gives to the element that it stands in.
 ghost use Rattle.std.specs.Prelude.{◌≡◌, ◌&&◌, List, [], Some, true, false, OnOk, MatchOption, length, map, replicate, slice_get};
-ghost use Rattle.label_tree.specs.Rose.{none, more, label_of, kids_of, roses_of, count_all};
+ghost use Rattle.label_tree.specs.Rose.{none, more, label_of, kids_of, roses_of, count_all, Allowed};
 ghost use Rattle.asn_types.specs.Marks.{has_use_nil, has_use_order};
+ghost use Rattle.asn_types.specs.Parts.{MayHave};
+ghost use Rattle.asn_types.specs.Spaces.{space_at};
+ghost use Rattle.asn_types.specs.declared.roles.Role.TheVariants as role;
 ghost use Rattle.asn_values.specs.Values as rule;
 ghost use Rattle.asn_types.specs.declared.types.Form.TheVariants as form;
 ghost use Rattle.simple_types.specs.declared.labels.ValueLabel.TheVariants as label;
+ghost use Rattle.simple_values.specs.Reading.{spelled, spelled_whole};
+ghost use Rattle.plain_items.specs.Mixing.{text_before};
 ghost use Rattle.xer_items.specs.Items.{given, nothing, with_nil, element_of, inside, gathered, texts_of};
 ghost use Rattle.xer_items.specs.Children.{Child, elements_of};
 ghost use Rattle.xer_items.specs.Spelling.{is_textual};
@@ -22,6 +27,7 @@ use crate::spelling::is_textual;
 use asn_types::{Component, Form, Module, Role, TypeLabel, resolve, role};
 use asn_values::{ordered_flags, spelling};
 use flat_tree::{Kids, Node};
+use itoa::Buffer;
 use label_tree::Tree;
 use simple_types::ValueLabel;
 use simple_values::is_at_most;
@@ -63,8 +69,77 @@ fn add_nil_if(
     }
 }
 
+// Adds an attribute with the text of a value.
+fn add_attribute_at<'a>(
+    alloc: Global,
+    module: &'a Module,
+    place: &Place<'a>,
+    value: &Node<'a, ValueLabel>,
+    out: &mut Contents<'a>,
+) -> Result<(), Memory>
+    requires node { IsTypeIn module.now place.now.node.now }
+    requires role { place.now.role ≡ role.Attribute }
+    ensures { OnOk result (Gains out.old out.new (place_gives module.now (place_seen place.now) value.now)) }
+{
+    let text = spelling(alloc, resolve(module, place.node), value)?;
+    out.add_attribute(alloc, NameRef::of_part(place.part), text)
+}
+
+// Adds an element of this name with the text of a value, which is spelled first.
+fn add_spelled_element<'a>(
+    alloc: Global,
+    found: &Tree<TypeLabel>,
+    value: &Node<'_, ValueLabel>,
+    name: NameRef<'a>,
+    out: &mut Contents<'a>,
+) -> Result<(), Memory>
+    requires { Allowed MayHave found.now }
+    ensures { OnOk result (Gains out.old out.new (given [] (more (element_of (name_seen name.entry) (given [] (text_before (spelled (space_at found.now) value.now) none))) none))) }
+{
+    let text = spelling(alloc, found, value)?;
+    out.add_text_element(alloc, name, &text)
+}
+
+// The same of a number.
+fn add_number_element<'a>(
+    alloc: Global,
+    number: &i128,
+    name: NameRef<'a>,
+    out: &mut Contents<'a>,
+) -> Result<(), Memory>
+    ensures { OnOk result (Gains out.old out.new (given [] (more (element_of (name_seen name.entry) (given [] (text_before (spelled_whole (label.Int number.now)) none))) none))) }
+{
+    let mut buffer = Buffer::new();
+    out.add_digits_element(alloc, name, buffer.format(*number))
+}
+
+// Adds an element of this name with the text of a value. A UTF8String has its text and an INTEGER its digits at hand.
+fn add_leaf_element<'a>(
+    alloc: Global,
+    found: &Tree<TypeLabel>,
+    value: &Node<'_, ValueLabel>,
+    name: NameRef<'a>,
+    out: &mut Contents<'a>,
+) -> Result<(), Memory>
+    requires { Allowed MayHave found.now }
+    ensures { OnOk result (Gains out.old out.new (given [] (more (element_of (name_seen name.entry) (given [] (text_before (spelled (space_at found.now) value.now) none))) none))) }
+{
+    match &found.label().form {
+        Form::Utf8 { .. } => match value.label() {
+            ValueLabel::Utf8(text) => out.add_text_element(alloc, name, text),
+            _ => add_spelled_element(alloc, found, value, name, out),
+        },
+        Form::Int { .. } => match value.label() {
+            ValueLabel::Int(number) => add_number_element(alloc, number, name, out),
+            _ => add_spelled_element(alloc, found, value, name, out),
+        },
+        _ => add_spelled_element(alloc, found, value, name, out),
+    }
+}
+
 // Adds what the value at a place gives.
 #[cycle(gathering)]
+#[inline(always)]
 fn gather_at<'a>(
     alloc: Global,
     module: &'a Module,
@@ -76,10 +151,7 @@ fn gather_at<'a>(
     ensures { OnOk result (Gains out.old out.new (place_gives module.now (place_seen place.now) value.now)) }
 {
     match place.role {
-        Role::Attribute => {
-            let text = spelling(alloc, resolve(module, place.node), value)?;
-            out.add_attribute(alloc, NameRef::of_part(place.part), text)
-        }
+        Role::Attribute => add_attribute_at(alloc, module, place, value, out),
         Role::Element => {
             let name = NameRef::of_part(place.part);
             gather_element(alloc, module, place.node, value, name, out)
@@ -112,9 +184,10 @@ fn gather_present<'a>(
             let Some(value) = left.next() else {
                 return Ok(());
             };
+            let part = &parts[i];
             let place = Place {
-                role: role(node.label(), i as u32),
-                part: &parts[i],
+                role: node.label().role_of(i, part),
+                part,
                 node: node.kid(i),
             };
             gather_at(alloc, module, &place, &value, out)?;
@@ -381,8 +454,28 @@ fn gather<'a>(
     }
 }
 
+// Adds an element of this name, in which stands what a value gives whose type is no reference and no text.
+#[cycle(gathering)]
+fn gather_complex<'a>(
+    alloc: Global,
+    module: &'a Module,
+    node: &'a Tree<TypeLabel>,
+    value: &Node<'a, ValueLabel>,
+    name: NameRef<'a>,
+    out: &mut Contents<'a>,
+) -> Result<(), Memory>
+    requires node { IsTypeIn module.now node.now }
+    requires parts { is_textual (label_of node.now) ≡ false }
+    ensures { OnOk result (Gains out.old out.new (given [] (more (element_of (name_seen name.entry) (type_gives module.now node.now value.now)) none))) }
+{
+    let outer = out.begin_element(alloc, name)?;
+    gather_parts(alloc, module, node, value, out)?;
+    out.end_element(alloc, outer)
+}
+
 /// Adds an element of this name, in which stands what a value of the type gives.
 #[cycle(gathering)]
+#[inline(always)]
 pub(crate) fn gather_element<'a>(
     alloc: Global,
     module: &'a Module,
@@ -396,10 +489,8 @@ pub(crate) fn gather_element<'a>(
 {
     let found = resolve(module, node);
     if is_textual(found.label()) {
-        let text = spelling(alloc, found, value)?;
-        return out.add_text_element(alloc, name, text);
+        add_leaf_element(alloc, found, value, name, out)
+    } else {
+        gather_complex(alloc, module, found, value, name, out)
     }
-    let outer = out.begin_element(alloc, name)?;
-    gather_parts(alloc, module, found, value, out)?;
-    out.end_element(alloc, outer)
 }

@@ -23,6 +23,7 @@ impl<'a> NameRef<'a> {
     ghost use Rattle.xer_write.specs.Private.Receiving.{name_seen};
 
     /// The name of the element or attribute that a component stands for.
+    #[inline(always)]
     pub(crate) fn of_part(part: &'a Component) -> NameRef<'a>
         ensures { name_seen result ≡ names.name_of_part part.now }
     {
@@ -42,6 +43,7 @@ impl<'a> NameRef<'a> {
         }
     }
 
+    #[inline(always)]
     fn space(self) -> &'a [u8]
         ensures { result.now ≡ (name_seen self.entry).space }
     {
@@ -51,6 +53,7 @@ impl<'a> NameRef<'a> {
         }
     }
 
+    #[inline(always)]
     fn local(self) -> &'a [u8]
         ensures { result.now ≡ (name_seen self.entry).local }
     {
@@ -92,6 +95,7 @@ pub(crate) enum Open<'a> {
 
 impl<'a> Receiver<'a> {
     ghost use Rattle.xer_write.specs.Private.Receiving.{name_seen, IsBegun, IsBuilder, IsTree, items_built, IsWholeOf, Tells, Opens, IsOpen, Closes};
+    ghost use Rattle.xer_write.specs.Private.Gaining.{TakesElement, text_item};
 
     /// Takes items to build them.
     pub(crate) fn of_items(alloc: Global) -> Receiver<'a>
@@ -196,7 +200,75 @@ impl<'a> Receiver<'a> {
         }
     }
 
+    // Builds an element of this name in which a text stands, or nothing, where it is empty.
+    fn build_text_element(
+        &mut self,
+        alloc: Global,
+        name: NameRef<'a>,
+        text: &Text,
+    ) -> Result<(), Memory>
+        ensures { OnOk result (TakesElement self.old self.new (name_seen name.entry) [] (text_item text.now)) }
+    {
+        let tag = self.open(alloc, name)?;
+        if !text.bytes().is_empty() {
+            self.put_text(alloc, text)?;
+        }
+        self.close(alloc, tag)
+    }
+
+    /// Adds an element of this name in which a text stands, or nothing, where it is empty.
+    #[inline(always)]
+    pub(crate) fn put_text_element(
+        &mut self,
+        alloc: Global,
+        name: NameRef<'a>,
+        text: &Text,
+    ) -> Result<(), Memory>
+        ensures { OnOk result (TakesElement self.old self.new (name_seen name.entry) [] (text_item text.now)) }
+    {
+        match self {
+            Receiver::Items(_) => self.build_text_element(alloc, name, text),
+            Receiver::Text(out) => {
+                out.text_element(alloc, name.space, name.local(), text.bytes())?;
+                Ok(())
+            }
+        }
+    }
+
+    // Builds an element of this name in which these bytes stand.
+    fn build_digits_element(
+        &mut self,
+        alloc: Global,
+        name: NameRef<'a>,
+        digits: &str,
+    ) -> Result<(), Memory>
+        ensures { OnOk result (TakesElement self.old self.new (name_seen name.entry) [] (text_item digits.now)) }
+    {
+        let text = Text::from_str(alloc, digits)?;
+        self.build_text_element(alloc, name, &text)
+    }
+
+    /// The same of the digits of a number, of which no text is made where items are written.
+    #[inline(always)]
+    pub(crate) fn put_digits_element(
+        &mut self,
+        alloc: Global,
+        name: NameRef<'a>,
+        digits: &str,
+    ) -> Result<(), Memory>
+        ensures { OnOk result (TakesElement self.old self.new (name_seen name.entry) [] (text_item digits.now)) }
+    {
+        match self {
+            Receiver::Items(_) => self.build_digits_element(alloc, name, digits),
+            Receiver::Text(out) => {
+                out.text_element(alloc, name.space, name.local(), digits.as_bytes())?;
+                Ok(())
+            }
+        }
+    }
+
     /// Begins an element of this name.
+    #[inline(always)]
     pub(crate) fn open(&mut self, alloc: Global, name: NameRef<'a>) -> Result<Open<'a>, Memory>
         ensures { IfOk result (λ tag. Opens self.old self.new (name_seen name.entry) tag) }
     {
@@ -210,13 +282,14 @@ impl<'a> Receiver<'a> {
                 Ok(Open::Items(outer))
             }
             Receiver::Text(out) => {
-                let tag = out.open(name.space(), name.local())?;
+                let tag = out.open(alloc, name.space, name.local())?;
                 Ok(Open::Text(tag))
             }
         }
     }
 
     /// Ends the innermost open element.
+    #[inline(always)]
     pub(crate) fn close(&mut self, alloc: Global, tag: Open<'a>) -> Result<(), Memory>
         requires { IsOpen self.old tag }
         ensures { OnOk result (Closes tag.entry self.old self.new) }
@@ -229,7 +302,7 @@ impl<'a> Receiver<'a> {
                 Ok(())
             }
             (Receiver::Text(out), Open::Text(tag)) => {
-                out.close(tag)?;
+                out.close(alloc, tag)?;
                 Ok(())
             }
             _ => unreachable!(),

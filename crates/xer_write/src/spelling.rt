@@ -10,6 +10,7 @@ use std::alloc::Global;
 use xa_base::{Memory, Text};
 
 // Whether the type has no parts.
+#[inline(always)]
 fn is_leaf(form: &Form) -> bool
     ensures { result ≡ textual.is_leaf form.now }
 {
@@ -25,6 +26,7 @@ fn is_leaf(form: &Form) -> bool
 
 /// Whether the values of the type are texts. The instructions of a type without parts, as the many TEXT of an
 /// ENUMERATED, are not looked at.
+#[inline(always)]
 pub(crate) fn is_textual(label: &TypeLabel) -> bool
     ensures { result ≡ textual.is_textual label.now }
 {

@@ -1,6 +1,5 @@
 -- What is told to a receiver.
-use Rattle.std.specs.Prelude.{◌≡◌, ◌<◌, ℕ, List, [], ◌++◌, Option, Some, None, length}
-use Rattle.std.specs.Borrow.{Bor}
+use Rattle.std.specs.Prelude.{◌≡◌, ◌<◌, ℕ, List, [], ◌++◌, Option, None, length}
 use Rattle.std.specs.Global.{Vec}
 use Rattle.xa_base.specs.declared.texts.Name.{Name}
 use Rattle.label_tree.specs.Rose.{Rose}
@@ -17,12 +16,8 @@ use Rattle.xer_write.specs.declared.receiver.Receiver.TheVariants as receiver
 use Rattle.xer_write.specs.declared.receiver.Open.{Open}
 use Rattle.xer_write.specs.declared.receiver.Open.TheVariants as open_element
 
-abbrev pub space_seen : Option (Bor (List ℕ)) → List ℕ
-space_seen None = []
-space_seen (Some space) = space.now
-
 abbrev pub name_seen : NameRef → Name
-name_seen name = record { space = space_seen name.space; local = name.local.now }
+name_seen name = record { space = told.space_of name.space; local = name.local.now }
 
 -- nothing was told
 abbrev pub IsBegun : Receiver → Type 0

@@ -13,6 +13,7 @@ use Rattle.asn_types.specs.Marks.{has_embed_values, has_use_order}
 use Rattle.asn_types.specs.Modules.{IsSequence}
 use Rattle.asn_types.specs.Parts.{MayHave, parts_of}
 use Rattle.asn_types.specs.Refs.{resolve}
+use Rattle.asn_types.specs.Roles.{role_of}
 use Rattle.asn_types.specs.Spaces.{space_at}
 use Rattle.asn_values.specs.Values.{place_of, present_from, ordered_flags, order_of}
 use Rattle.plain_items.specs.Mixing.{text_before}
@@ -72,12 +73,8 @@ gather-returns-else-is_textual t c =
 
 -- ---- at a place
 
-pub gather_at-spelling-requires : goal.gather_at-spelling-requires
-gather_at-spelling-requires t c =
-    let m = c.args.module.now in
-    let u = c.args.place.now.node.now in
-    let h = found-in m u c.requires in
-    subst (Allowed MayHave) (sym c.resolve.ensures) (allowed-of m h.0 (resolve m u) h.1)
+pub gather_at-add_attribute_at-requires : goal.gather_at-add_attribute_at-requires
+gather_at-add_attribute_at-requires t c = record { node = c.requires; role = c.in-Attribute.is }
 
 pub gather_at-gather_element-requires : goal.gather_at-gather_element-requires
 gather_at-gather_element-requires t c = let d = c.decreases in (omega (arith, d), c.requires)
@@ -87,15 +84,6 @@ gather_at-gather-requires t c = let d = c.decreases in (omega (arith, d), c.requ
 
 pub gather_at-gather-requires-in-Content : goal.gather_at-gather-requires-in-Content
 gather_at-gather-requires-in-Content t c = let d = c.decreases in (omega (arith, d), c.requires)
-
-pub gather_at-returns-in_ok-text-in-Attribute : goal.gather_at-returns-in_ok-text-in-Attribute
-gather_at-returns-in_ok-text-in-Attribute t c =
-    let m = c.args.module.now in
-    let p = place_seen c.args.place.now in
-    let v = c.args.value.now in
-    let text = c.in_ok-text-in-Attribute.ensures ∙ ap (λ x. spelled (space_at x) v) c.resolve.ensures in
-    let same = at-attribute m p v c.in-Attribute.is (name_seen c.of_part.result) c.in_ok-text-in-Attribute.text c.of_part.ensures text in
-    subst (λ g. OnOk c.add_attribute.result (Gains c.args.out.now c.add_attribute.new.self g)) same c.add_attribute.ensures
 
 pub gather_at-returns-in-Element : goal.gather_at-returns-in-Element
 gather_at-returns-in-Element t c =
@@ -317,8 +305,24 @@ gather_mixed-returns t c =
     (λ ends. mixed-gained c.args.out.now c.begin_mixed.new.self c.gather_kids.new.out c.end_mixed.new.self c.args.texts g begun.receiver begun.texts c.in_ok-gather_kids.ensures ends)
     c.end_mixed.ensures
 
-pub gather_element-spelling-requires : goal.gather_element-spelling-requires
-gather_element-spelling-requires t c =
+pub gather_complex-gather_parts-requires : goal.gather_complex-gather_parts-requires
+gather_complex-gather_parts-requires t c = let d = c.decreases in (omega (arith, d), (c.requires.node, c.requires.parts))
+
+pub gather_complex-end_element-requires : goal.gather_complex-end_element-requires
+gather_complex-end_element-requires t c =
+    let g = type_gives c.args.module.now c.args.node.now c.args.value.now in
+    element-open c.args.out.now c.begin_element.new.self c.gather_parts.new.out c.in_ok-outer.outer (name_seen c.args.name) g c.in_ok-outer.ensures c.in_ok-gather_parts.ensures
+
+pub gather_complex-returns : goal.gather_complex-returns
+gather_complex-returns t c =
+    let g = type_gives c.args.module.now c.args.node.now c.args.value.now in
+    on_ok-two c.end_element.result _ _ _
+    (λ closes texts.
+    element-gained c.args.out.now c.begin_element.new.self c.gather_parts.new.out c.end_element.new.self c.in_ok-outer.outer (name_seen c.args.name) g c.in_ok-outer.ensures c.in_ok-gather_parts.ensures closes texts)
+    c.end_element.ensures.receiver c.end_element.ensures.texts
+
+pub gather_element-add_leaf_element-requires : goal.gather_element-add_leaf_element-requires
+gather_element-add_leaf_element-requires t c =
     let m = c.args.module.now in
     let h = found-in m c.args.node.now c.requires in
     subst (Allowed MayHave) (sym c.resolve-found.ensures) (allowed-of m h.0 (resolve m c.args.node.now) h.1)
@@ -330,12 +334,12 @@ gather_element-returns-then-is_textual t c =
     let name = name_seen c.args.name in
     let textual : is_textual (label_of (resolve m c.args.node.now)) ≡ true =
     ap (λ x. is_textual (label_of x)) (sym c.resolve-found.ensures) ∙ ap is_textual (sym c.label.ensures) ∙ sym c.is_textual.ensures ∙ c.if-is_textual.true in
-    let text = c.in_ok-text.ensures ∙ ap (λ x. spelled (space_at x) v) c.resolve-found.ensures in
+    let text = ap (λ x. spelled (space_at x) v) c.resolve-found.ensures in
     let same = ap (λ (s : List ℕ). given [] (text_before s none)) text ∙ sym (inside-text m c.args.node.now v textual) in
-    subst (λ g. OnOk c.add_text_element.result (Gains c.args.out.now c.add_text_element.new.self (given [] (more (element_of name g) none)))) same c.add_text_element.ensures
+    subst (λ g. OnOk c.add_leaf_element.result (Gains c.args.out.now c.add_leaf_element.new.out (given [] (more (element_of name g) none)))) same c.add_leaf_element.ensures
 
-pub gather_element-gather_parts-requires : goal.gather_element-gather_parts-requires
-gather_element-gather_parts-requires t c =
+pub gather_element-gather_complex-requires : goal.gather_element-gather_complex-requires
+gather_element-gather_complex-requires t c =
     let m = c.args.module.now in
     let d = c.decreases in (
       omega (arith, d),
@@ -345,24 +349,14 @@ gather_element-gather_parts-requires t c =
       ),
     )
 
-pub gather_element-end_element-requires : goal.gather_element-end_element-requires
-gather_element-end_element-requires t c =
-    let g = type_gives c.args.module.now c.resolve-found.result.now c.args.value.now in
-    element-open c.args.out.now c.begin_element.new.self c.gather_parts.new.out c.in_ok-outer.outer (name_seen c.args.name) g c.in_ok-outer.ensures c.in_ok-gather_parts.ensures
-
-pub gather_element-returns : goal.gather_element-returns
-gather_element-returns t c =
+pub gather_element-returns-else-is_textual : goal.gather_element-returns-else-is_textual
+gather_element-returns-else-is_textual t c =
     let m = c.args.module.now in
     let v = c.args.value.now in
-    let u = c.resolve-found.result.now in
     let textual : is_textual (label_of (resolve m c.args.node.now)) ≡ false =
     ap (λ x. is_textual (label_of x)) (sym c.resolve-found.ensures) ∙ ap is_textual (sym c.label.ensures) ∙ sym c.is_textual.ensures ∙ c.if-is_textual.false in
     let same = ap (λ x. type_gives m x v) c.resolve-found.ensures ∙ sym (inside-parts m c.args.node.now v textual) in
-    on_ok-two c.end_element.result _ _ _
-    (λ closes texts.
-    subst (λ g. Gains c.args.out.now c.end_element.new.self (given [] (more (element_of (name_seen c.args.name) g) none))) same
-    (element-gained c.args.out.now c.begin_element.new.self c.gather_parts.new.out c.end_element.new.self c.in_ok-outer.outer (name_seen c.args.name) (type_gives m u v) c.in_ok-outer.ensures c.in_ok-gather_parts.ensures closes texts))
-    c.end_element.ensures.receiver c.end_element.ensures.texts
+    subst (λ g. OnOk c.gather_complex.result (Gains c.args.out.now c.gather_complex.new.out (given [] (more (element_of (name_seen c.args.name) g) none)))) same c.gather_complex.ensures
 
 -- ---- SEQUENCE
 
@@ -377,14 +371,8 @@ gather_present-returns-in_default t c =
     let none_left : places_give m found c.parts.left ≡ nothing = give-short m found c.parts.left c.in_default.ensures.steps.0 in
     c.parts.invariant.gains o (subst (Gains o o) (sym none_left) (gains-nothing o))
 
-pub gather_present-overflow_cast-i : goal.gather_present-overflow_cast-i
-gather_present-overflow_cast-i t c =
-    let few = few-parts c.args.module.now c.args.node.now c.args.parts.now c.requires.node c.requires.form in
-    let within = c.parts-test.true in
-    omega (arith, few, within)
-
-pub gather_present-role-requires : goal.gather_present-role-requires
-gather_present-role-requires t c =
+pub gather_present-role_of-requires : goal.gather_present-role_of-requires
+gather_present-role_of-requires t c =
     let e = ap (λ l. length (parts_of l.form)) c.label.ensures ∙ ap (λ f. length (parts_of f)) c.requires.form in
     omega (arith, c.parts-test.true, e)
 
@@ -427,7 +415,7 @@ gather_present-parts-preserved t c =
           let count = ap (λ vs. count_all (roses_of vs)) left_is in
           let less = ap (λ vs. count_all (roses_of vs)) now_is in
           let small = so_far.small in
-          let role = role-is l w.label.result.now w.role.result parts i part w.label.ensures (ap parts_of c.requires.form) (slice-at parts i part c.parts-test.true w.index-parts-i.is) w.role.ensures in
+          let role : w.role_of.result ≡ role_of l i part = w.role_of.ensures ∙ ap (λ k. role_of k i part) w.label.ensures in
           let p = place_of l i part kid in
           let one : Gains c.parts.out after (place_gives m p v) = subst (λ r. Gains c.parts.out after (place_gives m (record { role = r; part = part; type = kid }) v)) role w.in_ok-gather_at.ensures in
           let step : places_give m (found i) c.parts.left ≡ both (place_gives m p v) (places_give m (found (i + 1)) others) =

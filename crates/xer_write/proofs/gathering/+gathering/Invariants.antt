@@ -46,6 +46,9 @@ decreases-gather_at l = 8 * node_count l.value.now + 5
 abbrev pub decreases-gather_element : goal.decreases-gather_element
 decreases-gather_element l = 8 * node_count l.value.now + 4
 
+abbrev pub decreases-gather_complex : goal.decreases-gather_complex
+decreases-gather_complex l = 8 * node_count l.value.now + 3
+
 abbrev pub decreases-gather_mixed : goal.decreases-gather_mixed
 decreases-gather_mixed l = 8 * node_count l.value.now + 1
 
