@@ -1,9 +1,8 @@
 -- What is told one after another is told at once.
 use Rattle.std.proofs.Common.{◌≡◌, ℕ, Bool, true, false, cond, List, [], ◌∷◌, ◌++◌, length, drop, Some, None, is_some, refl, sym, ap, ◌∙◌, append_assoc, length-append, ◌<◌, inl, inr, true≢false, arith}
-use Rattle.std.specs.Prelude.{◌⊎◌, ◌||◌, ◌==◌, bytes_eq, codes}
+use Rattle.std.specs.Prelude.{◌⊎◌, ◌||◌, bytes_eq, codes}
 use Rattle.std.specs.List.{flat_map}
 use Rattle.std.specs.Map.{lookup}
-use Rattle.std.proofs.lemmas.Bool.{eqb-true}
 use Rattle.std.proofs.lemmas.List.{append-nil}
 use Rattle.std.proofs.lemmas.Slice.Eq.{bytes_eq-Decides}
 use Rattle.xa_base.specs.declared.texts.Name.{Name}
@@ -293,23 +292,6 @@ begins-element old ended new name tag ends is e local in_tag late et on_time =
     }
 
 -- ---- an element in which a text stands alone
-
-pub no-words-written : (old before local words begun called new : List ℕ) → (length words == 0) ≡ true → begun ≡ old ++ 60 ∷ before → called ≡ begun ++ local → new ≡ called ++ 47 ∷ 62 ∷ [] → new ≡ old ++ written_words (before ++ local) words
-no-words-written old before local [] begun called new e eb ec en = en ∙ ap (λ t. t ++ 47 ∷ 62 ∷ []) (ec ∙ ap (λ t. t ++ local) eb) ∙ regroup old before local (47 ∷ 62 ∷ [])
-  where
-    regroup : (old before local end : List ℕ) → ((old ++ 60 ∷ before) ++ local) ++ end ≡ old ++ (60 ∷ (before ++ local) ++ end)
-    regroup old before local end = simp append_assoc
-no-words-written old before local (byte ∷ bytes) begun called new e eb ec en = absurd (omega (arith, eqb-true (length (byte ∷ bytes)) 0 e))
-
-pub some-words-written : (old before local words begun called ended inner last named new : List ℕ) → (length words == 0) ≡ false → begun ≡ old ++ 60 ∷ before → called ≡ begun ++ local → ended ≡ called ++ 62 ∷ []
-    → inner ≡ ended ++ flat_map text_escape words → last ≡ inner ++ 60 ∷ 47 ∷ before → named ≡ last ++ local → new ≡ named ++ 62 ∷ [] → new ≡ old ++ written_words (before ++ local) words
-some-words-written old before local [] begun called ended inner last named new e eb ec ee ei el em en = absurd (cc)
-some-words-written old before local (byte ∷ bytes) begun called ended inner last named new e eb ec ee ei el em en =
-    en ∙ ap (λ t. t ++ 62 ∷ []) (em ∙ ap (λ t. t ++ local) (el ∙ ap (λ t. t ++ 60 ∷ 47 ∷ before) (ei ∙ ap (λ t. t ++ flat_map text_escape (byte ∷ bytes)) (ee ∙ ap (λ t. t ++ 62 ∷ []) (ec ∙ ap (λ t. t ++ local) eb)))))
-    ∙ regroup old (60 ∷ before) local (62 ∷ []) (flat_map text_escape (byte ∷ bytes)) (60 ∷ 47 ∷ before)
-  where
-    regroup : (old start local gt inner end : List ℕ) → ((((((old ++ start) ++ local) ++ gt) ++ inner) ++ end) ++ local) ++ gt ≡ old ++ ((((start ++ local) ++ (gt ++ inner)) ++ (end ++ local)) ++ gt)
-    regroup old start local gt inner end = simp append_assoc
 
 words-text : (table : List (List ℕ × List ℕ)) (old new : List ℕ) (in_tag : Bool) (name : Name) (called words : List ℕ) → new ≡ (old ++ end_of_tag in_tag) ++ written_words called words → called ≡ written_name table name
     → new ≡ old ++ (end_of_tag in_tag ++ (spelled table [] (node (Element name [] [] 0) (words_in words)) ++ []))

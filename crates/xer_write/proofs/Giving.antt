@@ -1,5 +1,5 @@
 -- What values give, as the code finds it.
-use Rattle.std.proofs.Common.{◌≡◌, ℕ, suc, ◌+◌, ◌<◌, ◌≤◌, ◌^◌, Bool, true, false, cond, Option, Some, None, List, [], ◌∷◌, length, get_or, drop, refl, sym, ◌∙◌, ap, subst, arith}
+use Rattle.std.proofs.Common.{◌≡◌, ℕ, suc, ◌+◌, ◌<◌, ◌≤◌, Bool, true, false, cond, Option, Some, None, List, [], ◌∷◌, length, get_or, drop, refl, sym, ◌∙◌, ap, subst, arith}
 use Rattle.std.specs.Prelude.{◌||◌, ◌&&◌, replicate, slice_get, nat_le, nat_lt}
 use Rattle.std.specs.Option.{is_some}
 use Rattle.label_tree.specs.Rose.{Rose, node, Roses, none, more, roses_of, list_of, label_of, kids_of, length_all, Allowed, AllowedAll}
@@ -18,7 +18,7 @@ use Rattle.asn_types.specs.declared.types.Form.{Form}
 use Rattle.asn_types.specs.declared.types.Form.TheVariants as form
 use Rattle.asn_types.specs.declared.types.TypeLabel.{TypeLabel}
 use Rattle.asn_types.specs.Marks.{has_list, has_use_order, has_use_union}
-use Rattle.asn_types.specs.Modules.{IsForm, IsModule, IsSequence}
+use Rattle.asn_types.specs.Modules.{IsModule, IsSequence}
 use Rattle.asn_types.specs.Parts.{MayHave, parts_of}
 use Rattle.asn_types.specs.Refs.{IsOf, resolve}
 use Rattle.asn_types.specs.Spaces.{space_at}
@@ -44,9 +44,6 @@ kid-in M (node l ts) i kid got h = (h.0, parts-of-module M l ts i kid h.1 got)
 
 pub have-kids : (M : List Assignment) (t : Rose TypeLabel) → IsTypeIn M t → length (kids_of t) ≡ length (parts_of (label_of t).form)
 have-kids M t h = have-parts M t h.0 h.1
-
-pub few-parts : (M : List Assignment) (t : Rose TypeLabel) (parts : List Component) → IsTypeIn M t → (label_of t).form ≡ form.Sequence parts → length parts < 2 ^ 32
-few-parts M (node l ts) parts h f = let it : IsForm M (form.Sequence parts) = subst (IsForm M) f (well-formed M (node l ts) h.0 h.1).0.form in it
 
 pub body-in : (M : List Assignment) (n : ℕ) (a : Assignment) → IsModule M → slice_get M n ≡ Some a → IsTypeIn M a.body
 body-in M n a is at = (is, body-of M n a at)

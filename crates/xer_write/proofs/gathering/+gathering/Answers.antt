@@ -23,7 +23,7 @@ use Rattle.xer_write.specs.Private.Receiving.{name_seen}
 use Rattle.xer_write.specs.Private.Gaining.{Gains}
 use Rattle.xer_write.specs.Private.Giving.{IsTypeIn, may_be_present, place_seen, place_gives, places_give, parts_give, ordered_give, mixed_gives, type_gives}
 use Rattle.xer_write.proofs.Gaining.{gains-nothing, gains-both, mixed-gained, element-gained, element-open, on_ok, on_ok-two}
-use Rattle.xer_write.proofs.Giving.{found-in, kid-in, have-kids, few-parts, allowed-of, inside-text, inside-parts, sequence-give, sequence-other, choice-other, items-other, reference-other, order-absent, order-nothing, no-order, present-some, fit-length, fit-step, give-present, found-absent, give-end, found_from, items_give, items-step, items-end, at-attribute, at-element, at-group, at-content, at-other}
+use Rattle.xer_write.proofs.Giving.{found-in, kid-in, have-kids, allowed-of, inside-text, inside-parts, sequence-give, sequence-other, choice-other, items-other, reference-other, order-absent, order-nothing, no-order, present-some, fit-length, fit-step, give-present, found-absent, give-end, found_from, items_give, items-step, items-end, at-element, at-group, at-content, at-other}
 use Rattle.xer_write.proofs.Parts.{nil-then, with-embed, without-embed, some-at, slice-at, kid-count, flag-at, role-is, give-short, give-missing, choice-made, choice-missed, choice-empty, items-made, items-missed, too-few, too-many}
 use Rattle.asn_values.proofs.Counting.{drop-past}
 use Rattle.asn_values.specs.Ordering.{in_order}

@@ -1,7 +1,7 @@
-use Rattle.std.proofs.Common.{◌≡◌, ◌∙◌, true, sym, ap, List, ℕ}
+use Rattle.std.proofs.Common.{◌≡◌, ◌∙◌, true, sym, ap}
 use Rattle.std.proofs.lemmas.Slice.Eq.{bytes_eq-Decides}
 use Rattle.doc_write.specs.Telling.{space_of}
-use Rattle.doc_write.specs.Private.Binding.{qualifier_text, before_local, is_bound, with_space}
+use Rattle.doc_write.specs.Private.Binding.{before_local, is_bound, with_space}
 use Rattle.doc_write.proofs.Entries.{bound-same}
 use Rattle.doc_write.proofs.prefixes.Prefixes.declared_text.Goals as goal
 
