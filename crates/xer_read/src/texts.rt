@@ -1,11 +1,13 @@
 //! The text of an element of a simple type.
-ghost use Rattle.std.specs.Prelude.{◌≡◌, true, MatchResult};
-ghost use Rattle.label_tree.specs.Rose.{Rose, roses_of};
+ghost use Rattle.std.specs.Prelude.{◌≡◌, true, Some, MatchResult};
+ghost use Rattle.label_tree.specs.Rose.{Rose, Roses, roses_of};
+ghost use Rattle.item_tree.specs.declared.label.ItemLabel.{ItemLabel};
 ghost use Rattle.doc_text.specs.Sound.{are_sound};
 ghost use Rattle.flat_tree.specs.Zips.{added};
 ghost use Rattle.simple_types.specs.declared.labels.ValueLabel.{ValueLabel};
 ghost use Rattle.simple_types.specs.Seen.{space_of};
 ghost use Rattle.simple_types.specs.Sound.{Sound};
+ghost use Rattle.validity.specs.Valid as valid;
 ghost use Rattle.validity_check.specs.Answers.{Tells, TextFault};
 ghost use Rattle.value_builder.specs.Built.{Puts};
 ghost use Rattle.xer_read.specs.Private.Given.{IsReadAs};
@@ -18,7 +20,33 @@ use validity_check::{CheckError, only_text};
 use value_builder::ValueBuilder;
 use xa_base::Text;
 
-/// The value that the simple type gives to the text of an element at this place, which has these kids.
+/// The value that the simple type gives to the text of an element at this place.
+pub(crate) fn put_words(
+    simple: &Simple,
+    at: u64,
+    text: &Text,
+    values: &mut ValueBuilder,
+) -> Result<(), CheckError>
+    requires simple { Sound (space_of simple.now) }
+    ensures { (ts : Roses ItemLabel) → valid.only_text ts ≡ Some text.now → MatchResult result
+        (λ _. (value : Rose ValueLabel) × IsReadAs (space_of simple.now) ts value × Puts (added value) values.old values.new)
+        (Tells (TextFault (space_of simple.now) ts at)) }
+{
+    match values.text(simple, text) {
+        Ok(()) => Ok(()),
+        Err(SimpleError::BadText) => Err(CheckError::Invalid {
+            at,
+            why: InvalidWhy::BadText,
+        }),
+        Err(SimpleError::TooWide) => Err(CheckError::Invalid {
+            at,
+            why: InvalidWhy::TooWide,
+        }),
+        Err(SimpleError::Memory) => Err(CheckError::Memory),
+    }
+}
+
+/// The same of an element that has these kids.
 pub(crate) fn put_text(
     simple: &Simple,
     at: u64,
@@ -33,16 +61,5 @@ pub(crate) fn put_text(
 {
     let empty = Text::empty();
     let text = only_text(kids.again(), &empty)?;
-    match values.text(simple, text) {
-        Ok(()) => Ok(()),
-        Err(SimpleError::BadText) => Err(CheckError::Invalid {
-            at,
-            why: InvalidWhy::BadText,
-        }),
-        Err(SimpleError::TooWide) => Err(CheckError::Invalid {
-            at,
-            why: InvalidWhy::TooWide,
-        }),
-        Err(SimpleError::Memory) => Err(CheckError::Memory),
-    }
+    put_words(simple, at, text, values)
 }

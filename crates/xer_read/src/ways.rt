@@ -1,5 +1,5 @@
 //! The way to the last leaf of a content model, and from there to the next.
-ghost use Rattle.std.specs.Prelude.{◌≡◌, [], ◌∷◌, ◌++◌, ◌+◌, ◌-◌, ◌*◌, ◌^◌, ◌<◌, ◌≤◌, ℕ, List, Some, true, OnOk, MatchResult, IfOk};
+ghost use Rattle.std.specs.Prelude.{◌≡◌, [], ◌∷◌, ◌++◌, ◌+◌, ◌-◌, ◌*◌, ◌^◌, ◌<◌, ◌≤◌, ℕ, List, Some, true, length, IsTrue, OnOk, MatchResult, IfOk};
 ghost use Rattle.label_tree.specs.Rose.{node_count};
 ghost use Rattle.simple_types.specs.declared.labels.ValueLabel.{ValueLabel};
 ghost use Rattle.content_models.specs.Clear.{IsNoAll};
@@ -64,7 +64,45 @@ impl Way {
     }
 
     // It leads to the leaf where the matcher stands.
+    #[inline(always)]
     fn follow(&mut self, matcher: &Matcher) -> Result<(), Memory>
+        requires { IsNoAll matcher.now.particle }
+        ensures { OnOk result (LeadsTo self.new matcher.now) }
+    {
+        if self.is_short(matcher) {
+            self.follow_short(matcher);
+            Ok(())
+        } else {
+            self.follow_anew(matcher)
+        }
+    }
+
+    // Whether both lead to a kid of the top, as they do most often.
+    #[inline(always)]
+    fn is_short(&self, matcher: &Matcher) -> bool
+        ensures way { IsTrue result → (length self.now.turns.items ≡ 2) × (length self.now.kids.items ≡ 1) }
+        ensures matcher { IsTrue result → (length matcher.now.turns ≡ 2) × (length matcher.now.kids ≡ 1) }
+    {
+        let turns = self.turns.len() == 2 && matcher.turns().len() == 2;
+        let kids = self.kids.len() == 1 && matcher.kids().len() == 1;
+        turns && kids
+    }
+
+    // The same where it is as long as before.
+    #[inline(always)]
+    fn follow_short(&mut self, matcher: &Matcher)
+        requires no_all { IsNoAll matcher.now.particle }
+        requires way { (length self.old.turns.items ≡ 2) × (length self.old.kids.items ≡ 1) }
+        requires matcher { (length matcher.now.turns ≡ 2) × (length matcher.now.kids ≡ 1) }
+        ensures { LeadsTo self.new matcher.now }
+    {
+        self.turns[0] = matcher.turns()[0];
+        self.turns[1] = matcher.turns()[1];
+        self.kids[0] = matcher.kids()[0];
+    }
+
+    // The same with both lists copied.
+    fn follow_anew(&mut self, matcher: &Matcher) -> Result<(), Memory>
         requires { IsNoAll matcher.now.particle }
         ensures { OnOk result (LeadsTo self.new matcher.now) }
     {
